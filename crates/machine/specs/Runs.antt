@@ -1,0 +1,119 @@
+-- Runs: events, their answers, the steps among them, what each step did; and demand 3, one claim about the whole list.
+-- Renders document 01, "Runs", and its third demand; proofs/ proves the claim for every sound plan, source and list of events.
+use Prim.Native.Nat.{ℕ, zero, suc, _+_, _*_, _≤_, _<_}
+use mathlib.Core.Path.{_≡_}
+use mathlib.Core.Bool.{Bool, true, false}
+use mathlib.Core.List.{List, [], _∷_, _++_, map}
+use lib.ListN.{length, getD, take}
+use lib.Dec.{eqb}
+use Rattle.base.specs.Tests.{_and_, one, sum}
+use Rattle.base.specs.Lists.{member, countIf}
+use Rattle.machine.specs.Plan.{Plan, count, takerOf, tilesOf, sendsOf}
+use Rattle.machine.specs.Machine.{State, Answered, Action, gather, calculate, send, turn, deliver, carryOut, collect, fresh, sweep}
+
+-- a turn of a processor, or the delivery of a message; numbers of any size
+pub data Event : Type 0 where
+  turnOf deliveryOf : ℕ → Event
+
+unfoldable pub act : Plan → List ℕ → State → Event → Answered State
+act p source s (turnOf b) = turn p source s b
+act p source s (deliveryOf m) = deliver p s m
+
+-- each event is given the state as the last left it
+unfoldable pub stateAfter : Plan → List ℕ → State → List Event → State
+stateAfter p source s [] = s
+stateAfter p source s (e ∷ es) = stateAfter p source (act p source s e .after) es
+
+unfoldable pub answersTo : Plan → List ℕ → State → List Event → List ℕ
+answersTo p source s [] = []
+answersTo p source s (e ∷ es) = act p source s e .number ∷ answersTo p source (act p source s e .after) es
+
+abbrev pub total : Plan → ℕ
+total p = 2 * p .tiles + 2 * count p
+
+-- a processor's tiles in index order: for each a gather, a calculate, then one send for each of its messages
+unfoldable pub programOver : Plan → List ℕ → List Action
+programOver p [] = []
+programOver p (t ∷ ts) = gather t ∷ calculate t ∷ (map send (sendsOf p t) ++ programOver p ts)
+
+abbrev pub program : Plan → ℕ → List Action
+program p b = programOver p (tilesOf p b)
+
+-- how many turns of processor b gave 0
+unfoldable pub turnsOf : ℕ → List Event → List ℕ → ℕ
+turnsOf b [] xs = 0
+turnsOf b (e ∷ es) [] = 0
+turnsOf b (turnOf c ∷ es) (x ∷ xs) = one (eqb c b and eqb x 0) + turnsOf b es xs
+turnsOf b (deliveryOf m ∷ es) (x ∷ xs) = turnsOf b es xs
+
+-- the first of them did the first of its program, the second the next; how many deeds of all processors are such
+abbrev pub timesOf : Plan → List Event → List ℕ → (Action → Bool) → ℕ
+timesOf p es xs f = sum (λ b. countIf f (take (turnsOf b es xs) (program p b))) (p .processors)
+
+-- a cell is calculated by the calculate of its tile
+unfoldable pub calculates : Plan → ℕ → Action → Bool
+calculates p c (gather t) = false
+calculates p c (calculate t) = member c (p .cellsOf t)
+calculates p c (send m) = false
+
+-- a message is sent by its own send, taken by the gather of the tile that takes it
+unfoldable pub sends : ℕ → Action → Bool
+sends m (gather t) = false
+sends m (calculate t) = false
+sends m (send k) = eqb k m
+
+unfoldable pub takes : Plan → ℕ → Action → Bool
+takes p m (gather t) = eqb (takerOf p m) t
+takes p m (calculate t) = false
+takes p m (send k) = false
+
+-- and delivered by each delivery of it that gave 0
+unfoldable pub deliveriesOf : ℕ → List Event → List ℕ → ℕ
+deliveriesOf m [] xs = 0
+deliveriesOf m (e ∷ es) [] = 0
+deliveriesOf m (turnOf b ∷ es) (x ∷ xs) = deliveriesOf m es xs
+deliveriesOf m (deliveryOf k ∷ es) (x ∷ xs) = one (eqb k m and eqb x 0) + deliveriesOf m es xs
+
+-- a turn of processor b in the state s, after k turns of b that gave 0: the action named, carried out by the machine's rule
+pub record CarriedOut (p : Plan) (source : List ℕ) (s : State) (b k : ℕ) : Type 0 where
+  pub named : k < length (program p b)
+  pub by-rule : act p source s (turnOf b) .after ≡ carryOut p source s b (getD (program p b) k (gather 0))
+
+module _ (p : Plan) (source : List ℕ) (events : List Event) where
+  abbrev pub last : State
+  last = stateAfter p source (fresh p) events
+
+  abbrev pub answers : List ℕ
+  answers = answersTo p source (fresh p) events
+
+  -- a step is an event that gave 0
+  abbrev pub steps : ℕ
+  steps = countIf (λ x. eqb x 0) answers
+
+  pub record Demand3 : Type 0 where
+    -- the step bound
+    pub bound : steps ≤ total p
+    -- some event would give 0 exactly when the steps are fewer
+    pub goes-on : steps < total p → (e : Event) × (act p source last e .number ≡ 0)
+    pub then-fewer : (e : Event) → act p source last e .number ≡ 0 → steps < total p
+    -- collecting into a grid of the right length gives 0 exactly when they are that many
+    pub collects : steps ≡ total p → (grid : List ℕ) → length grid ≡ p .cells → collect p last grid .number ≡ 0
+    pub then-all : (grid : List ℕ) → length grid ≡ p .cells → collect p last grid .number ≡ 0 → steps ≡ total p
+    -- no cell is calculated twice, no message sent, delivered or taken twice
+    pub calculated : (c : ℕ) → c < p .cells → timesOf p events answers (calculates p c) ≤ 1
+    pub sent : (m : ℕ) → m < count p → timesOf p events answers (sends m) ≤ 1
+    pub delivered : (m : ℕ) → m < count p → deliveriesOf m events answers ≤ 1
+    pub taken : (m : ℕ) → m < count p → timesOf p events answers (takes p m) ≤ 1
+    -- when they are that many, each exactly once
+    pub all-calculated : steps ≡ total p → (c : ℕ) → c < p .cells → timesOf p events answers (calculates p c) ≡ 1
+    pub all-sent : steps ≡ total p → (m : ℕ) → m < count p → timesOf p events answers (sends m) ≡ 1
+    pub all-delivered : steps ≡ total p → (m : ℕ) → m < count p → deliveriesOf m events answers ≡ 1
+    pub all-taken : steps ≡ total p → (m : ℕ) → m < count p → timesOf p events answers (takes p m) ≡ 1
+    -- each turn that gave 0 carried out, by the machine's rules, the action that the program names
+    pub carried-out : (before after : List Event) (b : ℕ) → events ≡ before ++ (turnOf b ∷ after)
+        → act p source (stateAfter p source (fresh p) before) (turnOf b) .number ≡ 0
+        → CarriedOut p source (stateAfter p source (fresh p) before) b (turnsOf b before (answersTo p source (fresh p) before))
+    -- no processor has a step beyond its program
+    pub within : (b : ℕ) → turnsOf b events answers ≤ length (program p b)
+    -- the collected grid equals the sweep
+    pub grid : steps ≡ total p → (old : List ℕ) → length old ≡ p .cells → collect p last old .after ≡ sweep p source
