@@ -1,0 +1,22 @@
+-- What the code below the calls is given of a nest: its counts, made once in a call.
+-- No sentence of document 01; the contracts of this crate and of those above cite it.
+use Prim.Native.Nat.{ℕ, suc, zero, _<_}
+use mathlib.Core.Path.{_≡_}
+use lib.ListN.{getD}
+use Rattle.nest.specs.declared.Nest.{Nest}
+use Rattle.nest.specs.Nest.{Accepted, tileCount, cells, tiles, processors}
+use Rattle.plan.specs.Messages.{directions, slotTile, slotTaker}
+use Rattle.layout.specs.declared.Sizes.{Sizes}
+
+pub record Sized (x : Nest) (z : Sizes) : Type 0 where
+  pub accepted : Accepted x
+  pub cells : z .cells ≡ cells x
+  pub tiles : z .tiles ≡ tiles x
+  pub processors : z .processors ≡ processors x
+  pub directions : z .directions ≡ directions x
+  pub across : (j : ℕ) → j < x .dimensions → getD (z .across) j 0 ≡ tileCount x j
+
+-- the tile at an end of a slot: 0 the sender, else the taker
+unfoldable pub endAt : Nest → ℕ → ℕ → ℕ
+endAt x zero s = slotTile x s
+endAt x (suc i) s = slotTaker x s
