@@ -5,3 +5,7 @@ pub mod Parcels
 pub mod Sound
 pub mod Grid
 pub mod Box
+pub mod Sets
+pub mod Dues
+pub mod Loops
+pub mod Agrees
