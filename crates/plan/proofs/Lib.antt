@@ -9,3 +9,4 @@ pub mod Sets
 pub mod Dues
 pub mod Loops
 pub mod Agrees
+pub mod Rows

@@ -2,3 +2,4 @@ pub mod Geometry
 pub mod Messages
 pub mod Box
 pub mod Report
+pub mod Rows
