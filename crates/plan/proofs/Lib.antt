@@ -1,3 +1,4 @@
+pub mod Rows
 pub mod Rank
 pub mod Tiles
 pub mod Slots
@@ -9,4 +10,3 @@ pub mod Sets
 pub mod Dues
 pub mod Loops
 pub mod Agrees
-pub mod Rows

@@ -12,8 +12,9 @@ use Rattle.nest.specs.declared.Nest.{Nest}
 use Rattle.nest.specs.Nest.{tileCount, cells, tiles, processors}
 use Rattle.nest.specs.Recipe.{ofKind, filled, nestBy, nestOf, readLines}
 use Rattle.nest.proofs.Rows.{numbers}
-use Rattle.plan.specs.Geometry.{rank, place, cellAt, cellPlace, tileAt, tilePlace, tileOf, processorOf, inside, hasRead, readAt, readsOf, value}
+use Rattle.plan.specs.Geometry.{rank, place, cellAt, cellPlace, tileAt, tilePlace, tileOf, cellsOf, processorOf, inside, hasRead, readAt, readsOf, value}
 use Rattle.plan.specs.Messages.{directions, ahead, reaches, parcel, taker, slotParcel, slotTaker, messagesTo, planOf}
+use Rattle.plan.specs.Box.{boxLength, boxSize}
 use Rattle.plan.specs.Report.{theorem3, staysAhead, greatest, least, widened}
 use Rattle.plan.specs.Rows.{rowA, rowB, rowC, rowD, rowE, rowF, rowG, rowH, rowWide, accepted, refused, figures, figuresIf, messageLine, linesTo, linesOf, readersOf, Rows, ReportDiffers}
 
@@ -177,6 +178,14 @@ nestLinesD = refl
 linesD : linesOf rowD ≡ (0 ∷ 0 ∷ 1 ∷ 0 ∷ 1 ∷ 1 ∷ []) ∷ []
 linesD = rw isD nestLinesD
 
+cellsE : cellsOf nestE 2 ≡ 4 ∷ []
+unfolding cellsOf keep pick product tileCount cells rank place cellPlace tileAt tileOf
+cellsE = refl
+
+boxE : boxSize nestE 2 ≡ 1
+unfolding boxSize boxLength product pick tileCount place tilePlace
+boxE = refl
+
 sweepD : sweep (planOf nestD) (1 ∷ 1 ∷ 1 ∷ 1 ∷ []) ≡ 1 ∷ 2 ∷ 3 ∷ 4 ∷ []
 unfolding sweepTo cells product value hasRead readAt cellAt cellPlace place rank every sum pick _and_
 sweepD = refl
@@ -239,6 +248,8 @@ rows =
       lines-B = linesB;
       lines-C = linesC;
       lines-D = linesD;
+      cells-E = rw isE cellsE;
+      box-E = rw isE boxE;
       sweep-D = rw isD sweepD;
     }
 

@@ -13,8 +13,9 @@ use Rattle.machine.specs.Runs.{total}
 use Rattle.nest.specs.declared.Nest.{Nest}
 use Rattle.nest.specs.Nest.{cells}
 use Rattle.nest.specs.Recipe.{nestOf, readLines}
-use Rattle.plan.specs.Geometry.{tileOf, readsOf, hasRead}
+use Rattle.plan.specs.Geometry.{tileOf, cellsOf, readsOf, hasRead}
 use Rattle.plan.specs.Messages.{parcel, planOf}
+use Rattle.plan.specs.Box.{boxSize}
 use Rattle.plan.specs.Report.{theorem3, staysAhead, widened}
 
 -- a dimension: length, tile length, processor count; a distance of weight 1; the close with shift 0 and boundary 0
@@ -100,6 +101,8 @@ pub record Rows : Type 0 where
       ∷ (4 ∷ 1 ∷ 5 ∷ 0 ∷ 2 ∷ 24 ∷ []) ∷ (5 ∷ 1 ∷ 7 ∷ 0 ∷ 3 ∷ 8 ∷ []) ∷ (6 ∷ 2 ∷ 6 ∷ 1 ∷ 3 ∷ 24 ∷ []) ∷ (7 ∷ 3 ∷ 7 ∷ 1 ∷ 3 ∷ 24 ∷ [])
       ∷ (8 ∷ 4 ∷ 6 ∷ 2 ∷ 3 ∷ 8 ∷ []) ∷ (9 ∷ 5 ∷ 7 ∷ 2 ∷ 3 ∷ 8 ∷ []) ∷ []
   pub lines-D : linesOf rowD ≡ (0 ∷ 0 ∷ 1 ∷ 0 ∷ 1 ∷ 1 ∷ []) ∷ []
+  pub cells-E : cellsOf (nestOf rowE) 2 ≡ 4 ∷ []  -- the edge tile has one cell
+  pub box-E : boxSize (nestOf rowE) 2 ≡ 1
   pub sweep-D : sweep (planOf (nestOf rowD)) (1 ∷ 1 ∷ 1 ∷ 1 ∷ []) ≡ 1 ∷ 2 ∷ 3 ∷ 4 ∷ []
 
 -- ---- where the report's inequalities say something else
