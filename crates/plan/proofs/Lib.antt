@@ -1,4 +1,4 @@
-pub mod Rows
+pub mod AToH
 pub mod Rank
 pub mod Tiles
 pub mod Slots
@@ -9,4 +9,4 @@ pub mod Box
 pub mod Sets
 pub mod Dues
 pub mod Loops
-pub mod Agrees
+pub mod Report

@@ -1,4 +1,4 @@
--- The table of rows, and the places where the report's inequalities differ, computed.
+-- Rows A to H, and the places where the report's inequalities differ, computed.
 use Prim.Native.Nat.{ℕ, zero, suc, _+_, _*_}
 use mathlib.Core.Path.{_≡_, refl, ap, _∙_}
 use mathlib.Core.List.{List, [], _∷_, _++_, map}
