@@ -2,7 +2,7 @@
 -- Renders document 01, "The recipe" and "Cells, tiles and boards": what the fields mean, and what an accepted nest has.
 use Prim.Native.Nat.{ℕ, _+_, _*_, _-_, _/_, _^_, _≤_, _<_}
 use mathlib.Core.Path.{_≡_}
-use lib.ListN.{getD, replicate}
+use lib.ListN.{getD}
 use Rattle.base.specs.Tests.{product}
 use Rattle.nest.specs.declared.Nest.{Nest}
 
@@ -35,21 +35,6 @@ tiles x = product (tileCount x) (x .dimensions)
 
 unfoldable pub processors : Nest → ℕ
 processors x = product (processorCount x) (x .spread)
-
-abbrev pub noNest : Nest
-noNest =
-    record {
-      dimensions = 0;
-      spread = 0;
-      distances = 0;
-      lengths = replicate 4 0;
-      tiling = replicate 4 0;
-      counts = replicate 4 0;
-      components = replicate 32 0;
-      weights = replicate 8 0;
-      shift = 0;
-      boundary = 0;
-    }
 
 -- what the layers above may use of a nest that was accepted
 pub record Accepted (x : Nest) : Type 0 where

@@ -1,6 +1,6 @@
 // The reader: a recipe's bytes to a nest by value, or the number of the first line of document 01's table that refuses it.
 ghost use mathlib.Core.Path.{_≡_};
-ghost use Rattle.nest.specs.Nest.{noNest};
+ghost use Rattle.nest.specs.Recipe.{noNest};
 
 // A rectangular loop nest with constant distances, cut into tiles.
 pub struct Nest {
@@ -15,6 +15,12 @@ pub struct Nest {
     pub weights: [u64; 8],
     pub shift: u64,
     pub boundary: u64,
+}
+
+// What reading gives: 0 and the nest, or the number of the line that refuses the bytes.
+pub struct Reading {
+    pub number: u32,
+    pub nest: Nest,
 }
 
 // What is read where nothing is accepted.

@@ -1,0 +1,12 @@
+pub mod AToH
+pub mod Rank
+pub mod Tiles
+pub mod Slots
+pub mod Parcels
+pub mod Sound
+pub mod Grid
+pub mod Box
+pub mod Sets
+pub mod Dues
+pub mod Loops
+pub mod Report

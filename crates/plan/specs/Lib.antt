@@ -1,2 +1,5 @@
 pub mod Geometry
 pub mod Messages
+pub mod Box
+pub mod Report
+pub mod Rows
