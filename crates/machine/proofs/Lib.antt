@@ -3,3 +3,7 @@ pub mod Turns
 pub mod Values
 pub mod Progress
 pub mod Invariant
+pub mod Kept
+pub mod Actions
+pub mod Sends
+pub mod Events
