@@ -72,19 +72,19 @@ module _ (p : Plan) (so : Sound p) (source : List ℕ) (s : State) (b : ℕ) (in
 
     kept-g : Kept p source s then-g
     kept-g =
-        record
-          { inv = record
-            { shape = shape-then p s b low (inv .shape) (finishedOf s b) 1 0 _ _ _ (memories-length p source s b inv low gathered new-length) refl
-              (setAll-length (duesOf p t) (s .status) 3) (fit-early p b (finishedOf s b) 1 (omega arith) h)
-            ; statuses = status-gather p so _ _ _ _ t (step-of p source s b inv low h moved-g) (inv .statuses) none-yet due rest
-            ; right = right-step p so (swept p source) _ _ _ _ _ _ _ _ t (step-of p source s b inv low h moved-g) (inv .right)
-              (better p source s b inv low gathered new-length (λ c k. gathered-keeps p (s .buffer) (swept p source) (duesOf p t) (memoryOf p s b) c held k))
-              (λ z m c lo e i. gives m c lo e i) (λ z. absurd (omega (arith, none-yet)))
-              (λ m lo k. inv .right .buffered m lo (still m lo (ℕ-discrete (takerOf p m) t) k))
-            }
-          ; less = left-turn p _ _ (statusOf s) (statusOf then-g) t (step-of p source s b inv low h moved-g) (omega (arith, moved-g .own, none-yet)) (λ m lo. same-g m lo (ℕ-discrete (takerOf p m) t))
-          ; same = λ m lo. same-g m lo (ℕ-discrete (takerOf p m) t)
-          }
+        record {
+          inv = record {
+            shape = shape-then p s b low (inv .shape) (finishedOf s b) 1 0 _ _ _ (memories-length p source s b inv low gathered new-length) refl
+                (setAll-length (duesOf p t) (s .status) 3) (fit-early p b (finishedOf s b) 1 (omega arith) h);
+            statuses = status-gather p so _ _ _ _ t (step-of p source s b inv low h moved-g) (inv .statuses) none-yet due rest;
+            right = right-step p so (swept p source) _ _ _ _ _ _ _ _ t (step-of p source s b inv low h moved-g) (inv .right)
+                (better p source s b inv low gathered new-length (λ c k. gathered-keeps p (s .buffer) (swept p source) (duesOf p t) (memoryOf p s b) c held k))
+                (λ z m c lo e i. gives m c lo e i) (λ z. absurd (omega (arith, none-yet)))
+                (λ m lo k. inv .right .buffered m lo (still m lo (ℕ-discrete (takerOf p m) t) k));
+          };
+          less = left-turn p _ _ (statusOf s) (statusOf then-g) t (step-of p source s b inv low h moved-g) (omega (arith, moved-g .own, none-yet)) (λ m lo. same-g m lo (ℕ-discrete (takerOf p m) t));
+          same = λ m lo. same-g m lo (ℕ-discrete (takerOf p m) t);
+        }
 
     pub kept-gather : Kept p source s (carryOut p source s b (gather t))
     unfolding carryOut
@@ -121,17 +121,17 @@ module _ (p : Plan) (so : Sound p) (source : List ℕ) (s : State) (b : ℕ) (in
 
     kept-c : Kept p source s then-c
     kept-c =
-        record
-          { inv = record
-            { shape = shape-after p s b low (inv .shape) h 0 (omega arith) _ _ _ (memories-length p source s b inv low done done-length) refl refl
-            ; statuses = status-calc p so _ _ _ _ t (step-of p source s b inv low h moved-c) (inv .statuses) one-yet (λ m lo. refl)
-            ; right = right-step p so (swept p source) _ _ _ _ _ _ _ _ t (step-of p source s b inv low h moved-c) (inv .right)
-              (better p source s b inv low done done-length (λ c k. says c (inl k))) (λ z. absurd (omega (arith, one-yet)))
-              (λ z c i. rw (here-is p s b h, memory-new p source s b inv low done done-length) (says c (inr i))) (inv .right .buffered)
-            }
-          ; less = left-turn p _ _ (statusOf s) (statusOf s) t (step-of p source s b inv low h moved-c) (omega (arith, moved-c .own, one-yet)) (λ m lo. refl)
-          ; same = λ m lo. refl
-          }
+        record {
+          inv = record {
+            shape = shape-after p s b low (inv .shape) h 0 (omega arith) _ _ _ (memories-length p source s b inv low done done-length) refl refl;
+            statuses = status-calc p so _ _ _ _ t (step-of p source s b inv low h moved-c) (inv .statuses) one-yet (λ m lo. refl);
+            right = right-step p so (swept p source) _ _ _ _ _ _ _ _ t (step-of p source s b inv low h moved-c) (inv .right)
+                (better p source s b inv low done done-length (λ c k. says c (inl k))) (λ z. absurd (omega (arith, one-yet)))
+                (λ z c i. rw (here-is p s b h, memory-new p source s b inv low done done-length) (says c (inr i))) (inv .right .buffered);
+          };
+          less = left-turn p _ _ (statusOf s) (statusOf s) t (step-of p source s b inv low h moved-c) (omega (arith, moved-c .own, one-yet)) (λ m lo. refl);
+          same = λ m lo. refl;
+        }
 
     pub kept-calculate : Kept p source s (carryOut p source s b (calculate t))
     unfolding carryOut

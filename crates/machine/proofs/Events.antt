@@ -53,23 +53,23 @@ module _ (p : Plan) (so : Sound p) (source : List ℕ) (s : State) (inv : Inv p 
   brought : (m : ℕ) → m < count p → statusOf s m ≡ 1 → Brought p source s (after m) m
   unfolding prog fitRecord tilesLeft
   brought m₀ lo was =
-      record
-        { inv = record
-          { shape = record
-            { memories = inv .shape .memories
-            ; buffer = inv .shape .buffer
-            ; progress = inv .shape .progress
-            ; status = length-set (s .status) m₀ 2 ∙ inv .shape .status
-            ; records = inv .shape .records
-            }
-          ; statuses = status-deliver p so (prog p s) (prog p s) (statusOf s) (statusOf (after m₀)) m₀ (inv .statuses) was now rest
-          ; right = record { own = inv .right .own; got = inv .right .got; buffered = λ m h k. inv .right .buffered m h (pos m h k (ℕ-discrete m m₀)) }
-          }
-        ; less = left-deliver p (prog p s) (statusOf s) (statusOf (after m₀)) m₀ lo was now rest
-        ; was = was
-        ; now = now
-        ; others = λ m n. getD-set-other (s .status) m₀ m 2 0 n
-        }
+      record {
+        inv = record {
+          shape = record {
+            memories = inv .shape .memories;
+            buffer = inv .shape .buffer;
+            progress = inv .shape .progress;
+            status = length-set (s .status) m₀ 2 ∙ inv .shape .status;
+            records = inv .shape .records;
+          };
+          statuses = status-deliver p so (prog p s) (prog p s) (statusOf s) (statusOf (after m₀)) m₀ (inv .statuses) was now rest;
+          right = record { own = inv .right .own; got = inv .right .got; buffered = λ m h k. inv .right .buffered m h (pos m h k (ℕ-discrete m m₀)) };
+        };
+        less = left-deliver p (prog p s) (statusOf s) (statusOf (after m₀)) m₀ lo was now rest;
+        was = was;
+        now = now;
+        others = λ m n. getD-set-other (s .status) m₀ m 2 0 n;
+      }
     where
       now : statusOf (after m₀) m₀ ≡ 2
       now = getD-set-same (s .status) m₀ 2 0 (rw (inv .shape .status) lo)

@@ -56,13 +56,13 @@ module _ (p : Plan) (s : State) (b : ℕ) (low : b < p .processors) (sh : Shape 
   pub shape-then : (f g n : ℕ) (x y z : List ℕ) → length x ≡ length (s .memories) → length y ≡ length (s .buffer) → length z ≡ length (s .status)
       → fitAt p b f g n ≡ true → Shape p (recorded s b f g n x y z)
   shape-then f g n x y z ex ey ez new =
-      record
-        { memories = ex ∙ sh .memories
-        ; buffer = ey ∙ sh .buffer
-        ; progress = record-length (s .progress) b f g n ∙ sh .progress
-        ; status = ez ∙ sh .status
-        ; records = λ c k. go c k (ℕ-discrete c b)
-        }
+      record {
+        memories = ex ∙ sh .memories;
+        buffer = ey ∙ sh .buffer;
+        progress = record-length (s .progress) b f g n ∙ sh .progress;
+        status = ez ∙ sh .status;
+        records = λ c k. go c k (ℕ-discrete c b);
+      }
     where
       go : (c : ℕ) → c < p .processors → Dec (c ≡ b) → fitRecord p (recorded s b f g n x y z) c ≡ true
       go c k (yes e) = rw e (fit-then p s b f g n x y z low (sh .progress) ∙ new)

@@ -7,3 +7,9 @@ pub mod Kept
 pub mod Actions
 pub mod Sends
 pub mod Events
+pub mod Fresh
+pub mod Going
+pub mod Deeds
+pub mod Counts
+pub mod Run
+pub mod Theorem

@@ -87,16 +87,10 @@ module _ (p : Plan) (b f : ℕ) where
       go (yes k) = ltb-true _ _ (sym (pick-true _ _ _ (eq-eqb g 2 k)) ∙ e′)
       go (no k) = absurd (omega (arith, ltb-true g 2 (both (sym (pick-false _ _ _ (ne-eqb g 2 k)) ∙ e′) .0)))
 
-  -- a fit record has at most as many finished as there are
-  pub fit-most : (g n : ℕ) → fitAt p b f g n ≡ true → f ≤ length (tilesOf p b)
+  -- a fit record with all tiles finished is at stage 0
+  pub fit-over : (g n : ℕ) → length (tilesOf p b) ≤ f → fitAt p b f g n ≡ true → g ≡ 0
   unfolding fitAt
-  fit-most g n e = go (decLt f (length (tilesOf p b)))
-    where
-      go : Dec (f < length (tilesOf p b)) → f ≤ length (tilesOf p b)
-      go (yes h) = omega arith
-      go (no h) =
-          let k = eqb-true f (length (tilesOf p b)) (both (sym (pick-false _ _ _ (le-ltb f (length (tilesOf p b)) (omega arith))) ∙ e) .0) in
-          omega arith
+  fit-over g n h e = eqb-true g 0 (both (both (sym (pick-false _ _ _ (le-ltb f (length (tilesOf p b)) h)) ∙ e) .1) .0)
 
   -- the three records that a turn leaves
   pub fit-early : (g : ℕ) → g < 2 → f < length (tilesOf p b) → fitAt p b f g 0 ≡ true

@@ -102,16 +102,16 @@ module _ (p : Plan) (so : Sound p) (source : List ℕ) (s : State) (b : ℕ) (in
 
   kept-s : Kept p source s then-s
   kept-s =
-      record
-        { inv = record
-          { shape = shape-after p s b low (inv .shape) h (sentOf s b + 1) (omega (arith, within)) _ _ _ refl (length-put (s .buffer) _ packed place-fits) (length-set (s .status) m₀ 1)
-          ; statuses = status-send p so _ _ _ _ t (step-of p source s b inv low h moved-s) (inv .statuses) (sentOf s b) m₀ two-yet m₀-low m₀-from m₀-rank status-one status-rest uniq
-          ; right = right-step p so (swept p source) _ _ _ _ _ _ _ _ t (step-of p source s b inv low h moved-s) (inv .right) (λ a c q k. k)
-            (λ z. absurd (omega (arith, two-yet))) (λ z. absurd (omega (arith, two-yet))) (λ m lo k. buffered m lo (ℕ-discrete m m₀) k)
-          }
-        ; less = left-turn p _ _ (statusOf s) (statusOf then-s) t (step-of p source s b inv low h moved-s) (omega (arith, moved-s .own, two-yet, within)) (λ m lo. same-s m lo (ℕ-discrete m m₀))
-        ; same = λ m lo. same-s m lo (ℕ-discrete m m₀)
-        }
+      record {
+        inv = record {
+          shape = shape-after p s b low (inv .shape) h (sentOf s b + 1) (omega (arith, within)) _ _ _ refl (length-put (s .buffer) _ packed place-fits) (length-set (s .status) m₀ 1);
+          statuses = status-send p so _ _ _ _ t (step-of p source s b inv low h moved-s) (inv .statuses) (sentOf s b) m₀ two-yet m₀-low m₀-from m₀-rank status-one status-rest uniq;
+          right = right-step p so (swept p source) _ _ _ _ _ _ _ _ t (step-of p source s b inv low h moved-s) (inv .right) (λ a c q k. k)
+              (λ z. absurd (omega (arith, two-yet))) (λ z. absurd (omega (arith, two-yet))) (λ m lo k. buffered m lo (ℕ-discrete m m₀) k);
+        };
+        less = left-turn p _ _ (statusOf s) (statusOf then-s) t (step-of p source s b inv low h moved-s) (omega (arith, moved-s .own, two-yet, within)) (λ m lo. same-s m lo (ℕ-discrete m m₀));
+        same = λ m lo. same-s m lo (ℕ-discrete m m₀);
+      }
 
   pub kept-send : Kept p source s (carryOut p source s b (send m₀))
   unfolding carryOut
