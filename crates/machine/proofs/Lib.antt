@@ -13,3 +13,6 @@ pub mod Deeds
 pub mod Counts
 pub mod Run
 pub mod Theorem
+pub mod SoundTest
+pub mod Example
+pub mod Small
