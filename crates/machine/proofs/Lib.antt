@@ -1,3 +1,5 @@
+pub mod Small
+pub mod Rows
 pub mod Records
 pub mod Turns
 pub mod Values
@@ -15,4 +17,3 @@ pub mod Run
 pub mod Theorem
 pub mod SoundTest
 pub mod Example
-pub mod Small
