@@ -15,8 +15,9 @@ use Rattle.machine.proofs.Turns.{Turned, turned, Delivered, delivered, 
 use Rattle.machine.proofs.Progress.{prog}
 use Rattle.machine.proofs.Invariant.{pending, status-deliver, left-deliver}
 use Rattle.machine.proofs.Kept.{Inv, Kept, inv-fit, leftOf, statusOf}
-use Rattle.machine.proofs.Actions.{kept-gather, kept-calculate}
-use Rattle.machine.proofs.Sends.{kept-send}
+use Rattle.machine.proofs.KeptGather.{kept-gather}
+use Rattle.machine.proofs.KeptCalculate.{kept-calculate}
+use Rattle.machine.proofs.KeptSend.{kept-send}
 
 -- what a delivery that gives 0 leaves
 pub record Brought (p : Plan) (source : List ℕ) (s s′ : State) (m : ℕ) : Type 0 where

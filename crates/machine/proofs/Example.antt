@@ -1,4 +1,4 @@
--- The theorem says something: the plan of Rows is sound, by a computed test, and the theorem applies to it and to its run.
+-- The theorem says something: the plan of ComputedRun is sound, by a computed test, and the theorem applies to it and to its run.
 use Prim.Native.Nat.{ℕ, zero, suc, _+_, _*_, _%_, _≤_, _<_}
 use mathlib.Core.Path.{_≡_, refl, sym, ap, _∙_}
 use mathlib.Core.Logic.{_⊎_, inl, inr, _≢_}
@@ -13,7 +13,7 @@ use Rattle.machine.specs.Machine.{collect, sweep}
 use Rattle.machine.specs.Runs.{Event, act, total, last, steps, Demand3}
 use Rattle.machine.proofs.SoundTest.{allIn, isRising, knows, cellTest, ownTest, tileTest, heldTest, messageTest, soundTest, tested}
 use Rattle.machine.proofs.Theorem.{theorem}
-use Rattle.machine.proofs.Rows.{rows, readsAt, total-of, ones, rounds, all-steps, that-is-all, fewer-steps}
+use Rattle.machine.proofs.ComputedRun.{rows, readsAt, total-of, ones, rounds, all-steps, that-is-all, fewer-steps}
 
 test : soundTest rows ≡ true
 unfolding rows soundTest cellTest ownTest tileTest heldTest messageTest allIn isRising knows every some member _and_ _or_
