@@ -89,7 +89,28 @@ swept =
     7 ∷ 56 ∷ 287 ∷ 120 ∷ 591 ∷ 912 ∷ 319 ∷ 272 ∷
     8 ∷ 72 ∷ 416 ∷ 824 ∷ 536 ∷ 40 ∷ 272 ∷ 864 ∷ []
 
--- the first round: a gather each for processor 0, the others wait, no message is in flight
+-- the first steps: a gather, a calculate of four cells, a send, a delivery; a second delivery and a fifth processor are refused
+pub firsts : List Event
+firsts = turnOf 0 ∷ turnOf 0 ∷ turnOf 0 ∷ deliveryOf 0 ∷ deliveryOf 0 ∷ turnOf 4 ∷ []
+
+pub first-numbers : answers rows ones firsts ≡ 0 ∷ 0 ∷ 0 ∷ 0 ∷ 14 ∷ 11 ∷ []
+unfolding rows ones rounds ups total-of those keep offset part put unpack unpackAll setAll storeAll pack allAt every some one countIf not pick _and_ _or_ firstOf setProgress tilesLeft fitRecord fit afterSends carryOut actionAt waiting turn deliver act stateAfter answersTo fresh firsts
+first-numbers = refl
+
+pub first-cells : pack (last rows ones firsts .memories) (0 ∷ 1 ∷ 2 ∷ 8 ∷ 9 ∷ 10 ∷ []) ≡ 1 ∷ 2 ∷ 0 ∷ 2 ∷ 6 ∷ 0 ∷ []
+unfolding rows ones rounds ups total-of those keep offset part put unpack unpackAll setAll storeAll pack allAt every some one countIf not pick _and_ _or_ firstOf setProgress tilesLeft fitRecord fit afterSends carryOut actionAt waiting turn deliver act stateAfter answersTo fresh firsts
+first-cells = refl
+
+pub first-words : pack (last rows ones firsts .buffer) (0 ∷ 1 ∷ 2 ∷ []) ≡ 2 ∷ 6 ∷ 0 ∷ []
+unfolding rows ones rounds ups total-of those keep offset part put unpack unpackAll setAll storeAll pack allAt every some one countIf not pick _and_ _or_ firstOf setProgress tilesLeft fitRecord fit afterSends carryOut actionAt waiting turn deliver act stateAfter answersTo fresh firsts
+first-words = refl
+
+-- collecting waits for every processor: here only the first has finished
+pub not-all : collect rows (stateOf [] [] (4 ∷ replicate 11 0) (replicate 12 0)) [] .number ≡ 15
+unfolding rows ones rounds ups total-of those keep offset part put unpack unpackAll setAll storeAll pack allAt every some one countIf not pick _and_ _or_ firstOf setProgress tilesLeft fitRecord fit afterSends carryOut actionAt waiting turn deliver act stateAfter answersTo fresh collect
+not-all = refl
+
+-- the first round: a gather of processor 0, the others wait, no message is in flight
 pub first-answers : answers rows ones (rounds 1) ≡ 0 ∷ 12 ∷ 12 ∷ 12 ∷ replicate 12 14
 unfolding rows ones rounds ups total-of those keep offset part put unpack unpackAll setAll storeAll pack allAt every some one countIf not pick _and_ _or_ firstOf setProgress tilesLeft fitRecord fit afterSends carryOut actionAt waiting turn deliver act stateAfter answersTo fresh
 first-answers = refl
