@@ -47,15 +47,15 @@ unfolding small those keep programOver
 programs = refl
 
 -- 0 done, 11 no such processor or message, 12 waits, 13 finished, 14 not in flight
-numbers : answers small source events ≡ 0 ∷ 12 ∷ 0 ∷ 0 ∷ 14 ∷ 0 ∷ 14 ∷ 12 ∷ 0 ∷ 0 ∷ 0 ∷ 13 ∷ 0 ∷ 11 ∷ 11 ∷ 0 ∷ 0 ∷ 13 ∷ []
+numbers : answers (act small source) (fresh small) events ≡ 0 ∷ 12 ∷ 0 ∷ 0 ∷ 14 ∷ 0 ∷ 14 ∷ 12 ∷ 0 ∷ 0 ∷ 0 ∷ 13 ∷ 0 ∷ 11 ∷ 11 ∷ 0 ∷ 0 ∷ 13 ∷ []
 unfolding small source events those keep offset part put unpack unpackAll setAll storeAll pack allAt every some one countIf not pick _and_ _or_ firstOf setProgress tilesLeft fitRecord fit afterSends carryOut actionAt waiting turn deliver act stateAfter answersTo fresh
 numbers = refl
 
-all-of-them : steps small source events ≡ 10
+all-of-them : steps (act small source) (fresh small) events ≡ 10
 unfolding small source events those keep offset part put unpack unpackAll setAll storeAll pack allAt every some one countIf not pick _and_ _or_ firstOf setProgress tilesLeft fitRecord fit afterSends carryOut actionAt waiting turn deliver act stateAfter answersTo fresh
 all-of-them = refl
 
-last-words : last small source events
+last-words : last (act small source) (fresh small) events
     ≡ stateOf (1 ∷ 3 ∷ 0 ∷ 10 ∷ 15 ∷ 21 ∷ 0 ∷ 3 ∷ 6 ∷ 10 ∷ 0 ∷ 0 ∷ []) (3 ∷ 10 ∷ []) (2 ∷ 0 ∷ 0 ∷ 1 ∷ 0 ∷ 0 ∷ []) (3 ∷ 3 ∷ [])
 unfolding small source events those keep offset part put unpack unpackAll setAll storeAll pack allAt every some one countIf not pick _and_ _or_ firstOf setProgress tilesLeft fitRecord fit afterSends carryOut actionAt waiting turn deliver act stateAfter answersTo fresh
 last-words = refl
@@ -65,7 +65,7 @@ too-soon : collect small (fresh small) (replicate 6 0) .number ≡ 15
 unfolding small those keep offset part put unpack unpackAll setAll storeAll pack allAt every some one countIf not pick _and_ _or_ firstOf setProgress tilesLeft fitRecord fit afterSends carryOut actionAt waiting turn deliver act stateAfter answersTo fresh collect
 too-soon = refl
 
-the-grid : collect small (last small source events) (replicate 6 0) .after ≡ 1 ∷ 3 ∷ 6 ∷ 10 ∷ 15 ∷ 21 ∷ []
+the-grid : collect small (last (act small source) (fresh small) events) (replicate 6 0) .after ≡ 1 ∷ 3 ∷ 6 ∷ 10 ∷ 15 ∷ 21 ∷ []
 unfolding small source events those keep offset part put unpack unpackAll setAll storeAll pack allAt every some one countIf not pick _and_ _or_ firstOf setProgress tilesLeft fitRecord fit afterSends carryOut actionAt waiting turn deliver act stateAfter answersTo fresh collect collected tabulate
 the-grid = refl
 

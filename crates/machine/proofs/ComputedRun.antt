@@ -93,15 +93,15 @@ swept =
 pub firsts : List Event
 firsts = turnOf 0 ∷ turnOf 0 ∷ turnOf 0 ∷ deliveryOf 0 ∷ deliveryOf 0 ∷ turnOf 4 ∷ []
 
-pub first-numbers : answers rows ones firsts ≡ 0 ∷ 0 ∷ 0 ∷ 0 ∷ 14 ∷ 11 ∷ []
+pub first-numbers : answers (act rows ones) (fresh rows) firsts ≡ 0 ∷ 0 ∷ 0 ∷ 0 ∷ 14 ∷ 11 ∷ []
 unfolding rows ones rounds ups total-of those keep offset part put unpack unpackAll setAll storeAll pack allAt every some one countIf not pick _and_ _or_ firstOf setProgress tilesLeft fitRecord fit afterSends carryOut actionAt waiting turn deliver act stateAfter answersTo fresh firsts
 first-numbers = refl
 
-pub first-cells : pack (last rows ones firsts .memories) (0 ∷ 1 ∷ 2 ∷ 8 ∷ 9 ∷ 10 ∷ []) ≡ 1 ∷ 2 ∷ 0 ∷ 2 ∷ 6 ∷ 0 ∷ []
+pub first-cells : pack (last (act rows ones) (fresh rows) firsts .memories) (0 ∷ 1 ∷ 2 ∷ 8 ∷ 9 ∷ 10 ∷ []) ≡ 1 ∷ 2 ∷ 0 ∷ 2 ∷ 6 ∷ 0 ∷ []
 unfolding rows ones rounds ups total-of those keep offset part put unpack unpackAll setAll storeAll pack allAt every some one countIf not pick _and_ _or_ firstOf setProgress tilesLeft fitRecord fit afterSends carryOut actionAt waiting turn deliver act stateAfter answersTo fresh firsts
 first-cells = refl
 
-pub first-words : pack (last rows ones firsts .buffer) (0 ∷ 1 ∷ 2 ∷ []) ≡ 2 ∷ 6 ∷ 0 ∷ []
+pub first-words : pack (last (act rows ones) (fresh rows) firsts .buffer) (0 ∷ 1 ∷ 2 ∷ []) ≡ 2 ∷ 6 ∷ 0 ∷ []
 unfolding rows ones rounds ups total-of those keep offset part put unpack unpackAll setAll storeAll pack allAt every some one countIf not pick _and_ _or_ firstOf setProgress tilesLeft fitRecord fit afterSends carryOut actionAt waiting turn deliver act stateAfter answersTo fresh firsts
 first-words = refl
 
@@ -111,20 +111,20 @@ unfolding rows ones rounds ups total-of those keep offset part put unpack unpack
 not-all = refl
 
 -- the first round: a gather of processor 0, the others wait, no message is in flight
-pub first-answers : answers rows ones (rounds 1) ≡ 0 ∷ 12 ∷ 12 ∷ 12 ∷ replicate 12 14
+pub first-answers : answers (act rows ones) (fresh rows) (rounds 1) ≡ 0 ∷ 12 ∷ 12 ∷ 12 ∷ replicate 12 14
 unfolding rows ones rounds ups total-of those keep offset part put unpack unpackAll setAll storeAll pack allAt every some one countIf not pick _and_ _or_ firstOf setProgress tilesLeft fitRecord fit afterSends carryOut actionAt waiting turn deliver act stateAfter answersTo fresh
 first-answers = refl
 
 -- 19 rounds are too few, 20 are enough
-pub fewer-steps : steps rows ones (rounds 19) ≡ 55
+pub fewer-steps : steps (act rows ones) (fresh rows) (rounds 19) ≡ 55
 unfolding rows ones rounds ups total-of those keep offset part put unpack unpackAll setAll storeAll pack allAt every some one countIf not pick _and_ _or_ firstOf setProgress tilesLeft fitRecord fit afterSends carryOut actionAt waiting turn deliver act stateAfter answersTo fresh
 fewer-steps = refl
 
-pub not-yet : collect rows (last rows ones (rounds 19)) (replicate 64 7) .number ≡ 15
+pub not-yet : collect rows (last (act rows ones) (fresh rows) (rounds 19)) (replicate 64 7) .number ≡ 15
 unfolding rows ones rounds ups total-of those keep offset part put unpack unpackAll setAll storeAll pack allAt every some one countIf not pick _and_ _or_ firstOf setProgress tilesLeft fitRecord fit afterSends carryOut actionAt waiting turn deliver act stateAfter answersTo fresh collect
 not-yet = refl
 
-pub all-steps : steps rows ones (rounds 20) ≡ 56
+pub all-steps : steps (act rows ones) (fresh rows) (rounds 20) ≡ 56
 unfolding rows ones rounds ups total-of those keep offset part put unpack unpackAll setAll storeAll pack allAt every some one countIf not pick _and_ _or_ firstOf setProgress tilesLeft fitRecord fit afterSends carryOut actionAt waiting turn deliver act stateAfter answersTo fresh
 all-steps = refl
 
@@ -132,7 +132,7 @@ pub that-is-all : total rows ≡ 56
 unfolding rows
 that-is-all = refl
 
-pub collected-grid : collect rows (last rows ones (rounds 20)) (replicate 64 7) .after ≡ swept
+pub collected-grid : collect rows (last (act rows ones) (fresh rows) (rounds 20)) (replicate 64 7) .after ≡ swept
 unfolding rows ones rounds ups total-of those keep offset part put unpack unpackAll setAll storeAll pack allAt every some one countIf not pick _and_ _or_ firstOf setProgress tilesLeft fitRecord fit afterSends carryOut actionAt waiting turn deliver act stateAfter answersTo fresh collect collected tabulate swept
 collected-grid = refl
 

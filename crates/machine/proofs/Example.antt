@@ -9,7 +9,7 @@ use lib.ListN.{length, getD}
 use Rattle.base.specs.Tests.{_and_, _or_, every, some}
 use Rattle.base.specs.Lists.{In, member}
 use Rattle.machine.specs.Plan.{Plan, Sound}
-use Rattle.machine.specs.Machine.{collect, sweep}
+use Rattle.machine.specs.Machine.{collect, fresh, sweep}
 use Rattle.machine.specs.Runs.{Event, act, total, last, steps, Demand3}
 use Rattle.machine.proofs.SoundTest.{allIn, isRising, knows, cellTest, ownTest, tileTest, heldTest, messageTest, soundTest, tested}
 use Rattle.machine.proofs.Theorem.{theorem}
@@ -28,19 +28,19 @@ pub sound : Sound rows
 unfolding rows
 sound = tested rows test (λ source m n c h f. ap (λ (x : ℕ). (getD source c 0 + x) % 1000) (total-same m n (readsAt c) f))
 
-pub holds : (source : List ℕ) (events : List Event) → Demand3 rows source events
+pub holds : (source : List ℕ) (events : List Event) → Demand3 (act rows source) (fresh rows) events rows source (collect rows)
 holds source events = theorem rows sound source events
 
 -- ---- what the theorem says of this run
-at-the-end : steps rows ones (rounds 20) ≡ total rows
+at-the-end : steps (act rows ones) (fresh rows) (rounds 20) ≡ total rows
 at-the-end = all-steps ∙ sym that-is-all
 
-collects-sweep : (old : List ℕ) → length old ≡ 64 → collect rows (last rows ones (rounds 20)) old .after ≡ sweep rows ones
+collects-sweep : (old : List ℕ) → length old ≡ 64 → collect rows (last (act rows ones) (fresh rows) (rounds 20)) old .after ≡ sweep rows ones
 unfolding rows
 collects-sweep = holds ones (rounds 20) .grid at-the-end
 
-nothing-goes : (e : Event) → act rows ones (last rows ones (rounds 20)) e .number ≢ 0
+nothing-goes : (e : Event) → act rows ones (last (act rows ones) (fresh rows) (rounds 20)) e .number ≢ 0
 nothing-goes e z = let h = holds ones (rounds 20) .then-fewer e z in omega (arith, at-the-end)
 
-something-goes : (e : Event) × (act rows ones (last rows ones (rounds 19)) e .number ≡ 0)
+something-goes : (e : Event) × (act rows ones (last (act rows ones) (fresh rows) (rounds 19)) e .number ≡ 0)
 something-goes = holds ones (rounds 19) .goes-on (omega (arith, fewer-steps, that-is-all))

@@ -37,7 +37,7 @@ module _ (p : Plan) (so : Sound p) (source : List ℕ) where
   next-inv : (s : State) → Inv p source s → (e : Event) → Inv p source (act p source s e .after)
   next-inv s inv e = kept-by s _ inv (acted p so source s inv e)
 
-  pub run-inv : (es : List Event) (s : State) → Inv p source s → Inv p source (stateAfter p source s es)
+  pub run-inv : (es : List Event) (s : State) → Inv p source s → Inv p source (stateAfter (act p source) s es)
   unfolding stateAfter
   run-inv [] s inv = inv
   run-inv (e ∷ es) s inv = run-inv es _ (next-inv s inv e)
@@ -48,7 +48,7 @@ module _ (p : Plan) (so : Sound p) (source : List ℕ) where
   step-counts s a (inl q) = let k = one-true (eq-eqb (a .number) 0 (q .0)) in omega (arith, q .1 .less)
   step-counts s a (inr q) = rw (q .1, one-false (ne-eqb (a .number) 0 (q .0))) (omega arith)
 
-  pub run-steps : (es : List Event) (s : State) → Inv p source s → countIf (λ x. eqb x 0) (answersTo p source s es) + leftOf p (stateAfter p source s es) ≡ leftOf p s
+  pub run-steps : (es : List Event) (s : State) → Inv p source s → countIf (λ x. eqb x 0) (answersTo (act p source) s es) + leftOf p (stateAfter (act p source) s es) ≡ leftOf p s
   unfolding stateAfter answersTo countIf
   run-steps [] s inv = omega arith
   run-steps (e ∷ es) s inv =
@@ -97,16 +97,16 @@ module _ (p : Plan) (so : Sound p) (source : List ℕ) where
         let a : length (restOf p s′ b) + j ≡ length (restOf p s b) = rw (x .1, length-drop) (omega (arith, x .0)) in
         (omega (arith, y .0), y .1 ∙ ap (drop k) (x .1) ∙ drop-drop k j (restOf p s b))
 
-    takes-run : (es : List Event) (s : State) → Inv p source s → Takes s (stateAfter p source s es) (turnsOf b es (answersTo p source s es))
+    takes-run : (es : List Event) (s : State) → Inv p source s → Takes s (stateAfter (act p source) s es) (turnsOf b es (answersTo (act p source) s es))
     unfolding stateAfter answersTo
     takes-run [] s inv = takes-none s s _ (no-turns b []) refl
     takes-run (e ∷ es) s inv =
-        rw (turns-cons e es (act p source s e .number) (answersTo p source (act p source s e .after) es))
+        rw (turns-cons e es (act p source s e .number) (answersTo (act p source) (act p source s e .after) es))
         (takes-then s _ _ _ _ (step-takes s inv e) (takes-run es _ (next-inv s inv e)))
 
     -- what is left of the program is the program without as many deeds as there were turns that gave 0
     pub run-takes : (es : List Event) (s : State) → Inv p source s
-        → (turnsOf b es (answersTo p source s es) ≤ length (restOf p s b)) × (restOf p (stateAfter p source s es) b ≡ drop (turnsOf b es (answersTo p source s es)) (restOf p s b))
+        → (turnsOf b es (answersTo (act p source) s es) ≤ length (restOf p s b)) × (restOf p (stateAfter (act p source) s es) b ≡ drop (turnsOf b es (answersTo (act p source) s es)) (restOf p s b))
     unfolding Takes
     run-takes es s inv = takes-run es s inv
 
@@ -146,11 +146,11 @@ module _ (p : Plan) (so : Sound p) (source : List ℕ) where
             omega (arith, ap (λ (x : State). pending (statusOf x m)) (q .1))
 
     pub run-brings : (es : List Event) (s : State) → Inv p source s
-        → deliveriesOf m es (answersTo p source s es) + pending (statusOf (stateAfter p source s es) m) ≡ pending (statusOf s m)
+        → deliveriesOf m es (answersTo (act p source) s es) + pending (statusOf (stateAfter (act p source) s es) m) ≡ pending (statusOf s m)
     unfolding stateAfter answersTo
     run-brings [] s inv = rw (no-deliveries m []) (omega arith)
     run-brings (e ∷ es) s inv =
-        let a = brings-cons e es (act p source s e .number) (answersTo p source (act p source s e .after) es) in
+        let a = brings-cons e es (act p source s e .number) (answersTo (act p source) (act p source s e .after) es) in
         let b = step-brings s inv e in
         let c = run-brings es _ (next-inv s inv e) in
         omega arith

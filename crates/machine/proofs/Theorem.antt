@@ -37,80 +37,80 @@ none-after : (l : List Action) (k : ℕ) → drop k l ≡ [] → length l ≤ k
 none-after l k e = let a : length l - k ≡ 0 = sym (length-drop k l) ∙ ap length e in omega arith
 
 module _ (p : Plan) (so : Sound p) (source : List ℕ) (events : List Event) where
-  inv : Inv p source (last p source events)
+  inv : Inv p source (last (act p source) (fresh p) events)
   inv = run-inv p so source events (fresh p) (inv-fresh p source)
 
-  counted : steps p source events + leftOf p (last p source events) ≡ total p
+  counted : steps (act p source) (fresh p) events + leftOf p (last (act p source) (fresh p) events) ≡ total p
   counted = run-steps p so source events (fresh p) (inv-fresh p source) ∙ left-fresh p (λ m lo. omega (arith, so .forward m lo, so .taker-low m lo))
 
   module _ (es : List Event) (b : ℕ) where
     abbrev turns : ℕ
-    turns = turnsOf b es (answersTo p source (fresh p) es)
+    turns = turnsOf b es (answersTo (act p source) (fresh p) es)
 
     within-es : turns ≤ length (program p b)
     within-es = rw (rest-fresh p b) at (run-takes p so source b es (fresh p) (inv-fresh p source) .0)
 
-    rest-es : restOf p (stateAfter p source (fresh p) es) b ≡ drop turns (program p b)
+    rest-es : restOf p (stateAfter (act p source) (fresh p) es) b ≡ drop turns (program p b)
     rest-es = run-takes p so source b es (fresh p) (inv-fresh p source) .1 ∙ ap (drop turns) (rest-fresh p b)
 
-    carried : act p source (stateAfter p source (fresh p) es) (turnOf b) .number ≡ 0 → CarriedOut p source (stateAfter p source (fresh p) es) b turns
+    carried : act p source (stateAfter (act p source) (fresh p) es) (turnOf b) .number ≡ 0 → CarriedOut p source (act p source) (stateAfter (act p source) (fresh p) es) b turns
     unfolding act
     carried z =
         record {
           named = next .0;
-          by-rule = by-next p source (stateAfter p source (fresh p) es) b z ∙ ap (carryOut p source (stateAfter p source (fresh p) es) b) (sym (next .1));
+          by-rule = by-next p source (stateAfter (act p source) (fresh p) es) b z ∙ ap (carryOut p source (stateAfter (act p source) (fresh p) es) b) (sym (next .1));
         }
       where
-        next : (turns < length (program p b)) × (getD (program p b) turns (gather 0) ≡ nextAction p (stateAfter p source (fresh p) es) b)
+        next : (turns < length (program p b)) × (getD (program p b) turns (gather 0) ≡ nextAction p (stateAfter (act p source) (fresh p) es) b)
         next =
             next-at (program p b) _ turns _
-            (sym rest-es ∙ turn-takes p (stateAfter p source (fresh p) es) b source (run-inv p so source es (fresh p) (inv-fresh p source) .shape) z)
+            (sym rest-es ∙ turn-takes p (stateAfter (act p source) (fresh p) es) b source (run-inv p so source es (fresh p) (inv-fresh p source) .shape) z)
 
   -- deeds of a kind that the programs name once
   module _ (f : Action → Bool) (once : sum (λ b. countIf f (program p b)) (p .processors) ≡ 1) where
-    at-most : timesOf p events (answers p source events) f ≤ 1
+    at-most : timesOf p events (answers (act p source) (fresh p) events) f ≤ 1
     at-most =
-        let a = sum-most (λ b. countIf f (take (turnsOf b events (answers p source events)) (program p b))) (λ b. countIf f (program p b)) (p .processors)
-        (λ b h. count-take f (turnsOf b events (answers p source events)) (program p b)) in
+        let a = sum-most (λ b. countIf f (take (turnsOf b events (answers (act p source) (fresh p) events)) (program p b))) (λ b. countIf f (program p b)) (p .processors)
+        (λ b h. count-take f (turnsOf b events (answers (act p source) (fresh p) events)) (program p b)) in
         omega arith
 
-    exactly : leftOf p (last p source events) ≡ 0 → timesOf p events (answers p source events) f ≡ 1
+    exactly : leftOf p (last (act p source) (fresh p) events) ≡ 0 → timesOf p events (answers (act p source) (fresh p) events) f ≡ 1
     exactly z =
-        sum-same (λ b. countIf f (take (turnsOf b events (answers p source events)) (program p b))) (λ b. countIf f (program p b)) (p .processors)
-        (λ b h. ap (countIf f) (take-all (turnsOf b events (answers p source events)) (program p b) (none-after (program p b) _ (sym (rest-es events b) ∙ empty b h))))
+        sum-same (λ b. countIf f (take (turnsOf b events (answers (act p source) (fresh p) events)) (program p b))) (λ b. countIf f (program p b)) (p .processors)
+        (λ b h. ap (countIf f) (take-all (turnsOf b events (answers (act p source) (fresh p) events)) (program p b) (none-after (program p b) _ (sym (rest-es events b) ∙ empty b h))))
         ∙ once
       where
-        empty : (b : ℕ) → b < p .processors → restOf p (last p source events) b ≡ []
+        empty : (b : ℕ) → b < p .processors → restOf p (last (act p source) (fresh p) events) b ≡ []
         empty b h =
-            let k = all-finished p so source (last p source events) inv z b in
-            rest-end p b _ _ _ k (fit-over p b _ _ (sentOf (last p source events) b) k (sym (fit-is p (last p source events) b) ∙ inv .shape .records b h))
+            let k = all-finished p so source (last (act p source) (fresh p) events) inv z b in
+            rest-end p b _ _ _ k (fit-over p b _ _ (sentOf (last (act p source) (fresh p) events) b) k (sym (fit-is p (last (act p source) (fresh p) events) b) ∙ inv .shape .records b h))
 
-  brought : (m : ℕ) → m < count p → deliveriesOf m events (answers p source events) + pending (statusOf (last p source events) m) ≡ 1
+  brought : (m : ℕ) → m < count p → deliveriesOf m events (answers (act p source) (fresh p) events) + pending (statusOf (last (act p source) (fresh p) events) m) ≡ 1
   brought m lo = run-brings p so source m lo events (fresh p) (inv-fresh p source) ∙ ap pending (status-fresh p m)
 
-  none : steps p source events ≡ total p → leftOf p (last p source events) ≡ 0
+  none : steps (act p source) (fresh p) events ≡ total p → leftOf p (last (act p source) (fresh p) events) ≡ 0
   none e = omega (arith, counted)
 
-  demand3 : Demand3 p source events
+  demand3 : Demand3 (act p source) (fresh p) events p source (collect p)
   demand3 =
       record {
         bound = omega (arith, counted);
-        goes-on = λ h. progress p so source (last p source events) inv (omega (arith, counted));
-        then-fewer = λ e z. let k = going p so source (last p source events) inv e z in omega (arith, counted);
-        collects = λ e grid len. can-end p so source (last p source events) inv (none e) grid;
-        then-all = λ grid len z. let k = none-more p so source (last p source events) inv grid z in omega (arith, counted);
+        goes-on = λ h. progress p so source (last (act p source) (fresh p) events) inv (omega (arith, counted));
+        then-fewer = λ e z. let k = going p so source (last (act p source) (fresh p) events) inv e z in omega (arith, counted);
+        can-collect = λ e grid len. can-end p so source (last (act p source) (fresh p) events) inv (none e) grid;
+        then-all = λ grid len z. let k = none-more p so source (last (act p source) (fresh p) events) inv grid z in omega (arith, counted);
         calculated = λ c h. at-most (calculates p c) (calculated-once p so c h);
         sent = λ m h. at-most (sends m) (sent-once p so m h);
         delivered = λ m h. omega (arith, brought m h);
         taken = λ m h. at-most (takes p m) (taken-once p so m h);
         all-calculated = λ e c h. exactly (calculates p c) (calculated-once p so c h) (none e);
         all-sent = λ e m h. exactly (sends m) (sent-once p so m h) (none e);
-        all-delivered = λ e m h. let k = all-delivered p so source (last p source events) inv (none e) m h in omega (arith, brought m h);
+        all-delivered = λ e m h. let k = all-delivered p so source (last (act p source) (fresh p) events) inv (none e) m h in omega (arith, brought m h);
         all-taken = λ e m h. exactly (takes p m) (taken-once p so m h) (none e);
         carried-out = λ before after b e z. carried before b z;
         within = λ b. within-es events b;
-        grid = λ e old len. ends-right p so source (last p source events) inv (none e) old;
+        grid = λ e old len. ends-right p so source (last (act p source) (fresh p) events) inv (none e) old;
       }
 
-pub theorem : (p : Plan) → Sound p → (source : List ℕ) (events : List Event) → Demand3 p source events
+pub theorem : (p : Plan) → Sound p → (source : List ℕ) (events : List Event) → Demand3 (act p source) (fresh p) events p source (collect p)
 theorem p so source events = demand3 p so source events
