@@ -1,15 +1,13 @@
 -- A plan of three tiles on two processors: its calls give every number from 10 to 15, and a run of it ends in these words.
-use Prim.Native.Nat.{ℕ, zero, suc, _+_, _*_, _/_, _≤_, _<_}
+use Prim.Native.Nat.{ℕ, zero, suc, _+_, _*_, _/_}
 use mathlib.Core.Path.{_≡_, refl}
-use mathlib.Core.Bool.{Bool, true, false}
-use mathlib.Core.List.{List, [], _∷_, _++_, map}
-use lib.ListN.{length, getD, take, drop, set, replicate}
-use lib.Dec.{ltb, leb, eqb}
-use Rattle.base.specs.Tests.{_and_, _or_, not, pick, one, every, some, keep, those, sum, tabulate}
-use Rattle.base.specs.Lists.{In, member, part, put, setAll, storeAll, allAt, unpack, pack, countIf}
+use mathlib.Core.List.{List, [], _∷_}
+use lib.ListN.{getD, replicate}
+use Rattle.base.specs.Tests.{_and_, _or_, not, pick, one, every, some, keep, those, tabulate}
+use Rattle.base.specs.Lists.{part, put, setAll, storeAll, allAt, unpack, pack, countIf}
 use Rattle.base.specs.Numbers.{firstOf}
-use Rattle.machine.specs.Plan.{Plan, Message, Sound, offset}
-use Rattle.machine.specs.Machine.{State, stateOf, Action, gather, calculate, send, setProgress, tilesLeft, fitRecord, fit, unpackAll, afterSends, carryOut, actionAt, waiting, turn, deliver, collect, collected, fresh, sweepTo, sweep}
+use Rattle.machine.specs.Plan.{Plan, offset}
+use Rattle.machine.specs.Machine.{State, stateOf, gather, calculate, send, setProgress, tilesLeft, fitRecord, fit, unpackAll, afterSends, carryOut, actionAt, waiting, turn, deliver, collect, collected, fresh, sweepTo, sweep}
 use Rattle.machine.specs.Runs.{Event, turnOf, deliveryOf, act, stateAfter, answersTo, programOver, program, last, answers, steps}
 
 -- tiles 0 and 2 on processor 0, tile 1 on processor 1; two cells a tile, each reads the cell before it

@@ -1,15 +1,13 @@
 -- A plan of 16 tiles on 4 processors with 12 messages, run to the end by computation, with many refused events in the list.
-use Prim.Native.Nat.{ℕ, zero, suc, _+_, _*_, _-_, _/_, _%_, _≤_, _<_}
+use Prim.Native.Nat.{ℕ, zero, suc, _+_, _*_, _-_, _/_, _%_}
 use mathlib.Core.Path.{_≡_, refl}
-use mathlib.Core.Bool.{Bool, true, false}
-use mathlib.Core.List.{List, [], _∷_, _++_, map}
-use lib.ListN.{length, getD, take, drop, set, replicate}
-use lib.Dec.{ltb, leb, eqb}
-use Rattle.base.specs.Tests.{_and_, _or_, not, pick, one, every, some, keep, those, sum, tabulate}
+use mathlib.Core.List.{List, [], _∷_, _++_}
+use lib.ListN.{getD, replicate}
+use Rattle.base.specs.Tests.{_and_, _or_, not, pick, one, every, some, keep, those, tabulate}
 use Rattle.base.specs.Lists.{part, put, setAll, storeAll, allAt, unpack, pack, countIf}
 use Rattle.base.specs.Numbers.{firstOf}
 use Rattle.machine.specs.Plan.{Plan, Message, offset}
-use Rattle.machine.specs.Machine.{State, stateOf, setProgress, tilesLeft, fitRecord, fit, unpackAll, afterSends, carryOut, actionAt, waiting, turn, deliver, collect, collected, fresh, sweepTo, sweep}
+use Rattle.machine.specs.Machine.{stateOf, setProgress, tilesLeft, fitRecord, fit, unpackAll, afterSends, carryOut, actionAt, waiting, turn, deliver, collect, collected, fresh, sweepTo, sweep}
 use Rattle.machine.specs.Runs.{Event, turnOf, deliveryOf, act, stateAfter, answersTo, total, last, answers, steps}
 
 -- ---- 8 × 8 cells in tiles of 2 × 2; a row of tiles to each processor; a cell reads the cells above, before and above before it
@@ -98,7 +96,7 @@ unfolding rows ones rounds ups total-of those keep offset part put unpack unpack
 first-numbers = refl
 
 pub first-cells : pack (last rows ones firsts .memories) (0 ∷ 1 ∷ 2 ∷ 8 ∷ 9 ∷ 10 ∷ []) ≡ 1 ∷ 2 ∷ 0 ∷ 2 ∷ 6 ∷ 0 ∷ []
-unfolding rows ones rounds ups total-of those keep offset part put unpack unpackAll setAll storeAll pack allAt every some one countIf not pick _and_ _or_ firstOf setProgress tilesLeft fitRecord fit afterSends carryOut actionAt waiting turn deliver act stateAfter answersTo fresh firsts
+unfolding rows ones rounds ups total-of those keep offset part put unpack unpackAll setAll storeAll pack allAt every some one countIf not pick _and_ _or_ firstOf setProgress tilesLeft fitRecord fit afterSends carryOut actionAt waiting turn deliver act stateAfter answersTo fresh firsts tabulate
 first-cells = refl
 
 pub first-words : pack (last rows ones firsts .buffer) (0 ∷ 1 ∷ 2 ∷ []) ≡ 2 ∷ 6 ∷ 0 ∷ []

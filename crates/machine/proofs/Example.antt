@@ -1,14 +1,14 @@
 -- The theorem says something: the plan of ComputedRun is sound, by a computed test, and the theorem applies to it and to its run.
-use Prim.Native.Nat.{ℕ, zero, suc, _+_, _*_, _%_, _≤_, _<_}
+use Prim.Native.Nat.{ℕ, _+_, _%_}
 use mathlib.Core.Path.{_≡_, refl, sym, ap, _∙_}
-use mathlib.Core.Logic.{_⊎_, inl, inr, _≢_}
-use mathlib.Core.Bool.{Bool, true, false}
+use mathlib.Core.Logic.{inl, inr, _≢_}
+use mathlib.Core.Bool.{true}
 use mathlib.Core.List.{List, [], _∷_}
 use native.Mathlib.Omega.{arith}
 use lib.ListN.{length, getD}
 use Rattle.base.specs.Tests.{_and_, _or_, every, some}
 use Rattle.base.specs.Lists.{In, member}
-use Rattle.machine.specs.Plan.{Plan, Sound}
+use Rattle.machine.specs.Plan.{Sound}
 use Rattle.machine.specs.Machine.{collect, sweep}
 use Rattle.machine.specs.Runs.{Event, act, total, last, steps, Demand3}
 use Rattle.machine.proofs.SoundTest.{allIn, isRising, knows, cellTest, ownTest, tileTest, heldTest, messageTest, soundTest, tested}
