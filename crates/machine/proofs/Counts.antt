@@ -1,17 +1,17 @@
 -- Counting over the programs: each cell's calculate, each message's send and its taker's gather stand once in them.
-use Prim.Native.Nat.{ℕ, zero, suc, _+_, _*_, _≤_, _<_}
+use Prim.Native.Nat.{ℕ, zero, suc, _+_, _≤_, _<_}
 use mathlib.Core.Path.{_≡_, refl, sym, ap, _∙_}
-use mathlib.Core.Logic.{_⊎_, inl, inr, _≢_}
+use mathlib.Core.Logic.{_⊎_, inl, inr}
 use mathlib.Core.Bool.{Bool, true, false}
 use mathlib.Core.List.{List, [], _∷_, _++_, map}
 use native.Mathlib.Nat.{eq-or-lt-of-le, le-of-suc-le-suc, mul-zero}
 use native.Mathlib.Omega.{arith}
-use lib.ListN.{length, getD, take}
+use lib.ListN.{take}
 use lib.Dec.{eqb}
 use borrow.Author.Tests.{eqb-true, eq-eqb, ne-eqb}
 use Rattle.base.specs.Tests.{one, sum, keep, keepIf, those}
 use Rattle.base.specs.Lists.{In, member, countIf}
-use Rattle.base.proofs.Tests.{one-true, one-false, same-test, sum-same, sum-most, sum-less, sum-const}
+use Rattle.base.proofs.Tests.{one-true, one-false, same-test, sum-same, sum-less, sum-const}
 use Rattle.base.proofs.Select.{keep-in, those-in}
 use Rattle.base.proofs.Lists.{in-member, member-in}
 use Rattle.machine.specs.Plan.{Plan, Sound, count, senderOf, takerOf, tilesOf, sendsOf}

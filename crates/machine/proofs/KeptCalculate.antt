@@ -1,16 +1,16 @@
 -- A calculate keeps the invariant.
-use Prim.Native.Nat.{ℕ, zero, suc, _+_, _*_, _≤_, _<_}
-use mathlib.Core.Path.{_≡_, refl, sym, ap, _∙_}
-use mathlib.Core.Logic.{_⊎_, inl, inr, _≢_}
-use mathlib.Core.List.{List, [], _∷_, map}
+use Prim.Native.Nat.{ℕ, _*_, _<_}
+use mathlib.Core.Path.{_≡_, refl, _∙_}
+use mathlib.Core.Logic.{_⊎_, inl, inr}
+use mathlib.Core.List.{List}
 use native.Mathlib.Omega.{arith}
 use lib.ListN.{length, getD}
-use Rattle.base.specs.Lists.{In, part, put, storeAll}
+use Rattle.base.specs.Lists.{In, put, storeAll}
 use Rattle.base.proofs.Lists.{store-length}
-use Rattle.machine.specs.Plan.{Plan, Sound, Knows, count, tilesOf}
+use Rattle.machine.specs.Plan.{Plan, Sound, Knows, tilesOf}
 use Rattle.machine.specs.Machine.{State, stateOf, finishedOf, stageOf, memoryOf, currentTile, afterSends, calculate, carryOut}
 use Rattle.machine.proofs.Values.{stored-right, sweep-fits}
-use Rattle.machine.proofs.Progress.{prog, full, Moved, here-low, here-is, here-prog}
+use Rattle.machine.proofs.Progress.{prog, Moved, here-low, here-is, here-prog}
 use Rattle.machine.proofs.Invariant.{status-calc, right-step, left-turn}
 use Rattle.machine.proofs.Kept.{Inv, Kept, swept, statusOf, moved-after, shape-after, memory-length, memory-new, memories-length, better, step-of, known-right}
 

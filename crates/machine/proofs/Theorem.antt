@@ -1,20 +1,18 @@
 -- Demand 3 of document 01, for every sound plan, every source and every list of events.
-use Prim.Native.Nat.{ℕ, zero, suc, _+_, _*_, _-_, _≤_, _<_}
-use mathlib.Core.Path.{_≡_, refl, sym, ap, _∙_}
-use mathlib.Core.Logic.{_⊎_, inl, inr, _≢_}
-use mathlib.Core.Bool.{Bool, true, false}
-use mathlib.Core.List.{List, [], _∷_, _++_}
+use Prim.Native.Nat.{ℕ, _+_, _-_, _≤_, _<_}
+use mathlib.Core.Path.{_≡_, sym, ap, _∙_}
+use mathlib.Core.Bool.{Bool}
+use mathlib.Core.List.{List, [], _∷_}
 use native.Mathlib.Omega.{arith}
 use native.Mathlib.Decide.{decLt}
 use lib.ListN.{length, getD, take, drop, length-drop, drop-of-length-le}
 use lib.Seq.{drop-cons, take-all}
-use lib.Dec.{eqb}
 use Rattle.base.specs.Tests.{sum}
 use Rattle.base.specs.Lists.{countIf}
 use Rattle.base.proofs.Tests.{sum-same, sum-most}
-use Rattle.machine.specs.Plan.{Plan, Sound, count, senderOf, tilesOf}
-use Rattle.machine.specs.Machine.{State, Action, gather, nextAction, finishedOf, stageOf, sentOf, carryOut, collect, fresh, sweep}
-use Rattle.machine.specs.Runs.{Event, turnOf, deliveryOf, act, stateAfter, answersTo, total, program, turnsOf, timesOf, calculates, sends, takes, deliveriesOf, CarriedOut, last, answers, steps, Demand3}
+use Rattle.machine.specs.Plan.{Plan, Sound, count}
+use Rattle.machine.specs.Machine.{Action, gather, nextAction, sentOf, carryOut, collect, fresh}
+use Rattle.machine.specs.Runs.{Event, turnOf, act, stateAfter, answersTo, total, program, turnsOf, timesOf, calculates, sends, takes, deliveriesOf, CarriedOut, last, answers, steps, Demand3}
 use Rattle.machine.proofs.Records.{fit-is, fit-over}
 use Rattle.machine.proofs.Turns.{by-next}
 use Rattle.machine.proofs.Invariant.{pending}

@@ -1,14 +1,14 @@
 -- Every write writes the sweep's value of its cell: what is right stays right, and what is written becomes right.
-use Prim.Native.Nat.{ℕ, zero, suc, _+_, _*_, _≤_, _<_}
-use mathlib.Core.Path.{_≡_, refl, sym, ap, _∙_}
-use mathlib.Core.Logic.{_⊎_, inl, inr, _≢_}
+use Prim.Native.Nat.{ℕ, zero, suc, _+_, _≤_, _<_}
+use mathlib.Core.Path.{_≡_, refl, sym, _∙_}
+use mathlib.Core.Logic.{_⊎_, inl, inr}
 use mathlib.Core.List.{List, [], _∷_, _++_, map}
 use native.Mathlib.Nat.{eq-or-lt-of-le, le-of-suc-le-suc}
 use native.Mathlib.Omega.{arith}
 use lib.ListN.{length, getD, set, length-append, length-set, List·getD-append}
 use lib.Seq.{getD-at, getD-set-same, ext-getD}
 use Rattle.base.specs.Tests.{tabulate}
-use Rattle.base.specs.Lists.{In, Rising, unpack, storeAll}
+use Rattle.base.specs.Lists.{In, Rising, storeAll}
 use Rattle.base.proofs.Tests.{length-tabulate, tabulate-at}
 use Rattle.base.proofs.Lists.{AllBelow, set-keeps, unpack-keeps, unpack-gives, unpack-length}
 use Rattle.machine.specs.Plan.{Plan, Message, noMessage, heldBy, offset}
