@@ -9,7 +9,7 @@ use lib.Dec.{eqb}
 use Rattle.base.specs.Tests.{_and_, one, sum}
 use Rattle.base.specs.Lists.{member, countIf}
 use Rattle.machine.specs.Plan.{Plan, count, takerOf, tilesOf, sendsOf}
-use Rattle.machine.specs.Machine.{State, Answered, Action, gather, calculate, send, turn, deliver, carryOut, collect, fresh, sweep}
+use Rattle.machine.specs.Machine.{State, Answered, Action, gather, calculate, send, turn, deliver, carryOut, sweep}
 
 -- a turn of a processor, or the delivery of a message; numbers of any size
 pub data Event : Type 0 where
@@ -19,14 +19,14 @@ unfoldable pub act : Plan → List ℕ → State → Event → Answered State
 act p source s (turnOf b) = turn p source s b
 act p source s (deliveryOf m) = deliver p s m
 
--- each event is given the state as the last left it
-unfoldable pub stateAfter : Plan → List ℕ → State → List Event → State
-stateAfter p source s [] = s
-stateAfter p source s (e ∷ es) = stateAfter p source (act p source s e .after) es
+-- each event is given the state as the last left it; `acts` is the machine, or the calls themselves
+unfoldable pub stateAfter : (State → Event → Answered State) → State → List Event → State
+stateAfter acts s [] = s
+stateAfter acts s (e ∷ es) = stateAfter acts (acts s e .after) es
 
-unfoldable pub answersTo : Plan → List ℕ → State → List Event → List ℕ
-answersTo p source s [] = []
-answersTo p source s (e ∷ es) = act p source s e .number ∷ answersTo p source (act p source s e .after) es
+unfoldable pub answersTo : (State → Event → Answered State) → State → List Event → List ℕ
+answersTo acts s [] = []
+answersTo acts s (e ∷ es) = acts s e .number ∷ answersTo acts (acts s e .after) es
 
 abbrev pub total : Plan → ℕ
 total p = 2 * p .tiles + 2 * count p
@@ -75,30 +75,30 @@ deliveriesOf m (turnOf b ∷ es) (x ∷ xs) = deliveriesOf m es xs
 deliveriesOf m (deliveryOf k ∷ es) (x ∷ xs) = one (eqb k m and eqb x 0) + deliveriesOf m es xs
 
 -- a turn of processor b in the state s, after k turns of b that gave 0: the action named, carried out by the machine's rule
-pub record CarriedOut (p : Plan) (source : List ℕ) (s : State) (b k : ℕ) : Type 0 where
+pub record CarriedOut (p : Plan) (source : List ℕ) (acts : State → Event → Answered State) (s : State) (b k : ℕ) : Type 0 where
   pub named : k < length (program p b)
-  pub by-rule : act p source s (turnOf b) .after ≡ carryOut p source s b (getD (program p b) k (gather 0))
+  pub by-rule : acts s (turnOf b) .after ≡ carryOut p source s b (getD (program p b) k (gather 0))
 
-module _ (p : Plan) (source : List ℕ) (events : List Event) where
+-- the claim about a list of events from `start`, by the answers that `acts` gives
+module _ (acts : State → Event → Answered State) (start : State) (events : List Event) where
   abbrev pub last : State
-  last = stateAfter p source (fresh p) events
+  last = stateAfter acts start events
 
   abbrev pub answers : List ℕ
-  answers = answersTo p source (fresh p) events
+  answers = answersTo acts start events
 
   -- a step is an event that gave 0
   abbrev pub steps : ℕ
   steps = countIf (λ x. eqb x 0) answers
 
-  pub record Demand3 : Type 0 where
-    -- the step bound
+  pub record Demand3 (p : Plan) (source : List ℕ) (collects : State → List ℕ → Answered (List ℕ)) : Type 0 where
     pub bound : steps ≤ total p
     -- some event would give 0 exactly when the steps are fewer
-    pub goes-on : steps < total p → (e : Event) × (act p source last e .number ≡ 0)
-    pub then-fewer : (e : Event) → act p source last e .number ≡ 0 → steps < total p
+    pub goes-on : steps < total p → (e : Event) × (acts last e .number ≡ 0)
+    pub then-fewer : (e : Event) → acts last e .number ≡ 0 → steps < total p
     -- collecting into a grid of the right length gives 0 exactly when they are that many
-    pub collects : steps ≡ total p → (grid : List ℕ) → length grid ≡ p .cells → collect p last grid .number ≡ 0
-    pub then-all : (grid : List ℕ) → length grid ≡ p .cells → collect p last grid .number ≡ 0 → steps ≡ total p
+    pub can-collect : steps ≡ total p → (grid : List ℕ) → length grid ≡ p .cells → collects last grid .number ≡ 0
+    pub then-all : (grid : List ℕ) → length grid ≡ p .cells → collects last grid .number ≡ 0 → steps ≡ total p
     -- no cell is calculated twice, no message sent, delivered or taken twice
     pub calculated : (c : ℕ) → c < p .cells → timesOf p events answers (calculates p c) ≤ 1
     pub sent : (m : ℕ) → m < count p → timesOf p events answers (sends m) ≤ 1
@@ -111,9 +111,9 @@ module _ (p : Plan) (source : List ℕ) (events : List Event) where
     pub all-taken : steps ≡ total p → (m : ℕ) → m < count p → timesOf p events answers (takes p m) ≡ 1
     -- each turn that gave 0 carried out, by the machine's rules, the action that the program names
     pub carried-out : (before after : List Event) (b : ℕ) → events ≡ before ++ (turnOf b ∷ after)
-        → act p source (stateAfter p source (fresh p) before) (turnOf b) .number ≡ 0
-        → CarriedOut p source (stateAfter p source (fresh p) before) b (turnsOf b before (answersTo p source (fresh p) before))
+        → acts (stateAfter acts start before) (turnOf b) .number ≡ 0
+        → CarriedOut p source acts (stateAfter acts start before) b (turnsOf b before (answersTo acts start before))
     -- no processor has a step beyond its program
     pub within : (b : ℕ) → turnsOf b events answers ≤ length (program p b)
     -- the collected grid equals the sweep
-    pub grid : steps ≡ total p → (old : List ℕ) → length old ≡ p .cells → collect p last old .after ≡ sweep p source
+    pub grid : steps ≡ total p → (old : List ℕ) → length old ≡ p .cells → collects last old .after ≡ sweep p source
