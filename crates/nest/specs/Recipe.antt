@@ -94,8 +94,11 @@ same x e f = every (λ j. eqb (component x e j) (component x f j)) 4
 unfoldable pub beyond : Nest → ℕ → Bool
 beyond x e = some (λ j. leb (x .dimensions) j and ltb 0 (component x e j)) 4
 
+unfoldable pub faulty : Nest → ℕ → Bool
+faulty x e = every (λ j. eqb (component x e j) 0) 4 or some (same x e) e or beyond x e
+
 unfoldable pub badDistance : Nest → Bool
-badDistance x = some (λ e. every (λ j. eqb (component x e j) 0) 4 or some (same x e) e or beyond x e) (x .distances)
+badDistance x = some (faulty x) (x .distances)
 
 unfoldable pub reached : Nest → ℕ → Bool
 reached x j = some (λ e. leb (tileLength x j) (component x e j)) (x .distances)
