@@ -76,3 +76,12 @@ module _ (bytes : List ℕ) where
         answer-0 k h z b =
             let f : firstOf (readLines bytes) ≡ 0 = lines-are k h ∙ z in
             (same-reading _ _ _ _ (sym f) (nest-is ∙ sym (pick-true _ (nestOf bytes) noNest (eq-eqb _ _ f))), λ q. rw nest-is (accepted bytes b f))
+
+-- ---- what a caller has of it
+
+module _ (bytes : List ℕ) (r : Reading) (is : r ≡ readingOf bytes) where
+  pub number-read : r .number ≡ firstOf (readLines bytes)
+  number-read = ap (λ (x : Reading). x .number) is
+
+  pub nest-read : r .number ≡ 0 → r .nest ≡ nestOf bytes
+  nest-read z = ap (λ (x : Reading). x .nest) is ∙ pick-true _ (nestOf bytes) noNest (eq-eqb _ _ (sym number-read ∙ z))

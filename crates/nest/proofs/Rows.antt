@@ -47,6 +47,11 @@ pub numbers : map (λ (b : List ℕ). firstOf (readLines b)) (rowA ∷ rowB ∷ 
 unfolding firstOf _and_ _or_ not pick every some keep those tabulate product tileCount cells tiles processors ofKind filled nestBy nestOf ragged blank checked fitsAt wellFormed strayRecord outside badLength tooLarge same beyond faulty badDistance reached badTile badProcessors tooManyTiles nestLines readLines
 numbers = refl
 
+-- two faults, a distance of zeros and a tile length 0: the first line counts
+pub first-counts : firstOf (readLines (dimension 4 0 2 ++ dimension 1 1 0 ++ distance 0 0 0 ++ close)) ≡ 5
+unfolding firstOf _and_ _or_ not pick every some keep those tabulate product tileCount cells tiles processors ofKind filled nestBy nestOf ragged blank checked fitsAt wellFormed strayRecord outside badLength tooLarge same beyond faulty badDistance reached badTile badProcessors tooManyTiles nestLines readLines
+first-counts = refl
+
 pub tile-totals : map (λ (b : List ℕ). tiles (nestOf b)) (rowA ∷ rowB ∷ rowC ∷ rowD ∷ rowE ∷ rowF ∷ []) ≡ 16 ∷ 4 ∷ 8 ∷ 2 ∷ 3 ∷ 2 ∷ []
 unfolding pick keep those tabulate product tileCount tiles ofKind filled nestBy nestOf
 tile-totals = refl
