@@ -1,7 +1,6 @@
 -- A nest: lengths, tile lengths and processor counts by dimension, distances with their weights, shift and boundary.
 -- Renders document 01, "The recipe" and "Cells, tiles and boards": what the fields mean, and what an accepted nest has.
-use Prim.Native.Nat.{ℕ, _+_, _*_, _-_, _/_, _^_, _≤_, _<_}
-use mathlib.Core.Path.{_≡_}
+use Prim.Native.Nat.{ℕ, _+_, _*_, _-_, _/_, _≤_, _<_}
 use lib.ListN.{getD}
 use Rattle.base.specs.Tests.{product}
 use Rattle.nest.specs.declared.Nest.{Nest}

@@ -78,7 +78,7 @@ wellFormed bytes n e =
 unfoldable pub strayRecord : List ℕ → Bool
 strayRecord bytes = not (wellFormed bytes (ofKind bytes 1) (ofKind bytes 2))
 
--- lines 3 to 8, of the nest that the bytes give
+-- lines 3 to 8, of the nest that the bytes give; in line 7, where the first m of m dimensions with a count have one, no other has
 unfoldable pub outside : ℕ → Bool
 outside v = eqb v 0 or ltb 1024 v
 
@@ -94,8 +94,11 @@ same x e f = every (λ j. eqb (component x e j) (component x f j)) 4
 unfoldable pub beyond : Nest → ℕ → Bool
 beyond x e = some (λ j. leb (x .dimensions) j and ltb 0 (component x e j)) 4
 
+unfoldable pub faulty : Nest → ℕ → Bool
+faulty x e = every (λ j. eqb (component x e j) 0) 4 or some (same x e) e or beyond x e
+
 unfoldable pub badDistance : Nest → Bool
-badDistance x = some (λ e. every (λ j. eqb (component x e j) 0) 4 or some (same x e) e or beyond x e) (x .distances)
+badDistance x = some (faulty x) (x .distances)
 
 unfoldable pub reached : Nest → ℕ → Bool
 reached x j = some (λ e. leb (tileLength x j) (component x e j)) (x .distances)
@@ -103,7 +106,6 @@ reached x j = some (λ e. leb (tileLength x j) (component x e j)) (x .distances)
 unfoldable pub badTile : Nest → Bool
 badTile x = some (λ j. outside (tileLength x j) or reached x j) (x .dimensions)
 
--- where the first m = spread dimensions all have a count, no other has one
 unfoldable pub badProcessors : Nest → Bool
 badProcessors x =
     not (leb 1 (x .spread) and ltb (x .spread) (x .dimensions) and every (λ j. leb 2 (processorCount x j)) (x .spread) and leb (processors x) 64)

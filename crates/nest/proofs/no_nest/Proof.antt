@@ -1,4 +1,4 @@
--- `no_nest` meets its contract: the nest of no bytes computes.
+-- `nest::no_nest` meets its contract: the nest of no bytes computes.
 use mathlib.Core.Path.{refl}
 use Rattle.base.specs.Tests.{keep, tabulate, pick}
 use Rattle.nest.specs.Recipe.{nestBy, filled}

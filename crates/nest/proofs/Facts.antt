@@ -1,0 +1,205 @@
+-- What holds of an accepted nest: `accepted`, for every list of bytes that reading gives 0.
+use Prim.Native.Nat.{ℕ, zero, suc, _+_, _*_, _≤_, _<_}
+use mathlib.Core.Path.{_≡_, refl, sym, _∙_}
+use mathlib.Core.Logic.{_≢_}
+use mathlib.Core.Bool.{Bool, true, false, true≢false}
+use mathlib.Core.List.{List}
+use native.Mathlib.Omega.{arith}
+use native.Mathlib.Decide.{decLt}
+use lib.ListN.{length, getD}
+use lib.Dec.{ltb, leb}
+use borrow.Author.Tests.{ltb-true, ltb-false, leb-true, leb-false, eqb-true, eqb-false, le-ltb, le-leb, lt-ltb}
+use Rattle.base.specs.Tests.{_and_, every}
+use Rattle.base.specs.Numbers.{firstOf}
+use Rattle.base.proofs.Tests.{both, neither, true-not, and-true, never-both, every-at, none-some, pick-false}
+use Rattle.base.proofs.Numbers.{none-first}
+use Rattle.nest.specs.declared.Nest.{Nest}
+use Rattle.nest.specs.Nest.{Accepted, lengthOf, tileLength, processorCount, component, weight, cells, tiles, processors}
+use Rattle.nest.specs.Recipe.{Bytes, kind, records, ofKind, nestBy, nestOf, ragged, fitsAt, strayRecord, outside, badLength, tooLarge, beyond, faulty, badDistance, reached, badTile, badProcessors, tooManyTiles, nestLines, readLines}
+use Rattle.nest.proofs.Laws.{Formed, formed, filled-out, filled-below, half-small, word-small, checked-close}
+
+pub inside-range : (v : ℕ) → outside v ≡ false → (1 ≤ v) × (v ≤ 1024)
+unfolding outside
+inside-range v h = let p = neither h in let z = eqb-false v 0 (p .0) in (omega arith, ltb-false 1024 v (p .1))
+
+-- a test that fails below n fails somewhere
+pub not-every : (f : ℕ → Bool) (n : ℕ) → every f n ≡ false → (i : ℕ) × (i < n) × (f i ≡ false)
+unfolding every _and_
+not-every f zero e = absurd (true≢false e)
+not-every f (suc n) e = go (not-every f n) (every f n) refl e
+  where
+    go : (every f n ≡ false → (i : ℕ) × (i < n) × (f i ≡ false)) → (t : Bool) → every f n ≡ t → (t and f n) ≡ false → (i : ℕ) × (i < suc n) × (f i ≡ false)
+    go ih true q r = (n, omega arith, r)
+    go ih false q r = let a = ih q in (a .0, omega arith, a .2)
+
+-- ---- lines 3 to 8, where none of them holds
+
+pub record Passed (x : Nest) : Type 0 where
+  pub lengths : badLength x ≡ false
+  pub size : tooLarge x ≡ false
+  pub distances : badDistance x ≡ false
+  pub tiling : badTile x ≡ false
+  pub counts : badProcessors x ≡ false
+  pub number : tooManyTiles x ≡ false
+
+pub passed : (x : Nest) → firstOf (nestLines x) ≡ 0 → Passed x
+unfolding nestLines
+passed x h =
+    let p3 = none-first 3 (badLength x) _ (λ e. omega arith) h in
+    let p4 = none-first 4 (tooLarge x) _ (λ e. omega arith) (p3 .1) in
+    let p5 = none-first 5 (badDistance x) _ (λ e. omega arith) (p4 .1) in
+    let p6 = none-first 6 (badTile x) _ (λ e. omega arith) (p5 .1) in
+    let p7 = none-first 7 (badProcessors x) _ (λ e. omega arith) (p6 .1) in
+    let p8 = none-first 8 (tooManyTiles x) _ (λ e. omega arith) (p7 .1) in
+    record { lengths = p3 .0; size = p4 .0; distances = p5 .0; tiling = p6 .0; counts = p7 .0; number = p8 .0 }
+
+module _ (x : Nest) where
+  pub length-in : badLength x ≡ false → (j : ℕ) → j < x .dimensions → (1 ≤ lengthOf x j) × (lengthOf x j ≤ 1024)
+  unfolding badLength
+  length-in h j l = inside-range (lengthOf x j) (none-some _ _ h j l)
+
+  pub tile-in : badTile x ≡ false → (j : ℕ) → j < x .dimensions → (1 ≤ tileLength x j) × (tileLength x j ≤ 1024)
+  unfolding badTile
+  tile-in h j l = inside-range (tileLength x j) (neither (none-some _ _ h j l) .0)
+
+  pub nearer-in : badTile x ≡ false → (e j : ℕ) → e < x .distances → j < x .dimensions → component x e j < tileLength x j
+  unfolding badTile reached
+  nearer-in h e j d l = leb-false _ _ (none-some _ _ (neither (none-some _ _ h j l) .1) e d)
+
+  pub moves-in : badDistance x ≡ false → (e : ℕ) → e < x .distances → (j : ℕ) × (j < x .dimensions) × (1 ≤ component x e j)
+  unfolding badDistance faulty beyond
+  moves-in h e l =
+      let p = neither (none-some _ _ h e l) in
+      let z = not-every _ 4 (p .0) in
+      let w = eqb-false _ _ (z .2) in
+      let q = none-some _ 4 (neither (p .1) .1) (z .0) (z .1) in
+      go (z .0) (decLt (z .0) (x .dimensions)) w q
+    where
+      go : (j : ℕ) → Dec (j < x .dimensions) → component x e j ≢ 0 → (leb (x .dimensions) j and ltb 0 (component x e j)) ≡ false
+          → (j : ℕ) × (j < x .dimensions) × (1 ≤ component x e j)
+      go j (yes k) w q = (j, k, omega arith)
+      go j (no k) w q = absurd (never-both (and-true (le-leb (x .dimensions) j (omega arith)) (lt-ltb 0 (component x e j) (omega arith))) q)
+
+  pub record Spread : Type 0 where
+    pub least : 1 ≤ x .spread
+    pub low : x .spread < x .dimensions
+    pub shared : (j : ℕ) → j < x .spread → 2 ≤ processorCount x j
+    pub most : processors x ≤ 64
+
+  pub spread-in : badProcessors x ≡ false → Spread
+  unfolding badProcessors
+  spread-in h =
+      let p1 = both (true-not h) in
+      let p2 = both (p1 .1) in
+      let p3 = both (p2 .1) in
+      record {
+        least = leb-true _ _ (p1 .0);
+        low = ltb-true _ _ (p2 .0);
+        shared = λ j l. leb-true _ _ (every-at _ _ (p3 .0) j l);
+        most = leb-true _ _ (p3 .1);
+      }
+
+  pub size-in : tooLarge x ≡ false → cells x ≤ 16384
+  unfolding tooLarge
+  size-in h = ltb-false _ _ h
+
+  pub number-in : tooManyTiles x ≡ false → tiles x ≤ 1024
+  unfolding tooManyTiles
+  number-in h = ltb-false _ _ h
+
+-- ---- the nest of well-formed bytes
+
+module _ (bytes : List ℕ) (n e : ℕ) where
+  pub shift-in : Formed bytes n e → getD bytes (16 * (n + e) + 1) 0 < 32
+  unfolding fitsAt
+  shift-in f =
+      let r : ℕ = n + e in
+      let p = both (every-at (fitsAt bytes n e) (records bytes) (f .fit) (n + e) (rw (f .total) (omega arith))) in
+      let k : kind bytes (n + e) ≡ 3 =
+      eqb-true _ _ (p .0) ∙ (pick-false (ltb (n + e) n) 1 _ (le-ltb (n + e) n (omega arith)) ∙ pick-false (ltb (n + e) (n + e)) 2 3 (le-ltb (n + e) (n + e) (omega arith))) in
+      ltb-true _ _ (both (sym (checked-close bytes (n + e) (kind bytes (n + e)) k) ∙ p .1) .0)
+
+  pub room : Formed bytes n e → 16 * (n + e + 1) ≤ length bytes
+  room f = omega (arith, f .total)
+
+  pub length-wide : Bytes bytes → (j : ℕ) → lengthOf (nestBy bytes n e) j < 65536
+  unfolding nestBy
+  length-wide b = filled-below 4 _ n 65536 (omega arith) (λ i. half-small bytes b _)
+
+  pub count-wide : Bytes bytes → (j : ℕ) → processorCount (nestBy bytes n e) j < 65536
+  unfolding nestBy
+  count-wide b = filled-below 4 _ n 65536 (omega arith) (λ i. half-small bytes b _)
+
+  length-out : (j : ℕ) → n ≤ j → lengthOf (nestBy bytes n e) j ≡ 0
+  unfolding nestBy
+  length-out j h = filled-out 4 _ n j h
+
+  tile-out : (j : ℕ) → n ≤ j → tileLength (nestBy bytes n e) j ≡ 0
+  unfolding nestBy
+  tile-out j h = filled-out 4 _ n j h
+
+  component-small : Bytes bytes → (k : ℕ) → getD (nestBy bytes n e .components) k 0 < 256
+  unfolding nestBy
+  component-small b = filled-below 32 _ (4 * e) 256 (omega arith) (λ i. b _)
+
+  weight-small : Bytes bytes → (k : ℕ) → weight (nestBy bytes n e) k < 65536
+  unfolding nestBy
+  weight-small b = filled-below 8 _ e 65536 (omega arith) (λ i. half-small bytes b _)
+
+  boundary-small : Bytes bytes → nestBy bytes n e .boundary < 4294967296
+  unfolding nestBy
+  boundary-small b = word-small bytes b _
+
+  pub sizes-are : (nestBy bytes n e .dimensions ≡ n) × (nestBy bytes n e .distances ≡ e) × (nestBy bytes n e .shift ≡ getD bytes (16 * (n + e) + 1) 0)
+  unfolding nestBy
+  sizes-are = (refl, refl, refl)
+
+  pub accepted-by : Bytes bytes → Formed bytes n e → Passed (nestBy bytes n e) → Accepted (nestBy bytes n e)
+  accepted-by b f p =
+      let x : Nest = nestBy bytes n e in
+      let s = spread-in x (p .counts) in
+      record {
+        dimensions-least = rw (sizes-are .0) (f .dimensions-least);
+        dimensions-most = rw (sizes-are .0) (f .dimensions-most);
+        spread-least = s .least;
+        spread-low = s .low;
+        distances-least = rw (sizes-are .1) (f .distances-least);
+        distances-most = rw (sizes-are .1) (f .distances-most);
+        long = λ j l. length-in x (p .lengths) j l .0;
+        length-most = λ j. small-length j (decLt j n);
+        tiled = λ j l. tile-in x (p .tiling) j l .0;
+        tile-most = λ j. small-tile j (decLt j n);
+        manned = λ j l. let k = s .shared j l in omega arith;
+        near = λ d j l m. let k = nearer-in x (p .tiling) d j l m in omega arith;
+        component-most = λ d j. let k = component-small b (4 * d + j) in omega arith;
+        moves = moves-in x (p .distances);
+        weight-most = weight-small b;
+        shift-most = rw (sizes-are .2) (shift-in f);
+        boundary-most = boundary-small b;
+        cells-most = size-in x (p .size);
+        tiles-most = number-in x (p .number);
+        processors-most = s .most;
+        shared = s .shared;
+        nearer = nearer-in x (p .tiling);
+      }
+    where
+      small-length : (j : ℕ) → Dec (j < n) → lengthOf (nestBy bytes n e) j ≤ 1024
+      small-length j (yes l) = length-in (nestBy bytes n e) (p .lengths) j (rw (sizes-are .0) l) .1
+      small-length j (no l) = let z = length-out j (omega arith) in omega arith
+
+      small-tile : (j : ℕ) → Dec (j < n) → tileLength (nestBy bytes n e) j ≤ 1024
+      small-tile j (yes l) = tile-in (nestBy bytes n e) (p .tiling) j (rw (sizes-are .0) l) .1
+      small-tile j (no l) = let z = tile-out j (omega arith) in omega arith
+
+-- ---- the whole
+
+pub stray-no : (bytes : List ℕ) → strayRecord bytes ≡ false → Formed bytes (ofKind bytes 1) (ofKind bytes 2)
+unfolding strayRecord
+stray-no bytes h = formed bytes _ _ (true-not h)
+
+pub accepted : (bytes : List ℕ) → Bytes bytes → firstOf (readLines bytes) ≡ 0 → Accepted (nestOf bytes)
+unfolding readLines nestOf
+accepted bytes b h =
+    let p1 = none-first 1 (ragged bytes) _ (λ e. omega arith) h in
+    let p2 = none-first 2 (strayRecord bytes) _ (λ e. omega arith) (p1 .1) in
+    accepted-by bytes (ofKind bytes 1) (ofKind bytes 2) b (stray-no bytes (p2 .0)) (passed _ (p2 .1))

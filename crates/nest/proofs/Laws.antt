@@ -1,0 +1,379 @@
+-- Laws of the reader's definitions, over plain variables: loops, tables, products, and the returns of the code.
+use Prim.Native.Nat.{ℕ, zero, suc, _+_, _*_, _-_, _/_, _%_, _≤_, _<_}
+use mathlib.Core.Path.{_≡_, refl, sym, ap, _∙_}
+use mathlib.Core.Logic.{_⊎_, inl, inr, _≢_}
+use mathlib.Core.Bool.{Bool, true, false, true≢false}
+use mathlib.Core.Bool as B
+use mathlib.Core.List.{List, [], _∷_}
+use native.Mathlib.Omega.{arith}
+use native.Mathlib.Decide.{decLt, ℕ-discrete}
+use native.Mathlib.Numerals.{add-one}
+use native.Mathlib.Nat.{mul-le-mul, div-le-self}
+use lib.ListN.{length, getD, set, replicate, length-set, length-replicate, getD-replicate, List·getD-eq-default}
+use lib.Seq.{ext-getD, getD-set-same, getD-set-other}
+use lib.Dec.{eqb, ltb, leb}
+use borrow.Author.Tests.{lt-ltb, le-ltb, le-leb, lt-leb, eq-eqb, ne-eqb, leb-true, eqb-true}
+use Rattle.base.specs.Tests.{_and_, _or_, not, pick, every, some, keep, those, product}
+use Rattle.base.proofs.Tests.{both, and-left, and-false, or-false, every-more, pick-true, pick-false, length-tabulate, tabulate-at}
+use Rattle.base.specs.Numbers.{line, firstOf}
+use Rattle.base.proofs.Select.{those-more, those-none, keep-more, keep-none}
+use Rattle.base.proofs.Numbers.{first-true, first-false}
+use Rattle.nest.specs.declared.Nest.{Nest}
+use Rattle.nest.specs.Nest.{lengthOf, tileLength, processorCount, tileCount, cells, tiles, processors}
+use Rattle.nest.specs.Recipe.{Bytes, half, word, filled, nestBy, ragged, blank, checked, fitsAt, wellFormed, kind, records, badLength, tooLarge, badDistance, badTile, badProcessors, tooManyTiles, nestLines}
+
+-- ---- loops
+
+module _ (f : ℕ → Bool) where
+  pub some-start : some f 0 ≡ false
+  unfolding some
+  some-start = refl
+
+  pub some-step : (j : ℕ) → some f j ≡ false → f j ≡ false → some f (j + 1) ≡ false
+  unfolding some
+  some-step j p q = rw add-one (or-false p q)
+
+  pub some-end : (n j : ℕ) → j ≤ n → n ≤ j → some f j ≡ false → some f n ≡ false
+  some-end n j a b e = let k : j ≡ n = omega arith in rw k at e
+
+  pub every-start : every f 0 ≡ true
+  unfolding every
+  every-start = refl
+
+  pub every-step : (j : ℕ) → every f j ≡ true → f j ≡ true → every f (j + 1) ≡ true
+  every-step j p q = rw add-one (every-more f j p q)
+
+  pub every-end : (n j : ℕ) → j ≤ n → n ≤ j → every f j ≡ true → every f n ≡ true
+  every-end n j a b e = let k : j ≡ n = omega arith in rw k at e
+
+  pub kept-start : _≡_ {A = ℕ} 0 (length (keep f 0))
+  unfolding keep
+  kept-start = refl
+
+  pub kept-more : (j m : ℕ) → m ≡ length (keep f j) → f j ≡ true → m + 1 ≡ length (keep f (j + 1))
+  kept-more j m e h = rw (add-one j) (let a = keep-more f j h in omega arith)
+
+  pub kept-none : (j m : ℕ) → m ≡ length (keep f j) → f j ≡ false → m ≡ length (keep f (j + 1))
+  kept-none j m e h = rw (add-one j) (e ∙ sym (ap length (keep-none f j h)))
+
+  pub kept-end : (n j m : ℕ) → j ≤ n → n ≤ j → m ≡ length (keep f j) → m ≡ length (keep f n)
+  kept-end n j m a b e = let k : j ≡ n = omega arith in rw k at e
+
+pub or-skip : {a b : Bool} → a ≡ false → (a or b) ≡ b
+unfolding _or_
+or-skip {a = true} e = absurd (true≢false e)
+or-skip {a = false} e = refl
+
+module _ (f : ℕ → ℕ) (b : ℕ) where
+  pub those-start : _≡_ {A = ℕ} 0 (length (those f b 0))
+  unfolding those keep
+  those-start = refl
+
+  pub those-one : (r n : ℕ) → n ≡ length (those f b r) → f r ≡ b → n + 1 ≡ length (those f b (r + 1))
+  those-one r n e h = rw (add-one r) (let a = those-more f b r h in omega arith)
+
+  pub those-skip : (r n : ℕ) → n ≡ length (those f b r) → f r ≢ b → n ≡ length (those f b (r + 1))
+  those-skip r n e h = rw (add-one r) (e ∙ sym (ap length (those-none f b r h)))
+
+  pub those-end : (n j m : ℕ) → j ≤ n → n ≤ j → m ≡ length (those f b j) → m ≡ length (those f b n)
+  those-end n j m p q e = let k : j ≡ n = omega arith in rw k at e
+
+-- ---- tables filled from the start
+
+module _ (size : ℕ) (f : ℕ → ℕ) where
+  pub filled-length : (n : ℕ) → length (filled size n f) ≡ size
+  unfolding filled
+  filled-length n = length-tabulate _ size
+
+  at : (n j : ℕ) → j < size → getD (filled size n f) j 0 ≡ pick (ltb j n) (f j) 0
+  unfolding filled
+  at n j h = tabulate-at (λ i. pick (ltb i n) (f i) 0) size j h
+
+  pub filled-in : (n j : ℕ) → j < n → n ≤ size → getD (filled size n f) j 0 ≡ f j
+  filled-in n j h l = at n j (omega arith) ∙ pick-true (ltb j n) (f j) 0 (lt-ltb j n h)
+
+  pub filled-out : (n j : ℕ) → n ≤ j → getD (filled size n f) j 0 ≡ 0
+  filled-out n j h = go (decLt j size)
+    where
+      go : Dec (j < size) → getD (filled size n f) j 0 ≡ 0
+      go (yes l) = at n j l ∙ pick-false (ltb j n) (f j) 0 (le-ltb j n h)
+      go (no l) = List·getD-eq-default (filled size n f) 0 (rw (filled-length n) (omega arith))
+
+  pub filled-below : (n b : ℕ) → 0 < b → ((i : ℕ) → f i < b) → (j : ℕ) → getD (filled size n f) j 0 < b
+  filled-below n b z h j = go (decLt j n) (decLt j size)
+    where
+      go : Dec (j < n) → Dec (j < size) → getD (filled size n f) j 0 < b
+      go (yes l) (yes s) = rw (at n j s, pick-true (ltb j n) (f j) 0 (lt-ltb j n l)) (h j)
+      go (yes l) (no s) = rw (List·getD-eq-default (filled size n f) 0 {n = j} (rw (filled-length n) (omega arith))) z
+      go (no l) s = rw (filled-out n j (omega arith)) z
+
+  pub filled-start : replicate size 0 ≡ filled size 0 f
+  filled-start =
+      ext-getD 0 (replicate size 0) (filled size 0 f) (length-replicate {A = ℕ} size 0 ∙ sym (filled-length 0))
+      (λ i l. getD-replicate {A = ℕ} size i 0 0 (rw (length-replicate {A = ℕ} size 0) at l) ∙ sym (filled-out 0 i (omega arith)))
+
+  pub filled-more : (n v : ℕ) → n < size → v ≡ f n → set (filled size n f) n v ≡ filled size (n + 1) f
+  filled-more n v h e =
+      ext-getD 0 (set (filled size n f) n v) (filled size (n + 1) f) (length-set (filled size n f) n v ∙ (filled-length n ∙ sym (filled-length (n + 1))))
+      (λ i l. go i (rw (length-set (filled size n f) n v, filled-length n) at l) (ℕ-discrete i n) (decLt i n))
+    where
+      go : (i : ℕ) → i < size → Dec (i ≡ n) → Dec (i < n) → getD (set (filled size n f) n v) i 0 ≡ getD (filled size (n + 1) f) i 0
+      go i l (yes k) d =
+          rw k (getD-set-same (filled size n f) n v 0 (rw (filled-length n) h) ∙ (e ∙ sym (filled-in (n + 1) n (omega arith) (omega arith))))
+      go i l (no k) (yes d) =
+          getD-set-other (filled size n f) n i v 0 k ∙ (filled-in n i d (omega arith) ∙ sym (filled-in (n + 1) i (omega arith) (omega arith)))
+      go i l (no k) (no d) = getD-set-other (filled size n f) n i v 0 k ∙ (filled-out n i (omega arith) ∙ sym (filled-out (n + 1) i (omega arith)))
+
+  pub filled-next : (n v : ℕ) (l : List ℕ) → l ≡ filled size n f → n < size → v ≡ f n → set l n v ≡ filled size (n + 1) f
+  filled-next n v l q h e = rw q (filled-more n v h e)
+
+  pub filled-end : (n j : ℕ) (l : List ℕ) → j ≤ n → n ≤ j → l ≡ filled size j f → l ≡ filled size n f
+  filled-end n j l a b e = let k : j ≡ n = omega arith in rw k at e
+
+-- ---- products of at most four numbers of two bytes
+
+module _ (f : ℕ → ℕ) where
+  pub product-start : _≡_ {A = ℕ} 1 (product f 0)
+  unfolding product
+  product-start = refl
+
+  pub product-step : (j p : ℕ) → p ≡ product f j → p * f j ≡ product f (j + 1)
+  unfolding product
+  product-step j p e = rw (add-one j, e)
+
+  pub product-end : (n j p : ℕ) → j ≤ n → n ≤ j → p ≡ product f j → p ≡ product f n
+  product-end n j p a b e = let k : j ≡ n = omega arith in rw k at e
+
+  pub product-room : (n : ℕ) → n ≤ 4 → ((j : ℕ) → j < n → f j < 65536) → product f n < 18446744073709551616
+  unfolding product
+  product-room zero h w = omega arith
+  product-room (suc zero) h w = let a = w 0 (omega arith) in omega arith
+  product-room (suc (suc zero)) h w =
+      let a : f 0 ≤ 65535 = let k = w 0 (omega arith) in omega arith in
+      let b : f 1 ≤ 65535 = let k = w 1 (omega arith) in omega arith in
+      omega (arith, mul-le-mul a b)
+  product-room (suc (suc (suc zero))) h w =
+      let a : f 0 ≤ 65535 = let k = w 0 (omega arith) in omega arith in
+      let b : f 1 ≤ 65535 = let k = w 1 (omega arith) in omega arith in
+      let d : f 2 ≤ 65535 = let k = w 2 (omega arith) in omega arith in
+      omega (arith, mul-le-mul (mul-le-mul a b) d)
+  product-room (suc (suc (suc (suc zero)))) h w =
+      let a : f 0 ≤ 65535 = let k = w 0 (omega arith) in omega arith in
+      let b : f 1 ≤ 65535 = let k = w 1 (omega arith) in omega arith in
+      let d : f 2 ≤ 65535 = let k = w 2 (omega arith) in omega arith in
+      let e : f 3 ≤ 65535 = let k = w 3 (omega arith) in omega arith in
+      omega (arith, mul-le-mul (mul-le-mul (mul-le-mul a b) d) e)
+  product-room (suc (suc (suc (suc (suc n))))) h w = absurd (omega arith)
+
+  -- the next factor still fits
+  pub product-next : (n j p : ℕ) → n ≤ 4 → j < n → ((i : ℕ) → i < n → f i < 65536) → p ≡ product f j → p * f j < 18446744073709551616
+  product-next n j p h l w e =
+      rw (product-step j p e) (product-room (j + 1) (omega arith) (λ i k. w i (omega arith)))
+
+pub tile-small : (x : Nest) (j : ℕ) → lengthOf x j < 65536 → 1 ≤ lengthOf x j → tileCount x j < 65536
+unfolding tileCount
+tile-small x j h l = omega (arith, div-le-self (lengthOf x j - 1) (tileLength x j))
+
+pub tile-next : (x : Nest) (j p : ℕ) → x .dimensions ≤ 4 → j < x .dimensions → ((i : ℕ) → lengthOf x i < 65536)
+    → ((i : ℕ) → i < x .dimensions → (1 ≤ lengthOf x i) × (1 ≤ tileLength x i)) → p ≡ product (tileCount x) j
+    → p * ((lengthOf x j - 1) / tileLength x j + 1) < 18446744073709551616
+unfolding tileCount
+tile-next x j p h l w m e = product-next (tileCount x) (x .dimensions) j p h l (λ i k. tile-small x i (w i) (m i k .0)) e
+
+-- ---- fields
+
+pub half-small : (bytes : List ℕ) → Bytes bytes → (p : ℕ) → half bytes p < 65536
+half-small bytes b p = omega (arith, b p, b (p + 1))
+
+pub word-small : (bytes : List ℕ) → Bytes bytes → (p : ℕ) → word bytes p < 4294967296
+word-small bytes b p = omega (arith, half-small bytes b p, half-small bytes b (p + 2))
+
+-- ---- lines 1 and 2
+
+pub same-not : (t : Bool) → B.not t ≡ not t
+unfolding not
+same-not true = refl
+same-not false = refl
+
+module _ (bytes : List ℕ) where
+  pub even-length : (length bytes ≡ 0 → ⊥) → B.not (eqb (length bytes % 16) 0) ≡ ragged bytes
+  unfolding ragged _or_
+  even-length h = rw (ne-eqb (length bytes) 0 h) (same-not (eqb (length bytes % 16) 0))
+
+  pub checked-plain : (r k : ℕ) → (k ≡ 1) ⊎ (k ≡ 2) → checked bytes r k ≡ (blank bytes (16 * r + 1) 1 and blank bytes (16 * r + 8) 8)
+  unfolding checked pick _or_
+  checked-plain r k (inl e) = rw e
+  checked-plain r k (inr e) = rw e
+
+  pub checked-close : (r k : ℕ) → k ≡ 3
+      → checked bytes r k ≡ (ltb (getD bytes (16 * r + 1) 0) 32 and blank bytes (16 * r + 2) 2 and blank bytes (16 * r + 8) 8)
+  unfolding checked pick _or_ _and_
+  checked-close r k e = rw e
+
+  pub checked-none : (r k : ℕ) → (k ≡ 1 → ⊥) → (k ≡ 2 → ⊥) → (k ≡ 3 → ⊥) → checked bytes r k ≡ false
+  unfolding checked pick _or_ _and_
+  checked-none r k a b d = rw (ne-eqb k 1 a, ne-eqb k 2 b, ne-eqb k 3 d)
+
+  module _ (n e : ℕ) where
+    pub fits-yes : (r d : ℕ) (o : Bool) → d ≡ pick (ltb r n) 1 (pick (ltb r (n + e)) 2 3) → kind bytes r ≡ d → o ≡ checked bytes r (kind bytes r)
+        → o ≡ fitsAt bytes n e r
+    unfolding fitsAt
+    fits-yes r d o q h k = k ∙ sym (and-left _ _ (eq-eqb (kind bytes r) _ (h ∙ q)))
+
+    pub fits-no : (r d : ℕ) → d ≡ pick (ltb r n) 1 (pick (ltb r (n + e)) 2 3) → kind bytes r ≢ d → fitsAt bytes n e r ≡ false
+    unfolding fitsAt
+    fits-no r d q h = and-false _ _ (ne-eqb (kind bytes r) _ (λ k. h (k ∙ sym q)))
+
+    pub few-dimensions : n < 2 → wellFormed bytes n e ≡ false
+    unfolding wellFormed _and_
+    few-dimensions h = rw (lt-leb 2 n h)
+
+    pub many-dimensions : 2 ≤ n → 4 < n → wellFormed bytes n e ≡ false
+    unfolding wellFormed _and_
+    many-dimensions a h = rw (le-leb 2 n a, lt-leb n 4 h)
+
+    pub few-distances : 2 ≤ n → n ≤ 4 → e < 1 → wellFormed bytes n e ≡ false
+    unfolding wellFormed _and_
+    few-distances a b h = rw (le-leb 2 n a, le-leb n 4 b, lt-leb 1 e h)
+
+    pub many-distances : 2 ≤ n → n ≤ 4 → 1 ≤ e → 8 < e → wellFormed bytes n e ≡ false
+    unfolding wellFormed _and_
+    many-distances a b d h = rw (le-leb 2 n a, le-leb n 4 b, le-leb 1 e d, lt-leb e 8 h)
+
+    pub records-wrong : 2 ≤ n → n ≤ 4 → 1 ≤ e → e ≤ 8 → records bytes ≢ n + e + 1 → wellFormed bytes n e ≡ false
+    unfolding wellFormed _and_
+    records-wrong a b d f h = rw (le-leb 2 n a, le-leb n 4 b, le-leb 1 e d, le-leb e 8 f, ne-eqb (records bytes) (n + e + 1) h)
+
+    pub records-fit : 2 ≤ n → n ≤ 4 → 1 ≤ e → e ≤ 8 → records bytes ≡ n + e + 1 → every (fitsAt bytes n e) (records bytes) ≡ wellFormed bytes n e
+    unfolding wellFormed
+    records-fit a b d f h =
+        sym (and-left _ _ (le-leb 2 n a)
+        ∙ (and-left _ _ (le-leb n 4 b) ∙ (and-left _ _ (le-leb 1 e d) ∙ (and-left _ _ (le-leb e 8 f) ∙ and-left _ _ (eq-eqb (records bytes) (n + e + 1) h)))))
+
+-- what a recipe has that passes line 2
+pub record Formed (bytes : List ℕ) (n e : ℕ) : Type 0 where
+  pub dimensions-least : 2 ≤ n
+  pub dimensions-most : n ≤ 4
+  pub distances-least : 1 ≤ e
+  pub distances-most : e ≤ 8
+  pub total : records bytes ≡ n + e + 1
+  pub fit : every (fitsAt bytes n e) (records bytes) ≡ true
+
+pub formed : (bytes : List ℕ) (n e : ℕ) → wellFormed bytes n e ≡ true → Formed bytes n e
+unfolding wellFormed
+formed bytes n e h =
+    let p1 = both h in
+    let p2 = both (p1 .1) in
+    let p3 = both (p2 .1) in
+    let p4 = both (p3 .1) in
+    let p5 = both (p4 .1) in
+    record {
+      dimensions-least = leb-true 2 n (p1 .0);
+      dimensions-most = leb-true n 4 (p2 .0);
+      distances-least = leb-true 1 e (p3 .0);
+      distances-most = leb-true e 8 (p4 .0);
+      total = eqb-true (records bytes) (n + e + 1) (p5 .0);
+      fit = p5 .1;
+    }
+
+-- ---- lines 3 to 8
+
+module _ (x : Nest) where
+  pub large-yes : (p : ℕ) → p ≡ product (lengthOf x) (x .dimensions) → 16384 < p → tooLarge x ≡ true
+  unfolding tooLarge cells
+  large-yes p e h = lt-ltb 16384 _ (rw e at h)
+
+  pub large-no : (p : ℕ) → p ≡ product (lengthOf x) (x .dimensions) → p ≤ 16384 → tooLarge x ≡ false
+  unfolding tooLarge cells
+  large-no p e h = le-ltb 16384 _ (rw e at h)
+
+  pub many-yes : (p : ℕ) → p ≡ tiles x → 1024 < p → tooManyTiles x ≡ true
+  unfolding tooManyTiles
+  many-yes p e h = lt-ltb 1024 _ (rw e at h)
+
+  pub many-no : (p : ℕ) → p ≡ tiles x → p ≤ 1024 → tooManyTiles x ≡ false
+  unfolding tooManyTiles
+  many-no p e h = le-ltb 1024 _ (rw e at h)
+
+  pub spread-none : x .spread < 1 → badProcessors x ≡ true
+  unfolding badProcessors _and_ not
+  spread-none h = rw (lt-leb 1 (x .spread) h)
+
+  pub spread-all : 1 ≤ x .spread → x .dimensions ≤ x .spread → badProcessors x ≡ true
+  unfolding badProcessors _and_ not
+  spread-all a h = rw (le-leb 1 (x .spread) a, le-ltb (x .spread) (x .dimensions) h)
+
+  pub shared-no : 1 ≤ x .spread → x .spread < x .dimensions → every (λ j. leb 2 (processorCount x j)) (x .spread) ≡ false → badProcessors x ≡ true
+  unfolding badProcessors _and_ not
+  shared-no a b h = rw (le-leb 1 (x .spread) a, lt-ltb (x .spread) (x .dimensions) b, h)
+
+  not-above : (p : ℕ) → ltb 64 p ≡ not (leb p 64)
+  unfolding not
+  not-above p = go (decLt 64 p)
+    where
+      go : Dec (64 < p) → ltb 64 p ≡ not (leb p 64)
+      go (yes h) = rw (lt-ltb 64 p h, lt-leb p 64 h)
+      go (no h) = rw (le-ltb 64 p (omega arith), le-leb p 64 (omega arith))
+
+  pub shared-yes : (p : ℕ) → 1 ≤ x .spread → x .spread < x .dimensions → every (λ j. leb 2 (processorCount x j)) (x .spread) ≡ true
+      → p ≡ product (processorCount x) (x .spread) → ltb 64 p ≡ badProcessors x
+  unfolding badProcessors processors
+  shared-yes p a b h e =
+      not-above p
+      ∙ (ap (λ (q : ℕ). not (leb q 64)) e
+      ∙ sym (ap not (and-left _ _ (le-leb 1 (x .spread) a) ∙ (and-left _ _ (lt-ltb (x .spread) (x .dimensions) b) ∙ and-left _ _ h))))
+
+  no-line : firstOf [] ≡ 0
+  unfolding firstOf
+  no-line = refl
+
+  pub line-3 : badLength x ≡ true → firstOf (nestLines x) ≡ 3
+  unfolding nestLines
+  line-3 h = first-true 3 (badLength x) _ h
+
+  module _ (h3 : badLength x ≡ false) where
+    pub line-4 : tooLarge x ≡ true → firstOf (nestLines x) ≡ 4
+    unfolding nestLines
+    line-4 h = first-false 3 (badLength x) _ h3 ∙ first-true 4 (tooLarge x) _ h
+
+    module _ (h4 : tooLarge x ≡ false) where
+      pub line-5 : badDistance x ≡ true → firstOf (nestLines x) ≡ 5
+      unfolding nestLines
+      line-5 h = first-false 3 (badLength x) _ h3 ∙ (first-false 4 (tooLarge x) _ h4 ∙ first-true 5 (badDistance x) _ h)
+
+      module _ (h5 : badDistance x ≡ false) where
+        to-6 : firstOf (nestLines x) ≡ firstOf (line 6 (badTile x) ∷ line 7 (badProcessors x) ∷ line 8 (tooManyTiles x) ∷ [])
+        unfolding nestLines
+        to-6 = first-false 3 (badLength x) _ h3 ∙ (first-false 4 (tooLarge x) _ h4 ∙ first-false 5 (badDistance x) _ h5)
+
+        pub line-6 : badTile x ≡ true → firstOf (nestLines x) ≡ 6
+        line-6 h = to-6 ∙ first-true 6 (badTile x) _ h
+
+        module _ (h6 : badTile x ≡ false) where
+          pub line-7 : badProcessors x ≡ true → firstOf (nestLines x) ≡ 7
+          line-7 h = to-6 ∙ (first-false 6 (badTile x) _ h6 ∙ first-true 7 (badProcessors x) _ h)
+
+          module _ (h7 : badProcessors x ≡ false) where
+            pub line-8 : tooManyTiles x ≡ true → firstOf (nestLines x) ≡ 8
+            line-8 h = to-6 ∙ (first-false 6 (badTile x) _ h6 ∙ (first-false 7 (badProcessors x) _ h7 ∙ first-true 8 (tooManyTiles x) _ h))
+
+            pub line-none : tooManyTiles x ≡ false → firstOf (nestLines x) ≡ 0
+            line-none h =
+                to-6 ∙ (first-false 6 (badTile x) _ h6 ∙ (first-false 7 (badProcessors x) _ h7 ∙ (first-false 8 (tooManyTiles x) _ h ∙ no-line)))
+
+-- ---- the nest made of its parts
+
+pub made : (bytes : List ℕ) (n e m s b : ℕ) (l t p d w : List ℕ)
+    → m ≡ length (keep (λ (j : ℕ). ltb 0 (half bytes (16 * j + 6))) n)
+    → l ≡ filled 4 n (λ (j : ℕ). half bytes (16 * j + 2))
+    → t ≡ filled 4 n (λ (j : ℕ). half bytes (16 * j + 4))
+    → p ≡ filled 4 n (λ (j : ℕ). half bytes (16 * j + 6))
+    → d ≡ filled 32 (4 * e) (λ (i : ℕ). getD bytes (16 * (n + i / 4) + (2 + i % 4)) 0)
+    → w ≡ filled 8 e (λ (i : ℕ). half bytes (16 * (n + i) + 6))
+    → s ≡ getD bytes (16 * (n + e) + 1) 0
+    → b ≡ word bytes (16 * (n + e) + 4)
+    → _≡_ {A = Nest}
+    (record { dimensions = n; spread = m; distances = e; lengths = l; tiling = t; counts = p; components = d; weights = w; shift = s; boundary = b })
+    (nestBy bytes n e)
+unfolding nestBy
+made bytes n e m s b l t p d w e1 e2 e3 e4 e5 e6 e7 e8 = rw (e1, e2, e3, e4, e5, e6, e7, e8)

@@ -1,0 +1,261 @@
+#!/usr/bin/env python3
+"""Test recipes for the reader, with the numbers that document 01 gives them.
+
+Writes crates/nest_cases/data/cases and crates/nest_cases/stdout. The number of every case is written here by hand or, for damaged
+bytes, by `number`, which is made from document 01 alone; both are held against each other where a case has both.
+
+The file `cases` is a sequence of cases: the label's length (1 byte), the label, the recipe's length (2 bytes, low one first), the recipe.
+"""
+import os
+import re
+
+ROOT = os.path.join(os.path.dirname(os.path.abspath(__file__)), "..", "crates", "nest_cases")
+
+
+# ---- the format
+
+def two(v):
+    return bytes([v % 256, v // 256])
+
+
+def dimension(length, tile, count):
+    return bytes([1, 0]) + two(length) + two(tile) + two(count) + bytes(8)
+
+
+def distance(components, weight=1):
+    return bytes([2, 0]) + bytes((list(components) + [0, 0, 0, 0])[:4]) + two(weight) + bytes(8)
+
+
+def close(shift=0, shore=0):
+    return bytes([3, shift, 0, 0]) + shore.to_bytes(4, "little") + bytes(8)
+
+
+def recipe(lengths, tiles, counts, distances, shift=0, shore=0, weights=None):
+    weights = weights or [1] * len(distances)
+    return (b"".join(dimension(*d) for d in zip(lengths, tiles, counts))
+            + b"".join(distance(d, w) for d, w in zip(distances, weights)) + close(shift, shore))
+
+
+# ---- document 01, lines 1 to 8 of its table
+
+def number(b):
+    if len(b) == 0 or len(b) % 16 != 0:
+        return 1
+    records = [b[i:i + 16] for i in range(0, len(b), 16)]
+    if not re.fullmatch(rb"\x01{2,4}\x02{1,8}\x03", bytes(r[0] for r in records)):
+        return 2
+    named = {1: (0, 2, 3, 4, 5, 6, 7), 2: (0, 2, 3, 4, 5, 6, 7), 3: (0, 1, 4, 5, 6, 7)}
+    for r in records:
+        if any(r[i] != 0 for i in range(16) if i not in named[r[0]]):
+            return 2
+    if records[-1][1] > 31:
+        return 2
+    ones = [r for r in records if r[0] == 1]
+    field = lambda i: [r[i] + 256 * r[i + 1] for r in ones]
+    n, N, k, P = len(ones), field(2), field(4), field(6)
+    D = [tuple(r[2:6]) for r in records if r[0] == 2]
+    if any(not 1 <= v <= 1024 for v in N):
+        return 3
+    cells = 1
+    for v in N:
+        cells *= v
+    if cells > 16384:
+        return 4
+    if any(not any(d) for d in D) or len(set(D)) < len(D) or any(any(d[n:]) for d in D):
+        return 5
+    if any(not 1 <= k[j] <= 1024 or any(not k[j] > d[j] for d in D) for j in range(n)):
+        return 6
+    spread = [j for j in range(n) if P[j] != 0]
+    boards = 1
+    for j in spread:
+        boards *= P[j]
+    if not 1 <= len(spread) < n or spread != list(range(len(spread))) or any(P[j] < 2 for j in spread) or boards > 64:
+        return 7
+    tiles = 1
+    for j in range(n):
+        tiles *= len({i // k[j] for i in range(N[j])})
+    return 8 if tiles > 1024 else 0
+
+
+# ---- the cases
+
+CASES = []
+
+
+def case(label, b, expected=None):
+    got = number(b)
+    assert expected is None or expected == got, (label, expected, got)
+    assert len(label) < 256 and len(b) < 65536
+    CASES.append((label, b, got))
+
+
+def splice(b, at, value):
+    return b[:at] + bytes([value]) + b[at + 1:]
+
+
+A = recipe([8, 8], [2, 2], [2, 0], [(1, 0), (0, 1), (1, 1)])
+C = recipe([8, 8, 8], [4, 4, 4], [2, 2, 0], [(2, 1, 0)])
+D = recipe([4, 1], [2, 1], [2, 0], [(1, 0)])
+FOUR = recipe([4, 3, 5, 2], [2, 2, 4, 3], [2, 3, 0, 0], [(1, 0, 3, 2), (0, 1, 0, 0)], 31, 4294967295, [0, 65535])
+
+# the rows of the table
+case("row-A", A, 0)
+case("row-B", recipe([8, 8], [4, 4], [2, 0], [(2, 1)]), 0)
+case("row-C", C, 0)
+case("row-D", D, 0)
+case("row-E", recipe([5, 1], [2, 1], [2, 0], [(1, 0)]), 0)
+case("row-F", recipe([1, 2], [2, 1], [2, 0], [(1, 0)]), 0)
+case("row-G", recipe([4, 1], [1, 1], [2, 0], [(1, 0)]), 6)
+case("row-H", recipe([4, 1], [2, 1], [1, 0], [(1, 0)]), 7)
+case("four-dimensions", FOUR, 0)
+
+# line 1
+case("empty", b"", 1)
+for size in (1, 15, 17, 31, 63, 65):
+    case("bytes-%d" % size, (D + D)[:size], 1)
+case("whole-less-one", A[:-1], 1)
+case("whole-and-one", A + b"\0", 1)
+
+# line 2: kinds, order and counts
+case("one-record", D[:16], 2)
+case("zeros", bytes(64), 2)
+for r in range(6):
+    for kind in (0, 1, 2, 3, 4, 5, 255):
+        if kind != A[16 * r]:
+            # the first distance read as a third dimension has tile length 0
+            case("kind-%d-in-record-%d" % (kind, r), splice(A, 16 * r, kind), 6 if (r, kind) == (2, 1) else 2)
+RA = [A[i:i + 16] for i in range(0, 96, 16)]
+for r, expected in enumerate((7, 2, 0, 0, 2)):
+    case("records-%d-and-%d-swapped" % (r, r + 1), b"".join(RA[:r] + [RA[r + 1], RA[r]] + RA[r + 2:]), expected)
+case("reversed", b"".join(reversed(RA)), 2)
+case("close-first", RA[5] + b"".join(RA[:5]), 2)
+case("no-close", A[:-16], 2)
+case("two-closes", A + RA[5], 2)
+case("a-recipe-twice", D + D, 2)
+case("no-dimension", b"".join(RA[2:]), 2)
+case("one-dimension", recipe([8], [2], [2], [(1,)]), 2)
+case("five-dimensions", recipe([2] * 5, [2] * 5, [2, 0, 0, 0, 0], [(1, 0)]), 2)
+case("no-distance", recipe([8, 8], [2, 2], [2, 0], []), 2)
+EIGHT = [(1, 0), (0, 1), (1, 1), (2, 0), (0, 2), (2, 1), (1, 2), (2, 2)]
+case("one-distance", recipe([8, 8], [4, 4], [2, 0], EIGHT[:1]), 0)
+case("eight-distances", recipe([8, 8], [4, 4], [2, 0], EIGHT), 0)
+case("nine-distances", recipe([8, 8], [4, 4], [2, 0], EIGHT + [(3, 3)]), 2)
+case("thirteen-records", recipe([2, 2, 2, 2], [3, 3, 3, 1], [2, 0, 0, 0], EIGHT), 0)
+case("fourteen-records", recipe([2, 2, 2, 2], [3, 3, 3, 1], [2, 0, 0, 0], EIGHT + [(3, 3)]), 2)
+case("hundred-records", b"".join([RA[0]] * 100), 2)
+
+# line 2: bytes not named, and the shift
+for place in (1, 8, 9, 10, 11, 12, 13, 14, 15):
+    case("dimension-byte-%d" % place, splice(A, 16 + place, 1), 2)
+    case("distance-byte-%d" % place, splice(A, 48 + place, 128), 2)
+for place in (2, 3, 8, 9, 10, 11, 12, 13, 14, 15):
+    case("close-byte-%d" % place, splice(A, 80 + place, 255), 2)
+for shift, expected in ((0, 0), (1, 0), (31, 0), (32, 2), (33, 2), (255, 2)):
+    case("shift-%d" % shift, recipe([8, 8], [2, 2], [2, 0], [(1, 0)], shift), expected)
+case("shore-4294967295", recipe([8, 8], [2, 2], [2, 0], [(1, 0)], 0, 4294967295), 0)
+
+# line 3
+for length, expected in ((0, 3), (1, 0), (1024, 0), (1025, 3), (1280, 3), (65535, 3)):
+    case("length-%d-then-16" % length, recipe([length, 16], [1024, 16], [2, 0], [(1, 0)]), expected)
+    case("length-16-then-%d" % length, recipe([16, length], [16, 1024], [2, 0], [(1, 0)]), expected)
+case("length-0-in-the-last-of-four", recipe([2, 2, 2, 0], [2, 2, 2, 2], [2, 0, 0, 0], [(1, 0)]), 3)
+
+# line 4
+case("cells-128-128", recipe([128, 128], [4, 4], [2, 0], [(1, 0)]), 0)
+case("cells-128-129", recipe([128, 129], [4, 4], [2, 0], [(1, 0)]), 4)
+case("cells-16384", recipe([16, 32, 32], [4, 4, 4], [2, 0, 0], [(1, 0)]), 0)
+case("cells-16385", recipe([113, 145], [8, 8], [2, 0], [(1, 0)]), 4)
+case("cells-1024-16", recipe([1024, 16], [32, 2], [2, 0], [(1, 0)]), 0)
+case("cells-1024-17", recipe([1024, 17], [32, 2], [2, 0], [(1, 0)]), 4)
+case("cells-2^40", recipe([1024] * 4, [1024] * 4, [2, 0, 0, 0], [(1, 0)]), 4)
+case("cells-2^32", recipe([256] * 4, [1024] * 4, [2, 0, 0, 0], [(1, 0)]), 4)
+
+# line 5
+case("distance-zero", recipe([8, 8], [4, 4], [2, 0], [(0, 0)]), 5)
+case("distance-zero-last", recipe([8, 8], [4, 4], [2, 0], EIGHT[:7] + [(0, 0)]), 5)
+case("distance-twice", recipe([8, 8], [4, 4], [2, 0], [(1, 2), (1, 2)]), 5)
+case("distance-twice-other-weight", recipe([8, 8], [4, 4], [2, 0], [(1, 2), (1, 2)], weights=[1, 2]), 5)
+case("distance-first-is-eighth", recipe([8, 8], [4, 4], [2, 0], EIGHT[:7] + [(1, 0)]), 5)
+case("distance-seventh-is-eighth", recipe([8, 8], [4, 4], [2, 0], EIGHT[:7] + [(1, 2)]), 5)
+case("component-3-of-2", recipe([8, 8], [4, 4], [2, 0], [(1, 0, 1)]), 5)
+case("component-4-of-2", recipe([8, 8], [4, 4], [2, 0], [(1, 0, 0, 255)]), 5)
+case("component-4-of-3", recipe([8, 8, 8], [4, 4, 4], [2, 0, 0], [(1, 0, 0, 1)]), 5)
+case("component-3-of-3", recipe([8, 8, 8], [4, 4, 4], [2, 0, 0], [(0, 0, 1)]), 0)
+case("component-4-of-4", recipe([4, 4, 4, 4], [4, 4, 4, 4], [2, 0, 0, 0], [(0, 0, 0, 1)]), 0)
+case("weight-0", recipe([8, 8], [4, 4], [2, 0], [(1, 0)], weights=[0]), 0)
+case("weight-65535", recipe([8, 8], [4, 4], [2, 0], [(1, 0)], weights=[65535]), 0)
+
+# line 6
+for tile, expected in ((0, 6), (1, 6), (2, 6), (3, 0), (1024, 0), (1025, 6), (65535, 6)):
+    case("tile-%d-distance-2" % tile, recipe([8, 8], [tile, 4], [2, 0], [(2, 0)]), expected)
+    case("tile-%d-distance-2-in-the-second" % tile, recipe([8, 8], [4, tile], [2, 0], [(1, 2)]), expected)
+case("tile-1-distance-0", recipe([8, 8], [2, 1], [2, 0], [(1, 0)]), 0)
+case("tile-255-distance-255", recipe([8, 8], [255, 2], [2, 0], [(255, 0)]), 6)
+case("tile-256-distance-255", recipe([8, 8], [256, 2], [2, 0], [(255, 0)]), 0)
+case("tile-equals-the-eighth-distance", recipe([8, 8], [4, 4], [2, 0], EIGHT[:7] + [(4, 0)]), 6)
+
+# line 7
+for counts, expected in (((0, 0), 7), ((1, 0), 7), ((0, 1), 7), ((0, 2), 7), ((2, 1), 7), ((2, 2), 7), ((2, 0), 0), ((64, 0), 0), ((65, 0), 7),
+                         ((256, 0), 7), ((65535, 0), 7), ((2, 0, 0), 0), ((2, 2, 0), 0), ((2, 2, 2), 7), ((2, 0, 2), 7), ((0, 2, 0), 7), ((0, 2, 2), 7),
+                         ((2, 1, 0), 7), ((1, 2, 0), 7), ((8, 8, 0), 0), ((32, 2, 0), 0), ((13, 5, 0), 7), ((5, 13, 0), 7), ((4, 4, 4, 0), 0),
+                         ((4, 4, 5, 0), 7), ((2, 2, 16, 0), 0), ((2, 2, 2, 2), 7), ((2, 2, 0, 2), 7), ((2, 0, 0, 0), 0), ((32768, 32768, 4, 0), 7),
+                         ((65535, 65535, 65535, 0), 7), ((65535, 65535, 65535, 65535), 7), ((0, 0, 0, 0), 7)):
+    n = len(counts)
+    case("counts-" + "-".join(map(str, counts)), recipe([4] * n, [2] * n, list(counts), [(1, 0)]), expected)
+
+# line 8
+case("tiles-1024", recipe([64, 32], [2, 1], [2, 0], [(1, 0)]), 0)
+case("tiles-1025", recipe([82, 25], [2, 1], [2, 0], [(1, 0)]), 8)
+case("tiles-1025-short-edge", recipe([81, 25], [2, 1], [2, 0], [(1, 0)]), 8)
+case("tiles-1000", recipe([80, 25], [2, 1], [2, 0], [(1, 0)]), 0)
+case("tiles-8192", recipe([128, 128], [2, 1], [2, 0], [(1, 0)]), 8)
+case("tiles-1-of-1024", recipe([1024, 16], [1024, 1024], [2, 0], [(1, 0)]), 0)
+
+# two faults at once: the first line counts
+for first in range(1, 9):
+    for second in range(first + 1, 9):
+        faults = (first, second)
+        N, k, P, V = [4, 4, 1, 1], [2, 2, 2, 2], [2, 0, 0, 0], [(1, 0)]
+        if 8 in faults:
+            N, k = [64, 33, 1, 1], [2, 1, 2, 2]
+        if 4 in faults:
+            N = [1024, 1024, 1, 1]
+        if 3 in faults:
+            N[3] = 1025
+        if 5 in faults:
+            V = [(1, 0), (0, 0)]
+        if 6 in faults:
+            k[2] = 1025
+        if 7 in faults:
+            P[0] = 1
+        b = recipe(N, k, P, V)
+        if 2 in faults:
+            b = splice(b, 9, 1)
+        if 1 in faults:
+            b = b + b"\0"
+        case("faults-%d-and-%d" % faults, b, first)
+
+# an accepted recipe of 96 bytes with each byte damaged in turn
+WHOLE = recipe([8, 9, 7], [4, 3, 2], [2, 3, 0], [(1, 2, 1), (3, 0, 0)], 5, 67305985, [513, 7])
+case("whole", WHOLE, 0)
+for at in range(len(WHOLE)):
+    case("byte-%d-one-more" % at, splice(WHOLE, at, (WHOLE[at] + 1) % 256))
+    case("byte-%d-high-bit" % at, splice(WHOLE, at, WHOLE[at] ^ 128))
+    if WHOLE[at] != 0:
+        case("byte-%d-cleared" % at, splice(WHOLE, at, 0))
+
+
+def main():
+    data = b"".join(bytes([len(l)]) + l.encode() + two(len(b)) + b for l, b, _ in CASES)
+    assert len(data) <= 65536, len(data)
+    assert len({l for l, _, _ in CASES}) == len(CASES)
+    os.makedirs(os.path.join(ROOT, "data"), exist_ok=True)
+    with open(os.path.join(ROOT, "data", "cases"), "wb") as f:
+        f.write(data)
+    with open(os.path.join(ROOT, "stdout"), "w") as f:
+        f.write("".join("%s %d\n" % (l, n) for l, _, n in CASES))
+    print(len(CASES), "cases,", len(data), "bytes;", {n: sum(1 for c in CASES if c[2] == n) for n in range(9)})
+
+
+if __name__ == "__main__":
+    main()
