@@ -93,7 +93,7 @@ module _ (x : Nest) (ok : Accepted x) where
   unfolding processorOf
   processorOf-same t u h =
       rank-same (processorCount x) (λ j. tilePlace x t j % processorCount x j) (λ j. tilePlace x u j % processorCount x j) (x .spread)
-        (λ j l. ap (λ (a : ℕ). a % processorCount x j) (h j l))
+      (λ j l. ap (λ (a : ℕ). a % processorCount x j) (h j l))
 
   -- ---- what cell c reads by distance e
   module _ (c e : ℕ) (low : e < x .distances) (has : hasRead x c e ≡ true) where
@@ -125,4 +125,4 @@ module _ (x : Nest) (ok : Accepted x) where
     pub read-tile : (j : ℕ) → j < x .dimensions → (tilePlace x (tileOf x (readAt x c e)) j ≤ tilePlace x (tileOf x c) j) × (tilePlace x (tileOf x c) j ≤ suc (tilePlace x (tileOf x (readAt x c e)) j))
     read-tile j h =
         rw (tilePlace-tileOf (readAt x c e) j h, tilePlace-tileOf c j h, ← read-back j h)
-          (div-step (tileLength x j) (cellPlace x (readAt x c e) j) (component x e j) (ok .tiled j h) (ok .near e j low h))
+        (div-step (tileLength x j) (cellPlace x (readAt x c e) j) (component x e j) (ok .tiled j h) (ok .near e j low h))
