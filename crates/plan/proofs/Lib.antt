@@ -1,3 +1,4 @@
 pub mod Rank
 pub mod Tiles
 pub mod Slots
+pub mod Parcels
