@@ -2,3 +2,4 @@ pub mod Rank
 pub mod Tiles
 pub mod Slots
 pub mod Parcels
+pub mod Sound
