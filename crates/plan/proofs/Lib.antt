@@ -3,3 +3,5 @@ pub mod Tiles
 pub mod Slots
 pub mod Parcels
 pub mod Sound
+pub mod Grid
+pub mod Box

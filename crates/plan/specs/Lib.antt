@@ -1,2 +1,4 @@
 pub mod Geometry
 pub mod Messages
+pub mod Box
+pub mod Report
