@@ -1,0 +1,4 @@
+pub mod Dims
+pub mod Loops
+pub mod Cells
+pub mod Walks

@@ -1,0 +1,426 @@
+-- Places of cells, tiles, processors and slots as the arrays that hold them.
+use Prim.Native.Nat.{ℕ, zero, suc, _+_, _*_, _-_, _/_, _%_, _^_, _≤_, _<_, min}
+use mathlib.Core.Path.{_≡_, refl, sym, ap, _∙_, subst}
+use mathlib.Core.Logic.{_⊎_, inl, inr}
+use mathlib.Core.Bool.{Bool, true, false}
+use mathlib.Core.List.{List}
+use native.Mathlib.Nat.{mod-lt, div-le-self, mul-le-mul-right, mul-le-mul, add-assoc, eq-or-lt-of-le}
+use native.Mathlib.Numerals.{add-one}
+use native.Mathlib.Decide.{decLt}
+use native.Mathlib.Omega.{arith}
+use lib.ListN.{length, getD, set, replicate}
+use lib.Dec.{ltb, leb, eqb}
+use Rattle.base.specs.Tests.{_and_, every, some, product, pick, sum}
+use Rattle.base.proofs.Tests.{every-not, pick-true, pick-false, sum-same}
+use borrow.Author.Tests.{lt-leb, le-leb}
+use Rattle.nest.specs.declared.Nest.{Nest}
+use Rattle.nest.specs.Nest.{Accepted, lengthOf, tileLength, processorCount, component, weight, tileCount, cells, tiles, processors}
+use Rattle.plan.specs.Geometry.{rank, place, cellAt, cellPlace, tileAt, tilePlace, tileOf, processorOf, inside, hasRead, readAt, value}
+use Rattle.plan.specs.Messages.{two, directions, ahead, reaches, taker, slots, slotTile, slotDirection, slotTaker}
+use Rattle.plan.specs.Box.{boxLength, boxSize, boxPlace, boxCell}
+use Rattle.plan.proofs.Rank.{Within, Positive, rank-same, rank-low}
+use Rattle.plan.proofs.Tiles.{cellPlace-low, tileCount-pos, tilePlace-low, tileOf-low, quotient-low, processorOf-low, tile-inside}
+use Rattle.plan.proofs.Parcels.{ahead-beyond, ahead-low, slotTile-low}
+use Rattle.plan.proofs.Box.{boxLength-pos, boxLength-most, boxCell-low, boxCell-place, boxPlace-low, boxSize-few}
+use Rattle.layout.specs.declared.Sizes.{Sizes}
+use Rattle.layout.specs.declared.Bounds.{Bounds}
+use Rattle.layout.specs.declared.Cell.{Cell}
+use Rattle.layout.specs.Sizes.{Sized, endAt}
+use Rattle.layout.specs.Places.{nth, Has, Countable, Ranked, Places, Placed, Located, Bounded, bound, puts, wordRead}
+use Rattle.layout.proofs.Dims.{product-same, rank-lengths, place-lengths, product-pos}
+use lib.Seq.{getD-set-other}
+use Rattle.layout.proofs.Loops.{every-same, some-same, Sofar, sofar-none, sofar-more, sofar-end, Filled, filled-none, filled-more, filled-end}
+
+-- ---- arrays of one number
+
+abbrev pub four : ℕ → List ℕ
+four v = replicate 4 v
+
+pub zeros : (j : ℕ) → getD (four 0) j 0 ≡ 0
+zeros zero = refl
+zeros (suc zero) = refl
+zeros (suc (suc zero)) = refl
+zeros (suc (suc (suc zero))) = refl
+zeros (suc (suc (suc (suc j)))) = refl
+
+pub twos : (j : ℕ) → j < 4 → getD (four 2) j 0 ≡ 2
+twos zero h = refl
+twos (suc zero) h = refl
+twos (suc (suc zero)) h = refl
+twos (suc (suc (suc zero))) h = refl
+twos (suc (suc (suc (suc j)))) h = absurd (omega arith)
+
+many : (m : ℕ) → 1 ≤ m → 2 ≤ product two m
+unfolding product
+many zero h = absurd (omega arith)
+many (suc m) h = omega (arith, product-pos two m (λ j k. omega arith))
+
+two-few : (m : ℕ) → m ≤ 3 → product two m ≤ 8
+unfolding product
+two-few zero k = omega arith
+two-few (suc zero) k = omega arith
+two-few (suc (suc zero)) k = omega arith
+two-few (suc (suc (suc zero))) k = omega arith
+two-few (suc (suc (suc (suc m)))) k = absurd (omega arith)
+
+pub two-product : (m : ℕ) → m ≤ 3 → product (nth (four 2)) m ≡ product two m
+two-product m k = product-same (nth (four 2)) two m (λ j l. twos j (omega arith))
+
+pub two-countable : (m : ℕ) → m ≤ 3 → Countable (four 2) m
+two-countable m k =
+    record {
+      low = omega arith;
+      positive = λ j l. omega (arith, twos j (omega arith));
+      few = omega (arith, two-product m k, two-few m k);
+    }
+
+-- ---- reading back by distance e: the first j components, all of which can be taken away
+
+pub record Reading (x : Nest) (i : List ℕ) (e : ℕ) (back : List ℕ) (j : ℕ) : Type 0 where
+  pub sofar : Sofar (λ q. leb (component x e q) (getD i q 0)) (x .dimensions) j
+  pub filled : Filled (λ q. getD i q 0 - component x e q) (x .dimensions) back j
+
+-- ---- the sum of what the first e distances read, each weighed; few enough that it fits 64 bits
+
+pub record Summing (x : Nest) (source memory : List ℕ) (c : ℕ) (i : List ℕ) (total e : ℕ) : Type 0 where
+  pub low : e ≤ x .distances
+  pub few : total ≤ 4294967295 + e * 281470681677825
+  pub is : total ≡ getD source c 0 + sum (λ d. weight x d * wordRead x memory i d) e
+
+pub relocated : (x : Nest) (c : ℕ) (r : Cell) → Located x c r → Located x (r .number) r
+relocated x c r l = subst (λ (k : ℕ). Located x k r) (sym (l .number)) l
+
+-- ---- making the box: corner and lengths are done before j, and the corner is still the tile's place from j on
+
+pub record Boxing (x : Nest) (t : ℕ) (corner lengths : List ℕ) (j : ℕ) : Type 0 where
+  pub first : Filled (λ i. tilePlace x t i * tileLength x i) (x .dimensions) corner j
+  pub second : Filled (boxLength x t) (x .dimensions) lengths j
+  pub rest : (i : ℕ) → j ≤ i → i < x .dimensions → getD corner i 0 ≡ tilePlace x t i
+
+module _ (x : Nest) (ok : Accepted x) where
+  -- ---- cells
+
+  pub lengths-countable : Countable (x .lengths) (x .dimensions)
+  unfolding cells
+  lengths-countable = record { low = ok .dimensions-most; positive = ok .long; few = ok .cells-most }
+
+  pub lengths-places : Places (x .lengths) (four 0) (x .dimensions)
+  lengths-places =
+      record { low = ok .dimensions-most; positive = ok .long; small = λ j h. omega (arith, zeros j, ok .length-most j) }
+
+  pub placed-cell : (c : ℕ) (r : List ℕ) → Placed (x .lengths) (four 0) c (x .dimensions) r → Has r (cellPlace x c) (x .dimensions)
+  unfolding cellPlace
+  placed-cell c r p = record { each = λ j h. omega (arith, p .first j h, zeros j) }
+
+  -- ---- tiles
+
+  pub count-most : (j : ℕ) → j < x .dimensions → tileCount x j ≤ 1024
+  unfolding tileCount
+  count-most j h = omega (arith, div-le-self (lengthOf x j - 1) (tileLength x j), ok .long j h, ok .length-most j)
+
+  module _ (across : List ℕ) (has : Has across (tileCount x) (x .dimensions)) where
+    pub across-product : product (nth across) (x .dimensions) ≡ tiles x
+    unfolding tiles
+    across-product = product-same (nth across) (tileCount x) (x .dimensions) (has .each)
+
+    pub across-countable : Countable across (x .dimensions)
+    across-countable =
+        record {
+          low = ok .dimensions-most;
+          positive = λ j h. omega (arith, has .each j h, tileCount-pos x ok j h);
+          few = omega (arith, across-product, ok .tiles-most);
+        }
+
+    pub across-places : Places across (four 0) (x .dimensions)
+    across-places =
+        record { low = ok .dimensions-most; positive = across-countable .positive; small = λ j h. omega (arith, zeros j, has .each j h, count-most j h) }
+
+    pub placed-tile : (t : ℕ) (r : List ℕ) → Placed across (four 0) t (x .dimensions) r → Has r (tilePlace x t) (x .dimensions)
+    unfolding tilePlace
+    placed-tile t r p = record { each = λ j h. omega (arith, p .first j h, zeros j, place-lengths (nth across) (tileCount x) (x .dimensions) t j (has .each)) }
+
+    -- a place of tiles, or one beyond
+    pub tile-ranked : (i : List ℕ) (u : ℕ → ℕ) → Has i u (x .dimensions) → ((j : ℕ) → j < x .dimensions → u j ≤ tileCount x j) → Ranked across i (x .dimensions)
+    tile-ranked i u e w = record { counts = across-countable; within = λ j h. omega (arith, e .each j h, w j h, has .each j h) }
+
+    pub tile-rank : (i : List ℕ) (u : ℕ → ℕ) → Has i u (x .dimensions) → rank (nth across) (nth i) (x .dimensions) ≡ tileAt x u
+    unfolding tileAt
+    tile-rank i u e =
+        rank-lengths (nth across) (tileCount x) (nth i) (x .dimensions) (has .each) ∙ rank-same (tileCount x) (nth i) u (x .dimensions) (e .each)
+
+  -- ---- the tile of a cell
+
+  pub place-small : (c : ℕ) (i : List ℕ) → Has i (cellPlace x c) (x .dimensions) → (j : ℕ) → j < x .dimensions → getD i j 0 < 1024
+  place-small c i e j h = omega (arith, e .each j h, cellPlace-low x ok c j h, ok .length-most j)
+
+  abbrev quotientOf : ℕ → ℕ → ℕ
+  quotientOf c j = cellPlace x c j / tileLength x j
+
+  pub quotients-are : (c : ℕ) (i u : List ℕ) → Has i (cellPlace x c) (x .dimensions) → Has u (λ j. getD i j 0 / tileLength x j) (x .dimensions) → Has u (quotientOf c) (x .dimensions)
+  quotients-are c i u e f = record { each = λ j h. f .each j h ∙ ap (λ (a : ℕ). a / tileLength x j) (e .each j h) }
+
+  pub quotient-within : (c j : ℕ) → j < x .dimensions → quotientOf c j ≤ tileCount x j
+  quotient-within c j h = omega (arith, quotient-low x ok (cellPlace x c j) j h (cellPlace-low x ok c j h))
+
+  -- ---- the processor of a tile
+
+  pub counts-countable : Countable (x .counts) (x .spread)
+  unfolding processors
+  counts-countable =
+      record { low = omega (arith, ok .spread-low, ok .dimensions-most); positive = ok .manned; few = omega (arith, ok .processors-most) }
+
+  module _ (t : ℕ) (i u : List ℕ) (e : Has i (tilePlace x t) (x .dimensions)) (f : Has u (λ j. getD i j 0 % getD (x .counts) j 0) (x .spread)) where
+    pub processor-ranked : Ranked (x .counts) u (x .spread)
+    processor-ranked = record { counts = counts-countable; within = λ j h. omega (arith, f .each j h, mod-lt (getD i j 0) (ok .manned j h)) }
+
+    pub processor-rank : rank (processorCount x) (nth u) (x .spread) ≡ processorOf x t
+    unfolding processorOf
+    processor-rank =
+        rank-same (processorCount x) (nth u) (λ j. tilePlace x t j % processorCount x j) (x .spread)
+        (λ j h. f .each j h ∙ ap (λ (a : ℕ). a % processorCount x j) (e .each j (omega (arith, ok .spread-low))))
+
+  -- ---- slots
+
+  pub directions-pos : 1 ≤ directions x
+  unfolding directions
+  directions-pos = go (x .spread) (ok .spread-least)
+    where
+      go : (m : ℕ) → 1 ≤ m → 1 ≤ product two m - 1
+      go m h = omega (arith, many m h)
+
+  module _ (s : ℕ) (i : List ℕ) (e : Has i (tilePlace x (slotTile x s)) (x .dimensions)) where
+    pub bound-places : Places (four 2) i (x .spread)
+    bound-places =
+        record {
+          low = omega (arith, ok .spread-low, ok .dimensions-most);
+          positive = λ j h. omega (arith, twos j (omega (arith, ok .spread-low, ok .dimensions-most)));
+          small = λ j h. let l : j < x .dimensions = omega (arith, ok .spread-low) in
+              omega (arith, twos j (omega (arith, ok .spread-low, ok .dimensions-most)), e .each j l, tilePlace-low x ok (slotTile x s) j l, count-most j l);
+        }
+
+    pub placed-bound : (r : List ℕ) → Placed (four 2) i (slotDirection x s) (x .spread) r → Has r (bound x s) (x .dimensions)
+    unfolding ahead
+    placed-bound r p = record { each = λ j h. go j h (decLt j (x .spread)) }
+      where
+        go : (j : ℕ) → j < x .dimensions → Dec (j < x .spread) → getD r j 0 ≡ tilePlace x (slotTile x s) j + place two (x .spread) (slotDirection x s) j
+        go j h (yes l) =
+            omega (arith, p .first j l, e .each j h, place-lengths (nth (four 2)) two (x .spread) (slotDirection x s) j (λ q k. twos q (omega (arith, ok .spread-low, ok .dimensions-most))))
+        go j h (no l) = omega (arith, p .rest j (omega arith), e .each j h, ahead-beyond x (slotDirection x s) j (omega arith))
+
+  pub bound-within : (s j : ℕ) → j < x .dimensions → bound x s j ≤ tileCount x j
+  bound-within s j h = go (decLt j (x .spread))
+    where
+      go : Dec (j < x .spread) → bound x s j ≤ tileCount x j
+      go (yes l) = omega (arith, tilePlace-low x ok (slotTile x s) j h, ahead-low x (slotDirection x s) j l)
+      go (no l) = omega (arith, tilePlace-low x ok (slotTile x s) j h, ahead-beyond x (slotDirection x s) j (omega arith))
+
+  -- ---- the same from the counts made by the code
+
+  module _ (d : ℕ) (is : d ≡ directions x) where
+    pub ways-pos : 0 < d
+    ways-pos = omega (arith, directions-pos)
+
+    pub ways-few : d ≤ 7
+    unfolding directions
+    ways-few = omega (arith, two-few (x .spread) (omega (arith, ok .spread-low, ok .dimensions-most)))
+
+    pub slot-low : (s : ℕ) → s < slots x → s / d < tiles x
+    slot-low s h = rw is (slotTile-low x s h)
+
+    module _ (s : ℕ) (i : List ℕ) (e : Has i (tilePlace x (s / d)) (x .dimensions)) where
+      at-slot : Has i (tilePlace x (slotTile x s)) (x .dimensions)
+      at-slot = rw is at e
+
+      pub slot-places : Places (four 2) i (x .spread)
+      slot-places = bound-places s i at-slot
+
+      pub placed-slot : (r : List ℕ) → Placed (four 2) i (s % d + 1) (x .spread) r → Has r (bound x s) (x .dimensions)
+      placed-slot r p = placed-bound s i at-slot r (rw is at p)
+
+    pub sender-is : (s i : ℕ) → i ≡ 0 → s / d ≡ endAt x i s
+    unfolding endAt
+    sender-is s i e = rw (e, is)
+
+  pub taker-is : (across : List ℕ) → Has across (tileCount x) (x .dimensions) → (s i : ℕ) (to : List ℕ) → (i ≡ 0 → ⊥) → Has to (bound x s) (x .dimensions)
+      → (r : ℕ) → r ≡ rank (nth across) (nth to) (x .dimensions) → r ≡ endAt x i s
+  unfolding endAt slotTaker taker
+  taker-is across has s zero to f e r q = absurd (f refl)
+  taker-is across has s (suc i) to f e r q = q ∙ tile-rank across has to (bound x s) e
+
+  -- ---- the box of a tile
+
+  corner-fits : (t j : ℕ) → j < x .dimensions → tilePlace x t j * tileLength x j + boxLength x t j ≤ lengthOf x j
+  unfolding boxLength
+  corner-fits t j h = omega (arith, tile-inside x ok (tilePlace x t j) j h (tilePlace-low x ok t j h))
+
+  module _ (b : Bounds) (is : Bounded x b) (q : ℕ) where
+    pub box-places : Places (b .lengths) (b .corner) (x .dimensions)
+    box-places =
+        record {
+          low = ok .dimensions-most;
+          positive = λ j h. omega (arith, is .lengths .each j h, boxLength-pos x ok (b .tile) j h);
+          small = λ j h. omega (arith, is .lengths .each j h, is .corner .each j h, corner-fits (b .tile) j h, ok .length-most j);
+        }
+
+    module _ (r : List ℕ) (p : Placed (b .lengths) (b .corner) q (x .dimensions) r) where
+      placed-box : Has r (boxPlace x (b .tile) q) (x .dimensions)
+      unfolding boxPlace
+      placed-box =
+          record { each = λ j h. omega (arith, p .first j h, is .corner .each j h, place-lengths (nth (b .lengths)) (boxLength x (b .tile)) (x .dimensions) q j (is .lengths .each)) }
+
+      pub box-ranked : Ranked (x .lengths) r (x .dimensions)
+      box-ranked = record { counts = lengths-countable; within = λ j h. omega (arith, placed-box .each j h, boxPlace-low x ok (b .tile) q j h) }
+
+      box-rank : rank (lengthOf x) (nth r) (x .dimensions) ≡ boxCell x (b .tile) q
+      unfolding boxCell cellAt
+      box-rank = rank-same (lengthOf x) (nth r) (boxPlace x (b .tile) q) (x .dimensions) (placed-box .each)
+
+      pub located : (n : ℕ) → n ≡ rank (nth (x .lengths)) (nth r) (x .dimensions) → Located x (boxCell x (b .tile) q) (record { number = n; place = r })
+      located n e =
+          record {
+            low = boxCell-low x ok (b .tile) q;
+            number = e ∙ box-rank;
+            place = record { each = λ j h. placed-box .each j h ∙ sym (boxCell-place x ok (b .tile) q j h) };
+          }
+
+  -- what the code that makes the box has
+  pub box-countable : (t : ℕ) (l : List ℕ) → t < tiles x → Has l (boxLength x t) (x .dimensions) → (product (nth l) (x .dimensions) ≡ boxSize x t) × Countable l (x .dimensions)
+  unfolding boxSize
+  box-countable t l h e =
+      let s : product (nth l) (x .dimensions) ≡ product (boxLength x t) (x .dimensions) = product-same (nth l) (boxLength x t) (x .dimensions) (e .each) in (
+        s,
+        record {
+          low = ok .dimensions-most;
+          positive = λ j k. omega (arith, e .each j k, boxLength-pos x ok t j k);
+          few = omega (arith, boxSize-few x ok t h, ok .cells-most);
+        },
+      )
+
+  module _ (t : ℕ) where
+    pub boxing-none : (corner lengths : List ℕ) → Has corner (tilePlace x t) (x .dimensions) → length corner ≡ 4 → length lengths ≡ 4 → Boxing x t corner lengths 0
+    boxing-none corner lengths e a b =
+        record { first = filled-none _ _ corner a; second = filled-none _ _ lengths b; rest = λ i h k. e .each i k }
+
+    module _ (corner lengths : List ℕ) (j : ℕ) (s : Boxing x t corner lengths j) (h : j < x .dimensions) where
+      pub boxing-low : getD corner j 0 * tileLength x j < lengthOf x j
+      boxing-low = rw (s .rest j (omega arith) h) (tile-inside x ok (tilePlace x t j) j h (tilePlace-low x ok t j h))
+
+      pub boxing-more : (v : ℕ) → v ≡ min (tileLength x j) (lengthOf x j - getD corner j 0 * tileLength x j)
+          → Boxing x t (set corner j (getD corner j 0 * tileLength x j)) (set lengths j v) (j + 1)
+      unfolding boxLength
+      boxing-more v e =
+          record {
+            first = filled-more _ _ corner j _ (s .first) h (ok .dimensions-most) (ap (λ (a : ℕ). a * tileLength x j) at);
+            second = filled-more _ _ lengths j v (s .second) h (ok .dimensions-most) (e ∙ ap (λ (a : ℕ). min (tileLength x j) (lengthOf x j - a * tileLength x j)) at);
+            rest = λ i k l. getD-set-other corner j i (getD corner j 0 * tileLength x j) 0 (λ z. omega arith) ∙ s .rest i (omega arith) l;
+          }
+        where
+          at : getD corner j 0 ≡ tilePlace x t j
+          at = s .rest j (omega arith) h
+
+    module _ (corner lengths : List ℕ) (j : ℕ) (s : Boxing x t corner lengths j) (h : x .dimensions ≤ j) (l : t < tiles x) where
+      boxed : Has lengths (boxLength x t) (x .dimensions)
+      boxed = filled-end _ _ lengths j (s .second) h
+
+      pub boxing-countable : Countable lengths (x .dimensions)
+      boxing-countable = box-countable t lengths l boxed .1
+
+      pub boxing-end : (n : ℕ) → n ≡ product (nth lengths) (x .dimensions) → Bounded x (record { tile = t; corner = corner; lengths = lengths; size = n })
+      boxing-end n e =
+          record { low = l; corner = filled-end _ _ corner j (s .first) h; lengths = boxed; size = e ∙ box-countable t lengths l boxed .0 }
+
+  -- ---- what a distance does to a place
+
+  module _ (c : ℕ) (i : List ℕ) (has : Has i (cellPlace x c) (x .dimensions)) where
+    pub puts-reaches : (s : ℕ) (to : List ℕ) → Has to (bound x s) (x .dimensions) → (e : ℕ) → puts x to i e ≡ reaches x (slotTile x s) (slotDirection x s) c e
+    unfolding puts reaches inside
+    puts-reaches s to b e =
+        ap (λ (t : Bool). t and every (λ j. eqb ((getD i j 0 + component x e j) / tileLength x j) (getD to j 0)) (x .spread))
+        (every-same _ _ (x .dimensions) (λ j h. ap (λ (a : ℕ). ltb (a + component x e j) (lengthOf x j)) (has .each j h)))
+        ∙ ap (λ (t : Bool). every (λ j. ltb (cellPlace x c j + component x e j) (lengthOf x j)) (x .dimensions) and t)
+        (every-same _ _ (x .spread) (λ j h. two-same j (omega (arith, ok .spread-low))))
+      where
+        two-same : (j : ℕ) → j < x .dimensions
+            → eqb ((getD i j 0 + component x e j) / tileLength x j) (getD to j 0) ≡ eqb ((cellPlace x c j + component x e j) / tileLength x j) (bound x s j)
+        two-same j h = rw (has .each j h, b .each j h)
+
+    pub wordRead-is : (memory : List ℕ) (e : ℕ) → wordRead x memory i e ≡ pick (hasRead x c e) (getD memory (readAt x c e) 0) (x .boundary)
+    unfolding wordRead hasRead readAt cellAt
+    wordRead-is memory e =
+        ap (λ (t : Bool). pick t (getD memory (rank (lengthOf x) (λ j. getD i j 0 - component x e j) (x .dimensions)) 0) (x .boundary))
+        (every-same _ _ (x .dimensions) (λ j h. ap (λ (a : ℕ). leb (component x e j) a) (has .each j h)))
+        ∙ ap (λ (r : ℕ). pick (every (λ j. leb (component x e j) (cellPlace x c j)) (x .dimensions)) (getD memory r 0) (x .boundary))
+        (rank-same (lengthOf x) (λ j. getD i j 0 - component x e j) (λ j. cellPlace x c j - component x e j) (x .dimensions)
+        (λ j h. ap (λ (a : ℕ). a - component x e j) (has .each j h)))
+
+  -- ---- the word read
+
+  module _ (i : List ℕ) (e : ℕ) where
+    pub reading-none : (back : List ℕ) → length back ≡ 4 → Reading x i e back 0
+    reading-none back h = record { sofar = sofar-none _ _; filled = filled-none _ _ back h }
+
+    pub reading-stops : (memory : List ℕ) (j : ℕ) → j < x .dimensions → getD i j 0 < component x e j → x .boundary ≡ wordRead x memory i e
+    unfolding wordRead
+    reading-stops memory j h l = sym (pick-false _ _ _ (every-not _ (x .dimensions) j h (lt-leb _ _ l)))
+
+    module _ (back : List ℕ) (j : ℕ) (s : Reading x i e back j) where
+      pub reading-more : j < x .dimensions → component x e j ≤ getD i j 0 → Reading x i e (set back j (getD i j 0 - component x e j)) (j + 1)
+      reading-more h l =
+          record {
+            sofar = sofar-more _ _ j (s .sofar) h (le-leb _ _ l);
+            filled = filled-more _ _ back j _ (s .filled) h (ok .dimensions-most) refl;
+          }
+
+      module _ (h : x .dimensions ≤ j) where
+        back-has : Has back (λ q. getD i q 0 - component x e q) (x .dimensions)
+        back-has = filled-end _ _ back j (s .filled) h
+
+        module _ (w : (q : ℕ) → q < x .dimensions → getD i q 0 < lengthOf x q) where
+          pub reading-ranked : Ranked (x .lengths) back (x .dimensions)
+          reading-ranked = record { counts = lengths-countable; within = λ q k. omega (arith, back-has .each q k, w q k) }
+
+          pub reading-low : (r : ℕ) → r ≡ rank (nth (x .lengths)) (nth back) (x .dimensions) → r < cells x
+          unfolding cells
+          reading-low r q = rw q (rank-low (lengthOf x) (nth back) (x .dimensions) (λ p k. omega (arith, back-has .each p k, w p k)))
+
+        pub reading-end : (memory : List ℕ) (r : ℕ) → r ≡ rank (nth (x .lengths)) (nth back) (x .dimensions) → getD memory r 0 ≡ wordRead x memory i e
+        unfolding wordRead
+        reading-end memory r q =
+            ap (λ (a : ℕ). getD memory a 0) (q ∙ rank-same (lengthOf x) (nth back) (λ p. getD i p 0 - component x e p) (x .dimensions) (back-has .each))
+            ∙ sym (pick-true _ _ _ (sofar-end _ _ j (s .sofar) h))
+
+  -- ---- the value
+
+  weighed : (e w : ℕ) → w < 4294967296 → weight x e * w ≤ 281470681677825
+  weighed e w h = omega (arith, mul-le-mul {n₁ = weight x e} {m₁ = w} {n₂ = 65535} {m₂ = 4294967295} (omega (arith, ok .weight-most e)) (omega arith))
+
+  module _ (source memory : List ℕ) (c : ℕ) (i : List ℕ) where
+    pub summing-none : getD source c 0 < 4294967296 → Summing x source memory c i (getD source c 0) 0
+    unfolding sum
+    summing-none h = record { low = omega arith; few = omega arith; is = omega arith }
+
+    module _ (total e : ℕ) (s : Summing x source memory c i total e) where
+      module _ (w : ℕ) (is : w ≡ wordRead x memory i e) (l : w < 4294967296) (h : e < x .distances) where
+        pub summing-fits : total + weight x e * w ≤ 4294967295 + (e + 1) * 281470681677825
+        summing-fits = omega (arith, s .few, weighed e w l)
+
+        pub summing-small : total + weight x e * w < 18446744073709551616
+        summing-small = omega (arith, summing-fits, ok .distances-most)
+
+        pub summing-more : Summing x source memory c i (total + weight x e * w) (e + 1)
+        unfolding sum
+        summing-more =
+            record {
+              low = omega arith;
+              few = summing-fits;
+              is = rw (add-one e) (ap (λ (a : ℕ). a + weight x e * w) (s .is) ∙ ap (λ (a : ℕ). getD source c 0 + sum (λ d. weight x d * wordRead x memory i d) e + weight x e * a) is ∙ add-assoc _ _ _);
+            }
+
+      pub summing-end : x .distances ≤ e → Has i (cellPlace x c) (x .dimensions) → total / 2 ^ x .shift % 4294967296 ≡ value x source memory c
+      unfolding value
+      summing-end h has =
+          let z : e ≡ x .distances = omega (arith, s .low) in
+          ap (λ (a : ℕ). a / 2 ^ x .shift % 4294967296)
+          (s .is
+          ∙ ap (λ (n : ℕ). getD source c 0 + sum (λ d. weight x d * wordRead x memory i d) n) z
+          ∙ ap (λ (a : ℕ). getD source c 0 + a) (sum-same _ _ (x .distances) (λ d k. ap (λ (a : ℕ). weight x d * a) (wordRead-is c i has memory d))))

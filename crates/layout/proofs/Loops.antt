@@ -1,0 +1,120 @@
+-- Loops over dimensions and distances: a test that fails at once, a test that holds at once, an array that is filled.
+use Prim.Native.Nat.{ℕ, zero, suc, _+_, _-_, _≤_, _<_}
+use mathlib.Core.Path.{_≡_, refl, sym, ap, _∙_}
+use mathlib.Core.Logic.{_⊎_, inl, inr}
+use mathlib.Core.Bool.{Bool, true, false}
+use mathlib.Core.List.{List}
+use native.Mathlib.Nat.{eq-or-lt-of-le, le-of-suc-le-suc}
+use native.Mathlib.Numerals.{add-one}
+use native.Mathlib.Omega.{arith}
+use lib.ListN.{length, getD, set, length-set}
+use lib.Seq.{getD-set-same, getD-set-other}
+use Rattle.base.specs.Tests.{_and_, every, some}
+use Rattle.base.proofs.Tests.{every-at, every-all, every-more, every-not, some-at, some-one, some-none, same-test, and-true, and-false, and-no}
+use Rattle.layout.specs.Places.{Has}
+
+-- ---- a loop that returns false at the first number where the test fails
+
+pub record Sofar (f : ℕ → Bool) (n j : ℕ) : Type 0 where
+  pub low : j ≤ n
+  pub all : every f j ≡ true
+
+module _ (f : ℕ → Bool) (n : ℕ) where
+  pub sofar-none : Sofar f n 0
+  unfolding every
+  sofar-none = record { low = omega arith; all = refl }
+
+  pub sofar-more : (j : ℕ) → Sofar f n j → j < n → f j ≡ true → Sofar f n (j + 1)
+  sofar-more j s h e = rw (add-one j) (record { low = h; all = every-more f j (s .all) e })
+
+  pub sofar-end : (j : ℕ) → Sofar f n j → n ≤ j → every f n ≡ true
+  sofar-end j s h = let e : j ≡ n = omega (arith, s .low) in rw e at (s .all)
+
+-- ---- and one that returns true at the first where it holds
+
+pub record Nowhere (f : ℕ → Bool) (n j : ℕ) : Type 0 where
+  pub low : j ≤ n
+  pub none : (i : ℕ) → i < j → f i ≡ false
+
+module _ (f : ℕ → Bool) (n : ℕ) where
+  pub nowhere-none : Nowhere f n 0
+  nowhere-none = record { low = omega arith; none = λ i h. absurd (omega arith) }
+
+  pub nowhere-more : (j : ℕ) → Nowhere f n j → j < n → f j ≡ false → Nowhere f n (j + 1)
+  nowhere-more j s h e = record { low = omega arith; none = λ i k. go i (eq-or-lt-of-le (low i k)) }
+    where
+      low : (i : ℕ) → i < j + 1 → i ≤ j
+      low i k = omega arith
+
+      go : (i : ℕ) → (i ≡ j) ⊎ (i < j) → f i ≡ false
+      go i (inl q) = ap f q ∙ e
+      go i (inr q) = s .none i q
+
+  pub nowhere-end : (j : ℕ) → Nowhere f n j → n ≤ j → some f n ≡ false
+  nowhere-end j s h = some-none f n (λ i k. s .none i (omega (arith, s .low)))
+
+-- ---- two tests, the second over the first m numbers alone
+
+pub record Testing (f g : ℕ → Bool) (m n j : ℕ) : Type 0 where
+  pub low : j ≤ n
+  pub first : every f j ≡ true
+  pub second : (i : ℕ) → i < j → i < m → g i ≡ true
+
+module _ (f g : ℕ → Bool) (m n : ℕ) where
+  pub testing-none : Testing f g m n 0
+  unfolding every
+  testing-none = record { low = omega arith; first = refl; second = λ i h. absurd (omega arith) }
+
+  pub testing-more : (j : ℕ) → Testing f g m n j → j < n → f j ≡ true → (j < m → g j ≡ true) → Testing f g m n (j + 1)
+  testing-more j s h e k =
+      record { low = omega arith; first = rw (add-one j) (every-more f j (s .first) e); second = λ i l. go i (eq-or-lt-of-le (low i l)) }
+    where
+      low : (i : ℕ) → i < j + 1 → i ≤ j
+      low i l = omega arith
+
+      go : (i : ℕ) → (i ≡ j) ⊎ (i < j) → i < m → g i ≡ true
+      go i (inl q) l = ap g q ∙ k (omega arith)
+      go i (inr q) l = s .second i q l
+
+  pub testing-first : (j : ℕ) → j < n → f j ≡ false → false ≡ (every f n and every g m)
+  testing-first j h e = sym (and-false (every f n) (every g m) (every-not f n j h e))
+
+  pub testing-second : (j : ℕ) → j < m → g j ≡ false → false ≡ (every f n and every g m)
+  testing-second j h e = sym (and-no (every f n) (every g m) (every-not g m j h e))
+
+  pub testing-end : (j : ℕ) → Testing f g m n j → n ≤ j → m ≤ n → true ≡ (every f n and every g m)
+  testing-end j s h l =
+      let e : j ≡ n = omega (arith, s .low) in
+      sym (and-true (rw e at (s .first)) (every-all g m (λ i k. s .second i (omega arith) k)))
+
+pub every-same : (f g : ℕ → Bool) (n : ℕ) → ((i : ℕ) → i < n → f i ≡ g i) → every f n ≡ every g n
+every-same f g n h = same-test (λ e. every-all g n (λ i k. sym (h i k) ∙ every-at f n e i k)) (λ e. every-all f n (λ i k. h i k ∙ every-at g n e i k))
+
+pub some-same : (f g : ℕ → Bool) (n : ℕ) → ((i : ℕ) → i < n → f i ≡ g i) → some f n ≡ some g n
+some-same f g n h =
+    same-test (λ e. let r = some-at f n e in some-one g n (r .0) (r .1) (sym (h (r .0) (r .1)) ∙ r .2))
+    (λ e. let r = some-at g n e in some-one f n (r .0) (r .1) (h (r .0) (r .1) ∙ r .2))
+
+-- ---- an array that is filled from its start
+
+pub record Filled (f : ℕ → ℕ) (n : ℕ) (l : List ℕ) (j : ℕ) : Type 0 where
+  pub low : j ≤ n
+  pub long : length l ≡ 4
+  pub each : (i : ℕ) → i < j → getD l i 0 ≡ f i
+
+module _ (f : ℕ → ℕ) (n : ℕ) where
+  pub filled-none : (l : List ℕ) → length l ≡ 4 → Filled f n l 0
+  filled-none l e = record { low = omega arith; long = e; each = λ i h. absurd (omega arith) }
+
+  pub filled-more : (l : List ℕ) (j v : ℕ) → Filled f n l j → j < n → n ≤ 4 → v ≡ f j → Filled f n (set l j v) (j + 1)
+  filled-more l j v s h m e = record { low = omega arith; long = length-set l j v ∙ s .long; each = λ i k. go i (eq-or-lt-of-le (low i k)) }
+    where
+      low : (i : ℕ) → i < j + 1 → i ≤ j
+      low i k = omega arith
+
+      go : (i : ℕ) → (i ≡ j) ⊎ (i < j) → getD (set l j v) i 0 ≡ f i
+      go i (inl q) = ap (λ (k : ℕ). getD (set l j v) k 0) q ∙ getD-set-same l j v 0 (omega (arith, s .long)) ∙ e ∙ ap f (sym q)
+      go i (inr q) = getD-set-other l j i v 0 (λ z. omega arith) ∙ s .each i q
+
+  pub filled-end : (l : List ℕ) (j : ℕ) → Filled f n l j → n ≤ j → Has l f n
+  filled-end l j s h = record { each = λ i k. s .each i (omega (arith, s .low)) }

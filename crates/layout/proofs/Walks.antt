@@ -1,0 +1,387 @@
+-- Loops over the cells of a tile: counting, packing, unpacking, calculating; and over all cells, the sweep.
+use Prim.Native.Nat.{ℕ, zero, suc, _+_, _*_, _-_, _/_, _≤_, _<_}
+use mathlib.Core.Path.{_≡_, refl, sym, ap, _∙_}
+use mathlib.Core.Logic.{_⊎_, inl, inr}
+use mathlib.Core.Bool.{Bool, true, false}
+use mathlib.Core.List.{List, [], _∷_, _++_, map, append-assoc, append-nil}
+use native.Mathlib.Numerals.{add-one}
+use native.Mathlib.Nat.{eq-or-lt-of-le, le-of-suc-le-suc}
+use native.Mathlib.Omega.{arith}
+use lib.ListN.{length, getD, take, drop, set, length-append, length-drop, length-set, List·getD-append}
+use lib.Seq.{drop-cons, drop-length, take-suc, take-length, set-append-seam, length-take-le}
+use Rattle.base.specs.Tests.{some, tabulate}
+use Rattle.base.specs.Lists.{In, pack, unpack, storeAll}
+use Rattle.base.proofs.Tests.{some-one, some-none}
+use Rattle.base.proofs.Lists.{pack-length, unpack-length, store-length}
+use Rattle.machine.specs.Plan.{Plan, Sound}
+use Rattle.machine.specs.Machine.{sweepTo, sweep}
+use Rattle.nest.specs.declared.Nest.{Nest}
+use Rattle.nest.specs.Nest.{Accepted, cells, tiles}
+use Rattle.plan.specs.Geometry.{cellPlace, cellsOf, value}
+use Rattle.plan.specs.Messages.{directions, reaches, slots, slotTile, slotDirection, slotParcel, planOf}
+use Rattle.plan.specs.Box.{boxSize, boxCell}
+use Rattle.plan.proofs.Parcels.{slotTile-low}
+use Rattle.plan.proofs.Box.{boxHit, boxParcel, boxParcel-none, boxParcel-hit, boxParcel-miss, boxParcel-few, parcel-box, cellsOf-box, boxSize-few, boxCell-low}
+use Rattle.layout.specs.declared.Bounds.{Bounds}
+use Rattle.layout.specs.declared.Cell.{Cell}
+use Rattle.layout.specs.Places.{Has, Located, Bounded, bound, puts}
+use Rattle.layout.proofs.Loops.{some-same}
+use Rattle.layout.proofs.Cells.{puts-reaches, slot-low}
+
+-- ---- a slot's box as the code has it
+
+pub record Walk (x : Nest) (s : ℕ) (b : Bounds) (to : List ℕ) : Type 0 where
+  pub low : s < slots x
+  pub box : Bounded x b
+  pub tile : b .tile ≡ slotTile x s
+  pub way : Has to (bound x s) (x .dimensions)
+
+-- the cells of the parcel among the first q of the box
+abbrev pub walked : Nest → ℕ → Bounds → ℕ → List ℕ
+walked x s b q = boxParcel x (b .tile) (slotDirection x s) q
+
+abbrev pub meets : Nest → ℕ → Bounds → ℕ → Bool
+meets x s b q = boxHit x (b .tile) (slotDirection x s) q
+
+pub walk-of : (x : Nest) (d s : ℕ) (b : Bounds) (to : List ℕ) → d ≡ directions x → s < slots x → Bounded x b × (b .tile ≡ s / d) → Has to (bound x s) (x .dimensions)
+    → Walk x s b to
+walk-of x d s b to is l (p, e) h = record { low = l; box = p; tile = e ∙ ap (λ (k : ℕ). s / k) is; way = h }
+
+module _ (x : Nest) (ok : Accepted x) (s : ℕ) (b : Bounds) (to : List ℕ) (w : Walk x s b to) where
+  pub parcel-is : slotParcel x s ≡ walked x s b (b .size)
+  unfolding slotParcel
+  parcel-is =
+      parcel-box x ok (slotTile x s) (slotDirection x s) (slotTile-low x s (w .low))
+      ∙ ap (λ (t : ℕ). boxParcel x t (slotDirection x s) (boxSize x t)) (sym (w .tile))
+      ∙ ap (walked x s b) (sym (w .box .size))
+
+  pub size-few : b .size ≤ 16384
+  size-few = omega (arith, w .box .size, boxSize-few x ok (b .tile) (w .box .low), ok .cells-most)
+
+  pub parcel-few : length (slotParcel x s) ≤ 16384
+  parcel-few = omega (arith, ap length parcel-is, boxParcel-few x (b .tile) (slotDirection x s) (b .size), size-few)
+
+  module _ (q : ℕ) (r : Cell) (l : Located x (boxCell x (b .tile) q) r) where
+    pub reach-is : (e : ℕ) → puts x to (r .place) e ≡ reaches x (b .tile) (slotDirection x s) (boxCell x (b .tile) q) e
+    reach-is e =
+        puts-reaches x ok (boxCell x (b .tile) q) (r .place) (l .place) s to (w .way) e
+        ∙ ap (λ (t : ℕ). reaches x t (slotDirection x s) (boxCell x (b .tile) q) e) (sym (w .tile))
+
+    pub meets-is : some (puts x to (r .place)) (x .distances) ≡ meets x s b q
+    meets-is = some-same _ _ (x .distances) (λ e h. reach-is e)
+
+    pub meets-at : (e : ℕ) → e < x .distances → puts x to (r .place) e ≡ true → meets x s b q ≡ true
+    meets-at e h k = some-one _ (x .distances) e h (sym (reach-is e) ∙ k)
+
+    pub meets-none : ((e : ℕ) → e < x .distances → puts x to (r .place) e ≡ false) → meets x s b q ≡ false
+    meets-none h = some-none _ (x .distances) (λ e k. sym (reach-is e) ∙ h e k)
+
+-- ---- the parcel grows
+
+module _ (x : Nest) (s : ℕ) (b : Bounds) where
+  walked-step : (q : ℕ) (t : Bool) → meets x s b q ≡ t → length (walked x s b q) ≤ length (walked x s b (q + 1))
+  walked-step q true e = rw (boxParcel-hit x (b .tile) (slotDirection x s) q e) (simp length-append (omega arith))
+  walked-step q false e = rw (boxParcel-miss x (b .tile) (slotDirection x s) q e) (omega arith)
+
+  pub walked-mono : (n q : ℕ) → q ≤ n → length (walked x s b q) ≤ length (walked x s b n)
+  walked-mono zero q h = let z : q ≡ 0 = omega arith in rw z (omega arith)
+  walked-mono (suc n) q h = go (walked-mono n q) (eq-or-lt-of-le h)
+    where
+      go : (q ≤ n → length (walked x s b q) ≤ length (walked x s b n)) → (q ≡ suc n) ⊎ (q < suc n) → length (walked x s b q) ≤ length (walked x s b (suc n))
+      go ih (inl e) = rw e (omega arith)
+      go ih (inr k) = let a = ih (le-of-suc-le-suc k) in let z : length (walked x s b n) ≤ length (walked x s b (suc n)) = rw (← add-one n) (walked-step n (meets x s b n) refl) in omega arith
+
+  module _ (q : ℕ) (e : meets x s b q ≡ true) where
+    pub walked-hit : walked x s b (q + 1) ≡ walked x s b q ++ (boxCell x (b .tile) q ∷ [])
+    walked-hit = boxParcel-hit x (b .tile) (slotDirection x s) q e
+
+    pub walked-more : length (walked x s b (q + 1)) ≡ length (walked x s b q) + 1
+    walked-more = rw walked-hit (simp length-append)
+
+    pub walked-room : (n : ℕ) → q < n → length (walked x s b q) < length (walked x s b n)
+    walked-room n h = omega (arith, walked-more, walked-mono n (q + 1) (omega arith))
+
+  pub walked-miss : (q : ℕ) → meets x s b q ≡ false → walked x s b (q + 1) ≡ walked x s b q
+  walked-miss q e = boxParcel-miss x (b .tile) (slotDirection x s) q e
+
+-- ---- counting
+
+pub record Measuring (x : Nest) (s : ℕ) (b : Bounds) (count q : ℕ) : Type 0 where
+  pub low : q ≤ b .size
+  pub is : count ≡ length (walked x s b q)
+
+module _ (x : Nest) (s : ℕ) (b : Bounds) where
+  pub measure-none : Measuring x s b 0 0
+  measure-none = record { low = omega arith; is = ap length (sym (boxParcel-none x (b .tile) (slotDirection x s))) }
+
+  pub measure-few : (count q : ℕ) → Measuring x s b count q → count ≤ q
+  measure-few count q m = omega (arith, m .is, boxParcel-few x (b .tile) (slotDirection x s) q)
+
+  pub measure-turn : (count count′ q : ℕ) (t : Bool) → Measuring x s b count q → q < b .size → t ≡ meets x s b q
+      → ((t ≡ true) × (count′ ≡ count + 1)) ⊎ ((t ≡ false) × (count′ ≡ count)) → Measuring x s b count′ (q + 1)
+  measure-turn count count′ q t m h e (inl (k, p)) = record { low = omega arith; is = omega (arith, m .is, walked-more x s b q (sym e ∙ k)) }
+  measure-turn count count′ q t m h e (inr (k, p)) = record { low = omega arith; is = p ∙ m .is ∙ ap length (sym (walked-miss x s b q (sym e ∙ k))) }
+
+pub measured : (x : Nest) (ok : Accepted x) (s : ℕ) (b : Bounds) (to : List ℕ) → Walk x s b to → (count q : ℕ) → Measuring x s b count q → b .size ≤ q
+    → (count ≡ length (slotParcel x s)) × (count ≤ 16384)
+measured x ok s b to w count q m h =
+    let z : q ≡ b .size = omega (arith, m .low) in
+    (m .is ∙ ap (λ (k : ℕ). length (walked x s b k)) z ∙ ap length (sym (parcel-is x ok s b to w)), omega (arith, measure-few x s b count q m, size-few x ok s b to w))
+
+-- ---- lists that grow at their end
+
+pub pack-append : (l a b : List ℕ) → pack l (a ++ b) ≡ pack l a ++ pack l b
+unfolding pack
+pack-append l [] b = refl
+pack-append l (p ∷ a) b = ap (λ (z : List ℕ). getD l p 0 ∷ z) (pack-append l a b)
+
+pub unpack-append : (l a b ws us : List ℕ) → length ws ≡ length a → unpack l (a ++ b) (ws ++ us) ≡ unpack (unpack l a ws) b us
+unfolding unpack
+unpack-append l [] b [] us e = refl
+unpack-append l [] b (w ∷ ws) us e = absurd (omega arith)
+unpack-append l (p ∷ a) b [] us e = absurd (omega arith)
+unpack-append l (p ∷ a) b (w ∷ ws) us e = unpack-append (set l p w) a b ws us (omega arith)
+
+pub store-append : (f : List ℕ → ℕ → ℕ) (l a b : List ℕ) → storeAll f l (a ++ b) ≡ storeAll f (storeAll f l a) b
+unfolding storeAll
+store-append f l [] b = refl
+store-append f l (p ∷ a) b = store-append f (set l p (f l p)) a b
+
+-- one word more at the front
+push : (k o : List ℕ) (v : ℕ) → length k < length o → set (k ++ drop (length k) o) (length k) v ≡ (k ++ (v ∷ [])) ++ drop (length k + 1) o
+push k o v l = rw (drop-cons o (length k) 0, set-append-seam, add-one, append-assoc)
+
+-- ---- packing: between two cells
+
+pub record Packing (x : Nest) (s : ℕ) (b : Bounds) (memory words₀ words : List ℕ) (count q : ℕ) : Type 0 where
+  pub low : q ≤ b .size
+  pub count-is : count ≡ length (walked x s b q)
+  pub is : words ≡ pack memory (walked x s b q) ++ drop count words₀
+
+-- and between two distances of the cell at q₀
+pub record Searching (f : ℕ → Bool) (n : ℕ) (words₁ : List ℕ) (count₁ q₁ : ℕ) (words : List ℕ) (count q e : ℕ) : Type 0 where
+  pub same-words : words ≡ words₁
+  pub same-count : count ≡ count₁
+  pub same-q : q ≡ q₁
+  pub low : e ≤ n
+  pub none : (i : ℕ) → i < e → f i ≡ false
+
+module _ (x : Nest) (s : ℕ) (b : Bounds) (memory words₀ : List ℕ) where
+  pub packing-none : Packing x s b memory words₀ words₀ 0 0
+  unfolding pack
+  packing-none =
+      record {
+        low = omega arith;
+        count-is = ap length (sym (boxParcel-none x (b .tile) (slotDirection x s)));
+        is = ap (λ (z : List ℕ). pack memory z ++ words₀) (sym (boxParcel-none x (b .tile) (slotDirection x s)));
+      }
+
+  pub packing-long : (words : List ℕ) (count q : ℕ) → Packing x s b memory words₀ words count q → length words₀ ≡ length (walked x s b (b .size)) → length words ≡ length words₀
+  packing-long words count q p e =
+      omega (arith, p .count-is, simp length-append at (ap length (p .is)), length-drop count words₀, pack-length (walked x s b q) memory, walked-mono x s b (b .size) q (p .low))
+
+  module _ (words : List ℕ) (count q : ℕ) (p : Packing x s b memory words₀ words count q) (l : q < b .size) where
+    pub packing-room : length words₀ ≡ length (walked x s b (b .size)) → meets x s b q ≡ true → count < length words₀
+    packing-room e h = omega (arith, p .count-is, walked-room x s b q h (b .size) l)
+
+    pub packing-hit : length words₀ ≡ length (walked x s b (b .size)) → meets x s b q ≡ true → (c : ℕ) → c ≡ boxCell x (b .tile) q
+        → Packing x s b memory words₀ (set words count (getD memory c 0)) (count + 1) (q + 1)
+    unfolding pack
+    packing-hit e h c k =
+        record {
+          low = omega arith;
+          count-is = omega (arith, p .count-is, walked-more x s b q h);
+          is = ap (λ (z : List ℕ). set z count (getD memory c 0)) (p .is) ∙ step ∙ ap (λ (z : List ℕ). z ++ drop (count + 1) words₀) (sym grown);
+        }
+      where
+        long : length (pack memory (walked x s b q)) ≡ count
+        long = pack-length (walked x s b q) memory ∙ sym (p .count-is)
+
+        step : set (pack memory (walked x s b q) ++ drop count words₀) count (getD memory c 0) ≡ (pack memory (walked x s b q) ++ (getD memory c 0 ∷ [])) ++ drop (count + 1) words₀
+        step = rw long at (push (pack memory (walked x s b q)) words₀ (getD memory c 0) (omega (arith, long, packing-room e h)))
+
+        grown : pack memory (walked x s b (q + 1)) ≡ pack memory (walked x s b q) ++ (getD memory c 0 ∷ [])
+        grown = ap (pack memory) (walked-hit x s b q h) ∙ pack-append memory (walked x s b q) (boxCell x (b .tile) q ∷ []) ∙ rw k
+
+    pub packing-miss : meets x s b q ≡ false → Packing x s b memory words₀ words count (q + 1)
+    packing-miss h =
+        record {
+          low = omega arith;
+          count-is = p .count-is ∙ ap length (sym (walked-miss x s b q h));
+          is = p .is ∙ ap (λ (z : List ℕ). pack memory z ++ drop count words₀) (sym (walked-miss x s b q h));
+        }
+
+module _ (x : Nest) (ok : Accepted x) (s : ℕ) (b : Bounds) (to : List ℕ) (w : Walk x s b to) (memory words₀ : List ℕ) where
+  pub packed : (words : List ℕ) (count q : ℕ) → Packing x s b memory words₀ words count q → b .size ≤ q → length words₀ ≡ length (slotParcel x s) → words ≡ pack memory (slotParcel x s)
+  packed words count q p h e =
+      let z : q ≡ b .size = omega (arith, p .low) in
+      let k : count ≡ length words₀ = p .count-is ∙ ap (λ (a : ℕ). length (walked x s b a)) z ∙ ap length (sym (parcel-is x ok s b to w)) ∙ sym e in
+      p .is
+      ∙ ap (λ (a : ℕ). pack memory (walked x s b a) ++ drop count words₀) z
+      ∙ ap (λ (a : ℕ). pack memory (walked x s b (b .size)) ++ drop a words₀) k
+      ∙ ap (λ (a : List ℕ). pack memory (walked x s b (b .size)) ++ a) (drop-length words₀)
+      ∙ append-nil (pack memory (walked x s b (b .size)))
+      ∙ ap (pack memory) (sym (parcel-is x ok s b to w))
+
+  module _ (words₁ : List ℕ) (count₁ q₁ : ℕ) (r : Cell) (l : Located x (boxCell x (b .tile) q₁) r) (p : Packing x s b memory words₀ words₁ count₁ q₁) (h : q₁ < b .size)
+      (long : length words₀ ≡ length (slotParcel x s)) (words : List ℕ) (count q e : ℕ) (f : Searching (puts x to (r .place)) (x .distances) words₁ count₁ q₁ words count q e) where
+    all : length words₀ ≡ length (walked x s b (b .size))
+    all = long ∙ ap length (parcel-is x ok s b to w)
+
+    module _ (k : e < x .distances) (hit : puts x to (r .place) e ≡ true) where
+      pub search-room : (count < length words) × (count < length words₀)
+      search-room =
+          let a = packing-room x s b memory words₀ words₁ count₁ q₁ p h all (meets-at x ok s b to w q₁ r l e k hit) in
+          (omega (arith, f .same-count, ap length (f .same-words), packing-long x s b memory words₀ words₁ count₁ q₁ p all), omega (arith, f .same-count))
+
+      pub search-hit : Packing x s b memory words₀ (set words count (getD memory (r .number) 0)) (count + 1) (q + 1)
+      search-hit =
+          rw (f .same-words, f .same-count, f .same-q)
+          (packing-hit x s b memory words₀ words₁ count₁ q₁ p h all (meets-at x ok s b to w q₁ r l e k hit) (r .number) (l .number))
+
+    pub search-miss : x .distances ≤ e → Packing x s b memory words₀ words count (q + 1)
+    search-miss k =
+        rw (f .same-words, f .same-count, f .same-q)
+        (packing-miss x s b memory words₀ words₁ count₁ q₁ p h (meets-none x ok s b to w q₁ r l (λ i j. f .none i (omega arith))))
+
+-- ---- unpacking
+
+pub record Unpacking (x : Nest) (s : ℕ) (b : Bounds) (memory₀ words memory : List ℕ) (count q : ℕ) : Type 0 where
+  pub low : q ≤ b .size
+  pub count-is : count ≡ length (walked x s b q)
+  pub is : memory ≡ unpack memory₀ (walked x s b q) (take count words)
+
+module _ (x : Nest) (s : ℕ) (b : Bounds) (memory₀ words : List ℕ) where
+  pub unpacking-none : Unpacking x s b memory₀ words memory₀ 0 0
+  unfolding unpack
+  unpacking-none =
+      record {
+        low = omega arith;
+        count-is = ap length (sym (boxParcel-none x (b .tile) (slotDirection x s)));
+        is = ap (λ (z : List ℕ). unpack memory₀ z []) (sym (boxParcel-none x (b .tile) (slotDirection x s)));
+      }
+
+  module _ (memory : List ℕ) (count q : ℕ) (p : Unpacking x s b memory₀ words memory count q) where
+    pub unpacking-long : length memory ≡ length memory₀
+    unpacking-long = ap length (p .is) ∙ unpack-length (walked x s b q) (take count words) memory₀
+
+    pub unpacking-few : count ≤ q
+    unpacking-few = omega (arith, p .count-is, boxParcel-few x (b .tile) (slotDirection x s) q)
+
+    module _ (l : q < b .size) (e : length words ≡ length (walked x s b (b .size))) where
+      pub unpacking-room : meets x s b q ≡ true → count < length words
+      unpacking-room h = omega (arith, p .count-is, walked-room x s b q h (b .size) l)
+
+      unpacking-hit : meets x s b q ≡ true → (c : ℕ) → c ≡ boxCell x (b .tile) q → Unpacking x s b memory₀ words (set memory c (getD words count 0)) (count + 1) (q + 1)
+      unfolding unpack
+      unpacking-hit h c k =
+          record {
+            low = omega arith;
+            count-is = omega (arith, p .count-is, walked-more x s b q h);
+            is = rw (k, p .is, walked-hit x s b q h, add-one count, take-suc words count 0 (unpacking-room h))
+                (sym (unpack-append memory₀ (walked x s b q) (boxCell x (b .tile) q ∷ []) (take count words) (getD words count 0 ∷ [])
+                (length-take-le count words (omega (arith, unpacking-room h)) ∙ p .count-is)));
+          }
+
+      unpacking-miss : meets x s b q ≡ false → Unpacking x s b memory₀ words memory count (q + 1)
+      unpacking-miss h =
+          record {
+            low = omega arith;
+            count-is = p .count-is ∙ ap length (sym (walked-miss x s b q h));
+            is = p .is ∙ ap (λ (z : List ℕ). unpack memory₀ z (take count words)) (sym (walked-miss x s b q h));
+          }
+
+      pub unpacking-turn : (c : ℕ) (memory′ : List ℕ) (count′ : ℕ) (t : Bool) → c ≡ boxCell x (b .tile) q → t ≡ meets x s b q
+          → ((t ≡ true) × (memory′ ≡ set memory c (getD words count 0)) × (count′ ≡ count + 1)) ⊎ ((t ≡ false) × (memory′ ≡ memory) × (count′ ≡ count))
+          → Unpacking x s b memory₀ words memory′ count′ (q + 1)
+      unpacking-turn c memory′ count′ t k m (inl (h, a, d)) = rw (a, d) (unpacking-hit (sym m ∙ h) c k)
+      unpacking-turn c memory′ count′ t k m (inr (h, a, d)) = rw (a, d) (unpacking-miss (sym m ∙ h))
+
+pub unpacked : (x : Nest) (ok : Accepted x) (s : ℕ) (b : Bounds) (to : List ℕ) → Walk x s b to → (memory₀ words memory : List ℕ) (count q : ℕ)
+    → Unpacking x s b memory₀ words memory count q → b .size ≤ q → length words ≡ length (slotParcel x s) → memory ≡ unpack memory₀ (slotParcel x s) words
+unpacked x ok s b to w memory₀ words memory count q p h e =
+    let z : q ≡ b .size = omega (arith, p .low) in
+    let k : count ≡ length words = p .count-is ∙ ap (λ (a : ℕ). length (walked x s b a)) z ∙ ap length (sym (parcel-is x ok s b to w)) ∙ sym e in
+    p .is
+    ∙ ap (λ (a : ℕ). unpack memory₀ (walked x s b a) (take count words)) z
+    ∙ ap (λ (a : ℕ). unpack memory₀ (walked x s b (b .size)) (take a words)) k
+    ∙ ap (unpack memory₀ (walked x s b (b .size))) (take-length words)
+    ∙ ap (λ (a : List ℕ). unpack memory₀ a words) (sym (parcel-is x ok s b to w))
+
+-- ---- calculating
+
+pub record Calculating (x : Nest) (b : Bounds) (source memory₀ memory : List ℕ) (q : ℕ) : Type 0 where
+  pub low : q ≤ b .size
+  pub is : memory ≡ storeAll (value x source) memory₀ (tabulate (boxCell x (b .tile)) q)
+
+module _ (x : Nest) (b : Bounds) (source memory₀ : List ℕ) where
+  pub calculating-none : Calculating x b source memory₀ memory₀ 0
+  unfolding storeAll tabulate
+  calculating-none = record { low = omega arith; is = refl }
+
+  module _ (memory : List ℕ) (q : ℕ) (p : Calculating x b source memory₀ memory q) where
+    pub calculating-long : length memory ≡ length memory₀
+    calculating-long = ap length (p .is) ∙ store-length (value x source) (tabulate (boxCell x (b .tile)) q) memory₀
+
+    pub calculating-more : (c v : ℕ) → q < b .size → c ≡ boxCell x (b .tile) q → v ≡ value x source memory c → Calculating x b source memory₀ (set memory c v) (q + 1)
+    unfolding storeAll tabulate
+    calculating-more c v l k e =
+        record {
+          low = omega arith;
+          is = rw (add-one q, store-append (value x source) memory₀ (tabulate (boxCell x (b .tile)) q) (boxCell x (b .tile) q ∷ []), ← p .is, e, k);
+        }
+
+  pub calculated : (ok : Accepted x) (memory : List ℕ) (q t : ℕ) → Calculating x b source memory₀ memory q → Bounded x b → b .tile ≡ t → b .size ≤ q
+      → memory ≡ storeAll (value x source) memory₀ (cellsOf x t)
+  calculated ok memory q t p is e h =
+      let z : q ≡ boxSize x (b .tile) = omega (arith, p .low, is .size) in
+      p .is
+      ∙ ap (λ (a : ℕ). storeAll (value x source) memory₀ (tabulate (boxCell x (b .tile)) a)) z
+      ∙ ap (storeAll (value x source) memory₀) (sym (cellsOf-box x ok (b .tile) (is .low)))
+      ∙ ap (λ (a : ℕ). storeAll (value x source) memory₀ (cellsOf x a)) e
+
+-- ---- the sweep
+
+pub record Sweeping (x : Nest) (source grid₀ grid : List ℕ) (c : ℕ) : Type 0 where
+  pub low : c ≤ cells x
+  pub is : grid ≡ sweepTo (planOf x) source c ++ drop c grid₀
+
+sweepTo-length : (p : Plan) (source : List ℕ) (c : ℕ) → length (sweepTo p source c) ≡ c
+unfolding sweepTo
+sweepTo-length p source zero = refl
+sweepTo-length p source (suc c) = let a = sweepTo-length p source c in simp length-append (omega arith)
+
+module _ (x : Nest) (source grid₀ : List ℕ) where
+  pub sweeping-none : Sweeping x source grid₀ grid₀ 0
+  unfolding sweepTo
+  sweeping-none = record { low = omega arith; is = refl }
+
+  module _ (long : length grid₀ ≡ cells x) (grid : List ℕ) (c : ℕ) (p : Sweeping x source grid₀ grid c) where
+    done : List ℕ
+    done = sweepTo (planOf x) source c
+
+    count : length (sweepTo (planOf x) source c) ≡ c
+    count = sweepTo-length (planOf x) source c
+
+    pub sweeping-long : length grid ≡ cells x
+    sweeping-long = omega (arith, simp length-append at (ap length (p .is)), count, length-drop c grid₀, p .low)
+
+    pub sweeping-more : Sound (planOf x) → c < cells x → (v : ℕ) → v ≡ value x source grid c → Sweeping x source grid₀ (set grid c v) (c + 1)
+    unfolding sweepTo
+    sweeping-more sound h v e =
+        record { low = omega arith; is = ap (λ (z : List ℕ). set z c v) (p .is) ∙ step ∙ ap (λ (a : ℕ). (sweepTo (planOf x) source c ++ (a ∷ [])) ++ drop (c + 1) grid₀) same ∙ rw (add-one c) refl }
+      where
+        same : v ≡ value x source (sweepTo (planOf x) source c) c
+        same =
+            e ∙ sound .local source grid (sweepTo (planOf x) source c) c h
+            (λ r k. ap (λ (z : List ℕ). getD z r 0) (p .is)
+            ∙ List·getD-append (sweepTo (planOf x) source c) (drop c grid₀) 0 r (omega (arith, count, sound .earlier c r h k)))
+
+        step : set (sweepTo (planOf x) source c ++ drop c grid₀) c v ≡ (sweepTo (planOf x) source c ++ (v ∷ [])) ++ drop (c + 1) grid₀
+        step = rw count at (push (sweepTo (planOf x) source c) grid₀ v (omega (arith, count)))
+
+    pub swept : cells x ≤ c → grid ≡ sweep (planOf x) source
+    swept h =
+        let z : c ≡ cells x = omega (arith, p .low) in
+        let y : c ≡ length grid₀ = omega arith in
+        p .is ∙ ap (λ (a : ℕ). sweepTo (planOf x) source c ++ drop a grid₀) y ∙ ap (λ (a : List ℕ). sweepTo (planOf x) source c ++ a) (drop-length grid₀) ∙ append-nil _ ∙ ap (sweepTo (planOf x) source) z

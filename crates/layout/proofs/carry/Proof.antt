@@ -1,0 +1,28 @@
+use borrow.Author.Needs.{needs}
+use native.Mathlib.Omega.{arith}
+use Prim.Native.Nat.{ℕ, _+_, _-_, _*_, _/_, _%_, _≤_, _<_}
+use mathlib.Core.Path.{_≡_, refl, sym, ap, _∙_}
+use lib.ListN.{length, getD}
+use mathlib.Core.Bool.{false≢true}
+use borrow.Author.Tests.{le-ltb, lt-ltb}
+use borrow.Author.Needs.{needs}
+use Rattle.layout.proofs.carry.Statement.{statement}
+use Rattle.layout.proofs.carry.Tie as tie
+use Rattle.layout.proofs.carry.Reads as reads
+use Rattle.layout.proofs.carry.Lts as lts
+use Rattle.layout.proofs.split.Reads as split-reads
+
+add-moved : tie.Need-add-moved
+add-moved c = search needs
+
+returns : tie.Need-returns
+returns c = record { inside = sym (le-ltb _ _ (c .if1 .taken)); tile = λ e. absurd (false≢true e) }
+
+split-requires : tie.Need-split-requires
+split-requires c κs = search needs
+
+returns-2 : tie.Need-returns-2
+returns-2 c = record { inside = sym (lt-ltb _ _ (c .before .if1 .left)); tile = λ e. c .split .ensures .tile }
+
+pub carry-spec : {M : Type 1} → statement M
+carry-spec = tie.close (tie.spec add-moved returns split-requires returns-2)

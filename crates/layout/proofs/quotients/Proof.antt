@@ -1,0 +1,74 @@
+use borrow.Author.Needs.{needs}
+use native.Mathlib.Omega.{arith}
+use Prim.Native.Nat.{ℕ, _+_, _-_, _*_, _/_, _%_, _≤_, _<_}
+use mathlib.Core.Path.{_≡_, refl, sym, ap, _∙_}
+use lib.ListN.{length, getD}
+use Rattle.nest.specs.Nest.{tileCount, tileLength}
+use native.Mathlib.Nat.{div-le-self}
+use Rattle.layout.proofs.Loops.{Filled, filled-none, filled-more, filled-end}
+use Rattle.layout.proofs.quotients.Statement.{statement}
+use Rattle.layout.proofs.quotients.Tie as tie
+use Rattle.layout.proofs.quotients.Reads as reads
+use Rattle.layout.proofs.quotients.Lts as lts
+use Rattle.layout.proofs.split.Reads as split-reads
+
+abbrev Inv-loop : tie.InvT-loop
+Inv-loop nest at tile₀ n j₀ tile j = Filled (λ i. getD at i 0 / tileLength nest i) n tile j
+
+abbrev μ-loop : tie.MeasureT-loop
+μ-loop nest at tile₀ n j₀ tile j = n - j
+
+loop-holds : tie.Need-loop-holds Inv-loop μ-loop
+loop-holds c = filled-none _ _ _ (omega arith)
+
+mul-split : tie.Need-mul-split Inv-loop μ-loop
+mul-split c = search needs
+
+array-read-split : tie.Need-array-read-split Inv-loop μ-loop
+array-read-split c = search needs
+
+mul-split-2 : tie.Need-mul-split-2 Inv-loop μ-loop
+mul-split-2 c = search needs
+
+element-copy-out-split : tie.Need-element-copy-out-split Inv-loop μ-loop
+element-copy-out-split c = search needs
+
+split-requires : tie.Need-split-requires Inv-loop μ-loop
+split-requires c κs = (c .before .before .before .pre .1 _ (omega arith), c .before .before .before .pre .0 .tiled _ (omega arith))
+
+mul-tile : tie.Need-mul-tile Inv-loop μ-loop
+mul-tile c = search needs
+
+array-write-tile : tie.Need-array-write-tile Inv-loop μ-loop
+array-write-tile c = search needs
+
+add-j : tie.Need-add-j Inv-loop μ-loop
+add-j c = search needs
+
+loop-less : tie.Need-loop-less Inv-loop μ-loop
+loop-less c = search needs
+
+loop-again : tie.Need-loop-again Inv-loop μ-loop
+loop-again c = filled-more _ _ _ _ _ (c .before .before .before .loop .inv) (c .before .before .loop-test .taken) (c .before .before .before .before .pre .0 .dimensions-most) (c .split .ensures .tile)
+
+returns : tie.Need-returns Inv-loop μ-loop
+returns c = filled-end _ _ _ _ (c .before .loop .inv) (omega arith)
+
+pub quotients-spec : {M : Type 1} → statement M
+quotients-spec =
+    tie.close
+    (tie.spec
+    Inv-loop
+    μ-loop
+    loop-holds
+    mul-split
+    array-read-split
+    mul-split-2
+    element-copy-out-split
+    split-requires
+    mul-tile
+    array-write-tile
+    add-j
+    loop-less
+    loop-again
+    returns)

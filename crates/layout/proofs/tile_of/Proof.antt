@@ -1,0 +1,38 @@
+use borrow.Author.Needs.{needs}
+use native.Mathlib.Omega.{arith}
+use Prim.Native.Nat.{ℕ, _+_, _-_, _*_, _/_, _%_, _≤_, _<_}
+use mathlib.Core.Path.{_≡_, refl, sym, ap, _∙_}
+use lib.ListN.{length, getD}
+use Rattle.plan.specs.Geometry.{tileOf}
+use Rattle.plan.proofs.Tiles.{tileOf-low}
+use Rattle.layout.proofs.Cells.{place-small, tile-ranked, tile-rank, quotients-are, quotient-within}
+use borrow.Author.Needs.{needs}
+use Rattle.layout.proofs.tile_of.Statement.{statement}
+use Rattle.layout.proofs.tile_of.Tie as tie
+use Rattle.layout.proofs.tile_of.Reads as reads
+use Rattle.layout.proofs.tile_of.Lts as lts
+use Rattle.layout.proofs.cell_of.Reads as cell-of-reads
+use Rattle.layout.proofs.quotients.Reads as quotients-reads
+use Rattle.layout.proofs.rank.Reads as rank-reads
+
+cell-of-requires : tie.Need-cell-of-requires
+cell-of-requires c κs = (c .pre .0 .accepted, c .pre .1)
+
+quotients-requires : tie.Need-quotients-requires
+quotients-requires c κs = (c .before .before .pre .0 .accepted, place-small _ (c .before .before .pre .0 .accepted) _ _ (c .before .cell-of .ensures .place))
+
+rank-requires : tie.Need-rank-requires
+rank-requires c κs = tile-ranked _ (c .before .before .before .before .pre .0 .accepted) (c .before .before .before .before .args .sizes .across) (record { each = c .before .before .before .before .pre .0 .across }) _ _
+    (quotients-are _ (c .before .before .before .before .pre .0 .accepted) _ _ _ (c .before .before .before .cell-of .ensures .place) (c .before .quotients .ensures))
+    (quotient-within _ (c .before .before .before .before .pre .0 .accepted) (c .before .before .before .before .args .cell))
+
+returns : tie.Need-returns
+unfolding tileOf
+returns c =
+    let e = c .rank .ensures
+    ∙ tile-rank _ (c .before .before .before .before .before .pre .0 .accepted) (c .before .before .before .before .before .args .sizes .across) (record { each = c .before .before .before .before .before .pre .0 .across }) _ _
+    (quotients-are _ (c .before .before .before .before .before .pre .0 .accepted) _ _ _ (c .before .before .before .before .cell-of .ensures .place) (c .before .before .quotients .ensures)) in
+    (e, rw e (tileOf-low _ (c .before .before .before .before .before .pre .0 .accepted) (c .before .before .before .before .before .args .cell)))
+
+pub tile-of-spec : {M : Type 1} → statement M
+tile-of-spec = tie.close (tie.spec cell-of-requires quotients-requires rank-requires returns)

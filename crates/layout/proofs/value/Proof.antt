@@ -1,0 +1,26 @@
+use borrow.Author.Needs.{needs}
+use native.Mathlib.Omega.{arith}
+use Prim.Native.Nat.{ℕ, _+_, _-_, _*_, _/_, _%_, _≤_, _<_}
+use mathlib.Core.Path.{_≡_, refl, sym, ap, _∙_}
+use lib.ListN.{length, getD}
+use Rattle.plan.specs.Geometry.{value}
+use Rattle.layout.proofs.Cells.{relocated}
+use borrow.Author.Needs.{needs}
+use Rattle.layout.proofs.value.Statement.{statement}
+use Rattle.layout.proofs.value.Tie as tie
+use Rattle.layout.proofs.value.Reads as reads
+use Rattle.layout.proofs.value.Lts as lts
+use Rattle.layout.proofs.cell_of.Reads as cell-of-reads
+use Rattle.layout.proofs.value_at.Reads as value-at-reads
+
+cell-of-requires : tie.Need-cell-of-requires
+cell-of-requires c κs = (c .before .before .pre .0 .accepted, c .before .before .pre .1 .0)
+
+value-at-requires : tie.Need-value-at-requires
+value-at-requires c κs = (c .before .before .before .pre .0 .accepted, (relocated _ _ _ (c .cell-of .ensures), c .before .before .before .pre .1 .1))
+
+returns : tie.Need-returns
+returns c = c .value-at .ensures ∙ ap (value _ _ _) (c .before .cell-of .ensures .number)
+
+pub value-spec : {M : Type 1} → statement M
+value-spec = tie.close (tie.spec cell-of-requires value-at-requires returns)

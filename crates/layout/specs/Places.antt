@@ -1,0 +1,84 @@
+-- What the functions below hand to each other: places as arrays of four, the box of a tile's cells, tests and reads of a place.
+-- No sentence of document 01; proofs/ ties each to Geometry and Messages.
+use Prim.Native.Nat.{ℕ, _+_, _*_, _-_, _/_, _%_, _≤_, _<_}
+use mathlib.Core.Path.{_≡_}
+use mathlib.Core.Bool.{Bool, true}
+use mathlib.Core.List.{List}
+use lib.ListN.{getD}
+use lib.Dec.{ltb, leb, eqb}
+use Rattle.base.specs.Tests.{_and_, pick, every, product}
+use Rattle.nest.specs.declared.Nest.{Nest}
+use Rattle.nest.specs.Nest.{lengthOf, tileLength, component, cells, tiles}
+use Rattle.plan.specs.Geometry.{rank, place, cellPlace, tilePlace}
+use Rattle.plan.specs.Messages.{ahead, slotTile, slotDirection}
+use Rattle.plan.specs.Box.{boxLength, boxSize}
+use Rattle.layout.specs.declared.Cell.{Cell}
+use Rattle.layout.specs.declared.Bounds.{Bounds}
+use Rattle.layout.specs.declared.Divided.{Divided}
+use Rattle.layout.specs.declared.Carried.{Carried}
+
+abbrev pub nth : List ℕ → ℕ → ℕ
+nth l j = getD l j 0
+
+-- the array has the first n components of f
+pub record Has (l : List ℕ) (f : ℕ → ℕ) (n : ℕ) : Type 0 where
+  pub each : (j : ℕ) → j < n → getD l j 0 ≡ f j
+
+-- small products, and places that may stand one beyond the last
+pub record Countable (N : List ℕ) (left : ℕ) : Type 0 where
+  pub low : left ≤ 4
+  pub positive : (j : ℕ) → j < left → 1 ≤ getD N j 0
+  pub few : product (nth N) left ≤ 16384
+
+pub record Ranked (N i : List ℕ) (left : ℕ) : Type 0 where
+  pub counts : Countable N left
+  pub within : (j : ℕ) → j < left → getD i j 0 ≤ getD N j 0
+
+pub record Places (N from : List ℕ) (left : ℕ) : Type 0 where
+  pub low : left ≤ 4
+  pub positive : (j : ℕ) → j < left → 1 ≤ getD N j 0
+  pub small : (j : ℕ) → j < left → getD from j 0 + getD N j 0 ≤ 4096
+
+-- the place of n, counted from another place
+pub record Placed (N from : List ℕ) (n left : ℕ) (r : List ℕ) : Type 0 where
+  pub first : (j : ℕ) → j < left → getD r j 0 ≡ getD from j 0 + place (nth N) left n j
+  pub rest : (j : ℕ) → left ≤ j → getD r j 0 ≡ getD from j 0
+
+-- a component's tile, and its place there
+pub record Splits (a k : ℕ) (r : Divided) : Type 0 where
+  pub tile : r .tile ≡ a / k
+  pub rest : r .rest ≡ a % k
+
+-- a component moved by d: it stays inside, and then in which tile it is
+pub record Carries (a d n k : ℕ) (r : Carried) : Type 0 where
+  pub inside : r .inside ≡ ltb (a + d) n
+  pub tile : r .inside ≡ true → r .tile ≡ (a + d) / k
+
+-- a cell's number with its place
+pub record Located (x : Nest) (c : ℕ) (r : Cell) : Type 0 where
+  pub low : c < cells x
+  pub number : r .number ≡ c
+  pub place : Has (r .place) (cellPlace x c) (x .dimensions)
+
+-- the box of a tile's cells
+pub record Bounded (x : Nest) (b : Bounds) : Type 0 where
+  pub low : b .tile < tiles x
+  pub corner : Has (b .corner) (λ j. tilePlace x (b .tile) j * tileLength x j) (x .dimensions)
+  pub lengths : Has (b .lengths) (boxLength x (b .tile)) (x .dimensions)
+  pub size : b .size ≡ boxSize x (b .tile)
+
+-- the place that a slot's parcel is bound for: its tile's, moved by its direction
+abbrev pub bound : Nest → ℕ → ℕ → ℕ
+bound x s j = tilePlace x (slotTile x s) j + ahead x (slotDirection x s) j
+
+-- distance e puts the place inside the nest, in a tile that is `to` in the spread dimensions
+unfoldable pub puts : Nest → List ℕ → List ℕ → ℕ → Bool
+puts x to i e =
+    every (λ j. ltb (getD i j 0 + component x e j) (lengthOf x j)) (x .dimensions)
+    and every (λ j. eqb ((getD i j 0 + component x e j) / tileLength x j) (getD to j 0)) (x .spread)
+
+-- the word that distance e reads at the place
+unfoldable pub wordRead : Nest → List ℕ → List ℕ → ℕ → ℕ
+wordRead x memory i e =
+    pick (every (λ j. leb (component x e j) (getD i j 0)) (x .dimensions))
+    (getD memory (rank (lengthOf x) (λ j. getD i j 0 - component x e j) (x .dimensions)) 0) (x .boundary)
