@@ -1,5 +1,15 @@
 // The table of message lengths, filled once in a call: numbers, offsets, totals, sends and dues are scans of it.
 ghost use mathlib.Core.Path.{_≡_};
+ghost use Prim.Native.Nat.{_≤_, _<_};
+ghost use lib.ListN.{length, getD};
+ghost use Rattle.machine.specs.Plan.{count, words, tilesOf};
+ghost use Rattle.nest.specs.Nest.{Accepted, tiles};
+ghost use Rattle.plan.specs.Messages.{slots, slotParcel, planOf};
+ghost use Rattle.layout.specs.Sizes.{Sized};
+ghost use Rattle.table.specs.Table.{Table, Placed, atEnd};
+ghost use Rattle.table.specs.Summary.{figuresOf, noFigures, summaryOf, lineOf, noLine, messageLineOf};
+use layout::Sizes;
+use nest::Nest;
 
 // Where a message is found: its slot, its number, its place in the buffer.
 pub struct Place {
@@ -9,13 +19,306 @@ pub struct Place {
     pub words: usize,
 }
 
-pub struct Totals {
+pub struct Total {
     pub messages: usize,
     pub words: usize,
 }
 
-pub fn keep(x: usize) -> usize
-    ensures { λ r. ⌜ r ≡ x ⌝ }
+// What is said of a plan as a whole; number is 0, or why the recipe is refused.
+pub struct Figures {
+    pub number: u32,
+    pub tiles: u32,
+    pub messages: u32,
+    pub words: u32,
+    pub steps: u32,
+}
+
+// What is said of one message: its tiles, their processors, its words.
+pub struct MessageLine {
+    pub number: u32,
+    pub sender: u32,
+    pub taker: u32,
+    pub from: u32,
+    pub to: u32,
+    pub words: u32,
+}
+
+// The length of each slot's parcel.
+pub fn fill(nest: Nest, sizes: Sizes, lens: &mut [u16; 7168])
+    requires { ⌜ Sized nest sizes × (length (now lens) ≡ 7168) ⌝ }
+    ensures { λ _. ⌜ Table nest (now (lens .exit)) ⌝ }
 {
-    x
+    let slots = sizes.tiles * sizes.directions;
+    let mut s = 0;
+    while s < slots {
+        lens[s] = layout::parcel_length(nest, sizes, s) as u16;
+        s += 1;
+    }
+}
+
+// The length of a slot's parcel, by the table.
+fn length_at(nest: Nest, lens: &[u16; 7168], slot: usize) -> usize
+    requires { ⌜ Accepted nest × (Table nest (now lens) × (slot < slots nest)) ⌝ }
+    ensures { λ r. ⌜ (r ≡ length (slotParcel nest slot)) × (r ≤ 16384) ⌝ }
+{
+    lens[slot] as usize
+}
+
+// How many messages and words there are.
+pub fn totals(nest: Nest, sizes: Sizes, lens: &[u16; 7168]) -> Total
+    requires { ⌜ Sized nest sizes × Table nest (now lens) ⌝ }
+    ensures { λ r. ⌜ (r .messages ≡ count (planOf nest)) × ((r .words ≡ words (planOf nest)) × ((r .messages ≤ 7168) × (r .words ≤ 117440512))) ⌝ }
+{
+    let slots = sizes.tiles * sizes.directions;
+    let mut s = 0;
+    let mut messages = 0;
+    let mut words = 0;
+    while s < slots {
+        let length = length_at(nest, lens, s);
+        if length != 0 {
+            messages += 1;
+        }
+        words += length;
+        s += 1;
+    }
+    Total {
+        messages: messages,
+        words: words,
+    }
+}
+
+// How many messages have the tile at this end: 0 the sender, else the taker.
+pub fn count_at(nest: Nest, sizes: Sizes, lens: &[u16; 7168], tile: usize, side: usize) -> usize
+    requires { ⌜ Sized nest sizes × Table nest (now lens) ⌝ }
+    ensures { λ r. ⌜ (r ≡ length (atEnd side (planOf nest) tile)) × (r ≤ 7168) ⌝ }
+{
+    let end = sizes.tiles * sizes.directions;
+    let mut s = 0;
+    let mut n = 0;
+    while s < end {
+        if length_at(nest, lens, s) != 0 {
+            if layout::end_of(nest, sizes, s, side) == tile {
+                n += 1;
+            }
+        }
+        s += 1;
+    }
+    n
+}
+
+// The j-th of them.
+pub fn nth_at(
+    nest: Nest,
+    sizes: Sizes,
+    lens: &[u16; 7168],
+    tile: usize,
+    side: usize,
+    j: usize,
+) -> Place
+    requires { ⌜ Sized nest sizes × Table nest (now lens) ⌝ }
+    requires { ⌜ j < length (atEnd side (planOf nest) tile) ⌝ }
+    ensures { λ r. ⌜ Placed nest (getD (atEnd side (planOf nest) tile) j 0) r ⌝ }
+{
+    let slots = sizes.tiles * sizes.directions;
+    let mut s = 0;
+    let mut n = 0;
+    let mut number = 0;
+    let mut offset = 0;
+    while s < slots {
+        let w = length_at(nest, lens, s);
+        if w != 0 {
+            if layout::end_of(nest, sizes, s, side) == tile {
+                if n == j {
+                    return Place {
+                        slot: s,
+                        number: number,
+                        offset: offset,
+                        words: w,
+                    };
+                }
+                n += 1;
+            }
+            number += 1;
+        }
+        offset += w;
+        s += 1;
+    }
+    Place {
+        slot: 0,
+        number: 0,
+        offset: 0,
+        words: 0,
+    }
+}
+
+// Message m.
+pub fn nth(nest: Nest, sizes: Sizes, lens: &[u16; 7168], m: usize) -> Place
+    requires { ⌜ Sized nest sizes × Table nest (now lens) ⌝ }
+    requires { ⌜ m < count (planOf nest) ⌝ }
+    ensures { λ r. ⌜ Placed nest m r ⌝ }
+{
+    let slots = sizes.tiles * sizes.directions;
+    let mut slot = 0;
+    let mut number = 0;
+    let mut offset = 0;
+    while slot < slots {
+        let w = length_at(nest, lens, slot);
+        if w != 0 {
+            if number == m {
+                return Place {
+                    slot: slot,
+                    number: m,
+                    offset: offset,
+                    words: w,
+                };
+            }
+            number += 1;
+        }
+        offset += w;
+        slot += 1;
+    }
+    Place {
+        slot: 0,
+        number: 0,
+        offset: 0,
+        words: 0,
+    }
+}
+
+// How many tiles the processor has.
+pub fn tile_count(nest: Nest, sizes: Sizes, processor: usize) -> usize
+    requires { ⌜ Sized nest sizes ⌝ }
+    ensures { λ r. ⌜ (r ≡ length (tilesOf (planOf nest) processor)) × (r ≤ 1024) ⌝ }
+{
+    let tiles = sizes.tiles;
+    let mut t = 0;
+    let mut n = 0;
+    while t < tiles {
+        if layout::processor_of(nest, sizes, t) == processor {
+            n += 1;
+        }
+        t += 1;
+    }
+    n
+}
+
+// Its tile after so many finished ones.
+pub fn tile_at(nest: Nest, sizes: Sizes, processor: usize, finished: usize) -> usize
+    requires { ⌜ Sized nest sizes × (finished < length (tilesOf (planOf nest) processor)) ⌝ }
+    ensures { λ r. ⌜ (r ≡ getD (tilesOf (planOf nest) processor) finished 0) × (r < tiles nest) ⌝ }
+{
+    let tiles = sizes.tiles;
+    let mut t = 0;
+    let mut n = 0;
+    while t < tiles {
+        if layout::processor_of(nest, sizes, t) == processor {
+            if n == finished {
+                return t;
+            }
+            n += 1;
+        }
+        t += 1;
+    }
+    0
+}
+
+// The plan's figures.
+pub fn figures_of(nest: Nest, sizes: Sizes, lens: &[u16; 7168]) -> Figures
+    requires { ⌜ Sized nest sizes × Table nest (now lens) ⌝ }
+    ensures { λ r. ⌜ r ≡ figuresOf (planOf nest) ⌝ }
+{
+    let tiles = sizes.tiles;
+    let total = totals(nest, sizes, lens);
+    Figures {
+        number: 0,
+        tiles: tiles as u32,
+        messages: total.messages as u32,
+        words: total.words as u32,
+        steps: (2 * tiles + 2 * total.messages) as u32,
+    }
+}
+
+// The line of message m.
+pub fn line_of(nest: Nest, sizes: Sizes, lens: &[u16; 7168], m: usize) -> MessageLine
+    requires { ⌜ Sized nest sizes × Table nest (now lens) ⌝ }
+    requires { ⌜ m < count (planOf nest) ⌝ }
+    ensures { λ r. ⌜ r ≡ lineOf (planOf nest) m ⌝ }
+{
+    let place = nth(nest, sizes, lens, m);
+    let slot = place.slot;
+    let sender = layout::end_of(nest, sizes, slot, 0);
+    let taker = layout::end_of(nest, sizes, slot, 1);
+    let from = layout::processor_of(nest, sizes, sender);
+    let to = layout::processor_of(nest, sizes, taker);
+    MessageLine {
+        number: 0,
+        sender: sender as u32,
+        taker: taker as u32,
+        from: from as u32,
+        to: to as u32,
+        words: place.words as u32,
+    }
+}
+
+// Figures and line where the recipe or the message's number is refused.
+fn no_figures(number: u32) -> Figures
+    ensures { λ r. ⌜ r ≡ noFigures number ⌝ }
+{
+    Figures {
+        number: number,
+        tiles: 0,
+        messages: 0,
+        words: 0,
+        steps: 0,
+    }
+}
+
+fn no_line(number: u32) -> MessageLine
+    ensures { λ r. ⌜ r ≡ noLine number ⌝ }
+{
+    MessageLine {
+        number: number,
+        sender: 0,
+        taker: 0,
+        from: 0,
+        to: 0,
+        words: 0,
+    }
+}
+
+// Offered to callers: the figures of the recipe's plan.
+pub fn summary(encoded: &[u8]) -> Figures
+    ensures { λ r. ⌜ r ≡ summaryOf (now (encoded .entry)) ⌝ }
+{
+    let reading = nest::read(encoded);
+    let number = reading.number;
+    if number != 0 {
+        return no_figures(number);
+    }
+    let nest = reading.nest;
+    let sizes = layout::sizes_of(nest);
+    let mut lens = [0u16; 7168];
+    fill(nest, sizes, &mut lens);
+    figures_of(nest, sizes, &lens)
+}
+
+// Offered to callers: the line of message m of the recipe's plan.
+pub fn message(encoded: &[u8], m: u32) -> MessageLine
+    ensures { λ r. ⌜ r ≡ messageLineOf (now (encoded .entry)) m ⌝ }
+{
+    let reading = nest::read(encoded);
+    let number = reading.number;
+    if number != 0 {
+        return no_line(number);
+    }
+    let nest = reading.nest;
+    let sizes = layout::sizes_of(nest);
+    let mut lens = [0u16; 7168];
+    fill(nest, sizes, &mut lens);
+    let total = totals(nest, sizes, &lens);
+    let at = m as usize;
+    if at >= total.messages {
+        return no_line(11);
+    }
+    line_of(nest, sizes, &lens, at)
 }

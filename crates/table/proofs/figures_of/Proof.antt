@@ -1,0 +1,41 @@
+use borrow.Author.Needs.{needs}
+use Rattle.table.proofs.Answers as L
+use Rattle.table.proofs.figures_of.Statement.{statement}
+use Rattle.table.proofs.figures_of.Tie as tie
+use Rattle.table.proofs.figures_of.Reads as reads
+use Rattle.table.proofs.figures_of.Lts as lts
+use Rattle.table.proofs.totals.Reads as totals-reads
+
+totals-requires : tie.Need-totals-requires
+totals-requires c κs = search needs
+
+cast-t6 : tie.Need-cast-t6
+cast-t6 c = search needs
+
+cast-t7 : tie.Need-cast-t7
+cast-t7 c = search needs
+
+cast-t8 : tie.Need-cast-t8
+cast-t8 c = search needs
+
+mul-t9 : tie.Need-mul-t9
+mul-t9 c = search needs
+
+mul-t10 : tie.Need-mul-t10
+mul-t10 c = search needs
+
+add-t11 : tie.Need-add-t11
+add-t11 c = search needs
+
+cast-t12 : tie.Need-cast-t12
+cast-t12 c = search needs
+
+returns : tie.Need-returns
+returns c =
+    let start = c .before .before .before .before in
+    L.figures-are (start .args .nest) (start .args .sizes .tiles) (c .before .before .before .totals .result .messages) (c .before .before .before .totals .result .words) (start .pre .0 .tiles) (c .before .before .before .totals .ensures .0) (c .before .before .before .totals .ensures .1 .0)
+
+pub figures-of-spec : {M : Type 1} → statement M
+figures-of-spec =
+    tie.close
+    (tie.spec totals-requires cast-t6 cast-t7 cast-t8 mul-t9 mul-t10 add-t11 cast-t12 returns)
