@@ -1,0 +1,63 @@
+-- Where a recipe is accepted and the areas have their lengths, each call is the machine's step; a fresh start that gave 0 says that it is so.
+use Prim.Native.Nat.{ℕ, _*_}
+use mathlib.Core.Path.{_≡_, refl, sym, ap, _∙_}
+use mathlib.Core.Bool.{Bool, true, false}
+use mathlib.Core.List.{List, [], _∷_, _++_}
+use native.Mathlib.Decide.{ℕ-discrete}
+use native.Mathlib.Omega.{arith}
+use lib.ListN.{length, set}
+use lib.Dec.{eqb}
+use borrow.Author.Tests.{eq-eqb}
+use Rattle.base.specs.Tests.{_and_, not}
+use Rattle.base.specs.Numbers.{Line, line, firstOf}
+use Rattle.base.proofs.Tests.{not-true, true-not}
+use Rattle.base.proofs.Numbers.{first-false, none-first, first-some, first-behind}
+use Rattle.machine.specs.Machine.{State, stateOf, Answered, answered, carryOut, nextAction, turnLines, turn, deliverLines, deliver, collectLines, collected, collect, fresh}
+use Rattle.nest.specs.Recipe.{readLines}
+use Rattle.engine.specs.Calls.{answer, recipe, areas, areaLines, freshCall, turnCall, deliverCall, collectCall}
+use Rattle.engine.proofs.Lines.{numbered, and-right, call-done}
+
+module _ (l source : List ℕ) (s : State) (z : firstOf (readLines l) ≡ 0) (a : areas (recipe l) source s ≡ true) where
+  behind : (more : List Line) → firstOf (readLines l ++ (areaLines (recipe l) source s ++ more)) ≡ firstOf more
+  behind more =
+      first-behind (readLines l) (areaLines (recipe l) source s ++ more) (numbered l) z
+      ∙ first-false 9 (not (areas (recipe l) source s)) more (not-true a)
+
+  pub turn-is : (b : ℕ) → turnCall l source s b ≡ turn (recipe l) source s b
+  unfolding turnCall turn
+  turn-is b = ap (λ (n : ℕ). answered n (carryOut (recipe l) source s b (nextAction (recipe l) s b)) s) (behind (turnLines (recipe l) s b))
+
+  pub deliver-is : (m : ℕ) → deliverCall l source s m ≡ deliver (recipe l) s m
+  unfolding deliverCall deliver
+  deliver-is m =
+      ap (λ (n : ℕ). answered n (stateOf (s .memories) (s .buffer) (s .progress) (set (s .status) m 2)) s) (behind (deliverLines (recipe l) s m))
+
+  pub collect-is : (grid : List ℕ) → length grid ≡ recipe l .cells → collectCall l source s grid ≡ collect (recipe l) s grid
+  unfolding collectCall collect
+  collect-is grid h =
+      ap (λ (t : Bool). answered (firstOf (readLines l ++ (line 9 (not t) ∷ collectLines (recipe l) s))) (collected (recipe l) s) grid)
+      (and-right (areas (recipe l) source s) (eqb (length grid) (recipe l .cells)) (eq-eqb _ _ h))
+      ∙ ap (λ (n : ℕ). answered n (collected (recipe l) s) grid) (behind (collectLines (recipe l) s))
+
+  pub fresh-is : freshCall l source s ≡ answer 0 (fresh (recipe l))
+  unfolding freshCall firstOf
+  fresh-is = sym (call-done l (areaLines (recipe l) source s) 0 (fresh (recipe l)) s z (first-false 9 (not (areas (recipe l) source s)) [] (not-true a)))
+
+front : (a b : List Line) → firstOf (a ++ b) ≡ 0 → firstOf a ≡ 0
+front a b e = go (ℕ-discrete (firstOf a) 0)
+  where
+    go : Dec (firstOf a ≡ 0) → firstOf a ≡ 0
+    go (yes q) = q
+    go (no q) = absurd (q (sym (first-some a b q) ∙ e))
+
+-- a fresh start that gave 0
+pub fresh-gave : (l source : List ℕ) (s : State) → freshCall l source s .number ≡ 0
+    → (firstOf (readLines l) ≡ 0) × (areas (recipe l) source s ≡ true)
+unfolding freshCall
+fresh-gave l source s e = (y, true-not (none-first 9 (not (areas (recipe l) source s)) [] (λ q. omega arith) (x y) .0))
+  where
+    y : firstOf (readLines l) ≡ 0
+    y = front (readLines l) (areaLines (recipe l) source s) e
+
+    x : firstOf (readLines l) ≡ 0 → firstOf (areaLines (recipe l) source s) ≡ 0
+    x h = sym (first-behind (readLines l) (areaLines (recipe l) source s) (numbered l) h) ∙ e

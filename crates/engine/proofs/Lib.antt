@@ -1,0 +1,4 @@
+pub mod Parts
+pub mod Stages
+pub mod Lines
+pub mod AsSteps

@@ -1,0 +1,381 @@
+-- Laws of the lines: areas and fit states, what reading gives, and each call by the line that counts.
+use Prim.Native.Nat.{ℕ, zero, suc, _+_, _*_, _≤_, _<_}
+use mathlib.Core.Path.{_≡_, refl, sym, ap, _∙_}
+use mathlib.Core.Logic.{_≢_}
+use mathlib.Core.Bool.{Bool, true, false}
+use mathlib.Core.List.{List, [], _∷_, _++_}
+use native.Mathlib.Nat.{mul-le-mul-right}
+use native.Mathlib.Omega.{arith}
+use lib.ListN.{length, getD, set, replicate}
+use lib.Dec.{ltb, leb, eqb}
+use borrow.Author.Tests.{eqb-true, eq-eqb, ne-eqb, lt-ltb, le-ltb}
+use Rattle.base.specs.Tests.{_and_, not, pick, every, some}
+use Rattle.base.specs.Numbers.{Line, line, firstOf}
+use Rattle.base.proofs.Tests.{both, and-true, and-left, and-false, and-no, not-true, not-false, true-not, pick-true, is-false, never-both}
+use Rattle.base.proofs.Numbers.{first-true, first-false, none-first, Numbered, first-some, first-behind}
+use Rattle.machine.specs.Plan.{Plan, count, words}
+use Rattle.machine.specs.Machine as machine
+use Rattle.machine.specs.Machine.{State, stateOf, fitRecord, fit, tilesLeft, carryOut, nextAction, Answered, answered, turnLines, turn, deliverLines, collectLines, collected}
+use Rattle.nest.specs.declared.Nest.{Nest}
+use Rattle.nest.specs.Nest.{Accepted, cells, processors}
+use Rattle.plan.specs.Messages.{planOf}
+use Rattle.layout.specs.declared.Sizes.{Sizes}
+use Rattle.layout.specs.Sizes.{Sized}
+use Rattle.nest.specs.declared.Reading.{Reading}
+use Rattle.nest.specs.Recipe.{readLines, nestLines, nestOf, readingOf}
+use Rattle.engine.specs.Given.{Areas, Passed, progressOnly, unfitLines}
+use Rattle.engine.specs.Calls.{answer, areas, areaLines, freshCall, turnCall, deliverCall, collectCall, sweepCall}
+use Rattle.engine.proofs.Stages.{answered-no, answered-yes}
+
+-- ---- areas
+
+module _ (p : Plan) (source : List ℕ) (s : State) where
+  pub no-source : length source ≢ p .cells → false ≡ areas p source s
+  unfolding areas
+  no-source h = sym (and-false _ _ (ne-eqb _ _ h))
+
+  pub no-memories : length (s .memories) ≢ p .processors * p .cells → false ≡ areas p source s
+  unfolding areas
+  no-memories h = sym (and-no _ _ (and-false _ _ (ne-eqb _ _ h)))
+
+  pub no-buffer : length (s .buffer) ≢ words p → false ≡ areas p source s
+  unfolding areas
+  no-buffer h = sym (and-no _ _ (and-no _ _ (and-false _ _ (ne-eqb _ _ h))))
+
+  pub no-progress : length (s .progress) ≢ 3 * p .processors → false ≡ areas p source s
+  unfolding areas
+  no-progress h = sym (and-no _ _ (and-no _ _ (and-no _ _ (and-false _ _ (ne-eqb _ _ h)))))
+
+  pub by-status : length source ≡ p .cells → length (s .memories) ≡ p .processors * p .cells → length (s .buffer) ≡ words p
+      → length (s .progress) ≡ 3 * p .processors → eqb (length (s .status)) (count p) ≡ areas p source s
+  unfolding areas
+  by-status a b c d =
+      sym (and-left _ _ (eq-eqb _ _ a) ∙ and-left _ _ (eq-eqb _ _ b) ∙ and-left _ _ (eq-eqb _ _ c) ∙ and-left _ _ (eq-eqb _ _ d))
+
+  pub areas-are : areas p source s ≡ true → Areas p source s
+  unfolding areas
+  areas-are e =
+      let a = both e in
+      let b = both (a .1) in
+      let c = both (b .1) in
+      let d = both (c .1) in
+      record {
+        source = eqb-true _ _ (a .0);
+        memories = eqb-true _ _ (b .0);
+        buffer = eqb-true _ _ (c .0);
+        progress = eqb-true _ _ (d .0);
+        status = eqb-true _ _ (d .1);
+      }
+
+pub area-low : (x : Nest) (z : Sizes) → Sized x z → z .processors * z .cells ≤ 1048576
+area-low x z g = low (z .processors) (z .cells) (omega (arith, g .processors, g .accepted .processors-most)) (omega (arith, g .cells, g .accepted .cells-most))
+  where
+    low : (n c : ℕ) → n ≤ 64 → c ≤ 16384 → n * c ≤ 1048576
+    low n c h k = omega (arith, mul-le-mul-right c h)
+
+pub area-is : (x : Nest) (z : Sizes) → Sized x z → z .processors * z .cells ≡ processors x * cells x
+area-is x z g = ap (λ (n : ℕ). n * z .cells) (g .processors) ∙ ap (λ (n : ℕ). processors x * n) (g .cells)
+
+pub records-are : (x : Nest) (z : Sizes) → Sized x z → 3 * z .processors ≡ 3 * processors x
+records-are x z g = ap (λ (n : ℕ). 3 * n) (g .processors)
+
+-- ---- fit states
+
+module _ (p : Plan) (s : State) where
+  pub unfit-record : every (fitRecord p (progressOnly (s .progress))) (p .processors) ≡ false → fit p s ≡ false
+  unfolding fit fitRecord tilesLeft
+  unfit-record e = and-false _ _ e
+
+  pub unfit-status : length (s .status) ≡ count p → every (λ m. leb (getD (s .status) m 0) 3) (length (s .status)) ≡ false → fit p s ≡ false
+  unfolding fit
+  unfit-status h e = and-no _ _ (ap (every (λ m. leb (getD (s .status) m 0) 3)) (sym h) ∙ e)
+
+  pub fit-both : length (s .status) ≡ count p → every (fitRecord p (progressOnly (s .progress))) (p .processors) ≡ true
+      → every (λ m. leb (getD (s .status) m 0) 3) (length (s .status)) ≡ true → fit p s ≡ true
+  unfolding fit fitRecord tilesLeft
+  fit-both h a e = and-true a (ap (every (λ m. leb (getD (s .status) m 0) 3)) (sym h) ∙ e)
+
+-- ---- lines 9 and 10
+
+module _ (p : Plan) (source : List ℕ) (s : State) where
+  pub unfit-9 : areas p source s ≡ false → 9 ≡ firstOf (unfitLines p source s)
+  unfit-9 e = sym (first-true 9 _ _ (not-false e))
+
+  pub unfit-10 : areas p source s ≡ true → fit p s ≡ false → 10 ≡ firstOf (unfitLines p source s)
+  unfit-10 a e = sym (first-false 9 _ _ (not-true a) ∙ first-true 10 _ _ (not-false e))
+
+  pub unfit-0 : areas p source s ≡ true → fit p s ≡ true → 0 ≡ firstOf (unfitLines p source s)
+  unfolding firstOf pick
+  unfit-0 a e = rw (not-true a, not-true e)
+
+  pub unfit-none : (r : ℕ) → r ≡ firstOf (unfitLines p source s) → r ≡ 0 → (areas p source s ≡ true) × (fit p s ≡ true)
+  unfit-none r e z =
+      let a = none-first 9 (not (areas p source s)) (line 10 (not (fit p s)) ∷ []) (λ q. omega arith) (sym e ∙ z) in
+      let b = none-first 10 (not (fit p s)) [] (λ q. omega arith) (a .1) in
+      (true-not (a .0), true-not (b .0))
+
+  pub passed : (b r : ℕ) → r ≡ firstOf (unfitLines p source s) → r ≡ 0 → b < p .processors → Passed p source s b
+  passed b r e z h = let q = unfit-none r e z in record { areas = areas-are p source s (q .0); fit = q .1; processor = h }
+
+-- ---- what reading gives
+
+pub record Opened (l : List ℕ) (x : Nest) : Type 0 where
+  pub none : firstOf (readLines l) ≡ 0
+  pub is : x ≡ nestOf l
+
+module _ (l : List ℕ) (r : Reading) (e : r ≡ readingOf l) where
+  pub read-number : r .number ≡ firstOf (readLines l)
+  read-number = ap (λ (z : Reading). z .number) e
+
+  pub opened : r .number ≡ 0 → Opened l (r .nest)
+  opened h =
+      let n : firstOf (readLines l) ≡ 0 = sym read-number ∙ h in
+      record { none = n; is = ap (λ (z : Reading). z .nest) e ∙ pick-true _ _ _ (eq-eqb _ _ n) }
+
+pub numbered : (l : List ℕ) → Numbered (readLines l)
+unfolding readLines nestLines
+numbered l = (ne, (ne, (ne, (ne, (ne, (ne, (ne, (ne, tt))))))))
+  where
+    ne : {n : ℕ} → suc n ≢ 0
+    ne q = omega arith
+
+module _ {A : Type 0} (l : List ℕ) (more : List Line) (r : ℕ) (new old : A) where
+  -- the number is one of lines 1 to 8
+  pub call-read : r ≡ firstOf (readLines l) → r ≢ 0 → answer r old ≡ answered (firstOf (readLines l ++ more)) new old
+  call-read e h =
+      answered-no r new old h ∙ ap (λ (n : ℕ). answered n new old) (e ∙ sym (first-some (readLines l) more (λ q. h (e ∙ q))))
+
+  -- one of those behind them
+  pub call-later : firstOf (readLines l) ≡ 0 → r ≡ firstOf more → r ≢ 0 → answer r old ≡ answered (firstOf (readLines l ++ more)) new old
+  call-later z e h =
+      answered-no r new old h ∙ ap (λ (n : ℕ). answered n new old) (e ∙ sym (first-behind (readLines l) more (numbered l) z))
+
+  -- none of them
+  pub call-done : firstOf (readLines l) ≡ 0 → firstOf more ≡ 0 → answer 0 new ≡ answered (firstOf (readLines l ++ more)) new old
+  call-done z e = answered-yes _ new old (first-behind (readLines l) more (numbered l) z ∙ e)
+
+-- ---- the turn
+
+module _ (l source : List ℕ) (s : State) (b : ℕ) where
+  pub turn-read : (r : ℕ) → r ≡ firstOf (readLines l) → r ≢ 0 → answer r s ≡ turnCall l source s b
+  unfolding turnCall
+  turn-read r e h = call-read l _ r _ s e h
+
+  module _ (x : Nest) (o : Opened l x) where
+    turn-at : answered (firstOf (readLines l ++ (areaLines (planOf x) source s ++ turnLines (planOf x) s b)))
+        (carryOut (planOf x) source s b (nextAction (planOf x) s b)) s
+        ≡ turnCall l source s b
+    unfolding turnCall
+    turn-at =
+        ap
+        (λ (n : Nest).
+        answered (firstOf (readLines l ++ (areaLines (planOf n) source s ++ turnLines (planOf n) s b)))
+        (carryOut (planOf n) source s b (nextAction (planOf n) s b)) s)
+        (o .is)
+
+    module _ (r : ℕ) (e : r ≡ firstOf (unfitLines (planOf x) source s)) where
+      pub turn-unfit : r ≢ 0 → answer r s ≡ turnCall l source s b
+      turn-unfit h =
+          call-later l _ r _ s (o .none)
+          (e ∙ sym (first-some (unfitLines (planOf x) source s) _ (λ q. h (e ∙ q)))) h
+          ∙ turn-at
+
+      pub turn-beyond : r ≡ 0 → processors x ≤ b → answer 11 s ≡ turnCall l source s b
+      turn-beyond z h =
+          let q = unfit-none (planOf x) source s r e z in
+          call-later l _ 11 _ s (o .none)
+          (sym
+          (first-false 9 _ _ (not-true (q .0)) ∙ first-false 10 _ _ (not-true (q .1)) ∙ first-true 11 _ _ (not-false (le-ltb b (processors x) h))))
+          (λ k. omega arith)
+          ∙ turn-at
+
+      pub turn-steps : r ≡ 0 → (a : Answered State) → a ≡ turn (planOf x) source s b → a ≡ turnCall l source s b
+      unfolding turn
+      turn-steps z a t =
+          let q = unfit-none (planOf x) source s r e z in
+          t
+          ∙ ap (λ (n : ℕ). answered n (carryOut (planOf x) source s b (nextAction (planOf x) s b)) s)
+          (sym
+          (first-behind (readLines l) (areaLines (planOf x) source s ++ turnLines (planOf x) s b) (numbered l) (o .none)
+          ∙ first-false 9 (not (areas (planOf x) source s)) (turnLines (planOf x) s b) (not-true (q .0))))
+          ∙ turn-at
+
+-- ---- the delivery
+
+module _ (l source : List ℕ) (s : State) (m : ℕ) where
+  pub deliver-read : (r : ℕ) → r ≡ firstOf (readLines l) → r ≢ 0 → answer r s ≡ deliverCall l source s m
+  unfolding deliverCall
+  deliver-read r e h = call-read l _ r _ s e h
+
+  module _ (x : Nest) (o : Opened l x) where
+    deliver-at : answered (firstOf (readLines l ++ (areaLines (planOf x) source s ++ deliverLines (planOf x) s m)))
+        (stateOf (s .memories) (s .buffer) (s .progress) (set (s .status) m 2)) s
+        ≡ deliverCall l source s m
+    unfolding deliverCall
+    deliver-at =
+        ap
+        (λ (n : Nest).
+        answered (firstOf (readLines l ++ (areaLines (planOf n) source s ++ deliverLines (planOf n) s m)))
+        (stateOf (s .memories) (s .buffer) (s .progress) (set (s .status) m 2)) s)
+        (o .is)
+
+    module _ (r : ℕ) (e : r ≡ firstOf (unfitLines (planOf x) source s)) where
+      pub deliver-unfit : r ≢ 0 → answer r s ≡ deliverCall l source s m
+      deliver-unfit h =
+          call-later l _ r _ s (o .none)
+          (e ∙ sym (first-some (unfitLines (planOf x) source s) _ (λ q. h (e ∙ q)))) h
+          ∙ deliver-at
+
+      module _ (z : r ≡ 0) where
+        behind : firstOf (areaLines (planOf x) source s ++ deliverLines (planOf x) s m)
+            ≡ firstOf (line 11 (not (ltb m (count (planOf x)))) ∷ line 14 (not (eqb (getD (s .status) m 0) 1)) ∷ [])
+        behind = let q = unfit-none (planOf x) source s r e z in first-false 9 _ _ (not-true (q .0)) ∙ first-false 10 _ _ (not-true (q .1))
+
+        long : length (s .status) ≡ count (planOf x)
+        long = areas-are (planOf x) source s (unfit-none (planOf x) source s r e z .0) .status
+
+        pub deliver-beyond : length (s .status) ≤ m → answer 11 s ≡ deliverCall l source s m
+        deliver-beyond h =
+            call-later l _ 11 _ s (o .none)
+            (sym (behind ∙ first-true 11 _ _ (not-false (le-ltb m (count (planOf x)) (omega (arith, long)))))) (λ k. omega arith)
+            ∙ deliver-at
+
+        module _ (h : m < length (s .status)) where
+          known : firstOf (areaLines (planOf x) source s ++ deliverLines (planOf x) s m)
+              ≡ firstOf (line 14 (not (eqb (getD (s .status) m 0) 1)) ∷ [])
+          known = behind ∙ first-false 11 _ _ (not-true (lt-ltb m (count (planOf x)) (omega (arith, long))))
+
+          pub deliver-none : getD (s .status) m 0 ≢ 1 → answer 14 s ≡ deliverCall l source s m
+          deliver-none k =
+              call-later l _ 14 _ s (o .none) (sym (known ∙ first-true 14 _ _ (not-false (ne-eqb _ _ k)))) (λ q. omega arith) ∙ deliver-at
+
+          empty : getD (s .status) m 0 ≡ 1 → firstOf (line 14 (not (eqb (getD (s .status) m 0) 1)) ∷ []) ≡ 0
+          unfolding firstOf
+          empty k = first-false 14 (not (eqb (getD (s .status) m 0) 1)) [] (not-true (eq-eqb _ _ k))
+
+          pub deliver-done : getD (s .status) m 0 ≡ 1
+              → answer 0 (stateOf (s .memories) (s .buffer) (s .progress) (set (s .status) m 2)) ≡ deliverCall l source s m
+          deliver-done k = call-done l _ 0 _ s (o .none) (known ∙ empty k) ∙ deliver-at
+
+-- ---- collecting
+
+pub and-right : (a b : Bool) → b ≡ true → (a and b) ≡ a
+unfolding _and_
+and-right true b e = e
+and-right false b e = refl
+
+abbrev gridLines : Plan → List ℕ → State → List ℕ → List Line
+gridLines p source s grid = line 9 (not (areas p source s and eqb (length grid) (p .cells))) ∷ collectLines p s
+
+module _ (l source : List ℕ) (s : State) (grid : List ℕ) where
+  pub collect-read : (r : ℕ) → r ≡ firstOf (readLines l) → r ≢ 0 → answer r grid ≡ collectCall l source s grid
+  unfolding collectCall
+  collect-read r e h = call-read l _ r _ grid e h
+
+  module _ (x : Nest) (o : Opened l x) where
+    collect-at : answered (firstOf (readLines l ++ gridLines (planOf x) source s grid)) (collected (planOf x) s) grid ≡ collectCall l source s grid
+    unfolding collectCall
+    collect-at =
+        ap (λ (n : Nest). answered (firstOf (readLines l ++ gridLines (planOf n) source s grid)) (collected (planOf n) s) grid) (o .is)
+
+    pub collect-grid : length grid ≢ cells x → answer 9 grid ≡ collectCall l source s grid
+    collect-grid h =
+        call-later l _ 9 _ grid (o .none) (sym (first-true 9 _ _ (not-false (and-no _ _ (ne-eqb _ _ h))))) (λ q. omega arith) ∙ collect-at
+
+    module _ (g : length grid ≡ cells x) (r : ℕ) (e : r ≡ firstOf (unfitLines (planOf x) source s)) where
+      long-grid : (areas (planOf x) source s and eqb (length grid) (cells x)) ≡ areas (planOf x) source s
+      long-grid = and-right _ _ (eq-eqb _ _ g)
+
+      same-lines : firstOf (gridLines (planOf x) source s grid)
+          ≡ firstOf (unfitLines (planOf x) source s ++ (line 15 (some (tilesLeft (planOf x) s) (processors x)) ∷ []))
+      same-lines = ap (λ (t : Bool). firstOf (line 9 (not t) ∷ collectLines (planOf x) s)) long-grid
+
+      pub collect-unfit : r ≢ 0 → answer r grid ≡ collectCall l source s grid
+      collect-unfit h =
+          call-later l _ r _ grid (o .none)
+          (e ∙ sym (same-lines ∙ first-some (unfitLines (planOf x) source s) _ (λ q. h (e ∙ q)))) h
+          ∙ collect-at
+
+      module _ (z : r ≡ 0) where
+        last-line : firstOf (gridLines (planOf x) source s grid) ≡ firstOf (line 15 (some (tilesLeft (planOf x) s) (processors x)) ∷ [])
+        last-line =
+            let q = unfit-none (planOf x) source s r e z in
+            same-lines ∙ first-false 9 _ _ (not-true (q .0)) ∙ first-false 10 _ _ (not-true (q .1))
+
+        module _ (t : Bool) (q : t ≡ some (tilesLeft (planOf x) (progressOnly (s .progress))) (processors x)) where
+          left-is : some (tilesLeft (planOf x) s) (processors x) ≡ t
+          unfolding tilesLeft
+          left-is = sym q
+
+          pub collect-left : t ≡ true → answer 15 grid ≡ collectCall l source s grid
+          collect-left k =
+              call-later l _ 15 _ grid (o .none) (sym (last-line ∙ first-true 15 _ _ (left-is ∙ k))) (λ y. omega arith) ∙ collect-at
+
+          over : t ≡ false → firstOf (line 15 (some (tilesLeft (planOf x) s) (processors x)) ∷ []) ≡ 0
+          unfolding firstOf
+          over k = first-false 15 (some (tilesLeft (planOf x) s) (processors x)) [] (left-is ∙ k)
+
+          pub collect-done : (new : List ℕ) → t ≡ false → new ≡ collected (planOf x) (stateOf (s .memories) [] [] []) → answer 0 new ≡ collectCall l source s grid
+          unfolding collected
+          collect-done new k c = ap (answer 0) c ∙ call-done l _ 0 _ grid (o .none) (last-line ∙ over k) ∙ collect-at
+
+-- ---- the fresh start
+
+module _ (l source : List ℕ) (s : State) where
+  pub fresh-read : (r : ℕ) → r ≡ firstOf (readLines l) → r ≢ 0 → answer r s ≡ freshCall l source s
+  unfolding freshCall
+  fresh-read r e h = call-read l _ r _ s e h
+
+  module _ (x : Nest) (o : Opened l x) where
+    fresh-at : answered (firstOf (readLines l ++ areaLines (planOf x) source s)) (machine.fresh (planOf x)) s ≡ freshCall l source s
+    unfolding freshCall
+    fresh-at = ap (λ (n : Nest). answered (firstOf (readLines l ++ areaLines (planOf n) source s)) (machine.fresh (planOf n)) s) (o .is)
+
+    pub fresh-area : areas (planOf x) source s ≡ false → answer 9 s ≡ freshCall l source s
+    fresh-area h = call-later l _ 9 _ s (o .none) (sym (first-true 9 _ _ (not-false h))) (λ q. omega arith) ∙ fresh-at
+
+    nothing : areas (planOf x) source s ≡ true → firstOf (areaLines (planOf x) source s) ≡ 0
+    unfolding firstOf
+    nothing h = first-false 9 (not (areas (planOf x) source s)) [] (not-true h)
+
+    pub fresh-done : areas (planOf x) source s ≡ true → (memories buffer progress status : List ℕ) → memories ≡ replicate (length (s .memories)) 0
+        → buffer ≡ replicate (length (s .buffer)) 0 → progress ≡ replicate (length (s .progress)) 0 → status ≡ replicate (length (s .status)) 0
+        → answer 0 (stateOf memories buffer progress status) ≡ freshCall l source s
+    unfolding machine.fresh
+    fresh-done h memories buffer progress status a b c d =
+        let k = areas-are (planOf x) source s h in
+        ap (answer 0) (rw (a, b, c, d, k .memories, k .buffer, k .progress, k .status))
+        ∙ call-done l (areaLines (planOf x) source s) 0 (machine.fresh (planOf x)) s (o .none) (nothing h) ∙ fresh-at
+
+-- ---- the sweep
+
+abbrev sweepLines : Plan → List ℕ → List ℕ → List Line
+sweepLines p source grid = line 9 (not (eqb (length source) (p .cells) and eqb (length grid) (p .cells))) ∷ []
+
+module _ (l source grid : List ℕ) where
+  pub sweep-read : (r : ℕ) → r ≡ firstOf (readLines l) → r ≢ 0 → answer r grid ≡ sweepCall l source grid
+  unfolding sweepCall
+  sweep-read r e h = call-read l _ r _ grid e h
+
+  module _ (x : Nest) (o : Opened l x) where
+    sweep-at : answered (firstOf (readLines l ++ sweepLines (planOf x) source grid)) (machine.sweep (planOf x) source) grid ≡ sweepCall l source grid
+    unfolding sweepCall
+    sweep-at = ap (λ (n : Nest). answered (firstOf (readLines l ++ sweepLines (planOf n) source grid)) (machine.sweep (planOf n) source) grid) (o .is)
+
+    pub sweep-source : length source ≢ cells x → answer 9 grid ≡ sweepCall l source grid
+    sweep-source h =
+        call-later l _ 9 _ grid (o .none) (sym (first-true 9 _ _ (not-false (and-false _ _ (ne-eqb _ _ h))))) (λ q. omega arith) ∙ sweep-at
+
+    pub sweep-grid : length grid ≢ cells x → answer 9 grid ≡ sweepCall l source grid
+    sweep-grid h =
+        call-later l _ 9 _ grid (o .none) (sym (first-true 9 _ _ (not-false (and-no _ _ (ne-eqb _ _ h))))) (λ q. omega arith) ∙ sweep-at
+
+    right : length source ≡ cells x → length grid ≡ cells x → firstOf (sweepLines (planOf x) source grid) ≡ 0
+    unfolding firstOf
+    right a b =
+        first-false 9 (not (eqb (length source) (cells x) and eqb (length grid) (cells x))) []
+        (not-true (and-true (eq-eqb _ _ a) (eq-eqb _ _ b)))
+
+    pub sweep-done : (new : List ℕ) → length source ≡ cells x → length grid ≡ cells x → new ≡ machine.sweep (planOf x) source
+        → answer 0 new ≡ sweepCall l source grid
+    sweep-done new a b c = ap (answer 0) c ∙ call-done l _ 0 _ grid (o .none) (right a b) ∙ sweep-at

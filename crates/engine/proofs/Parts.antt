@@ -1,0 +1,251 @@
+-- Laws of lent parts, of messages at their places, and of the loops over messages, cells and words.
+use Prim.Native.Nat.{ℕ, zero, suc, _+_, _*_, _-_, _≤_, _<_}
+use mathlib.Core.Path.{_≡_, refl, sym, ap, _∙_, subst}
+use mathlib.Core.Logic.{_⊎_, inl, inr, _≢_}
+use mathlib.Core.Bool.{Bool, true, false}
+use mathlib.Core.List.{List, [], _∷_, _++_}
+use native.Mathlib.Nat.{eq-or-lt-of-le, le-of-suc-le-suc}
+use native.Mathlib.Numerals.{add-one}
+use native.Mathlib.Omega.{arith}
+use lib.ListN.{length, getD, take, drop, set, replicate, length-set, length-replicate, getD-replicate, drop-of-length-le}
+use lib.Seq.{drop-cons, getD-set-same, getD-set-other, getD-take, getD-drop, ext-getD}
+use lib.Dec.{ltb, leb, eqb}
+use borrow.Author.Tests.{eq-eqb, ne-eqb}
+use borrow.Rule.Slice.PartMut.{putMid}
+use Rattle.base.specs.Tests.{_and_, _or_, pick, every, some, tabulate}
+use Rattle.base.specs.Lists.{part, put, setAll, allAt, unpack, pack}
+use Rattle.base.proofs.Tests.{and-left, and-false, every-more, every-not, some-one, some-none, length-tabulate, tabulate-at}
+use Rattle.base.proofs.Lists.{part-length, piece-fits}
+use Rattle.machine.specs.Plan.{Message, Plan, offset, count, words, message, heldBy, duesOf, sendsOf}
+use Rattle.machine.specs.Machine.{State, stateOf, placeOf, unpackAll, collected, memoryOf}
+use Rattle.nest.specs.declared.Nest.{Nest}
+use Rattle.nest.specs.Nest.{cells, processors}
+use Rattle.plan.specs.Geometry.{tileOf, processorOf}
+use Rattle.plan.specs.Messages.{slotParcel, messages, planOf}
+use Rattle.table.specs.declared.Place.{Place}
+use Rattle.table.specs.Table.{Placed}
+
+-- ---- parts
+
+pub mid-is : (l : List ℕ) (a k : ℕ) → take (a + k - a) (drop a l) ≡ part l a k
+unfolding part
+mid-is l a k = let e : a + k - a ≡ k = omega arith in rw e
+
+pub mid-length : (l : List ℕ) (a k : ℕ) → a + k ≤ length l → length (take (a + k - a) (drop a l)) ≡ k
+mid-length l a k h = ap length (mid-is l a k) ∙ part-length l a k h
+
+put-is : (l ys : List ℕ) (a k : ℕ) → length ys ≡ k → putMid a (a + k - a) l ys ≡ put l a ys
+unfolding put
+put-is l ys a k e = let z : a + k - a ≡ length ys = omega arith in rw z
+
+-- a lent part that comes back as f of it
+pub back : (l ys : List ℕ) (f : List ℕ → List ℕ) (a k : ℕ) → a + k ≤ length l → length ys ≡ length (take (a + k - a) (drop a l)) → ys ≡ f (take (a + k - a) (drop a l))
+    → putMid a (a + k - a) l ys ≡ put l a (f (part l a k))
+back l ys f a k h n e = put-is l ys a k (n ∙ mid-length l a k h) ∙ ap (put l a) (e ∙ ap f (mid-is l a k))
+
+-- the same of piece b of pieces as long as n, which the code has as c
+pub piece-back : (l ys : List ℕ) (f : List ℕ → List ℕ) (b c n : ℕ) → c ≡ n → b * c + c ≤ length l
+    → length ys ≡ length (take (b * c + c - b * c) (drop (b * c) l)) → ys ≡ f (take (b * c + c - b * c) (drop (b * c) l))
+    → putMid (b * c) (b * c + c - b * c) l ys ≡ put l (b * n) (f (part l (b * n) n))
+piece-back l ys f b c n e h k q = back l ys f (b * c) c h k q ∙ ap (λ (i : ℕ). put l (b * i) (f (part l (b * i) i))) e
+
+pub room : (n b c m l : ℕ) → b < n → c ≡ m → l ≡ n * m → b * c + c ≤ l
+room n b c m l h e q = rw (q, e) (piece-fits m n b h)
+
+-- ---- messages
+
+module _ (x : Nest) (m : ℕ) (r : Place) (q : Placed x m r) where
+  pub placed-self : Placed x (r .number) r
+  placed-self = subst (λ (k : ℕ). Placed x k r) (sym (q .number)) q
+
+  held-is : heldBy (planOf x) m ≡ slotParcel x (r .slot)
+  held-is = ap (λ (z : Message). z .cells) (q .is)
+
+  place-is : (buffer : List ℕ) → placeOf (planOf x) buffer m ≡ part buffer (r .offset) (r .words)
+  place-is buffer = rw (held-is, ← q .offset, ← q .words)
+
+  pub mid-words : (buffer : List ℕ) → length buffer ≡ words (planOf x)
+      → length (take (r .offset + r .words - r .offset) (drop (r .offset) buffer)) ≡ length (slotParcel x (r .slot))
+  mid-words buffer h = mid-length buffer (r .offset) (r .words) (omega (arith, q .room, h)) ∙ q .words
+
+  pub taken-is : (memory buffer ys : List ℕ)
+      → ys ≡ unpack memory (slotParcel x (r .slot)) (take (r .offset + r .words - r .offset) (drop (r .offset) buffer))
+      → ys ≡ unpack memory (heldBy (planOf x) m) (placeOf (planOf x) buffer m)
+  taken-is memory buffer ys e = rw (place-is buffer, held-is) (e ∙ rw (mid-is buffer (r .offset) (r .words)))
+
+  pub packed-is : (memory buffer ys : List ℕ) → length buffer ≡ words (planOf x)
+      → length ys ≡ length (take (r .offset + r .words - r .offset) (drop (r .offset) buffer)) → ys ≡ pack memory (slotParcel x (r .slot))
+      → putMid (r .offset) (r .offset + r .words - r .offset) buffer ys ≡ put buffer (offset (messages x) m) (pack memory (heldBy (planOf x) m))
+  packed-is memory buffer ys h k e =
+      put-is buffer ys (r .offset) (r .words) (k ∙ mid-length buffer (r .offset) (r .words) (omega (arith, q .room, h)))
+      ∙ ap (put buffer (r .offset)) (e ∙ ap (pack memory) (sym held-is))
+      ∙ ap (λ (i : ℕ). put buffer i (pack memory (heldBy (planOf x) m))) (q .offset)
+
+-- ---- a list of messages, one after the other
+
+module _ (ms : List ℕ) (j : ℕ) where
+  gather-turn : (p : Plan) (buffer memory : List ℕ) → j < length ms
+      → unpackAll p buffer (unpack memory (heldBy p (getD ms j 0)) (placeOf p buffer (getD ms j 0))) (drop (j + 1) ms) ≡ unpackAll p buffer memory (drop j ms)
+  unfolding unpackAll
+  gather-turn p buffer memory h = rw (add-one j, drop-cons ms j 0 h)
+
+  gather-end : (p : Plan) (buffer memory : List ℕ) → length ms ≤ j → unpackAll p buffer memory (drop j ms) ≡ memory
+  unfolding unpackAll
+  gather-end p buffer memory h = rw (drop-of-length-le ms h)
+
+  set-turn : (l : List ℕ) (v : ℕ) → j < length ms → setAll (set l (getD ms j 0) v) (drop (j + 1) ms) v ≡ setAll l (drop j ms) v
+  unfolding setAll
+  set-turn l v h = rw (add-one j, drop-cons ms j 0 h)
+
+  set-end : (l : List ℕ) (v : ℕ) → length ms ≤ j → setAll l (drop j ms) v ≡ l
+  unfolding setAll
+  set-end l v h = rw (drop-of-length-le ms h)
+
+  all-turn : (l : List ℕ) (v : ℕ) → j < length ms → getD l (getD ms j 0) 0 ≡ v → allAt l v (drop (j + 1) ms) ≡ allAt l v (drop j ms)
+  unfolding allAt
+  all-turn l v h e = rw (add-one j, drop-cons ms j 0 h, and-left (eqb (getD l (getD ms j 0) 0) v) (allAt l v (drop (suc j) ms)) (eq-eqb _ _ e))
+
+  all-no : (l : List ℕ) (v : ℕ) → j < length ms → getD l (getD ms j 0) 0 ≢ v → allAt l v (drop j ms) ≡ false
+  unfolding allAt
+  all-no l v h e = rw (drop-cons ms j 0 h) (and-false (eqb (getD l (getD ms j 0) 0) v) (allAt l v (drop (suc j) ms)) (ne-eqb _ _ e))
+
+  all-end : (l : List ℕ) (v : ℕ) → length ms ≤ j → allAt l v (drop j ms) ≡ true
+  unfolding allAt
+  all-end l v h = rw (drop-of-length-le ms h)
+
+-- what is left to gather gives the same
+pub record Gathering (x : Nest) (tile : ℕ) (buffer memory₀ status₀ memory status : List ℕ) (m j : ℕ) : Type 0 where
+  pub low : j ≤ m
+  pub all : m ≡ length (duesOf (planOf x) tile)
+  pub long : length memory ≡ length memory₀
+  pub longStatus : length status ≡ length status₀
+  pub memories : unpackAll (planOf x) buffer memory (drop j (duesOf (planOf x) tile)) ≡ unpackAll (planOf x) buffer memory₀ (duesOf (planOf x) tile)
+  pub statuses : setAll status (drop j (duesOf (planOf x) tile)) 3 ≡ setAll status₀ (duesOf (planOf x) tile) 3
+
+module _ (x : Nest) (tile : ℕ) (buffer memory₀ status₀ : List ℕ) (m : ℕ) where
+  pub gather-start : m ≡ length (duesOf (planOf x) tile) → Gathering x tile buffer memory₀ status₀ memory₀ status₀ m 0
+  gather-start e = record { low = omega arith; all = e; long = refl; longStatus = refl; memories = refl; statuses = refl }
+
+  pub gather-again : (memory memory′ status : List ℕ) (j : ℕ) (r : Place) → Gathering x tile buffer memory₀ status₀ memory status m j → j < m
+      → Placed x (getD (duesOf (planOf x) tile) j 0) r → length memory′ ≡ length memory
+      → memory′ ≡ unpack memory (heldBy (planOf x) (r .number)) (placeOf (planOf x) buffer (r .number))
+      → Gathering x tile buffer memory₀ status₀ memory′ (set status (r .number) 3) m (j + 1)
+  gather-again memory memory′ status j r g l q k e =
+      let d = duesOf (planOf x) tile in
+      let h : j < length (duesOf (planOf x) tile) = omega (arith, g .all) in
+      record {
+        low = omega arith;
+        all = g .all;
+        long = k ∙ g .long;
+        longStatus = length-set status (r .number) 3 ∙ g .longStatus;
+        memories =
+            ap (λ (z : List ℕ). unpackAll (planOf x) buffer z (drop (j + 1) d))
+            (e ∙ ap (λ (i : ℕ). unpack memory (heldBy (planOf x) i) (placeOf (planOf x) buffer i)) (q .number))
+            ∙ gather-turn d j (planOf x) buffer memory h ∙ g .memories;
+        statuses = ap (λ (i : ℕ). setAll (set status i 3) (drop (j + 1) d) 3) (q .number) ∙ set-turn d j status 3 h ∙ g .statuses;
+      }
+
+  pub gather-done : (memory status : List ℕ) (j : ℕ) → Gathering x tile buffer memory₀ status₀ memory status m j → m ≤ j
+      → (memory ≡ unpackAll (planOf x) buffer memory₀ (duesOf (planOf x) tile)) × (status ≡ setAll status₀ (duesOf (planOf x) tile) 3)
+  gather-done memory status j g l =
+      let d = duesOf (planOf x) tile in
+      let h : length (duesOf (planOf x) tile) ≤ j = omega (arith, g .all) in
+      (sym (gather-end d j (planOf x) buffer memory h) ∙ g .memories, sym (set-end d j status 3 h) ∙ g .statuses)
+
+-- what is left to look at decides
+pub record Looking (x : Nest) (tile : ℕ) (status : List ℕ) (m j : ℕ) : Type 0 where
+  pub low : j ≤ m
+  pub all : m ≡ length (duesOf (planOf x) tile)
+  pub is : allAt status 2 (drop j (duesOf (planOf x) tile)) ≡ allAt status 2 (duesOf (planOf x) tile)
+
+module _ (x : Nest) (tile : ℕ) (status : List ℕ) (m j : ℕ) (g : Looking x tile status m j) where
+  pub look-again : (r : Place) → j < m → Placed x (getD (duesOf (planOf x) tile) j 0) r → getD status (r .number) 0 ≡ 2 → Looking x tile status m (j + 1)
+  look-again r l q e =
+      record {
+        low = omega arith;
+        all = g .all;
+        is = all-turn (duesOf (planOf x) tile) j status 2 (omega (arith, g .all)) (ap (λ (i : ℕ). getD status i 0) (sym (q .number)) ∙ e) ∙ g .is;
+      }
+
+  pub look-no : (r : Place) → j < m → Placed x (getD (duesOf (planOf x) tile) j 0) r → getD status (r .number) 0 ≢ 2
+      → false ≡ allAt status 2 (duesOf (planOf x) tile)
+  look-no r l q e =
+      sym (all-no (duesOf (planOf x) tile) j status 2 (omega (arith, g .all)) (λ z. e (ap (λ (i : ℕ). getD status i 0) (q .number) ∙ z))) ∙ g .is
+
+  pub look-done : m ≤ j → true ≡ allAt status 2 (duesOf (planOf x) tile)
+  look-done l = sym (all-end (duesOf (planOf x) tile) j status 2 (omega (arith, g .all))) ∙ g .is
+
+-- ---- tests over all numbers below a bound
+
+module _ (f : ℕ → Bool) where
+  pub every-start : every f 0 ≡ true
+  unfolding every
+  every-start = refl
+
+  pub every-next : (i : ℕ) → every f i ≡ true → f i ≡ true → every f (i + 1) ≡ true
+  every-next i h e = ap (every f) (add-one i) ∙ every-more f i h e
+
+  pub every-done : (i n : ℕ) → i ≤ n → n ≤ i → every f i ≡ true → true ≡ every f n
+  every-done i n h k e = let z : i ≡ n = omega arith in sym e ∙ ap (every f) z
+
+  pub some-start : some f 0 ≡ false
+  unfolding some
+  some-start = refl
+
+  pub some-next : (i : ℕ) → some f i ≡ false → f i ≡ false → some f (i + 1) ≡ false
+  unfolding some _or_
+  some-next i h e = rw (add-one i, h, e)
+
+  pub some-done : (i n : ℕ) → i ≤ n → n ≤ i → some f i ≡ false → false ≡ some f n
+  some-done i n h k e = let z : i ≡ n = omega arith in sym e ∙ ap (some f) z
+
+-- ---- words stored one after the other
+
+-- the first i words are those of f, and no word more or less than before
+pub record Stored (f : ℕ → ℕ) (old new : List ℕ) (i : ℕ) : Type 0 where
+  pub long : length new ≡ length old
+  pub low : i ≤ length old
+  pub each : (j : ℕ) → j < i → getD new j 0 ≡ f j
+
+module _ (f : ℕ → ℕ) (old : List ℕ) where
+  pub store-start : Stored f old old 0
+  store-start = record { long = refl; low = omega arith; each = λ j h. absurd (omega arith) }
+
+  pub store-next : (new : List ℕ) (i v : ℕ) → Stored f old new i → i < length old → v ≡ f i → Stored f old (set new i v) (i + 1)
+  store-next new i v g h e =
+      record { long = length-set new i v ∙ g .long; low = omega arith; each = λ j l. go j (eq-or-lt-of-le (le-of-suc-le-suc (below j l))) }
+    where
+      below : (j : ℕ) → j < i + 1 → suc j ≤ suc i
+      below j l = omega arith
+
+      go : (j : ℕ) → (j ≡ i) ⊎ (j < i) → getD (set new i v) j 0 ≡ f j
+      go j (inl k) = ap (λ (n : ℕ). getD (set new i v) n 0) k ∙ getD-set-same new i v 0 (omega (arith, g .long)) ∙ e ∙ ap f (sym k)
+      go j (inr k) = getD-set-other new i j v 0 (λ q. omega arith) ∙ g .each j k
+
+  pub stored-zero : (new : List ℕ) (i : ℕ) → Stored f old new i → length new ≤ i → ((j : ℕ) → f j ≡ 0) → new ≡ replicate (length old) 0
+  stored-zero new i g h z =
+      ext-getD 0 new (replicate (length old) 0) (g .long ∙ sym (length-replicate (length old) 0))
+      (λ j l. g .each j (omega arith) ∙ z j ∙ sym (getD-replicate (length old) j 0 0 (omega (arith, g .long))))
+
+  pub stored-all : (new : List ℕ) (i n : ℕ) → Stored f old new i → length old ≡ n → n ≤ i → new ≡ tabulate f n
+  stored-all new i n g e h =
+      ext-getD 0 new (tabulate f n) (g .long ∙ e ∙ sym (length-tabulate f n))
+      (λ j l. g .each j (omega (arith, g .long)) ∙ sym (tabulate-at f n j (omega (arith, g .long))))
+
+-- ---- collecting
+
+-- the word of cell c in the memory of its tile's processor
+abbrev pub cellWord : Nest → List ℕ → ℕ → ℕ
+cellWord x memories c = getD (part memories (processorOf x (tileOf x c) * cells x) (cells x)) c 0
+
+pub cell-word : (x : Nest) (memories : List ℕ) (c t b k : ℕ) → c < cells x → t ≡ tileOf x c → b ≡ processorOf x t → k ≡ cells x
+    → getD memories (b * k + c) 0 ≡ cellWord x memories c
+unfolding part
+cell-word x memories c t b k h e q z =
+    rw (z, q, e)
+    (sym (getD-take (cells x) (drop (processorOf x (tileOf x c) * cells x) memories) c 0 h ∙ getD-drop (processorOf x (tileOf x c) * cells x) memories c 0))
+
+pub collected-is : (x : Nest) (memories old new : List ℕ) (i k : ℕ) → Stored (cellWord x memories) old new i → length old ≡ cells x → k ≡ cells x → k ≤ i
+    → new ≡ collected (planOf x) (stateOf memories [] [] [])
+unfolding collected
+collected-is x memories old new i k g e z h = stored-all (cellWord x memories) old new i (cells x) g e (omega arith)

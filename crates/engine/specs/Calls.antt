@@ -1,0 +1,65 @@
+-- The offered calls, each from the recipe's bytes and the lent areas: the number it gives and what is written.
+-- Renders document 01, "The machine" and "Numbers a call gives": all lines in table order, the first true one counts.
+use Prim.Native.Nat.{ℕ, _*_}
+use mathlib.Core.Bool.{Bool}
+use mathlib.Core.List.{List, [], _∷_, _++_}
+use lib.ListN.{length, set}
+use lib.Dec.{eqb}
+use Rattle.base.specs.Tests.{_and_, not}
+use Rattle.base.specs.Numbers.{Line, line, firstOf}
+use Rattle.machine.specs.Plan.{Plan, count, words}
+use Rattle.machine.specs.Machine as machine
+use Rattle.machine.specs.Machine.{State, Answered, answered, stateOf, carryOut, nextAction, turnLines, deliverLines, collectLines, collected}
+use Rattle.plan.specs.Messages.{planOf}
+use Rattle.nest.specs.Recipe.{readLines, nestOf}
+
+-- what a call answers: its number and the lent words after it
+abbrev pub answer : {A : Type 0} → ℕ → A → Answered A
+answer n after = record { number = n; after = after }
+
+-- the plan of a recipe
+abbrev pub recipe : List ℕ → Plan
+recipe bytes = planOf (nestOf bytes)
+
+-- each lent area has exactly its length
+unfoldable pub areas : Plan → List ℕ → State → Bool
+areas p source s =
+    eqb (length source) (p .cells)
+    and (eqb (length (s .memories)) (p .processors * p .cells)
+    and (eqb (length (s .buffer)) (words p) and (eqb (length (s .progress)) (3 * p .processors) and eqb (length (s .status)) (count p))))
+
+-- lines 1 to 8 are the reader's, line 9 the areas'; the lines behind them are the machine's
+abbrev pub areaLines : Plan → List ℕ → State → List Line
+areaLines p source s = line 9 (not (areas p source s)) ∷ []
+
+-- document 01: a fresh start
+unfoldable pub freshCall : List ℕ → List ℕ → State → Answered State
+freshCall bytes source s =
+    answered (firstOf (readLines bytes ++ areaLines (recipe bytes) source s)) (machine.fresh (recipe bytes)) s
+
+unfoldable pub turnCall : List ℕ → List ℕ → State → ℕ → Answered State
+turnCall bytes source s b =
+    answered (firstOf (readLines bytes ++ (areaLines (recipe bytes) source s ++ turnLines (recipe bytes) s b)))
+    (carryOut (recipe bytes) source s b (nextAction (recipe bytes) s b)) s
+
+unfoldable pub deliverCall : List ℕ → List ℕ → State → ℕ → Answered State
+deliverCall bytes source s m =
+    answered (firstOf (readLines bytes ++ (areaLines (recipe bytes) source s ++ deliverLines (recipe bytes) s m)))
+    (stateOf (s .memories) (s .buffer) (s .progress) (set (s .status) m 2)) s
+
+-- collecting is lent the grid too, one word a cell
+unfoldable pub collectCall : List ℕ → List ℕ → State → List ℕ → Answered (List ℕ)
+collectCall bytes source s grid =
+    answered
+    (firstOf
+    (readLines bytes
+    ++ (line 9 (not (areas (recipe bytes) source s and eqb (length grid) (recipe bytes .cells))) ∷ collectLines (recipe bytes) s)))
+    (collected (recipe bytes) s) grid
+
+-- the sequential sweep is lent the source and the grid alone
+unfoldable pub sweepCall : List ℕ → List ℕ → List ℕ → Answered (List ℕ)
+sweepCall bytes source grid =
+    answered
+    (firstOf
+    (readLines bytes ++ (line 9 (not (eqb (length source) (recipe bytes .cells) and eqb (length grid) (recipe bytes .cells))) ∷ [])))
+    (machine.sweep (recipe bytes) source) grid

@@ -1,0 +1,34 @@
+-- What the code below the calls is given: areas of their lengths, a fit state, a processor.
+-- No sentence of document 01; the contracts of the functions below the offered calls cite it.
+use Prim.Native.Nat.{ℕ, _*_, _<_}
+use mathlib.Core.Path.{_≡_}
+use mathlib.Core.Bool.{true}
+use mathlib.Core.List.{List, [], _∷_, _++_}
+use lib.ListN.{length}
+use Rattle.base.specs.Tests.{not}
+use Rattle.base.specs.Numbers.{Line, line}
+use Rattle.machine.specs.Plan.{Plan, count, words}
+use Rattle.machine.specs.Machine.{State, stateOf, fit}
+use Rattle.engine.specs.Calls.{areaLines}
+
+-- each lent area has exactly its length
+pub record Areas (p : Plan) (input : List ℕ) (s : State) : Type 0 where
+  pub source : length input ≡ p .cells
+  pub memories : length (s .memories) ≡ p .processors * p .cells
+  pub buffer : length (s .buffer) ≡ words p
+  pub progress : length (s .progress) ≡ 3 * p .processors
+  pub status : length (s .status) ≡ count p
+
+-- lines 9, 10 and 11 of a turn are false
+pub record Passed (p : Plan) (source : List ℕ) (s : State) (b : ℕ) : Type 0 where
+  pub areas : Areas p source s
+  pub fit : fit p s ≡ true
+  pub processor : b < p .processors
+
+-- a state of which only the records are looked at
+abbrev pub progressOnly : List ℕ → State
+progressOnly progress = stateOf [] [] progress []
+
+-- lines 9 and 10, which a turn, a delivery and collecting share
+abbrev pub unfitLines : Plan → List ℕ → State → List Line
+unfitLines p source s = areaLines p source s ++ (line 10 (not (fit p s)) ∷ [])
