@@ -1,35 +1,33 @@
 -- Places of cells, tiles, processors and slots as the arrays that hold them.
 use Prim.Native.Nat.{ℕ, zero, suc, _+_, _*_, _-_, _/_, _%_, _^_, _≤_, _<_, min}
 use mathlib.Core.Path.{_≡_, refl, sym, ap, _∙_, subst}
-use mathlib.Core.Logic.{_⊎_, inl, inr}
-use mathlib.Core.Bool.{Bool, true, false}
+use mathlib.Core.Bool.{Bool}
 use mathlib.Core.List.{List}
-use native.Mathlib.Nat.{mod-lt, div-le-self, mul-le-mul-right, mul-le-mul, add-assoc, eq-or-lt-of-le}
+use native.Mathlib.Nat.{mod-lt, div-le-self, mul-le-mul, add-assoc}
 use native.Mathlib.Numerals.{add-one}
 use native.Mathlib.Decide.{decLt}
 use native.Mathlib.Omega.{arith}
 use lib.ListN.{length, getD, set, replicate}
 use lib.Dec.{ltb, leb, eqb}
-use Rattle.base.specs.Tests.{_and_, every, some, product, pick, sum}
+use Rattle.base.specs.Tests.{_and_, every, product, pick, sum}
 use Rattle.base.proofs.Tests.{every-not, pick-true, pick-false, sum-same}
 use borrow.Author.Tests.{lt-leb, le-leb}
 use Rattle.nest.specs.declared.Nest.{Nest}
 use Rattle.nest.specs.Nest.{Accepted, lengthOf, tileLength, processorCount, component, weight, tileCount, cells, tiles, processors}
-use Rattle.plan.specs.Geometry.{rank, place, cellAt, cellPlace, tileAt, tilePlace, tileOf, processorOf, inside, hasRead, readAt, value}
+use Rattle.plan.specs.Geometry.{rank, place, cellAt, cellPlace, tileAt, tilePlace, processorOf, inside, hasRead, readAt, value}
 use Rattle.plan.specs.Messages.{two, directions, ahead, reaches, taker, slots, slotTile, slotDirection, slotTaker}
 use Rattle.plan.specs.Box.{boxLength, boxSize, boxPlace, boxCell}
-use Rattle.plan.proofs.Rank.{Within, Positive, rank-same, rank-low}
-use Rattle.plan.proofs.Tiles.{cellPlace-low, tileCount-pos, tilePlace-low, tileOf-low, quotient-low, processorOf-low, tile-inside}
+use Rattle.plan.proofs.Rank.{rank-same, rank-low}
+use Rattle.plan.proofs.Tiles.{cellPlace-low, tileCount-pos, tilePlace-low, quotient-low, tile-inside}
 use Rattle.plan.proofs.Parcels.{ahead-beyond, ahead-low, slotTile-low}
-use Rattle.plan.proofs.Box.{boxLength-pos, boxLength-most, boxCell-low, boxCell-place, boxPlace-low, boxSize-few}
-use Rattle.layout.specs.declared.Sizes.{Sizes}
+use Rattle.plan.proofs.Box.{boxLength-pos, boxCell-low, boxCell-place, boxPlace-low, boxSize-few}
 use Rattle.layout.specs.declared.Bounds.{Bounds}
 use Rattle.layout.specs.declared.Cell.{Cell}
-use Rattle.layout.specs.Sizes.{Sized, endAt}
+use Rattle.layout.specs.Sizes.{endAt}
 use Rattle.layout.specs.Places.{nth, Has, Countable, Ranked, Places, Placed, Located, Bounded, bound, puts, wordRead}
 use Rattle.layout.proofs.Dims.{product-same, rank-lengths, place-lengths, product-pos}
 use lib.Seq.{getD-set-other}
-use Rattle.layout.proofs.Loops.{every-same, some-same, Sofar, sofar-none, sofar-more, sofar-end, Filled, filled-none, filled-more, filled-end}
+use Rattle.layout.proofs.Loops.{every-same, Sofar, sofar-none, sofar-more, sofar-end, Filled, filled-none, filled-more, filled-end}
 
 -- ---- arrays of one number
 
@@ -219,10 +217,6 @@ module _ (x : Nest) (ok : Accepted x) where
   module _ (d : ℕ) (is : d ≡ directions x) where
     pub ways-pos : 0 < d
     ways-pos = omega (arith, directions-pos)
-
-    pub ways-few : d ≤ 7
-    unfolding directions
-    ways-few = omega (arith, two-few (x .spread) (omega (arith, ok .spread-low, ok .dimensions-most)))
 
     pub slot-low : (s : ℕ) → s < slots x → s / d < tiles x
     slot-low s h = rw is (slotTile-low x s h)

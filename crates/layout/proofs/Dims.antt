@@ -1,14 +1,13 @@
 -- One turn of each recursion over the dimensions left; places and products over equal lengths.
 use Prim.Native.Nat.{ℕ, zero, suc, _+_, _*_, _-_, _/_, _%_, _≤_, _<_}
-use mathlib.Core.Path.{_≡_, refl, sym, ap, _∙_}
+use mathlib.Core.Path.{_≡_, refl, ap, _∙_}
 use mathlib.Core.Logic.{_⊎_, inl, inr, _≢_}
 use mathlib.Core.List.{List}
 use native.Mathlib.Nat.{eq-or-lt-of-le, le-of-suc-le-suc, mul-le-mul-right, mul-le-mul-left, mul-assoc, suc-mul, one-mul, mul-one, mod-lt}
 use native.Mathlib.Omega.{arith}
 use lib.ListN.{length, getD, set}
 use lib.Seq.{getD-set-same, getD-set-other}
-use lib.Dec.{eqb}
-use Rattle.base.specs.Tests.{pick, product}
+use Rattle.base.specs.Tests.{product}
 use Rattle.plan.specs.Geometry.{rank, place}
 use Rattle.plan.proofs.Rank.{Positive, place-last, place-before}
 use Rattle.layout.specs.Places.{nth, Countable, Ranked, Places, Placed}

@@ -1,12 +1,12 @@
 // Cells and tiles in code: numbers and places, the tile of a cell, the processor of a tile, packing, unpacking, calculating.
 ghost use mathlib.Core.Path.{_≡_};
-ghost use Prim.Native.Nat.{_+_, _*_, _-_, _/_, _%_, ℕ, min, _≤_, _<_};
+ghost use Prim.Native.Nat.{ℕ, _+_, _/_, _%_, min, _≤_, _<_};
 ghost use lib.ListN.{length, getD};
 ghost use Rattle.base.specs.Tests.{some, product};
 ghost use Rattle.base.specs.Lists.{pack, unpack, storeAll};
 ghost use Rattle.machine.specs.Machine.{sweep};
 ghost use Rattle.nest.specs.Nest.{Accepted, tileCount, tileLength, cells, tiles, processors};
-ghost use Rattle.plan.specs.Geometry.{rank, cellPlace, tileOf, cellsOf, processorOf, tilePlace, value};
+ghost use Rattle.plan.specs.Geometry.{rank, tileOf, cellsOf, processorOf, tilePlace, value};
 ghost use Rattle.plan.specs.Messages.{slots, slotParcel, planOf};
 ghost use Rattle.plan.specs.Box.{boxCell};
 ghost use Rattle.layout.specs.Sizes.{Sized, endAt};

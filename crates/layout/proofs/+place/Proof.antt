@@ -1,3 +1,4 @@
+-- `layout::place` meets its contract: the component put in is the remainder, the rest is the place of the quotient. `left` falls.
 use borrow.Author.Needs.{needs}
 use native.Mathlib.Omega.{arith}
 use Rattle.layout.proofs.Dims.{placed-none, placed-more, places-less, place-fits}

@@ -1,11 +1,10 @@
+-- `layout::product` meets its contract: one factor more than of the dimensions left. `left` falls.
 use borrow.Author.Needs.{needs}
 use native.Mathlib.Omega.{arith}
-use mathlib.Core.Path.{_≡_, refl, sym, _∙_}
+use mathlib.Core.Path.{sym}
 use Prim.Native.Nat.{_-_, _*_, _^_}
-use native.Mathlib.Nat.{lt-of-le-of-lt}
 use lib.ListN.{getD}
 use Rattle.base.specs.Tests as tests
-use Rattle.layout.specs.Places.{nth}
 use Rattle.layout.proofs.Dims.{ProductTurn, product-turn}
 use Prim.Native.Nat.{ℕ, _<_}
 use borrow.Fn.Kinds.{In}

@@ -1,6 +1,7 @@
+-- `layout::rank` meets its contract: the rank of the dimensions left, times the length, plus the component. `left` falls.
 use borrow.Author.Needs.{needs}
 use native.Mathlib.Omega.{arith}
-use mathlib.Core.Path.{_≡_, refl, sym, _∙_}
+use mathlib.Core.Path.{sym}
 use Prim.Native.Nat.{_+_, _-_, _*_, _≤_}
 use lib.ListN.{getD}
 use Rattle.plan.specs.Geometry as geometry

@@ -1,16 +1,14 @@
+-- `layout::across_of` meets its contract: the array is filled from its start.
 use borrow.Author.Needs.{needs}
 use native.Mathlib.Omega.{arith}
-use Prim.Native.Nat.{ℕ, _+_, _-_, _*_, _/_, _%_, _≤_, _<_}
-use mathlib.Core.Path.{_≡_, refl, sym, ap, _∙_}
-use lib.ListN.{length, getD}
-use Rattle.nest.specs.Nest.{tileCount, tileLength}
+use Prim.Native.Nat.{ℕ, _+_, _-_}
+use mathlib.Core.Path.{refl, ap}
+use lib.ListN.{getD}
+use Rattle.nest.specs.Nest.{tileCount}
 use native.Mathlib.Nat.{div-le-self}
 use Rattle.layout.proofs.Loops.{Filled, filled-none, filled-more, filled-end}
 use Rattle.layout.proofs.across_of.Statement.{statement}
 use Rattle.layout.proofs.across_of.Tie as tie
-use Rattle.layout.proofs.across_of.Reads as reads
-use Rattle.layout.proofs.across_of.Lts as lts
-use Rattle.layout.proofs.split.Reads as split-reads
 
 abbrev Inv-loop : tie.InvT-loop
 Inv-loop nest across₀ n j₀ across j = Filled (tileCount nest) n across j

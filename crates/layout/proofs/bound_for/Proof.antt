@@ -1,17 +1,9 @@
-use borrow.Author.Needs.{needs}
+-- `layout::bound_for` meets its contract: the direction's components are added to the tile's in the spread dimensions.
 use native.Mathlib.Omega.{arith}
-use Prim.Native.Nat.{ℕ, _+_, _-_, _*_, _/_, _%_, _≤_, _<_}
-use mathlib.Core.Path.{_≡_, refl, sym, ap, _∙_}
-use lib.ListN.{length, getD}
 use native.Mathlib.Nat.{mod-lt}
 use Rattle.layout.proofs.Cells.{ways-pos, slot-places, placed-slot}
-use borrow.Author.Needs.{needs}
 use Rattle.layout.proofs.bound_for.Statement.{statement}
 use Rattle.layout.proofs.bound_for.Tie as tie
-use Rattle.layout.proofs.bound_for.Reads as reads
-use Rattle.layout.proofs.bound_for.Lts as lts
-use Rattle.layout.proofs.place.Reads as place-reads
-use Rattle.layout.proofs.place_of_tile.Reads as place-of-tile-reads
 
 div-tile : tie.Need-div-tile
 div-tile c = ways-pos _ (c .before .pre .0 .accepted) _ (c .before .pre .0 .directions)

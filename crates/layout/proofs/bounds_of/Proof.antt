@@ -1,16 +1,11 @@
+-- `layout::bounds_of` meets its contract: corner and lengths are done before j; from j on the corner is still the tile's place.
 use borrow.Author.Needs.{needs}
 use native.Mathlib.Omega.{arith}
-use Prim.Native.Nat.{ℕ, _+_, _-_, _*_, _/_, _%_, _≤_, _<_}
-use mathlib.Core.Path.{_≡_, refl, sym, ap, _∙_}
-use lib.ListN.{length, getD}
+use Prim.Native.Nat.{_-_}
+use mathlib.Core.Path.{refl}
 use Rattle.layout.proofs.Cells.{Boxing, boxing-none, boxing-low, boxing-more, boxing-countable, boxing-end}
 use Rattle.layout.proofs.bounds_of.Statement.{statement}
 use Rattle.layout.proofs.bounds_of.Tie as tie
-use Rattle.layout.proofs.bounds_of.Reads as reads
-use Rattle.layout.proofs.bounds_of.Lts as lts
-use Rattle.layout.proofs.least.Reads as least-reads
-use Rattle.layout.proofs.place_of_tile.Reads as place-of-tile-reads
-use Rattle.layout.proofs.product.Reads as product-reads
 
 abbrev Inv-loop : tie.InvT-loop
 Inv-loop tile nest corner₀ lengths₀ n j₀ corner lengths j = Boxing nest tile corner lengths j

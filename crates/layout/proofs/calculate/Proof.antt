@@ -1,19 +1,12 @@
+-- `layout::calculate` meets its contract: the first q cells of the box are stored, in their order.
 use borrow.Author.Needs.{needs}
 use native.Mathlib.Omega.{arith}
-use Prim.Native.Nat.{ℕ, _+_, _-_, _*_, _/_, _%_, _≤_, _<_}
-use mathlib.Core.Path.{_≡_, refl, sym, ap, _∙_}
-use lib.ListN.{length, getD}
-use mathlib.Core.Logic.{⊎-elim, inl, inr}
-use Rattle.layout.specs.Places.{bound, puts}
-use Rattle.layout.proofs.Cells.{ways-pos, slot-low, place-small, relocated}
+use Prim.Native.Nat.{_-_}
+use mathlib.Core.Path.{_∙_}
+use Rattle.layout.proofs.Cells.{relocated}
 use Rattle.layout.proofs.Walks.{Calculating, calculating-none, calculating-long, calculating-more, calculated}
 use Rattle.layout.proofs.calculate.Statement.{statement}
 use Rattle.layout.proofs.calculate.Tie as tie
-use Rattle.layout.proofs.calculate.Reads as reads
-use Rattle.layout.proofs.calculate.Lts as lts
-use Rattle.layout.proofs.bounds_of.Reads as bounds-of-reads
-use Rattle.layout.proofs.cell_in.Reads as cell-in-reads
-use Rattle.layout.proofs.value_at.Reads as value-at-reads
 
 abbrev Inv-loop : tie.InvT-loop
 Inv-loop nest source memory₀ tile bounds size q₀ memory q = Calculating nest bounds source memory₀ memory q

@@ -1,16 +1,10 @@
+-- `layout::carry` meets its contract.
 use borrow.Author.Needs.{needs}
-use native.Mathlib.Omega.{arith}
-use Prim.Native.Nat.{ℕ, _+_, _-_, _*_, _/_, _%_, _≤_, _<_}
-use mathlib.Core.Path.{_≡_, refl, sym, ap, _∙_}
-use lib.ListN.{length, getD}
+use mathlib.Core.Path.{sym}
 use mathlib.Core.Bool.{false≢true}
 use borrow.Author.Tests.{le-ltb, lt-ltb}
-use borrow.Author.Needs.{needs}
 use Rattle.layout.proofs.carry.Statement.{statement}
 use Rattle.layout.proofs.carry.Tie as tie
-use Rattle.layout.proofs.carry.Reads as reads
-use Rattle.layout.proofs.carry.Lts as lts
-use Rattle.layout.proofs.split.Reads as split-reads
 
 add-moved : tie.Need-add-moved
 add-moved c = search needs

@@ -1,14 +1,8 @@
-use borrow.Author.Needs.{needs}
-use native.Mathlib.Omega.{arith}
-use Prim.Native.Nat.{ℕ, _+_, _-_, _*_, _/_, _%_, _≤_, _<_}
-use mathlib.Core.Path.{_≡_, refl, sym, ap, _∙_}
-use lib.ListN.{length, getD}
+-- `layout::cell_of` meets its contract.
+use mathlib.Core.Path.{refl}
 use Rattle.layout.proofs.Cells.{lengths-places, placed-cell}
 use Rattle.layout.proofs.cell_of.Statement.{statement}
 use Rattle.layout.proofs.cell_of.Tie as tie
-use Rattle.layout.proofs.cell_of.Reads as reads
-use Rattle.layout.proofs.cell_of.Lts as lts
-use Rattle.layout.proofs.place.Reads as place-reads
 
 place-requires : tie.Need-place-requires
 place-requires c κs = lengths-places _ (c .before .pre .0)

@@ -1,16 +1,7 @@
-use borrow.Author.Needs.{needs}
-use native.Mathlib.Omega.{arith}
-use Prim.Native.Nat.{ℕ, _+_, _-_, _*_, _/_, _%_, _≤_, _<_}
-use mathlib.Core.Path.{_≡_, refl, sym, ap, _∙_}
-use lib.ListN.{length, getD}
+-- `layout::end_of` meets its contract.
 use Rattle.layout.proofs.Cells.{ways-pos, tile-ranked, bound-within, sender-is, taker-is}
-use borrow.Author.Needs.{needs}
 use Rattle.layout.proofs.end_of.Statement.{statement}
 use Rattle.layout.proofs.end_of.Tie as tie
-use Rattle.layout.proofs.end_of.Reads as reads
-use Rattle.layout.proofs.end_of.Lts as lts
-use Rattle.layout.proofs.bound_for.Reads as bound-for-reads
-use Rattle.layout.proofs.rank.Reads as rank-reads
 
 div-result : tie.Need-div-result
 div-result c = ways-pos _ (c .before .before .pre .0 .accepted) _ (c .before .before .pre .0 .directions)

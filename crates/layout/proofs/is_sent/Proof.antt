@@ -1,16 +1,13 @@
+-- `layout::is_sent` meets its contract: no distance before e reaches the slot's tile.
 use borrow.Author.Needs.{needs}
 use native.Mathlib.Omega.{arith}
-use Prim.Native.Nat.{ℕ, _+_, _-_, _*_, _/_, _%_, _≤_, _<_}
-use mathlib.Core.Path.{_≡_, refl, sym, ap, _∙_}
-use lib.ListN.{length, getD}
+use Prim.Native.Nat.{_-_}
+use mathlib.Core.Path.{sym, _∙_}
 use Rattle.base.proofs.Tests.{some-one}
 use Rattle.layout.specs.Places.{puts}
 use Rattle.layout.proofs.Loops.{Nowhere, nowhere-none, nowhere-more, nowhere-end}
 use Rattle.layout.proofs.is_sent.Statement.{statement}
 use Rattle.layout.proofs.is_sent.Tie as tie
-use Rattle.layout.proofs.is_sent.Reads as reads
-use Rattle.layout.proofs.is_sent.Lts as lts
-use Rattle.layout.proofs.puts.Reads as puts-reads
 
 abbrev Inv-loop : tie.InvT-loop
 Inv-loop nest to at n e₀ e = Nowhere (puts nest to at) n e

@@ -1,21 +1,16 @@
+-- `layout::pack` meets its contract: between two cells, the words of the parcel's cells among the first q are packed; between two
+-- distances, nothing has changed since the cell was begun and no distance before e reads it there.
 use borrow.Author.Needs.{needs}
 use native.Mathlib.Omega.{arith}
-use Prim.Native.Nat.{ℕ, _+_, _-_, _*_, _/_, _%_, _≤_, _<_}
-use mathlib.Core.Path.{_≡_, refl, sym, ap, _∙_}
-use lib.ListN.{length, getD}
-use mathlib.Core.Logic.{⊎-elim, inl, inr}
-use Rattle.layout.specs.Places.{bound, puts}
-use Rattle.layout.proofs.Cells.{ways-pos, slot-low, place-small, relocated}
+use Prim.Native.Nat.{_-_, _<_}
+use mathlib.Core.Path.{refl, sym, ap, _∙_}
+use lib.ListN.{length}
+use Rattle.layout.specs.Places.{puts}
+use Rattle.layout.proofs.Cells.{ways-pos, slot-low, place-small}
 use Rattle.layout.proofs.Loops.{nowhere-more}
 use Rattle.layout.proofs.Walks.{Walk, walk-of, Packing, Searching, packing-none, packing-long, packed, search-room, search-hit, search-miss, size-few, parcel-is, parcel-few}
 use Rattle.layout.proofs.pack.Statement.{statement}
 use Rattle.layout.proofs.pack.Tie as tie
-use Rattle.layout.proofs.pack.Reads as reads
-use Rattle.layout.proofs.pack.Lts as lts
-use Rattle.layout.proofs.bound_for.Reads as bound-for-reads
-use Rattle.layout.proofs.bounds_of.Reads as bounds-of-reads
-use Rattle.layout.proofs.cell_in.Reads as cell-in-reads
-use Rattle.layout.proofs.puts.Reads as puts-reads
 
 abbrev Inv-distances : tie.InvT-distances
 Inv-distances nest slot words₀ memory bounds to size distances count₀ q₀ at number e₀ words count q e = Searching (puts nest to at) distances words₀ count₀ q₀ words count q e

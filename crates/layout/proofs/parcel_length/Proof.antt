@@ -1,20 +1,13 @@
+-- `layout::parcel_length` meets its contract: the parcel's cells among the first q of the box are counted.
 use borrow.Author.Needs.{needs}
 use native.Mathlib.Omega.{arith}
-use Prim.Native.Nat.{ℕ, _+_, _-_, _*_, _/_, _%_, _≤_, _<_}
-use mathlib.Core.Path.{_≡_, refl, sym, ap, _∙_}
-use lib.ListN.{length, getD}
+use Prim.Native.Nat.{_-_}
+use mathlib.Core.Path.{_≡_, _∙_}
 use mathlib.Core.Logic.{⊎-elim, inl, inr}
-use Rattle.layout.specs.Places.{bound, puts}
-use Rattle.layout.proofs.Cells.{ways-pos, slot-low, place-small, relocated}
+use Rattle.layout.proofs.Cells.{ways-pos, slot-low, place-small}
 use Rattle.layout.proofs.Walks.{Walk, walk-of, Measuring, measure-none, measure-few, measure-turn, measured, size-few, meets, meets-is}
 use Rattle.layout.proofs.parcel_length.Statement.{statement}
 use Rattle.layout.proofs.parcel_length.Tie as tie
-use Rattle.layout.proofs.parcel_length.Reads as reads
-use Rattle.layout.proofs.parcel_length.Lts as lts
-use Rattle.layout.proofs.bound_for.Reads as bound-for-reads
-use Rattle.layout.proofs.bounds_of.Reads as bounds-of-reads
-use Rattle.layout.proofs.cell_in.Reads as cell-in-reads
-use Rattle.layout.proofs.is_sent.Reads as is-sent-reads
 
 abbrev Inv-loop : tie.InvT-loop
 Inv-loop nest slot bounds to size count₀ q₀ count q = Measuring nest slot bounds count q

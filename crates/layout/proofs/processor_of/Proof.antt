@@ -1,18 +1,9 @@
-use borrow.Author.Needs.{needs}
-use native.Mathlib.Omega.{arith}
-use Prim.Native.Nat.{ℕ, _+_, _-_, _*_, _/_, _%_, _≤_, _<_}
-use mathlib.Core.Path.{_≡_, refl, sym, ap, _∙_}
-use lib.ListN.{length, getD}
+-- `layout::processor_of` meets its contract.
+use mathlib.Core.Path.{_∙_}
 use Rattle.plan.proofs.Tiles.{processorOf-low}
 use Rattle.layout.proofs.Cells.{processor-ranked, processor-rank}
-use borrow.Author.Needs.{needs}
 use Rattle.layout.proofs.processor_of.Statement.{statement}
 use Rattle.layout.proofs.processor_of.Tie as tie
-use Rattle.layout.proofs.processor_of.Reads as reads
-use Rattle.layout.proofs.processor_of.Lts as lts
-use Rattle.layout.proofs.place_of_tile.Reads as place-of-tile-reads
-use Rattle.layout.proofs.rank.Reads as rank-reads
-use Rattle.layout.proofs.remainders.Reads as remainders-reads
 
 place-of-tile-requires : tie.Need-place-of-tile-requires
 place-of-tile-requires c κs = c .pre .0

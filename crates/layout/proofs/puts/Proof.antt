@@ -1,8 +1,9 @@
+-- `layout::puts` meets its contract: before j each component stays inside, and in a spread dimension is in the tile asked for.
 use borrow.Author.Needs.{needs}
 use native.Mathlib.Omega.{arith}
-use Prim.Native.Nat.{ℕ, _+_, _-_, _*_, _/_, _%_, _≤_, _<_}
-use mathlib.Core.Path.{_≡_, refl, sym, ap, _∙_}
-use lib.ListN.{length, getD}
+use Prim.Native.Nat.{ℕ, _+_, _-_, _/_}
+use mathlib.Core.Path.{sym, _∙_}
+use lib.ListN.{getD}
 use mathlib.Core.Bool.{Bool}
 use mathlib.Core.List.{List}
 use lib.Dec.{ltb, eqb}
@@ -14,9 +15,6 @@ use Rattle.layout.specs.Places as puts
 use Rattle.layout.proofs.Loops.{Testing, testing-none, testing-more, testing-first, testing-second, testing-end}
 use Rattle.layout.proofs.puts.Statement.{statement}
 use Rattle.layout.proofs.puts.Tie as tie
-use Rattle.layout.proofs.puts.Reads as reads
-use Rattle.layout.proofs.puts.Lts as lts
-use Rattle.layout.proofs.carry.Reads as carry-reads
 
 abbrev stays : Nest → List ℕ → ℕ → ℕ → Bool
 stays x i e j = ltb (getD i j 0 + component x e j) (lengthOf x j)

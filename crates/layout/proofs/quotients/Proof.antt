@@ -1,16 +1,12 @@
+-- `layout::quotients` meets its contract: the array is filled from its start.
 use borrow.Author.Needs.{needs}
 use native.Mathlib.Omega.{arith}
-use Prim.Native.Nat.{ℕ, _+_, _-_, _*_, _/_, _%_, _≤_, _<_}
-use mathlib.Core.Path.{_≡_, refl, sym, ap, _∙_}
-use lib.ListN.{length, getD}
-use Rattle.nest.specs.Nest.{tileCount, tileLength}
-use native.Mathlib.Nat.{div-le-self}
+use Prim.Native.Nat.{_-_, _/_}
+use lib.ListN.{getD}
+use Rattle.nest.specs.Nest.{tileLength}
 use Rattle.layout.proofs.Loops.{Filled, filled-none, filled-more, filled-end}
 use Rattle.layout.proofs.quotients.Statement.{statement}
 use Rattle.layout.proofs.quotients.Tie as tie
-use Rattle.layout.proofs.quotients.Reads as reads
-use Rattle.layout.proofs.quotients.Lts as lts
-use Rattle.layout.proofs.split.Reads as split-reads
 
 abbrev Inv-loop : tie.InvT-loop
 Inv-loop nest at tile₀ n j₀ tile j = Filled (λ i. getD at i 0 / tileLength nest i) n tile j

@@ -1,14 +1,12 @@
+-- `layout::remainders` meets its contract: the array is filled from its start.
 use borrow.Author.Needs.{needs}
 use native.Mathlib.Omega.{arith}
-use Prim.Native.Nat.{ℕ, _+_, _-_, _*_, _/_, _%_, _≤_, _<_}
-use mathlib.Core.Path.{_≡_, refl, sym, ap, _∙_}
-use lib.ListN.{length, getD}
-use Rattle.nest.specs.Nest.{tileCount, tileLength}
+use Prim.Native.Nat.{_-_, _%_}
+use mathlib.Core.Path.{refl}
+use lib.ListN.{getD}
 use Rattle.layout.proofs.Loops.{Filled, filled-none, filled-more, filled-end}
 use Rattle.layout.proofs.remainders.Statement.{statement}
 use Rattle.layout.proofs.remainders.Tie as tie
-use Rattle.layout.proofs.remainders.Reads as reads
-use Rattle.layout.proofs.remainders.Lts as lts
 
 abbrev Inv-loop : tie.InvT-loop
 Inv-loop nest at processor₀ n j₀ processor j = Filled (λ i. getD at i 0 % getD (nest .counts) i 0) n processor j

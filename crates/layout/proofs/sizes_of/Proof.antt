@@ -1,19 +1,14 @@
+-- `layout::sizes_of` meets its contract.
 use borrow.Author.Needs.{needs}
 use native.Mathlib.Omega.{arith}
-use Prim.Native.Nat.{ℕ, _+_, _-_, _*_, _/_, _%_, _≤_, _<_}
-use mathlib.Core.Path.{_≡_, refl, sym, ap, _∙_}
-use lib.ListN.{length, getD}
+use Prim.Native.Nat.{ℕ, _-_}
+use mathlib.Core.Path.{ap, _∙_}
 use Rattle.nest.specs.Nest.{cells, processors}
 use Rattle.plan.specs.Messages.{directions, two}
 use Rattle.layout.proofs.Dims.{product-pos}
 use Rattle.layout.proofs.Cells.{lengths-countable, across-countable, counts-countable, two-countable, two-product, across-product}
-use borrow.Author.Needs.{needs}
 use Rattle.layout.proofs.sizes_of.Statement.{statement}
 use Rattle.layout.proofs.sizes_of.Tie as tie
-use Rattle.layout.proofs.sizes_of.Reads as reads
-use Rattle.layout.proofs.sizes_of.Lts as lts
-use Rattle.layout.proofs.across_of.Reads as across-of-reads
-use Rattle.layout.proofs.product.Reads as product-reads
 
 across-of-requires : tie.Need-across-of-requires
 across-of-requires c κs = search needs

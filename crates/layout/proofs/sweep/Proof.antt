@@ -1,16 +1,12 @@
+-- `layout::sweep` meets its contract: the grid is the sweep of the first c cells, then what it held; a value reads earlier cells alone.
 use borrow.Author.Needs.{needs}
 use native.Mathlib.Omega.{arith}
-use Prim.Native.Nat.{ℕ, _+_, _-_, _*_, _/_, _%_, _≤_, _<_}
-use mathlib.Core.Path.{_≡_, refl, sym, ap, _∙_}
-use lib.ListN.{length, getD}
-use mathlib.Core.Logic.{⊎-elim, inl, inr}
+use Prim.Native.Nat.{_-_}
+use mathlib.Core.Path.{sym, _∙_}
 use Rattle.plan.proofs.Sound.{sound}
 use Rattle.layout.proofs.Walks.{Sweeping, sweeping-none, sweeping-long, sweeping-more, swept}
 use Rattle.layout.proofs.sweep.Statement.{statement}
 use Rattle.layout.proofs.sweep.Tie as tie
-use Rattle.layout.proofs.sweep.Reads as reads
-use Rattle.layout.proofs.sweep.Lts as lts
-use Rattle.layout.proofs.value.Reads as value-reads
 
 abbrev Inv-loop : tie.InvT-loop
 Inv-loop nest sizes source grid₀ n c₀ grid c = Sweeping nest source grid₀ grid c

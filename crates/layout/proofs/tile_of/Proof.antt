@@ -1,19 +1,10 @@
-use borrow.Author.Needs.{needs}
-use native.Mathlib.Omega.{arith}
-use Prim.Native.Nat.{ℕ, _+_, _-_, _*_, _/_, _%_, _≤_, _<_}
-use mathlib.Core.Path.{_≡_, refl, sym, ap, _∙_}
-use lib.ListN.{length, getD}
+-- `layout::tile_of` meets its contract.
+use mathlib.Core.Path.{_∙_}
 use Rattle.plan.specs.Geometry.{tileOf}
 use Rattle.plan.proofs.Tiles.{tileOf-low}
 use Rattle.layout.proofs.Cells.{place-small, tile-ranked, tile-rank, quotients-are, quotient-within}
-use borrow.Author.Needs.{needs}
 use Rattle.layout.proofs.tile_of.Statement.{statement}
 use Rattle.layout.proofs.tile_of.Tie as tie
-use Rattle.layout.proofs.tile_of.Reads as reads
-use Rattle.layout.proofs.tile_of.Lts as lts
-use Rattle.layout.proofs.cell_of.Reads as cell-of-reads
-use Rattle.layout.proofs.quotients.Reads as quotients-reads
-use Rattle.layout.proofs.rank.Reads as rank-reads
 
 cell-of-requires : tie.Need-cell-of-requires
 cell-of-requires c κs = (c .pre .0 .accepted, c .pre .1)

@@ -1,20 +1,14 @@
+-- `layout::unpack` meets its contract: the parcel's cells among the first q have their words.
 use borrow.Author.Needs.{needs}
 use native.Mathlib.Omega.{arith}
-use Prim.Native.Nat.{ℕ, _+_, _-_, _*_, _/_, _%_, _≤_, _<_}
-use mathlib.Core.Path.{_≡_, refl, sym, ap, _∙_}
-use lib.ListN.{length, getD}
+use Prim.Native.Nat.{_-_}
+use mathlib.Core.Path.{_≡_, sym, ap, _∙_}
+use lib.ListN.{length}
 use mathlib.Core.Logic.{⊎-elim, inl, inr}
-use Rattle.layout.specs.Places.{bound, puts}
-use Rattle.layout.proofs.Cells.{ways-pos, slot-low, place-small, relocated}
+use Rattle.layout.proofs.Cells.{ways-pos, slot-low, place-small}
 use Rattle.layout.proofs.Walks.{Walk, walk-of, walked, Unpacking, unpacking-none, unpacking-long, unpacking-room, unpacking-turn, unpacked, unpacking-few, size-few, parcel-is, meets, meets-is}
 use Rattle.layout.proofs.unpack.Statement.{statement}
 use Rattle.layout.proofs.unpack.Tie as tie
-use Rattle.layout.proofs.unpack.Reads as reads
-use Rattle.layout.proofs.unpack.Lts as lts
-use Rattle.layout.proofs.bound_for.Reads as bound-for-reads
-use Rattle.layout.proofs.bounds_of.Reads as bounds-of-reads
-use Rattle.layout.proofs.cell_in.Reads as cell-in-reads
-use Rattle.layout.proofs.is_sent.Reads as is-sent-reads
 
 abbrev Inv-loop : tie.InvT-loop
 Inv-loop nest slot memory₀ words bounds to size count₀ q₀ memory count q = Unpacking nest slot bounds memory₀ words memory count q

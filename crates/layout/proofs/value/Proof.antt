@@ -1,17 +1,9 @@
-use borrow.Author.Needs.{needs}
-use native.Mathlib.Omega.{arith}
-use Prim.Native.Nat.{ℕ, _+_, _-_, _*_, _/_, _%_, _≤_, _<_}
-use mathlib.Core.Path.{_≡_, refl, sym, ap, _∙_}
-use lib.ListN.{length, getD}
+-- `layout::value` meets its contract.
+use mathlib.Core.Path.{ap, _∙_}
 use Rattle.plan.specs.Geometry.{value}
 use Rattle.layout.proofs.Cells.{relocated}
-use borrow.Author.Needs.{needs}
 use Rattle.layout.proofs.value.Statement.{statement}
 use Rattle.layout.proofs.value.Tie as tie
-use Rattle.layout.proofs.value.Reads as reads
-use Rattle.layout.proofs.value.Lts as lts
-use Rattle.layout.proofs.cell_of.Reads as cell-of-reads
-use Rattle.layout.proofs.value_at.Reads as value-at-reads
 
 cell-of-requires : tie.Need-cell-of-requires
 cell-of-requires c κs = (c .before .before .pre .0 .accepted, c .before .before .pre .1 .0)

@@ -1,17 +1,13 @@
+-- `layout::value_at` meets its contract: the sum over the first e distances, which fits 64 bits.
 use borrow.Author.Needs.{needs}
 use native.Mathlib.Omega.{arith}
-use Prim.Native.Nat.{ℕ, _+_, _-_, _*_, _/_, _%_, _≤_, _<_}
-use mathlib.Core.Path.{_≡_, refl, sym, ap, _∙_}
-use lib.ListN.{length, getD}
+use Prim.Native.Nat.{_-_, _/_}
 use Prim.Native.Nat.{_^_}
 use native.Mathlib.Nat.{mod-lt}
 use Rattle.plan.proofs.Tiles.{cellPlace-low}
 use Rattle.layout.proofs.Cells.{Summing, summing-none, summing-small, summing-more, summing-end}
 use Rattle.layout.proofs.value_at.Statement.{statement}
 use Rattle.layout.proofs.value_at.Tie as tie
-use Rattle.layout.proofs.value_at.Reads as reads
-use Rattle.layout.proofs.value_at.Lts as lts
-use Rattle.layout.proofs.word_read.Reads as word-read-reads
 
 abbrev Inv-loop : tie.InvT-loop
 Inv-loop source memory nest c at total₀ n e₀ total e = Summing nest source memory c at total e

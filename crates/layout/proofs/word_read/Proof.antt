@@ -1,14 +1,10 @@
+-- `layout::word_read` meets its contract: the first j components are taken away, and each could be.
 use borrow.Author.Needs.{needs}
 use native.Mathlib.Omega.{arith}
-use Prim.Native.Nat.{ℕ, _+_, _-_, _*_, _/_, _%_, _≤_, _<_}
-use mathlib.Core.Path.{_≡_, refl, sym, ap, _∙_}
-use lib.ListN.{length, getD}
+use Prim.Native.Nat.{_-_}
 use Rattle.layout.proofs.Cells.{Reading, reading-none, reading-stops, reading-more, reading-ranked, reading-low, reading-end}
 use Rattle.layout.proofs.word_read.Statement.{statement}
 use Rattle.layout.proofs.word_read.Tie as tie
-use Rattle.layout.proofs.word_read.Reads as reads
-use Rattle.layout.proofs.word_read.Lts as lts
-use Rattle.layout.proofs.rank.Reads as rank-reads
 
 abbrev Inv-loop : tie.InvT-loop
 Inv-loop memory e nest at back₀ n j₀ back j = Reading nest at e back j
