@@ -42,7 +42,7 @@ def drawn_recipe(draw, most_cells, most_words=None, n=None, m=None, distances=No
     while True:
         dims = n or draw.between(2, 4)
         spread = min(m or draw.between(1, dims - 1), dims - 1)
-        lengths = [draw.between(1, draw.pick([2, 4, 7, 12])) for _ in range(dims)]
+        lengths = [draw.between(1, draw.pick([3, 5, 7, 12])) for _ in range(dims)]
         # k up to one more than the length: the last tile is often short, some tiles are longer than their dimension
         tiling = [draw.between(2, max(2, length + 1)) if draw.below(5) else 1 for length in lengths]
         tiling = [min(k, draw.between(2, 5)) if k > 1 else 1 for k in tiling]
@@ -63,7 +63,7 @@ def drawn_recipe(draw, most_cells, most_words=None, n=None, m=None, distances=No
         boundary = 0 if plain else draw.pick([0, 1, 7, 4294967295])
         encoded = model.encode(lengths, tiling, counts, found, weights, shift, boundary)
         number, plan = model.plan_of(encoded)
-        if number == 0 and 2 <= plan.cells <= most_cells and plan.messages:
+        if number == 0 and plan.cells <= most_cells and plan.tiles >= 3 * spread and len(plan.messages) >= 2 * spread:
             if most_words is None or plan.cells * plan.boards <= most_words:
                 return encoded
 
@@ -228,7 +228,7 @@ def sweep_recipes():
         encode([32, 32], [8, 8], [2, 0], [(1, 0), (0, 1), (1, 1)]),
         encode([32, 32], [8, 8], [4, 0], [(7, 7), (0, 3)], [3, 2], 1, 9),
         encode([25, 41], [8, 8], [2, 0], [(1, 0)]),
-        encode([1024, 1], [8, 1], [4, 0], [(7, 0), (1, 0)], [3, 65535], 2, 5),
+        encode([1024, 1], [32, 1], [4, 0], [(31, 0), (1, 0)], [3, 65535], 2, 5),
         encode([1024, 1], [8, 1], [5, 0], [(7, 0)]),
         encode([1, 1024], [2, 64], [4, 0], [(1, 63), (0, 1)]),
         encode([5, 205], [3, 20], [2, 0], [(2, 1)]),
@@ -238,25 +238,25 @@ def sweep_recipes():
         encode([1025 // 5, 5], [50, 5], [2, 0], [(1, 1)]),
         encode([32, 32], [2, 32], [4, 0], [(1, 31), (1, 0), (0, 31)]),
         # cells x boards 4,096, and just above
-        encode([512, 1], [16, 1], [8, 0], [(15, 0), (3, 0)], [2, 1], 1, 0),
-        encode([16, 16], [2, 4], [16, 0], [(1, 3), (1, 0)]),
+        encode([512, 1], [32, 1], [8, 0], [(31, 0), (3, 0)], [2, 1], 1, 0),
+        encode([16, 16], [4, 4], [16, 0], [(1, 3), (3, 0)]),
         encode([8, 8, 8], [2, 2, 8], [4, 2, 0], [(1, 1, 7), (1, 0, 0), (0, 1, 3)]),
         encode([8, 8, 8], [2, 2, 8], [3, 3, 0], [(1, 1, 7)]),
         encode([8, 4, 4], [2, 2, 2], [8, 4, 0], [(1, 1, 1), (0, 1, 0)]),
         encode([4, 4, 4], [2, 2, 2], [8, 8, 0], [(1, 0, 1), (0, 1, 0)]),
         encode([4, 4, 4, 1], [2, 2, 2, 1], [4, 4, 4, 0], [(1, 1, 1, 0), (1, 0, 0, 0), (0, 1, 0, 0), (0, 0, 1, 0)]),
-        encode([4, 4, 4, 1], [2, 2, 2, 1], [2, 4, 8, 0], [(1, 1, 1, 0), (0, 1, 1, 0)], [65535, 3], 3, 77),
+        encode([4, 4, 4, 1], [3, 3, 2, 1], [2, 4, 8, 0], [(1, 2, 1, 0), (0, 1, 1, 0)], [65535, 3], 3, 77),
         encode([8, 4, 4, 4], [4, 2, 2, 2], [2, 2, 2, 0], [(3, 1, 1, 1), (2, 0, 0, 1), (0, 1, 0, 0), (0, 0, 1, 0)]),
         encode([8, 4, 4, 4], [4, 2, 2, 2], [3, 3, 2, 0], [(3, 1, 1, 1)]),
-        encode([64, 1], [2, 1], [64, 0], [(1, 0)]),
-        encode([65, 1], [2, 1], [63, 0], [(1, 0)]),
-        encode([65, 1], [2, 1], [64, 0], [(1, 0)]),
+        encode([64, 1], [8, 1], [64, 0], [(7, 0), (1, 0)]),
+        encode([65, 1], [9, 1], [63, 0], [(1, 0)]),
+        encode([65, 1], [9, 1], [64, 0], [(1, 0)]),
         encode([819, 1], [20, 1], [5, 0], [(19, 0)]),
         encode([820, 1], [20, 1], [5, 0], [(19, 0)]),
         encode([22, 31], [5, 6], [6, 0], [(4, 5), (0, 1)]),
         encode([683, 1], [30, 1], [6, 0], [(29, 0)]),
         encode([241, 1], [10, 1], [17, 0], [(9, 0)]),
-        encode([240, 1], [10, 1], [17, 0], [(9, 0), (1, 0)], [1, 2], 0, 3),
+        encode([240, 1], [20, 1], [17, 0], [(19, 0), (1, 0)], [1, 2], 0, 3),
         encode([2, 1024], [2, 64], [2, 0], [(1, 1)]),
         encode([128, 128], [16, 16], [2, 0], [(1, 1)]),
         # many small tiles
@@ -616,7 +616,8 @@ def runs_to_the_end(s):
     recipes = [model.ROWS[row] for row in 'ABCE'] + chosen_recipes()[:3] + [chosen_recipes()[at] for at in (4, 6, 7, 9, 11)]
     for n in (2, 3, 4):
         for m in range(1, n):
-            recipes.append(drawn_recipe(draw, 150, most_words=1500, n=n, m=m, distances=draw.between(2, 6)))
+            for _ in range(2):
+                recipes.append(drawn_recipe(draw, 150, most_words=1500, n=n, m=m, distances=draw.between(2, 6)))
     for k, encoded in enumerate(recipes):
         source = [(EACH, 1), (COUNT, 0), (DRAWN, draw.word())][k % 3]
         plan = s.start('a whole run, %d steps' % model.plan_of(encoded)[1].steps, encoded, source)
