@@ -709,6 +709,8 @@ def all_files():
         'plan_cases/stdout': cases_text(plans, model.plan_text),
         'sweep_cases/data/cases': cases_file(sweeps),
         'sweep_cases/stdout': cases_text(sweeps, model.compare_text),
+        'compare_sweeps/stdin': model.ROWS['C'],
+        'compare_sweeps/stdout': model.compare_text(model.ROWS['C']).encode(),
         'run_cases/data/script': b''.join(script.records),
         'run_cases/stdout': ''.join(line + '\n' for line in script.lines).encode(),
     }

@@ -26,7 +26,15 @@ fn turn_each(
     let mut place: u32 = 0;
     while place < processors {
         let processor = in_order(place, processors, falling);
-        let answer = engine::turn(encoded, source, memories, buffer, progress, status, processor);
+        let answer = engine::turn(
+            encoded,
+            source,
+            memories,
+            buffer,
+            progress,
+            status,
+            processor,
+        );
         if answer == 0 {
             taken = true;
         }
@@ -93,10 +101,27 @@ fn round(
     messages: u32,
     falling: bool,
 ) -> bool {
-    if turn_each(encoded, source, memories, buffer, progress, status, processors, falling) {
+    if turn_each(
+        encoded,
+        source,
+        memories,
+        buffer,
+        progress,
+        status,
+        processors,
+        falling,
+    ) {
         return true;
     }
-    deliver_each(encoded, source, memories, buffer, progress, status, messages)
+    deliver_each(
+        encoded,
+        source,
+        memories,
+        buffer,
+        progress,
+        status,
+        messages,
+    )
 }
 
 // Rounds until one does nothing. Each that does something takes a step or more, so there are at most as many as the run has steps.
@@ -113,7 +138,19 @@ pub fn drive(
     falling: bool,
 ) {
     let mut left = steps;
-    while left > 0 && round(encoded, source, memories, buffer, progress, status, processors, messages, falling) {
+    while left > 0
+        && round(
+            encoded,
+            source,
+            memories,
+            buffer,
+            progress,
+            status,
+            processors,
+            messages,
+            falling,
+        )
+    {
         left -= 1;
     }
 }

@@ -1,28 +1,28 @@
 // Carries out the file `script`, records of 16 bytes, on areas of its own: each call's number is printed with a checksum of every
 // word that was lent. tools/README.md has the format.
 use libc::STDOUT_FILENO;
+ghost use Rattle.io.specs.Counts.{Counts};
 
-fn least(a: usize, b: usize) -> usize {
-    if a < b { a } else { b }
-}
-
-// How much of an area is lent: lent[0] is the recipe's length in bytes, lent[1] to lent[6] those of the areas.
-fn lent_of(lent: &[u32], area: usize, room: usize) -> usize {
+// What of an area is lent: lent[0] is the recipe's length in bytes, lent[1] to lent[6] those of the areas.
+fn lent_at(lent: &[u32], area: usize) -> usize {
     if area < lent.len() {
-        let words = lent[area];
-        return least(words as usize, room);
+        return parts::wide(lent[area]);
     }
     0
 }
 
-// The number in four bytes of a record.
-fn number_at(record: &[u8], at: usize) -> u32 {
-    if at <= 12 && record.len() == 16 {
-        let low = record[at] as u32 + 256 * (record[at + 1] as u32);
-        let high = record[at + 2] as u32 + 256 * (record[at + 3] as u32);
-        return low + 65536 * high;
-    }
-    0
+fn front(words: &[u32], lent: &[u32], area: usize) -> usize
+    ensures { λ r. ⌜ Counts r (now (words .entry)) ⌝ }
+{
+    let n = lent_at(lent, area);
+    parts::front(words, n)
+}
+
+fn front_bytes(bytes: &[u8], lent: &[u32], area: usize) -> usize
+    ensures { λ r. ⌜ Counts r (now (bytes .entry)) ⌝ }
+{
+    let n = lent_at(lent, area);
+    parts::front_bytes(bytes, n)
 }
 
 // ---- rules by which areas are filled
@@ -104,14 +104,21 @@ fn fold_bytes(start: u32, bytes: &[u8]) -> u32 {
     let mut h = fold(start, (bytes.len() % 4294967296) as u32);
     let mut i: usize = 0;
     while i < bytes.len() {
-        h = fold(h, bytes[i] as u32);
+        h = fold(h, parts::of_byte(bytes[i]));
         i += 1;
     }
     h
 }
 
 // Over all words lent: each area's length, then its words.
-fn checksum(source: &[u32], memories: &[u32], buffer: &[u32], progress: &[u32], status: &[u8], grid: &[u32]) -> u32 {
+fn checksum(
+    source: &[u32],
+    memories: &[u32],
+    buffer: &[u32],
+    progress: &[u32],
+    status: &[u8],
+    grid: &[u32],
+) -> u32 {
     let h1 = fold_words(2166136261, source);
     let h2 = fold_words(h1, memories);
     let h3 = fold_words(h2, buffer);
@@ -156,7 +163,7 @@ fn show_words(words: &[u32]) {
 fn show_bytes(bytes: &[u8]) {
     let mut i: usize = 0;
     while i < bytes.len() {
-        print_word(bytes[i] as u32);
+        print_word(parts::of_byte(bytes[i]));
         i += 1;
     }
     print_end();
@@ -175,12 +182,13 @@ fn lend_nothing(lent: &mut [u32]) {
 
 // Record 2: the recipe's bytes follow, filled up to whole records.
 fn read_recipe(fd: i32, recipe: &mut [u8], lent: &mut [u32], length: u32) {
-    if length <= 512 && 0 < lent.len() {
-        lent[0] = length;
-        let padded = (length as usize + 15) / 16 * 16;
-        let n = least(padded, recipe.len());
-        io::read_full(fd, &mut recipe[..n]);
+    if length > 512 {
+        return;
     }
+    poke_word(lent, 0, length);
+    let padded = (parts::wide(length) + 15) / 16 * 16;
+    let n = parts::front_bytes(recipe, padded);
+    io::read_full(fd, &mut recipe[..n]);
 }
 
 // Records 4, 5 and 11, on one area.
@@ -232,7 +240,17 @@ fn call(
     op: u8,
     a: u32,
 ) {
-    let number = answer(encoded, source, memories, buffer, progress, status, grid, op, a);
+    let number = answer(
+        encoded,
+        source,
+        memories,
+        buffer,
+        progress,
+        status,
+        grid,
+        op,
+        a,
+    );
     let sum = checksum(source, memories, buffer, progress, status, grid);
     print_answer(number, sum);
 }
@@ -254,10 +272,20 @@ fn act(
     let op = record[0];
     let area = record[1];
     let rule = record[2];
-    let a = number_at(record, 4);
-    let b = number_at(record, 8);
+    let a = parts::word(record, 4);
+    let b = parts::word(record, 8);
     match area {
-        0 => call(encoded, source, memories, buffer, progress, status, grid, op, a),
+        0 => call(
+            encoded,
+            source,
+            memories,
+            buffer,
+            progress,
+            status,
+            grid,
+            op,
+            a,
+        ),
         1 => change_words(source, op, rule, a, b),
         2 => change_words(memories, op, rule, a, b),
         3 => change_words(buffer, op, rule, a, b),
@@ -279,13 +307,13 @@ fn act_on_lent(
     lent: &[u32],
     record: &[u8],
 ) {
-    let e = lent_of(lent, 0, recipe.len());
-    let s = lent_of(lent, 1, source.len());
-    let m = lent_of(lent, 2, memories.len());
-    let b = lent_of(lent, 3, buffer.len());
-    let p = lent_of(lent, 4, progress.len());
-    let t = lent_of(lent, 5, status.len());
-    let g = lent_of(lent, 6, grid.len());
+    let e = front_bytes(recipe, lent, 0);
+    let s = front(source, lent, 1);
+    let m = front(memories, lent, 2);
+    let b = front(buffer, lent, 3);
+    let p = front(progress, lent, 4);
+    let t = front_bytes(status, lent, 5);
+    let g = front(grid, lent, 6);
     act(
         &recipe[..e],
         &mut source[..s],
@@ -304,8 +332,8 @@ fn arrange(fd: i32, recipe: &mut [u8], lent: &mut [u32], record: &[u8]) -> bool 
         return true;
     }
     let op = record[0];
-    let area = record[1] as u32;
-    let a = number_at(record, 4);
+    let area = parts::of_byte(record[1]);
+    let a = parts::word(record, 4);
     if op == 1 {
         lend_nothing(lent);
         print_case(a);
@@ -342,7 +370,17 @@ fn step(
     if arrange(fd, recipe, lent, &record) {
         return true;
     }
-    act_on_lent(recipe, source, memories, buffer, progress, status, grid, lent, &record);
+    act_on_lent(
+        recipe,
+        source,
+        memories,
+        buffer,
+        progress,
+        status,
+        grid,
+        lent,
+        &record,
+    );
     true
 }
 
@@ -359,7 +397,19 @@ fn run_script(
     lent: &mut [u32],
 ) {
     let mut records = u64::MAX;
-    while records > 0 && step(fd, recipe, source, memories, buffer, progress, status, grid, lent) {
+    while records > 0
+        && step(
+            fd,
+            recipe,
+            source,
+            memories,
+            buffer,
+            progress,
+            status,
+            grid,
+            lent,
+        )
+    {
         records -= 1;
     }
 }

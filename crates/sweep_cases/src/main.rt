@@ -1,23 +1,24 @@
 // What the second program writes, for each recipe of the file `cases`: two bytes of length, then as many bytes, again and again.
 use libc::STDOUT_FILENO;
 
-fn least(a: usize, b: usize) -> usize {
-    if a < b { a } else { b }
-}
-
 fn print_case(number: u64) {
     io::write_all(STDOUT_FILENO, b"case ");
     io::print_decimal(STDOUT_FILENO, number);
     io::write_all(STDOUT_FILENO, b"\n");
 }
 
+// Reads as many bytes to the start of the space, and answers how many came.
+fn read_bytes(fd: i32, space: &mut [u8], length: usize) -> usize {
+    let n = parts::front_bytes(space, length);
+    io::read_full(fd, &mut space[..n])
+}
+
 // The recipe of this length that comes next.
 fn run_case(fd: i32, length: usize) {
-    let mut encoded = io::buffer();
-    let n = least(length, 4096);
-    let got = io::read_full(fd, &mut encoded[..n]);
-    let end = least(got, 4096);
-    comparison::print(&encoded[..end]);
+    let mut space = io::buffer();
+    let got = read_bytes(fd, &mut space, length);
+    let n = parts::front_bytes(&space, got);
+    comparison::print(&space[..n]);
 }
 
 // The next case: whether there was one.
@@ -28,8 +29,7 @@ fn next_case(fd: i32, number: u64) -> bool {
         return false;
     }
     print_case(number);
-    let length = head[0] as usize + 256 * head[1] as usize;
-    run_case(fd, length);
+    run_case(fd, parts::half(&head));
     true
 }
 
