@@ -70,8 +70,11 @@ fn run_whole(
     if engine::fresh(encoded, source, memories, buffer, progress, status) != 0 {
         return false;
     }
-    let processors = extent.processors;
-    let messages = extent.messages;
+    let order = drive::Order {
+        processors: extent.processors,
+        messages: extent.messages,
+        falling: falling,
+    };
     let steps = extent.steps;
     drive::drive(
         encoded,
@@ -80,10 +83,8 @@ fn run_whole(
         buffer,
         progress,
         status,
-        processors,
-        messages,
+        order,
         steps,
-        falling,
     );
     true
 }
@@ -222,6 +223,11 @@ fn print_refused(number: u32) {
     io::write_all(STDOUT_FILENO, b"\n");
 }
 
+// Counts are far below the limit.
+fn narrow(x: usize) -> u32 {
+    if x < 4294967296 { x as u32 } else { 4294967295 }
+}
+
 fn is_beyond(cells: u32, processors: u32) -> bool {
     if cells > 1024 {
         return true;
@@ -243,8 +249,8 @@ pub fn print(encoded: &[u8]) {
     }
     let nest = reading.nest;
     let sizes = layout::sizes_of(nest);
-    let cells = sizes.cells as u32;
-    let processors = sizes.processors as u32;
+    let cells = narrow(sizes.cells);
+    let processors = narrow(sizes.processors);
     if is_beyond(cells, processors) {
         io::write_all(STDOUT_FILENO, b"beyond\n");
         return;

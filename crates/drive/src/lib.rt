@@ -1,6 +1,13 @@
 // Drives a run to its end by the offered calls: the processors take turns in rising or in falling order; when no turn can be
 // taken, each message in flight is delivered; until nothing can be done.
 
+// How many processors and messages there are, and in which order the processors take turns.
+pub struct Order {
+    pub processors: u32,
+    pub messages: u32,
+    pub falling: bool,
+}
+
 // The processor that takes the turn of this place in the order.
 fn in_order(place: u32, processors: u32, falling: bool) -> u32 {
     if falling {
@@ -97,10 +104,11 @@ fn round(
     buffer: &mut [u32],
     progress: &mut [u32],
     status: &mut [u8],
-    processors: u32,
-    messages: u32,
-    falling: bool,
+    order: Order,
 ) -> bool {
+    let processors = order.processors;
+    let messages = order.messages;
+    let falling = order.falling;
     if turn_each(
         encoded,
         source,
@@ -132,25 +140,11 @@ pub fn drive(
     buffer: &mut [u32],
     progress: &mut [u32],
     status: &mut [u8],
-    processors: u32,
-    messages: u32,
+    order: Order,
     steps: u32,
-    falling: bool,
 ) {
     let mut left = steps;
-    while left > 0
-        && round(
-            encoded,
-            source,
-            memories,
-            buffer,
-            progress,
-            status,
-            processors,
-            messages,
-            falling,
-        )
-    {
+    while left > 0 && round(encoded, source, memories, buffer, progress, status, order) {
         left -= 1;
     }
 }

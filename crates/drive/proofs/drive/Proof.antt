@@ -7,11 +7,11 @@ use Rattle.drive.proofs.drive.Statement.{statement}
 use Rattle.drive.proofs.drive.Tie as tie
 
 abbrev Inv-loop : tie.InvT-loop
-Inv-loop encoded source memories₀ buffer₀ progress₀ status₀ processors messages steps falling left₀ memories buffer progress status left =
+Inv-loop encoded source memories₀ buffer₀ progress₀ status₀ order steps left₀ memories buffer progress status left =
     (length memories ≡ length memories₀) × (length buffer ≡ length buffer₀) × (length progress ≡ length progress₀) × (length status ≡ length status₀)
 
 abbrev μ-loop : tie.MeasureT-loop
-μ-loop encoded source memories₀ buffer₀ progress₀ status₀ processors messages steps falling left₀ memories buffer progress status left = left
+μ-loop encoded source memories₀ buffer₀ progress₀ status₀ order steps left₀ memories buffer progress status left = left
 
 loop-holds : tie.Need-loop-holds Inv-loop μ-loop
 loop-holds c = search needs
