@@ -1,0 +1,448 @@
+// Carries out the file `script`, records of 16 bytes, on areas of its own: each call's number is printed with a checksum of every
+// word that was lent. tools/README.md has the format.
+use libc::STDOUT_FILENO;
+ghost use Rattle.io.specs.Counts.{Counts};
+
+// What of an area is lent: lent[0] is the recipe's length in bytes, lent[1] to lent[6] those of the areas.
+fn lent_at(lent: &[u32], area: usize) -> usize {
+    if area < lent.len() {
+        return parts::wide(lent[area]);
+    }
+    0
+}
+
+fn front(words: &[u32], lent: &[u32], area: usize) -> usize
+    ensures { λ r. ⌜ Counts r (now (words .entry)) ⌝ }
+{
+    let n = lent_at(lent, area);
+    parts::front(words, n)
+}
+
+fn front_bytes(bytes: &[u8], lent: &[u32], area: usize) -> usize
+    ensures { λ r. ⌜ Counts r (now (bytes .entry)) ⌝ }
+{
+    let n = lent_at(lent, area);
+    parts::front_bytes(bytes, n)
+}
+
+// ---- rules by which areas are filled
+
+fn drawn(x: u32) -> u32 {
+    ((x as u64 * 1664525 + 1013904223) % 4294967296) as u32
+}
+
+fn one_more(x: u32) -> u32 {
+    if x < 4294967295 { x + 1 } else { 0 }
+}
+
+// The generator's next value by a rule: 0 the same, 1 one more, 2 and 3 drawn.
+fn next_by(rule: u8, x: u32) -> u32 {
+    match rule {
+        0 => x,
+        1 => one_more(x),
+        _ => drawn(x),
+    }
+}
+
+// The word made of it: by rule 3 its two upper bits.
+fn word_by(rule: u8, x: u32) -> u32 {
+    if rule == 3 { x / 1073741824 } else { x }
+}
+
+fn fill_words(words: &mut [u32], rule: u8, a: u32) {
+    let mut x = a;
+    let mut i: usize = 0;
+    while i < words.len() {
+        x = next_by(rule, x);
+        words[i] = word_by(rule, x);
+        i += 1;
+    }
+}
+
+fn fill_bytes(bytes: &mut [u8], rule: u8, a: u32) {
+    let mut x = a;
+    let mut i: usize = 0;
+    while i < bytes.len() {
+        x = next_by(rule, x);
+        let word = word_by(rule, x);
+        bytes[i] = (word % 256) as u8;
+        i += 1;
+    }
+}
+
+fn poke_word(words: &mut [u32], at: u32, word: u32) {
+    let i = at as usize;
+    if i < words.len() {
+        words[i] = word;
+    }
+}
+
+fn poke_byte(bytes: &mut [u8], at: u32, word: u32) {
+    let i = at as usize;
+    if i < bytes.len() {
+        bytes[i] = (word % 256) as u8;
+    }
+}
+
+// ---- checksum
+
+fn fold(h: u32, x: u32) -> u32 {
+    ((h as u64 * 16777619 + x as u64) % 4294967296) as u32
+}
+
+fn fold_words(start: u32, words: &[u32]) -> u32 {
+    let mut h = fold(start, (words.len() % 4294967296) as u32);
+    let mut i: usize = 0;
+    while i < words.len() {
+        h = fold(h, words[i]);
+        i += 1;
+    }
+    h
+}
+
+fn fold_bytes(start: u32, bytes: &[u8]) -> u32 {
+    let mut h = fold(start, (bytes.len() % 4294967296) as u32);
+    let mut i: usize = 0;
+    while i < bytes.len() {
+        h = fold(h, parts::of_byte(bytes[i]));
+        i += 1;
+    }
+    h
+}
+
+// Over all words lent: each area's length, then its words.
+fn checksum(
+    source: &[u32],
+    memories: &[u32],
+    buffer: &[u32],
+    progress: &[u32],
+    status: &[u8],
+    grid: &[u32],
+) -> u32 {
+    let h1 = fold_words(2166136261, source);
+    let h2 = fold_words(h1, memories);
+    let h3 = fold_words(h2, buffer);
+    let h4 = fold_words(h3, progress);
+    let h5 = fold_bytes(h4, status);
+    fold_words(h5, grid)
+}
+
+// ---- printing
+
+fn print_end() {
+    io::write_all(STDOUT_FILENO, b"\n");
+}
+
+fn print_case(number: u32) {
+    io::write_all(STDOUT_FILENO, b"case ");
+    io::print_decimal(STDOUT_FILENO, number as u64);
+    print_end();
+}
+
+fn print_answer(number: u32, sum: u32) {
+    io::print_decimal(STDOUT_FILENO, number as u64);
+    io::write_all(STDOUT_FILENO, b" ");
+    io::print_hex(STDOUT_FILENO, sum as u64, 8);
+    print_end();
+}
+
+fn print_word(word: u32) {
+    io::print_decimal(STDOUT_FILENO, word as u64);
+    io::write_all(STDOUT_FILENO, b" ");
+}
+
+fn show_words(words: &[u32]) {
+    let mut i: usize = 0;
+    while i < words.len() {
+        print_word(words[i]);
+        i += 1;
+    }
+    print_end();
+}
+
+fn show_bytes(bytes: &[u8]) {
+    let mut i: usize = 0;
+    while i < bytes.len() {
+        print_word(parts::of_byte(bytes[i]));
+        i += 1;
+    }
+    print_end();
+}
+
+// ---- records: what each does
+
+// Records 1 and 3: a case begins with nothing lent; the first words of an area are lent.
+fn lend_nothing(lent: &mut [u32]) {
+    let mut i: usize = 0;
+    while i < lent.len() {
+        lent[i] = 0;
+        i += 1;
+    }
+}
+
+// Record 2: the recipe's bytes follow, filled up to whole records.
+fn read_recipe(fd: i32, recipe: &mut [u8], lent: &mut [u32], length: u32) {
+    if length > 512 {
+        return;
+    }
+    poke_word(lent, 0, length);
+    let padded = (parts::wide(length) + 15) / 16 * 16;
+    let n = parts::front_bytes(recipe, padded);
+    io::read_full(fd, &mut recipe[..n]);
+}
+
+// Records 4, 5 and 11, on one area.
+fn change_words(words: &mut [u32], op: u8, rule: u8, a: u32, b: u32) {
+    match op {
+        4 => fill_words(words, rule, a),
+        5 => poke_word(words, a, b),
+        _ => show_words(words),
+    }
+}
+
+fn change_bytes(bytes: &mut [u8], op: u8, rule: u8, a: u32, b: u32) {
+    match op {
+        4 => fill_bytes(bytes, rule, a),
+        5 => poke_byte(bytes, a, b),
+        _ => show_bytes(bytes),
+    }
+}
+
+// Records 6 to 10, on the areas as lent.
+fn answer(
+    encoded: &[u8],
+    source: &[u32],
+    memories: &mut [u32],
+    buffer: &mut [u32],
+    progress: &mut [u32],
+    status: &mut [u8],
+    grid: &mut [u32],
+    op: u8,
+    a: u32,
+) -> u32 {
+    match op {
+        6 => engine::fresh(encoded, source, memories, buffer, progress, status),
+        7 => engine::turn(encoded, source, memories, buffer, progress, status, a),
+        8 => engine::deliver(encoded, source, memories, buffer, progress, status, a),
+        9 => engine::collect(encoded, source, memories, buffer, progress, status, grid),
+        _ => engine::sweep(encoded, source, grid),
+    }
+}
+
+fn call(
+    encoded: &[u8],
+    source: &[u32],
+    memories: &mut [u32],
+    buffer: &mut [u32],
+    progress: &mut [u32],
+    status: &mut [u8],
+    grid: &mut [u32],
+    op: u8,
+    a: u32,
+) {
+    let number = answer(
+        encoded,
+        source,
+        memories,
+        buffer,
+        progress,
+        status,
+        grid,
+        op,
+        a,
+    );
+    let sum = checksum(source, memories, buffer, progress, status, grid);
+    print_answer(number, sum);
+}
+
+// One record on the parts that are lent.
+fn act(
+    encoded: &[u8],
+    source: &mut [u32],
+    memories: &mut [u32],
+    buffer: &mut [u32],
+    progress: &mut [u32],
+    status: &mut [u8],
+    grid: &mut [u32],
+    record: &[u8],
+) {
+    if record.len() != 16 {
+        return;
+    }
+    let op = record[0];
+    let area = record[1];
+    let rule = record[2];
+    let a = parts::word(record, 4);
+    let b = parts::word(record, 8);
+    match area {
+        0 => call(
+            encoded,
+            source,
+            memories,
+            buffer,
+            progress,
+            status,
+            grid,
+            op,
+            a,
+        ),
+        1 => change_words(source, op, rule, a, b),
+        2 => change_words(memories, op, rule, a, b),
+        3 => change_words(buffer, op, rule, a, b),
+        4 => change_words(progress, op, rule, a, b),
+        5 => change_bytes(status, op, rule, a, b),
+        _ => change_words(grid, op, rule, a, b),
+    }
+}
+
+// The parts lent of the whole areas.
+fn act_on_lent(
+    recipe: &[u8],
+    source: &mut [u32],
+    memories: &mut [u32],
+    buffer: &mut [u32],
+    progress: &mut [u32],
+    status: &mut [u8],
+    grid: &mut [u32],
+    lent: &[u32],
+    record: &[u8],
+) {
+    let e = front_bytes(recipe, lent, 0);
+    let s = front(source, lent, 1);
+    let m = front(memories, lent, 2);
+    let b = front(buffer, lent, 3);
+    let p = front(progress, lent, 4);
+    let t = front_bytes(status, lent, 5);
+    let g = front(grid, lent, 6);
+    act(
+        &recipe[..e],
+        &mut source[..s],
+        &mut memories[..m],
+        &mut buffer[..b],
+        &mut progress[..p],
+        &mut status[..t],
+        &mut grid[..g],
+        record,
+    );
+}
+
+// Records 1 to 3, which change what is lent; whether the record was one of them.
+fn arrange(fd: i32, recipe: &mut [u8], lent: &mut [u32], record: &[u8]) -> bool {
+    if record.len() != 16 {
+        return true;
+    }
+    let op = record[0];
+    let area = parts::of_byte(record[1]);
+    let a = parts::word(record, 4);
+    if op == 1 {
+        lend_nothing(lent);
+        print_case(a);
+        return true;
+    }
+    if op == 2 {
+        read_recipe(fd, recipe, lent, a);
+        return true;
+    }
+    if op == 3 {
+        poke_word(lent, area, a);
+        return true;
+    }
+    false
+}
+
+// The next record: whether there was one.
+fn step(
+    fd: i32,
+    recipe: &mut [u8],
+    source: &mut [u32],
+    memories: &mut [u32],
+    buffer: &mut [u32],
+    progress: &mut [u32],
+    status: &mut [u8],
+    grid: &mut [u32],
+    lent: &mut [u32],
+) -> bool {
+    let mut record = [0u8; 16];
+    let got = io::read_full(fd, &mut record);
+    if got < 16 {
+        return false;
+    }
+    if arrange(fd, recipe, lent, &record) {
+        return true;
+    }
+    act_on_lent(
+        recipe,
+        source,
+        memories,
+        buffer,
+        progress,
+        status,
+        grid,
+        lent,
+        &record,
+    );
+    true
+}
+
+// Nothing says that a file ends, so the records are counted, down from a number that no file has.
+fn run_script(
+    fd: i32,
+    recipe: &mut [u8],
+    source: &mut [u32],
+    memories: &mut [u32],
+    buffer: &mut [u32],
+    progress: &mut [u32],
+    status: &mut [u8],
+    grid: &mut [u32],
+    lent: &mut [u32],
+) {
+    let mut records = u64::MAX;
+    while records > 0
+        && step(
+            fd,
+            recipe,
+            source,
+            memories,
+            buffer,
+            progress,
+            status,
+            grid,
+            lent,
+        )
+    {
+        records -= 1;
+    }
+}
+
+fn run(fd: i32) {
+    let mut recipe = [0u8; 512];
+    let mut source = [0u32; 1024];
+    let mut memories = [0u32; 4096];
+    let mut buffer = [0u32; 7168];
+    let mut progress = [0u32; 192];
+    let mut status = [0u8; 7168];
+    let mut grid = [0u32; 1024];
+    let mut lent = [0u32; 7];
+    run_script(
+        fd,
+        &mut recipe,
+        &mut source,
+        &mut memories,
+        &mut buffer,
+        &mut progress,
+        &mut status,
+        &mut grid,
+        &mut lent,
+    );
+}
+
+fn main() {
+    let path = b"script";
+    let fd = os::open_read(path);
+    if fd < 0 {
+        os::fail(path);
+        return;
+    }
+    run(fd);
+    libc::close(fd);
+}

@@ -1,0 +1,48 @@
+-- `sweep_cases::run_cases` is safe and ends.
+-- Assumes nothing.
+use borrow.Author.Needs.{needs}
+use Prim.Native.Nat.{_-_}
+use Rattle.sweep_cases.proofs.run_cases.Statement.{statement}
+use Rattle.sweep_cases.proofs.run_cases.Tie as tie
+
+abbrev Inv-loop : tie.InvT-loop
+Inv-loop fd number₀ number =
+    Unit {0}
+
+abbrev μ-loop : tie.MeasureT-loop
+μ-loop fd number₀ number = 1000000 - number
+
+loop-holds : tie.Need-loop-holds Inv-loop μ-loop
+loop-holds c = search needs
+
+next-case-requires : tie.Need-next-case-requires Inv-loop μ-loop
+next-case-requires c κs = search needs
+
+add-number : tie.Need-add-number Inv-loop μ-loop
+add-number c = search needs
+
+loop-less : tie.Need-loop-less Inv-loop μ-loop
+loop-less c = search needs
+
+loop-again : tie.Need-loop-again Inv-loop μ-loop
+loop-again c = search needs
+
+returns : tie.Need-returns Inv-loop μ-loop
+returns c = search needs
+
+returns-2 : tie.Need-returns-2 Inv-loop μ-loop
+returns-2 c = search needs
+
+pub run-cases-spec : {M : Type 1} → statement M
+run-cases-spec =
+    tie.close
+    (tie.spec
+    Inv-loop
+    μ-loop
+    loop-holds
+    next-case-requires
+    add-number
+    loop-less
+    loop-again
+    returns
+    returns-2)

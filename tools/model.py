@@ -1,0 +1,511 @@
+"""A plain model of document 01, written from its text and from nothing else.
+
+Every set is made by trying all its candidates. It shares no code, no table and no closed form with
+the engine, so that a test vector made from it tells whether the engine means what the paper says.
+Comments name the section of document 01 that the code renders.
+
+Run as a program it checks the rows and the single facts that the paper prints.
+"""
+
+from itertools import product
+
+WORD = 2 ** 32
+
+
+# "The recipe": records of 16 bytes
+
+def word16(record, at):
+    return record[at] + 256 * record[at + 1]
+
+
+def word32(record, at):
+    return word16(record, at) + 65536 * word16(record, at + 2)
+
+
+def records_of(encoded):
+    return [encoded[at:at + 16] for at in range(0, len(encoded), 16)]
+
+
+def unnamed(kind):
+    """The bytes of a record that carry nothing, and so are zero."""
+    named = {1: [0, 2, 3, 4, 5, 6, 7], 2: [0, 2, 3, 4, 5, 6, 7], 3: [0, 1, 4, 5, 6, 7]}[kind]
+    return [at for at in range(16) if at not in named]
+
+
+def is_stray(encoded):
+    """Line 2: kind, order, count, unnamed byte or shift not as the paper says."""
+    records = records_of(encoded)
+    kinds = [record[0] for record in records]
+    in_order = any(
+        kinds == [1] * n + [2] * distances + [3]
+        for n in range(2, 5) for distances in range(1, 9))
+    if not in_order:
+        return True
+    if any(record[at] != 0 for record in records for at in unnamed(record[0])):
+        return True
+    return records[-1][1] > 31
+
+
+class Nest:
+    """What the records say, once lines 1 and 2 are false."""
+
+    def __init__(self, encoded):
+        records = records_of(encoded)
+        dimensions = [record for record in records if record[0] == 1]
+        distances = [record for record in records if record[0] == 2]
+        self.lengths = [word16(record, 2) for record in dimensions]
+        self.tiling = [word16(record, 4) for record in dimensions]
+        self.counts = [word16(record, 6) for record in dimensions]
+        self.components = [list(record[2:6]) for record in distances]
+        self.weights = [word16(record, 6) for record in distances]
+        self.shift = records[-1][1]
+        self.boundary = word32(records[-1], 4)
+        self.n = len(dimensions)
+
+
+def all_product(numbers):
+    result = 1
+    for number in numbers:
+        result *= number
+    return result
+
+
+def tiles_along(length, k):
+    return len(set(i // k for i in range(length)))
+
+
+def is_faulty_distance(nest):
+    """Line 5."""
+    for e, d in enumerate(nest.components):
+        if all(x == 0 for x in d):
+            return True
+        if d in nest.components[:e]:
+            return True
+        if any(x != 0 for x in d[nest.n:]):
+            return True
+    return False
+
+
+def is_faulty_tile(nest):
+    """Line 6."""
+    for j, k in enumerate(nest.tiling):
+        if k == 0 or k > 1024:
+            return True
+        if any(not k > d[j] for d in nest.components):
+            return True
+    return False
+
+
+def is_faulty_boards(nest):
+    """Line 7: the first m dimensions are spread, 1 <= m < n, each with P >= 2; their product is at most 64."""
+    right = any(
+        all(p >= 2 for p in nest.counts[:m]) and all(p == 0 for p in nest.counts[m:])
+        for m in range(1, nest.n))
+    return not right or all_product(p for p in nest.counts if p != 0) > 64
+
+
+def read(encoded):
+    """The number of the first true line of 1 to 8, and the nest where there is none."""
+    encoded = bytes(encoded)
+    if len(encoded) == 0 or len(encoded) % 16 != 0:
+        return 1, None
+    if is_stray(encoded):
+        return 2, None
+    nest = Nest(encoded)
+    if any(length == 0 or length > 1024 for length in nest.lengths):
+        return 3, None
+    if all_product(nest.lengths) > 16384:
+        return 4, None
+    if is_faulty_distance(nest):
+        return 5, None
+    if is_faulty_tile(nest):
+        return 6, None
+    if is_faulty_boards(nest):
+        return 7, None
+    if all_product(tiles_along(length, k) for length, k in zip(nest.lengths, nest.tiling)) > 1024:
+        return 8, None
+    return 0, nest
+
+
+# "Cells, tiles and boards" and "Messages"
+
+class Message:
+    def __init__(self, sender, taker, cells, offset):
+        self.sender = sender
+        self.taker = taker
+        self.cells = cells
+        self.offset = offset
+
+
+class Plan:
+    """Cells, tiles, boards and messages by their numbers, each list made by trying all candidates."""
+
+    def __init__(self, nest):
+        self.nest = nest
+        n = nest.n
+        m = len([p for p in nest.counts if p != 0])
+        # index order is lexicographic, the first dimension weighing most: product() counts so
+        places = list(product(*[range(length) for length in nest.lengths]))
+        self.places = places
+        self.cell_number = {place: c for c, place in enumerate(places)}
+        self.cells = len(places)
+        # the tiles that hold a cell, in index order
+        tile_place_of = [tuple(i // k for i, k in zip(place, nest.tiling)) for place in places]
+        tile_places = sorted(set(tile_place_of))
+        tile_number = {place: t for t, place in enumerate(tile_places)}
+        self.tiles = len(tile_places)
+        self.tile_of = [tile_number[place] for place in tile_place_of]
+        self.cells_of = [[] for _ in range(self.tiles)]
+        for c in range(self.cells):
+            self.cells_of[self.tile_of[c]].append(c)
+        # boards, numbered in index order
+        board_places = list(product(*[range(p) for p in nest.counts[:m]]))
+        self.boards = len(board_places)
+        board_number = {place: b for b, place in enumerate(board_places)}
+        self.board_of = [
+            board_number[tuple(place[j] % nest.counts[j] for j in range(m))] for place in tile_places]
+        self.tiles_of = [
+            [t for t in range(self.tiles) if self.board_of[t] == b] for b in range(self.boards)]
+        # the messages, by tile, then direction
+        self.messages = []
+        offset = 0
+        for t, place in enumerate(tile_places):
+            for v in product((0, 1), repeat=m):
+                if all(bit == 0 for bit in v):
+                    continue
+                held = [c for c in self.cells_of[t] if self.is_read_in(c, place, v, m, tile_place_of)]
+                if held == []:
+                    continue
+                taker = tuple(place[j] + (v[j] if j < m else 0) for j in range(n))
+                self.messages.append(Message(t, tile_number[taker], held, offset))
+                offset += len(held)
+        self.words = offset
+        self.sends_of = [[] for _ in range(self.tiles)]
+        self.due_at = [[] for _ in range(self.tiles)]
+        for number, message in enumerate(self.messages):
+            self.sends_of[message.sender].append(number)
+            self.due_at[message.taker].append(number)
+        self.steps = 2 * self.tiles + 2 * len(self.messages)
+
+    def is_read_in(self, c, place, v, m, tile_place_of):
+        """Some distance puts the cell inside the nest, in a tile that differs by exactly v in the spread dimensions."""
+        for d in self.nest.components:
+            reader = tuple(i + x for i, x in zip(self.places[c], d))
+            if reader not in self.cell_number:
+                continue
+            tile = tile_place_of[self.cell_number[reader]]
+            if all(tile[j] - place[j] == v[j] for j in range(m)):
+                return True
+        return False
+
+    def value(self, source, memory, c):
+        """"The sweep": the whole sum, divided by 2 to the shift, rounded down, modulo 2^32."""
+        total = source[c]
+        for d, weight in zip(self.nest.components, self.nest.weights):
+            place = tuple(i - x for i, x in zip(self.places[c], d))
+            if any(i < 0 for i in place):
+                total += weight * self.nest.boundary
+            else:
+                total += weight * memory[self.cell_number[place]]
+        assert total < 2 ** 64
+        return total // 2 ** self.nest.shift % WORD
+
+    def swept(self, source):
+        values = [None] * self.cells
+        for c in range(self.cells):
+            values[c] = self.value(source, values, c)
+        return values
+
+
+PLANS = {}
+
+
+def plan_of(encoded):
+    """The number of lines 1 to 8 and the plan; kept, since every call is given the same bytes again."""
+    encoded = bytes(encoded)
+    if encoded not in PLANS:
+        number, nest = read(encoded)
+        PLANS[encoded] = (number, Plan(nest) if number == 0 else None)
+    return PLANS[encoded]
+
+
+# "The machine"
+
+class Areas:
+    """The lent areas. A turn's three words a board stand flat in progress."""
+
+    def __init__(self):
+        self.source = []
+        self.memories = []
+        self.buffer = []
+        self.progress = []
+        self.status = []
+        self.grid = []
+
+
+def lengths_right(plan, areas):
+    return (len(areas.source) == plan.cells
+            and len(areas.memories) == plan.cells * plan.boards
+            and len(areas.buffer) == plan.words
+            and len(areas.progress) == 3 * plan.boards
+            and len(areas.status) == len(plan.messages))
+
+
+def is_fit_record(plan, areas, b):
+    finished, stage, sent = areas.progress[3 * b:3 * b + 3]
+    tiles = plan.tiles_of[b]
+    if finished > len(tiles):
+        return False
+    if finished == len(tiles):
+        return stage == 0 and sent == 0
+    if stage > 2:
+        return False
+    if stage == 2:
+        return sent < len(plan.sends_of[tiles[finished]])
+    return sent == 0
+
+
+def is_fit(plan, areas):
+    return (all(is_fit_record(plan, areas, b) for b in range(plan.boards))
+            and all(mark <= 3 for mark in areas.status))
+
+
+def fresh(encoded, areas):
+    number, plan = plan_of(encoded)
+    if number != 0:
+        return number
+    if not lengths_right(plan, areas):
+        return 9
+    for area in (areas.memories, areas.buffer, areas.progress, areas.status):
+        for at in range(len(area)):
+            area[at] = 0
+    return 0
+
+
+def after_sends(plan, areas, b, tile, sent):
+    if sent < len(plan.sends_of[tile]):
+        areas.progress[3 * b + 1] = 2
+        areas.progress[3 * b + 2] = sent
+    else:
+        areas.progress[3 * b] += 1
+        areas.progress[3 * b + 1] = 0
+        areas.progress[3 * b + 2] = 0
+
+
+def turn(encoded, areas, b):
+    number, plan = plan_of(encoded)
+    if number != 0:
+        return number
+    if not lengths_right(plan, areas):
+        return 9
+    if not is_fit(plan, areas):
+        return 10
+    if not b < plan.boards:
+        return 11
+    finished, stage, sent = areas.progress[3 * b:3 * b + 3]
+    if finished == len(plan.tiles_of[b]):
+        return 13
+    tile = plan.tiles_of[b][finished]
+    base = b * plan.cells
+    if stage == 0:
+        if any(areas.status[m] != 2 for m in plan.due_at[tile]):
+            return 12
+        for m in plan.due_at[tile]:
+            message = plan.messages[m]
+            for j, c in enumerate(message.cells):
+                areas.memories[base + c] = areas.buffer[message.offset + j]
+            areas.status[m] = 3
+        areas.progress[3 * b + 1] = 1
+    elif stage == 1:
+        strip = areas.memories[base:base + plan.cells]
+        for c in plan.cells_of[tile]:
+            strip[c] = plan.value(areas.source, strip, c)
+        areas.memories[base:base + plan.cells] = strip
+        after_sends(plan, areas, b, tile, 0)
+    else:
+        m = plan.sends_of[tile][sent]
+        message = plan.messages[m]
+        for j, c in enumerate(message.cells):
+            areas.buffer[message.offset + j] = areas.memories[base + c]
+        areas.status[m] = 1
+        after_sends(plan, areas, b, tile, sent + 1)
+    return 0
+
+
+def deliver(encoded, areas, m):
+    number, plan = plan_of(encoded)
+    if number != 0:
+        return number
+    if not lengths_right(plan, areas):
+        return 9
+    if not is_fit(plan, areas):
+        return 10
+    if not m < len(plan.messages):
+        return 11
+    if areas.status[m] != 1:
+        return 14
+    areas.status[m] = 2
+    return 0
+
+
+def collect(encoded, areas):
+    number, plan = plan_of(encoded)
+    if number != 0:
+        return number
+    if not lengths_right(plan, areas) or len(areas.grid) != plan.cells:
+        return 9
+    if not is_fit(plan, areas):
+        return 10
+    if any(areas.progress[3 * b] < len(plan.tiles_of[b]) for b in range(plan.boards)):
+        return 15
+    for c in range(plan.cells):
+        b = plan.board_of[plan.tile_of[c]]
+        areas.grid[c] = areas.memories[b * plan.cells + c]
+    return 0
+
+
+def sweep(encoded, source, grid):
+    """The sequential sweep as a call: lines 1 to 8, then the lengths of the two areas it is lent."""
+    number, plan = plan_of(encoded)
+    if number != 0:
+        return number
+    if len(source) != plan.cells or len(grid) != plan.cells:
+        return 9
+    grid[:] = plan.swept(source)
+    return 0
+
+
+# Whole runs and the two programs
+
+def areas_for(plan, source):
+    areas = Areas()
+    areas.source = list(source)
+    areas.memories = [0] * (plan.cells * plan.boards)
+    areas.buffer = [0] * plan.words
+    areas.progress = [0] * (3 * plan.boards)
+    areas.status = [0] * len(plan.messages)
+    areas.grid = [0] * plan.cells
+    return areas
+
+
+def run(encoded, areas, events):
+    """A fresh start, then turns ('turn', b) and deliveries ('deliver', m): the numbers given."""
+    answers = [fresh(encoded, areas)]
+    for kind, which in events:
+        answers.append(turn(encoded, areas, which) if kind == 'turn' else deliver(encoded, areas, which))
+    return answers
+
+
+def drive(encoded, areas, falling):
+    """Turns in rising or falling order; when none can be taken each mailed message is delivered; until nothing can be done."""
+    _, plan = plan_of(encoded)
+    order = list(range(plan.boards))
+    if falling:
+        order.reverse()
+    steps = 0
+    fresh(encoded, areas)
+    while True:
+        done = len([b for b in order if turn(encoded, areas, b) == 0])
+        if done == 0:
+            mailed = [m for m in range(len(plan.messages)) if areas.status[m] == 1]
+            done = len([m for m in mailed if deliver(encoded, areas, m) == 0])
+        if done == 0:
+            return steps
+        steps += done
+
+
+def plan_text(encoded):
+    """What the plan printer writes."""
+    encoded = bytes(encoded)
+    number, plan = plan_of(encoded) if len(encoded) <= 512 else (1, None)
+    if number != 0:
+        return 'refused %d\n' % number
+    text = 'tiles %d messages %d words %d steps %d\n' % (plan.tiles, len(plan.messages), plan.words, plan.steps)
+    for m, message in enumerate(plan.messages):
+        text += '%d %d %d %d %d %d\n' % (
+            m, message.sender, message.taker, plan.board_of[message.sender], plan.board_of[message.taker],
+            len(message.cells))
+    return text
+
+
+def compare_text(encoded):
+    """What the second program writes."""
+    encoded = bytes(encoded)
+    number, plan = plan_of(encoded) if len(encoded) <= 512 else (1, None)
+    if number != 0:
+        return 'refused %d\n' % number
+    if plan.cells > 1024 or plan.cells * plan.boards > 4096:
+        return 'beyond\n'
+    text = ''
+    for source in ([1] * plan.cells, [c + 1 for c in range(plan.cells)]):
+        for falling in (False, True):
+            areas = areas_for(plan, source)
+            drive(encoded, areas, falling)
+            same = collect(encoded, areas) == 0 and areas.grid == plan.swept(source)
+            text += 'agree\n' if same else 'differ\n'
+    return text
+
+
+# Recipes as bytes
+
+def encode(lengths, tiling, counts, distances, weights=None, shift=0, boundary=0):
+    """Distances are tuples of up to four components; weights are 1 unless given."""
+    weights = weights or [1] * len(distances)
+    out = b''
+    for length, k, p in zip(lengths, tiling, counts):
+        out += bytes([1, 0]) + length.to_bytes(2, 'little') + k.to_bytes(2, 'little') + p.to_bytes(2, 'little') + bytes(8)
+    for d, weight in zip(distances, weights):
+        out += bytes([2, 0]) + bytes(list(d) + [0] * (4 - len(d))) + weight.to_bytes(2, 'little') + bytes(8)
+    return out + bytes([3, shift, 0, 0]) + boundary.to_bytes(4, 'little') + bytes(8)
+
+
+ROWS = {
+    'A': encode([8, 8], [2, 2], [2, 0], [(1, 0), (0, 1), (1, 1)]),
+    'B': encode([8, 8], [4, 4], [2, 0], [(2, 1)]),
+    'C': encode([8, 8, 8], [4, 4, 4], [2, 2, 0], [(2, 1, 0)]),
+    'D': encode([4, 1], [2, 1], [2, 0], [(1, 0)]),
+    'E': encode([5, 1], [2, 1], [2, 0], [(1, 0)]),
+    'F': encode([1, 2], [2, 1], [2, 0], [(1, 0)]),
+    'G': encode([4, 1], [1, 1], [2, 0], [(1, 0)]),
+    'H': encode([4, 1], [2, 1], [1, 0], [(1, 0)]),
+}
+
+
+def expect(what, got, wanted):
+    if got != wanted:
+        raise SystemExit('%s: got %r, the paper has %r' % (what, got, wanted))
+
+
+def check_paper():
+    """The rows and facts that document 01 prints."""
+    totals = {
+        'A': (16, 12, 24, 56), 'B': (4, 2, 14, 12), 'C': (8, 10, 144, 36),
+        'D': (2, 1, 1, 6), 'E': (3, 2, 2, 10), 'F': (2, 0, 0, 4)}
+    for row, wanted in totals.items():
+        expect('row ' + row, plan_text(ROWS[row]).split('\n')[0], 'tiles %d messages %d words %d steps %d' % wanted)
+    expect('row G', plan_text(ROWS['G']), 'refused 6\n')
+    expect('row H', plan_text(ROWS['H']), 'refused 7\n')
+    expect('lines of B', plan_text(ROWS['B']).split('\n')[1:3], ['0 0 2 0 1 8', '1 1 3 0 1 6'])
+    expect('text of D', plan_text(ROWS['D']), 'tiles 2 messages 1 words 1 steps 6\n0 0 1 0 1 1\n')
+    expect('last tile of E', len(plan_of(ROWS['E'])[1].cells_of[2]), 1)
+    plan = plan_of(ROWS['D'])[1]
+    areas = areas_for(plan, [1] * 4)
+    expect('first turn of board 1 in D', run(ROWS['D'], areas, [('turn', 1)]), [0, 12])
+    expect('steps of D', drive(ROWS['D'], areas, False), 6)
+    expect('collecting D', collect(ROWS['D'], areas), 0)
+    expect('values of D', areas.grid, [1, 2, 3, 4])
+    expect('sweep of D', plan.swept([1] * 4), [1, 2, 3, 4])
+    areas = areas_for(plan_of(ROWS['F'])[1], [1] * 2)
+    expect('board 1 in F', run(ROWS['F'], areas, [('turn', 1)]), [0, 13])
+    expect('128,128', read(encode([128, 128], [8, 8], [2, 0], [(1, 0)]))[0], 0)
+    expect('128,129', read(encode([128, 129], [8, 8], [2, 0], [(1, 0)]))[0], 4)
+    for row in 'ABCDEF':
+        expect('row %s both ways' % row, compare_text(ROWS[row]), 'agree\n' * 4)
+        for falling in (False, True):
+            areas = areas_for(plan_of(ROWS[row])[1], [1] * plan_of(ROWS[row])[1].cells)
+            expect('steps of %s driven' % row, drive(ROWS[row], areas, falling), totals[row][3])
+
+
+if __name__ == '__main__':
+    check_paper()
+    print('the model gives what document 01 prints')

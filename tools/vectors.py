@@ -1,0 +1,749 @@
+"""Makes the stored test vectors of the case programs from the model, always the same ones.
+
+    python3 tools/vectors.py          write every stored file anew
+    python3 tools/vectors.py check    compare every stored file with a fresh generation
+    python3 tools/vectors.py explain  print the script of run_cases in words, each call with its line
+
+README.md beside this file has the formats.
+"""
+
+import os
+import sys
+
+import model
+
+ROOT = os.path.join(os.path.dirname(os.path.abspath(__file__)), '..', 'crates')
+
+
+class Draw:
+    """The written-down generator: x <- 1664525 x + 1013904223 modulo 2^32, numbers from its upper half."""
+
+    def __init__(self, seed):
+        self.x = seed
+
+    def word(self):
+        self.x = (1664525 * self.x + 1013904223) % model.WORD
+        return self.x
+
+    def below(self, n):
+        return (self.word() >> 16) % n
+
+    def between(self, low, high):
+        return low + self.below(high - low + 1)
+
+    def pick(self, choices):
+        return choices[self.below(len(choices))]
+
+
+# Recipes
+
+def drawn_recipe(draw, most_cells, most_words=None, n=None, m=None, distances=None, plain=False):
+    """An accepted recipe; n, m and the count of distances are drawn unless given. Tries until the limits hold."""
+    while True:
+        dims = n or draw.between(2, 4)
+        spread = min(m or draw.between(1, dims - 1), dims - 1)
+        lengths = [draw.between(1, draw.pick([3, 5, 7, 12])) for _ in range(dims)]
+        # k up to one more than the length: the last tile is often short, some tiles are longer than their dimension
+        tiling = [draw.between(2, max(2, length + 1)) if draw.below(5) else 1 for length in lengths]
+        tiling = [min(k, draw.between(2, 5)) if k > 1 else 1 for k in tiling]
+        if draw.below(4) == 0:
+            at = draw.below(dims)
+            tiling[at] = lengths[at] + draw.between(1, 5)
+        counts = [draw.between(2, 4) if j < spread else 0 for j in range(dims)]
+        wanted = distances or draw.between(1, 8)
+        found = []
+        for _ in range(60):
+            d = tuple(draw.below(min(k, 4)) for k in tiling)
+            if any(d) and d not in found and len(found) < wanted:
+                found.append(d)
+        if len(found) != wanted and distances or not found:
+            continue
+        weights = [1 if plain else draw.pick([0, 1, 2, 3, 255, 65535]) for _ in found]
+        shift = 0 if plain else draw.pick([0, 0, 1, 3, 16, 31])
+        boundary = 0 if plain else draw.pick([0, 1, 7, 4294967295])
+        encoded = model.encode(lengths, tiling, counts, found, weights, shift, boundary)
+        number, plan = model.plan_of(encoded)
+        if number == 0 and plan.cells <= most_cells and plan.tiles >= 3 * spread and len(plan.messages) >= 2 * spread:
+            if most_words is None or plan.cells * plan.boards <= most_words:
+                return encoded
+
+
+def changed(encoded, at, value):
+    out = bytearray(encoded)
+    out[at] = value
+    return bytes(out)
+
+
+def faults():
+    """A fault of each line of 2 to 8, as changes of a recipe of three dimensions and two distances that is right."""
+    def first_length(value):
+        return lambda e: changed(changed(e, 2, value % 256), 3, value // 256)
+
+    def all_lengths(e):
+        for record in range(3):
+            e = first_length(26)(e) if record == 0 else changed(changed(e, 16 * record + 2, 26), 16 * record + 3, 0)
+        return e
+
+    return [
+        (2, lambda e: changed(e, 1, 1)),
+        (3, first_length(0)),
+        (3, first_length(1025)),
+        (4, all_lengths),
+        (5, lambda e: changed(e, 16 * 3 + 5, 1)),
+        (6, lambda e: changed(e, 16 + 4, 1)),
+        (7, lambda e: changed(e, 16 * 2 + 6, 2)),
+        (8, lambda e: changed(changed(changed(changed(e, 2, 0), 3, 4), 16 + 2, 7), 16 * 2 + 2, 2)),
+    ]
+
+
+def refused_recipes():
+    """Each of 1 to 8 in several ways, and recipes in which two lines are true at once."""
+    d = model.ROWS['D']
+    one, two, three = d[:16], d[32:48], d[48:64]
+    assert one[0] == 1 and two[0] == 2 and three[0] == 3
+    found = [(1, b''), (1, d[:63]), (1, d + b'\0'), (1, b'\1'), (1, bytes(15))]
+    found += [(2, bytes(16)), (2, d[16:]), (2, one * 5 + two + three), (2, one * 2 + three), (2, one * 2 + two),
+              (2, two + one * 2 + three), (2, one * 2 + three + two), (2, d + three), (2, d + bytes(16)),
+              (2, one + two + one + three), (2, one * 2 + three)]
+    nine = [(1 + e % 3, e // 3, 0) for e in range(9)]
+    found.append((2, model.encode([9, 9, 9], [4, 4, 4], [2, 0, 0], nine)))
+    found += [(2, changed(d, 0, 4)), (2, changed(d, 16, 0)), (2, changed(d, 32, 5)), (2, changed(d, 48, 255))]
+    for record, kind in ((0, 1), (1, 1), (2, 2), (3, 3)):
+        for at in model.unnamed(kind):
+            if (at + record) % 3 == 0 or at in (1, 2, 3, 8, 15):
+                found.append((2, changed(d, 16 * record + at, 1 + at)))
+    found += [(2, changed(d, 49, 32)), (2, changed(d, 49, 255))]
+    found += [(3, model.encode([0, 4], [2, 2], [2, 0], [(1, 0)])), (3, model.encode([4, 1025], [2, 2], [2, 0], [(1, 0)])),
+              (3, model.encode([4, 4, 65535], [2, 2, 2], [2, 0, 0], [(1, 0, 0)])),
+              (3, model.encode([4, 4, 0], [2, 2, 2], [2, 0, 0], [(1, 0, 0)]))]
+    found += [(4, model.encode([128, 129], [64, 64], [2, 0], [(1, 0)])),
+              (4, model.encode([1024] * 4, [1024] * 4, [2, 0, 0, 0], [(1, 0, 0, 0)])),
+              (4, model.encode([16, 1024, 2], [16, 1024, 2], [2, 0, 0], [(1, 0, 0)])),
+              (4, model.encode([1024, 17], [1024, 17], [2, 0], [(1, 0)]))]
+    found += [(5, model.encode([4, 4], [2, 2], [2, 0], [(0, 0)])), (5, model.encode([4, 4], [2, 2], [2, 0], [(1, 0), (1, 0)], [1, 2])),
+              (5, model.encode([4, 4], [2, 2], [2, 0], [(1, 0), (0, 1), (1, 1), (0, 1)])),
+              (5, model.encode([4, 4], [2, 2], [2, 0], [(1, 0, 1)])), (5, model.encode([4, 4], [2, 2], [2, 0], [(0, 0, 1)])),
+              (5, model.encode([4, 4, 4], [2, 2, 2], [2, 0, 0], [(1, 0, 0, 1)])),
+              (5, model.encode([4, 4], [2, 2], [2, 0], [(0, 1, 0, 255)]))]
+    found += [(6, model.encode([4, 4], [0, 2], [2, 0], [(0, 1)])), (6, model.encode([4, 4], [2, 1025], [2, 0], [(1, 0)])),
+              (6, model.encode([4, 4], [2, 2], [2, 0], [(2, 0)])), (6, model.encode([4, 4], [4, 4], [2, 0], [(1, 0), (0, 5)])),
+              (6, model.encode([4, 4, 4], [4, 4, 65535], [2, 0, 0], [(1, 0, 0)])),
+              (6, model.encode([300, 1], [255, 1], [2, 0], [(255, 0)]))]
+    found += [(7, model.encode([4, 4], [2, 2], [0, 2], [(1, 0)])), (7, model.encode([4, 4], [2, 2], [0, 0], [(1, 0)])),
+              (7, model.encode([4, 4], [2, 2], [2, 2], [(1, 0)])), (7, model.encode([4, 4], [2, 2], [1, 0], [(1, 0)])),
+              (7, model.encode([4, 4, 4], [2, 2, 2], [2, 0, 2], [(1, 0, 0)])), (7, model.encode([4, 4, 4], [2, 2, 2], [2, 1, 0], [(1, 0, 0)])),
+              (7, model.encode([4, 4], [2, 2], [65, 0], [(1, 0)])), (7, model.encode([4, 4, 4], [2, 2, 2], [13, 5, 0], [(1, 0, 0)])),
+              (7, model.encode([2] * 4, [2] * 4, [65535] * 4, [(1, 0, 0, 0)])), (7, model.encode([2] * 4, [2] * 4, [32768, 32768, 4, 0], [(1, 0, 0, 0)])),
+              (7, model.encode([2] * 4, [2] * 4, [4096, 4096, 256, 0], [(1, 0, 0, 0)]))]
+    found += [(8, model.encode([64, 34], [2, 1], [2, 0], [(1, 0)])), (8, model.encode([1024, 16], [2, 7], [2, 0], [(1, 0)])),
+              (8, model.encode([41, 50], [2, 1], [2, 0], [(1, 0)])), (8, model.encode([4, 16, 16, 16], [2, 2, 2, 1], [2, 0, 0, 0], [(1, 0, 0, 0)]))]
+    right = model.encode([4, 6, 5], [3, 3, 2], [2, 2, 0], [(1, 0, 1), (0, 2, 0)])
+    assert model.read(right)[0] == 0
+    for number, fault in faults():
+        found.append((number, fault(right)))
+    for i, (_, fault) in enumerate(faults()):
+        for j in range(i + 1, len(faults())):
+            if faults()[i][0] == faults()[j][0]:
+                continue
+            both = faults()[j][1](fault(right)) if i != 3 else fault(faults()[j][1](right))
+            found.append((model.read(both)[0], both))
+    for number, encoded in found:
+        assert model.read(encoded)[0] == number != 0, (number, encoded)
+    assert set(number for number, _ in found) == set(range(1, 9))
+    return [encoded for _, encoded in found]
+
+
+def chosen_recipes():
+    """Accepted recipes for the places where a careful reader goes wrong."""
+    return [
+        # the widened set would hold more
+        model.encode([9, 1], [3, 2], [2, 0], [(1, 0), (0, 1), (2, 1)]),
+        # a corner message alone, at a short edge
+        model.encode([3, 4, 1], [2, 2, 1], [2, 2, 0], [(1, 1, 0)]),
+        # weight 0 is read all the same
+        model.encode([6, 6], [2, 3], [3, 0], [(1, 2)], [0]),
+        # tiles longer than their dimension; distances longer than theirs
+        model.encode([3, 3], [1024, 5], [2, 0], [(200, 0), (1, 4)]),
+        model.encode([5, 2, 2], [2, 9, 9], [2, 3, 0], [(1, 8, 8), (1, 0, 0)]),
+        # more boards than tiles
+        model.encode([4, 3], [3, 2], [64, 0], [(1, 1), (2, 0)]),
+        # the extreme values of weight, shift and boundary
+        model.encode([5, 5], [2, 2], [2, 0], [(1, 0), (0, 1), (1, 1)], [65535, 65535, 65535], 31, 4294967295),
+        model.encode([5, 5], [2, 2], [2, 0], [(1, 0), (0, 1), (1, 1)], [65535, 65535, 65535], 0, 4294967295),
+        # unspread distances alone: no message
+        model.encode([4, 8, 3], [2, 2, 2], [2, 2, 0], [(0, 0, 1)]),
+        # a distance that stays in the column and one that leaves it
+        model.encode([6, 9], [3, 4], [2, 0], [(0, 3), (2, 3)]),
+        # one cell
+        model.encode([1, 1], [2, 2], [2, 0], [(1, 1)]),
+        # directions of three spread dimensions: the order of the bits shows
+        model.encode([4, 4, 4, 2], [2, 2, 2, 2], [2, 2, 2, 0], [(1, 1, 1, 0), (0, 0, 1, 0), (1, 0, 0, 0)]),
+        model.encode([3, 5, 3, 3], [2, 3, 2, 2], [2, 3, 2, 0], [(1, 2, 1, 1), (0, 1, 0, 1)]),
+        # the longest dimension
+        model.encode([1024, 1], [16, 1], [8, 0], [(15, 0), (1, 0)]),
+        model.encode([1, 1024], [2, 16], [2, 0], [(1, 15)]),
+    ]
+
+
+def largest_recipe():
+    """16,384 cells, 1,024 tiles, 8 distances, 3 spread dimensions, 64 boards."""
+    distances = [(1, 0, 0, 1), (0, 1, 0, 0), (0, 0, 1, 1), (1, 1, 0, 0), (0, 1, 1, 0), (1, 0, 1, 1), (1, 1, 1, 1), (0, 0, 0, 1)]
+    return model.encode([16, 16, 8, 8], [2, 2, 2, 2], [4, 4, 4, 0], distances)
+
+
+def rows():
+    return [model.ROWS[row] for row in 'ABCDEFGH']
+
+
+# Files of recipes: plan_cases and sweep_cases
+
+def cases_file(recipes):
+    return b''.join(len(encoded).to_bytes(2, 'little') + encoded for encoded in recipes)
+
+
+def cases_text(recipes, text_of):
+    return ''.join('case %d\n' % k + text_of(encoded) for k, encoded in enumerate(recipes)).encode()
+
+
+def plan_recipes():
+    draw = Draw(1)
+    recipes = rows() + chosen_recipes()
+    for n in (2, 3, 4):
+        for m in range(1, n):
+            for distances in (1, 2, 3, 4, 5, 6, 7, 8):
+                recipes.append(drawn_recipe(draw, 400, n=n, m=m, distances=distances))
+    recipes += refused_recipes()
+    recipes.append(model.encode([128, 128], [128, 4], [2, 0], [(1, 1)]))
+    recipes.append(largest_recipe())
+    # at the printer's limit of 512 bytes, and above it
+    recipes += [model.ROWS['D'][:16] * 32, model.ROWS['D'][:16] * 33]
+    return recipes
+
+
+def sweep_recipes():
+    draw = Draw(2)
+    encode = model.encode
+    recipes = rows() + [
+        # 1,024 cells, and 1,025
+        encode([32, 32], [8, 16], [2, 0], [(1, 0), (0, 1), (1, 1)]),
+        encode([32, 32], [16, 16], [4, 0], [(15, 7), (0, 3)], [3, 2], 1, 9),
+        encode([25, 41], [8, 8], [2, 0], [(1, 0)]),
+        encode([1024, 1], [128, 1], [4, 0], [(127, 0), (1, 0)], [3, 65535], 2, 5),
+        encode([1024, 1], [8, 1], [5, 0], [(7, 0)]),
+        encode([1, 1024], [2, 256], [4, 0], [(1, 63), (0, 1)]),
+        encode([5, 205], [3, 20], [2, 0], [(2, 1)]),
+        encode([16, 8, 8], [8, 4, 8], [2, 2, 0], [(1, 1, 1), (7, 0, 2)], [1, 65535], 5, 4294967295),
+        encode([8, 8, 4, 4], [8, 4, 4, 4], [2, 2, 0, 0], [(3, 3, 1, 1), (0, 1, 0, 1)]),
+        encode([5, 5, 41], [3, 3, 8], [2, 2, 0], [(1, 1, 1)]),
+        encode([205, 5], [50, 5], [2, 0], [(1, 1)]),
+        encode([32, 32], [8, 32], [4, 0], [(1, 31), (0, 31)]),
+        # cells x boards 4,096, and just above
+        encode([512, 1], [64, 1], [8, 0], [(63, 0), (3, 0)], [2, 1], 1, 0),
+        encode([16, 16], [4, 16], [16, 0], [(1, 3), (3, 0)]),
+        encode([8, 8, 8], [4, 4, 8], [4, 2, 0], [(1, 1, 7)]),
+        encode([8, 8, 8], [2, 2, 8], [3, 3, 0], [(1, 1, 7)]),
+        encode([8, 4, 4], [4, 2, 4], [8, 4, 0], [(3, 1, 1), (0, 1, 0)]),
+        encode([8, 8, 4], [4, 4, 4], [4, 4, 0], [(1, 0, 1), (0, 1, 0)]),
+        encode([4, 4, 4, 1], [3, 2, 4, 1], [4, 4, 4, 0], [(1, 1, 1, 0)]),
+        encode([4, 4, 2, 2], [4, 4, 1, 2], [2, 4, 8, 0], [(1, 2, 0, 1)], [65535], 3, 77),
+        encode([8, 4, 4, 4], [4, 4, 2, 4], [2, 2, 2, 0], [(3, 1, 1, 1)]),
+        encode([8, 4, 4, 4], [4, 2, 2, 2], [3, 3, 2, 0], [(3, 1, 1, 1)]),
+        encode([64, 1], [22, 1], [64, 0], [(7, 0), (1, 0)]),
+        encode([65, 1], [33, 1], [63, 0], [(1, 0)]),
+        encode([65, 1], [9, 1], [64, 0], [(1, 0)]),
+        encode([819, 1], [100, 1], [5, 0], [(99, 0)]),
+        encode([820, 1], [20, 1], [5, 0], [(19, 0)]),
+        encode([22, 31], [8, 16], [6, 0], [(7, 5), (0, 1)]),
+        encode([683, 1], [30, 1], [6, 0], [(29, 0)]),
+        encode([241, 1], [10, 1], [17, 0], [(9, 0)]),
+        encode([240, 1], [60, 1], [17, 0], [(59, 0), (1, 0)], [1, 2], 0, 3),
+        encode([2, 1024], [2, 64], [2, 0], [(1, 1)]),
+        encode([128, 128], [16, 16], [2, 0], [(1, 1)]),
+        # many small tiles
+        encode([2, 16, 2], [2, 2, 1], [2, 2, 0], [(1, 1, 0), (0, 1, 0)]),
+        encode([40, 1], [2, 1], [3, 0], [(1, 0)]),
+    ]
+    assert len(recipes) >= 8 + 34
+    for n in (2, 3, 4):
+        for m in range(1, n):
+            recipes.append(drawn_recipe(draw, 100, most_words=800, n=n, m=m))
+    refused = refused_recipes()
+    for number in range(1, 9):
+        recipes.append([encoded for encoded in refused if model.read(encoded)[0] == number][-1])
+    recipes += [model.ROWS['D'][:16] * 32, model.ROWS['D'][:16] * 33]
+    return recipes
+
+
+# The script of run_cases
+
+AREAS = ['', 'source', 'memories', 'buffer', 'progress', 'status', 'grid']
+ROOM = {'source': 1024, 'memories': 4096, 'buffer': 7168, 'progress': 192, 'status': 7168, 'grid': 1024}
+CASE, RECIPE, LEND, FILL, POKE, FRESH, TURN, DELIVER, COLLECT, SWEEP, SHOW = range(1, 12)
+EACH, COUNT, DRAWN, DRAWN_FEW = range(4)
+
+
+class Script:
+    """Records for the program, and beside them what the model says that it prints."""
+
+    def __init__(self):
+        self.records = []
+        self.lines = []
+        self.words = []
+        self.arrays = {name: [0] * room for name, room in ROOM.items()}
+        self.lent = {name: 0 for name in ROOM}
+        self.encoded = b''
+        self.count = 0
+        self.numbers = {}
+
+    def record(self, op, area='', rule=0, a=0, b=0):
+        at = AREAS.index(area)
+        self.records.append(bytes([op, at, rule, 0]) + a.to_bytes(4, 'little') + b.to_bytes(4, 'little') + bytes(4))
+
+    def explain(self, text, line=''):
+        self.words.append('%-44s%s' % (text, line))
+
+    def case(self, what):
+        """A new case; what it tries stands in the explanation only."""
+        self.record(CASE, a=self.count)
+        self.lines.append('case %d' % self.count)
+        self.explain('case %d: %s' % (self.count, what))
+        self.count += 1
+        self.encoded = b''
+        self.lent = {name: 0 for name in ROOM}
+
+    def recipe(self, encoded):
+        assert len(encoded) <= 512
+        self.record(RECIPE, a=len(encoded))
+        padded = encoded + bytes(-len(encoded) % 16)
+        self.records += [padded[at:at + 16] for at in range(0, len(padded), 16)]
+        self.encoded = encoded
+        self.explain('  recipe of %d bytes' % len(encoded))
+
+    def lend(self, area, length):
+        assert 0 <= length <= ROOM[area]
+        self.record(LEND, area, a=length)
+        self.lent[area] = length
+        self.explain('  lend %s %d' % (area, length))
+
+    def fill(self, area, rule, a=0):
+        self.record(FILL, area, rule, a)
+        draw = Draw(a)
+        for at in range(self.lent[area]):
+            word = [lambda: a, lambda: at + 1, draw.word, lambda: draw.word() >> 30][rule]()
+            self.arrays[area][at] = word % 256 if area == 'status' else word
+        self.explain('  fill %s rule %d of %d' % (area, rule, a))
+
+    def poke(self, area, at, word):
+        assert at < self.lent[area] and (area != 'status' or word < 256)
+        self.record(POKE, area, a=at, b=word)
+        self.arrays[area][at] = word
+        self.explain('  poke %s[%d] = %d' % (area, at, word))
+
+    def areas(self):
+        areas = model.Areas()
+        for name in ROOM:
+            setattr(areas, name, self.arrays[name][:self.lent[name]])
+        return areas
+
+    def checksum(self):
+        h = 2166136261
+        for name in AREAS[1:]:
+            for x in [self.lent[name]] + self.arrays[name][:self.lent[name]]:
+                h = (h * 16777619 + x) % model.WORD
+        return h
+
+    def call(self, op, name, a, answer):
+        areas = self.areas()
+        before = self.checksum()
+        number = answer(areas)
+        for area in ROOM:
+            words = getattr(areas, area)
+            assert len(words) == self.lent[area]
+            self.arrays[area][:len(words)] = words
+        assert number == 0 or self.checksum() == before
+        self.record(op, a=a)
+        line = '%d %08x' % (number, self.checksum())
+        self.lines.append(line)
+        self.explain('  %s %s' % (name, a), line)
+        self.numbers.setdefault(name, set()).add(number)
+        return number
+
+    def fresh(self):
+        return self.call(FRESH, 'fresh', 0, lambda areas: model.fresh(self.encoded, areas))
+
+    def turn(self, b):
+        return self.call(TURN, 'turn', b, lambda areas: model.turn(self.encoded, areas, b))
+
+    def deliver(self, m):
+        return self.call(DELIVER, 'deliver', m, lambda areas: model.deliver(self.encoded, areas, m))
+
+    def collect(self):
+        return self.call(COLLECT, 'collect', 0, lambda areas: model.collect(self.encoded, areas))
+
+    def sweep(self):
+        return self.call(SWEEP, 'sweep', 0, lambda areas: model.sweep(self.encoded, areas.source, areas.grid))
+
+    def show(self, area):
+        self.record(SHOW, area)
+        line = ''.join('%d ' % word for word in self.arrays[area][:self.lent[area]])
+        self.lines.append(line)
+        self.explain('  show %s' % area, line)
+
+    # what several cases share
+
+    def lengths(self, plan):
+        return {'source': plan.cells, 'memories': plan.cells * plan.boards, 'buffer': plan.words,
+                'progress': 3 * plan.boards, 'status': len(plan.messages), 'grid': plan.cells}
+
+    def start(self, what, encoded, source=(DRAWN, 5), others=0):
+        """A case with every area lent at its length: the source by its rule, the others drawn, records and marks zero."""
+        number, plan = model.plan_of(encoded)
+        assert number == 0
+        self.case(what)
+        self.recipe(encoded)
+        for area, length in self.lengths(plan).items():
+            self.lend(area, length)
+        self.fill('source', *source)
+        for at, area in enumerate(('memories', 'buffer', 'grid')):
+            self.fill(area, DRAWN, 100 + others + at)
+        self.fill('progress', EACH, 0)
+        self.fill('status', EACH, 0)
+        return plan
+
+    def calls(self, plan, every=True):
+        """Each call once, the turn and the delivery of number 0, and the refused ones of numbers too high."""
+        answers = [self.turn(0), self.deliver(0), self.collect()]
+        if every:
+            answers += [self.turn(plan.boards), self.turn(4294967295), self.deliver(len(plan.messages)), self.deliver(4294967295)]
+        return answers
+
+
+def facts_of_the_paper(s):
+    plan = s.start('row D, every word 1', model.ROWS['D'], (EACH, 1))
+    assert s.fresh() == 0
+    assert s.turn(1) == 12
+    assert [s.turn(0) for _ in range(3)] == [0, 0, 0]
+    assert s.turn(0) == 13 and s.turn(1) == 12 and s.collect() == 15
+    assert s.deliver(0) == 0 and s.deliver(0) == 14
+    assert [s.turn(1) for _ in range(3)] == [0, 0, 13]
+    assert s.collect() == 0
+    s.show('grid')
+    assert s.lines[-1] == '1 2 3 4 '
+    s.fill('grid', DRAWN, 9)
+    assert s.sweep() == 0
+    s.show('grid')
+    s.start('row F', model.ROWS['F'], (COUNT, 0))
+    assert s.fresh() == 0
+    assert s.turn(1) == 13 and s.deliver(0) == 11 and s.turn(2) == 11
+    assert [s.turn(0) for _ in range(5)] == [0, 0, 0, 0, 13]
+    assert s.collect() == 0
+    s.show('grid')
+
+
+def refused_by_reading(s):
+    """Numbers 1 to 8 by every call, whatever is lent."""
+    seen = {}
+    for encoded in refused_recipes():
+        number = model.read(encoded)[0]
+        seen[number] = seen.get(number, 0) + 1
+        if seen[number] > 3 or len(encoded) > 512:
+            continue
+        s.case('a recipe refused %d' % number)
+        s.recipe(encoded)
+        for at, area in enumerate(AREAS[1:]):
+            s.lend(area, 3 * at)
+            s.fill(area, DRAWN, number + at)
+        assert [s.fresh(), s.turn(0), s.deliver(0), s.collect(), s.sweep()] == [number] * 5
+
+
+def refused_by_length(s):
+    """Number 9: each area one word short, one too long, and none lent; before 10, 11 and the rest."""
+    for name in 'DFC':
+        encoded = model.ROWS[name]
+        plan = s.start('row %s, areas of wrong lengths' % name, encoded)
+        right = s.lengths(plan)
+        for area, length in right.items():
+            for wrong in sorted({0, length - 1, length + 1} - {-1, length}):
+                s.lend(area, wrong)
+                numbers = [s.fresh(), s.turn(0), s.deliver(0), s.collect(), s.sweep()]
+                state = area not in ('source', 'grid')
+                assert numbers[3] == 9 and (numbers[4] == 9) == (not state) and (numbers[0] == 9) == (area != 'grid')
+                s.fill('progress', EACH, 77)
+                s.turn(4294967295)
+                s.deliver(4294967295)
+                s.collect()
+                s.fill('progress', EACH, 0)
+                s.lend(area, length)
+    s.case('nothing lent')
+    s.recipe(model.ROWS['A'])
+    assert [s.fresh(), s.turn(0), s.deliver(0), s.collect(), s.sweep()] == [9] * 5
+
+
+def unfit_states(s):
+    """Number 10, by every kind of unfit record and mark; a fresh start does not ask."""
+    for name in 'AFC':
+        encoded = model.ROWS[name]
+        plan = model.plan_of(encoded)[1]
+        last = plan.boards - 1
+        for b in sorted({0, last}):
+            tiles = len(plan.tiles_of[b])
+            sends = [len(plan.sends_of[t]) for t in plan.tiles_of[b]]
+            kinds = [(tiles + 1, 0, 0), (4294967295, 0, 0), (tiles, 1, 0), (tiles, 2, 0), (tiles, 0, 1), (tiles, 0, 4294967295)]
+            if tiles:
+                kinds += [(0, 3, 0), (0, 4294967295, 0), (0, 0, 1), (0, 1, 1), (0, 1, 4294967295), (tiles - 1, 0, 2)]
+                kinds += [(f, 2, sends[f]) for f in range(tiles)] + [(0, 2, 4294967295)]
+                kinds += [(0, 3, 4294967295)]
+            plan = s.start('row %s, board %d unfit' % (name, b), encoded)
+            for kind in kinds:
+                for j in range(3):
+                    s.poke('progress', 3 * b + j, kind[j])
+                assert s.calls(plan) == [10] * 7
+            assert s.fresh() == 0
+        if plan.messages:
+            plan = s.start('row %s, a mark unfit' % name, encoded)
+            for m in sorted({0, len(plan.messages) - 1}):
+                for mark in (4, 5, 255):
+                    s.poke('status', m, mark)
+                    assert s.calls(plan) == [10] * 7
+                s.poke('status', m, 3)
+                assert 10 not in s.calls(plan)
+            s.poke('status', 0, 200)
+            assert s.fresh() == 0
+    plan = s.start('numbers above the counts', model.ROWS['C'])
+    for b in (plan.boards, plan.boards + 1, 65536, 4294967295):
+        assert s.turn(b) == 11
+    for m in (len(plan.messages), len(plan.messages) + 1, 65536, 4294967295):
+        assert s.deliver(m) == 11
+
+
+def set_record(s, b, finished, stage, sent):
+    for j, word in enumerate((finished, stage, sent)):
+        s.poke('progress', 3 * b + j, word)
+
+
+def states_no_run_reaches(s):
+    """Single rules in fit states: 12 by any mark but 2, a send from any mark, deliveries, records set apart."""
+    encoded = model.ROWS['A']
+    plan = model.plan_of(encoded)[1]
+    for mark in (0, 1, 3):
+        s.start('row A, a due message marked %d' % mark, encoded)
+        # board 1 stands at its first tile with a due message; the other marks are 2
+        s.fill('status', EACH, 2)
+        tile = plan.tiles_of[1][0]
+        assert s.turn(1) == 0
+        set_record(s, 1, 0, 0, 0)
+        s.fill('status', EACH, 2)
+        s.poke('status', plan.due_at[tile][0], mark)
+        assert s.turn(1) == 12
+    for mark in range(4):
+        s.start('row A, a send from mark %d' % mark, encoded)
+        s.fill('status', EACH, mark)
+        set_record(s, 0, 0, 2, 0)
+        assert s.turn(0) == 0
+        s.show('status')
+        assert s.deliver(0) == 0 and s.deliver(0) == 14
+        assert s.deliver(1) == (0 if mark == 1 else 14)
+    s.start('row A, all boards set to the end', encoded)
+    for b in range(plan.boards):
+        assert s.collect() == 15
+        set_record(s, b, len(plan.tiles_of[b]), 0, 0)
+    assert s.collect() == 0 and s.turn(0) == 13 and s.turn(1) == 13
+    encoded = model.ROWS['C']
+    plan = s.start('row C, each send of a tile from every place', encoded)
+    for b in range(plan.boards):
+        for finished, tile in enumerate(plan.tiles_of[b]):
+            for sent in range(len(plan.sends_of[tile])):
+                set_record(s, b, finished, 2, sent)
+                assert s.turn(b) == 0
+    # two recipes of equal lengths: each call goes by the bytes it is given
+    heavy = model.encode([8, 8], [2, 2], [2, 0], [(1, 0), (0, 1), (1, 1)], [65535, 3, 7], 31, 4294967295)
+    s.start('row A, weights, shift and boundary changed on the way', model.ROWS['A'])
+    s.fresh()
+    for b in (0, 0, 0):
+        s.turn(b)
+    s.recipe(heavy)
+    for _ in range(6):
+        s.turn(0)
+    s.deliver(0)
+    s.turn(1)
+    s.turn(1)
+
+
+def drawn_state(s, plan, draw):
+    """Any fit state: every record and mark drawn from those that are fit."""
+    s.fill('status', DRAWN_FEW, draw.word())
+    for b in range(plan.boards):
+        tiles = plan.tiles_of[b]
+        finished = draw.below(len(tiles) + 1)
+        stage, sent = 0, 0
+        if finished < len(tiles):
+            sends = len(plan.sends_of[tiles[finished]])
+            stage = draw.below(3 if sends else 2)
+            sent = draw.below(sends) if stage == 2 else 0
+        set_record(s, b, finished, stage, sent)
+
+
+def drawn_call(s, plan, draw):
+    kind = draw.below(16)
+    if kind < 9:
+        return s.turn(draw.below(plan.boards))
+    if kind < 14 and plan.messages:
+        return s.deliver(draw.below(len(plan.messages)))
+    if kind == 14:
+        return s.turn(plan.boards + draw.below(2)) if draw.below(4) == 0 else s.turn(draw.below(plan.boards))
+    return s.collect()
+
+
+def steps_from_drawn_states(s):
+    """Fit states that no run reaches, stepped by the rules, with words of any size."""
+    draw = Draw(3)
+    for n in (2, 3, 4):
+        for m in range(1, n):
+            for turns in (24, 24):
+                encoded = drawn_recipe(draw, 120, most_words=1200, n=n, m=m)
+                plan = s.start('a drawn fit state, %d dimensions, %d spread' % (n, m), encoded, (DRAWN, draw.word()), draw.below(50))
+                drawn_state(s, plan, draw)
+                for _ in range(turns):
+                    assert drawn_call(s, plan, draw) != 10
+                # every mark delivered: the waiting boards go on
+                s.fill('status', EACH, 2)
+                for b in range(plan.boards):
+                    s.turn(b)
+
+
+def runs_to_the_end(s):
+    """Whole runs in drawn orders, refused calls among them; the grid collected is the sweep's."""
+    draw = Draw(4)
+    recipes = [model.ROWS[row] for row in 'ABCE'] + chosen_recipes()[:3] + [chosen_recipes()[at] for at in (4, 6, 7, 9, 11)]
+    for n in (2, 3, 4):
+        for m in range(1, n):
+            for _ in range(2):
+                recipes.append(drawn_recipe(draw, 150, most_words=1500, n=n, m=m, distances=draw.between(2, 6)))
+    for k, encoded in enumerate(recipes):
+        source = [(EACH, 1), (COUNT, 0), (DRAWN, draw.word())][k % 3]
+        plan = s.start('a whole run, %d steps' % model.plan_of(encoded)[1].steps, encoded, source)
+        assert s.fresh() == 0
+        steps = 0
+        # some boards are favoured, so that the others wait
+        favoured = draw.below(plan.boards)
+        while steps < plan.steps:
+            mailed = [m for m in range(len(plan.messages)) if s.arrays['status'][m] == 1]
+            kind = draw.below(32)
+            if kind < 12:
+                number = s.turn(favoured if draw.below(3) else draw.below(plan.boards))
+            elif kind < 20:
+                # a turn that can be taken, if there is one: otherwise most calls would be refused
+                able = [b for b in range(plan.boards) if model.turn(encoded, s.areas(), b) == 0]
+                number = s.turn(draw.pick(able)) if able else s.deliver(draw.pick(mailed))
+            elif kind < 29 and mailed:
+                number = s.deliver(draw.pick(mailed))
+            elif kind == 30 and draw.below(4) == 0:
+                assert s.collect() == 15
+                continue
+            elif kind == 31 and draw.below(4) == 0:
+                number = s.deliver(draw.below(len(plan.messages)))
+            else:
+                continue
+            steps += number == 0
+            if draw.below(24) == 0:
+                favoured = draw.below(plan.boards)
+        for b in range(plan.boards):
+            assert s.turn(b) == 13
+        for m in range(min(len(plan.messages), 4)):
+            assert s.deliver(m) == 14
+        assert s.collect() == 0
+        collected = s.arrays['grid'][:plan.cells]
+        s.fill('grid', DRAWN, k)
+        assert s.sweep() == 0 and s.arrays['grid'][:plan.cells] == collected
+
+
+def largest_areas(s):
+    """Lent areas as long as the program has them."""
+    draw = Draw(5)
+    for encoded in (model.encode([32, 32], [8, 16], [4, 0], [(7, 15), (1, 0), (0, 2)], [65535, 2, 9], 4, 65537),
+                    model.encode([8, 8, 8], [4, 4, 4], [4, 2, 0], [(1, 1, 1), (3, 2, 0), (0, 1, 3)]),
+                    model.encode([8, 4, 4, 4], [4, 2, 2, 2], [2, 2, 2, 0], [(3, 1, 1, 1), (2, 0, 0, 1), (0, 1, 1, 0)])):
+        plan = s.start('4,096 words of memories', encoded, (DRAWN, draw.word()))
+        assert len(s.areas().memories) == 4096
+        s.sweep()
+        drawn_state(s, plan, draw)
+        for _ in range(12):
+            drawn_call(s, plan, draw)
+        s.fresh()
+        for b in range(plan.boards):
+            s.turn(b)
+            s.turn(b)
+            s.turn(b)
+        for m in range(0, len(plan.messages), 3):
+            s.deliver(m)
+        for b in range(plan.boards):
+            s.turn(b)
+
+
+def run_script():
+    s = Script()
+    facts_of_the_paper(s)
+    refused_by_reading(s)
+    refused_by_length(s)
+    unfit_states(s)
+    states_no_run_reaches(s)
+    steps_from_drawn_states(s)
+    runs_to_the_end(s)
+    largest_areas(s)
+    low = set(range(1, 10))
+    wanted = {'fresh': {0} | low, 'turn': {0, 10, 11, 12, 13} | low, 'deliver': {0, 10, 11, 14} | low,
+              'collect': {0, 10, 15} | low, 'sweep': {0} | low}
+    assert s.numbers == wanted, s.numbers
+    return s
+
+
+# The stored files
+
+def all_files():
+    """Name under crates/ to content, in a fixed order."""
+    model.check_paper()
+    plans = plan_recipes()
+    sweeps = sweep_recipes()
+    script = run_script()
+    return {
+        'plan_cases/data/cases': cases_file(plans),
+        'plan_cases/stdout': cases_text(plans, model.plan_text),
+        'sweep_cases/data/cases': cases_file(sweeps),
+        'sweep_cases/stdout': cases_text(sweeps, model.compare_text),
+        'compare_sweeps/stdin': model.ROWS['D'],
+        'compare_sweeps/stdout': model.compare_text(model.ROWS['D']).encode(),
+        'run_cases/data/script': b''.join(script.records),
+        'run_cases/stdout': ''.join(line + '\n' for line in script.lines).encode(),
+    }
+
+
+def write_all():
+    for name, content in all_files().items():
+        path = os.path.join(ROOT, name)
+        os.makedirs(os.path.dirname(path), exist_ok=True)
+        with open(path, 'wb') as out:
+            out.write(content)
+        print('wrote crates/%s, %d bytes' % (name, len(content)))
+
+
+def check_all():
+    wrong = 0
+    for name, content in all_files().items():
+        path = os.path.join(ROOT, name)
+        stored = open(path, 'rb').read() if os.path.exists(path) else None
+        same = stored == content
+        wrong += not same
+        print('crates/%s: %s' % (name, 'as generated' if same else 'DIFFERS'))
+    sys.exit(1 if wrong else 0)
+
+
+if __name__ == '__main__':
+    words = sys.argv[1:]
+    if words == []:
+        write_all()
+    elif words == ['check']:
+        check_all()
+    elif words == ['explain']:
+        print('\n'.join(run_script().words))
+    else:
+        sys.exit(__doc__)
