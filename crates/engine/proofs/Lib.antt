@@ -2,3 +2,4 @@ pub mod Parts
 pub mod Stages
 pub mod Lines
 pub mod AsSteps
+pub mod Demands

@@ -101,7 +101,7 @@ module _ (p : Plan) (source : List ℕ)
       go ih (inl e) = rw e (getD-at (sweepTo p source n) _ [] 0 n (sweep-length n))
       go ih (inr k) = List·getD-append (sweepTo p source n) _ 0 c (rw (sweep-length n) k) ∙ ih k
 
-  sweep-fixed : (c : ℕ) → c < p .cells → p .value source (sweep p source) c ≡ getD (sweep p source) c 0
+  pub sweep-fixed : (c : ℕ) → c < p .cells → p .value source (sweep p source) c ≡ getD (sweep p source) c 0
   sweep-fixed c h =
       sym (sweep-stays (p .cells) c h
       ∙ local (sweepTo p source c) (sweep p source) c h

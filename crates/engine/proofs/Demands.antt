@@ -1,0 +1,255 @@
+-- The three demands hold: of the calls' definitions, and of every run of them.
+use Prim.Native.Nat.{ℕ, zero, suc, _+_, _*_, _≤_, _<_}
+use mathlib.Core.Path.{_≡_, refl, sym, ap, _∙_}
+use mathlib.Core.Logic.{_≢_}
+use mathlib.Core.Bool.{Bool, true, false}
+use mathlib.Core.List.{List, [], _∷_, _++_}
+use native.Mathlib.Omega.{arith}
+use native.Mathlib.Decide.{ℕ-discrete}
+use lib.ListN.{length, getD, set}
+use lib.Dec.{eqb, ltb}
+use borrow.Author.Tests.{eq-eqb, ne-eqb, eqb-true}
+use Rattle.base.specs.Tests.{_and_, not, pick}
+use Rattle.base.specs.Lists.{Rising}
+use Rattle.base.specs.Numbers.{Line, line, firstOf}
+use Rattle.base.proofs.Tests.{both, and-true, not-true, true-not, pick-true, pick-false}
+use Rattle.base.proofs.Numbers.{first-false, first-some, first-behind, none-first, Numbered}
+use Rattle.machine.specs.Plan.{Plan, Message, Sound}
+use Rattle.machine.specs.Machine as machine
+use Rattle.machine.specs.Machine.{State, Answered, answered, turn, deliver, collect, fresh}
+use Rattle.machine.specs.Runs.{Event, turnOf, deliveryOf, act, stateAfter, answersTo, CarriedOut, Demand3}
+use Rattle.machine.proofs.Kept.{Inv}
+use Rattle.machine.proofs.Fresh.{inv-fresh}
+use Rattle.machine.proofs.Run.{run-inv, next-inv}
+use Rattle.machine.proofs.Theorem.{theorem}
+use Rattle.machine.proofs.Values.{sweep-fixed}
+use Rattle.nest.specs.Recipe.{Bytes, nestOf, readLines, nestLines}
+use Rattle.nest.specs.Nest.{Accepted, cells}
+use Rattle.nest.proofs.Facts.{accepted}
+use Rattle.base.proofs.Select.{keep-rising}
+use Rattle.plan.specs.Messages.{slots, slotParcel, parcel}
+use Rattle.plan.proofs.Slots.{message-slot}
+use Rattle.plan.proofs.Sound.{sound}
+use Rattle.plan.proofs.Report.{report-agrees}
+use Rattle.engine.specs.Calls.{recipe, areas, areaLines, freshCall, turnCall, deliverCall, collectCall, sweepCall}
+use Rattle.engine.specs.Demands.{Fixed, Demand1, Demand2, calls, Demands}
+
+-- ---- demand 1
+
+-- every line of the table has a number from 1 to 15
+abbrev InTable : List Line → Type 0
+InTable [] = Unit {0}
+InTable (l ∷ ls) = (l .number ≤ 15) × InTable ls
+
+first-most : (ls : List Line) → InTable ls → firstOf ls ≤ 15
+unfolding firstOf pick
+first-most [] h = omega arith
+first-most (l ∷ ls) h = go (l .holds) (first-most ls (h .1))
+  where
+    go : (t : Bool) → firstOf ls ≤ 15 → pick t (l .number) (firstOf ls) ≤ 15
+    go true r = h .0
+    go false r = r
+
+in-both : (a b : List Line) → InTable a → InTable b → InTable (a ++ b)
+in-both [] b h k = k
+in-both (l ∷ a) b h k = (h .0, in-both a b (h .1) k)
+
+read-in : (bytes : List ℕ) → InTable (readLines bytes)
+unfolding readLines nestLines
+read-in bytes = (omega arith, (omega arith, (omega arith, (omega arith, (omega arith, (omega arith, (omega arith, (omega arith, tt))))))))
+
+numbered : (bytes : List ℕ) → Numbered (readLines bytes)
+unfolding readLines nestLines
+numbered bytes =
+    (λ e. omega arith, (λ e. omega arith, (λ e. omega arith, (λ e. omega arith, (λ e. omega arith, (λ e. omega arith, (λ e. omega arith, (λ e. omega arith, tt))))))))
+
+module _ {A : Type 0} (ls : List Line) (new old : A) where
+  fixed : InTable ls → Fixed (answered (firstOf ls) new old) new old
+  fixed h =
+      record {
+        works = λ z. pick-true _ new old (eq-eqb (firstOf ls) 0 z);
+        refuses = λ z. pick-false _ new old (ne-eqb (firstOf ls) 0 z);
+        number = first-most ls h;
+      }
+
+demand1 : (bytes source : List ℕ) (s : State) → Demand1 bytes source s
+unfolding freshCall turnCall deliverCall collectCall sweepCall
+demand1 bytes source s =
+    record {
+      fresh = fixed (readLines bytes ++ areaLines (recipe bytes) source s) _ s (in-both (readLines bytes) _ (read-in bytes) (omega arith, tt));
+      turn = λ b. fixed _ _ s (in-both (readLines bytes) _ (read-in bytes) (omega arith, (omega arith, (omega arith, (omega arith, (omega arith, tt))))));
+      deliver = λ m. fixed _ _ s (in-both (readLines bytes) _ (read-in bytes) (omega arith, (omega arith, (omega arith, (omega arith, tt)))));
+      collect = λ grid. fixed _ _ grid (in-both (readLines bytes) _ (read-in bytes) (omega arith, (omega arith, (omega arith, tt))));
+      sweep = λ grid. fixed _ _ grid (in-both (readLines bytes) _ (read-in bytes) (omega arith, tt));
+    }
+
+answered-same : {A : Type 0} (m n : ℕ) (new old : A) → m ≡ n → answered m new old ≡ answered n new old
+answered-same m n new old e = ap (λ (k : ℕ). answered k new old) e
+
+-- ---- the calls are the machine's where the recipe is accepted and the areas have their lengths
+
+module _ (bytes source : List ℕ) (ok : firstOf (readLines bytes) ≡ 0) (s : State) (fits : areas (recipe bytes) source s ≡ true) where
+  past : (ls : List Line) → firstOf (readLines bytes ++ (areaLines (recipe bytes) source s ++ ls)) ≡ firstOf ls
+  past ls = first-behind (readLines bytes) _ (numbered bytes) ok ∙ first-false 9 _ ls (not-true fits)
+
+  turn-same : (b : ℕ) → turnCall bytes source s b ≡ turn (recipe bytes) source s b
+  unfolding turnCall turn
+  turn-same b = answered-same _ _ _ s (past _)
+
+  deliver-same : (m : ℕ) → deliverCall bytes source s m ≡ deliver (recipe bytes) s m
+  unfolding deliverCall deliver
+  deliver-same m = answered-same _ _ _ s (past _)
+
+  collect-same : (grid : List ℕ) → length grid ≡ recipe bytes .cells → collectCall bytes source s grid ≡ collect (recipe bytes) s grid
+  unfolding collectCall collect
+  collect-same grid e =
+      answered-same _ _ _ grid
+      (first-behind (readLines bytes) _ (numbered bytes) ok ∙ first-false 9 _ _ (not-true (and-true fits (eq-eqb _ _ e))))
+
+  call-same : (e : Event) → calls bytes source s e ≡ act (recipe bytes) source s e
+  unfolding calls act
+  call-same (turnOf b) = turn-same b
+  call-same (deliveryOf m) = deliver-same m
+
+-- ---- demand 3
+
+module _ (bytes source : List ℕ) (ok : firstOf (readLines bytes) ≡ 0) (so : Sound (recipe bytes)) (long : length source ≡ recipe bytes .cells) where
+  abbrev p : Plan
+  p = recipe bytes
+
+  inv-areas : (s : State) → Inv p source s → areas p source s ≡ true
+  unfolding areas
+  inv-areas s inv =
+      and-true (eq-eqb _ _ long)
+      (and-true (eq-eqb _ _ (inv .shape .memories))
+      (and-true (eq-eqb _ _ (inv .shape .buffer)) (and-true (eq-eqb _ _ (inv .shape .progress)) (eq-eqb _ _ (inv .shape .status)))))
+
+  same : (s : State) → Inv p source s → (e : Event) → calls bytes source s e ≡ act p source s e
+  same s inv e = call-same bytes source ok s (inv-areas s inv) e
+
+  same-state : (es : List Event) (s : State) → Inv p source s → stateAfter (calls bytes source) s es ≡ stateAfter (act p source) s es
+  unfolding stateAfter
+  same-state [] s inv = refl
+  same-state (e ∷ es) s inv =
+      ap (λ (a : Answered State). stateAfter (calls bytes source) (a .after) es) (same s inv e) ∙ same-state es _ (next-inv p so source s inv e)
+
+  same-answers : (es : List Event) (s : State) → Inv p source s → answersTo (calls bytes source) s es ≡ answersTo (act p source) s es
+  unfolding answersTo
+  same-answers [] s inv = refl
+  same-answers (e ∷ es) s inv =
+      ap (λ (a : Answered State). a .number ∷ answersTo (calls bytes source) (a .after) es) (same s inv e)
+      ∙ ap (λ (l : List ℕ). act p source s e .number ∷ l) (same-answers es _ (next-inv p so source s inv e))
+
+  -- after the events `es` from the fresh start
+  module _ (es : List Event) where
+    abbrev here : State
+    here = stateAfter (act p source) (fresh p) es
+
+    inv-here : Inv p source here
+    inv-here = run-inv p so source es (fresh p) (inv-fresh p source)
+
+    state-is : stateAfter (calls bytes source) (fresh p) es ≡ here
+    state-is = same-state es (fresh p) (inv-fresh p source)
+
+    answers-are : answersTo (calls bytes source) (fresh p) es ≡ answersTo (act p source) (fresh p) es
+    answers-are = same-answers es (fresh p) (inv-fresh p source)
+
+    next-is : (e : Event) → calls bytes source (stateAfter (calls bytes source) (fresh p) es) e ≡ act p source here e
+    next-is e = ap (λ (s : State). calls bytes source s e) state-is ∙ same here inv-here e
+
+    grid-is : (grid : List ℕ) → length grid ≡ p .cells → collectCall bytes source (stateAfter (calls bytes source) (fresh p) es) grid ≡ collect p here grid
+    grid-is grid e = ap (λ (s : State). collectCall bytes source s grid) state-is ∙ collect-same bytes source ok here (inv-areas here inv-here) grid e
+
+  number-of : {A : Type 0} {a b : Answered A} → a ≡ b → a .number ≡ b .number
+  number-of e = ap (λ x. x .number) e
+
+  module _ (events : List Event) where
+    abbrev claim : Type 0
+    claim = Demand3 (act p source) (fresh p) events p source (collect p)
+
+    carried : claim → (before after : List Event) (b : ℕ) → events ≡ before ++ (turnOf b ∷ after)
+        → calls bytes source (stateAfter (calls bytes source) (fresh p) before) (turnOf b) .number ≡ 0
+        → CarriedOut p source (act p source) (here before) b (Rattle.machine.specs.Runs.turnsOf b before (answersTo (act p source) (fresh p) before))
+    carried d before after b e z = d .carried-out before after b e (sym (number-of (next-is before (turnOf b))) ∙ z)
+
+    demand3 : claim → Demand3 (calls bytes source) (fresh p) events p source (collectCall bytes source)
+    demand3 d =
+        record {
+          bound = rw answers-are (d .bound);
+          goes-on = λ h. let r = d .goes-on (rw answers-are at h) in (r .0, number-of (next-is events (r .0)) ∙ r .1);
+          then-fewer = λ e z. rw answers-are (d .then-fewer e (sym (number-of (next-is events e)) ∙ z));
+          can-collect = λ h grid l. number-of (grid-is events grid l) ∙ d .can-collect (rw answers-are at h) grid l;
+          then-all = λ grid l z. rw answers-are (d .then-all grid l (sym (number-of (grid-is events grid l)) ∙ z));
+          calculated = λ c l. rw answers-are (d .calculated c l);
+          sent = λ m l. rw answers-are (d .sent m l);
+          delivered = λ m l. rw answers-are (d .delivered m l);
+          taken = λ m l. rw answers-are (d .taken m l);
+          all-calculated = λ h c l. rw answers-are (d .all-calculated (rw answers-are at h) c l);
+          all-sent = λ h m l. rw answers-are (d .all-sent (rw answers-are at h) m l);
+          all-delivered = λ h m l. rw answers-are (d .all-delivered (rw answers-are at h) m l);
+          all-taken = λ h m l. rw answers-are (d .all-taken (rw answers-are at h) m l);
+          carried-out = λ before after b e z.
+              let x = carried d before after b e z in
+              record {
+                named = rw answers-are (x .named);
+                by-rule = rw (answers-are, state-is) (ap (λ (a : Answered State). a .after) (same (here before) (inv-here before) (turnOf b)) ∙ x .by-rule);
+              };
+          within = λ b. rw answers-are (d .within b);
+          grid = λ h old l. ap (λ (a : Answered (List ℕ)). a .after) (grid-is events old l) ∙ d .grid (rw answers-are at h) old l;
+        }
+
+-- ---- what a fresh start that gave 0 says
+
+module _ (bytes source : List ℕ) (s : State) (z : freshCall bytes source s .number ≡ 0) where
+  lines-none : firstOf (readLines bytes ++ areaLines (recipe bytes) source s) ≡ 0
+  unfolding freshCall
+  lines-none = z
+
+  read-none : firstOf (readLines bytes) ≡ 0
+  read-none = go (ℕ-discrete (firstOf (readLines bytes)) 0)
+    where
+      go : Dec (firstOf (readLines bytes) ≡ 0) → firstOf (readLines bytes) ≡ 0
+      go (yes e) = e
+      go (no n) = sym (first-some (readLines bytes) _ n) ∙ lines-none
+
+  source-long : length source ≡ recipe bytes .cells
+  unfolding areas
+  source-long =
+      let a = none-first 9 _ [] (λ e. omega arith) (sym (first-behind (readLines bytes) _ (numbered bytes) read-none) ∙ lines-none) in
+      eqb-true _ _ (both (true-not (a .0)) .0)
+
+  started : freshCall bytes source s .after ≡ fresh (recipe bytes)
+  started = demand1 bytes source s .fresh .works z
+
+three : (bytes source : List ℕ) (s : State) → Bytes bytes → freshCall bytes source s .number ≡ 0 → (events : List Event)
+    → Demand3 (calls bytes source) (freshCall bytes source s .after) events (recipe bytes) source (collectCall bytes source)
+three bytes source s b z events =
+    let so = sound (nestOf bytes) (accepted bytes b (read-none bytes source s z)) in
+    rw (started bytes source s z)
+    (demand3 bytes source (read-none bytes source s z) so (source-long bytes source s z) events (theorem (recipe bytes) so source events))
+
+-- ---- demand 2
+
+demand2 : (bytes : List ℕ) → Accepted (nestOf bytes) → Demand2 bytes
+unfolding slotParcel parcel
+demand2 bytes ok =
+    record {
+      report = report-agrees (nestOf bytes) ok;
+      in-order = λ m l.
+          let r = message-slot (nestOf bytes) (slots (nestOf bytes)) m l in
+          rw (ap (λ (x : Message). x .cells) (r .4)) (keep-rising _ (cells (nestOf bytes)));
+      not-empty = λ m l.
+          let r = message-slot (nestOf bytes) (slots (nestOf bytes)) m l in
+          rw (ap (λ (x : Message). x .cells) (r .4)) (r .2);
+      swept = λ source c l.
+          let so = sound (nestOf bytes) ok in
+          sym (sweep-fixed (recipe bytes) source (so .local source) (so .earlier) c l);
+    }
+
+pub demands : Demands
+demands =
+    record {
+      one = demand1;
+      two = λ bytes b z. demand2 bytes (accepted bytes b z);
+      three = three;
+    }

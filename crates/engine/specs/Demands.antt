@@ -1,0 +1,50 @@
+-- The three demands, for a recipe's bytes, made of the definitions in Calls; each call's contract equates the call with them.
+-- Renders the customer's demands 1, 2 and 3 and document 01's "Conditions of acceptance"; proofs/Demands proves `Demands`.
+use Prim.Native.Nat.{ℕ, _≤_, _<_}
+use mathlib.Core.Path.{_≡_}
+use mathlib.Core.Logic.{_≢_}
+use mathlib.Core.List.{List}
+use lib.ListN.{length, getD, set}
+use Rattle.base.specs.Lists.{Rising}
+use Rattle.base.specs.Numbers.{firstOf}
+use Rattle.machine.specs.Plan.{count, heldBy}
+use Rattle.machine.specs.Machine as machine
+use Rattle.machine.specs.Machine.{State, Answered, stateOf, carryOut, nextAction, collected}
+use Rattle.machine.specs.Runs.{Event, turnOf, deliveryOf, Demand3}
+use Rattle.nest.specs.Recipe.{Bytes, nestOf, readLines}
+use Rattle.plan.specs.Report.{ReportAgrees}
+use Rattle.engine.specs.Calls.{recipe, freshCall, turnCall, deliverCall, collectCall, sweepCall}
+
+-- a call does its work, or gives one number and leaves every lent word as before
+pub record Fixed {A : Type 0} (call : Answered A) (done before : A) : Type 0 where
+  pub works : call .number ≡ 0 → call .after ≡ done
+  pub refuses : call .number ≢ 0 → call .after ≡ before
+  pub number : call .number ≤ 15
+
+-- demand 1: every call, on every recipe, lent area and event
+pub record Demand1 (bytes source : List ℕ) (s : State) : Type 0 where
+  pub fresh : Fixed (freshCall bytes source s) (machine.fresh (recipe bytes)) s
+  pub turn : (b : ℕ) → Fixed (turnCall bytes source s b) (carryOut (recipe bytes) source s b (nextAction (recipe bytes) s b)) s
+  pub deliver : (m : ℕ) → Fixed (deliverCall bytes source s m) (stateOf (s .memories) (s .buffer) (s .progress) (set (s .status) m 2)) s
+  pub collect : (grid : List ℕ) → Fixed (collectCall bytes source s grid) (collected (recipe bytes) s) grid
+  pub sweep : (grid : List ℕ) → Fixed (sweepCall bytes source grid) (machine.sweep (recipe bytes) source) grid
+
+-- demand 2: schedule, message cell sets and sequential sweep are the report's; sets exact, not empty, in index order
+pub record Demand2 (bytes : List ℕ) : Type 0 where
+  pub report : ReportAgrees (nestOf bytes)
+  pub in-order : (m : ℕ) → m < count (recipe bytes) → Rising (heldBy (recipe bytes) m)
+  pub not-empty : (m : ℕ) → m < count (recipe bytes) → 0 < length (heldBy (recipe bytes) m)
+  pub swept : (source : List ℕ) (c : ℕ) → c < recipe bytes .cells
+      → getD (machine.sweep (recipe bytes) source) c 0 ≡ recipe bytes .value source (machine.sweep (recipe bytes) source) c
+
+-- the events of a run, each a call
+unfoldable pub calls : List ℕ → List ℕ → State → Event → Answered State
+calls bytes source s (turnOf b) = turnCall bytes source s b
+calls bytes source s (deliveryOf m) = deliverCall bytes source s m
+
+pub record Demands : Type 0 where
+  pub one : (bytes source : List ℕ) (s : State) → Demand1 bytes source s
+  pub two : (bytes : List ℕ) → Bytes bytes → firstOf (readLines bytes) ≡ 0 → Demand2 bytes
+  -- demand 3: one recipe, one source, one fresh start that gave 0, and every list of turns and deliveries
+  pub three : (bytes source : List ℕ) (s : State) → Bytes bytes → freshCall bytes source s .number ≡ 0 → (events : List Event)
+      → Demand3 (calls bytes source) (freshCall bytes source s .after) events (recipe bytes) source (collectCall bytes source)
