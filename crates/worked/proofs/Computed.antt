@@ -1,0 +1,86 @@
+-- The worked recipe, computed: every figure by the definitions, and the theorem applied to it.
+use Prim.Native.Nat.{ℕ, zero, suc}
+use mathlib.Core.Path.{_≡_, refl}
+use mathlib.Core.Bool.{Bool, true}
+use mathlib.Core.List.{List, [], _∷_}
+use native.Mathlib.Omega.{arith}
+use lib.ListN.{replicate}
+use lib.Dec.{ltb}
+use borrow.Author.Tests.{ltb-true}
+use Rattle.base.specs.Tests.{_and_, _or_, not, pick, every, some, keep, those, tabulate, sum, product}
+use Rattle.base.specs.Numbers.{firstOf}
+use Rattle.base.proofs.Tests.{both}
+use Rattle.machine.specs.Plan.{offset, count, heldBy}
+use Rattle.machine.specs.Machine.{sweep, sweepTo}
+use Rattle.nest.specs.declared.Nest.{Nest}
+use Rattle.nest.specs.Nest.{tileCount, cells, tiles, processors}
+use Rattle.nest.specs.Recipe.{Bytes, ofKind, filled, nestBy, nestOf, ragged, blank, checked, fitsAt, wellFormed, strayRecord, outside, badLength, tooLarge, same, beyond, faulty, badDistance, reached, badTile, badProcessors, tooManyTiles, nestLines, readLines}
+use Rattle.plan.specs.Geometry.{rank, place, cellAt, cellPlace, tileAt, tilePlace, tileOf, cellsOf, processorOf, inside, hasRead, readAt, readsOf, value}
+use Rattle.plan.specs.Messages.{directions, ahead, reaches, parcel, taker, slotParcel, slotTaker, messagesTo, planOf}
+use Rattle.plan.specs.Rows.{accepted, figures, figuresIf, messageLine, linesTo, linesOf}
+use Rattle.engine.proofs.Demands.{demands}
+use Rattle.worked.specs.Harbour.{harbour, depths, Expected, Agrees}
+
+number-is : firstOf (readLines harbour) ≡ 0
+unfolding firstOf readLines nestLines nestOf nestBy ofKind filled ragged blank checked fitsAt wellFormed strayRecord outside badLength tooLarge same beyond faulty badDistance reached badTile badProcessors tooManyTiles tileCount cells tiles processors _and_ _or_ not pick every some keep those tabulate product
+number-is = refl
+
+-- the nest of the bytes, so that it is computed once
+abbrev nest : Nest
+nest =
+    record {
+      dimensions = 2;
+      spread = 1;
+      distances = 3;
+      lengths = 6 ∷ 5 ∷ 0 ∷ 0 ∷ [];
+      tiling = 3 ∷ 2 ∷ 0 ∷ 0 ∷ [];
+      counts = 2 ∷ 0 ∷ 0 ∷ 0 ∷ [];
+      components = 1 ∷ 0 ∷ 0 ∷ 0 ∷ 0 ∷ 1 ∷ 0 ∷ 0 ∷ 1 ∷ 1 ∷ replicate 22 0;
+      weights = 3 ∷ 2 ∷ 1 ∷ replicate 5 0;
+      shift = 2;
+      boundary = 7;
+    }
+
+nest-is : nestOf harbour ≡ nest
+unfolding ofKind filled nestBy nestOf pick keep those tabulate
+nest-is = refl
+
+plan-is : figuresIf 0 (planOf nest) ≡ accepted 6 3 5 18
+unfolding figuresIf offset _and_ _or_ pick every some keep product tileCount cells tiles rank place cellAt cellPlace tileAt tilePlace tileOf inside directions ahead reaches parcel taker slotParcel slotTaker messagesTo
+plan-is = refl
+
+lines-are : linesTo (planOf nest) (count (planOf nest)) ≡ (0 ∷ 0 ∷ 3 ∷ 0 ∷ 1 ∷ 2 ∷ []) ∷ (1 ∷ 1 ∷ 4 ∷ 0 ∷ 1 ∷ 2 ∷ []) ∷ (2 ∷ 2 ∷ 5 ∷ 0 ∷ 1 ∷ 1 ∷ []) ∷ []
+unfolding linesTo messageLine processorOf _and_ _or_ pick every some keep product tileCount cells tiles rank place cellAt cellPlace tileAt tilePlace tileOf inside directions ahead reaches parcel taker slotParcel slotTaker messagesTo
+lines-are = refl
+
+cells-are : heldBy (planOf nest) 1 ≡ 12 ∷ 13 ∷ []
+unfolding processorOf _and_ _or_ pick every some keep product tileCount cells tiles rank place cellAt cellPlace tileAt tilePlace tileOf inside directions ahead reaches parcel taker slotParcel slotTaker messagesTo
+cells-are = refl
+
+grid-is : sweep (planOf nest) depths
+    ≡ 35 ∷ 49 ∷ 57 ∷ 61 ∷ 63 ∷ 57 ∷ 100 ∷ 131 ∷ 152 ∷ 165 ∷ 75 ∷ 154 ∷ 228 ∷ 289 ∷ 334 ∷ 90 ∷ 208 ∷ 342 ∷ 474 ∷ 589 ∷ 102 ∷ 259 ∷ 468 ∷ 705 ∷ 943 ∷ 113 ∷ 307 ∷ 601 ∷ 978 ∷ 1404 ∷ []
+unfolding sweepTo cells product value hasRead readAt cellAt cellPlace place rank every sum _and_ pick tabulate
+grid-is = refl
+
+pub expected : Expected
+unfolding figures
+expected = record { number = number-is; plan = rw (number-is, nest-is) plan-is; lines = rw nest-is lines-are; cells = rw nest-is cells-are; grid = rw nest-is grid-is }
+
+-- each of the list's numbers is a byte
+unfoldable small : List ℕ → Bool
+small [] = true
+small (x ∷ xs) = ltb x 256 and small xs
+
+small-bytes : (l : List ℕ) → small l ≡ true → Bytes l
+unfolding small
+small-bytes [] e i = omega arith
+small-bytes (x ∷ xs) e zero = ltb-true x 256 (both e .0)
+small-bytes (x ∷ xs) e (suc i) = small-bytes xs (both e .1) i
+
+harbour-small : small harbour ≡ true
+unfolding small _and_
+harbour-small = refl
+
+pub agrees : Agrees
+unfolding Agrees
+agrees source s z events = demands .three harbour source s (small-bytes harbour harbour-small) z events
