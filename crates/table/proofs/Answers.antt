@@ -18,13 +18,14 @@ use Rattle.nest.specs.Nest.{Accepted, tiles}
 use Rattle.nest.specs.Recipe.{readLines, nestLines, nestOf, readingOf}
 use Rattle.plan.specs.Geometry.{processorOf}
 use Rattle.plan.specs.Messages.{planOf}
+use Rattle.plan.specs.Rows.{refused, figures, figuresIf}
 use Rattle.plan.proofs.Sound.{sound}
 use Rattle.layout.specs.Sizes.{endAt}
 use Rattle.table.specs.declared.Place.{Place}
 use Rattle.table.specs.declared.MessageLine.{MessageLine}
 use Rattle.table.specs.declared.Figures.{Figures}
 use Rattle.table.specs.Table.{Placed}
-use Rattle.table.specs.Summary.{figuresOf, noFigures, figuresIf, summaryOf, lineOf, noLine, messageLines, lineIf, messageLineOf}
+use Rattle.table.specs.Summary.{answered, figuresOf, summaryOf, lineOf, noLine, messageLines, lineIf, messageLineOf}
 
 -- ---- the line of a message
 
@@ -60,13 +61,13 @@ unfolding pick
 nest-is bytes r e z =
     ap (λ (x : Reading). x .nest) e ∙ rw (eq-eqb (firstOf (readLines bytes)) 0 (sym (ap (λ (x : Reading). x .number) e) ∙ z)) refl
 
-pub summary-refused : (bytes : List ℕ) (k : ℕ) → k ≡ firstOf (readLines bytes) → k ≢ 0 → noFigures k ≡ summaryOf bytes
-unfolding summaryOf figuresIf
+pub summary-refused : (bytes : List ℕ) (k : ℕ) → k ≡ firstOf (readLines bytes) → k ≢ 0 → answered (refused k) ≡ summaryOf bytes
+unfolding summaryOf figures figuresIf
 summary-refused bytes zero e h = absurd (h refl)
-summary-refused bytes (suc k) e h = ap (λ (i : ℕ). figuresIf i (planOf (nestOf bytes))) e
+summary-refused bytes (suc k) e h = ap (λ (i : ℕ). answered (figuresIf i (planOf (nestOf bytes)))) e
 
 pub summary-is : (bytes : List ℕ) (x : Nest) → firstOf (readLines bytes) ≡ 0 → x ≡ nestOf bytes → figuresOf (planOf x) ≡ summaryOf bytes
-unfolding summaryOf figuresIf
+unfolding summaryOf figures figuresIf
 summary-is bytes x e h = rw (h, e) refl
 
 numbered : (bytes : List ℕ) → Numbered (readLines bytes)

@@ -10,14 +10,20 @@ use Rattle.machine.specs.Plan.{Plan, count, words, senderOf, takerOf, heldBy}
 use Rattle.machine.specs.Runs.{total}
 use Rattle.nest.specs.Recipe.{readLines, nestOf}
 use Rattle.plan.specs.Messages.{planOf}
+use Rattle.plan.specs.Rows as rows
+use Rattle.plan.specs.Rows.{accepted, figures}
 use Rattle.table.specs.declared.Figures.{Figures}
 use Rattle.table.specs.declared.MessageLine.{MessageLine}
 
-abbrev pub figuresOf : Plan → Figures
-figuresOf p = record { number = 0; tiles = p .tiles; messages = count p; words = words p; steps = total p }
+-- the figures of the table of rows, as the call gives them
+abbrev pub answered : rows.Figures → Figures
+answered f = record { number = f .number; tiles = f .tiles; messages = f .messages; words = f .words; steps = f .steps }
 
-abbrev pub noFigures : ℕ → Figures
-noFigures n = record { number = n; tiles = 0; messages = 0; words = 0; steps = 0 }
+abbrev pub figuresOf : Plan → Figures
+figuresOf p = answered (accepted (p .tiles) (count p) (words p) (total p))
+
+unfoldable pub summaryOf : List ℕ → Figures
+summaryOf bytes = answered (figures bytes)
 
 -- sending and taking tile, sending and taking processor, words
 abbrev pub lineOf : Plan → ℕ → MessageLine
@@ -33,13 +39,6 @@ lineOf p m =
 
 abbrev pub noLine : ℕ → MessageLine
 noLine n = record { number = n; sender = 0; taker = 0; from = 0; to = 0; words = 0 }
-
-unfoldable pub figuresIf : ℕ → Plan → Figures
-figuresIf zero p = figuresOf p
-figuresIf (suc n) p = noFigures (suc n)
-
-unfoldable pub summaryOf : List ℕ → Figures
-summaryOf bytes = figuresIf (firstOf (readLines bytes)) (planOf (nestOf bytes))
 
 -- lines 1 to 8, then 11
 unfoldable pub messageLines : List ℕ → ℕ → List Line

@@ -5,9 +5,10 @@ ghost use lib.ListN.{length, getD};
 ghost use Rattle.machine.specs.Plan.{count, words, tilesOf};
 ghost use Rattle.nest.specs.Nest.{Accepted, tiles};
 ghost use Rattle.plan.specs.Messages.{slots, slotParcel, planOf};
+ghost use Rattle.plan.specs.Rows.{refused};
 ghost use Rattle.layout.specs.Sizes.{Sized};
 ghost use Rattle.table.specs.Table.{Table, Placed, atEnd};
-ghost use Rattle.table.specs.Summary.{figuresOf, noFigures, summaryOf, lineOf, noLine, messageLineOf};
+ghost use Rattle.table.specs.Summary.{answered, figuresOf, summaryOf, lineOf, noLine, messageLineOf};
 use layout::Sizes;
 use nest::Nest;
 
@@ -262,7 +263,7 @@ pub fn line_of(nest: Nest, sizes: Sizes, lens: &[u16; 7168], m: usize) -> Messag
 
 // Figures and line where the recipe or the message's number is refused.
 fn no_figures(number: u32) -> Figures
-    ensures { λ r. ⌜ r ≡ noFigures number ⌝ }
+    ensures { λ r. ⌜ r ≡ answered (refused number) ⌝ }
 {
     Figures {
         number: number,
