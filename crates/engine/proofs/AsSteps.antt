@@ -1,18 +1,18 @@
 -- Where a recipe is accepted and the areas have their lengths, each call is the machine's step; a fresh start that gave 0 says that it is so.
-use Prim.Native.Nat.{ℕ, _*_}
-use mathlib.Core.Path.{_≡_, refl, sym, ap, _∙_}
-use mathlib.Core.Bool.{Bool, true, false}
+use Prim.Native.Nat.{ℕ}
+use mathlib.Core.Path.{_≡_, sym, ap, _∙_}
+use mathlib.Core.Bool.{Bool, true}
 use mathlib.Core.List.{List, [], _∷_, _++_}
 use native.Mathlib.Decide.{ℕ-discrete}
 use native.Mathlib.Omega.{arith}
 use lib.ListN.{length, set}
 use lib.Dec.{eqb}
 use borrow.Author.Tests.{eq-eqb}
-use Rattle.base.specs.Tests.{_and_, not}
+use Rattle.base.specs.Tests.{not}
 use Rattle.base.specs.Numbers.{Line, line, firstOf}
 use Rattle.base.proofs.Tests.{not-true, true-not}
 use Rattle.base.proofs.Numbers.{first-false, none-first, first-some, first-behind}
-use Rattle.machine.specs.Machine.{State, stateOf, Answered, answered, carryOut, nextAction, turnLines, turn, deliverLines, deliver, collectLines, collected, collect, fresh}
+use Rattle.machine.specs.Machine.{State, stateOf, answered, carryOut, nextAction, turnLines, turn, deliverLines, deliver, collectLines, collected, collect, fresh}
 use Rattle.nest.specs.Recipe.{readLines}
 use Rattle.engine.specs.Calls.{answer, recipe, areas, areaLines, freshCall, turnCall, deliverCall, collectCall}
 use Rattle.engine.proofs.Lines.{numbered, and-right, call-done}

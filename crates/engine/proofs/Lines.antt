@@ -1,5 +1,5 @@
 -- Laws of the lines: areas and fit states, what reading gives, and each call by the line that counts.
-use Prim.Native.Nat.{ℕ, zero, suc, _+_, _*_, _≤_, _<_}
+use Prim.Native.Nat.{ℕ, suc, _*_, _≤_, _<_}
 use mathlib.Core.Path.{_≡_, refl, sym, ap, _∙_}
 use mathlib.Core.Logic.{_≢_}
 use mathlib.Core.Bool.{Bool, true, false}
@@ -11,13 +11,13 @@ use lib.Dec.{ltb, leb, eqb}
 use borrow.Author.Tests.{eqb-true, eq-eqb, ne-eqb, lt-ltb, le-ltb}
 use Rattle.base.specs.Tests.{_and_, not, pick, every, some}
 use Rattle.base.specs.Numbers.{Line, line, firstOf}
-use Rattle.base.proofs.Tests.{both, and-true, and-left, and-false, and-no, not-true, not-false, true-not, pick-true, is-false, never-both}
+use Rattle.base.proofs.Tests.{both, and-true, and-left, and-false, and-no, not-true, not-false, true-not, pick-true}
 use Rattle.base.proofs.Numbers.{first-true, first-false, none-first, Numbered, first-some, first-behind}
 use Rattle.machine.specs.Plan.{Plan, count, words}
 use Rattle.machine.specs.Machine as machine
 use Rattle.machine.specs.Machine.{State, stateOf, fitRecord, fit, tilesLeft, carryOut, nextAction, Answered, answered, turnLines, turn, deliverLines, collectLines, collected}
 use Rattle.nest.specs.declared.Nest.{Nest}
-use Rattle.nest.specs.Nest.{Accepted, cells, processors}
+use Rattle.nest.specs.Nest.{cells, processors}
 use Rattle.plan.specs.Messages.{planOf}
 use Rattle.layout.specs.declared.Sizes.{Sizes}
 use Rattle.layout.specs.Sizes.{Sized}

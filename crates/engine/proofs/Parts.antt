@@ -1,25 +1,25 @@
 -- Laws of lent parts, of messages at their places, and of the loops over messages, cells and words.
-use Prim.Native.Nat.{ℕ, zero, suc, _+_, _*_, _-_, _≤_, _<_}
+use Prim.Native.Nat.{ℕ, suc, _+_, _*_, _-_, _≤_, _<_}
 use mathlib.Core.Path.{_≡_, refl, sym, ap, _∙_, subst}
 use mathlib.Core.Logic.{_⊎_, inl, inr, _≢_}
 use mathlib.Core.Bool.{Bool, true, false}
-use mathlib.Core.List.{List, [], _∷_, _++_}
+use mathlib.Core.List.{List, []}
 use native.Mathlib.Nat.{eq-or-lt-of-le, le-of-suc-le-suc}
 use native.Mathlib.Numerals.{add-one}
 use native.Mathlib.Omega.{arith}
 use lib.ListN.{length, getD, take, drop, set, replicate, length-set, length-replicate, getD-replicate, drop-of-length-le}
 use lib.Seq.{drop-cons, getD-set-same, getD-set-other, getD-take, getD-drop, ext-getD}
-use lib.Dec.{ltb, leb, eqb}
+use lib.Dec.{eqb}
 use borrow.Author.Tests.{eq-eqb, ne-eqb}
 use borrow.Rule.Slice.PartMut.{putMid}
-use Rattle.base.specs.Tests.{_and_, _or_, pick, every, some, tabulate}
+use Rattle.base.specs.Tests.{_or_, every, some, tabulate}
 use Rattle.base.specs.Lists.{part, put, setAll, allAt, unpack, pack}
-use Rattle.base.proofs.Tests.{and-left, and-false, every-more, every-not, some-one, some-none, length-tabulate, tabulate-at}
+use Rattle.base.proofs.Tests.{and-left, and-false, every-more, length-tabulate, tabulate-at}
 use Rattle.base.proofs.Lists.{part-length, piece-fits}
-use Rattle.machine.specs.Plan.{Message, Plan, offset, count, words, message, heldBy, duesOf, sendsOf}
-use Rattle.machine.specs.Machine.{State, stateOf, placeOf, unpackAll, collected, memoryOf}
+use Rattle.machine.specs.Plan.{Message, Plan, offset, words, heldBy, duesOf}
+use Rattle.machine.specs.Machine.{stateOf, placeOf, unpackAll, collected}
 use Rattle.nest.specs.declared.Nest.{Nest}
-use Rattle.nest.specs.Nest.{cells, processors}
+use Rattle.nest.specs.Nest.{cells}
 use Rattle.plan.specs.Geometry.{tileOf, processorOf}
 use Rattle.plan.specs.Messages.{slotParcel, messages, planOf}
 use Rattle.table.specs.declared.Place.{Place}

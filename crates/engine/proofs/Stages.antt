@@ -1,25 +1,25 @@
 -- Laws of the stages of a turn: what each leaves, fit records, and the turn of the machine by the stage.
 use Prim.Native.Nat.{ℕ, zero, suc, _+_, _*_, _-_, _≤_, _<_}
 use mathlib.Core.Path.{_≡_, refl, sym, ap, _∙_}
-use mathlib.Core.Logic.{_⊎_, inl, inr, _≢_}
+use mathlib.Core.Logic.{_≢_}
 use mathlib.Core.Bool.{Bool, true, false}
-use mathlib.Core.List.{List, [], _∷_, _++_}
+use mathlib.Core.List.{List, [], _∷_}
 use native.Mathlib.Omega.{arith}
 use native.Mathlib.Decide.{ℕ-discrete}
 use lib.ListN.{length, getD, take, drop, set}
-use lib.Dec.{ltb, leb, eqb}
-use borrow.Author.Tests.{eqb-true, eq-eqb, ne-eqb, lt-ltb, le-ltb, ltb-true}
+use lib.Dec.{ltb, eqb}
+use borrow.Author.Tests.{eq-eqb, ne-eqb, lt-ltb, le-ltb, ltb-true}
 use borrow.Rule.Slice.PartMut.{putMid}
-use Rattle.base.specs.Tests.{_and_, not, pick, every, those}
-use Rattle.base.specs.Lists.{part, put, setAll, allAt, pack, storeAll}
-use Rattle.base.specs.Numbers.{Line, line, firstOf}
-use Rattle.base.proofs.Tests.{both, and-true, and-left, and-false, and-no, not-true, not-false, pick-true, pick-false, every-at}
+use Rattle.base.specs.Tests.{_and_, not, pick}
+use Rattle.base.specs.Lists.{put, setAll, allAt, pack, storeAll}
+use Rattle.base.specs.Numbers.{line, firstOf}
+use Rattle.base.proofs.Tests.{both, and-true, and-false, and-no, not-true, not-false, pick-true, pick-false, every-at}
 use Rattle.base.proofs.Select.{at-is, those-few}
 use Rattle.base.proofs.Numbers.{first-true, first-false}
 use Rattle.machine.specs.Plan.{Plan, count, offset, senderOf, heldBy, tilesOf, sendsOf, duesOf}
-use Rattle.machine.specs.Machine.{State, stateOf, finishedOf, stageOf, sentOf, setProgress, memoryOf, tilesLeft, currentTile, fitRecord, fit, Action, gather, calculate, send, unpackAll, afterSends, carryOut, actionAt, nextAction, Answered, answered, waiting, turnLines, turn}
+use Rattle.machine.specs.Machine.{State, stateOf, finishedOf, stageOf, sentOf, setProgress, memoryOf, tilesLeft, currentTile, fitRecord, fit, gather, calculate, send, unpackAll, afterSends, carryOut, actionAt, nextAction, answered, waiting, turnLines, turn}
 use Rattle.nest.specs.declared.Nest.{Nest}
-use Rattle.nest.specs.Nest.{Accepted, cells, tiles, processors}
+use Rattle.nest.specs.Nest.{Accepted, cells, tiles}
 use Rattle.plan.specs.Geometry.{cellsOf, value}
 use Rattle.plan.specs.Messages.{messages, planOf}
 use Rattle.table.specs.declared.Place.{Place}
