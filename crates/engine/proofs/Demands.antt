@@ -1,19 +1,14 @@
 -- The three demands hold: of the calls' definitions, and of every run of them.
-use Prim.Native.Nat.{ℕ, zero, suc, _+_, _*_, _≤_, _<_}
+use Prim.Native.Nat.{ℕ, _≤_}
 use mathlib.Core.Path.{_≡_, refl, sym, ap, _∙_}
-use mathlib.Core.Logic.{_≢_}
 use mathlib.Core.Bool.{Bool, true, false}
 use mathlib.Core.List.{List, [], _∷_, _++_}
 use native.Mathlib.Omega.{arith}
-use native.Mathlib.Decide.{ℕ-discrete}
-use lib.ListN.{length, getD, set}
-use lib.Dec.{eqb, ltb}
-use borrow.Author.Tests.{eq-eqb, ne-eqb, eqb-true}
-use Rattle.base.specs.Tests.{_and_, not, pick}
-use Rattle.base.specs.Lists.{Rising}
+use lib.ListN.{length}
+use borrow.Author.Tests.{eq-eqb, ne-eqb}
+use Rattle.base.specs.Tests.{pick}
 use Rattle.base.specs.Numbers.{Line, line, firstOf}
-use Rattle.base.proofs.Tests.{both, and-true, not-true, true-not, pick-true, pick-false}
-use Rattle.base.proofs.Numbers.{first-false, first-some, first-behind, none-first, Numbered}
+use Rattle.base.proofs.Tests.{and-true, pick-true, pick-false}
 use Rattle.machine.specs.Plan.{Plan, Message, Sound}
 use Rattle.machine.specs.Machine as machine
 use Rattle.machine.specs.Machine.{State, Answered, answered, turn, deliver, collect, fresh}
@@ -32,6 +27,8 @@ use Rattle.plan.proofs.Slots.{message-slot}
 use Rattle.plan.proofs.Sound.{sound}
 use Rattle.plan.proofs.Report.{report-agrees}
 use Rattle.engine.specs.Calls.{recipe, areas, areaLines, freshCall, turnCall, deliverCall, collectCall, sweepCall}
+use Rattle.engine.proofs.Lines.{areas-are}
+use Rattle.engine.proofs.AsSteps.{turn-is, deliver-is, collect-is, fresh-gave}
 use Rattle.engine.specs.Demands.{Fixed, Demand1, Demand2, calls, Demands}
 
 -- ---- demand 1
@@ -58,11 +55,6 @@ read-in : (bytes : List ℕ) → InTable (readLines bytes)
 unfolding readLines nestLines
 read-in bytes = (omega arith, (omega arith, (omega arith, (omega arith, (omega arith, (omega arith, (omega arith, (omega arith, tt))))))))
 
-numbered : (bytes : List ℕ) → Numbered (readLines bytes)
-unfolding readLines nestLines
-numbered bytes =
-    (λ e. omega arith, (λ e. omega arith, (λ e. omega arith, (λ e. omega arith, (λ e. omega arith, (λ e. omega arith, (λ e. omega arith, (λ e. omega arith, tt))))))))
-
 module _ {A : Type 0} (ls : List Line) (new old : A) where
   fixed : InTable ls → Fixed (answered (firstOf ls) new old) new old
   fixed h =
@@ -83,34 +75,6 @@ demand1 bytes source s =
       sweep = λ grid. fixed _ _ grid (in-both (readLines bytes) _ (read-in bytes) (omega arith, tt));
     }
 
-answered-same : {A : Type 0} (m n : ℕ) (new old : A) → m ≡ n → answered m new old ≡ answered n new old
-answered-same m n new old e = ap (λ (k : ℕ). answered k new old) e
-
--- ---- the calls are the machine's where the recipe is accepted and the areas have their lengths
-
-module _ (bytes source : List ℕ) (ok : firstOf (readLines bytes) ≡ 0) (s : State) (fits : areas (recipe bytes) source s ≡ true) where
-  past : (ls : List Line) → firstOf (readLines bytes ++ (areaLines (recipe bytes) source s ++ ls)) ≡ firstOf ls
-  past ls = first-behind (readLines bytes) _ (numbered bytes) ok ∙ first-false 9 _ ls (not-true fits)
-
-  turn-same : (b : ℕ) → turnCall bytes source s b ≡ turn (recipe bytes) source s b
-  unfolding turnCall turn
-  turn-same b = answered-same _ _ _ s (past _)
-
-  deliver-same : (m : ℕ) → deliverCall bytes source s m ≡ deliver (recipe bytes) s m
-  unfolding deliverCall deliver
-  deliver-same m = answered-same _ _ _ s (past _)
-
-  collect-same : (grid : List ℕ) → length grid ≡ recipe bytes .cells → collectCall bytes source s grid ≡ collect (recipe bytes) s grid
-  unfolding collectCall collect
-  collect-same grid e =
-      answered-same _ _ _ grid
-      (first-behind (readLines bytes) _ (numbered bytes) ok ∙ first-false 9 _ _ (not-true (and-true fits (eq-eqb _ _ e))))
-
-  call-same : (e : Event) → calls bytes source s e ≡ act (recipe bytes) source s e
-  unfolding calls act
-  call-same (turnOf b) = turn-same b
-  call-same (deliveryOf m) = deliver-same m
-
 -- ---- demand 3
 
 module _ (bytes source : List ℕ) (ok : firstOf (readLines bytes) ≡ 0) (so : Sound (recipe bytes)) (long : length source ≡ recipe bytes .cells) where
@@ -125,7 +89,9 @@ module _ (bytes source : List ℕ) (ok : firstOf (readLines bytes) ≡ 0) (so : 
       (and-true (eq-eqb _ _ (inv .shape .buffer)) (and-true (eq-eqb _ _ (inv .shape .progress)) (eq-eqb _ _ (inv .shape .status)))))
 
   same : (s : State) → Inv p source s → (e : Event) → calls bytes source s e ≡ act p source s e
-  same s inv e = call-same bytes source ok s (inv-areas s inv) e
+  unfolding calls act
+  same s inv (turnOf b) = turn-is bytes source s ok (inv-areas s inv) b
+  same s inv (deliveryOf m) = deliver-is bytes source s ok (inv-areas s inv) m
 
   same-state : (es : List Event) (s : State) → Inv p source s → stateAfter (calls bytes source) s es ≡ stateAfter (act p source) s es
   unfolding stateAfter
@@ -158,7 +124,7 @@ module _ (bytes source : List ℕ) (ok : firstOf (readLines bytes) ≡ 0) (so : 
     next-is e = ap (λ (s : State). calls bytes source s e) state-is ∙ same here inv-here e
 
     grid-is : (grid : List ℕ) → length grid ≡ p .cells → collectCall bytes source (stateAfter (calls bytes source) (fresh p) es) grid ≡ collect p here grid
-    grid-is grid e = ap (λ (s : State). collectCall bytes source s grid) state-is ∙ collect-same bytes source ok here (inv-areas here inv-here) grid e
+    grid-is grid e = ap (λ (s : State). collectCall bytes source s grid) state-is ∙ collect-is bytes source here ok (inv-areas here inv-here) grid e
 
   number-of : {A : Type 0} {a b : Answered A} → a ≡ b → a .number ≡ b .number
   number-of e = ap (λ x. x .number) e
@@ -198,35 +164,13 @@ module _ (bytes source : List ℕ) (ok : firstOf (readLines bytes) ≡ 0) (so : 
           grid = λ h old l. ap (λ (a : Answered (List ℕ)). a .after) (grid-is events old l) ∙ d .grid (rw answers-are at h) old l;
         }
 
--- ---- what a fresh start that gave 0 says
-
-module _ (bytes source : List ℕ) (s : State) (z : freshCall bytes source s .number ≡ 0) where
-  lines-none : firstOf (readLines bytes ++ areaLines (recipe bytes) source s) ≡ 0
-  unfolding freshCall
-  lines-none = z
-
-  read-none : firstOf (readLines bytes) ≡ 0
-  read-none = go (ℕ-discrete (firstOf (readLines bytes)) 0)
-    where
-      go : Dec (firstOf (readLines bytes) ≡ 0) → firstOf (readLines bytes) ≡ 0
-      go (yes e) = e
-      go (no n) = sym (first-some (readLines bytes) _ n) ∙ lines-none
-
-  source-long : length source ≡ recipe bytes .cells
-  unfolding areas
-  source-long =
-      let a = none-first 9 _ [] (λ e. omega arith) (sym (first-behind (readLines bytes) _ (numbered bytes) read-none) ∙ lines-none) in
-      eqb-true _ _ (both (true-not (a .0)) .0)
-
-  started : freshCall bytes source s .after ≡ fresh (recipe bytes)
-  started = demand1 bytes source s .fresh .works z
-
 three : (bytes source : List ℕ) (s : State) → Bytes bytes → freshCall bytes source s .number ≡ 0 → (events : List Event)
     → Demand3 (calls bytes source) (freshCall bytes source s .after) events (recipe bytes) source (collectCall bytes source)
 three bytes source s b z events =
-    let so = sound (nestOf bytes) (accepted bytes b (read-none bytes source s z)) in
-    rw (started bytes source s z)
-    (demand3 bytes source (read-none bytes source s z) so (source-long bytes source s z) events (theorem (recipe bytes) so source events))
+    let gave = fresh-gave bytes source s z in
+    let so = sound (nestOf bytes) (accepted bytes b (gave .0)) in
+    rw (demand1 bytes source s .fresh .works z)
+    (demand3 bytes source (gave .0) so (areas-are (recipe bytes) source s (gave .1) .source) events (theorem (recipe bytes) so source events))
 
 -- ---- demand 2
 
