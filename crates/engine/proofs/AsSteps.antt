@@ -13,7 +13,7 @@ use Rattle.base.specs.Numbers.{Line, line, firstOf}
 use Rattle.base.proofs.Tests.{not-true, true-not}
 use Rattle.base.proofs.Numbers.{first-false, none-first, first-some, first-behind}
 use Rattle.machine.specs.Machine.{State, stateOf, answered, carryOut, nextAction, turnLines, turn, deliverLines, deliver, collectLines, collected, collect, fresh}
-use Rattle.nest.specs.Recipe.{readLines}
+use Rattle.nest.specs.Nest.{readLines}
 use Rattle.engine.specs.Calls.{answer, recipe, areas, areaLines, freshCall, turnCall, deliverCall, collectCall}
 use Rattle.engine.proofs.Lines.{numbered, and-right, call-done}
 

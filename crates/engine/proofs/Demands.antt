@@ -18,8 +18,10 @@ use Rattle.machine.proofs.Fresh.{inv-fresh}
 use Rattle.machine.proofs.Run.{run-inv, next-inv}
 use Rattle.machine.proofs.Theorem.{theorem}
 use Rattle.machine.proofs.Values.{sweep-fixed}
-use Rattle.nest.specs.Recipe.{Bytes, nestOf, readLines, nestLines}
-use Rattle.nest.specs.Nest.{Accepted, cells}
+use Rattle.base.specs.Lists.{Bytes}
+use Rattle.nest.specs.Nest.{nestOf, readLines, nestLines}
+use Rattle.nest.proofs.Accepted.{Accepted}
+use Rattle.nest.specs.Nest.{cells}
 use Rattle.nest.proofs.Facts.{accepted}
 use Rattle.base.proofs.Select.{keep-rising}
 use Rattle.plan.specs.Messages.{slots, slotParcel, parcel}

@@ -19,7 +19,8 @@ use Rattle.base.proofs.Numbers.{first-true, first-false}
 use Rattle.machine.specs.Plan.{Plan, count, offset, senderOf, heldBy, tilesOf, sendsOf, duesOf}
 use Rattle.machine.specs.Machine.{State, stateOf, finishedOf, stageOf, sentOf, setProgress, memoryOf, tilesLeft, currentTile, fitRecord, fit, gather, calculate, send, unpackAll, afterSends, carryOut, actionAt, nextAction, answered, waiting, turnLines, turn}
 use Rattle.nest.specs.declared.Nest.{Nest}
-use Rattle.nest.specs.Nest.{Accepted, cells, tiles}
+use Rattle.nest.proofs.Accepted.{Accepted}
+use Rattle.nest.specs.Nest.{cells, tiles}
 use Rattle.plan.specs.Geometry.{cellsOf, value}
 use Rattle.plan.specs.Messages.{messages, planOf}
 use Rattle.table.specs.declared.Place.{Place}

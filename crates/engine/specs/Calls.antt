@@ -11,7 +11,7 @@ use Rattle.machine.specs.Plan.{Plan, count, words}
 use Rattle.machine.specs.Machine as machine
 use Rattle.machine.specs.Machine.{State, Answered, answered, stateOf, carryOut, nextAction, turnLines, deliverLines, collectLines, collected}
 use Rattle.plan.specs.Messages.{planOf}
-use Rattle.nest.specs.Recipe.{readLines, nestOf}
+use Rattle.nest.specs.Nest.{readLines, nestOf}
 
 -- what a call answers: its number and the lent words after it
 abbrev pub answer : {A : Type 0} → ℕ → A → Answered A

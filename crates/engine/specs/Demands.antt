@@ -11,7 +11,8 @@ use Rattle.machine.specs.Plan.{count, heldBy}
 use Rattle.machine.specs.Machine as machine
 use Rattle.machine.specs.Machine.{State, Answered, stateOf, carryOut, nextAction, collected}
 use Rattle.machine.specs.Runs.{Event, turnOf, deliveryOf, Demand3}
-use Rattle.nest.specs.Recipe.{Bytes, nestOf, readLines}
+use Rattle.base.specs.Lists.{Bytes}
+use Rattle.nest.specs.Nest.{nestOf, readLines}
 use Rattle.plan.specs.Report.{ReportAgrees}
 use Rattle.engine.specs.Calls.{recipe, freshCall, turnCall, deliverCall, collectCall, sweepCall}
 

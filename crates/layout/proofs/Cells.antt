@@ -13,7 +13,8 @@ use Rattle.base.specs.Tests.{_and_, every, product, pick, sum}
 use Rattle.base.proofs.Tests.{every-not, pick-true, pick-false, sum-same}
 use borrow.Author.Tests.{lt-leb, le-leb}
 use Rattle.nest.specs.declared.Nest.{Nest}
-use Rattle.nest.specs.Nest.{Accepted, lengthOf, tileLength, processorCount, component, weight, tileCount, cells, tiles, processors}
+use Rattle.nest.proofs.Accepted.{Accepted}
+use Rattle.nest.specs.Nest.{lengthOf, tileLength, processorCount, component, weight, tileCount, cells, tiles, processors}
 use Rattle.plan.specs.Geometry.{rank, place, cellAt, cellPlace, tileAt, tilePlace, processorOf, inside, hasRead, readAt, value}
 use Rattle.plan.specs.Messages.{two, directions, ahead, reaches, taker, slots, slotTile, slotDirection, slotTaker}
 use Rattle.plan.specs.Box.{boxLength, boxSize, boxPlace, boxCell}

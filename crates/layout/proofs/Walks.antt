@@ -16,7 +16,8 @@ use Rattle.base.proofs.Lists.{pack-length, unpack-length, store-length}
 use Rattle.machine.specs.Plan.{Plan, Sound}
 use Rattle.machine.specs.Machine.{sweepTo, sweep}
 use Rattle.nest.specs.declared.Nest.{Nest}
-use Rattle.nest.specs.Nest.{Accepted, cells}
+use Rattle.nest.proofs.Accepted.{Accepted}
+use Rattle.nest.specs.Nest.{cells}
 use Rattle.plan.specs.Geometry.{cellsOf, value}
 use Rattle.plan.specs.Messages.{directions, reaches, slots, slotTile, slotDirection, slotParcel, planOf}
 use Rattle.plan.specs.Box.{boxSize, boxCell}

@@ -4,7 +4,8 @@ use Prim.Native.Nat.{ℕ, suc, zero, _<_}
 use mathlib.Core.Path.{_≡_}
 use lib.ListN.{getD}
 use Rattle.nest.specs.declared.Nest.{Nest}
-use Rattle.nest.specs.Nest.{Accepted, tileCount, cells, tiles, processors}
+use Rattle.nest.proofs.Accepted.{Accepted}
+use Rattle.nest.specs.Nest.{tileCount, cells, tiles, processors}
 use Rattle.plan.specs.Messages.{directions, slotTile, slotTaker}
 use Rattle.layout.specs.declared.Sizes.{Sizes}
 

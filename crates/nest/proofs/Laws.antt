@@ -20,7 +20,8 @@ use Rattle.base.proofs.Select.{those-more, those-none, keep-more, keep-none}
 use Rattle.base.proofs.Numbers.{first-true, first-false}
 use Rattle.nest.specs.declared.Nest.{Nest}
 use Rattle.nest.specs.Nest.{lengthOf, tileLength, processorCount, tileCount, cells, tiles, processors}
-use Rattle.nest.specs.Recipe.{Bytes, half, word, filled, nestBy, ragged, blank, checked, fitsAt, wellFormed, kind, records, badLength, tooLarge, badDistance, badTile, badProcessors, tooManyTiles, nestLines}
+use Rattle.base.specs.Lists.{Bytes}
+use Rattle.nest.specs.Nest.{half, word, filled, nestBy, ragged, blank, checked, fitsAt, wellFormed, kind, records, badLength, tooLarge, badDistance, badTile, badProcessors, tooManyTiles, nestLines}
 
 -- ---- loops
 

@@ -6,7 +6,7 @@ use lib.ListN.{replicate}
 use Rattle.base.specs.Tests.{_and_, _or_, not, pick, every, some, keep, those, tabulate, product}
 use Rattle.base.specs.Numbers.{firstOf}
 use Rattle.nest.specs.Nest.{tileCount, cells, tiles, processors}
-use Rattle.nest.specs.Recipe.{ofKind, filled, nestBy, nestOf, ragged, blank, checked, fitsAt, wellFormed, strayRecord, outside, badLength, tooLarge, same, beyond, faulty, badDistance, reached, badTile, badProcessors, tooManyTiles, nestLines, readLines}
+use Rattle.nest.specs.Nest.{ofKind, filled, nestBy, nestOf, ragged, blank, checked, fitsAt, wellFormed, strayRecord, outside, badLength, tooLarge, same, beyond, faulty, badDistance, reached, badTile, badProcessors, tooManyTiles, nestLines, readLines}
 
 -- a dimension: length, tile length, processor count; a distance of weight 1; the close with shift 0 and boundary 0
 abbrev pub dimension : ℕ → ℕ → ℕ → List ℕ

@@ -1,9 +1,14 @@
--- A nest: lengths, tile lengths and processor counts by dimension, distances with their weights, shift and boundary.
--- Renders document 01, "The recipe" and "Cells, tiles and boards": what the fields mean, and what an accepted nest has.
-use Prim.Native.Nat.{ℕ, _+_, _*_, _-_, _/_, _≤_, _<_}
-use lib.ListN.{getD}
-use Rattle.base.specs.Tests.{product}
+-- A nest: what its fields mean; and a recipe's bytes: records and fields, the nest they give, lines 1 to 8, what reading answers.
+-- Renders document 01, "The recipe", "Cells, tiles and boards" and "Numbers a call gives", lines 1 to 8.
+use Prim.Native.Nat.{ℕ, _+_, _*_, _-_, _/_, _%_}
+use mathlib.Core.Bool.{Bool}
+use mathlib.Core.List.{List, [], _∷_}
+use lib.ListN.{length, getD}
+use lib.Dec.{eqb, ltb, leb}
+use Rattle.base.specs.Tests.{_and_, _or_, not, pick, every, some, keep, those, tabulate, product}
+use Rattle.base.specs.Numbers.{Line, line, firstOf}
 use Rattle.nest.specs.declared.Nest.{Nest}
+use Rattle.nest.specs.declared.Reading.{Reading}
 
 -- by dimension, counted from 0
 abbrev pub lengthOf : Nest → ℕ → ℕ
@@ -35,28 +40,109 @@ tiles x = product (tileCount x) (x .dimensions)
 unfoldable pub processors : Nest → ℕ
 processors x = product (processorCount x) (x .spread)
 
--- what the layers above may use of a nest that was accepted
-pub record Accepted (x : Nest) : Type 0 where
-  pub dimensions-least : 2 ≤ x .dimensions
-  pub dimensions-most : x .dimensions ≤ 4
-  pub spread-least : 1 ≤ x .spread
-  pub spread-low : x .spread < x .dimensions
-  pub distances-least : 1 ≤ x .distances
-  pub distances-most : x .distances ≤ 8
-  pub long : (j : ℕ) → j < x .dimensions → 1 ≤ lengthOf x j
-  pub length-most : (j : ℕ) → lengthOf x j ≤ 1024
-  pub tiled : (j : ℕ) → j < x .dimensions → 1 ≤ tileLength x j
-  pub tile-most : (j : ℕ) → tileLength x j ≤ 1024
-  pub manned : (j : ℕ) → j < x .spread → 1 ≤ processorCount x j
-  pub near : (e j : ℕ) → e < x .distances → j < x .dimensions → component x e j ≤ tileLength x j
-  pub component-most : (e j : ℕ) → component x e j ≤ 1024
-  pub moves : (e : ℕ) → e < x .distances → (j : ℕ) × (j < x .dimensions) × (1 ≤ component x e j)
-  pub weight-most : (e : ℕ) → weight x e < 65536
-  pub shift-most : x .shift < 32
-  pub boundary-most : x .boundary < 4294967296
-  pub cells-most : cells x ≤ 16384
-  pub tiles-most : tiles x ≤ 1024
-  pub processors-most : processors x ≤ 64
-  -- document 01 asks more today; W-205 and W-201 will ask only the lines above
-  pub shared : (j : ℕ) → j < x .spread → 2 ≤ processorCount x j
-  pub nearer : (e j : ℕ) → e < x .distances → j < x .dimensions → component x e j < tileLength x j
+-- byte i of record r stands at 16 * r + i; numbers of two and of four bytes from a place on, little-endian
+abbrev pub records : List ℕ → ℕ
+records bytes = length bytes / 16
+
+abbrev pub half : List ℕ → ℕ → ℕ
+half bytes at = getD bytes at 0 + 256 * getD bytes (at + 1) 0
+
+abbrev pub word : List ℕ → ℕ → ℕ
+word bytes at = half bytes at + 65536 * half bytes (at + 2)
+
+abbrev pub kind : List ℕ → ℕ → ℕ
+kind bytes r = getD bytes (16 * r) 0
+
+unfoldable pub ofKind : List ℕ → ℕ → ℕ
+ofKind bytes k = length (those (kind bytes) k (records bytes))
+
+-- f 0, f 1, .. , n of them, then 0, in a table of the given size
+unfoldable pub filled : ℕ → ℕ → (ℕ → ℕ) → List ℕ
+filled size n f = tabulate (λ i. pick (ltb i n) (f i) 0) size
+
+-- n dimensions, then e distances, then the close; a dimension with a count that is not 0 is spread
+unfoldable pub nestBy : List ℕ → ℕ → ℕ → Nest
+nestBy bytes n e =
+    record {
+      dimensions = n;
+      spread = length (keep (λ j. ltb 0 (half bytes (16 * j + 6))) n);
+      distances = e;
+      lengths = filled 4 n (λ j. half bytes (16 * j + 2));
+      tiling = filled 4 n (λ j. half bytes (16 * j + 4));
+      counts = filled 4 n (λ j. half bytes (16 * j + 6));
+      components = filled 32 (4 * e) (λ i. getD bytes (16 * (n + i / 4) + (2 + i % 4)) 0);
+      weights = filled 8 e (λ i. half bytes (16 * (n + i) + 6));
+      shift = getD bytes (16 * (n + e) + 1) 0;
+      boundary = word bytes (16 * (n + e) + 4);
+    }
+
+unfoldable pub nestOf : List ℕ → Nest
+nestOf bytes = nestBy bytes (ofKind bytes 1) (ofKind bytes 2)
+
+unfoldable pub ragged : List ℕ → Bool
+ragged bytes = eqb (length bytes) 0 or not (eqb (length bytes % 16) 0)
+
+unfoldable pub blank : List ℕ → ℕ → ℕ → Bool
+blank bytes at count = every (λ i. eqb (getD bytes (at + i) 0) 0) count
+
+-- the checks of a record of kind k: the bytes not named, and the shift
+unfoldable pub checked : List ℕ → ℕ → ℕ → Bool
+checked bytes r k =
+    pick (eqb k 1 or eqb k 2) (blank bytes (16 * r + 1) 1 and blank bytes (16 * r + 8) 8)
+    (eqb k 3 and ltb (getD bytes (16 * r + 1) 0) 32 and blank bytes (16 * r + 2) 2 and blank bytes (16 * r + 8) 8)
+
+unfoldable pub fitsAt : List ℕ → ℕ → ℕ → ℕ → Bool
+fitsAt bytes n e r = eqb (kind bytes r) (pick (ltb r n) 1 (pick (ltb r (n + e)) 2 3)) and checked bytes r (kind bytes r)
+
+unfoldable pub wellFormed : List ℕ → ℕ → ℕ → Bool
+wellFormed bytes n e =
+    leb 2 n and leb n 4 and leb 1 e and leb e 8 and eqb (records bytes) (n + e + 1) and every (fitsAt bytes n e) (records bytes)
+
+unfoldable pub strayRecord : List ℕ → Bool
+strayRecord bytes = not (wellFormed bytes (ofKind bytes 1) (ofKind bytes 2))
+
+-- lines 3 to 8, of the nest that the bytes give; in line 7, where the first m of m dimensions with a count have one, no other has
+unfoldable pub outside : ℕ → Bool
+outside v = eqb v 0 or ltb 1024 v
+
+unfoldable pub badLength : Nest → Bool
+badLength x = some (λ j. outside (lengthOf x j)) (x .dimensions)
+
+unfoldable pub tooLarge : Nest → Bool
+tooLarge x = ltb 16384 (cells x)
+
+unfoldable pub same : Nest → ℕ → ℕ → Bool
+same x e f = every (λ j. eqb (component x e j) (component x f j)) 4
+
+unfoldable pub beyond : Nest → ℕ → Bool
+beyond x e = some (λ j. leb (x .dimensions) j and ltb 0 (component x e j)) 4
+
+unfoldable pub faulty : Nest → ℕ → Bool
+faulty x e = every (λ j. eqb (component x e j) 0) 4 or some (same x e) e or beyond x e
+
+unfoldable pub badDistance : Nest → Bool
+badDistance x = some (faulty x) (x .distances)
+
+unfoldable pub reached : Nest → ℕ → Bool
+reached x j = some (λ e. leb (tileLength x j) (component x e j)) (x .distances)
+
+unfoldable pub badTile : Nest → Bool
+badTile x = some (λ j. outside (tileLength x j) or reached x j) (x .dimensions)
+
+unfoldable pub badProcessors : Nest → Bool
+badProcessors x =
+    not (leb 1 (x .spread) and ltb (x .spread) (x .dimensions) and every (λ j. leb 2 (processorCount x j)) (x .spread) and leb (processors x) 64)
+
+unfoldable pub tooManyTiles : Nest → Bool
+tooManyTiles x = ltb 1024 (tiles x)
+
+unfoldable pub nestLines : Nest → List Line
+nestLines x =
+    line 3 (badLength x) ∷ line 4 (tooLarge x) ∷ line 5 (badDistance x) ∷ line 6 (badTile x) ∷ line 7 (badProcessors x) ∷ line 8 (tooManyTiles x) ∷ []
+
+unfoldable pub readLines : List ℕ → List Line
+readLines bytes = line 1 (ragged bytes) ∷ line 2 (strayRecord bytes) ∷ nestLines (nestOf bytes)
+
+abbrev pub readingOf : List ℕ → Reading
+readingOf bytes =
+    record { number = firstOf (readLines bytes); nest = pick (eqb (firstOf (readLines bytes)) 0) (nestOf bytes) (nestBy [] 0 0) }

@@ -1,14 +1,16 @@
 // The reader: a recipe's bytes to a nest by value, or the number of the first line of document 01's table that refuses it.
 // `read` takes any bytes. Lines 1 and 2 are tested on the bytes, lines 3 to 8 on the nest made of them.
 ghost use mathlib.Core.Path.{_≡_};
+ghost use mathlib.Core.List.{[]};
 ghost use mathlib.Core.Bool.{false};
 ghost use Prim.Native.Nat.{ℕ, _+_, _*_, _/_, _%_, _<_, _≤_};
 ghost use lib.ListN.{length, getD};
 ghost use lib.Dec.{eqb, ltb, leb};
 ghost use Rattle.base.specs.Tests.{_and_, pick, every, some, keep, product};
+ghost use Rattle.base.specs.Lists.{Bytes};
 ghost use Rattle.base.specs.Numbers.{firstOf};
-ghost use Rattle.nest.specs.Nest.{Accepted, lengthOf, tileLength, processorCount, component, tiles};
-ghost use Rattle.nest.specs.Recipe.{half, word, kind, ofKind, filled, nestBy, noNest, ragged, blank, checked, fitsAt, wellFormed, outside, badLength, same, beyond, faulty, badDistance, reached, badTile, badProcessors, nestLines, readingOf};
+ghost use Rattle.nest.specs.Nest.{lengthOf, tileLength, processorCount, component, tiles};
+ghost use Rattle.nest.specs.Nest.{half, word, kind, ofKind, filled, nestBy, ragged, blank, checked, fitsAt, wellFormed, outside, badLength, same, beyond, faulty, badDistance, reached, badTile, badProcessors, nestLines, readingOf};
 
 // A rectangular loop nest with constant distances, cut into tiles.
 pub struct Nest {
@@ -33,7 +35,7 @@ pub struct Reading {
 
 // What is read where nothing is accepted.
 pub fn no_nest() -> Nest
-    ensures { λ r. ⌜ r ≡ noNest ⌝ }
+    ensures { λ r. ⌜ r ≡ nestBy [] 0 0 ⌝ }
 {
     Nest {
         dimensions: 0,
@@ -521,7 +523,7 @@ fn refused(nest: Nest) -> u32
 }
 
 fn refusal(number: u32) -> Reading
-    ensures { λ r. ⌜ (r .number ≡ number) × (r .nest ≡ noNest) ⌝ }
+    ensures { λ r. ⌜ (r .number ≡ number) × (r .nest ≡ nestBy [] 0 0) ⌝ }
 {
     Reading {
         number: number,
@@ -532,7 +534,7 @@ fn refusal(number: u32) -> Reading
 // The number of the first line that is true of the bytes, or 0 and the nest that they give.
 pub fn read(encoded: &[u8]) -> Reading
     ensures { λ r. ⌜ r ≡ readingOf (now (encoded .entry)) ⌝ }
-    ensures { λ r. ⌜ (r .number ≡ 0 → Accepted (r .nest)) ⌝ }
+    ensures { λ r. ⌜ (r .number ≡ 0 → Bytes (now (encoded .entry))) ⌝ }
 {
     if ragged(encoded) {
         return refusal(1);

@@ -14,7 +14,8 @@ use Rattle.base.specs.Lists.{In}
 use Rattle.base.proofs.Tests.{every-at, every-all, same-test, length-tabulate}
 use Rattle.base.proofs.Select.{keep-same, keep-few, keep-hit, keep-none}
 use Rattle.nest.specs.declared.Nest.{Nest}
-use Rattle.nest.specs.Nest.{Accepted, lengthOf, tileLength, cells, tiles}
+use Rattle.nest.proofs.Accepted.{Accepted}
+use Rattle.nest.specs.Nest.{lengthOf, tileLength, cells, tiles}
 use Rattle.plan.specs.Geometry.{rank, place, cellAt, cellPlace, tileAt, tilePlace, tileOf, cellsOf}
 use Rattle.plan.specs.Messages.{reaches, parcel}
 use Rattle.plan.specs.Box.{boxLength, boxSize, boxPlace, boxCell}

@@ -9,7 +9,8 @@ use lib.Dec.{ltb, leb, eqb}
 use borrow.Author.Tests.{leb-true}
 use Rattle.base.proofs.Tests.{every-at}
 use Rattle.nest.specs.declared.Nest.{Nest}
-use Rattle.nest.specs.Nest.{Accepted, lengthOf, tileLength, processorCount, component, tileCount, cells, tiles, processors}
+use Rattle.nest.proofs.Accepted.{Accepted}
+use Rattle.nest.specs.Nest.{lengthOf, tileLength, processorCount, component, tileCount, cells, tiles, processors}
 use Rattle.plan.specs.Geometry.{cellAt, cellPlace, tileAt, tilePlace, tileOf, processorOf, hasRead, readAt}
 use Rattle.plan.proofs.Rank.{Within, Positive, place-low, rank-low, rank-same, place-rank, rank-place, rank-le, rank-lt, div-le, div-step}
 

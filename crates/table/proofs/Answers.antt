@@ -14,8 +14,9 @@ use Rattle.base.proofs.Numbers.{Numbered, first-true, first-false, first-some, 
 use Rattle.machine.specs.Plan.{Message, words, count, senderOf, takerOf, heldBy}
 use Rattle.nest.specs.declared.Nest.{Nest}
 use Rattle.nest.specs.declared.Reading.{Reading}
-use Rattle.nest.specs.Nest.{Accepted, tiles}
-use Rattle.nest.specs.Recipe.{readLines, nestLines, nestOf, readingOf}
+use Rattle.nest.proofs.Accepted.{Accepted}
+use Rattle.nest.specs.Nest.{tiles}
+use Rattle.nest.specs.Nest.{readLines, nestLines, nestOf, readingOf}
 use Rattle.plan.specs.Geometry.{processorOf}
 use Rattle.plan.specs.Messages.{planOf}
 use Rattle.plan.specs.Rows.{refused, figures, figuresIf}

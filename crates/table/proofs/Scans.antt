@@ -12,7 +12,8 @@ use Rattle.base.specs.Tests.{those, keep, product}
 use Rattle.base.proofs.Select.{those-more, those-none, those-at}
 use Rattle.machine.specs.Plan.{Message, offset, words, count, tilesOf}
 use Rattle.nest.specs.declared.Nest.{Nest}
-use Rattle.nest.specs.Nest.{Accepted, tiles}
+use Rattle.nest.proofs.Accepted.{Accepted}
+use Rattle.nest.specs.Nest.{tiles}
 use Rattle.plan.specs.Geometry.{processorOf}
 use Rattle.plan.specs.Messages.{two, directions, slots, slotParcel, slotMessage, messagesTo, planOf}
 use Rattle.plan.proofs.Slots.{total, total-append, total-one, slotParcel-few, step-none, step-one, at-number, number-low, offset-is, room-is}

@@ -8,7 +8,7 @@ use Rattle.base.specs.Tests.{not}
 use Rattle.base.specs.Numbers.{Line, line, firstOf}
 use Rattle.machine.specs.Plan.{Plan, count, words, senderOf, takerOf, heldBy}
 use Rattle.machine.specs.Runs.{total}
-use Rattle.nest.specs.Recipe.{readLines, nestOf}
+use Rattle.nest.specs.Nest.{readLines, nestOf}
 use Rattle.plan.specs.Messages.{planOf}
 use Rattle.plan.specs.Rows as rows
 use Rattle.plan.specs.Rows.{accepted, figures}

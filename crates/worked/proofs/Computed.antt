@@ -14,7 +14,8 @@ use Rattle.machine.specs.Plan.{offset, count, heldBy}
 use Rattle.machine.specs.Machine.{sweep, sweepTo}
 use Rattle.nest.specs.declared.Nest.{Nest}
 use Rattle.nest.specs.Nest.{tileCount, cells, tiles, processors}
-use Rattle.nest.specs.Recipe.{Bytes, ofKind, filled, nestBy, nestOf, ragged, blank, checked, fitsAt, wellFormed, strayRecord, outside, badLength, tooLarge, same, beyond, faulty, badDistance, reached, badTile, badProcessors, tooManyTiles, nestLines, readLines}
+use Rattle.base.specs.Lists.{Bytes}
+use Rattle.nest.specs.Nest.{ofKind, filled, nestBy, nestOf, ragged, blank, checked, fitsAt, wellFormed, strayRecord, outside, badLength, tooLarge, same, beyond, faulty, badDistance, reached, badTile, badProcessors, tooManyTiles, nestLines, readLines}
 use Rattle.plan.specs.Geometry.{rank, place, cellAt, cellPlace, tileAt, tilePlace, tileOf, cellsOf, processorOf, inside, hasRead, readAt, readsOf, value}
 use Rattle.plan.specs.Messages.{directions, ahead, reaches, parcel, taker, slotParcel, slotTaker, messagesTo, planOf}
 use Rattle.plan.specs.Rows.{accepted, figures, figuresIf, messageLine, linesTo, linesOf}

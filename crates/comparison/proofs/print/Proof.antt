@@ -1,6 +1,7 @@
 -- `comparison::print` is safe.
 -- Assumes nothing.
 use borrow.Author.Needs.{needs}
+use Rattle.nest.proofs.Answers.{accepted-read}
 use Rattle.comparison.proofs.print.Statement.{statement}
 use Rattle.comparison.proofs.print.Tie as tie
 
@@ -20,7 +21,7 @@ returns-2 : tie.Need-returns-2
 returns-2 c = search needs
 
 sizes-of-requires : tie.Need-sizes-of-requires
-sizes-of-requires c κs = c .before .before .read .ensures .1 (c .before .if2 .left)
+sizes-of-requires c κs = accepted-read _ _ (c .before .before .read .ensures .0) (c .before .if2 .left) (c .before .before .read .ensures .1 (c .before .if2 .left))
 
 narrow-requires : tie.Need-narrow-requires
 narrow-requires c κs = search needs

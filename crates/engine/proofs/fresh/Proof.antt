@@ -2,6 +2,7 @@
 use mathlib.Core.Path.{sym, _∙_}
 use borrow.Author.Needs.{needs}
 use borrow.Author.Tests.{not-true, not-false}
+use Rattle.nest.proofs.Answers.{accepted-read}
 use Rattle.machine.specs.Machine.{stateOf}
 use Rattle.engine.proofs.Lines as lines
 use Rattle.engine.proofs.fresh.Statement.{statement}
@@ -14,7 +15,7 @@ returns : tie.Need-returns
 returns c = let A = c .before .before .before .before .before .before .before .before .args in lines.fresh-read (A .encoded .now) (A .source .now) (stateOf (A .memories .now) (A .buffer .now) (A .progress .now) (A .status .now)) (c .before .read .result .number) (lines.read-number (A .encoded .now) (c .before .read .result) (c .before .read .ensures .0)) (c .if1 .taken)
 
 sizes-of-requires : tie.Need-sizes-of-requires
-sizes-of-requires c κs = c .before .before .read .ensures .1 (c .before .if1 .left)
+sizes-of-requires c κs = accepted-read _ _ (c .before .before .read .ensures .0) (c .before .if1 .left) (c .before .before .read .ensures .1 (c .before .if1 .left))
 
 fill-requires : tie.Need-fill-requires
 fill-requires c κs = search needs

@@ -2,6 +2,7 @@
 use mathlib.Core.Path.{refl}
 use native.Mathlib.Omega.{arith}
 use borrow.Author.Needs.{needs}
+use Rattle.nest.proofs.Answers.{accepted-read}
 use Rattle.machine.specs.Machine.{stateOf}
 use Rattle.plan.specs.Messages.{planOf}
 use Rattle.engine.specs.Calls.{answer}
@@ -16,7 +17,7 @@ returns : tie.Need-returns
 returns c = let A = c .before .before .before .before .before .before .before .before .args in lines.turn-read (A .encoded .now) (A .source .now) (stateOf (A .memories .now) (A .buffer .now) (A .progress .now) (A .status .now)) (A .processor) (c .before .read .result .number) (lines.read-number (A .encoded .now) (c .before .read .result) (c .before .read .ensures .0)) (c .if1 .taken)
 
 sizes-of-requires : tie.Need-sizes-of-requires
-sizes-of-requires c κs = c .before .before .read .ensures .1 (c .before .if1 .left)
+sizes-of-requires c κs = accepted-read _ _ (c .before .before .read .ensures .0) (c .before .if1 .left) (c .before .before .read .ensures .1 (c .before .if1 .left))
 
 fill-requires : tie.Need-fill-requires
 fill-requires c κs = (c .before .sizes-of .ensures, refl)

@@ -9,7 +9,7 @@ use lib.Dec.{leb}
 use Rattle.base.specs.Tests.{some}
 use Rattle.base.proofs.Tests.{some-one}
 use Rattle.nest.specs.Nest.{component}
-use Rattle.nest.specs.Recipe.{reached}
+use Rattle.nest.specs.Nest.{reached}
 use Rattle.nest.proofs.Laws as L
 use Rattle.nest.proofs.reached.Statement.{statement}
 use Rattle.nest.proofs.reached.Tie as tie

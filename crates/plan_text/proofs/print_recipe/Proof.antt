@@ -1,4 +1,5 @@
 use mathlib.Core.Path.{ap}
+use Rattle.nest.proofs.Answers.{accepted-read}
 use Rattle.table.specs.declared.Figures.{Figures}
 use borrow.Author.Needs.{needs}
 use Rattle.plan_text.proofs.print_recipe.Statement.{statement}
@@ -29,7 +30,7 @@ returns-2 : tie.Need-returns-2
 returns-2 c = search needs
 
 sizes-of-requires : tie.Need-sizes-of-requires
-sizes-of-requires c κs = c .before .before .read .ensures .1 (c .before .if2 .left)
+sizes-of-requires c κs = accepted-read _ _ (c .before .before .read .ensures .0) (c .before .if2 .left) (c .before .before .read .ensures .1 (c .before .if2 .left))
 
 fill-requires : tie.Need-fill-requires
 fill-requires c κs = search needs
