@@ -1,11 +1,11 @@
 -- Laws of the words of records: one record more, what the words of all records are, and that words fix the records.
 use Prim.Native.Nat.{ℕ, zero, suc, _+_, _*_, _-_, _^_, _≤_, _<_}
 use mathlib.Core.Path.{_≡_, refl, sym, ap, _∙_}
-use mathlib.Core.List.{List, [], _∷_, _++_}
+use mathlib.Core.List.{List, [], _∷_, _++_, append-assoc}
 use native.Mathlib.Omega.{arith}
 use native.Mathlib.Numerals.{add-one}
 use lib.ListN.{length, getD, set, take, drop, replicate, length-set, length-append, length-drop, drop-of-length-le}
-use lib.Seq.{drop-cons}
+use lib.Seq.{drop-cons, set-at}
 use borrow.Author.Tests.{lt-ltb, le-ltb}
 use Rattle.base.specs.Tests.{pick}
 use Rattle.records.specs.declared.Progress.{Progress}
@@ -46,3 +46,24 @@ offset-fits n i room l = omega arith
 
 pub nearer : (n i : ℕ) → i < n → n - (i + 1) < n - i
 nearer n i l = omega arith
+
+-- the records of words: as many as asked, and one more
+pub length-records : (words : List ℕ) (n : ℕ) → length (recordsOf words n) ≡ n
+unfolding recordsOf
+length-records words zero = refl
+length-records words (suc n) = length-append (recordsOf words n) (recordAt words n ∷ []) ∙ ap (λ (k : ℕ). k + 1) (length-records words n) ∙ add-one n
+
+pub length-stored : (words : List ℕ) (n : ℕ) (rs : List Progress) → n ≤ length rs → length (stored words n rs) ≡ length rs
+unfolding stored
+length-stored words n rs l = rw (length-append (recordsOf words n) (drop n rs), length-records words n, length-drop n rs) (omega arith)
+
+pub stored-none : (words : List ℕ) (rs : List Progress) → rs ≡ stored words 0 rs
+unfolding stored recordsOf
+stored-none words rs = refl
+
+pub stored-more : (words : List ℕ) (n : ℕ) (rs : List Progress) → n < length rs → set (stored words n rs) n (recordAt words n) ≡ stored words (n + 1) rs
+unfolding stored recordsOf
+stored-more words n rs l =
+    rw (drop-cons rs n none l, add-one n)
+    (set-at (recordsOf words n) (getD rs n none) (drop (suc n) rs) (recordAt words n) n (length-records words n)
+    ∙ sym (append-assoc (recordsOf words n) (recordAt words n ∷ []) (drop (suc n) rs)))
