@@ -1,6 +1,7 @@
 -- The words of the board records, three a record, and the records of words.
 -- Renders document 01, "The machine": "These are three words, and there is one record for each board".
 use Prim.Native.Nat.{ℕ, zero, suc, _+_, _*_}
+use mathlib.Core.Path.{_≡_}
 use mathlib.Core.List.{List, [], _∷_, _++_}
 use lib.ListN.{length, getD, set, drop, replicate}
 use lib.Dec.{ltb}
@@ -12,6 +13,10 @@ use Rattle.records.specs.declared.Flat.{Flat}
 unfoldable pub flatWords : List Progress → List ℕ
 flatWords [] = []
 flatWords (r ∷ rs) = r .finished ∷ r .stage ∷ r .sent ∷ flatWords rs
+
+-- words fix the records
+abbrev pub Fixed : Type 0
+Fixed = (rs ss : List Progress) → flatWords rs ≡ flatWords ss → rs ≡ ss
 
 -- record i of these words
 abbrev pub recordAt : List ℕ → ℕ → Progress

@@ -20,7 +20,10 @@ pub struct Flat {
 pub fn empty(count: usize) -> Flat
     ensures { λ r. ⌜ r ≡ blank count ⌝ }
 {
-    Flat { words: [0; 192], count: count }
+    Flat {
+        words: [0; 192],
+        count: count,
+    }
 }
 
 // The words of record i written.
@@ -33,7 +36,10 @@ pub fn with_record(flat: Flat, i: usize, p: Progress) -> Flat
         words[3 * i + 1] = p.stage;
         words[3 * i + 2] = p.sent;
     }
-    Flat { words: words, count: flat.count }
+    Flat {
+        words: words,
+        count: flat.count,
+    }
 }
 
 // The words of all records.
