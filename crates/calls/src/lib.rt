@@ -19,20 +19,20 @@ pub struct After {
 fn lent_words(count: usize) -> usize
     ensures { λ r. ⌜ (r ≡ lentWords count) × (r ≤ 192) ⌝ }
 {
-    if count <= 64 {
-        return 3 * count;
+    if count > 64 {
+        return 1;
     }
-    1
+    3 * count
 }
 
 // How many records are stored: all, or none of more than 64.
 fn kept_count(count: usize) -> usize
     ensures { λ r. ⌜ r ≡ keptCount count ⌝ }
 {
-    if count <= 64 {
-        return count;
+    if count > 64 {
+        return 0;
     }
-    0
+    count
 }
 
 // A turn over the records' words.
@@ -124,7 +124,7 @@ pub fn fresh(
     progress: &mut [Progress],
     status: &mut [u8],
 ) -> u32
-    ensures { λ r. ⌜ answer r (stateOf (now (memories .exit)) (now (buffer .exit)) (flatWords (now (progress .exit))) (now (status .exit)))
+    ensures { λ n. ⌜ answer n (stateOf (now (memories .exit)) (now (buffer .exit)) (flatWords (now (progress .exit))) (now (status .exit)))
         ≡ freshCall (now (encoded .entry)) (now (source .entry)) (stateOf (now (memories .entry)) (now (buffer .entry)) (flatWords (now (progress .entry))) (now (status .entry))) ⌝ }
 {
     let flat = records::flatten(progress);

@@ -13,7 +13,7 @@ use borrow.Author.Tests.{lt-ltb}
 use Rattle.base.specs.Tests.{pick}
 use Rattle.records.specs.declared.Progress.{Progress}
 use Rattle.records.specs.declared.Flat.{Flat}
-use Rattle.records.specs.Records.{flatWords, Fixed, recordAt, recordsOf, stored, blank, wordsAt, withRecord, flatFrom, flatOf}
+use Rattle.records.specs.Records.{flatWords, Injective, recordAt, recordsOf, stored, blank, wordsAt, withRecord, flatFrom, flatOf}
 use Rattle.records.proofs.Laws.{written}
 
 -- three words a record
@@ -37,8 +37,8 @@ unfolding unflat flatWords
 unflat-words [] = refl
 unflat-words (r ∷ rs) = ap (λ (l : List Progress). r ∷ l) (unflat-words rs)
 
-pub fixed : Fixed
-fixed rs ss e = sym (unflat-words rs) ∙ ap unflat e ∙ unflat-words ss
+pub injective : Injective
+injective rs ss e = sym (unflat-words rs) ∙ ap unflat e ∙ unflat-words ss
 
 words-append : (rs ss : List Progress) → flatWords (rs ++ ss) ≡ flatWords rs ++ flatWords ss
 unfolding flatWords

@@ -15,8 +15,8 @@ flatWords [] = []
 flatWords (r ∷ rs) = r .finished ∷ r .stage ∷ r .sent ∷ flatWords rs
 
 -- words fix the records
-abbrev pub Fixed : Type 0
-Fixed = (rs ss : List Progress) → flatWords rs ≡ flatWords ss → rs ≡ ss
+abbrev pub Injective : Type 0
+Injective = (rs ss : List Progress) → flatWords rs ≡ flatWords ss → rs ≡ ss
 
 -- record i of these words
 abbrev pub recordAt : List ℕ → ℕ → Progress

@@ -11,11 +11,11 @@ mul-result c = search needs
 
 -- src/lib.rt:23:9
 returns : tie.Need-returns
-returns c = lent-few _ (c .if1 .taken)
+returns c = lent-many _ (c .if1 .taken)
 
 -- src/lib.rt:19:1
 returns-2 : tie.Need-returns-2
-returns-2 c = lent-many _ (c .if1 .left)
+returns-2 c = lent-few _ (c .if1 .left)
 
 pub lent-words-spec : {M : Type 1} → statement M
-lent-words-spec = tie.close (tie.spec mul-result returns returns-2)
+lent-words-spec = tie.close (tie.spec returns mul-result returns-2)
