@@ -1,3 +1,4 @@
 pub mod Laws
 pub mod Misfit
 pub mod Shared
+pub mod Demands

@@ -15,7 +15,7 @@ use Rattle.base.proofs.Tests.{and-false, not-false}
 use Rattle.base.proofs.Numbers.{first-true, none-first, first-some, first-behind}
 use Rattle.machine.specs.Machine.{State, stateOf, Answered, answered}
 use Rattle.nest.specs.Nest.{processors}
-use Rattle.nest.specs.Recipe.{readLines, nestLines, nestOf, ragged, strayRecord}
+use Rattle.nest.specs.Nest.{readLines, nestLines, nestOf, ragged, strayRecord}
 use Rattle.nest.proofs.Facts.{passed, spread-in}
 use Rattle.engine.specs.Calls.{answer, recipe, areas, freshCall, turnCall, deliverCall, collectCall}
 use Rattle.engine.proofs.Lines.{no-progress, numbered}
