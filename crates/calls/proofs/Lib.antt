@@ -1,0 +1,4 @@
+pub mod Laws
+pub mod Misfit
+pub mod Shared
+pub mod Demands

@@ -1,0 +1,69 @@
+use borrow.Author.Needs.{needs}
+use Rattle.engine.specs.Calls.{freshCall}
+use Rattle.calls.proofs.Laws.{worked}
+use Rattle.calls.proofs.fresh_words.Statement.{statement}
+use Rattle.calls.proofs.fresh_words.Tie as tie
+use Rattle.calls.proofs.fresh_words.Reads as reads
+use Rattle.calls.proofs.fresh_words.Lts as lts
+use Rattle.calls.proofs.kept_count.Reads as kept-count-reads
+use Rattle.calls.proofs.lent_words.Reads as lent-words-reads
+use Rattle.engine.proofs.fresh.Reads as fresh-reads
+
+-- src/lib.rt:95:9
+lent-words-requires : tie.Need-lent-words-requires
+lent-words-requires c κs = search needs
+
+-- src/lib.rt:97:67
+sub-fresh : tie.Need-sub-fresh
+sub-fresh c = search needs
+
+-- src/lib.rt:97:67
+part-words-start : tie.Need-part-words-start
+part-words-start c = search needs
+
+-- src/lib.rt:97:67
+part-words-end : tie.Need-part-words-end
+part-words-end c = search needs
+
+-- src/lib.rt:97:9
+fresh-requires : tie.Need-fresh-requires
+fresh-requires c κs = search needs
+
+-- src/lib.rt:100:43
+kept-count-requires : tie.Need-kept-count-requires
+kept-count-requires c κs = search needs
+
+-- src/lib.rt:82:1
+same-length : tie.Need-same-length
+same-length c = search needs
+
+-- src/lib.rt:82:1
+same-length-2 : tie.Need-same-length-2
+same-length-2 c = search needs
+
+-- src/lib.rt:82:1
+same-length-3 : tie.Need-same-length-3
+same-length-3 c = search needs
+
+-- src/lib.rt:82:1
+returns : tie.Need-returns
+returns c =
+    let S = c .before .before .before .before .before .before .before .before .before .before .before .before .before .before .before .before .before .before .before .before in
+    let A = S .args in
+    let G = c .before .before .before .before .before .before .before .before .fresh in
+    worked (A .flat .words) (G .last .1 .1 .1 .1 .0) _ (A .flat .count) (c .before .before .before .before .before .before .before .before .before .before .before .before .before .before .lent-words .ensures) (S .pre) (G .kept .1 .1 .1 .1 .0) (λ s. freshCall (A .encoded .now) (A .source .now) s) _ (A .memories .now) (A .buffer .now) (A .status .now) _ _ _ _ (c .kept-count .ensures) (G .ensures)
+
+pub fresh-words-spec : {M : Type 1} → statement M
+fresh-words-spec =
+    tie.close
+    (tie.spec
+    lent-words-requires
+    sub-fresh
+    part-words-start
+    part-words-end
+    fresh-requires
+    kept-count-requires
+    same-length
+    same-length-2
+    same-length-3
+    returns)
