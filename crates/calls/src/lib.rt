@@ -71,7 +71,8 @@ fn turn_words(
 }
 
 // One turn of a processor.
-pub fn turn(
+#[no_mangle]
+pub extern "C" fn rolwyddac_turn(
     encoded: &[u8],
     source: &[u32],
     memories: &mut [u32],
@@ -116,7 +117,8 @@ fn fresh_words(
 }
 
 // A fresh start.
-pub fn fresh(
+#[no_mangle]
+pub extern "C" fn rolwyddac_fresh(
     encoded: &[u8],
     source: &[u32],
     memories: &mut [u32],
@@ -161,7 +163,8 @@ fn deliver_words(
 }
 
 // The delivery of a message.
-pub fn deliver(
+#[no_mangle]
+pub extern "C" fn rolwyddac_deliver(
     encoded: &[u8],
     source: &[u32],
     memories: &[u32],
@@ -205,7 +208,8 @@ fn collect_words(
 }
 
 // The grid, once all processors have finished.
-pub fn collect(
+#[no_mangle]
+pub extern "C" fn rolwyddac_collect(
     encoded: &[u8],
     source: &[u32],
     memories: &[u32],

@@ -5,6 +5,7 @@ ghost use lib.ListN.{length};
 ghost use Rattle.records.specs.Records.{blank, withRecord, flatOf, recordAt, stored};
 
 // A processor's record (document 01: board record): tiles finished, stage (0 gather, 1 calculate, 2 send), messages sent of the current tile.
+#[repr(C)]
 pub struct Progress {
     pub finished: u32,
     pub stage: u32,

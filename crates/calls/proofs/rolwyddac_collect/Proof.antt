@@ -1,4 +1,4 @@
--- `collect` meets its contract: a walk of its MIR, by hand. `flatten` is called on the records, and `collect_words` on their words and all that was lent.
+-- `rolwyddac_collect` meets its contract: a walk of its MIR, by hand. `flatten` is called on the records, and `collect_words` on their words and all that was lent.
 -- All that the proof knows of the two is that they meet their contracts. Assumes nothing.
 use mathlib.Core.Path.{_≡_, refl, ap, subst, _∙_}
 use Prim.Native.Nat.{ℕ, _<_, _^_}
@@ -58,11 +58,11 @@ use Rattle.calls.proofs.collect_words as words
 use Rattle.calls.proofs.collect_words.Symbol as words-def
 use Rattle.calls.proofs.collect_words.Symbol.{name as #calls·collect-words}
 use Rattle.calls.proofs.collect_words.Met as words-thm
-use Rattle.calls.proofs.collect.Key.{name as #calls·collect}
-use Rattle.calls.proofs.collect as collect
-use Rattle.calls.proofs.collect.Statement as stated
-use Rattle.calls.proofs.collect.Code as code
-use Rattle.calls.proofs.collect.Code.Mir as mir′
+use Rattle.calls.proofs.rolwyddac_collect.Key.{name as #calls·collect}
+use Rattle.calls.proofs.rolwyddac_collect as collect
+use Rattle.calls.proofs.rolwyddac_collect.Statement as stated
+use Rattle.calls.proofs.rolwyddac_collect.Code as code
+use Rattle.calls.proofs.rolwyddac_collect.Code.Mir as mir′
 
 abbrev R : RattleType
 R = T.the-row
@@ -403,9 +403,9 @@ collect-meets 𝓤 H A W mem run 𝓣 known₀ known =
     (collect.clauses 𝓤 H A mem run) (WpFn 𝓤 H (𝓣 .C) (𝓣 .Λ) code.function) (WpFn-mono 𝓤 H (W .laws) 𝓣 code.function)
     (collect-walks 𝓤 H A W mem run (𝓣 .C) (𝓣 .Λ) (fmOf 𝓤 H (W .laws) 𝓣) known₀ known)
 
-pub collect-spec : {M : Type 1} → stated.statement M
+pub rolwyddac-collect-spec : {M : Type 1} → stated.statement M
 unfolding code.routine tablesOf
-collect-spec 𝓤 H 𝓜 𝓖 𝓡 =
+rolwyddac-collect-spec 𝓤 H 𝓜 𝓖 𝓡 =
     entered 𝓤 H (tripleOf 𝓤 H (𝓖 .A) collect.signature (collect.spec 𝓤 H (𝓖 .A) (𝓜 .mem) (𝓡 .run)))
     (tables 𝓤 H 𝓜 𝓡 code.env .C) (tables 𝓤 H 𝓜 𝓡 code.env .Λ) #calls·collect code.function (code.unfolded 𝓤 H 𝓜 𝓡)
     (collect-meets 𝓤 H (𝓖 .A) (givenOf 𝓤 H 𝓜 𝓖) (𝓜 .mem) (𝓡 .run) (tablesOf 𝓤 H 𝓜 (tables 𝓤 H 𝓜 𝓡 code.env))

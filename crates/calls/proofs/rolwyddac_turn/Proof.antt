@@ -1,4 +1,4 @@
--- `turn` meets its contract: a walk of its MIR, by hand. `flatten` is called on the records, lent as `&` for the call; `turn_words` on their words and all else that was lent; and `store` on the records and the words after it.
+-- `rolwyddac_turn` meets its contract: a walk of its MIR, by hand. `flatten` is called on the records, lent as `&` for the call; `turn_words` on their words and all else that was lent; and `store` on the records and the words after it.
 -- All that the proof knows of the three is that they meet their contracts. Assumes nothing.
 use mathlib.Core.Path.{_≡_, refl, sym, ap, subst, _∙_}
 use Prim.Native.Nat.{ℕ, _<_, _≤_, _^_}
@@ -68,11 +68,11 @@ use Rattle.calls.proofs.turn_words as words
 use Rattle.calls.proofs.turn_words.Symbol as words-def
 use Rattle.calls.proofs.turn_words.Symbol.{name as #calls·turn-words}
 use Rattle.calls.proofs.turn_words.Met as words-thm
-use Rattle.calls.proofs.turn.Key.{name as #calls·turn}
-use Rattle.calls.proofs.turn as turn
-use Rattle.calls.proofs.turn.Statement as stated
-use Rattle.calls.proofs.turn.Code as code
-use Rattle.calls.proofs.turn.Code.Mir as mir′
+use Rattle.calls.proofs.rolwyddac_turn.Key.{name as #calls·turn}
+use Rattle.calls.proofs.rolwyddac_turn as turn
+use Rattle.calls.proofs.rolwyddac_turn.Statement as stated
+use Rattle.calls.proofs.rolwyddac_turn.Code as code
+use Rattle.calls.proofs.rolwyddac_turn.Code.Mir as mir′
 
 abbrev R : RattleType
 R = T.the-row
@@ -527,9 +527,9 @@ turn-meets 𝓤 H A W mem run 𝓣 known₀ known₁ known₂ =
     (turn.clauses 𝓤 H A mem run) (WpFn 𝓤 H (𝓣 .C) (𝓣 .Λ) code.function) (WpFn-mono 𝓤 H (W .laws) 𝓣 code.function)
     (turn-walks 𝓤 H A W mem run (𝓣 .C) (𝓣 .Λ) (fmOf 𝓤 H (W .laws) 𝓣) known₀ known₁ known₂)
 
-pub turn-spec : {M : Type 1} → stated.statement M
+pub rolwyddac-turn-spec : {M : Type 1} → stated.statement M
 unfolding code.routine tablesOf
-turn-spec 𝓤 H 𝓜 𝓖 𝓡 =
+rolwyddac-turn-spec 𝓤 H 𝓜 𝓖 𝓡 =
     entered 𝓤 H (tripleOf 𝓤 H (𝓖 .A) turn.signature (turn.spec 𝓤 H (𝓖 .A) (𝓜 .mem) (𝓡 .run)))
     (tables 𝓤 H 𝓜 𝓡 code.env .C) (tables 𝓤 H 𝓜 𝓡 code.env .Λ) #calls·turn code.function (code.unfolded 𝓤 H 𝓜 𝓡)
     (turn-meets 𝓤 H (𝓖 .A) (givenOf 𝓤 H 𝓜 𝓖) (𝓜 .mem) (𝓡 .run) (tablesOf 𝓤 H 𝓜 (tables 𝓤 H 𝓜 𝓡 code.env))

@@ -1,4 +1,4 @@
--- `deliver` meets its contract: a walk of its MIR, by hand. `flatten` is called on the records, and `deliver_words` on their words and all that was lent.
+-- `rolwyddac_deliver` meets its contract: a walk of its MIR, by hand. `flatten` is called on the records, and `deliver_words` on their words and all that was lent.
 -- All that the proof knows of the two is that they meet their contracts. Assumes nothing.
 use mathlib.Core.Path.{_≡_, refl, ap, subst, _∙_}
 use Prim.Native.Nat.{ℕ, _<_, _^_}
@@ -58,11 +58,11 @@ use Rattle.calls.proofs.deliver_words as words
 use Rattle.calls.proofs.deliver_words.Symbol as words-def
 use Rattle.calls.proofs.deliver_words.Symbol.{name as #calls·deliver-words}
 use Rattle.calls.proofs.deliver_words.Met as words-thm
-use Rattle.calls.proofs.deliver.Key.{name as #calls·deliver}
-use Rattle.calls.proofs.deliver as deliver
-use Rattle.calls.proofs.deliver.Statement as stated
-use Rattle.calls.proofs.deliver.Code as code
-use Rattle.calls.proofs.deliver.Code.Mir as mir′
+use Rattle.calls.proofs.rolwyddac_deliver.Key.{name as #calls·deliver}
+use Rattle.calls.proofs.rolwyddac_deliver as deliver
+use Rattle.calls.proofs.rolwyddac_deliver.Statement as stated
+use Rattle.calls.proofs.rolwyddac_deliver.Code as code
+use Rattle.calls.proofs.rolwyddac_deliver.Code.Mir as mir′
 
 abbrev R : RattleType
 R = T.the-row
@@ -387,9 +387,9 @@ deliver-meets 𝓤 H A W mem run 𝓣 known₀ known =
     (deliver.clauses 𝓤 H A mem run) (WpFn 𝓤 H (𝓣 .C) (𝓣 .Λ) code.function) (WpFn-mono 𝓤 H (W .laws) 𝓣 code.function)
     (deliver-walks 𝓤 H A W mem run (𝓣 .C) (𝓣 .Λ) (fmOf 𝓤 H (W .laws) 𝓣) known₀ known)
 
-pub deliver-spec : {M : Type 1} → stated.statement M
+pub rolwyddac-deliver-spec : {M : Type 1} → stated.statement M
 unfolding code.routine tablesOf
-deliver-spec 𝓤 H 𝓜 𝓖 𝓡 =
+rolwyddac-deliver-spec 𝓤 H 𝓜 𝓖 𝓡 =
     entered 𝓤 H (tripleOf 𝓤 H (𝓖 .A) deliver.signature (deliver.spec 𝓤 H (𝓖 .A) (𝓜 .mem) (𝓡 .run)))
     (tables 𝓤 H 𝓜 𝓡 code.env .C) (tables 𝓤 H 𝓜 𝓡 code.env .Λ) #calls·deliver code.function (code.unfolded 𝓤 H 𝓜 𝓡)
     (deliver-meets 𝓤 H (𝓖 .A) (givenOf 𝓤 H 𝓜 𝓖) (𝓜 .mem) (𝓡 .run) (tablesOf 𝓤 H 𝓜 (tables 𝓤 H 𝓜 𝓡 code.env))

@@ -1,4 +1,4 @@
--- `fresh` meets its contract: a walk of its MIR, by hand. `flatten` is called on the records, lent as `&` for the call; `fresh_words` on their words and all else that was lent; and `store` on the records and the words after it.
+-- `rolwyddac_fresh` meets its contract: a walk of its MIR, by hand. `flatten` is called on the records, lent as `&` for the call; `fresh_words` on their words and all else that was lent; and `store` on the records and the words after it.
 -- All that the proof knows of the three is that they meet their contracts. Assumes nothing.
 use mathlib.Core.Path.{_≡_, refl, sym, ap, subst, _∙_}
 use Prim.Native.Nat.{ℕ, _<_, _≤_, _^_}
@@ -68,11 +68,11 @@ use Rattle.calls.proofs.fresh_words as words
 use Rattle.calls.proofs.fresh_words.Symbol as words-def
 use Rattle.calls.proofs.fresh_words.Symbol.{name as #calls·fresh-words}
 use Rattle.calls.proofs.fresh_words.Met as words-thm
-use Rattle.calls.proofs.fresh.Key.{name as #calls·fresh}
-use Rattle.calls.proofs.fresh as fresh
-use Rattle.calls.proofs.fresh.Statement as stated
-use Rattle.calls.proofs.fresh.Code as code
-use Rattle.calls.proofs.fresh.Code.Mir as mir′
+use Rattle.calls.proofs.rolwyddac_fresh.Key.{name as #calls·fresh}
+use Rattle.calls.proofs.rolwyddac_fresh as fresh
+use Rattle.calls.proofs.rolwyddac_fresh.Statement as stated
+use Rattle.calls.proofs.rolwyddac_fresh.Code as code
+use Rattle.calls.proofs.rolwyddac_fresh.Code.Mir as mir′
 
 abbrev R : RattleType
 R = T.the-row
@@ -516,9 +516,9 @@ fresh-meets 𝓤 H A W mem run 𝓣 known₀ known₁ known₂ =
     (fresh.clauses 𝓤 H A mem run) (WpFn 𝓤 H (𝓣 .C) (𝓣 .Λ) code.function) (WpFn-mono 𝓤 H (W .laws) 𝓣 code.function)
     (fresh-walks 𝓤 H A W mem run (𝓣 .C) (𝓣 .Λ) (fmOf 𝓤 H (W .laws) 𝓣) known₀ known₁ known₂)
 
-pub fresh-spec : {M : Type 1} → stated.statement M
+pub rolwyddac-fresh-spec : {M : Type 1} → stated.statement M
 unfolding code.routine tablesOf
-fresh-spec 𝓤 H 𝓜 𝓖 𝓡 =
+rolwyddac-fresh-spec 𝓤 H 𝓜 𝓖 𝓡 =
     entered 𝓤 H (tripleOf 𝓤 H (𝓖 .A) fresh.signature (fresh.spec 𝓤 H (𝓖 .A) (𝓜 .mem) (𝓡 .run)))
     (tables 𝓤 H 𝓜 𝓡 code.env .C) (tables 𝓤 H 𝓜 𝓡 code.env .Λ) #calls·fresh code.function (code.unfolded 𝓤 H 𝓜 𝓡)
     (fresh-meets 𝓤 H (𝓖 .A) (givenOf 𝓤 H 𝓜 𝓖) (𝓜 .mem) (𝓡 .run) (tablesOf 𝓤 H 𝓜 (tables 𝓤 H 𝓜 𝓡 code.env))
