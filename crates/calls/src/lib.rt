@@ -1,11 +1,13 @@
-// The offered calls over board records as structs: a fresh start, a turn, a delivery, collecting.
+// The offered calls with C linkage: over progress records as structs a fresh start, a turn, a delivery, collecting;
+// over words the sweep, a plan's figures and a message's line.
 ghost use mathlib.Core.Path.{_≡_};
 ghost use Prim.Native.Nat.{_≤_};
 ghost use lib.ListN.{length};
 ghost use Rattle.machine.specs.Machine.{stateOf};
-ghost use Rattle.engine.specs.Calls.{answer, freshCall, turnCall, deliverCall, collectCall};
+ghost use Rattle.engine.specs.Calls.{answer, freshCall, turnCall, deliverCall, collectCall, sweepCall};
 ghost use Rattle.records.specs.Records.{flatWords};
 ghost use Rattle.calls.specs.Lent.{lentWords, keptCount, lentOf};
+ghost use Rattle.calls.specs.Figures.{summaryCall, messageCall};
 use records::Flat;
 use records::Progress;
 
@@ -223,4 +225,58 @@ pub extern "C" fn rolwyddac_collect(
 {
     let flat = records::flatten(progress);
     collect_words(encoded, source, memories, buffer, flat, status, grid)
+}
+
+// The sequential sweep of the whole grid.
+#[no_mangle]
+pub extern "C" fn rolwyddac_sweep(encoded: &[u8], source: &[u32], grid: &mut [u32]) -> u32
+    ensures { λ r. ⌜ answer r (now (grid .exit)) ≡ sweepCall (now (encoded .entry)) (now (source .entry)) (now (grid .entry)) ⌝ }
+{
+    engine::sweep(encoded, source, grid)
+}
+
+// The figures of the recipe's plan: tiles, messages, words, steps.
+#[no_mangle]
+pub extern "C" fn rolwyddac_summary(encoded: &[u8], out: &mut [u32]) -> u32
+    ensures { λ r. ⌜ answer r (now (out .exit)) ≡ summaryCall (now (encoded .entry)) (now (out .entry)) ⌝ }
+{
+    let figures = table::summary(encoded);
+    let number = figures.number;
+    if number != 0 {
+        return number;
+    }
+    if out.len() != 4 {
+        return 9;
+    }
+    out[0] = figures.tiles;
+    out[1] = figures.messages;
+    out[2] = figures.words;
+    out[3] = figures.steps;
+    0
+}
+
+// The line of message m: sending tile, taking tile, sending processor, taking processor, words.
+#[no_mangle]
+pub extern "C" fn rolwyddac_message(encoded: &[u8], m: u32, out: &mut [u32]) -> u32
+    ensures { λ r. ⌜ answer r (now (out .exit)) ≡ messageCall (now (encoded .entry)) m (now (out .entry)) ⌝ }
+{
+    let reading = nest::read(encoded);
+    let read = reading.number;
+    if read != 0 {
+        return read;
+    }
+    if out.len() != 5 {
+        return 9;
+    }
+    let line = table::message(encoded, m);
+    let number = line.number;
+    if number != 0 {
+        return number;
+    }
+    out[0] = line.sender;
+    out[1] = line.taker;
+    out[2] = line.from;
+    out[3] = line.to;
+    out[4] = line.words;
+    0
 }

@@ -1,1 +1,3 @@
 pub mod Product
+pub mod Bounds
+pub mod Laws

@@ -1,7 +1,13 @@
 // A recipe swept both ways, over two sources and in two orders of turns: what the second program of document 01 writes.
 use libc::STDOUT_FILENO;
 ghost use mathlib.Core.Path.{_≡_};
-ghost use Prim.Native.Nat.{_*_};
+ghost use mathlib.Core.Bool.{true, false};
+ghost use Prim.Native.Nat.{_+_, _*_, _≤_, _<_};
+ghost use lib.ListN.{length};
+ghost use Rattle.base.specs.Tests.{pick};
+ghost use Rattle.machine.specs.Machine.{stateOf};
+ghost use Rattle.engine.specs.Calls.{freshCall};
+ghost use Rattle.comparison.specs.Agreement.{Measured, Within, Finished, Ran, Agreed, Grids, Roomy, Compared, Sourced};
 
 // What the areas of a run are made of.
 pub struct Extent {
@@ -22,15 +28,22 @@ fn memory_words(cells: u32, processors: u32) -> u64
 }
 
 // A word of the source: 1, or the cell's number plus 1.
-fn source_word(number: u32, counting: bool) -> u32 {
+fn source_word(number: u32, counting: bool) -> u32
+    ensures { λ r. ⌜ r ≡ pick counting number 1 ⌝ }
+{
     if counting { number } else { 1 }
 }
 
-fn one_more(x: u32) -> u32 {
+fn one_more(x: u32) -> u32
+    ensures { λ r. ⌜ (x < 4294967295 → r ≡ x + 1) ⌝ }
+{
     if x < 4294967295 { x + 1 } else { 0 }
 }
 
-fn fill_source(source: &mut [u32], counting: bool) {
+fn fill_source(source: &mut [u32], counting: bool)
+    requires { ⌜ length (now source) ≡ 1024 ⌝ }
+    ensures { λ _. ⌜ Sourced counting (now (source .exit)) ⌝ }
+{
     let mut number: u32 = 0;
     let mut c: usize = 0;
     while c < source.len() {
@@ -40,16 +53,16 @@ fn fill_source(source: &mut [u32], counting: bool) {
     }
 }
 
-fn same(a: &[u32], b: &[u32]) -> bool {
+fn same(a: &[u32], b: &[u32]) -> bool
+    ensures { λ r. ⌜ Compared (now (a .entry)) (now (b .entry)) r ⌝ }
+{
     if a.len() != b.len() {
         return false;
     }
     let mut i: usize = 0;
     while i < a.len() {
-        if i < b.len() {
-            if a[i] != b[i] {
-                return false;
-            }
+        if a[i] != b[i] {
+            return false;
         }
         i += 1;
     }
@@ -66,7 +79,11 @@ fn run_whole(
     status: &mut [u8],
     extent: Extent,
     falling: bool,
-) -> bool {
+) -> bool
+    requires { ⌜ Measured (now encoded) extent ⌝ }
+    ensures { λ r. ⌜ Ran (now (encoded .entry)) (now (source .entry)) (stateOf (now (memories .entry)) (now (buffer .entry)) (now (progress .entry)) (now (status .entry))) r
+        (stateOf (now (memories .exit)) (now (buffer .exit)) (now (progress .exit)) (now (status .exit))) ⌝ }
+{
     if engine::fresh(encoded, source, memories, buffer, progress, status) != 0 {
         return false;
     }
@@ -99,7 +116,11 @@ fn is_swept(
     status: &[u8],
     grid: &mut [u32],
     swept: &mut [u32],
-) -> bool {
+) -> bool
+    requires { ⌜ Finished (now encoded) (now source) (stateOf (now memories) (now buffer) (now progress) (now status)) ⌝ }
+    requires { ⌜ Grids (now encoded) (now grid) (now swept) ⌝ }
+    ensures { λ r. ⌜ Agreed (now (encoded .entry)) (now (source .entry)) r (now (grid .exit)) ⌝ }
+{
     if engine::collect(encoded, source, memories, buffer, progress, status, grid) != 0 {
         return false;
     }
@@ -121,7 +142,11 @@ fn agrees_in(
     swept: &mut [u32],
     extent: Extent,
     falling: bool,
-) -> bool {
+) -> bool
+    requires { ⌜ Measured (now encoded) extent × Grids (now encoded) (now grid) (now swept) ⌝ }
+    ensures { λ r. ⌜ (freshCall (now (encoded .entry)) (now (source .entry)) (stateOf (now (memories .entry)) (now (buffer .entry)) (now (progress .entry)) (now (status .entry))) .number ≡ 0
+        → Agreed (now (encoded .entry)) (now (source .entry)) r (now (grid .exit))) ⌝ }
+{
     if run_whole(
         encoded,
         source,
@@ -158,18 +183,20 @@ fn agrees_on(
     swept: &mut [u32],
     extent: Extent,
     falling: bool,
-) -> bool {
+) -> bool
+    requires { ⌜ Within (now encoded) extent ⌝ }
+    requires { ⌜ Roomy extent (now source) (now memories) (now buffer) (now progress) (now status) (now grid) (now swept) ⌝ }
+    ensures { λ r. ⌜ r ≡ true ⌝ }
+{
     let cells = extent.cells;
     let processors = extent.processors;
     let words = extent.words;
     let messages = extent.messages;
-    let c = parts::front(source, parts::wide(cells));
-    let m = parts::front(memories, memory_words(cells, processors) as usize);
-    let w = parts::front(buffer, parts::wide(words));
-    let p = parts::front(progress, 3 * parts::wide(processors));
-    let s = parts::front_bytes(status, parts::wide(messages));
-    let g = parts::front(grid, parts::wide(cells));
-    let h = parts::front(swept, parts::wide(cells));
+    let c = parts::wide(cells);
+    let m = memory_words(cells, processors) as usize;
+    let w = parts::wide(words);
+    let p = 3 * parts::wide(processors);
+    let s = parts::wide(messages);
     agrees_in(
         encoded,
         &source[..c],
@@ -177,8 +204,8 @@ fn agrees_on(
         &mut buffer[..w],
         &mut progress[..p],
         &mut status[..s],
-        &mut grid[..g],
-        &mut swept[..h],
+        &mut grid[..c],
+        &mut swept[..c],
         extent,
         falling,
     )
@@ -186,7 +213,10 @@ fn agrees_on(
 
 // The areas hold every recipe of at most 1,024 cells with at most 4,096 words of memories: a message is a tile and one of at most
 // 7 directions, and a cell is at most once in each.
-fn agrees(encoded: &[u8], extent: Extent, counting: bool, falling: bool) -> bool {
+fn agrees(encoded: &[u8], extent: Extent, counting: bool, falling: bool) -> bool
+    requires { ⌜ Within (now encoded) extent ⌝ }
+    ensures { λ r. ⌜ r ≡ true ⌝ }
+{
     let mut source = [0u32; 1024];
     let mut memories = [0u32; 4096];
     let mut buffer = [0u32; 7168];
@@ -209,7 +239,10 @@ fn agrees(encoded: &[u8], extent: Extent, counting: bool, falling: bool) -> bool
     )
 }
 
-fn print_verdict(encoded: &[u8], extent: Extent, counting: bool, falling: bool) {
+// `differ` is never written: of a recipe within the limits `agrees` is proved to be true.
+fn print_verdict(encoded: &[u8], extent: Extent, counting: bool, falling: bool)
+    requires { ⌜ Within (now encoded) extent ⌝ }
+{
     if agrees(encoded, extent, counting, falling) {
         io::write_all(STDOUT_FILENO, b"agree\n");
     } else {
@@ -224,11 +257,15 @@ fn print_refused(number: u32) {
 }
 
 // Counts are far below the limit.
-fn narrow(x: usize) -> u32 {
+fn narrow(x: usize) -> u32
+    ensures { λ r. ⌜ (x < 4294967296 → r ≡ x) ⌝ }
+{
     if x < 4294967296 { x as u32 } else { 4294967295 }
 }
 
-fn is_beyond(cells: u32, processors: u32) -> bool {
+fn is_beyond(cells: u32, processors: u32) -> bool
+    ensures { λ r. ⌜ (r ≡ false → (cells ≤ 1024) × (cells * processors ≤ 4096)) ⌝ }
+{
     if cells > 1024 {
         return true;
     }

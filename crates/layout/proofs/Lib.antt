@@ -2,3 +2,5 @@ pub mod Dims
 pub mod Loops
 pub mod Cells
 pub mod Walks
+pub mod Rows
+pub mod Windows

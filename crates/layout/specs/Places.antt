@@ -2,7 +2,7 @@
 -- No sentence of document 01; proofs/ ties each to Geometry and Messages.
 use Prim.Native.Nat.{ℕ, _+_, _*_, _-_, _/_, _%_, _≤_, _<_}
 use mathlib.Core.Path.{_≡_}
-use mathlib.Core.Bool.{Bool, true}
+use mathlib.Core.Bool.{Bool}
 use mathlib.Core.List.{List}
 use lib.ListN.{getD}
 use lib.Dec.{ltb, leb, eqb}
@@ -15,7 +15,6 @@ use Rattle.plan.specs.Box.{boxLength, boxSize}
 use Rattle.layout.specs.declared.Cell.{Cell}
 use Rattle.layout.specs.declared.Bounds.{Bounds}
 use Rattle.layout.specs.declared.Divided.{Divided}
-use Rattle.layout.specs.declared.Carried.{Carried}
 
 abbrev pub nth : List ℕ → ℕ → ℕ
 nth l j = getD l j 0
@@ -48,11 +47,6 @@ pub record Placed (N from : List ℕ) (n left : ℕ) (r : List ℕ) : Type 0 whe
 pub record Splits (a k : ℕ) (r : Divided) : Type 0 where
   pub tile : r .tile ≡ a / k
   pub rest : r .rest ≡ a % k
-
--- a component moved by d: it stays inside, and then in which tile it is
-pub record Carries (a d n k : ℕ) (r : Carried) : Type 0 where
-  pub inside : r .inside ≡ ltb (a + d) n
-  pub tile : r .inside ≡ true → r .tile ≡ (a + d) / k
 
 -- a cell's number with its place
 pub record Located (x : Nest) (c : ℕ) (r : Cell) : Type 0 where

@@ -1,24 +1,32 @@
--- `drive::deliver_each` is safe and ends.
--- Assumes nothing.
+-- After each delivery: the pass so far.
 use borrow.Author.Needs.{needs}
 use mathlib.Core.Path.{_≡_}
+use native.Mathlib.Omega.{arith}
+use Prim.Native.Nat.{_-_, _≤_}
 use lib.ListN.{length}
-use Prim.Native.Nat.{_-_}
+use Rattle.machine.specs.Machine.{stateOf}
+use Rattle.engine.specs.Demands.{calls}
+use Rattle.drive.specs.Drive.{deliveriesTo, Passed}
+use Rattle.drive.proofs.Steps as steps
 use Rattle.drive.proofs.deliver_each.Statement.{statement}
 use Rattle.drive.proofs.deliver_each.Tie as tie
 
 abbrev Inv-loop : tie.InvT-loop
 Inv-loop encoded source memories buffer progress status₀ messages delivered₀ message₀ status delivered message =
-    length status ≡ length status₀
+    (length status ≡ length status₀) × ((message ≤ messages) × Passed (calls encoded source) (stateOf memories buffer progress status₀) (deliveriesTo message) delivered (stateOf memories buffer progress status))
 
 abbrev μ-loop : tie.MeasureT-loop
-μ-loop encoded source memories buffer progress status₀ messages delivered₀ message₀ status delivered message = messages - message
+μ-loop encoded source memories buffer progress status₀ messages delivered₀ message₀ status delivered message =
+    messages - message
 
 loop-holds : tie.Need-loop-holds Inv-loop μ-loop
-loop-holds c = search needs
+loop-holds c = let A = c .before .before .before .before .before .before .args in (search needs, (omega arith, steps.deliveries-start (A .encoded .now) (A .source .now) (stateOf (A .memories .now) (A .buffer .now) (A .progress .now) (A .status .now))))
 
 deliver-one-requires : tie.Need-deliver-one-requires Inv-loop μ-loop
 deliver-one-requires c κs = search needs
+
+noted-requires : tie.Need-noted-requires Inv-loop μ-loop
+noted-requires c κs = search needs
 
 add-message : tie.Need-add-message Inv-loop μ-loop
 add-message c = search needs
@@ -27,13 +35,13 @@ loop-less : tie.Need-loop-less Inv-loop μ-loop
 loop-less c = search needs
 
 loop-again : tie.Need-loop-again Inv-loop μ-loop
-loop-again c = search needs
+loop-again c = let A = c .before .before .before .before .before .before .before .before .before .before .before .before .before .args in let X = c .before .before .before .before .before .before .loop in let G = c .before .before .before .deliver-one in (search needs, (omega (arith, c .before .before .before .before .before .loop-test .taken), steps.deliveries-next (A .encoded .now) (A .source .now) (stateOf (A .memories .now) (A .buffer .now) (A .progress .now) (A .status .now)) (X .message) (X .delivered) (G .result) (c .noted .result) (stateOf (A .memories .now) (A .buffer .now) (A .progress .now) (X .status)) _ (X .inv .1 .1) (G .ensures) (c .noted .ensures)))
 
 same-length : tie.Need-same-length Inv-loop μ-loop
 same-length c = search needs
 
 returns : tie.Need-returns Inv-loop μ-loop
-returns c = search needs
+returns c = let A = c .before .before .before .before .before .before .before .before .args in let X = c .before .loop in steps.deliveries-done (A .encoded .now) (A .source .now) (stateOf (A .memories .now) (A .buffer .now) (A .progress .now) (A .status .now)) (A .messages) (X .message) (X .delivered) (stateOf (A .memories .now) (A .buffer .now) (A .progress .now) (X .status)) (X .inv .1 .0) (c .loop-test .left) (X .inv .1 .1)
 
 pub deliver-each-spec : {M : Type 1} → statement M
 deliver-each-spec =
@@ -43,6 +51,7 @@ deliver-each-spec =
     μ-loop
     loop-holds
     deliver-one-requires
+    noted-requires
     add-message
     loop-less
     loop-again

@@ -1,27 +1,35 @@
--- `drive::turn_each` is safe and ends.
--- Assumes nothing.
+-- After each turn: the pass so far.
 use borrow.Author.Needs.{needs}
 use mathlib.Core.Path.{_≡_}
+use native.Mathlib.Omega.{arith}
+use Prim.Native.Nat.{_-_, _≤_}
 use lib.ListN.{length}
-use Prim.Native.Nat.{_-_}
+use Rattle.machine.specs.Machine.{stateOf}
+use Rattle.engine.specs.Demands.{calls}
+use Rattle.drive.specs.Drive.{turnsTo, Passed}
+use Rattle.drive.proofs.Steps as steps
 use Rattle.drive.proofs.turn_each.Statement.{statement}
 use Rattle.drive.proofs.turn_each.Tie as tie
 
 abbrev Inv-loop : tie.InvT-loop
 Inv-loop encoded source memories₀ buffer₀ progress₀ status₀ processors falling taken₀ place₀ memories buffer progress status taken place =
-    (length memories ≡ length memories₀) × (length buffer ≡ length buffer₀) × (length progress ≡ length progress₀) × (length status ≡ length status₀)
+    ((length memories ≡ length memories₀) × (length buffer ≡ length buffer₀) × (length progress ≡ length progress₀) × (length status ≡ length status₀)) × ((place ≤ processors) × Passed (calls encoded source) (stateOf memories₀ buffer₀ progress₀ status₀) (turnsTo processors falling place) taken (stateOf memories buffer progress status))
 
 abbrev μ-loop : tie.MeasureT-loop
-μ-loop encoded source memories₀ buffer₀ progress₀ status₀ processors falling taken₀ place₀ memories buffer progress status taken place = processors - place
+μ-loop encoded source memories₀ buffer₀ progress₀ status₀ processors falling taken₀ place₀ memories buffer progress status taken place =
+    processors - place
 
 loop-holds : tie.Need-loop-holds Inv-loop μ-loop
-loop-holds c = search needs
+loop-holds c = let A = c .before .before .before .before .before .before .args in (search needs, (omega arith, steps.turns-start (A .encoded .now) (A .source .now) (stateOf (A .memories .now) (A .buffer .now) (A .progress .now) (A .status .now)) (A .processors) (A .falling)))
 
 in-order-requires : tie.Need-in-order-requires Inv-loop μ-loop
 in-order-requires c κs = search needs
 
 turn-requires : tie.Need-turn-requires Inv-loop μ-loop
 turn-requires c κs = search needs
+
+noted-requires : tie.Need-noted-requires Inv-loop μ-loop
+noted-requires c κs = search needs
 
 add-place : tie.Need-add-place Inv-loop μ-loop
 add-place c = search needs
@@ -30,7 +38,7 @@ loop-less : tie.Need-loop-less Inv-loop μ-loop
 loop-less c = search needs
 
 loop-again : tie.Need-loop-again Inv-loop μ-loop
-loop-again c = search needs
+loop-again c = let A = c .before .before .before .before .before .before .before .before .before .before .before .before .before .before .before .before .before .before .before .before .before .before .before .args in let X = c .before .before .before .before .before .before .before .before .before .before .before .before .before .before .before .before .loop in let G = c .before .before .before .before .before .before .before .before .before .turn in (search needs, (omega (arith, c .before .before .before .before .before .before .before .before .before .before .before .before .before .before .before .loop-test .taken), steps.turns-next (A .encoded .now) (A .source .now) (stateOf (A .memories .now) (A .buffer .now) (A .progress .now) (A .status .now)) (A .processors) (A .falling) (X .place) (X .taken) (c .noted .result) (stateOf (X .memories) (X .buffer) (X .progress) (X .status)) _ (c .before .before .before .before .before .before .before .before .before .before .before .before .before .before .in-order .result) (G .result) (X .inv .1 .1) (c .before .before .before .before .before .before .before .before .before .before .before .before .before .before .in-order .ensures) (G .ensures) (c .noted .ensures)))
 
 same-length : tie.Need-same-length Inv-loop μ-loop
 same-length c = search needs
@@ -45,7 +53,7 @@ same-length-4 : tie.Need-same-length-4 Inv-loop μ-loop
 same-length-4 c = search needs
 
 returns : tie.Need-returns Inv-loop μ-loop
-returns c = search needs
+returns c = let A = c .before .before .before .before .before .before .before .before .args in let X = c .before .loop in steps.turns-done (A .encoded .now) (A .source .now) (stateOf (A .memories .now) (A .buffer .now) (A .progress .now) (A .status .now)) (A .processors) (A .falling) (X .place) (X .taken) (stateOf (X .memories) (X .buffer) (X .progress) (X .status)) (X .inv .1 .0) (c .loop-test .left) (X .inv .1 .1)
 
 pub turn-each-spec : {M : Type 1} → statement M
 turn-each-spec =
@@ -56,6 +64,7 @@ turn-each-spec =
     loop-holds
     in-order-requires
     turn-requires
+    noted-requires
     add-place
     loop-less
     loop-again

@@ -1,8 +1,9 @@
 -- `layout::carry` meets its contract.
+use native.Mathlib.Omega.{arith}
+use mathlib.Core.Path.{sym, _∙_}
+use borrow.Author.Tests.{lt-leb, le-leb}
+use Rattle.base.proofs.Tests.{and-false, and-left}
 use borrow.Author.Needs.{needs}
-use mathlib.Core.Path.{sym}
-use mathlib.Core.Bool.{false≢true}
-use borrow.Author.Tests.{le-ltb, lt-ltb}
 use Rattle.layout.proofs.carry.Statement.{statement}
 use Rattle.layout.proofs.carry.Tie as tie
 
@@ -10,13 +11,10 @@ add-moved : tie.Need-add-moved
 add-moved c = search needs
 
 returns : tie.Need-returns
-returns c = record { inside = sym (le-ltb _ _ (c .if1 .taken)); tile = λ e. absurd (false≢true e) }
-
-split-requires : tie.Need-split-requires
-split-requires c κs = search needs
+returns c = sym (and-false _ _ (lt-leb _ _ (c .if1 .taken)))
 
 returns-2 : tie.Need-returns-2
-returns-2 c = record { inside = sym (lt-ltb _ _ (c .before .if1 .left)); tile = λ e. c .split .ensures .tile }
+returns-2 c = sym (and-left _ _ (le-leb _ _ (c .if1 .left)))
 
 pub carry-spec : {M : Type 1} → statement M
-carry-spec = tie.close (tie.spec add-moved returns split-requires returns-2)
+carry-spec = tie.close (tie.spec add-moved returns returns-2)

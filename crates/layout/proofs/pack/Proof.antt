@@ -1,141 +1,116 @@
--- `layout::pack` meets its contract: between two cells, the words of the parcel's cells among the first q are packed; between two
--- distances, nothing has changed since the cell was begun and no distance before e reads it there.
+-- `layout::pack` meets its contract: the words of the first r rows are packed.
 use borrow.Author.Needs.{needs}
 use native.Mathlib.Omega.{arith}
-use Prim.Native.Nat.{_-_, _<_}
+use Prim.Native.Nat.{_-_, _*_}
+use native.Mathlib.Nat.{zero-mul}
 use mathlib.Core.Path.{refl, sym, ap, _∙_}
-use lib.ListN.{length}
-use Rattle.layout.specs.Places.{puts}
-use Rattle.layout.proofs.Cells.{ways-pos, slot-low, place-small}
-use Rattle.layout.proofs.Loops.{nowhere-more}
-use Rattle.layout.proofs.Walks.{Walk, walk-of, Packing, Searching, packing-none, packing-long, packed, search-room, search-hit, search-miss, size-few, parcel-is, parcel-few}
+use lib.ListN.{getD, length}
+use Rattle.layout.specs.Windows.{RowEnds}
+use Rattle.layout.proofs.Cells.{ways-pos, slot-low, place-small, bound-within, count-most}
+use Rattle.layout.proofs.Walks.{Walk, walk-of, parcel-is}
+use Rattle.layout.proofs.Rows.{fewer, box-counts, box-all, box-in, box-few, row-count, row-next, rows-end}
+use Rattle.base.specs.Lists.{pack}
+use Rattle.layout.specs.Windows.{PackedTo}
+use Rattle.layout.proofs.Windows.{row-ends, packed-none, packed-end}
 use Rattle.layout.proofs.pack.Statement.{statement}
 use Rattle.layout.proofs.pack.Tie as tie
 
-abbrev Inv-distances : tie.InvT-distances
-Inv-distances nest slot words₀ memory bounds to size distances count₀ q₀ at number e₀ words count q e = Searching (puts nest to at) distances words₀ count₀ q₀ words count q e
+abbrev Inv-loop : tie.InvT-loop
+Inv-loop nest slot words₀ memory bounds to window components last rows width count₀ r₀ words count r = PackedTo nest slot bounds memory words count (r * width)
 
-abbrev μ-distances : tie.MeasureT-distances
-μ-distances nest slot words₀ memory bounds to size distances count₀ q₀ at number e₀ words count q e = distances - e
+abbrev μ-loop : tie.MeasureT-loop
+μ-loop nest slot words₀ memory bounds to window components last rows width count₀ r₀ words count r = rows - r
 
-abbrev Inv-cells : tie.InvT-cells
-Inv-cells nest slot words₀ memory bounds to size distances count₀ q₀ words count q = Packing nest slot bounds memory words₀ words count q
-
-abbrev μ-cells : tie.MeasureT-cells
-μ-cells nest slot words₀ memory bounds to size distances count₀ q₀ words count q = size - q
-
--- what is known at the loops
-walk : (c : tie.After-bound-for Inv-distances μ-distances Inv-cells μ-cells) → Walk (c .before .before .before .before .before .args .nest) (c .before .before .before .before .before .args .slot) (c .before .bounds-of .result) (c .bound-for .result)
+-- what is known at the loop, and of a row's cells
+walk : (c : tie.After-bound-for Inv-loop μ-loop) → Walk (c .before .before .before .before .before .args .nest) (c .before .before .before .before .before .args .slot) (c .before .bounds-of .result) (c .bound-for .result)
 walk c = walk-of _ _ _ _ _ (c .before .before .before .before .before .pre .0 .directions) (c .before .before .before .before .before .pre .1 .0) (c .before .bounds-of .ensures) (c .bound-for .ensures)
 
-room : (c : tie.After-shared-slice-known2 Inv-distances μ-distances Inv-cells μ-cells) → (c .before .before .before .before .distances .count < length (c .before .before .before .before .distances .words)) × (c .before .before .before .before .distances .count < length (c .before .before .before .before .before .before .before .before .before .before .before .before .before .before .args .words .now))
-room c = search-room _ (c .before .before .before .before .before .before .before .before .before .before .before .before .before .before .pre .0 .accepted) _ _ _ (walk (c .before .before .before .before .before .before .before .before .before)) _ _ _ _ _ _ (c .before .before .before .before .before .before .cell-in .ensures) (c .before .before .before .before .before .before .before .before .cells .inv) (c .before .before .before .before .before .before .before .cells-test .taken) (c .before .before .before .before .before .before .before .before .before .before .before .before .before .before .pre .1 .1 .1) _ _ _ _ (c .before .before .before .before .distances .inv) (c .before .before .before .distances-test .taken) (sym (c .before .before .puts .ensures) ∙ c .before .if1 .taken)
+ends : (c : tie.After-ends Inv-loop μ-loop) → RowEnds (c .before .before .before .before .before .before .before .before .before .before .before .before .before .before .before .before .before .before .args .nest) (c .before .before .before .before .before .before .before .before .before .before .before .before .before .before .before .before .before .before .args .slot) (c .before .before .before .before .before .before .before .before .before .before .before .before .before .before .bounds-of .result) (c .before .before .before .before .before .before .before .loop .r * getD (c .before .before .before .before .before .before .before .before .before .before .before .before .before .before .bounds-of .result .lengths) (c .before .before .before .before .before .before .before .before .before .before .before .before .before .before .before .before .before .before .args .nest .dimensions - 1) 0) (c .before .before .before .before .before .cell-in .result .number) (getD (c .before .before .before .before .before .cell-in .result .place) (c .before .before .before .before .before .before .before .before .before .before .before .before .before .before .before .before .before .before .args .nest .dimensions - 1) 0) (getD (c .before .before .before .before .before .before .before .before .before .before .before .before .before .before .bounds-of .result .lengths) (c .before .before .before .before .before .before .before .before .before .before .before .before .before .before .before .before .before .before .args .nest .dimensions - 1) 0) (c .before .before .ends-of .result)
+ends c = row-ends _ (c .before .before .before .before .before .before .before .before .before .before .before .before .before .before .before .before .before .before .pre .0 .accepted) _ _ _ (walk (c .before .before .before .before .before .before .before .before .before .before .before .before .before)) _ _ _ (c .before .before .before .before .before .before .before .before .product .ensures) refl (c .before .before .before .before .before .before .loop-test .taken) _ (c .before .before .before .before .before .cell-in .ensures) _ (c .before .before .ends-of .ensures)
 
-div-bounds-of : tie.Need-div-bounds-of Inv-distances μ-distances Inv-cells μ-cells
+div-bounds-of : tie.Need-div-bounds-of Inv-loop μ-loop
 div-bounds-of c = ways-pos _ (c .before .before .before .pre .0 .accepted) _ (c .before .before .before .pre .0 .directions)
 
-bounds-of-requires : tie.Need-bounds-of-requires Inv-distances μ-distances Inv-cells μ-cells
+bounds-of-requires : tie.Need-bounds-of-requires Inv-loop μ-loop
 bounds-of-requires c κs = (c .before .before .before .pre .0, slot-low _ (c .before .before .before .pre .0 .accepted) _ (c .before .before .before .pre .0 .directions) _ (c .before .before .before .pre .1 .0))
 
-bound-for-requires : tie.Need-bound-for-requires Inv-distances μ-distances Inv-cells μ-cells
+bound-for-requires : tie.Need-bound-for-requires Inv-loop μ-loop
 bound-for-requires c κs = (c .before .before .before .before .pre .0, c .before .before .before .before .pre .1 .0)
 
-cells-holds : tie.Need-cells-holds Inv-distances μ-distances Inv-cells μ-cells
-cells-holds c = packing-none _ _ _ _ _
+window-of-requires : tie.Need-window-of-requires Inv-loop μ-loop
+window-of-requires c κs = (c .before .before .before .before .before .pre .0 .accepted, λ j h. omega (arith, c .bound-for .ensures .each j h, bound-within _ (c .before .before .before .before .before .pre .0 .accepted) (c .before .before .before .before .before .args .slot) j h, count-most _ (c .before .before .before .before .before .pre .0 .accepted) j h))
 
-cell-in-requires : tie.Need-cell-in-requires Inv-distances μ-distances Inv-cells μ-cells
-cell-in-requires c κs = (c .before .before .before .before .before .before .before .pre .0 .accepted, (c .before .before .before .bounds-of .ensures .0, c .cells-test .taken))
+sub-last : tie.Need-sub-last Inv-loop μ-loop
+sub-last c = omega (arith, c .before .before .before .before .before .before .before .before .pre .0 .accepted .dimensions-least)
 
-distances-holds : tie.Need-distances-holds Inv-distances μ-distances Inv-cells μ-cells
-distances-holds c = record { same-words = refl; same-count = refl; same-q = refl; low = omega arith; none = λ i h. absurd (omega arith) }
+product-requires : tie.Need-product-requires Inv-loop μ-loop
+product-requires c κs = fewer _ (c .before .before .before .before .before .before .before .before .before .pre .0 .accepted) _ (box-counts _ (c .before .before .before .before .before .before .before .before .before .pre .0 .accepted) _ (c .before .before .before .before .before .bounds-of .ensures .0))
 
-puts-requires : tie.Need-puts-requires Inv-distances μ-distances Inv-cells μ-cells
-puts-requires c κs = (c .before .before .before .before .before .before .before .before .before .before .before .pre .0 .accepted, (c .distances-test .taken, place-small _ (c .before .before .before .before .before .before .before .before .before .before .before .pre .0 .accepted) _ _ (c .before .before .before .cell-in .ensures .place)))
+mul-width : tie.Need-mul-width Inv-loop μ-loop
+mul-width c = omega (arith, c .before .before .before .before .before .before .before .before .before .before .pre .0 .accepted .dimensions-most)
 
-mul-words : tie.Need-mul-words Inv-distances μ-distances Inv-cells μ-cells
-mul-words c = omega (arith, c .before .before .before .before .before .cell-in .ensures .low, c .before .before .before .before .before .cell-in .ensures .number, c .before .before .before .before .before .before .before .before .before .before .before .before .before .pre .0 .accepted .cells-most)
+array-read-width : tie.Need-array-read-width Inv-loop μ-loop
+array-read-width c = omega (arith, c .before .before .before .before .before .before .before .before .before .before .pre .0 .accepted .dimensions-most, c .before .before .before .before .before .before .before .before .before .before .pre .0 .accepted .dimensions-least)
 
-shared-slice-read-words :
-    tie.Need-shared-slice-read-words Inv-distances μ-distances Inv-cells μ-cells
-shared-slice-read-words c = omega (arith, c .before .before .before .before .before .before .cell-in .ensures .low, c .before .before .before .before .before .before .cell-in .ensures .number, c .before .before .before .before .before .before .before .before .before .before .before .before .before .before .pre .1 .1 .0)
+loop-holds : tie.Need-loop-holds Inv-loop μ-loop
+loop-holds c = rw (zero-mul (getD (c .before .before .before .before .before .before .bounds-of .result .lengths) (c .before .before .before .before .before .before .before .before .before .before .args .nest .dimensions - 1) 0)) (packed-none _ _ _ _ _ (c .before .before .before .before .before .before .before .before .before .before .pre .1 .1 .1 ∙ ap length (parcel-is _ (c .before .before .before .before .before .before .before .before .before .before .pre .0 .accepted) _ _ _ (walk (c .before .before .before .before .before)))) (box-few _ (c .before .before .before .before .before .before .before .before .before .before .pre .0 .accepted) _ (c .before .before .before .before .before .before .bounds-of .ensures .0)))
 
-mul-words-2 : tie.Need-mul-words-2 Inv-distances μ-distances Inv-cells μ-cells
-mul-words-2 c = omega (arith, room c .1, c .before .before .before .before .before .before .before .before .before .before .before .before .before .before .pre .1 .1 .1, parcel-few _ (c .before .before .before .before .before .before .before .before .before .before .before .before .before .before .pre .0 .accepted) _ _ _ (walk (c .before .before .before .before .before .before .before .before .before)))
+mul-first : tie.Need-mul-first Inv-loop μ-loop
+mul-first c = omega (arith, box-in _ (c .before .before .before .before .before .before .before .before .before .before .before .before .pre .0 .accepted) _ (c .before .before .before .before .before .before .before .before .bounds-of .ensures .0) _ _ _ (c .before .before .product .ensures) refl (c .loop-test .taken), box-few _ (c .before .before .before .before .before .before .before .before .before .before .before .before .pre .0 .accepted) _ (c .before .before .before .before .before .before .before .before .bounds-of .ensures .0))
 
-slice-write-words : tie.Need-slice-write-words Inv-distances μ-distances Inv-cells μ-cells
-slice-write-words c = room c .0
+cell-in-requires : tie.Need-cell-in-requires Inv-loop μ-loop
+cell-in-requires c κs = (c .before .before .before .before .before .before .before .before .before .before .before .before .pre .0 .accepted, (c .before .before .before .before .before .before .before .before .bounds-of .ensures .0, omega (arith, box-in _ (c .before .before .before .before .before .before .before .before .before .before .before .before .pre .0 .accepted) _ (c .before .before .before .before .before .before .before .before .bounds-of .ensures .0) _ _ _ (c .before .before .product .ensures) refl (c .loop-test .taken))))
 
-add-count : tie.Need-add-count Inv-distances μ-distances Inv-cells μ-cells
-add-count c = omega (arith, room c .1, c .before .before .before .before .before .before .before .before .before .before .before .before .before .before .pre .1 .1 .1, parcel-few _ (c .before .before .before .before .before .before .before .before .before .before .before .before .before .before .pre .0 .accepted) _ _ _ (walk (c .before .before .before .before .before .before .before .before .before)))
+ends-of-requires : tie.Need-ends-of-requires Inv-loop μ-loop
+ends-of-requires c κs = ((c .before .before .before .before .before .before .before .before .before .before .before .before .before .before .before .pre .0 .accepted, record { is = refl }), (c .before .before .before .before .before .before .before .before .before .window-of .ensures, place-small _ (c .before .before .before .before .before .before .before .before .before .before .before .before .before .before .before .pre .0 .accepted) _ _ (c .before .before .cell-in .ensures .place)))
 
-add-q : tie.Need-add-q Inv-distances μ-distances Inv-cells μ-cells
-add-q c = omega (arith, c .before .before .before .before .distances .inv .same-q, c .before .before .before .before .before .before .before .cells-test .taken, size-few _ (c .before .before .before .before .before .before .before .before .before .before .before .before .before .before .pre .0 .accepted) _ _ _ (walk (c .before .before .before .before .before .before .before .before .before)))
+mul-pack-row : tie.Need-mul-pack-row Inv-loop μ-loop
+mul-pack-row c = omega (arith, c .before .before .before .before .before .before .before .before .before .before .before .before .before .before .before .before .before .before .pre .0 .accepted .dimensions-most)
 
-cells-less : tie.Need-cells-less Inv-distances μ-distances Inv-cells μ-cells
-cells-less c = omega (arith, c .before .before .before .before .distances .inv .same-q, c .before .before .before .before .before .before .before .cells-test .taken)
+array-read-pack-row : tie.Need-array-read-pack-row Inv-loop μ-loop
+array-read-pack-row c = omega (arith, c .before .before .before .before .before .before .before .before .before .before .before .before .before .before .before .before .before .before .pre .0 .accepted .dimensions-most, c .before .before .before .before .before .before .before .before .before .before .before .before .before .before .before .before .before .before .pre .0 .accepted .dimensions-least)
 
-cells-again : tie.Need-cells-again Inv-distances μ-distances Inv-cells μ-cells
-cells-again c = search-hit _ (c .before .before .before .before .before .before .before .before .before .before .before .before .before .before .pre .0 .accepted) _ _ _ (walk (c .before .before .before .before .before .before .before .before .before)) _ _ _ _ _ _ (c .before .before .before .before .before .before .cell-in .ensures) (c .before .before .before .before .before .before .before .before .cells .inv) (c .before .before .before .before .before .before .before .cells-test .taken) (c .before .before .before .before .before .before .before .before .before .before .before .before .before .before .pre .1 .1 .1) _ _ _ _ (c .before .before .before .before .distances .inv) (c .before .before .before .distances-test .taken) (sym (c .before .before .puts .ensures) ∙ c .before .if1 .taken)
+pack-row-requires : tie.Need-pack-row-requires Inv-loop μ-loop
+pack-row-requires c κs = ((c .before .before .before .before .before .before .before .before .before .before .before .before .before .before .before .before .before .before .pre .0 .accepted, (ends c, c .before .before .before .before .before .before .before .before .before .before .before .before .before .before .before .before .before .before .pre .1 .1 .0)), c .before .before .before .before .before .before .before .loop .inv)
 
-add-e : tie.Need-add-e Inv-distances μ-distances Inv-cells μ-cells
-add-e c = search needs
+add-r : tie.Need-add-r Inv-loop μ-loop
+add-r c = omega (arith, row-count _ (c .before .before .before .before .before .before .before .before .before .before .before .before .before .before .before .before .before .before .before .before .before .pre .0 .accepted) _ (c .before .before .before .before .before .before .before .before .before .before .before .before .before .before .before .before .before .bounds-of .ensures .0), c .before .before .before .before .before .before .before .before .before .before .before .product .ensures, c .before .before .before .before .before .before .before .before .before .loop-test .taken)
 
-distances-less : tie.Need-distances-less Inv-distances μ-distances Inv-cells μ-cells
-distances-less c = search needs
+loop-less : tie.Need-loop-less Inv-loop μ-loop
+loop-less c = search needs
 
-distances-again : tie.Need-distances-again Inv-distances μ-distances Inv-cells μ-cells
-distances-again c =
-    record {
-      same-words = c .before .before .before .distances .inv .same-words;
-      same-count = c .before .before .before .distances .inv .same-count;
-      same-q = c .before .before .before .distances .inv .same-q;
-      low = omega (arith, c .before .before .distances-test .taken);
-      none = nowhere-more _ _ _ (record { low = c .before .before .before .distances .inv .low; none = c .before .before .before .distances .inv .none }) (c .before .before .distances-test .taken) (sym (c .before .puts .ensures) ∙ c .if1 .left) .none;
-    }
+loop-again : tie.Need-loop-again Inv-loop μ-loop
+loop-again c = rw (row-next (getD (c .before .before .before .before .before .before .before .before .before .before .before .before .before .before .before .before .before .bounds-of .result .lengths) (c .before .before .before .before .before .before .before .before .before .before .before .before .before .before .before .before .before .before .before .before .before .args .nest .dimensions - 1) 0) (c .before .before .before .before .before .before .before .before .before .before .loop .r) 0) (c .before .before .pack-row .ensures)
 
-add-q-2 : tie.Need-add-q-2 Inv-distances μ-distances Inv-cells μ-cells
-add-q-2 c = omega (arith, c .before .distances .inv .same-q, c .before .before .before .before .cells-test .taken, size-few _ (c .before .before .before .before .before .before .before .before .before .before .before .pre .0 .accepted) _ _ _ (walk (c .before .before .before .before .before .before)))
+same-length : tie.Need-same-length Inv-loop μ-loop
+same-length c = c .before .loop .inv .long ∙ sym (c .before .before .before .before .before .before .before .before .before .before .before .before .pre .1 .1 .1 ∙ ap length (parcel-is _ (c .before .before .before .before .before .before .before .before .before .before .before .before .pre .0 .accepted) _ _ _ (walk (c .before .before .before .before .before .before .before))))
 
-cells-less-2 : tie.Need-cells-less-2 Inv-distances μ-distances Inv-cells μ-cells
-cells-less-2 c = omega (arith, c .before .distances .inv .same-q, c .before .before .before .before .cells-test .taken)
-
-cells-again-2 : tie.Need-cells-again-2 Inv-distances μ-distances Inv-cells μ-cells
-cells-again-2 c = search-miss _ (c .before .before .before .before .before .before .before .before .before .before .before .pre .0 .accepted) _ _ _ (walk (c .before .before .before .before .before .before)) _ _ _ _ _ _ (c .before .before .before .cell-in .ensures) (c .before .before .before .before .before .cells .inv) (c .before .before .before .before .cells-test .taken) (c .before .before .before .before .before .before .before .before .before .before .before .pre .1 .1 .1) _ _ _ _ (c .before .distances .inv) (c .distances-test .left)
-
-same-length : tie.Need-same-length Inv-distances μ-distances Inv-cells μ-cells
-same-length c = packing-long _ _ _ _ _ _ _ _ (c .before .cells .inv) (c .before .before .before .before .before .before .before .pre .1 .1 .1 ∙ ap length (parcel-is _ (c .before .before .before .before .before .before .before .pre .0 .accepted) _ _ _ (walk (c .before .before))))
-
-returns : tie.Need-returns Inv-distances μ-distances Inv-cells μ-cells
-returns c = packed _ (c .before .before .before .before .before .before .before .pre .0 .accepted) _ _ _ (walk (c .before .before)) _ _ _ _ _ (c .before .cells .inv) (omega arith) (c .before .before .before .before .before .before .before .pre .1 .1 .1)
+returns : tie.Need-returns Inv-loop μ-loop
+returns c = packed-end _ _ _ _ _ _ _ (c .before .loop .inv) (rows-end _ _ _ (c .loop-test .left) (box-all _ (c .before .before .before .before .before .before .before .before .before .before .before .before .pre .0 .accepted) _ (c .before .before .before .before .before .before .before .before .bounds-of .ensures .0) 0 _ _ (c .before .before .product .ensures) refl)) ∙ ap (pack (c .before .before .before .before .before .before .before .before .before .before .before .before .args .memory .now)) (sym (parcel-is _ (c .before .before .before .before .before .before .before .before .before .before .before .before .pre .0 .accepted) _ _ _ (walk (c .before .before .before .before .before .before .before))))
 
 pub pack-spec : {M : Type 1} → statement M
 pack-spec =
     tie.close
     (tie.spec
-    Inv-distances
-    μ-distances
-    Inv-cells
-    μ-cells
+    Inv-loop
+    μ-loop
     div-bounds-of
     bounds-of-requires
     bound-for-requires
-    cells-holds
+    window-of-requires
+    sub-last
+    product-requires
+    mul-width
+    array-read-width
+    loop-holds
+    mul-first
     cell-in-requires
-    distances-holds
-    puts-requires
-    mul-words
-    shared-slice-read-words
-    mul-words-2
-    slice-write-words
-    add-count
-    add-q
-    cells-less
-    cells-again
-    add-e
-    distances-less
-    distances-again
-    add-q-2
-    cells-less-2
-    cells-again-2
+    ends-of-requires
+    mul-pack-row
+    array-read-pack-row
+    pack-row-requires
+    add-r
+    loop-less
+    loop-again
     same-length
     returns)

@@ -1,45 +1,64 @@
--- `layout::sweep` meets its contract: the grid is the sweep of the first c cells, then what it held; a value reads earlier cells alone.
+-- `layout::sweep` meets its contract: the grid is the sweep of the first r rows, then what it held; a value reads earlier cells alone.
 use borrow.Author.Needs.{needs}
 use native.Mathlib.Omega.{arith}
-use Prim.Native.Nat.{_-_}
-use mathlib.Core.Path.{sym, _∙_}
+use Prim.Native.Nat.{_-_, _*_}
+use native.Mathlib.Nat.{zero-mul}
+use lib.ListN.{getD}
+use mathlib.Core.Path.{refl, sym, _∙_}
 use Rattle.plan.proofs.Sound.{sound}
-use Rattle.layout.proofs.Walks.{Sweeping, sweeping-none, sweeping-long, sweeping-more, swept}
+use Rattle.layout.proofs.Cells.{lengths-countable, relocated}
+use Rattle.layout.proofs.Walks.{Sweeping, sweeping-none, sweeping-long, swept}
+use Rattle.layout.proofs.Rows.{fewer, sweep-all, sweep-start, sweep-in, sweeping-turn, rows-end}
 use Rattle.layout.proofs.sweep.Statement.{statement}
 use Rattle.layout.proofs.sweep.Tie as tie
 
 abbrev Inv-loop : tie.InvT-loop
-Inv-loop nest sizes source grid₀ n c₀ grid c = Sweeping nest source grid₀ grid c
+Inv-loop nest source grid₀ components weights back last rows width r₀ grid r = Sweeping nest source grid₀ grid (r * width)
 
 abbrev μ-loop : tie.MeasureT-loop
-μ-loop nest sizes source grid₀ n c₀ grid c = n - c
+μ-loop nest source grid₀ components weights back last rows width r₀ grid r = rows - r
+
+backs-of-requires : tie.Need-backs-of-requires Inv-loop μ-loop
+backs-of-requires c κs = c .before .before .before .before .pre .0 .accepted
+
+sub-last : tie.Need-sub-last Inv-loop μ-loop
+sub-last c = omega (arith, c .before .before .before .before .before .before .pre .0 .accepted .dimensions-least)
+
+product-requires : tie.Need-product-requires Inv-loop μ-loop
+product-requires c κs = fewer _ (c .before .before .before .before .before .before .before .pre .0 .accepted) _ (lengths-countable _ (c .before .before .before .before .before .before .before .pre .0 .accepted))
+
+mul-width : tie.Need-mul-width Inv-loop μ-loop
+mul-width c = omega (arith, c .before .before .before .before .before .before .before .before .pre .0 .accepted .dimensions-most)
+
+array-read-width : tie.Need-array-read-width Inv-loop μ-loop
+array-read-width c = omega (arith, c .before .before .before .before .before .before .before .before .pre .0 .accepted .dimensions-most, c .before .before .before .before .before .before .before .before .pre .0 .accepted .dimensions-least)
 
 loop-holds : tie.Need-loop-holds Inv-loop μ-loop
-loop-holds c = sweeping-none _ _ _
+loop-holds c = rw (zero-mul (getD (c .before .before .before .before .before .before .before .before .args .nest .lengths) (c .before .before .before .before .before .before .before .before .args .nest .dimensions - 1) 0)) (sweeping-none _ _ _)
 
-value-requires : tie.Need-value-requires Inv-loop μ-loop
-value-requires c κs = (c .before .before .before .before .before .pre .0, (omega (arith, c .before .loop-test .taken, c .before .before .before .before .before .pre .0 .cells), (c .before .before .before .before .before .pre .1 .0, sweeping-long _ _ _ (c .before .before .before .before .before .pre .1 .1) _ _ (c .before .before .loop .inv))))
+mul-cell-of : tie.Need-mul-cell-of Inv-loop μ-loop
+mul-cell-of c = omega (arith, sweep-in _ (c .before .before .before .before .before .before .before .before .before .before .pre .0 .accepted) _ _ _ (c .before .before .product .ensures) refl (c .loop-test .taken), c .before .before .before .before .before .before .before .before .before .before .pre .0 .accepted .cells-most)
 
-mul-grid : tie.Need-mul-grid Inv-loop μ-loop
-mul-grid c = omega (arith, c .before .before .loop-test .taken, c .before .before .before .before .before .before .pre .0 .cells, c .before .before .before .before .before .before .pre .0 .accepted .cells-most)
+cell-of-requires : tie.Need-cell-of-requires Inv-loop μ-loop
+cell-of-requires c κs = (c .before .before .before .before .before .before .before .before .before .before .pre .0 .accepted, omega (arith, sweep-in _ (c .before .before .before .before .before .before .before .before .before .before .pre .0 .accepted) _ _ _ (c .before .before .product .ensures) refl (c .loop-test .taken)))
 
-slice-write-grid : tie.Need-slice-write-grid Inv-loop μ-loop
-slice-write-grid c = omega (arith, c .before .before .loop-test .taken, c .before .before .before .before .before .before .pre .0 .cells, sweeping-long _ _ _ (c .before .before .before .before .before .before .pre .1 .1) _ _ (c .before .before .before .loop .inv))
+row-requires : tie.Need-row-requires Inv-loop μ-loop
+row-requires c κs = ((c .before .before .before .before .before .before .before .before .before .before .before .before .before .before .before .pre .0 .accepted, (relocated _ _ _ (c .before .before .before .before .cell-of .ensures), (c .before .before .before .before .before .before .before .before .before .before .before .before .before .before .before .pre .1 .0, sweeping-long _ _ _ (c .before .before .before .before .before .before .before .before .before .before .before .before .before .before .before .pre .1 .1) _ _ (c .before .before .before .before .before .before .loop .inv)))), (record { is = refl }, (c .before .before .before .before .before .before .before .before .before .before .backs-of .ensures, (refl, omega (arith, c .before .before .before .before .cell-of .ensures .place .each (c .before .before .before .before .before .before .before .before .before .before .before .before .before .before .before .args .nest .dimensions - 1) (omega (arith, c .before .before .before .before .before .before .before .before .before .before .before .before .before .before .before .pre .0 .accepted .dimensions-least)), sweep-start _ (c .before .before .before .before .before .before .before .before .before .before .before .before .before .before .before .pre .0 .accepted) (c .before .before .before .before .before .before .loop .r))))))
 
-add-c : tie.Need-add-c Inv-loop μ-loop
-add-c c = search needs
+add-r : tie.Need-add-r Inv-loop μ-loop
+add-r c = omega (arith, sweep-in _ (c .before .before .before .before .before .before .before .before .before .before .before .before .before .before .before .before .before .before .pre .0 .accepted) _ _ _ (c .before .before .before .before .before .before .before .before .before .before .product .ensures) refl (c .before .before .before .before .before .before .before .before .loop-test .taken), c .before .before .before .before .before .before .before .before .before .before .before .before .before .before .before .before .before .before .pre .0 .accepted .cells-most)
 
 loop-less : tie.Need-loop-less Inv-loop μ-loop
 loop-less c = search needs
 
 loop-again : tie.Need-loop-again Inv-loop μ-loop
-loop-again c = sweeping-more _ _ _ (c .before .before .before .before .before .before .pre .1 .1) _ _ (c .before .before .before .loop .inv) (sound _ (c .before .before .before .before .before .before .pre .0 .accepted)) (omega (arith, c .before .before .loop-test .taken, c .before .before .before .before .before .before .pre .0 .cells)) _ (c .value .ensures)
+loop-again c = sweeping-turn _ (c .before .before .before .before .before .before .before .before .before .before .before .before .before .before .before .before .before .before .pre .0 .accepted) _ _ _ (c .before .before .before .before .before .before .before .before .before .before .product .ensures) refl _ _ _ _ (c .before .before .before .before .before .before .before .before .before .before .before .before .before .before .before .before .before .before .pre .1 .1) (c .before .before .before .before .before .before .before .before .before .loop .inv) (c .before .before .before .before .before .before .before .before .loop-test .taken) (sound _ (c .before .before .before .before .before .before .before .before .before .before .before .before .before .before .before .before .before .before .pre .0 .accepted)) _ (c .before .before .before .before .before .before .before .cell-of .ensures .number) (c .before .before .row .ensures)
 
 same-length : tie.Need-same-length Inv-loop μ-loop
-same-length c = sweeping-long _ _ _ (c .before .before .before .before .pre .1 .1) _ _ (c .before .loop .inv) ∙ sym (c .before .before .before .before .pre .1 .1)
+same-length c = sweeping-long _ _ _ (c .before .before .before .before .before .before .before .before .before .before .pre .1 .1) _ _ (c .before .loop .inv) ∙ sym (c .before .before .before .before .before .before .before .before .before .before .pre .1 .1)
 
 returns : tie.Need-returns Inv-loop μ-loop
-returns c = swept _ _ _ (c .before .before .before .before .pre .1 .1) _ _ (c .before .loop .inv) (omega (arith, c .loop-test .left, c .before .before .before .before .pre .0 .cells))
+returns c = swept _ _ _ (c .before .before .before .before .before .before .before .before .before .before .pre .1 .1) _ _ (c .before .loop .inv) (rows-end _ _ _ (c .loop-test .left) (sweep-all _ (c .before .before .before .before .before .before .before .before .before .before .pre .0 .accepted) 0 _ _ (c .before .before .product .ensures) refl))
 
 pub sweep-spec : {M : Type 1} → statement M
 sweep-spec =
@@ -47,11 +66,16 @@ sweep-spec =
     (tie.spec
     Inv-loop
     μ-loop
+    backs-of-requires
+    sub-last
+    product-requires
+    mul-width
+    array-read-width
     loop-holds
-    value-requires
-    mul-grid
-    slice-write-grid
-    add-c
+    mul-cell-of
+    cell-of-requires
+    row-requires
+    add-r
     loop-less
     loop-again
     same-length

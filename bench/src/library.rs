@@ -1,0 +1,48 @@
+//! The engine's library, through the safe crate over it.
+
+use crate::engine::{Areas, Engine};
+use rolwyddac::Refusal;
+
+pub struct Library;
+
+fn number(result: Result<(), Refusal>) -> u32 {
+    result.err().map_or(0, Refusal::number)
+}
+
+impl Engine for Library {
+    fn name(&self) -> String {
+        "library".into()
+    }
+
+    fn fresh(&self, encoded: &[u8], areas: &mut Areas) -> u32 {
+        let Areas { source, memories, buffer, progress, status } = areas;
+        number(rolwyddac::fresh(encoded, source, memories, buffer, progress, status))
+    }
+
+    fn turn(&self, encoded: &[u8], areas: &mut Areas, processor: u32) -> u32 {
+        let Areas { source, memories, buffer, progress, status } = areas;
+        number(rolwyddac::turn(encoded, source, memories, buffer, progress, status, processor))
+    }
+
+    fn deliver(&self, encoded: &[u8], areas: &mut Areas, message: u32) -> u32 {
+        let Areas { source, memories, buffer, progress, status } = areas;
+        number(rolwyddac::deliver(encoded, source, memories, buffer, progress, status, message))
+    }
+
+    fn collect(&self, encoded: &[u8], areas: &mut Areas, grid: &mut [u32]) -> u32 {
+        let Areas { source, memories, buffer, progress, status } = areas;
+        number(rolwyddac::collect(encoded, source, memories, buffer, progress, status, grid))
+    }
+
+    fn sweep(&self, encoded: &[u8], source: &[u32], grid: &mut [u32]) -> u32 {
+        number(rolwyddac::sweep(encoded, source, grid))
+    }
+
+    fn summary(&self, encoded: &[u8], out: &mut [u32]) -> u32 {
+        number(rolwyddac::summary_words(encoded, out))
+    }
+
+    fn message(&self, encoded: &[u8], message: u32, out: &mut [u32]) -> u32 {
+        number(rolwyddac::message_words(encoded, message, out))
+    }
+}

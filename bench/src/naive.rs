@@ -1,0 +1,677 @@
+//! A second model, naive on purpose: every call works everything out again, all but the messages, and those by
+//! trying all cells for each.
+//! It can carry one fault, so that the comparison itself can be tested: each fault must be found.
+
+use crate::engine::{Areas, Engine, Progress, MESSAGE_WORDS, SUMMARY_WORDS};
+use std::cell::RefCell;
+use std::rc::Rc;
+
+/// faults a careful author could make
+#[derive(Clone, Copy, Debug, PartialEq, Eq)]
+pub enum Fault {
+    /// Theorem 3 of the report for the unspread dimensions: cells go by their reader's tile there
+    UnspreadShift,
+    /// a short tile at the edge is taken for a full one
+    EdgeTileFull,
+    /// a message holds only what tile t + v itself reads
+    OnlyTaker,
+    /// a cell is listed once for each distance that reads it
+    ListedAgain,
+    /// the directions of a tile in falling order
+    DirectionsFalling,
+    /// the sum is taken modulo 2^32 before it is divided
+    ModuloFirst,
+    /// 0 is read in the place of the boundary value
+    BoundaryZero,
+    /// the same distance with another weight counts as another distance
+    WeightTellsApart,
+    /// a tile may be as long as a distance
+    TileAsLong,
+    /// a longer recipe of the right start is accepted
+    TailUnread,
+    /// only the record of the processor that takes the turn is tested
+    OwnRecordOnly,
+    /// stage 2 is fit at a tile without messages
+    SendNothing,
+    /// number 11 before number 10
+    NoSuchFirst,
+    /// a message that is taken already is as good as delivered
+    TakenIsDelivered,
+    /// a message that is delivered already can be delivered
+    DeliveredAgain,
+    /// a send leaves the status of a message that was taken
+    SendKeepsTaken,
+    /// a refused turn writes
+    RefusalWrites,
+    /// the buffer keeps its words at a fresh start
+    FreshKeepsBuffer,
+    /// collecting reads the memory of processor 0 only
+    CollectFirst,
+    /// collecting does not test that all have finished
+    CollectEarly,
+    /// a source that is too long is accepted
+    LongSource,
+    /// the last tile of a processor is never finished
+    NeverLast,
+    /// a gather also writes to the next processor's memory
+    Neighbour,
+}
+
+pub const FAULTS: [Fault; 23] = [
+    Fault::UnspreadShift,
+    Fault::EdgeTileFull,
+    Fault::OnlyTaker,
+    Fault::ListedAgain,
+    Fault::DirectionsFalling,
+    Fault::ModuloFirst,
+    Fault::BoundaryZero,
+    Fault::WeightTellsApart,
+    Fault::TileAsLong,
+    Fault::TailUnread,
+    Fault::OwnRecordOnly,
+    Fault::SendNothing,
+    Fault::NoSuchFirst,
+    Fault::TakenIsDelivered,
+    Fault::DeliveredAgain,
+    Fault::SendKeepsTaken,
+    Fault::RefusalWrites,
+    Fault::FreshKeepsBuffer,
+    Fault::CollectFirst,
+    Fault::CollectEarly,
+    Fault::LongSource,
+    Fault::NeverLast,
+    Fault::Neighbour,
+];
+
+/// sending tile, taking tile, cells
+type Messages = Rc<Vec<(u64, u64, Vec<u64>)>>;
+
+#[derive(Default)]
+pub struct Naive {
+    fault: Option<Fault>,
+    /// the messages of the last recipe
+    last: RefCell<Option<(Vec<u8>, Messages)>>,
+}
+
+/// bytes, seen as records
+#[derive(Clone, Copy)]
+struct View<'a> {
+    bytes: &'a [u8],
+    fault: Option<Fault>,
+    /// dimensions: how many records of kind 1 stand in front
+    n: usize,
+    /// how many of kind 2 follow
+    distances: usize,
+    /// dimensions that have processors
+    spread: usize,
+}
+
+type Index = [u64; 4];
+
+/// the number of the first true line
+fn first(lines: &[(u32, &dyn Fn() -> bool)]) -> u32 {
+    lines.iter().find(|(_, test)| test()).map_or(0, |(number, _)| *number)
+}
+
+impl<'a> View<'a> {
+    fn new(bytes: &'a [u8], fault: Option<Fault>) -> View<'a> {
+        let mut view = View { bytes, fault, n: 0, distances: 0, spread: 0 };
+        view.n = (0..view.records()).take_while(|&r| view.kind(r) == 1).count();
+        view.distances = (view.n..view.records()).take_while(|&r| view.kind(r) == 2).count();
+        view.spread = (0..view.n).filter(|&j| view.count(j) != 0).count();
+        view
+    }
+
+    fn has(&self, fault: Fault) -> bool {
+        self.fault == Some(fault)
+    }
+
+    fn byte(&self, record: usize, at: usize) -> u64 {
+        u64::from(self.bytes[record * 16 + at])
+    }
+
+    fn half(&self, record: usize, at: usize) -> u64 {
+        self.byte(record, at) + 256 * self.byte(record, at + 1)
+    }
+
+    fn records(&self) -> usize {
+        self.bytes.len() / 16
+    }
+
+    fn kind(&self, record: usize) -> u64 {
+        self.byte(record, 0)
+    }
+
+    fn close(&self) -> usize {
+        self.n + self.distances
+    }
+
+    fn stray(&self) -> bool {
+        let named = |r: usize| match self.kind(r) {
+            1 => vec![0, 2, 3, 4, 5, 6, 7],
+            2 => vec![0, 2, 3, 4, 5, 6, 7],
+            3 => vec![0, 1, 4, 5, 6, 7],
+            _ => vec![],
+        };
+        let tail = !self.has(Fault::TailUnread) && self.close() + 1 != self.records();
+        !(2..=4).contains(&self.n)
+            || !(1..=8).contains(&self.distances)
+            || self.close() >= self.records()
+            || tail
+            || self.kind(self.close()) != 3
+            || self.byte(self.close(), 1) > 31
+            || (0..=self.close()).any(|r| (0..16).any(|at| !named(r).contains(&at) && self.byte(r, at) != 0))
+    }
+
+    fn length(&self, j: usize) -> u64 {
+        self.half(j, 2)
+    }
+
+    fn tile(&self, j: usize) -> u64 {
+        self.half(j, 4)
+    }
+
+    fn count(&self, j: usize) -> u64 {
+        self.half(j, 6)
+    }
+
+    fn component(&self, d: usize, j: usize) -> u64 {
+        self.byte(self.n + d, 2 + j)
+    }
+
+    fn weight(&self, d: usize) -> u64 {
+        self.half(self.n + d, 6)
+    }
+
+    fn cells(&self) -> u64 {
+        (0..self.n).map(|j| self.length(j)).product()
+    }
+
+    fn bad_distance(&self) -> bool {
+        let same = |d: usize, e: usize| {
+            (0..4).all(|j| self.component(d, j) == self.component(e, j))
+                && !(self.has(Fault::WeightTellsApart) && self.weight(d) != self.weight(e))
+        };
+        (0..self.distances).any(|d| {
+            (0..4).all(|j| self.component(d, j) == 0)
+                || (0..d).any(|e| same(d, e))
+                || (self.n..4).any(|j| self.component(d, j) != 0)
+        })
+    }
+
+    fn bad_tile(&self) -> bool {
+        let room = if self.has(Fault::TileAsLong) { 1 } else { 0 };
+        (0..self.n).any(|j| {
+            let k = self.tile(j);
+            k == 0 || k > 1024 || (0..self.distances).any(|d| self.component(d, j) >= k + room)
+        })
+    }
+
+    fn bad_counts(&self) -> bool {
+        let m = self.spread;
+        m == 0
+            || m == self.n
+            || (0..m).any(|j| self.count(j) < 2)
+            || (0..m).fold(1u64, |product, j| (product * self.count(j)).min(1 << 20)) > 64
+    }
+
+    fn across(&self, j: usize) -> u64 {
+        self.length(j).div_ceil(self.tile(j))
+    }
+
+    fn tiles(&self) -> u64 {
+        (0..self.n).map(|j| self.across(j)).product()
+    }
+
+    fn read(&self) -> u32 {
+        first(&[
+            (1, &|| self.bytes.is_empty() || self.bytes.len() % 16 != 0),
+            (2, &|| self.stray()),
+            (3, &|| (0..self.n).any(|j| self.length(j) == 0 || self.length(j) > 1024)),
+            (4, &|| self.cells() > 16384),
+            (5, &|| self.bad_distance()),
+            (6, &|| self.bad_tile()),
+            (7, &|| self.bad_counts()),
+            (8, &|| self.tiles() > 1024),
+        ])
+    }
+
+    /// the components of a number in a box of the given sides, and back
+    fn split(&self, mut number: u64, side: &dyn Fn(usize) -> u64, n: usize) -> Index {
+        let mut index = [0; 4];
+        for j in (0..n).rev() {
+            index[j] = number % side(j);
+            number /= side(j);
+        }
+        index
+    }
+
+    fn join(&self, index: &Index, side: &dyn Fn(usize) -> u64, n: usize) -> u64 {
+        (0..n).fold(0, |number, j| number * side(j) + index[j])
+    }
+
+    fn cell(&self, number: u64) -> Index {
+        self.split(number, &|j| self.length(j), self.n)
+    }
+
+    fn tile_number(&self, tile: &Index) -> u64 {
+        self.join(tile, &|j| self.across(j), self.n)
+    }
+
+    fn tile_index(&self, number: u64) -> Index {
+        self.split(number, &|j| self.across(j), self.n)
+    }
+
+    fn tile_at(&self, cell: &Index) -> Index {
+        let mut tile = [0; 4];
+        for j in 0..self.n {
+            tile[j] = cell[j] / self.tile(j);
+        }
+        tile
+    }
+
+    fn processors(&self) -> u64 {
+        (0..self.spread).map(|j| self.count(j)).product()
+    }
+
+    fn processor(&self, tile: u64) -> u64 {
+        let mut index = self.tile_index(tile);
+        for j in 0..self.spread {
+            index[j] %= self.count(j);
+        }
+        self.join(&index, &|j| self.count(j), self.spread)
+    }
+
+    fn tiles_of(&self, processor: u64) -> Vec<u64> {
+        (0..self.tiles()).filter(|&tile| self.processor(tile) == processor).collect()
+    }
+
+    fn inside(&self, cell: &Index) -> bool {
+        let side = |j| if self.has(Fault::EdgeTileFull) { self.across(j) * self.tile(j) } else { self.length(j) };
+        (0..self.n).all(|j| cell[j] < side(j))
+    }
+
+    fn ahead(&self, cell: &Index, d: usize) -> Index {
+        let mut reader = *cell;
+        for j in 0..self.n {
+            reader[j] += self.component(d, j);
+        }
+        reader
+    }
+
+    /// does distance d put a reader of this cell where direction v says
+    fn reads(&self, tile: &Index, direction: &Index, cell: &Index, d: usize) -> bool {
+        let reader = self.ahead(cell, d);
+        let (here, there) = (self.tile_at(cell), self.tile_at(&reader));
+        let unspread = self.spread..self.n;
+        self.inside(&reader)
+            && (0..self.spread).all(|j| here[j] == tile[j] && there[j] == tile[j] + direction[j])
+            && if self.has(Fault::UnspreadShift) {
+                unspread.clone().all(|j| there[j] == tile[j])
+            } else if self.has(Fault::OnlyTaker) {
+                unspread.clone().all(|j| here[j] == tile[j] && there[j] == tile[j])
+            } else {
+                unspread.clone().all(|j| here[j] == tile[j])
+            }
+    }
+
+    fn held(&self, tile: &Index, direction: &Index) -> Vec<u64> {
+        let mut held = vec![];
+        for number in 0..self.cells() {
+            let cell = self.cell(number);
+            let readers = (0..self.distances).filter(|&d| self.reads(tile, direction, &cell, d)).count();
+            let listed = if self.has(Fault::ListedAgain) { readers } else { readers.min(1) };
+            held.extend(vec![number; listed]);
+        }
+        held
+    }
+
+    /// the directions in lexicographic order
+    fn directions(&self) -> Vec<Index> {
+        let m = self.spread;
+        let mut directions: Vec<Index> = (1..1 << m).map(|number| self.split(number, &|_| 2, m)).collect();
+        if self.has(Fault::DirectionsFalling) {
+            directions.reverse();
+        }
+        directions
+    }
+
+    /// all messages in order
+    fn messages(&self) -> Messages {
+        let mut messages = vec![];
+        for tile in 0..self.tiles() {
+            let index = self.tile_index(tile);
+            for direction in self.directions() {
+                let held = self.held(&index, &direction);
+                if held.is_empty() {
+                    continue;
+                }
+                let mut taker = index;
+                for j in 0..self.spread {
+                    taker[j] += direction[j];
+                }
+                messages.push((tile, self.tile_number(&taker), held));
+            }
+        }
+        Rc::new(messages)
+    }
+
+    fn value(&self, source: &[u32], values: &[u32], number: u64) -> u32 {
+        let cell = self.cell(number);
+        let close = self.close();
+        let boundary =
+            if self.has(Fault::BoundaryZero) { 0 } else { self.half(close, 4) + 65536 * self.half(close, 6) };
+        let mut sum = u128::from(source[number as usize]);
+        for d in 0..self.distances {
+            let mut from = Some(cell);
+            for j in 0..self.n {
+                from = from.and_then(|mut index| {
+                    index[j] = index[j].checked_sub(self.component(d, j))?;
+                    Some(index)
+                });
+            }
+            let word = match from {
+                Some(index) => u64::from(values[self.join(&index, &|j| self.length(j), self.n) as usize]),
+                None => boundary,
+            };
+            sum += u128::from(self.weight(d)) * u128::from(word);
+        }
+        if self.has(Fault::ModuloFirst) {
+            sum %= 1 << 32;
+        }
+        (sum / (1 << self.byte(close, 1)) % (1 << 32)) as u32
+    }
+}
+
+/// what a call on the five areas needs
+struct Made<'a> {
+    view: View<'a>,
+    messages: Messages,
+}
+
+impl Made<'_> {
+    fn words(&self) -> usize {
+        self.messages.iter().map(|m| m.2.len()).sum()
+    }
+
+    fn offset(&self, message: usize) -> usize {
+        self.messages[..message].iter().map(|m| m.2.len()).sum()
+    }
+
+    fn area(&self, areas: &Areas) -> bool {
+        let cells = self.view.cells() as usize;
+        let processors = self.view.processors() as usize;
+        let source = areas.source.len();
+        let source_wrong = if self.view.has(Fault::LongSource) { source < cells } else { source != cells };
+        source_wrong
+            || areas.memories.len() != cells * processors
+            || areas.buffer.len() != self.words()
+            || areas.progress.len() != processors
+            || areas.status.len() != self.messages.len()
+    }
+
+    fn sends(&self, tile: u64) -> Vec<usize> {
+        (0..self.messages.len()).filter(|&m| self.messages[m].0 == tile).collect()
+    }
+
+    fn dues(&self, tile: u64) -> Vec<usize> {
+        (0..self.messages.len()).filter(|&m| self.messages[m].1 == tile).collect()
+    }
+
+    fn unfit(&self, areas: &Areas, own: Option<u32>) -> bool {
+        let record = |p: usize| {
+            let Progress { finished, stage, sent } = areas.progress[p];
+            let tiles = self.view.tiles_of(p as u64);
+            let sends = || self.sends(tiles[finished as usize]).len() as u32;
+            finished as usize > tiles.len()
+                || (finished as usize == tiles.len() && (stage, sent) != (0, 0))
+                || stage > 2
+                || (stage < 2 && sent != 0)
+                || (stage == 2 && sent >= sends() && !(self.view.has(Fault::SendNothing) && sent == 0))
+        };
+        let own = own.filter(|&p| self.view.has(Fault::OwnRecordOnly) && (p as usize) < areas.progress.len());
+        let records = match own {
+            Some(p) => record(p as usize),
+            None => (0..areas.progress.len()).any(record),
+        };
+        records || areas.status.iter().any(|&mark| mark > 3)
+    }
+
+    fn left(&self, areas: &Areas, processor: u32) -> bool {
+        let tiles = self.view.tiles_of(u64::from(processor)).len() as u32;
+        let tiles = if self.view.has(Fault::NeverLast) { tiles + 1 } else { tiles };
+        areas.progress[processor as usize].finished < tiles
+    }
+
+    fn tile(&self, areas: &Areas, processor: u32) -> u64 {
+        let finished = areas.progress[processor as usize].finished as usize;
+        *self.view.tiles_of(u64::from(processor)).get(finished).unwrap_or(&0)
+    }
+
+    fn waiting(&self, areas: &Areas, processor: u32) -> bool {
+        let taken = self.view.has(Fault::TakenIsDelivered);
+        let arrived = |m: usize| areas.status[m] == 2 || (taken && areas.status[m] == 3);
+        self.left(areas, processor)
+            && areas.progress[processor as usize].stage == 0
+            && !self.dues(self.tile(areas, processor)).into_iter().all(arrived)
+    }
+
+    fn gather(&self, areas: &mut Areas, processor: u32) {
+        let cells = self.view.cells() as usize;
+        for message in self.dues(self.tile(areas, processor)) {
+            for (place, &cell) in self.messages[message].2.iter().enumerate() {
+                let word = areas.buffer[self.offset(message) + place];
+                areas.memories[processor as usize * cells + cell as usize] = word;
+                let next = (processor as usize + 1) * cells + cell as usize;
+                if self.view.has(Fault::Neighbour) && next < areas.memories.len() {
+                    areas.memories[next] = word;
+                }
+            }
+            areas.status[message] = 3;
+        }
+        areas.progress[processor as usize].stage = 1;
+    }
+
+    fn calculate(&self, areas: &mut Areas, processor: u32) {
+        let cells = self.view.cells() as usize;
+        let tile = self.tile(areas, processor);
+        let mut memory = areas.memories[processor as usize * cells..][..cells].to_vec();
+        for cell in 0..self.view.cells() {
+            if self.view.tile_number(&self.view.tile_at(&self.view.cell(cell))) == tile {
+                memory[cell as usize] = self.view.value(&areas.source, &memory, cell);
+            }
+        }
+        areas.memories[processor as usize * cells..][..cells].copy_from_slice(&memory);
+        self.sent(areas, processor, tile, 0);
+    }
+
+    fn send(&self, areas: &mut Areas, processor: u32) {
+        let cells = self.view.cells() as usize;
+        let tile = self.tile(areas, processor);
+        let sent = areas.progress[processor as usize].sent;
+        let Some(&message) = self.sends(tile).get(sent as usize) else { return };
+        for (place, &cell) in self.messages[message].2.iter().enumerate() {
+            areas.buffer[self.offset(message) + place] = areas.memories[processor as usize * cells + cell as usize];
+        }
+        if !(self.view.has(Fault::SendKeepsTaken) && areas.status[message] == 3) {
+            areas.status[message] = 1;
+        }
+        self.sent(areas, processor, tile, sent + 1);
+    }
+
+    fn sent(&self, areas: &mut Areas, processor: u32, tile: u64, sent: u32) {
+        let record = &mut areas.progress[processor as usize];
+        if (sent as usize) < self.sends(tile).len() {
+            *record = Progress { stage: 2, sent, ..*record };
+        } else {
+            *record = Progress { finished: record.finished + 1, stage: 0, sent: 0 };
+        }
+    }
+}
+
+impl Naive {
+    pub fn with(fault: Fault) -> Naive {
+        Naive { fault: Some(fault), last: RefCell::default() }
+    }
+
+    fn messages(&self, bytes: &[u8]) -> Messages {
+        let mut last = self.last.borrow_mut();
+        match &*last {
+            Some((known, messages)) if known == bytes => messages.clone(),
+            _ => {
+                let messages = self.view(bytes).messages();
+                *last = Some((bytes.to_vec(), messages.clone()));
+                messages
+            }
+        }
+    }
+
+    fn view<'a>(&self, bytes: &'a [u8]) -> View<'a> {
+        View::new(bytes, self.fault)
+    }
+
+    /// refused recipes answered, the rest made
+    fn made<'a>(&self, bytes: &'a [u8]) -> Result<Made<'a>, u32> {
+        match self.view(bytes).read() {
+            0 => Ok(Made { view: self.view(bytes), messages: self.messages(bytes) }),
+            number => Err(number),
+        }
+    }
+}
+
+impl Engine for Naive {
+    fn name(&self) -> String {
+        match self.fault {
+            None => "naive".into(),
+            Some(fault) => format!("naive with the fault {fault:?}"),
+        }
+    }
+
+    fn fresh(&self, encoded: &[u8], areas: &mut Areas) -> u32 {
+        let made = match self.made(encoded) {
+            Ok(made) => made,
+            Err(number) => return number,
+        };
+        if made.area(areas) {
+            return 9;
+        }
+        areas.memories.fill(0);
+        if self.fault != Some(Fault::FreshKeepsBuffer) {
+            areas.buffer.fill(0);
+        }
+        areas.progress.fill(Progress::default());
+        areas.status.fill(0);
+        0
+    }
+
+    fn turn(&self, encoded: &[u8], areas: &mut Areas, processor: u32) -> u32 {
+        let made = match self.made(encoded) {
+            Ok(made) => made,
+            Err(number) => return number,
+        };
+        let none = u64::from(processor) >= made.view.processors();
+        let number = first(&[
+            (9, &|| made.area(areas)),
+            (11, &|| self.fault == Some(Fault::NoSuchFirst) && none),
+            (10, &|| made.unfit(areas, Some(processor))),
+            (11, &|| none),
+            (12, &|| made.waiting(areas, processor)),
+            (13, &|| !made.left(areas, processor)),
+        ]);
+        if number == 0 {
+            match areas.progress[processor as usize].stage {
+                0 => made.gather(areas, processor),
+                1 => made.calculate(areas, processor),
+                _ => made.send(areas, processor),
+            }
+        } else if self.fault == Some(Fault::RefusalWrites) && number == 12 {
+            areas.memories[0] = areas.memories[0].wrapping_add(1);
+        }
+        number
+    }
+
+    fn deliver(&self, encoded: &[u8], areas: &mut Areas, message: u32) -> u32 {
+        let made = match self.made(encoded) {
+            Ok(made) => made,
+            Err(number) => return number,
+        };
+        let again = self.fault == Some(Fault::DeliveredAgain);
+        let number = first(&[
+            (9, &|| made.area(areas)),
+            (10, &|| made.unfit(areas, None)),
+            (11, &|| message as usize >= made.messages.len()),
+            (14, &|| areas.status[message as usize] != 1 && !(again && areas.status[message as usize] == 2)),
+        ]);
+        if number == 0 {
+            areas.status[message as usize] = 2;
+        }
+        number
+    }
+
+    fn collect(&self, encoded: &[u8], areas: &mut Areas, grid: &mut [u32]) -> u32 {
+        let made = match self.made(encoded) {
+            Ok(made) => made,
+            Err(number) => return number,
+        };
+        let early = self.fault == Some(Fault::CollectEarly);
+        let number = first(&[
+            (9, &|| made.area(areas) || grid.len() as u64 != made.view.cells()),
+            (10, &|| made.unfit(areas, None)),
+            (15, &|| !early && (0..made.view.processors()).any(|p| made.left(areas, p as u32))),
+        ]);
+        if number == 0 {
+            for (cell, word) in grid.iter_mut().enumerate() {
+                let tile = made.view.tile_number(&made.view.tile_at(&made.view.cell(cell as u64)));
+                let processor = if self.fault == Some(Fault::CollectFirst) { 0 } else { made.view.processor(tile) };
+                *word = areas.memories[processor as usize * made.view.cells() as usize + cell];
+            }
+        }
+        number
+    }
+
+    fn sweep(&self, encoded: &[u8], source: &[u32], grid: &mut [u32]) -> u32 {
+        let view = self.view(encoded);
+        let number = match view.read() {
+            0 if source.len() as u64 != view.cells() || grid.len() as u64 != view.cells() => 9,
+            number => number,
+        };
+        if number == 0 {
+            for cell in 0..view.cells() {
+                grid[cell as usize] = view.value(source, grid, cell);
+            }
+        }
+        number
+    }
+
+    fn summary(&self, encoded: &[u8], out: &mut [u32]) -> u32 {
+        let made = match self.made(encoded) {
+            Ok(made) => made,
+            Err(number) => return number,
+        };
+        if out.len() != SUMMARY_WORDS {
+            return 9;
+        }
+        out[0] = made.view.tiles() as u32;
+        out[1] = made.messages.len() as u32;
+        out[2] = made.words() as u32;
+        out[3] = 2 * (out[0] + out[1]);
+        0
+    }
+
+    fn message(&self, encoded: &[u8], message: u32, out: &mut [u32]) -> u32 {
+        let made = match self.made(encoded) {
+            Ok(made) => made,
+            Err(number) => return number,
+        };
+        if out.len() != MESSAGE_WORDS {
+            return 9;
+        }
+        let Some((sender, taker, held)) = made.messages.get(message as usize) else { return 11 };
+        out[0] = *sender as u32;
+        out[1] = *taker as u32;
+        out[2] = made.view.processor(*sender) as u32;
+        out[3] = made.view.processor(*taker) as u32;
+        out[4] = held.len() as u32;
+        0
+    }
+}

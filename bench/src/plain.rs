@@ -1,0 +1,653 @@
+//! The calls in plain Rust, for timing: every call reads the recipe, sizes the areas and tests every record and mark
+//! again, as the library's must. No heap. The lengths of all messages stand in one table of slots, a slot being a
+//! tile and a direction; a tile's row of it depends only on how near the tile is to the end of each dimension, so
+//! one row is counted for each kind of tile and copied.
+
+use crate::engine::{Areas, Engine, Progress, MESSAGE_WORDS, SUMMARY_WORDS};
+
+const SLOTS: usize = 7 * 1024;
+
+struct Nest {
+    n: usize,
+    /// spread dimensions
+    m: usize,
+    lengths: [usize; 4],
+    tile: [usize; 4],
+    counts: [usize; 4],
+    distances: usize,
+    components: [[usize; 4]; 8],
+    weights: [u64; 8],
+    shift: u32,
+    boundary: u32,
+    /// tiles in each dimension
+    across: [usize; 4],
+    /// cells from one index to the next, in each dimension, and tiles
+    step: [usize; 4],
+    tile_step: [usize; 4],
+    cells: usize,
+    tiles: usize,
+    processors: usize,
+    /// 2^m - 1
+    directions: usize,
+}
+
+fn half(record: &[u8], at: usize) -> usize {
+    usize::from(record[at]) | usize::from(record[at + 1]) << 8
+}
+
+fn read(encoded: &[u8]) -> Result<Nest, u32> {
+    if encoded.is_empty() || encoded.len() % 16 != 0 {
+        return Err(1);
+    }
+    let mut nest = parse(encoded).ok_or(2u32)?;
+    let n = nest.n;
+    if nest.lengths[..n].iter().any(|&x| x == 0 || x > 1024) {
+        return Err(3);
+    }
+    nest.cells = nest.lengths[..n].iter().product();
+    if nest.cells > 16384 {
+        return Err(4);
+    }
+    for d in 0..nest.distances {
+        let c = nest.components[d];
+        if c == [0; 4] || nest.components[..d].contains(&c) || c[n..].iter().any(|&x| x != 0) {
+            return Err(5);
+        }
+    }
+    for j in 0..n {
+        let k = nest.tile[j];
+        if k == 0 || k > 1024 || nest.components[..nest.distances].iter().any(|c| c[j] >= k) {
+            return Err(6);
+        }
+    }
+    nest.m = nest.counts[..n].iter().take_while(|&&p| p != 0).count();
+    if nest.m == 0 || nest.m == n || nest.counts[nest.m..n].iter().any(|&p| p != 0) {
+        return Err(7);
+    }
+    nest.processors = 1;
+    for &p in &nest.counts[..nest.m] {
+        nest.processors *= p;
+        if p < 2 || nest.processors > 64 {
+            return Err(7);
+        }
+    }
+    nest.tiles = 1;
+    for j in 0..n {
+        nest.across[j] = nest.lengths[j].div_ceil(nest.tile[j]);
+        nest.tiles *= nest.across[j];
+    }
+    if nest.tiles > 1024 {
+        return Err(8);
+    }
+    let (mut cells, mut tiles) = (1, 1);
+    for j in (0..n).rev() {
+        nest.step[j] = cells;
+        nest.tile_step[j] = tiles;
+        cells *= nest.lengths[j];
+        tiles *= nest.across[j];
+    }
+    nest.directions = (1 << nest.m) - 1;
+    Ok(nest)
+}
+
+fn parse(encoded: &[u8]) -> Option<Nest> {
+    let mut nest = Nest {
+        n: 0,
+        m: 0,
+        lengths: [0; 4],
+        tile: [0; 4],
+        counts: [0; 4],
+        distances: 0,
+        components: [[0; 4]; 8],
+        weights: [0; 8],
+        shift: 0,
+        boundary: 0,
+        across: [1; 4],
+        step: [0; 4],
+        tile_step: [0; 4],
+        cells: 0,
+        tiles: 0,
+        processors: 0,
+        directions: 0,
+    };
+    let last = encoded.len() / 16 - 1;
+    for (place, record) in encoded.chunks_exact(16).enumerate() {
+        if record[8..] != [0; 8] {
+            return None;
+        }
+        match record[0] {
+            1 if record[1] == 0 && nest.distances == 0 && nest.n < 4 => {
+                nest.lengths[nest.n] = half(record, 2);
+                nest.tile[nest.n] = half(record, 4);
+                nest.counts[nest.n] = half(record, 6);
+                nest.n += 1;
+            }
+            2 if record[1] == 0 && nest.distances < 8 => {
+                nest.components[nest.distances] = [2, 3, 4, 5].map(|at| usize::from(record[at]));
+                nest.weights[nest.distances] = half(record, 6) as u64;
+                nest.distances += 1;
+            }
+            3 if place == last && record[1] < 32 && record[2] == 0 && record[3] == 0 => {
+                nest.shift = u32::from(record[1]);
+                nest.boundary = (half(record, 4) | half(record, 6) << 16) as u32;
+                return (nest.n >= 2 && nest.distances >= 1).then_some(nest);
+            }
+            _ => return None,
+        }
+    }
+    None
+}
+
+/// cells of one dimension of a tile for which the same distances leave the nest and the same leave the tile
+#[derive(Clone, Copy, Default)]
+struct Run {
+    cells: u16,
+    out: u8,
+    cross: u8,
+}
+
+const RUNS: usize = 17;
+
+/// the runs of tile `tile` in dimension j
+fn runs(nest: &Nest, j: usize, tile: usize, into: &mut [Run; RUNS]) -> usize {
+    let (k, length) = (nest.tile[j], nest.lengths[j]);
+    let start = tile * k;
+    let end = (start + k).min(length);
+    let mut found = 0;
+    let mut from = start;
+    while from < end {
+        let (mut out, mut cross) = (0, 0);
+        let mut to = end;
+        for (d, c) in nest.components[..nest.distances].iter().enumerate() {
+            // from these components on the distance leaves the nest, the tile
+            for (border, mask) in [(length.saturating_sub(c[j]), &mut out), (start + k - c[j], &mut cross)] {
+                if from >= border {
+                    *mask |= 1 << d;
+                } else {
+                    to = to.min(border);
+                }
+            }
+        }
+        into[found] = Run { cells: (to - from) as u16, out, cross };
+        found += 1;
+        from = to;
+    }
+    found
+}
+
+/// how near a tile is to the end of dimension j: 0 neither, 1 last but one, 2 last
+fn kind(nest: &Nest, j: usize, tile: usize) -> usize {
+    (tile + 3).saturating_sub(nest.across[j])
+}
+
+struct Kinds {
+    runs: [[([Run; RUNS], usize); 3]; 4],
+}
+
+/// counts the cells of each direction for one kind of tile
+fn count(
+    nest: &Nest, kinds: &Kinds, of: &[usize; 4], j: usize, cells: u32, alive: u8, crossed: [u8; 3], row: &mut [u32; 8],
+) {
+    if alive == 0 {
+        return;
+    }
+    if j == nest.n {
+        let mut hit = 0u8;
+        for d in 0..nest.distances {
+            if alive >> d & 1 == 1 {
+                let v = crossed[..nest.m].iter().fold(0, |v, mask| v << 1 | (mask >> d & 1));
+                hit |= 1 << v;
+            }
+        }
+        for (v, words) in row.iter_mut().enumerate() {
+            *words += u32::from(hit >> v & 1) * cells;
+        }
+        return;
+    }
+    let (runs, found) = &kinds.runs[j][of[j]];
+    for run in &runs[..*found] {
+        let mut crossed = crossed;
+        if j < nest.m {
+            crossed[j] = run.cross;
+        }
+        count(nest, kinds, of, j + 1, cells * u32::from(run.cells), alive & !run.out, crossed, row);
+    }
+}
+
+/// the words of every slot
+fn fill(nest: &Nest, table: &mut [u16]) {
+    let mut kinds = Kinds { runs: [[([Run::default(); RUNS], 0); 3]; 4] };
+    for j in 0..nest.n {
+        for near in 0..nest.across[j].min(3) {
+            let (into, found) = &mut kinds.runs[j][2 - near];
+            *found = runs(nest, j, nest.across[j] - 1 - near, into);
+        }
+    }
+    let alive = ((1u16 << nest.distances) - 1) as u8;
+    let mut known = [false; 81];
+    let mut rows = [[0u32; 8]; 81];
+    let mut at = [0usize; 4];
+    for slots in table.chunks_exact_mut(nest.directions) {
+        let mut of = [0; 4];
+        let mut number = 0;
+        for j in 0..nest.n {
+            of[j] = kind(nest, j, at[j]);
+            number = number * 3 + of[j];
+        }
+        if !known[number] {
+            known[number] = true;
+            count(nest, &kinds, &of, 0, 1, alive, [0; 3], &mut rows[number]);
+        }
+        for (slot, words) in slots.iter_mut().zip(&rows[number][1..]) {
+            *slot = *words as u16;
+        }
+        advance(&mut at, &nest.across, nest.n);
+    }
+}
+
+/// the next index of a box, in index order
+fn advance(at: &mut [usize; 4], sides: &[usize; 4], n: usize) {
+    for j in (0..n).rev() {
+        at[j] += 1;
+        if at[j] < sides[j] {
+            return;
+        }
+        at[j] = 0;
+    }
+}
+
+fn split(mut number: usize, sides: &[usize; 4], n: usize) -> [usize; 4] {
+    let mut index = [0; 4];
+    for j in (0..n).rev() {
+        index[j] = number % sides[j];
+        number /= sides[j];
+    }
+    index
+}
+
+/// the linear step back of each distance
+fn steps_back(nest: &Nest) -> [usize; 8] {
+    let mut back = [0; 8];
+    for d in 0..nest.distances {
+        back[d] = (0..nest.n).map(|j| nest.components[d][j] * nest.step[j]).sum();
+    }
+    back
+}
+
+#[inline(always)]
+fn value(nest: &Nest, back: &[usize; 8], at: &[usize; 4], source: u32, values: &[u32], cell: usize) -> u32 {
+    let mut sum = u64::from(source);
+    for d in 0..nest.distances {
+        let c = &nest.components[d];
+        let inside = (0..nest.n).all(|j| at[j] >= c[j]);
+        let word = if inside { values[cell - back[d]] } else { nest.boundary };
+        sum += nest.weights[d] * u64::from(word);
+    }
+    (sum >> nest.shift) as u32
+}
+
+fn sweep(nest: &Nest, source: &[u32], grid: &mut [u32]) {
+    let back = steps_back(nest);
+    let mut at = [0; 4];
+    for cell in 0..nest.cells {
+        grid[cell] = value(nest, &back, &at, source[cell], grid, cell);
+        advance(&mut at, &nest.lengths, nest.n);
+    }
+}
+
+/// calls `each` with the number and the index of every cell of a tile, in index order
+#[inline(always)]
+fn cells_of(nest: &Nest, tile: &[usize; 4], mut each: impl FnMut(usize, &[usize; 4])) {
+    let mut start = [0; 4];
+    let mut end = [1; 4];
+    for j in 0..nest.n {
+        start[j] = tile[j] * nest.tile[j];
+        end[j] = (start[j] + nest.tile[j]).min(nest.lengths[j]);
+    }
+    let last = nest.n - 1;
+    let mut at = start;
+    loop {
+        let row: usize = (0..last).map(|j| at[j] * nest.step[j]).sum();
+        for x in start[last]..end[last] {
+            at[last] = x;
+            each(row + x, &at);
+        }
+        let mut j = last;
+        loop {
+            if j == 0 {
+                return;
+            }
+            j -= 1;
+            at[j] += 1;
+            if at[j] < end[j] {
+                break;
+            }
+            at[j] = start[j];
+        }
+    }
+}
+
+/// calls `each` with every cell of message (tile, direction), in index order
+fn held(nest: &Nest, tile: &[usize; 4], direction: usize, mut each: impl FnMut(usize)) {
+    cells_of(nest, tile, |cell, at| {
+        let reads = |c: &[usize; 4]| {
+            (0..nest.n).all(|j| {
+                let reader = at[j] + c[j];
+                let crosses = usize::from(reader >= (tile[j] + 1) * nest.tile[j]);
+                reader < nest.lengths[j] && (j >= nest.m || crosses == direction >> (nest.m - 1 - j) & 1)
+            })
+        };
+        if nest.components[..nest.distances].iter().any(reads) {
+            each(cell);
+        }
+    })
+}
+
+struct Plan<'a> {
+    nest: Nest,
+    table: &'a [u16],
+    messages: usize,
+    words: usize,
+}
+
+impl<'a> Plan<'a> {
+    fn new(encoded: &[u8], table: &'a mut [u16; SLOTS]) -> Result<Plan<'a>, u32> {
+        let nest = read(encoded)?;
+        let table = &mut table[..nest.tiles * nest.directions];
+        fill(&nest, table);
+        let mut plan = Plan { nest, table, messages: 0, words: 0 };
+        (plan.messages, plan.words) = plan.before(plan.table.len());
+        Ok(plan)
+    }
+
+    /// messages and words of the slots before this one
+    fn before(&self, slot: usize) -> (usize, usize) {
+        self.table[..slot]
+            .iter()
+            .fold((0, 0), |(messages, words), &x| (messages + usize::from(x != 0), words + usize::from(x)))
+    }
+
+    fn area(&self, areas: &Areas) -> bool {
+        let Nest { cells, processors, .. } = self.nest;
+        areas.source.len() != cells
+            || areas.memories.len() != cells * processors
+            || areas.buffer.len() != self.words
+            || areas.progress.len() != processors
+            || areas.status.len() != self.messages
+    }
+
+    /// tiles of a processor: its chains times the tiles of a chain
+    fn tile_count(&self, processor: usize) -> usize {
+        let nest = &self.nest;
+        let at = split(processor, &nest.counts, nest.m);
+        let chains: usize =
+            (0..nest.m).map(|j| (nest.across[j] + nest.counts[j] - 1 - at[j]) / nest.counts[j]).product();
+        chains * nest.across[nest.m..nest.n].iter().product::<usize>()
+    }
+
+    /// the index of a processor's tile number `finished`
+    fn tile_of(&self, processor: usize, finished: usize) -> [usize; 4] {
+        let nest = &self.nest;
+        let at = split(processor, &nest.counts, nest.m);
+        let mut own = nest.across;
+        for j in 0..nest.m {
+            own[j] = (nest.across[j] + nest.counts[j] - 1 - at[j]) / nest.counts[j];
+        }
+        let mut tile = split(finished, &own, nest.n);
+        for j in 0..nest.m {
+            tile[j] = tile[j] * nest.counts[j] + at[j];
+        }
+        tile
+    }
+
+    fn number(&self, tile: &[usize; 4]) -> usize {
+        (0..self.nest.n).map(|j| tile[j] * self.nest.tile_step[j]).sum()
+    }
+
+    fn sends(&self, tile: &[usize; 4]) -> usize {
+        let from = self.number(tile) * self.nest.directions;
+        self.table[from..from + self.nest.directions].iter().filter(|&&words| words != 0).count()
+    }
+
+    fn unfit(&self, areas: &Areas) -> bool {
+        let record = |(processor, record): (usize, &Progress)| {
+            let tiles = self.tile_count(processor);
+            let finished = record.finished as usize;
+            if finished >= tiles {
+                return finished == tiles && record.stage == 0 && record.sent == 0;
+            }
+            match record.stage {
+                0 | 1 => record.sent == 0,
+                2 => (record.sent as usize) < self.sends(&self.tile_of(processor, finished)),
+                _ => false,
+            }
+        };
+        !areas.progress.iter().enumerate().all(record) || areas.status.iter().any(|&mark| mark > 3)
+    }
+
+    /// calls `each` with the slot, sending tile and direction of every message due at a tile
+    fn dues(&self, tile: &[usize; 4], mut each: impl FnMut(usize, &[usize; 4], usize)) {
+        let nest = &self.nest;
+        // falling directions are rising senders
+        'directions: for direction in (1..=nest.directions).rev() {
+            let mut sender = *tile;
+            for j in 0..nest.m {
+                let v = direction >> (nest.m - 1 - j) & 1;
+                if sender[j] < v {
+                    continue 'directions;
+                }
+                sender[j] -= v;
+            }
+            let slot = self.number(&sender) * nest.directions + direction - 1;
+            if self.table[slot] != 0 {
+                each(slot, &sender, direction);
+            }
+        }
+    }
+
+    fn waiting(&self, areas: &Areas, tile: &[usize; 4]) -> bool {
+        let mut waiting = false;
+        self.dues(tile, |slot, _, _| waiting |= areas.status[self.before(slot).0] != 2);
+        waiting
+    }
+
+    fn gather(&self, areas: &mut Areas, tile: &[usize; 4], processor: usize) {
+        let memory = &mut areas.memories[processor * self.nest.cells..][..self.nest.cells];
+        self.dues(tile, |slot, sender, direction| {
+            let (message, offset) = self.before(slot);
+            let mut words = areas.buffer[offset..].iter();
+            held(&self.nest, sender, direction, |cell| memory[cell] = *words.next().unwrap());
+            areas.status[message] = 3;
+        });
+        areas.progress[processor].stage = 1;
+    }
+
+    fn calculate(&self, areas: &mut Areas, tile: &[usize; 4], processor: usize) {
+        let nest = &self.nest;
+        let memory = &mut areas.memories[processor * nest.cells..][..nest.cells];
+        let back = steps_back(nest);
+        cells_of(nest, tile, |cell, at| memory[cell] = value(nest, &back, at, areas.source[cell], memory, cell));
+        self.sent(&mut areas.progress[processor], tile, 0);
+    }
+
+    fn send(&self, areas: &mut Areas, tile: &[usize; 4], processor: usize) {
+        let record = &mut areas.progress[processor];
+        let from = self.number(tile) * self.nest.directions;
+        let mut row = self.table[from..from + self.nest.directions].iter().enumerate().filter(|(_, &words)| words != 0);
+        let (place, _) = row.nth(record.sent as usize).expect("a fit record has messages left");
+        let (message, offset) = self.before(from + place);
+        let memory = &areas.memories[processor * self.nest.cells..][..self.nest.cells];
+        let mut words = areas.buffer[offset..].iter_mut();
+        held(&self.nest, tile, place + 1, |cell| *words.next().unwrap() = memory[cell]);
+        areas.status[message] = 1;
+        let sent = record.sent + 1;
+        self.sent(record, tile, sent);
+    }
+
+    fn sent(&self, record: &mut Progress, tile: &[usize; 4], sent: u32) {
+        if (sent as usize) < self.sends(tile) {
+            record.stage = 2;
+            record.sent = sent;
+        } else {
+            *record = Progress { finished: record.finished + 1, stage: 0, sent: 0 };
+        }
+    }
+}
+
+/// the plain calls
+pub struct Plain;
+
+impl Engine for Plain {
+    fn name(&self) -> String {
+        "plain Rust".into()
+    }
+
+    fn fresh(&self, encoded: &[u8], areas: &mut Areas) -> u32 {
+        let mut table = [0; SLOTS];
+        let plan = match Plan::new(encoded, &mut table) {
+            Ok(plan) => plan,
+            Err(number) => return number,
+        };
+        if plan.area(areas) {
+            return 9;
+        }
+        areas.memories.fill(0);
+        areas.buffer.fill(0);
+        areas.progress.fill(Progress::default());
+        areas.status.fill(0);
+        0
+    }
+
+    fn turn(&self, encoded: &[u8], areas: &mut Areas, processor: u32) -> u32 {
+        let mut table = [0; SLOTS];
+        let plan = match Plan::new(encoded, &mut table) {
+            Ok(plan) => plan,
+            Err(number) => return number,
+        };
+        if plan.area(areas) {
+            return 9;
+        }
+        if plan.unfit(areas) {
+            return 10;
+        }
+        let processor = processor as usize;
+        if processor >= plan.nest.processors {
+            return 11;
+        }
+        let record = areas.progress[processor];
+        if record.finished as usize == plan.tile_count(processor) {
+            return 13;
+        }
+        let tile = plan.tile_of(processor, record.finished as usize);
+        match record.stage {
+            0 if plan.waiting(areas, &tile) => return 12,
+            0 => plan.gather(areas, &tile, processor),
+            1 => plan.calculate(areas, &tile, processor),
+            _ => plan.send(areas, &tile, processor),
+        }
+        0
+    }
+
+    fn deliver(&self, encoded: &[u8], areas: &mut Areas, message: u32) -> u32 {
+        let mut table = [0; SLOTS];
+        let plan = match Plan::new(encoded, &mut table) {
+            Ok(plan) => plan,
+            Err(number) => return number,
+        };
+        if plan.area(areas) {
+            return 9;
+        }
+        if plan.unfit(areas) {
+            return 10;
+        }
+        match areas.status.get_mut(message as usize) {
+            None => 11,
+            Some(mark) if *mark != 1 => 14,
+            Some(mark) => {
+                *mark = 2;
+                0
+            }
+        }
+    }
+
+    fn collect(&self, encoded: &[u8], areas: &mut Areas, grid: &mut [u32]) -> u32 {
+        let mut table = [0; SLOTS];
+        let plan = match Plan::new(encoded, &mut table) {
+            Ok(plan) => plan,
+            Err(number) => return number,
+        };
+        if plan.area(areas) || grid.len() != plan.nest.cells {
+            return 9;
+        }
+        if plan.unfit(areas) {
+            return 10;
+        }
+        if (0..plan.nest.processors).any(|p| (areas.progress[p].finished as usize) < plan.tile_count(p)) {
+            return 15;
+        }
+        let nest = &plan.nest;
+        let mut at = [0; 4];
+        for (cell, word) in grid.iter_mut().enumerate() {
+            let processor =
+                (0..nest.m).fold(0, |number, j| number * nest.counts[j] + at[j] / nest.tile[j] % nest.counts[j]);
+            *word = areas.memories[processor * nest.cells + cell];
+            advance(&mut at, &nest.lengths, nest.n);
+        }
+        0
+    }
+
+    fn sweep(&self, encoded: &[u8], source: &[u32], grid: &mut [u32]) -> u32 {
+        let nest = match read(encoded) {
+            Ok(nest) => nest,
+            Err(number) => return number,
+        };
+        if source.len() != nest.cells || grid.len() != nest.cells {
+            return 9;
+        }
+        sweep(&nest, source, grid);
+        0
+    }
+
+    fn summary(&self, encoded: &[u8], out: &mut [u32]) -> u32 {
+        let mut table = [0; SLOTS];
+        let plan = match Plan::new(encoded, &mut table) {
+            Ok(plan) => plan,
+            Err(number) => return number,
+        };
+        if out.len() != SUMMARY_WORDS {
+            return 9;
+        }
+        out[0] = plan.nest.tiles as u32;
+        out[1] = plan.messages as u32;
+        out[2] = plan.words as u32;
+        out[3] = 2 * (out[0] + out[1]);
+        0
+    }
+
+    fn message(&self, encoded: &[u8], message: u32, out: &mut [u32]) -> u32 {
+        let mut table = [0; SLOTS];
+        let plan = match Plan::new(encoded, &mut table) {
+            Ok(plan) => plan,
+            Err(number) => return number,
+        };
+        if out.len() != MESSAGE_WORDS {
+            return 9;
+        }
+        if message as usize >= plan.messages {
+            return 11;
+        }
+        let nest = &plan.nest;
+        let mut filled = plan.table.iter().enumerate().filter(|(_, &words)| words != 0);
+        let (slot, &words) = filled.nth(message as usize).expect("below the count");
+        let sender = split(slot / nest.directions, &nest.across, nest.n);
+        let direction = slot % nest.directions + 1;
+        let mut taker = sender;
+        (0..nest.m).for_each(|j| taker[j] += direction >> (nest.m - 1 - j) & 1);
+        let processor =
+            |tile: &[usize; 4]| (0..nest.m).fold(0, |number, j| number * nest.counts[j] + tile[j] % nest.counts[j]);
+        let line =
+            [plan.number(&sender), plan.number(&taker), processor(&sender), processor(&taker), usize::from(words)];
+        out.copy_from_slice(&line.map(|word| word as u32));
+        0
+    }
+}

@@ -1,0 +1,286 @@
+//! Recipes to try: built from numbers, random ones that are accepted, and damaged ones.
+
+use crate::rng::Rng;
+
+/// the numbers of a recipe, before they become bytes
+#[derive(Clone, Debug, PartialEq, Eq)]
+pub struct Numbers {
+    /// length, tile length, processors
+    pub dimensions: Vec<[u16; 3]>,
+    /// components, weight
+    pub distances: Vec<([u8; 4], u16)>,
+    pub shift: u8,
+    pub boundary: u32,
+}
+
+impl Numbers {
+    pub fn new(dimensions: &[[u16; 3]], distances: &[&[u8]]) -> Numbers {
+        let four = |components: &&[u8]| {
+            let mut all = [0; 4];
+            all[..components.len()].copy_from_slice(components);
+            (all, 1)
+        };
+        Numbers {
+            dimensions: dimensions.to_vec(),
+            distances: distances.iter().map(four).collect(),
+            shift: 0,
+            boundary: 0,
+        }
+    }
+
+    pub fn bytes(&self) -> Vec<u8> {
+        let mut bytes = vec![];
+        for dimension in &self.dimensions {
+            bytes.extend([1, 0]);
+            dimension.iter().for_each(|number| bytes.extend(number.to_le_bytes()));
+            bytes.extend([0; 8]);
+        }
+        for (components, weight) in &self.distances {
+            bytes.extend([2, 0]);
+            bytes.extend(components);
+            bytes.extend(weight.to_le_bytes());
+            bytes.extend([0; 8]);
+        }
+        bytes.extend([3, self.shift, 0, 0]);
+        bytes.extend(self.boundary.to_le_bytes());
+        bytes.extend([0; 8]);
+        bytes
+    }
+}
+
+/// how large random recipes may get
+#[derive(Clone, Copy, Debug)]
+pub struct Limits {
+    pub cells: usize,
+    /// cells × processors
+    pub words: usize,
+}
+
+/// a random recipe that is accepted, unless it happens to have more than 1,024 tiles
+pub fn random(rng: &mut Rng, limits: Limits) -> Numbers {
+    let n = rng.between(2, 4);
+    let spread = rng.between(1, n - 1);
+    let cells = if rng.one_in(3) { limits.cells } else { rng.between(1, limits.cells) };
+    let lengths = random_lengths(rng, n, cells);
+    let mut tiles: Vec<usize> = lengths.iter().map(|&length| random_tile(rng, length)).collect();
+    if tiles.iter().all(|&tile| tile == 1) {
+        // no distance but the zero one would be shorter than such a tile
+        tiles[rng.below(n)] = 2;
+    }
+    let distances = random_distances(rng, &tiles);
+    let mut dimensions: Vec<[u16; 3]> = (0..n).map(|j| [lengths[j] as u16, tiles[j] as u16, 0]).collect();
+    let mut room = (limits.words / lengths.iter().product::<usize>()).clamp(1, 64);
+    for (j, dimension) in dimensions[..spread].iter_mut().enumerate() {
+        // every spread dimension still to come needs a factor of 2
+        let most = (room >> (spread - 1 - j)).max(2);
+        let few = most.min(4);
+        let count = if rng.one_in(4) { rng.between(2, most) } else { rng.between(2, few) };
+        dimension[2] = count as u16;
+        room /= count;
+    }
+    Numbers { dimensions, distances, shift: random_shift(rng), boundary: rng.any_word() }
+}
+
+fn random_shift(rng: &mut Rng) -> u8 {
+    match rng.below(3) {
+        0 => 0,
+        1 => 31,
+        _ => rng.below(32) as u8,
+    }
+}
+
+/// lengths with a product of at most `cells`
+fn random_lengths(rng: &mut Rng, n: usize, cells: usize) -> Vec<usize> {
+    let mut room = cells;
+    let mut lengths: Vec<usize> = (0..n)
+        .map(|j| {
+            let even = (room as f64).powf(1.0 / (n - j) as f64).round() as usize;
+            let length = match rng.below(8) {
+                0 => rng.between(1, room.min(1024)),
+                1 => 1,
+                2 => rng.between(1, even.max(1)),
+                _ => even,
+            };
+            let length = length.clamp(1, room.min(1024));
+            room /= length;
+            length
+        })
+        .collect();
+    // the first dimension is not always the longest
+    let turn = rng.below(n);
+    lengths.rotate_left(turn);
+    lengths
+}
+
+/// a tile length: mostly some two to five tiles, else one tile with room to spare, or any
+fn random_tile(rng: &mut Rng, length: usize) -> usize {
+    match rng.below(10) {
+        0 => rng.between(1, 1024),
+        1 => rng.between(length, length + 3).min(1024),
+        _ => length.div_ceil(rng.between(2, 5)),
+    }
+}
+
+/// distances shorter than the tiles, of every kind: none, short, long, just short enough
+fn random_distances(rng: &mut Rng, tiles: &[usize]) -> Vec<([u8; 4], u16)> {
+    let wanted = if rng.one_in(3) { rng.between(1, 8) } else { rng.between(1, 3) };
+    let mut distances: Vec<([u8; 4], u16)> = vec![];
+    while distances.is_empty() {
+        for _ in 0..wanted * 2 {
+            let mut components = [0; 4];
+            for (component, &tile) in components.iter_mut().zip(tiles) {
+                let most = (tile - 1).min(255);
+                *component = match rng.below(5) {
+                    0 | 1 => 0,
+                    2 => most,
+                    3 => rng.between(0, most),
+                    _ => rng.between(0, most.min(2)),
+                } as u8;
+            }
+            if components != [0; 4] && distances.len() < wanted && distances.iter().all(|d| d.0 != components) {
+                distances.push((components, rng.of(&[0, 1, 1, 2, 3, 1000, 65535])));
+            }
+        }
+    }
+    distances
+}
+
+/// a recipe at the limits of the format: most cells, tiles, processors, distances, the longest of each
+pub fn extreme(rng: &mut Rng) -> Numbers {
+    let shapes: [&[[u16; 3]]; 12] = [
+        &[[128, 16, 8], [128, 16, 0]],
+        &[[1024, 1, 64], [16, 16, 0]],
+        &[[16, 16, 64], [1024, 1, 0]],
+        &[[128, 4, 8], [128, 4, 0]],
+        &[[1024, 1024, 2], [16, 1, 0]],
+        &[[1024, 256, 3], [16, 3, 0]],
+        &[[1, 2, 2], [1024, 1, 0]],
+        &[[1, 1024, 64], [1, 1024, 0]],
+        &[[25, 3, 8], [25, 3, 8], [26, 8, 0]],
+        &[[2, 1, 2], [1024, 2, 32], [8, 8, 0]],
+        &[[11, 2, 4], [11, 2, 4], [11, 3, 4], [12, 4, 0]],
+        &[[4, 1, 2], [4, 1, 2], [4, 1, 2], [256, 16, 0]],
+    ];
+    let dimensions = rng.of(&shapes).to_vec();
+    let tiles: Vec<usize> = dimensions.iter().map(|d| usize::from(d[1])).collect();
+    let distances = random_distances(rng, &tiles);
+    Numbers { dimensions, distances, shift: random_shift(rng), boundary: rng.any_word() }
+}
+
+/// bytes with one fault of any line of the table, or with several
+pub fn damaged(rng: &mut Rng, mut numbers: Numbers) -> Vec<u8> {
+    let faults = rng.of(&[1, 1, 1, 2, 2, 3]);
+    for _ in 0..faults {
+        damage_numbers(rng, &mut numbers);
+    }
+    let mut bytes = numbers.bytes();
+    if rng.one_in(3) {
+        damage_bytes(rng, &mut bytes);
+    }
+    bytes
+}
+
+fn damage_numbers(rng: &mut Rng, numbers: &mut Numbers) {
+    let n = numbers.dimensions.len();
+    let j = rng.below(n.max(1)).min(n.saturating_sub(1));
+    let d = rng.below(numbers.distances.len().max(1));
+    if n == 0 || numbers.distances.is_empty() {
+        return;
+    }
+    match rng.below(22) {
+        0 => numbers.dimensions[j][0] = rng.of(&[0, 1024, 1025, 65535]),
+        1 => numbers.dimensions[j][0] = numbers.dimensions[j][0].wrapping_mul(rng.of(&[2, 16, 129])),
+        // about the border of line 4
+        2 => {
+            let others: usize = numbers
+                .dimensions
+                .iter()
+                .enumerate()
+                .filter(|(i, _)| *i != j)
+                .map(|(_, x)| usize::from(x[0]))
+                .product();
+            numbers.dimensions[j][0] = ((16384 / others.max(1)) + rng.below(2)) as u16;
+        }
+        3 => numbers.distances[d].0 = [0; 4],
+        4 => {
+            let copy = (numbers.distances[rng.below(numbers.distances.len())].0, rng.word() as u16);
+            numbers.distances.push(copy);
+        }
+        5 => numbers.distances[d].0[rng.below(4)] = rng.of(&[1, 2, 254, 255]),
+        6 => numbers.dimensions[j][1] = rng.of(&[0, 1, 1024, 1025, 65535]),
+        // a tile as long as a distance, or just longer
+        7 => numbers.dimensions[j][1] = u16::from(numbers.distances[d].0[j.min(3)]) + rng.below(2) as u16,
+        8 => numbers.dimensions[j][2] = rng.of(&[0, 1, 2, 64, 65, 32768, 65535]),
+        9 => numbers.dimensions[0][2] = 0,
+        10 => numbers.dimensions[n - 1][2] = rng.of(&[1, 2]),
+        11 => numbers.dimensions.iter_mut().for_each(|x| x[2] = rng.of(&[2, 8, 9, 65535])),
+        // small tiles: about the border of line 8
+        12 => numbers.dimensions.iter_mut().enumerate().for_each(|(i, x)| {
+            x[1] = 1 + numbers.distances.iter().map(|y| u16::from(y.0[i.min(3)])).max().unwrap_or(0);
+        }),
+        13 => {
+            numbers.dimensions = vec![[32, 1, 2], [rng.of(&[32, 33]), 1, 0]];
+            numbers.distances = vec![([0, 0, 0, 0], 1)];
+            if rng.one_in(2) {
+                numbers.dimensions.iter_mut().for_each(|x| *x = [2 * x[0], 2, x[2]]);
+                numbers.distances[0].0 = [1, 0, 0, 0];
+            }
+        }
+        14 => numbers.shift = rng.of(&[31, 32, 33, 255]),
+        15 => {
+            numbers.dimensions.remove(j);
+        }
+        16 => {
+            let copy = numbers.dimensions[j];
+            numbers.dimensions.push(copy);
+        }
+        17 => {
+            numbers.distances.remove(d);
+        }
+        18 => {
+            let wanted = rng.between(8, 9);
+            for x in 1..=wanted as u8 {
+                let new = ([x, x & 1, 0, 0], 1);
+                if numbers.distances.len() < wanted && !numbers.distances.contains(&new) {
+                    numbers.distances.push(new);
+                }
+            }
+        }
+        19 => numbers.distances[d].1 = rng.word() as u16,
+        20 => numbers.dimensions.iter_mut().for_each(|x| x[0] = rng.of(&[1024, 65535, 128])),
+        _ => numbers.dimensions.swap(0, n - 1),
+    }
+}
+
+fn damage_bytes(rng: &mut Rng, bytes: &mut Vec<u8>) {
+    let records = bytes.len() / 16;
+    match rng.below(9) {
+        0 => bytes.clear(),
+        1 => bytes.truncate(rng.below(bytes.len())),
+        2 => bytes.extend(vec![0; rng.between(1, 16)]),
+        // a kind that is another's, or nobody's
+        3 => bytes[16 * rng.below(records)] = rng.of(&[0, 1, 2, 3, 4, 5, 255]),
+        4 => {
+            let at = rng.below(bytes.len());
+            bytes[at] ^= 1 << rng.below(8);
+        }
+        5 => {
+            let at = rng.below(bytes.len());
+            bytes[at] = rng.word() as u8;
+        }
+        6 => {
+            let (a, b) = (rng.below(records), rng.below(records));
+            (0..16).for_each(|at| bytes.swap(16 * a + at, 16 * b + at));
+        }
+        7 => {
+            let record = rng.below(records);
+            let copy = bytes[16 * record..16 * record + 16].to_vec();
+            let at = 16 * rng.between(0, records);
+            bytes.splice(at..at, copy);
+        }
+        _ => {
+            let length = rng.of(&[1, 15, 16, 17, 64, 80, 512, 528]);
+            *bytes = (0..length).map(|_| rng.word() as u8 & 3).collect();
+        }
+    }
+}

@@ -1,0 +1,144 @@
+/* Rolwyddac: a tiled sweep whose grid is, word for word, that of a single processor.
+ *
+ * Link with the archive that `rt staticlib calls` writes: target/staticlib/libcalls.a.
+ *
+ * Every call returns its number. 0 means done. Any other number is a refusal: the first true line of the
+ * table below, in table order, and no lent word has changed.
+ *
+ *    1 ragged         recipe empty or not a multiple of 16 bytes
+ *    2 stray record   kind, order, count, unnamed byte or shift not as the format has them
+ *    3 length         some length is 0 or above 1,024
+ *    4 too large      more than 16,384 cells
+ *    5 distance       components all zero, the same as an earlier record's, or non-zero beyond the last dimension
+ *    6 tile           some tile length is 0, above 1,024, or not greater than every distance there
+ *    7 boards         processor counts not as the format has them
+ *    8 tiles          more than 1,024 tiles
+ *    9 area           a lent area has not exactly its length
+ *   10 unfit          progress records or status bytes not fit
+ *   11 no such        processor or message number too high
+ *   12 waiting        the processor is to gather and a message due at its tile is not delivered
+ *   13 finished       the processor has no tiles left
+ *   14 no mail        delivery of a message that is not in flight
+ *   15 early          collecting while a processor has tiles left
+ *
+ * The recipe (`encoded`) is given to every call. Beside it a call is lent these areas, each a pointer and then
+ * the number of its elements (words, records or bytes, as the pointer's type says):
+ *
+ *    source     one word a cell
+ *    memories   one word a cell for each processor, processor after processor
+ *    buffer     one word a message word
+ *    progress   one record a processor
+ *    status     one byte a message: 0 unsent, 1 in flight, 2 delivered, 3 taken
+ *    grid       one word a cell
+ *
+ * What C must see to, for no call can test it: each pointer is aligned and not null, even where the length
+ * is 0; it points to at least as many elements as the length says; areas do not overlap. Two calls at the same
+ * time must not share an area that one of them may write. A call keeps no pointer and no memory of its own.
+ */
+#ifndef ROLWYDDAC_H
+#define ROLWYDDAC_H
+
+#include <stddef.h>
+#include <stdint.h>
+
+#ifdef __cplusplus
+extern "C" {
+#endif
+
+enum {
+  ROLWYDDAC_DONE = 0,
+  ROLWYDDAC_RAGGED = 1,
+  ROLWYDDAC_STRAY_RECORD = 2,
+  ROLWYDDAC_LENGTH = 3,
+  ROLWYDDAC_TOO_LARGE = 4,
+  ROLWYDDAC_DISTANCE = 5,
+  ROLWYDDAC_TILE = 6,
+  ROLWYDDAC_BOARDS = 7,
+  ROLWYDDAC_TILES = 8,
+  ROLWYDDAC_AREA = 9,
+  ROLWYDDAC_UNFIT = 10,
+  ROLWYDDAC_NO_SUCH = 11,
+  ROLWYDDAC_WAITING = 12,
+  ROLWYDDAC_FINISHED = 13,
+  ROLWYDDAC_NO_MAIL = 14,
+  ROLWYDDAC_EARLY = 15
+};
+
+/* How far a processor is: tiles finished, the stage of its current tile (0 gather, 1 calculate, 2 send) and how
+ * many messages of that tile are sent. */
+typedef struct {
+  uint32_t finished;
+  uint32_t stage;
+  uint32_t sent;
+} rolwyddac_progress;
+
+/* Places in what rolwyddac_summary writes, and their number. */
+enum {
+  ROLWYDDAC_SUMMARY_TILES = 0,
+  ROLWYDDAC_SUMMARY_MESSAGES = 1,
+  ROLWYDDAC_SUMMARY_WORDS = 2,
+  ROLWYDDAC_SUMMARY_STEPS = 3,
+  ROLWYDDAC_SUMMARY_LENGTH = 4
+};
+
+/* Places in what rolwyddac_message writes, and their number. */
+enum {
+  ROLWYDDAC_MESSAGE_SENDING_TILE = 0,
+  ROLWYDDAC_MESSAGE_TAKING_TILE = 1,
+  ROLWYDDAC_MESSAGE_SENDING_PROCESSOR = 2,
+  ROLWYDDAC_MESSAGE_TAKING_PROCESSOR = 3,
+  ROLWYDDAC_MESSAGE_WORDS = 4,
+  ROLWYDDAC_MESSAGE_LENGTH = 5
+};
+
+/* Writes the plan's totals to out: tiles, messages, words, steps. Cells (the product of the lengths) and
+ * processors (the product of the counts that are not 0) stand in the recipe itself.
+ * Numbers: 1 to 8; 9 if out has not 4 words. A refusal leaves out as it was. */
+uint32_t rolwyddac_summary(const uint8_t *encoded, size_t encoded_length, uint32_t *out, size_t out_length);
+
+/* Writes the line of one message to out: sending tile, taking tile, sending processor, taking processor, words.
+ * Numbers: 1 to 8; 9 if out has not 5 words; 11. A refusal leaves out as it was. */
+uint32_t rolwyddac_message(const uint8_t *encoded, size_t encoded_length, uint32_t message, uint32_t *out,
+                           size_t out_length);
+
+/* Sweeps the whole nest in index order on one processor and writes each cell's value to grid.
+ * Numbers: 1 to 9. A refusal leaves grid as it was. */
+uint32_t rolwyddac_sweep(const uint8_t *encoded, size_t encoded_length, const uint32_t *source, size_t source_length,
+                         uint32_t *grid, size_t grid_length);
+
+/* Makes a fresh start: writes zero to memories, buffer, progress and status, whatever they held.
+ * Numbers: 1 to 9. A refusal leaves all four as they were. */
+uint32_t rolwyddac_fresh(const uint8_t *encoded, size_t encoded_length, const uint32_t *source, size_t source_length,
+                         uint32_t *memories, size_t memories_length, uint32_t *buffer, size_t buffer_length,
+                         rolwyddac_progress *progress, size_t progress_length, uint8_t *status, size_t status_length);
+
+/* Gives one processor a turn: it does the stage at which its record stands, once. Gather unpacks the messages
+ * due at its tile into its memory and marks them taken; calculate gives the tile's cells their values there;
+ * send packs the next message into the buffer and marks it in flight.
+ * Numbers: 1 to 13. A refusal leaves memories, buffer, progress and status as they were. */
+uint32_t rolwyddac_turn(const uint8_t *encoded, size_t encoded_length, const uint32_t *source, size_t source_length,
+                        uint32_t *memories, size_t memories_length, uint32_t *buffer, size_t buffer_length,
+                        rolwyddac_progress *progress, size_t progress_length, uint8_t *status, size_t status_length,
+                        uint32_t processor);
+
+/* Delivers one message: its status goes from 1 to 2. Nothing else is written.
+ * Numbers: 1 to 11, 14. A refusal leaves status as it was. */
+uint32_t rolwyddac_deliver(const uint8_t *encoded, size_t encoded_length, const uint32_t *source,
+                           size_t source_length, const uint32_t *memories, size_t memories_length,
+                           const uint32_t *buffer, size_t buffer_length, const rolwyddac_progress *progress,
+                           size_t progress_length, uint8_t *status, size_t status_length, uint32_t message);
+
+/* Copies each cell to grid from the memory of its tile's processor, once all processors have finished. After any
+ * list of turns and deliveries since a fresh start this is what rolwyddac_sweep writes.
+ * Numbers: 1 to 10, 15. A refusal leaves grid as it was. */
+uint32_t rolwyddac_collect(const uint8_t *encoded, size_t encoded_length, const uint32_t *source,
+                           size_t source_length, const uint32_t *memories, size_t memories_length,
+                           const uint32_t *buffer, size_t buffer_length, const rolwyddac_progress *progress,
+                           size_t progress_length, const uint8_t *status, size_t status_length, uint32_t *grid,
+                           size_t grid_length);
+
+#ifdef __cplusplus
+}
+#endif
+
+#endif

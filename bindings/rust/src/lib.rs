@@ -1,0 +1,285 @@
+//! Safe calls of the proved tiled sweep engine.
+//!
+//! A recipe's bytes go to every call, and the call is lent the areas it works on as slices. Each call either is
+//! done or gives the [`Refusal`] of the first true line of document 01's table, and then no lent word has changed.
+//! A length that does not fit is no danger: it is [`Refusal::Area`].
+//!
+//! [`Run`] owns the areas of one run, with the right sizes, and is the short way:
+//!
+//! ```
+//! use rolwyddac::{Recipe, Refusal, Run};
+//!
+//! # fn main() -> Result<(), Refusal> {
+//! // a line of four cells in tiles of two on two processors; each cell adds the one before it
+//! let recipe = Recipe::new().dimension(4, 2, 2).dimension(1, 1, 0).distance(&[1, 0], 1).close(0, 0);
+//! let source = [1; 4];
+//! let mut run = Run::start(&recipe, &source)?;
+//! assert_eq!(run.turn(1), Err(Refusal::Waiting));
+//! run.finish()?;
+//! assert_eq!(run.collect()?, [1, 2, 3, 4]);
+//! # Ok(())
+//! # }
+//! ```
+
+#![warn(missing_docs)]
+
+mod recipe;
+mod refusal;
+mod run;
+
+pub use recipe::Recipe;
+pub use refusal::Refusal;
+pub use run::{Areas, Run};
+
+/// How far a processor is (document 01: board record).
+#[repr(C)]
+#[derive(Clone, Copy, Debug, Default, PartialEq, Eq)]
+pub struct Progress {
+    /// Tiles finished.
+    pub finished: u32,
+    /// Stage of the current tile: 0 gather, 1 calculate, 2 send.
+    pub stage: u32,
+    /// Messages of the current tile that are sent.
+    pub sent: u32,
+}
+
+/// The totals of a plan.
+#[derive(Clone, Copy, Debug, PartialEq, Eq)]
+pub struct Summary {
+    /// Cells of the nest: words of source and grid, and of each processor's memory.
+    pub cells: usize,
+    /// Processors: records of progress.
+    pub processors: usize,
+    /// Tiles.
+    pub tiles: u32,
+    /// Messages: bytes of status.
+    pub messages: u32,
+    /// Words of all messages: words of the buffer.
+    pub words: u32,
+    /// Steps of a whole run: 2 × tiles + 2 × messages.
+    pub steps: u32,
+}
+
+/// The line of one message.
+#[derive(Clone, Copy, Debug, PartialEq, Eq)]
+pub struct Message {
+    /// The tile that sends it.
+    pub sending_tile: u32,
+    /// The tile that takes it.
+    pub taking_tile: u32,
+    /// The processor of the sending tile.
+    pub sending_processor: u32,
+    /// The processor of the taking tile.
+    pub taking_processor: u32,
+    /// Its words.
+    pub words: u32,
+}
+
+/// Words that the summary and a message's line take.
+const SUMMARY_WORDS: usize = 4;
+const MESSAGE_WORDS: usize = 5;
+
+extern "C" {
+    fn rolwyddac_fresh(
+        encoded: *const u8, encoded_length: usize, source: *const u32, source_length: usize, memories: *mut u32,
+        memories_length: usize, buffer: *mut u32, buffer_length: usize, progress: *mut Progress,
+        progress_length: usize, status: *mut u8, status_length: usize,
+    ) -> u32;
+    fn rolwyddac_turn(
+        encoded: *const u8, encoded_length: usize, source: *const u32, source_length: usize, memories: *mut u32,
+        memories_length: usize, buffer: *mut u32, buffer_length: usize, progress: *mut Progress,
+        progress_length: usize, status: *mut u8, status_length: usize, processor: u32,
+    ) -> u32;
+    fn rolwyddac_deliver(
+        encoded: *const u8, encoded_length: usize, source: *const u32, source_length: usize, memories: *const u32,
+        memories_length: usize, buffer: *const u32, buffer_length: usize, progress: *const Progress,
+        progress_length: usize, status: *mut u8, status_length: usize, message: u32,
+    ) -> u32;
+    fn rolwyddac_collect(
+        encoded: *const u8, encoded_length: usize, source: *const u32, source_length: usize, memories: *const u32,
+        memories_length: usize, buffer: *const u32, buffer_length: usize, progress: *const Progress,
+        progress_length: usize, status: *const u8, status_length: usize, grid: *mut u32, grid_length: usize,
+    ) -> u32;
+    fn rolwyddac_sweep(
+        encoded: *const u8, encoded_length: usize, source: *const u32, source_length: usize, grid: *mut u32,
+        grid_length: usize,
+    ) -> u32;
+    fn rolwyddac_summary(encoded: *const u8, encoded_length: usize, out: *mut u32, out_length: usize) -> u32;
+    fn rolwyddac_message(
+        encoded: *const u8, encoded_length: usize, message: u32, out: *mut u32, out_length: usize,
+    ) -> u32;
+}
+
+// In each call below the pointers and lengths come from slices, so they are aligned, not null and in bounds,
+// what is written is borrowed mutably, and so nothing overlaps. The engine keeps no pointer.
+
+/// Makes a fresh start: writes zero to `memories`, `buffer`, `progress` and `status`, whatever they held.
+///
+/// Refusals: 1 to 9.
+#[inline]
+pub fn fresh(
+    encoded: &[u8], source: &[u32], memories: &mut [u32], buffer: &mut [u32], progress: &mut [Progress],
+    status: &mut [u8],
+) -> Result<(), Refusal> {
+    // SAFETY: see above.
+    Refusal::of(unsafe {
+        rolwyddac_fresh(
+            encoded.as_ptr(),
+            encoded.len(),
+            source.as_ptr(),
+            source.len(),
+            memories.as_mut_ptr(),
+            memories.len(),
+            buffer.as_mut_ptr(),
+            buffer.len(),
+            progress.as_mut_ptr(),
+            progress.len(),
+            status.as_mut_ptr(),
+            status.len(),
+        )
+    })
+}
+
+/// Gives one processor a turn: it does the stage at which its record stands, once.
+///
+/// - Gather unpacks the messages due at its tile into its memory and marks them taken.
+/// - Calculate gives the tile's cells their values there, reading only that memory and `source`.
+/// - Send packs the next message into the buffer and marks it in flight.
+///
+/// Refusals: 1 to 13.
+#[inline]
+pub fn turn(
+    encoded: &[u8], source: &[u32], memories: &mut [u32], buffer: &mut [u32], progress: &mut [Progress],
+    status: &mut [u8], processor: u32,
+) -> Result<(), Refusal> {
+    // SAFETY: see above.
+    Refusal::of(unsafe {
+        rolwyddac_turn(
+            encoded.as_ptr(),
+            encoded.len(),
+            source.as_ptr(),
+            source.len(),
+            memories.as_mut_ptr(),
+            memories.len(),
+            buffer.as_mut_ptr(),
+            buffer.len(),
+            progress.as_mut_ptr(),
+            progress.len(),
+            status.as_mut_ptr(),
+            status.len(),
+            processor,
+        )
+    })
+}
+
+/// Delivers one message: its status goes from 1 to 2.
+///
+/// Refusals: 1 to 11 and 14.
+#[inline]
+pub fn deliver(
+    encoded: &[u8], source: &[u32], memories: &[u32], buffer: &[u32], progress: &[Progress], status: &mut [u8],
+    message: u32,
+) -> Result<(), Refusal> {
+    // SAFETY: see above.
+    Refusal::of(unsafe {
+        rolwyddac_deliver(
+            encoded.as_ptr(),
+            encoded.len(),
+            source.as_ptr(),
+            source.len(),
+            memories.as_ptr(),
+            memories.len(),
+            buffer.as_ptr(),
+            buffer.len(),
+            progress.as_ptr(),
+            progress.len(),
+            status.as_mut_ptr(),
+            status.len(),
+            message,
+        )
+    })
+}
+
+/// Copies each cell to `grid` from the memory of its tile's processor, once all processors have finished.
+///
+/// Refusals: 1 to 10 and 15.
+#[inline]
+pub fn collect(
+    encoded: &[u8], source: &[u32], memories: &[u32], buffer: &[u32], progress: &[Progress], status: &[u8],
+    grid: &mut [u32],
+) -> Result<(), Refusal> {
+    // SAFETY: see above.
+    Refusal::of(unsafe {
+        rolwyddac_collect(
+            encoded.as_ptr(),
+            encoded.len(),
+            source.as_ptr(),
+            source.len(),
+            memories.as_ptr(),
+            memories.len(),
+            buffer.as_ptr(),
+            buffer.len(),
+            progress.as_ptr(),
+            progress.len(),
+            status.as_ptr(),
+            status.len(),
+            grid.as_mut_ptr(),
+            grid.len(),
+        )
+    })
+}
+
+/// Sweeps the whole nest in index order on one processor and writes each cell's value to `grid`.
+///
+/// Refusals: 1 to 9.
+#[inline]
+pub fn sweep(encoded: &[u8], source: &[u32], grid: &mut [u32]) -> Result<(), Refusal> {
+    // SAFETY: see above.
+    Refusal::of(unsafe {
+        rolwyddac_sweep(encoded.as_ptr(), encoded.len(), source.as_ptr(), source.len(), grid.as_mut_ptr(), grid.len())
+    })
+}
+
+/// Writes the plan's totals to `out`: tiles, messages, words, steps. [`summary`] is the handier form.
+///
+/// Refusals: 1 to 8, and 9 if `out` has not 4 words.
+#[inline]
+pub fn summary_words(encoded: &[u8], out: &mut [u32]) -> Result<(), Refusal> {
+    // SAFETY: see above.
+    Refusal::of(unsafe { rolwyddac_summary(encoded.as_ptr(), encoded.len(), out.as_mut_ptr(), out.len()) })
+}
+
+/// Writes the line of one message to `out`: sending tile, taking tile, sending processor, taking processor, words.
+/// [`message`] is the handier form.
+///
+/// Refusals: 1 to 8, 9 if `out` has not 5 words, 11.
+#[inline]
+pub fn message_words(encoded: &[u8], message: u32, out: &mut [u32]) -> Result<(), Refusal> {
+    // SAFETY: see above.
+    Refusal::of(unsafe { rolwyddac_message(encoded.as_ptr(), encoded.len(), message, out.as_mut_ptr(), out.len()) })
+}
+
+/// The totals of a recipe's plan, which give every area its size.
+///
+/// Refusals: 1 to 8.
+pub fn summary(encoded: &[u8]) -> Result<Summary, Refusal> {
+    let mut out = [0; SUMMARY_WORDS];
+    summary_words(encoded, &mut out)?;
+    let [tiles, messages, words, steps] = out;
+    // The recipe is accepted, so its records of kind 1 are as the format has them.
+    let field = |record: &[u8], at: usize| usize::from(u16::from_le_bytes([record[at], record[at + 1]]));
+    let dimensions = || encoded.chunks_exact(16).filter(|record| record[0] == 1);
+    let cells = dimensions().map(|record| field(record, 2)).product();
+    let processors = dimensions().map(|record| field(record, 6)).filter(|&count| count != 0).product();
+    Ok(Summary { cells, processors, tiles, messages, words, steps })
+}
+
+/// The line of one message of a recipe's plan.
+///
+/// Refusals: 1 to 8 and 11.
+pub fn message(encoded: &[u8], message: u32) -> Result<Message, Refusal> {
+    let mut out = [0; MESSAGE_WORDS];
+    message_words(encoded, message, &mut out)?;
+    let [sending_tile, taking_tile, sending_processor, taking_processor, words] = out;
+    Ok(Message { sending_tile, taking_tile, sending_processor, taking_processor, words })
+}

@@ -1,0 +1,119 @@
+//! The areas of a run with their right sizes, and a run that owns them.
+
+use crate::{collect, deliver, fresh, summary, turn, Progress, Refusal, Summary};
+
+/// The four areas that a run changes, with the sizes a plan asks for.
+#[derive(Clone, Debug, PartialEq, Eq)]
+pub struct Areas {
+    /// One word a cell for each processor, processor after processor (document 01: strips).
+    pub memories: Vec<u32>,
+    /// One word a message word (document 01: mail).
+    pub buffer: Vec<u32>,
+    /// One record a processor (document 01: board records).
+    pub progress: Vec<Progress>,
+    /// One byte a message: 0 unsent, 1 in flight, 2 delivered, 3 taken (document 01: marks).
+    pub status: Vec<u8>,
+}
+
+impl Areas {
+    /// Areas of the sizes that a plan asks for, all zero.
+    pub fn sized(plan: &Summary) -> Areas {
+        Areas {
+            memories: vec![0; plan.processors * plan.cells],
+            buffer: vec![0; plan.words as usize],
+            progress: vec![Progress::default(); plan.processors],
+            status: vec![0; plan.messages as usize],
+        }
+    }
+}
+
+/// A run of one recipe over one source: a fresh start, then any turns and deliveries.
+///
+/// All calls are given the same recipe and the areas as the last left them, so the engine's theorem about runs
+/// applies: whatever the order, [`Run::collect`] gives the grid of the sequential sweep.
+#[derive(Clone, Debug)]
+pub struct Run<'a> {
+    encoded: &'a [u8],
+    source: &'a [u32],
+    plan: Summary,
+    areas: Areas,
+}
+
+impl<'a> Run<'a> {
+    /// Sizes the areas and makes a fresh start.
+    ///
+    /// Refusals: 1 to 9.
+    pub fn start(encoded: &'a [u8], source: &'a [u32]) -> Result<Run<'a>, Refusal> {
+        let plan = summary(encoded)?;
+        let mut areas = Areas::sized(&plan);
+        fresh(encoded, source, &mut areas.memories, &mut areas.buffer, &mut areas.progress, &mut areas.status)?;
+        Ok(Run { encoded, source, plan, areas })
+    }
+
+    /// The plan's totals.
+    pub fn plan(&self) -> &Summary {
+        &self.plan
+    }
+
+    /// The areas as the last call left them.
+    pub fn areas(&self) -> &Areas {
+        &self.areas
+    }
+
+    /// Gives one processor a turn.
+    ///
+    /// Refusals: 11, 12 and 13.
+    pub fn turn(&mut self, processor: u32) -> Result<(), Refusal> {
+        let Areas { memories, buffer, progress, status } = &mut self.areas;
+        turn(self.encoded, self.source, memories, buffer, progress, status, processor)
+    }
+
+    /// Delivers one message.
+    ///
+    /// Refusals: 11 and 14.
+    pub fn deliver(&mut self, message: u32) -> Result<(), Refusal> {
+        let Areas { memories, buffer, progress, status } = &mut self.areas;
+        deliver(self.encoded, self.source, memories, buffer, progress, status, message)
+    }
+
+    /// The messages in flight, by number.
+    pub fn in_flight(&self) -> Vec<u32> {
+        let messages = 0..self.plan.messages;
+        messages.filter(|&message| self.areas.status[message as usize] == 1).collect()
+    }
+
+    /// Goes on to the end: processors take turns in rising order, and each message in flight is delivered when no
+    /// turn can be taken. Gives the number of turns and deliveries that were done.
+    pub fn finish(&mut self) -> Result<u32, Refusal> {
+        let mut steps = 0;
+        loop {
+            let before = steps;
+            for processor in 0..self.plan.processors as u32 {
+                loop {
+                    match self.turn(processor) {
+                        Ok(()) => steps += 1,
+                        Err(Refusal::Waiting | Refusal::Finished) => break,
+                        Err(refusal) => return Err(refusal),
+                    }
+                }
+            }
+            for message in self.in_flight() {
+                self.deliver(message)?;
+                steps += 1;
+            }
+            if steps == before {
+                return Ok(steps);
+            }
+        }
+    }
+
+    /// The grid, once all processors have finished.
+    ///
+    /// Refusal: 15.
+    pub fn collect(&self) -> Result<Vec<u32>, Refusal> {
+        let mut grid = vec![0; self.plan.cells];
+        let Areas { memories, buffer, progress, status } = &self.areas;
+        collect(self.encoded, self.source, memories, buffer, progress, status, &mut grid)?;
+        Ok(grid)
+    }
+}

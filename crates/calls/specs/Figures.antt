@@ -1,0 +1,34 @@
+-- What the calls about a plan answer where they write to lent words: the plan's figures, and the line of one message.
+-- Renders document 01, "Recipes to be met" (the columns of its table and the plan printer's lines) and "Numbers a call gives".
+use Prim.Native.Nat.{ℕ}
+use mathlib.Core.List.{List, [], _∷_, _++_}
+use lib.ListN.{length}
+use lib.Dec.{eqb, ltb}
+use Rattle.base.specs.Tests.{not}
+use Rattle.base.specs.Numbers.{Line, line, firstOf}
+use Rattle.machine.specs.Plan.{Plan, count, words, senderOf, takerOf, heldBy}
+use Rattle.machine.specs.Machine.{Answered, answered}
+use Rattle.machine.specs.Runs.{total}
+use Rattle.nest.specs.Nest.{readLines}
+use Rattle.engine.specs.Calls.{recipe}
+
+-- tiles, messages, words, steps
+unfoldable pub figureWords : Plan → List ℕ
+figureWords p = p .tiles ∷ count p ∷ words p ∷ total p ∷ []
+
+-- lines 1 to 8, then 9 where not four words are lent
+unfoldable pub summaryCall : List ℕ → List ℕ → Answered (List ℕ)
+summaryCall bytes out =
+    answered (firstOf (readLines bytes ++ (line 9 (not (eqb (length out) 4)) ∷ []))) (figureWords (recipe bytes)) out
+
+-- sending tile, taking tile, sending processor, taking processor, words
+unfoldable pub lineWords : Plan → ℕ → List ℕ
+lineWords p m =
+    senderOf p m ∷ takerOf p m ∷ p .processorOf (senderOf p m) ∷ p .processorOf (takerOf p m) ∷ length (heldBy p m) ∷ []
+
+-- lines 1 to 8, then 9 where not five words are lent, then 11
+unfoldable pub messageCall : List ℕ → ℕ → List ℕ → Answered (List ℕ)
+messageCall bytes m out =
+    answered
+    (firstOf (readLines bytes ++ (line 9 (not (eqb (length out) 5)) ∷ line 11 (not (ltb m (count (recipe bytes)))) ∷ [])))
+    (lineWords (recipe bytes) m) out
