@@ -10,6 +10,10 @@ use std::hint::black_box;
 use std::rc::Rc;
 use std::time::{Duration, Instant};
 
+/// a slow comparison ends after this time, once it has this many rounds
+const LONGEST: Duration = Duration::from_secs(4);
+const LEAST_ROUNDS: usize = 3;
+
 /// nanoseconds of one call of each function, round by round
 struct Rounds(Vec<Vec<f64>>);
 
@@ -28,11 +32,13 @@ impl Rounds {
             times
         };
         let times: Vec<u32> = functions.iter_mut().map(|f| enough(*f)).collect();
-        let round = |_| {
+        let start = Instant::now();
+        let mut found: Vec<Vec<f64>> = Vec::new();
+        while found.len() < rounds && (found.len() < LEAST_ROUNDS || start.elapsed() < LONGEST) {
             let samples = functions.iter_mut().zip(&times);
-            samples.map(|(f, &times)| timed(*f, times).as_nanos() as f64 / f64::from(times)).collect()
-        };
-        Rounds((0..rounds).map(round).collect())
+            found.push(samples.map(|(f, &times)| timed(*f, times).as_nanos() as f64 / f64::from(times)).collect());
+        }
+        Rounds(found)
     }
 
     fn time(&self, function: usize) -> f64 {
