@@ -1,4 +1,4 @@
-"""A plain model of document 01, written from its text and from nothing else.
+"""A plain model of document 01, written from its text, read as docs/DECISIONS.md says, and not from the engine.
 
 Every set is made by trying all its candidates. It shares no code, no table and no closed form with
 the engine, so that a test vector made from it tells whether the engine means what the paper says.
