@@ -1,29 +1,223 @@
-//! A plain model of the machine, written from document 01 alone: recipe, geometry, messages, sweep, calls.
-//! It makes the whole plan at once and keeps it for the next call. Clear before fast.
+//! A plain model of the tiled sweep engine: it reads a recipe, lays out its whole plan as lists, and runs the machine
+//! on that plan. It is meant to be read and compared with, not to be quick. Its author had document 01, the trait of
+//! engine.rs and the list of public fields below, and nothing else of this repository or of its other papers.
 
-use crate::engine::{Areas, Engine, Progress, MESSAGE_WORDS, SUMMARY_WORDS};
+use std::array::from_fn;
 use std::cell::RefCell;
 use std::collections::{BTreeMap, BTreeSet};
 use std::rc::Rc;
 
-pub struct Dimension {
-    pub length: usize,
-    pub tile: usize,
-    pub processors: usize,
+use crate::engine::{Areas, Engine, Progress, MESSAGE_WORDS, SUMMARY_WORDS};
+
+// the numbers of refused calls
+const RAGGED: u32 = 1;
+const STRAY_RECORD: u32 = 2;
+const LENGTH: u32 = 3;
+const TOO_LARGE: u32 = 4;
+const DISTANCE: u32 = 5;
+const TILE: u32 = 6;
+const PROCESSORS: u32 = 7;
+const TILES: u32 = 8;
+const AREA: u32 = 9;
+const UNFIT: u32 = 10;
+const NO_SUCH: u32 = 11;
+const WAITING: u32 = 12;
+const FINISHED: u32 = 13;
+const NO_MAIL: u32 = 14;
+const EARLY: u32 = 15;
+
+const RECORD_BYTES: usize = 16;
+const MAX_DIMENSIONS: usize = 4;
+const MAX_DISTANCES: usize = 8;
+const MAX_LENGTH: usize = 1024;
+const MAX_CELLS: u64 = 16_384;
+const MAX_TILES: u64 = 1024;
+const MAX_PROCESSORS: u64 = 64;
+
+// the stages of a processor's current tile
+const GATHER: u32 = 0;
+const CALCULATE: u32 = 1;
+const SEND: u32 = 2;
+// and the marks of a message
+const UNSENT: u8 = 0;
+const IN_FLIGHT: u8 = 1;
+const DELIVERED: u8 = 2;
+const TAKEN: u8 = 3;
+
+/// `Err(number)` unless the condition holds.
+fn require(condition: bool, number: u32) -> Result<(), u32> {
+    condition.then_some(()).ok_or(number)
 }
 
-pub struct Distance {
-    pub components: [usize; 4],
-    pub weight: u64,
+/// A point, or the side lengths of a box of points. Dimensions that a recipe lacks have length 1 and component 0.
+type Point = [usize; MAX_DIMENSIONS];
+
+/// The place of a point in the index order of a box.
+fn number_of(point: Point, sides: Point) -> usize {
+    (0..MAX_DIMENSIONS).fold(0, |number, j| number * sides[j] + point[j])
 }
 
-pub struct Recipe {
-    pub dimensions: Vec<Dimension>,
-    pub distances: Vec<Distance>,
-    pub shift: u32,
-    pub boundary: u32,
+/// The inverse of `number_of`.
+fn point_of(mut number: usize, sides: Point) -> Point {
+    let mut point = [0; MAX_DIMENSIONS];
+    for j in (0..MAX_DIMENSIONS).rev() {
+        point[j] = number % sides[j];
+        number /= sides[j];
+    }
+    point
 }
 
+/// Four factors of 16 bits can't overflow their product.
+fn product(sides: Point) -> u64 {
+    sides.iter().map(|&side| side as u64).product()
+}
+
+struct Distance {
+    components: Point,
+    weight: u64,
+}
+
+#[derive(Default)]
+struct Recipe {
+    /// How many dimensions the recipe has.
+    dimensions: usize,
+    lengths: Point,
+    tile_lengths: Point,
+    /// Processor counts, 0 in dimensions that aren't spread.
+    counts: Point,
+    distances: Vec<Distance>,
+    shift: u32,
+    boundary: u32,
+}
+
+impl Recipe {
+    /// An accepted recipe, or the number of the first line that refuses it.
+    fn read(encoded: &[u8]) -> Result<Recipe, u32> {
+        let whole = !encoded.is_empty() && encoded.len().is_multiple_of(RECORD_BYTES);
+        require(whole, RAGGED)?;
+        let recipe = Recipe::from_records(encoded).ok_or(STRAY_RECORD)?;
+        recipe.check()?;
+        Ok(recipe)
+    }
+
+    /// All records, if their form, order and number are right; the values in them are still to be checked.
+    fn from_records(encoded: &[u8]) -> Option<Recipe> {
+        let pair = |low, high| u16::from_le_bytes([low, high]);
+        let mut recipe = Recipe::default();
+        (recipe.lengths, recipe.tile_lengths) = ([1; MAX_DIMENSIONS], [1; MAX_DIMENSIONS]);
+        let mut closed = false;
+        for record in encoded.chunks_exact(RECORD_BYTES) {
+            let (at, distances) = (recipe.dimensions, recipe.distances.len());
+            match *record {
+                _ if closed => return None,
+                [1, 0, n0, n1, k0, k1, p0, p1, 0, 0, 0, 0, 0, 0, 0, 0] if at < MAX_DIMENSIONS && distances == 0 => {
+                    recipe.lengths[at] = pair(n0, n1).into();
+                    recipe.tile_lengths[at] = pair(k0, k1).into();
+                    recipe.counts[at] = pair(p0, p1).into();
+                    recipe.dimensions += 1;
+                }
+                [2, 0, d1, d2, d3, d4, w0, w1, 0, 0, 0, 0, 0, 0, 0, 0] if distances < MAX_DISTANCES => {
+                    let (components, weight) = ([d1, d2, d3, d4].map(usize::from), pair(w0, w1).into());
+                    recipe.distances.push(Distance { components, weight });
+                }
+                [3, shift @ 0..=31, 0, 0, b0, b1, b2, b3, 0, 0, 0, 0, 0, 0, 0, 0] => {
+                    (recipe.shift, recipe.boundary) = (shift.into(), u32::from_le_bytes([b0, b1, b2, b3]));
+                    closed = true;
+                }
+                _ => return None,
+            }
+        }
+        (closed && recipe.dimensions >= 2 && !recipe.distances.is_empty()).then_some(recipe)
+    }
+
+    /// The lines on a recipe's values. Their order matters: tiles can be counted only when no tile length is 0.
+    fn check(&self) -> Result<(), u32> {
+        let in_range = |sides: Point| sides.iter().all(|side| (1..=MAX_LENGTH).contains(side));
+        require(in_range(self.lengths), LENGTH)?;
+        require(product(self.lengths) <= MAX_CELLS, TOO_LARGE)?;
+        require(self.distances_fit(), DISTANCE)?;
+        require(in_range(self.tile_lengths) && self.tiles_exceed_distances(), TILE)?;
+        require(self.counts_fit(), PROCESSORS)?;
+        require(product(self.tile_box()) <= MAX_TILES, TILES)
+    }
+
+    /// Every distance is non-zero, keeps to the nest's dimensions and is new.
+    fn distances_fit(&self) -> bool {
+        let mut earlier = BTreeSet::new();
+        self.distances.iter().all(|Distance { components, .. }| {
+            let (inside, beyond) = components.split_at(self.dimensions);
+            let placed = inside.iter().any(|&d| d != 0) && beyond.iter().all(|&d| d == 0);
+            placed && earlier.insert(components)
+        })
+    }
+
+    fn tiles_exceed_distances(&self) -> bool {
+        let shorter = |components: Point| (0..MAX_DIMENSIONS).all(|j| components[j] < self.tile_lengths[j]);
+        self.distances.iter().all(|distance| shorter(distance.components))
+    }
+
+    /// A first group of dimensions is spread, neither none nor all of them, over two processors or more each.
+    fn counts_fit(&self) -> bool {
+        let named = &self.counts[..self.dimensions];
+        let spread = named.iter().take_while(|&&count| count >= 2).count();
+        (1..self.dimensions).contains(&spread)
+            && named[spread..].iter().all(|&count| count == 0)
+            && product(self.processor_box()) <= MAX_PROCESSORS
+    }
+
+    /// How many tiles lie along each dimension, a cut-off last one included.
+    fn tile_box(&self) -> Point {
+        from_fn(|j| self.lengths[j].div_ceil(self.tile_lengths[j]))
+    }
+
+    /// How many processors lie along each dimension; where it isn't spread, one does all.
+    fn processor_box(&self) -> Point {
+        self.counts.map(|count| count.max(1))
+    }
+
+    fn tile_of(&self, cell: Point) -> Point {
+        from_fn(|j| cell[j] / self.tile_lengths[j])
+    }
+
+    /// The cell that lies a distance before `cell`, `None` on the boundary.
+    fn read_by(&self, cell: Point, distance: &Distance) -> Option<usize> {
+        let inside = (0..MAX_DIMENSIONS).all(|j| distance.components[j] <= cell[j]);
+        inside.then(|| number_of(from_fn(|j| cell[j] - distance.components[j]), self.lengths))
+    }
+
+    /// The tile to be sent `cell` for its reader at a distance: it stands with the reader's tile in the spread
+    /// dimensions and with the cell's in the others. `None` if the reader lies outside the nest.
+    fn taker(&self, cell: Point, distance: &Distance) -> Option<usize> {
+        let reader: Point = from_fn(|j| cell[j] + distance.components[j]);
+        let inside = (0..MAX_DIMENSIONS).all(|j| reader[j] < self.lengths[j]);
+        let (own, other) = (self.tile_of(cell), self.tile_of(reader));
+        let taker = from_fn(|j| if self.counts[j] != 0 { other[j] } else { own[j] });
+        inside.then(|| number_of(taker, self.tile_box()))
+    }
+
+    /// All messages by number, which is the order of sender, then taker: a tile is longer than any distance, so its
+    /// takers are its neighbours t + v, and their rising order is the lexicographic order of the directions v.
+    fn messages(&self) -> Vec<Message> {
+        let mut sets: BTreeMap<(usize, usize), BTreeSet<usize>> = BTreeMap::new();
+        for cell in 0..product(self.lengths) as usize {
+            let point = point_of(cell, self.lengths);
+            let sender = number_of(self.tile_of(point), self.tile_box());
+            let takers = self.distances.iter().filter_map(|d| self.taker(point, d));
+            for taker in takers.filter(|&taker| taker != sender) {
+                sets.entry((sender, taker)).or_default().insert(cell);
+            }
+        }
+        let mut messages: Vec<Message> = Vec::new();
+        for ((sender, taker), cells) in sets {
+            let offset = messages.last().map_or(0, |last| last.offset + last.cells.len());
+            messages.push(Message { sender, taker, cells: cells.into_iter().collect(), offset });
+        }
+        messages
+    }
+}
+
+/// A message's ends, the cells whose values it carries (rising), and the words of the buffer that lie before it.
+#[derive(Clone, Debug, PartialEq, Eq)]
 pub struct Message {
     pub sender: usize,
     pub taker: usize,
@@ -31,428 +225,271 @@ pub struct Message {
     pub offset: usize,
 }
 
+/// Everything that follows from an accepted recipe. All lists of numbers are rising.
 pub struct Plan {
-    pub recipe: Recipe,
     pub cells: usize,
     pub processors: usize,
     pub cells_of_tile: Vec<Vec<usize>>,
     pub processor_of_tile: Vec<usize>,
     pub tiles_of_processor: Vec<Vec<usize>>,
     pub messages: Vec<Message>,
-    /// message numbers by sending and by taking tile, rising
+    /// Message numbers by sending tile, and by taking tile.
     pub sends: Vec<Vec<usize>>,
     pub dues: Vec<Vec<usize>>,
+    /// Words of all messages.
     pub words: usize,
-    tile_of_cell: Vec<usize>,
+    recipe: Recipe,
 }
 
-/// a recipe's bytes, or the number with which they are refused
-pub fn read(encoded: &[u8]) -> Result<Recipe, u32> {
-    if encoded.is_empty() || encoded.len() % 16 != 0 {
-        return Err(1);
+/// The items 0, 1, 2, .. put into `count` groups, rising in each; `groups` names the group of each item.
+fn grouped(count: usize, groups: impl Iterator<Item = usize>) -> Vec<Vec<usize>> {
+    let mut lists = vec![Vec::new(); count];
+    for (item, group) in groups.enumerate() {
+        lists[group].push(item);
     }
-    let recipe = records(encoded).ok_or(2u32)?;
-    let n = recipe.dimensions.len();
-    if recipe.dimensions.iter().any(|d| d.length == 0 || d.length > 1024) {
-        return Err(3);
-    }
-    if recipe.dimensions.iter().map(|d| d.length as u64).product::<u64>() > 16_384 {
-        return Err(4);
-    }
-    for (place, distance) in recipe.distances.iter().enumerate() {
-        let c = distance.components;
-        let again = recipe.distances[..place].iter().any(|earlier| earlier.components == c);
-        if c == [0; 4] || again || c[n..].iter().any(|&x| x != 0) {
-            return Err(5);
-        }
-    }
-    for (j, d) in recipe.dimensions.iter().enumerate() {
-        let reach = recipe.distances.iter().map(|distance| distance.components[j]).max().unwrap();
-        if d.tile == 0 || d.tile > 1024 || d.tile <= reach {
-            return Err(6);
-        }
-    }
-    if !spread_is_right(&recipe.dimensions) {
-        return Err(7);
-    }
-    let across = recipe.dimensions.iter().map(|d| d.length.div_ceil(d.tile) as u64);
-    if across.product::<u64>() > 1024 {
-        return Err(8);
-    }
-    Ok(recipe)
-}
-
-/// line 2: kinds, order, counts, unnamed bytes, shift
-fn records(encoded: &[u8]) -> Option<Recipe> {
-    let mut recipe = Recipe { dimensions: vec![], distances: vec![], shift: 0, boundary: 0 };
-    let mut closed = false;
-    for record in encoded.chunks(16) {
-        let field = |at: usize| usize::from(u16::from_le_bytes([record[at], record[at + 1]]));
-        let zero = |places: &[usize]| places.iter().all(|&at| record[at] == 0);
-        if closed || !zero(&[8, 9, 10, 11, 12, 13, 14, 15]) {
-            return None;
-        }
-        match record[0] {
-            1 if zero(&[1]) && recipe.distances.is_empty() => {
-                recipe.dimensions.push(Dimension { length: field(2), tile: field(4), processors: field(6) });
-            }
-            2 if zero(&[1]) => {
-                let components = [record[2], record[3], record[4], record[5]].map(usize::from);
-                recipe.distances.push(Distance { components, weight: field(6) as u64 });
-            }
-            3 if zero(&[2, 3]) && record[1] <= 31 => {
-                recipe.shift = u32::from(record[1]);
-                recipe.boundary = u32::from_le_bytes([record[4], record[5], record[6], record[7]]);
-                closed = true;
-            }
-            _ => return None,
-        }
-    }
-    let right = closed && (2..=4).contains(&recipe.dimensions.len()) && (1..=8).contains(&recipe.distances.len());
-    right.then_some(recipe)
-}
-
-/// line 7: the first m dimensions are spread, 1 ≤ m < n, each over two processors or more, at most 64 together
-fn spread_is_right(dimensions: &[Dimension]) -> bool {
-    let spread = dimensions.iter().take_while(|d| d.processors != 0).count();
-    let (first, rest) = dimensions.split_at(spread);
-    !first.is_empty()
-        && !rest.is_empty()
-        && rest.iter().all(|d| d.processors == 0)
-        && first.iter().all(|d| d.processors >= 2)
-        && first.iter().map(|d| d.processors as u64).product::<u64>() <= 64
-}
-
-/// all index tuples of a box in index order
-fn tuples(sides: &[usize]) -> Vec<Vec<usize>> {
-    sides.iter().fold(vec![vec![]], |shorter, &side| {
-        shorter.into_iter().flat_map(|t: Vec<usize>| (0..side).map(move |x| [&t[..], &[x]].concat())).collect()
-    })
-}
-
-pub fn plan(recipe: Recipe) -> Plan {
-    let n = recipe.dimensions.len();
-    let spread = recipe.dimensions.iter().filter(|d| d.processors != 0).count();
-    let lengths: Vec<usize> = recipe.dimensions.iter().map(|d| d.length).collect();
-    let across: Vec<usize> = recipe.dimensions.iter().map(|d| d.length.div_ceil(d.tile)).collect();
-    let counts: Vec<usize> = recipe.dimensions[..spread].iter().map(|d| d.processors).collect();
-    let place =
-        |sides: &[usize], tuple: &[usize]| sides.iter().zip(tuple).fold(0, |number, (side, x)| number * side + x);
-    let tile_at = |cell: &[usize]| -> Vec<usize> { (0..n).map(|j| cell[j] / recipe.dimensions[j].tile).collect() };
-
-    let cells = tuples(&lengths);
-    let tiles = tuples(&across);
-    let tile_of_cell: Vec<usize> = cells.iter().map(|cell| place(&across, &tile_at(cell))).collect();
-    let mut cells_of_tile = vec![vec![]; tiles.len()];
-    for (cell, &tile) in tile_of_cell.iter().enumerate() {
-        cells_of_tile[tile].push(cell);
-    }
-    let processor_of_tile: Vec<usize> = tiles
-        .iter()
-        .map(|tile| place(&counts, &(0..spread).map(|j| tile[j] % counts[j]).collect::<Vec<_>>()))
-        .collect();
-    let processors = counts.iter().product();
-    let mut tiles_of_processor = vec![vec![]; processors];
-    for (tile, &processor) in processor_of_tile.iter().enumerate() {
-        tiles_of_processor[processor].push(tile);
-    }
-
-    // Every cell goes into the message of its tile in the direction of each cell that reads it from another chain.
-    let mut sets: BTreeMap<(usize, Vec<usize>), BTreeSet<usize>> = BTreeMap::new();
-    for (number, cell) in cells.iter().enumerate() {
-        let here = tile_at(cell);
-        for distance in &recipe.distances {
-            let reader: Vec<usize> = (0..n).map(|j| cell[j] + distance.components[j]).collect();
-            if (0..n).any(|j| reader[j] >= lengths[j]) {
-                continue;
-            }
-            let there = tile_at(&reader);
-            let direction: Vec<usize> = (0..spread).map(|j| there[j] - here[j]).collect();
-            assert!(direction.iter().all(|&x| x <= 1), "a tile is longer than every distance");
-            if direction.contains(&1) {
-                sets.entry((tile_of_cell[number], direction)).or_default().insert(number);
-            }
-        }
-    }
-    let mut messages = vec![];
-    let mut words = 0;
-    for ((sender, direction), set) in sets {
-        let taking: Vec<usize> = (0..n).map(|j| tiles[sender][j] + direction.get(j).unwrap_or(&0)).collect();
-        let cells: Vec<usize> = set.into_iter().collect();
-        let length = cells.len();
-        messages.push(Message { sender, taker: place(&across, &taking), cells, offset: words });
-        words += length;
-    }
-    let mut sends = vec![vec![]; tiles.len()];
-    let mut dues = vec![vec![]; tiles.len()];
-    for (number, message) in messages.iter().enumerate() {
-        sends[message.sender].push(number);
-        dues[message.taker].push(number);
-    }
-    let cells = cells.len();
-    Plan {
-        recipe,
-        cells,
-        processors,
-        cells_of_tile,
-        processor_of_tile,
-        tiles_of_processor,
-        messages,
-        sends,
-        dues,
-        words,
-        tile_of_cell,
-    }
+    lists
 }
 
 impl Plan {
+    fn new(recipe: Recipe) -> Plan {
+        let (cell_box, tile_box, processor_box) = (recipe.lengths, recipe.tile_box(), recipe.processor_box());
+        let [cells, tiles, processors] = [cell_box, tile_box, processor_box].map(|sides| product(sides) as usize);
+        let tile_of = |cell| number_of(recipe.tile_of(point_of(cell, cell_box)), tile_box);
+        let processor_of = |tile| {
+            let tile = point_of(tile, tile_box);
+            number_of(from_fn(|j| tile[j] % processor_box[j]), processor_box)
+        };
+        let messages = recipe.messages();
+        Plan {
+            cells,
+            processors,
+            cells_of_tile: grouped(tiles, (0..cells).map(tile_of)),
+            processor_of_tile: (0..tiles).map(processor_of).collect(),
+            tiles_of_processor: grouped(processors, (0..tiles).map(processor_of)),
+            sends: grouped(tiles, messages.iter().map(|message| message.sender)),
+            dues: grouped(tiles, messages.iter().map(|message| message.taker)),
+            words: messages.iter().map(|message| message.cells.len()).sum(),
+            messages,
+            recipe,
+        }
+    }
+
+    /// The step bound: a gather and a calculate for each tile, a send and a delivery for each message.
     pub fn steps(&self) -> usize {
         2 * self.cells_of_tile.len() + 2 * self.messages.len()
     }
 
-    /// the value of a cell, read from the values before it and the source
-    fn value(&self, source: &[u32], values: &[u32], cell: usize) -> u32 {
-        let dimensions = &self.recipe.dimensions;
-        let n = dimensions.len();
-        let mut index = [0; 4];
-        let mut rest = cell;
-        for j in (0..n).rev() {
-            index[j] = rest % dimensions[j].length;
-            rest /= dimensions[j].length;
-        }
+    /// The value of one cell over the values so far; eight products of 16 by 32 bits leave room in 64 for the source.
+    fn value(&self, cell: usize, source: &[u32], values: &[u32]) -> u32 {
+        let point = point_of(cell, self.recipe.lengths);
         let mut sum = u64::from(source[cell]);
         for distance in &self.recipe.distances {
-            let inside = (0..n).all(|j| index[j] >= distance.components[j]);
-            let word = if inside {
-                values[(0..n).fold(0, |number, j| number * dimensions[j].length + index[j] - distance.components[j])]
-            } else {
-                self.recipe.boundary
-            };
-            sum = sum.checked_add(distance.weight * u64::from(word)).expect("the sum fits 64 bits");
+            let read = self.recipe.read_by(point, distance);
+            sum += distance.weight * u64::from(read.map_or(self.recipe.boundary, |from| values[from]));
         }
         (sum >> self.recipe.shift) as u32
     }
 
-    pub fn sweep(&self, source: &[u32]) -> Vec<u32> {
-        let mut values = vec![0; self.cells];
-        for cell in 0..self.cells {
-            values[cell] = self.value(source, &values, cell);
-        }
-        values
-    }
-
-    /// line 9, for the five areas of a run
-    pub fn area(&self, areas: &Areas) -> Result<(), u32> {
-        let right = areas.source.len() == self.cells
+    fn check_areas(&self, areas: &Areas) -> Result<(), u32> {
+        let lengths_fit = areas.source.len() == self.cells
             && areas.memories.len() == self.cells * self.processors
             && areas.buffer.len() == self.words
             && areas.progress.len() == self.processors
             && areas.status.len() == self.messages.len();
-        right.then_some(()).ok_or(9)
+        require(lengths_fit, AREA)
     }
 
-    /// line 10
-    pub fn unfit(&self, areas: &Areas) -> Result<(), u32> {
-        let records = (0..self.processors).all(|p| self.record_is_fit(p, &areas.progress[p]));
-        let marks = areas.status.iter().all(|&mark| mark <= 3);
-        (records && marks).then_some(()).ok_or(10)
+    /// The test of all areas, records and marks.
+    fn check_state(&self, areas: &Areas) -> Result<(), u32> {
+        self.check_areas(areas)?;
+        let mut records = areas.progress.iter().zip(&self.tiles_of_processor);
+        let records_fit = records.all(|(progress, tiles)| self.is_fit(progress, tiles));
+        require(records_fit && areas.status.iter().all(|&mark| mark <= TAKEN), UNFIT)
     }
 
-    fn record_is_fit(&self, processor: usize, record: &Progress) -> bool {
-        let tiles = &self.tiles_of_processor[processor];
-        let finished = record.finished as usize;
-        if finished > tiles.len() || record.stage > 2 {
-            return false;
-        }
-        if finished == tiles.len() {
-            return record.stage == 0 && record.sent == 0;
-        }
-        match record.stage {
-            2 => (record.sent as usize) < self.sends[tiles[finished]].len(),
-            _ => record.sent == 0,
+    /// Is a record fit for a processor with these tiles?
+    fn is_fit(&self, progress: &Progress, tiles: &[usize]) -> bool {
+        let (finished, sent) = (progress.finished as usize, progress.sent as usize);
+        match tiles.get(finished) {
+            None => finished == tiles.len() && progress.stage == 0 && sent == 0,
+            Some(&tile) if progress.stage == SEND => sent < self.sends[tile].len(),
+            Some(_) => progress.stage < SEND && sent == 0,
         }
     }
 
-    pub fn tiles_left(&self, areas: &Areas, processor: usize) -> bool {
-        (areas.progress[processor].finished as usize) < self.tiles_of_processor[processor].len()
+    /// The processor's own part of the memories.
+    fn memory<'a>(&self, memories: &'a mut [u32], processor: usize) -> &'a mut [u32] {
+        &mut memories[processor * self.cells..][..self.cells]
     }
 
-    /// lines 9 to 13 of a turn
-    fn turn_number(&self, areas: &Areas, processor: usize) -> Result<(), u32> {
-        self.area(areas)?;
-        self.unfit(areas)?;
-        if processor >= self.processors {
-            return Err(11);
+    /// Unpacks and marks all messages due at the tile, if every one has been delivered.
+    fn gather(&self, areas: &mut Areas, processor: usize, tile: usize) -> Result<(), u32> {
+        let dues = &self.dues[tile];
+        require(dues.iter().all(|&number| areas.status[number] == DELIVERED), WAITING)?;
+        let memory = self.memory(&mut areas.memories, processor);
+        for &number in dues {
+            let message = &self.messages[number];
+            for (&cell, &word) in message.cells.iter().zip(&areas.buffer[message.offset..]) {
+                memory[cell] = word;
+            }
+            areas.status[number] = TAKEN;
         }
-        if !self.tiles_left(areas, processor) {
-            return Err(13);
-        }
-        let record = areas.progress[processor];
-        let tile = self.tiles_of_processor[processor][record.finished as usize];
-        if record.stage == 0 && self.dues[tile].iter().any(|&message| areas.status[message] != 2) {
-            return Err(12);
-        }
+        areas.progress[processor].stage = CALCULATE;
         Ok(())
     }
 
-    fn turn(&self, areas: &mut Areas, processor: usize) {
-        let memory = &mut areas.memories[processor * self.cells..(processor + 1) * self.cells];
-        let record = &mut areas.progress[processor];
-        let tile = self.tiles_of_processor[processor][record.finished as usize];
-        let next = Progress { finished: record.finished + 1, stage: 0, sent: 0 };
-        match record.stage {
-            0 => {
-                for &number in &self.dues[tile] {
-                    let message = &self.messages[number];
-                    for (place, &cell) in message.cells.iter().enumerate() {
-                        memory[cell] = areas.buffer[message.offset + place];
-                    }
-                    areas.status[number] = 3;
-                }
-                record.stage = 1;
-            }
-            1 => {
-                for &cell in &self.cells_of_tile[tile] {
-                    memory[cell] = self.value(&areas.source, memory, cell);
-                }
-                if self.sends[tile].is_empty() {
-                    *record = next;
-                } else {
-                    record.stage = 2;
-                }
-            }
-            _ => {
-                let number = self.sends[tile][record.sent as usize];
-                let message = &self.messages[number];
-                for (place, &cell) in message.cells.iter().enumerate() {
-                    areas.buffer[message.offset + place] = memory[cell];
-                }
-                areas.status[number] = 1;
-                record.sent += 1;
-                if record.sent as usize == self.sends[tile].len() {
-                    *record = next;
-                }
-            }
+    /// Calculates the tile's cells within the processor's memory.
+    fn calculate(&self, areas: &mut Areas, processor: usize, tile: usize) {
+        let memory = self.memory(&mut areas.memories, processor);
+        for &cell in &self.cells_of_tile[tile] {
+            memory[cell] = self.value(cell, &areas.source, memory);
+        }
+        areas.progress[processor].stage = SEND;
+        self.leave_if_sent(tile, &mut areas.progress[processor]);
+    }
+
+    /// Packs the tile's next message.
+    fn send(&self, areas: &mut Areas, processor: usize, tile: usize) {
+        let progress = &mut areas.progress[processor];
+        let number = self.sends[tile][progress.sent as usize];
+        let message = &self.messages[number];
+        let memory = self.memory(&mut areas.memories, processor);
+        for (&cell, word) in message.cells.iter().zip(&mut areas.buffer[message.offset..]) {
+            *word = memory[cell];
+        }
+        areas.status[number] = IN_FLIGHT;
+        progress.sent += 1;
+        self.leave_if_sent(tile, progress);
+    }
+
+    /// Goes on to the next tile once no message of this one is left to send.
+    fn leave_if_sent(&self, tile: usize, progress: &mut Progress) {
+        if progress.sent as usize == self.sends[tile].len() {
+            progress.finished += 1;
+            (progress.stage, progress.sent) = (GATHER, 0);
         }
     }
 }
 
-/// a plan, or the number with which its recipe is refused
-type Made = Result<Rc<Plan>, u32>;
-
-/// the model as an engine; the plan of the last recipe is kept
+/// The engine's calls over plans; the plan of the last accepted recipe is kept.
 #[derive(Default)]
 pub struct Model {
-    last: RefCell<Option<(Vec<u8>, Made)>>,
-}
-
-fn number(result: Result<(), u32>) -> u32 {
-    result.err().unwrap_or(0)
+    last: RefCell<Option<(Vec<u8>, Rc<Plan>)>>,
 }
 
 impl Model {
-    pub fn plan(&self, encoded: &[u8]) -> Made {
-        let mut last = self.last.borrow_mut();
-        match &*last {
-            Some((bytes, made)) if bytes == encoded => made.clone(),
-            _ => {
-                let made = read(encoded).map(|recipe| Rc::new(plan(recipe)));
-                *last = Some((encoded.to_vec(), made.clone()));
-                made
+    /// The recipe's plan, or the number that refuses it.
+    pub fn plan(&self, encoded: &[u8]) -> Result<Rc<Plan>, u32> {
+        if let Some((bytes, plan)) = &*self.last.borrow() {
+            if bytes == encoded {
+                return Ok(Rc::clone(plan));
             }
         }
+        let plan = Rc::new(Plan::new(Recipe::read(encoded)?));
+        *self.last.borrow_mut() = Some((encoded.to_vec(), Rc::clone(&plan)));
+        Ok(plan)
     }
+}
+
+/// A number given to a call as an index below `count`.
+fn index(number: u32, count: usize) -> Result<usize, u32> {
+    Some(number as usize).filter(|&index| index < count).ok_or(NO_SUCH)
+}
+
+/// Makes a call and gives its number.
+fn answer(call: impl FnOnce() -> Result<(), u32>) -> u32 {
+    call().err().unwrap_or(0)
 }
 
 impl Engine for Model {
     fn name(&self) -> String {
-        "model".into()
+        "model".to_string()
     }
 
     fn fresh(&self, encoded: &[u8], areas: &mut Areas) -> u32 {
-        number(self.plan(encoded).and_then(|plan| {
-            plan.area(areas)?;
+        answer(|| {
+            self.plan(encoded)?.check_areas(areas)?;
             areas.memories.fill(0);
             areas.buffer.fill(0);
-            areas.progress.fill(Progress::default());
-            areas.status.fill(0);
+            for progress in &mut areas.progress {
+                (progress.finished, progress.stage, progress.sent) = (0, GATHER, 0);
+            }
+            areas.status.fill(UNSENT);
             Ok(())
-        }))
+        })
     }
 
     fn turn(&self, encoded: &[u8], areas: &mut Areas, processor: u32) -> u32 {
-        number(self.plan(encoded).and_then(|plan| {
-            plan.turn_number(areas, processor as usize)?;
-            plan.turn(areas, processor as usize);
+        answer(|| {
+            let plan = self.plan(encoded)?;
+            plan.check_state(areas)?;
+            let processor = index(processor, plan.processors)?;
+            let (tiles, progress) = (&plan.tiles_of_processor[processor], &areas.progress[processor]);
+            let &tile = tiles.get(progress.finished as usize).ok_or(FINISHED)?;
+            match progress.stage {
+                GATHER => plan.gather(areas, processor, tile)?,
+                CALCULATE => plan.calculate(areas, processor, tile),
+                _ => plan.send(areas, processor, tile),
+            }
             Ok(())
-        }))
+        })
     }
 
     fn deliver(&self, encoded: &[u8], areas: &mut Areas, message: u32) -> u32 {
-        number(self.plan(encoded).and_then(|plan| {
-            plan.area(areas)?;
-            plan.unfit(areas)?;
-            match areas.status.get_mut(message as usize) {
-                None => Err(11),
-                Some(mark) if *mark != 1 => Err(14),
-                Some(mark) => {
-                    *mark = 2;
-                    Ok(())
-                }
-            }
-        }))
+        answer(|| {
+            let plan = self.plan(encoded)?;
+            plan.check_state(areas)?;
+            let mark = &mut areas.status[index(message, plan.messages.len())?];
+            require(*mark == IN_FLIGHT, NO_MAIL)?;
+            *mark = DELIVERED;
+            Ok(())
+        })
     }
 
     fn collect(&self, encoded: &[u8], areas: &mut Areas, grid: &mut [u32]) -> u32 {
-        number(self.plan(encoded).and_then(|plan| {
-            plan.area(areas)?;
-            if grid.len() != plan.cells {
-                return Err(9);
-            }
-            plan.unfit(areas)?;
-            if (0..plan.processors).any(|p| plan.tiles_left(areas, p)) {
-                return Err(15);
-            }
-            for cell in 0..plan.cells {
-                let processor = plan.processor_of_tile[plan.tile_of_cell[cell]];
-                grid[cell] = areas.memories[processor * plan.cells + cell];
+        answer(|| {
+            let plan = self.plan(encoded)?;
+            require(grid.len() == plan.cells, AREA)?;
+            plan.check_state(areas)?;
+            let mut records = areas.progress.iter().zip(&plan.tiles_of_processor);
+            require(records.all(|(at, tiles)| at.finished as usize == tiles.len()), EARLY)?;
+            for (cells, &processor) in plan.cells_of_tile.iter().zip(&plan.processor_of_tile) {
+                let memory = plan.memory(&mut areas.memories, processor);
+                cells.iter().for_each(|&cell| grid[cell] = memory[cell]);
             }
             Ok(())
-        }))
+        })
     }
 
     fn sweep(&self, encoded: &[u8], source: &[u32], grid: &mut [u32]) -> u32 {
-        number(self.plan(encoded).and_then(|plan| {
-            if source.len() != plan.cells || grid.len() != plan.cells {
-                return Err(9);
-            }
-            grid.copy_from_slice(&plan.sweep(source));
+        answer(|| {
+            let plan = self.plan(encoded)?;
+            require(source.len() == plan.cells && grid.len() == plan.cells, AREA)?;
+            (0..plan.cells).for_each(|cell| grid[cell] = plan.value(cell, source, grid));
             Ok(())
-        }))
+        })
     }
 
     fn summary(&self, encoded: &[u8], out: &mut [u32]) -> u32 {
-        number(self.plan(encoded).and_then(|plan| {
-            if out.len() != SUMMARY_WORDS {
-                return Err(9);
-            }
-            let words = [plan.cells_of_tile.len(), plan.messages.len(), plan.words, plan.steps()];
-            out.copy_from_slice(&words.map(|word| word as u32));
+        answer(|| {
+            let plan = self.plan(encoded)?;
+            require(out.len() == SUMMARY_WORDS, AREA)?;
+            let line = [plan.cells_of_tile.len(), plan.messages.len(), plan.words, plan.steps()];
+            out.copy_from_slice(&line.map(|number| number as u32));
             Ok(())
-        }))
+        })
     }
 
     fn message(&self, encoded: &[u8], message: u32, out: &mut [u32]) -> u32 {
-        number(self.plan(encoded).and_then(|plan| {
-            if out.len() != MESSAGE_WORDS {
-                return Err(9);
-            }
-            let line = plan.messages.get(message as usize).ok_or(11u32)?;
-            let processor = |tile: usize| plan.processor_of_tile[tile];
-            let (sender, taker) = (line.sender, line.taker);
-            let words = [sender, taker, processor(sender), processor(taker), line.cells.len()];
-            out.copy_from_slice(&words.map(|word| word as u32));
+        answer(|| {
+            let plan = self.plan(encoded)?;
+            require(out.len() == MESSAGE_WORDS, AREA)?;
+            let message = &plan.messages[index(message, plan.messages.len())?];
+            let tiles = [message.sender, message.taker];
+            let processors = tiles.map(|tile| plan.processor_of_tile[tile]);
+            let line = [tiles[0], tiles[1], processors[0], processors[1], message.cells.len()];
+            out.copy_from_slice(&line.map(|number| number as u32));
             Ok(())
-        }))
+        })
     }
 }

@@ -274,30 +274,60 @@ fn steps_back(nest: &Nest) -> [usize; 8] {
     back
 }
 
+/// a distance in one row: from which last component on it reads a cell, how far back, its weight
+#[derive(Clone, Copy, Default)]
+struct Reader {
+    first: usize,
+    back: usize,
+    weight: u64,
+}
+
+/// the values of a row, `width` cells from `cell` on, whose index is `at`. What a distance adds that reads no cell of
+/// the row is the same throughout; once all others read, no test is left.
 #[inline(always)]
-fn value(nest: &Nest, back: &[usize; 8], at: &[usize; 4], source: u32, values: &[u32], cell: usize) -> u32 {
-    let mut sum = u64::from(source);
+fn row(nest: &Nest, back: &[usize; 8], at: &[usize; 4], source: &[u32], values: &mut [u32], cell: usize, width: usize) {
+    let last = nest.n - 1;
+    let boundary = u64::from(nest.boundary);
+    let mut readers = [Reader::default(); 8];
+    let mut found = 0;
+    let mut outside = 0;
     for d in 0..nest.distances {
-        let c = &nest.components[d];
-        let inside = (0..nest.n).all(|j| at[j] >= c[j]);
-        let word = if inside { values[cell - back[d]] } else { nest.boundary };
-        sum += nest.weights[d] * u64::from(word);
+        let (c, weight) = (&nest.components[d], nest.weights[d]);
+        if (0..last).all(|j| at[j] >= c[j]) {
+            readers[found] = Reader { first: c[last], back: back[d], weight };
+            found += 1;
+        } else {
+            outside += weight * boundary;
+        }
     }
-    (sum >> nest.shift) as u32
+    let readers = &readers[..found];
+    let all = readers.iter().map(|r| r.first).max().unwrap_or(0).saturating_sub(at[last]).min(width);
+    for x in 0..all {
+        let word = |r: &Reader| if at[last] + x < r.first { boundary } else { u64::from(values[cell + x - r.back]) };
+        let sum = readers.iter().fold(outside + u64::from(source[cell + x]), |sum, r| sum + r.weight * word(r));
+        values[cell + x] = (sum >> nest.shift) as u32;
+    }
+    for c in cell + all..cell + width {
+        let read = |r: &Reader| r.weight * u64::from(values[c - r.back]);
+        let sum = readers.iter().fold(outside + u64::from(source[c]), |sum, r| sum + read(r));
+        values[c] = (sum >> nest.shift) as u32;
+    }
 }
 
 fn sweep(nest: &Nest, source: &[u32], grid: &mut [u32]) {
     let back = steps_back(nest);
+    let last = nest.n - 1;
+    let width = nest.lengths[last];
     let mut at = [0; 4];
-    for cell in 0..nest.cells {
-        grid[cell] = value(nest, &back, &at, source[cell], grid, cell);
-        advance(&mut at, &nest.lengths, nest.n);
+    for cell in (0..nest.cells).step_by(width) {
+        row(nest, &back, &at, source, grid, cell, width);
+        advance(&mut at, &nest.lengths, last);
     }
 }
 
-/// calls `each` with the number and the index of every cell of a tile, in index order
+/// calls `each` with the number, the index and the width of every row of a tile, in index order
 #[inline(always)]
-fn cells_of(nest: &Nest, tile: &[usize; 4], mut each: impl FnMut(usize, &[usize; 4])) {
+fn rows_of(nest: &Nest, tile: &[usize; 4], mut each: impl FnMut(usize, &[usize; 4], usize)) {
     let mut start = [0; 4];
     let mut end = [1; 4];
     for j in 0..nest.n {
@@ -307,11 +337,8 @@ fn cells_of(nest: &Nest, tile: &[usize; 4], mut each: impl FnMut(usize, &[usize;
     let last = nest.n - 1;
     let mut at = start;
     loop {
-        let row: usize = (0..last).map(|j| at[j] * nest.step[j]).sum();
-        for x in start[last]..end[last] {
-            at[last] = x;
-            each(row + x, &at);
-        }
+        let cell: usize = (0..nest.n).map(|j| at[j] * nest.step[j]).sum();
+        each(cell, &at, end[last] - start[last]);
         let mut j = last;
         loop {
             if j == 0 {
@@ -329,17 +356,23 @@ fn cells_of(nest: &Nest, tile: &[usize; 4], mut each: impl FnMut(usize, &[usize;
 
 /// calls `each` with every cell of message (tile, direction), in index order
 fn held(nest: &Nest, tile: &[usize; 4], direction: usize, mut each: impl FnMut(usize)) {
-    cells_of(nest, tile, |cell, at| {
-        let reads = |c: &[usize; 4]| {
-            (0..nest.n).all(|j| {
+    rows_of(nest, tile, |row, at, width| {
+        let last = nest.n - 1;
+        // below which last component some distance puts a cell of the row there
+        let end = |c: &[usize; 4]| {
+            let there = (0..last).all(|j| {
                 let reader = at[j] + c[j];
                 let crosses = usize::from(reader >= (tile[j] + 1) * nest.tile[j]);
                 reader < nest.lengths[j] && (j >= nest.m || crosses == direction >> (nest.m - 1 - j) & 1)
-            })
+            });
+            if there {
+                nest.lengths[last].saturating_sub(c[last])
+            } else {
+                0
+            }
         };
-        if nest.components[..nest.distances].iter().any(reads) {
-            each(cell);
-        }
+        let end = nest.components[..nest.distances].iter().map(end).max().unwrap_or(0);
+        (row..row + width.min(end.saturating_sub(at[last]))).for_each(&mut each);
     })
 }
 
@@ -466,7 +499,7 @@ impl<'a> Plan<'a> {
         let nest = &self.nest;
         let memory = &mut areas.memories[processor * nest.cells..][..nest.cells];
         let back = steps_back(nest);
-        cells_of(nest, tile, |cell, at| memory[cell] = value(nest, &back, at, areas.source[cell], memory, cell));
+        rows_of(nest, tile, |cell, at, width| row(nest, &back, at, &areas.source, memory, cell, width));
         self.sent(&mut areas.progress[processor], tile, 0);
     }
 
