@@ -292,14 +292,20 @@ def after_sends(plan, areas, b, tile, sent):
         areas.progress[3 * b + 2] = 0
 
 
-def turn(encoded, areas, b):
+def tested(encoded, areas, others_right=lambda plan: True):
+    """Lines 1 to 10, tested by every call on a run's state, and the plan; what else is lent counts for line 9."""
     number, plan = plan_of(encoded)
     if number != 0:
+        return number, plan
+    if not lengths_right(plan, areas) or not others_right(plan):
+        return 9, plan
+    return (0 if is_fit(plan, areas) else 10), plan
+
+
+def turn(encoded, areas, b):
+    number, plan = tested(encoded, areas)
+    if number != 0:
         return number
-    if not lengths_right(plan, areas):
-        return 9
-    if not is_fit(plan, areas):
-        return 10
     if not b < plan.boards:
         return 11
     finished, stage, sent = areas.progress[3 * b:3 * b + 3]
@@ -333,13 +339,9 @@ def turn(encoded, areas, b):
 
 
 def deliver(encoded, areas, m):
-    number, plan = plan_of(encoded)
+    number, plan = tested(encoded, areas)
     if number != 0:
         return number
-    if not lengths_right(plan, areas):
-        return 9
-    if not is_fit(plan, areas):
-        return 10
     if not m < len(plan.messages):
         return 11
     if areas.status[m] != 1:
@@ -349,13 +351,9 @@ def deliver(encoded, areas, m):
 
 
 def collect(encoded, areas):
-    number, plan = plan_of(encoded)
+    number, plan = tested(encoded, areas, lambda plan: len(areas.grid) == plan.cells)
     if number != 0:
         return number
-    if not lengths_right(plan, areas) or len(areas.grid) != plan.cells:
-        return 9
-    if not is_fit(plan, areas):
-        return 10
     if any(areas.progress[3 * b] < len(plan.tiles_of[b]) for b in range(plan.boards)):
         return 15
     for c in range(plan.cells):

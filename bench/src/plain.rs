@@ -527,6 +527,21 @@ impl<'a> Plan<'a> {
     }
 }
 
+/// `Err(number)` where the line is true
+fn refused(line: bool, number: u32) -> Result<(), u32> {
+    if line {
+        Err(number)
+    } else {
+        Ok(())
+    }
+}
+
+/// a call: the recipe's plan is made, then the rest is done with it; gives the number
+fn planned(encoded: &[u8], rest: impl FnOnce(&Plan) -> Result<(), u32>) -> u32 {
+    let mut table = [0; SLOTS];
+    Plan::new(encoded, &mut table).and_then(|plan| rest(&plan)).err().unwrap_or(0)
+}
+
 /// the plain calls
 pub struct Plain;
 
@@ -536,151 +551,102 @@ impl Engine for Plain {
     }
 
     fn fresh(&self, encoded: &[u8], areas: &mut Areas) -> u32 {
-        let mut table = [0; SLOTS];
-        let plan = match Plan::new(encoded, &mut table) {
-            Ok(plan) => plan,
-            Err(number) => return number,
-        };
-        if plan.area(areas) {
-            return 9;
-        }
-        areas.memories.fill(0);
-        areas.buffer.fill(0);
-        areas.progress.fill(Progress::default());
-        areas.status.fill(0);
-        0
+        planned(encoded, |plan| {
+            refused(plan.area(areas), 9)?;
+            areas.memories.fill(0);
+            areas.buffer.fill(0);
+            areas.progress.fill(Progress::default());
+            areas.status.fill(0);
+            Ok(())
+        })
     }
 
     fn turn(&self, encoded: &[u8], areas: &mut Areas, processor: u32) -> u32 {
-        let mut table = [0; SLOTS];
-        let plan = match Plan::new(encoded, &mut table) {
-            Ok(plan) => plan,
-            Err(number) => return number,
-        };
-        if plan.area(areas) {
-            return 9;
-        }
-        if plan.unfit(areas) {
-            return 10;
-        }
-        let processor = processor as usize;
-        if processor >= plan.nest.processors {
-            return 11;
-        }
-        let record = areas.progress[processor];
-        if record.finished as usize == plan.tile_count(processor) {
-            return 13;
-        }
-        let tile = plan.tile_of(processor, record.finished as usize);
-        match record.stage {
-            0 if plan.waiting(areas, &tile) => return 12,
-            0 => plan.gather(areas, &tile, processor),
-            1 => plan.calculate(areas, &tile, processor),
-            _ => plan.send(areas, &tile, processor),
-        }
-        0
+        planned(encoded, |plan| {
+            refused(plan.area(areas), 9)?;
+            refused(plan.unfit(areas), 10)?;
+            let processor = processor as usize;
+            refused(processor >= plan.nest.processors, 11)?;
+            let record = areas.progress[processor];
+            refused(record.finished as usize == plan.tile_count(processor), 13)?;
+            let tile = plan.tile_of(processor, record.finished as usize);
+            match record.stage {
+                0 => {
+                    refused(plan.waiting(areas, &tile), 12)?;
+                    plan.gather(areas, &tile, processor);
+                }
+                1 => plan.calculate(areas, &tile, processor),
+                _ => plan.send(areas, &tile, processor),
+            }
+            Ok(())
+        })
     }
 
     fn deliver(&self, encoded: &[u8], areas: &mut Areas, message: u32) -> u32 {
-        let mut table = [0; SLOTS];
-        let plan = match Plan::new(encoded, &mut table) {
-            Ok(plan) => plan,
-            Err(number) => return number,
-        };
-        if plan.area(areas) {
-            return 9;
-        }
-        if plan.unfit(areas) {
-            return 10;
-        }
-        match areas.status.get_mut(message as usize) {
-            None => 11,
-            Some(mark) if *mark != 1 => 14,
-            Some(mark) => {
-                *mark = 2;
-                0
-            }
-        }
+        planned(encoded, |plan| {
+            refused(plan.area(areas), 9)?;
+            refused(plan.unfit(areas), 10)?;
+            let mark = areas.status.get_mut(message as usize).ok_or(11u32)?;
+            refused(*mark != 1, 14)?;
+            *mark = 2;
+            Ok(())
+        })
     }
 
     fn collect(&self, encoded: &[u8], areas: &mut Areas, grid: &mut [u32]) -> u32 {
-        let mut table = [0; SLOTS];
-        let plan = match Plan::new(encoded, &mut table) {
-            Ok(plan) => plan,
-            Err(number) => return number,
-        };
-        if plan.area(areas) || grid.len() != plan.nest.cells {
-            return 9;
-        }
-        if plan.unfit(areas) {
-            return 10;
-        }
-        if (0..plan.nest.processors).any(|p| (areas.progress[p].finished as usize) < plan.tile_count(p)) {
-            return 15;
-        }
-        let nest = &plan.nest;
-        let mut at = [0; 4];
-        for (cell, word) in grid.iter_mut().enumerate() {
-            let processor =
-                (0..nest.m).fold(0, |number, j| number * nest.counts[j] + at[j] / nest.tile[j] % nest.counts[j]);
-            *word = areas.memories[processor * nest.cells + cell];
-            advance(&mut at, &nest.lengths, nest.n);
-        }
-        0
+        planned(encoded, |plan| {
+            let nest = &plan.nest;
+            refused(plan.area(areas) || grid.len() != nest.cells, 9)?;
+            refused(plan.unfit(areas), 10)?;
+            let left = |p: usize| (areas.progress[p].finished as usize) < plan.tile_count(p);
+            refused((0..nest.processors).any(left), 15)?;
+            // the last dimension is not spread, so a row has one processor
+            let last = nest.n - 1;
+            let mut at = [0; 4];
+            for (cells, row) in grid.chunks_exact_mut(nest.lengths[last]).enumerate() {
+                let processor =
+                    (0..nest.m).fold(0, |number, j| number * nest.counts[j] + at[j] / nest.tile[j] % nest.counts[j]);
+                row.copy_from_slice(&areas.memories[processor * nest.cells + cells * row.len()..][..row.len()]);
+                advance(&mut at, &nest.lengths, last);
+            }
+            Ok(())
+        })
     }
 
     fn sweep(&self, encoded: &[u8], source: &[u32], grid: &mut [u32]) -> u32 {
-        let nest = match read(encoded) {
-            Ok(nest) => nest,
-            Err(number) => return number,
-        };
-        if source.len() != nest.cells || grid.len() != nest.cells {
-            return 9;
-        }
-        sweep(&nest, source, grid);
-        0
+        let swept = read(encoded).and_then(|nest| {
+            refused(source.len() != nest.cells || grid.len() != nest.cells, 9)?;
+            sweep(&nest, source, grid);
+            Ok(())
+        });
+        swept.err().unwrap_or(0)
     }
 
     fn summary(&self, encoded: &[u8], out: &mut [u32]) -> u32 {
-        let mut table = [0; SLOTS];
-        let plan = match Plan::new(encoded, &mut table) {
-            Ok(plan) => plan,
-            Err(number) => return number,
-        };
-        if out.len() != SUMMARY_WORDS {
-            return 9;
-        }
-        out[0] = plan.nest.tiles as u32;
-        out[1] = plan.messages as u32;
-        out[2] = plan.words as u32;
-        out[3] = 2 * (out[0] + out[1]);
-        0
+        planned(encoded, |plan| {
+            refused(out.len() != SUMMARY_WORDS, 9)?;
+            let steps = 2 * (plan.nest.tiles + plan.messages);
+            out.copy_from_slice(&[plan.nest.tiles, plan.messages, plan.words, steps].map(|word| word as u32));
+            Ok(())
+        })
     }
 
     fn message(&self, encoded: &[u8], message: u32, out: &mut [u32]) -> u32 {
-        let mut table = [0; SLOTS];
-        let plan = match Plan::new(encoded, &mut table) {
-            Ok(plan) => plan,
-            Err(number) => return number,
-        };
-        if out.len() != MESSAGE_WORDS {
-            return 9;
-        }
-        if message as usize >= plan.messages {
-            return 11;
-        }
-        let nest = &plan.nest;
-        let mut filled = plan.table.iter().enumerate().filter(|(_, &words)| words != 0);
-        let (slot, &words) = filled.nth(message as usize).expect("below the count");
-        let sender = split(slot / nest.directions, &nest.across, nest.n);
-        let direction = slot % nest.directions + 1;
-        let mut taker = sender;
-        (0..nest.m).for_each(|j| taker[j] += direction >> (nest.m - 1 - j) & 1);
-        let processor =
-            |tile: &[usize; 4]| (0..nest.m).fold(0, |number, j| number * nest.counts[j] + tile[j] % nest.counts[j]);
-        let line =
-            [plan.number(&sender), plan.number(&taker), processor(&sender), processor(&taker), usize::from(words)];
-        out.copy_from_slice(&line.map(|word| word as u32));
-        0
+        planned(encoded, |plan| {
+            refused(out.len() != MESSAGE_WORDS, 9)?;
+            let nest = &plan.nest;
+            let mut filled = plan.table.iter().enumerate().filter(|(_, &words)| words != 0);
+            let (slot, &words) = filled.nth(message as usize).ok_or(11u32)?;
+            let sender = split(slot / nest.directions, &nest.across, nest.n);
+            let direction = slot % nest.directions + 1;
+            let mut taker = sender;
+            (0..nest.m).for_each(|j| taker[j] += direction >> (nest.m - 1 - j) & 1);
+            let processor =
+                |tile: &[usize; 4]| (0..nest.m).fold(0, |number, j| number * nest.counts[j] + tile[j] % nest.counts[j]);
+            let line =
+                [plan.number(&sender), plan.number(&taker), processor(&sender), processor(&taker), usize::from(words)];
+            out.copy_from_slice(&line.map(|word| word as u32));
+            Ok(())
+        })
     }
 }
