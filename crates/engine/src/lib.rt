@@ -16,14 +16,13 @@ ghost use Rattle.table.specs.Table.{Table, Placed};
 ghost use Rattle.engine.specs.Given.{Passed, progressOnly, unfitLines};
 ghost use Rattle.engine.specs.Calls.{answer, areas, freshCall, turnCall, deliverCall, collectCall, sweepCall};
 use layout::Sizes;
-use layout::calculate;
-use layout::pack;
 use layout::processor_of;
 use layout::sizes_of;
 use layout::tile_of;
-use layout::unpack;
 use nest::Nest;
 use nest::read;
+use parcels::pack;
+use parcels::unpack;
 use table::Place;
 use table::count_at;
 use table::fill;
@@ -31,6 +30,7 @@ use table::nth_at;
 use table::tile_at;
 use table::tile_count;
 use table::totals;
+use values::calculate;
 
 fn wide(x: u32) -> usize
     ensures { λ r. ⌜ r ≡ x ⌝ }
@@ -650,6 +650,6 @@ pub fn sweep(encoded: &[u8], source: &[u32], grid: &mut [u32]) -> u32
     if grid.len() != sizes.cells {
         return 9;
     }
-    layout::sweep(nest, sizes, source, grid);
+    values::sweep(nest, sizes, source, grid);
     0
 }
