@@ -19,7 +19,7 @@ use Rattle.nest.specs.Nest.{readLines, nestLines, nestOf, ragged, strayRecord}
 use Rattle.nest.proofs.Facts.{passed, spread-in}
 use Rattle.engine.specs.Calls.{answer, recipe, areas, freshCall, turnCall, deliverCall, collectCall}
 use Rattle.engine.proofs.Lines.{no-progress, numbered}
-use Rattle.engine.proofs.Stages.{answered-no}
+use Rattle.engine.proofs.Turns.{answered-no}
 use Rattle.records.specs.declared.Progress.{Progress}
 use Rattle.records.specs.declared.Flat.{Flat}
 use Rattle.records.specs.Records.{flatWords, stored, flatOf}

@@ -1,5 +1,4 @@
-pub mod Parts
-pub mod Stages
+pub mod Turns
 pub mod Lines
 pub mod AsSteps
 pub mod Demands

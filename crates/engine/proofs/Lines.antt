@@ -23,9 +23,10 @@ use Rattle.layout.specs.declared.Sizes.{Sizes}
 use Rattle.layout.specs.Sizes.{Sized}
 use Rattle.nest.specs.declared.Reading.{Reading}
 use Rattle.nest.specs.Nest.{readLines, nestLines, nestOf, readingOf}
-use Rattle.engine.specs.Given.{Areas, Passed, progressOnly, unfitLines}
+use Rattle.stages.specs.Progress.{progressOnly}
+use Rattle.engine.specs.Given.{Areas, Passed, unfitLines}
 use Rattle.engine.specs.Calls.{answer, areas, areaLines, freshCall, turnCall, deliverCall, collectCall, sweepCall}
-use Rattle.engine.proofs.Stages.{answered-no, answered-yes}
+use Rattle.engine.proofs.Turns.{answered-no, answered-yes}
 
 -- ---- areas
 

@@ -8,7 +8,7 @@ use lib.ListN.{length}
 use Rattle.base.specs.Tests.{not}
 use Rattle.base.specs.Numbers.{Line, line}
 use Rattle.machine.specs.Plan.{Plan, count, words}
-use Rattle.machine.specs.Machine.{State, stateOf, fit}
+use Rattle.machine.specs.Machine.{State, fit}
 use Rattle.engine.specs.Calls.{areaLines}
 
 -- each lent area has exactly its length
@@ -24,10 +24,6 @@ pub record Passed (p : Plan) (source : List ℕ) (s : State) (b : ℕ) : Type 0 
   pub areas : Areas p source s
   pub fit : fit p s ≡ true
   pub processor : b < p .processors
-
--- a state of which only the records are looked at
-abbrev pub progressOnly : List ℕ → State
-progressOnly progress = stateOf [] [] progress []
 
 -- lines 9 and 10, which a turn, a delivery and collecting share
 abbrev pub unfitLines : Plan → List ℕ → State → List Line

@@ -3,4 +3,4 @@ pub mod Loops
 pub mod Cells
 pub mod Walks
 pub mod Rows
-pub mod Windows
+pub mod Shares

@@ -1,9 +1,9 @@
 -- Laws of the scans: the table's filling, numbers and offsets of messages, messages at a tile's end, tiles of a processor.
-use Prim.Native.Nat.{ℕ, zero, suc, _+_, _*_, _-_, _≤_, _<_}
+use Prim.Native.Nat.{ℕ, zero, suc, _+_, _*_, _-_, _/_, _%_, _≤_, _<_}
 use mathlib.Core.Path.{_≡_, refl, sym, ap, _∙_, subst}
 use mathlib.Core.Logic.{_⊎_, inl, inr, _≢_, ⊎-elim}
 use mathlib.Core.List.{List, [], _∷_}
-use native.Mathlib.Nat.{eq-or-lt-of-le, mul-le-mul-right}
+use native.Mathlib.Nat.{eq-or-lt-of-le, mul-le-mul-right, mul-add-div-right, mul-add-mod-self-right, div-eq-of-lt, mod-eq-of-lt, mod-lt, suc-mul, div-add-mod'}
 use native.Mathlib.Numerals.{add-one}
 use native.Mathlib.Omega.{arith}
 use lib.ListN.{length, getD, set, length-append, length-set}
@@ -15,12 +15,13 @@ use Rattle.nest.specs.declared.Nest.{Nest}
 use Rattle.nest.proofs.Accepted.{Accepted}
 use Rattle.nest.specs.Nest.{tiles}
 use Rattle.plan.specs.Geometry.{processorOf}
-use Rattle.plan.specs.Messages.{two, directions, slots, slotParcel, slotMessage, messagesTo, planOf}
+use Rattle.plan.specs.Messages.{two, directions, parcel, slots, slotParcel, slotMessage, messagesTo, planOf}
 use Rattle.plan.proofs.Slots.{total, total-append, total-one, slotParcel-few, step-none, step-one, at-number, number-low, offset-is, room-is}
 use Rattle.layout.specs.declared.Sizes.{Sizes}
 use Rattle.layout.specs.Sizes.{Sized, endAt}
+use Rattle.parcels.specs.Twins.{Twin}
 use Rattle.table.specs.declared.Place.{Place}
-use Rattle.table.specs.Table.{Table, Placed, endOf, atEnd}
+use Rattle.table.specs.Table.{Table, Filling, Placed, endOf, atEnd}
 
 -- ---- the ends of a slot's message
 
@@ -73,11 +74,6 @@ module _ (n : Nest) (z : Sizes) (h : Sized n z) where
 
 -- ---- the table
 
-pub record Filling (n : Nest) (lens : List ℕ) (s : ℕ) : Type 0 where
-  pub low : s ≤ slots n
-  pub long : length lens ≡ 7168
-  pub each : (i : ℕ) → i < s → getD lens i 0 ≡ length (slotParcel n i)
-
 pub fill-start : (n : Nest) (lens : List ℕ) → length lens ≡ 7168 → Filling n lens 0
 fill-start n lens h = record { low = omega arith; long = h; each = λ i q. absurd (omega arith) }
 
@@ -99,6 +95,26 @@ fill-turn n lens s v f l m e =
 
 pub filled : (n : Nest) (lens : List ℕ) (s : ℕ) → Filling n lens s → slots n ≤ s → Table n lens
 filled n lens s f h = record { long = f .long; each = λ i l. f .each i (omega (arith, f .low)) }
+
+-- ---- a slot of a tile that another stands for
+
+pub twin-slot : (n : Nest) → 1 ≤ directions n → (s r : ℕ) → Twin n (s / directions n) r → r < s / directions n
+    → (r * directions n + s % directions n < s) × (length (slotParcel n (r * directions n + s % directions n)) ≡ length (slotParcel n s))
+unfolding slotParcel
+twin-slot n p s r t l =
+    let k : ℕ = directions n in
+    let m : s % directions n < directions n = mod-lt s p in
+    let q : (r * directions n + s % directions n) / directions n ≡ r = omega (arith, mul-add-div-right {m = directions n} p r (s % directions n), div-eq-of-lt m) in
+    let z : (r * directions n + s % directions n) % directions n ≡ s % directions n = mul-add-mod-self-right r (directions n) (s % directions n) ∙ mod-eq-of-lt m in (
+      omega (arith, mul-le-mul-right (directions n) l, suc-mul r (directions n), div-add-mod' s (directions n)),
+      ap (λ (a : ℕ). length (parcel n a ((r * directions n + s % directions n) % directions n + 1))) q
+          ∙ ap (λ (a : ℕ). length (parcel n r (a + 1))) z
+          ∙ sym (t .same (s % directions n + 1)),
+    )
+
+pub twin-at : (n : Nest) → 1 ≤ directions n → (d s r : ℕ) → d ≡ directions n → Twin n (s / d) r → r < s / d
+    → (r * d + s % d < s) × (length (slotParcel n (r * d + s % d)) ≡ length (slotParcel n s))
+twin-at n p d s r e t l = rw e (twin-slot n p s r (rw e at t) (rw e at l))
 
 -- ---- numbers and offsets by a scan over the slots
 

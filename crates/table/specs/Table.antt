@@ -16,6 +16,12 @@ pub record Table (x : Nest) (lens : List ℕ) : Type 0 where
   pub long : length lens ≡ 7168
   pub each : (s : ℕ) → s < slots x → getD lens s 0 ≡ length (slotParcel x s)
 
+-- so far for the first s slots
+pub record Filling (x : Nest) (lens : List ℕ) (s : ℕ) : Type 0 where
+  pub low : s ≤ slots x
+  pub long : length lens ≡ 7168
+  pub each : (i : ℕ) → i < s → getD lens i 0 ≡ length (slotParcel x i)
+
 -- the tile at an end of a message: 0 the sender, else the taker
 abbrev pub endOf : ℕ → Plan → ℕ → ℕ
 endOf zero p m = senderOf p m

@@ -8,7 +8,7 @@ ghost use Rattle.nest.specs.Nest.{tiles};
 ghost use Rattle.plan.specs.Messages.{slots, slotParcel, planOf};
 ghost use Rattle.plan.specs.Rows.{refused};
 ghost use Rattle.layout.specs.Sizes.{Sized};
-ghost use Rattle.table.specs.Table.{Table, Placed, atEnd};
+ghost use Rattle.table.specs.Table.{Table, Filling, Placed, atEnd};
 ghost use Rattle.table.specs.Summary.{answered, figuresOf, summaryOf, lineOf, noLine, messageLineOf};
 use layout::Sizes;
 use nest::Nest;
@@ -45,6 +45,20 @@ pub struct MessageLine {
     pub words: u32,
 }
 
+// The length of slot s's parcel, those before it being in the table: its tile's twin may have it.
+fn slot_length(nest: Nest, sizes: Sizes, lens: &[u16; 7168], s: usize) -> usize
+    requires { ⌜ Sized nest sizes × ((s < slots nest) × Filling nest (now lens) s) ⌝ }
+    ensures { λ r. ⌜ (r ≡ length (slotParcel nest s)) × (r ≤ 16384) ⌝ }
+{
+    let n = sizes.directions;
+    let tile = s / n;
+    let twin = parcels::twin_of(nest, sizes, tile);
+    if twin < tile {
+        return lens[twin * n + s % n] as usize;
+    }
+    parcels::parcel_length(nest, sizes, s)
+}
+
 // The length of each slot's parcel.
 pub fn fill(nest: Nest, sizes: Sizes, lens: &mut [u16; 7168])
     requires { ⌜ Sized nest sizes × (length (now lens) ≡ 7168) ⌝ }
@@ -53,7 +67,7 @@ pub fn fill(nest: Nest, sizes: Sizes, lens: &mut [u16; 7168])
     let slots = sizes.tiles * sizes.directions;
     let mut s = 0;
     while s < slots {
-        lens[s] = layout::parcel_length(nest, sizes, s) as u16;
+        lens[s] = slot_length(nest, sizes, lens, s) as u16;
         s += 1;
     }
 }
@@ -192,16 +206,7 @@ pub fn tile_count(nest: Nest, sizes: Sizes, processor: usize) -> usize
     requires { ⌜ Sized nest sizes ⌝ }
     ensures { λ r. ⌜ (r ≡ length (tilesOf (planOf nest) processor)) × (r ≤ 1024) ⌝ }
 {
-    let tiles = sizes.tiles;
-    let mut t = 0;
-    let mut n = 0;
-    while t < tiles {
-        if layout::processor_of(nest, sizes, t) == processor {
-            n += 1;
-        }
-        t += 1;
-    }
-    n
+    layout::tile_count(nest, sizes, processor)
 }
 
 // Its tile after so many finished ones.

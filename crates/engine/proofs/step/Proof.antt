@@ -8,27 +8,27 @@ use lib.ListN.{length, getD}
 use Rattle.machine.specs.Plan.{tilesOf}
 use Rattle.machine.specs.Machine.{stateOf}
 use Rattle.plan.specs.Messages.{planOf}
-use Rattle.engine.proofs.Stages as stages
+use Rattle.engine.proofs.Turns as turns
 use Rattle.engine.proofs.step.Statement.{statement}
 use Rattle.engine.proofs.step.Tie as tie
 
-mul-wide : tie.Need-mul-wide
-mul-wide c = search needs
+mul-word-index : tie.Need-mul-word-index
+mul-word-index c = search needs
 
-mul-wide-2 : tie.Need-mul-wide-2
-mul-wide-2 c = search needs
+mul-word-index-2 : tie.Need-mul-word-index-2
+mul-word-index-2 c = search needs
 
-slice-read-wide : tie.Need-slice-read-wide
-slice-read-wide c = search needs
+slice-read-word-index : tie.Need-slice-read-word-index
+slice-read-word-index c = search needs
 
-wide-requires : tie.Need-wide-requires
-wide-requires c κs = search needs
+word-index-requires : tie.Need-word-index-requires
+word-index-requires c κs = search needs
 
 tile-count-requires : tie.Need-tile-count-requires
 tile-count-requires c κs = search needs
 
 returns : tie.Need-returns
-returns c = let S = c .before .before .before .before .before .before .before .before .before in let A = S .args in stages.step-over (planOf (A .nest)) (A .source .now) (stateOf (A .memories .now) (A .buffer .now) (A .progress .now) (A .status .now)) (A .b) (S .pre .1 .fit) (S .pre .1 .processor) (omega (arith, c .before .tile-count .ensures .0, c .before .before .wide .ensures, c .if1 .taken))
+returns c = let S = c .before .before .before .before .before .before .before .before .before in let A = S .args in turns.step-over (planOf (A .nest)) (A .source .now) (stateOf (A .memories .now) (A .buffer .now) (A .progress .now) (A .status .now)) (A .b) (S .pre .1 .fit) (S .pre .1 .processor) (omega (arith, c .before .tile-count .ensures .0, c .before .before .word-index .ensures, c .if1 .taken))
 
 tile-at-requires : tie.Need-tile-at-requires
 tile-at-requires c κs = (c .before .before .before .before .before .before .before .before .before .pre .0 .0, omega (arith, c .before .tile-count .ensures .0, c .if1 .left))
@@ -52,7 +52,7 @@ same-length : tie.Need-same-length
 same-length c = search needs
 
 returns-2 : tie.Need-returns-2
-returns-2 c = let S = c .before .before .before .before .before .before .before .before .before .before .before .before .before .before .before in let A = S .args in stages.step-waits (planOf (A .nest)) (A .source .now) (stateOf (A .memories .now) (A .buffer .now) (A .progress .now) (A .status .now)) (A .b) (S .pre .1 .fit) (S .pre .1 .processor) (omega (arith, c .before .before .before .before .before .before .before .tile-count .ensures .0, c .before .before .before .before .before .before .before .before .wide .ensures, c .before .before .before .before .before .before .if1 .left)) (c .before .before .before .before .before .tile-at .result) (c .before .before .before .before .before .tile-at .ensures .0 ∙ ap (λ (k : ℕ). getD (tilesOf (planOf (A .nest)) (A .b)) k 0) (c .before .before .before .before .before .before .before .before .wide .ensures)) (c .before .ready .result) (c .before .before .before .if2 .taken) (c .before .ready .ensures) (not-true _ (c .if3 .taken))
+returns-2 c = let S = c .before .before .before .before .before .before .before .before .before .before .before .before .before .before .before in let A = S .args in turns.step-waits (planOf (A .nest)) (A .source .now) (stateOf (A .memories .now) (A .buffer .now) (A .progress .now) (A .status .now)) (A .b) (S .pre .1 .fit) (S .pre .1 .processor) (omega (arith, c .before .before .before .before .before .before .before .tile-count .ensures .0, c .before .before .before .before .before .before .before .before .word-index .ensures, c .before .before .before .before .before .before .if1 .left)) (c .before .before .before .before .before .tile-at .result) (c .before .before .before .before .before .tile-at .ensures .0 ∙ ap (λ (k : ℕ). getD (tilesOf (planOf (A .nest)) (A .b)) k 0) (c .before .before .before .before .before .before .before .before .word-index .ensures)) (c .before .ready .result) (c .before .before .before .if2 .taken) (c .before .ready .ensures) (not-true _ (c .if3 .taken))
 
 gather-stage-requires : tie.Need-gather-stage-requires
 gather-stage-requires c κs = let S = c .before .before .before .before .before .before .before .before .before .before .before .before .before .before .before .before .before .before .before in let P = S .pre .1 .areas in ((S .pre .0 .0, (S .pre .0 .1, S .pre .1 .processor)), (P .memories, (P .buffer, (P .progress, P .status))))
@@ -70,10 +70,10 @@ same-length-5 : tie.Need-same-length-5
 same-length-5 c = search needs
 
 returns-3 : tie.Need-returns-3
-returns-3 c = let S = c .before .before .before .before .before .before .before .before .before .before .before .before .before .before .before .before .before .before .before .before .before .before .before .before .before .before in let A = S .args in let G = c .before .before .before .before .before .before .gather-stage in stages.step-gathers (planOf (A .nest)) (A .source .now) (stateOf (A .memories .now) (A .buffer .now) (A .progress .now) (A .status .now)) (A .b) (S .pre .1 .fit) (S .pre .1 .processor) (omega (arith, c .before .before .before .before .before .before .before .before .before .before .before .before .before .before .before .before .before .before .tile-count .ensures .0, c .before .before .before .before .before .before .before .before .before .before .before .before .before .before .before .before .before .before .before .wide .ensures, c .before .before .before .before .before .before .before .before .before .before .before .before .before .before .before .before .before .if1 .left)) (c .before .before .before .before .before .before .before .before .before .before .before .before .before .before .before .before .tile-at .result) (c .before .before .before .before .before .before .before .before .before .before .before .before .before .before .before .before .tile-at .ensures .0 ∙ ap (λ (k : ℕ). getD (tilesOf (planOf (A .nest)) (A .b)) k 0) (c .before .before .before .before .before .before .before .before .before .before .before .before .before .before .before .before .before .before .before .wide .ensures)) (c .before .before .before .before .before .before .before .before .before .before .before .before .ready .result) (stateOf (G .last .1 .1 .1 .0) (A .buffer .now) (G .last .1 .1 .1 .1 .1 .0) (G .last .1 .1 .1 .1 .1 .1 .0)) (c .before .before .before .before .before .before .before .before .before .before .before .before .before .before .if2 .taken) (c .before .before .before .before .before .before .before .before .before .before .before .before .ready .ensures) (not-false _ (c .before .before .before .before .before .before .before .before .before .before .before .if3 .left)) (c .before .before .before .before .before .before .gather-stage .ensures)
+returns-3 c = let S = c .before .before .before .before .before .before .before .before .before .before .before .before .before .before .before .before .before .before .before .before .before .before .before .before .before .before in let A = S .args in let G = c .before .before .before .before .before .before .gather-stage in turns.step-gathers (planOf (A .nest)) (A .source .now) (stateOf (A .memories .now) (A .buffer .now) (A .progress .now) (A .status .now)) (A .b) (S .pre .1 .fit) (S .pre .1 .processor) (omega (arith, c .before .before .before .before .before .before .before .before .before .before .before .before .before .before .before .before .before .before .tile-count .ensures .0, c .before .before .before .before .before .before .before .before .before .before .before .before .before .before .before .before .before .before .before .word-index .ensures, c .before .before .before .before .before .before .before .before .before .before .before .before .before .before .before .before .before .if1 .left)) (c .before .before .before .before .before .before .before .before .before .before .before .before .before .before .before .before .tile-at .result) (c .before .before .before .before .before .before .before .before .before .before .before .before .before .before .before .before .tile-at .ensures .0 ∙ ap (λ (k : ℕ). getD (tilesOf (planOf (A .nest)) (A .b)) k 0) (c .before .before .before .before .before .before .before .before .before .before .before .before .before .before .before .before .before .before .before .word-index .ensures)) (c .before .before .before .before .before .before .before .before .before .before .before .before .ready .result) (stateOf (G .last .1 .1 .1 .0) (A .buffer .now) (G .last .1 .1 .1 .1 .1 .0) (G .last .1 .1 .1 .1 .1 .1 .0)) (c .before .before .before .before .before .before .before .before .before .before .before .before .before .before .if2 .taken) (c .before .before .before .before .before .before .before .before .before .before .before .before .ready .ensures) (not-false _ (c .before .before .before .before .before .before .before .before .before .before .before .if3 .left)) (c .before .before .before .before .before .before .gather-stage .ensures)
 
 calculate-stage-requires : tie.Need-calculate-stage-requires
-calculate-stage-requires c κs = let S = c .before .before .before .before .before .before .before .before .before .before .before .before .before .before .before in let P = S .pre .1 .areas in ((S .pre .0 .0, (S .pre .0 .1, (S .pre .1 .processor, c .before .before .before .before .before .tile-at .ensures .1))), ((P .source, (P .memories, P .progress)), omega (arith, c .before .before .before .before .before .before .before .tile-count .ensures, c .before .before .before .before .before .before .before .before .wide .ensures, c .before .before .before .before .before .before .if1 .left)))
+calculate-stage-requires c κs = let S = c .before .before .before .before .before .before .before .before .before .before .before .before .before .before .before in let P = S .pre .1 .areas in ((S .pre .0 .0, (S .pre .0 .1, (S .pre .1 .processor, c .before .before .before .before .before .tile-at .ensures .1))), ((P .source, (P .memories, P .progress)), omega (arith, c .before .before .before .before .before .before .before .tile-count .ensures, c .before .before .before .before .before .before .before .before .word-index .ensures, c .before .before .before .before .before .before .if1 .left)))
 
 same-length-6 : tie.Need-same-length-6
 same-length-6 c = search needs
@@ -82,19 +82,19 @@ same-length-7 : tie.Need-same-length-7
 same-length-7 c = search needs
 
 returns-4 : tie.Need-returns-4
-returns-4 c = let S = c .before .before .before .before .before .before .before .before .before .before .before .before .before .before .before .before .before .before .before .before in let A = S .args in stages.step-calculates (planOf (A .nest)) (A .source .now) (stateOf (A .memories .now) (A .buffer .now) (A .progress .now) (A .status .now)) (A .b) (S .pre .1 .fit) (S .pre .1 .processor) (omega (arith, c .before .before .before .before .before .before .before .before .before .before .before .before .tile-count .ensures .0, c .before .before .before .before .before .before .before .before .before .before .before .before .before .wide .ensures, c .before .before .before .before .before .before .before .before .before .before .before .if1 .left)) (c .before .before .before .before .before .before .before .before .before .before .tile-at .result) (c .before .before .before .before .before .before .before .before .before .before .tile-at .ensures .0 ∙ ap (λ (k : ℕ). getD (tilesOf (planOf (A .nest)) (A .b)) k 0) (c .before .before .before .before .before .before .before .before .before .before .before .before .before .wide .ensures)) (c .before .before .before .before .calculate-stage .last .1 .1 .1 .1 .0) (c .before .before .before .before .calculate-stage .last .1 .1 .1 .1 .1 .0) (c .before .before .before .before .before .before .before .if4 .taken) (c .before .before .before .before .calculate-stage .ensures)
+returns-4 c = let S = c .before .before .before .before .before .before .before .before .before .before .before .before .before .before .before .before .before .before .before .before in let A = S .args in turns.step-calculates (planOf (A .nest)) (A .source .now) (stateOf (A .memories .now) (A .buffer .now) (A .progress .now) (A .status .now)) (A .b) (S .pre .1 .fit) (S .pre .1 .processor) (omega (arith, c .before .before .before .before .before .before .before .before .before .before .before .before .tile-count .ensures .0, c .before .before .before .before .before .before .before .before .before .before .before .before .before .word-index .ensures, c .before .before .before .before .before .before .before .before .before .before .before .if1 .left)) (c .before .before .before .before .before .before .before .before .before .before .tile-at .result) (c .before .before .before .before .before .before .before .before .before .before .tile-at .ensures .0 ∙ ap (λ (k : ℕ). getD (tilesOf (planOf (A .nest)) (A .b)) k 0) (c .before .before .before .before .before .before .before .before .before .before .before .before .before .word-index .ensures)) (c .before .before .before .before .calculate-stage .last .1 .1 .1 .1 .0) (c .before .before .before .before .calculate-stage .last .1 .1 .1 .1 .1 .0) (c .before .before .before .before .before .before .before .if4 .taken) (c .before .before .before .before .calculate-stage .ensures)
 
 send-stage-requires : tie.Need-send-stage-requires
 send-stage-requires c κs = let S = c .before .before .before .before .before .before .before .before .before .before .before .before .before .before .before .before .before in let P = S .pre .1 .areas in let A = S .args in
-    let f : getD (A .progress .now) (3 * A .b) 0 < length (tilesOf (planOf (A .nest)) (A .b)) = (omega (arith, c .before .before .before .before .before .before .before .before .before .tile-count .ensures .0, c .before .before .before .before .before .before .before .before .before .before .wide .ensures, c .before .before .before .before .before .before .before .before .if1 .left)) in
+    let f : getD (A .progress .now) (3 * A .b) 0 < length (tilesOf (planOf (A .nest)) (A .b)) = (omega (arith, c .before .before .before .before .before .before .before .before .before .tile-count .ensures .0, c .before .before .before .before .before .before .before .before .before .before .word-index .ensures, c .before .before .before .before .before .before .before .before .if1 .left)) in
     let t : c .before .before .before .before .before .before .before .tile-at .result ≡ getD (tilesOf (planOf (A .nest)) (A .b)) (getD (A .progress .now) (3 * A .b) 0) 0 =
-    c .before .before .before .before .before .before .before .tile-at .ensures .0 ∙ ap (λ (k : ℕ). getD (tilesOf (planOf (A .nest)) (A .b)) k 0) (c .before .before .before .before .before .before .before .before .before .before .wide .ensures) in (
+    c .before .before .before .before .before .before .before .tile-at .ensures .0 ∙ ap (λ (k : ℕ). getD (tilesOf (planOf (A .nest)) (A .b)) k 0) (c .before .before .before .before .before .before .before .before .before .before .word-index .ensures) in (
       (S .pre .0 .0, (S .pre .0 .1, S .pre .1 .processor)),
       (
         (P .memories, (P .buffer, (P .progress, P .status))),
         (
           omega (arith, c .before .before .before .before .before .before .before .before .before .tile-count .ensures, f),
-          rw t (stages.fit-sent (planOf (A .nest)) (stateOf (A .memories .now) (A .buffer .now) (A .progress .now) (A .status .now)) (A .b) (S .pre .1 .fit) (S .pre .1 .processor) f (c .before .before .before .before .before .if2 .left) (c .before .before .before .before .if4 .left)),
+          rw t (turns.fit-sent (planOf (A .nest)) (stateOf (A .memories .now) (A .buffer .now) (A .progress .now) (A .status .now)) (A .b) (S .pre .1 .fit) (S .pre .1 .processor) f (c .before .before .before .before .before .if2 .left) (c .before .before .before .before .if4 .left)),
         ),
       ),
     )
@@ -112,16 +112,16 @@ same-length-11 : tie.Need-same-length-11
 same-length-11 c = search needs
 
 returns-5 : tie.Need-returns-5
-returns-5 c = let S = c .before .before .before .before .before .before .before .before .before .before .before .before .before .before .before .before .before .before .before .before .before .before .before .before in let A = S .args in let G = c .before .before .before .before .before .before .send-stage in stages.step-sends (planOf (A .nest)) (A .source .now) (stateOf (A .memories .now) (A .buffer .now) (A .progress .now) (A .status .now)) (A .b) (S .pre .1 .fit) (S .pre .1 .processor) (omega (arith, c .before .before .before .before .before .before .before .before .before .before .before .before .before .before .before .before .tile-count .ensures .0, c .before .before .before .before .before .before .before .before .before .before .before .before .before .before .before .before .before .wide .ensures, c .before .before .before .before .before .before .before .before .before .before .before .before .before .before .before .if1 .left)) (c .before .before .before .before .before .before .before .before .before .before .before .before .before .before .tile-at .result) (c .before .before .before .before .before .before .before .before .before .before .before .before .before .before .tile-at .ensures .0 ∙ ap (λ (k : ℕ). getD (tilesOf (planOf (A .nest)) (A .b)) k 0) (c .before .before .before .before .before .before .before .before .before .before .before .before .before .before .before .before .before .wide .ensures)) (stateOf (A .memories .now) (G .last .1 .1 .1 .1 .0) (G .last .1 .1 .1 .1 .1 .0) (G .last .1 .1 .1 .1 .1 .1 .0)) (c .before .before .before .before .before .before .before .before .before .before .before .before .if2 .left) (c .before .before .before .before .before .before .before .before .before .before .before .if4 .left) (c .before .before .before .before .before .before .send-stage .ensures)
+returns-5 c = let S = c .before .before .before .before .before .before .before .before .before .before .before .before .before .before .before .before .before .before .before .before .before .before .before .before in let A = S .args in let G = c .before .before .before .before .before .before .send-stage in turns.step-sends (planOf (A .nest)) (A .source .now) (stateOf (A .memories .now) (A .buffer .now) (A .progress .now) (A .status .now)) (A .b) (S .pre .1 .fit) (S .pre .1 .processor) (omega (arith, c .before .before .before .before .before .before .before .before .before .before .before .before .before .before .before .before .tile-count .ensures .0, c .before .before .before .before .before .before .before .before .before .before .before .before .before .before .before .before .before .word-index .ensures, c .before .before .before .before .before .before .before .before .before .before .before .before .before .before .before .if1 .left)) (c .before .before .before .before .before .before .before .before .before .before .before .before .before .before .tile-at .result) (c .before .before .before .before .before .before .before .before .before .before .before .before .before .before .tile-at .ensures .0 ∙ ap (λ (k : ℕ). getD (tilesOf (planOf (A .nest)) (A .b)) k 0) (c .before .before .before .before .before .before .before .before .before .before .before .before .before .before .before .before .before .word-index .ensures)) (stateOf (A .memories .now) (G .last .1 .1 .1 .1 .0) (G .last .1 .1 .1 .1 .1 .0) (G .last .1 .1 .1 .1 .1 .1 .0)) (c .before .before .before .before .before .before .before .before .before .before .before .before .if2 .left) (c .before .before .before .before .before .before .before .before .before .before .before .if4 .left) (c .before .before .before .before .before .before .send-stage .ensures)
 
 pub step-spec : {M : Type 1} → statement M
 step-spec =
     tie.close
     (tie.spec
-    mul-wide
-    mul-wide-2
-    slice-read-wide
-    wide-requires
+    mul-word-index
+    mul-word-index-2
+    slice-read-word-index
+    word-index-requires
     tile-count-requires
     returns
     tile-at-requires

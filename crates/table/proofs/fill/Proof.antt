@@ -5,10 +5,10 @@ use Rattle.table.proofs.fill.Statement.{statement}
 use Rattle.table.proofs.fill.Tie as tie
 use Rattle.table.proofs.fill.Reads as reads
 use Rattle.table.proofs.fill.Lts as lts
-use Rattle.layout.proofs.parcel_length.Reads as parcel-length-reads
+use Rattle.table.specs.Table.{Filling}
 
 abbrev Inv-loop : tie.InvT-loop
-Inv-loop nest sizes lens₀ slots s₀ lens s = L.Filling nest lens s
+Inv-loop nest sizes lens₀ slots s₀ lens s = Filling nest lens s
 
 abbrev μ-loop : tie.MeasureT-loop
 μ-loop nest sizes lens₀ slots s₀ lens s = slots - s
@@ -19,31 +19,31 @@ mul-slots c = omega (arith, L.slots-small (c .before .args .nest) (c .before .ar
 loop-holds : tie.Need-loop-holds Inv-loop μ-loop
 loop-holds c = L.fill-start (c .before .args .nest) _ (c .before .pre .1)
 
-parcel-length-requires : tie.Need-parcel-length-requires Inv-loop μ-loop
-parcel-length-requires c κs =
-    let start = c .before .before .before in
-    (start .pre .0, L.under (start .args .nest) (start .args .sizes) (start .pre .0) (c .before .loop .s) (c .loop-test .taken))
+slot-length-requires : tie.Need-slot-length-requires Inv-loop μ-loop
+slot-length-requires c κs =
+    let start = c .before .before .before .before in
+    (start .pre .0, (L.under (start .args .nest) (start .args .sizes) (start .pre .0) (c .before .before .loop .s) (c .before .loop-test .taken), c .before .before .loop .inv))
 
 cast-lens : tie.Need-cast-lens Inv-loop μ-loop
-cast-lens c = omega (arith, c .parcel-length .ensures .1)
+cast-lens c = omega (arith, c .slot-length .ensures .1)
 
 mul-lens : tie.Need-mul-lens Inv-loop μ-loop
-mul-lens c = omega (arith, L.slots-small (c .before .before .before .before .args .nest) (c .before .before .before .before .args .sizes) (c .before .before .before .before .pre .0), c .before .loop-test .taken)
+mul-lens c = omega (arith, L.slots-small (c .before .before .before .before .before .args .nest) (c .before .before .before .before .before .args .sizes) (c .before .before .before .before .before .pre .0), c .before .before .loop-test .taken)
 
 element-write-lens : tie.Need-element-write-lens Inv-loop μ-loop
-element-write-lens c = omega (arith, L.slots-small (c .before .before .before .before .args .nest) (c .before .before .before .before .args .sizes) (c .before .before .before .before .pre .0), c .before .loop-test .taken, c .before .before .loop .inv .long)
+element-write-lens c = omega (arith, L.slots-small (c .before .before .before .before .before .args .nest) (c .before .before .before .before .before .args .sizes) (c .before .before .before .before .before .pre .0), c .before .before .loop-test .taken, c .before .before .before .loop .inv .long)
 
 add-s : tie.Need-add-s Inv-loop μ-loop
-add-s c = omega (arith, L.slots-small (c .before .before .before .before .args .nest) (c .before .before .before .before .args .sizes) (c .before .before .before .before .pre .0), c .before .loop-test .taken)
+add-s c = omega (arith, L.slots-small (c .before .before .before .before .before .args .nest) (c .before .before .before .before .before .args .sizes) (c .before .before .before .before .before .pre .0), c .before .before .loop-test .taken)
 
 loop-less : tie.Need-loop-less Inv-loop μ-loop
 loop-less c = omega arith
 
 loop-again : tie.Need-loop-again Inv-loop μ-loop
 loop-again c =
-    let start = c .before .before .before .before in
-    let turn = c .before .before .loop in
-    L.fill-turn (start .args .nest) (turn .lens) (turn .s) (c .parcel-length .result) (turn .inv) (L.under (start .args .nest) (start .args .sizes) (start .pre .0) (turn .s) (c .before .loop-test .taken)) (L.slots-few (start .args .nest) (start .pre .0 .accepted)) (c .parcel-length .ensures .0)
+    let start = c .before .before .before .before .before in
+    let turn = c .before .before .before .loop in
+    L.fill-turn (start .args .nest) (turn .lens) (turn .s) (c .slot-length .result) (turn .inv) (L.under (start .args .nest) (start .args .sizes) (start .pre .0) (turn .s) (c .before .before .loop-test .taken)) (L.slots-few (start .args .nest) (start .pre .0 .accepted)) (c .slot-length .ensures .0)
 
 returns : tie.Need-returns Inv-loop μ-loop
 returns c =
@@ -59,7 +59,7 @@ fill-spec =
     μ-loop
     mul-slots
     loop-holds
-    parcel-length-requires
+    slot-length-requires
     cast-lens
     mul-lens
     element-write-lens

@@ -1,0 +1,53 @@
+-- The cells of a parcel by rows: the window that a moved cell has to come into, and where in a row a distance puts cells there.
+-- No sentence of document 01; proofs/ ties each to Messages.
+use Prim.Native.Nat.{ℕ, _+_, _*_, _-_, _≤_, _<_, min}
+use mathlib.Core.Path.{_≡_}
+use mathlib.Core.Bool.{Bool}
+use mathlib.Core.List.{List}
+use lib.ListN.{length, getD, take}
+use lib.Dec.{ltb}
+use Rattle.base.specs.Tests.{some}
+use Rattle.base.specs.Lists.{pack}
+use Rattle.nest.specs.declared.Nest.{Nest}
+use Rattle.nest.specs.Nest.{lengthOf, tileLength, cells}
+use Rattle.plan.specs.Messages.{reaches, slotDirection, slotParcel}
+use Rattle.plan.specs.Box.{boxCell}
+use Rattle.plan.proofs.Box.{boxParcel}
+use Rattle.layout.specs.declared.Bounds.{Bounds}
+use Rattle.layout.specs.Places.{puts}
+
+-- the window of the place `to`: a tile's components where spread, else the nest's
+pub record Windowed (x : Nest) (to low high : List ℕ) : Type 0 where
+  pub low-is : (j : ℕ) → j < x .spread → getD low j 0 ≡ getD to j 0 * tileLength x j
+  pub high-is : (j : ℕ) → j < x .spread → getD high j 0 ≡ min (getD to j 0 * tileLength x j + tileLength x j) (lengthOf x j)
+  pub low-rest : (j : ℕ) → x .spread ≤ j → j < x .dimensions → getD low j 0 ≡ 0
+  pub high-rest : (j : ℕ) → x .spread ≤ j → j < x .dimensions → getD high j 0 ≡ lengthOf x j
+
+-- in the row of place i, distance e puts a cell there just where its last component is below r
+pub record RowEnd (x : Nest) (to i : List ℕ) (e r : ℕ) : Type 0 where
+  pub is : (k : List ℕ) → ((j : ℕ) → j < x .dimensions - 1 → getD k j 0 ≡ getD i j 0) → ltb (getD k (x .dimensions - 1) 0) r ≡ puts x to k e
+
+-- so for each distance
+pub record Ends (x : Nest) (to i ends : List ℕ) : Type 0 where
+  pub each : (e : ℕ) → e < x .distances → RowEnd x to i e (getD ends e 0)
+
+-- of the w cells from the last component a on, the first r are below one of the n ends, and no others
+pub record Run (ends : List ℕ) (n a w r : ℕ) : Type 0 where
+  pub low : r ≤ w
+  pub is : (y : ℕ) → y < w → ltb y r ≡ some (λ e. ltb (a + y) (getD ends e 0)) n
+
+-- the w cells of the box from the first-th on, a row's, with the ends there
+pub record RowEnds (x : Nest) (s : ℕ) (b : Bounds) (first c a w : ℕ) (ends : List ℕ) : Type 0 where
+  pub room : first + w ≤ b .size
+  pub low : c + w ≤ cells x
+  pub small : a + w ≤ 1024
+  pub number : (y : ℕ) → y < w → c + y ≡ boxCell x (b .tile) (first + y)
+  pub tests : (y e : ℕ) → y < w → e < x .distances → ltb (a + y) (getD ends e 0) ≡ reaches x (b .tile) (slotDirection x s) (boxCell x (b .tile) (first + y)) e
+
+-- the first `count` words are those of the parcel's cells among the first q of the box; all will fit
+pub record PackedTo (x : Nest) (s : ℕ) (b : Bounds) (memory words : List ℕ) (count q : ℕ) : Type 0 where
+  pub low : q ≤ b .size
+  pub long : length words ≡ length (boxParcel x (b .tile) (slotDirection x s) (b .size))
+  pub small : b .size ≤ 16384
+  pub count-is : count ≡ length (boxParcel x (b .tile) (slotDirection x s) q)
+  pub is : take count words ≡ pack memory (boxParcel x (b .tile) (slotDirection x s) q)

@@ -1,0 +1,8 @@
+-- A state of which only the processors' records are looked at.
+-- No sentence of document 01; the contracts of the functions that are lent the records alone cite it.
+use Prim.Native.Nat.{ℕ}
+use mathlib.Core.List.{List, []}
+use Rattle.machine.specs.Machine.{State, stateOf}
+
+abbrev pub progressOnly : List ℕ → State
+progressOnly progress = stateOf [] [] progress []

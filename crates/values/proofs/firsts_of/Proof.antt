@@ -1,0 +1,53 @@
+-- `values::firsts_of` meets its contract: those of the first e distances.
+use borrow.Author.Needs.{needs}
+use native.Mathlib.Omega.{arith}
+use Prim.Native.Nat.{_-_}
+use Rattle.layout.specs.Rows.{firstRead}
+use Rattle.layout.proofs.Rows.{Eight, eight-none, eight-more, eight-end}
+use Rattle.values.proofs.firsts_of.Statement.{statement}
+use Rattle.values.proofs.firsts_of.Tie as tie
+
+abbrev Inv-loop : tie.InvT-loop
+Inv-loop nest components at first₀ n e₀ first e = Eight (firstRead nest at) (nest .distances) first e
+
+abbrev μ-loop : tie.MeasureT-loop
+μ-loop nest components at first₀ n e₀ first e = n - e
+
+loop-holds : tie.Need-loop-holds Inv-loop μ-loop
+loop-holds c = eight-none _ _ _ (omega arith)
+
+first-of-requires : tie.Need-first-of-requires Inv-loop μ-loop
+first-of-requires c κs = (c .before .before .pre .0, (c .loop-test .taken, c .before .before .pre .1))
+
+mul-first : tie.Need-mul-first Inv-loop μ-loop
+mul-first c = omega (arith, c .before .before .before .pre .0 .distances-most, c .before .loop-test .taken)
+
+array-write-first : tie.Need-array-write-first Inv-loop μ-loop
+array-write-first c = omega (arith, c .before .before .before .pre .0 .distances-most, c .before .loop-test .taken)
+
+add-e : tie.Need-add-e Inv-loop μ-loop
+add-e c = omega (arith, c .before .before .before .pre .0 .distances-most, c .before .loop-test .taken)
+
+loop-less : tie.Need-loop-less Inv-loop μ-loop
+loop-less c = search needs
+
+loop-again : tie.Need-loop-again Inv-loop μ-loop
+loop-again c = eight-more _ _ _ _ _ (c .before .before .loop .inv) (c .before .loop-test .taken) (c .before .before .before .pre .0 .distances-most) (c .first-of .ensures)
+
+returns : tie.Need-returns Inv-loop μ-loop
+returns c = record { each = eight-end _ _ _ _ (c .before .loop .inv) (c .loop-test .left) }
+
+pub firsts-of-spec : {M : Type 1} → statement M
+firsts-of-spec =
+    tie.close
+    (tie.spec
+    Inv-loop
+    μ-loop
+    loop-holds
+    first-of-requires
+    mul-first
+    array-write-first
+    add-e
+    loop-less
+    loop-again
+    returns)

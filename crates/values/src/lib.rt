@@ -1,0 +1,273 @@
+// Values in code: a cell, a row, a tile, and the sequential sweep of the whole grid.
+ghost use mathlib.Core.Path.{_≡_};
+ghost use Prim.Native.Nat.{ℕ, _+_, _*_, _-_, _%_, min, _≤_, _<_};
+ghost use lib.ListN.{length, getD};
+ghost use lib.Dec.{leb};
+ghost use Rattle.base.specs.Tests.{_and_, pick, product};
+ghost use Rattle.base.specs.Lists.{storeAll};
+ghost use Rattle.machine.specs.Machine.{sweep};
+ghost use Rattle.nest.proofs.Accepted.{Accepted};
+ghost use Rattle.nest.specs.Nest.{lengthOf, component, cells, tiles};
+ghost use Rattle.plan.specs.Geometry.{rank, cellsOf, value};
+ghost use Rattle.plan.specs.Messages.{planOf};
+ghost use Rattle.layout.specs.Sizes.{Sized};
+ghost use Rattle.layout.specs.Places.{Has, Located, wordRead};
+ghost use Rattle.layout.specs.Rows.{firstRead, Firsts, Backs, Reads, Given, InRow, rowOf};
+use layout::Bounds;
+use layout::Cell;
+use layout::Sizes;
+use nest::Nest;
+
+// The word that distance e reads at the place, or the boundary's.
+fn word_read(nest: Nest, memory: &[u32], at: [usize; 4], e: usize) -> u64
+    requires { ⌜ Accepted nest × ((e < nest .distances) × ((length (now memory) ≡ cells nest) × ((j : ℕ) → j < nest .dimensions → getD at j 0 < getD (nest .lengths) j 0))) ⌝ }
+    ensures { λ r. ⌜ (r ≡ wordRead nest (now (memory .entry)) at e) × (r < 4294967296) ⌝ }
+{
+    let mut back = at;
+    let n = nest.dimensions;
+    for j in 0..n {
+        let d = nest.components[4 * e + j];
+        if at[j] < d {
+            return nest.boundary;
+        }
+        back[j] = at[j] - d;
+    }
+    let lengths = nest.lengths;
+    let c = layout::rank(lengths, back, n);
+    memory[c] as u64
+}
+
+// A cell's value from its number and place.
+fn value_at(nest: Nest, source: &[u32], memory: &[u32], cell: Cell) -> u32
+    requires { ⌜ Accepted nest × (Located nest (cell .number) cell × ((length (now source) ≡ cells nest) × (length (now memory) ≡ cells nest))) ⌝ }
+    ensures { λ r. ⌜ r ≡ value nest (now (source .entry)) (now (memory .entry)) (cell .number) ⌝ }
+{
+    let c = cell.number;
+    let at = cell.place;
+    let mut total = source[c] as u64;
+    let n = nest.distances;
+    for e in 0..n {
+        let w = word_read(nest, memory, at, e);
+        total += nest.weights[e] * w;
+    }
+    ((total >> nest.shift) % 4294967296) as u32
+}
+
+pub fn value(nest: Nest, sizes: Sizes, source: &[u32], memory: &[u32], cell: usize) -> u32
+    requires { ⌜ Sized nest sizes × ((cell < cells nest) × ((length (now source) ≡ cells nest) × (length (now memory) ≡ cells nest))) ⌝ }
+    ensures { λ r. ⌜ r ≡ value nest (now (source .entry)) (now (memory .entry)) cell ⌝ }
+{
+    let c = layout::cell_of(nest, cell);
+    value_at(nest, source, memory, c)
+}
+
+// Distance e, no component above its dimension's length.
+fn distance_of(nest: Nest, e: usize) -> [usize; 4]
+    requires { ⌜ Accepted nest × (e < nest .distances) ⌝ }
+    ensures { λ r. ⌜ Has r (λ j. min (component nest e j) (lengthOf nest j)) (nest .dimensions) ⌝ }
+{
+    let mut distance = [0; 4];
+    let n = nest.dimensions;
+    for j in 0..n {
+        distance[j] = layout::least(nest.components[4 * e + j], nest.lengths[j]);
+    }
+    distance
+}
+
+// How many cells back each distance reads: made once in a call, since a place moved by a distance moves its number so.
+fn backs_of(nest: Nest) -> [usize; 8]
+    requires { ⌜ Accepted nest ⌝ }
+    ensures { λ r. ⌜ Backs nest r ⌝ }
+{
+    let mut back = [0; 8];
+    let lengths = nest.lengths;
+    let n = nest.distances;
+    for e in 0..n {
+        let distance = distance_of(nest, e);
+        back[e] = layout::rank(lengths, distance, nest.dimensions);
+    }
+    back
+}
+
+// From which last component on distance e reads a cell, in the row of a place; 1024 if nowhere.
+fn first_of(nest: Nest, components: &[usize; 32], at: [usize; 4], e: usize) -> usize
+    requires { ⌜ Accepted nest × ((e < nest .distances) × Given nest (now components)) ⌝ }
+    ensures { λ r. ⌜ r ≡ firstRead nest at e ⌝ }
+{
+    let last = nest.dimensions - 1;
+    for j in 0..last {
+        if at[j] < components[4 * e + j] {
+            return 1024;
+        }
+    }
+    components[4 * e + last]
+}
+
+fn firsts_of(nest: Nest, components: &[usize; 32], at: [usize; 4]) -> [usize; 8]
+    requires { ⌜ Accepted nest × Given nest (now components) ⌝ }
+    ensures { λ r. ⌜ Firsts nest at r ⌝ }
+{
+    let mut first = [0; 8];
+    let n = nest.distances;
+    for e in 0..n {
+        first[e] = first_of(nest, components, at, e);
+    }
+    first
+}
+
+// The word that a distance reads at a cell, or the boundary's.
+fn word_at(
+    memory: &[u32],
+    cell: usize,
+    component: usize,
+    first: usize,
+    back: usize,
+    boundary: u64,
+) -> u64
+    requires { ⌜ (cell < length (now memory)) × ((boundary < 4294967296) × ((length (now memory) ≤ 16384) × (first ≤ component → back ≤ cell))) ⌝ }
+    ensures { λ r. ⌜ (r ≡ pick (leb first component) (getD (now (memory .entry)) (cell - back) 0) boundary) × (r < 4294967296) ⌝ }
+{
+    if component < first {
+        return boundary;
+    }
+    memory[cell - back] as u64
+}
+
+// The value of a cell in a row.
+fn value_in(
+    nest: Nest,
+    source: &[u32],
+    memory: &[u32],
+    first: &[usize; 8],
+    back: &[usize; 8],
+    weights: &[u64; 8],
+    cell: usize,
+    component: usize,
+) -> u32
+    requires { ⌜ Accepted nest × (Reads nest cell component (now first) (now back) (now weights) × ((length (now source) ≡ cells nest) × (length (now memory) ≡ cells nest))) ⌝ }
+    ensures { λ r. ⌜ r ≡ value nest (now (source .entry)) (now (memory .entry)) cell ⌝ }
+{
+    let mut total = source[cell] as u64;
+    let n = nest.distances;
+    for e in 0..n {
+        let w = word_at(memory, cell, component, first[e], back[e], nest.boundary);
+        total += weights[e] * w;
+    }
+    ((total >> nest.shift) % 4294967296) as u32
+}
+
+// The values of the `width` cells of a row from a cell on.
+fn value_row(
+    nest: Nest,
+    source: &[u32],
+    memory: &mut [u32],
+    first: &[usize; 8],
+    back: &[usize; 8],
+    weights: &[u64; 8],
+    cell: usize,
+    component: usize,
+    width: usize,
+)
+    requires { ⌜ Accepted nest × (InRow nest cell component width (now first) (now back) (now weights) × ((length (now source) ≡ cells nest) × (length (now memory) ≡ cells nest))) ⌝ }
+    ensures { λ _. ⌜ now (memory .exit) ≡ storeAll (value nest (now (source .entry))) (now (memory .entry)) (rowOf cell width) ⌝ }
+{
+    for y in 0..width {
+        let v = value_in(
+            nest,
+            source,
+            memory,
+            first,
+            back,
+            weights,
+            cell + y,
+            component + y,
+        );
+        memory[cell + y] = v;
+    }
+}
+
+// The same, from where the row's first cell is.
+fn row(
+    nest: Nest,
+    source: &[u32],
+    memory: &mut [u32],
+    components: &[usize; 32],
+    back: &[usize; 8],
+    weights: &[u64; 8],
+    cell: Cell,
+    width: usize,
+)
+    requires { ⌜ Accepted nest × (Located nest (cell .number) cell × ((length (now source) ≡ cells nest) × (length (now memory) ≡ cells nest))) ⌝ }
+    requires { ⌜ Given nest (now components) × (Backs nest (now back) × ((now weights ≡ nest .weights) × (getD (cell .place) (nest .dimensions - 1) 0 + width ≤ getD (nest .lengths) (nest .dimensions - 1) 0))) ⌝ }
+    ensures { λ _. ⌜ now (memory .exit) ≡ storeAll (value nest (now (source .entry))) (now (memory .entry)) (rowOf (cell .number) width) ⌝ }
+{
+    let at = cell.place;
+    let last = nest.dimensions - 1;
+    let first = firsts_of(nest, components, at);
+    value_row(
+        nest,
+        source,
+        memory,
+        &first,
+        back,
+        weights,
+        cell.number,
+        at[last],
+        width,
+    );
+}
+
+// The values of a tile's cells, in index order, row by row.
+pub fn calculate(nest: Nest, sizes: Sizes, source: &[u32], memory: &mut [u32], tile: usize)
+    requires { ⌜ Sized nest sizes × ((tile < tiles nest) × ((length (now source) ≡ cells nest) × (length (now memory) ≡ cells nest))) ⌝ }
+    ensures { λ _. ⌜ now (memory .exit) ≡ storeAll (value nest (now (source .entry))) (now (memory .entry)) (cellsOf nest tile) ⌝ }
+{
+    let bounds = layout::bounds_of(nest, sizes, tile);
+    let components = nest.components;
+    let weights = nest.weights;
+    let back = backs_of(nest);
+    let last = nest.dimensions - 1;
+    let lengths = bounds.lengths;
+    let rows = layout::product(lengths, last);
+    let width = lengths[last];
+    for r in 0..rows {
+        let cell = layout::cell_in(nest, bounds, r * width);
+        row(
+            nest,
+            source,
+            memory,
+            &components,
+            &back,
+            &weights,
+            cell,
+            width,
+        );
+    }
+}
+
+// The sequential sweep: all cells in index order, row by row.
+pub fn sweep(nest: Nest, sizes: Sizes, source: &[u32], grid: &mut [u32])
+    requires { ⌜ Sized nest sizes × ((length (now source) ≡ cells nest) × (length (now grid) ≡ cells nest)) ⌝ }
+    ensures { λ _. ⌜ now (grid .exit) ≡ sweep (planOf nest) (now (source .entry)) ⌝ }
+{
+    let components = nest.components;
+    let weights = nest.weights;
+    let back = backs_of(nest);
+    let last = nest.dimensions - 1;
+    let lengths = nest.lengths;
+    let rows = layout::product(lengths, last);
+    let width = lengths[last];
+    for r in 0..rows {
+        let cell = layout::cell_of(nest, r * width);
+        row(
+            nest,
+            source,
+            grid,
+            &components,
+            &back,
+            &weights,
+            cell,
+            width,
+        );
+    }
+}
