@@ -3,12 +3,12 @@ use Prim.Native.Nat.{ℕ, suc, _+_, _*_, _-_, _≤_, _<_}
 use mathlib.Core.Path.{_≡_, refl, sym, ap, _∙_, subst}
 use mathlib.Core.Logic.{_⊎_, inl, inr, _≢_}
 use mathlib.Core.Bool.{Bool, true, false}
-use mathlib.Core.List.{List, []}
+use mathlib.Core.List.{List}
 use native.Mathlib.Nat.{eq-or-lt-of-le, le-of-suc-le-suc}
 use native.Mathlib.Numerals.{add-one}
 use native.Mathlib.Omega.{arith}
 use lib.ListN.{length, getD, take, drop, set, replicate, length-set, length-replicate, getD-replicate, drop-of-length-le}
-use lib.Seq.{drop-cons, getD-set-same, getD-set-other, getD-take, getD-drop, ext-getD}
+use lib.Seq.{drop-cons, getD-set-same, getD-set-other, ext-getD}
 use lib.Dec.{eqb}
 use borrow.Author.Tests.{eq-eqb, ne-eqb}
 use borrow.Rule.Slice.PartMut.{putMid}
@@ -17,10 +17,9 @@ use Rattle.base.specs.Lists.{part, put, setAll, allAt, unpack, pack}
 use Rattle.base.proofs.Tests.{and-left, and-false, every-more, length-tabulate, tabulate-at}
 use Rattle.base.proofs.Lists.{part-length, piece-fits}
 use Rattle.machine.specs.Plan.{Message, Plan, offset, words, heldBy, duesOf}
-use Rattle.machine.specs.Machine.{stateOf, placeOf, unpackAll, collected}
+use Rattle.machine.specs.Machine.{placeOf, unpackAll}
 use Rattle.nest.specs.declared.Nest.{Nest}
 use Rattle.nest.specs.Nest.{cells}
-use Rattle.plan.specs.Geometry.{tileOf, processorOf}
 use Rattle.plan.specs.Messages.{slotParcel, messages, planOf}
 use Rattle.table.specs.declared.Place.{Place}
 use Rattle.table.specs.Table.{Placed}
@@ -232,20 +231,5 @@ module _ (f : ℕ → ℕ) (old : List ℕ) where
       ext-getD 0 new (tabulate f n) (g .long ∙ e ∙ sym (length-tabulate f n))
       (λ j l. g .each j (omega (arith, g .long)) ∙ sym (tabulate-at f n j (omega (arith, g .long))))
 
--- ---- collecting
-
--- the word of cell c in the memory of its tile's processor
-abbrev pub cellWord : Nest → List ℕ → ℕ → ℕ
-cellWord x memories c = getD (part memories (processorOf x (tileOf x c) * cells x) (cells x)) c 0
-
-pub cell-word : (x : Nest) (memories : List ℕ) (c t b k : ℕ) → c < cells x → t ≡ tileOf x c → b ≡ processorOf x t → k ≡ cells x
-    → getD memories (b * k + c) 0 ≡ cellWord x memories c
-unfolding part
-cell-word x memories c t b k h e q z =
-    rw (z, q, e)
-    (sym (getD-take (cells x) (drop (processorOf x (tileOf x c) * cells x) memories) c 0 h ∙ getD-drop (processorOf x (tileOf x c) * cells x) memories c 0))
-
-pub collected-is : (x : Nest) (memories old new : List ℕ) (i k : ℕ) → Stored (cellWord x memories) old new i → length old ≡ cells x → k ≡ cells x → k ≤ i
-    → new ≡ collected (planOf x) (stateOf memories [] [] [])
-unfolding collected
-collected-is x memories old new i k g e z h = stored-all (cellWord x memories) old new i (cells x) g e (omega arith)
+pub stored-list : (old words new : List ℕ) (i : ℕ) → Stored (λ j. getD words j 0) old new i → length old ≡ length words → length new ≤ i → new ≡ words
+stored-list old words new i g e h = ext-getD 0 new words (g .long ∙ e) (λ j l. g .each j (omega arith))

@@ -297,19 +297,34 @@ pub fn tiles_left(nest: Nest, sizes: Sizes, progress: &[u32]) -> bool
     false
 }
 
-// Each cell from the memory of its tile's processor.
+// One row of the grid.
+fn copy_row(row: &mut [u32], words: &[u32])
+    requires { ⌜ length (now row) ≡ length (now words) ⌝ }
+    ensures { λ _. ⌜ now (row .exit) ≡ now (words .entry) ⌝ }
+{
+    let mut i = 0;
+    while i < row.len() {
+        row[i] = words[i];
+        i += 1;
+    }
+}
+
+// Each cell from the memory of its tile's processor. The last dimension is never spread, so a row has one processor.
 pub fn copy_cells(nest: Nest, sizes: Sizes, memories: &[u32], grid: &mut [u32])
     requires { ⌜ Sized nest sizes × ((length (now memories) ≡ processors nest * cells nest) × (length (now grid) ≡ cells nest)) ⌝ }
     ensures { λ _. ⌜ now (grid .exit) ≡ collected (planOf nest) (stateOf (now (memories .entry)) [] [] []) ⌝ }
 {
     let cells = sizes.cells;
+    let width = nest.lengths[nest.dimensions - 1];
     let mut c = 0;
     while c < cells {
         let tile = tile_of(nest, sizes, c);
         let b = processor_of(nest, sizes, tile);
-        let at = b * cells + c;
-        grid[c] = memories[at];
-        c += 1;
+        let from = b * cells + c;
+        let to = from + width;
+        let end = c + width;
+        copy_row(&mut grid[c..end], &memories[from..to]);
+        c = end;
     }
 }
 
