@@ -1,163 +1,139 @@
--- A processor's tiles, counted: the product of its shares of the dimensions.
+-- A processor's shares of the dimensions: its tiles counted, and the tile after so many others.
 use Prim.Native.Nat.{ℕ, zero, suc, _+_, _*_, _-_, _/_, _%_, _≤_, _<_}
 use mathlib.Core.Path.{_≡_, refl, sym, ap, _∙_}
+use mathlib.Core.Logic.{_⊎_, inl, inr}
 use mathlib.Core.Bool.{Bool, true, false}
 use mathlib.Core.List.{List, [], _∷_, _++_, map}
-use native.Mathlib.Nat.{add-div-right, div-one, div-eq-of-lt, div-le-self, mod-eq-of-lt, mul-le-mul, mul-le-mul-left, mul-le-mul-right, mul-one, one-mul, suc-mul, zero-mul}
-use native.Mathlib.Numerals.{add-one}
+use native.Mathlib.Nat.{add-div-right, add-mul, div-add-mod', div-le-self, div-lt-iff-lt-mul, div-one, eq-or-lt-of-le, le-div-iff-mul-le, le-of-suc-le-suc, mod-eq-of-lt, mod-lt, mod-one, mul-assoc, mul-comm, mul-le-mul-left, mul-le-mul-right, mul-one, one-mul, suc-mul, zero-mul}
 use native.Mathlib.Decide.{decLt}
 use native.Mathlib.Omega.{arith}
-use lib.ListN.{length, getD, length-append}
+use lib.ListN.{length, getD, length-append, length-map, List·getD-append}
+use lib.Seq.{getD-append-add}
 use lib.Dec.{ltb, eqb}
-use borrow.Author.Tests.{lt-ltb, le-ltb, ne-eqb}
-use Rattle.base.specs.Tests.{pick, product, those, keep}
+use borrow.Author.Tests.{lt-ltb, le-ltb, ltb-true, ne-eqb, eq-eqb}
+use Rattle.base.specs.Tests.{pick, product, those}
 use Rattle.base.proofs.Tests.{pick-true, pick-false}
 use Rattle.machine.specs.Plan.{tilesOf}
 use Rattle.nest.specs.declared.Nest.{Nest}
 use Rattle.nest.proofs.Accepted.{Accepted}
 use Rattle.nest.specs.Nest.{lengthOf, tileLength, processorCount, tileCount, tiles, processors}
-use Rattle.plan.specs.Geometry.{place, tileAt, processorOf}
+use Rattle.plan.specs.Geometry.{rank, place, tileAt, processorOf}
 use Rattle.plan.specs.Messages.{planOf}
 use Rattle.plan.specs.Report.{values, doLoop, tileLoop, within, extend, loops}
-use Rattle.plan.proofs.Rank.{Positive, place-low}
-use Rattle.plan.proofs.Tiles.{tileCount-pos, processorOf-low}
+use Rattle.plan.proofs.Rank.{Positive, place-last, place-before, place-low, rank-same, div-le}
+use Rattle.plan.proofs.Tiles.{processorOf-low}
 use Rattle.plan.proofs.Grid.{keep-nothing}
 use Rattle.plan.proofs.Loops.{loops-are-tiles}
-use Rattle.layout.specs.Places.{nth, Has, Places, Placed}
-use Rattle.layout.proofs.Dims.{product-same, product-pos, place-lengths}
-use Rattle.layout.proofs.Cells.{four, zeros, counts-countable}
+use Rattle.layout.specs.declared.Share.{Share}
+use Rattle.layout.specs.Places.{nth, Has, Shared}
+use Rattle.layout.proofs.Dims.{product-pos, place-lengths, rank-lengths}
+use Rattle.layout.proofs.Cells.{across-product, across-countable, count-most}
 
--- the share of one dimension, as the code has it
-abbrev pub share : List ℕ → List ℕ → List ℕ → ℕ → ℕ → ℕ
-share counts across at spread j =
-    pick (ltb j spread) (pick (ltb (getD at j 0) (getD across j 0)) ((getD across j 0 - 1 - getD at j 0) / getD counts j 0 + 1) 0) (getD across j 0)
-
--- ---- lengths of loops
+-- ---- loops over lists
 
 values-length : (s p n : ℕ) → length (values s p n) ≡ n
 unfolding values
 values-length s p zero = refl
 values-length s p (suc n) = ap suc (values-length (s + p) p n)
 
-map-length : {A B : Type 0} (f : A → B) (l : List A) → length (map f l) ≡ length l
-map-length f [] = refl
-map-length f (y ∷ l) = ap suc (map-length f l)
+values-at : (s p n i : ℕ) → i < n → getD (values s p n) i 0 ≡ s + i * p
+unfolding values
+values-at s p zero i h = absurd (omega arith)
+values-at s p (suc n) zero h = omega (arith, zero-mul p)
+values-at s p (suc n) (suc i) h = omega (arith, values-at (s + p) p n i (omega arith), suc-mul i p)
 
-within-length : {A B : Type 0} (body : A → List B) (m : ℕ) → ((a : A) → length (body a) ≡ m) → (l : List A) → length (within body l) ≡ length l * m
-unfolding within
-within-length body m h [] = rw zero-mul
-within-length body m h (y ∷ l) = length-append (body y) (within body l) ∙ omega (arith, h y, within-length body m h l, suc-mul (length l) m)
+module _ {A B : Type 0} (body : A → List B) (m : ℕ) (h : (a : A) → length (body a) ≡ m) where
+  within-length : (l : List A) → length (within body l) ≡ length l * m
+  unfolding within
+  within-length [] = rw zero-mul
+  within-length (y ∷ l) = length-append (body y) (within body l) ∙ omega (arith, h y, within-length l, suc-mul (length l) m)
 
-loops-length : (x : Nest) (p : ℕ → ℕ) (l : ℕ) → length (loops x p l) ≡ product (λ j. length (tileLoop x p j)) l
-unfolding loops product
-loops-length x p zero = refl
-loops-length x p (suc l) =
-    within-length (λ t. map (extend t l) (tileLoop x p l)) (length (tileLoop x p l)) (λ t. map-length (extend t l) (tileLoop x p l)) (loops x p l)
-    ∙ ap (λ (n : ℕ). n * length (tileLoop x p l)) (loops-length x p l)
+  within-at : (l : List A) (q r : ℕ) (d : A) (b : B) → q < length l → r < m → getD (within body l) (q * m + r) b ≡ getD (body (getD l q d)) r b
+  unfolding within
+  within-at [] q r d b k s = absurd (omega arith)
+  within-at (y ∷ l) zero r d b k s =
+      let e : 0 * m + r ≡ r = omega (arith, zero-mul m) in
+      ap (λ (i : ℕ). getD (body y ++ within body l) i b) e ∙ List·getD-append (body y) (within body l) b r (omega (arith, h y))
+  within-at (y ∷ l) (suc q) r d b k s =
+      let e : suc q * m + r ≡ length (body y) + (q * m + r) = omega (arith, h y, suc-mul q m) in
+      ap (λ (i : ℕ). getD (body y ++ within body l) i b) e ∙ getD-append-add (body y) (within body l) (q * m + r) b ∙ within-at l q r d b (omega arith) s
 
--- ---- each dimension's
+loop-same : {s t b c p q : ℕ} → s ≡ t → b ≡ c → p ≡ q → doLoop s b p ≡ values t q ((c + q - t) / q)
+unfolding doLoop
+loop-same e f g = rw (e, f, g)
 
-steps : (b p s : ℕ) → 1 ≤ p → s < p → (b + p - s) / p ≡ pick (ltb s (b + 1)) ((b + 1 - 1 - s) / p + 1) 0
-steps b p s h l = go (decLt s (b + 1))
-  where
-    go : Dec (s < b + 1) → (b + p - s) / p ≡ pick (ltb s (b + 1)) ((b + 1 - 1 - s) / p + 1) 0
-    go (yes k) =
-        let z : b + p - s ≡ b - s + p = omega arith in
-        let y : b + 1 - 1 - s ≡ b - s = omega arith in
-        ap (λ (a : ℕ). a / p) z ∙ omega (arith, add-div-right (b - s) h) ∙ ap (λ (a : ℕ). a / p + 1) (sym y) ∙ sym (pick-true _ _ _ (lt-ltb s (b + 1) k))
-    go (no k) = div-eq-of-lt (omega arith) ∙ sym (pick-false _ _ _ (le-ltb s (b + 1) (omega arith)))
+-- ---- Figure 4's loops, each over n values from f on by s: how many places they meet, and component j of the c-th
 
-module _ (x : Nest) (ok : Accepted x) (p : ℕ) (across at : List ℕ) (a : Has across (tileCount x) (x .dimensions)) (b : Has at (place (processorCount x) (x .spread) p) (x .spread)) where
-  loop-length : (j : ℕ) → j < x .dimensions → length (tileLoop x (place (processorCount x) (x .spread) p) j) ≡ share (x .counts) across at (x .spread) j
-  unfolding tileLoop doLoop tileCount
-  loop-length j h = go (decLt j (x .spread))
+map-at : {A B : Type 0} (f : A → B) (l : List A) (i : ℕ) (d : A) (e : B) → i < length l → getD (map f l) i e ≡ f (getD l i d)
+map-at f [] i d e h = absurd (omega arith)
+map-at f (y ∷ l) zero d e h = refl
+map-at f (y ∷ l) (suc i) d e h = map-at f l i d e (omega arith)
+
+pos-left : (a b : ℕ) → 1 ≤ a * b → 1 ≤ a
+pos-left zero b h = absurd (omega (arith, zero-mul b))
+pos-left (suc a) b h = omega arith
+
+pos-right : (a b : ℕ) → 1 ≤ a * b → 1 ≤ b
+pos-right a b h = pos-left b a (omega (arith, mul-comm a b))
+
+module _ (x : Nest) (at f s n : ℕ → ℕ) (m : ℕ) (is : (j : ℕ) → j < m → tileLoop x at j ≡ values (f j) (s j) (n j)) where
+  abbrev inner : ℕ → (ℕ → ℕ) → List (ℕ → ℕ)
+  inner l t = map (extend t l) (tileLoop x at l)
+
+  loop-length : (j : ℕ) → j < m → length (tileLoop x at j) ≡ n j
+  loop-length j h = ap length (is j h) ∙ values-length (f j) (s j) (n j)
+
+  inner-length : (l : ℕ) → l < m → (t : ℕ → ℕ) → length (inner l t) ≡ n l
+  inner-length l h t = length-map (tileLoop x at l) (extend t l) ∙ loop-length l h
+
+  loops-length : (l : ℕ) → l ≤ m → length (loops x at l) ≡ product n l
+  unfolding loops product
+  loops-length zero h = refl
+  loops-length (suc l) h = within-length (inner l) (n l) (inner-length l h) (loops x at l) ∙ ap (λ (k : ℕ). k * n l) (loops-length l (omega arith))
+
+  inner-at : (l : ℕ) → l < m → (t : ℕ → ℕ) (r : ℕ) → r < n l → getD (inner l t) r (λ j. 0) ≡ extend t l (f l + r * s l)
+  inner-at l h t r k =
+      map-at (extend t l) (tileLoop x at l) r 0 (λ j. 0) (omega (arith, loop-length l h))
+      ∙ ap (extend t l) (ap (λ (v : List ℕ). getD v r 0) (is l h) ∙ values-at (f l) (s l) (n l) r k)
+
+  loops-at : (l : ℕ) → l ≤ m → (c : ℕ) → c < product n l → (j : ℕ) → j < l → getD (loops x at l) c (λ j. 0) j ≡ f j + place n l c j * s j
+  unfolding loops product
+  loops-at zero h c k j b = absurd (omega arith)
+  loops-at (suc l) h c k j b =
+      ap (λ (i : ℕ). getD (within (inner l) (loops x at l)) i (λ j. 0) j) (sym (div-add-mod' c (n l)))
+      ∙ ap (λ (t : ℕ → ℕ). t j) (within-at (inner l) (n l) (inner-length l h) (loops x at l) (c / n l) (c % n l) (λ j. 0) (λ j. 0) (omega (arith, loops-length l (omega arith), quotient)) rest ∙ inner-at l h (getD (loops x at l) (c / n l) (λ j. 0)) (c % n l) rest)
+      ∙ go (eq-or-lt-of-le (le-of-suc-le-suc b)) (loops-at l (omega arith) (c / n l) quotient)
     where
-      go : Dec (j < x .spread) → length (tileLoop x (place (processorCount x) (x .spread) p) j) ≡ share (x .counts) across at (x .spread) j
-      go (yes l) =
-          let low : place (processorCount x) (x .spread) p j < processorCount x j = place-low (processorCount x) (x .spread) p (ok .manned) j l in
-          ap length (pick-true _ _ _ (lt-ltb j (x .spread) l))
-          ∙ values-length _ _ _
-          ∙ ap (λ (s : ℕ). ((lengthOf x j - 1) / tileLength x j + processorCount x j - s) / processorCount x j) (mod-eq-of-lt low ∙ sym (b .each j l))
-          ∙ steps ((lengthOf x j - 1) / tileLength x j) (processorCount x j) (getD at j 0) (ok .manned j l) (omega (arith, b .each j l))
-          ∙ ap (λ (n : ℕ). pick (ltb (getD at j 0) n) ((n - 1 - getD at j 0) / processorCount x j + 1) 0) (sym (a .each j h))
-          ∙ sym (pick-true _ _ _ (lt-ltb j (x .spread) l))
-      go (no l) =
-          ap length (pick-false _ _ _ (le-ltb j (x .spread) (omega arith)))
-          ∙ values-length _ _ _
-          ∙ div-one _
-          ∙ omega (arith, a .each j h)
-          ∙ sym (pick-false _ _ _ (le-ltb j (x .spread) (omega arith)))
+      positive : 1 ≤ n l
+      positive = pos-right (product n l) (n l) (omega arith)
 
-  pub count-is : p < processors x → product (share (x .counts) across at (x .spread)) (x .dimensions) ≡ length (tilesOf (planOf x) p)
-  count-is low =
-      sym (product-same _ _ (x .dimensions) loop-length)
-      ∙ sym (loops-length x (place (processorCount x) (x .spread) p) (x .dimensions))
-      ∙ sym (map-length (tileAt x) (loops x (place (processorCount x) (x .spread) p) (x .dimensions)))
-      ∙ ap length (loops-are-tiles x ok p low)
+      quotient : c / n l < product n l
+      quotient = div-lt-iff-lt-mul positive .1 k
 
-pub no-tiles : (x : Nest) → Accepted x → (p : ℕ) → processors x ≤ p → length (tilesOf (planOf x) p) ≡ 0
-unfolding those
-no-tiles x ok p h = ap length (keep-nothing (λ t. eqb (processorOf x t) p) (tiles x) (λ t l. ne-eqb (processorOf x t) p (λ e. omega (arith, processorOf-low x ok t))))
+      rest : c % n l < n l
+      rest = mod-lt c positive
 
--- ---- bounds
+      go : (j ≡ l) ⊎ (j < l) → ((i : ℕ) → i < l → getD (loops x at l) (c / n l) (λ j. 0) i ≡ f i + place n l (c / n l) i * s i)
+          → extend (getD (loops x at l) (c / n l) (λ j. 0)) l (f l + c % n l * s l) j ≡ f j + place n (suc l) c j * s j
+      go (inl e) ih = pick-true _ _ _ (eq-eqb j l e) ∙ rw (e, place-last n l c)
+      go (inr e) ih = pick-false _ _ _ (ne-eqb j l (λ (q : j ≡ l). omega arith)) ∙ ih j e ∙ rw (place-before n l c j e)
 
-product-le : (f g : ℕ → ℕ) (l : ℕ) → ((j : ℕ) → j < l → f j ≤ g j) → product f l ≤ product g l
-unfolding product
-product-le f g zero h = omega arith
-product-le f g (suc l) h = mul-le-mul (product-le f g l (λ j k. h j (omega arith))) (h l (omega arith))
+-- ---- dimension by dimension, from the last on: the first j components of c over N are those of r
 
-product-prefix : (N : ℕ → ℕ) (l j : ℕ) → Positive N l → j ≤ l → product N j ≤ product N l
-unfolding product
-product-prefix N zero j p h = let z : j ≡ 0 = omega arith in rw z (omega arith)
-product-prefix N (suc l) j p h = go (decLt l j) (λ k. product-prefix N l j (λ q r. p q (omega arith)) k)
-  where
-    go : Dec (l < j) → (j ≤ l → product N j ≤ product N l) → product N j ≤ product N l * N l
-    go (yes k) ih = let z : j ≡ suc l = omega arith in rw z (omega arith)
-    go (no k) ih = omega (arith, ih (omega arith), mul-le-mul-left (product N l) (p l (omega arith)), mul-one (product N l))
+pub record Peeled (N : ℕ → ℕ) (m c j r : ℕ) : Type 0 where
+  pub each : (i : ℕ) → i < j → place N j r i ≡ place N m c i
 
-share-most : (counts across at : List ℕ) (spread j : ℕ) → share counts across at spread j ≤ getD across j 0
-share-most counts across at spread j = go (decLt j spread) (decLt (getD at j 0) (getD across j 0))
-  where
-    go : Dec (j < spread) → Dec (getD at j 0 < getD across j 0) → share counts across at spread j ≤ getD across j 0
-    go (no l) d = omega (arith, pick-false _ (pick (ltb (getD at j 0) (getD across j 0)) ((getD across j 0 - 1 - getD at j 0) / getD counts j 0 + 1) 0) (getD across j 0) (le-ltb j spread (omega arith)))
-    go (yes l) (yes k) =
-        omega (
-          arith,
-          pick-true _ (pick (ltb (getD at j 0) (getD across j 0)) ((getD across j 0 - 1 - getD at j 0) / getD counts j 0 + 1) 0) (getD across j 0) (lt-ltb j spread l),
-          pick-true _ ((getD across j 0 - 1 - getD at j 0) / getD counts j 0 + 1) 0 (lt-ltb (getD at j 0) (getD across j 0) k),
-          div-le-self (getD across j 0 - 1 - getD at j 0) (getD counts j 0),
-        )
-    go (yes l) (no k) =
-        omega (
-          arith,
-          pick-true _ (pick (ltb (getD at j 0) (getD across j 0)) ((getD across j 0 - 1 - getD at j 0) / getD counts j 0 + 1) 0) (getD across j 0) (lt-ltb j spread l),
-          pick-false _ ((getD across j 0 - 1 - getD at j 0) / getD counts j 0 + 1) 0 (le-ltb (getD at j 0) (getD across j 0) (omega arith)),
-        )
+peeled-none : (N : ℕ → ℕ) (m c : ℕ) → Peeled N m c m c
+peeled-none N m c = record { each = λ i h. refl }
 
-pub shares-few : (x : Nest) (ok : Accepted x) (counts across at : List ℕ) → Has across (tileCount x) (x .dimensions) → (j : ℕ) → j ≤ x .dimensions → product (share counts across at (x .spread)) j ≤ 1024
-unfolding tiles
-shares-few x ok counts across at a j h =
-    omega (arith, product-le (share counts across at (x .spread)) (tileCount x) j (λ q k. omega (arith, share-most counts across at (x .spread) q, a .each q (omega arith))), product-prefix (tileCount x) (x .dimensions) j (tileCount-pos x ok) h, ok .tiles-most)
+module _ (N : ℕ → ℕ) (m c l r : ℕ) (p : Peeled N m c (suc l) r) where
+  peeled-last : r % N l ≡ place N m c l
+  peeled-last = sym (place-last N l r) ∙ p .each l (omega arith)
 
--- ---- counting
+  peeled-more : Peeled N m c l (r / N l)
+  peeled-more = record { each = λ i h. sym (place-before N l r i h) ∙ p .each i (omega arith) }
 
-pub record Sharing (counts across at : List ℕ) (spread m n j : ℕ) : Type 0 where
-  pub low : j ≤ m
-  pub is : n ≡ product (share counts across at spread) j
-
-module _ (counts across at : List ℕ) (spread m : ℕ) where
-  pub sharing-none : Sharing counts across at spread m 1 0
-  unfolding product
-  sharing-none = record { low = omega arith; is = refl }
-
-  pub sharing-more : (n j v : ℕ) → Sharing counts across at spread m n j → j < m → v ≡ share counts across at spread j → Sharing counts across at spread m (n * v) (j + 1)
-  unfolding product
-  sharing-more n j v s h e = record { low = omega arith; is = rw (add-one j) (ap (λ (a : ℕ). a * v) (s .is) ∙ ap (λ (a : ℕ). product (share counts across at spread) j * a) e) }
-
-  pub sharing-end : (n j : ℕ) → Sharing counts across at spread m n j → m ≤ j → n ≡ product (share counts across at spread) m
-  sharing-end n j s h = let z : j ≡ m = omega (arith, s .low) in rw z at (s .is)
-
--- ---- the processor's place
+-- ---- bounds of products
 
 factor : (N : ℕ → ℕ) (l j : ℕ) → Positive N l → j < l → N j ≤ product N l
 unfolding product
@@ -168,12 +144,318 @@ factor N (suc l) j p h = go (decLt j l) (λ k. factor N l j (λ q r. p q (omega 
     go (yes k) ih = omega (arith, ih k, mul-le-mul-left (product N l) (p l (omega arith)), mul-one (product N l))
     go (no k) ih = let z : j ≡ l = omega arith in rw z (omega (arith, mul-le-mul-right (N l) (product-pos N l (λ q r. p q (omega arith))), one-mul (N l)))
 
-pub count-few : (x : Nest) → Accepted x → (j : ℕ) → j < x .spread → getD (x .counts) j 0 ≤ 4096
-unfolding processors
-count-few x ok j h = omega (arith, factor (processorCount x) (x .spread) j (ok .manned) h, ok .processors-most)
+-- factors of what is not nothing
+factors-pos : (N : ℕ → ℕ) (l : ℕ) → 1 ≤ product N l → Positive N l
+unfolding product
+factors-pos N zero h j k = absurd (omega arith)
+factors-pos N (suc l) h j k = go (eq-or-lt-of-le (le-of-suc-le-suc k)) (factors-pos N l (pos-left (product N l) (N l) h))
+  where
+    go : (j ≡ l) ⊎ (j < l) → Positive N l → 1 ≤ N j
+    go (inl e) ih = rw e (pos-right (product N l) (N l) h)
+    go (inr e) ih = ih j e
 
-pub counts-places : (x : Nest) → Accepted x → Places (x .counts) (four 0) (x .spread)
-counts-places x ok = record { low = counts-countable x ok .low; positive = ok .manned; small = λ j h. omega (arith, zeros j, count-few x ok j h) }
+-- ---- one turn, in numbers
 
-pub placed-processor : (x : Nest) (p : ℕ) (r : List ℕ) → Placed (x .counts) (four 0) p (x .spread) r → Has r (place (processorCount x) (x .spread) p) (x .spread)
-placed-processor x p r q = record { each = λ j h. omega (arith, q .first j h, zeros j) }
+share-most : (b s f : ℕ) → 1 ≤ b → 1 ≤ s → (b - 1 + s - f) / s ≤ b
+share-most b s f h k = omega (arith, div-le s (b - 1 + s - f) (b - 1 + s) k (omega arith), add-div-right (b - 1) k, div-le-self (b - 1) s)
+
+share-within : (b s f k : ℕ) → 1 ≤ b → f < s → k < (b - 1 + s - f) / s → f + k * s < b
+share-within b s f k h l q = omega (arith, le-div-iff-mul-le {k = s} {x = suc k} {y = b - 1 + s - f} (omega arith) .0 q, suc-mul k s)
+
+value-same : (k : ℕ) {f g i t s u q : ℕ} → f ≡ g → t ≡ q → k % q ≡ i → s ≡ u → f + k % t * s ≡ g + i * u
+value-same k e z y w = rw (e, z, y, w)
+
+count-step : (n v a b : ℕ) → n * (a * v) ≡ b → n * v * a ≡ b
+count-step n v a b e = mul-assoc n v a ∙ ap (λ (k : ℕ). n * k) (mul-comm v a) ∙ e
+
+few-step : (n v c a b : ℕ) → v ≤ c → n * (a * c) ≤ b → n * v * a ≤ b
+few-step n v c a b h e = omega (arith, count-step n v a (n * (a * v)) refl, mul-le-mul-left n (mul-le-mul-left a h))
+
+rank-step : (r c u w t : ℕ) → (r * c + u) * w + t ≡ r * (w * c) + (t + u * w)
+rank-step r c u w t = omega (arith, add-mul (r * c) u w, mul-assoc r c w, ap (λ (k : ℕ). r * k) (mul-comm c w))
+
+weight-step : (a c w b : ℕ) → a * c * w ≡ b → a * (w * c) ≡ b
+weight-step a c w b e = ap (λ (k : ℕ). a * k) (mul-comm w c) ∙ sym (mul-assoc a c w) ∙ e
+
+under-step : (t u w c : ℕ) → t < w → u < c → t + u * w < w * c
+under-step t u w c h k = omega (arith, mul-le-mul-right w k, suc-mul u w, mul-comm c w)
+
+weight-most : (a w b : ℕ) → 1 ≤ a → a * w ≡ b → w ≤ b
+weight-most a w b h e = omega (arith, mul-le-mul-right w h, one-mul w)
+
+-- ---- one share
+
+module _ (b c p : ℕ) (spread : Bool) where
+  pub shared-all : spread ≡ false → 1 ≤ b → Shared b (pick spread c 1) p (record { first = 0; stride = 1; tiles = b; rest = p })
+  shared-all e h =
+      rw (pick-false spread c 1 e) (record { first = sym (mod-one p); stride-is = refl; tiles = sym (div-one _ ∙ omega (arith, mod-one p)); rest = sym (div-one p) })
+
+  pub shared-some : spread ≡ true → Shared b (pick spread c 1) p (record { first = p % c; stride = c; tiles = (b - 1 + c - p % c) / c; rest = p / c })
+  shared-some e = rw (pick-true spread c 1 e) (record { first = refl; stride-is = refl; tiles = refl; rest = refl })
+
+-- ---- the shares, as the code has them
+
+module _ (counts across : List ℕ) (spread m p : ℕ) where
+  abbrev pub stride : ℕ → ℕ
+  stride j = pick (ltb j spread) (getD counts j 0) 1
+
+  abbrev pub first : ℕ → ℕ
+  first j = place stride m p j
+
+  abbrev pub many : ℕ → ℕ
+  many j = (getD across j 0 - 1 + stride j - first j) / stride j
+
+  -- the tile after f others
+  abbrev pub after : ℕ → ℕ → ℕ
+  after f j = first j + place many m f j * stride j
+
+  pub record Counting (j rest n : ℕ) : Type 0 where
+    pub low : j ≤ m
+    pub peeled : Peeled stride m p j rest
+    pub is : n * product many j ≡ product many m
+    pub few : n * product (nth across) j ≤ product (nth across) m
+
+  pub record Finding (f j rest left weight tile : ℕ) : Type 0 where
+    pub low : j ≤ m
+    pub peeled : Peeled stride m p j rest
+    pub lefts : Peeled many m f j left
+    pub is : rank (nth across) (after f) m ≡ rank (nth across) (after f) j * weight + tile
+    pub few : product (nth across) j * weight ≡ product (nth across) m
+    pub under : tile < weight
+
+  -- what the code makes of a share, and where it stands then
+  pub record Turn (f l left weight tile : ℕ) (r : Share) : Type 0 where
+    pub some : 0 < r .tiles
+    pub within : r .first + left % r .tiles * r .stride < getD across l 0
+    pub room : tile + (r .first + left % r .tiles * r .stride) * weight < weight * getD across l 0
+    pub wide : weight * getD across l 0 ≤ 1024
+    pub next : Finding f l (r .rest) (left / r .tiles) (weight * getD across l 0) (tile + (r .first + left % r .tiles * r .stride) * weight)
+
+pub no-tiles : (x : Nest) → Accepted x → (p : ℕ) → processors x ≤ p → length (tilesOf (planOf x) p) ≡ 0
+unfolding those
+no-tiles x ok p h = ap length (keep-nothing (λ t. eqb (processorOf x t) p) (tiles x) (λ t l. ne-eqb (processorOf x t) p (λ e. omega (arith, processorOf-low x ok t))))
+
+module _ (x : Nest) (ok : Accepted x) (across : List ℕ) (a : Has across (tileCount x) (x .dimensions)) (p : ℕ) where
+  abbrev N : ℕ → ℕ
+  N = nth across
+
+  abbrev S : ℕ → ℕ
+  S = stride (x .counts) across (x .spread) (x .dimensions) p
+
+  abbrev F : ℕ → ℕ
+  F = first (x .counts) across (x .spread) (x .dimensions) p
+
+  abbrev M : ℕ → ℕ
+  M = many (x .counts) across (x .spread) (x .dimensions) p
+
+  -- ---- the strides
+
+  stride-in : (j : ℕ) → j < x .spread → S j ≡ processorCount x j
+  stride-in j h = pick-true _ _ _ (lt-ltb j (x .spread) h)
+
+  stride-out : (j : ℕ) → x .spread ≤ j → S j ≡ 1
+  stride-out j h = pick-false _ _ _ (le-ltb j (x .spread) h)
+
+  stride-pos : (j : ℕ) → 1 ≤ S j
+  stride-pos j = go (decLt j (x .spread))
+    where
+      go : Dec (j < x .spread) → 1 ≤ S j
+      go (yes h) = rw (stride-in j h) (ok .manned j h)
+      go (no h) = omega (arith, stride-out j (omega arith))
+
+  pub count-few : (j : ℕ) → j < x .spread → getD (x .counts) j 0 ≤ 4096
+  unfolding processors
+  count-few j h = omega (arith, factor (processorCount x) (x .spread) j (ok .manned) h, ok .processors-most)
+
+  first-low : (j : ℕ) → j < x .dimensions → F j < S j
+  first-low = place-low S (x .dimensions) p (λ j h. stride-pos j)
+
+  -- the processor's place, 0 in the dimensions that are not spread
+  first-in : (l j : ℕ) → x .spread ≤ l → j < x .spread → place S l p j ≡ place (processorCount x) (x .spread) p j
+  first-in zero j h k = absurd (omega arith)
+  first-in (suc l) j h k = go (eq-or-lt-of-le h) (λ q. first-in l j q k)
+    where
+      go : (x .spread ≡ suc l) ⊎ (x .spread < suc l) → (x .spread ≤ l → place S l p j ≡ place (processorCount x) (x .spread) p j) → place S (suc l) p j ≡ place (processorCount x) (x .spread) p j
+      go (inl e) ih = ap (λ (i : ℕ). place S i p j) (sym e) ∙ place-lengths S (processorCount x) (x .spread) p j stride-in
+      go (inr e) ih =
+          let le : x .spread ≤ l = le-of-suc-le-suc e in
+          place-before S l p j (omega arith) ∙ ap (λ (c : ℕ). place S l c j) (ap (λ (s : ℕ). p / s) (stride-out l le) ∙ div-one p) ∙ ih le
+
+  first-out : (j : ℕ) → j < x .dimensions → x .spread ≤ j → F j ≡ 0
+  first-out j h k = omega (arith, first-low j h, stride-out j k)
+
+  -- ---- each loop of Figure 4
+
+  abbrev at : ℕ → ℕ
+  at = place (processorCount x) (x .spread) p
+
+  last-is : (j : ℕ) → j < x .dimensions → (lengthOf x j - 1) / tileLength x j ≡ getD across j 0 - 1
+  unfolding tileCount
+  last-is j h = omega (arith, a .each j h)
+
+  loop-is : (j : ℕ) → j < x .dimensions → tileLoop x at j ≡ values (F j) (S j) (M j)
+  unfolding tileLoop
+  loop-is j h = go (decLt j (x .spread))
+    where
+      go : Dec (j < x .spread) → tileLoop x at j ≡ values (F j) (S j) (M j)
+      go (yes l) =
+          pick-true _ _ _ (lt-ltb j (x .spread) l)
+          ∙ loop-same (mod-eq-of-lt (place-low (processorCount x) (x .spread) p (ok .manned) j l) ∙ sym (first-in (x .dimensions) j (omega (arith, ok .spread-low)) l)) (last-is j h) (sym (stride-in j l))
+      go (no l) =
+          pick-false _ _ _ (le-ltb j (x .spread) (omega arith))
+          ∙ loop-same (sym (first-out j h (omega arith))) (last-is j h) (sym (stride-out j (omega arith)))
+
+  -- ---- its tiles
+
+  pub count-is : p < processors x → product M (x .dimensions) ≡ length (tilesOf (planOf x) p)
+  count-is low =
+      sym (loops-length x at F S M (x .dimensions) loop-is (x .dimensions) (omega arith))
+      ∙ sym (length-map (loops x at (x .dimensions)) (tileAt x))
+      ∙ ap length (loops-are-tiles x ok p low)
+
+  pub tile-is : p < processors x → (f : ℕ) → f < product M (x .dimensions) → rank N (after (x .counts) across (x .spread) (x .dimensions) p f) (x .dimensions) ≡ getD (tilesOf (planOf x) p) f 0
+  unfolding tileAt
+  tile-is low f h =
+      rank-lengths N (tileCount x) _ (x .dimensions) (a .each)
+      ∙ sym (rank-same (tileCount x) _ _ (x .dimensions) (loops-at x at F S M (x .dimensions) loop-is (x .dimensions) (omega arith) f h))
+      ∙ sym (map-at (tileAt x) (loops x at (x .dimensions)) f (λ j. 0) 0 (omega (arith, loops-length x at F S M (x .dimensions) loop-is (x .dimensions) (omega arith))))
+      ∙ ap (λ (l : List ℕ). getD l f 0) (loops-are-tiles x ok p low)
+
+  -- ---- counting them
+
+  across-pos : Positive N (x .dimensions)
+  across-pos = across-countable x ok across a .positive
+
+  across-few : product N (x .dimensions) ≤ 1024
+  across-few = omega (arith, across-product x ok across a, ok .tiles-most)
+
+  pub share-asks : (j : ℕ) → 0 < j → j ≤ x .dimensions
+      → (1 ≤ getD across (j - 1) 0) × ((getD across (j - 1) 0 ≤ 1024) × (ltb (j - 1) (x .spread) ≡ true → (1 ≤ getD (x .counts) (j - 1) 0) × (getD (x .counts) (j - 1) 0 ≤ 4096)))
+  share-asks j h k =
+      let l : j - 1 < x .dimensions = omega arith in
+      (across-pos (j - 1) l, (omega (arith, a .each (j - 1) l, count-most x ok (j - 1) l), λ t. (ok .manned (j - 1) (ltb-true _ _ t), count-few (j - 1) (ltb-true _ _ t))))
+
+  abbrev C : ℕ → ℕ → ℕ → Type 0
+  C = Counting (x .counts) across (x .spread) (x .dimensions) p
+
+  tiles-are : (l rest : ℕ) (r : Share) → Peeled S (x .dimensions) p (suc l) rest → Shared (N l) (S l) rest r → r .tiles ≡ M l
+  tiles-are l rest r q h = h .tiles ∙ ap (λ (f : ℕ). (getD across l 0 - 1 + S l - f) / S l) (peeled-last S (x .dimensions) p l rest q)
+
+  rest-is : (l rest : ℕ) (r : Share) → Peeled S (x .dimensions) p (suc l) rest → Shared (N l) (S l) rest r → Peeled S (x .dimensions) p l (r .rest)
+  rest-is l rest r q h = rw (h .rest) (peeled-more S (x .dimensions) p l rest q)
+
+  pub counting-none : C (x .dimensions) p 1
+  counting-none =
+      record {
+        low = omega arith;
+        peeled = peeled-none S (x .dimensions) p;
+        is = one-mul (product M (x .dimensions));
+        few = omega (arith, one-mul (product N (x .dimensions)));
+      }
+
+  counting-step : (l rest n : ℕ) (r : Share) → C (suc l) rest n → Shared (N l) (S l) rest r → C l (r .rest) (n * r .tiles)
+  unfolding product
+  counting-step l rest n r c h =
+      record {
+        low = omega (arith, c .low);
+        peeled = rest-is l rest r (c .peeled) h;
+        is = ap (λ (v : ℕ). n * v * product M l) (tiles-are l rest r (c .peeled) h) ∙ count-step n (M l) (product M l) (product M (x .dimensions)) (c .is);
+        few = rw (tiles-are l rest r (c .peeled) h) (few-step n (M l) (N l) (product N l) (product N (x .dimensions)) (share-most (N l) (S l) (F l) (across-pos l (c .low)) (stride-pos l)) (c .few));
+      }
+
+  pub counting-more : (j rest n : ℕ) (r : Share) → 0 < j → C j rest n → Shared (N (j - 1)) (S (j - 1)) rest r → C (j - 1) (r .rest) (n * r .tiles)
+  counting-more zero rest n r h c e = absurd (omega arith)
+  counting-more (suc l) rest n r h c e = let z : suc l - 1 ≡ l = omega arith in rw z (counting-step l rest n r c (rw z at e))
+
+  pub counting-few : (j rest n : ℕ) → C j rest n → n ≤ 1024
+  counting-few j rest n c =
+      omega (arith, c .few, across-few, weight-most (product N j) n (product N j * n) (product-pos N j (λ i h. across-pos i (omega (arith, c .low)))) refl, mul-comm n (product N j))
+
+  pub counting-end : p < processors x → (j rest n : ℕ) → C j rest n → j ≡ 0 → n ≡ length (tilesOf (planOf x) p)
+  unfolding product
+  counting-end low j rest n c e =
+      let q : n * 1 ≡ product M (x .dimensions) = rw e at (c .is) in
+      sym (mul-one n) ∙ q ∙ count-is low
+
+  -- ---- finding one
+
+  module _ (f : ℕ) (held : f < length (tilesOf (planOf x) p)) where
+    abbrev U : ℕ → ℕ
+    U = after (x .counts) across (x .spread) (x .dimensions) p f
+
+    abbrev D : ℕ → ℕ → ℕ → ℕ → ℕ → Type 0
+    D = Finding (x .counts) across (x .spread) (x .dimensions) p f
+
+    abbrev T : ℕ → ℕ → ℕ → ℕ → Share → Type 0
+    T = Turn (x .counts) across (x .spread) (x .dimensions) p f
+
+    low : p < processors x
+    low = go (decLt p (processors x))
+      where
+        go : Dec (p < processors x) → p < processors x
+        go (yes h) = h
+        go (no h) = absurd (omega (arith, no-tiles x ok p (omega arith)))
+
+    few : f < product M (x .dimensions)
+    few = rw (count-is low) held
+
+    many-pos : Positive M (x .dimensions)
+    many-pos = factors-pos M (x .dimensions) (omega (arith, few))
+
+    after-low : (j : ℕ) → j < x .dimensions → U j < N j
+    after-low j h = share-within (N j) (S j) (F j) (place M (x .dimensions) f j) (across-pos j h) (first-low j h) (place-low M (x .dimensions) f many-pos j h)
+
+    pub finding-none : D (x .dimensions) p f 1 0
+    finding-none =
+        record {
+          low = omega arith;
+          peeled = peeled-none S (x .dimensions) p;
+          lefts = peeled-none M (x .dimensions) f;
+          is = omega (arith, mul-one (rank N U (x .dimensions)));
+          few = mul-one (product N (x .dimensions));
+          under = omega arith;
+        }
+
+    pub finding-end : (j rest left weight tile : ℕ) → D j rest left weight tile → j ≡ 0 → (tile ≡ getD (tilesOf (planOf x) p) f 0) × (tile < tiles x)
+    unfolding product rank
+    finding-end zero rest left weight tile c e =
+        (omega (arith, zero-mul weight, c .is, tile-is low f few), omega (arith, c .few, one-mul weight, c .under, across-product x ok across a))
+    finding-end (suc j) rest left weight tile c e = absurd (omega arith)
+
+    finding-step : (l rest left weight tile : ℕ) (r : Share) → D (suc l) rest left weight tile → Shared (N l) (S l) rest r → T l left weight tile r
+    unfolding product rank
+    finding-step l rest left weight tile r c h =
+        record {
+          some = rw t (many-pos l (c .low));
+          within = below;
+          room = under-step tile v weight (N l) (c .under) below;
+          wide = omega (arith, weight-most (product N l) (weight * N l) (product N (x .dimensions)) (product-pos N l (λ i k. across-pos i (omega (arith, c .low)))) weighs, across-few);
+          next =
+              record {
+                low = omega (arith, c .low);
+                peeled = rest-is l rest r (c .peeled) h;
+                lefts = rw t (peeled-more M (x .dimensions) f l left (c .lefts));
+                is = c .is ∙ rank-step (rank N U l) (N l) (U l) weight tile ∙ ap (λ (k : ℕ). rank N U l * (weight * N l) + (tile + k * weight)) (sym e);
+                few = weighs;
+                under = under-step tile v weight (N l) (c .under) below;
+              };
+        }
+      where
+        v : ℕ
+        v = r .first + left % r .tiles * r .stride
+
+        t : r .tiles ≡ M l
+        t = tiles-are l rest r (c .peeled) h
+
+        e : r .first + left % r .tiles * r .stride ≡ U l
+        e = value-same left (h .first ∙ peeled-last S (x .dimensions) p l rest (c .peeled)) t (peeled-last M (x .dimensions) f l left (c .lefts)) (h .stride-is)
+
+        below : r .first + left % r .tiles * r .stride < N l
+        below = rw e (after-low l (c .low))
+
+        weighs : product N l * (weight * N l) ≡ product N (x .dimensions)
+        weighs = weight-step (product N l) (N l) weight (product N (x .dimensions)) (c .few)
+
+    pub finding-more : (j rest left weight tile : ℕ) (r : Share) → 0 < j → D j rest left weight tile → Shared (N (j - 1)) (S (j - 1)) rest r → T (j - 1) left weight tile r
+    finding-more zero rest left weight tile r h c e = absurd (omega arith)
+    finding-more (suc l) rest left weight tile r h c e = let z : suc l - 1 ≡ l = omega arith in rw z (finding-step l rest left weight tile r c (rw z at e))

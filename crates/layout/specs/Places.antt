@@ -15,6 +15,7 @@ use Rattle.plan.specs.Box.{boxLength, boxSize}
 use Rattle.layout.specs.declared.Cell.{Cell}
 use Rattle.layout.specs.declared.Bounds.{Bounds}
 use Rattle.layout.specs.declared.Divided.{Divided}
+use Rattle.layout.specs.declared.Share.{Share}
 
 abbrev pub nth : List ℕ → ℕ → ℕ
 nth l j = getD l j 0
@@ -47,6 +48,13 @@ pub record Placed (N from : List ℕ) (n left : ℕ) (r : List ℕ) : Type 0 whe
 pub record Splits (a k : ℕ) (r : Divided) : Type 0 where
   pub tile : r .tile ≡ a / k
   pub rest : r .rest ≡ a % k
+
+-- the values of a loop over the tiles along a dimension, by a processor's part in it: document 002's DO
+pub record Shared (across stride processor : ℕ) (r : Share) : Type 0 where
+  pub first : r .first ≡ processor % stride
+  pub stride-is : r .stride ≡ stride
+  pub tiles : r .tiles ≡ (across - 1 + stride - processor % stride) / stride
+  pub rest : r .rest ≡ processor / stride
 
 -- a cell's number with its place
 pub record Located (x : Nest) (c : ℕ) (r : Cell) : Type 0 where

@@ -12,7 +12,7 @@ ghost use Rattle.plan.specs.Geometry.{rank, tileOf, processorOf, tilePlace};
 ghost use Rattle.plan.specs.Messages.{slots, planOf};
 ghost use Rattle.plan.specs.Box.{boxCell};
 ghost use Rattle.layout.specs.Sizes.{Sized, endAt};
-ghost use Rattle.layout.specs.Places.{nth, Has, Countable, Ranked, Places, Placed, Splits, Located, Bounded, bound};
+ghost use Rattle.layout.specs.Places.{nth, Has, Countable, Ranked, Places, Placed, Splits, Shared, Located, Bounded, bound};
 use nest::Nest;
 
 // A nest's counts, made once in a call: tiles along each dimension, and the products.
@@ -27,6 +27,14 @@ pub struct Sizes {
 // A component's tile, and the place in it.
 pub struct Divided {
     pub tile: usize,
+    pub rest: usize,
+}
+
+// A processor's share of the tiles along a dimension.
+pub struct Share {
+    pub first: usize,
+    pub stride: usize,
+    pub tiles: usize,
     pub rest: usize,
 }
 
@@ -205,18 +213,26 @@ pub fn least(a: usize, b: usize) -> usize
     if a <= b { a } else { b }
 }
 
-// How many of the tiles along a dimension a processor at place `at` has: in a spread one each `count`-th.
-fn share_of(across: usize, count: usize, at: usize, spread: bool) -> usize
-    requires { ⌜ (across ≤ 1024) × (spread ≡ true → 1 ≤ count) ⌝ }
-    ensures { λ r. ⌜ r ≡ pick spread (pick (ltb at across) ((across - 1 - at) / count + 1) 0) across ⌝ }
+// A processor's tiles along a dimension, in a spread one each `count`-th; `rest` is its number over the dimensions before.
+fn share_of(across: usize, count: usize, processor: usize, spread: bool) -> Share
+    requires { ⌜ (1 ≤ across) × ((across ≤ 1024) × (spread ≡ true → (1 ≤ count) × (count ≤ 4096))) ⌝ }
+    ensures { λ r. ⌜ Shared across (pick spread count 1) processor r ⌝ }
 {
     if !spread {
-        return across;
+        return Share {
+            first: 0,
+            stride: 1,
+            tiles: across,
+            rest: processor,
+        };
     }
-    if at >= across {
-        return 0;
+    let first = processor % count;
+    Share {
+        first: first,
+        stride: count,
+        tiles: (across - 1 + count - first) / count,
+        rest: processor / count,
     }
-    (across - 1 - at) / count + 1
 }
 
 // How many tiles a processor has: the product of its shares.
@@ -229,14 +245,43 @@ pub fn tile_count(nest: Nest, sizes: Sizes, processor: usize) -> usize
     }
     let counts = nest.counts;
     let across = sizes.across;
-    let at = place(counts, [0; 4], processor, nest.spread);
-    let m = nest.dimensions;
     let spread = nest.spread;
+    let m = nest.dimensions;
+    let mut j = m;
+    let mut rest = processor;
     let mut n = 1;
-    for j in 0..m {
-        n *= share_of(across[j], counts[j], at[j], j < spread);
+    while j > 0 {
+        j -= 1;
+        let share = share_of(across[j], counts[j], rest, j < spread);
+        n *= share.tiles;
+        rest = share.rest;
     }
     n
+}
+
+// Its tile after so many finished ones: in each dimension the place among its share, from the last dimension on.
+pub fn tile_at(nest: Nest, sizes: Sizes, processor: usize, finished: usize) -> usize
+    requires { ⌜ Sized nest sizes × (finished < length (tilesOf (planOf nest) processor)) ⌝ }
+    ensures { λ r. ⌜ (r ≡ getD (tilesOf (planOf nest) processor) finished 0) × (r < tiles nest) ⌝ }
+{
+    let counts = nest.counts;
+    let across = sizes.across;
+    let spread = nest.spread;
+    let m = nest.dimensions;
+    let mut j = m;
+    let mut rest = processor;
+    let mut left = finished;
+    let mut weight = 1;
+    let mut tile = 0;
+    while j > 0 {
+        j -= 1;
+        let share = share_of(across[j], counts[j], rest, j < spread);
+        tile += (share.first + left % share.tiles * share.stride) * weight;
+        rest = share.rest;
+        left = left / share.tiles;
+        weight *= across[j];
+    }
+    tile
 }
 
 // The box of a tile's cells; an edge tile ends where the nest does.

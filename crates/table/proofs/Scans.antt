@@ -1,20 +1,18 @@
--- Laws of the scans: the table's filling, numbers and offsets of messages, messages at a tile's end, tiles of a processor.
+-- Laws of the scans: the table's filling, numbers and offsets of messages, messages at a tile's end.
 use Prim.Native.Nat.{ℕ, zero, suc, _+_, _*_, _-_, _/_, _%_, _≤_, _<_}
 use mathlib.Core.Path.{_≡_, refl, sym, ap, _∙_, subst}
 use mathlib.Core.Logic.{_⊎_, inl, inr, _≢_, ⊎-elim}
 use mathlib.Core.List.{List, [], _∷_}
 use native.Mathlib.Nat.{eq-or-lt-of-le, mul-le-mul-right, mul-add-div-right, mul-add-mod-self-right, div-eq-of-lt, mod-eq-of-lt, mod-lt, suc-mul, div-add-mod'}
-use native.Mathlib.Numerals.{add-one}
 use native.Mathlib.Omega.{arith}
 use lib.ListN.{length, getD, set, length-append, length-set}
 use lib.Seq.{getD-set-same, getD-set-other}
 use Rattle.base.specs.Tests.{those, keep, product}
 use Rattle.base.proofs.Select.{those-more, those-none, those-at}
-use Rattle.machine.specs.Plan.{Message, offset, words, count, tilesOf}
+use Rattle.machine.specs.Plan.{Message, offset, words, count}
 use Rattle.nest.specs.declared.Nest.{Nest}
 use Rattle.nest.proofs.Accepted.{Accepted}
 use Rattle.nest.specs.Nest.{tiles}
-use Rattle.plan.specs.Geometry.{processorOf}
 use Rattle.plan.specs.Messages.{two, directions, parcel, slots, slotParcel, slotMessage, messagesTo, planOf}
 use Rattle.plan.proofs.Slots.{total, total-append, total-one, slotParcel-few, step-none, step-one, at-number, number-low, offset-is, room-is}
 use Rattle.layout.specs.declared.Sizes.{Sizes}
@@ -65,12 +63,6 @@ module _ (n : Nest) (z : Sizes) (h : Sized n z) where
 
   pub over : (s : ℕ) → z .tiles * z .directions ≤ s → slots n ≤ s
   over s q = rw slots-are at q
-
-  pub under-tiles : (t : ℕ) → t < z .tiles → t < tiles n
-  under-tiles t q = rw (h .tiles) at q
-
-  pub over-tiles : (t : ℕ) → z .tiles ≤ t → tiles n ≤ t
-  over-tiles t q = rw (h .tiles) at q
 
 -- ---- the table
 
@@ -314,39 +306,6 @@ seek-nowhere n m s k o x h q =
     let z : s ≡ slots n = omega (arith, x .sums .low) in
     let w : k ≡ count (planOf n) = x .sums .number ∙ ap (λ (i : ℕ). length (messagesTo n i)) z in
     omega (arith, x .before)
-
--- ---- the tiles of a processor
-
-pub record Tiling (n : Nest) (b t c : ℕ) : Type 0 where
-  pub low : t ≤ tiles n
-  pub few : c ≤ t
-  pub is : c ≡ length (those (processorOf n) b t)
-
-pub tile-start : (n : Nest) (b : ℕ) → Tiling n b 0 0
-unfolding those keep
-tile-start n b = record { low = omega arith; few = omega arith; is = refl }
-
-pub tile-turn : (n : Nest) (b t c c′ : ℕ) → Tiling n b t c → t < tiles n
-    → ((processorOf n t ≡ b) × (c′ ≡ c + 1)) ⊎ ((processorOf n t ≢ b) × (c′ ≡ c)) → Tiling n b (t + 1) c′
-tile-turn n b t c c′ x l (inl (h, e)) =
-    let z : length (those (processorOf n) b (t + 1)) ≡ suc (length (those (processorOf n) b t)) =
-    ap (λ (k : ℕ). length (those (processorOf n) b k)) (add-one t) ∙ those-more (processorOf n) b t h in
-    record { low = omega arith; few = omega (arith, x .few); is = omega (arith, x .is) }
-tile-turn n b t c c′ x l (inr (h, e)) =
-    record {
-      low = omega arith;
-      few = omega (arith, x .few);
-      is = e ∙ x .is ∙ ap length (sym (those-none (processorOf n) b t h)) ∙ ap (λ (k : ℕ). length (those (processorOf n) b k)) (sym (add-one t));
-    }
-
-pub tiles-are : (n : Nest) (b t c : ℕ) → Accepted n → Tiling n b t c → tiles n ≤ t → (c ≡ length (tilesOf (planOf n) b)) × (c ≤ 1024)
-tiles-are n b t c a x h =
-    let e : t ≡ tiles n = omega (arith, x .low) in
-    (x .is ∙ ap (λ (k : ℕ). length (those (processorOf n) b k)) e, omega (arith, x .few, a .tiles-most))
-
-pub tile-found : (n : Nest) (b t c f : ℕ) → Tiling n b t c → t < tiles n → processorOf n t ≡ b → c ≡ f → t ≡ getD (tilesOf (planOf n) b) f 0
-tile-found n b t c f x l h e =
-    sym (those-at (processorOf n) b (tiles n) t l h) ∙ ap (λ (k : ℕ). getD (tilesOf (planOf n) b) k 0) (sym (x .is) ∙ e)
 
 pub positive : (w : ℕ) → w ≢ 0 → 0 < w
 positive w h = omega arith

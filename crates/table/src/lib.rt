@@ -214,19 +214,7 @@ pub fn tile_at(nest: Nest, sizes: Sizes, processor: usize, finished: usize) -> u
     requires { ⌜ Sized nest sizes × (finished < length (tilesOf (planOf nest) processor)) ⌝ }
     ensures { λ r. ⌜ (r ≡ getD (tilesOf (planOf nest) processor) finished 0) × (r < tiles nest) ⌝ }
 {
-    let tiles = sizes.tiles;
-    let mut t = 0;
-    let mut n = 0;
-    while t < tiles {
-        if layout::processor_of(nest, sizes, t) == processor {
-            if n == finished {
-                return t;
-            }
-            n += 1;
-        }
-        t += 1;
-    }
-    0
+    layout::tile_at(nest, sizes, processor, finished)
 }
 
 // The plan's figures.

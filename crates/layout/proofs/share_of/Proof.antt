@@ -1,35 +1,44 @@
 -- `layout::share_of` meets its contract.
 use native.Mathlib.Omega.{arith}
-use Prim.Native.Nat.{_-_}
-use mathlib.Core.Path.{sym, _∙_}
-use native.Mathlib.Nat.{div-le-self}
-use borrow.Author.Tests.{lt-ltb, le-ltb, not-true, not-false}
-use Rattle.base.proofs.Tests.{pick-true, pick-false}
+use native.Mathlib.Nat.{mod-lt}
+use mathlib.Core.Path.{_≡_}
+use mathlib.Core.Bool.{true}
+use borrow.Author.Tests.{not-true, not-false}
 use borrow.Author.Needs.{needs}
+use Rattle.layout.proofs.Shares.{shared-all, shared-some}
 use Rattle.layout.proofs.share_of.Statement.{statement}
 use Rattle.layout.proofs.share_of.Tie as tie
+use Rattle.layout.proofs.share_of.Reads as reads
+use Rattle.layout.proofs.share_of.Lts as lts
 
 returns : tie.Need-returns
-returns c = sym (pick-false _ _ _ (not-true _ (c .if1 .taken)))
+returns c = shared-all _ _ _ _ (not-true _ (c .if1 .taken)) (c .before .pre .0)
+
+-- past the test
+spreads : (c : lts.Else1 reads.Pre reads.Post) → c .before .args .spread ≡ true
+spreads c = not-false _ (c .if1 .left)
+
+rem-first : tie.Need-rem-first
+rem-first c = c .before .pre .1 .1 (spreads c) .0
+
+sub-t7 : tie.Need-sub-t7
+sub-t7 c = c .before .pre .0
+
+add-t8 : tie.Need-add-t8
+add-t8 c = omega (arith, c .before .pre .1 .0, c .before .pre .1 .1 (spreads c) .1)
+
+sub-t9 : tie.Need-sub-t9
+sub-t9 c = omega (arith, mod-lt (c .before .args .processor) (c .before .pre .1 .1 (spreads c) .0))
+
+div-t10 : tie.Need-div-t10
+div-t10 c = c .before .pre .1 .1 (spreads c) .0
+
+div-t11 : tie.Need-div-t11
+div-t11 c = c .before .pre .1 .1 (spreads c) .0
 
 returns-2 : tie.Need-returns-2
-returns-2 c = sym (pick-true _ _ _ (not-false _ (c .before .if1 .left)) ∙ pick-false _ _ _ (le-ltb _ _ (c .if2 .taken)))
-
-sub-result : tie.Need-sub-result
-sub-result c = omega (arith, c .if2 .left)
-
-sub-result-2 : tie.Need-sub-result-2
-sub-result-2 c = omega (arith, c .if2 .left)
-
-div-result : tie.Need-div-result
-div-result c = c .before .before .pre .1 (not-false _ (c .before .if1 .left))
-
-add-result : tie.Need-add-result
-add-result c = omega (arith, div-le-self (c .before .before .args .across - 1 - c .before .before .args .at) (c .before .before .args .count), c .before .before .pre .0)
-
-returns-3 : tie.Need-returns-3
-returns-3 c = sym (pick-true _ _ _ (not-false _ (c .before .if1 .left)) ∙ pick-true _ _ _ (lt-ltb (c .before .before .args .at) (c .before .before .args .across) (omega (arith, c .if2 .left))))
+returns-2 c = shared-some _ _ _ _ (spreads c)
 
 pub share-of-spec : {M : Type 1} → statement M
 share-of-spec =
-    tie.close (tie.spec returns returns-2 sub-result sub-result-2 div-result add-result returns-3)
+    tie.close (tie.spec returns rem-first sub-t7 add-t8 sub-t9 div-t10 div-t11 returns-2)
