@@ -3,4 +3,5 @@ pub mod Loops
 pub mod Cells
 pub mod Walks
 pub mod Rows
+pub mod Nested
 pub mod Shares

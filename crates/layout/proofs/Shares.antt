@@ -3,14 +3,13 @@ use Prim.Native.Nat.{ℕ, zero, suc, _+_, _*_, _-_, _/_, _%_, _≤_, _<_}
 use mathlib.Core.Path.{_≡_, refl, sym, ap, _∙_}
 use mathlib.Core.Logic.{_⊎_, inl, inr}
 use mathlib.Core.Bool.{Bool, true, false}
-use mathlib.Core.List.{List, [], _∷_, _++_, map}
-use native.Mathlib.Nat.{add-div-right, add-mul, div-add-mod', div-le-self, div-lt-iff-lt-mul, div-one, eq-or-lt-of-le, le-div-iff-mul-le, le-of-suc-le-suc, mod-eq-of-lt, mod-lt, mod-one, mul-assoc, mul-comm, mul-le-mul-left, mul-le-mul-right, mul-one, one-mul, suc-mul, zero-mul}
+use mathlib.Core.List.{List}
+use native.Mathlib.Nat.{add-div-right, add-mul, div-le-self, div-one, eq-or-lt-of-le, le-div-iff-mul-le, le-of-suc-le-suc, mod-eq-of-lt, mod-one, mul-assoc, mul-comm, mul-le-mul-left, mul-le-mul-right, mul-one, one-mul, suc-mul, zero-mul}
 use native.Mathlib.Decide.{decLt}
 use native.Mathlib.Omega.{arith}
-use lib.ListN.{length, getD, length-append, length-map, List·getD-append}
-use lib.Seq.{getD-append-add}
+use lib.ListN.{length, getD, length-map}
 use lib.Dec.{ltb, eqb}
-use borrow.Author.Tests.{lt-ltb, le-ltb, ltb-true, ne-eqb, eq-eqb}
+use borrow.Author.Tests.{lt-ltb, le-ltb, ltb-true, ne-eqb}
 use Rattle.base.specs.Tests.{pick, product, those}
 use Rattle.base.proofs.Tests.{pick-true, pick-false}
 use Rattle.machine.specs.Plan.{tilesOf}
@@ -19,7 +18,7 @@ use Rattle.nest.proofs.Accepted.{Accepted}
 use Rattle.nest.specs.Nest.{lengthOf, tileLength, processorCount, tileCount, tiles, processors}
 use Rattle.plan.specs.Geometry.{rank, place, tileAt, processorOf}
 use Rattle.plan.specs.Messages.{planOf}
-use Rattle.plan.specs.Report.{values, doLoop, tileLoop, within, extend, loops}
+use Rattle.plan.specs.Report.{values, tileLoop, loops}
 use Rattle.plan.proofs.Rank.{Positive, place-last, place-before, place-low, rank-same, div-le}
 use Rattle.plan.proofs.Tiles.{processorOf-low}
 use Rattle.plan.proofs.Grid.{keep-nothing}
@@ -28,95 +27,7 @@ use Rattle.layout.specs.declared.Share.{Share}
 use Rattle.layout.specs.Places.{nth, Has, Shared}
 use Rattle.layout.proofs.Dims.{product-pos, place-lengths, rank-lengths}
 use Rattle.layout.proofs.Cells.{across-product, across-countable, count-most}
-
--- ---- loops over lists
-
-values-length : (s p n : ℕ) → length (values s p n) ≡ n
-unfolding values
-values-length s p zero = refl
-values-length s p (suc n) = ap suc (values-length (s + p) p n)
-
-values-at : (s p n i : ℕ) → i < n → getD (values s p n) i 0 ≡ s + i * p
-unfolding values
-values-at s p zero i h = absurd (omega arith)
-values-at s p (suc n) zero h = omega (arith, zero-mul p)
-values-at s p (suc n) (suc i) h = omega (arith, values-at (s + p) p n i (omega arith), suc-mul i p)
-
-module _ {A B : Type 0} (body : A → List B) (m : ℕ) (h : (a : A) → length (body a) ≡ m) where
-  within-length : (l : List A) → length (within body l) ≡ length l * m
-  unfolding within
-  within-length [] = rw zero-mul
-  within-length (y ∷ l) = length-append (body y) (within body l) ∙ omega (arith, h y, within-length l, suc-mul (length l) m)
-
-  within-at : (l : List A) (q r : ℕ) (d : A) (b : B) → q < length l → r < m → getD (within body l) (q * m + r) b ≡ getD (body (getD l q d)) r b
-  unfolding within
-  within-at [] q r d b k s = absurd (omega arith)
-  within-at (y ∷ l) zero r d b k s =
-      let e : 0 * m + r ≡ r = omega (arith, zero-mul m) in
-      ap (λ (i : ℕ). getD (body y ++ within body l) i b) e ∙ List·getD-append (body y) (within body l) b r (omega (arith, h y))
-  within-at (y ∷ l) (suc q) r d b k s =
-      let e : suc q * m + r ≡ length (body y) + (q * m + r) = omega (arith, h y, suc-mul q m) in
-      ap (λ (i : ℕ). getD (body y ++ within body l) i b) e ∙ getD-append-add (body y) (within body l) (q * m + r) b ∙ within-at l q r d b (omega arith) s
-
-loop-same : {s t b c p q : ℕ} → s ≡ t → b ≡ c → p ≡ q → doLoop s b p ≡ values t q ((c + q - t) / q)
-unfolding doLoop
-loop-same e f g = rw (e, f, g)
-
--- ---- Figure 4's loops, each over n values from f on by s: how many places they meet, and component j of the c-th
-
-map-at : {A B : Type 0} (f : A → B) (l : List A) (i : ℕ) (d : A) (e : B) → i < length l → getD (map f l) i e ≡ f (getD l i d)
-map-at f [] i d e h = absurd (omega arith)
-map-at f (y ∷ l) zero d e h = refl
-map-at f (y ∷ l) (suc i) d e h = map-at f l i d e (omega arith)
-
-pos-left : (a b : ℕ) → 1 ≤ a * b → 1 ≤ a
-pos-left zero b h = absurd (omega (arith, zero-mul b))
-pos-left (suc a) b h = omega arith
-
-pos-right : (a b : ℕ) → 1 ≤ a * b → 1 ≤ b
-pos-right a b h = pos-left b a (omega (arith, mul-comm a b))
-
-module _ (x : Nest) (at f s n : ℕ → ℕ) (m : ℕ) (is : (j : ℕ) → j < m → tileLoop x at j ≡ values (f j) (s j) (n j)) where
-  abbrev inner : ℕ → (ℕ → ℕ) → List (ℕ → ℕ)
-  inner l t = map (extend t l) (tileLoop x at l)
-
-  loop-length : (j : ℕ) → j < m → length (tileLoop x at j) ≡ n j
-  loop-length j h = ap length (is j h) ∙ values-length (f j) (s j) (n j)
-
-  inner-length : (l : ℕ) → l < m → (t : ℕ → ℕ) → length (inner l t) ≡ n l
-  inner-length l h t = length-map (tileLoop x at l) (extend t l) ∙ loop-length l h
-
-  loops-length : (l : ℕ) → l ≤ m → length (loops x at l) ≡ product n l
-  unfolding loops product
-  loops-length zero h = refl
-  loops-length (suc l) h = within-length (inner l) (n l) (inner-length l h) (loops x at l) ∙ ap (λ (k : ℕ). k * n l) (loops-length l (omega arith))
-
-  inner-at : (l : ℕ) → l < m → (t : ℕ → ℕ) (r : ℕ) → r < n l → getD (inner l t) r (λ j. 0) ≡ extend t l (f l + r * s l)
-  inner-at l h t r k =
-      map-at (extend t l) (tileLoop x at l) r 0 (λ j. 0) (omega (arith, loop-length l h))
-      ∙ ap (extend t l) (ap (λ (v : List ℕ). getD v r 0) (is l h) ∙ values-at (f l) (s l) (n l) r k)
-
-  loops-at : (l : ℕ) → l ≤ m → (c : ℕ) → c < product n l → (j : ℕ) → j < l → getD (loops x at l) c (λ j. 0) j ≡ f j + place n l c j * s j
-  unfolding loops product
-  loops-at zero h c k j b = absurd (omega arith)
-  loops-at (suc l) h c k j b =
-      ap (λ (i : ℕ). getD (within (inner l) (loops x at l)) i (λ j. 0) j) (sym (div-add-mod' c (n l)))
-      ∙ ap (λ (t : ℕ → ℕ). t j) (within-at (inner l) (n l) (inner-length l h) (loops x at l) (c / n l) (c % n l) (λ j. 0) (λ j. 0) (omega (arith, loops-length l (omega arith), quotient)) rest ∙ inner-at l h (getD (loops x at l) (c / n l) (λ j. 0)) (c % n l) rest)
-      ∙ go (eq-or-lt-of-le (le-of-suc-le-suc b)) (loops-at l (omega arith) (c / n l) quotient)
-    where
-      positive : 1 ≤ n l
-      positive = pos-right (product n l) (n l) (omega arith)
-
-      quotient : c / n l < product n l
-      quotient = div-lt-iff-lt-mul positive .1 k
-
-      rest : c % n l < n l
-      rest = mod-lt c positive
-
-      go : (j ≡ l) ⊎ (j < l) → ((i : ℕ) → i < l → getD (loops x at l) (c / n l) (λ j. 0) i ≡ f i + place n l (c / n l) i * s i)
-          → extend (getD (loops x at l) (c / n l) (λ j. 0)) l (f l + c % n l * s l) j ≡ f j + place n (suc l) c j * s j
-      go (inl e) ih = pick-true _ _ _ (eq-eqb j l e) ∙ rw (e, place-last n l c)
-      go (inr e) ih = pick-false _ _ _ (ne-eqb j l (λ (q : j ≡ l). omega arith)) ∙ ih j e ∙ rw (place-before n l c j e)
+use Rattle.layout.proofs.Nested.{loop-same, map-at, pos-left, pos-right, loops-length, loops-at}
 
 -- ---- dimension by dimension, from the last on: the first j components of c over N are those of r
 

@@ -49,7 +49,7 @@ pub record Splits (a k : ℕ) (r : Divided) : Type 0 where
   pub tile : r .tile ≡ a / k
   pub rest : r .rest ≡ a % k
 
--- the values of a loop over the tiles along a dimension, by a processor's part in it: document 002's DO
+-- a processor's share of the tiles along a dimension, as the report's DO loop has it, and its number over the dimensions before
 pub record Shared (across stride processor : ℕ) (r : Share) : Type 0 where
   pub first : r .first ≡ processor % stride
   pub stride-is : r .stride ≡ stride
