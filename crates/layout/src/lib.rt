@@ -53,44 +53,66 @@ pub struct Bounds {
 }
 
 // The number of a place among those of the first `left` dimensions.
-pub fn rank(lengths: [usize; 4], at: [usize; 4], left: usize) -> usize
-    requires { ⌜ Ranked lengths at left ⌝ }
-    ensures { λ r. ⌜ r ≡ rank (nth lengths) (nth at) left ⌝ }
+pub fn rank_of(lengths: &[usize; 4], at: &[usize; 4], left: usize) -> usize
+    requires { ⌜ Ranked (now lengths) (now at) left ⌝ }
+    ensures { λ r. ⌜ r ≡ rank (nth (now (lengths .entry))) (nth (now (at .entry))) left ⌝ }
 {
     if left == 0 {
         return 0;
     }
     let j = left - 1;
-    let r = rank(lengths, at, j);
+    let r = rank_of(lengths, at, j);
     r * lengths[j] + at[j]
 }
 
-// The inverse: the place of number n, added to the place `from`.
+pub fn rank(lengths: [usize; 4], at: [usize; 4], left: usize) -> usize
+    requires { ⌜ Ranked lengths at left ⌝ }
+    ensures { λ r. ⌜ r ≡ rank (nth lengths) (nth at) left ⌝ }
+{
+    rank_of(&lengths, &at, left)
+}
+
+// The inverse: adds the place of number n to the place `at`.
+pub fn add_place(lengths: &[usize; 4], at: &mut [usize; 4], n: usize, left: usize)
+    requires { ⌜ (length (now at) ≡ 4) × Places (now lengths) (now at) left ⌝ }
+    ensures { λ _. ⌜ Placed (now (lengths .entry)) (now (at .entry)) n left (now (at .exit)) ⌝ }
+{
+    if left == 0 {
+        return;
+    }
+    let j = left - 1;
+    let m = lengths[j];
+    at[j] += n % m;
+    add_place(lengths, at, n / m, j);
+}
+
 pub fn place(lengths: [usize; 4], from: [usize; 4], n: usize, left: usize) -> [usize; 4]
     requires { ⌜ Places lengths from left ⌝ }
     ensures { λ r. ⌜ Placed lengths from n left r ⌝ }
 {
-    if left == 0 {
-        return from;
-    }
-    let j = left - 1;
-    let m = lengths[j];
-    let mut next = from;
-    next[j] = next[j] + n % m;
-    place(lengths, next, n / m, j)
+    let mut at = from;
+    add_place(&lengths, &mut at, n, left);
+    at
 }
 
 // The product of the first `left` counts.
-pub fn product(counts: [usize; 4], left: usize) -> usize
-    requires { ⌜ Countable counts left ⌝ }
-    ensures { λ r. ⌜ r ≡ product (nth counts) left ⌝ }
+pub fn product_of(counts: &[usize; 4], left: usize) -> usize
+    requires { ⌜ Countable (now counts) left ⌝ }
+    ensures { λ r. ⌜ r ≡ product (nth (now (counts .entry))) left ⌝ }
 {
     if left == 0 {
         return 1;
     }
     let j = left - 1;
-    let r = product(counts, j);
+    let r = product_of(counts, j);
     r * counts[j]
+}
+
+pub fn product(counts: [usize; 4], left: usize) -> usize
+    requires { ⌜ Countable counts left ⌝ }
+    ensures { λ r. ⌜ r ≡ product (nth counts) left ⌝ }
+{
+    product_of(&counts, left)
 }
 
 // The one place where a component is divided by a tile length.
