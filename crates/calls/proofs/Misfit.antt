@@ -1,7 +1,7 @@
 -- The calls over the words lent, and over the words of all records: they give the same. Of more than 64 records too, since line 9 refuses them at the latest.
 use Prim.Native.Nat.{ℕ, suc, _*_, _≤_, _<_}
 use mathlib.Core.Path.{_≡_, refl, sym, ap, subst, _∙_}
-use mathlib.Core.Logic.{_⊎_, inl, inr, _≢_, ⊎-elim}
+use mathlib.Core.Logic.{_≢_}
 use mathlib.Core.Bool.{Bool, true, false}
 use mathlib.Core.List.{List, [], _∷_, _++_}
 use native.Mathlib.Omega.{arith}
@@ -14,9 +14,11 @@ use Rattle.base.specs.Numbers.{Line, line, firstOf}
 use Rattle.base.proofs.Tests.{and-false, not-false}
 use Rattle.base.proofs.Numbers.{first-true, none-first, first-some, first-behind}
 use Rattle.machine.specs.Machine.{State, stateOf, Answered, answered}
-use Rattle.nest.specs.Nest.{processors}
+use Rattle.nest.specs.declared.Nest.{Nest}
+use Rattle.nest.specs.Nest.{processors, processorCount}
 use Rattle.nest.specs.Nest.{readLines, nestLines, nestOf, ragged, strayRecord}
-use Rattle.nest.proofs.Facts.{passed, spread-in}
+use Rattle.nest.proofs.Facts.{Spread, passed, spread-in}
+use Rattle.layout.proofs.Dims.{product-pos}
 use Rattle.engine.specs.Calls.{answer, recipe, areas, freshCall, turnCall, deliverCall, collectCall}
 use Rattle.engine.proofs.Lines.{no-progress, numbered}
 use Rattle.engine.proofs.Turns.{answered-no}
@@ -29,21 +31,30 @@ use Rattle.calls.specs.Lent.{lentWords, keptCount, lentOf}
 use Rattle.calls.specs.declared.After.{After}
 use Rattle.calls.proofs.Laws.{lent-few, lent-many, kept-few, kept-many}
 
--- ---- words that are no recipe's: one, or more than 64 records have
+-- ---- words that are no recipe's: of no number of records from 1 to 64
 
 abbrev pub Misfit : ℕ → Type 0
-Misfit k = (k ≡ 1) ⊎ (192 < k)
+Misfit k = (n : ℕ) → 1 ≤ n → n ≤ 64 → k ≢ 3 * n
 
-most : (bytes : List ℕ) → firstOf (readLines bytes) ≡ 0 → processors (nestOf bytes) ≤ 64
+spread : (bytes : List ℕ) → firstOf (readLines bytes) ≡ 0 → Spread (nestOf bytes)
 unfolding readLines
-most bytes h =
+spread bytes h =
     let p1 = none-first 1 (ragged bytes) _ (λ e. omega arith) h in
     let p2 = none-first 2 (strayRecord bytes) _ (λ e. omega arith) (p1 .1) in
-    spread-in (nestOf bytes) (passed (nestOf bytes) (p2 .1) .counts) .most
+    spread-in (nestOf bytes) (passed (nestOf bytes) (p2 .1) .counts)
 
-apart : (k n : ℕ) → n ≤ 64 → Misfit k → k ≢ 3 * n
-apart k n l (inl e) q = omega arith
-apart k n l (inr e) q = omega arith
+some-processor : (x : Nest) → Spread x → 1 ≤ processors x
+unfolding processors
+some-processor x s = product-pos (processorCount x) (x .spread) (λ j l. let k = s .shared j l in omega arith)
+
+pub no-words : Misfit 0
+no-words n l m q = omega arith
+
+one-word : Misfit 1
+one-word n l m q = omega arith
+
+many-words : (k : ℕ) → 192 < k → Misfit k
+many-words k h n l m q = omega arith
 
 -- the number of a call that no later line than line 9 lets through
 unfoldable pub refusal : List ℕ → ℕ
@@ -73,7 +84,7 @@ refused bytes n new old e = ap (λ (k : ℕ). answered k new old) e ∙ sym (ans
 
 module _ (bytes source : List ℕ) where
   outside : (s : State) → Misfit (length (s .progress)) → firstOf (readLines bytes) ≡ 0 → areas (recipe bytes) source s ≡ false
-  outside s k z = sym (no-progress (recipe bytes) source s (apart (length (s .progress)) (processors (nestOf bytes)) (most bytes z) k))
+  outside s k z = let w = spread bytes z in sym (no-progress (recipe bytes) source s (k (processors (nestOf bytes)) (some-processor (nestOf bytes) w) (w .most)))
 
   pub fresh-refused : (s : State) → Misfit (length (s .progress)) → freshCall bytes source s ≡ answer (refusal bytes) s
   unfolding freshCall
@@ -106,12 +117,14 @@ module _ (rs : List Progress) (few : length rs ≤ 64) where
 module _ (rs : List Progress) (many : 64 < length rs) where
   lent-one : Misfit (length (lentOf (length rs) (flatOf rs .words)))
   lent-one =
-      inl
+      subst Misfit
+      (sym
       (ap (λ (k : ℕ). length (take k (flatOf rs .words))) (sym (lent-many (length rs) many .0))
-      ∙ length-take-le 1 (flatOf rs .words) (omega (arith, length-flat rs)))
+      ∙ length-take-le 1 (flatOf rs .words) (omega (arith, length-flat rs))))
+      one-word
 
   all-words : Misfit (length (flatWords rs))
-  all-words = inr (omega (arith, length-words rs, many))
+  all-words = many-words (length (flatWords rs)) (omega (arith, length-words rs, many))
 
   stored-none-of : (words : List ℕ) → stored words (keptCount (length rs)) rs ≡ rs
   stored-none-of words = ap (λ (k : ℕ). stored words k rs) (sym (kept-many (length rs) many)) ∙ sym (stored-none words rs)
@@ -123,15 +136,17 @@ Worked call f r m b t m′ b′ t′ =
     (answer (r .number) (stateOf m′ b′ (lentOf (f .count) (r .flat .words)) t′) ≡ call (stateOf m b (lentOf (f .count) (f .words)) t))
     × ((r .flat .count ≡ keptCount (f .count)) × (length (r .flat .words) ≡ 192))
 
-module _ (call : State → Answered State) (n : ℕ) (refuses : (s : State) → Misfit (length (s .progress)) → call s ≡ answer n s) (rs : List Progress) where
-  same-call : (r : ℕ) (m b t m′ b′ t′ words : List ℕ) → 64 < length rs → Misfit (length words)
-      → (l : List ℕ) → answer r (stateOf m′ b′ l t′) ≡ call (stateOf m b words t)
-      → answer r (stateOf m′ b′ (flatWords rs) t′) ≡ call (stateOf m b (flatWords rs) t)
-  same-call r m b t m′ b′ t′ words many k l e =
-      ap (λ (z : Answered State). answer (z .number) (stateOf (z .after .memories) (z .after .buffer) (flatWords rs) (z .after .status)))
-      (e ∙ refuses (stateOf m b words t) k)
-      ∙ sym (refuses (stateOf m b (flatWords rs) t) (all-words rs many))
+-- two lists of words that are no recipe's are refused alike, and nothing is written
+pub same-call : (call : State → Answered State) (n : ℕ) → ((s : State) → Misfit (length (s .progress)) → call s ≡ answer n s)
+    → (lent all : List ℕ) → Misfit (length lent) → Misfit (length all) → (r : ℕ) (m b t m′ b′ t′ l : List ℕ)
+    → answer r (stateOf m′ b′ l t′) ≡ call (stateOf m b lent t)
+    → answer r (stateOf m′ b′ all t′) ≡ call (stateOf m b all t)
+same-call call n refuses lent all k k′ r m b t m′ b′ t′ l e =
+    ap (λ (z : Answered State). answer (z .number) (stateOf (z .after .memories) (z .after .buffer) all (z .after .status)))
+    (e ∙ refuses (stateOf m b lent t) k)
+    ∙ sym (refuses (stateOf m b all t) k′)
 
+module _ (call : State → Answered State) (n : ℕ) (refuses : (s : State) → Misfit (length (s .progress)) → call s ≡ answer n s) (rs : List Progress) where
   worked-few : (r : After) (m b t m′ b′ t′ : List ℕ) → length rs ≤ 64
       → answer (r .number) (stateOf m′ b′ (lentOf (length rs) (r .flat .words)) t′) ≡ call (stateOf m b (lentOf (length rs) (flatOf rs .words)) t)
       → r .flat .count ≡ keptCount (length rs) → length (r .flat .words) ≡ 192
@@ -148,7 +163,7 @@ module _ (call : State → Answered State) (n : ℕ) (refuses : (s : State) → 
   worked-many r m b t m′ b′ t′ many e k =
       ap (λ (l : List Progress). answer (r .number) (stateOf m′ b′ (flatWords l) t′))
       (ap (λ (c : ℕ). stored (r .flat .words) c rs) k ∙ stored-none-of rs many (r .flat .words))
-      ∙ same-call (r .number) m b t m′ b′ t′ (lentOf (length rs) (flatOf rs .words)) many (lent-one rs many) (lentOf (length rs) (r .flat .words)) e
+      ∙ same-call call n refuses (lentOf (length rs) (flatOf rs .words)) (flatWords rs) (lent-one rs many) (all-words rs many) (r .number) m b t m′ b′ t′ (lentOf (length rs) (r .flat .words)) e
 
   pub changes : (f : Flat) → f ≡ flatOf rs → (r : After) (m b t m′ b′ t′ : List ℕ) → Worked call f r m b t m′ b′ t′
       → answer (r .number) (stateOf m′ b′ (flatWords (stored (r .flat .words) (r .flat .count) rs)) t′) ≡ call (stateOf m b (flatWords rs) t)
@@ -196,7 +211,7 @@ module _ (call : State → Answered State) (n : ℕ) (refuses : (s : State) → 
 
       by : Dec (length rs ≤ 64) → answer r (stateOf m b (flatWords rs) t′) ≡ call (stateOf m b (flatWords rs) t)
       by (yes few) = subst (λ (l : List ℕ). answer r (stateOf m b l t′) ≡ call (stateOf m b l t)) (lent-is rs few) e
-      by (no z) = same-call r m b t m b t′ (lentOf (length rs) (flatOf rs .words)) (omega arith) (lent-one rs (omega arith)) (lentOf (length rs) (flatOf rs .words)) e
+      by (no z) = same-call call n refuses (lentOf (length rs) (flatOf rs .words)) (flatWords rs) (lent-one rs (omega arith)) (all-words rs (omega arith)) r m b t m b t′ (lentOf (length rs) (flatOf rs .words)) e
 
 pub collects : (bytes source : List ℕ) (rs : List Progress) (f : Flat) → f ≡ flatOf rs → (r : ℕ) (m b t grid grid′ : List ℕ)
     → answer r grid′ ≡ collectCall bytes source (stateOf m b (lentOf (f .count) (f .words)) t) grid

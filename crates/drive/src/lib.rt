@@ -53,7 +53,7 @@ fn turn_each(
     let mut place: u32 = 0;
     while place < processors {
         let processor = in_order(place, processors, falling);
-        let answer = engine::turn(
+        let answer = over_words::turn(
             encoded,
             source,
             memories,
@@ -93,7 +93,8 @@ fn deliver_one(
         (stateOf (now (memories .entry)) (now (buffer .entry)) (now (progress .entry)) (now (status .exit))) ⌝ }
 {
     if in_flight(status, message) {
-        return engine::deliver(encoded, source, memories, buffer, progress, status, message) == 0;
+        return over_words::deliver(encoded, source, memories, buffer, progress, status, message)
+            == 0;
     }
     false
 }

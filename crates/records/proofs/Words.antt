@@ -8,7 +8,7 @@ use native.Mathlib.Omega.{arith}
 use native.Mathlib.Numerals.{add-one}
 use lib.ListN.{length, getD, set, take, drop, replicate, length-append, length-replicate, length-set, drop-of-length-le}
 use lib.Dec.{ltb}
-use lib.Seq.{take-at, length-take-le, take-suc, sets-eq, length-sets}
+use lib.Seq.{take-at, length-take-le, take-suc, take-suc-set, drop-append-add, drop-drop, sets-eq}
 use borrow.Author.Tests.{lt-ltb}
 use Rattle.base.specs.Tests.{pick}
 use Rattle.records.specs.declared.Progress.{Progress}
@@ -90,19 +90,18 @@ unfolding wordsAt
 length-at words i r = length-picked words (3 * i) (3 * i + 1) (3 * i + 2) (r .finished) (r .stage) (r .sent) (ltb i 64)
 
 three-sets : (words : List ℕ) (k a b c : ℕ) → k + 3 ≤ length words
-    → set (set (set words k a) (suc k) b) (suc (suc k)) c ≡ (take k words ++ (a ∷ b ∷ c ∷ [])) ++ drop (k + 3) words
-three-sets words k a b c l = sets-eq (a ∷ b ∷ c ∷ []) words k l
-
-at-is : (words : List ℕ) (i : ℕ) (r : Progress) → i < 64 → length words ≡ 192
-    → wordsAt words i r ≡ (take (3 * i) words ++ (r .finished ∷ r .stage ∷ r .sent ∷ [])) ++ drop (3 * i + 3) words
-at-is words i r l e =
-    sym (written words i r l)
-    ∙ ap (λ (k : ℕ). set (set (set words (3 * i) (r .finished)) k (r .stage)) (3 * i + 2) (r .sent)) (add-one (3 * i))
-    ∙ ap (λ (k : ℕ). set (set (set words (3 * i) (r .finished)) (suc (3 * i)) (r .stage)) k (r .sent)) (two (3 * i))
-    ∙ three-sets words (3 * i) (r .finished) (r .stage) (r .sent) (omega arith)
+    → set (set (set words k a) (k + 1) b) (k + 2) c ≡ (take k words ++ (a ∷ b ∷ c ∷ [])) ++ drop (k + 3) words
+three-sets words k a b c l =
+    ap (λ (j : ℕ). set (set (set words k a) j b) (k + 2) c) (add-one k)
+    ∙ ap (λ (j : ℕ). set (set (set words k a) (suc k) b) j c) (two k)
+    ∙ sets-eq (a ∷ b ∷ c ∷ []) words k l
   where
     two : (n : ℕ) → n + 2 ≡ suc (suc n)
     two n = omega arith
+
+at-is : (words : List ℕ) (i : ℕ) (r : Progress) → i < 64 → length words ≡ 192
+    → wordsAt words i r ≡ (take (3 * i) words ++ (r .finished ∷ r .stage ∷ r .sent ∷ [])) ++ drop (3 * i + 3) words
+at-is words i r l e = sym (written words i r l) ∙ three-sets words (3 * i) (r .finished) (r .stage) (r .sent) (omega arith)
 
 take-at-is : (words : List ℕ) (i : ℕ) (r : Progress) → i < 64 → length words ≡ 192
     → take (3 * (i + 1)) (wordsAt words i r) ≡ take (3 * i) words ++ (r .finished ∷ r .stage ∷ r .sent ∷ [])
@@ -149,3 +148,65 @@ pub words-flat : (rs : List Progress) → length rs ≤ 64 → take (3 * length 
 words-flat rs l =
     ap (λ (k : ℕ). take (3 * k) (flatOf rs .words)) (sym (zero-add (length rs)))
     ∙ take-from rs 0 (blank (length rs)) (length-replicate {A = ℕ} 192 0) (omega arith)
+
+-- ---- an array of records from words, and words from an array
+
+pub made-none : (words : List ℕ) → [] ≡ recordsOf words 0
+unfolding recordsOf
+made-none words = refl
+
+pub made-all : (words : List ℕ) (ps : List Progress) (i n : ℕ) → i ≤ n → n ≤ i → take i ps ≡ recordsOf words i → take n ps ≡ recordsOf words n
+made-all words ps i n l m e = let z : n ≡ i = omega arith in ap (λ (k : ℕ). take k ps) z ∙ e ∙ ap (λ (k : ℕ). recordsOf words k) (sym z)
+
+-- one record more in the array
+pub made-more : (words : List ℕ) (ps : List Progress) (i : ℕ) → i < length ps → take i ps ≡ recordsOf words i
+    → take (i + 1) (set ps i (recordAt words i)) ≡ recordsOf words (i + 1)
+unfolding recordsOf
+made-more words ps i l e =
+    ap (λ (k : ℕ). take k (set ps i (recordAt words i))) (add-one i)
+    ∙ take-suc-set ps i (recordAt words i) l
+    ∙ ap (λ (rs : List Progress). rs ++ (recordAt words i ∷ [])) e
+    ∙ ap (λ (k : ℕ). recordsOf words k) (sym (add-one i))
+
+-- the words of the first i records, and behind them the old words
+unfoldable pub over : List ℕ → List Progress → ℕ → List ℕ
+over words ps i = flatWords (take i ps) ++ drop (3 * i) words
+
+pub over-none : (words : List ℕ) (ps : List Progress) → words ≡ over words ps 0
+unfolding over flatWords
+over-none words ps = let z : 0 ≡ 3 * 0 = omega arith in ap (λ (k : ℕ). drop k words) z
+
+length-first : (ps : List Progress) (i : ℕ) → i ≤ length ps → length (flatWords (take i ps)) ≡ 3 * i
+length-first ps i l = length-words (take i ps) ∙ ap (λ (k : ℕ). 3 * k) (length-take-le i ps l)
+
+words-more : (ps : List Progress) (i : ℕ) (d : Progress) → i < length ps
+    → flatWords (take (i + 1) ps) ≡ flatWords (take i ps) ++ (getD ps i d .finished ∷ getD ps i d .stage ∷ getD ps i d .sent ∷ [])
+unfolding flatWords
+words-more ps i d l =
+    ap (λ (k : ℕ). flatWords (take k ps)) (add-one i)
+    ∙ ap flatWords (take-suc ps i d l)
+    ∙ words-append (take i ps) (getD ps i d ∷ [])
+
+drop-more : (words old : List ℕ) (k : ℕ) → length words ≡ k → drop (k + 3) (words ++ drop k old) ≡ drop (k + 3) old
+drop-more words old k e =
+    ap (λ (j : ℕ). drop (j + 3) (words ++ drop k old)) (sym e) ∙ drop-append-add words (drop k old) 3 ∙ drop-drop 3 k old
+
+pub over-more : (words old : List ℕ) (ps : List Progress) (i : ℕ) (d : Progress) → i < length ps → 3 * (i + 1) ≤ length old → length words ≡ length old
+    → words ≡ over old ps i
+    → set (set (set words (3 * i) (getD ps i d .finished)) (3 * i + 1) (getD ps i d .stage)) (3 * i + 2) (getD ps i d .sent) ≡ over old ps (i + 1)
+unfolding over
+over-more words old ps i d l room same e =
+    three-sets words (3 * i) (getD ps i d .finished) (getD ps i d .stage) (getD ps i d .sent) (omega (arith, room, same))
+    ∙ ap (λ (w : List ℕ). (take (3 * i) w ++ (getD ps i d .finished ∷ getD ps i d .stage ∷ getD ps i d .sent ∷ [])) ++ drop (3 * i + 3) w) e
+    ∙ ap (λ (w : List ℕ). (w ++ (getD ps i d .finished ∷ getD ps i d .stage ∷ getD ps i d .sent ∷ [])) ++ drop (3 * i + 3) (flatWords (take i ps) ++ drop (3 * i) old))
+    (take-at (flatWords (take i ps)) (drop (3 * i) old) (3 * i) (length-first ps i (omega arith)))
+    ∙ ap (λ (w : List ℕ). w ++ drop (3 * i + 3) (flatWords (take i ps) ++ drop (3 * i) old)) (sym (words-more ps i d l))
+    ∙ ap (λ (w : List ℕ). flatWords (take (i + 1) ps) ++ w) (drop-more (flatWords (take i ps)) old (3 * i) (length-first ps i (omega arith)))
+    ∙ ap (λ (k : ℕ). flatWords (take (i + 1) ps) ++ drop k old) (three i)
+  where
+    three : (n : ℕ) → 3 * n + 3 ≡ 3 * (n + 1)
+    three n = omega arith
+
+pub over-all : (words old : List ℕ) (ps : List Progress) (i n : ℕ) → i ≤ n → n ≤ i → words ≡ over old ps i → words ≡ flatWords (take n ps) ++ drop (3 * n) old
+unfolding over
+over-all words old ps i n l m e = let z : i ≡ n = omega arith in e ∙ ap (λ (k : ℕ). flatWords (take k ps) ++ drop (3 * k) old) z
