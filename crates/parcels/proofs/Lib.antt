@@ -1,2 +1,3 @@
 pub mod Twins
 pub mod Windows
+pub mod Alike

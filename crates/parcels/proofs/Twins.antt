@@ -1,32 +1,32 @@
 -- Two tiles that differ only where neither is last or last but one have parcels of the same lengths.
-use Prim.Native.Nat.{ℕ, zero, suc, _+_, _*_, _-_, _/_, _≤_, _<_, min}
+use Prim.Native.Nat.{ℕ, zero, suc, _+_, _*_, _-_, _/_, _%_, _≤_, _<_, min}
 use mathlib.Core.Path.{_≡_, refl, sym, ap, _∙_}
 use mathlib.Core.Logic.{_⊎_, inl, inr}
 use mathlib.Core.Bool.{Bool, true, false}
 use mathlib.Core.List.{List, [], _∷_, map}
-use native.Mathlib.Nat.{mul-add-div-right, add-mul, add-assoc}
+use native.Mathlib.Nat.{mul-add-div-right, mul-add-mod-self-right, mod-eq-of-lt, mod-lt, div-add-mod', add-mul, suc-mul, mul-assoc, mul-right-comm, mul-le-mul-right, add-assoc, eq-or-lt-of-le}
 use native.Mathlib.Decide.{decLt}
 use native.Mathlib.Omega.{arith}
 use lib.ListN.{length, getD}
 use lib.Dec.{ltb, eqb}
-use borrow.Author.Tests.{lt-ltb, le-ltb, eq-eqb, eqb-true}
-use Rattle.base.specs.Tests.{_and_, pick, every, some, keep, product}
-use Rattle.base.proofs.Tests.{same-test, pick-true, pick-false}
+use borrow.Author.Tests.{lt-ltb, ltb-true, eq-eqb, eqb-true}
+use Rattle.base.specs.Tests.{_and_, every, some, keep, product}
+use Rattle.base.proofs.Tests.{both, same-test}
 use Rattle.base.proofs.Select.{keep-same}
 use Rattle.nest.specs.declared.Nest.{Nest}
 use Rattle.nest.proofs.Accepted.{Accepted}
 use Rattle.nest.specs.Nest.{lengthOf, tileLength, component, tileCount, tiles}
-use Rattle.plan.specs.Geometry.{rank, place, cellPlace, tileAt, tilePlace, inside}
+use Rattle.plan.specs.Geometry.{place, cellPlace, tilePlace, inside}
 use Rattle.plan.specs.Messages.{ahead, reaches, parcel}
 use Rattle.plan.specs.Box.{boxLength, boxSize, boxPlace, boxCell}
-use Rattle.plan.proofs.Rank.{place-low}
-use Rattle.plan.proofs.Tiles.{tile-inside, tilePlace-low, tileAt-le, tileAt-low, tilePlace-tileAt, tileAt-tilePlace}
-use Rattle.plan.proofs.Box.{boxHit, boxParcel, boxLength-pos, boxLength-most, boxCell-place, parcel-box}
-use Rattle.layout.specs.Places.{nth, Has, Ranked}
+use Rattle.plan.proofs.Rank.{Positive, place-low, place-last, place-before}
+use Rattle.plan.proofs.Tiles.{tile-inside, tileCount-pos}
+use Rattle.plan.proofs.Box.{quotient-is, boxHit, boxParcel, boxLength-pos, boxLength-most, boxCell-place, parcel-box}
+use Rattle.layout.specs.Places.{nth, Has}
 use Rattle.parcels.specs.Twins.{Twin}
-use Rattle.layout.proofs.Dims.{product-same, place-lengths}
+use Rattle.layout.proofs.Dims.{product-same, product-pos, place-lengths}
 use Rattle.layout.proofs.Loops.{every-same, some-same}
-use Rattle.layout.proofs.Cells.{tile-ranked, tile-rank}
+use Rattle.layout.proofs.Cells.{across-product}
 
 map-length : (f : ℕ → ℕ) (l : List ℕ) → length (map f l) ≡ length l
 map-length f [] = refl
@@ -109,48 +109,158 @@ module _ (x : Nest) (ok : Accepted x) (t r : ℕ) where
         ∙ sym (map-length (boxCell x r) (keep (boxHit x r v) (boxSize x r)))
         ∙ sym (ap length (parcel-box x ok r v b))
 
--- ---- the first of its kind
+-- ---- one tile back along a dimension
 
-abbrev pub firstAlike : Nest → ℕ → ℕ → ℕ
-firstAlike x t j = pick (ltb (tilePlace x t j + 2) (tileCount x j)) 0 (tilePlace x t j)
+-- the dimensions from `left` on are taken off tile t: `rest` is its number along those before, `stride` how far apart these are
+pub record Peeled (N : ℕ → ℕ) (n t left rest stride : ℕ) : Type 0 where
+  pub low : left ≤ n
+  pub all : product N left * stride ≡ product N n
+  pub over : rest * stride ≤ t
+  pub before : (p j : ℕ) → j < left → place N n (p * stride + (t - rest * stride)) j ≡ place N left p j
+  pub after : (p j : ℕ) → left ≤ j → j < n → place N n (p * stride + (t - rest * stride)) j ≡ place N n t j
 
-module _ (x : Nest) (ok : Accepted x) (t : ℕ) (low : t < tiles x) (at across twin : List ℕ) (a : Has at (tilePlace x t) (x .dimensions)) (b : Has across (tileCount x) (x .dimensions))
-    (c : Has twin (λ q. pick (ltb (getD at q 0 + 2) (getD across q 0)) 0 (getD at q 0)) (x .dimensions)) where
-  has : Has twin (firstAlike x t) (x .dimensions)
-  has = record { each = λ j h. c .each j h ∙ ap (λ (z : ℕ). pick (ltb (z + 2) (getD across j 0)) 0 z) (a .each j h) ∙ ap (λ (z : ℕ). pick (ltb (tilePlace x t j + 2) z) 0 (tilePlace x t j)) (b .each j h) }
+pub peeled-none : (N : ℕ → ℕ) (n t : ℕ) → Peeled N n t n t 1
+peeled-none N n t =
+    record {
+      low = omega arith;
+      all = omega arith;
+      over = omega arith;
+      before = λ p j h. ap (λ (a : ℕ). place N n a j) (omega arith);
+      after = λ p j h k. absurd (omega arith);
+    }
 
-  far : (j : ℕ) → tilePlace x t j + 2 < tileCount x j → firstAlike x t j ≡ 0
-  far j l = pick-true _ _ _ (lt-ltb (tilePlace x t j + 2) (tileCount x j) l)
+pub peeled-few : (N : ℕ → ℕ) (n t left rest stride : ℕ) → Peeled N n t left rest stride → Positive N n → stride ≤ product N n
+peeled-few N n t left rest stride s h = omega (arith, s .all, mul-le-mul-right stride (product-pos N left (λ j k. h j (omega (arith, s .low)))))
 
-  near : (j : ℕ) → tileCount x j ≤ tilePlace x t j + 2 → firstAlike x t j ≡ tilePlace x t j
-  near j l = pick-false _ _ _ (le-ltb (tilePlace x t j + 2) (tileCount x j) l)
+module _ (N : ℕ → ℕ) (n t l q s : ℕ) (f : Peeled N n t (suc l) q s) (pos : 1 ≤ N l) where
+  split : q / N l * N l + q % N l ≡ q
+  split = div-add-mod' q (N l)
 
-  least : (j : ℕ) → firstAlike x t j ≤ tilePlace x t j
-  least j = go (decLt (tilePlace x t j + 2) (tileCount x j))
-    where
-      go : Dec (tilePlace x t j + 2 < tileCount x j) → firstAlike x t j ≤ tilePlace x t j
-      go (yes l) = omega (arith, far j l)
-      go (no l) = omega (arith, near j (omega arith))
+  rest-low : q % N l < N l
+  rest-low = mod-lt q pos
 
-  pub twin-ranked : Ranked across twin (x .dimensions)
-  twin-ranked = tile-ranked x ok across b twin (firstAlike x t) has (λ j h. omega (arith, least j, tilePlace-low x ok t j h))
+  swap : (p : ℕ) → p * (s * N l) ≡ p * N l * s
+  swap p = sym (mul-assoc p s (N l)) ∙ mul-right-comm p s (N l)
 
-  pub twin-is : (r : ℕ) → r ≡ rank (nth across) (nth twin) (x .dimensions) → Twin x t r
-  twin-is r q =
-      let e : r ≡ tileAt x (firstAlike x t) = q ∙ tile-rank x ok across b twin (firstAlike x t) has in
-      let l : r < tiles x = rw e (tileAt-low x ok (firstAlike x t) inside-low) in
+  parts : q * s ≡ q / N l * N l * s + q % N l * s
+  parts = ap (λ (a : ℕ). a * s) (sym split) ∙ add-mul (q / N l * N l) (q % N l) s
+
+  same-number : (p : ℕ) → p * (s * N l) + (t - q / N l * (s * N l)) ≡ (p * N l + q % N l) * s + (t - q * s)
+  same-number p = omega (arith, swap p, swap (q / N l), parts, add-mul (p * N l) (q % N l) s, f .over)
+
+  quotient : (p : ℕ) → (p * N l + q % N l) / N l ≡ p
+  quotient p = quotient-is (N l) p (p * N l + q % N l) (omega arith) (omega (arith, rest-low))
+
+  own : place N n t l ≡ q % N l
+  own =
+      ap (λ (a : ℕ). place N n a l) {x = t} {y = q * s + (t - q * s)} (omega (arith, f .over))
+      ∙ f .before q l (omega arith)
+      ∙ place-last N l q
+
+  peeled-next : Peeled N n t l (q / N l) (s * N l)
+  unfolding product
+  peeled-next =
       record {
-        low = omega (arith, tileAt-le x ok (firstAlike x t) (tilePlace x t) (λ j h. least j), tileAt-tilePlace x ok t low);
-        same = twin-same x ok t r (λ j h. go e j h (decLt (tilePlace x t j + 2) (tileCount x j))) low l;
+        low = omega (arith, f .low);
+        all = swap′ ∙ f .all;
+        over = omega (arith, swap (q / N l), parts, f .over);
+        before = λ p j h. ap (λ (a : ℕ). place N n a j) (same-number p) ∙ f .before (p * N l + q % N l) j (omega arith) ∙ place-before N l (p * N l + q % N l) j h ∙ ap (λ (a : ℕ). place N l a j) (quotient p);
+        after = λ p j h k. ap (λ (a : ℕ). place N n a j) (same-number p) ∙ go p j k (eq-or-lt-of-le h);
       }
     where
-      inside-low : (j : ℕ) → j < x .dimensions → firstAlike x t j < tileCount x j
-      inside-low j h = omega (arith, least j, tilePlace-low x ok t j h)
+      swap′ : product N l * (s * N l) ≡ product N l * N l * s
+      swap′ = swap (product N l)
 
-      place-is : r ≡ tileAt x (firstAlike x t) → (j : ℕ) → j < x .dimensions → tilePlace x r j ≡ firstAlike x t j
-      place-is e j h = ap (λ (z : ℕ). tilePlace x z j) e ∙ tilePlace-tileAt x ok (firstAlike x t) inside-low j h
+      go : (p j : ℕ) → j < n → (l ≡ j) ⊎ (l < j) → place N n ((p * N l + q % N l) * s + (t - q * s)) j ≡ place N n t j
+      go p j k (inr h) = f .after (p * N l + q % N l) j (omega arith) k
+      go p j k (inl e) =
+          rw (← e)
+          (f .before (p * N l + q % N l) l (omega arith)
+          ∙ place-last N l (p * N l + q % N l)
+          ∙ mul-add-mod-self-right p (N l) (q % N l)
+          ∙ mod-eq-of-lt rest-low
+          ∙ sym own)
 
-      go : r ≡ tileAt x (firstAlike x t) → (j : ℕ) → j < x .dimensions → Dec (tilePlace x t j + 2 < tileCount x j)
-          → (tilePlace x r j ≡ tilePlace x t j) ⊎ ((tilePlace x t j + 2 < tileCount x j) × (tilePlace x r j + 2 < tileCount x j))
-      go e j h (yes l) = inr (l, omega (arith, place-is e j h, far j l))
-      go e j h (no l) = inl (place-is e j h ∙ near j (omega arith))
+  -- one back along the dimension
+  module _ (h : 1 ≤ q % N l) where
+    first : q ≡ suc (q - 1)
+    first = omega (arith, split)
+
+    back-is : t - s ≡ (q - 1) * s + (t - q * s)
+    back-is = omega (arith, ap (λ (a : ℕ). a * s) first, suc-mul (q - 1) s, f .over)
+
+    pub back-low : s ≤ t
+    back-low = omega (arith, ap (λ (a : ℕ). a * s) first, suc-mul (q - 1) s, f .over)
+
+    back-before : (j : ℕ) → j < l → place N n (t - s) j ≡ place N n t j
+    back-before j k =
+        ap (λ (a : ℕ). place N n a j) back-is
+        ∙ f .before (q - 1) j (omega arith)
+        ∙ place-before N l (q - 1) j k
+        ∙ ap (λ (a : ℕ). place N l a j) (quotient-is (N l) (q / N l) (q - 1) (omega (arith, split)) (omega (arith, split, rest-low)))
+        ∙ sym (ap (λ (a : ℕ). place N n a j) {x = t} {y = q * s + (t - q * s)} (omega (arith, f .over)) ∙ f .before q j (omega arith) ∙ place-before N l q j k)
+
+    back-own : place N n (t - s) l + 1 ≡ place N n t l
+    back-own =
+        let z : place N n (t - s) l ≡ q % N l - 1 =
+        ap (λ (a : ℕ). place N n a l) back-is
+        ∙ f .before (q - 1) l (omega arith)
+        ∙ place-last N l (q - 1)
+        ∙ ap (λ (a : ℕ). a % N l) {x = q - 1} {y = q / N l * N l + (q % N l - 1)} (omega (arith, split))
+        ∙ mul-add-mod-self-right (q / N l) (N l) (q % N l - 1)
+        ∙ mod-eq-of-lt (omega (arith, rest-low)) in
+        omega (arith, own)
+
+    back-after : (j : ℕ) → l < j → j < n → place N n (t - s) j ≡ place N n t j
+    back-after j k m = ap (λ (a : ℕ). place N n a j) back-is ∙ f .after (q - 1) j (omega arith) m
+
+    pub back-alike : (j : ℕ) → j < n → q % N l + 2 < N l → (place N n (t - s) j ≡ place N n t j) ⊎ ((place N n t j + 2 < N j) × (place N n (t - s) j + 2 < N j))
+    back-alike j k m = go (decLt j l) (decLt l j)
+      where
+        go : Dec (j < l) → Dec (l < j) → (place N n (t - s) j ≡ place N n t j) ⊎ ((place N n t j + 2 < N j) × (place N n (t - s) j + 2 < N j))
+        go (yes a) b = inl (back-before j a)
+        go (no a) (yes b) = inl (back-after j b k)
+        go (no a) (no b) = let e : j ≡ l = omega arith in inr (rw e (omega (arith, own), omega (arith, own, back-own)))
+
+pub peeled-more : (N : ℕ → ℕ) (n t left q s : ℕ) → Peeled N n t left q s → 0 < left → 1 ≤ N (left - 1) → Peeled N n t (left - 1) (q / N (left - 1)) (s * N (left - 1))
+peeled-more N n t zero q s f h pos = absurd (omega arith)
+peeled-more N n t (suc l) q s f h pos = let z : suc l - 1 ≡ l = omega arith in rw z (peeled-next N n t l q s f (rw z at pos))
+
+pub peeled-back : (N : ℕ → ℕ) (n t left q s : ℕ) → Peeled N n t left q s → 0 < left → 1 ≤ q % N (left - 1) → q % N (left - 1) + 2 < N (left - 1)
+    → (s ≤ t) × ((j : ℕ) → j < n → (place N n (t - s) j ≡ place N n t j) ⊎ ((place N n t j + 2 < N j) × (place N n (t - s) j + 2 < N j)))
+peeled-back N n t zero q s f h a b = absurd (omega arith)
+peeled-back N n t (suc l) q s f h a b =
+    let z : suc l - 1 ≡ l = omega arith in
+    let a′ : 1 ≤ q % N l = rw z at a in
+    let b′ : q % N l + 2 < N l = rw z at b in
+    (back-low N n t l q s f (omega arith) a′, λ j k. back-alike N n t l q s f (omega arith) a′ j k b′)
+
+module _ (x : Nest) (ok : Accepted x) (t : ℕ) (low : t < tiles x) where
+  pub twin-self : Twin x t t
+  twin-self = record { low = omega arith; same = λ v. refl }
+
+  module _ (across : List ℕ) (b : Has across (tileCount x) (x .dimensions)) where
+    counts : (c j : ℕ) → place (nth across) (x .dimensions) c j ≡ tilePlace x c j
+    unfolding tilePlace
+    counts c j = place-lengths (nth across) (tileCount x) (x .dimensions) c j (b .each)
+
+    pub twin-stride : (left q s : ℕ) → Peeled (nth across) (x .dimensions) t left q s → s ≤ 1024
+    twin-stride left q s f =
+        omega (arith, peeled-few (nth across) (x .dimensions) t left q s f (λ j h. omega (arith, b .each j h, tileCount-pos x ok j h)), across-product x ok across b, ok .tiles-most)
+
+    module _ (left q s : ℕ) (f : Peeled (nth across) (x .dimensions) t left q s) (h : 0 < left) (k : (ltb 0 (q % getD across (left - 1) 0) and ltb (q % getD across (left - 1) 0 + 2) (getD across (left - 1) 0)) ≡ true) where
+      back : (s ≤ t) × ((j : ℕ) → j < x .dimensions
+          → (place (nth across) (x .dimensions) (t - s) j ≡ place (nth across) (x .dimensions) t j) ⊎ ((place (nth across) (x .dimensions) t j + 2 < getD across j 0) × (place (nth across) (x .dimensions) (t - s) j + 2 < getD across j 0)))
+      back = peeled-back (nth across) (x .dimensions) t left q s f h (ltb-true 0 (q % getD across (left - 1) 0) (both k .0)) (ltb-true (q % getD across (left - 1) 0 + 2) (getD across (left - 1) 0) (both k .1))
+
+      pub twin-low : s ≤ t
+      twin-low = back .0
+
+      pub twin-back : Twin x t (t - s)
+      twin-back = record { low = omega arith; same = twin-same x ok t (t - s) (λ j m. go j m (back .1 j m)) low (omega arith) }
+        where
+          go : (j : ℕ) → j < x .dimensions
+              → (place (nth across) (x .dimensions) (t - s) j ≡ place (nth across) (x .dimensions) t j) ⊎ ((place (nth across) (x .dimensions) t j + 2 < getD across j 0) × (place (nth across) (x .dimensions) (t - s) j + 2 < getD across j 0))
+              → (tilePlace x (t - s) j ≡ tilePlace x t j) ⊎ ((tilePlace x t j + 2 < tileCount x j) × (tilePlace x (t - s) j + 2 < tileCount x j))
+          go j m (inl e) = inl (sym (counts (t - s) j) ∙ e ∙ counts t j)
+          go j m (inr (a, c)) = inr (omega (arith, counts t j, b .each j m), omega (arith, counts (t - s) j, b .each j m))

@@ -316,6 +316,12 @@ module _ (x : Nest) (s : ℕ) (b : Bounds) (first c a w : ℕ) (ends : List ℕ)
     pub run-all : walked x s b (first + w) ≡ walked x s b first ++ rowOf c n
     run-all = let z : min w n ≡ n = omega (arith, p .low) in run-walked w (omega arith) ∙ ap (λ (m : ℕ). walked x s b first ++ rowOf c m) z
 
+    -- and no more after the run
+    pub run-rest : walked x s b (first + w) ≡ walked x s b (first + n)
+    run-rest =
+        let z : min n n ≡ n = omega arith in
+        run-all ∙ sym (run-walked n (p .low) ∙ ap (λ (m : ℕ). walked x s b first ++ rowOf c m) z)
+
     pub run-length : length (walked x s b (first + w)) ≡ length (walked x s b first) + n
     run-length = ap length run-all ∙ length-append (walked x s b first) (rowOf c n) ∙ ap (λ (m : ℕ). length (walked x s b first) + m) (length-tabulate _ n)
 

@@ -2,7 +2,7 @@
 ghost use mathlib.Core.Path.{_≡_};
 ghost use Prim.Native.Nat.{ℕ, _+_, _*_, _-_, _/_, min, _≤_, _<_};
 ghost use lib.ListN.{length, getD};
-ghost use lib.Dec.{leb, ltb};
+ghost use lib.Dec.{eqb, leb, ltb};
 ghost use Rattle.base.specs.Tests.{_and_, pick, product};
 ghost use Rattle.base.specs.Lists.{part, pack, unpack};
 ghost use Rattle.nest.proofs.Accepted.{Accepted};
@@ -10,10 +10,11 @@ ghost use Rattle.nest.specs.Nest.{component, cells, tiles};
 ghost use Rattle.plan.specs.Geometry.{rank};
 ghost use Rattle.plan.specs.Messages.{slots, slotParcel};
 ghost use Rattle.layout.specs.Sizes.{Sized};
-ghost use Rattle.layout.specs.Places.{bound};
+ghost use Rattle.layout.specs.Places.{Bounded};
 ghost use Rattle.layout.specs.Rows.{Given, rowOf};
 ghost use Rattle.parcels.specs.Twins.{Twin};
 ghost use Rattle.parcels.specs.Windows.{Windowed, RowEnd, Ends, Run, RowEnds, PackedTo};
+ghost use Rattle.parcels.specs.Sendings.{Unchanged, Alike, Sends, RowAt};
 use layout::Bounds;
 use layout::Cell;
 use layout::Sizes;
@@ -23,6 +24,25 @@ use nest::Nest;
 struct Window {
     low: [usize; 4],
     high: [usize; 4],
+}
+
+// What a slot's parcel is found by: the box of its tile's cells by rows, the place it is bound for, the window there.
+struct Sending {
+    bounds: Bounds,
+    to: [usize; 4],
+    window: Window,
+    rows: usize,
+    width: usize,
+}
+
+// A row of the box: its first cell and last component there, the ends in it, how many of its cells are in the parcel,
+// and how many rows from it on are like it.
+struct Row {
+    cell: Cell,
+    component: usize,
+    ends: [usize; 8],
+    run: usize,
+    alike: usize,
 }
 
 // The carry test: whether `component` + `distance` lies from `low` on, below `high`.
@@ -37,30 +57,38 @@ fn carry(component: usize, distance: usize, low: usize, high: usize) -> bool
     moved < high
 }
 
-// Component `at` of a tile, 0 if two tiles or more come after it in its dimension.
-fn first_alike(at: usize, across: usize) -> usize
+// Whether neither component `at` of a tile nor the one before it is among the last two.
+fn one_back(at: usize, across: usize) -> bool
     requires { ⌜ at ≤ 1024 ⌝ }
-    ensures { λ r. ⌜ r ≡ pick (ltb (at + 2) across) 0 at ⌝ }
+    ensures { λ r. ⌜ r ≡ (ltb 0 at and ltb (at + 2) across) ⌝ }
 {
-    if at + 2 < across {
-        return 0;
+    if at == 0 {
+        return false;
     }
-    at
+    at + 2 < across
 }
 
-// The first tile whose parcels have the lengths that this one's have: only at the end of a dimension do they change.
+// A tile before this one whose parcels have the lengths that this one's have, or the tile itself: only at the end of a
+// dimension do they change, so that one tile back along the last dimension that allows it will do.
 pub fn twin_of(nest: Nest, sizes: Sizes, tile: usize) -> usize
     requires { ⌜ Sized nest sizes × (tile < tiles nest) ⌝ }
     ensures { λ r. ⌜ Twin nest tile r ⌝ }
 {
-    let at = layout::place_of_tile(nest, sizes, tile);
     let across = sizes.across;
-    let mut twin = [0; 4];
-    let n = nest.dimensions;
-    for j in 0..n {
-        twin[j] = first_alike(at[j], across[j]);
+    let mut left = nest.dimensions;
+    let mut rest = tile;
+    let mut stride = 1;
+    while left > 0 {
+        left -= 1;
+        let n = across[left];
+        let at = rest % n;
+        if one_back(at, n) {
+            return tile - stride;
+        }
+        rest = rest / n;
+        stride *= n;
     }
-    layout::rank(across, twin, n)
+    tile
 }
 
 // Where a window begins and ends in a dimension: the tile's there where spread, else the nest's.
@@ -165,25 +193,113 @@ fn run_of(ends: &[usize; 8], n: usize, component: usize, width: usize) -> usize
     layout::least(width, end - component)
 }
 
+// For how many components, `moved` and those after it, the carry test stays as it is.
+fn unchanged(moved: usize, low: usize, high: usize) -> usize
+    ensures { λ r. ⌜ Unchanged moved low high r ⌝ }
+{
+    if moved < low {
+        return low - moved;
+    }
+    if moved < high {
+        return high - moved;
+    }
+    1024
+}
+
+// For how many rows of the box, that of a place and those after it, which differ in the last component but one alone,
+// each distance's test stays as it is.
+fn rows_alike(
+    nest: Nest,
+    components: &[usize; 32],
+    window: Window,
+    bounds: Bounds,
+    at: [usize; 4],
+) -> usize
+    requires { ⌜ Accepted nest × (Given nest (now components) × Bounded nest bounds) ⌝ }
+    requires { ⌜ getD at (nest .dimensions - 1 - 1) 0 < getD (bounds .corner) (nest .dimensions - 1 - 1) 0 + getD (bounds .lengths) (nest .dimensions - 1 - 1) 0 ⌝ }
+    ensures { λ r. ⌜ Alike nest (window .low) (window .high) bounds at r ⌝ }
+{
+    let last = nest.dimensions - 1;
+    let j = last - 1;
+    let component = at[j];
+    let low = window.low[j];
+    let high = window.high[j];
+    let n = nest.distances;
+    let mut rows = bounds.corner[j] + bounds.lengths[j] - component;
+    for e in 0..n {
+        rows = layout::least(
+            rows,
+            unchanged(component + components[4 * e + j], low, high),
+        );
+    }
+    rows
+}
+
+fn sending_of(nest: Nest, sizes: Sizes, slot: usize) -> Sending
+    requires { ⌜ Sized nest sizes × (slot < slots nest) ⌝ }
+    ensures { λ r. ⌜ Sends nest slot r ⌝ }
+{
+    let bounds = layout::bounds_of(nest, sizes, slot / sizes.directions);
+    let to = layout::bound_for(nest, sizes, slot);
+    let window = window_of(nest, to);
+    let last = nest.dimensions - 1;
+    let lengths = bounds.lengths;
+    let rows = layout::product(lengths, last);
+    Sending {
+        bounds: bounds,
+        to: to,
+        window: window,
+        rows: rows,
+        width: lengths[last],
+    }
+}
+
+// Row r of the box.
+fn row_at(nest: Nest, components: &[usize; 32], sending: Sending, slot: usize, r: usize) -> Row
+    requires { ⌜ Accepted nest × (Given nest (now components) × (Sends nest slot sending × (r < sending .rows))) ⌝ }
+    ensures { λ q. ⌜ RowAt nest slot sending r q ⌝ }
+{
+    let last = nest.dimensions - 1;
+    let to = sending.to;
+    let cell = layout::cell_in(nest, sending.bounds, r * sending.width);
+    let at = cell.place;
+    let ends = ends_of(nest, components, sending.window, at, to);
+    let component = at[last];
+    let run = run_of(&ends, nest.distances, component, sending.width);
+    let alike = rows_alike(nest, components, sending.window, sending.bounds, at);
+    Row {
+        cell: cell,
+        component: component,
+        ends: ends,
+        run: run,
+        alike: alike,
+    }
+}
+
+// How many rows to go on: all that are alike where none of their cells is in the parcel.
+fn rows_on(run: usize, alike: usize) -> usize
+    ensures { λ r. ⌜ r ≡ pick (eqb run 0) alike 1 ⌝ }
+{
+    if run == 0 {
+        return alike;
+    }
+    1
+}
+
 // How many cells a slot's parcel has.
 pub fn parcel_length(nest: Nest, sizes: Sizes, slot: usize) -> usize
     requires { ⌜ Sized nest sizes × (slot < slots nest) ⌝ }
     ensures { λ r. ⌜ (r ≡ length (slotParcel nest slot)) × (r ≤ 16384) ⌝ }
 {
-    let bounds = layout::bounds_of(nest, sizes, slot / sizes.directions);
-    let to = layout::bound_for(nest, sizes, slot);
-    let window = window_of(nest, to);
+    let sending = sending_of(nest, sizes, slot);
     let components = nest.components;
-    let last = nest.dimensions - 1;
-    let lengths = bounds.lengths;
-    let rows = layout::product(lengths, last);
-    let width = lengths[last];
+    let rows = sending.rows;
     let mut count = 0;
-    for r in 0..rows {
-        let cell = layout::cell_in(nest, bounds, r * width);
-        let at = cell.place;
-        let ends = ends_of(nest, &components, window, at, to);
-        count += run_of(&ends, nest.distances, at[last], width);
+    let mut r = 0;
+    while r < rows {
+        let row = row_at(nest, &components, sending, slot, r);
+        count += row.alike * row.run;
+        r += row.alike;
     }
     count
 }
@@ -228,20 +344,16 @@ pub fn pack(nest: Nest, sizes: Sizes, slot: usize, words: &mut [u32], memory: &[
     requires { ⌜ Sized nest sizes × ((slot < slots nest) × ((length (now memory) ≡ cells nest) × (length (now words) ≡ length (slotParcel nest slot)))) ⌝ }
     ensures { λ _. ⌜ now (words .exit) ≡ pack (now (memory .entry)) (slotParcel nest slot) ⌝ }
 {
-    let bounds = layout::bounds_of(nest, sizes, slot / sizes.directions);
-    let to = layout::bound_for(nest, sizes, slot);
-    let window = window_of(nest, to);
+    let sending = sending_of(nest, sizes, slot);
     let components = nest.components;
-    let last = nest.dimensions - 1;
-    let lengths = bounds.lengths;
-    let rows = layout::product(lengths, last);
-    let width = lengths[last];
+    let rows = sending.rows;
+    let width = sending.width;
+    let bounds = sending.bounds;
     let mut count = 0;
-    for r in 0..rows {
-        let first = r * width;
-        let cell = layout::cell_in(nest, bounds, first);
-        let at = cell.place;
-        let ends = ends_of(nest, &components, window, at, to);
+    let mut r = 0;
+    while r < rows {
+        let row = row_at(nest, &components, sending, slot, r);
+        let ends = row.ends;
         count = pack_row(
             nest,
             bounds,
@@ -249,12 +361,13 @@ pub fn pack(nest: Nest, sizes: Sizes, slot: usize, words: &mut [u32], memory: &[
             words,
             memory,
             &ends,
-            cell,
-            at[last],
-            first,
-            width,
+            row.cell,
+            row.component,
+            r * width,
+            row.run,
             count,
         );
+        r += rows_on(row.run, row.alike);
     }
 }
 
@@ -273,21 +386,16 @@ pub fn unpack(nest: Nest, sizes: Sizes, slot: usize, memory: &mut [u32], words: 
     requires { ⌜ Sized nest sizes × ((slot < slots nest) × ((length (now memory) ≡ cells nest) × (length (now words) ≡ length (slotParcel nest slot)))) ⌝ }
     ensures { λ _. ⌜ now (memory .exit) ≡ unpack (now (memory .entry)) (slotParcel nest slot) (now (words .entry)) ⌝ }
 {
-    let bounds = layout::bounds_of(nest, sizes, slot / sizes.directions);
-    let to = layout::bound_for(nest, sizes, slot);
-    let window = window_of(nest, to);
+    let sending = sending_of(nest, sizes, slot);
     let components = nest.components;
-    let last = nest.dimensions - 1;
-    let lengths = bounds.lengths;
-    let rows = layout::product(lengths, last);
-    let width = lengths[last];
+    let rows = sending.rows;
     let mut count = 0;
-    for r in 0..rows {
-        let cell = layout::cell_in(nest, bounds, r * width);
-        let at = cell.place;
-        let ends = ends_of(nest, &components, window, at, to);
-        let n = run_of(&ends, nest.distances, at[last], width);
-        unpack_row(memory, words, cell.number, count, n);
-        count += n;
+    let mut r = 0;
+    while r < rows {
+        let row = row_at(nest, &components, sending, slot, r);
+        let cell = row.cell;
+        unpack_row(memory, words, cell.number, count, row.run);
+        count += row.run;
+        r += rows_on(row.run, row.alike);
     }
 }

@@ -1,64 +1,60 @@
--- `parcels::twin_of` meets its contract: the first j components of the tile's kind.
-use borrow.Author.Needs.{needs}
+-- `parcels::twin_of` meets its contract: the dimensions from `left` on allow no tile back.
 use native.Mathlib.Omega.{arith}
-use Prim.Native.Nat.{_+_, _-_}
+use Prim.Native.Nat.{_+_, _-_, _*_}
+use mathlib.Core.Path.{sym, _∙_}
+use native.Mathlib.Nat.{mod-lt}
 use lib.ListN.{getD}
-use lib.Dec.{ltb}
-use Rattle.base.specs.Tests.{pick}
-use Rattle.plan.proofs.Tiles.{tilePlace-low}
+use Rattle.plan.proofs.Tiles.{tileCount-pos}
+use Rattle.layout.specs.Places.{nth}
 use Rattle.layout.proofs.Cells.{count-most}
-use Rattle.layout.proofs.Loops.{Filled, filled-none, filled-more, filled-end}
-use Rattle.parcels.proofs.Twins.{twin-ranked, twin-is}
+use Rattle.parcels.proofs.Twins.{Peeled, peeled-none, peeled-more, twin-stride, twin-self, twin-low, twin-back}
 use Rattle.parcels.proofs.twin_of.Statement.{statement}
 use Rattle.parcels.proofs.twin_of.Tie as tie
 
 abbrev Inv-loop : tie.InvT-loop
-Inv-loop tile at across twin₀ n j₀ twin j = Filled (λ q. pick (ltb (getD at q 0 + 2) (getD across q 0)) 0 (getD at q 0)) n twin j
+Inv-loop tile across left₀ rest₀ stride₀ left rest stride = Peeled (nth across) left₀ tile left rest stride
 
 abbrev μ-loop : tie.MeasureT-loop
-μ-loop tile at across twin₀ n j₀ twin j = n - j
-
-place-of-tile-requires : tie.Need-place-of-tile-requires Inv-loop μ-loop
-place-of-tile-requires c κs = c .pre .0
+μ-loop tile across left₀ rest₀ stride₀ left rest stride = left
 
 loop-holds : tie.Need-loop-holds Inv-loop μ-loop
-loop-holds c = filled-none _ _ _ (omega arith)
+loop-holds c = peeled-none _ _ _
 
-mul-first-alike : tie.Need-mul-first-alike Inv-loop μ-loop
-mul-first-alike c = omega (arith, c .loop-test .taken, c .before .before .before .before .pre .0 .accepted .dimensions-most)
+sub-left : tie.Need-sub-left Inv-loop μ-loop
+sub-left c = c .loop-test .taken
 
-array-read-first-alike : tie.Need-array-read-first-alike Inv-loop μ-loop
-array-read-first-alike c = omega (arith, c .loop-test .taken, c .before .before .before .before .pre .0 .accepted .dimensions-most)
+mul-n : tie.Need-mul-n Inv-loop μ-loop
+mul-n c = omega (arith, c .loop-test .taken, c .before .loop .inv .low, c .before .before .before .pre .0 .accepted .dimensions-most)
 
-mul-first-alike-2 : tie.Need-mul-first-alike-2 Inv-loop μ-loop
-mul-first-alike-2 c = omega (arith, c .loop-test .taken, c .before .before .before .before .pre .0 .accepted .dimensions-most)
+array-read-n : tie.Need-array-read-n Inv-loop μ-loop
+array-read-n c = omega (arith, c .loop-test .taken, c .before .loop .inv .low, c .before .before .before .pre .0 .accepted .dimensions-most)
 
-array-read-first-alike-2 : tie.Need-array-read-first-alike-2 Inv-loop μ-loop
-array-read-first-alike-2 c = omega (arith, c .loop-test .taken, c .before .before .before .before .pre .0 .accepted .dimensions-most)
+rem-at : tie.Need-rem-at Inv-loop μ-loop
+rem-at c = omega (arith, c .before .before .before .pre .0 .across (c .before .loop .left - 1) (omega (arith, c .loop-test .taken, c .before .loop .inv .low)), tileCount-pos _ (c .before .before .before .pre .0 .accepted) (c .before .loop .left - 1) (omega (arith, c .loop-test .taken, c .before .loop .inv .low)))
 
-first-alike-requires : tie.Need-first-alike-requires Inv-loop μ-loop
-first-alike-requires c κs = omega (arith, c .before .before .before .place-of-tile .ensures .each _ (c .loop-test .taken), tilePlace-low _ (c .before .before .before .before .pre .0 .accepted) (c .before .before .before .before .args .tile) _ (c .loop-test .taken), count-most _ (c .before .before .before .before .pre .0 .accepted) _ (c .loop-test .taken))
+one-back-requires : tie.Need-one-back-requires Inv-loop μ-loop
+one-back-requires c κs = omega (arith, c .before .before .before .pre .0 .across (c .before .loop .left - 1) (omega (arith, c .loop-test .taken, c .before .loop .inv .low)), tileCount-pos _ (c .before .before .before .pre .0 .accepted) (c .before .loop .left - 1) (omega (arith, c .loop-test .taken, c .before .loop .inv .low)), count-most _ (c .before .before .before .pre .0 .accepted) (c .before .loop .left - 1) (omega (arith, c .loop-test .taken, c .before .loop .inv .low)), mod-lt (c .before .loop .rest) {m = getD (c .before .before .before .args .sizes .across) (c .before .loop .left - 1) 0} (omega (arith, c .before .before .before .pre .0 .across (c .before .loop .left - 1) (omega (arith, c .loop-test .taken, c .before .loop .inv .low)), tileCount-pos _ (c .before .before .before .pre .0 .accepted) (c .before .loop .left - 1) (omega (arith, c .loop-test .taken, c .before .loop .inv .low)))))
 
-mul-twin : tie.Need-mul-twin Inv-loop μ-loop
-mul-twin c = omega (arith, c .before .loop-test .taken, c .before .before .before .before .before .pre .0 .accepted .dimensions-most)
-
-array-write-twin : tie.Need-array-write-twin Inv-loop μ-loop
-array-write-twin c = omega (arith, c .before .loop-test .taken, c .before .before .before .before .before .pre .0 .accepted .dimensions-most)
-
-add-j : tie.Need-add-j Inv-loop μ-loop
-add-j c = omega (arith, c .before .loop-test .taken, c .before .before .before .before .before .pre .0 .accepted .dimensions-most)
-
-loop-less : tie.Need-loop-less Inv-loop μ-loop
-loop-less c = search needs
-
-loop-again : tie.Need-loop-again Inv-loop μ-loop
-loop-again c = filled-more _ _ _ _ _ (c .before .before .loop .inv) (c .before .loop-test .taken) (c .before .before .before .before .before .pre .0 .accepted .dimensions-most) (c .first-alike .ensures)
-
-rank-requires : tie.Need-rank-requires Inv-loop μ-loop
-rank-requires c κs = twin-ranked (c .before .before .before .before .args .nest) (c .before .before .before .before .pre .0 .accepted) (c .before .before .before .before .args .tile) (c .before .before .before .before .pre .1) (c .before .before .before .place-of-tile .result) (c .before .before .before .before .args .sizes .across) (c .before .loop .twin) (c .before .before .before .place-of-tile .ensures) (record { each = c .before .before .before .before .pre .0 .across }) (filled-end _ _ _ _ (c .before .loop .inv) (c .loop-test .left))
+sub-result : tie.Need-sub-result Inv-loop μ-loop
+sub-result c = twin-low _ (c .before .before .before .before .before .pre .0 .accepted) _ (c .before .before .before .before .before .pre .1) (c .before .before .before .before .before .args .sizes .across) (record { each = c .before .before .before .before .before .pre .0 .across }) _ _ _ (c .before .before .before .loop .inv) (c .before .before .loop-test .taken) (sym (c .before .one-back .ensures) ∙ c .if1 .taken)
 
 returns : tie.Need-returns Inv-loop μ-loop
-returns c = twin-is (c .before .before .before .before .before .args .nest) (c .before .before .before .before .before .pre .0 .accepted) (c .before .before .before .before .before .args .tile) (c .before .before .before .before .before .pre .1) (c .before .before .before .before .place-of-tile .result) (c .before .before .before .before .before .args .sizes .across) (c .before .before .loop .twin) (c .before .before .before .before .place-of-tile .ensures) (record { each = c .before .before .before .before .before .pre .0 .across }) (filled-end _ _ _ _ (c .before .before .loop .inv) (c .before .loop-test .left)) (c .rank .result) (c .rank .ensures)
+returns c = twin-back _ (c .before .before .before .before .before .pre .0 .accepted) _ (c .before .before .before .before .before .pre .1) (c .before .before .before .before .before .args .sizes .across) (record { each = c .before .before .before .before .before .pre .0 .across }) _ _ _ (c .before .before .before .loop .inv) (c .before .before .loop-test .taken) (sym (c .before .one-back .ensures) ∙ c .if1 .taken)
+
+div-rest : tie.Need-div-rest Inv-loop μ-loop
+div-rest c = omega (arith, c .before .before .before .before .before .pre .0 .across (c .before .before .before .loop .left - 1) (omega (arith, c .before .before .loop-test .taken, c .before .before .before .loop .inv .low)), tileCount-pos _ (c .before .before .before .before .before .pre .0 .accepted) (c .before .before .before .loop .left - 1) (omega (arith, c .before .before .loop-test .taken, c .before .before .before .loop .inv .low)))
+
+mul-stride : tie.Need-mul-stride Inv-loop μ-loop
+mul-stride c = omega (arith, twin-stride _ (c .before .before .before .before .before .pre .0 .accepted) _ (c .before .before .before .before .before .pre .1) (c .before .before .before .before .before .args .sizes .across) (record { each = c .before .before .before .before .before .pre .0 .across }) _ _ _ (peeled-more _ _ _ _ _ _ (c .before .before .before .loop .inv) (c .before .before .loop-test .taken) (omega (arith, c .before .before .before .before .before .pre .0 .across (c .before .before .before .loop .left - 1) (omega (arith, c .before .before .loop-test .taken, c .before .before .before .loop .inv .low)), tileCount-pos _ (c .before .before .before .before .before .pre .0 .accepted) (c .before .before .before .loop .left - 1) (omega (arith, c .before .before .loop-test .taken, c .before .before .before .loop .inv .low))))))
+
+loop-less : tie.Need-loop-less Inv-loop μ-loop
+loop-less c = omega (arith, c .before .before .loop-test .taken)
+
+loop-again : tie.Need-loop-again Inv-loop μ-loop
+loop-again c = peeled-more _ _ _ _ _ _ (c .before .before .before .loop .inv) (c .before .before .loop-test .taken) (omega (arith, c .before .before .before .before .before .pre .0 .across (c .before .before .before .loop .left - 1) (omega (arith, c .before .before .loop-test .taken, c .before .before .before .loop .inv .low)), tileCount-pos _ (c .before .before .before .before .before .pre .0 .accepted) (c .before .before .before .loop .left - 1) (omega (arith, c .before .before .loop-test .taken, c .before .before .before .loop .inv .low))))
+
+returns-2 : tie.Need-returns-2 Inv-loop μ-loop
+returns-2 c = twin-self _ (c .before .before .before .pre .0 .accepted) _ (c .before .before .before .pre .1)
 
 pub twin-of-spec : {M : Type 1} → statement M
 twin-of-spec =
@@ -66,17 +62,16 @@ twin-of-spec =
     (tie.spec
     Inv-loop
     μ-loop
-    place-of-tile-requires
     loop-holds
-    mul-first-alike
-    array-read-first-alike
-    mul-first-alike-2
-    array-read-first-alike-2
-    first-alike-requires
-    mul-twin
-    array-write-twin
-    add-j
+    sub-left
+    mul-n
+    array-read-n
+    rem-at
+    one-back-requires
+    sub-result
+    returns
+    div-rest
+    mul-stride
     loop-less
     loop-again
-    rank-requires
-    returns)
+    returns-2)
