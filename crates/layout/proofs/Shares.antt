@@ -106,7 +106,7 @@ unfolding product
 product-le f g zero h = omega arith
 product-le f g (suc l) h = mul-le-mul (product-le f g l (λ j k. h j (omega arith))) (h l (omega arith))
 
-product-prefix : (N : ℕ → ℕ) (l j : ℕ) → Positive N l → j ≤ l → product N j ≤ product N l
+pub product-prefix : (N : ℕ → ℕ) (l j : ℕ) → Positive N l → j ≤ l → product N j ≤ product N l
 unfolding product
 product-prefix N zero j p h = let z : j ≡ 0 = omega arith in rw z (omega arith)
 product-prefix N (suc l) j p h = go (decLt l j) (λ k. product-prefix N l j (λ q r. p q (omega arith)) k)
