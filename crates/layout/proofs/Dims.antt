@@ -4,6 +4,7 @@ use mathlib.Core.Path.{_≡_, refl, ap, _∙_}
 use mathlib.Core.Logic.{_⊎_, inl, inr, _≢_}
 use mathlib.Core.List.{List}
 use native.Mathlib.Nat.{eq-or-lt-of-le, le-of-suc-le-suc, mul-le-mul-right, mul-le-mul-left, mul-assoc, suc-mul, one-mul, mul-one, mod-lt}
+use native.Mathlib.Decide.{decLt}
 use native.Mathlib.Omega.{arith}
 use lib.ListN.{length, getD, set}
 use lib.Seq.{getD-set-same, getD-set-other}
@@ -124,3 +125,12 @@ placed-more N from r n (suc l) f h p =
     go q (inr k) =
         rw (place-before (nth N) l n q k)
         (p′ .first q k ∙ ap (λ (a : ℕ). a + place (nth N) l (n / getD N l 0) q) (getD-set-other from l q (getD from l 0 + n % getD N l 0) 0 (λ (e : q ≡ l). omega arith)))
+
+pub product-prefix : (N : ℕ → ℕ) (l j : ℕ) → Positive N l → j ≤ l → product N j ≤ product N l
+unfolding product
+product-prefix N zero j p h = let z : j ≡ 0 = omega arith in rw z (omega arith)
+product-prefix N (suc l) j p h = go (decLt l j) (λ k. product-prefix N l j (λ q r. p q (omega arith)) k)
+  where
+    go : Dec (l < j) → (j ≤ l → product N j ≤ product N l) → product N j ≤ product N l * N l
+    go (yes k) ih = let z : j ≡ suc l = omega arith in rw z (omega arith)
+    go (no k) ih = omega (arith, ih (omega arith), mul-le-mul-left (product N l) (p l (omega arith)), mul-one (product N l))

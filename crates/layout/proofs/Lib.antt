@@ -5,3 +5,4 @@ pub mod Walks
 pub mod Rows
 pub mod Nested
 pub mod Shares
+pub mod Advance

@@ -32,7 +32,6 @@ use Rattle.layout.specs.Rows.{rowOf, Given, firstRead, stepBack, Firsts,
 use Rattle.layout.proofs.Dims.{product-turn}
 use Rattle.layout.proofs.Cells.{lengths-countable, box-countable}
 use Rattle.layout.proofs.Loops.{every-same, Sofar, sofar-end}
-use Rattle.layout.proofs.Walks.{store-append, Calculating, calculating-more, Sweeping, sweeping-more}
 
 -- ---- ranks add up
 
@@ -263,52 +262,6 @@ module _ (x : Nest) (ok : Accepted x) (e : ℕ) (d : List ℕ) (h : Has d (λ j.
   unfolding stepBack
   back-rank r q = q ∙ rank-same (lengthOf x) (nth d) _ (x .dimensions) (h .each)
 
--- ---- a row stored
-
-pub record Rowing (x : Nest) (source memory₀ memory : List ℕ) (c n y : ℕ) : Type 0 where
-  pub low : y ≤ n
-  pub is : memory ≡ storeAll (value x source) memory₀ (rowOf c y)
-
-module _ (x : Nest) (source memory₀ : List ℕ) (c n : ℕ) where
-  pub rowing-none : Rowing x source memory₀ memory₀ c n 0
-  unfolding storeAll tabulate
-  rowing-none = record { low = omega arith; is = refl }
-
-  module _ (memory : List ℕ) (y : ℕ) (p : Rowing x source memory₀ memory c n y) where
-    pub rowing-long : length memory ≡ length memory₀
-    rowing-long = ap length (p .is) ∙ store-length (value x source) (rowOf c y) memory₀
-
-    pub rowing-more : (v : ℕ) → y < n → v ≡ value x source memory (c + y) → Rowing x source memory₀ (set memory (c + y) v) c n (y + 1)
-    unfolding storeAll tabulate
-    rowing-more v l e = record { low = omega arith; is = rw (add-one y, store-append (value x source) memory₀ (rowOf c y) ((c + y) ∷ []), ← p .is, e) }
-
-    pub rowing-end : n ≤ y → memory ≡ storeAll (value x source) memory₀ (rowOf c n)
-    rowing-end h = let z : y ≡ n = omega (arith, p .low) in rw z at (p .is)
-
-store-row : (f : List ℕ → ℕ → ℕ) (l : List ℕ) (c n : ℕ) → storeAll f l (rowOf c (suc n)) ≡ set (storeAll f l (rowOf c n)) (c + n) (f (storeAll f l (rowOf c n)) (c + n))
-unfolding tabulate storeAll
-store-row f l c n = store-append f l (rowOf c n) ((c + n) ∷ [])
-
--- ---- whole rows of the sweep and of a tile
-
-pub sweeping-row : (x : Nest) (source grid₀ : List ℕ) → length grid₀ ≡ cells x → Sound (planOf x) → (grid : List ℕ) (c : ℕ) → Sweeping x source grid₀ grid c → (n : ℕ) → c + n ≤ cells x
-    → Sweeping x source grid₀ (storeAll (value x source) grid (rowOf c n)) (c + n)
-unfolding tabulate storeAll
-sweeping-row x source grid₀ long sound grid c p zero h = rw (add-zero c) p
-sweeping-row x source grid₀ long sound grid c p (suc n) h =
-    let z : c + suc n ≡ c + n + 1 = omega arith in
-    rw (store-row (value x source) grid c n, z)
-    (sweeping-more x source grid₀ long (storeAll (value x source) grid (rowOf c n)) (c + n) (sweeping-row x source grid₀ long sound grid c p n (omega arith)) sound (omega arith) _ refl)
-
-pub calculating-row : (x : Nest) (b : Bounds) (source memory₀ memory : List ℕ) (q c : ℕ) → Calculating x b source memory₀ memory q → (n : ℕ) → q + n ≤ b .size
-    → ((y : ℕ) → y < n → c + y ≡ boxCell x (b .tile) (q + y)) → Calculating x b source memory₀ (storeAll (value x source) memory (rowOf c n)) (q + n)
-unfolding tabulate storeAll
-calculating-row x b source memory₀ memory q c p zero h e = rw (add-zero q) p
-calculating-row x b source memory₀ memory q c p (suc n) h e =
-    let z : q + suc n ≡ q + n + 1 = omega arith in
-    rw (store-row (value x source) memory c n, z)
-    (calculating-more x b source memory₀ (storeAll (value x source) memory (rowOf c n)) (q + n) (calculating-row x b source memory₀ memory q c p n (omega arith) (λ y k. e y (omega arith))) (c + n) _ (omega arith) (e n (omega arith)) refl)
-
 -- ---- the first of a row, and how many rows there are
 
 pub row-start : (N : ℕ → ℕ) (d r : ℕ) → 1 ≤ d → 1 ≤ N (d - 1) → place N d (r * N (d - 1)) (d - 1) ≡ 0
@@ -396,22 +349,12 @@ module _ (x : Nest) (ok : Accepted x) (b : Bounds) (is : Bounded x b) (r rows w 
   pub box-in : r < rows → (r * w + w ≤ b .size) × (1 ≤ w)
   box-in h = (omega (arith, row-in w r rows h, box-all), omega (arith, box-counts x ok b is .positive (x .dimensions - 1) (omega (arith, ok .dimensions-least))))
 
-  pub calculating-turn : (source memory₀ memory memory′ : List ℕ) → Calculating x b source memory₀ memory (r * w) → r < rows → (c : ℕ) → c ≡ boxCell x (b .tile) (r * w)
-      → memory′ ≡ storeAll (value x source) memory (rowOf c w) → Calculating x b source memory₀ memory′ ((r + 1) * w)
-  calculating-turn source memory₀ memory memory′ p h c q g =
-      rw (g, row-next w r rows)
-      (calculating-row x b source memory₀ memory (r * w) c p w (box-in h .0) (λ y i. ap (λ (a : ℕ). a + y) q ∙ rw k (box-row x ok b is r y (rw k at i))))
-
 module _ (x : Nest) (ok : Accepted x) (r rows w : ℕ) (e : rows ≡ product (nth (x .lengths)) (x .dimensions - 1)) (k : w ≡ lengthOf x (x .dimensions - 1)) where
   pub sweep-all : rows * w ≡ cells x
   sweep-all = ap (λ (a : ℕ). a * w) e ∙ ap (λ (a : ℕ). product (nth (x .lengths)) (x .dimensions - 1) * a) k ∙ sweep-rows x ok
 
   pub sweep-in : r < rows → (r * w + w ≤ cells x) × (1 ≤ w)
   sweep-in h = (omega (arith, row-in w r rows h, sweep-all), omega (arith, ok .long (x .dimensions - 1) (omega (arith, ok .dimensions-least))))
-
-  pub sweeping-turn : (source grid₀ grid grid′ : List ℕ) → length grid₀ ≡ cells x → Sweeping x source grid₀ grid (r * w) → r < rows → Sound (planOf x) → (c : ℕ) → c ≡ r * w
-      → grid′ ≡ storeAll (value x source) grid (rowOf c w) → Sweeping x source grid₀ grid′ ((r + 1) * w)
-  sweeping-turn source grid₀ grid grid′ long p h sound c q g = rw (g, q, row-next w r rows) (sweeping-row x source grid₀ long sound grid (r * w) p w (sweep-in h .0))
 
 -- all rows are done
 pub rows-end : (rows r w : ℕ) {n : ℕ} → rows ≤ r → rows * w ≡ n → n ≤ r * w

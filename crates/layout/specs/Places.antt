@@ -44,6 +44,14 @@ pub record Placed (N from : List ℕ) (n left : ℕ) (r : List ℕ) : Type 0 whe
   pub first : (j : ℕ) → j < left → getD r j 0 ≡ getD from j 0 + place (nth N) left n j
   pub rest : (j : ℕ) → left ≤ j → getD r j 0 ≡ getD from j 0
 
+-- a place of the box of lengths N from another place
+pub record Inside (N from : List ℕ) (left : ℕ) (at : List ℕ) : Type 0 where
+  pub each : (j : ℕ) → j < left → getD at j 0 < getD from j 0 + getD N j 0
+
+-- the next place: that of the number one more
+pub record Follows (N from : List ℕ) (left : ℕ) (at r : List ℕ) : Type 0 where
+  pub next : (n : ℕ) → Placed N from n left at → Placed N from (n + 1) left r
+
 -- a component's tile, and its place there
 pub record Splits (a k : ℕ) (r : Divided) : Type 0 where
   pub tile : r .tile ≡ a / k

@@ -11,8 +11,8 @@ ghost use Rattle.nest.specs.Nest.{lengthOf, component, cells, tiles};
 ghost use Rattle.plan.specs.Geometry.{rank, cellsOf, value};
 ghost use Rattle.plan.specs.Messages.{planOf};
 ghost use Rattle.layout.specs.Sizes.{Sized};
-ghost use Rattle.layout.specs.Places.{Has, Located, wordRead};
-ghost use Rattle.layout.specs.Rows.{firstRead, Firsts, Backs, Reads, Given, InRow, rowOf};
+ghost use Rattle.layout.specs.Places.{Located, wordRead};
+ghost use Rattle.layout.specs.Rows.{firstRead, stepBack, Firsts, Backs, Reads, Given, InRow, rowOf};
 use layout::Bounds;
 use layout::Cell;
 use layout::Sizes;
@@ -61,30 +61,30 @@ pub fn value(nest: Nest, sizes: Sizes, source: &[u32], memory: &[u32], cell: usi
     value_at(nest, source, memory, c)
 }
 
-// Distance e, no component above its dimension's length.
-fn distance_of(nest: Nest, e: usize) -> [usize; 4]
-    requires { ⌜ Accepted nest × (e < nest .distances) ⌝ }
-    ensures { λ r. ⌜ Has r (λ j. min (component nest e j) (lengthOf nest j)) (nest .dimensions) ⌝ }
+// How many cells back distance e reads; no component counts above its dimension's length.
+fn back_of(nest: Nest, components: &[usize; 32], e: usize) -> usize
+    requires { ⌜ Accepted nest × ((e < nest .distances) × Given nest (now components)) ⌝ }
+    ensures { λ r. ⌜ r ≡ stepBack nest e ⌝ }
 {
-    let mut distance = [0; 4];
+    let lengths = nest.lengths;
     let n = nest.dimensions;
+    let mut back = 0;
     for j in 0..n {
-        distance[j] = layout::least(nest.components[4 * e + j], nest.lengths[j]);
+        let d = layout::least(components[4 * e + j], lengths[j]);
+        back = back * lengths[j] + d;
     }
-    distance
+    back
 }
 
-// How many cells back each distance reads: made once in a call, since a place moved by a distance moves its number so.
-fn backs_of(nest: Nest) -> [usize; 8]
-    requires { ⌜ Accepted nest ⌝ }
+// Made once in a call, since a place moved by a distance moves its number so.
+fn backs_of(nest: Nest, components: &[usize; 32]) -> [usize; 8]
+    requires { ⌜ Accepted nest × Given nest (now components) ⌝ }
     ensures { λ r. ⌜ Backs nest r ⌝ }
 {
     let mut back = [0; 8];
-    let lengths = nest.lengths;
     let n = nest.distances;
     for e in 0..n {
-        let distance = distance_of(nest, e);
-        back[e] = layout::rank(lengths, distance, nest.dimensions);
+        back[e] = back_of(nest, components, e);
     }
     back
 }
@@ -225,13 +225,20 @@ pub fn calculate(nest: Nest, sizes: Sizes, source: &[u32], memory: &mut [u32], t
     let bounds = layout::bounds_of(nest, sizes, tile);
     let components = nest.components;
     let weights = nest.weights;
-    let back = backs_of(nest);
+    let back = backs_of(nest, &components);
     let last = nest.dimensions - 1;
+    let grid = nest.lengths;
     let lengths = bounds.lengths;
+    let corner = bounds.corner;
     let rows = layout::product(lengths, last);
     let width = lengths[last];
+    let mut at = corner;
     for r in 0..rows {
-        let cell = layout::cell_in(nest, bounds, r * width);
+        let number = layout::rank(grid, at, nest.dimensions);
+        let cell = Cell {
+            number: number,
+            place: at,
+        };
         row(
             nest,
             source,
@@ -242,6 +249,8 @@ pub fn calculate(nest: Nest, sizes: Sizes, source: &[u32], memory: &mut [u32], t
             cell,
             width,
         );
+        let next = layout::next_place(lengths, corner, at, last);
+        at = next;
     }
 }
 
@@ -252,13 +261,17 @@ pub fn sweep(nest: Nest, sizes: Sizes, source: &[u32], grid: &mut [u32])
 {
     let components = nest.components;
     let weights = nest.weights;
-    let back = backs_of(nest);
+    let back = backs_of(nest, &components);
     let last = nest.dimensions - 1;
     let lengths = nest.lengths;
     let rows = layout::product(lengths, last);
     let width = lengths[last];
+    let mut at = [0; 4];
     for r in 0..rows {
-        let cell = layout::cell_of(nest, r * width);
+        let cell = Cell {
+            number: r * width,
+            place: at,
+        };
         row(
             nest,
             source,
@@ -269,5 +282,7 @@ pub fn sweep(nest: Nest, sizes: Sizes, source: &[u32], grid: &mut [u32])
             cell,
             width,
         );
+        let next = layout::next_place(lengths, [0; 4], at, last);
+        at = next;
     }
 }

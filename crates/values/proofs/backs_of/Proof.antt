@@ -3,39 +3,36 @@ use borrow.Author.Needs.{needs}
 use native.Mathlib.Omega.{arith}
 use Prim.Native.Nat.{_-_}
 use Rattle.layout.specs.Rows.{stepBack}
-use Rattle.layout.proofs.Rows.{Eight, eight-none, eight-more, eight-end, back-ranked, back-rank}
+use Rattle.layout.proofs.Rows.{Eight, eight-none, eight-more, eight-end}
 use Rattle.values.proofs.backs_of.Statement.{statement}
 use Rattle.values.proofs.backs_of.Tie as tie
 
 abbrev Inv-loop : tie.InvT-loop
-Inv-loop nest back₀ lengths n e₀ back e = Eight (stepBack nest) (nest .distances) back e
+Inv-loop nest components back₀ n e₀ back e = Eight (stepBack nest) (nest .distances) back e
 
 abbrev μ-loop : tie.MeasureT-loop
-μ-loop nest back₀ lengths n e₀ back e = n - e
+μ-loop nest components back₀ n e₀ back e = n - e
 
 loop-holds : tie.Need-loop-holds Inv-loop μ-loop
 loop-holds c = eight-none _ _ _ (omega arith)
 
-distance-of-requires : tie.Need-distance-of-requires Inv-loop μ-loop
-distance-of-requires c κs = (c .before .before .before .pre, c .loop-test .taken)
-
-rank-requires : tie.Need-rank-requires Inv-loop μ-loop
-rank-requires c κs = back-ranked _ (c .before .before .before .before .pre) _ _ (c .distance-of .ensures)
+back-of-requires : tie.Need-back-of-requires Inv-loop μ-loop
+back-of-requires c κs = (c .before .before .pre .0, (c .loop-test .taken, c .before .before .pre .1))
 
 mul-back : tie.Need-mul-back Inv-loop μ-loop
-mul-back c = omega (arith, c .before .before .before .before .before .pre .distances-most, c .before .before .loop-test .taken)
+mul-back c = omega (arith, c .before .before .before .pre .0 .distances-most, c .before .loop-test .taken)
 
 array-write-back : tie.Need-array-write-back Inv-loop μ-loop
-array-write-back c = omega (arith, c .before .before .before .before .before .pre .distances-most, c .before .before .loop-test .taken)
+array-write-back c = omega (arith, c .before .before .before .pre .0 .distances-most, c .before .loop-test .taken)
 
 add-e : tie.Need-add-e Inv-loop μ-loop
-add-e c = omega (arith, c .before .before .before .before .before .pre .distances-most, c .before .before .loop-test .taken)
+add-e c = omega (arith, c .before .before .before .pre .0 .distances-most, c .before .loop-test .taken)
 
 loop-less : tie.Need-loop-less Inv-loop μ-loop
 loop-less c = search needs
 
 loop-again : tie.Need-loop-again Inv-loop μ-loop
-loop-again c = eight-more _ _ _ _ _ (c .before .before .before .loop .inv) (c .before .before .loop-test .taken) (c .before .before .before .before .before .pre .distances-most) (back-rank _ (c .before .before .before .before .before .pre) _ _ (c .before .distance-of .ensures) _ (c .rank .ensures))
+loop-again c = eight-more _ _ _ _ _ (c .before .before .loop .inv) (c .before .loop-test .taken) (c .before .before .before .pre .0 .distances-most) (c .back-of .ensures)
 
 returns : tie.Need-returns Inv-loop μ-loop
 returns c = record { each = eight-end _ _ _ _ (c .before .loop .inv) (c .loop-test .left) }
@@ -47,8 +44,7 @@ backs-of-spec =
     Inv-loop
     μ-loop
     loop-holds
-    distance-of-requires
-    rank-requires
+    back-of-requires
     mul-back
     array-write-back
     add-e

@@ -3,7 +3,7 @@ use borrow.Author.Needs.{needs}
 use native.Mathlib.Omega.{arith}
 use Prim.Native.Nat.{_-_}
 use mathlib.Core.Path.{_∙_}
-use Rattle.layout.proofs.Rows.{Rowing, rowing-none, rowing-long, rowing-more, rowing-end}
+use Rattle.values.proofs.Stores.{Rowing, rowing-none, rowing-long, rowing-more, rowing-end}
 use Rattle.values.proofs.value_row.Statement.{statement}
 use Rattle.values.proofs.value_row.Tie as tie
 
