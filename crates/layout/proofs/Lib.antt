@@ -4,3 +4,4 @@ pub mod Cells
 pub mod Walks
 pub mod Rows
 pub mod Shares
+pub mod Steps
