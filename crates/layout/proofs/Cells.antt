@@ -54,7 +54,7 @@ unfolding product
 many zero h = absurd (omega arith)
 many (suc m) h = omega (arith, product-pos two m (λ j k. omega arith))
 
-two-few : (m : ℕ) → m ≤ 3 → product two m ≤ 8
+pub two-few : (m : ℕ) → m ≤ 3 → product two m ≤ 8
 unfolding product
 two-few zero k = omega arith
 two-few (suc zero) k = omega arith

@@ -6,3 +6,4 @@ pub mod Rows
 pub mod Nested
 pub mod Shares
 pub mod Advance
+pub mod Steps

@@ -8,10 +8,10 @@ ghost use mathlib.Core.Bool.{true};
 ghost use Rattle.machine.specs.Plan.{tilesOf};
 ghost use Rattle.nest.proofs.Accepted.{Accepted};
 ghost use Rattle.nest.specs.Nest.{component, tileCount, tileLength, cells, tiles, processors};
-ghost use Rattle.plan.specs.Geometry.{rank, tileOf, processorOf, tilePlace};
-ghost use Rattle.plan.specs.Messages.{slots, planOf};
+ghost use Rattle.plan.specs.Geometry.{rank, tileAt, tileOf, processorOf, tilePlace};
+ghost use Rattle.plan.specs.Messages.{ahead, slots, planOf};
 ghost use Rattle.plan.specs.Box.{boxCell};
-ghost use Rattle.layout.specs.Sizes.{Sized, endAt};
+ghost use Rattle.layout.specs.Sizes.{Sized, Stepped, endAt};
 ghost use Rattle.layout.specs.Places.{nth, Has, Countable, Ranked, Places, Placed, Inside, Follows, Splits, Shared, Located, Bounded, bound};
 use nest::Nest;
 
@@ -386,4 +386,30 @@ pub fn end_of(nest: Nest, sizes: Sizes, slot: usize, side: usize) -> usize
     let to = bound_for(nest, sizes, slot);
     let across = sizes.across;
     rank(across, to, nest.dimensions)
+}
+
+// How far the taker is from the sender in a direction: the same from every tile.
+fn step_of(nest: Nest, sizes: Sizes, direction: usize) -> usize
+    requires { ⌜ Sized nest sizes ⌝ }
+    ensures { λ r. ⌜ r ≡ tileAt nest (ahead nest direction) ⌝ }
+{
+    let at = place([2; 4], [0; 4], direction, nest.spread);
+    let across = sizes.across;
+    rank(across, at, nest.dimensions)
+}
+
+// How far the tile at that end is from the sender, in each direction.
+pub fn steps_of(nest: Nest, sizes: Sizes, side: usize) -> [usize; 8]
+    requires { ⌜ Sized nest sizes ⌝ }
+    ensures { λ r. ⌜ Stepped nest side r ⌝ }
+{
+    let mut steps = [0; 8];
+    if side == 0 {
+        return steps;
+    }
+    let n = sizes.directions;
+    for d in 0..n {
+        steps[d] = step_of(nest, sizes, d + 1);
+    }
+    steps
 }

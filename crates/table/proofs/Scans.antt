@@ -18,8 +18,7 @@ use Rattle.plan.proofs.Slots.{total, total-append, total-one, slotParcel-few, s
 use Rattle.layout.specs.declared.Sizes.{Sizes}
 use Rattle.layout.specs.Sizes.{Sized, endAt}
 use Rattle.parcels.specs.Twins.{Twin}
-use Rattle.table.specs.declared.Place.{Place}
-use Rattle.table.specs.Table.{Table, Filling, Placed, endOf, atEnd}
+use Rattle.table.specs.Table.{Table, Filling, Summing, Placed, endOf}
 
 -- ---- the ends of a slot's message
 
@@ -126,14 +125,6 @@ total-next n s = go (length (slotParcel n s)) refl
         ∙ total-append (messagesTo n s) (slotMessage n s ∷ [])
         ∙ ap (λ (x : ℕ). total (messagesTo n s) + x) (total-one (slotMessage n s))
 
--- the scan stands before slot s: so many messages and words so far
-pub record Summing (n : Nest) (s m o : ℕ) : Type 0 where
-  pub low : s ≤ slots n
-  pub number : m ≡ length (messagesTo n s)
-  pub few : m ≤ s
-  pub offset : o ≡ total (messagesTo n s)
-  pub small : o ≤ 16384 * s
-
 pub sum-start : (n : Nest) → Summing n 0 0 0
 unfolding messagesTo offset
 sum-start n = record { low = omega arith; number = refl; few = omega arith; offset = refl; small = omega arith }
@@ -161,6 +152,9 @@ sum-turn n s m o w m′ a x l e (inr (h, q)) =
       small = omega (arith, x .small, parcel-few n a s);
     }
 
+pub sum-end : (n : Nest) (end s m o : ℕ) → Summing n s m o → s ≤ end → end ≤ s → Summing n end m o
+sum-end n end s m o x h l = let e : s ≡ end = omega arith in rw e at x
+
 pub summed : (n : Nest) (s m o : ℕ) → Accepted n → Summing n s m o → slots n ≤ s
     → (m ≡ count (planOf n)) × ((o ≡ words (planOf n)) × ((m ≤ 7168) × (o ≤ 117440512)))
 summed n s m o a x h =
@@ -187,15 +181,6 @@ found n s m o w x l e h =
 abbrev pub seen : Nest → ℕ → ℕ → ℕ → ℕ
 seen n side tile s = length (those (endOf side (planOf n)) tile (length (messagesTo n s)))
 
-pub record Counting (n : Nest) (side tile s c : ℕ) : Type 0 where
-  pub low : s ≤ slots n
-  pub few : c ≤ s
-  pub is : c ≡ seen n side tile s
-
-pub count-start : (n : Nest) (side tile : ℕ) → Counting n side tile 0 0
-unfolding messagesTo those keep
-count-start n side tile = record { low = omega arith; few = omega arith; is = refl }
-
 module _ (n : Nest) (side tile s : ℕ) where
   pub seen-none : length (slotParcel n s) ≡ 0 → seen n side tile (s + 1) ≡ seen n side tile s
   seen-none e = rw (step-none n s e)
@@ -212,74 +197,8 @@ module _ (n : Nest) (side tile s : ℕ) where
         ap (λ (k : ℕ). length (those (endOf side (planOf n)) tile k)) (number-more n s f)
         ∙ ap length (those-none (endOf side (planOf n)) tile (length (messagesTo n s)) (λ q. e (sym (end-is n side s l f) ∙ q)))
 
--- a slot that is a message with the tile at that end, one without, or no message
-abbrev pub Noted : Nest → ℕ → ℕ → ℕ → ℕ → ℕ → ℕ → Type 0
-Noted n side tile s w c c′ =
-    ((w ≢ 0) × (((endAt n side s ≡ tile) × (c′ ≡ c + 1)) ⊎ ((endAt n side s ≢ tile) × (c′ ≡ c)))) ⊎ ((w ≡ 0) × (c′ ≡ c))
-
-pub count-turn : (n : Nest) (side tile s c w c′ : ℕ) → Counting n side tile s c → s < slots n → w ≡ length (slotParcel n s)
-    → Noted n side tile s w c c′ → Counting n side tile (s + 1) c′
-count-turn n side tile s c w c′ x l e (inl (f, inl (z, q))) =
-    record { low = omega arith; few = omega (arith, x .few); is = omega (arith, x .is, seen-hit n side tile s l (omega arith) z) }
-count-turn n side tile s c w c′ x l e (inl (f, inr (z, q))) =
-    record { low = omega arith; few = omega (arith, x .few); is = omega (arith, x .is, seen-miss n side tile s l (omega arith) z) }
-count-turn n side tile s c w c′ x l e (inr (f, q)) =
-    record { low = omega arith; few = omega (arith, x .few); is = omega (arith, x .is, seen-none n side tile s (omega arith)) }
-
-pub counted : (n : Nest) (side tile s c : ℕ) → Accepted n → Counting n side tile s c → slots n ≤ s
-    → (c ≡ length (atEnd side (planOf n) tile)) × (c ≤ 7168)
-counted n side tile s c a x h =
-    let z : s ≡ slots n = omega (arith, x .low) in
-    (x .is ∙ ap (seen n side tile) z, omega (arith, x .few, x .low, slots-few n a))
-
-pub record Scanning (n : Nest) (side tile j s c m o : ℕ) : Type 0 where
-  pub before : c ≤ j
-  pub counts : Counting n side tile s c
-  pub sums : Summing n s m o
-
-pub scan-start : (n : Nest) (side tile j : ℕ) → Scanning n side tile j 0 0 0 0
-scan-start n side tile j = record { before = omega arith; counts = count-start n side tile; sums = sum-start n }
-
 pub next-low : (c j c′ : ℕ) → c ≤ j → c ≢ j → c′ ≡ c + 1 → c′ ≤ j
 next-low c j c′ h ne e = ⊎-elim (λ q. absurd (ne q)) (λ q. omega arith) (eq-or-lt-of-le h)
-
--- where the ways through the loop's body meet
-pub scan-turn : (n : Nest) (side tile j s c m o w c′ m′ : ℕ) → Accepted n → Scanning n side tile j s c m o → s < slots n → w ≡ length (slotParcel n s)
-    → (((w ≢ 0) × (m′ ≡ m + 1) × (((endAt n side s ≡ tile) × (c ≢ j) × (c′ ≡ c + 1)) ⊎ ((endAt n side s ≢ tile) × (c′ ≡ c)))) ⊎ ((w ≡ 0) × (c′ ≡ c) × (m′ ≡ m)))
-    → Scanning n side tile j (s + 1) c′ m′ (o + w)
-scan-turn n side tile j s c m o w c′ m′ a x l e (inl (f, p, inl (z, ne, q))) =
-    record {
-      before = next-low c j c′ (x .before) ne q;
-      counts = count-turn n side tile s c w c′ (x .counts) l e (inl (f, inl (z, q)));
-      sums = sum-turn n s m o w m′ a (x .sums) l e (inl (f, p));
-    }
-scan-turn n side tile j s c m o w c′ m′ a x l e (inl (f, p, inr (z, q))) =
-    record {
-      before = omega (arith, x .before);
-      counts = count-turn n side tile s c w c′ (x .counts) l e (inl (f, inr (z, q)));
-      sums = sum-turn n s m o w m′ a (x .sums) l e (inl (f, p));
-    }
-scan-turn n side tile j s c m o w c′ m′ a x l e (inr (f, q, p)) =
-    record {
-      before = omega (arith, x .before);
-      counts = count-turn n side tile s c w c′ (x .counts) l e (inr (f, q));
-      sums = sum-turn n s m o w m′ a (x .sums) l e (inr (f, p));
-    }
-
-pub scan-found : (n : Nest) (side tile j s c m o w : ℕ) → Scanning n side tile j s c m o → s < slots n → w ≡ length (slotParcel n s) → 0 < w
-    → endAt n side s ≡ tile → c ≡ j → Placed n (getD (atEnd side (planOf n) tile) j 0) (record { slot = s; number = m; offset = o; words = w })
-scan-found n side tile j s c m o w x l e h z q =
-    let f : 0 < length (slotParcel n s) = omega arith in
-    let it : getD (atEnd side (planOf n) tile) j 0 ≡ length (messagesTo n s) =
-    ap (λ (k : ℕ). getD (atEnd side (planOf n) tile) k 0) (sym q ∙ x .counts .is)
-    ∙ those-at (endOf side (planOf n)) tile (count (planOf n)) (length (messagesTo n s)) (number-low n (slots n) s l f) (end-is n side s l f ∙ z) in
-    rw it (found n s m o w (x .sums) l e h)
-
-pub scan-nowhere : (n : Nest) (side tile j s c m o : ℕ) → Scanning n side tile j s c m o → slots n ≤ s → j < length (atEnd side (planOf n) tile) → ⊥
-scan-nowhere n side tile j s c m o x h q =
-    let z : s ≡ slots n = omega (arith, x .counts .low) in
-    let w : c ≡ length (atEnd side (planOf n) tile) = x .counts .is ∙ ap (seen n side tile) z in
-    omega (arith, x .before)
 
 -- ---- message m
 

@@ -1,14 +1,14 @@
 // The table of message lengths, filled once in a call: numbers, offsets, totals, sends and dues are scans of it.
 ghost use mathlib.Core.Path.{_≡_};
-ghost use Prim.Native.Nat.{_≤_, _<_};
+ghost use Prim.Native.Nat.{ℕ, _≤_, _<_};
 ghost use lib.ListN.{length, getD};
 ghost use Rattle.machine.specs.Plan.{count, words, tilesOf};
 ghost use Rattle.nest.proofs.Accepted.{Accepted};
 ghost use Rattle.nest.specs.Nest.{tiles};
-ghost use Rattle.plan.specs.Messages.{slots, slotParcel, planOf};
+ghost use Rattle.plan.specs.Messages.{directions, slots, slotParcel, planOf};
 ghost use Rattle.plan.specs.Rows.{refused};
-ghost use Rattle.layout.specs.Sizes.{Sized};
-ghost use Rattle.table.specs.Table.{Table, Filling, Placed, atEnd};
+ghost use Rattle.layout.specs.Sizes.{Sized, Stepped};
+ghost use Rattle.table.specs.Table.{Table, Filling, Summing, Only, Ends, Placed, atEnd, countBelow};
 ghost use Rattle.table.specs.Summary.{answered, figuresOf, summaryOf, lineOf, noLine, messageLineOf};
 use layout::Sizes;
 use nest::Nest;
@@ -80,16 +80,15 @@ fn length_at(nest: Nest, lens: &[u16; 7168], slot: usize) -> usize
     lens[slot] as usize
 }
 
-// How many messages and words there are.
-pub fn totals(nest: Nest, sizes: Sizes, lens: &[u16; 7168]) -> Total
-    requires { ⌜ Sized nest sizes × Table nest (now lens) ⌝ }
-    ensures { λ r. ⌜ (r .messages ≡ count (planOf nest)) × ((r .words ≡ words (planOf nest)) × ((r .messages ≤ 7168) × (r .words ≤ 117440512))) ⌝ }
+// How many messages and words the slots before `end` have.
+fn sums_to(nest: Nest, lens: &[u16; 7168], end: usize) -> Total
+    requires { ⌜ Accepted nest × (Table nest (now lens) × (end ≤ slots nest)) ⌝ }
+    ensures { λ r. ⌜ Summing nest end (r .messages) (r .words) ⌝ }
 {
-    let slots = sizes.tiles * sizes.directions;
     let mut s = 0;
     let mut messages = 0;
     let mut words = 0;
-    while s < slots {
+    while s < end {
         let length = length_at(nest, lens, s);
         if length != 0 {
             messages += 1;
@@ -103,26 +102,81 @@ pub fn totals(nest: Nest, sizes: Sizes, lens: &[u16; 7168]) -> Total
     }
 }
 
+// How many messages and words there are.
+pub fn totals(nest: Nest, sizes: Sizes, lens: &[u16; 7168]) -> Total
+    requires { ⌜ Sized nest sizes × Table nest (now lens) ⌝ }
+    ensures { λ r. ⌜ (r .messages ≡ count (planOf nest)) × ((r .words ≡ words (planOf nest)) × ((r .messages ≤ 7168) × (r .words ≤ 117440512))) ⌝ }
+{
+    sums_to(nest, lens, sizes.tiles * sizes.directions)
+}
+
+// The one slot in direction d whose message has the tile at an end, by the steps to that end; the count of slots, if none has.
+fn slot_at(
+    nest: Nest,
+    sizes: Sizes,
+    lens: &[u16; 7168],
+    steps: [usize; 8],
+    tile: usize,
+    d: usize,
+) -> usize
+    requires { ⌜ Sized nest sizes × (Table nest (now lens) × (d < directions nest)) ⌝ }
+    ensures { λ r. ⌜ ((side : ℕ) → Stepped nest side steps → Only nest side tile d r) ⌝ }
+{
+    let none = sizes.tiles * sizes.directions;
+    let step = steps[d];
+    if step > tile {
+        return none;
+    }
+    let sender = tile - step;
+    if sender >= sizes.tiles {
+        return none;
+    }
+    let slot = sender * sizes.directions + d;
+    if length_at(nest, lens, slot) == 0 {
+        return none;
+    }
+    slot
+}
+
+// That slot for each direction: no other slot has such a message. 0 is the sender's end, else the taker's.
+fn slots_at(nest: Nest, sizes: Sizes, lens: &[u16; 7168], tile: usize, side: usize) -> [usize; 8]
+    requires { ⌜ Sized nest sizes × Table nest (now lens) ⌝ }
+    ensures { λ r. ⌜ Ends nest side tile r ⌝ }
+{
+    let steps = layout::steps_of(nest, sizes, side);
+    let n = sizes.directions;
+    let mut ends = [0; 8];
+    for d in 0..n {
+        ends[d] = slot_at(nest, sizes, lens, steps, tile, d);
+    }
+    ends
+}
+
+// How many of the first n are below a slot.
+fn count_below(ends: [usize; 8], n: usize, slot: usize) -> usize
+    requires { ⌜ n ≤ 8 ⌝ }
+    ensures { λ r. ⌜ (r ≡ countBelow ends n slot) × (r ≤ n) ⌝ }
+{
+    let mut count = 0;
+    for d in 0..n {
+        if ends[d] < slot {
+            count += 1;
+        }
+    }
+    count
+}
+
 // How many messages have the tile at this end: 0 the sender, else the taker.
 pub fn count_at(nest: Nest, sizes: Sizes, lens: &[u16; 7168], tile: usize, side: usize) -> usize
     requires { ⌜ Sized nest sizes × Table nest (now lens) ⌝ }
     ensures { λ r. ⌜ (r ≡ length (atEnd side (planOf nest) tile)) × (r ≤ 7168) ⌝ }
 {
-    let end = sizes.tiles * sizes.directions;
-    let mut s = 0;
-    let mut n = 0;
-    while s < end {
-        if length_at(nest, lens, s) != 0 {
-            if layout::end_of(nest, sizes, s, side) == tile {
-                n += 1;
-            }
-        }
-        s += 1;
-    }
-    n
+    let ends = slots_at(nest, sizes, lens, tile, side);
+    let n = sizes.directions;
+    count_below(ends, n, sizes.tiles * n)
 }
 
-// The j-th of them.
+// The j-th of them: the one with j before it.
 pub fn nth_at(
     nest: Nest,
     sizes: Sizes,
@@ -135,29 +189,22 @@ pub fn nth_at(
     requires { ⌜ j < length (atEnd side (planOf nest) tile) ⌝ }
     ensures { λ r. ⌜ Placed nest (getD (atEnd side (planOf nest) tile) j 0) r ⌝ }
 {
-    let slots = sizes.tiles * sizes.directions;
-    let mut s = 0;
-    let mut n = 0;
-    let mut number = 0;
-    let mut offset = 0;
-    while s < slots {
-        let w = length_at(nest, lens, s);
-        if w != 0 {
-            if layout::end_of(nest, sizes, s, side) == tile {
-                if n == j {
-                    return Place {
-                        slot: s,
-                        number: number,
-                        offset: offset,
-                        words: w,
-                    };
-                }
-                n += 1;
+    let ends = slots_at(nest, sizes, lens, tile, side);
+    let n = sizes.directions;
+    let slots = sizes.tiles * n;
+    for d in 0..n {
+        let slot = ends[d];
+        if slot < slots {
+            if count_below(ends, n, slot) == j {
+                let before = sums_to(nest, lens, slot);
+                return Place {
+                    slot: slot,
+                    number: before.messages,
+                    offset: before.words,
+                    words: length_at(nest, lens, slot),
+                };
             }
-            number += 1;
         }
-        offset += w;
-        s += 1;
     }
     Place {
         slot: 0,
