@@ -1,4 +1,4 @@
-// The table of message lengths, filled once in a call: numbers, offsets, totals, sends and dues are scans of it.
+// The table of message lengths, filled once in a call: numbers, offsets and totals are scans of it, sends and dues one slot in each direction.
 ghost use mathlib.Core.Path.{_≡_};
 ghost use Prim.Native.Nat.{ℕ, _≤_, _<_};
 ghost use lib.ListN.{length, getD};
