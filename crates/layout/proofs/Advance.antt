@@ -12,14 +12,12 @@ use lib.Dec.{eqb}
 use Rattle.base.specs.Tests.{pick}
 use Rattle.nest.specs.declared.Nest.{Nest}
 use Rattle.nest.proofs.Accepted.{Accepted}
-use Rattle.nest.specs.Nest.{lengthOf, cells}
 use Rattle.plan.specs.Geometry.{rank, place}
 use Rattle.plan.specs.Box.{boxCell}
 use Rattle.plan.proofs.Rank.{place-last, place-before, place-low}
 use Rattle.layout.specs.declared.Bounds.{Bounds}
-use Rattle.layout.specs.declared.Cell.{Cell}
 use Rattle.layout.specs.Places.{nth, Ranked, Places, Placed, Inside, Follows, Located, Bounded}
-use Rattle.layout.proofs.Cells.{four, lengths-places, placed-cell, box-places, box-ranked, located}
+use Rattle.layout.proofs.Cells.{box-places, box-ranked, located}
 use Rattle.layout.proofs.Rows.{row-before, row-last}
 
 -- ---- the first place
@@ -149,13 +147,13 @@ placed-row N from at r (suc l) h k p =
 pub placed-inside : (N from at : List ℕ) (r left : ℕ) → Places N from left → Placed N from r left at → Inside N from left at
 placed-inside N from at r left p q = record { each = λ j h. omega (arith, q .first j h, place-low (nth N) left r (p .positive) j h) }
 
--- ---- the rows of a tile's box, and of the nest
+-- ---- the rows of a tile's box
 
 module _ (x : Nest) (ok : Accepted x) where
   deep : 1 ≤ x .dimensions
   deep = omega (arith, ok .dimensions-least)
 
-  rows-places : (N from : List ℕ) → Places N from (x .dimensions) → Places N from (x .dimensions - 1)
+  pub rows-places : (N from : List ℕ) → Places N from (x .dimensions) → Places N from (x .dimensions - 1)
   rows-places N from p = record { low = omega (arith, p .low); positive = λ j h. p .positive j (omega arith); small = λ j h. p .small j (omega arith) }
 
   module _ (b : Bounds) (is : Bounded x b) (r : ℕ) (at : List ℕ) (p : Placed (b .lengths) (b .corner) r (x .dimensions - 1) at) where
@@ -171,15 +169,3 @@ module _ (x : Nest) (ok : Accepted x) where
 
     pub row-inside : Places (b .lengths) (b .corner) (x .dimensions - 1) × Inside (b .lengths) (b .corner) (x .dimensions - 1) at
     row-inside = let q = rows-places (b .lengths) (b .corner) (box-places x ok b is 0) in (q, placed-inside (b .lengths) (b .corner) at r (x .dimensions - 1) q p)
-
-  module _ (r : ℕ) (at : List ℕ) (p : Placed (x .lengths) (four 0) r (x .dimensions - 1) at) where
-    pub sweep-located : (n : ℕ) → n ≡ r * lengthOf x (x .dimensions - 1) → n < cells x → Located x n (record { number = n; place = at })
-    sweep-located n e l =
-        record {
-          low = l;
-          number = refl;
-          place = rw e (placed-cell x ok _ at (placed-row (x .lengths) (four 0) at r (x .dimensions) deep (ok .long (x .dimensions - 1) (omega (arith, deep))) p));
-        }
-
-    pub sweep-inside : Places (x .lengths) (four 0) (x .dimensions - 1) × Inside (x .lengths) (four 0) (x .dimensions - 1) at
-    sweep-inside = let q = rows-places (x .lengths) (four 0) (lengths-places x ok) in (q, placed-inside (x .lengths) (four 0) at r (x .dimensions - 1) q p)

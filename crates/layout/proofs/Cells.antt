@@ -1,34 +1,31 @@
 -- Places of cells, tiles, processors and slots as the arrays that hold them.
-use Prim.Native.Nat.{ℕ, zero, suc, _+_, _*_, _-_, _/_, _%_, _^_, _≤_, _<_, min}
+use Prim.Native.Nat.{ℕ, zero, suc, _+_, _*_, _-_, _/_, _%_, _≤_, _<_, min}
 use mathlib.Core.Path.{_≡_, refl, sym, ap, _∙_, subst}
 use mathlib.Core.Bool.{Bool}
 use mathlib.Core.List.{List}
-use native.Mathlib.Nat.{mod-lt, div-le-self, mul-le-mul, add-assoc}
-use native.Mathlib.Numerals.{add-one}
+use native.Mathlib.Nat.{mod-lt, div-le-self}
 use native.Mathlib.Decide.{decLt}
 use native.Mathlib.Omega.{arith}
 use lib.ListN.{length, getD, set, replicate}
-use lib.Dec.{ltb, leb, eqb}
-use Rattle.base.specs.Tests.{_and_, every, product, pick, sum}
-use Rattle.base.proofs.Tests.{every-not, pick-true, pick-false, sum-same}
-use borrow.Author.Tests.{lt-leb, le-leb}
+use lib.Dec.{ltb, eqb}
+use Rattle.base.specs.Tests.{_and_, every, product}
 use Rattle.nest.specs.declared.Nest.{Nest}
 use Rattle.nest.proofs.Accepted.{Accepted}
-use Rattle.nest.specs.Nest.{lengthOf, tileLength, processorCount, component, weight, tileCount, cells, tiles, processors}
-use Rattle.plan.specs.Geometry.{rank, place, cellAt, cellPlace, tileAt, tilePlace, processorOf, inside, hasRead, readAt, value}
+use Rattle.nest.specs.Nest.{lengthOf, tileLength, processorCount, component, tileCount, cells, tiles, processors}
+use Rattle.plan.specs.Geometry.{rank, place, cellAt, cellPlace, tileAt, tilePlace, processorOf, inside}
 use Rattle.plan.specs.Messages.{two, directions, ahead, reaches, taker, slots, slotTile, slotDirection, slotTaker}
 use Rattle.plan.specs.Box.{boxLength, boxSize, boxPlace, boxCell}
-use Rattle.plan.proofs.Rank.{rank-same, rank-low}
+use Rattle.plan.proofs.Rank.{rank-same}
 use Rattle.plan.proofs.Tiles.{cellPlace-low, tileCount-pos, tilePlace-low, quotient-low, tile-inside}
 use Rattle.plan.proofs.Parcels.{ahead-beyond, ahead-low, slotTile-low}
 use Rattle.plan.proofs.Box.{boxLength-pos, boxCell-low, boxCell-place, boxPlace-low, boxSize-few}
 use Rattle.layout.specs.declared.Bounds.{Bounds}
 use Rattle.layout.specs.declared.Cell.{Cell}
 use Rattle.layout.specs.Sizes.{endAt}
-use Rattle.layout.specs.Places.{nth, Has, Countable, Ranked, Places, Placed, Located, Bounded, bound, puts, wordRead}
+use Rattle.layout.specs.Places.{nth, Has, Countable, Ranked, Places, Placed, Located, Bounded, bound, puts}
 use Rattle.layout.proofs.Dims.{product-same, rank-lengths, place-lengths, product-pos}
 use lib.Seq.{getD-set-other}
-use Rattle.layout.proofs.Loops.{every-same, Sofar, sofar-none, sofar-more, sofar-end, Filled, filled-none, filled-more, filled-end}
+use Rattle.layout.proofs.Loops.{every-same, Filled, filled-none, filled-more, filled-end}
 
 -- ---- arrays of one number
 
@@ -72,19 +69,6 @@ two-countable m k =
       positive = λ j l. omega (arith, twos j (omega arith));
       few = omega (arith, two-product m k, two-few m k);
     }
-
--- ---- reading back by distance e: the first j components, all of which can be taken away
-
-pub record Reading (x : Nest) (i : List ℕ) (e : ℕ) (back : List ℕ) (j : ℕ) : Type 0 where
-  pub sofar : Sofar (λ q. leb (component x e q) (getD i q 0)) (x .dimensions) j
-  pub filled : Filled (λ q. getD i q 0 - component x e q) (x .dimensions) back j
-
--- ---- the sum of what the first e distances read, each weighed; few enough that it fits 64 bits
-
-pub record Summing (x : Nest) (source memory : List ℕ) (c : ℕ) (i : List ℕ) (total e : ℕ) : Type 0 where
-  pub low : e ≤ x .distances
-  pub few : total ≤ 4294967295 + e * 281470681677825
-  pub is : total ≡ getD source c 0 + sum (λ d. weight x d * wordRead x memory i d) e
 
 pub relocated : (x : Nest) (c : ℕ) (r : Cell) → Located x c r → Located x (r .number) r
 relocated x c r l = subst (λ (k : ℕ). Located x k r) (sym (l .number)) l
@@ -338,84 +322,3 @@ module _ (x : Nest) (ok : Accepted x) where
         two-same : (j : ℕ) → j < x .dimensions
             → eqb ((getD i j 0 + component x e j) / tileLength x j) (getD to j 0) ≡ eqb ((cellPlace x c j + component x e j) / tileLength x j) (bound x s j)
         two-same j h = rw (has .each j h, b .each j h)
-
-    pub wordRead-is : (memory : List ℕ) (e : ℕ) → wordRead x memory i e ≡ pick (hasRead x c e) (getD memory (readAt x c e) 0) (x .boundary)
-    unfolding wordRead hasRead readAt cellAt
-    wordRead-is memory e =
-        ap (λ (t : Bool). pick t (getD memory (rank (lengthOf x) (λ j. getD i j 0 - component x e j) (x .dimensions)) 0) (x .boundary))
-        (every-same _ _ (x .dimensions) (λ j h. ap (λ (a : ℕ). leb (component x e j) a) (has .each j h)))
-        ∙ ap (λ (r : ℕ). pick (every (λ j. leb (component x e j) (cellPlace x c j)) (x .dimensions)) (getD memory r 0) (x .boundary))
-        (rank-same (lengthOf x) (λ j. getD i j 0 - component x e j) (λ j. cellPlace x c j - component x e j) (x .dimensions)
-        (λ j h. ap (λ (a : ℕ). a - component x e j) (has .each j h)))
-
-  -- ---- the word read
-
-  module _ (i : List ℕ) (e : ℕ) where
-    pub reading-none : (back : List ℕ) → length back ≡ 4 → Reading x i e back 0
-    reading-none back h = record { sofar = sofar-none _ _; filled = filled-none _ _ back h }
-
-    pub reading-stops : (memory : List ℕ) (j : ℕ) → j < x .dimensions → getD i j 0 < component x e j → x .boundary ≡ wordRead x memory i e
-    unfolding wordRead
-    reading-stops memory j h l = sym (pick-false _ _ _ (every-not _ (x .dimensions) j h (lt-leb _ _ l)))
-
-    module _ (back : List ℕ) (j : ℕ) (s : Reading x i e back j) where
-      pub reading-more : j < x .dimensions → component x e j ≤ getD i j 0 → Reading x i e (set back j (getD i j 0 - component x e j)) (j + 1)
-      reading-more h l =
-          record {
-            sofar = sofar-more _ _ j (s .sofar) h (le-leb _ _ l);
-            filled = filled-more _ _ back j _ (s .filled) h (ok .dimensions-most) refl;
-          }
-
-      module _ (h : x .dimensions ≤ j) where
-        back-has : Has back (λ q. getD i q 0 - component x e q) (x .dimensions)
-        back-has = filled-end _ _ back j (s .filled) h
-
-        module _ (w : (q : ℕ) → q < x .dimensions → getD i q 0 < lengthOf x q) where
-          pub reading-ranked : Ranked (x .lengths) back (x .dimensions)
-          reading-ranked = record { counts = lengths-countable; within = λ q k. omega (arith, back-has .each q k, w q k) }
-
-          pub reading-low : (r : ℕ) → r ≡ rank (nth (x .lengths)) (nth back) (x .dimensions) → r < cells x
-          unfolding cells
-          reading-low r q = rw q (rank-low (lengthOf x) (nth back) (x .dimensions) (λ p k. omega (arith, back-has .each p k, w p k)))
-
-        pub reading-end : (memory : List ℕ) (r : ℕ) → r ≡ rank (nth (x .lengths)) (nth back) (x .dimensions) → getD memory r 0 ≡ wordRead x memory i e
-        unfolding wordRead
-        reading-end memory r q =
-            ap (λ (a : ℕ). getD memory a 0) (q ∙ rank-same (lengthOf x) (nth back) (λ p. getD i p 0 - component x e p) (x .dimensions) (back-has .each))
-            ∙ sym (pick-true _ _ _ (sofar-end _ _ j (s .sofar) h))
-
-  -- ---- the value
-
-  weighed : (e w : ℕ) → w < 4294967296 → weight x e * w ≤ 281470681677825
-  weighed e w h = omega (arith, mul-le-mul {n₁ = weight x e} {m₁ = w} {n₂ = 65535} {m₂ = 4294967295} (omega (arith, ok .weight-most e)) (omega arith))
-
-  module _ (source memory : List ℕ) (c : ℕ) (i : List ℕ) where
-    pub summing-none : getD source c 0 < 4294967296 → Summing x source memory c i (getD source c 0) 0
-    unfolding sum
-    summing-none h = record { low = omega arith; few = omega arith; is = omega arith }
-
-    module _ (total e : ℕ) (s : Summing x source memory c i total e) where
-      module _ (w : ℕ) (is : w ≡ wordRead x memory i e) (l : w < 4294967296) (h : e < x .distances) where
-        pub summing-fits : total + weight x e * w ≤ 4294967295 + (e + 1) * 281470681677825
-        summing-fits = omega (arith, s .few, weighed e w l)
-
-        pub summing-small : total + weight x e * w < 18446744073709551616
-        summing-small = omega (arith, summing-fits, ok .distances-most)
-
-        pub summing-more : Summing x source memory c i (total + weight x e * w) (e + 1)
-        unfolding sum
-        summing-more =
-            record {
-              low = omega arith;
-              few = summing-fits;
-              is = rw (add-one e) (ap (λ (a : ℕ). a + weight x e * w) (s .is) ∙ ap (λ (a : ℕ). getD source c 0 + sum (λ d. weight x d * wordRead x memory i d) e + weight x e * a) is ∙ add-assoc _ _ _);
-            }
-
-      pub summing-end : x .distances ≤ e → Has i (cellPlace x c) (x .dimensions) → total / 2 ^ x .shift % 4294967296 ≡ value x source memory c
-      unfolding value
-      summing-end h has =
-          let z : e ≡ x .distances = omega (arith, s .low) in
-          ap (λ (a : ℕ). a / 2 ^ x .shift % 4294967296)
-          (s .is
-          ∙ ap (λ (n : ℕ). getD source c 0 + sum (λ d. weight x d * wordRead x memory i d) n) z
-          ∙ ap (λ (a : ℕ). getD source c 0 + a) (sum-same _ _ (x .distances) (λ d k. ap (λ (a : ℕ). weight x d * a) (wordRead-is c i has memory d))))

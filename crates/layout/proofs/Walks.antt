@@ -7,22 +7,18 @@ use mathlib.Core.List.{List, [], _∷_, _++_, append-assoc, append-nil}
 use native.Mathlib.Numerals.{add-one}
 use native.Mathlib.Nat.{eq-or-lt-of-le, le-of-suc-le-suc}
 use native.Mathlib.Omega.{arith}
-use lib.ListN.{length, getD, take, drop, set, length-append, length-drop, List·getD-append}
+use lib.ListN.{length, getD, take, drop, set, length-append, length-drop}
 use lib.Seq.{drop-cons, drop-length, take-suc, take-length, set-append-seam, length-take-le}
-use Rattle.base.specs.Tests.{some, tabulate}
-use Rattle.base.specs.Lists.{pack, unpack, storeAll}
+use Rattle.base.specs.Tests.{some}
+use Rattle.base.specs.Lists.{pack, unpack}
 use Rattle.base.proofs.Tests.{some-one, some-none}
-use Rattle.base.proofs.Lists.{pack-length, unpack-length, store-length}
-use Rattle.machine.specs.Plan.{Plan, Sound}
-use Rattle.machine.specs.Machine.{sweepTo, sweep}
+use Rattle.base.proofs.Lists.{pack-length, unpack-length}
 use Rattle.nest.specs.declared.Nest.{Nest}
 use Rattle.nest.proofs.Accepted.{Accepted}
-use Rattle.nest.specs.Nest.{cells}
-use Rattle.plan.specs.Geometry.{cellsOf, value}
-use Rattle.plan.specs.Messages.{directions, reaches, slots, slotTile, slotDirection, slotParcel, planOf}
+use Rattle.plan.specs.Messages.{directions, reaches, slots, slotTile, slotDirection, slotParcel}
 use Rattle.plan.specs.Box.{boxSize, boxCell}
 use Rattle.plan.proofs.Parcels.{slotTile-low}
-use Rattle.plan.proofs.Box.{boxHit, boxParcel, boxParcel-none, boxParcel-hit, boxParcel-miss, boxParcel-few, parcel-box, cellsOf-box, boxSize-few}
+use Rattle.plan.proofs.Box.{boxHit, boxParcel, boxParcel-none, boxParcel-hit, boxParcel-miss, boxParcel-few, parcel-box, boxSize-few}
 use Rattle.layout.specs.declared.Bounds.{Bounds}
 use Rattle.layout.specs.declared.Cell.{Cell}
 use Rattle.layout.specs.Places.{Has, Located, Bounded, bound, puts}

@@ -1,15 +1,15 @@
 -- What the functions below hand to each other: places as arrays of four, the box of a tile's cells, tests and reads of a place.
 -- No sentence of document 01; proofs/ ties each to Geometry and Messages.
-use Prim.Native.Nat.{ℕ, _+_, _*_, _-_, _/_, _%_, _≤_, _<_}
+use Prim.Native.Nat.{ℕ, _+_, _*_, _/_, _%_, _≤_, _<_}
 use mathlib.Core.Path.{_≡_}
 use mathlib.Core.Bool.{Bool}
 use mathlib.Core.List.{List}
 use lib.ListN.{getD}
-use lib.Dec.{ltb, leb, eqb}
-use Rattle.base.specs.Tests.{_and_, pick, every, product}
+use lib.Dec.{ltb, eqb}
+use Rattle.base.specs.Tests.{_and_, every, product}
 use Rattle.nest.specs.declared.Nest.{Nest}
 use Rattle.nest.specs.Nest.{lengthOf, tileLength, component, cells, tiles}
-use Rattle.plan.specs.Geometry.{rank, place, cellPlace, tilePlace}
+use Rattle.plan.specs.Geometry.{place, cellPlace, tilePlace}
 use Rattle.plan.specs.Messages.{ahead, slotTile, slotDirection}
 use Rattle.plan.specs.Box.{boxLength, boxSize}
 use Rattle.layout.specs.declared.Cell.{Cell}
@@ -86,9 +86,3 @@ unfoldable pub puts : Nest → List ℕ → List ℕ → ℕ → Bool
 puts x to i e =
     every (λ j. ltb (getD i j 0 + component x e j) (lengthOf x j)) (x .dimensions)
     and every (λ j. eqb ((getD i j 0 + component x e j) / tileLength x j) (getD to j 0)) (x .spread)
-
--- the word that distance e reads at the place
-unfoldable pub wordRead : Nest → List ℕ → List ℕ → ℕ → ℕ
-wordRead x memory i e =
-    pick (every (λ j. leb (component x e j) (getD i j 0)) (x .dimensions))
-    (getD memory (rank (lengthOf x) (λ j. getD i j 0 - component x e j) (x .dimensions)) 0) (x .boundary)

@@ -1,15 +1,10 @@
--- Rows: cells that differ in the last component alone. From where on each distance reads in a row, and how far back.
+-- Rows: cells that differ in the last component alone.
 -- No sentence of document 01; proofs/ ties each to Geometry.
-use Prim.Native.Nat.{ℕ, _+_, _-_, _≤_, _<_, min}
+use Prim.Native.Nat.{ℕ, _+_}
 use mathlib.Core.Path.{_≡_}
-use mathlib.Core.Bool.{true}
 use mathlib.Core.List.{List}
-use lib.ListN.{getD}
-use lib.Dec.{leb}
-use Rattle.base.specs.Tests.{pick, every, tabulate}
+use Rattle.base.specs.Tests.{tabulate}
 use Rattle.nest.specs.declared.Nest.{Nest}
-use Rattle.nest.specs.Nest.{lengthOf, component, cells}
-use Rattle.plan.specs.Geometry.{rank, hasRead, readAt}
 
 -- the cells of a row, n of them from c on
 abbrev pub rowOf : ℕ → ℕ → List ℕ
@@ -18,32 +13,3 @@ rowOf c n = tabulate (λ y. c + y) n
 -- the nest's components, lent
 pub record Given (x : Nest) (components : List ℕ) : Type 0 where
   pub is : components ≡ x .components
-
--- from which last component on distance e reads a cell, in the row of a place; 1024 is above all
-unfoldable pub firstRead : Nest → List ℕ → ℕ → ℕ
-firstRead x i e =
-    pick (every (λ j. leb (component x e j) (getD i j 0)) (x .dimensions - 1))
-    (component x e (x .dimensions - 1)) 1024
-
--- how many cells back distance e reads
-unfoldable pub stepBack : Nest → ℕ → ℕ
-stepBack x e = rank (lengthOf x) (λ j. min (component x e j) (lengthOf x j)) (x .dimensions)
-
-pub record Firsts (x : Nest) (i first : List ℕ) : Type 0 where
-  pub each : (e : ℕ) → e < x .distances → getD first e 0 ≡ firstRead x i e
-
-pub record Backs (x : Nest) (back : List ℕ) : Type 0 where
-  pub each : (e : ℕ) → e < x .distances → getD back e 0 ≡ stepBack x e
-
--- where the distances read at cell c, whose last component is a
-pub record Reads (x : Nest) (c a : ℕ) (first back weights : List ℕ) : Type 0 where
-  pub low : c < cells x
-  pub weights-are : weights ≡ x .weights
-  pub firsts : (e : ℕ) → e < x .distances → leb (getD first e 0) a ≡ hasRead x c e
-  pub backs : (e : ℕ) → e < x .distances → hasRead x c e ≡ true → getD back e 0 + readAt x c e ≡ c
-
--- and at the n cells of a row from there on
-pub record InRow (x : Nest) (c a n : ℕ) (first back weights : List ℕ) : Type 0 where
-  pub few : a + n ≤ 1024
-  pub low : c + n ≤ cells x
-  pub each : (y : ℕ) → y < n → Reads x (c + y) (a + y) first back weights

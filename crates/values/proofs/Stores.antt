@@ -1,6 +1,6 @@
 -- Values stored: a row, row by row a tile, row by row the sweep.
 use Prim.Native.Nat.{ℕ, zero, suc, _+_, _*_, _-_, _≤_, _<_}
-use mathlib.Core.Path.{_≡_, refl, sym, ap, _∙_, subst}
+use mathlib.Core.Path.{_≡_, refl, sym, ap, _∙_}
 use mathlib.Core.List.{List, [], _∷_, _++_, append-assoc, append-nil}
 use native.Mathlib.Nat.{add-zero}
 use native.Mathlib.Numerals.{add-one}
@@ -20,9 +20,11 @@ use Rattle.plan.specs.Messages.{planOf}
 use Rattle.plan.specs.Box.{boxSize, boxCell}
 use Rattle.plan.proofs.Box.{cellsOf-box}
 use Rattle.layout.specs.declared.Bounds.{Bounds}
-use Rattle.layout.specs.Places.{nth, Bounded}
+use Rattle.layout.specs.Places.{nth, Places, Placed, Inside, Located, Bounded}
 use Rattle.layout.specs.Rows.{rowOf}
-use Rattle.layout.proofs.Rows.{row-next, box-in, box-row, sweep-in}
+use Rattle.layout.proofs.Cells.{four, lengths-places, placed-cell}
+use Rattle.layout.proofs.Advance.{placed-row, placed-inside, rows-places}
+use Rattle.layout.proofs.Rows.{product-last, row-in, row-next, box-in, box-row}
 
 store-append : (f : List ℕ → ℕ → ℕ) (l a b : List ℕ) → storeAll f l (a ++ b) ≡ storeAll f (storeAll f l a) b
 unfolding storeAll
@@ -110,6 +112,35 @@ module _ (x : Nest) (ok : Accepted x) (b : Bounds) (is : Bounded x b) (t : ℕ) 
       p .is
       ∙ ap (λ (a : ℕ). storeAll (value x source) memory₀ (tabulate (boxCell x t) a)) z
       ∙ ap (storeAll (value x source) memory₀) (sym (cellsOf-box x ok t l))
+
+-- ---- the rows of the nest
+
+module _ (x : Nest) (ok : Accepted x) where
+  deep : 1 ≤ x .dimensions
+  deep = omega (arith, ok .dimensions-least)
+
+  sweep-rows : product (nth (x .lengths)) (x .dimensions - 1) * lengthOf x (x .dimensions - 1) ≡ cells x
+  unfolding cells
+  sweep-rows = sym (product-last (lengthOf x) (x .dimensions) deep)
+
+  module _ (r : ℕ) (at : List ℕ) (p : Placed (x .lengths) (four 0) r (x .dimensions - 1) at) where
+    pub sweep-located : (n : ℕ) → n ≡ r * lengthOf x (x .dimensions - 1) → n < cells x → Located x n (record { number = n; place = at })
+    sweep-located n e l =
+        record {
+          low = l;
+          number = refl;
+          place = rw e (placed-cell x ok _ at (placed-row (x .lengths) (four 0) at r (x .dimensions) deep (ok .long (x .dimensions - 1) (omega (arith, deep))) p));
+        }
+
+    pub sweep-inside : Places (x .lengths) (four 0) (x .dimensions - 1) × Inside (x .lengths) (four 0) (x .dimensions - 1) at
+    sweep-inside = let q = rows-places x ok (x .lengths) (four 0) (lengths-places x ok) in (q, placed-inside (x .lengths) (four 0) at r (x .dimensions - 1) q p)
+
+module _ (x : Nest) (ok : Accepted x) (r rows w : ℕ) (e : rows ≡ product (nth (x .lengths)) (x .dimensions - 1)) (k : w ≡ lengthOf x (x .dimensions - 1)) where
+  pub sweep-all : rows * w ≡ cells x
+  sweep-all = ap (λ (a : ℕ). a * w) e ∙ ap (λ (a : ℕ). product (nth (x .lengths)) (x .dimensions - 1) * a) k ∙ sweep-rows x ok
+
+  pub sweep-in : r < rows → (r * w + w ≤ cells x) × (1 ≤ w)
+  sweep-in h = (omega (arith, row-in w r rows h, sweep-all), omega (arith, ok .long (x .dimensions - 1) (omega (arith, ok .dimensions-least))))
 
 -- ---- the sweep of the first c cells, then what the grid held
 

@@ -1,65 +1,23 @@
 // Values in code: a cell, a row, a tile, and the sequential sweep of the whole grid.
 ghost use mathlib.Core.Path.{_≡_};
-ghost use Prim.Native.Nat.{ℕ, _+_, _*_, _-_, _%_, min, _≤_, _<_};
+ghost use Prim.Native.Nat.{_+_, _*_, _-_, _%_, _≤_, _<_};
 ghost use lib.ListN.{length, getD};
 ghost use lib.Dec.{leb};
-ghost use Rattle.base.specs.Tests.{_and_, pick, product};
+ghost use Rattle.base.specs.Tests.{_and_, pick};
 ghost use Rattle.base.specs.Lists.{storeAll};
 ghost use Rattle.machine.specs.Machine.{sweep};
 ghost use Rattle.nest.proofs.Accepted.{Accepted};
-ghost use Rattle.nest.specs.Nest.{lengthOf, component, cells, tiles};
-ghost use Rattle.plan.specs.Geometry.{rank, cellsOf, value};
+ghost use Rattle.nest.specs.Nest.{component, cells, tiles};
+ghost use Rattle.plan.specs.Geometry.{cellsOf, value};
 ghost use Rattle.plan.specs.Messages.{planOf};
 ghost use Rattle.layout.specs.Sizes.{Sized};
-ghost use Rattle.layout.specs.Places.{Located, wordRead};
-ghost use Rattle.layout.specs.Rows.{firstRead, stepBack, Firsts, Backs, Reads, Given, InRow, rowOf};
+ghost use Rattle.layout.specs.Places.{Located};
+ghost use Rattle.layout.specs.Rows.{Given, rowOf};
+ghost use Rattle.values.specs.Reads.{firstRead, stepBack, Firsts, Backs, Reads, InRow};
 use layout::Bounds;
 use layout::Cell;
 use layout::Sizes;
 use nest::Nest;
-
-// The word that distance e reads at the place, or the boundary's.
-fn word_read(nest: Nest, memory: &[u32], at: [usize; 4], e: usize) -> u64
-    requires { ⌜ Accepted nest × ((e < nest .distances) × ((length (now memory) ≡ cells nest) × ((j : ℕ) → j < nest .dimensions → getD at j 0 < getD (nest .lengths) j 0))) ⌝ }
-    ensures { λ r. ⌜ (r ≡ wordRead nest (now (memory .entry)) at e) × (r < 4294967296) ⌝ }
-{
-    let mut back = at;
-    let n = nest.dimensions;
-    for j in 0..n {
-        let d = nest.components[4 * e + j];
-        if at[j] < d {
-            return nest.boundary;
-        }
-        back[j] = at[j] - d;
-    }
-    let lengths = nest.lengths;
-    let c = layout::rank(lengths, back, n);
-    memory[c] as u64
-}
-
-// A cell's value from its number and place.
-fn value_at(nest: Nest, source: &[u32], memory: &[u32], cell: Cell) -> u32
-    requires { ⌜ Accepted nest × (Located nest (cell .number) cell × ((length (now source) ≡ cells nest) × (length (now memory) ≡ cells nest))) ⌝ }
-    ensures { λ r. ⌜ r ≡ value nest (now (source .entry)) (now (memory .entry)) (cell .number) ⌝ }
-{
-    let c = cell.number;
-    let at = cell.place;
-    let mut total = source[c] as u64;
-    let n = nest.distances;
-    for e in 0..n {
-        let w = word_read(nest, memory, at, e);
-        total += nest.weights[e] * w;
-    }
-    ((total >> nest.shift) % 4294967296) as u32
-}
-
-pub fn value(nest: Nest, sizes: Sizes, source: &[u32], memory: &[u32], cell: usize) -> u32
-    requires { ⌜ Sized nest sizes × ((cell < cells nest) × ((length (now source) ≡ cells nest) × (length (now memory) ≡ cells nest))) ⌝ }
-    ensures { λ r. ⌜ r ≡ value nest (now (source .entry)) (now (memory .entry)) cell ⌝ }
-{
-    let c = layout::cell_of(nest, cell);
-    value_at(nest, source, memory, c)
-}
 
 // How many cells back distance e reads; no component counts above its dimension's length.
 fn back_of(nest: Nest, components: &[usize; 32], e: usize) -> usize

@@ -6,7 +6,7 @@ use lib.ListN.{getD}
 use lib.Dec.{leb}
 use borrow.Author.Tests.{le-leb}
 use Rattle.layout.proofs.Loops.{Sofar, sofar-none, sofar-more}
-use Rattle.layout.proofs.Rows.{first-stops, first-end}
+use Rattle.values.proofs.Words.{first-stops, first-end}
 use Rattle.values.proofs.first_of.Statement.{statement}
 use Rattle.values.proofs.first_of.Tie as tie
 

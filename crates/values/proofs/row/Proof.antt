@@ -1,6 +1,6 @@
 -- `values::row` meets its contract: the distances read in the row as its first cell's place says.
 use native.Mathlib.Omega.{arith}
-use Rattle.layout.proofs.Rows.{in-row}
+use Rattle.values.proofs.Words.{in-row}
 use borrow.Author.Needs.{needs}
 use Rattle.values.proofs.row.Statement.{statement}
 use Rattle.values.proofs.row.Tie as tie

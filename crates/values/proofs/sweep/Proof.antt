@@ -9,9 +9,9 @@ use mathlib.Core.Path.{refl, sym, _∙_}
 use Rattle.plan.proofs.Sound.{sound}
 use Rattle.layout.specs.Places.{Placed}
 use Rattle.layout.proofs.Cells.{four, zeros, lengths-countable}
-use Rattle.layout.proofs.Rows.{fewer, sweep-all, sweep-in, rows-end}
-use Rattle.layout.proofs.Advance.{placed-start, sweep-located, sweep-inside}
-use Rattle.values.proofs.Stores.{Sweeping, sweeping-none, sweeping-long, sweeping-turn, swept}
+use Rattle.layout.proofs.Rows.{fewer, rows-end}
+use Rattle.layout.proofs.Advance.{placed-start}
+use Rattle.values.proofs.Stores.{sweep-located, sweep-inside, sweep-all, sweep-in, Sweeping, sweeping-none, sweeping-long, sweeping-turn, swept}
 use Rattle.values.proofs.sweep.Statement.{statement}
 use Rattle.values.proofs.sweep.Tie as tie
 

@@ -2,11 +2,11 @@
 use borrow.Author.Needs.{needs}
 use native.Mathlib.Omega.{arith}
 use Prim.Native.Nat.{_-_, _/_, _^_}
-use mathlib.Core.Path.{_≡_, ap, _∙_}
+use mathlib.Core.Path.{ap}
 use mathlib.Core.List.{List}
 use lib.ListN.{getD}
 use native.Mathlib.Nat.{mod-lt}
-use Rattle.layout.proofs.Rows.{Adding, wordOf, adding-none, adding-small, adding-more, adding-end, back-low}
+use Rattle.values.proofs.Words.{Adding, wordOf, adding-none, adding-small, adding-more, adding-end, back-low}
 use Rattle.values.proofs.value_in.Statement.{statement}
 use Rattle.values.proofs.value_in.Tie as tie
 
