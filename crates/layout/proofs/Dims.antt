@@ -3,7 +3,7 @@ use Prim.Native.Nat.{ℕ, zero, suc, _+_, _*_, _-_, _/_, _%_, _≤_, _<_}
 use mathlib.Core.Path.{_≡_, refl, ap, _∙_}
 use mathlib.Core.Logic.{_⊎_, inl, inr, _≢_}
 use mathlib.Core.List.{List}
-use native.Mathlib.Nat.{eq-or-lt-of-le, le-of-suc-le-suc, mul-le-mul-right, mul-le-mul-left, mul-assoc, suc-mul, one-mul, mul-one, mod-lt}
+use native.Mathlib.Nat.{add-mul, eq-or-lt-of-le, le-of-suc-le-suc, mul-le-mul-right, mul-le-mul-left, mul-assoc, suc-mul, one-mul, mul-one, mod-lt}
 use native.Mathlib.Decide.{decLt}
 use native.Mathlib.Omega.{arith}
 use lib.ListN.{length, getD, set}
@@ -134,3 +134,10 @@ product-prefix N (suc l) j p h = go (decLt l j) (λ k. product-prefix N l j (λ 
     go : Dec (l < j) → (j ≤ l → product N j ≤ product N l) → product N j ≤ product N l * N l
     go (yes k) ih = let z : j ≡ suc l = omega arith in rw z (omega arith)
     go (no k) ih = omega (arith, ih (omega arith), mul-le-mul-left (product N l) (p l (omega arith)), mul-one (product N l))
+
+-- ---- ranks add up
+
+pub rank-add : (N a b : ℕ → ℕ) (l : ℕ) → rank N (λ j. a j + b j) l ≡ rank N a l + rank N b l
+unfolding rank
+rank-add N a b zero = refl
+rank-add N a b (suc l) = rw (rank-add N a b l) (omega (arith, add-mul (rank N a l) (rank N b l) (N l)))

@@ -118,3 +118,27 @@ module _ (f : ℕ → ℕ) (n : ℕ) where
 
   pub filled-end : (l : List ℕ) (j : ℕ) → Filled f n l j → n ≤ j → Has l f n
   filled-end l j s h = record { each = λ i k. s .each i (omega (arith, s .low)) }
+
+-- ---- an array of eight that is filled from its start
+
+pub record Eight (f : ℕ → ℕ) (n : ℕ) (l : List ℕ) (j : ℕ) : Type 0 where
+  pub low : j ≤ n
+  pub long : length l ≡ 8
+  pub each : (i : ℕ) → i < j → getD l i 0 ≡ f i
+
+module _ (f : ℕ → ℕ) (n : ℕ) where
+  pub eight-none : (l : List ℕ) → length l ≡ 8 → Eight f n l 0
+  eight-none l e = record { low = omega arith; long = e; each = λ i h. absurd (omega arith) }
+
+  pub eight-more : (l : List ℕ) (j v : ℕ) → Eight f n l j → j < n → n ≤ 8 → v ≡ f j → Eight f n (set l j v) (j + 1)
+  eight-more l j v s h m e = record { low = omega arith; long = length-set l j v ∙ s .long; each = λ i k. go i (eq-or-lt-of-le (low i k)) }
+    where
+      low : (i : ℕ) → i < j + 1 → i ≤ j
+      low i k = omega arith
+
+      go : (i : ℕ) → (i ≡ j) ⊎ (i < j) → getD (set l j v) i 0 ≡ f i
+      go i (inl q) = ap (λ (k : ℕ). getD (set l j v) k 0) q ∙ getD-set-same l j v 0 (omega (arith, s .long)) ∙ e ∙ ap f (sym q)
+      go i (inr q) = getD-set-other l j i v 0 (λ z. omega arith) ∙ s .each i q
+
+  pub eight-end : (l : List ℕ) (j : ℕ) → Eight f n l j → n ≤ j → (i : ℕ) → i < n → getD l i 0 ≡ f i
+  eight-end l j s h i k = s .each i (omega (arith, s .low))

@@ -15,9 +15,9 @@ use Rattle.plan.proofs.Tiles.{tileCount-pos, tileAt-tilePlace}
 use Rattle.plan.proofs.Parcels.{ahead-beyond, ahead-low, slotTile-low}
 use Rattle.layout.specs.Sizes.{Stepped, endAt}
 use Rattle.layout.specs.Places.{nth, Has, Places, Placed}
-use Rattle.layout.proofs.Dims.{place-lengths}
+use Rattle.layout.proofs.Dims.{place-lengths, rank-add}
 use Rattle.layout.proofs.Cells.{four, zeros, twos, two-few, directions-pos}
-use Rattle.layout.proofs.Rows.{rank-add, Eight, eight-end}
+use Rattle.layout.proofs.Loops.{Eight, eight-end}
 
 module _ (x : Nest) (ok : Accepted x) where
   pub ways-few : directions x ≤ 8

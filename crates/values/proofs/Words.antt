@@ -22,10 +22,9 @@ use Rattle.plan.proofs.Tiles.{cellPlace-low, cellAt-cellPlace}
 use Rattle.layout.specs.declared.Cell.{Cell}
 use Rattle.layout.specs.Places.{nth, Countable, Located}
 use Rattle.layout.specs.Rows.{Given}
-use Rattle.layout.proofs.Dims.{rank-most}
+use Rattle.layout.proofs.Dims.{rank-add, rank-most, product-prefix}
 use Rattle.layout.proofs.Loops.{every-same, Sofar, sofar-end}
 use Rattle.layout.proofs.Rows.{row-before, row-last, every-last}
-use Rattle.layout.proofs.Dims.{product-prefix}
 use Rattle.values.specs.Reads.{firstRead, stepBack, Firsts, Backs, Reads, InRow}
 
 -- ---- how far back distance e reads: the rank of its first j components
@@ -58,13 +57,6 @@ backing-end x components e back j g s h =
     let z : j ≡ x .dimensions = omega (arith, s .low) in
     s .is ∙ ap (rank (nth (x .lengths)) (stepOf (x .lengths) components e)) z ∙ ap (λ (l : List ℕ). rank (nth (x .lengths)) (stepOf (x .lengths) l e) (x .dimensions)) (g .is)
 
--- ---- ranks add up
-
-rank-add : (N a b : ℕ → ℕ) (l : ℕ) → rank N (λ j. a j + b j) l ≡ rank N a l + rank N b l
-unfolding rank
-rank-add N a b zero = refl
-rank-add N a b (suc l) = rw (rank-add N a b l) (omega (arith, add-mul (rank N a l) (rank N b l) (N l)))
-
 -- ---- a number moved within its row stays below the product
 
 row-low : (N : ℕ → ℕ) (d c y : ℕ) → 1 ≤ d → place N d c (d - 1) + y < N (d - 1) → c < product N d → c + y < product N d
@@ -87,30 +79,6 @@ pick-same true true a b c e h = h refl
 pick-same false false a b c e h = refl
 pick-same true false a b c e h = absurd (let z : _≡_ {A = Bool} true false = e in (let y : _≡_ {A = ℕ} 0 1 = cc in omega arith))
 pick-same false true a b c e h = absurd (let z : _≡_ {A = Bool} false true = e in (let y : _≡_ {A = ℕ} 0 1 = cc in omega arith))
-
--- ---- an array of eight that is filled from its start
-
-pub record Eight (f : ℕ → ℕ) (n : ℕ) (l : List ℕ) (j : ℕ) : Type 0 where
-  pub low : j ≤ n
-  pub long : length l ≡ 8
-  pub each : (i : ℕ) → i < j → getD l i 0 ≡ f i
-
-module _ (f : ℕ → ℕ) (n : ℕ) where
-  pub eight-none : (l : List ℕ) → length l ≡ 8 → Eight f n l 0
-  eight-none l e = record { low = omega arith; long = e; each = λ i h. absurd (omega arith) }
-
-  pub eight-more : (l : List ℕ) (j v : ℕ) → Eight f n l j → j < n → n ≤ 8 → v ≡ f j → Eight f n (set l j v) (j + 1)
-  eight-more l j v s h m e = record { low = omega arith; long = length-set l j v ∙ s .long; each = λ i k. go i (eq-or-lt-of-le (low i k)) }
-    where
-      low : (i : ℕ) → i < j + 1 → i ≤ j
-      low i k = omega arith
-
-      go : (i : ℕ) → (i ≡ j) ⊎ (i < j) → getD (set l j v) i 0 ≡ f i
-      go i (inl q) = ap (λ (k : ℕ). getD (set l j v) k 0) q ∙ getD-set-same l j v 0 (omega (arith, s .long)) ∙ e ∙ ap f (sym q)
-      go i (inr q) = getD-set-other l j i v 0 (λ z. omega arith) ∙ s .each i q
-
-  pub eight-end : (l : List ℕ) (j : ℕ) → Eight f n l j → n ≤ j → (i : ℕ) → i < n → getD l i 0 ≡ f i
-  eight-end l j s h i k = s .each i (omega (arith, s .low))
 
 -- ---- from where a distance reads
 

@@ -4,7 +4,7 @@ use native.Mathlib.Omega.{arith}
 use Prim.Native.Nat.{_+_, _-_}
 use Rattle.plan.specs.Geometry.{tileAt}
 use Rattle.plan.specs.Messages.{directions, ahead}
-use Rattle.layout.proofs.Rows.{Eight, eight-none, eight-more}
+use Rattle.layout.proofs.Loops.{Eight, eight-none, eight-more}
 use Rattle.layout.proofs.Steps.{ways-few, stepped-none, stepped-all}
 use Rattle.layout.proofs.steps_of.Statement.{statement}
 use Rattle.layout.proofs.steps_of.Tie as tie
