@@ -5,27 +5,31 @@ use mathlib.Core.Logic.{_⊎_, inl, inr}
 use mathlib.Core.Bool.{Bool, true, false}
 use mathlib.Core.List.{List, [], _∷_, _++_, append-nil}
 use native.Mathlib.Nat.{eq-or-lt-of-le, suc-mul, mul-le-mul-right, zero-mul, add-zero, add-assoc}
+use native.Mathlib.Numerals.{add-one}
 use native.Mathlib.Decide.{decLt}
 use native.Mathlib.Omega.{arith}
 use lib.ListN.{length, getD, take}
 use lib.Dec.{ltb, leb, eqb}
-use borrow.Author.Tests.{lt-ltb, le-ltb, le-leb, lt-leb, eq-eqb, ne-eqb}
-use Rattle.base.specs.Tests.{_and_, pick, every, tabulate, product}
+use borrow.Author.Tests.{lt-ltb, le-ltb, ltb-true, le-leb, lt-leb, leb-true, eq-eqb, ne-eqb, eqb-true}
+use Rattle.base.specs.Tests.{_and_, pick, every, some, tabulate, product}
 use Rattle.base.specs.Lists.{part, pack, unpack}
-use Rattle.base.proofs.Tests.{both, every-at, every-all, pick-true, pick-false, and-true, and-false, and-no, is-true, never-both, same-test, tabulate-at}
+use Rattle.base.proofs.Tests.{both, every-at, every-all, pick-true, pick-false, and-true, and-false, and-no, is-true, is-false, some-at, some-none, never-both, same-test, tabulate-at}
 use Rattle.nest.specs.declared.Nest.{Nest}
 use Rattle.nest.proofs.Accepted.{Accepted}
-use Rattle.nest.specs.Nest.{lengthOf, component}
-use Rattle.plan.specs.Geometry.{place, cellPlace, tilePlace}
-use Rattle.plan.specs.Box.{boxLength, boxPlace, boxCell}
-use Rattle.plan.proofs.Rank.{place-before, place-low}
-use Rattle.plan.proofs.Tiles.{tile-inside, tilePlace-low}
-use Rattle.plan.proofs.Box.{quotient-is, boxLength-pos, boxCell-low, boxCell-place}
+use Rattle.nest.specs.Nest.{lengthOf, tileLength, component, tileCount, cells}
+use Rattle.plan.specs.Geometry.{rank, place, cellAt, cellPlace, tilePlace, inside}
+use Rattle.plan.specs.Messages.{reaches, slots, slotTile, slotDirection, slotParcel}
+use Rattle.plan.specs.Box.{boxLength, boxSize, boxPlace, boxCell}
+use Rattle.plan.proofs.Rank.{place-before, place-low, rank-same}
+use Rattle.plan.proofs.Tiles.{cellPlace-low, cellAt-cellPlace, quotient-low, tile-inside, tilePlace-low}
+use Rattle.plan.proofs.Parcels.{slotTile-low}
+use Rattle.plan.proofs.Box.{quotient-is, boxLength-pos, boxCell-low, boxCell-place, boxParcel, boxParcel-none, boxParcel-miss, parcel-box}
 use Rattle.layout.specs.declared.Bounds.{Bounds}
 use Rattle.layout.specs.declared.Cell.{Cell}
-use Rattle.layout.specs.Places.{nth, Has, Located, Bounded, puts}
+use Rattle.layout.specs.Places.{nth, Has, Ranked, Places, Placed, Located, Bounded, bound, puts}
 use Rattle.layout.specs.Rows.{rowOf, Given}
-use Rattle.layout.proofs.Dims.{product-same}
+use Rattle.layout.proofs.Dims.{product-same, place-lengths}
+use Rattle.layout.proofs.Cells.{lengths-countable, box-places, place-small}
 use Rattle.layout.proofs.Loops.{every-same}
 use Rattle.layout.proofs.Walks.{Walk, walked, Measuring, Unpacking}
 use Rattle.layout.proofs.Rows.{row-before, row-last, row-low, row-start, row-next, row-count, box-all, box-few}
@@ -98,9 +102,6 @@ module _ (components : List ℕ) (j a low high n most : ℕ) where
 -- ---- the window's test of a place in all dimensions
 
 module _ (x : Nest) (ok : Accepted x) (to low high : List ℕ) (w : Windowed x to low high) where
-  abbrev pub carriesAt : List ℕ → ℕ → ℕ → Bool
-  carriesAt i e j = carries (getD low j 0) (getD high j 0) (getD i j 0 + component x e j)
-
   module _ (i : List ℕ) (e : ℕ) where
     window-in : (every (insideAt x i e) (x .dimensions) and every (tileAt x to i e) (x .spread)) ≡ every (λ j. carries (getD low j 0) (getD high j 0) (getD i j 0 + component x e j)) (x .dimensions)
     window-in = same-test
@@ -122,9 +123,6 @@ module _ (x : Nest) (ok : Accepted x) (to low high : List ℕ) (w : Windowed x t
   module _ (i k : List ℕ) (same : (e j : ℕ) → e < x .distances → j < x .dimensions - 1
       → carries (getD low j 0) (getD high j 0) (getD k j 0 + component x e j) ≡ carries (getD low j 0) (getD high j 0) (getD i j 0 + component x e j)) where
     module _ (e : ℕ) (l : e < x .distances) (m : List ℕ) (g : (j : ℕ) → j < x .dimensions - 1 → getD m j 0 ≡ getD k j 0) where
-      back : List ℕ
-      back = tabulate (λ j. pick (ltb j (x .dimensions - 1)) (getD i j 0) (getD m j 0)) 4
-
       back-before : (j : ℕ) → j < x .dimensions - 1 → getD (tabulate (λ j. pick (ltb j (x .dimensions - 1)) (getD i j 0) (getD m j 0)) 4) j 0 ≡ getD i j 0
       back-before j h = tabulate-at _ 4 j (omega (arith, ok .dimensions-most)) ∙ pick-true _ _ _ (lt-ltb j (x .dimensions - 1) h)
 
@@ -244,9 +242,6 @@ module _ (x : Nest) (ok : Accepted x) (s : ℕ) (b : Bounds) (to : List ℕ) (w 
   alike-room = omega (arith, f .least, next-low x ok b (w .box) n q r c l rows p h (m - 1) (room-at (m - 1) (omega (arith, f .least))))
 
   module _ (y : ℕ) (k : y < m) where
-    cell : ℕ
-    cell = boxCell x (b .tile) ((r + y) * n)
-
     four : (j : ℕ) → j < x .dimensions → getD (tabulate (cellPlace x (boxCell x (b .tile) ((r + y) * n))) 4) j 0 ≡ cellPlace x (boxCell x (b .tile) ((r + y) * n)) j
     four j i = tabulate-at _ 4 j (omega (arith, ok .dimensions-most))
 
@@ -276,21 +271,63 @@ module _ (x : Nest) (ok : Accepted x) (s : ℕ) (b : Bounds) (to : List ℕ) (w 
 
 -- ---- what is found of a slot once, and of a row
 
+cell-rank : (x : Nest) (ok : Accepted x) (c : ℕ) → c < cells x → rank (lengthOf x) (cellPlace x c) (x .dimensions) ≡ c
+unfolding cellAt
+cell-rank x ok c l = cellAt-cellPlace x ok c l
+
 pub sends-walk : (x : Nest) (s : ℕ) (z : Sending) → Sends x s z → Walk x s (z .bounds) (z .to)
 sends-walk x s z p = record { low = p .low; box = p .box; tile = p .tile; way = p .way }
 
-module _ (x : Nest) (ok : Accepted x) (s : ℕ) (z : Sending) (p : Sends x s z) (r : ℕ) (h : r < z .rows) (c : Cell) (l : Located x (boxCell x (z .bounds .tile) (r * z .width)) c)
-    (ends : List ℕ) (f : Ends x (z .to) (c .place) ends) where
-  pub row-found : (a run m : ℕ) → a ≡ getD (c .place) (x .dimensions - 1) 0 → Run ends (x .distances) a (z .width) run → Alike x (z .window .low) (z .window .high) (z .bounds) (c .place) m
-      → RowAt x s z r (record { cell = c; component = a; ends = ends; run = run; alike = m })
-  row-found a run m e g k =
-      record {
-        first = rw e (row-ends x ok s (z .bounds) (z .to) (sends-walk x s z p) r (z .rows) (z .width) (p .rows) (p .width) h c l ends f);
-        run = g;
-        least = k .least;
-        room = alike-room x ok s (z .bounds) (z .to) (sends-walk x s z p) (z .window .low) (z .window .high) (p .window) r (z .rows) (z .width) (p .rows) (p .width) h c l m k;
-        alike = λ y o. rw e (alike-row x ok s (z .bounds) (z .to) (sends-walk x s z p) (z .window .low) (z .window .high) (p .window) r (z .rows) (z .width) (p .rows) (p .width) h c l m k y o ends f);
-      }
+-- row r's first cell by its place
+module _ (x : Nest) (ok : Accepted x) (s : ℕ) (z : Sending) (p : Sends x s z) (r : ℕ) (at : List ℕ) (g : Placed (z .bounds .lengths) (z .bounds .corner) r (x .dimensions - 1) at) where
+  abbrev pub firstCell : Cell
+  firstCell = record { number = boxCell x (z .bounds .tile) (r * z .width); place = at }
+
+  row-has : Has at (cellPlace x (boxCell x (z .bounds .tile) (r * z .width))) (x .dimensions)
+  row-has = record { each = λ j o. go j o (decLt j (x .dimensions - 1)) }
+    where
+      go : (j : ℕ) → j < x .dimensions → Dec (j < x .dimensions - 1) → getD at j 0 ≡ cellPlace x (boxCell x (z .bounds .tile) (r * z .width)) j
+      go j o (yes l) =
+          g .first j l
+          ∙ ap (λ (a : ℕ). getD (z .bounds .corner) j 0 + a) (place-lengths (nth (z .bounds .lengths)) (boxLength x (z .bounds .tile)) (x .dimensions - 1) r j (λ i k. p .box .lengths .each i (omega arith)))
+          ∙ sym (row-place x ok (z .bounds) (p .box) (z .width) (p .width) r j l)
+      go j o (no l) =
+          let e : j ≡ x .dimensions - 1 = omega arith in
+          rw e (g .rest (x .dimensions - 1) (omega arith) ∙ sym (row-end x ok (z .bounds) (p .box) (z .width) (p .width) r ∙ add-zero _))
+
+  pub row-located : Located x (boxCell x (z .bounds .tile) (r * z .width)) (record { number = boxCell x (z .bounds .tile) (r * z .width); place = at })
+  row-located = record { low = boxCell-low x ok (z .bounds .tile) (r * z .width); number = refl; place = row-has }
+
+  pub row-small : (j : ℕ) → j < x .dimensions → getD at j 0 < 1024
+  row-small = place-small x ok (boxCell x (z .bounds .tile) (r * z .width)) at row-has
+
+  module _ (h : r < z .rows) where
+    pub row-inner : getD at (x .dimensions - 1 - 1) 0 < getD (z .bounds .corner) (x .dimensions - 1 - 1) 0 + getD (z .bounds .lengths) (x .dimensions - 1 - 1) 0
+    row-inner = row-inside x ok (z .bounds) (p .box) (z .width) (p .width) r firstCell row-located (z .rows) (p .rows) h
+
+    pub row-found : (ends : List ℕ) → Ends x (z .to) at ends → (a run m : ℕ) → a ≡ getD at (x .dimensions - 1) 0 → Run ends (x .distances) a (z .width) run
+        → Alike x (z .window .low) (z .window .high) (z .bounds) at m → RowAt x s z r (record { place = at; component = a; ends = ends; run = run; alike = m })
+    row-found ends f a run m e v k =
+        record {
+          place = row-has;
+          first = rw e (row-ends x ok s (z .bounds) (z .to) (sends-walk x s z p) r (z .rows) (z .width) (p .rows) (p .width) h firstCell row-located ends f);
+          run = v;
+          least = k .least;
+          room = alike-room x ok s (z .bounds) (z .to) (sends-walk x s z p) (z .window .low) (z .window .high) (p .window) r (z .rows) (z .width) (p .rows) (p .width) h firstCell row-located m k;
+          alike = λ y o. rw e (alike-row x ok s (z .bounds) (z .to) (sends-walk x s z p) (z .window .low) (z .window .high) (p .window) r (z .rows) (z .width) (p .rows) (p .width) h firstCell row-located m k y o ends f);
+        }
+
+-- and by its number
+module _ (x : Nest) (ok : Accepted x) (s : ℕ) (z : Sending) (r : ℕ) (q : Row) (f : RowAt x s z r q) where
+  pub row-ranked : Ranked (x .lengths) (q .place) (x .dimensions)
+  row-ranked =
+      record { counts = lengths-countable x ok; within = λ j h. omega (arith, f .place .each j h, cellPlace-low x ok (boxCell x (z .bounds .tile) (r * z .width)) j h) }
+
+  pub row-first : (m : ℕ) → m ≡ rank (nth (x .lengths)) (nth (q .place)) (x .dimensions) → RowEnds x s (z .bounds) (r * z .width) m (q .component) (z .width) (q .ends)
+  row-first m e = rw (e ∙ number-is) (f .first)
+    where
+      number-is : rank (nth (x .lengths)) (nth (q .place)) (x .dimensions) ≡ boxCell x (z .bounds .tile) (r * z .width)
+      number-is = rank-same (lengthOf x) (nth (q .place)) (cellPlace x (boxCell x (z .bounds .tile) (r * z .width))) (x .dimensions) (f .place .each) ∙ cell-rank x ok (boxCell x (z .bounds .tile) (r * z .width)) (boxCell-low x ok (z .bounds .tile) (r * z .width))
 
 pub sends-of : (x : Nest) (s : ℕ) (z : Sending) → Walk x s (z .bounds) (z .to) → Windowed x (z .to) (z .window .low) (z .window .high) → z .rows ≡ product (nth (z .bounds .lengths)) (x .dimensions - 1)
     → z .width ≡ getD (z .bounds .lengths) (x .dimensions - 1) 0 → Sends x s z
@@ -299,8 +336,10 @@ sends-of x s z w v p q = record { low = w .low; box = w .box; tile = w .tile; wa
 pub sends-rows : (x : Nest) (ok : Accepted x) (s : ℕ) (z : Sending) → Sends x s z → z .rows ≤ 16384
 sends-rows x ok s z p = omega (arith, p .rows, row-count x ok (z .bounds) (p .box))
 
-pub within-row : (q w n : ℕ) → (q + w ≤ n) × (1 ≤ w) → q < n
-within-row q w n (a, b) = omega arith
+pub row-places : (x : Nest) (ok : Accepted x) (b : Bounds) → Bounded x b → Places (b .lengths) (b .corner) (x .dimensions - 1)
+row-places x ok b box =
+    let f = box-places x ok b box 0 in
+    record { low = omega (arith, f .low); positive = λ j h. f .positive j (omega arith); small = λ j h. f .small j (omega arith) }
 
 -- where a tile ends
 pub tile-end : (x : Nest) (ok : Accepted x) (b : Bounds) → Bounded x b → (j : ℕ) → j < x .dimensions → getD (b .corner) j 0 + getD (b .lengths) j 0 ≤ 1024
@@ -369,7 +408,7 @@ module _ (x : Nest) (s : ℕ) (z : Sending) (r : ℕ) (q : Row) (f : RowAt x s z
         go (inr (e, k)) =
             ap (λ (a : ℕ). walked x s (z .bounds) ((r + a) * z .width)) k
             ∙ ap (walked x s (z .bounds)) (row-next (z .width) r 0)
-            ∙ run-rest x s (z .bounds) (r * z .width) (q .cell .number) (q .component) (z .width) (q .ends) (f .first) (q .run) (f .run)
+            ∙ run-rest x s (z .bounds) (r * z .width) _ (q .component) (z .width) (q .ends) (f .first) (q .run) (f .run)
 
     pub packed-on : (memory words : List ℕ) (count : ℕ) → PackedTo x s (z .bounds) memory words count (r * z .width + q .run) → PackedTo x s (z .bounds) memory words count ((r + g) * z .width)
     packed-on memory words count p =
@@ -382,17 +421,17 @@ module _ (x : Nest) (s : ℕ) (z : Sending) (r : ℕ) (q : Row) (f : RowAt x s z
         }
 
     pub unpacked-on : (memory₀ words memory memory′ : List ℕ) (count : ℕ) → Unpacking x s (z .bounds) memory₀ words memory count (r * z .width) → count ≤ length words
-        → memory′ ≡ unpack memory (rowOf (q .cell .number) (q .run)) (part words count (q .run)) → Unpacking x s (z .bounds) memory₀ words memory′ (count + q .run) ((r + g) * z .width)
-    unpacked-on memory₀ words memory memory′ count u l e =
-        let a = unpack-run x s (z .bounds) (r * z .width) (q .cell .number) (q .component) (z .width) (q .ends) (f .first) (q .run) (f .run) memory₀ words memory memory′ count u l e in
+        → (m : ℕ) → RowEnds x s (z .bounds) (r * z .width) m (q .component) (z .width) (q .ends) → memory′ ≡ unpack memory (rowOf m (q .run)) (part words count (q .run)) → Unpacking x s (z .bounds) memory₀ words memory′ (count + q .run) ((r + g) * z .width)
+    unpacked-on memory₀ words memory memory′ count u l m o e =
+        let a = unpack-run x s (z .bounds) (r * z .width) m (q .component) (z .width) (q .ends) o (q .run) (f .run) memory₀ words memory memory′ count u l e in
         record {
           low = rows-room g (step-room .1);
           count-is = a .count-is ∙ ap length (sym same);
-          is = a .is ∙ ap (λ (m : List ℕ). unpack memory₀ m (take (count + q .run) words)) (sym same);
+          is = a .is ∙ ap (λ (k : List ℕ). unpack memory₀ k (take (count + q .run) words)) (sym same);
         }
       where
         same : walked x s (z .bounds) ((r + g) * z .width) ≡ walked x s (z .bounds) (r * z .width + z .width)
-        same = step-walked ∙ sym (run-rest x s (z .bounds) (r * z .width) (q .cell .number) (q .component) (z .width) (q .ends) (f .first) (q .run) (f .run))
+        same = step-walked ∙ sym (run-rest x s (z .bounds) (r * z .width) _ (q .component) (z .width) (q .ends) (f .first) (q .run) (f .run))
 
 -- the first n cells of a row
 pub row-part : (x : Nest) (s : ℕ) (b : Bounds) (first c a w n : ℕ) (ends : List ℕ) → n ≤ w → RowEnds x s b first c a w ends → RowEnds x s b first c a n ends
@@ -404,3 +443,29 @@ row-part x s b first c a w n ends h f =
       number = λ y k. f .number y (omega arith);
       tests = λ y e k i. f .tests y e (omega arith) i;
     }
+
+-- ---- nothing is bound for a place beyond the last tile
+
+module _ (x : Nest) (ok : Accepted x) (s : ℕ) (l : s < slots x) (j : ℕ) (h : j < x .spread) (k : tileCount x j ≤ bound x s j) where
+  never : (q e : ℕ) → reaches x (slotTile x s) (slotDirection x s) (boxCell x (slotTile x s) q) e ≡ false
+  unfolding reaches inside
+  never q e =
+      is-false (λ t.
+      let a : cellPlace x (boxCell x (slotTile x s) q) j + component x e j < lengthOf x j = ltb-true _ _ (every-at _ (x .dimensions) (both t .0) j (omega (arith, ok .spread-low))) in
+      let b : (cellPlace x (boxCell x (slotTile x s) q) j + component x e j) / tileLength x j ≡ bound x s j = eqb-true _ _ (every-at _ (x .spread) (both t .1) j h) in
+      omega (arith, quotient-low x ok (cellPlace x (boxCell x (slotTile x s) q) j + component x e j) j (omega (arith, ok .spread-low)) a))
+
+  none : (q : ℕ) → boxParcel x (slotTile x s) (slotDirection x s) q ≡ []
+  none zero = boxParcel-none x (slotTile x s) (slotDirection x s)
+  none (suc q) = rw (← add-one q) (boxParcel-miss x (slotTile x s) (slotDirection x s) q (some-none _ (x .distances) (λ e o. never q e)) ∙ none q)
+
+  pub parcel-outside : length (slotParcel x s) ≡ 0
+  unfolding slotParcel
+  parcel-outside = ap length (parcel-box x ok (slotTile x s) (slotDirection x s) (slotTile-low x s l) ∙ none (boxSize x (slotTile x s)))
+
+pub outside-empty : (x : Nest) (ok : Accepted x) (s : ℕ) → s < slots x → (across to : List ℕ) → Has across (tileCount x) (x .dimensions) → Has to (bound x s) (x .dimensions)
+    → some (λ j. leb (getD across j 0) (getD to j 0)) (x .spread) ≡ true → length (slotParcel x s) ≡ 0
+outside-empty x ok s l across to f g t =
+    let r = some-at (λ j. leb (getD across j 0) (getD to j 0)) (x .spread) t in
+    let o : r .0 < x .dimensions = omega (arith, ok .spread-low, r .1) in
+    parcel-outside x ok s l (r .0) (r .1) (omega (arith, f .each (r .0) o, g .each (r .0) o, leb-true (getD across (r .0) 0) (getD to (r .0) 0) (r .2)))

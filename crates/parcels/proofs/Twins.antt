@@ -1,4 +1,4 @@
--- Two tiles that differ only where neither is last or last but one have parcels of the same lengths.
+-- Two tiles that differ only where both have a tile of full length after them have parcels of the same lengths.
 use Prim.Native.Nat.{ℕ, zero, suc, _+_, _*_, _-_, _/_, _%_, _≤_, _<_, min}
 use mathlib.Core.Path.{_≡_, refl, sym, ap, _∙_}
 use mathlib.Core.Logic.{_⊎_, inl, inr}
@@ -8,8 +8,8 @@ use native.Mathlib.Nat.{mul-add-div-right, mul-add-mod-self-right, mod-eq-of-lt,
 use native.Mathlib.Decide.{decLt}
 use native.Mathlib.Omega.{arith}
 use lib.ListN.{length, getD}
-use lib.Dec.{ltb, eqb}
-use borrow.Author.Tests.{lt-ltb, ltb-true, eq-eqb, eqb-true}
+use lib.Dec.{ltb, leb, eqb}
+use borrow.Author.Tests.{lt-ltb, ltb-true, leb-true, eq-eqb, eqb-true}
 use Rattle.base.specs.Tests.{_and_, every, some, keep, product}
 use Rattle.base.proofs.Tests.{both, same-test}
 use Rattle.base.proofs.Select.{keep-same}
@@ -20,7 +20,7 @@ use Rattle.plan.specs.Geometry.{place, cellPlace, tilePlace, inside}
 use Rattle.plan.specs.Messages.{ahead, reaches, parcel}
 use Rattle.plan.specs.Box.{boxLength, boxSize, boxPlace, boxCell}
 use Rattle.plan.proofs.Rank.{Positive, place-low, place-last, place-before}
-use Rattle.plan.proofs.Tiles.{tile-inside, tileCount-pos}
+use Rattle.plan.proofs.Tiles.{tileCount-pos}
 use Rattle.plan.proofs.Box.{quotient-is, boxHit, boxParcel, boxLength-pos, boxLength-most, boxCell-place, parcel-box}
 use Rattle.layout.specs.Places.{nth, Has}
 use Rattle.parcels.specs.Twins.{Twin}
@@ -40,23 +40,23 @@ moved-tile u k m a p =
     (λ t. eq-eqb ((u * k + m) / k) (u + a) (omega (arith, eqb-true (m / k) a t)))
 
 module _ (x : Nest) (ok : Accepted x) (t r : ℕ) where
-  -- in each dimension the same, or both with two tiles behind them
+  -- in each dimension the same, or both with a tile of full length after them
   abbrev pub Alike : Type 0
-  Alike = (j : ℕ) → j < x .dimensions → (tilePlace x r j ≡ tilePlace x t j) ⊎ ((tilePlace x t j + 2 < tileCount x j) × (tilePlace x r j + 2 < tileCount x j))
+  Alike = (j : ℕ) → j < x .dimensions → (tilePlace x r j ≡ tilePlace x t j) ⊎ (((tilePlace x t j + 2) * tileLength x j ≤ lengthOf x j) × ((tilePlace x r j + 2) * tileLength x j ≤ lengthOf x j))
 
-  module _ (s : (j : ℕ) → j < x .dimensions → (tilePlace x r j ≡ tilePlace x t j) ⊎ ((tilePlace x t j + 2 < tileCount x j) × (tilePlace x r j + 2 < tileCount x j))) where
-    -- two tiles behind: room for all that a distance reaches
-    behind : (u j : ℕ) → j < x .dimensions → u + 2 < tileCount x j → u * tileLength x j + (tileLength x j + tileLength x j) < lengthOf x j
-    behind u j h l = omega (arith, tile-inside x ok (u + 2) j h l, add-mul u 2 (tileLength x j))
+  module _ (s : (j : ℕ) → j < x .dimensions → (tilePlace x r j ≡ tilePlace x t j) ⊎ (((tilePlace x t j + 2) * tileLength x j ≤ lengthOf x j) × ((tilePlace x r j + 2) * tileLength x j ≤ lengthOf x j))) where
+    -- two full tiles: room for all that a distance reaches
+    behind : (u j : ℕ) → (u + 2) * tileLength x j ≤ lengthOf x j → u * tileLength x j + (tileLength x j + tileLength x j) ≤ lengthOf x j
+    behind u j l = omega (arith, add-mul u 2 (tileLength x j))
 
     lengths-same : (j : ℕ) → j < x .dimensions → boxLength x t j ≡ boxLength x r j
     unfolding boxLength
     lengths-same j h = go (s j h)
       where
-        go : (tilePlace x r j ≡ tilePlace x t j) ⊎ ((tilePlace x t j + 2 < tileCount x j) × (tilePlace x r j + 2 < tileCount x j))
+        go : (tilePlace x r j ≡ tilePlace x t j) ⊎ (((tilePlace x t j + 2) * tileLength x j ≤ lengthOf x j) × ((tilePlace x r j + 2) * tileLength x j ≤ lengthOf x j))
             → min (tileLength x j) (lengthOf x j - tilePlace x t j * tileLength x j) ≡ min (tileLength x j) (lengthOf x j - tilePlace x r j * tileLength x j)
         go (inl e) = rw e
-        go (inr (a, b)) = omega (arith, behind (tilePlace x t j) j h a, behind (tilePlace x r j) j h b)
+        go (inr (a, b)) = omega (arith, behind (tilePlace x t j) j a, behind (tilePlace x r j) j b)
 
     within : ℕ → ℕ → ℕ
     within q j = place (boxLength x t) (x .dimensions) q j
@@ -76,12 +76,12 @@ module _ (x : Nest) (ok : Accepted x) (t r : ℕ) where
       inside-same : ltb (cellPlace x (boxCell x t q) j + component x e j) (lengthOf x j) ≡ ltb (cellPlace x (boxCell x r q) j + component x e j) (lengthOf x j)
       inside-same = go (s j h)
         where
-          go : (tilePlace x r j ≡ tilePlace x t j) ⊎ ((tilePlace x t j + 2 < tileCount x j) × (tilePlace x r j + 2 < tileCount x j))
+          go : (tilePlace x r j ≡ tilePlace x t j) ⊎ (((tilePlace x t j + 2) * tileLength x j ≤ lengthOf x j) × ((tilePlace x r j + 2) * tileLength x j ≤ lengthOf x j))
               → ltb (cellPlace x (boxCell x t q) j + component x e j) (lengthOf x j) ≡ ltb (cellPlace x (boxCell x r q) j + component x e j) (lengthOf x j)
           go (inl z) = ap (λ (a : ℕ). ltb (a + component x e j) (lengthOf x j)) (from-t q j h ∙ ap (λ (a : ℕ). a * tileLength x j + place (boxLength x t) (x .dimensions) q j) (sym z) ∙ sym (from-r q j h))
           go (inr (a, b)) =
-              lt-ltb (cellPlace x (boxCell x t q) j + component x e j) (lengthOf x j) (omega (arith, from-t q j h, low q j h, behind (tilePlace x t j) j h a, ok .near e j k h))
-              ∙ sym (lt-ltb (cellPlace x (boxCell x r q) j + component x e j) (lengthOf x j) (omega (arith, from-r q j h, low q j h, behind (tilePlace x r j) j h b, ok .near e j k h)))
+              lt-ltb (cellPlace x (boxCell x t q) j + component x e j) (lengthOf x j) (omega (arith, from-t q j h, low q j h, behind (tilePlace x t j) j a, ok .near e j k h))
+              ∙ sym (lt-ltb (cellPlace x (boxCell x r q) j + component x e j) (lengthOf x j) (omega (arith, from-r q j h, low q j h, behind (tilePlace x r j) j b, ok .near e j k h)))
 
       tile-same : (a : ℕ) → eqb ((cellPlace x (boxCell x t q) j + component x e j) / tileLength x j) (tilePlace x t j + a) ≡ eqb ((cellPlace x (boxCell x r q) j + component x e j) / tileLength x j) (tilePlace x r j + a)
       tile-same a =
@@ -214,26 +214,26 @@ module _ (N : ℕ → ℕ) (n t l q s : ℕ) (f : Peeled N n t (suc l) q s) (pos
     back-after : (j : ℕ) → l < j → j < n → place N n (t - s) j ≡ place N n t j
     back-after j k m = ap (λ (a : ℕ). place N n a j) back-is ∙ f .after (q - 1) j (omega arith) m
 
-    pub back-alike : (j : ℕ) → j < n → q % N l + 2 < N l → (place N n (t - s) j ≡ place N n t j) ⊎ ((place N n t j + 2 < N j) × (place N n (t - s) j + 2 < N j))
-    back-alike j k m = go (decLt j l) (decLt l j)
+    pub back-alike : (j : ℕ) → j < n → (place N n (t - s) j ≡ place N n t j) ⊎ ((j ≡ l) × (place N n (t - s) l + 1 ≡ q % N l) × (place N n t l ≡ q % N l))
+    back-alike j k = go (decLt j l) (decLt l j)
       where
-        go : Dec (j < l) → Dec (l < j) → (place N n (t - s) j ≡ place N n t j) ⊎ ((place N n t j + 2 < N j) × (place N n (t - s) j + 2 < N j))
+        go : Dec (j < l) → Dec (l < j) → (place N n (t - s) j ≡ place N n t j) ⊎ ((j ≡ l) × (place N n (t - s) l + 1 ≡ q % N l) × (place N n t l ≡ q % N l))
         go (yes a) b = inl (back-before j a)
         go (no a) (yes b) = inl (back-after j b k)
-        go (no a) (no b) = let e : j ≡ l = omega arith in inr (rw e (omega (arith, own), omega (arith, own, back-own)))
+        go (no a) (no b) = inr (omega arith, back-own ∙ own, own)
 
 pub peeled-more : (N : ℕ → ℕ) (n t left q s : ℕ) → Peeled N n t left q s → 0 < left → 1 ≤ N (left - 1) → Peeled N n t (left - 1) (q / N (left - 1)) (s * N (left - 1))
 peeled-more N n t zero q s f h pos = absurd (omega arith)
 peeled-more N n t (suc l) q s f h pos = let z : suc l - 1 ≡ l = omega arith in rw z (peeled-next N n t l q s f (rw z at pos))
 
-pub peeled-back : (N : ℕ → ℕ) (n t left q s : ℕ) → Peeled N n t left q s → 0 < left → 1 ≤ q % N (left - 1) → q % N (left - 1) + 2 < N (left - 1)
-    → (s ≤ t) × ((j : ℕ) → j < n → (place N n (t - s) j ≡ place N n t j) ⊎ ((place N n t j + 2 < N j) × (place N n (t - s) j + 2 < N j)))
-peeled-back N n t zero q s f h a b = absurd (omega arith)
-peeled-back N n t (suc l) q s f h a b =
+pub peeled-back : (N : ℕ → ℕ) (n t left q s : ℕ) → Peeled N n t left q s → 0 < left → 1 ≤ N (left - 1) → 1 ≤ q % N (left - 1)
+    → (s ≤ t) × ((j : ℕ) → j < n → (place N n (t - s) j ≡ place N n t j) ⊎ ((j ≡ left - 1) × (place N n (t - s) (left - 1) + 1 ≡ q % N (left - 1)) × (place N n t (left - 1) ≡ q % N (left - 1))))
+peeled-back N n t zero q s f h pos a = absurd (omega arith)
+peeled-back N n t (suc l) q s f h pos a =
     let z : suc l - 1 ≡ l = omega arith in
-    let a′ : 1 ≤ q % N l = rw z at a in
-    let b′ : q % N l + 2 < N l = rw z at b in
-    (back-low N n t l q s f (omega arith) a′, λ j k. back-alike N n t l q s f (omega arith) a′ j k b′)
+    let p : 1 ≤ N l = rw z at pos in
+    let b : 1 ≤ q % N l = rw z at a in
+    rw z (back-low N n t l q s f p b, back-alike N n t l q s f p b)
 
 module _ (x : Nest) (ok : Accepted x) (t : ℕ) (low : t < tiles x) where
   pub twin-self : Twin x t t
@@ -248,10 +248,19 @@ module _ (x : Nest) (ok : Accepted x) (t : ℕ) (low : t < tiles x) where
     twin-stride left q s f =
         omega (arith, peeled-few (nth across) (x .dimensions) t left q s f (λ j h. omega (arith, b .each j h, tileCount-pos x ok j h)), across-product x ok across b, ok .tiles-most)
 
-    module _ (left q s : ℕ) (f : Peeled (nth across) (x .dimensions) t left q s) (h : 0 < left) (k : (ltb 0 (q % getD across (left - 1) 0) and ltb (q % getD across (left - 1) 0 + 2) (getD across (left - 1) 0)) ≡ true) where
-      back : (s ≤ t) × ((j : ℕ) → j < x .dimensions
-          → (place (nth across) (x .dimensions) (t - s) j ≡ place (nth across) (x .dimensions) t j) ⊎ ((place (nth across) (x .dimensions) t j + 2 < getD across j 0) × (place (nth across) (x .dimensions) (t - s) j + 2 < getD across j 0)))
-      back = peeled-back (nth across) (x .dimensions) t left q s f h (ltb-true 0 (q % getD across (left - 1) 0) (both k .0)) (ltb-true (q % getD across (left - 1) 0 + 2) (getD across (left - 1) 0) (both k .1))
+    module _ (left q s : ℕ) (f : Peeled (nth across) (x .dimensions) t left q s) (h : 0 < left)
+        (k : (ltb 0 (q % getD across (left - 1) 0) and leb ((q % getD across (left - 1) 0 + 2) * tileLength x (left - 1)) (lengthOf x (left - 1))) ≡ true) where
+      pos : 1 ≤ getD across (left - 1) 0
+      pos = omega (arith, b .each (left - 1) (omega (arith, f .low)), tileCount-pos x ok (left - 1) (omega (arith, f .low)))
+
+      back : (s ≤ t) × ((j : ℕ) → j < x .dimensions → (place (nth across) (x .dimensions) (t - s) j ≡ place (nth across) (x .dimensions) t j)
+          ⊎ ((j ≡ left - 1) × (place (nth across) (x .dimensions) (t - s) (left - 1) + 1 ≡ q % getD across (left - 1) 0) × (place (nth across) (x .dimensions) t (left - 1) ≡ q % getD across (left - 1) 0)))
+      back = peeled-back (nth across) (x .dimensions) t left q s f h pos (ltb-true 0 (q % getD across (left - 1) 0) (both k .0))
+
+      full : (u : ℕ) → u ≤ q % getD across (left - 1) 0 → (u + 2) * tileLength x (left - 1) ≤ lengthOf x (left - 1)
+      full u l =
+          let m : u + 2 ≤ q % getD across (left - 1) 0 + 2 = omega arith in
+          omega (arith, leb-true ((q % getD across (left - 1) 0 + 2) * tileLength x (left - 1)) (lengthOf x (left - 1)) (both k .1), mul-le-mul-right (tileLength x (left - 1)) m)
 
       pub twin-low : s ≤ t
       twin-low = back .0
@@ -259,8 +268,9 @@ module _ (x : Nest) (ok : Accepted x) (t : ℕ) (low : t < tiles x) where
       pub twin-back : Twin x t (t - s)
       twin-back = record { low = omega arith; same = twin-same x ok t (t - s) (λ j m. go j m (back .1 j m)) low (omega arith) }
         where
-          go : (j : ℕ) → j < x .dimensions
-              → (place (nth across) (x .dimensions) (t - s) j ≡ place (nth across) (x .dimensions) t j) ⊎ ((place (nth across) (x .dimensions) t j + 2 < getD across j 0) × (place (nth across) (x .dimensions) (t - s) j + 2 < getD across j 0))
-              → (tilePlace x (t - s) j ≡ tilePlace x t j) ⊎ ((tilePlace x t j + 2 < tileCount x j) × (tilePlace x (t - s) j + 2 < tileCount x j))
+          go : (j : ℕ) → j < x .dimensions → (place (nth across) (x .dimensions) (t - s) j ≡ place (nth across) (x .dimensions) t j)
+              ⊎ ((j ≡ left - 1) × (place (nth across) (x .dimensions) (t - s) (left - 1) + 1 ≡ q % getD across (left - 1) 0) × (place (nth across) (x .dimensions) t (left - 1) ≡ q % getD across (left - 1) 0))
+              → (tilePlace x (t - s) j ≡ tilePlace x t j) ⊎ (((tilePlace x t j + 2) * tileLength x j ≤ lengthOf x j) × ((tilePlace x (t - s) j + 2) * tileLength x j ≤ lengthOf x j))
           go j m (inl e) = inl (sym (counts (t - s) j) ∙ e ∙ counts t j)
-          go j m (inr (a, c)) = inr (omega (arith, counts t j, b .each j m), omega (arith, counts (t - s) j, b .each j m))
+          go j m (inr (e, a, c)) =
+              inr (rw e (full (tilePlace x t (left - 1)) (omega (arith, counts t (left - 1))), full (tilePlace x (t - s) (left - 1)) (omega (arith, counts (t - s) (left - 1)))))

@@ -9,6 +9,7 @@ use lib.Dec.{ltb, leb}
 use Rattle.base.specs.Tests.{_and_, product}
 use Rattle.nest.specs.declared.Nest.{Nest}
 use Rattle.nest.specs.Nest.{component}
+use Rattle.plan.specs.Geometry.{cellPlace}
 use Rattle.plan.specs.Messages.{slots, slotTile}
 use Rattle.plan.specs.Box.{boxCell}
 use Rattle.layout.specs.declared.Bounds.{Bounds}
@@ -44,9 +45,10 @@ pub record Sends (x : Nest) (s : ℕ) (z : Sending) : Type 0 where
   pub rows : z .rows ≡ product (nth (z .bounds .lengths)) (x .dimensions - 1)
   pub width : z .width ≡ getD (z .bounds .lengths) (x .dimensions - 1) 0
 
--- row r of the box: the ends in it, how many of its cells are in the parcel, and the rows from it on that have the same ends
+-- row r of the box: its place, the ends in it, how many of its cells are in the parcel, and the rows from it on that have the same ends
 pub record RowAt (x : Nest) (s : ℕ) (z : Sending) (r : ℕ) (q : Row) : Type 0 where
-  pub first : RowEnds x s (z .bounds) (r * z .width) (q .cell .number) (q .component) (z .width) (q .ends)
+  pub place : Has (q .place) (cellPlace x (boxCell x (z .bounds .tile) (r * z .width))) (x .dimensions)
+  pub first : RowEnds x s (z .bounds) (r * z .width) (boxCell x (z .bounds .tile) (r * z .width)) (q .component) (z .width) (q .ends)
   pub run : Run (q .ends) (x .distances) (q .component) (z .width) (q .run)
   pub least : 1 ≤ q .alike
   pub room : r + q .alike ≤ z .rows

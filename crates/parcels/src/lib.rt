@@ -3,20 +3,19 @@ ghost use mathlib.Core.Path.{_≡_};
 ghost use Prim.Native.Nat.{ℕ, _+_, _*_, _-_, _/_, min, _≤_, _<_};
 ghost use lib.ListN.{length, getD};
 ghost use lib.Dec.{eqb, leb, ltb};
-ghost use Rattle.base.specs.Tests.{_and_, pick, product};
+ghost use Rattle.base.specs.Tests.{_and_, pick, some, product};
 ghost use Rattle.base.specs.Lists.{part, pack, unpack};
 ghost use Rattle.nest.proofs.Accepted.{Accepted};
 ghost use Rattle.nest.specs.Nest.{component, cells, tiles};
 ghost use Rattle.plan.specs.Geometry.{rank};
 ghost use Rattle.plan.specs.Messages.{slots, slotParcel};
 ghost use Rattle.layout.specs.Sizes.{Sized};
-ghost use Rattle.layout.specs.Places.{Bounded};
+ghost use Rattle.layout.specs.Places.{Has, Bounded, bound};
 ghost use Rattle.layout.specs.Rows.{Given, rowOf};
 ghost use Rattle.parcels.specs.Twins.{Twin};
 ghost use Rattle.parcels.specs.Windows.{Windowed, RowEnd, Ends, Run, RowEnds, PackedTo};
 ghost use Rattle.parcels.specs.Sendings.{Unchanged, Alike, Sends, RowAt};
 use layout::Bounds;
-use layout::Cell;
 use layout::Sizes;
 use nest::Nest;
 
@@ -35,10 +34,10 @@ struct Sending {
     width: usize,
 }
 
-// A row of the box: its first cell and last component there, the ends in it, how many of its cells are in the parcel,
-// and how many rows from it on are like it.
+// A row of the box: the place of its first cell, the last component there, the ends in it, how many of its cells are in
+// the parcel, and how many rows from it on are like it.
 struct Row {
-    cell: Cell,
+    place: [usize; 4],
     component: usize,
     ends: [usize; 8],
     run: usize,
@@ -57,15 +56,15 @@ fn carry(component: usize, distance: usize, low: usize, high: usize) -> bool
     moved < high
 }
 
-// Whether neither component `at` of a tile nor the one before it is among the last two.
-fn one_back(at: usize, across: usize) -> bool
-    requires { ⌜ at ≤ 1024 ⌝ }
-    ensures { λ r. ⌜ r ≡ (ltb 0 at and ltb (at + 2) across) ⌝ }
+// Whether a tile has one before it in a dimension, and after it another of full length.
+fn one_back(at: usize, tiling: usize, length: usize) -> bool
+    requires { ⌜ (at ≤ 1024) × (tiling ≤ 1024) ⌝ }
+    ensures { λ r. ⌜ r ≡ (ltb 0 at and leb ((at + 2) * tiling) length) ⌝ }
 {
     if at == 0 {
         return false;
     }
-    at + 2 < across
+    (at + 2) * tiling <= length
 }
 
 // A tile before this one whose parcels have the lengths that this one's have, or the tile itself: only at the end of a
@@ -81,8 +80,7 @@ pub fn twin_of(nest: Nest, sizes: Sizes, tile: usize) -> usize
     while left > 0 {
         left -= 1;
         let n = across[left];
-        let at = rest % n;
-        if one_back(at, n) {
+        if one_back(rest % n, nest.tiling[left], nest.lengths[left]) {
             return tile - stride;
         }
         rest = rest / n;
@@ -193,15 +191,15 @@ fn run_of(ends: &[usize; 8], n: usize, component: usize, width: usize) -> usize
     layout::least(width, end - component)
 }
 
-// For how many components, `moved` and those after it, the carry test stays as it is.
-fn unchanged(moved: usize, low: usize, high: usize) -> usize
-    ensures { λ r. ⌜ Unchanged moved low high r ⌝ }
+// For how many components, `from` and those after it, the carry test stays as it is.
+fn unchanged(from: usize, low: usize, high: usize) -> usize
+    ensures { λ r. ⌜ Unchanged from low high r ⌝ }
 {
-    if moved < low {
-        return low - moved;
+    if from < low {
+        return low - from;
     }
-    if moved < high {
-        return high - moved;
+    if from < high {
+        return high - from;
     }
     1024
 }
@@ -235,12 +233,24 @@ fn rows_alike(
     rows
 }
 
-fn sending_of(nest: Nest, sizes: Sizes, slot: usize) -> Sending
-    requires { ⌜ Sized nest sizes × (slot < slots nest) ⌝ }
+// Whether a place of tiles is beyond the last one: nothing is bound for it.
+fn outside(across: [usize; 4], to: [usize; 4], n: usize) -> bool
+    requires { ⌜ n ≤ 4 ⌝ }
+    ensures { λ r. ⌜ r ≡ some (λ j. leb (getD across j 0) (getD to j 0)) n ⌝ }
+{
+    for j in 0..n {
+        if to[j] >= across[j] {
+            return true;
+        }
+    }
+    false
+}
+
+fn sending_of(nest: Nest, sizes: Sizes, slot: usize, to: [usize; 4]) -> Sending
+    requires { ⌜ Sized nest sizes × ((slot < slots nest) × Has to (bound nest slot) (nest .dimensions)) ⌝ }
     ensures { λ r. ⌜ Sends nest slot r ⌝ }
 {
     let bounds = layout::bounds_of(nest, sizes, slot / sizes.directions);
-    let to = layout::bound_for(nest, sizes, slot);
     let window = window_of(nest, to);
     let last = nest.dimensions - 1;
     let lengths = bounds.lengths;
@@ -261,14 +271,16 @@ fn row_at(nest: Nest, components: &[usize; 32], sending: Sending, slot: usize, r
 {
     let last = nest.dimensions - 1;
     let to = sending.to;
-    let cell = layout::cell_in(nest, sending.bounds, r * sending.width);
-    let at = cell.place;
+    let bounds = sending.bounds;
+    let lengths = bounds.lengths;
+    let corner = bounds.corner;
+    let at = layout::place(lengths, corner, r, last);
     let ends = ends_of(nest, components, sending.window, at, to);
     let component = at[last];
     let run = run_of(&ends, nest.distances, component, sending.width);
-    let alike = rows_alike(nest, components, sending.window, sending.bounds, at);
+    let alike = rows_alike(nest, components, sending.window, bounds, at);
     Row {
-        cell: cell,
+        place: at,
         component: component,
         ends: ends,
         run: run,
@@ -291,7 +303,12 @@ pub fn parcel_length(nest: Nest, sizes: Sizes, slot: usize) -> usize
     requires { ⌜ Sized nest sizes × (slot < slots nest) ⌝ }
     ensures { λ r. ⌜ (r ≡ length (slotParcel nest slot)) × (r ≤ 16384) ⌝ }
 {
-    let sending = sending_of(nest, sizes, slot);
+    let to = layout::bound_for(nest, sizes, slot);
+    let across = sizes.across;
+    if outside(across, to, nest.spread) {
+        return 0;
+    }
+    let sending = sending_of(nest, sizes, slot, to);
     let components = nest.components;
     let rows = sending.rows;
     let mut count = 0;
@@ -312,18 +329,17 @@ fn pack_row(
     words: &mut [u32],
     memory: &[u32],
     ends: &[usize; 8],
-    cell: Cell,
+    from: usize,
     component: usize,
     first: usize,
     width: usize,
     packed: usize,
 ) -> usize
-    requires { ⌜ Accepted nest × (RowEnds nest slot bounds first (cell .number) component width (now ends) × (length (now memory) ≡ cells nest)) ⌝ }
+    requires { ⌜ Accepted nest × (RowEnds nest slot bounds first from component width (now ends) × (length (now memory) ≡ cells nest)) ⌝ }
     requires { ⌜ PackedTo nest slot bounds (now memory) (now words) packed first ⌝ }
     ensures { λ r. ⌜ PackedTo nest slot bounds (now (memory .entry)) (now (words .exit)) r (first + width) ⌝ }
 {
     let distances = nest.distances;
-    let from = cell.number;
     let mut count = packed;
     'cells: for y in 0..width {
         let number = from + y;
@@ -344,16 +360,20 @@ pub fn pack(nest: Nest, sizes: Sizes, slot: usize, words: &mut [u32], memory: &[
     requires { ⌜ Sized nest sizes × ((slot < slots nest) × ((length (now memory) ≡ cells nest) × (length (now words) ≡ length (slotParcel nest slot)))) ⌝ }
     ensures { λ _. ⌜ now (words .exit) ≡ pack (now (memory .entry)) (slotParcel nest slot) ⌝ }
 {
-    let sending = sending_of(nest, sizes, slot);
+    let to = layout::bound_for(nest, sizes, slot);
+    let sending = sending_of(nest, sizes, slot, to);
     let components = nest.components;
     let rows = sending.rows;
     let width = sending.width;
     let bounds = sending.bounds;
+    let lengths = nest.lengths;
     let mut count = 0;
     let mut r = 0;
     while r < rows {
         let row = row_at(nest, &components, sending, slot, r);
         let ends = row.ends;
+        let at = row.place;
+        let number = layout::rank(lengths, at, nest.dimensions);
         count = pack_row(
             nest,
             bounds,
@@ -361,7 +381,7 @@ pub fn pack(nest: Nest, sizes: Sizes, slot: usize, words: &mut [u32], memory: &[
             words,
             memory,
             &ends,
-            row.cell,
+            number,
             row.component,
             r * width,
             row.run,
@@ -386,15 +406,18 @@ pub fn unpack(nest: Nest, sizes: Sizes, slot: usize, memory: &mut [u32], words: 
     requires { ⌜ Sized nest sizes × ((slot < slots nest) × ((length (now memory) ≡ cells nest) × (length (now words) ≡ length (slotParcel nest slot)))) ⌝ }
     ensures { λ _. ⌜ now (memory .exit) ≡ unpack (now (memory .entry)) (slotParcel nest slot) (now (words .entry)) ⌝ }
 {
-    let sending = sending_of(nest, sizes, slot);
+    let to = layout::bound_for(nest, sizes, slot);
+    let sending = sending_of(nest, sizes, slot, to);
     let components = nest.components;
     let rows = sending.rows;
+    let lengths = nest.lengths;
     let mut count = 0;
     let mut r = 0;
     while r < rows {
         let row = row_at(nest, &components, sending, slot, r);
-        let cell = row.cell;
-        unpack_row(memory, words, cell.number, count, row.run);
+        let at = row.place;
+        let number = layout::rank(lengths, at, nest.dimensions);
+        unpack_row(memory, words, number, count, row.run);
         count += row.run;
         r += rows_on(row.run, row.alike);
     }

@@ -14,16 +14,16 @@ use Rattle.parcels.proofs.pack_row.Statement.{statement}
 use Rattle.parcels.proofs.pack_row.Tie as tie
 
 abbrev Inv-distances : tie.InvT-distances
-Inv-distances slot words₀ memory ends component first width packed distances from count₀ y₀ number end e₀ words count y e = Searching (λ d. ltb end (getD ends d 0)) distances words₀ count₀ y₀ words count y e
+Inv-distances slot words₀ memory ends from component first width packed distances count₀ y₀ number end e₀ words count y e = Searching (λ d. ltb end (getD ends d 0)) distances words₀ count₀ y₀ words count y e
 
 abbrev μ-distances : tie.MeasureT-distances
-μ-distances slot words₀ memory ends component first width packed distances from count₀ y₀ number end e₀ words count y e = distances - e
+μ-distances slot words₀ memory ends from component first width packed distances count₀ y₀ number end e₀ words count y e = distances - e
 
 abbrev Inv-cells : tie.InvT-cells
-Inv-cells slot words₀ memory ends component first width packed distances from count₀ y₀ words count y = Going slot words₀ memory ends component first width packed distances from words count y
+Inv-cells slot words₀ memory ends from component first width packed distances count₀ y₀ words count y = Going slot words₀ memory ends component first width packed distances from words count y
 
 abbrev μ-cells : tie.MeasureT-cells
-μ-cells slot words₀ memory ends component first width packed distances from count₀ y₀ words count y = width - y
+μ-cells slot words₀ memory ends from component first width packed distances count₀ y₀ words count y = width - y
 
 -- a word that is to be packed has room
 room : (c : tie.After-shared-slice-known Inv-distances μ-distances Inv-cells μ-cells) → (c .before .before .before .before .distances .count < length (c .before .before .before .before .distances .words)) × (c .before .before .before .before .distances .count < 16384)

@@ -8,48 +8,54 @@ use lib.ListN.{length}
 use Rattle.layout.proofs.Walks.{Unpacking, unpacking-none, unpacking-long, unpacked, parcel-is, parcel-few}
 use Rattle.layout.proofs.Rows.{rows-end}
 use Rattle.parcels.proofs.Windows.{run-room}
-use Rattle.parcels.proofs.Alike.{sends-walk, sends-far, sends-rows, step-room, unpacked-on}
+use Rattle.parcels.proofs.Alike.{sends-walk, sends-far, sends-rows, row-ranked, row-first, step-room, unpacked-on}
 use Rattle.parcels.proofs.unpack.Statement.{statement}
 use Rattle.parcels.proofs.unpack.Tie as tie
 
 abbrev Inv-loop : tie.InvT-loop
-Inv-loop nest slot memory₀ words sending components rows count₀ r₀ memory count r = Unpacking nest slot (sending .bounds) memory₀ words memory count (r * sending .width)
+Inv-loop nest slot memory₀ words sending components rows lengths count₀ r₀ memory count r = Unpacking nest slot (sending .bounds) memory₀ words memory count (r * sending .width)
 
 abbrev μ-loop : tie.MeasureT-loop
-μ-loop nest slot memory₀ words sending components rows count₀ r₀ memory count r = rows - r
+μ-loop nest slot memory₀ words sending components rows lengths count₀ r₀ memory count r = rows - r
+
+bound-for-requires : tie.Need-bound-for-requires Inv-loop μ-loop
+bound-for-requires c κs = (c .before .before .pre .0, c .before .before .pre .1 .0)
 
 sending-of-requires : tie.Need-sending-of-requires Inv-loop μ-loop
-sending-of-requires c κs = (c .before .before .pre .0, c .before .before .pre .1 .0)
+sending-of-requires c κs = (c .before .before .before .pre .0, (c .before .before .before .pre .1 .0, c .bound-for .ensures))
 
 loop-holds : tie.Need-loop-holds Inv-loop μ-loop
-loop-holds c = rw (zero-mul (c .before .sending-of .result .width)) (unpacking-none _ _ _ _ _)
+loop-holds c = rw (zero-mul (c .before .before .sending-of .result .width)) (unpacking-none _ _ _ _ _)
 
 row-at-requires : tie.Need-row-at-requires Inv-loop μ-loop
-row-at-requires c κs = (c .before .before .before .before .before .before .before .pre .0 .accepted, (record { is = refl }, (c .before .before .before .before .sending-of .ensures, c .before .loop-test .taken)))
+row-at-requires c κs = (c .before .before .before .before .before .before .before .before .before .pre .0 .accepted, (record { is = refl }, (c .before .before .before .before .before .sending-of .ensures, c .before .loop-test .taken)))
+
+rank-requires : tie.Need-rank-requires Inv-loop μ-loop
+rank-requires c κs = row-ranked _ (c .before .before .before .before .before .before .before .before .before .before .before .pre .0 .accepted) _ _ _ _ (c .before .row-at .ensures)
 
 unpack-row-requires : tie.Need-unpack-row-requires Inv-loop μ-loop
-unpack-row-requires c κs = (omega (arith, c .before .before .row-at .ensures .first .low, c .before .before .row-at .ensures .run .low, unpacking-long _ _ _ _ _ _ _ _ (c .before .before .before .before .before .loop .inv), c .before .before .before .before .before .before .before .before .before .before .pre .1 .1 .0), (omega (arith, unpacking-long _ _ _ _ _ _ _ _ (c .before .before .before .before .before .loop .inv), c .before .before .before .before .before .before .before .before .before .before .pre .1 .1 .0, c .before .before .before .before .before .before .before .before .before .before .pre .0 .accepted .cells-most), omega (arith, run-room _ _ _ _ _ _ _ _ (c .before .before .row-at .ensures .first) _ (c .before .before .row-at .ensures .run) _ (c .before .before .before .before .before .loop .inv .count-is), c .before .before .before .before .before .before .before .before .before .before .pre .1 .1 .1, ap length (parcel-is _ (c .before .before .before .before .before .before .before .before .before .before .pre .0 .accepted) _ _ _ (sends-walk _ _ _ (c .before .before .before .before .before .before .before .sending-of .ensures))))))
+unpack-row-requires c κs = (omega (arith, (row-first _ (c .before .before .before .before .before .before .before .before .before .before .before .before .before .pre .0 .accepted) _ _ _ _ (c .before .before .before .row-at .ensures) _ (c .before .rank .ensures)) .low, c .before .before .before .row-at .ensures .run .low, unpacking-long _ _ _ _ _ _ _ _ (c .before .before .before .before .before .before .loop .inv), c .before .before .before .before .before .before .before .before .before .before .before .before .before .pre .1 .1 .0), (omega (arith, unpacking-long _ _ _ _ _ _ _ _ (c .before .before .before .before .before .before .loop .inv), c .before .before .before .before .before .before .before .before .before .before .before .before .before .pre .1 .1 .0, c .before .before .before .before .before .before .before .before .before .before .before .before .before .pre .0 .accepted .cells-most), omega (arith, run-room _ _ _ _ _ _ _ _ (c .before .before .before .row-at .ensures .first) _ (c .before .before .before .row-at .ensures .run) _ (c .before .before .before .before .before .before .loop .inv .count-is), c .before .before .before .before .before .before .before .before .before .before .before .before .before .pre .1 .1 .1, ap length (parcel-is _ (c .before .before .before .before .before .before .before .before .before .before .before .before .before .pre .0 .accepted) _ _ _ (sends-walk _ _ _ (c .before .before .before .before .before .before .before .before .before .sending-of .ensures))))))
 
 add-count : tie.Need-add-count Inv-loop μ-loop
-add-count c = omega (arith, run-room _ _ _ _ _ _ _ _ (c .before .before .before .before .before .before .row-at .ensures .first) _ (c .before .before .before .before .before .before .row-at .ensures .run) _ (c .before .before .before .before .before .before .before .before .before .loop .inv .count-is), ap length (parcel-is _ (c .before .before .before .before .before .before .before .before .before .before .before .before .before .before .pre .0 .accepted) _ _ _ (sends-walk _ _ _ (c .before .before .before .before .before .before .before .before .before .before .before .sending-of .ensures))), parcel-few _ (c .before .before .before .before .before .before .before .before .before .before .before .before .before .before .pre .0 .accepted) _ _ _ (sends-walk _ _ _ (c .before .before .before .before .before .before .before .before .before .before .before .sending-of .ensures)))
+add-count c = omega (arith, run-room _ _ _ _ _ _ _ _ (c .before .before .before .before .before .before .before .row-at .ensures .first) _ (c .before .before .before .before .before .before .before .row-at .ensures .run) _ (c .before .before .before .before .before .before .before .before .before .before .loop .inv .count-is), ap length (parcel-is _ (c .before .before .before .before .before .before .before .before .before .before .before .before .before .before .before .before .before .pre .0 .accepted) _ _ _ (sends-walk _ _ _ (c .before .before .before .before .before .before .before .before .before .before .before .before .before .sending-of .ensures))), parcel-few _ (c .before .before .before .before .before .before .before .before .before .before .before .before .before .before .before .before .before .pre .0 .accepted) _ _ _ (sends-walk _ _ _ (c .before .before .before .before .before .before .before .before .before .before .before .before .before .sending-of .ensures)))
 
 rows-on-requires : tie.Need-rows-on-requires Inv-loop μ-loop
 rows-on-requires c κs = search needs
 
 add-r : tie.Need-add-r Inv-loop μ-loop
-add-r c = omega (arith, step-room _ _ _ _ _ (c .before .before .before .before .before .before .before .row-at .ensures) (sends-far _ (c .before .before .before .before .before .before .before .before .before .before .before .before .before .before .before .pre .0 .accepted) _ _ (c .before .before .before .before .before .before .before .before .before .before .before .before .sending-of .ensures)) _ (c .rows-on .ensures), sends-rows _ (c .before .before .before .before .before .before .before .before .before .before .before .before .before .before .before .pre .0 .accepted) _ _ (c .before .before .before .before .before .before .before .before .before .before .before .before .sending-of .ensures))
+add-r c = omega (arith, step-room _ _ _ _ _ (c .before .before .before .before .before .before .before .before .row-at .ensures) (sends-far _ (c .before .before .before .before .before .before .before .before .before .before .before .before .before .before .before .before .before .before .pre .0 .accepted) _ _ (c .before .before .before .before .before .before .before .before .before .before .before .before .before .before .sending-of .ensures)) _ (c .rows-on .ensures), sends-rows _ (c .before .before .before .before .before .before .before .before .before .before .before .before .before .before .before .before .before .before .pre .0 .accepted) _ _ (c .before .before .before .before .before .before .before .before .before .before .before .before .before .before .sending-of .ensures))
 
 loop-less : tie.Need-loop-less Inv-loop μ-loop
-loop-less c = omega (arith, step-room _ _ _ _ _ (c .before .before .before .before .before .before .before .row-at .ensures) (sends-far _ (c .before .before .before .before .before .before .before .before .before .before .before .before .before .before .before .pre .0 .accepted) _ _ (c .before .before .before .before .before .before .before .before .before .before .before .before .sending-of .ensures)) _ (c .rows-on .ensures))
+loop-less c = omega (arith, step-room _ _ _ _ _ (c .before .before .before .before .before .before .before .before .row-at .ensures) (sends-far _ (c .before .before .before .before .before .before .before .before .before .before .before .before .before .before .before .before .before .before .pre .0 .accepted) _ _ (c .before .before .before .before .before .before .before .before .before .before .before .before .before .before .sending-of .ensures)) _ (c .rows-on .ensures))
 
 loop-again : tie.Need-loop-again Inv-loop μ-loop
-loop-again c = unpacked-on _ _ _ _ _ (c .before .before .before .before .before .before .before .row-at .ensures) (sends-far _ (c .before .before .before .before .before .before .before .before .before .before .before .before .before .before .before .pre .0 .accepted) _ _ (c .before .before .before .before .before .before .before .before .before .before .before .before .sending-of .ensures)) _ (c .rows-on .ensures) _ _ _ _ _ (c .before .before .before .before .before .before .before .before .before .before .loop .inv) (omega (arith, run-room _ _ _ _ _ _ _ _ (c .before .before .before .before .before .before .before .row-at .ensures .first) _ (c .before .before .before .before .before .before .before .row-at .ensures .run) _ (c .before .before .before .before .before .before .before .before .before .before .loop .inv .count-is), c .before .before .before .before .before .before .before .before .before .before .before .before .before .before .before .pre .1 .1 .1, ap length (parcel-is _ (c .before .before .before .before .before .before .before .before .before .before .before .before .before .before .before .pre .0 .accepted) _ _ _ (sends-walk _ _ _ (c .before .before .before .before .before .before .before .before .before .before .before .before .sending-of .ensures))))) (c .before .before .before .before .unpack-row .ensures)
+loop-again c = unpacked-on _ _ _ _ _ (c .before .before .before .before .before .before .before .before .row-at .ensures) (sends-far _ (c .before .before .before .before .before .before .before .before .before .before .before .before .before .before .before .before .before .before .pre .0 .accepted) _ _ (c .before .before .before .before .before .before .before .before .before .before .before .before .before .before .sending-of .ensures)) _ (c .rows-on .ensures) _ _ _ _ _ (c .before .before .before .before .before .before .before .before .before .before .before .loop .inv) (omega (arith, run-room _ _ _ _ _ _ _ _ (c .before .before .before .before .before .before .before .before .row-at .ensures .first) _ (c .before .before .before .before .before .before .before .before .row-at .ensures .run) _ (c .before .before .before .before .before .before .before .before .before .before .before .loop .inv .count-is), c .before .before .before .before .before .before .before .before .before .before .before .before .before .before .before .before .before .before .pre .1 .1 .1, ap length (parcel-is _ (c .before .before .before .before .before .before .before .before .before .before .before .before .before .before .before .before .before .before .pre .0 .accepted) _ _ _ (sends-walk _ _ _ (c .before .before .before .before .before .before .before .before .before .before .before .before .before .before .sending-of .ensures))))) _ (row-first _ (c .before .before .before .before .before .before .before .before .before .before .before .before .before .before .before .before .before .before .pre .0 .accepted) _ _ _ _ (c .before .before .before .before .before .before .before .before .row-at .ensures) _ (c .before .before .before .before .before .before .rank .ensures)) (c .before .before .before .before .unpack-row .ensures)
 
 same-length : tie.Need-same-length Inv-loop μ-loop
 same-length c = unpacking-long _ _ _ _ _ _ _ _ (c .before .loop .inv)
 
 returns : tie.Need-returns Inv-loop μ-loop
-returns c = unpacked _ (c .before .before .before .before .before .before .pre .0 .accepted) _ _ _ (sends-walk _ _ _ (c .before .before .before .sending-of .ensures)) _ _ _ _ _ (c .before .loop .inv) (rows-end _ _ _ (c .loop-test .left) ((sends-far _ (c .before .before .before .before .before .before .pre .0 .accepted) _ _ (c .before .before .before .sending-of .ensures)) .all)) (c .before .before .before .before .before .before .pre .1 .1 .1)
+returns c = unpacked _ (c .before .before .before .before .before .before .before .before .pre .0 .accepted) _ _ _ (sends-walk _ _ _ (c .before .before .before .before .sending-of .ensures)) _ _ _ _ _ (c .before .loop .inv) (rows-end _ _ _ (c .loop-test .left) ((sends-far _ (c .before .before .before .before .before .before .before .before .pre .0 .accepted) _ _ (c .before .before .before .before .sending-of .ensures)) .all)) (c .before .before .before .before .before .before .before .before .pre .1 .1 .1)
 
 pub unpack-spec : {M : Type 1} → statement M
 unpack-spec =
@@ -57,9 +63,11 @@ unpack-spec =
     (tie.spec
     Inv-loop
     μ-loop
+    bound-for-requires
     sending-of-requires
     loop-holds
     row-at-requires
+    rank-requires
     unpack-row-requires
     add-count
     rows-on-requires

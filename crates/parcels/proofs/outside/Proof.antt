@@ -1,0 +1,65 @@
+-- `parcels::outside` meets its contract: none of the first j components is beyond.
+use borrow.Author.Needs.{needs}
+use native.Mathlib.Omega.{arith}
+use Prim.Native.Nat.{_-_}
+use mathlib.Core.Path.{sym}
+use lib.ListN.{getD}
+use lib.Dec.{leb}
+use borrow.Author.Tests.{le-leb, lt-leb}
+use Rattle.base.proofs.Tests.{some-one}
+use Rattle.layout.proofs.Loops.{Nowhere, nowhere-none, nowhere-more, nowhere-end}
+use Rattle.parcels.proofs.outside.Statement.{statement}
+use Rattle.parcels.proofs.outside.Tie as tie
+
+abbrev Inv-loop : tie.InvT-loop
+Inv-loop n across to j₀ j = Nowhere (λ i. leb (getD across i 0) (getD to i 0)) n j
+
+abbrev μ-loop : tie.MeasureT-loop
+μ-loop n across to j₀ j = n - j
+
+loop-holds : tie.Need-loop-holds Inv-loop μ-loop
+loop-holds c = nowhere-none _ _
+
+mul-if1 : tie.Need-mul-if1 Inv-loop μ-loop
+mul-if1 c = omega (arith, c .loop-test .taken, c .before .before .pre)
+
+array-read-if1 : tie.Need-array-read-if1 Inv-loop μ-loop
+array-read-if1 c = omega (arith, c .loop-test .taken, c .before .before .pre)
+
+mul-if1-2 : tie.Need-mul-if1-2 Inv-loop μ-loop
+mul-if1-2 c = omega (arith, c .loop-test .taken, c .before .before .pre)
+
+array-read-if1-2 : tie.Need-array-read-if1-2 Inv-loop μ-loop
+array-read-if1-2 c = omega (arith, c .loop-test .taken, c .before .before .pre)
+
+returns : tie.Need-returns Inv-loop μ-loop
+returns c = sym (some-one _ _ (c .before .before .loop .j) (c .before .loop-test .taken) (le-leb _ _ (c .if1 .taken)))
+
+add-j : tie.Need-add-j Inv-loop μ-loop
+add-j c = omega (arith, c .before .loop-test .taken, c .before .before .before .pre)
+
+loop-less : tie.Need-loop-less Inv-loop μ-loop
+loop-less c = search needs
+
+loop-again : tie.Need-loop-again Inv-loop μ-loop
+loop-again c = nowhere-more _ _ _ (c .before .before .loop .inv) (c .before .loop-test .taken) (lt-leb _ _ (c .if1 .left))
+
+returns-2 : tie.Need-returns-2 Inv-loop μ-loop
+returns-2 c = sym (nowhere-end _ _ _ (c .before .loop .inv) (c .loop-test .left))
+
+pub outside-spec : {M : Type 1} → statement M
+outside-spec =
+    tie.close
+    (tie.spec
+    Inv-loop
+    μ-loop
+    loop-holds
+    mul-if1
+    array-read-if1
+    mul-if1-2
+    array-read-if1-2
+    returns
+    add-j
+    loop-less
+    loop-again
+    returns-2)
