@@ -68,6 +68,8 @@ row-low N (suc l) c y p h k =
     let q : c / N l < product N l = div-lt-iff-lt-mul {k = N l} (omega arith) .1 k in
     omega (arith, div-add-mod' c (N l), mul-le-mul-right (N l) q, suc-mul (c / N l) (N l))
 
+-- ---- tests and picks
+
 first-test : (t : Bool) (d a : ℕ) → a < 1024 → leb (pick t d 1024) a ≡ (t and leb d a)
 unfolding pick _and_
 first-test true d a h = refl

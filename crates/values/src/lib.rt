@@ -19,7 +19,8 @@ use layout::Cell;
 use layout::Sizes;
 use nest::Nest;
 
-// How many cells back distance e reads; no component counts above its dimension's length.
+// How many cells back distance e reads: a place moved by a distance moves its number so. No component counts for more than
+// its dimension's length.
 fn back_of(nest: Nest, components: &[usize; 32], e: usize) -> usize
     requires { ⌜ Accepted nest × ((e < nest .distances) × Given nest (now components)) ⌝ }
     ensures { λ r. ⌜ r ≡ stepBack nest e ⌝ }
@@ -34,7 +35,7 @@ fn back_of(nest: Nest, components: &[usize; 32], e: usize) -> usize
     back
 }
 
-// Made once in a call, since a place moved by a distance moves its number so.
+// The same of each distance, made once in a call.
 fn backs_of(nest: Nest, components: &[usize; 32]) -> [usize; 8]
     requires { ⌜ Accepted nest × Given nest (now components) ⌝ }
     ensures { λ r. ⌜ Backs nest r ⌝ }
