@@ -3,7 +3,7 @@ use Prim.Native.Nat.{ℕ, zero, suc, _+_, _*_, _-_, _/_, _%_, _≤_, _<_}
 use mathlib.Core.Path.{_≡_, sym, ap, _∙_}
 use mathlib.Core.Bool.{Bool}
 use mathlib.Core.List.{List}
-use native.Mathlib.Nat.{add-assoc, div-add-mod', mul-add-div-right, mul-add-mod-self-right, div-eq-of-lt, mod-eq-of-lt, mul-le-mul-right, suc-mul}
+use native.Mathlib.Nat.{add-assoc, div-add-mod', div-lt-iff-lt-mul, mul-add-div-right, mul-add-mod-self-right, div-eq-of-lt, mod-eq-of-lt, mul-le-mul-right, suc-mul}
 use native.Mathlib.Numerals.{add-one}
 use native.Mathlib.Omega.{arith}
 use lib.ListN.{getD}
@@ -49,6 +49,16 @@ row-last N (suc l) c y p h =
     let z : suc l - 1 ≡ l = omega arith in
     let b : c % N l + y < N l = rw (z, place-last N l c) at h in
     rw (z, place-last N l c, place-last N l (c + y)) (row-mod (N l) c y b)
+
+-- it stays below the product
+pub row-low : (N : ℕ → ℕ) (d c y : ℕ) → 1 ≤ d → place N d c (d - 1) + y < N (d - 1) → c < product N d → c + y < product N d
+unfolding product
+row-low N zero c y p h k = absurd (omega arith)
+row-low N (suc l) c y p h k =
+    let z : suc l - 1 ≡ l = omega arith in
+    let b : c % N l + y < N l = rw (z, place-last N l c) at h in
+    let q : c / N l < product N l = div-lt-iff-lt-mul {k = N l} (omega arith) .1 k in
+    omega (arith, div-add-mod' c (N l), mul-le-mul-right (N l) q, suc-mul (c / N l) (N l))
 
 -- every test of the dimensions: those before the last, and the last
 pub every-last : (f : ℕ → Bool) (d : ℕ) → 1 ≤ d → every f d ≡ (every f (d - 1) and f (d - 1))

@@ -24,7 +24,7 @@ use Rattle.layout.specs.Places.{nth, Countable, Located}
 use Rattle.layout.specs.Rows.{Given}
 use Rattle.layout.proofs.Dims.{rank-add, rank-most, product-prefix}
 use Rattle.layout.proofs.Loops.{every-same, Sofar, sofar-end}
-use Rattle.layout.proofs.Rows.{row-before, row-last, every-last}
+use Rattle.layout.proofs.Rows.{row-before, row-last, row-low, every-last}
 use Rattle.values.specs.Reads.{firstRead, stepBack, Firsts, Backs, Reads, InRow}
 
 -- ---- how far back distance e reads: the rank of its first j components
@@ -56,17 +56,6 @@ unfolding stepBack
 backing-end x components e back j g s h =
     let z : j ≡ x .dimensions = omega (arith, s .low) in
     s .is ∙ ap (rank (nth (x .lengths)) (stepOf (x .lengths) components e)) z ∙ ap (λ (l : List ℕ). rank (nth (x .lengths)) (stepOf (x .lengths) l e) (x .dimensions)) (g .is)
-
--- ---- a number moved within its row stays below the product
-
-row-low : (N : ℕ → ℕ) (d c y : ℕ) → 1 ≤ d → place N d c (d - 1) + y < N (d - 1) → c < product N d → c + y < product N d
-unfolding product
-row-low N zero c y p h k = absurd (omega arith)
-row-low N (suc l) c y p h k =
-    let z : suc l - 1 ≡ l = omega arith in
-    let b : c % N l + y < N l = rw (z, place-last N l c) at h in
-    let q : c / N l < product N l = div-lt-iff-lt-mul {k = N l} (omega arith) .1 k in
-    omega (arith, div-add-mod' c (N l), mul-le-mul-right (N l) q, suc-mul (c / N l) (N l))
 
 -- ---- tests and picks
 
