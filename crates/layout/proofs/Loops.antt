@@ -119,6 +119,20 @@ module _ (f : ℕ → ℕ) (n : ℕ) where
   pub filled-end : (l : List ℕ) (j : ℕ) → Filled f n l j → n ≤ j → Has l f n
   filled-end l j s h = record { each = λ i k. s .each i (omega (arith, s .low)) }
 
+-- ---- an array that is changed from its start
+
+pub record Changed (f : ℕ → ℕ) (n : ℕ) (start l : List ℕ) (j : ℕ) : Type 0 where
+  pub first : Filled f n l j
+  pub rest : (i : ℕ) → j ≤ i → getD l i 0 ≡ getD start i 0
+
+module _ (f : ℕ → ℕ) (n : ℕ) (start : List ℕ) where
+  pub changed-none : length start ≡ 4 → Changed f n start start 0
+  changed-none e = record { first = filled-none f n start e; rest = λ i h. refl }
+
+  pub changed-more : (l : List ℕ) (j v : ℕ) → Changed f n start l j → j < n → n ≤ 4 → v ≡ f j → Changed f n start (set l j v) (j + 1)
+  changed-more l j v s h m e =
+      record { first = filled-more f n l j v (s .first) h m e; rest = λ i k. getD-set-other l j i v 0 (λ z. omega arith) ∙ s .rest i (omega arith) }
+
 -- ---- an array of eight that is filled from its start
 
 pub record Eight (f : ℕ → ℕ) (n : ℕ) (l : List ℕ) (j : ℕ) : Type 0 where

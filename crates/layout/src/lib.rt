@@ -65,6 +65,7 @@ pub fn rank_of(lengths: &[usize; 4], at: &[usize; 4], left: usize) -> usize
     r * lengths[j] + at[j]
 }
 
+// The same of arrays by value.
 pub fn rank(lengths: [usize; 4], at: [usize; 4], left: usize) -> usize
     requires { ⌜ Ranked lengths at left ⌝ }
     ensures { λ r. ⌜ r ≡ rank (nth lengths) (nth at) left ⌝ }
@@ -75,7 +76,7 @@ pub fn rank(lengths: [usize; 4], at: [usize; 4], left: usize) -> usize
 // The inverse: adds the place of number n to the place `at`.
 pub fn add_place(lengths: &[usize; 4], at: &mut [usize; 4], n: usize, left: usize)
     requires { ⌜ (length (now at) ≡ 4) × Places (now lengths) (now at) left ⌝ }
-    ensures { λ _. ⌜ Placed (now (lengths .entry)) (now (at .entry)) n left (now (at .exit)) ⌝ }
+    ensures { λ _. ⌜ (length (now (at .exit)) ≡ 4) × Placed (now (lengths .entry)) (now (at .entry)) n left (now (at .exit)) ⌝ }
 {
     if left == 0 {
         return;
@@ -86,6 +87,7 @@ pub fn add_place(lengths: &[usize; 4], at: &mut [usize; 4], n: usize, left: usiz
     add_place(lengths, at, n / m, j);
 }
 
+// The same of arrays by value: the place of number n, added to `from`.
 pub fn place(lengths: [usize; 4], from: [usize; 4], n: usize, left: usize) -> [usize; 4]
     requires { ⌜ Places lengths from left ⌝ }
     ensures { λ r. ⌜ Placed lengths from n left r ⌝ }
@@ -108,6 +110,7 @@ pub fn product_of(counts: &[usize; 4], left: usize) -> usize
     r * counts[j]
 }
 
+// The same of an array by value.
 pub fn product(counts: [usize; 4], left: usize) -> usize
     requires { ⌜ Countable counts left ⌝ }
     ensures { λ r. ⌜ r ≡ product (nth counts) left ⌝ }
@@ -172,12 +175,23 @@ pub fn cell_of(nest: Nest, cell: usize) -> Cell
     }
 }
 
+// Puts a tile's place into `at`.
+pub fn put_tile(nest: Nest, sizes: Sizes, tile: usize, at: &mut [usize; 4])
+    requires { ⌜ Sized nest sizes ⌝ }
+    ensures { λ _. ⌜ (length (now (at .exit)) ≡ 4) × Has (now (at .exit)) (tilePlace nest tile) (nest .dimensions) ⌝ }
+{
+    let across = sizes.across;
+    *at = [0; 4];
+    add_place(&across, at, tile, nest.dimensions);
+}
+
 pub fn place_of_tile(nest: Nest, sizes: Sizes, tile: usize) -> [usize; 4]
     requires { ⌜ Sized nest sizes ⌝ }
     ensures { λ r. ⌜ Has r (tilePlace nest tile) (nest .dimensions) ⌝ }
 {
-    let across = sizes.across;
-    place(across, [0; 4], tile, nest.dimensions)
+    let mut at = [0; 4];
+    put_tile(nest, sizes, tile, &mut at);
+    at
 }
 
 // The tile's place of a cell's: the quotient in each dimension.
@@ -205,27 +219,27 @@ pub fn tile_of(nest: Nest, sizes: Sizes, cell: usize) -> usize
     rank(across, tile, nest.dimensions)
 }
 
-// The processor's place of a tile's: the remainder in each spread dimension.
-fn remainders(nest: Nest, at: [usize; 4]) -> [usize; 4]
-    requires { ⌜ Accepted nest ⌝ }
-    ensures { λ r. ⌜ Has r (λ j. getD at j 0 % getD (nest .counts) j 0) (nest .spread) ⌝ }
+// Makes a tile's place its processor's: the remainder in each spread dimension.
+fn remainders(nest: Nest, at: &mut [usize; 4])
+    requires { ⌜ Accepted nest × (length (now at) ≡ 4) ⌝ }
+    ensures { λ _. ⌜ Has (now (at .exit)) (λ j. getD (now (at .entry)) j 0 % getD (nest .counts) j 0) (nest .spread) ⌝ }
 {
-    let mut processor = at;
+    let counts = nest.counts;
     let n = nest.spread;
     for j in 0..n {
-        processor[j] = at[j] % nest.counts[j];
+        at[j] %= counts[j];
     }
-    processor
 }
 
 pub fn processor_of(nest: Nest, sizes: Sizes, tile: usize) -> usize
     requires { ⌜ Sized nest sizes × (tile < tiles nest) ⌝ }
     ensures { λ r. ⌜ (r ≡ processorOf nest tile) × (r < processors nest) ⌝ }
 {
-    let at = place_of_tile(nest, sizes, tile);
-    let processor = remainders(nest, at);
+    let mut at = [0; 4];
+    put_tile(nest, sizes, tile, &mut at);
+    remainders(nest, &mut at);
     let counts = nest.counts;
-    rank(counts, processor, nest.spread)
+    rank_of(&counts, &at, nest.spread)
 }
 
 // The smaller of two.
@@ -311,16 +325,19 @@ pub fn bounds_of(nest: Nest, sizes: Sizes, tile: usize) -> Bounds
     requires { ⌜ Sized nest sizes × (tile < tiles nest) ⌝ }
     ensures { λ r. ⌜ Bounded nest r × (r .tile ≡ tile) ⌝ }
 {
-    let mut corner = place_of_tile(nest, sizes, tile);
+    let ends = nest.lengths;
+    let tiling = nest.tiling;
+    let mut corner = [0; 4];
+    put_tile(nest, sizes, tile, &mut corner);
     let mut lengths = [0; 4];
     let n = nest.dimensions;
     for j in 0..n {
-        let k = nest.tiling[j];
+        let k = tiling[j];
         let first = corner[j] * k;
         corner[j] = first;
-        lengths[j] = least(k, nest.lengths[j] - first);
+        lengths[j] = least(k, ends[j] - first);
     }
-    let size = product(lengths, n);
+    let size = product_of(&lengths, nest.dimensions);
     Bounds {
         tile: tile,
         corner: corner,
@@ -335,10 +352,10 @@ pub fn cell_in(nest: Nest, bounds: Bounds, q: usize) -> Cell
     ensures { λ r. ⌜ Located nest (boxCell nest (bounds .tile) q) r ⌝ }
 {
     let inner = bounds.lengths;
-    let corner = bounds.corner;
     let lengths = nest.lengths;
-    let at = place(inner, corner, q, nest.dimensions);
-    let number = rank(lengths, at, nest.dimensions);
+    let mut at = bounds.corner;
+    add_place(&inner, &mut at, q, nest.dimensions);
+    let number = rank_of(&lengths, &at, nest.dimensions);
     Cell {
         number: number,
         place: at,
@@ -364,15 +381,25 @@ pub fn next_place(lengths: [usize; 4], from: [usize; 4], at: [usize; 4], left: u
     next_place(lengths, from, next, j)
 }
 
-// The place that a slot's parcel is bound for: its tile's, moved by its direction.
+// Puts the place that a slot's parcel is bound for into `at`: its tile's, moved by its direction.
+pub fn put_bound(nest: Nest, sizes: Sizes, slot: usize, at: &mut [usize; 4])
+    requires { ⌜ Sized nest sizes × (slot < slots nest) ⌝ }
+    ensures { λ _. ⌜ Has (now (at .exit)) (bound nest slot) (nest .dimensions) ⌝ }
+{
+    let two = [2; 4];
+    let tile = slot / sizes.directions;
+    let direction = slot % sizes.directions + 1;
+    put_tile(nest, sizes, tile, at);
+    add_place(&two, at, direction, nest.spread);
+}
+
 pub fn bound_for(nest: Nest, sizes: Sizes, slot: usize) -> [usize; 4]
     requires { ⌜ Sized nest sizes × (slot < slots nest) ⌝ }
     ensures { λ r. ⌜ Has r (bound nest slot) (nest .dimensions) ⌝ }
 {
-    let tile = slot / sizes.directions;
-    let direction = slot % sizes.directions + 1;
-    let at = place_of_tile(nest, sizes, tile);
-    place([2; 4], at, direction, nest.spread)
+    let mut at = [0; 4];
+    put_bound(nest, sizes, slot, &mut at);
+    at
 }
 
 // The tile at an end of a slot: 0 the sender, else the taker.
@@ -383,9 +410,10 @@ pub fn end_of(nest: Nest, sizes: Sizes, slot: usize, side: usize) -> usize
     if side == 0 {
         return slot / sizes.directions;
     }
-    let to = bound_for(nest, sizes, slot);
     let across = sizes.across;
-    rank(across, to, nest.dimensions)
+    let mut to = [0; 4];
+    put_bound(nest, sizes, slot, &mut to);
+    rank_of(&across, &to, nest.dimensions)
 }
 
 // How far the taker is from the sender in a direction: the same from every tile.

@@ -26,7 +26,7 @@ add-place-below t =
 add-place-returns :
     (t : ℕ) →
     add-place-lts.Need-returns (add-place-below t, add-place.Post) (add-place-at t) add-place.Post
-add-place-returns t c = placed-none _ _ _ _ (c .if1 .taken)
+add-place-returns t c = (c .before .pre .1 .0, placed-none _ _ _ _ (c .if1 .taken))
 
 add-place-sub-j :
     (t : ℕ) →
@@ -89,7 +89,7 @@ add-place-returns-2 :
     (add-place-below t, add-place.Post)
     (add-place-at t)
     add-place.Post
-add-place-returns-2 t c = placed-more _ _ _ _ _ (c .before .before .before .before .if1 .left) (omega arith) (c .add-place .ensures)
+add-place-returns-2 t c = (c .add-place .ensures .0, placed-more _ _ _ _ _ (c .before .before .before .before .if1 .left) (omega arith) (c .add-place .ensures .1))
 
 pub +add-place-spec : {M : Type 1} → statement M
 +add-place-spec =

@@ -8,22 +8,22 @@ use Rattle.layout.proofs.bounds_of.Statement.{statement}
 use Rattle.layout.proofs.bounds_of.Tie as tie
 
 abbrev Inv-loop : tie.InvT-loop
-Inv-loop tile nest corner₀ lengths₀ n j₀ corner lengths j = Boxing nest tile corner lengths j
+Inv-loop nest tile ends tiling corner₀ lengths₀ n j₀ corner lengths j = Boxing nest tile corner lengths j
 
 abbrev μ-loop : tie.MeasureT-loop
-μ-loop tile nest corner₀ lengths₀ n j₀ corner lengths j = n - j
+μ-loop nest tile ends tiling corner₀ lengths₀ n j₀ corner lengths j = n - j
 
-place-of-tile-requires : tie.Need-place-of-tile-requires Inv-loop μ-loop
-place-of-tile-requires c κs = c .pre .0
+put-tile-requires : tie.Need-put-tile-requires Inv-loop μ-loop
+put-tile-requires c κs = c .before .before .before .pre .0
 
 loop-holds : tie.Need-loop-holds Inv-loop μ-loop
-loop-holds c = boxing-none _ (c .before .pre .0 .accepted) _ _ _ (c .place-of-tile .ensures) (omega arith) refl
+loop-holds c = boxing-none _ (c .before .before .before .before .pre .0 .accepted) _ _ _ (c .put-tile .ensures .1) (c .put-tile .ensures .0) refl
 
 mul-k : tie.Need-mul-k Inv-loop μ-loop
 mul-k c = search needs
 
-element-copy-out-k : tie.Need-element-copy-out-k Inv-loop μ-loop
-element-copy-out-k c = search needs
+array-read-k : tie.Need-array-read-k Inv-loop μ-loop
+array-read-k c = search needs
 
 mul-first : tie.Need-mul-first Inv-loop μ-loop
 mul-first c = search needs
@@ -32,7 +32,7 @@ array-read-first : tie.Need-array-read-first Inv-loop μ-loop
 array-read-first c = search needs
 
 mul-first-2 : tie.Need-mul-first-2 Inv-loop μ-loop
-mul-first-2 c = record { fits = omega (arith, boxing-low _ (c .before .before .before .before .pre .0 .accepted) _ _ _ _ (c .before .before .loop .inv) (c .before .loop-test .taken), c .before .before .before .before .pre .0 .accepted .length-most (c .before .before .loop .j)) }
+mul-first-2 c = record { fits = omega (arith, boxing-low _ (c .before .before .before .before .before .before .pre .0 .accepted) _ _ _ _ (c .before .loop .inv) (c .loop-test .taken), c .before .before .before .before .before .before .pre .0 .accepted .length-most (c .before .loop .j)) }
 
 mul-corner : tie.Need-mul-corner Inv-loop μ-loop
 mul-corner c = search needs
@@ -43,11 +43,11 @@ array-write-corner c = search needs
 mul-least : tie.Need-mul-least Inv-loop μ-loop
 mul-least c = search needs
 
-element-copy-out-least : tie.Need-element-copy-out-least Inv-loop μ-loop
-element-copy-out-least c = search needs
+array-read-least : tie.Need-array-read-least Inv-loop μ-loop
+array-read-least c = search needs
 
 sub-least : tie.Need-sub-least Inv-loop μ-loop
-sub-least c = omega (arith, boxing-low _ (c .before .before .before .before .before .pre .0 .accepted) _ _ _ _ (c .before .before .before .loop .inv) (c .before .before .loop-test .taken))
+sub-least c = omega (arith, boxing-low _ (c .before .before .before .before .before .before .pre .0 .accepted) _ _ _ _ (c .before .loop .inv) (c .loop-test .taken))
 
 least-requires : tie.Need-least-requires Inv-loop μ-loop
 least-requires c κs = search needs
@@ -65,13 +65,13 @@ loop-less : tie.Need-loop-less Inv-loop μ-loop
 loop-less c = search needs
 
 loop-again : tie.Need-loop-again Inv-loop μ-loop
-loop-again c = boxing-more _ (c .before .before .before .before .before .before .pre .0 .accepted) _ _ _ _ (c .before .before .before .before .loop .inv) (c .before .before .before .loop-test .taken) _ (c .least .ensures)
+loop-again c = boxing-more _ (c .before .before .before .before .before .before .before .pre .0 .accepted) _ _ _ _ (c .before .before .loop .inv) (c .before .loop-test .taken) _ (c .least .ensures)
 
-product-requires : tie.Need-product-requires Inv-loop μ-loop
-product-requires c κs = boxing-countable _ (c .before .before .before .pre .0 .accepted) _ _ _ _ (c .before .loop .inv) (omega arith) (c .before .before .before .pre .1)
+product-of-requires : tie.Need-product-of-requires Inv-loop μ-loop
+product-of-requires c κs = boxing-countable _ (c .before .before .before .before .before .before .before .pre .0 .accepted) _ _ _ _ (c .before .before .loop .inv) (omega arith) (c .before .before .before .before .before .before .before .pre .1)
 
 returns : tie.Need-returns Inv-loop μ-loop
-returns c = (boxing-end _ (c .before .before .before .before .pre .0 .accepted) _ _ _ _ (c .before .before .loop .inv) (omega arith) (c .before .before .before .before .pre .1) _ (c .product .ensures), refl)
+returns c = (boxing-end _ (c .before .before .before .before .before .before .before .before .pre .0 .accepted) _ _ _ _ (c .before .before .before .loop .inv) (omega arith) (c .before .before .before .before .before .before .before .before .pre .1) _ (c .product-of .ensures), refl)
 
 pub bounds-of-spec : {M : Type 1} → statement M
 bounds-of-spec =
@@ -79,17 +79,17 @@ bounds-of-spec =
     (tie.spec
     Inv-loop
     μ-loop
-    place-of-tile-requires
+    put-tile-requires
     loop-holds
     mul-k
-    element-copy-out-k
+    array-read-k
     mul-first
     array-read-first
     mul-first-2
     mul-corner
     array-write-corner
     mul-least
-    element-copy-out-least
+    array-read-least
     sub-least
     least-requires
     mul-lengths
@@ -97,5 +97,5 @@ bounds-of-spec =
     add-j
     loop-less
     loop-again
-    product-requires
+    product-of-requires
     returns)
