@@ -1,5 +1,4 @@
 -- `table::fill` meets its contract: the lengths of the first tiles' parcels are in the table.
-use borrow.Author.Needs.{needs}
 use native.Mathlib.Omega.{arith}
 use Prim.Native.Nat.{_-_, _*_}
 use native.Mathlib.Nat.{zero-mul, mul-le-mul-right}

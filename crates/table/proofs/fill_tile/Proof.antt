@@ -1,5 +1,4 @@
 -- `table::fill_tile` meets its contract: the lengths of the first v slots of the tile are in the table too.
-use borrow.Author.Needs.{needs}
 use native.Mathlib.Omega.{arith}
 use Prim.Native.Nat.{_+_, _-_, _*_, _≤_}
 use native.Mathlib.Nat.{add-zero, add-assoc}
