@@ -2,8 +2,8 @@
 use Prim.Native.Nat.{ℕ, zero, suc, _+_, _*_, _-_, _/_, _≤_, _<_, min}
 use mathlib.Core.Path.{_≡_, refl, sym, ap, _∙_}
 use mathlib.Core.Logic.{_⊎_, inl, inr}
-use mathlib.Core.Bool.{Bool, true, false}
-use mathlib.Core.List.{List, [], _∷_, _++_, append-nil}
+use mathlib.Core.Bool.{true, false}
+use mathlib.Core.List.{List, []}
 use native.Mathlib.Nat.{eq-or-lt-of-le, suc-mul, mul-le-mul-right, zero-mul, add-zero, add-assoc}
 use native.Mathlib.Numerals.{add-one}
 use native.Mathlib.Decide.{decLt}
@@ -37,7 +37,7 @@ use Rattle.parcels.specs.declared.Sending.{Sending}
 use Rattle.parcels.specs.declared.Row.{Row}
 use Rattle.parcels.specs.Windows.{Windowed, Ends, Run, RowEnds, PackedTo}
 use Rattle.parcels.specs.Sendings.{carries, Unchanged, Alike, Sends, RowAt}
-use Rattle.parcels.proofs.Windows.{insideAt, tileAt, carry-yes, carry-no, row-ends, run-all, run-rest, measure-run, unpack-run}
+use Rattle.parcels.proofs.Windows.{insideAt, tileAt, carry-yes, carry-no, row-ends, run-rest, measure-run, unpack-run}
 
 -- ---- where the carry test stays as it is
 

@@ -2,7 +2,7 @@
 use Prim.Native.Nat.{ℕ, zero, suc, _+_, _*_, _-_, _/_, _%_, _≤_, _<_, min}
 use mathlib.Core.Path.{_≡_, refl, sym, ap, _∙_}
 use mathlib.Core.Logic.{_⊎_, inl, inr}
-use mathlib.Core.Bool.{Bool, true, false}
+use mathlib.Core.Bool.{Bool, true}
 use mathlib.Core.List.{List, [], _∷_, map}
 use native.Mathlib.Nat.{mul-add-div-right, mul-add-mod-self-right, mod-eq-of-lt, mod-lt, div-add-mod', add-mul, suc-mul, mul-assoc, mul-right-comm, mul-le-mul-right, add-assoc, eq-or-lt-of-le}
 use native.Mathlib.Decide.{decLt}
@@ -10,7 +10,7 @@ use native.Mathlib.Omega.{arith}
 use lib.ListN.{length, getD}
 use lib.Dec.{ltb, leb, eqb}
 use borrow.Author.Tests.{lt-ltb, ltb-true, leb-true, eq-eqb, eqb-true}
-use Rattle.base.specs.Tests.{_and_, every, some, keep, product}
+use Rattle.base.specs.Tests.{_and_, every, keep, product}
 use Rattle.base.proofs.Tests.{both, same-test}
 use Rattle.base.proofs.Select.{keep-same}
 use Rattle.nest.specs.declared.Nest.{Nest}
@@ -21,7 +21,7 @@ use Rattle.plan.specs.Messages.{ahead, reaches, parcel}
 use Rattle.plan.specs.Box.{boxLength, boxSize, boxPlace, boxCell}
 use Rattle.plan.proofs.Rank.{Positive, place-low, place-last, place-before}
 use Rattle.plan.proofs.Tiles.{tileCount-pos}
-use Rattle.plan.proofs.Box.{quotient-is, boxHit, boxParcel, boxLength-pos, boxLength-most, boxCell-place, parcel-box}
+use Rattle.plan.proofs.Box.{quotient-is, boxHit, boxLength-pos, boxLength-most, boxCell-place, parcel-box}
 use Rattle.layout.specs.Places.{nth, Has}
 use Rattle.parcels.specs.Twins.{Twin}
 use Rattle.layout.proofs.Dims.{product-same, product-pos, place-lengths}

@@ -1,13 +1,12 @@
 // Parcels in code: the window that a moved cell has to come into, a parcel's length, packing, unpacking.
 ghost use mathlib.Core.Path.{_≡_};
-ghost use Prim.Native.Nat.{ℕ, _+_, _*_, _-_, _/_, min, _≤_, _<_};
+ghost use Prim.Native.Nat.{ℕ, _+_, _*_, _-_, min, _≤_, _<_};
 ghost use lib.ListN.{length, getD};
 ghost use lib.Dec.{eqb, leb, ltb};
-ghost use Rattle.base.specs.Tests.{_and_, pick, some, product};
+ghost use Rattle.base.specs.Tests.{_and_, pick, some};
 ghost use Rattle.base.specs.Lists.{part, pack, unpack};
 ghost use Rattle.nest.proofs.Accepted.{Accepted};
-ghost use Rattle.nest.specs.Nest.{component, cells, tiles};
-ghost use Rattle.plan.specs.Geometry.{rank};
+ghost use Rattle.nest.specs.Nest.{cells, tiles};
 ghost use Rattle.plan.specs.Messages.{slots, slotParcel};
 ghost use Rattle.layout.specs.Sizes.{Sized};
 ghost use Rattle.layout.specs.Places.{Has, Bounded, bound};

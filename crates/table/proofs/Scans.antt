@@ -4,6 +4,7 @@ use mathlib.Core.Path.{_≡_, refl, sym, ap, _∙_, subst}
 use mathlib.Core.Logic.{_⊎_, inl, inr, _≢_, ⊎-elim}
 use mathlib.Core.List.{List, [], _∷_}
 use native.Mathlib.Nat.{eq-or-lt-of-le, mul-le-mul-right, mul-add-div-right, mul-add-mod-self-right, div-eq-of-lt, mod-eq-of-lt, mod-lt, suc-mul, div-add-mod'}
+use native.Mathlib.Numerals.{add-one}
 use native.Mathlib.Omega.{arith}
 use lib.ListN.{length, getD, set, length-append, length-set}
 use lib.Seq.{getD-set-same, getD-set-other}
@@ -17,6 +18,7 @@ use Rattle.plan.specs.Messages.{two, directions, parcel, slots, slotParcel, slo
 use Rattle.plan.proofs.Slots.{total, total-append, total-one, slotParcel-few, step-none, step-one, at-number, number-low, offset-is, room-is}
 use Rattle.layout.specs.declared.Sizes.{Sizes}
 use Rattle.layout.specs.Sizes.{Sized, endAt}
+use Rattle.layout.proofs.Cells.{directions-pos}
 use Rattle.parcels.specs.Twins.{Twin}
 use Rattle.table.specs.Table.{Table, Filling, Summing, Placed, endOf}
 
@@ -63,6 +65,9 @@ module _ (n : Nest) (z : Sizes) (h : Sized n z) where
   pub over : (s : ℕ) → z .tiles * z .directions ≤ s → slots n ≤ s
   over s q = rw slots-are at q
 
+  pub under-tiles : (t : ℕ) → t < z .tiles → t < tiles n
+  under-tiles t q = rw (h .tiles) at q
+
 -- ---- the table
 
 pub fill-start : (n : Nest) (lens : List ℕ) → length lens ≡ 7168 → Filling n lens 0
@@ -89,23 +94,30 @@ filled n lens s f h = record { long = f .long; each = λ i l. f .each i (omega (
 
 -- ---- a slot of a tile that another stands for
 
-pub twin-slot : (n : Nest) → 1 ≤ directions n → (s r : ℕ) → Twin n (s / directions n) r → r < s / directions n
-    → (r * directions n + s % directions n < s) × (length (slotParcel n (r * directions n + s % directions n)) ≡ length (slotParcel n s))
-unfolding slotParcel
-twin-slot n p s r t l =
-    let k : ℕ = directions n in
-    let m : s % directions n < directions n = mod-lt s p in
-    let q : (r * directions n + s % directions n) / directions n ≡ r = omega (arith, mul-add-div-right {m = directions n} p r (s % directions n), div-eq-of-lt m) in
-    let z : (r * directions n + s % directions n) % directions n ≡ s % directions n = mul-add-mod-self-right r (directions n) (s % directions n) ∙ mod-eq-of-lt m in (
-      omega (arith, mul-le-mul-right (directions n) l, suc-mul r (directions n), div-add-mod' s (directions n)),
-      ap (λ (a : ℕ). length (parcel n a ((r * directions n + s % directions n) % directions n + 1))) q
-          ∙ ap (λ (a : ℕ). length (parcel n r (a + 1))) z
-          ∙ sym (t .same (s % directions n + 1)),
-    )
+module _ (n : Nest) (ok : Accepted n) (d : ℕ) (e : d ≡ directions n) (v : ℕ) (l : v < d) where
+  way-low : v < directions n
+  way-low = rw e at l
 
-pub twin-at : (n : Nest) → 1 ≤ directions n → (d s r : ℕ) → d ≡ directions n → Twin n (s / d) r → r < s / d
-    → (r * d + s % d < s) × (length (slotParcel n (r * d + s % d)) ≡ length (slotParcel n s))
-twin-at n p d s r e t l = rw e (twin-slot n p s r (rw e at t) (rw e at l))
+  slot-tile : (t : ℕ) → (t * directions n + v) / directions n ≡ t
+  slot-tile t = omega (arith, mul-add-div-right {m = directions n} (directions-pos n ok) t v, div-eq-of-lt way-low)
+
+  slot-way : (t : ℕ) → (t * directions n + v) % directions n ≡ v
+  slot-way t = mul-add-mod-self-right t (directions n) v ∙ mod-eq-of-lt way-low
+
+  slot-length : (t : ℕ) → length (slotParcel n (t * directions n + v)) ≡ length (parcel n t (v + 1))
+  unfolding slotParcel
+  slot-length t = ap (λ (a : ℕ). length (parcel n a ((t * directions n + v) % directions n + 1))) (slot-tile t) ∙ ap (λ (a : ℕ). length (parcel n t (a + 1))) (slot-way t)
+
+  pub slot-under : (t : ℕ) → t < tiles n → t * d + v < slots n
+  slot-under t h = omega (arith, ap (λ (a : ℕ). tiles n * a) e, mul-le-mul-right d h, suc-mul t d)
+
+  pub twin-slot : (t r : ℕ) → Twin n t r → r < t → (r * d + v < t * d + v) × (length (slotParcel n (r * d + v)) ≡ length (slotParcel n (t * d + v)))
+  twin-slot t r w h =
+      (omega (arith, mul-le-mul-right d h, suc-mul r d), rw e (slot-length r ∙ sym (w .same (v + 1)) ∙ sym (slot-length t)))
+
+-- a tile more
+pub tile-next : (t d v : ℕ) → v ≡ d → t * d + v ≡ (t + 1) * d
+tile-next t d v e = rw (add-one t, e) (sym (suc-mul t d))
 
 -- ---- numbers and offsets by a scan over the slots
 

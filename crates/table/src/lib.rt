@@ -1,6 +1,6 @@
 // The table of message lengths, filled once in a call: numbers, offsets and totals are scans of it, sends and dues one slot in each direction.
 ghost use mathlib.Core.Path.{_≡_};
-ghost use Prim.Native.Nat.{ℕ, _≤_, _<_};
+ghost use Prim.Native.Nat.{ℕ, _+_, _*_, _≤_, _<_};
 ghost use lib.ListN.{length, getD};
 ghost use Rattle.machine.specs.Plan.{count, words, tilesOf};
 ghost use Rattle.nest.proofs.Accepted.{Accepted};
@@ -8,6 +8,7 @@ ghost use Rattle.nest.specs.Nest.{tiles};
 ghost use Rattle.plan.specs.Messages.{directions, slots, slotParcel, planOf};
 ghost use Rattle.plan.specs.Rows.{refused};
 ghost use Rattle.layout.specs.Sizes.{Sized, Stepped};
+ghost use Rattle.parcels.specs.Twins.{Twin};
 ghost use Rattle.table.specs.Table.{Table, Filling, Summing, Only, Ends, Placed, atEnd, countBelow};
 ghost use Rattle.table.specs.Summary.{answered, figuresOf, summaryOf, lineOf, noLine, messageLineOf};
 use layout::Sizes;
@@ -45,18 +46,38 @@ pub struct MessageLine {
     pub words: u32,
 }
 
-// The length of slot s's parcel, those before it being in the table: its tile's twin may have it.
-fn slot_length(nest: Nest, sizes: Sizes, lens: &[u16; 7168], s: usize) -> usize
-    requires { ⌜ Sized nest sizes × ((s < slots nest) × Filling nest (now lens) s) ⌝ }
-    ensures { λ r. ⌜ (r ≡ length (slotParcel nest s)) × (r ≤ 16384) ⌝ }
+// The length of the parcel in the v-th slot of a tile, those of the slots before being in the table: its twin may have it.
+fn slot_length(
+    nest: Nest,
+    sizes: Sizes,
+    lens: &[u16; 7168],
+    tile: usize,
+    twin: usize,
+    v: usize,
+) -> usize
+    requires { ⌜ Sized nest sizes × ((tile < tiles nest) × ((v < sizes .directions) × (Twin nest tile twin × Filling nest (now lens) (tile * sizes .directions + v)))) ⌝ }
+    ensures { λ r. ⌜ (r ≡ length (slotParcel nest (tile * sizes .directions + v))) × (r ≤ 16384) ⌝ }
 {
     let n = sizes.directions;
-    let tile = s / n;
-    let twin = parcels::twin_of(nest, sizes, tile);
     if twin < tile {
-        return lens[twin * n + s % n] as usize;
+        return lens[twin * n + v] as usize;
     }
-    parcels::parcel_length(nest, sizes, s)
+    parcels::parcel_length(nest, sizes, tile * n + v)
+}
+
+// The lengths of a tile's parcels, those of the tiles before being in the table.
+fn fill_tile(nest: Nest, sizes: Sizes, lens: &mut [u16; 7168], tile: usize)
+    requires { ⌜ Sized nest sizes × ((tile < tiles nest) × Filling nest (now lens) (tile * sizes .directions)) ⌝ }
+    ensures { λ _. ⌜ Filling nest (now (lens .exit)) ((tile + 1) * sizes .directions) ⌝ }
+{
+    let n = sizes.directions;
+    let twin = parcels::twin_of(nest, sizes, tile);
+    let first = tile * n;
+    let mut v = 0;
+    while v < n {
+        lens[first + v] = slot_length(nest, sizes, lens, tile, twin, v) as u16;
+        v += 1;
+    }
 }
 
 // The length of each slot's parcel.
@@ -64,11 +85,11 @@ pub fn fill(nest: Nest, sizes: Sizes, lens: &mut [u16; 7168])
     requires { ⌜ Sized nest sizes × (length (now lens) ≡ 7168) ⌝ }
     ensures { λ _. ⌜ Table nest (now (lens .exit)) ⌝ }
 {
-    let slots = sizes.tiles * sizes.directions;
-    let mut s = 0;
-    while s < slots {
-        lens[s] = slot_length(nest, sizes, lens, s) as u16;
-        s += 1;
+    let tiles = sizes.tiles;
+    let mut tile = 0;
+    while tile < tiles {
+        fill_tile(nest, sizes, lens, tile);
+        tile += 1;
     }
 }
 

@@ -1,5 +1,4 @@
 -- `parcels::parcel_length` meets its contract: the parcel's cells among the first r rows of the box are counted.
-use borrow.Author.Needs.{needs}
 use native.Mathlib.Omega.{arith}
 use Prim.Native.Nat.{_-_, _*_}
 use native.Mathlib.Nat.{zero-mul}

@@ -1,7 +1,7 @@
 -- `parcels::rows_alike` meets its contract: so many rows are alike for the first e distances.
 use borrow.Author.Needs.{needs}
 use native.Mathlib.Omega.{arith}
-use Prim.Native.Nat.{_+_, _-_, _*_}
+use Prim.Native.Nat.{_-_}
 use mathlib.Core.Path.{refl}
 use Rattle.parcels.proofs.Windows.{given-few}
 use Rattle.parcels.proofs.Alike.{tile-end, Steady, steady-none, steady-more, steady-end}

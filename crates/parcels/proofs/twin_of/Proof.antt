@@ -1,6 +1,6 @@
 -- `parcels::twin_of` meets its contract: the dimensions from `left` on allow no tile back.
 use native.Mathlib.Omega.{arith}
-use Prim.Native.Nat.{_+_, _-_, _*_}
+use Prim.Native.Nat.{_-_}
 use mathlib.Core.Path.{sym, _∙_}
 use native.Mathlib.Nat.{mod-lt}
 use lib.ListN.{getD}

@@ -3,7 +3,7 @@ use borrow.Author.Needs.{needs}
 use native.Mathlib.Omega.{arith}
 use Prim.Native.Nat.{_-_, _*_}
 use native.Mathlib.Nat.{zero-mul}
-use mathlib.Core.Path.{refl, sym, ap, _∙_}
+use mathlib.Core.Path.{refl, ap}
 use lib.ListN.{length}
 use Rattle.layout.proofs.Walks.{Unpacking, unpacking-none, unpacking-long, unpacked, parcel-is, parcel-few}
 use Rattle.layout.proofs.Rows.{rows-end}

@@ -1,69 +1,37 @@
-use Prim.Native.Nat.{_-_}
+-- `table::fill` meets its contract: the lengths of the first tiles' parcels are in the table.
 use native.Mathlib.Omega.{arith}
+use Prim.Native.Nat.{_-_, _*_}
+use native.Mathlib.Nat.{zero-mul, mul-le-mul-right}
+use Rattle.table.specs.Table.{Filling}
 use Rattle.table.proofs.Scans as L
 use Rattle.table.proofs.fill.Statement.{statement}
 use Rattle.table.proofs.fill.Tie as tie
-use Rattle.table.proofs.fill.Reads as reads
-use Rattle.table.proofs.fill.Lts as lts
-use Rattle.table.specs.Table.{Filling}
 
 abbrev Inv-loop : tie.InvT-loop
-Inv-loop nest sizes lens₀ slots s₀ lens s = Filling nest lens s
+Inv-loop nest sizes lens₀ tiles tile₀ lens tile = Filling nest lens (tile * sizes .directions)
 
 abbrev μ-loop : tie.MeasureT-loop
-μ-loop nest sizes lens₀ slots s₀ lens s = slots - s
-
-mul-slots : tie.Need-mul-slots Inv-loop μ-loop
-mul-slots c = omega (arith, L.slots-small (c .before .args .nest) (c .before .args .sizes) (c .before .pre .0))
+μ-loop nest sizes lens₀ tiles tile₀ lens tile = tiles - tile
 
 loop-holds : tie.Need-loop-holds Inv-loop μ-loop
-loop-holds c = L.fill-start (c .before .args .nest) _ (c .before .pre .1)
+loop-holds c = rw (zero-mul (c .args .sizes .directions)) (L.fill-start _ _ (c .pre .1))
 
-slot-length-requires : tie.Need-slot-length-requires Inv-loop μ-loop
-slot-length-requires c κs =
-    let start = c .before .before .before .before in
-    (start .pre .0, (L.under (start .args .nest) (start .args .sizes) (start .pre .0) (c .before .before .loop .s) (c .before .loop-test .taken), c .before .before .loop .inv))
+fill-tile-requires : tie.Need-fill-tile-requires Inv-loop μ-loop
+fill-tile-requires c κs = (c .before .before .before .pre .0, (L.under-tiles _ _ (c .before .before .before .pre .0) _ (c .before .loop-test .taken), c .before .before .loop .inv))
 
-cast-lens : tie.Need-cast-lens Inv-loop μ-loop
-cast-lens c = omega (arith, c .slot-length .ensures .1)
-
-mul-lens : tie.Need-mul-lens Inv-loop μ-loop
-mul-lens c = omega (arith, L.slots-small (c .before .before .before .before .before .args .nest) (c .before .before .before .before .before .args .sizes) (c .before .before .before .before .before .pre .0), c .before .before .loop-test .taken)
-
-element-write-lens : tie.Need-element-write-lens Inv-loop μ-loop
-element-write-lens c = omega (arith, L.slots-small (c .before .before .before .before .before .args .nest) (c .before .before .before .before .before .args .sizes) (c .before .before .before .before .before .pre .0), c .before .before .loop-test .taken, c .before .before .before .loop .inv .long)
-
-add-s : tie.Need-add-s Inv-loop μ-loop
-add-s c = omega (arith, L.slots-small (c .before .before .before .before .before .args .nest) (c .before .before .before .before .before .args .sizes) (c .before .before .before .before .before .pre .0), c .before .before .loop-test .taken)
+add-tile : tie.Need-add-tile Inv-loop μ-loop
+add-tile c = omega (arith, c .before .before .loop-test .taken, c .before .before .before .before .pre .0 .tiles, c .before .before .before .before .pre .0 .accepted .tiles-most)
 
 loop-less : tie.Need-loop-less Inv-loop μ-loop
-loop-less c = omega arith
+loop-less c = omega (arith, c .before .before .loop-test .taken)
 
 loop-again : tie.Need-loop-again Inv-loop μ-loop
-loop-again c =
-    let start = c .before .before .before .before .before in
-    let turn = c .before .before .before .loop in
-    L.fill-turn (start .args .nest) (turn .lens) (turn .s) (c .slot-length .result) (turn .inv) (L.under (start .args .nest) (start .args .sizes) (start .pre .0) (turn .s) (c .before .before .loop-test .taken)) (L.slots-few (start .args .nest) (start .pre .0 .accepted)) (c .slot-length .ensures .0)
+loop-again c = c .fill-tile .ensures
 
 returns : tie.Need-returns Inv-loop μ-loop
-returns c =
-    let start = c .before .before .before in
-    let turn = c .before .loop in
-    L.filled (start .args .nest) (turn .lens) (turn .s) (turn .inv) (L.over (start .args .nest) (start .args .sizes) (start .pre .0) (turn .s) (c .loop-test .left))
+returns c = L.filled _ _ _ (c .before .loop .inv) (L.over _ _ (c .before .before .pre .0) _ (mul-le-mul-right (c .before .before .args .sizes .directions) (c .loop-test .left)))
 
 pub fill-spec : {M : Type 1} → statement M
 fill-spec =
     tie.close
-    (tie.spec
-    Inv-loop
-    μ-loop
-    mul-slots
-    loop-holds
-    slot-length-requires
-    cast-lens
-    mul-lens
-    element-write-lens
-    add-s
-    loop-less
-    loop-again
-    returns)
+    (tie.spec Inv-loop μ-loop loop-holds fill-tile-requires add-tile loop-less loop-again returns)
