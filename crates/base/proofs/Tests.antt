@@ -1,10 +1,10 @@
 -- Laws of the tests: `and`, `or`, `not`, `pick`, `every`, `some`, `sum`, `tabulate`.
-use Prim.Native.Nat.{ℕ, zero, suc, _+_, _*_, _-_, _≤_, _<_}
+use Prim.Native.Nat.{ℕ, zero, suc, _+_, _*_, _≤_, _<_}
 use mathlib.Core.Path.{_≡_, refl, sym, ap, _∙_}
 use mathlib.Core.Logic.{_⊎_, inl, inr, _≢_}
 use mathlib.Core.Bool.{Bool, true, false, false≢true, true≢false}
-use mathlib.Core.List.{List, [], _∷_, _++_}
-use native.Mathlib.Nat.{eq-or-lt-of-le, le-of-suc-le-suc, suc-mul, zero-mul, mul-zero}
+use mathlib.Core.List.{[], _∷_, _++_}
+use native.Mathlib.Nat.{eq-or-lt-of-le, le-of-suc-le-suc, suc-mul, zero-mul}
 use native.Mathlib.Omega.{arith}
 use native.Mathlib.Decide.{decLt}
 use lib.ListN.{length, getD, length-append, List·getD-append}
@@ -115,11 +115,6 @@ pub one-false : {t : Bool} → t ≡ false → one t ≡ 0
 unfolding one
 one-false {t = true} e = absurd (true≢false e)
 one-false {t = false} e = refl
-
-pub one-most : (t : Bool) → one t ≤ 1
-unfolding one
-one-most true = omega arith
-one-most false = omega arith
 
 module _ (f : ℕ → Bool) where
   pub every-at : (n : ℕ) → every f n ≡ true → (i : ℕ) → i < n → f i ≡ true

@@ -12,10 +12,10 @@ use Rattle.base.specs.Tests.{not}
 use Rattle.base.specs.Numbers.{Line, line, firstOf}
 use Rattle.base.proofs.Tests.{not-true, true-not}
 use Rattle.base.proofs.Numbers.{first-false, none-first, first-some, first-behind}
-use Rattle.machine.specs.Machine.{State, stateOf, answered, carryOut, nextAction, turnLines, turn, deliverLines, deliver, collectLines, collected, collect, fresh}
+use Rattle.machine.specs.Machine.{State, stateOf, answered, carryOut, nextAction, turnLines, turn, deliverLines, deliver, collectLines, collected, collect}
 use Rattle.nest.specs.Nest.{readLines}
-use Rattle.engine.specs.Calls.{answer, recipe, areas, areaLines, freshCall, turnCall, deliverCall, collectCall}
-use Rattle.engine.proofs.Lines.{numbered, and-right, call-done}
+use Rattle.engine.specs.Calls.{recipe, areas, areaLines, freshCall, turnCall, deliverCall, collectCall}
+use Rattle.engine.proofs.Lines.{numbered, and-right}
 
 module _ (l source : List ℕ) (s : State) (z : firstOf (readLines l) ≡ 0) (a : areas (recipe l) source s ≡ true) where
   behind : (more : List Line) → firstOf (readLines l ++ (areaLines (recipe l) source s ++ more)) ≡ firstOf more
@@ -38,10 +38,6 @@ module _ (l source : List ℕ) (s : State) (z : firstOf (readLines l) ≡ 0) (a 
       ap (λ (t : Bool). answered (firstOf (readLines l ++ (line 9 (not t) ∷ collectLines (recipe l) s))) (collected (recipe l) s) grid)
       (and-right (areas (recipe l) source s) (eqb (length grid) (recipe l .cells)) (eq-eqb _ _ h))
       ∙ ap (λ (n : ℕ). answered n (collected (recipe l) s) grid) (behind (collectLines (recipe l) s))
-
-  pub fresh-is : freshCall l source s ≡ answer 0 (fresh (recipe l))
-  unfolding freshCall firstOf
-  fresh-is = sym (call-done l (areaLines (recipe l) source s) 0 (fresh (recipe l)) s z (first-false 9 (not (areas (recipe l) source s)) [] (not-true a)))
 
 front : (a b : List Line) → firstOf (a ++ b) ≡ 0 → firstOf a ≡ 0
 front a b e = go (ℕ-discrete (firstOf a) 0)

@@ -1,7 +1,6 @@
 pub mod Dims
 pub mod Loops
 pub mod Cells
-pub mod Walks
 pub mod Rows
 pub mod Nested
 pub mod Shares

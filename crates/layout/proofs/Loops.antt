@@ -9,8 +9,8 @@ use native.Mathlib.Numerals.{add-one}
 use native.Mathlib.Omega.{arith}
 use lib.ListN.{length, getD, set, length-set}
 use lib.Seq.{getD-set-same, getD-set-other}
-use Rattle.base.specs.Tests.{_and_, every, some}
-use Rattle.base.proofs.Tests.{every-at, every-all, every-more, every-not, some-at, some-one, some-none, same-test, and-true, and-false, and-no}
+use Rattle.base.specs.Tests.{every, some}
+use Rattle.base.proofs.Tests.{every-at, every-all, every-more, some-at, some-one, some-none, same-test}
 use Rattle.layout.specs.Places.{Has}
 
 -- ---- a loop that returns false at the first number where the test fails
@@ -53,39 +53,7 @@ module _ (f : ℕ → Bool) (n : ℕ) where
   pub nowhere-end : (j : ℕ) → Nowhere f n j → n ≤ j → some f n ≡ false
   nowhere-end j s h = some-none f n (λ i k. s .none i (omega (arith, s .low)))
 
--- ---- two tests, the second over the first m numbers alone
-
-pub record Testing (f g : ℕ → Bool) (m n j : ℕ) : Type 0 where
-  pub low : j ≤ n
-  pub first : every f j ≡ true
-  pub second : (i : ℕ) → i < j → i < m → g i ≡ true
-
-module _ (f g : ℕ → Bool) (m n : ℕ) where
-  pub testing-none : Testing f g m n 0
-  unfolding every
-  testing-none = record { low = omega arith; first = refl; second = λ i h. absurd (omega arith) }
-
-  pub testing-more : (j : ℕ) → Testing f g m n j → j < n → f j ≡ true → (j < m → g j ≡ true) → Testing f g m n (j + 1)
-  testing-more j s h e k =
-      record { low = omega arith; first = rw (add-one j) (every-more f j (s .first) e); second = λ i l. go i (eq-or-lt-of-le (low i l)) }
-    where
-      low : (i : ℕ) → i < j + 1 → i ≤ j
-      low i l = omega arith
-
-      go : (i : ℕ) → (i ≡ j) ⊎ (i < j) → i < m → g i ≡ true
-      go i (inl q) l = ap g q ∙ k (omega arith)
-      go i (inr q) l = s .second i q l
-
-  pub testing-first : (j : ℕ) → j < n → f j ≡ false → false ≡ (every f n and every g m)
-  testing-first j h e = sym (and-false (every f n) (every g m) (every-not f n j h e))
-
-  pub testing-second : (j : ℕ) → j < m → g j ≡ false → false ≡ (every f n and every g m)
-  testing-second j h e = sym (and-no (every f n) (every g m) (every-not g m j h e))
-
-  pub testing-end : (j : ℕ) → Testing f g m n j → n ≤ j → m ≤ n → true ≡ (every f n and every g m)
-  testing-end j s h l =
-      let e : j ≡ n = omega (arith, s .low) in
-      sym (and-true (rw e at (s .first)) (every-all g m (λ i k. s .second i (omega arith) k)))
+-- ---- tests that agree
 
 pub every-same : (f g : ℕ → Bool) (n : ℕ) → ((i : ℕ) → i < n → f i ≡ g i) → every f n ≡ every g n
 every-same f g n h = same-test (λ e. every-all g n (λ i k. sym (h i k) ∙ every-at f n e i k)) (λ e. every-all f n (λ i k. h i k ∙ every-at g n e i k))

@@ -31,7 +31,7 @@ use Rattle.layout.specs.Rows.{rowOf, Given}
 use Rattle.layout.proofs.Dims.{product-same, place-lengths}
 use Rattle.layout.proofs.Cells.{lengths-countable, box-places, place-small}
 use Rattle.layout.proofs.Loops.{every-same}
-use Rattle.layout.proofs.Walks.{Walk, walked, Measuring, Unpacking}
+use Rattle.parcels.proofs.Walks.{Walk, walked, Measuring, Unpacking}
 use Rattle.layout.proofs.Rows.{row-before, row-last, row-low, row-start, row-next, row-count, box-all, box-few}
 use Rattle.parcels.specs.declared.Sending.{Sending}
 use Rattle.parcels.specs.declared.Row.{Row}

@@ -1,3 +1,4 @@
+pub mod Walks
 pub mod Twins
 pub mod Windows
 pub mod Alike

@@ -11,26 +11,25 @@ use native.Mathlib.Omega.{arith}
 use lib.ListN.{length, getD, take, drop, set, length-append, length-set, length-drop}
 use lib.Seq.{getD-set-same, getD-set-other, take-suc, take-suc-set, take-length, take-add, getD-drop, length-take-le}
 use lib.Dec.{ltb, leb, eqb}
-use borrow.Author.Tests.{lt-ltb, le-ltb, ltb-true, ltb-false, le-leb, lt-leb, leb-true, leb-false, eq-eqb, ne-eqb, eqb-true}
+use borrow.Author.Tests.{lt-ltb, le-ltb, ltb-true, le-leb, leb-true, eq-eqb, ne-eqb}
 use Rattle.base.specs.Tests.{_and_, _or_, pick, every, some, tabulate, product}
 use Rattle.base.specs.Lists.{part, pack, unpack}
 use Rattle.base.proofs.Tests.{both, every-at, pick-true, pick-false, some-one, some-none, and-true, and-false, and-no, or-left, never-both, same-test, every-all, every-not, length-tabulate, tabulate-at}
-use Rattle.base.proofs.Lists.{pack-length, unpack-length}
+use Rattle.base.proofs.Lists.{unpack-length}
 use Rattle.nest.specs.declared.Nest.{Nest}
 use Rattle.nest.proofs.Accepted.{Accepted}
 use Rattle.nest.specs.Nest.{lengthOf, tileLength, component, cells}
 use Rattle.plan.specs.Geometry.{place, cellPlace}
-use Rattle.plan.specs.Messages.{reaches, slots, slotDirection, slotParcel}
-use Rattle.plan.specs.Box.{boxSize, boxCell}
-use Rattle.plan.proofs.Tiles.{cellPlace-low, tilePlace-low}
-use Rattle.plan.proofs.Box.{quotient-is, quotient-least, quotient-most, boxParcel, boxParcel-none, boxParcel-few, boxCell-low}
+use Rattle.plan.specs.Messages.{reaches, slotDirection}
+use Rattle.plan.specs.Box.{boxCell}
+use Rattle.plan.proofs.Box.{quotient-is, quotient-least, quotient-most, boxParcel-none, boxParcel-few, boxCell-low}
 use Rattle.layout.specs.declared.Bounds.{Bounds}
 use Rattle.layout.specs.declared.Cell.{Cell}
-use Rattle.layout.specs.Places.{nth, Has, Located, Bounded, puts}
+use Rattle.layout.specs.Places.{nth, Located, puts}
 use Rattle.layout.specs.Rows.{rowOf, Given}
 use Rattle.parcels.specs.Windows.{Windowed, RowEnd, Ends, Run, RowEnds, PackedTo}
 use Rattle.layout.proofs.Loops.{every-same, some-same, Sofar, sofar-end, Filled, filled-end}
-use Rattle.layout.proofs.Walks.{Walk, walked, meets, Measuring, Unpacking, Searching, walked-mono, walked-hit, walked-more, walked-miss, walked-room, reach-is, parcel-is, size-few, pack-append, unpack-append}
+use Rattle.parcels.proofs.Walks.{Walk, walked, meets, Measuring, Unpacking, Searching, walked-mono, walked-hit, walked-more, walked-miss, walked-room, reach-is, pack-append, unpack-append}
 use Rattle.layout.proofs.Rows.{row-before, row-last, every-last, box-in, box-row, row-fits}
 
 -- ---- the window's test in one dimension

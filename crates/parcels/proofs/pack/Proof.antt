@@ -6,7 +6,7 @@ use native.Mathlib.Nat.{zero-mul}
 use mathlib.Core.Path.{refl, sym, ap, _∙_}
 use lib.ListN.{length}
 use Rattle.base.specs.Lists.{pack}
-use Rattle.layout.proofs.Walks.{parcel-is}
+use Rattle.parcels.proofs.Walks.{parcel-is}
 use Rattle.layout.proofs.Rows.{rows-end}
 use Rattle.parcels.specs.Windows.{PackedTo}
 use Rattle.parcels.proofs.Windows.{packed-none, packed-end}

@@ -2,13 +2,13 @@
 -- distances, nothing has changed since the cell was begun and no distance before e reads it there.
 use borrow.Author.Needs.{needs}
 use native.Mathlib.Omega.{arith}
-use Prim.Native.Nat.{_+_, _-_, _<_}
+use Prim.Native.Nat.{_-_, _<_}
 use mathlib.Core.Path.{refl, sym, _∙_}
 use lib.ListN.{length, getD}
 use lib.Dec.{ltb}
 use borrow.Author.Tests.{le-ltb}
 use Rattle.layout.proofs.Loops.{nowhere-more}
-use Rattle.layout.proofs.Walks.{Searching}
+use Rattle.parcels.proofs.Walks.{Searching}
 use Rattle.parcels.proofs.Windows.{Going, going-none, going-hit, going-miss, going-room, going-end}
 use Rattle.parcels.proofs.pack_row.Statement.{statement}
 use Rattle.parcels.proofs.pack_row.Tie as tie

@@ -3,7 +3,7 @@ use native.Mathlib.Omega.{arith}
 use Prim.Native.Nat.{_-_, _*_}
 use native.Mathlib.Nat.{zero-mul}
 use mathlib.Core.Path.{refl, sym, _∙_}
-use Rattle.layout.proofs.Walks.{Measuring, measure-none, measure-few, measured}
+use Rattle.parcels.proofs.Walks.{Measuring, measure-none, measure-few, measured}
 use Rattle.layout.proofs.Rows.{rows-end}
 use Rattle.parcels.proofs.Alike.{sends-walk, sends-far, sends-rows, measure-alike, outside-empty}
 use Rattle.parcels.proofs.parcel_length.Statement.{statement}

@@ -3,7 +3,7 @@ use borrow.Author.Needs.{needs}
 use native.Mathlib.Omega.{arith}
 use mathlib.Core.Path.{refl}
 use Rattle.layout.proofs.Cells.{ways-pos, slot-low, bound-within, count-most}
-use Rattle.layout.proofs.Walks.{walk-of}
+use Rattle.parcels.proofs.Walks.{walk-of}
 use Rattle.layout.proofs.Rows.{fewer, box-counts}
 use Rattle.parcels.proofs.Alike.{sends-of}
 use Rattle.parcels.proofs.sending_of.Statement.{statement}

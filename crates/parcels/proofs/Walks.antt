@@ -3,27 +3,24 @@ use Prim.Native.Nat.{ℕ, zero, suc, _+_, _/_, _≤_, _<_}
 use mathlib.Core.Path.{_≡_, refl, sym, ap, _∙_}
 use mathlib.Core.Logic.{_⊎_, inl, inr}
 use mathlib.Core.Bool.{Bool, true, false}
-use mathlib.Core.List.{List, [], _∷_, _++_, append-assoc, append-nil}
+use mathlib.Core.List.{List, [], _∷_, _++_}
 use native.Mathlib.Numerals.{add-one}
 use native.Mathlib.Nat.{eq-or-lt-of-le, le-of-suc-le-suc}
 use native.Mathlib.Omega.{arith}
-use lib.ListN.{length, getD, take, drop, set, length-append, length-drop}
-use lib.Seq.{drop-cons, drop-length, take-suc, take-length, set-append-seam, length-take-le}
-use Rattle.base.specs.Tests.{some}
+use lib.ListN.{length, getD, take, set, length-append}
+use lib.Seq.{take-suc, take-length, length-take-le}
 use Rattle.base.specs.Lists.{pack, unpack}
-use Rattle.base.proofs.Tests.{some-one, some-none}
-use Rattle.base.proofs.Lists.{pack-length, unpack-length}
+use Rattle.base.proofs.Lists.{unpack-length}
 use Rattle.nest.specs.declared.Nest.{Nest}
 use Rattle.nest.proofs.Accepted.{Accepted}
 use Rattle.plan.specs.Messages.{directions, reaches, slots, slotTile, slotDirection, slotParcel}
 use Rattle.plan.specs.Box.{boxSize, boxCell}
 use Rattle.plan.proofs.Parcels.{slotTile-low}
 use Rattle.plan.proofs.Box.{boxHit, boxParcel, boxParcel-none, boxParcel-hit, boxParcel-miss, boxParcel-few, parcel-box, boxSize-few}
 use Rattle.layout.specs.declared.Bounds.{Bounds}
 use Rattle.layout.specs.declared.Cell.{Cell}
 use Rattle.layout.specs.Places.{Has, Located, Bounded, bound, puts}
-use Rattle.layout.proofs.Loops.{some-same}
 use Rattle.layout.proofs.Cells.{puts-reaches}
 
 -- ---- a slot's box as the code has it
 
@@ -63,15 +60,6 @@ module _ (x : Nest) (ok : Accepted x) (s : ℕ) (b : Bounds) (to : List ℕ) (w 
     reach-is e =
         puts-reaches x ok (boxCell x (b .tile) q) (r .place) (l .place) s to (w .way) e
         ∙ ap (λ (t : ℕ). reaches x t (slotDirection x s) (boxCell x (b .tile) q) e) (sym (w .tile))
-
-    pub meets-is : some (puts x to (r .place)) (x .distances) ≡ meets x s b q
-    meets-is = some-same _ _ (x .distances) (λ e h. reach-is e)
-
-    pub meets-at : (e : ℕ) → e < x .distances → puts x to (r .place) e ≡ true → meets x s b q ≡ true
-    meets-at e h k = some-one _ (x .distances) e h (sym (reach-is e) ∙ k)
-
-    pub meets-none : ((e : ℕ) → e < x .distances → puts x to (r .place) e ≡ false) → meets x s b q ≡ false
-    meets-none h = some-none _ (x .distances) (λ e k. sym (reach-is e) ∙ h e k)
 
 -- ---- the parcel grows
 
@@ -114,11 +102,6 @@ module _ (x : Nest) (s : ℕ) (b : Bounds) where
   pub measure-few : (count q : ℕ) → Measuring x s b count q → count ≤ q
   measure-few count q m = omega (arith, m .is, boxParcel-few x (b .tile) (slotDirection x s) q)
 
-  pub measure-turn : (count count′ q : ℕ) (t : Bool) → Measuring x s b count q → q < b .size → t ≡ meets x s b q
-      → ((t ≡ true) × (count′ ≡ count + 1)) ⊎ ((t ≡ false) × (count′ ≡ count)) → Measuring x s b count′ (q + 1)
-  measure-turn count count′ q t m h e (inl (k, p)) = record { low = omega arith; is = omega (arith, m .is, walked-more x s b q (sym e ∙ k)) }
-  measure-turn count count′ q t m h e (inr (k, p)) = record { low = omega arith; is = p ∙ m .is ∙ ap length (sym (walked-miss x s b q (sym e ∙ k))) }
-
 pub measured : (x : Nest) (ok : Accepted x) (s : ℕ) (b : Bounds) (to : List ℕ) → Walk x s b to → (count q : ℕ) → Measuring x s b count q → b .size ≤ q
     → (count ≡ length (slotParcel x s)) × (count ≤ 16384)
 measured x ok s b to w count q m h =
@@ -139,102 +122,14 @@ unpack-append l [] b (w ∷ ws) us e = absurd (omega arith)
 unpack-append l (p ∷ a) b [] us e = absurd (omega arith)
 unpack-append l (p ∷ a) b (w ∷ ws) us e = unpack-append (set l p w) a b ws us (omega arith)
 
--- one word more at the front
-push : (k o : List ℕ) (v : ℕ) → length k < length o → set (k ++ drop (length k) o) (length k) v ≡ (k ++ (v ∷ [])) ++ drop (length k + 1) o
-push k o v l = rw (drop-cons o (length k) 0, set-append-seam, add-one, append-assoc)
+-- ---- packing: between two distances of the cell at q₁
 
--- ---- packing: between two cells
-
-pub record Packing (x : Nest) (s : ℕ) (b : Bounds) (memory words₀ words : List ℕ) (count q : ℕ) : Type 0 where
-  pub low : q ≤ b .size
-  pub count-is : count ≡ length (walked x s b q)
-  pub is : words ≡ pack memory (walked x s b q) ++ drop count words₀
-
--- and between two distances of the cell at q₀
 pub record Searching (f : ℕ → Bool) (n : ℕ) (words₁ : List ℕ) (count₁ q₁ : ℕ) (words : List ℕ) (count q e : ℕ) : Type 0 where
   pub same-words : words ≡ words₁
   pub same-count : count ≡ count₁
   pub same-q : q ≡ q₁
   pub low : e ≤ n
   pub none : (i : ℕ) → i < e → f i ≡ false
-
-module _ (x : Nest) (s : ℕ) (b : Bounds) (memory words₀ : List ℕ) where
-  pub packing-none : Packing x s b memory words₀ words₀ 0 0
-  unfolding pack
-  packing-none =
-      record {
-        low = omega arith;
-        count-is = ap length (sym (boxParcel-none x (b .tile) (slotDirection x s)));
-        is = ap (λ (z : List ℕ). pack memory z ++ words₀) (sym (boxParcel-none x (b .tile) (slotDirection x s)));
-      }
-
-  pub packing-long : (words : List ℕ) (count q : ℕ) → Packing x s b memory words₀ words count q → length words₀ ≡ length (walked x s b (b .size)) → length words ≡ length words₀
-  packing-long words count q p e =
-      omega (arith, p .count-is, simp length-append at (ap length (p .is)), length-drop count words₀, pack-length (walked x s b q) memory, walked-mono x s b (b .size) q (p .low))
-
-  module _ (words : List ℕ) (count q : ℕ) (p : Packing x s b memory words₀ words count q) (l : q < b .size) where
-    pub packing-room : length words₀ ≡ length (walked x s b (b .size)) → meets x s b q ≡ true → count < length words₀
-    packing-room e h = omega (arith, p .count-is, walked-room x s b q h (b .size) l)
-
-    pub packing-hit : length words₀ ≡ length (walked x s b (b .size)) → meets x s b q ≡ true → (c : ℕ) → c ≡ boxCell x (b .tile) q
-        → Packing x s b memory words₀ (set words count (getD memory c 0)) (count + 1) (q + 1)
-    unfolding pack
-    packing-hit e h c k =
-        record {
-          low = omega arith;
-          count-is = omega (arith, p .count-is, walked-more x s b q h);
-          is = ap (λ (z : List ℕ). set z count (getD memory c 0)) (p .is) ∙ step ∙ ap (λ (z : List ℕ). z ++ drop (count + 1) words₀) (sym grown);
-        }
-      where
-        long : length (pack memory (walked x s b q)) ≡ count
-        long = pack-length (walked x s b q) memory ∙ sym (p .count-is)
-
-        step : set (pack memory (walked x s b q) ++ drop count words₀) count (getD memory c 0) ≡ (pack memory (walked x s b q) ++ (getD memory c 0 ∷ [])) ++ drop (count + 1) words₀
-        step = rw long at (push (pack memory (walked x s b q)) words₀ (getD memory c 0) (omega (arith, long, packing-room e h)))
-
-        grown : pack memory (walked x s b (q + 1)) ≡ pack memory (walked x s b q) ++ (getD memory c 0 ∷ [])
-        grown = ap (pack memory) (walked-hit x s b q h) ∙ pack-append memory (walked x s b q) (boxCell x (b .tile) q ∷ []) ∙ rw k
-
-    pub packing-miss : meets x s b q ≡ false → Packing x s b memory words₀ words count (q + 1)
-    packing-miss h =
-        record {
-          low = omega arith;
-          count-is = p .count-is ∙ ap length (sym (walked-miss x s b q h));
-          is = p .is ∙ ap (λ (z : List ℕ). pack memory z ++ drop count words₀) (sym (walked-miss x s b q h));
-        }
-
-module _ (x : Nest) (ok : Accepted x) (s : ℕ) (b : Bounds) (to : List ℕ) (w : Walk x s b to) (memory words₀ : List ℕ) where
-  pub packed : (words : List ℕ) (count q : ℕ) → Packing x s b memory words₀ words count q → b .size ≤ q → length words₀ ≡ length (slotParcel x s) → words ≡ pack memory (slotParcel x s)
-  packed words count q p h e =
-      let z : q ≡ b .size = omega (arith, p .low) in
-      let k : count ≡ length words₀ = p .count-is ∙ ap (λ (a : ℕ). length (walked x s b a)) z ∙ ap length (sym (parcel-is x ok s b to w)) ∙ sym e in
-      p .is
-      ∙ ap (λ (a : ℕ). pack memory (walked x s b a) ++ drop count words₀) z
-      ∙ ap (λ (a : ℕ). pack memory (walked x s b (b .size)) ++ drop a words₀) k
-      ∙ ap (λ (a : List ℕ). pack memory (walked x s b (b .size)) ++ a) (drop-length words₀)
-      ∙ append-nil (pack memory (walked x s b (b .size)))
-      ∙ ap (pack memory) (sym (parcel-is x ok s b to w))
-
-  module _ (words₁ : List ℕ) (count₁ q₁ : ℕ) (r : Cell) (l : Located x (boxCell x (b .tile) q₁) r) (p : Packing x s b memory words₀ words₁ count₁ q₁) (h : q₁ < b .size)
-      (long : length words₀ ≡ length (slotParcel x s)) (words : List ℕ) (count q e : ℕ) (f : Searching (puts x to (r .place)) (x .distances) words₁ count₁ q₁ words count q e) where
-    all : length words₀ ≡ length (walked x s b (b .size))
-    all = long ∙ ap length (parcel-is x ok s b to w)
-
-    module _ (k : e < x .distances) (hit : puts x to (r .place) e ≡ true) where
-      pub search-room : (count < length words) × (count < length words₀)
-      search-room =
-          let a = packing-room x s b memory words₀ words₁ count₁ q₁ p h all (meets-at x ok s b to w q₁ r l e k hit) in
-          (omega (arith, f .same-count, ap length (f .same-words), packing-long x s b memory words₀ words₁ count₁ q₁ p all), omega (arith, f .same-count))
-
-      pub search-hit : Packing x s b memory words₀ (set words count (getD memory (r .number) 0)) (count + 1) (q + 1)
-      search-hit =
-          rw (f .same-words, f .same-count, f .same-q)
-          (packing-hit x s b memory words₀ words₁ count₁ q₁ p h all (meets-at x ok s b to w q₁ r l e k hit) (r .number) (l .number))
-
-    pub search-miss : x .distances ≤ e → Packing x s b memory words₀ words count (q + 1)
-    search-miss k =
-        rw (f .same-words, f .same-count, f .same-q)
-        (packing-miss x s b memory words₀ words₁ count₁ q₁ p h (meets-none x ok s b to w q₁ r l (λ i j. f .none i (omega arith))))
 
 -- ---- unpacking
 
@@ -256,9 +151,6 @@ module _ (x : Nest) (s : ℕ) (b : Bounds) (memory₀ words : List ℕ) where
   module _ (memory : List ℕ) (count q : ℕ) (p : Unpacking x s b memory₀ words memory count q) where
     pub unpacking-long : length memory ≡ length memory₀
     unpacking-long = ap length (p .is) ∙ unpack-length (walked x s b q) (take count words) memory₀
-
-    pub unpacking-few : count ≤ q
-    unpacking-few = omega (arith, p .count-is, boxParcel-few x (b .tile) (slotDirection x s) q)
 
     module _ (l : q < b .size) (e : length words ≡ length (walked x s b (b .size))) where
       pub unpacking-room : meets x s b q ≡ true → count < length words
