@@ -73,13 +73,15 @@ pub fn twin_of(nest: Nest, sizes: Sizes, tile: usize) -> usize
     ensures { λ r. ⌜ Twin nest tile r ⌝ }
 {
     let across = sizes.across;
+    let tiling = nest.tiling;
+    let lengths = nest.lengths;
     let mut left = nest.dimensions;
     let mut rest = tile;
     let mut stride = 1;
     while left > 0 {
         left -= 1;
         let n = across[left];
-        if one_back(rest % n, nest.tiling[left], nest.lengths[left]) {
+        if one_back(rest % n, tiling[left], lengths[left]) {
             return tile - stride;
         }
         rest = rest / n;
@@ -116,12 +118,13 @@ fn window_of(nest: Nest, to: [usize; 4]) -> Window
 {
     let mut low = [0; 4];
     let mut high = [0; 4];
+    let tiling = nest.tiling;
+    let lengths = nest.lengths;
     let n = nest.dimensions;
-    let spread = nest.spread;
     for j in 0..n {
-        let k = nest.tiling[j];
-        low[j] = low_of(to[j], k, j < spread);
-        high[j] = high_of(to[j], k, nest.lengths[j], j < spread);
+        let k = tiling[j];
+        low[j] = low_of(to[j], k, j < nest.spread);
+        high[j] = high_of(to[j], k, lengths[j], j < nest.spread);
     }
     Window {
         low: low,
