@@ -46,38 +46,60 @@ pub struct MessageLine {
     pub words: u32,
 }
 
-// The length of the parcel in the v-th slot of a tile, those of the slots before being in the table: its twin may have it.
-fn slot_length(
+// The length in direction v of a tile's parcel, as its twin's, which is in the table.
+fn twin_length(
     nest: Nest,
     sizes: Sizes,
     lens: &[u16; 7168],
     tile: usize,
     twin: usize,
     v: usize,
-) -> usize
-    requires { ⌜ Sized nest sizes × ((tile < tiles nest) × ((v < sizes .directions) × (Twin nest tile twin × Filling nest (now lens) (tile * sizes .directions + v)))) ⌝ }
-    ensures { λ r. ⌜ (r ≡ length (slotParcel nest (tile * sizes .directions + v))) × (r ≤ 16384) ⌝ }
+) -> u16
+    requires { ⌜ Sized nest sizes × ((tile < tiles nest) × ((v < sizes .directions) × (Twin nest tile twin × ((twin < tile) × Filling nest (now lens) (tile * sizes .directions + v))))) ⌝ }
+    ensures { λ r. ⌜ r ≡ length (slotParcel nest (tile * sizes .directions + v)) ⌝ }
 {
-    let n = sizes.directions;
-    if twin < tile {
-        return lens[twin * n + v] as usize;
-    }
-    parcels::parcel_length(nest, sizes, tile * n + v)
+    lens[twin * sizes.directions + v]
 }
 
-// The lengths of a tile's parcels, those of the tiles before being in the table.
-fn fill_tile(nest: Nest, sizes: Sizes, lens: &mut [u16; 7168], tile: usize)
+// The lengths of a tile's parcels, as its twin's.
+fn copy_tile(nest: Nest, sizes: Sizes, lens: &mut [u16; 7168], tile: usize, twin: usize)
+    requires { ⌜ Sized nest sizes × ((tile < tiles nest) × (Twin nest tile twin × ((twin < tile) × Filling nest (now lens) (tile * sizes .directions)))) ⌝ }
+    ensures { λ _. ⌜ Filling nest (now (lens .exit)) ((tile + 1) * sizes .directions) ⌝ }
+{
+    let n = sizes.directions;
+    let first = tile * n;
+    let mut v = 0;
+    while v < n {
+        lens[first + v] = twin_length(nest, sizes, lens, tile, twin, v);
+        v += 1;
+    }
+}
+
+// The lengths of a tile's parcels, counted.
+fn count_tile(nest: Nest, sizes: Sizes, lens: &mut [u16; 7168], tile: usize)
     requires { ⌜ Sized nest sizes × ((tile < tiles nest) × Filling nest (now lens) (tile * sizes .directions)) ⌝ }
     ensures { λ _. ⌜ Filling nest (now (lens .exit)) ((tile + 1) * sizes .directions) ⌝ }
 {
     let n = sizes.directions;
-    let twin = parcels::twin_of(nest, sizes, tile);
     let first = tile * n;
     let mut v = 0;
     while v < n {
-        lens[first + v] = slot_length(nest, sizes, lens, tile, twin, v) as u16;
+        lens[first + v] = parcels::parcel_length(nest, sizes, first + v) as u16;
         v += 1;
     }
+}
+
+// The lengths of a tile's parcels, those of the tiles before it being in the table.
+fn fill_tile(nest: Nest, sizes: Sizes, lens: &mut [u16; 7168], tile: usize)
+    requires { ⌜ Sized nest sizes × ((tile < tiles nest) × Filling nest (now lens) (tile * sizes .directions)) ⌝ }
+    ensures { λ _. ⌜ Filling nest (now (lens .exit)) ((tile + 1) * sizes .directions) ⌝ }
+{
+    let twin = parcels::twin_of(nest, sizes, tile);
+    if twin < tile {
+        copy_tile(nest, sizes, lens, tile, twin);
+        return;
+    }
+    count_tile(nest, sizes, lens, tile);
 }
 
 // The length of each slot's parcel.
