@@ -11,7 +11,7 @@ use Rattle.engine.specs.Calls.{answer, collectCall}
 use Rattle.records.specs.declared.Progress.{Progress}
 use Rattle.records.specs.Records.{flatWords, recordsOf}
 use Rattle.records.proofs.Words.{words-of, over, over-none}
-use Rattle.calls.proofs.Misfit.{Misfit, no-words, same-call, collect-refused}
+use Rattle.lent.proofs.Misfit.{Misfit, no-words, same-call, collect-refused}
 
 abbrev pub Counted : ℕ → ℕ → Type 0
 Counted k c = (c ≤ 64) × ((3 * c ≡ k) ⊎ ((c ≡ 0) × Misfit k))

@@ -7,7 +7,7 @@ ghost use lib.ListN.{length, take};
 ghost use Rattle.machine.specs.Machine.{stateOf};
 ghost use Rattle.engine.specs.Calls.{answer, freshCall, turnCall, deliverCall, collectCall};
 ghost use Rattle.records.specs.Records.{flatWords};
-ghost use Rattle.calls.proofs.Misfit.{Misfit};
+ghost use Rattle.lent.proofs.Misfit.{Misfit};
 use records::Progress;
 
 // What a call made of the records: its number, and the records after it.

@@ -58,16 +58,16 @@ use Rattle.records.proofs.store as stores
 use Rattle.records.proofs.store.Symbol as store-def
 use Rattle.records.proofs.store.Symbol.{name as #records·store}
 use Rattle.records.proofs.store.Met as store-thm
-use Rattle.calls.specs.Lent.{keptCount, lentOf}
-use Rattle.calls.specs.declared.After.{After}
-use Rattle.calls.proofs.After as U
-use Rattle.calls.proofs.After.Laws as U′
+use Rattle.lent.specs.Lent.{keptCount, lentOf}
+use Rattle.lent.specs.declared.After.{After}
+use Rattle.lent.proofs.After as U
+use Rattle.lent.proofs.After.Laws as U′
 use Rattle.calls.proofs.Shared.{LentShared, lends-shared, shared-back}
-use Rattle.calls.proofs.Misfit.{refusal, turn-refused, room, changes}
-use Rattle.calls.proofs.turn_words as words
-use Rattle.calls.proofs.turn_words.Symbol as words-def
-use Rattle.calls.proofs.turn_words.Symbol.{name as #calls·turn-words}
-use Rattle.calls.proofs.turn_words.Met as words-thm
+use Rattle.lent.proofs.Misfit.{refusal, turn-refused, room, changes}
+use Rattle.lent.proofs.turn_words as words
+use Rattle.lent.proofs.turn_words.Symbol as words-def
+use Rattle.lent.proofs.turn_words.Symbol.{name as #lent·turn-words}
+use Rattle.lent.proofs.turn_words.Met as words-thm
 use Rattle.calls.proofs.rolwyddac_turn.Key.{name as #calls·turn}
 use Rattle.calls.proofs.rolwyddac_turn as turn
 use Rattle.calls.proofs.rolwyddac_turn.Statement as stated
@@ -342,7 +342,7 @@ module _ {M : Type 1} (𝓤 : URA M) (H : Heap 𝓤) (A : Atoms 𝓤) (W : Given
         by ! (exits (r .number) w2 w3 (us .0) w5 (number-fits r is) e2 e3 e4 e5 (ap (λ (l : List Progress). answer (r .number) (stateOf w2 w3 (flatWords l) w5)) put ∙ changes (λ s. turnCall z0 z1 s n6) (refusal z0) (turn-refused z0 z1 n6) z4 f e r z2 z3 z5 w2 w3 w5 said))))))))
 
     -- from the records' words on
-    worded : Triple 𝓤 (C #calls·turn-words) (Words 𝓤 H A mem run) → Triple 𝓤 (C #records·store) (Store 𝓤 H A mem run) → (l0 l1 l2 l3 l4 l5 l6 l7 l8 l9 l10 l11 l12 l13 l14 l15 l16 l17 l18 l19 l20 : ℕ) (f : Flat) → Is F f (low f ∷ []) → f ≡ flatOf z4
+    worded : Triple 𝓤 (C #lent·turn-words) (Words 𝓤 H A mem run) → Triple 𝓤 (C #records·store) (Store 𝓤 H A mem run) → (l0 l1 l2 l3 l4 l5 l6 l7 l8 l9 l10 l11 l12 l13 l14 l15 l16 l17 l18 l19 l20 : ℕ) (f : Flat) → Is F f (low f ∷ []) → f ≡ flatOf z4
         → Sq W (‵ (froom (sliceTy (tyRef erased mut (pointee (R .written)))) l20 0) ∷ ‵ (fdies (sliceTy (tyRef erased mut (pointee (R .written)))) l20) ∷ ‵ (froom (tyRef erased mut (pointee (R .written))) l19 0) ∷ ‵ (fdies (tyRef erased mut (pointee (R .written))) l19) ∷ ‵ (froom (tyUnit) l18 0) ∷ ‵ (fdies (tyUnit) l18) ∷ ‵ (froom (sliceTy (tyRef erased mut (tyInt w8))) l17 0) ∷ ‵ (fdies (sliceTy (tyRef erased mut (tyInt w8))) l17) ∷ ‵ (froom (tyRef erased mut (tyInt w8)) l16 0) ∷ ‵ (fdies (tyRef erased mut (tyInt w8)) l16) ∷ ‵ (froom (sliceTy (tyRef erased mut (tyInt w32))) l15 0) ∷ ‵ (fdies (sliceTy (tyRef erased mut (tyInt w32))) l15) ∷ ‵ (froom (tyRef erased mut (tyInt w32)) l14 0) ∷ ‵ (fdies (tyRef erased mut (tyInt w32)) l14) ∷ ‵ (froom (sliceTy (tyRef erased mut (tyInt w32))) l13 0) ∷ ‵ (fdies (sliceTy (tyRef erased mut (tyInt w32))) l13) ∷ ‵ (froom (tyRef erased mut (tyInt w32)) l12 0) ∷ ‵ (fdies (tyRef erased mut (tyInt w32)) l12) ∷ ‵ (froom (sliceTy (tyRef erased imm (pointee (R .written)))) l11 0) ∷ ‵ (fdies (sliceTy (tyRef erased imm (pointee (R .written)))) l11) ∷ ‵ (froom (tyRef erased imm (pointee (R .written))) l10 0) ∷ ‵ (fdies (tyRef erased imm (pointee (R .written))) l10) ∷ ‵ (froom (U′.mir) l9 0) ∷ ‵ (fdies (U′.mir) l9) ∷ ‵ (fat fullShare (S′.mir) l8 0 (low f)) ∷ ‵ (fdies (S′.mir) l8) ∷ ‵ (fat fullShare (word) l7 0 (vint w32 n6)) ∷ ‵ (fdies (word) l7) ∷ ‵ (fat fullShare (sliceTy (tyRef (named 5) mut (tyInt w8))) l6 0 (v5)) ∷ ‵ (fdies (sliceTy (tyRef (named 5) mut (tyInt w8))) l6) ∷ ‵ (fat fullShare (sliceTy (tyRef (named 4) mut (pointee (R .written)))) l5 0 (v4)) ∷ ‵ (fdies (sliceTy (tyRef (named 4) mut (pointee (R .written)))) l5) ∷ ‵ (fat fullShare (sliceTy (tyRef (named 3) mut (tyInt w32))) l4 0 (v3)) ∷ ‵ (fdies (sliceTy (tyRef (named 3) mut (tyInt w32))) l4) ∷ ‵ (fat fullShare (sliceTy (tyRef (named 2) mut (tyInt w32))) l3 0 (v2)) ∷ ‵ (fdies (sliceTy (tyRef (named 2) mut (tyInt w32))) l3) ∷ ‵ (fat fullShare (sliceTy (tyRef (named 1) imm (tyInt w32))) l2 0 (v1)) ∷ ‵ (fdies (sliceTy (tyRef (named 1) imm (tyInt w32))) l2) ∷ ‵ (fat fullShare (sliceTy (tyRef (named 0) imm (tyInt w8))) l1 0 (v0)) ∷ ‵ (fdies (sliceTy (tyRef (named 0) imm (tyInt w8))) l1) ∷ ‵ (froom (word) l0 0) ∷ ‵ (fdies (word) l0) ∷ ‵ (flft κ0 q0) ∷ ‵ (flft κ1 q1) ∷ ‵ (flft κ2 q2) ∷ ‵ (flft κ3 q3) ∷ ‵ (flft κ4 q4) ∷ ‵ (flft κ5 q5) ∷ ‵ (ShrSlice (named 0) κ0 u8 .own x0 (v0 ∷ [])) ∷ ‵ (ShrSlice (named 1) κ1 u32 .own x1 (v1 ∷ [])) ∷ ‵ (MutSlice (named 2) κ2 u32 .own x2 (v2 ∷ [])) ∷ ‵ (MutSlice (named 3) κ3 u32 .own x3 (v3 ∷ [])) ∷ ‵ (MutSlice (named 4) κ4 R .own x4 (v4 ∷ [])) ∷ ‵ (MutSlice (named 5) κ5 u8 .own x5 (v5 ∷ [])) ∷ [])
         (runs C Λ ((word, l0) ∷ (sliceTy (tyRef (named 0) imm (tyInt w8)), l1) ∷ (sliceTy (tyRef (named 1) imm (tyInt w32)), l2) ∷ (sliceTy (tyRef (named 2) mut (tyInt w32)), l3) ∷ (sliceTy (tyRef (named 3) mut (tyInt w32)), l4) ∷ (sliceTy (tyRef (named 4) mut (pointee (R .written))), l5) ∷ (sliceTy (tyRef (named 5) mut (tyInt w8)), l6) ∷ (word, l7) ∷ (S′.mir, l8) ∷ (U′.mir, l9) ∷ (tyRef erased imm (pointee (R .written)), l10) ∷ (sliceTy (tyRef erased imm (pointee (R .written))), l11) ∷ (tyRef erased mut (tyInt w32), l12) ∷ (sliceTy (tyRef erased mut (tyInt w32)), l13) ∷ (tyRef erased mut (tyInt w32), l14) ∷ (sliceTy (tyRef erased mut (tyInt w32)), l15) ∷ (tyRef erased mut (tyInt w8), l16) ∷ (sliceTy (tyRef erased mut (tyInt w8)), l17) ∷ (tyUnit, l18) ∷ (tyRef erased mut (pointee (R .written)), l19) ∷ (sliceTy (tyRef erased mut (pointee (R .written))), l20) ∷ []) mir′.t-4 (atRet ((word, l0) ∷ (sliceTy (tyRef (named 0) imm (tyInt w8)), l1) ∷ (sliceTy (tyRef (named 1) imm (tyInt w32)), l2) ∷ (sliceTy (tyRef (named 2) mut (tyInt w32)), l3) ∷ (sliceTy (tyRef (named 3) mut (tyInt w32)), l4) ∷ (sliceTy (tyRef (named 4) mut (pointee (R .written))), l5) ∷ (sliceTy (tyRef (named 5) mut (tyInt w8)), l6) ∷ (word, l7) ∷ (S′.mir, l8) ∷ (U′.mir, l9) ∷ (tyRef erased imm (pointee (R .written)), l10) ∷ (sliceTy (tyRef erased imm (pointee (R .written))), l11) ∷ (tyRef erased mut (tyInt w32), l12) ∷ (sliceTy (tyRef erased mut (tyInt w32)), l13) ∷ (tyRef erased mut (tyInt w32), l14) ∷ (sliceTy (tyRef erased mut (tyInt w32)), l15) ∷ (tyRef erased mut (tyInt w8), l16) ∷ (sliceTy (tyRef erased mut (tyInt w8)), l17) ∷ (tyUnit, l18) ∷ (tyRef erased mut (pointee (R .written)), l19) ∷ (sliceTy (tyRef erased mut (pointee (R .written))), l20) ∷ []) Post))
     worded known₁ known₂ l0 l1 l2 l3 l4 l5 l6 l7 l8 l9 l10 l11 l12 l13 l14 l15 l16 l17 l18 l19 l20 f is e =
@@ -427,7 +427,7 @@ module _ {M : Type 1} (𝓤 : URA M) (H : Heap 𝓤) (A : Atoms 𝓤) (W : Given
         stored-part known₂ l0 l1 l2 l3 l4 l5 l6 l7 l8 l9 l10 l11 l12 l13 l14 l15 l16 l17 l18 l19 l20 f e r (subst (λ (us : List Val). Is E r us) (LL.tells U.the-type U′.the-laws r (w ∷ []) is′) is′) (us .1 .1 .0) (us .1 .1 .1 .0) (us .1 .1 .1 .1 .1 .0) e2 e3 e5 said))))))))
 
     -- the whole body
-    begun : Triple 𝓤 (C #records·flatten) (Flatten 𝓤 H A mem run) → Triple 𝓤 (C #calls·turn-words) (Words 𝓤 H A mem run) → Triple 𝓤 (C #records·store) (Store 𝓤 H A mem run) → (l0 l1 l2 l3 l4 l5 l6 l7 l8 l9 l10 l11 l12 l13 l14 l15 l16 l17 l18 l19 l20 : ℕ)
+    begun : Triple 𝓤 (C #records·flatten) (Flatten 𝓤 H A mem run) → Triple 𝓤 (C #lent·turn-words) (Words 𝓤 H A mem run) → Triple 𝓤 (C #records·store) (Store 𝓤 H A mem run) → (l0 l1 l2 l3 l4 l5 l6 l7 l8 l9 l10 l11 l12 l13 l14 l15 l16 l17 l18 l19 l20 : ℕ)
         → Sq W (‵ (froom (sliceTy (tyRef erased mut (pointee (R .written)))) l20 0) ∷ ‵ (fdies (sliceTy (tyRef erased mut (pointee (R .written)))) l20) ∷ ‵ (froom (tyRef erased mut (pointee (R .written))) l19 0) ∷ ‵ (fdies (tyRef erased mut (pointee (R .written))) l19) ∷ ‵ (froom (tyUnit) l18 0) ∷ ‵ (fdies (tyUnit) l18) ∷ ‵ (froom (sliceTy (tyRef erased mut (tyInt w8))) l17 0) ∷ ‵ (fdies (sliceTy (tyRef erased mut (tyInt w8))) l17) ∷ ‵ (froom (tyRef erased mut (tyInt w8)) l16 0) ∷ ‵ (fdies (tyRef erased mut (tyInt w8)) l16) ∷ ‵ (froom (sliceTy (tyRef erased mut (tyInt w32))) l15 0) ∷ ‵ (fdies (sliceTy (tyRef erased mut (tyInt w32))) l15) ∷ ‵ (froom (tyRef erased mut (tyInt w32)) l14 0) ∷ ‵ (fdies (tyRef erased mut (tyInt w32)) l14) ∷ ‵ (froom (sliceTy (tyRef erased mut (tyInt w32))) l13 0) ∷ ‵ (fdies (sliceTy (tyRef erased mut (tyInt w32))) l13) ∷ ‵ (froom (tyRef erased mut (tyInt w32)) l12 0) ∷ ‵ (fdies (tyRef erased mut (tyInt w32)) l12) ∷ ‵ (froom (sliceTy (tyRef erased imm (pointee (R .written)))) l11 0) ∷ ‵ (fdies (sliceTy (tyRef erased imm (pointee (R .written)))) l11) ∷ ‵ (froom (tyRef erased imm (pointee (R .written))) l10 0) ∷ ‵ (fdies (tyRef erased imm (pointee (R .written))) l10) ∷ ‵ (froom (U′.mir) l9 0) ∷ ‵ (fdies (U′.mir) l9) ∷ ‵ (froom (S′.mir) l8 0) ∷ ‵ (fdies (S′.mir) l8) ∷ ‵ (fat fullShare (word) l7 0 (vint w32 n6)) ∷ ‵ (fdies (word) l7) ∷ ‵ (fat fullShare (sliceTy (tyRef (named 5) mut (tyInt w8))) l6 0 (v5)) ∷ ‵ (fdies (sliceTy (tyRef (named 5) mut (tyInt w8))) l6) ∷ ‵ (fat fullShare (sliceTy (tyRef (named 4) mut (pointee (R .written)))) l5 0 (v4)) ∷ ‵ (fdies (sliceTy (tyRef (named 4) mut (pointee (R .written)))) l5) ∷ ‵ (fat fullShare (sliceTy (tyRef (named 3) mut (tyInt w32))) l4 0 (v3)) ∷ ‵ (fdies (sliceTy (tyRef (named 3) mut (tyInt w32))) l4) ∷ ‵ (fat fullShare (sliceTy (tyRef (named 2) mut (tyInt w32))) l3 0 (v2)) ∷ ‵ (fdies (sliceTy (tyRef (named 2) mut (tyInt w32))) l3) ∷ ‵ (fat fullShare (sliceTy (tyRef (named 1) imm (tyInt w32))) l2 0 (v1)) ∷ ‵ (fdies (sliceTy (tyRef (named 1) imm (tyInt w32))) l2) ∷ ‵ (fat fullShare (sliceTy (tyRef (named 0) imm (tyInt w8))) l1 0 (v0)) ∷ ‵ (fdies (sliceTy (tyRef (named 0) imm (tyInt w8))) l1) ∷ ‵ (froom (word) l0 0) ∷ ‵ (fdies (word) l0) ∷ ‵ (flft κ0 q0) ∷ ‵ (flft κ1 q1) ∷ ‵ (flft κ2 q2) ∷ ‵ (flft κ3 q3) ∷ ‵ (flft κ4 q4) ∷ ‵ (flft κ5 q5) ∷ ‵ (ShrSlice (named 0) κ0 u8 .own x0 (v0 ∷ [])) ∷ ‵ (ShrSlice (named 1) κ1 u32 .own x1 (v1 ∷ [])) ∷ ‵ (MutSlice (named 2) κ2 u32 .own x2 (v2 ∷ [])) ∷ ‵ (MutSlice (named 3) κ3 u32 .own x3 (v3 ∷ [])) ∷ ‵ (MutSlice (named 4) κ4 R .own x4 (v4 ∷ [])) ∷ ‵ (MutSlice (named 5) κ5 u8 .own x5 (v5 ∷ [])) ∷ [])
         (runs C Λ ((word, l0) ∷ (sliceTy (tyRef (named 0) imm (tyInt w8)), l1) ∷ (sliceTy (tyRef (named 1) imm (tyInt w32)), l2) ∷ (sliceTy (tyRef (named 2) mut (tyInt w32)), l3) ∷ (sliceTy (tyRef (named 3) mut (tyInt w32)), l4) ∷ (sliceTy (tyRef (named 4) mut (pointee (R .written))), l5) ∷ (sliceTy (tyRef (named 5) mut (tyInt w8)), l6) ∷ (word, l7) ∷ (S′.mir, l8) ∷ (U′.mir, l9) ∷ (tyRef erased imm (pointee (R .written)), l10) ∷ (sliceTy (tyRef erased imm (pointee (R .written))), l11) ∷ (tyRef erased mut (tyInt w32), l12) ∷ (sliceTy (tyRef erased mut (tyInt w32)), l13) ∷ (tyRef erased mut (tyInt w32), l14) ∷ (sliceTy (tyRef erased mut (tyInt w32)), l15) ∷ (tyRef erased mut (tyInt w8), l16) ∷ (sliceTy (tyRef erased mut (tyInt w8)), l17) ∷ (tyUnit, l18) ∷ (tyRef erased mut (pointee (R .written)), l19) ∷ (sliceTy (tyRef erased mut (pointee (R .written))), l20) ∷ []) mir′.t-1 (atRet ((word, l0) ∷ (sliceTy (tyRef (named 0) imm (tyInt w8)), l1) ∷ (sliceTy (tyRef (named 1) imm (tyInt w32)), l2) ∷ (sliceTy (tyRef (named 2) mut (tyInt w32)), l3) ∷ (sliceTy (tyRef (named 3) mut (tyInt w32)), l4) ∷ (sliceTy (tyRef (named 4) mut (pointee (R .written))), l5) ∷ (sliceTy (tyRef (named 5) mut (tyInt w8)), l6) ∷ (word, l7) ∷ (S′.mir, l8) ∷ (U′.mir, l9) ∷ (tyRef erased imm (pointee (R .written)), l10) ∷ (sliceTy (tyRef erased imm (pointee (R .written))), l11) ∷ (tyRef erased mut (tyInt w32), l12) ∷ (sliceTy (tyRef erased mut (tyInt w32)), l13) ∷ (tyRef erased mut (tyInt w32), l14) ∷ (sliceTy (tyRef erased mut (tyInt w32)), l15) ∷ (tyRef erased mut (tyInt w8), l16) ∷ (sliceTy (tyRef erased mut (tyInt w8)), l17) ∷ (tyUnit, l18) ∷ (tyRef erased mut (pointee (R .written)), l19) ∷ (sliceTy (tyRef erased mut (pointee (R .written))), l20) ∷ []) Post))
     begun known₀ known₁ known₂ l0 l1 l2 l3 l4 l5 l6 l7 l8 l9 l10 l11 l12 l13 l14 l15 l16 l17 l18 l19 l20 =
@@ -466,7 +466,7 @@ module _ {M : Type 1} (𝓤 : URA M) (H : Heap 𝓤) (A : Atoms 𝓤) (W : Given
         keep ! (4 ∷ 5 ∷ 6 ∷ 7 ∷ 8 ∷ 9 ∷ 10 ∷ 11 ∷ 12 ∷ 13 ∷ 14 ∷ 15 ∷ 16 ∷ 17 ∷ 18 ∷ 19 ∷ 20 ∷ 21 ∷ 22 ∷ 23 ∷ 24 ∷ 25 ∷ 26 ∷ 27 ∷ 28 ∷ 29 ∷ 30 ∷ 31 ∷ 32 ∷ 33 ∷ 34 ∷ 35 ∷ 36 ∷ 37 ∷ 38 ∷ 39 ∷ 40 ∷ 41 ∷ 42 ∷ 43 ∷ 44 ∷ 45 ∷ 46 ∷ 47 ∷ 48 ∷ 49 ∷ 1 ∷ 50 ∷ 51 ∷ 52 ∷ 53 ∷ 54 ∷ 0 ∷ 55 ∷ []) $
         worded known₁ known₂ l0 l1 l2 l3 l4 l5 l6 l7 l8 l9 l10 l11 l12 l13 l14 l15 l16 l17 l18 l19 l20 f (subst (λ (us : List Val). Is F f us) (LL.tells S.the-type S′.the-laws f (w ∷ []) is) is) e))))))
 
-  walk : (C : Calls 𝓤 H) (Λ : Loops 𝓤 H) → FmC 𝓤 H (W .laws) C → Triple 𝓤 (C #records·flatten) (Flatten 𝓤 H A mem run) → Triple 𝓤 (C #calls·turn-words) (Words 𝓤 H A mem run) → Triple 𝓤 (C #records·store) (Store 𝓤 H A mem run)
+  walk : (C : Calls 𝓤 H) (Λ : Loops 𝓤 H) → FmC 𝓤 H (W .laws) C → Triple 𝓤 (C #records·flatten) (Flatten 𝓤 H A mem run) → Triple 𝓤 (C #lent·turn-words) (Words 𝓤 H A mem run) → Triple 𝓤 (C #records·store) (Store 𝓤 H A mem run)
       → ent 𝓤 (onEntry 𝓤 H A turn.signature (κ0, (κ1, (κ2, (κ3, (κ4, (κ5, tt)))))) (q0, (q1, (q2, (q3, (q4, (q5, tt)))))) (x0, (x1, (x2, (x3, (x4, (x5, (n6, tt))))))) at) (WpFn 𝓤 H C Λ code.function (v0 ∷ v1 ∷ v2 ∷ v3 ∷ v4 ∷ v5 ∷ vint w32 n6 ∷ []) Post)
   walk C Λ fm known₀ known₁ known₂ =
       qed W ((‵ (flft κ0 q0) ⊛ ‵ (flft κ1 q1) ⊛ ‵ (flft κ2 q2) ⊛ ‵ (flft κ3 q3) ⊛ ‵ (flft κ4 q4) ⊛ ‵ (flft κ5 q5) ⊛ ‵ ftrue) ∷ ‵ (owns (ShrSlice (named 0) κ0 u8 ∷ ShrSlice (named 1) κ1 u32 ∷ MutSlice (named 2) κ2 u32 ∷ MutSlice (named 3) κ3 u32 ∷ MutSlice (named 4) κ4 R ∷ MutSlice (named 5) κ5 u8 ∷ u32 ∷ []) (x0, (x1, (x2, (x3, (x4, (x5, (n6, tt))))))) at) ∷ []) ∵ enter ! C Λ code.function (v0 ∷ v1 ∷ v2 ∷ v3 ∷ v4 ∷ v5 ∷ vint w32 n6 ∷ []) _ $
@@ -509,7 +509,7 @@ module _ {M : Type 1} (𝓤 : URA M) (H : Heap 𝓤) (A : Atoms 𝓤) (W : Given
       begun C Λ fm known₀ known₁ known₂ l0 l1 l2 l3 l4 l5 l6 l7 l8 l9 l10 l11 l12 l13 l14 l15 l16 l17 l18 l19 l20)))))))))))))))))))))
 
 module _ {M : Type 1} (𝓤 : URA M) (H : Heap 𝓤) (A : Atoms 𝓤) (W : Given 𝓤 H A) (mem : Memory → SProp 𝓤) (run : Routine → Fun 𝓤) where
-  turn-walks : (C : Calls 𝓤 H) (Λ : Loops 𝓤 H) → FmC 𝓤 H (W .laws) C → Triple 𝓤 (C #records·flatten) (Flatten 𝓤 H A mem run) → Triple 𝓤 (C #calls·turn-words) (Words 𝓤 H A mem run) → Triple 𝓤 (C #records·store) (Store 𝓤 H A mem run)
+  turn-walks : (C : Calls 𝓤 H) (Λ : Loops 𝓤 H) → FmC 𝓤 H (W .laws) C → Triple 𝓤 (C #records·flatten) (Flatten 𝓤 H A mem run) → Triple 𝓤 (C #lent·turn-words) (Words 𝓤 H A mem run) → Triple 𝓤 (C #records·store) (Store 𝓤 H A mem run)
       → Walks 𝓤 H A turn.ended stayed (WpFn 𝓤 H C Λ code.function) (turn.clauses 𝓤 H A mem run)
   turn-walks C Λ fm known₀ known₁ known₂ =
       walked 𝓤 H A turn.ended stayed (turn.clauses 𝓤 H A mem run) (WpFn 𝓤 H C Λ code.function)
@@ -519,7 +519,7 @@ module _ {M : Type 1} (𝓤 : URA M) (H : Heap 𝓤) (A : Atoms 𝓤) (W : Given
       (walk 𝓤 H A W mem run (κs .0) (qs .0) (a .0 .ptr .0) (a .0 .ptr .1) (a .0 .name) (a .0 .now) (are .0 .0 .1) (κs .1 .0) (qs .1 .0) (a .1 .0 .ptr .0) (a .1 .0 .ptr .1) (a .1 .0 .name) (a .1 .0 .now) (are .1 .0 .0 .1) (κs .1 .1 .0) (qs .1 .1 .0) (a .1 .1 .0 .ptr .0) (a .1 .1 .0 .ptr .1) (a .1 .1 .0 .name) (a .1 .1 .0 .now) (are .1 .1 .0 .0 .1) (κs .1 .1 .1 .0) (qs .1 .1 .1 .0) (a .1 .1 .1 .0 .ptr .0) (a .1 .1 .1 .0 .ptr .1) (a .1 .1 .1 .0 .name) (a .1 .1 .1 .0 .now) (are .1 .1 .1 .0 .0 .1) (κs .1 .1 .1 .1 .0) (qs .1 .1 .1 .1 .0) (a .1 .1 .1 .1 .0 .ptr .0) (a .1 .1 .1 .1 .0 .ptr .1) (a .1 .1 .1 .1 .0 .name) (a .1 .1 .1 .1 .0 .now) (are .1 .1 .1 .1 .0 .0 .1) (κs .1 .1 .1 .1 .1 .0) (qs .1 .1 .1 .1 .1 .0) (a .1 .1 .1 .1 .1 .0 .ptr .0) (a .1 .1 .1 .1 .1 .0 .ptr .1) (a .1 .1 .1 .1 .1 .0 .name) (a .1 .1 .1 .1 .1 .0 .now) (are .1 .1 .1 .1 .1 .0 .0 .1) (a .1 .1 .1 .1 .1 .1 .0) (are .1 .1 .1 .1 .1 .1 .0 .1) bounds C Λ fm known₀ known₁ known₂))
 
 turn-meets : {M : Type 1} (𝓤 : URA M) (H : Heap 𝓤) (A : Atoms 𝓤) (W : Given 𝓤 H A) (mem : Memory → SProp 𝓤) (run : Routine → Fun 𝓤) (𝓣 : Tables 𝓤 H)
-    → Triple 𝓤 (𝓣 .C #records·flatten) (Flatten 𝓤 H A mem run) → Triple 𝓤 (𝓣 .C #calls·turn-words) (Words 𝓤 H A mem run) → Triple 𝓤 (𝓣 .C #records·store) (Store 𝓤 H A mem run)
+    → Triple 𝓤 (𝓣 .C #records·flatten) (Flatten 𝓤 H A mem run) → Triple 𝓤 (𝓣 .C #lent·turn-words) (Words 𝓤 H A mem run) → Triple 𝓤 (𝓣 .C #records·store) (Store 𝓤 H A mem run)
     → Meets 𝓤 H A turn.signature (WpFn 𝓤 H (𝓣 .C) (𝓣 .Λ) code.function) (turn.spec 𝓤 H A mem run)
 turn-meets 𝓤 H A W mem run 𝓣 known₀ known₁ known₂ =
     walk-meets 𝓤 H A turn.ended stayed W
@@ -534,5 +534,5 @@ rolwyddac-turn-spec 𝓤 H 𝓜 𝓖 𝓡 =
     (tables 𝓤 H 𝓜 𝓡 code.env .C) (tables 𝓤 H 𝓜 𝓡 code.env .Λ) #calls·turn code.function (code.unfolded 𝓤 H 𝓜 𝓡)
     (turn-meets 𝓤 H (𝓖 .A) (givenOf 𝓤 H 𝓜 𝓖) (𝓜 .mem) (𝓡 .run) (tablesOf 𝓤 H 𝓜 (tables 𝓤 H 𝓜 𝓡 code.env))
     (cited 𝓤 H (Flatten 𝓤 H (𝓖 .A) (𝓜 .mem) (𝓡 .run)) 𝓜 𝓡 code.env #records·flatten flatten-def.routine code.calls-records·flatten (flatten-thm.met 𝓤 H 𝓜 𝓖 𝓡))
-    (cited 𝓤 H (Words 𝓤 H (𝓖 .A) (𝓜 .mem) (𝓡 .run)) 𝓜 𝓡 code.env #calls·turn-words words-def.routine code.calls-calls·turn-words (words-thm.met 𝓤 H 𝓜 𝓖 𝓡))
+    (cited 𝓤 H (Words 𝓤 H (𝓖 .A) (𝓜 .mem) (𝓡 .run)) 𝓜 𝓡 code.env #lent·turn-words words-def.routine code.calls-lent·turn-words (words-thm.met 𝓤 H 𝓜 𝓖 𝓡))
     (cited 𝓤 H (Store 𝓤 H (𝓖 .A) (𝓜 .mem) (𝓡 .run)) 𝓜 𝓡 code.env #records·store store-def.routine code.calls-records·store (store-thm.met 𝓤 H 𝓜 𝓖 𝓡)))

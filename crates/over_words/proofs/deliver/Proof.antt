@@ -1,6 +1,6 @@
 -- What the call over the records gave, the call over their words gives.
 use Rattle.engine.specs.Calls.{deliverCall}
-use Rattle.calls.proofs.Misfit.{refusal, deliver-refused}
+use Rattle.lent.proofs.Misfit.{refusal, deliver-refused}
 use Rattle.over_words.proofs.Laws.{roomy, reads}
 use borrow.Author.Needs.{needs}
 use Rattle.over_words.proofs.deliver.Statement.{statement}

@@ -2,12 +2,12 @@ use mathlib.Core.Path.{_≡_}
 use borrow.Author.Needs.{needs}
 use Rattle.machine.specs.Machine.{stateOf}
 use Rattle.engine.specs.Calls.{answer, deliverCall}
-use Rattle.calls.proofs.Laws.{handed}
-use Rattle.calls.proofs.deliver_words.Statement.{statement}
-use Rattle.calls.proofs.deliver_words.Tie as tie
-use Rattle.calls.proofs.deliver_words.Reads as reads
-use Rattle.calls.proofs.deliver_words.Lts as lts
-use Rattle.calls.proofs.lent_words.Reads as lent-words-reads
+use Rattle.lent.proofs.Laws.{handed}
+use Rattle.lent.proofs.deliver_words.Statement.{statement}
+use Rattle.lent.proofs.deliver_words.Tie as tie
+use Rattle.lent.proofs.deliver_words.Reads as reads
+use Rattle.lent.proofs.deliver_words.Lts as lts
+use Rattle.lent.proofs.lent_words.Reads as lent-words-reads
 use Rattle.engine.proofs.deliver.Reads as deliver-reads
 
 -- src/lib.rt:136:9

@@ -1,9 +1,9 @@
 use borrow.Author.Needs.{needs}
-use Rattle.calls.proofs.Laws.{lent-few, lent-many}
-use Rattle.calls.proofs.lent_words.Statement.{statement}
-use Rattle.calls.proofs.lent_words.Tie as tie
-use Rattle.calls.proofs.lent_words.Reads as reads
-use Rattle.calls.proofs.lent_words.Lts as lts
+use Rattle.lent.proofs.Laws.{lent-few, lent-many}
+use Rattle.lent.proofs.lent_words.Statement.{statement}
+use Rattle.lent.proofs.lent_words.Tie as tie
+use Rattle.lent.proofs.lent_words.Reads as reads
+use Rattle.lent.proofs.lent_words.Lts as lts
 
 -- src/lib.rt:23:16
 mul-result : tie.Need-mul-result

@@ -27,9 +27,9 @@ use Rattle.records.specs.declared.Flat.{Flat}
 use Rattle.records.specs.Records.{flatWords, stored, flatOf}
 use Rattle.records.proofs.Laws.{stored-none}
 use Rattle.records.proofs.Words.{length-words, words-stored, length-flat, count-flat, words-flat}
-use Rattle.calls.specs.Lent.{lentWords, keptCount, lentOf}
-use Rattle.calls.specs.declared.After.{After}
-use Rattle.calls.proofs.Laws.{lent-few, lent-many, kept-few, kept-many}
+use Rattle.lent.specs.Lent.{lentWords, keptCount, lentOf}
+use Rattle.lent.specs.declared.After.{After}
+use Rattle.lent.proofs.Laws.{lent-few, lent-many, kept-few, kept-many}
 
 -- ---- words that are no recipe's: of no number of records from 1 to 64
 

@@ -9,7 +9,7 @@ use borrow.Author.Tests.{le-leb, lt-leb}
 use Rattle.base.specs.Tests.{pick}
 use Rattle.machine.specs.Machine.{State, stateOf, Answered}
 use Rattle.engine.specs.Calls.{answer}
-use Rattle.calls.specs.Lent.{lentWords, keptCount, lentOf}
+use Rattle.lent.specs.Lent.{lentWords, keptCount, lentOf}
 
 pub lent-few : (n : ℕ) → n ≤ 64 → (3 * n ≡ lentWords n) × (3 * n ≤ 192)
 unfolding lentWords pick
