@@ -1,4 +1,4 @@
--- What the functions below hand to each other: places as arrays of four, the box of a tile's cells, tests and reads of a place.
+-- What the functions below hand to each other: places as arrays of four, a processor's share of a dimension, the box of a tile's cells, tests of a place.
 -- No sentence of document 01; proofs/ ties each to Geometry and Messages.
 use Prim.Native.Nat.{ℕ, _+_, _*_, _-_, _/_, _%_, _≤_, _<_}
 use mathlib.Core.Path.{_≡_}

@@ -1,4 +1,4 @@
--- What the code below the calls is given of a nest: its counts, made once in a call.
+-- What the code below the calls is given of a nest: its counts, made once in a call; the tiles at the ends of a slot, and the steps to them.
 -- No sentence of document 01; the contracts of this crate and of those above cite it.
 use Prim.Native.Nat.{ℕ, suc, zero, _+_, _%_, _<_}
 use mathlib.Core.Path.{_≡_}
