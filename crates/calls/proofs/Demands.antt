@@ -17,8 +17,8 @@ use Rattle.engine.specs.Calls.{answer, recipe, freshCall, turnCall, deliverCall
 use Rattle.engine.specs.Demands.{calls}
 use Rattle.engine.proofs.Demands as engine
 use Rattle.records.specs.declared.Progress.{Progress}
-use Rattle.records.specs.Records.{flatWords, recordsOf}
-use Rattle.records.proofs.Words.{length-words, words-of, injective}
+use Rattle.records.specs.Records.{flatWords}
+use Rattle.records.proofs.Words.{length-words, unflat, words-unflat, injective}
 use Rattle.calls.specs.Demands.{Areas, inWords, seen, Kept, areasAfter, answersOver, Run, Demands}
 
 -- ---- the words after a call are records' words
@@ -28,14 +28,10 @@ abbrev Whole : List ℕ → Type 0
 Whole l = (n : ℕ) × (length l ≡ 3 * n)
 
 areasOf : State → Areas
-areasOf s = record { memories = s .memories; buffer = s .buffer; progress = recordsOf (s .progress) (length (s .progress) / 3); status = s .status }
+areasOf s = record { memories = s .memories; buffer = s .buffer; progress = unflat (s .progress); status = s .status }
 
-back : (l : List ℕ) → Whole l → flatWords (recordsOf l (length l / 3)) ≡ l
-back l (n, e) =
-    ap (λ (k : ℕ). flatWords (recordsOf l k)) (third (length l) n e) ∙ words-of l n (omega (arith, e)) ∙ take-all (3 * n) l (omega (arith, e))
-  where
-    third : (k n : ℕ) → k ≡ 3 * n → k / 3 ≡ n
-    third k n e = omega arith
+back : (l : List ℕ) → Whole l → flatWords (unflat l) ≡ l
+back l (n, e) = words-unflat n l e
 
 in-words : (s : State) → Whole (s .progress) → inWords (areasOf s) ≡ s
 unfolding areasOf

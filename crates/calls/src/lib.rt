@@ -4,7 +4,7 @@ ghost use mathlib.Core.Path.{_≡_};
 ghost use Rattle.machine.specs.Machine.{stateOf};
 ghost use Rattle.engine.specs.Calls.{answer, freshCall, turnCall, deliverCall, collectCall, sweepCall};
 ghost use Rattle.records.specs.Records.{flatWords};
-ghost use Rattle.calls.specs.Figures.{summaryCall, messageCall};
+ghost use Rattle.calls.specs.PlanCalls.{summaryCall, messageCall};
 use records::Progress;
 
 // One turn of a processor.
@@ -22,8 +22,8 @@ pub extern "C" fn rolwyddac_turn(
         ≡ turnCall (now (encoded .entry)) (now (source .entry)) (stateOf (now (memories .entry)) (now (buffer .entry)) (flatWords (now (progress .entry))) (now (status .entry))) processor ⌝ }
 {
     let flat = records::flatten(progress);
-    let after = lent::turn_words(encoded, source, memories, buffer, flat, status, processor);
-    records::store(progress, after.flat);
+    let after = engine::turn_flat(encoded, source, memories, buffer, flat, status, processor);
+    records::put(progress, after.number, processor, after.progress);
     after.number
 }
 
@@ -40,9 +40,8 @@ pub extern "C" fn rolwyddac_fresh(
     ensures { λ n. ⌜ answer n (stateOf (now (memories .exit)) (now (buffer .exit)) (flatWords (now (progress .exit))) (now (status .exit)))
         ≡ freshCall (now (encoded .entry)) (now (source .entry)) (stateOf (now (memories .entry)) (now (buffer .entry)) (flatWords (now (progress .entry))) (now (status .entry))) ⌝ }
 {
-    let flat = records::flatten(progress);
-    let after = lent::fresh_words(encoded, source, memories, buffer, flat, status);
-    records::store(progress, after.flat);
+    let after = engine::fresh_count(encoded, source, memories, buffer, progress.len(), status);
+    records::clear(progress, after.count);
     after.number
 }
 
@@ -61,7 +60,7 @@ pub extern "C" fn rolwyddac_deliver(
         ≡ deliverCall (now (encoded .entry)) (now (source .entry)) (stateOf (now (memories .entry)) (now (buffer .entry)) (flatWords (now (progress .entry))) (now (status .entry))) message ⌝ }
 {
     let flat = records::flatten(progress);
-    lent::deliver_words(encoded, source, memories, buffer, flat, status, message)
+    engine::deliver_flat(encoded, source, memories, buffer, flat, status, message)
 }
 
 // The grid, once all processors have finished.
@@ -79,7 +78,7 @@ pub extern "C" fn rolwyddac_collect(
         ≡ collectCall (now (encoded .entry)) (now (source .entry)) (stateOf (now (memories .entry)) (now (buffer .entry)) (flatWords (now (progress .entry))) (now (status .entry))) (now (grid .entry)) ⌝ }
 {
     let flat = records::flatten(progress);
-    lent::collect_words(encoded, source, memories, buffer, flat, status, grid)
+    engine::collect_flat(encoded, source, memories, buffer, flat, status, grid)
 }
 
 // The sequential sweep of the whole grid.

@@ -31,10 +31,10 @@ use Rattle.engine.specs.Demands.{calls}
 use Rattle.engine.proofs.Demands.{demands}
 use Rattle.drive.specs.Drive.{roundsOf, Started, Driven}
 use Rattle.drive.specs.declared.Order.{Order}
-use Rattle.drive.proofs.Ends.{numbered, before-none, behind-none}
+use Rattle.drive.proofs.Whole.{numbered, before-none, behind-none}
 use Rattle.comparison.specs.declared.Extent.{Extent}
 use Rattle.comparison.specs.Agreement.{Measured, Within, Finished, Ran, Agreed, Grids, Roomy, Compared}
-use Rattle.comparison.proofs.Bounds.{messages-most, words-most}
+use Rattle.comparison.proofs.Most.{messages-most, words-most}
 
 -- ---- a fresh start
 
@@ -198,10 +198,10 @@ module _ (bytes : List ℕ) (x : Extent) (b : Bytes bytes) (w : Within bytes x) 
 
 -- ---- the figures that the program gives
 
-pub within : (bytes : List ℕ) (r : Reading) (z : Sizes) (f : Figures) (c p : ℕ) → r ≡ readingOf bytes → r .number ≡ 0 → Sized (r .nest) z
+pub in-limits : (bytes : List ℕ) (r : Reading) (z : Sizes) (f : Figures) (c p : ℕ) → r ≡ readingOf bytes → r .number ≡ 0 → Sized (r .nest) z
     → (z .cells < 4294967296 → c ≡ z .cells) → (z .processors < 4294967296 → p ≡ z .processors) → (c ≤ 1024) × (c * p ≤ 4096)
     → f ≡ summaryOf bytes → Within bytes (record { cells = c; processors = p; messages = f .messages; words = f .words; steps = f .steps })
-within bytes r z f c p is zero-read g narrow narrow2 low e =
+in-limits bytes r z f c p is zero-read g narrow narrow2 low e =
     let read : firstOf (readLines bytes) ≡ 0 = sym (ap (λ (x : Reading). x .number) is) ∙ zero-read in
     let nest = nest-is bytes r is zero-read in
     let figures : f ≡ figuresOf (recipe bytes) = e ∙ sym (summary-is bytes (nestOf bytes) read refl) in

@@ -1,3 +1,3 @@
 pub mod Product
-pub mod Bounds
+pub mod Most
 pub mod Laws

@@ -84,7 +84,7 @@ fn run_whole(
     ensures { λ r. ⌜ Ran (now (encoded .entry)) (now (source .entry)) (stateOf (now (memories .entry)) (now (buffer .entry)) (now (progress .entry)) (now (status .entry))) r
         (stateOf (now (memories .exit)) (now (buffer .exit)) (now (progress .exit)) (now (status .exit))) ⌝ }
 {
-    if over_words::fresh(encoded, source, memories, buffer, progress, status) != 0 {
+    if engine::fresh(encoded, source, memories, buffer, progress, status) != 0 {
         return false;
     }
     let order = drive::Order {
@@ -121,7 +121,7 @@ fn is_swept(
     requires { ⌜ Grids (now encoded) (now grid) (now swept) ⌝ }
     ensures { λ r. ⌜ Agreed (now (encoded .entry)) (now (source .entry)) r (now (grid .exit)) ⌝ }
 {
-    if over_words::collect(encoded, source, memories, buffer, progress, status, grid) != 0 {
+    if engine::collect(encoded, source, memories, buffer, progress, status, grid) != 0 {
         return false;
     }
     if engine::sweep(encoded, source, swept) != 0 {

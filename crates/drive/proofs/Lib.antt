@@ -1,3 +1,3 @@
 pub mod Passes
-pub mod Ends
+pub mod Whole
 pub mod Steps

@@ -13,6 +13,7 @@ use Rattle.base.specs.Lists.{countIf}
 use Rattle.base.proofs.Tests.{or-right, pick-true, pick-false, one-true}
 use Rattle.machine.specs.Machine.{State, Answered}
 use Rattle.machine.specs.Runs.{Event, turnOf, deliveryOf, stateAfter, answersTo, steps}
+use Rattle.machine.proofs.RunLaws.{steps-append, steps-one}
 use Rattle.drive.specs.Drive.{inOrder, turnsTo, turns, deliveriesTo, took, roundOf}
 use Rattle.drive.specs.declared.Order.{Order}
 
@@ -32,29 +33,11 @@ placed P true b l =
 placed P false b l = (b, l, pick-false false (P - 1 - b) b refl)
 
 module _ (acts : State → Event → Answered State) where
-  pub after-append : (s : State) (a b : List Event) → stateAfter acts s (a ++ b) ≡ stateAfter acts (stateAfter acts s a) b
-  unfolding stateAfter
-  after-append s [] b = refl
-  after-append s (e ∷ a) b = after-append (acts s e .after) a b
-
-  pub steps-append : (s : State) (a b : List Event) → steps acts s (a ++ b) ≡ steps acts s a + steps acts (stateAfter acts s a) b
-  unfolding stateAfter answersTo countIf
-  steps-append s [] b = omega arith
-  steps-append s (e ∷ a) b = omega (arith, steps-append (acts s e .after) a b)
-
-  pub steps-one : (s : State) (e : Event) → steps acts s (e ∷ []) ≡ one (eqb (acts s e .number) 0)
-  unfolding answersTo countIf
-  steps-one s e = omega arith
-
-  pub after-one : (s : State) (a : List Event) (e : Event) → stateAfter acts s (a ++ (e ∷ [])) ≡ acts (stateAfter acts s a) e .after
-  unfolding stateAfter
-  after-one s a e = after-append s a (e ∷ [])
-
   pub took-one : (s : State) (a : List Event) (e : Event) → took acts s (a ++ (e ∷ [])) ≡ (took acts s a or eqb (acts (stateAfter acts s a) e .number) 0)
   unfolding took _or_ one
   took-one s a e =
       go (steps acts s a) (steps acts s (a ++ (e ∷ []))) (eqb (acts (stateAfter acts s a) e .number) 0)
-      (steps-append s a (e ∷ []) ∙ ap (λ (n : ℕ). steps acts s a + n) (steps-one (stateAfter acts s a) e))
+      (steps-append acts s a (e ∷ []) ∙ ap (λ (n : ℕ). steps acts s a + n) (steps-one acts (stateAfter acts s a) e))
     where
       go : (n m : ℕ) (t : Bool) → m ≡ n + one t → ltb 0 m ≡ (ltb 0 n or t)
       go n m true e = lt-ltb 0 m (omega (arith, e)) ∙ sym (or-right (ltb 0 n) refl)
@@ -86,8 +69,8 @@ module _ (acts : State → Event → Answered State) where
 
     pub idle-both : (s : State) (a b : List Event) → steps acts s (a ++ b) ≡ 0 → (steps acts s a ≡ 0) × (steps acts s b ≡ 0)
     idle-both s a b h =
-        let x : steps acts s a ≡ 0 = omega (arith, h, steps-append s a b) in
-        let y : steps acts (stateAfter acts s a) b ≡ 0 = omega (arith, h, steps-append s a b) in
+        let x : steps acts s a ≡ 0 = omega (arith, h, steps-append acts s a b) in
+        let y : steps acts (stateAfter acts s a) b ≡ 0 = omega (arith, h, steps-append acts s a b) in
         (x, rw (idle-state s a x) at y)
 
     pub idle-turn : (P : ℕ) (f : Bool) (s : State) (n : ℕ) → steps acts s (turnsTo P f n) ≡ 0 → (k : ℕ) → k < n
@@ -96,7 +79,7 @@ module _ (acts : State → Event → Answered State) where
     idle-turn P f s zero h k l = absurd (omega arith)
     idle-turn P f s (suc n) h k l =
         let x = idle-both s (turnsTo P f n) (turnOf (inOrder P f n) ∷ []) h in
-        go (λ l. idle-turn P f s n (x .0) k l) (idle-one s _ (sym (steps-one s _) ∙ x .1)) (eq-or-lt-of-le (omega arith))
+        go (λ l. idle-turn P f s n (x .0) k l) (idle-one s _ (sym (steps-one acts s _) ∙ x .1)) (eq-or-lt-of-le (omega arith))
       where
         go : (k < n → acts s (turnOf (inOrder P f k)) .number ≢ 0) → acts s (turnOf (inOrder P f n)) .number ≢ 0 → (k ≡ n) ⊎ (k < n)
             → acts s (turnOf (inOrder P f k)) .number ≢ 0
@@ -108,7 +91,7 @@ module _ (acts : State → Event → Answered State) where
     idle-delivery s zero h k l = absurd (omega arith)
     idle-delivery s (suc n) h k l =
         let x = idle-both s (deliveriesTo n) (deliveryOf n ∷ []) h in
-        go (λ l. idle-delivery s n (x .0) k l) (idle-one s _ (sym (steps-one s _) ∙ x .1)) (eq-or-lt-of-le (omega arith))
+        go (λ l. idle-delivery s n (x .0) k l) (idle-one s _ (sym (steps-one acts s _) ∙ x .1)) (eq-or-lt-of-le (omega arith))
       where
         go : (k < n → acts s (deliveryOf k) .number ≢ 0) → acts s (deliveryOf n) .number ≢ 0 → (k ≡ n) ⊎ (k < n)
             → acts s (deliveryOf k) .number ≢ 0

@@ -18,10 +18,11 @@ use Rattle.base.specs.Lists.{Bytes}
 use Rattle.engine.specs.Calls.{answer, turnCall, deliverCall}
 use Rattle.engine.specs.Demands.{calls}
 use Rattle.engine.proofs.Demands.{demands}
-use Rattle.drive.specs.Drive.{inOrder, turnsTo, turns, deliveriesTo, took, roundOf, roundsOf, Passed, Delivered, Driven}
+use Rattle.machine.proofs.RunLaws.{after-append, steps-append, after-one}
+use Rattle.drive.specs.Drive.{inOrder, turnsTo, turns, deliveriesTo, took, roundOf, roundsOf, Tried, Delivered, Driven}
 use Rattle.drive.specs.declared.Order.{Order}
-use Rattle.drive.proofs.Passes.{after-append, steps-append, after-one, took-one, took-none}
-use Rattle.drive.proofs.Ends.{refuses, delivery-low, ended}
+use Rattle.drive.proofs.Passes.{took-one, took-none}
+use Rattle.drive.proofs.Whole.{refuses, delivery-low, ended}
 
 -- ---- the order
 
@@ -40,12 +41,12 @@ order-rising P k = sym (pick-false false (P - 1 - k) k refl)
 -- ---- a pass, one event more
 
 module _ (acts : State → Event → Answered State) (s : State) where
-  begun : Passed acts s [] false s
+  begun : Tried acts s [] false s
   unfolding took stateAfter answersTo countIf
   begun = record { state = refl; some = refl }
 
-  more : (es : List Event) (e : Event) (done next : Bool) (t u : State) (r : ℕ) → Passed acts s es done t → answer r u ≡ acts t e
-      → next ≡ (done or eqb r 0) → Passed acts s (es ++ (e ∷ [])) next u
+  more : (es : List Event) (e : Event) (done next : Bool) (t u : State) (r : ℕ) → Tried acts s es done t → answer r u ≡ acts t e
+      → next ≡ (done or eqb r 0) → Tried acts s (es ++ (e ∷ [])) next u
   more es e done next t u r h is n =
       record {
         state = ap (λ (a : Answered State). a .after) is ∙ ap (λ (x : State). acts x e .after) (h .state) ∙ sym (after-one acts s es e);
@@ -73,19 +74,19 @@ module _ (acts : State → Event → Answered State) (o : Order) (k : ℕ) (t : 
 module _ (bytes source : List ℕ) (s : State) where
   -- ---- turns
 
-  pub turns-start : (P : ℕ) (f : Bool) → Passed (calls bytes source) s (turnsTo P f 0) false s
+  pub turns-start : (P : ℕ) (f : Bool) → Tried (calls bytes source) s (turnsTo P f 0) false s
   unfolding turnsTo
   turns-start P f = begun (calls bytes source) s
 
   pub turns-next : (P : ℕ) (f : Bool) (n : ℕ) (taken next : Bool) (t u : State) (b r : ℕ)
-      → Passed (calls bytes source) s (turnsTo P f n) taken t → b ≡ inOrder P f n → answer r u ≡ turnCall bytes source t b
-      → next ≡ (taken or eqb r 0) → Passed (calls bytes source) s (turnsTo P f (n + 1)) next u
+      → Tried (calls bytes source) s (turnsTo P f n) taken t → b ≡ inOrder P f n → answer r u ≡ turnCall bytes source t b
+      → next ≡ (taken or eqb r 0) → Tried (calls bytes source) s (turnsTo P f (n + 1)) next u
   unfolding turnsTo calls
   turns-next P f n taken next t u b r h e is k =
       rw add-one (more (calls bytes source) s (turnsTo P f n) (turnOf (inOrder P f n)) taken next t u r h (rw e at is) k)
 
   pub turns-done : (P : ℕ) (f : Bool) (n : ℕ) (taken : Bool) (t : State) → n ≤ P → P ≤ n
-      → Passed (calls bytes source) s (turnsTo P f n) taken t → Passed (calls bytes source) s (turnsTo P f P) taken t
+      → Tried (calls bytes source) s (turnsTo P f n) taken t → Tried (calls bytes source) s (turnsTo P f P) taken t
   turns-done P f n taken t l h x = let e : n ≡ P = omega arith in rw e at x
 
   -- ---- deliveries
@@ -105,33 +106,33 @@ module _ (bytes source : List ℕ) (s : State) where
         done = sym (ne-eqb _ 0 n);
       }
 
-  pub deliveries-start : Passed (calls bytes source) s (deliveriesTo 0) false s
+  pub deliveries-start : Tried (calls bytes source) s (deliveriesTo 0) false s
   unfolding deliveriesTo
   deliveries-start = begun (calls bytes source) s
 
-  pub deliveries-next : (n : ℕ) (done this next : Bool) (t u : State) → Passed (calls bytes source) s (deliveriesTo n) done t
-      → Delivered (deliverCall bytes source t n) this u → next ≡ (done or this) → Passed (calls bytes source) s (deliveriesTo (n + 1)) next u
+  pub deliveries-next : (n : ℕ) (done this next : Bool) (t u : State) → Tried (calls bytes source) s (deliveriesTo n) done t
+      → Delivered (deliverCall bytes source t n) this u → next ≡ (done or this) → Tried (calls bytes source) s (deliveriesTo (n + 1)) next u
   unfolding deliveriesTo calls
   deliveries-next n done this next t u h d k =
       rw add-one
       (more (calls bytes source) s (deliveriesTo n) (deliveryOf n) done next t u (deliverCall bytes source t n .number) h
       (ap (λ (x : State). answer (deliverCall bytes source t n .number) x) (d .state)) (k ∙ ap (λ (x : Bool). done or x) (d .done)))
 
-  pub deliveries-done : (M n : ℕ) (done : Bool) (t : State) → n ≤ M → M ≤ n → Passed (calls bytes source) s (deliveriesTo n) done t
-      → Passed (calls bytes source) s (deliveriesTo M) done t
+  pub deliveries-done : (M n : ℕ) (done : Bool) (t : State) → n ≤ M → M ≤ n → Tried (calls bytes source) s (deliveriesTo n) done t
+      → Tried (calls bytes source) s (deliveriesTo M) done t
   deliveries-done M n done t l h x = let e : n ≡ M = omega arith in rw e at x
 
   -- ---- a round
 
-  pub round-turns : (o : Order) (r : Bool) (t : State) → Passed (calls bytes source) s (turns o) r t → r ≡ true
-      → Passed (calls bytes source) s (roundOf (calls bytes source) o s) true t
+  pub round-turns : (o : Order) (r : Bool) (t : State) → Tried (calls bytes source) s (turns o) r t → r ≡ true
+      → Tried (calls bytes source) s (roundOf (calls bytes source) o s) true t
   unfolding roundOf
   round-turns o r t h e =
       let is = pick-true (took (calls bytes source) s (turns o)) (turns o) (turns o ++ deliveriesTo (o .messages)) (sym (h .some) ∙ e) in
       rw is (rw e at h)
 
-  pub round-both : (o : Order) (r q : Bool) (t u : State) → Passed (calls bytes source) s (turns o) r t → r ≡ false
-      → Passed (calls bytes source) t (deliveriesTo (o .messages)) q u → Passed (calls bytes source) s (roundOf (calls bytes source) o s) q u
+  pub round-both : (o : Order) (r q : Bool) (t u : State) → Tried (calls bytes source) s (turns o) r t → r ≡ false
+      → Tried (calls bytes source) t (deliveriesTo (o .messages)) q u → Tried (calls bytes source) s (roundOf (calls bytes source) o s) q u
   unfolding roundOf took
   round-both o r q t u h e d =
       let is = pick-false (took (calls bytes source) s (turns o)) (turns o) (turns o ++ deliveriesTo (o .messages)) (sym (h .some) ∙ e) in
@@ -156,14 +157,14 @@ module _ (bytes source : List ℕ) (s : State) where
       ≡ stateAfter (calls bytes source) s (roundsOf (calls bytes source) o n s)
 
   pub drive-next : (o : Order) (n left : ℕ) (t u : State) (r : Bool) → 0 < left → Left o n left t
-      → Passed (calls bytes source) t (roundOf (calls bytes source) o t) r u → r ≡ true → Left o n (left - 1) u
+      → Tried (calls bytes source) t (roundOf (calls bytes source) o t) r u → r ≡ true → Left o n (left - 1) u
   drive-next o n zero t u r l h p e = absurd (omega arith)
   drive-next o n (suc k) t u r l h p e =
       let less : suc k - 1 ≡ k = omega arith in
       rw (less, p .state) (sym (goes-on (calls bytes source) o k t (sym (p .some) ∙ e)) ∙ h)
 
   pub drive-none : (o : Order) (n left : ℕ) (t u : State) (r : Bool) → 0 < left → Left o n left t
-      → Passed (calls bytes source) t (roundOf (calls bytes source) o t) r u → r ≡ false
+      → Tried (calls bytes source) t (roundOf (calls bytes source) o t) r u → r ≡ false
       → u ≡ stateAfter (calls bytes source) s (roundsOf (calls bytes source) o n s)
   drive-none o n zero t u r l h p e = absurd (omega arith)
   drive-none o n (suc k) t u r l h p e = p .state ∙ sym (stops (calls bytes source) o k t (sym (p .some) ∙ e)) ∙ h

@@ -45,7 +45,7 @@ roundsOf acts o (suc n) s =
     roundOf acts o s ++ pick (took acts s (roundOf acts o s)) (roundsOf acts o n (stateAfter acts s (roundOf acts o s))) []
 
 -- the events took the areas from s to t, and the answer tells whether one of them gave 0
-pub record Passed (acts : State → Event → Answered State) (s : State) (es : List Event) (answer : Bool) (t : State) : Type 0 where
+pub record Tried (acts : State → Event → Answered State) (s : State) (es : List Event) (answer : Bool) (t : State) : Type 0 where
   pub state : t ≡ stateAfter acts s es
   pub some : answer ≡ took acts s es
 

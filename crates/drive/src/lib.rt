@@ -7,7 +7,7 @@ ghost use Rattle.base.specs.Tests.{_or_};
 ghost use Rattle.machine.specs.Machine.{stateOf};
 ghost use Rattle.engine.specs.Calls.{deliverCall};
 ghost use Rattle.engine.specs.Demands.{calls};
-ghost use Rattle.drive.specs.Drive.{inOrder, turnsTo, deliveriesTo, roundOf, Passed, Delivered, Driven};
+ghost use Rattle.drive.specs.Drive.{inOrder, turnsTo, deliveriesTo, roundOf, Tried, Delivered, Driven};
 
 // How many processors and messages there are, and in which order the processors take turns.
 pub struct Order {
@@ -46,14 +46,14 @@ fn turn_each(
     processors: u32,
     falling: bool,
 ) -> bool
-    ensures { λ r. ⌜ Passed (calls (now (encoded .entry)) (now (source .entry))) (stateOf (now (memories .entry)) (now (buffer .entry)) (now (progress .entry)) (now (status .entry))) (turnsTo processors falling processors) r
+    ensures { λ r. ⌜ Tried (calls (now (encoded .entry)) (now (source .entry))) (stateOf (now (memories .entry)) (now (buffer .entry)) (now (progress .entry)) (now (status .entry))) (turnsTo processors falling processors) r
         (stateOf (now (memories .exit)) (now (buffer .exit)) (now (progress .exit)) (now (status .exit))) ⌝ }
 {
     let mut taken = false;
     let mut place: u32 = 0;
     while place < processors {
         let processor = in_order(place, processors, falling);
-        let answer = over_words::turn(
+        let answer = engine::turn(
             encoded,
             source,
             memories,
@@ -93,8 +93,7 @@ fn deliver_one(
         (stateOf (now (memories .entry)) (now (buffer .entry)) (now (progress .entry)) (now (status .exit))) ⌝ }
 {
     if in_flight(status, message) {
-        return over_words::deliver(encoded, source, memories, buffer, progress, status, message)
-            == 0;
+        return engine::deliver(encoded, source, memories, buffer, progress, status, message) == 0;
     }
     false
 }
@@ -109,7 +108,7 @@ fn deliver_each(
     status: &mut [u8],
     messages: u32,
 ) -> bool
-    ensures { λ r. ⌜ Passed (calls (now (encoded .entry)) (now (source .entry))) (stateOf (now (memories .entry)) (now (buffer .entry)) (now (progress .entry)) (now (status .entry))) (deliveriesTo messages) r
+    ensures { λ r. ⌜ Tried (calls (now (encoded .entry)) (now (source .entry))) (stateOf (now (memories .entry)) (now (buffer .entry)) (now (progress .entry)) (now (status .entry))) (deliveriesTo messages) r
         (stateOf (now (memories .entry)) (now (buffer .entry)) (now (progress .entry)) (now (status .exit))) ⌝ }
 {
     let mut delivered = false;
@@ -132,7 +131,7 @@ fn round(
     status: &mut [u8],
     order: Order,
 ) -> bool
-    ensures { λ r. ⌜ Passed (calls (now (encoded .entry)) (now (source .entry))) (stateOf (now (memories .entry)) (now (buffer .entry)) (now (progress .entry)) (now (status .entry))) (roundOf (calls (now (encoded .entry)) (now (source .entry))) order (stateOf (now (memories .entry)) (now (buffer .entry)) (now (progress .entry)) (now (status .entry)))) r
+    ensures { λ r. ⌜ Tried (calls (now (encoded .entry)) (now (source .entry))) (stateOf (now (memories .entry)) (now (buffer .entry)) (now (progress .entry)) (now (status .entry))) (roundOf (calls (now (encoded .entry)) (now (source .entry))) order (stateOf (now (memories .entry)) (now (buffer .entry)) (now (progress .entry)) (now (status .entry)))) r
         (stateOf (now (memories .exit)) (now (buffer .exit)) (now (progress .exit)) (now (status .exit))) ⌝ }
 {
     let processors = order.processors;

@@ -1,5 +1,5 @@
 -- The three demands hold: of the calls' definitions, and of every run of them.
-use Prim.Native.Nat.{ℕ, _≤_}
+use Prim.Native.Nat.{ℕ, _≤_, _<_}
 use mathlib.Core.Path.{_≡_, refl, sym, ap, _∙_}
 use mathlib.Core.Bool.{Bool, true, false}
 use mathlib.Core.List.{List, [], _∷_, _++_}
@@ -9,28 +9,31 @@ use borrow.Author.Tests.{eq-eqb, ne-eqb}
 use Rattle.base.specs.Tests.{pick}
 use Rattle.base.specs.Numbers.{Line, line, firstOf}
 use Rattle.base.proofs.Tests.{and-true, pick-true, pick-false}
-use Rattle.machine.specs.Plan.{Plan, Message, Sound}
+use Rattle.machine.specs.Plan.{Plan, Message, Sound, count, heldBy}
 use Rattle.machine.specs.Machine as machine
 use Rattle.machine.specs.Machine.{State, Answered, answered, turn, deliver, collect, fresh}
 use Rattle.machine.specs.Runs.{Event, turnOf, deliveryOf, act, stateAfter, answersTo, CarriedOut, Demand3}
 use Rattle.machine.proofs.Kept.{Inv}
 use Rattle.machine.proofs.Fresh.{inv-fresh}
-use Rattle.machine.proofs.Run.{run-inv, next-inv}
+use Rattle.machine.proofs.Along.{run-inv, next-inv}
 use Rattle.machine.proofs.Theorem.{theorem}
 use Rattle.machine.proofs.Values.{sweep-fixed}
-use Rattle.base.specs.Lists.{Bytes}
+use Rattle.base.specs.Lists.{Rising, Bytes}
 use Rattle.nest.specs.Nest.{nestOf, readLines, nestLines}
 use Rattle.nest.proofs.Accepted.{Accepted}
 use Rattle.nest.specs.Nest.{cells}
 use Rattle.nest.proofs.Facts.{accepted}
 use Rattle.base.proofs.Select.{keep-rising}
-use Rattle.plan.specs.Messages.{slots, slotParcel, parcel}
+use Rattle.plan.specs.Messages.{slots, slotParcel, parcel, planOf}
+use Rattle.nest.specs.declared.Nest.{Nest}
 use Rattle.plan.proofs.Slots.{message-slot}
 use Rattle.plan.proofs.Sound.{sound}
 use Rattle.plan.proofs.Report.{report-agrees}
+use Rattle.plan.proofs.Exact.{exact}
 use Rattle.engine.specs.Calls.{recipe, areas, areaLines, freshCall, turnCall, deliverCall, collectCall, sweepCall}
 use Rattle.engine.proofs.Lines.{areas-are}
 use Rattle.engine.proofs.AsSteps.{turn-is, deliver-is, collect-is, fresh-gave}
+use Rattle.engine.proofs.Exact.{does, written}
 use Rattle.engine.specs.Demands.{Fixed, Demand1, Demand2, calls, Demands}
 
 -- ---- demand 1
@@ -162,7 +165,7 @@ module _ (bytes source : List ℕ) (ok : firstOf (readLines bytes) ≡ 0) (so : 
                 named = rw answers-are (x .named);
                 by-rule = rw (answers-are, state-is) (ap (λ (a : Answered State). a .after) (same (here before) (inv-here before) (turnOf b)) ∙ x .by-rule);
               };
-          within = λ b. rw answers-are (d .within b);
+          no-more = λ b. rw answers-are (d .no-more b);
           grid = λ h old l. ap (λ (a : Answered (List ℕ)). a .after) (grid-is events old l) ∙ d .grid (rw answers-are at h) old l;
         }
 
@@ -176,26 +179,33 @@ three bytes source s b z events =
 
 -- ---- demand 2
 
-demand2 : (bytes : List ℕ) → Accepted (nestOf bytes) → Demand2 bytes
+in-order : (x : Nest) (m : ℕ) → m < count (planOf x) → Rising (heldBy (planOf x) m)
 unfolding slotParcel parcel
-demand2 bytes ok =
+in-order x m l = let r = message-slot x (slots x) m l in rw (ap (λ (y : Message). y .cells) (r .4)) (keep-rising _ (cells x))
+
+demand2 : (bytes : List ℕ) → Accepted (nestOf bytes) → firstOf (readLines bytes) ≡ 0 → Demand2 bytes
+demand2 bytes ok z =
     record {
       report = report-agrees (nestOf bytes) ok;
-      in-order = λ m l.
-          let r = message-slot (nestOf bytes) (slots (nestOf bytes)) m l in
-          rw (ap (λ (x : Message). x .cells) (r .4)) (keep-rising _ (cells (nestOf bytes)));
+      in-order = in-order (nestOf bytes);
       not-empty = λ m l.
           let r = message-slot (nestOf bytes) (slots (nestOf bytes)) m l in
           rw (ap (λ (x : Message). x .cells) (r .4)) (r .2);
       swept = λ source c l.
           let so = sound (nestOf bytes) ok in
           sym (sweep-fixed (recipe bytes) source (so .local source) (so .earlier) c l);
+      exact = exact (nestOf bytes) ok;
+      turned = does bytes ok z (in-order (nestOf bytes));
+      unpacked = λ source s b t e n.
+          written bytes ok z (in-order (nestOf bytes)) source s _ b t _ (does bytes ok z (in-order (nestOf bytes)) source s b e) n;
+      nest = λ source grid array e l.
+          demand1 bytes source (machine.stateOf [] [] [] []) .sweep grid .works e ∙ sym (exact (nestOf bytes) ok .sweep-is source array l);
     }
 
 pub demands : Demands
 demands =
     record {
       one = demand1;
-      two = λ bytes b z. demand2 bytes (accepted bytes b z);
+      two = λ bytes b z. demand2 bytes (accepted bytes b z) z;
       three = three;
     }

@@ -1,4 +1,6 @@
 pub mod Turns
 pub mod Lines
+pub mod Reading
 pub mod AsSteps
 pub mod Demands
+pub mod Exact

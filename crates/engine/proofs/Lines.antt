@@ -24,7 +24,7 @@ use Rattle.layout.specs.Sizes.{Sized}
 use Rattle.nest.specs.declared.Reading.{Reading}
 use Rattle.nest.specs.Nest.{readLines, nestLines, nestOf, readingOf}
 use Rattle.stages.specs.Progress.{progressOnly}
-use Rattle.engine.specs.Given.{Areas, Passed, unfitLines}
+use Rattle.engine.specs.Given.{AreaLengths, MayTurn, unfitLines}
 use Rattle.engine.specs.Calls.{answer, areas, areaLines, freshCall, turnCall, deliverCall, collectCall, sweepCall}
 use Rattle.engine.proofs.Turns.{answered-no, answered-yes}
 
@@ -53,7 +53,7 @@ module _ (p : Plan) (source : List ℕ) (s : State) where
   by-status a b c d =
       sym (and-left _ _ (eq-eqb _ _ a) ∙ and-left _ _ (eq-eqb _ _ b) ∙ and-left _ _ (eq-eqb _ _ c) ∙ and-left _ _ (eq-eqb _ _ d))
 
-  pub areas-are : areas p source s ≡ true → Areas p source s
+  pub areas-are : areas p source s ≡ true → AreaLengths p source s
   unfolding areas
   areas-are e =
       let a = both e in
@@ -115,7 +115,7 @@ module _ (p : Plan) (source : List ℕ) (s : State) where
       let b = none-first 10 (not (fit p s)) [] (λ q. omega arith) (a .1) in
       (true-not (a .0), true-not (b .0))
 
-  pub passed : (b r : ℕ) → r ≡ firstOf (unfitLines p source s) → r ≡ 0 → b < p .processors → Passed p source s b
+  pub passed : (b r : ℕ) → r ≡ firstOf (unfitLines p source s) → r ≡ 0 → b < p .processors → MayTurn p source s b
   passed b r e z h = let q = unfit-none r e z in record { areas = areas-are p source s (q .0); fit = q .1; processor = h }
 
 -- ---- what reading gives

@@ -10,12 +10,12 @@ use lib.ListN.{length, getD}
 use lib.Dec.{ltb, eqb}
 use borrow.Author.Tests.{eq-eqb, ne-eqb, lt-ltb, le-ltb, ltb-true}
 use Rattle.base.specs.Tests.{_and_, not, pick}
-use Rattle.base.specs.Lists.{put, allAt, storeAll}
+use Rattle.base.specs.Lists.{allAt}
 use Rattle.base.specs.Numbers.{line, firstOf}
 use Rattle.base.proofs.Tests.{both, and-true, and-false, and-no, not-true, not-false, pick-true, pick-false, every-at}
 use Rattle.base.proofs.Numbers.{first-true, first-false}
 use Rattle.machine.specs.Plan.{Plan, tilesOf, sendsOf, duesOf}
-use Rattle.machine.specs.Machine.{State, stateOf, finishedOf, stageOf, sentOf, memoryOf, tilesLeft, currentTile, fitRecord, fit, gather, calculate, send, afterSends, carryOut, actionAt, nextAction, answered, waiting, turnLines, turn}
+use Rattle.machine.specs.Machine.{State, stateOf, finishedOf, stageOf, sentOf, tilesLeft, currentTile, fitRecord, fit, gather, calculate, send, carryOut, actionAt, nextAction, answered, waiting, turnLines, turn}
 use Rattle.engine.specs.Calls.{answer}
 
 -- ---- fit records
@@ -103,17 +103,11 @@ module _ (p : Plan) (source : List ℕ) (s : State) (b : ℕ) (e : fit p s ≡ t
         same : carryOut p [] s b (gather t) ≡ carryOut p source s b (gather (currentTile p s b))
         same = ap (λ (k : ℕ). carryOut p source s b (gather k)) i
 
-    pub step-calculates : (memories progress : List ℕ) → stageOf s b ≡ 1
-        → stateOf memories [] progress [] ≡ carryOut p source (stateOf (s .memories) [] (s .progress) []) b (calculate t)
-        → answer 0 (stateOf memories (s .buffer) progress (s .status)) ≡ turn p source s b
-    unfolding carryOut afterSends actionAt
-    step-calculates memories progress g q =
-        let m : memories ≡ put (s .memories) (b * p .cells) (storeAll (p .value source) (memoryOf p s b) (p .cellsOf t)) =
-        ap (λ (z : State). z .memories) q in
-        let r : progress ≡ afterSends p s b t 0 = ap (λ (z : State). z .progress) q in
-        let k : stateOf memories (s .buffer) progress (s .status) ≡ carryOut p source s b (calculate t) = rw (m, r) in
-        goes (past (λ y. absurd (omega arith))) (stateOf memories (s .buffer) progress (s .status))
-        (k ∙ ap (λ (u : ℕ). carryOut p source s b (calculate u)) i
+    pub step-calculates : (s′ : State) → stageOf s b ≡ 1 → s′ ≡ carryOut p source s b (calculate t) → answer 0 s′ ≡ turn p source s b
+    unfolding actionAt
+    step-calculates s′ g q =
+        goes (past (λ y. absurd (omega arith))) s′
+        (q ∙ ap (λ (u : ℕ). carryOut p source s b (calculate u)) i
         ∙ ap (λ (u : ℕ). carryOut p source s b (actionAt p u (currentTile p s b) (sentOf s b))) (sym g))
 
     sends : (g : ℕ) → g ≢ 0 → g ≢ 1 → send (getD (sendsOf p t) (sentOf s b) 0) ≡ actionAt p g t (sentOf s b)

@@ -5,15 +5,17 @@ use mathlib.Core.Path.{_≡_}
 use mathlib.Core.Logic.{_≢_}
 use mathlib.Core.List.{List}
 use lib.ListN.{length, getD, set}
-use Rattle.base.specs.Lists.{Rising}
+use Rattle.base.specs.Lists.{In, Rising}
 use Rattle.base.specs.Numbers.{firstOf}
-use Rattle.machine.specs.Plan.{count, heldBy}
+use Rattle.machine.specs.Plan.{count, heldBy, duesOf}
 use Rattle.machine.specs.Machine as machine
-use Rattle.machine.specs.Machine.{State, Answered, stateOf, carryOut, nextAction, collected}
+use Rattle.machine.specs.Machine.{State, Answered, stateOf, gather, carryOut, nextAction, collected}
+use Rattle.machine.specs.Words.{wordAt, mailAt, cellOf, Does}
 use Rattle.machine.specs.Runs.{Event, turnOf, deliveryOf, Demand3}
 use Rattle.base.specs.Lists.{Bytes}
 use Rattle.nest.specs.Nest.{nestOf, readLines}
 use Rattle.plan.specs.Report.{ReportAgrees}
+use Rattle.plan.specs.Exact.{Exact, sequential, runNest}
 use Rattle.engine.specs.Calls.{recipe, freshCall, turnCall, deliverCall, collectCall, sweepCall}
 
 -- a call does its work, or gives one number and leaves every lent word as before
@@ -37,6 +39,18 @@ pub record Demand2 (bytes : List ℕ) : Type 0 where
   pub not-empty : (m : ℕ) → m < count (recipe bytes) → 0 < length (heldBy (recipe bytes) m)
   pub swept : (source : List ℕ) (c : ℕ) → c < recipe bytes .cells
       → getD (machine.sweep (recipe bytes) source) c 0 ≡ recipe bytes .value source (machine.sweep (recipe bytes) source) c
+  -- which cells a message holds, which messages there are, the report's loops and the sequential nest
+  pub exact : Exact (nestOf bytes)
+  -- each turn that gave 0 did the rule of its action, word by word: it packed, unpacked or stored exactly what is named
+  pub turned : (source : List ℕ) (s : State) (b : ℕ) → turnCall bytes source s b .number ≡ 0
+      → Does (recipe bytes) source s (turnCall bytes source s b .after) b (nextAction (recipe bytes) s b)
+  -- a gather writes every word of every message due to its cell
+  pub unpacked : (source : List ℕ) (s : State) (b t : ℕ) → turnCall bytes source s b .number ≡ 0 → nextAction (recipe bytes) s b ≡ gather t
+      → (m q : ℕ) → In m (duesOf (recipe bytes) t) → q < length (heldBy (recipe bytes) m)
+      → wordAt (recipe bytes) (turnCall bytes source s b .after) b (cellOf (recipe bytes) m q) ≡ mailAt (recipe bytes) s m q
+  -- the sweep call leaves what the sequential nest leaves, from an array of any content
+  pub nest : (source grid array : List ℕ) → sweepCall bytes source grid .number ≡ 0 → length array ≡ recipe bytes .cells
+      → sweepCall bytes source grid .after ≡ runNest (nestOf bytes) source array (sequential (nestOf bytes))
 
 -- the events of a run, each a call
 unfoldable pub calls : List ℕ → List ℕ → State → Event → Answered State

@@ -18,7 +18,7 @@ use Rattle.plan.proofs.Rank.{place-last, place-before, place-low}
 use Rattle.layout.specs.declared.Bounds.{Bounds}
 use Rattle.layout.specs.Places.{nth, Ranked, Places, Placed, Inside, Follows, Located, Bounded}
 use Rattle.layout.proofs.Cells.{box-places, box-ranked, located}
-use Rattle.layout.proofs.Rows.{row-before, row-last}
+use Rattle.layout.proofs.CellRows.{row-before, row-last}
 
 -- ---- the first place
 

@@ -124,7 +124,7 @@ module _ (x : Nest) (ok : Accepted x) where
 
     -- a place of tiles, or one beyond
     pub tile-ranked : (i : List ℕ) (u : ℕ → ℕ) → Has i u (x .dimensions) → ((j : ℕ) → j < x .dimensions → u j ≤ tileCount x j) → Ranked across i (x .dimensions)
-    tile-ranked i u e w = record { counts = across-countable; within = λ j h. omega (arith, e .each j h, w j h, has .each j h) }
+    tile-ranked i u e w = record { counts = across-countable; at-most = λ j h. omega (arith, e .each j h, w j h, has .each j h) }
 
     pub tile-rank : (i : List ℕ) (u : ℕ → ℕ) → Has i u (x .dimensions) → rank (nth across) (nth i) (x .dimensions) ≡ tileAt x u
     unfolding tileAt
@@ -154,7 +154,7 @@ module _ (x : Nest) (ok : Accepted x) where
 
   module _ (t : ℕ) (i u : List ℕ) (e : Has i (tilePlace x t) (x .dimensions)) (f : Has u (λ j. getD i j 0 % getD (x .counts) j 0) (x .spread)) where
     pub processor-ranked : Ranked (x .counts) u (x .spread)
-    processor-ranked = record { counts = counts-countable; within = λ j h. omega (arith, f .each j h, mod-lt (getD i j 0) (ok .manned j h)) }
+    processor-ranked = record { counts = counts-countable; at-most = λ j h. omega (arith, f .each j h, mod-lt (getD i j 0) (ok .manned j h)) }
 
     pub processor-rank : rank (processorCount x) (nth u) (x .spread) ≡ processorOf x t
     unfolding processorOf
@@ -248,7 +248,7 @@ module _ (x : Nest) (ok : Accepted x) where
           record { each = λ j h. omega (arith, p .first j h, is .corner .each j h, place-lengths (nth (b .lengths)) (boxLength x (b .tile)) (x .dimensions) q j (is .lengths .each)) }
 
       pub box-ranked : Ranked (x .lengths) r (x .dimensions)
-      box-ranked = record { counts = lengths-countable; within = λ j h. omega (arith, placed-box .each j h, boxPlace-low x ok (b .tile) q j h) }
+      box-ranked = record { counts = lengths-countable; at-most = λ j h. omega (arith, placed-box .each j h, boxPlace-low x ok (b .tile) q j h) }
 
       box-rank : rank (lengthOf x) (nth r) (x .dimensions) ≡ boxCell x (b .tile) q
       unfolding boxCell cellAt

@@ -75,7 +75,7 @@ pub record RankTurn (N i : List ℕ) (left : ℕ) : Type 0 where
 
 pub rank-few : (N i : List ℕ) (left : ℕ) → Ranked N i left → rank (nth N) (nth i) left ≤ 65536
 rank-few N i left r =
-    omega (arith, rank-most (nth N) (nth i) left (r .counts .positive) (r .within), mul-le-mul-right (product (nth N) left) (r .counts .low), r .counts .few)
+    omega (arith, rank-most (nth N) (nth i) left (r .counts .positive) (r .at-most), mul-le-mul-right (product (nth N) left) (r .counts .low), r .counts .few)
 
 pub rank-turn : (N i : List ℕ) (left : ℕ) → left ≢ 0 → Ranked N i left → RankTurn N i left
 unfolding rank
@@ -83,7 +83,7 @@ rank-turn N i zero f r = absurd (f refl)
 rank-turn N i (suc l) f r =
     let z : suc l - 1 ≡ l = omega arith in
     let c : Countable N l = rw z at (product-turn N (suc l) f (r .counts) .counts) in
-    record { ranks = rw z (record { counts = c; within = λ j h. r .within j (omega arith) }); fits = rw z (rank-few N i (suc l) r); is = rw z }
+    record { ranks = rw z (record { counts = c; at-most = λ j h. r .at-most j (omega arith) }); fits = rw z (rank-few N i (suc l) r); is = rw z }
 
 -- ---- the place
 

@@ -1,7 +1,7 @@
 pub mod Dims
 pub mod Loops
 pub mod Cells
-pub mod Rows
+pub mod CellRows
 pub mod Nested
 pub mod Shares
 pub mod Advance

@@ -12,7 +12,7 @@ use Rattle.base.specs.Tests.{product}
 use Rattle.base.proofs.Tests.{pick-true, pick-false}
 use Rattle.nest.specs.declared.Nest.{Nest}
 use Rattle.plan.specs.Geometry.{place}
-use Rattle.plan.specs.Report.{values, doLoop, tileLoop, within, extend, loops}
+use Rattle.plan.specs.Report.{values, doLoop, tileLoop, forEach, extend, loops}
 use Rattle.plan.proofs.Rank.{place-last, place-before}
 
 -- ---- loops over lists
@@ -29,20 +29,20 @@ values-at s p (suc n) zero h = omega (arith, zero-mul p)
 values-at s p (suc n) (suc i) h = omega (arith, values-at (s + p) p n i (omega arith), suc-mul i p)
 
 module _ {A B : Type 0} (body : A → List B) (m : ℕ) (h : (a : A) → length (body a) ≡ m) where
-  within-length : (l : List A) → length (within body l) ≡ length l * m
-  unfolding within
-  within-length [] = rw zero-mul
-  within-length (y ∷ l) = length-append (body y) (within body l) ∙ omega (arith, h y, within-length l, suc-mul (length l) m)
+  forEach-length : (l : List A) → length (forEach body l) ≡ length l * m
+  unfolding forEach
+  forEach-length [] = rw zero-mul
+  forEach-length (y ∷ l) = length-append (body y) (forEach body l) ∙ omega (arith, h y, forEach-length l, suc-mul (length l) m)
 
-  within-at : (l : List A) (q r : ℕ) (d : A) (b : B) → q < length l → r < m → getD (within body l) (q * m + r) b ≡ getD (body (getD l q d)) r b
-  unfolding within
-  within-at [] q r d b k s = absurd (omega arith)
-  within-at (y ∷ l) zero r d b k s =
+  forEach-at : (l : List A) (q r : ℕ) (d : A) (b : B) → q < length l → r < m → getD (forEach body l) (q * m + r) b ≡ getD (body (getD l q d)) r b
+  unfolding forEach
+  forEach-at [] q r d b k s = absurd (omega arith)
+  forEach-at (y ∷ l) zero r d b k s =
       let e : 0 * m + r ≡ r = omega (arith, zero-mul m) in
-      ap (λ (i : ℕ). getD (body y ++ within body l) i b) e ∙ List·getD-append (body y) (within body l) b r (omega (arith, h y))
-  within-at (y ∷ l) (suc q) r d b k s =
+      ap (λ (i : ℕ). getD (body y ++ forEach body l) i b) e ∙ List·getD-append (body y) (forEach body l) b r (omega (arith, h y))
+  forEach-at (y ∷ l) (suc q) r d b k s =
       let e : suc q * m + r ≡ length (body y) + (q * m + r) = omega (arith, h y, suc-mul q m) in
-      ap (λ (i : ℕ). getD (body y ++ within body l) i b) e ∙ getD-append-add (body y) (within body l) (q * m + r) b ∙ within-at l q r d b (omega arith) s
+      ap (λ (i : ℕ). getD (body y ++ forEach body l) i b) e ∙ getD-append-add (body y) (forEach body l) (q * m + r) b ∙ forEach-at l q r d b (omega arith) s
 
 pub loop-same : {s t b c p q : ℕ} → s ≡ t → b ≡ c → p ≡ q → doLoop s b p ≡ values t q ((c + q - t) / q)
 unfolding doLoop
@@ -75,7 +75,7 @@ module _ (x : Nest) (at f s n : ℕ → ℕ) (m : ℕ) (is : (j : ℕ) → j < m
   pub loops-length : (l : ℕ) → l ≤ m → length (loops x at l) ≡ product n l
   unfolding loops product
   loops-length zero h = refl
-  loops-length (suc l) h = within-length (inner l) (n l) (inner-length l h) (loops x at l) ∙ ap (λ (k : ℕ). k * n l) (loops-length l (omega arith))
+  loops-length (suc l) h = forEach-length (inner l) (n l) (inner-length l h) (loops x at l) ∙ ap (λ (k : ℕ). k * n l) (loops-length l (omega arith))
 
   inner-at : (l : ℕ) → l < m → (t : ℕ → ℕ) (r : ℕ) → r < n l → getD (inner l t) r (λ j. 0) ≡ extend t l (f l + r * s l)
   inner-at l h t r k =
@@ -86,8 +86,8 @@ module _ (x : Nest) (at f s n : ℕ → ℕ) (m : ℕ) (is : (j : ℕ) → j < m
   unfolding loops product
   loops-at zero h c k j b = absurd (omega arith)
   loops-at (suc l) h c k j b =
-      ap (λ (i : ℕ). getD (within (inner l) (loops x at l)) i (λ j. 0) j) (sym (div-add-mod' c (n l)))
-      ∙ ap (λ (t : ℕ → ℕ). t j) (within-at (inner l) (n l) (inner-length l h) (loops x at l) (c / n l) (c % n l) (λ j. 0) (λ j. 0) (omega (arith, loops-length l (omega arith), quotient)) rest ∙ inner-at l h (getD (loops x at l) (c / n l) (λ j. 0)) (c % n l) rest)
+      ap (λ (i : ℕ). getD (forEach (inner l) (loops x at l)) i (λ j. 0) j) (sym (div-add-mod' c (n l)))
+      ∙ ap (λ (t : ℕ → ℕ). t j) (forEach-at (inner l) (n l) (inner-length l h) (loops x at l) (c / n l) (c % n l) (λ j. 0) (λ j. 0) (omega (arith, loops-length l (omega arith), quotient)) rest ∙ inner-at l h (getD (loops x at l) (c / n l) (λ j. 0)) (c % n l) rest)
       ∙ go (eq-or-lt-of-le (le-of-suc-le-suc b)) (loops-at l (omega arith) (c / n l) quotient)
     where
       positive : 1 ≤ n l

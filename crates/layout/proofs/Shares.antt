@@ -137,7 +137,7 @@ module _ (counts across : List ℕ) (spread m p : ℕ) where
   -- what the code makes of a share, and where it stands then
   pub record Turn (f l left weight tile : ℕ) (r : Share) : Type 0 where
     pub some : 0 < r .tiles
-    pub within : r .first + left % r .tiles * r .stride < getD across l 0
+    pub in-range : r .first + left % r .tiles * r .stride < getD across l 0
     pub room : tile + (r .first + left % r .tiles * r .stride) * weight < weight * getD across l 0
     pub wide : weight * getD across l 0 ≤ 1024
     pub next : Finding f l (r .rest) (left / r .tiles) (weight * getD across l 0) (tile + (r .first + left % r .tiles * r .stride) * weight)
@@ -338,7 +338,7 @@ module _ (x : Nest) (ok : Accepted x) (across : List ℕ) (a : Has across (tileC
     finding-step l rest left weight tile r c h =
         record {
           some = rw t (many-pos l (c .low));
-          within = below;
+          in-range = below;
           room = under-step tile v weight (N l) (c .under) below;
           wide = omega (arith, weight-most (product N l) (weight * N l) (product N (x .dimensions)) (product-pos N l (λ i k. across-pos i (omega (arith, c .low)))) weighs, across-few);
           next =

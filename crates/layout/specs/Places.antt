@@ -32,7 +32,7 @@ pub record Countable (N : List ℕ) (left : ℕ) : Type 0 where
 
 pub record Ranked (N i : List ℕ) (left : ℕ) : Type 0 where
   pub counts : Countable N left
-  pub within : (j : ℕ) → j < left → getD i j 0 ≤ getD N j 0
+  pub at-most : (j : ℕ) → j < left → getD i j 0 ≤ getD N j 0
 
 pub record Places (N from : List ℕ) (left : ℕ) : Type 0 where
   pub low : left ≤ 4

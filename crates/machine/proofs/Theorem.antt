@@ -21,7 +21,7 @@ use Rattle.machine.proofs.Fresh.{inv-fresh, left-fresh, status-fresh}
 use Rattle.machine.proofs.Going.{progress, going, all-delivered, all-finished, can-end, ends-right, none-more}
 use Rattle.machine.proofs.Deeds.{restOf, rest-fresh, rest-end, turn-takes}
 use Rattle.machine.proofs.Counts.{count-take, calculated-once, sent-once, taken-once}
-use Rattle.machine.proofs.Run.{run-inv, run-steps, run-takes, run-brings}
+use Rattle.machine.proofs.Along.{run-inv, run-steps, run-takes, run-brings}
 
 -- the first of what is left after k deeds is the k-th
 next-at : (l r : List Action) (k : ℕ) (x : Action) → drop k l ≡ x ∷ r → (k < length l) × (getD l k (gather 0) ≡ x)
@@ -34,35 +34,39 @@ next-at l r k x e = go (decLt k (length l))
 none-after : (l : List Action) (k : ℕ) → drop k l ≡ [] → length l ≤ k
 none-after l k e = let a : length l - k ≡ 0 = sym (length-drop k l) ∙ ap length e in omega arith
 
+-- ---- the events es, and processor b
+module _ (p : Plan) (so : Sound p) (source : List ℕ) (es : List Event) (b : ℕ) where
+  abbrev turns : ℕ
+  turns = turnsOf b es (answersTo (act p source) (fresh p) es)
+
+  within-es : turns ≤ length (program p b)
+  within-es = rw (rest-fresh p b) at (run-takes p so source b es (fresh p) (inv-fresh p source) .0)
+
+  rest-es : restOf p (stateAfter (act p source) (fresh p) es) b ≡ drop turns (program p b)
+  rest-es = run-takes p so source b es (fresh p) (inv-fresh p source) .1 ∙ ap (drop turns) (rest-fresh p b)
+
+  -- a turn that gives 0 after them does the next of the program
+  pub named-next : act p source (stateAfter (act p source) (fresh p) es) (turnOf b) .number ≡ 0
+      → (turns < length (program p b)) × (getD (program p b) turns (gather 0) ≡ nextAction p (stateAfter (act p source) (fresh p) es) b)
+  unfolding act
+  named-next z =
+      next-at (program p b) _ turns _
+      (sym rest-es ∙ turn-takes p (stateAfter (act p source) (fresh p) es) b source (run-inv p so source es (fresh p) (inv-fresh p source) .shape) z)
+
+  carried : act p source (stateAfter (act p source) (fresh p) es) (turnOf b) .number ≡ 0 → CarriedOut p source (act p source) (stateAfter (act p source) (fresh p) es) b turns
+  unfolding act
+  carried z =
+      record {
+        named = named-next z .0;
+        by-rule = by-next p source (stateAfter (act p source) (fresh p) es) b z ∙ ap (carryOut p source (stateAfter (act p source) (fresh p) es) b) (sym (named-next z .1));
+      }
+
 module _ (p : Plan) (so : Sound p) (source : List ℕ) (events : List Event) where
   inv : Inv p source (last (act p source) (fresh p) events)
   inv = run-inv p so source events (fresh p) (inv-fresh p source)
 
   counted : steps (act p source) (fresh p) events + leftOf p (last (act p source) (fresh p) events) ≡ total p
   counted = run-steps p so source events (fresh p) (inv-fresh p source) ∙ left-fresh p (λ m lo. omega (arith, so .forward m lo, so .taker-low m lo))
-
-  module _ (es : List Event) (b : ℕ) where
-    abbrev turns : ℕ
-    turns = turnsOf b es (answersTo (act p source) (fresh p) es)
-
-    within-es : turns ≤ length (program p b)
-    within-es = rw (rest-fresh p b) at (run-takes p so source b es (fresh p) (inv-fresh p source) .0)
-
-    rest-es : restOf p (stateAfter (act p source) (fresh p) es) b ≡ drop turns (program p b)
-    rest-es = run-takes p so source b es (fresh p) (inv-fresh p source) .1 ∙ ap (drop turns) (rest-fresh p b)
-
-    carried : act p source (stateAfter (act p source) (fresh p) es) (turnOf b) .number ≡ 0 → CarriedOut p source (act p source) (stateAfter (act p source) (fresh p) es) b turns
-    unfolding act
-    carried z =
-        record {
-          named = next .0;
-          by-rule = by-next p source (stateAfter (act p source) (fresh p) es) b z ∙ ap (carryOut p source (stateAfter (act p source) (fresh p) es) b) (sym (next .1));
-        }
-      where
-        next : (turns < length (program p b)) × (getD (program p b) turns (gather 0) ≡ nextAction p (stateAfter (act p source) (fresh p) es) b)
-        next =
-            next-at (program p b) _ turns _
-            (sym rest-es ∙ turn-takes p (stateAfter (act p source) (fresh p) es) b source (run-inv p so source es (fresh p) (inv-fresh p source) .shape) z)
 
   -- deeds of a kind that the programs name once
   module _ (f : Action → Bool) (once : sum (λ b. countIf f (program p b)) (p .processors) ≡ 1) where
@@ -75,7 +79,7 @@ module _ (p : Plan) (so : Sound p) (source : List ℕ) (events : List Event) whe
     exactly : leftOf p (last (act p source) (fresh p) events) ≡ 0 → timesOf p events (answers (act p source) (fresh p) events) f ≡ 1
     exactly z =
         sum-same (λ b. countIf f (take (turnsOf b events (answers (act p source) (fresh p) events)) (program p b))) (λ b. countIf f (program p b)) (p .processors)
-        (λ b h. ap (countIf f) (take-all (turnsOf b events (answers (act p source) (fresh p) events)) (program p b) (none-after (program p b) _ (sym (rest-es events b) ∙ empty b h))))
+        (λ b h. ap (countIf f) (take-all (turnsOf b events (answers (act p source) (fresh p) events)) (program p b) (none-after (program p b) _ (sym (rest-es p so source events b) ∙ empty b h))))
         ∙ once
       where
         empty : (b : ℕ) → b < p .processors → restOf p (last (act p source) (fresh p) events) b ≡ []
@@ -105,8 +109,8 @@ module _ (p : Plan) (so : Sound p) (source : List ℕ) (events : List Event) whe
         all-sent = λ e m h. exactly (sends m) (sent-once p so m h) (none e);
         all-delivered = λ e m h. let k = all-delivered p so source (last (act p source) (fresh p) events) inv (none e) m h in omega (arith, brought m h);
         all-taken = λ e m h. exactly (takes p m) (taken-once p so m h) (none e);
-        carried-out = λ before after b e z. carried before b z;
-        within = λ b. within-es events b;
+        carried-out = λ before after b e z. carried p so source before b z;
+        no-more = λ b. within-es p so source events b;
         grid = λ e old len. ends-right p so source (last (act p source) (fresh p) events) inv (none e) old;
       }
 

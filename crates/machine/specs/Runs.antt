@@ -19,14 +19,29 @@ unfoldable pub act : Plan → List ℕ → State → Event → Answered State
 act p source s (turnOf b) = turn p source s b
 act p source s (deliveryOf m) = deliver p s m
 
+-- ---- a run of anything: S is the machine's state, E its events, or other states and events that answer alike
+
 -- each event is given the state as the last left it; `acts` is the machine, or the calls themselves
-unfoldable pub stateAfter : (State → Event → Answered State) → State → List Event → State
+unfoldable pub stateAfter : {S E : Type 0} → (S → E → Answered S) → S → List E → S
 stateAfter acts s [] = s
 stateAfter acts s (e ∷ es) = stateAfter acts (acts s e .after) es
 
-unfoldable pub answersTo : (State → Event → Answered State) → State → List Event → List ℕ
+unfoldable pub answersTo : {S E : Type 0} → (S → E → Answered S) → S → List E → List ℕ
 answersTo acts s [] = []
 answersTo acts s (e ∷ es) = acts s e .number ∷ answersTo acts (acts s e .after) es
+
+module _ {S E : Type 0} (acts : S → E → Answered S) (start : S) (events : List E) where
+  abbrev pub last : S
+  last = stateAfter acts start events
+
+  abbrev pub answers : List ℕ
+  answers = answersTo acts start events
+
+  -- a step is an event that gave 0
+  abbrev pub steps : ℕ
+  steps = countIf (λ x. eqb x 0) answers
+
+-- ---- the machine's runs
 
 abbrev pub total : Plan → ℕ
 total p = 2 * p .tiles + 2 * count p
@@ -81,39 +96,29 @@ pub record CarriedOut (p : Plan) (source : List ℕ) (acts : State → Event →
 
 -- the claim about a list of events from `start`, by the answers that `acts` gives
 module _ (acts : State → Event → Answered State) (start : State) (events : List Event) where
-  abbrev pub last : State
-  last = stateAfter acts start events
-
-  abbrev pub answers : List ℕ
-  answers = answersTo acts start events
-
-  -- a step is an event that gave 0
-  abbrev pub steps : ℕ
-  steps = countIf (λ x. eqb x 0) answers
-
   pub record Demand3 (p : Plan) (source : List ℕ) (collects : State → List ℕ → Answered (List ℕ)) : Type 0 where
-    pub bound : steps ≤ total p
+    pub bound : steps acts start events ≤ total p
     -- some event would give 0 exactly when the steps are fewer
-    pub goes-on : steps < total p → (e : Event) × (acts last e .number ≡ 0)
-    pub then-fewer : (e : Event) → acts last e .number ≡ 0 → steps < total p
+    pub goes-on : steps acts start events < total p → (e : Event) × (acts (last acts start events) e .number ≡ 0)
+    pub then-fewer : (e : Event) → acts (last acts start events) e .number ≡ 0 → steps acts start events < total p
     -- collecting into a grid of the right length gives 0 exactly when they are that many
-    pub can-collect : steps ≡ total p → (grid : List ℕ) → length grid ≡ p .cells → collects last grid .number ≡ 0
-    pub then-all : (grid : List ℕ) → length grid ≡ p .cells → collects last grid .number ≡ 0 → steps ≡ total p
+    pub can-collect : steps acts start events ≡ total p → (grid : List ℕ) → length grid ≡ p .cells → collects (last acts start events) grid .number ≡ 0
+    pub then-all : (grid : List ℕ) → length grid ≡ p .cells → collects (last acts start events) grid .number ≡ 0 → steps acts start events ≡ total p
     -- no cell is calculated twice, no message sent, delivered or taken twice
-    pub calculated : (c : ℕ) → c < p .cells → timesOf p events answers (calculates p c) ≤ 1
-    pub sent : (m : ℕ) → m < count p → timesOf p events answers (sends m) ≤ 1
-    pub delivered : (m : ℕ) → m < count p → deliveriesOf m events answers ≤ 1
-    pub taken : (m : ℕ) → m < count p → timesOf p events answers (takes p m) ≤ 1
+    pub calculated : (c : ℕ) → c < p .cells → timesOf p events (answers acts start events) (calculates p c) ≤ 1
+    pub sent : (m : ℕ) → m < count p → timesOf p events (answers acts start events) (sends m) ≤ 1
+    pub delivered : (m : ℕ) → m < count p → deliveriesOf m events (answers acts start events) ≤ 1
+    pub taken : (m : ℕ) → m < count p → timesOf p events (answers acts start events) (takes p m) ≤ 1
     -- when they are that many, each exactly once
-    pub all-calculated : steps ≡ total p → (c : ℕ) → c < p .cells → timesOf p events answers (calculates p c) ≡ 1
-    pub all-sent : steps ≡ total p → (m : ℕ) → m < count p → timesOf p events answers (sends m) ≡ 1
-    pub all-delivered : steps ≡ total p → (m : ℕ) → m < count p → deliveriesOf m events answers ≡ 1
-    pub all-taken : steps ≡ total p → (m : ℕ) → m < count p → timesOf p events answers (takes p m) ≡ 1
+    pub all-calculated : steps acts start events ≡ total p → (c : ℕ) → c < p .cells → timesOf p events (answers acts start events) (calculates p c) ≡ 1
+    pub all-sent : steps acts start events ≡ total p → (m : ℕ) → m < count p → timesOf p events (answers acts start events) (sends m) ≡ 1
+    pub all-delivered : steps acts start events ≡ total p → (m : ℕ) → m < count p → deliveriesOf m events (answers acts start events) ≡ 1
+    pub all-taken : steps acts start events ≡ total p → (m : ℕ) → m < count p → timesOf p events (answers acts start events) (takes p m) ≡ 1
     -- each turn that gave 0 carried out, by the machine's rules, the action that the program names
     pub carried-out : (before after : List Event) (b : ℕ) → events ≡ before ++ (turnOf b ∷ after)
         → acts (stateAfter acts start before) (turnOf b) .number ≡ 0
         → CarriedOut p source acts (stateAfter acts start before) b (turnsOf b before (answersTo acts start before))
     -- no processor has a step beyond its program
-    pub within : (b : ℕ) → turnsOf b events answers ≤ length (program p b)
+    pub no-more : (b : ℕ) → turnsOf b events (answers acts start events) ≤ length (program p b)
     -- the collected grid equals the sweep
-    pub grid : steps ≡ total p → (old : List ℕ) → length old ≡ p .cells → collects last old .after ≡ sweep p source
+    pub grid : steps acts start events ≡ total p → (old : List ℕ) → length old ≡ p .cells → collects (last acts start events) old .after ≡ sweep p source

@@ -36,7 +36,7 @@ not-every f (suc n) e = go (not-every f n) (every f n) refl e
 
 -- ---- lines 3 to 8, where none of them holds
 
-pub record Passed (x : Nest) : Type 0 where
+pub record Unrefused (x : Nest) : Type 0 where
   pub lengths : badLength x ≡ false
   pub size : tooLarge x ≡ false
   pub distances : badDistance x ≡ false
@@ -44,9 +44,9 @@ pub record Passed (x : Nest) : Type 0 where
   pub counts : badProcessors x ≡ false
   pub number : tooManyTiles x ≡ false
 
-pub passed : (x : Nest) → firstOf (nestLines x) ≡ 0 → Passed x
+pub unrefused : (x : Nest) → firstOf (nestLines x) ≡ 0 → Unrefused x
 unfolding nestLines
-passed x h =
+unrefused x h =
     let p3 = none-first 3 (badLength x) _ (λ e. omega arith) h in
     let p4 = none-first 4 (tooLarge x) _ (λ e. omega arith) (p3 .1) in
     let p5 = none-first 5 (badDistance x) _ (λ e. omega arith) (p4 .1) in
@@ -156,7 +156,7 @@ module _ (bytes : List ℕ) (n e : ℕ) where
   unfolding nestBy
   sizes-are = (refl, refl, refl)
 
-  pub accepted-by : Bytes bytes → Formed bytes n e → Passed (nestBy bytes n e) → Accepted (nestBy bytes n e)
+  pub accepted-by : Bytes bytes → Formed bytes n e → Unrefused (nestBy bytes n e) → Accepted (nestBy bytes n e)
   accepted-by b f p =
       let x : Nest = nestBy bytes n e in
       let s = spread-in x (p .counts) in
@@ -204,4 +204,4 @@ unfolding readLines nestOf
 accepted bytes b h =
     let p1 = none-first 1 (ragged bytes) _ (λ e. omega arith) h in
     let p2 = none-first 2 (strayRecord bytes) _ (λ e. omega arith) (p1 .1) in
-    accepted-by bytes (ofKind bytes 1) (ofKind bytes 2) b (stray-no bytes (p2 .0)) (passed _ (p2 .1))
+    accepted-by bytes (ofKind bytes 1) (ofKind bytes 2) b (stray-no bytes (p2 .0)) (unrefused _ (p2 .1))

@@ -27,15 +27,15 @@ use Rattle.plan.proofs.Box.{quotient-is, boxLength-pos, boxCell-low, boxCell-pl
 use Rattle.layout.specs.declared.Bounds.{Bounds}
 use Rattle.layout.specs.declared.Cell.{Cell}
 use Rattle.layout.specs.Places.{nth, Has, Ranked, Places, Placed, Located, Bounded, bound, puts}
-use Rattle.layout.specs.Rows.{rowOf, Given}
+use Rattle.layout.specs.CellRows.{rowOf, Given}
 use Rattle.layout.proofs.Dims.{product-same, place-lengths}
 use Rattle.layout.proofs.Cells.{lengths-countable, box-places, place-small}
 use Rattle.layout.proofs.Loops.{every-same}
 use Rattle.parcels.proofs.Walks.{Walk, walked, Measuring, Unpacking}
-use Rattle.layout.proofs.Rows.{row-before, row-last, row-low, row-start, row-next, row-count, box-all, box-few}
+use Rattle.layout.proofs.CellRows.{row-before, row-last, row-low, row-start, row-next, row-count, box-all, box-few}
 use Rattle.parcels.specs.declared.Sending.{Sending}
 use Rattle.parcels.specs.declared.Row.{Row}
-use Rattle.parcels.specs.Windows.{Windowed, Ends, Run, RowEnds, PackedTo}
+use Rattle.parcels.specs.Windows.{Windowed, DistanceEnds, Leading, RowEnds, PackedTo}
 use Rattle.parcels.specs.Sendings.{carries, Unchanged, Alike, Sends, RowAt}
 use Rattle.parcels.proofs.Windows.{insideAt, tileAt, carry-yes, carry-no, row-ends, run-rest, measure-run, unpack-run}
 
@@ -143,7 +143,7 @@ module _ (x : Nest) (ok : Accepted x) (to low high : List ℕ) (w : Windowed x t
               let z : j ≡ x .dimensions - 1 = omega arith in
               ap (λ (a : ℕ). carries (getD low j 0) (getD high j 0) (a + component x e j)) (rw z back-last)
 
-      moved-is : (ends : List ℕ) → Ends x to i ends → ltb (getD m (x .dimensions - 1) 0) (getD ends e 0) ≡ puts x to m e
+      moved-is : (ends : List ℕ) → DistanceEnds x to i ends → ltb (getD m (x .dimensions - 1) 0) (getD ends e 0) ≡ puts x to m e
       moved-is ends f =
           ap (λ (a : ℕ). ltb a (getD ends e 0)) (sym back-last)
           ∙ f .each e l .is (tabulate (λ j. pick (ltb j (x .dimensions - 1)) (getD i j 0) (getD m j 0)) 4) back-before
@@ -151,7 +151,7 @@ module _ (x : Nest) (ok : Accepted x) (to low high : List ℕ) (w : Windowed x t
           ∙ every-same _ _ (x .dimensions) each
           ∙ sym (puts-window m e)
 
-    pub ends-moved : (ends : List ℕ) → Ends x to i ends → Ends x to k ends
+    pub ends-moved : (ends : List ℕ) → DistanceEnds x to i ends → DistanceEnds x to k ends
     ends-moved ends f = record { each = λ e l. record { is = λ m g. moved-is e l m g ends f } }
 
 -- ---- the place of a row
@@ -259,7 +259,7 @@ module _ (x : Nest) (ok : Accepted x) (s : ℕ) (b : Bounds) (to : List ℕ) (w 
             omega (arith, four (x .dimensions - 1 - 1) (omega (arith, ok .dimensions-least)), next-moved x ok b (w .box) n q r c l rows p h y (room-at y k)) in
             rw z (ap (carries (getD low (x .dimensions - 1 - 1) 0) (getD high (x .dimensions - 1 - 1) 0)) g ∙ f .same e y i k)
 
-    pub alike-row : (ends : List ℕ) → Ends x to (c .place) ends
+    pub alike-row : (ends : List ℕ) → DistanceEnds x to (c .place) ends
         → RowEnds x s b ((r + y) * n) (boxCell x (b .tile) ((r + y) * n)) (getD (c .place) (x .dimensions - 1) 0) n ends
     alike-row ends g =
         let z : getD (tabulate (cellPlace x (boxCell x (b .tile) ((r + y) * n))) 4) (x .dimensions - 1) 0 ≡ getD (c .place) (x .dimensions - 1) 0 =
@@ -305,7 +305,7 @@ module _ (x : Nest) (ok : Accepted x) (s : ℕ) (z : Sending) (p : Sends x s z) 
     pub row-inner : getD at (x .dimensions - 1 - 1) 0 < getD (z .bounds .corner) (x .dimensions - 1 - 1) 0 + getD (z .bounds .lengths) (x .dimensions - 1 - 1) 0
     row-inner = row-inside x ok (z .bounds) (p .box) (z .width) (p .width) r firstCell row-located (z .rows) (p .rows) h
 
-    pub row-found : (ends : List ℕ) → Ends x (z .to) at ends → (a run m : ℕ) → a ≡ getD at (x .dimensions - 1) 0 → Run ends (x .distances) a (z .width) run
+    pub row-found : (ends : List ℕ) → DistanceEnds x (z .to) at ends → (a run m : ℕ) → a ≡ getD at (x .dimensions - 1) 0 → Leading ends (x .distances) a (z .width) run
         → Alike x (z .window .low) (z .window .high) (z .bounds) at m → RowAt x s z r (record { place = at; component = a; ends = ends; run = run; alike = m })
     row-found ends f a run m e v k =
         record {
@@ -321,7 +321,7 @@ module _ (x : Nest) (ok : Accepted x) (s : ℕ) (z : Sending) (p : Sends x s z) 
 module _ (x : Nest) (ok : Accepted x) (s : ℕ) (z : Sending) (r : ℕ) (q : Row) (f : RowAt x s z r q) where
   pub row-ranked : Ranked (x .lengths) (q .place) (x .dimensions)
   row-ranked =
-      record { counts = lengths-countable x ok; within = λ j h. omega (arith, f .place .each j h, cellPlace-low x ok (boxCell x (z .bounds .tile) (r * z .width)) j h) }
+      record { counts = lengths-countable x ok; at-most = λ j h. omega (arith, f .place .each j h, cellPlace-low x ok (boxCell x (z .bounds .tile) (r * z .width)) j h) }
 
   pub row-first : (m : ℕ) → m ≡ rank (nth (x .lengths)) (nth (q .place)) (x .dimensions) → RowEnds x s (z .bounds) (r * z .width) m (q .component) (z .width) (q .ends)
   row-first m e = rw (e ∙ number-is) (f .first)

@@ -26,11 +26,11 @@ use Rattle.plan.proofs.Box.{quotient-is, quotient-least, quotient-most, boxParc
 use Rattle.layout.specs.declared.Bounds.{Bounds}
 use Rattle.layout.specs.declared.Cell.{Cell}
 use Rattle.layout.specs.Places.{nth, Located, puts}
-use Rattle.layout.specs.Rows.{rowOf, Given}
-use Rattle.parcels.specs.Windows.{Windowed, RowEnd, Ends, Run, RowEnds, PackedTo}
+use Rattle.layout.specs.CellRows.{rowOf, Given}
+use Rattle.parcels.specs.Windows.{Windowed, RowEnd, DistanceEnds, Leading, RowEnds, PackedTo}
 use Rattle.layout.proofs.Loops.{every-same, some-same, Sofar, sofar-end, Filled, filled-end}
 use Rattle.parcels.proofs.Walks.{Walk, walked, meets, Measuring, Unpacking, Searching, walked-mono, walked-hit, walked-more, walked-miss, walked-room, reach-is, pack-append, unpack-append}
-use Rattle.layout.proofs.Rows.{row-before, row-last, every-last, box-in, box-row, row-fits}
+use Rattle.layout.proofs.CellRows.{row-before, row-last, every-last, box-in, box-row, row-fits}
 
 -- ---- the window's test in one dimension
 
@@ -203,7 +203,7 @@ module _ (ends : List ℕ) (n a : ℕ) where
         go y (yes k) = lt-ltb (a + y) m k ∙ sym (or-left _ (lt-ltb (a + y) m k))
         go y (no k) = or-no (ltb (a + y) m) _ (le-ltb (a + y) (getD ends e 0) (omega arith))
 
-  pub run-end : (m e w r : ℕ) → Highest ends n a m e → n ≤ e → r ≡ min w (m - a) → Run ends n a w r
+  pub run-end : (m e w r : ℕ) → Highest ends n a m e → n ≤ e → r ≡ min w (m - a) → Leading ends n a w r
   run-end m e w r s h q =
       let z : e ≡ n = omega (arith, s .low) in
       record {
@@ -252,7 +252,7 @@ module _ (x : Nest) (ok : Accepted x) (s : ℕ) (b : Bounds) (to : List ℕ) (w 
       four : (j : ℕ) → j < x .dimensions → getD (tabulate (cellPlace x (boxCell x (b .tile) (r * n + y))) 4) j 0 ≡ cellPlace x (boxCell x (b .tile) (r * n + y)) j
       four j i = tabulate-at _ 4 j (omega (arith, ok .dimensions-most))
 
-      pub row-test : (to′ ends : List ℕ) → to′ ≡ to → Ends x to′ (c .place) ends → (e : ℕ) → e < x .distances
+      pub row-test : (to′ ends : List ℕ) → to′ ≡ to → DistanceEnds x to′ (c .place) ends → (e : ℕ) → e < x .distances
           → ltb (getD (c .place) (x .dimensions - 1) 0 + y) (getD ends e 0) ≡ reaches x (b .tile) (slotDirection x s) (boxCell x (b .tile) (r * n + y)) e
       row-test to′ ends t f e i =
           ap (λ (z : ℕ). ltb z (getD ends e 0)) (sym (four (x .dimensions - 1) (omega (arith, ok .dimensions-least)) ∙ ending))
@@ -261,7 +261,7 @@ module _ (x : Nest) (ok : Accepted x) (s : ℕ) (b : Bounds) (to : List ℕ) (w 
           ∙ reach-is x ok s b to w (r * n + y) (record { number = boxCell x (b .tile) (r * n + y); place = tabulate (cellPlace x (boxCell x (b .tile) (r * n + y))) 4 })
           (record { low = boxCell-low x ok (b .tile) (r * n + y); number = refl; place = record { each = four } }) e
 
-    pub row-ends : (ends : List ℕ) → Ends x to (c .place) ends → RowEnds x s b (r * n) (c .number) (getD (c .place) (x .dimensions - 1) 0) n ends
+    pub row-ends : (ends : List ℕ) → DistanceEnds x to (c .place) ends → RowEnds x s b (r * n) (c .number) (getD (c .place) (x .dimensions - 1) 0) n ends
     row-ends ends f =
         record {
           room = box-in x ok b (w .box) r rows n p q h .0;
@@ -281,7 +281,7 @@ module _ (x : Nest) (s : ℕ) (b : Bounds) (first c a w : ℕ) (ends : List ℕ)
   pub row-meets : (y : ℕ) → y < w → some (λ e. ltb (a + y) (getD ends e 0)) (x .distances) ≡ meets x s b (first + y)
   row-meets y k = some-same _ _ (x .distances) (λ e i. f .tests y e k i)
 
-  module _ (n : ℕ) (p : Run ends (x .distances) a w n) where
+  module _ (n : ℕ) (p : Leading ends (x .distances) a w n) where
     run-meets : (y : ℕ) → y < w → meets x s b (first + y) ≡ ltb y n
     run-meets y k = sym (row-meets y k) ∙ sym (p .is y k)
 
@@ -466,7 +466,7 @@ module _ (x : Nest) (to i : List ℕ) where
       go d (inl q) = rw (q, getD-set-same ends e v 0 (omega (arith, s .long))) r
       go d (inr q) = rw (getD-set-other ends e d v 0 (λ z. omega arith)) (s .each d q)
 
-  pub ending-end : (ends : List ℕ) (e : ℕ) → Ending x to i ends e → x .distances ≤ e → Ends x to i ends
+  pub ending-end : (ends : List ℕ) (e : ℕ) → Ending x to i ends e → x .distances ≤ e → DistanceEnds x to i ends
   ending-end ends e s h = record { each = λ d k. s .each d (omega (arith, s .low)) }
 
 -- ---- a row being packed, whatever nest and box it is of

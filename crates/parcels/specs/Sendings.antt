@@ -16,7 +16,7 @@ use Rattle.layout.specs.declared.Bounds.{Bounds}
 use Rattle.layout.specs.Places.{nth, Has, Bounded, bound}
 use Rattle.parcels.specs.declared.Sending.{Sending}
 use Rattle.parcels.specs.declared.Row.{Row}
-use Rattle.parcels.specs.Windows.{Windowed, Run, RowEnds}
+use Rattle.parcels.specs.Windows.{Windowed, Leading, RowEnds}
 
 -- the carry test
 abbrev pub carries : ℕ → ℕ → ℕ → Bool
@@ -49,7 +49,7 @@ pub record Sends (x : Nest) (s : ℕ) (z : Sending) : Type 0 where
 pub record RowAt (x : Nest) (s : ℕ) (z : Sending) (r : ℕ) (q : Row) : Type 0 where
   pub place : Has (q .place) (cellPlace x (boxCell x (z .bounds .tile) (r * z .width))) (x .dimensions)
   pub first : RowEnds x s (z .bounds) (r * z .width) (boxCell x (z .bounds .tile) (r * z .width)) (q .component) (z .width) (q .ends)
-  pub run : Run (q .ends) (x .distances) (q .component) (z .width) (q .run)
+  pub run : Leading (q .ends) (x .distances) (q .component) (z .width) (q .run)
   pub least : 1 ≤ q .alike
   pub room : r + q .alike ≤ z .rows
   pub alike : (y : ℕ) → y < q .alike

@@ -28,11 +28,11 @@ pub record RowEnd (x : Nest) (to i : List ℕ) (e r : ℕ) : Type 0 where
   pub is : (k : List ℕ) → ((j : ℕ) → j < x .dimensions - 1 → getD k j 0 ≡ getD i j 0) → ltb (getD k (x .dimensions - 1) 0) r ≡ puts x to k e
 
 -- so for each distance
-pub record Ends (x : Nest) (to i ends : List ℕ) : Type 0 where
+pub record DistanceEnds (x : Nest) (to i ends : List ℕ) : Type 0 where
   pub each : (e : ℕ) → e < x .distances → RowEnd x to i e (getD ends e 0)
 
 -- of the w cells from the last component a on, the first r are below one of the n ends, and no others
-pub record Run (ends : List ℕ) (n a w r : ℕ) : Type 0 where
+pub record Leading (ends : List ℕ) (n a w r : ℕ) : Type 0 where
   pub low : r ≤ w
   pub is : (y : ℕ) → y < w → ltb y r ≡ some (λ e. ltb (a + y) (getD ends e 0)) n
 

@@ -10,9 +10,9 @@ ghost use Rattle.nest.specs.Nest.{cells, tiles};
 ghost use Rattle.plan.specs.Messages.{slots, slotParcel};
 ghost use Rattle.layout.specs.Sizes.{Sized};
 ghost use Rattle.layout.specs.Places.{Has, Bounded, bound};
-ghost use Rattle.layout.specs.Rows.{Given, rowOf};
+ghost use Rattle.layout.specs.CellRows.{Given, rowOf};
 ghost use Rattle.parcels.specs.Twins.{Twin};
-ghost use Rattle.parcels.specs.Windows.{Windowed, RowEnd, Ends, Run, RowEnds, PackedTo};
+ghost use Rattle.parcels.specs.Windows.{Windowed, RowEnd, DistanceEnds, Leading, RowEnds, PackedTo};
 ghost use Rattle.parcels.specs.Sendings.{Unchanged, Alike, Sends, RowAt};
 use layout::Bounds;
 use layout::Sizes;
@@ -169,7 +169,7 @@ fn ends_of(
 ) -> [usize; 8]
     requires { ⌜ Accepted nest × Given nest (now components) ⌝ }
     requires { ⌜ Windowed nest to (window .low) (window .high) × ((j : ℕ) → j < nest .dimensions → getD at j 0 < 1024) ⌝ }
-    ensures { λ r. ⌜ Ends nest to at r ⌝ }
+    ensures { λ r. ⌜ DistanceEnds nest to at r ⌝ }
 {
     let mut ends = [0; 8];
     let n = nest.distances;
@@ -182,7 +182,7 @@ fn ends_of(
 // How many cells of a row, from a last component on, some distance puts there: they are the first ones.
 fn run_of(ends: &[usize; 8], n: usize, component: usize, width: usize) -> usize
     requires { ⌜ n ≤ 8 ⌝ }
-    ensures { λ r. ⌜ Run (now (ends .entry)) n component width r ⌝ }
+    ensures { λ r. ⌜ Leading (now (ends .entry)) n component width r ⌝ }
 {
     let mut end = component;
     for e in 0..n {

@@ -10,3 +10,6 @@ pub mod Sets
 pub mod Dues
 pub mod Loops
 pub mod Report
+pub mod Exact
+pub mod Nested
+pub mod Program

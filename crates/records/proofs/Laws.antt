@@ -4,13 +4,13 @@ use mathlib.Core.Path.{_≡_, refl, sym, ap, _∙_}
 use mathlib.Core.List.{List, [], _∷_, _++_, append-assoc}
 use native.Mathlib.Omega.{arith}
 use native.Mathlib.Numerals.{add-one}
-use lib.ListN.{length, getD, set, take, drop, replicate, length-set, length-append, length-drop, drop-of-length-le}
+use lib.ListN.{length, getD, set, take, drop, replicate, length-set, length-append, length-drop, length-replicate, drop-of-length-le}
 use lib.Seq.{drop-cons, set-at}
 use borrow.Author.Tests.{lt-ltb, le-ltb}
 use Rattle.base.specs.Tests.{pick}
 use Rattle.records.specs.declared.Progress.{Progress}
 use Rattle.records.specs.declared.Flat.{Flat}
-use Rattle.records.specs.Records.{flatWords, recordAt, recordsOf, stored, blank, wordsAt, withRecord, flatFrom, flatOf}
+use Rattle.records.specs.Records.{flatWords, zeros, zeroRecords, blank, wordsAt, withRecord, flatFrom, flatOf}
 
 abbrev pub none : Progress
 none = record { finished = 0; stage = 0; sent = 0 }
@@ -47,23 +47,22 @@ offset-fits n i room l = omega arith
 pub nearer : (n i : ℕ) → i < n → n - (i + 1) < n - i
 nearer n i l = omega arith
 
--- the records of words: as many as asked, and one more
-pub length-records : (words : List ℕ) (n : ℕ) → length (recordsOf words n) ≡ n
-unfolding recordsOf
-length-records words zero = refl
-length-records words (suc n) = length-append (recordsOf words n) (recordAt words n ∷ []) ∙ ap (λ (k : ℕ). k + 1) (length-records words n) ∙ add-one n
+-- the first n records set to zero: as many records, and one more
+pub length-zeros : (n : ℕ) (rs : List Progress) → n ≤ length rs → length (zeroRecords n rs) ≡ length rs
+unfolding zeroRecords
+length-zeros n rs l = rw (length-append (replicate n zeros) (drop n rs), length-replicate {A = Progress} n zeros, length-drop n rs) (omega arith)
 
-pub length-stored : (words : List ℕ) (n : ℕ) (rs : List Progress) → n ≤ length rs → length (stored words n rs) ≡ length rs
-unfolding stored
-length-stored words n rs l = rw (length-append (recordsOf words n) (drop n rs), length-records words n, length-drop n rs) (omega arith)
+pub zeros-none : (rs : List Progress) → rs ≡ zeroRecords 0 rs
+unfolding zeroRecords
+zeros-none rs = refl
 
-pub stored-none : (words : List ℕ) (rs : List Progress) → rs ≡ stored words 0 rs
-unfolding stored recordsOf
-stored-none words rs = refl
+replicate-more : (n : ℕ) (xs : List Progress) → replicate n zeros ++ (zeros ∷ xs) ≡ replicate (suc n) zeros ++ xs
+replicate-more zero xs = refl
+replicate-more (suc n) xs = ap (λ (l : List Progress). zeros ∷ l) (replicate-more n xs)
 
-pub stored-more : (words : List ℕ) (n : ℕ) (rs : List Progress) → n < length rs → set (stored words n rs) n (recordAt words n) ≡ stored words (n + 1) rs
-unfolding stored recordsOf
-stored-more words n rs l =
+pub zeros-more : (n : ℕ) (rs : List Progress) → n < length rs → set (zeroRecords n rs) n zeros ≡ zeroRecords (n + 1) rs
+unfolding zeroRecords
+zeros-more n rs l =
     rw (drop-cons rs n none l, add-one n)
-    (set-at (recordsOf words n) (getD rs n none) (drop (suc n) rs) (recordAt words n) n (length-records words n)
-    ∙ sym (append-assoc (recordsOf words n) (recordAt words n ∷ []) (drop (suc n) rs)))
+    (set-at (replicate n zeros) (getD rs n none) (drop (suc n) rs) zeros n (length-replicate {A = Progress} n zeros)
+    ∙ replicate-more n (drop (suc n) rs))

@@ -1,10 +1,10 @@
--- The words of the board records, three a record, and the records of words.
+-- The words of the board records, three a record; a record stored, records set to zero.
 -- Renders document 01, "The machine": "These are three words, and there is one record for each board".
 use Prim.Native.Nat.{ℕ, zero, suc, _+_, _*_}
 use mathlib.Core.Path.{_≡_}
 use mathlib.Core.List.{List, [], _∷_, _++_}
 use lib.ListN.{length, getD, set, drop, replicate}
-use lib.Dec.{ltb}
+use lib.Dec.{ltb, eqb}
 use Rattle.base.specs.Tests.{pick}
 use Rattle.records.specs.declared.Progress.{Progress}
 use Rattle.records.specs.declared.Flat.{Flat}
@@ -17,19 +17,6 @@ flatWords (r ∷ rs) = r .finished ∷ r .stage ∷ r .sent ∷ flatWords rs
 -- words fix the records
 abbrev pub Injective : Type 0
 Injective = (rs ss : List Progress) → flatWords rs ≡ flatWords ss → rs ≡ ss
-
--- record i of these words
-abbrev pub recordAt : List ℕ → ℕ → Progress
-recordAt words i = record { finished = getD words (3 * i) 0; stage = getD words (3 * i + 1) 0; sent = getD words (3 * i + 2) 0 }
-
--- the first n records of these words
-unfoldable pub recordsOf : List ℕ → ℕ → List Progress
-recordsOf words zero = []
-recordsOf words (suc n) = recordsOf words n ++ (recordAt words n ∷ [])
-
--- the first n records replaced by those of the words
-unfoldable pub stored : List ℕ → ℕ → List Progress → List Progress
-stored words n rs = recordsOf words n ++ drop n rs
 
 -- what the code keeps of the words of records: 192 of them, and the number of records
 abbrev pub blank : ℕ → Flat
@@ -48,3 +35,14 @@ flatFrom i (r ∷ rs) f = flatFrom (i + 1) rs (withRecord f i r)
 
 abbrev pub flatOf : List Progress → Flat
 flatOf rs = flatFrom 0 rs (blank (length rs))
+
+-- one record stored where the number is 0
+unfoldable pub putAt : ℕ → ℕ → Progress → List Progress → List Progress
+putAt number i r rs = pick (eqb number 0) (set rs i r) rs
+
+-- the first n records set to zero
+abbrev pub zeros : Progress
+zeros = record { finished = 0; stage = 0; sent = 0 }
+
+unfoldable pub zeroRecords : ℕ → List Progress → List Progress
+zeroRecords n rs = replicate n zeros ++ drop n rs

@@ -1,9 +1,8 @@
 // The board records as structs: the words of a slice of them, and the slice from its words; the same of an array.
 ghost use mathlib.Core.Path.{_≡_};
-ghost use mathlib.Core.List.{_++_};
-ghost use Prim.Native.Nat.{_<_, _≤_, _+_, _*_};
-ghost use lib.ListN.{length, take, drop};
-ghost use Rattle.records.specs.Records.{blank, withRecord, flatOf, flatWords, recordAt, recordsOf, stored};
+ghost use Prim.Native.Nat.{_<_, _≤_};
+ghost use lib.ListN.{length};
+ghost use Rattle.records.specs.Records.{blank, withRecord, flatOf, flatWords, putAt, zeros, zeroRecords};
 
 // A processor's record (document 01: board record): tiles finished, stage (0 gather, 1 calculate, 2 send), messages sent of the current tile.
 #[repr(C)]
@@ -57,64 +56,34 @@ pub fn flatten(progress: &[Progress]) -> Flat
     flat
 }
 
-// Record i, from its words.
-pub fn record_of(flat: Flat, i: usize) -> Progress
-    requires { ⌜ i < 64 ⌝ }
-    ensures { λ r. ⌜ r ≡ recordAt (flat .words) i ⌝ }
+// One record stored, where the number is 0.
+pub fn put(progress: &mut [Progress], number: u32, i: u32, p: Progress)
+    requires { ⌜ (number ≡ 0 → i < length (now progress)) ⌝ }
+    ensures { λ _. ⌜ now (progress .exit) ≡ putAt number i p (now (progress .entry)) ⌝ }
+{
+    if number == 0 {
+        progress[i as usize] = p;
+    }
+}
+
+fn zero() -> Progress
+    ensures { λ r. ⌜ r ≡ zeros ⌝ }
 {
     Progress {
-        finished: flat.words[3 * i],
-        stage: flat.words[3 * i + 1],
-        sent: flat.words[3 * i + 2],
-    }
-}
-
-// The first records stored from their words.
-pub fn store(progress: &mut [Progress], flat: Flat)
-    requires { ⌜ (flat .count ≤ 64) × (flat .count ≤ length (now progress)) ⌝ }
-    ensures { λ _. ⌜ now (progress .exit) ≡ stored (flat .words) (flat .count) (now (progress .entry)) ⌝ }
-{
-    let mut i = 0;
-    while i < flat.count {
-        progress[i] = record_of(flat, i);
-        i += 1;
-    }
-}
-
-// An array of records, the first ones those of the words.
-pub fn array_of(words: &[u32], count: usize) -> [Progress; 64]
-    requires { ⌜ (count ≤ 64) × (3 * count ≤ length (now words)) ⌝ }
-    ensures { λ r. ⌜ (take count r ≡ recordsOf (now (words .entry)) count) × (length r ≡ 64) ⌝ }
-{
-    let zeros = Progress {
         finished: 0,
         stage: 0,
         sent: 0,
-    };
-    let mut progress = [zeros; 64];
-    let mut i: usize = 0;
-    while i < count {
-        progress[i] = Progress {
-            finished: words[3 * i],
-            stage: words[3 * i + 1],
-            sent: words[3 * i + 2],
-        };
-        i += 1;
     }
-    progress
 }
 
-// The words of the first records written over the first words.
-pub fn put_words(words: &mut [u32], progress: [Progress; 64], count: usize)
-    requires { ⌜ (count ≤ 64) × ((3 * count ≤ length (now words)) × (length progress ≡ 64)) ⌝ }
-    ensures { λ _. ⌜ now (words .exit) ≡ flatWords (take count progress) ++ drop (3 * count) (now (words .entry)) ⌝ }
+// The first records set to zero.
+pub fn clear(progress: &mut [Progress], count: usize)
+    requires { ⌜ count ≤ length (now progress) ⌝ }
+    ensures { λ _. ⌜ now (progress .exit) ≡ zeroRecords count (now (progress .entry)) ⌝ }
 {
-    let mut i: usize = 0;
+    let mut i = 0;
     while i < count {
-        let record = progress[i];
-        words[3 * i] = record.finished;
-        words[3 * i + 1] = record.stage;
-        words[3 * i + 2] = record.sent;
+        progress[i] = zero();
         i += 1;
     }
 }

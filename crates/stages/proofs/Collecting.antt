@@ -20,7 +20,7 @@ use Rattle.plan.proofs.Rank.{place-last}
 use Rattle.plan.proofs.Tiles.{tilePlace-tileOf, processorOf-same}
 use Rattle.layout.specs.declared.Sizes.{Sizes}
 use Rattle.layout.specs.Sizes.{Sized}
-use Rattle.layout.proofs.Rows.{row-before, row-low}
+use Rattle.layout.proofs.CellRows.{row-before, row-low}
 use Rattle.stages.proofs.Parts.{Stored, store-start, stored-all, back, mid-is, mid-length, room}
 
 -- ---- rows

@@ -2,7 +2,12 @@
 -- No sentence of document 01; the contracts of the functions that are lent the records alone cite it.
 use Prim.Native.Nat.{ℕ}
 use mathlib.Core.List.{List, []}
-use Rattle.machine.specs.Machine.{State, stateOf}
+use Rattle.machine.specs.Machine.{State, stateOf, setProgress}
+use Rattle.records.specs.declared.Progress.{Progress}
 
 abbrev pub progressOnly : List ℕ → State
 progressOnly progress = stateOf [] [] progress []
+
+-- the words of records, those of record b replaced
+abbrev pub setRecord : List ℕ → ℕ → Progress → List ℕ
+setRecord l b r = setProgress l b (r .finished) (r .stage) (r .sent)

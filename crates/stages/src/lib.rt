@@ -1,7 +1,7 @@
 // The stages of a turn and the other work on lent areas below the engine's calls: each asks for areas of their lengths.
 ghost use mathlib.Core.Path.{_≡_};
-ghost use mathlib.Core.List.{[]};
-ghost use Prim.Native.Nat.{_+_, _*_, _≤_, _<_};
+ghost use mathlib.Core.List.{List, []};
+ghost use Prim.Native.Nat.{ℕ, _+_, _*_, _≤_, _<_};
 ghost use lib.ListN.{length, getD, replicate};
 ghost use lib.Dec.{ltb, leb};
 ghost use Rattle.base.specs.Tests.{pick, every, some};
@@ -11,8 +11,8 @@ ghost use Rattle.machine.specs.Machine.{stateOf, placeOf, setProgress, fitRecor
 ghost use Rattle.nest.specs.Nest.{cells, tiles, processors};
 ghost use Rattle.plan.specs.Messages.{messages, planOf};
 ghost use Rattle.layout.specs.Sizes.{Sized};
-ghost use Rattle.table.specs.Table.{Table, Placed};
-ghost use Rattle.stages.specs.Progress.{progressOnly};
+ghost use Rattle.table.specs.Table.{Table, Located};
+ghost use Rattle.stages.specs.Progress.{progressOnly, setRecord};
 use base::word_index;
 use layout::Sizes;
 use layout::processor_of;
@@ -20,6 +20,7 @@ use layout::tile_of;
 use nest::Nest;
 use parcels::pack;
 use parcels::unpack;
+use records::Progress;
 use table::Place;
 use table::count_at;
 use table::nth_at;
@@ -29,7 +30,7 @@ use values::calculate;
 
 // One message from its place in the buffer into one processor's memory.
 fn take_message(nest: Nest, sizes: Sizes, memory: &mut [u32], buffer: &[u32], place: Place)
-    requires { ⌜ Sized nest sizes × Placed nest (place .number) place ⌝ }
+    requires { ⌜ Sized nest sizes × Located nest (place .number) place ⌝ }
     requires { ⌜ (length (now memory) ≡ cells nest) × (length (now buffer) ≡ words (planOf nest)) ⌝ }
     ensures { λ _. ⌜ now (memory .exit)
         ≡ unpack (now (memory .entry)) (heldBy (planOf nest) (place .number)) (placeOf (planOf nest) (now (buffer .entry)) (place .number)) ⌝ }
@@ -85,17 +86,6 @@ pub fn ready(nest: Nest, sizes: Sizes, lens: &[u16; 7168], status: &[u8], tile: 
     true
 }
 
-// The record of a processor.
-fn store_record(progress: &mut [u32], processor: usize, finished: u32, stage: u32, sent: u32)
-    requires { ⌜ 3 * processor + 2 < length (now progress) ⌝ }
-    ensures { λ _. ⌜ now (progress .exit) ≡ setProgress (now (progress .entry)) processor finished stage sent ⌝ }
-{
-    let at = 3 * processor;
-    progress[at] = finished;
-    progress[at + 1] = stage;
-    progress[at + 2] = sent;
-}
-
 // Stage 0, all messages due being delivered. Only the processor's own part of the memories is lent on.
 pub fn gather_stage(
     nest: Nest,
@@ -103,15 +93,16 @@ pub fn gather_stage(
     lens: &[u16; 7168],
     memories: &mut [u32],
     buffer: &[u32],
-    progress: &mut [u32],
     status: &mut [u8],
     processor: usize,
     tile: usize,
-)
+    finished: u32,
+) -> Progress
     requires { ⌜ Sized nest sizes × (Table nest (now lens) × (processor < processors nest)) ⌝ }
-    requires { ⌜ (length (now memories) ≡ processors nest * cells nest) × ((length (now buffer) ≡ words (planOf nest)) × ((length (now progress) ≡ 3 * processors nest) × (length (now status) ≡ count (planOf nest)))) ⌝ }
-    ensures { λ _. ⌜ stateOf (now (memories .exit)) (now (buffer .entry)) (now (progress .exit)) (now (status .exit))
-        ≡ carryOut (planOf nest) [] (stateOf (now (memories .entry)) (now (buffer .entry)) (now (progress .entry)) (now (status .entry))) processor (gather tile) ⌝ }
+    requires { ⌜ (length (now memories) ≡ processors nest * cells nest) × ((length (now buffer) ≡ words (planOf nest)) × (length (now status) ≡ count (planOf nest))) ⌝ }
+    ensures { λ r. ⌜ ((l : List ℕ) → finished ≡ getD l (3 * processor) 0
+        → stateOf (now (memories .exit)) (now (buffer .entry)) (setRecord l processor r) (now (status .exit))
+        ≡ carryOut (planOf nest) [] (stateOf (now (memories .entry)) (now (buffer .entry)) l (now (status .entry))) processor (gather tile)) ⌝ }
 {
     let cells = sizes.cells;
     let base = processor * cells;
@@ -125,21 +116,29 @@ pub fn gather_stage(
         status,
         tile,
     );
-    let finished = progress[3 * processor];
-    store_record(progress, processor, finished, 1, 0);
+    Progress {
+        finished: finished,
+        stage: 1,
+        sent: 0,
+    }
 }
 
 // The record once `sent` of the tile's n messages are sent.
-fn next_record(progress: &mut [u32], processor: usize, finished: u32, sent: usize, n: usize)
-    requires { ⌜ (3 * processor + 2 < length (now progress)) × ((finished < 1024) × (n ≤ 7168)) ⌝ }
-    ensures { λ _. ⌜ now (progress .exit)
-        ≡ pick (ltb sent n) (setProgress (now (progress .entry)) processor finished 2 sent) (setProgress (now (progress .entry)) processor (finished + 1) 0 0) ⌝ }
+fn next_record(finished: u32, sent: usize, n: usize) -> Progress
+    requires { ⌜ (finished < 1024) × (n ≤ 7168) ⌝ }
+    ensures { λ r. ⌜ ((l : List ℕ) (b : ℕ) → setRecord l b r ≡ pick (ltb sent n) (setProgress l b finished 2 sent) (setProgress l b (finished + 1) 0 0)) ⌝ }
 {
     if sent < n {
-        let more = sent as u32;
-        store_record(progress, processor, finished, 2, more);
-    } else {
-        store_record(progress, processor, finished + 1, 0, 0);
+        return Progress {
+            finished: finished,
+            stage: 2,
+            sent: sent as u32,
+        };
+    }
+    Progress {
+        finished: finished + 1,
+        stage: 0,
+        sent: 0,
     }
 }
 
@@ -150,28 +149,27 @@ pub fn calculate_stage(
     lens: &[u16; 7168],
     source: &[u32],
     memories: &mut [u32],
-    progress: &mut [u32],
     processor: usize,
     tile: usize,
-)
+    finished: u32,
+) -> Progress
     requires { ⌜ Sized nest sizes × (Table nest (now lens) × ((processor < processors nest) × (tile < tiles nest))) ⌝ }
-    requires { ⌜ (length (now source) ≡ cells nest) × ((length (now memories) ≡ processors nest * cells nest) × (length (now progress) ≡ 3 * processors nest)) ⌝ }
-    requires { ⌜ getD (now progress) (3 * processor) 0 < 1024 ⌝ }
-    ensures { λ _. ⌜ stateOf (now (memories .exit)) [] (now (progress .exit)) []
-        ≡ carryOut (planOf nest) (now (source .entry)) (stateOf (now (memories .entry)) [] (now (progress .entry)) []) processor (calculate tile) ⌝ }
+    requires { ⌜ (length (now source) ≡ cells nest) × ((length (now memories) ≡ processors nest * cells nest) × (finished < 1024)) ⌝ }
+    ensures { λ r. ⌜ ((buffer l status : List ℕ) → finished ≡ getD l (3 * processor) 0
+        → stateOf (now (memories .exit)) buffer (setRecord l processor r) status
+        ≡ carryOut (planOf nest) (now (source .entry)) (stateOf (now (memories .entry)) buffer l status) processor (calculate tile)) ⌝ }
 {
     let cells = sizes.cells;
     let base = processor * cells;
     let end = base + cells;
     calculate(nest, sizes, source, &mut memories[base..end], tile);
     let n = count_at(nest, sizes, lens, tile, 0);
-    let finished = progress[3 * processor];
-    next_record(progress, processor, finished, 0, n);
+    next_record(finished, 0, n)
 }
 
 // One message from a processor's memory into its place in the buffer.
 fn put_message(nest: Nest, sizes: Sizes, memory: &[u32], buffer: &mut [u32], place: Place)
-    requires { ⌜ Sized nest sizes × Placed nest (place .number) place ⌝ }
+    requires { ⌜ Sized nest sizes × Located nest (place .number) place ⌝ }
     requires { ⌜ (length (now memory) ≡ cells nest) × (length (now buffer) ≡ words (planOf nest)) ⌝ }
     ensures { λ _. ⌜ now (buffer .exit)
         ≡ put (now (buffer .entry)) (offset (messages nest) (place .number)) (pack (now (memory .entry)) (heldBy (planOf nest) (place .number))) ⌝ }
@@ -189,20 +187,20 @@ pub fn send_stage(
     lens: &[u16; 7168],
     memories: &[u32],
     buffer: &mut [u32],
-    progress: &mut [u32],
     status: &mut [u8],
     processor: usize,
     tile: usize,
-)
+    finished: u32,
+    sent: usize,
+) -> Progress
     requires { ⌜ Sized nest sizes × (Table nest (now lens) × (processor < processors nest)) ⌝ }
-    requires { ⌜ (length (now memories) ≡ processors nest * cells nest) × ((length (now buffer) ≡ words (planOf nest)) × ((length (now progress) ≡ 3 * processors nest) × (length (now status) ≡ count (planOf nest)))) ⌝ }
-    requires { ⌜ (getD (now progress) (3 * processor) 0 < 1024) × (getD (now progress) (3 * processor + 2) 0 < length (sendsOf (planOf nest) tile)) ⌝ }
-    ensures { λ _. ⌜ stateOf (now (memories .entry)) (now (buffer .exit)) (now (progress .exit)) (now (status .exit))
-        ≡ carryOut (planOf nest) [] (stateOf (now (memories .entry)) (now (buffer .entry)) (now (progress .entry)) (now (status .entry))) processor
-        (send (getD (sendsOf (planOf nest) tile) (getD (now (progress .entry)) (3 * processor + 2) 0) 0)) ⌝ }
+    requires { ⌜ (length (now memories) ≡ processors nest * cells nest) × ((length (now buffer) ≡ words (planOf nest)) × (length (now status) ≡ count (planOf nest))) ⌝ }
+    requires { ⌜ (finished < 1024) × (sent < length (sendsOf (planOf nest) tile)) ⌝ }
+    ensures { λ r. ⌜ ((l : List ℕ) → finished ≡ getD l (3 * processor) 0 → sent ≡ getD l (3 * processor + 2) 0
+        → stateOf (now (memories .entry)) (now (buffer .exit)) (setRecord l processor r) (now (status .exit))
+        ≡ carryOut (planOf nest) [] (stateOf (now (memories .entry)) (now (buffer .entry)) l (now (status .entry))) processor
+        (send (getD (sendsOf (planOf nest) tile) (getD l (3 * processor + 2) 0) 0))) ⌝ }
 {
-    let finished = progress[3 * processor];
-    let sent = word_index(progress[3 * processor + 2]);
     let cells = sizes.cells;
     let base = processor * cells;
     let end = base + cells;
@@ -211,7 +209,7 @@ pub fn send_stage(
     let number = place.number;
     status[number] = 1;
     let n = count_at(nest, sizes, lens, tile, 0);
-    next_record(progress, processor, finished, sent + 1, n);
+    next_record(finished, sent + 1, n)
 }
 
 // The record of one processor is fit.

@@ -25,12 +25,12 @@ use Rattle.layout.specs.Sizes.{endAt}
 use Rattle.table.specs.declared.Place.{Place}
 use Rattle.table.specs.declared.MessageLine.{MessageLine}
 use Rattle.table.specs.declared.Figures.{Figures}
-use Rattle.table.specs.Table.{Placed}
-use Rattle.table.specs.Summary.{answered, figuresOf, summaryOf, lineOf, noLine, messageLines, lineIf, messageLineOf}
+use Rattle.table.specs.Table.{Located}
+use Rattle.table.specs.Summary.{asFigures, figuresOf, summaryOf, lineOf, noLine, messageLines, lineIf, messageLineOf}
 
 -- ---- the line of a message
 
-module _ (n : Nest) (m : ℕ) (r : Place) (a : Accepted n) (p : Placed n m r) where
+module _ (n : Nest) (m : ℕ) (r : Place) (a : Accepted n) (p : Located n m r) where
   pub from-is : senderOf (planOf n) m ≡ endAt n 0 (r .slot)
   unfolding endAt
   from-is = ap (λ (x : Message). x .sender) (p .is)
@@ -62,10 +62,10 @@ unfolding pick
 nest-is bytes r e z =
     ap (λ (x : Reading). x .nest) e ∙ rw (eq-eqb (firstOf (readLines bytes)) 0 (sym (ap (λ (x : Reading). x .number) e) ∙ z)) refl
 
-pub summary-refused : (bytes : List ℕ) (k : ℕ) → k ≡ firstOf (readLines bytes) → k ≢ 0 → answered (refused k) ≡ summaryOf bytes
+pub summary-refused : (bytes : List ℕ) (k : ℕ) → k ≡ firstOf (readLines bytes) → k ≢ 0 → asFigures (refused k) ≡ summaryOf bytes
 unfolding summaryOf figures figuresIf
 summary-refused bytes zero e h = absurd (h refl)
-summary-refused bytes (suc k) e h = ap (λ (i : ℕ). answered (figuresIf i (planOf (nestOf bytes)))) e
+summary-refused bytes (suc k) e h = ap (λ (i : ℕ). asFigures (figuresIf i (planOf (nestOf bytes)))) e
 
 pub summary-is : (bytes : List ℕ) (x : Nest) → firstOf (readLines bytes) ≡ 0 → x ≡ nestOf bytes → figuresOf (planOf x) ≡ summaryOf bytes
 unfolding summaryOf figures figuresIf

@@ -16,14 +16,14 @@ use Rattle.table.specs.declared.Figures.{Figures}
 use Rattle.table.specs.declared.MessageLine.{MessageLine}
 
 -- the figures of the table of rows, as the call gives them
-abbrev pub answered : rows.Figures → Figures
-answered f = record { number = f .number; tiles = f .tiles; messages = f .messages; words = f .words; steps = f .steps }
+abbrev pub asFigures : rows.PlanFigures → Figures
+asFigures f = record { number = f .number; tiles = f .tiles; messages = f .messages; words = f .words; steps = f .steps }
 
 abbrev pub figuresOf : Plan → Figures
-figuresOf p = answered (accepted (p .tiles) (count p) (words p) (total p))
+figuresOf p = asFigures (accepted (p .tiles) (count p) (words p) (total p))
 
 unfoldable pub summaryOf : List ℕ → Figures
-summaryOf bytes = answered (figures bytes)
+summaryOf bytes = asFigures (figures bytes)
 
 -- sending and taking tile, sending and taking processor, words
 abbrev pub lineOf : Plan → ℕ → MessageLine

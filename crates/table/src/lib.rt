@@ -9,8 +9,8 @@ ghost use Rattle.plan.specs.Messages.{directions, slots, slotParcel, planOf};
 ghost use Rattle.plan.specs.Rows.{refused};
 ghost use Rattle.layout.specs.Sizes.{Sized, Stepped};
 ghost use Rattle.parcels.specs.Twins.{Twin};
-ghost use Rattle.table.specs.Table.{Table, Filling, Summing, Only, Ends, Placed, atEnd, countBelow};
-ghost use Rattle.table.specs.Summary.{answered, figuresOf, summaryOf, lineOf, noLine, messageLineOf};
+ghost use Rattle.table.specs.Table.{Table, Filling, Summing, Only, Ends, Located, atEnd, countBelow};
+ghost use Rattle.table.specs.Summary.{asFigures, figuresOf, summaryOf, lineOf, noLine, messageLineOf};
 use layout::Sizes;
 use nest::Nest;
 
@@ -230,7 +230,7 @@ pub fn nth_at(
 ) -> Place
     requires { ⌜ Sized nest sizes × Table nest (now lens) ⌝ }
     requires { ⌜ j < length (atEnd side (planOf nest) tile) ⌝ }
-    ensures { λ r. ⌜ Placed nest (getD (atEnd side (planOf nest) tile) j 0) r ⌝ }
+    ensures { λ r. ⌜ Located nest (getD (atEnd side (planOf nest) tile) j 0) r ⌝ }
 {
     let ends = slots_at(nest, sizes, lens, tile, side);
     let n = sizes.directions;
@@ -261,7 +261,7 @@ pub fn nth_at(
 pub fn nth(nest: Nest, sizes: Sizes, lens: &[u16; 7168], m: usize) -> Place
     requires { ⌜ Sized nest sizes × Table nest (now lens) ⌝ }
     requires { ⌜ m < count (planOf nest) ⌝ }
-    ensures { λ r. ⌜ Placed nest m r ⌝ }
+    ensures { λ r. ⌜ Located nest m r ⌝ }
 {
     let slots = sizes.tiles * sizes.directions;
     let mut slot = 0;
@@ -347,7 +347,7 @@ pub fn line_of(nest: Nest, sizes: Sizes, lens: &[u16; 7168], m: usize) -> Messag
 
 // Figures and line where the recipe or the message's number is refused.
 fn no_figures(number: u32) -> Figures
-    ensures { λ r. ⌜ r ≡ answered (refused number) ⌝ }
+    ensures { λ r. ⌜ r ≡ asFigures (refused number) ⌝ }
 {
     Figures {
         number: number,

@@ -1,2 +1,6 @@
 pub mod Words
 pub mod Stores
+pub mod Orders
+pub mod Waves
+pub mod Margins
+pub mod Groups

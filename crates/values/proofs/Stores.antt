@@ -21,17 +21,17 @@ use Rattle.plan.specs.Box.{boxSize, boxCell}
 use Rattle.plan.proofs.Box.{cellsOf-box}
 use Rattle.layout.specs.declared.Bounds.{Bounds}
 use Rattle.layout.specs.Places.{nth, Places, Placed, Inside, Located, Bounded}
-use Rattle.layout.specs.Rows.{rowOf}
+use Rattle.layout.specs.CellRows.{rowOf}
 use Rattle.layout.proofs.Cells.{four, lengths-places, placed-cell}
 use Rattle.layout.proofs.Advance.{placed-row, placed-inside, rows-places}
-use Rattle.layout.proofs.Rows.{product-last, row-in, row-next, box-in, box-row}
+use Rattle.layout.proofs.CellRows.{product-last, row-in, row-next, box-in, box-row}
 
-store-append : (f : List ℕ → ℕ → ℕ) (l a b : List ℕ) → storeAll f l (a ++ b) ≡ storeAll f (storeAll f l a) b
+pub store-append : (f : List ℕ → ℕ → ℕ) (l a b : List ℕ) → storeAll f l (a ++ b) ≡ storeAll f (storeAll f l a) b
 unfolding storeAll
 store-append f l [] b = refl
 store-append f l (p ∷ a) b = store-append f (set l p (f l p)) a b
 
-store-row : (f : List ℕ → ℕ → ℕ) (l : List ℕ) (c n : ℕ) → storeAll f l (rowOf c (suc n)) ≡ set (storeAll f l (rowOf c n)) (c + n) (f (storeAll f l (rowOf c n)) (c + n))
+pub store-row : (f : List ℕ → ℕ → ℕ) (l : List ℕ) (c n : ℕ) → storeAll f l (rowOf c (suc n)) ≡ set (storeAll f l (rowOf c n)) (c + n) (f (storeAll f l (rowOf c n)) (c + n))
 unfolding tabulate storeAll
 store-row f l c n = store-append f l (rowOf c n) ((c + n) ∷ [])
 

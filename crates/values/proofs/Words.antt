@@ -21,10 +21,10 @@ use Rattle.plan.proofs.Rank.{place-last, rank-same}
 use Rattle.plan.proofs.Tiles.{cellPlace-low, cellAt-cellPlace}
 use Rattle.layout.specs.declared.Cell.{Cell}
 use Rattle.layout.specs.Places.{nth, Countable, Located}
-use Rattle.layout.specs.Rows.{Given}
+use Rattle.layout.specs.CellRows.{Given}
 use Rattle.layout.proofs.Dims.{rank-add, rank-most, product-prefix}
 use Rattle.layout.proofs.Loops.{every-same, Sofar, sofar-end}
-use Rattle.layout.proofs.Rows.{row-before, row-last, row-low, every-last}
+use Rattle.layout.proofs.CellRows.{row-before, row-last, row-low, every-last}
 use Rattle.values.specs.Reads.{firstRead, stepBack, Firsts, Backs, Reads, InRow}
 
 -- ---- how far back distance e reads: the rank of its first j components

@@ -1,4 +1,4 @@
--- `rolwyddac_fresh` meets its contract: a walk of its MIR, by hand. `flatten` is called on the records, lent as `&` for the call; `fresh_words` on their words and all else that was lent; and `store` on the records and the words after it.
+-- `rolwyddac_fresh` meets its contract: a walk of its MIR, by hand. `fresh_count` is called on the number of records and all else that was lent, and `clear` on the records.
 -- All that the proof knows of the three is that they meet their contracts. Assumes nothing.
 use mathlib.Core.Path.{_≡_, refl, sym, ap, subst, _∙_}
 use Prim.Native.Nat.{ℕ, _<_, _≤_, _^_}
@@ -13,21 +13,21 @@ use base.Logic.{SProp, ent, sep, emp, via, fst∗, exE, snd∗, id⊢}
 use base.Fml.{Lft, GName, Share, ftrue, fsep, fat, froom, fdies, flft}
 use prog.Memory.{Memory}
 use prog.Routine.{Routine}
-use prog.Wp.{Heap, Calls, Loops, WpFn, Tables}
+use prog.Wp.{Heap, Env, Calls, Loops, WpFn, Tables}
 use ghost.Atoms.{Atoms, sem}
 use contract.Monad.{Fun, fact}
 use contract.Running.{givenOf, tables, tablesOf}
 use contract.Lifetimes.{AllOutlive}
-use types.Kit.{Given, ‵, raw, some, later, runs, atRet, Sq, _⊛_, ⋆, _$_, _∵_, !, qed, by, move, keep, use1, use2, split, join, pick, rewrite, fsplit, fjoin, feqL, suffices, frame, await, done}
+use types.Kit.{Given, Item, ‵, raw, some, later, runs, atRet, Sq, _⊛_, ⋆, _$_, _∵_, !, qed, by, move, keep, use1, use2, split, join, pick, rewrite, fsplit, fjoin, feqL, suffices, frame, await, done}
 use types.Part.{whole, sub, look-in, agg}
-use types.Run.{look, init, forget, stop, hop, fld, from, load, of-opd, addr, and-then, no-more, assigns, land, returns, enter, alloc1, alloc0, params1, pass1, pass0, free1, free0}
+use types.Run.{look, init, forget, stop, hop, fld, from, load, of-opd, addr, and-then, no-more, assigns, land, returns, enter, alloc1, alloc0, params1, pass1, pass0}
 use types.Tokens.{lft-new, lft-end}
 use sound.WpLaws.{FmC, fmOf, WpFn-mono}
 use denote.RattleType.{RattleType, owns}
 use denote.Memory.{pointee}
 use denote.Laws.{Is, shows}
 use denote.Plain.{Nothing, uint-vals, uint-tells, uint-makes}
-use denote.Builtin.{u8, u32}
+use denote.Builtin.{u8, u32, usize}
 use denote.Ref.{RefT, now}
 use denote.Slice.{sliceTy, sliceVal, MutSlice, ShrSlice, Room, finally, slice-vals, mut-slice-tells, shr-slice-tells}
 use denote.Signature.{plain, shrSliceOf}
@@ -43,31 +43,21 @@ use denote.Triple.Walked.{says, Stays, stay-dropped, gave-slice, walkOf, goes-dr
 use denote.Exit.{yes}
 use Rattle.machine.specs.Machine.{stateOf}
 use Rattle.engine.specs.Calls.{answer, freshCall}
-use Rattle.records.specs.Records.{flatWords, flatOf, stored}
+use Rattle.records.specs.Records.{flatWords, zeroRecords}
 use Rattle.records.specs.declared.Progress.{Progress}
-use Rattle.records.specs.declared.Flat.{Flat}
-use Rattle.records.proofs.Words.{length-flat}
+use Rattle.records.proofs.Leave.{free-all}
 use Rattle.records.proofs.Progress as T
-use Rattle.records.proofs.Flat as S
-use Rattle.records.proofs.Flat.Laws as S′
-use Rattle.records.proofs.flatten as flatten
-use Rattle.records.proofs.flatten.Symbol as flatten-def
-use Rattle.records.proofs.flatten.Symbol.{name as #records·flatten}
-use Rattle.records.proofs.flatten.Met as flatten-thm
-use Rattle.records.proofs.store as stores
-use Rattle.records.proofs.store.Symbol as store-def
-use Rattle.records.proofs.store.Symbol.{name as #records·store}
-use Rattle.records.proofs.store.Met as store-thm
-use Rattle.lent.specs.Lent.{keptCount, lentOf}
-use Rattle.lent.specs.declared.After.{After}
-use Rattle.lent.proofs.After as U
-use Rattle.lent.proofs.After.Laws as U′
-use Rattle.calls.proofs.Shared.{LentShared, lends-shared, shared-back}
-use Rattle.lent.proofs.Misfit.{refusal, fresh-refused, room, changes}
-use Rattle.lent.proofs.fresh_words as words
-use Rattle.lent.proofs.fresh_words.Symbol as words-def
-use Rattle.lent.proofs.fresh_words.Symbol.{name as #lent·fresh-words}
-use Rattle.lent.proofs.fresh_words.Met as words-thm
+use Rattle.records.proofs.clear as clears
+use Rattle.records.proofs.clear.Symbol as clear-def
+use Rattle.records.proofs.clear.Symbol.{name as #records·clear}
+use Rattle.records.proofs.clear.Met as clear-thm
+use Rattle.engine.specs.declared.Cleared.{Cleared}
+use Rattle.engine.proofs.Cleared as U
+use Rattle.engine.proofs.Cleared.Laws as U′
+use Rattle.engine.proofs.fresh_count as areas
+use Rattle.engine.proofs.fresh_count.Symbol as areas-def
+use Rattle.engine.proofs.fresh_count.Symbol.{name as #engine·fresh-count}
+use Rattle.engine.proofs.fresh_count.Met as areas-thm
 use Rattle.calls.proofs.rolwyddac_fresh.Key.{name as #calls·fresh}
 use Rattle.calls.proofs.rolwyddac_fresh as fresh
 use Rattle.calls.proofs.rolwyddac_fresh.Statement as stated
@@ -77,23 +67,17 @@ use Rattle.calls.proofs.rolwyddac_fresh.Code.Mir as mir′
 abbrev R : RattleType
 R = T.the-row
 
-abbrev F : RattleType
-F = S.the-row
-
-abbrev low : Flat → Val
-low f = only (LL.vals S.the-type S′.the-laws f)
-
 abbrev E : RattleType
 E = U.the-row
 
-abbrev high : After → Val
+abbrev high : Cleared → Val
 high r = only (LL.vals U.the-type U′.the-laws r)
 
-flat-is : (r : After) → Is E r (high r ∷ []) → Is F (r .flat) (low (r .flat) ∷ [])
-flat-is r is = LL.owed U.the-type U′.the-laws r _ is .1 .0
-
-number-fits : (r : After) → Is E r (high r ∷ []) → r .number < 2 ^ 32
+number-fits : (r : Cleared) → Is E r (high r ∷ []) → r .number < 2 ^ 32
 number-fits r is = LL.owed U.the-type U′.the-laws r _ is .0 .1
+
+count-fits : (r : Cleared) → Is E r (high r ∷ []) → r .count < 2 ^ 64
+count-fits r is = LL.owed U.the-type U′.the-laws r _ is .1 .0 .1
 
 abbrev word : Ty
 word = tyInt w32
@@ -101,19 +85,13 @@ word = tyInt w32
 abbrev stayed : Stays (fresh.ended .signature .params) (fresh.ended .kept)
 stayed = (stay-dropped (shrSliceOf (0 ∷ []) tt (plain (λ _. u8))) yes, (stay-dropped (shrSliceOf (1 ∷ []) tt (plain (λ _. u32))) yes, (gave-slice (2 ∷ []) tt (plain (λ _. u32)), (gave-slice (3 ∷ []) tt (plain (λ _. u32)), (gave-slice (4 ∷ []) tt (plain (λ _. R)), (gave-slice (5 ∷ []) tt (plain (λ _. u8)), tt))))))
 
--- the contracts that the proof cites, and what is heard of the first
+-- the contracts that the proof cites
 module _ {M : Type 1} (𝓤 : URA M) (H : Heap 𝓤) (A : Atoms 𝓤) (mem : Memory → SProp 𝓤) (run : Routine → Fun 𝓤) where
-  abbrev Flatten : Contract 𝓤
-  Flatten = tripleOf 𝓤 H A flatten.signature (flatten.spec 𝓤 H A mem run)
+  abbrev Areas : Contract 𝓤
+  Areas = tripleOf 𝓤 H A areas.signature (areas.spec 𝓤 H A mem run)
 
-  abbrev Words : Contract 𝓤
-  Words = tripleOf 𝓤 H A words.signature (words.spec 𝓤 H A mem run)
-
-  abbrev Store : Contract 𝓤
-  Store = tripleOf 𝓤 H A stores.signature (stores.spec 𝓤 H A mem run)
-
-  flatten-of : (κ : Lft) (x : RefT (List Progress)) (f : Flat) → ent 𝓤 (ensured 𝓤 H A flatten.ended (flatten.clauses 𝓤 H A mem run) (κ, tt) (x, tt) tt f) (fact 𝓤 (f ≡ flatOf (now x)))
-  flatten-of κ x f = exE 𝓤 _ (λ ws. snd∗ 𝓤 (sem 𝓤 H A (lasts flatten.ended (κ, tt) (x, tt) ws)) (fact 𝓤 (f ≡ flatOf (now x))))
+  abbrev Clear : Contract 𝓤
+  Clear = tripleOf 𝓤 H A clears.signature (clears.spec 𝓤 H A mem run)
 
 module _ {M : Type 1} (𝓤 : URA M) (H : Heap 𝓤) (A : Atoms 𝓤) (W : Given 𝓤 H A) (mem : Memory → SProp 𝓤) (run : Routine → Fun 𝓤)
     (κ0 : Lft) (q0 : Share) (b0 o0 : ℕ) (γ0 : GName) (z0 : List ℕ) (g0 : Room u8 (length z0))
@@ -165,9 +143,6 @@ module _ {M : Type 1} (𝓤 : URA M) (H : Heap 𝓤) (A : Atoms 𝓤) (W : Given
   abbrev Post : Val → SProp 𝓤
   Post = walkOf 𝓤 H A fresh.ended stayed (fresh.clauses 𝓤 H A mem run) .post (((κ0, (κ1, (κ2, (κ3, (κ4, (κ5, tt)))))), (q0, (q1, (q2, (q3, (q4, (q5, tt)))))), bounds, (x0, (x1, (x2, (x3, (x4, (x5, tt)))))), at), tt)
 
-  length-of : (f : Flat) → f ≡ flatOf z4 → length (f .words) ≡ 192
-  length-of f e = ap (λ (g : Flat). length (g .words)) e ∙ length-flat z4
-
   exits : (r : ℕ) (w2 w3 : List ℕ) (w4 : List Progress) (w5 : List ℕ) → r < 2 ^ 32 → length w2 ≡ length z2 → length w3 ≡ length z3 → length w4 ≡ length z4 → length w5 ≡ length z5 → answer r (stateOf w2 w3 (flatWords w4) w5) ≡ freshCall z0 z1 (stateOf z2 z3 (flatWords z4) z5)
       → ent 𝓤 (⋆ 𝓤 H A ((‵ (flft κ0 q0) ⊛ ‵ (flft κ1 q1) ⊛ ‵ (flft κ2 q2) ⊛ ‵ (flft κ3 q3) ⊛ ‵ (flft κ5 q5) ⊛ ‵ ftrue) ∷ ‵ (flft κ4 q4) ∷ ‵ (finally u32 γ2 w2) ∷ ‵ (finally u32 γ3 w3) ∷ ‵ (finally R γ4 w4) ∷ ‵ (finally u8 γ5 w5) ∷ [])) (Post (vint w32 r))
   exits r w2 w3 w4 w5 fits e2 e3 e4 e5 said =
@@ -213,61 +188,54 @@ module _ {M : Type 1} (𝓤 : URA M) (H : Heap 𝓤) (A : Atoms 𝓤) (W : Given
       keep ! (1 ∷ 0 ∷ []) $
       done !
 
-  -- the records, lent as `&` under the name δ
-  abbrev y4 : GName → RefT (List Progress)
-  y4 δ = record { ptr = (b4, o4); name = δ; now = z4 }
+  abbrev to-areas : Areas 𝓤 H A mem run .Ghost
+  to-areas = (((κ0, (κ1, (κ2, (κ3, (κ5, tt))))), (q0, (q1, (q2, (q3, (q5, tt))))), tt, (x0, (x1, (x2, (x3, (length z4, (x5, tt)))))), (v0 ∷ [], (v1 ∷ [], (v2 ∷ [], (v3 ∷ [], (vint w64 (length z4) ∷ [], (v5 ∷ [], tt))))))), tt)
 
-  abbrev to-flatten : ℕ → GName → Flatten 𝓤 H A mem run .Ghost
-  to-flatten ν δ = (((ν ∷ [], tt), (fullShare, tt), tt, (y4 δ, tt), (v4 ∷ [], tt)), tt)
+  goes-areas : ent 𝓤 (⋆ 𝓤 H A ((‵ (flft κ0 q0) ⊛ ‵ (flft κ1 q1) ⊛ ‵ (flft κ2 q2) ⊛ ‵ (flft κ3 q3) ⊛ ‵ (flft κ5 q5) ⊛ ‵ ftrue) ∷ ‵ (owns (ShrSlice (named 0) κ0 u8 ∷ ShrSlice (named 1) κ1 u32 ∷ MutSlice (named 2) κ2 u32 ∷ MutSlice (named 3) κ3 u32 ∷ usize ∷ MutSlice (named 5) κ5 u8 ∷ []) (x0, (x1, (x2, (x3, (length z4, (x5, tt)))))) (v0 ∷ [], (v1 ∷ [], (v2 ∷ [], (v3 ∷ [], (vint w64 (length z4) ∷ [], (v5 ∷ [], tt))))))) ∷ [])) (Areas 𝓤 H A mem run .pre to-areas)
+  goes-areas = qed W ((‵ (flft κ0 q0) ⊛ ‵ (flft κ1 q1) ⊛ ‵ (flft κ2 q2) ⊛ ‵ (flft κ3 q3) ⊛ ‵ (flft κ5 q5) ⊛ ‵ ftrue) ∷ ‵ (owns (ShrSlice (named 0) κ0 u8 ∷ ShrSlice (named 1) κ1 u32 ∷ MutSlice (named 2) κ2 u32 ∷ MutSlice (named 3) κ3 u32 ∷ usize ∷ MutSlice (named 5) κ5 u8 ∷ []) (x0, (x1, (x2, (x3, (length z4, (x5, tt)))))) (v0 ∷ [], (v1 ∷ [], (v2 ∷ [], (v3 ∷ [], (vint w64 (length z4) ∷ [], (v5 ∷ [], tt))))))) ∷ []) ∵ join ! $ frame ! $ done !
 
-  goes-flatten : (ν : ℕ) (δ : GName) → ent 𝓤 (sep 𝓤 (A .lft (ν ∷ []) fullShare) (sem 𝓤 H A (ShrSlice (named 0) (ν ∷ []) R .own (y4 δ) (v4 ∷ [])))) (Flatten 𝓤 H A mem run .pre (to-flatten ν δ))
-  goes-flatten ν δ =
-      qed W (‵ (flft (ν ∷ []) fullShare) ∷ ‵ (ShrSlice (named 0) (ν ∷ []) R .own (y4 δ) (v4 ∷ [])) ∷ []) ∵
-      nothing ! $ move ! (1 ∷ 0 ∷ []) $ join ! $ nothing ! $ move ! (2 ∷ 0 ∷ []) $ fjoin ! $ move ! (1 ∷ 0 ∷ []) $ join ! $ frame ! $ done !
+  abbrev to-clear : ℕ → Clear 𝓤 H A mem run .Ghost
+  to-clear c = (((κ4, tt), (q4, tt), tt, (x4, (c, tt)), (v4 ∷ [], (vint w64 c ∷ [], tt))), tt)
 
-  abbrev to-words : Flat → Words 𝓤 H A mem run .Ghost
-  to-words f = (((κ0, (κ1, (κ2, (κ3, (κ5, tt))))), (q0, (q1, (q2, (q3, (q5, tt))))), tt, (x0, (x1, (x2, (x3, (f, (x5, tt)))))), (v0 ∷ [], (v1 ∷ [], (v2 ∷ [], (v3 ∷ [], (low f ∷ [], (v5 ∷ [], tt))))))), tt)
+  goes-clear : (c : ℕ) → c ≤ length z4 → ent 𝓤 (⋆ 𝓤 H A ((‵ (flft κ4 q4) ⊛ ‵ ftrue) ∷ ‵ (owns (MutSlice (named 4) κ4 R ∷ usize ∷ []) (x4, (c, tt)) (v4 ∷ [], (vint w64 c ∷ [], tt))) ∷ [])) (Clear 𝓤 H A mem run .pre (to-clear c))
+  goes-clear c h = qed W ((‵ (flft κ4 q4) ⊛ ‵ ftrue) ∷ ‵ (owns (MutSlice (named 4) κ4 R ∷ usize ∷ []) (x4, (c, tt)) (v4 ∷ [], (vint w64 c ∷ [], tt))) ∷ []) ∵ says ! h $ done !
 
-  goes-words : (f : Flat) → length (f .words) ≡ 192 → ent 𝓤 (⋆ 𝓤 H A ((‵ (flft κ0 q0) ⊛ ‵ (flft κ1 q1) ⊛ ‵ (flft κ2 q2) ⊛ ‵ (flft κ3 q3) ⊛ ‵ (flft κ5 q5) ⊛ ‵ ftrue) ∷ ‵ (owns (ShrSlice (named 0) κ0 u8 ∷ ShrSlice (named 1) κ1 u32 ∷ MutSlice (named 2) κ2 u32 ∷ MutSlice (named 3) κ3 u32 ∷ F ∷ MutSlice (named 5) κ5 u8 ∷ []) (x0, (x1, (x2, (x3, (f, (x5, tt)))))) (v0 ∷ [], (v1 ∷ [], (v2 ∷ [], (v3 ∷ [], (low f ∷ [], (v5 ∷ [], tt))))))) ∷ [])) (Words 𝓤 H A mem run .pre (to-words f))
-  goes-words f w = qed W ((‵ (flft κ0 q0) ⊛ ‵ (flft κ1 q1) ⊛ ‵ (flft κ2 q2) ⊛ ‵ (flft κ3 q3) ⊛ ‵ (flft κ5 q5) ⊛ ‵ ftrue) ∷ ‵ (owns (ShrSlice (named 0) κ0 u8 ∷ ShrSlice (named 1) κ1 u32 ∷ MutSlice (named 2) κ2 u32 ∷ MutSlice (named 3) κ3 u32 ∷ F ∷ MutSlice (named 5) κ5 u8 ∷ []) (x0, (x1, (x2, (x3, (f, (x5, tt)))))) (v0 ∷ [], (v1 ∷ [], (v2 ∷ [], (v3 ∷ [], (low f ∷ [], (v5 ∷ [], tt))))))) ∷ []) ∵ says ! w $ done !
+  module _ (C : Calls 𝓤 H) (Λ : Loops 𝓤 H) (fm : FmC 𝓤 H (W .laws) C) (l0 l1 l2 l3 l4 l5 l6 l7 l8 l9 l10 l11 l12 l13 l14 l15 l16 l17 : ℕ) where
+    abbrev En : Env 𝓤 H
+    En = (word, l0) ∷ (sliceTy (tyRef (named 0) imm (tyInt w8)), l1) ∷ (sliceTy (tyRef (named 1) imm (tyInt w32)), l2) ∷ (sliceTy (tyRef (named 2) mut (tyInt w32)), l3) ∷ (sliceTy (tyRef (named 3) mut (tyInt w32)), l4) ∷ (sliceTy (tyRef (named 4) mut (pointee (R .written))), l5) ∷ (sliceTy (tyRef (named 5) mut (tyInt w8)), l6) ∷ (U′.mir, l7) ∷ (tyRef erased mut (tyInt w32), l8) ∷ (sliceTy (tyRef erased mut (tyInt w32)), l9) ∷ (tyRef erased mut (tyInt w32), l10) ∷ (sliceTy (tyRef erased mut (tyInt w32)), l11) ∷ (tyInt w64, l12) ∷ (tyRef erased mut (tyInt w8), l13) ∷ (sliceTy (tyRef erased mut (tyInt w8)), l14) ∷ (tyUnit, l15) ∷ (tyRef erased mut (pointee (R .written)), l16) ∷ (sliceTy (tyRef erased mut (pointee (R .written))), l17) ∷ []
 
-  abbrev to-store : Flat → Store 𝓤 H A mem run .Ghost
-  to-store f = (((κ4, tt), (q4, tt), tt, (x4, (f, tt)), (v4 ∷ [], (low f ∷ [], tt))), tt)
+    -- the locals, `fresh_count`'s answer being t
+    abbrev At : Item 𝓤 → List (Item 𝓤) → List (Item 𝓤)
+    At t more = ‵ (froom (sliceTy (tyRef erased mut (pointee (R .written)))) l17 0) ∷ ‵ (fdies (sliceTy (tyRef erased mut (pointee (R .written)))) l17) ∷ ‵ (froom (tyRef erased mut (pointee (R .written))) l16 0) ∷ ‵ (fdies (tyRef erased mut (pointee (R .written))) l16) ∷ ‵ (froom tyUnit l15 0) ∷ ‵ (fdies tyUnit l15) ∷ ‵ (froom (sliceTy (tyRef erased mut (tyInt w8))) l14 0) ∷ ‵ (fdies (sliceTy (tyRef erased mut (tyInt w8))) l14) ∷ ‵ (froom (tyRef erased mut (tyInt w8)) l13 0) ∷ ‵ (fdies (tyRef erased mut (tyInt w8)) l13) ∷ ‵ (froom (tyInt w64) l12 0) ∷ ‵ (fdies (tyInt w64) l12) ∷ ‵ (froom (sliceTy (tyRef erased mut (tyInt w32))) l11 0) ∷ ‵ (fdies (sliceTy (tyRef erased mut (tyInt w32))) l11) ∷ ‵ (froom (tyRef erased mut (tyInt w32)) l10 0) ∷ ‵ (fdies (tyRef erased mut (tyInt w32)) l10) ∷ ‵ (froom (sliceTy (tyRef erased mut (tyInt w32))) l9 0) ∷ ‵ (fdies (sliceTy (tyRef erased mut (tyInt w32))) l9) ∷ ‵ (froom (tyRef erased mut (tyInt w32)) l8 0) ∷ ‵ (fdies (tyRef erased mut (tyInt w32)) l8) ∷ t ∷ ‵ (fdies U′.mir l7) ∷ ‵ (fat fullShare (sliceTy (tyRef (named 5) mut (tyInt w8))) l6 0 v5) ∷ ‵ (fdies (sliceTy (tyRef (named 5) mut (tyInt w8))) l6) ∷ ‵ (fat fullShare (sliceTy (tyRef (named 4) mut (pointee (R .written)))) l5 0 v4) ∷ ‵ (fdies (sliceTy (tyRef (named 4) mut (pointee (R .written)))) l5) ∷ ‵ (fat fullShare (sliceTy (tyRef (named 3) mut (tyInt w32))) l4 0 v3) ∷ ‵ (fdies (sliceTy (tyRef (named 3) mut (tyInt w32))) l4) ∷ ‵ (fat fullShare (sliceTy (tyRef (named 2) mut (tyInt w32))) l3 0 v2) ∷ ‵ (fdies (sliceTy (tyRef (named 2) mut (tyInt w32))) l3) ∷ ‵ (fat fullShare (sliceTy (tyRef (named 1) imm (tyInt w32))) l2 0 v1) ∷ ‵ (fdies (sliceTy (tyRef (named 1) imm (tyInt w32))) l2) ∷ ‵ (fat fullShare (sliceTy (tyRef (named 0) imm (tyInt w8))) l1 0 v0) ∷ ‵ (fdies (sliceTy (tyRef (named 0) imm (tyInt w8))) l1) ∷ ‵ (froom word l0 0) ∷ ‵ (fdies word l0) ∷ more
 
-  goes-store : (f : Flat) → (f .count ≤ 64) × (f .count ≤ length z4)
-      → ent 𝓤 (⋆ 𝓤 H A ((‵ (flft κ4 q4) ⊛ ‵ ftrue) ∷ ‵ (owns (MutSlice (named 4) κ4 R ∷ F ∷ []) (x4, (f, tt)) (v4 ∷ [], (low f ∷ [], tt))) ∷ [])) (Store 𝓤 H A mem run .pre (to-store f))
-  goes-store f c = qed W ((‵ (flft κ4 q4) ⊛ ‵ ftrue) ∷ ‵ (owns (MutSlice (named 4) κ4 R ∷ F ∷ []) (x4, (f, tt)) (v4 ∷ [], (low f ∷ [], tt))) ∷ []) ∵ says ! c $ done !
-
-  module _ (C : Calls 𝓤 H) (Λ : Loops 𝓤 H) (fm : FmC 𝓤 H (W .laws) C) where
-    -- from the words after the call on
-    stored-part : Triple 𝓤 (C #records·store) (Store 𝓤 H A mem run) → (l0 l1 l2 l3 l4 l5 l6 l7 l8 l9 l10 l11 l12 l13 l14 l15 l16 l17 l18 l19 : ℕ) (f : Flat) → f ≡ flatOf z4 → (r : After) → Is E r (high r ∷ []) → (w2 w3 w5 : List ℕ)
+    -- from the number on
+    cleared : Triple 𝓤 (C #records·clear) (Clear 𝓤 H A mem run) → (r : Cleared) → Is E r (high r ∷ []) → (w2 w3 w5 : List ℕ)
         → length w2 ≡ length z2 → length w3 ≡ length z3 → length w5 ≡ length z5
-        → (answer (r .number) (stateOf w2 w3 (lentOf (f .count) (r .flat .words)) w5) ≡ freshCall z0 z1 (stateOf z2 z3 (lentOf (f .count) (f .words)) z5)) × ((r .flat .count ≡ keptCount (f .count)) × (length (r .flat .words) ≡ 192))
-        → Sq W (‵ (froom (sliceTy (tyRef erased mut (pointee (R .written)))) l19 0) ∷ ‵ (fdies (sliceTy (tyRef erased mut (pointee (R .written)))) l19) ∷ ‵ (froom (tyRef erased mut (pointee (R .written))) l18 0) ∷ ‵ (fdies (tyRef erased mut (pointee (R .written))) l18) ∷ ‵ (froom (tyUnit) l17 0) ∷ ‵ (fdies (tyUnit) l17) ∷ ‵ (froom (sliceTy (tyRef erased mut (tyInt w8))) l16 0) ∷ ‵ (fdies (sliceTy (tyRef erased mut (tyInt w8))) l16) ∷ ‵ (froom (tyRef erased mut (tyInt w8)) l15 0) ∷ ‵ (fdies (tyRef erased mut (tyInt w8)) l15) ∷ ‵ (froom (sliceTy (tyRef erased mut (tyInt w32))) l14 0) ∷ ‵ (fdies (sliceTy (tyRef erased mut (tyInt w32))) l14) ∷ ‵ (froom (tyRef erased mut (tyInt w32)) l13 0) ∷ ‵ (fdies (tyRef erased mut (tyInt w32)) l13) ∷ ‵ (froom (sliceTy (tyRef erased mut (tyInt w32))) l12 0) ∷ ‵ (fdies (sliceTy (tyRef erased mut (tyInt w32))) l12) ∷ ‵ (froom (tyRef erased mut (tyInt w32)) l11 0) ∷ ‵ (fdies (tyRef erased mut (tyInt w32)) l11) ∷ ‵ (froom (sliceTy (tyRef erased imm (pointee (R .written)))) l10 0) ∷ ‵ (fdies (sliceTy (tyRef erased imm (pointee (R .written)))) l10) ∷ ‵ (froom (tyRef erased imm (pointee (R .written))) l9 0) ∷ ‵ (fdies (tyRef erased imm (pointee (R .written))) l9) ∷ ‵ (fat fullShare (U′.mir) l8 0 (high r)) ∷ ‵ (fdies (U′.mir) l8) ∷ ‵ (froom (S′.mir) l7 0) ∷ ‵ (fdies (S′.mir) l7) ∷ ‵ (fat fullShare (sliceTy (tyRef (named 5) mut (tyInt w8))) l6 0 (v5)) ∷ ‵ (fdies (sliceTy (tyRef (named 5) mut (tyInt w8))) l6) ∷ ‵ (fat fullShare (sliceTy (tyRef (named 4) mut (pointee (R .written)))) l5 0 (v4)) ∷ ‵ (fdies (sliceTy (tyRef (named 4) mut (pointee (R .written)))) l5) ∷ ‵ (fat fullShare (sliceTy (tyRef (named 3) mut (tyInt w32))) l4 0 (v3)) ∷ ‵ (fdies (sliceTy (tyRef (named 3) mut (tyInt w32))) l4) ∷ ‵ (fat fullShare (sliceTy (tyRef (named 2) mut (tyInt w32))) l3 0 (v2)) ∷ ‵ (fdies (sliceTy (tyRef (named 2) mut (tyInt w32))) l3) ∷ ‵ (fat fullShare (sliceTy (tyRef (named 1) imm (tyInt w32))) l2 0 (v1)) ∷ ‵ (fdies (sliceTy (tyRef (named 1) imm (tyInt w32))) l2) ∷ ‵ (fat fullShare (sliceTy (tyRef (named 0) imm (tyInt w8))) l1 0 (v0)) ∷ ‵ (fdies (sliceTy (tyRef (named 0) imm (tyInt w8))) l1) ∷ ‵ (froom (word) l0 0) ∷ ‵ (fdies (word) l0) ∷ (‵ (flft κ0 q0) ⊛ ‵ (flft κ1 q1) ⊛ ‵ (flft κ2 q2) ⊛ ‵ (flft κ3 q3) ⊛ ‵ (flft κ5 q5) ⊛ ‵ ftrue) ∷ ‵ (flft κ4 q4) ∷ ‵ (MutSlice (named 4) κ4 R .own x4 (v4 ∷ [])) ∷ ‵ (finally u32 γ2 w2) ∷ ‵ (finally u32 γ3 w3) ∷ ‵ (finally u8 γ5 w5) ∷ [])
-        (runs C Λ ((word, l0) ∷ (sliceTy (tyRef (named 0) imm (tyInt w8)), l1) ∷ (sliceTy (tyRef (named 1) imm (tyInt w32)), l2) ∷ (sliceTy (tyRef (named 2) mut (tyInt w32)), l3) ∷ (sliceTy (tyRef (named 3) mut (tyInt w32)), l4) ∷ (sliceTy (tyRef (named 4) mut (pointee (R .written))), l5) ∷ (sliceTy (tyRef (named 5) mut (tyInt w8)), l6) ∷ (S′.mir, l7) ∷ (U′.mir, l8) ∷ (tyRef erased imm (pointee (R .written)), l9) ∷ (sliceTy (tyRef erased imm (pointee (R .written))), l10) ∷ (tyRef erased mut (tyInt w32), l11) ∷ (sliceTy (tyRef erased mut (tyInt w32)), l12) ∷ (tyRef erased mut (tyInt w32), l13) ∷ (sliceTy (tyRef erased mut (tyInt w32)), l14) ∷ (tyRef erased mut (tyInt w8), l15) ∷ (sliceTy (tyRef erased mut (tyInt w8)), l16) ∷ (tyUnit, l17) ∷ (tyRef erased mut (pointee (R .written)), l18) ∷ (sliceTy (tyRef erased mut (pointee (R .written))), l19) ∷ []) mir′.t-11 (atRet ((word, l0) ∷ (sliceTy (tyRef (named 0) imm (tyInt w8)), l1) ∷ (sliceTy (tyRef (named 1) imm (tyInt w32)), l2) ∷ (sliceTy (tyRef (named 2) mut (tyInt w32)), l3) ∷ (sliceTy (tyRef (named 3) mut (tyInt w32)), l4) ∷ (sliceTy (tyRef (named 4) mut (pointee (R .written))), l5) ∷ (sliceTy (tyRef (named 5) mut (tyInt w8)), l6) ∷ (S′.mir, l7) ∷ (U′.mir, l8) ∷ (tyRef erased imm (pointee (R .written)), l9) ∷ (sliceTy (tyRef erased imm (pointee (R .written))), l10) ∷ (tyRef erased mut (tyInt w32), l11) ∷ (sliceTy (tyRef erased mut (tyInt w32)), l12) ∷ (tyRef erased mut (tyInt w32), l13) ∷ (sliceTy (tyRef erased mut (tyInt w32)), l14) ∷ (tyRef erased mut (tyInt w8), l15) ∷ (sliceTy (tyRef erased mut (tyInt w8)), l16) ∷ (tyUnit, l17) ∷ (tyRef erased mut (pointee (R .written)), l18) ∷ (sliceTy (tyRef erased mut (pointee (R .written))), l19) ∷ []) Post))
-    stored-part known₂ l0 l1 l2 l3 l4 l5 l6 l7 l8 l9 l10 l11 l12 l13 l14 l15 l16 l17 l18 l19 f e r is w2 w3 w5 e2 e3 e5 said =
-        assigns ! (addr ! (from ! (fld ! refl (hop ! (look-in ! 28 (sub ! 0 refl (whole !))) (stop !))))) (from ! (stop !)) (init ! 2 refl (tt, tt)) $
-        assigns ! (agg ! (and-then ! (load ! (from ! (stop !)) (look ! 2 refl)) (and-then ! (load ! (from ! (fld ! refl (stop !))) (look-in ! 28 (sub ! 1 refl (whole !)))) (no-more !)))) (from ! (stop !)) (init ! 0 refl (tt, (tt, (record { fits = g4 .0 }, tt)))) $
+        → ((rs : List Progress) → length z4 ≡ length rs → answer (r .number) (stateOf w2 w3 (flatWords (zeroRecords (r .count) rs)) w5) ≡ freshCall z0 z1 (stateOf z2 z3 (flatWords rs) z5)) × (r .count ≤ length z4)
+        → Sq W (At (‵ (fat fullShare U′.mir l7 0 (high r))) ((‵ (flft κ0 q0) ⊛ ‵ (flft κ1 q1) ⊛ ‵ (flft κ2 q2) ⊛ ‵ (flft κ3 q3) ⊛ ‵ (flft κ5 q5) ⊛ ‵ ftrue) ∷ ‵ (flft κ4 q4) ∷ ‵ (MutSlice (named 4) κ4 R .own x4 (v4 ∷ [])) ∷ ‵ (finally u32 γ2 w2) ∷ ‵ (finally u32 γ3 w3) ∷ ‵ (finally u8 γ5 w5) ∷ [])) (runs C Λ En mir′.t-9 (atRet En Post))
+    cleared known₂ r is w2 w3 w5 e2 e3 e5 said =
+        assigns ! (addr ! (from ! (fld ! refl (hop ! (look-in ! 24 (sub ! 0 refl (whole !))) (stop !))))) (from ! (stop !)) (init ! 2 refl (tt, tt)) $
+        assigns ! (agg ! (and-then ! (load ! (from ! (stop !)) (look ! 2 refl)) (and-then ! (load ! (from ! (fld ! refl (stop !))) (look-in ! 24 (sub ! 1 refl (whole !)))) (no-more !)))) (from ! (stop !)) (init ! 0 refl (tt, (tt, (record { fits = g4 .0 }, tt)))) $
         nothing ! $
-        owned ! F (Is F) (LL.makes S.the-type S′.the-plain 𝓤 H A) (r .flat) _ (flat-is r is) $
+        owned ! usize (Is usize) (uint-makes 𝓤 H A W w64) (r .count) _ (refl, count-fits r is) $
         fjoin ! $
-        move ! (43 ∷ 0 ∷ []) $
+        move ! (39 ∷ 0 ∷ []) $
         fjoin ! $
         nothing ! $
-        move ! (43 ∷ 0 ∷ []) $
+        move ! (39 ∷ 0 ∷ []) $
         join ! $
-        use2 W (raw (Store 𝓤 H A mem run .pre (to-store (r .flat)))) (goes-store (r .flat) (room (λ s. freshCall z0 z1 s) (refusal z0) (fresh-refused z0 z1) z4 f e (r .flat .count) (said .1 .0))) $
-        calls-at ! fm (Store 𝓤 H A mem run) known₂ (to-store (r .flat)) (and-then ! (load ! (from ! (stop !)) (look ! 1 refl)) (and-then ! (load ! (from ! (fld ! refl (stop !))) (look-in ! 23 (sub ! 1 refl (whole !)))) (no-more !))) (λ w.
-        use1 W (later (some (λ (u : Unit {0}). ((‵ (flft κ4 q4) ⊛ ‵ ftrue) ⊛ ‵ (Nothing .own u (w ∷ []))) ⊛ raw (ensured 𝓤 H A stores.ended (stores.clauses 𝓤 H A mem run) (κ4, tt) (x4, (r .flat, tt)) tt u)))) (id⊢ 𝓤 _) $
+        use2 W (raw (Clear 𝓤 H A mem run .pre (to-clear (r .count)))) (goes-clear (r .count) (said .1)) $
+        calls-at ! fm (Clear 𝓤 H A mem run) known₂ (to-clear (r .count)) (and-then ! (load ! (from ! (stop !)) (look ! 1 refl)) (and-then ! (load ! (from ! (fld ! refl (stop !))) (look-in ! 21 (sub ! 1 refl (whole !)))) (no-more !))) (λ w.
+        use1 W (later (some (λ (u : Unit {0}). ((‵ (flft κ4 q4) ⊛ ‵ ftrue) ⊛ ‵ (Nothing .own u (w ∷ []))) ⊛ raw (ensured 𝓤 H A clears.ended (clears.clauses 𝓤 H A mem run) (κ4, tt) (x4, (r .count, tt)) tt u)))) (id⊢ 𝓤 _) $
         await ! tt $
         pick ! (λ u.
         split ! $
         move ! (1 ∷ []) $
-        use1 W (some (λ (us : List Progress × (Unit {0} × Unit {0})). ‵ (lasts stores.ended (κ4, tt) (x4, (r .flat, tt)) us) ⊛ raw (fact 𝓤 (us .0 ≡ stored (r .flat .words) (r .flat .count) z4)))) (id⊢ 𝓤 _) $
+        use1 W (some (λ (us : List Progress × (Unit {0} × Unit {0})). ‵ (lasts clears.ended (κ4, tt) (x4, (r .count, tt)) us) ⊛ raw (fact 𝓤 (us .0 ≡ zeroRecords (r .count) z4)))) (id⊢ 𝓤 _) $
         pick ! (λ us.
         split ! $
         move ! (1 ∷ []) $
-        heard ! (us .0 ≡ stored (r .flat .words) (r .flat .count) z4) (λ put.
+        heard ! (us .0 ≡ zeroRecords (r .count) z4) (λ put.
         fsplit ! $
         fsplit ! $
         move ! (1 ∷ []) $
@@ -277,111 +245,71 @@ module _ {M : Type 1} (𝓤 : URA M) (H : Heap 𝓤) (A : Atoms 𝓤) (W : Given
         move ! (1 ∷ []) $
         feqL ! (λ unit.
         land ! (from ! (stop !)) (init ! 7 refl (subst (λ (y : Val). Holds (hasTy tyUnit y) × WT y) (sym (ap only unit)) (tt, tt))) $
-        assigns ! (of-opd ! (load ! (from ! (fld ! refl (stop !))) (look-in ! 25 (sub ! 0 refl (whole !))))) (from ! (stop !)) (init ! 41 refl (tt, record { fits = number-fits r is })) $
+        assigns ! (of-opd ! (load ! (from ! (fld ! refl (stop !))) (look-in ! 23 (sub ! 0 refl (whole !))))) (from ! (stop !)) (init ! 37 refl (tt, record { fits = number-fits r is })) $
         split ! $
-        returns ! (look ! 42 refl) $
-        forget ! 42 refl $
-        forget ! 40 refl $
+        returns ! (look ! 38 refl) $
         forget ! 38 refl $
         forget ! 36 refl $
         forget ! 34 refl $
         forget ! 32 refl $
         forget ! 30 refl $
+        forget ! 28 refl $
         forget ! 26 refl $
+        forget ! 24 refl $
         forget ! 8 refl $
         forget ! 6 refl $
         forget ! 4 refl $
-        move ! (42 ∷ 43 ∷ []) $
-        free1 ! $
-        move ! (40 ∷ 41 ∷ []) $
-        free1 ! $
-        move ! (38 ∷ 39 ∷ []) $
-        free1 ! $
-        move ! (36 ∷ 37 ∷ []) $
-        free1 ! $
-        move ! (34 ∷ 35 ∷ []) $
-        free1 ! $
-        move ! (32 ∷ 33 ∷ []) $
-        free1 ! $
-        move ! (30 ∷ 31 ∷ []) $
-        free1 ! $
-        move ! (28 ∷ 29 ∷ []) $
-        free1 ! $
-        move ! (26 ∷ 27 ∷ []) $
-        free1 ! $
-        move ! (24 ∷ 25 ∷ []) $
-        free1 ! $
-        move ! (22 ∷ 23 ∷ []) $
-        free1 ! $
-        move ! (20 ∷ 21 ∷ []) $
-        free1 ! $
-        move ! (18 ∷ 19 ∷ []) $
-        free1 ! $
-        move ! (16 ∷ 17 ∷ []) $
-        free1 ! $
-        move ! (14 ∷ 15 ∷ []) $
-        free1 ! $
-        move ! (12 ∷ 13 ∷ []) $
-        free1 ! $
-        move ! (10 ∷ 11 ∷ []) $
-        free1 ! $
-        move ! (8 ∷ 9 ∷ []) $
-        free1 ! $
-        move ! (6 ∷ 7 ∷ []) $
-        free1 ! $
-        move ! (4 ∷ 5 ∷ []) $
-        free1 ! $
-        free0 ! $
-        keep ! (4 ∷ 0 ∷ 5 ∷ 6 ∷ 2 ∷ 7 ∷ []) $
-        by ! (exits (r .number) w2 w3 (us .0) w5 (number-fits r is) e2 e3 e4 e5 (ap (λ (l : List Progress). answer (r .number) (stateOf w2 w3 (flatWords l) w5)) put ∙ changes (λ s. freshCall z0 z1 s) (refusal z0) (fresh-refused z0 z1) z4 f e r z2 z3 z5 w2 w3 w5 said))))))))
+        keep ! (38 ∷ 39 ∷ 36 ∷ 37 ∷ 34 ∷ 35 ∷ 32 ∷ 33 ∷ 30 ∷ 31 ∷ 28 ∷ 29 ∷ 26 ∷ 27 ∷ 24 ∷ 25 ∷ 22 ∷ 23 ∷ 20 ∷ 21 ∷ 18 ∷ 19 ∷ 16 ∷ 17 ∷ 14 ∷ 15 ∷ 12 ∷ 13 ∷ 10 ∷ 11 ∷ 8 ∷ 9 ∷ 6 ∷ 7 ∷ 4 ∷ 5 ∷ 40 ∷ 0 ∷ 41 ∷ 42 ∷ 2 ∷ 43 ∷ []) $
+        free-all ! _ $
+        by ! (exits (r .number) w2 w3 (us .0) w5 (number-fits r is) e2 e3 e4 e5 (ap (λ (l : List Progress). answer (r .number) (stateOf w2 w3 (flatWords l) w5)) put ∙ said .0 z4 refl))))))))
 
-    -- from the records' words on
-    worded : Triple 𝓤 (C #lent·fresh-words) (Words 𝓤 H A mem run) → Triple 𝓤 (C #records·store) (Store 𝓤 H A mem run) → (l0 l1 l2 l3 l4 l5 l6 l7 l8 l9 l10 l11 l12 l13 l14 l15 l16 l17 l18 l19 : ℕ) (f : Flat) → Is F f (low f ∷ []) → f ≡ flatOf z4
-        → Sq W (‵ (froom (sliceTy (tyRef erased mut (pointee (R .written)))) l19 0) ∷ ‵ (fdies (sliceTy (tyRef erased mut (pointee (R .written)))) l19) ∷ ‵ (froom (tyRef erased mut (pointee (R .written))) l18 0) ∷ ‵ (fdies (tyRef erased mut (pointee (R .written))) l18) ∷ ‵ (froom (tyUnit) l17 0) ∷ ‵ (fdies (tyUnit) l17) ∷ ‵ (froom (sliceTy (tyRef erased mut (tyInt w8))) l16 0) ∷ ‵ (fdies (sliceTy (tyRef erased mut (tyInt w8))) l16) ∷ ‵ (froom (tyRef erased mut (tyInt w8)) l15 0) ∷ ‵ (fdies (tyRef erased mut (tyInt w8)) l15) ∷ ‵ (froom (sliceTy (tyRef erased mut (tyInt w32))) l14 0) ∷ ‵ (fdies (sliceTy (tyRef erased mut (tyInt w32))) l14) ∷ ‵ (froom (tyRef erased mut (tyInt w32)) l13 0) ∷ ‵ (fdies (tyRef erased mut (tyInt w32)) l13) ∷ ‵ (froom (sliceTy (tyRef erased mut (tyInt w32))) l12 0) ∷ ‵ (fdies (sliceTy (tyRef erased mut (tyInt w32))) l12) ∷ ‵ (froom (tyRef erased mut (tyInt w32)) l11 0) ∷ ‵ (fdies (tyRef erased mut (tyInt w32)) l11) ∷ ‵ (froom (sliceTy (tyRef erased imm (pointee (R .written)))) l10 0) ∷ ‵ (fdies (sliceTy (tyRef erased imm (pointee (R .written)))) l10) ∷ ‵ (froom (tyRef erased imm (pointee (R .written))) l9 0) ∷ ‵ (fdies (tyRef erased imm (pointee (R .written))) l9) ∷ ‵ (froom (U′.mir) l8 0) ∷ ‵ (fdies (U′.mir) l8) ∷ ‵ (fat fullShare (S′.mir) l7 0 (low f)) ∷ ‵ (fdies (S′.mir) l7) ∷ ‵ (fat fullShare (sliceTy (tyRef (named 5) mut (tyInt w8))) l6 0 (v5)) ∷ ‵ (fdies (sliceTy (tyRef (named 5) mut (tyInt w8))) l6) ∷ ‵ (fat fullShare (sliceTy (tyRef (named 4) mut (pointee (R .written)))) l5 0 (v4)) ∷ ‵ (fdies (sliceTy (tyRef (named 4) mut (pointee (R .written)))) l5) ∷ ‵ (fat fullShare (sliceTy (tyRef (named 3) mut (tyInt w32))) l4 0 (v3)) ∷ ‵ (fdies (sliceTy (tyRef (named 3) mut (tyInt w32))) l4) ∷ ‵ (fat fullShare (sliceTy (tyRef (named 2) mut (tyInt w32))) l3 0 (v2)) ∷ ‵ (fdies (sliceTy (tyRef (named 2) mut (tyInt w32))) l3) ∷ ‵ (fat fullShare (sliceTy (tyRef (named 1) imm (tyInt w32))) l2 0 (v1)) ∷ ‵ (fdies (sliceTy (tyRef (named 1) imm (tyInt w32))) l2) ∷ ‵ (fat fullShare (sliceTy (tyRef (named 0) imm (tyInt w8))) l1 0 (v0)) ∷ ‵ (fdies (sliceTy (tyRef (named 0) imm (tyInt w8))) l1) ∷ ‵ (froom (word) l0 0) ∷ ‵ (fdies (word) l0) ∷ ‵ (flft κ0 q0) ∷ ‵ (flft κ1 q1) ∷ ‵ (flft κ2 q2) ∷ ‵ (flft κ3 q3) ∷ ‵ (flft κ4 q4) ∷ ‵ (flft κ5 q5) ∷ ‵ (ShrSlice (named 0) κ0 u8 .own x0 (v0 ∷ [])) ∷ ‵ (ShrSlice (named 1) κ1 u32 .own x1 (v1 ∷ [])) ∷ ‵ (MutSlice (named 2) κ2 u32 .own x2 (v2 ∷ [])) ∷ ‵ (MutSlice (named 3) κ3 u32 .own x3 (v3 ∷ [])) ∷ ‵ (MutSlice (named 4) κ4 R .own x4 (v4 ∷ [])) ∷ ‵ (MutSlice (named 5) κ5 u8 .own x5 (v5 ∷ [])) ∷ [])
-        (runs C Λ ((word, l0) ∷ (sliceTy (tyRef (named 0) imm (tyInt w8)), l1) ∷ (sliceTy (tyRef (named 1) imm (tyInt w32)), l2) ∷ (sliceTy (tyRef (named 2) mut (tyInt w32)), l3) ∷ (sliceTy (tyRef (named 3) mut (tyInt w32)), l4) ∷ (sliceTy (tyRef (named 4) mut (pointee (R .written))), l5) ∷ (sliceTy (tyRef (named 5) mut (tyInt w8)), l6) ∷ (S′.mir, l7) ∷ (U′.mir, l8) ∷ (tyRef erased imm (pointee (R .written)), l9) ∷ (sliceTy (tyRef erased imm (pointee (R .written))), l10) ∷ (tyRef erased mut (tyInt w32), l11) ∷ (sliceTy (tyRef erased mut (tyInt w32)), l12) ∷ (tyRef erased mut (tyInt w32), l13) ∷ (sliceTy (tyRef erased mut (tyInt w32)), l14) ∷ (tyRef erased mut (tyInt w8), l15) ∷ (sliceTy (tyRef erased mut (tyInt w8)), l16) ∷ (tyUnit, l17) ∷ (tyRef erased mut (pointee (R .written)), l18) ∷ (sliceTy (tyRef erased mut (pointee (R .written))), l19) ∷ []) mir′.t-4 (atRet ((word, l0) ∷ (sliceTy (tyRef (named 0) imm (tyInt w8)), l1) ∷ (sliceTy (tyRef (named 1) imm (tyInt w32)), l2) ∷ (sliceTy (tyRef (named 2) mut (tyInt w32)), l3) ∷ (sliceTy (tyRef (named 3) mut (tyInt w32)), l4) ∷ (sliceTy (tyRef (named 4) mut (pointee (R .written))), l5) ∷ (sliceTy (tyRef (named 5) mut (tyInt w8)), l6) ∷ (S′.mir, l7) ∷ (U′.mir, l8) ∷ (tyRef erased imm (pointee (R .written)), l9) ∷ (sliceTy (tyRef erased imm (pointee (R .written))), l10) ∷ (tyRef erased mut (tyInt w32), l11) ∷ (sliceTy (tyRef erased mut (tyInt w32)), l12) ∷ (tyRef erased mut (tyInt w32), l13) ∷ (sliceTy (tyRef erased mut (tyInt w32)), l14) ∷ (tyRef erased mut (tyInt w8), l15) ∷ (sliceTy (tyRef erased mut (tyInt w8)), l16) ∷ (tyUnit, l17) ∷ (tyRef erased mut (pointee (R .written)), l18) ∷ (sliceTy (tyRef erased mut (pointee (R .written))), l19) ∷ []) Post))
-    worded known₁ known₂ l0 l1 l2 l3 l4 l5 l6 l7 l8 l9 l10 l11 l12 l13 l14 l15 l16 l17 l18 l19 f is e =
-        assigns ! (addr ! (from ! (fld ! refl (hop ! (look-in ! 32 (sub ! 0 refl (whole !))) (stop !))))) (from ! (stop !)) (init ! 16 refl (tt, tt)) $
-        assigns ! (agg ! (and-then ! (load ! (from ! (stop !)) (look ! 16 refl)) (and-then ! (load ! (from ! (fld ! refl (stop !))) (look-in ! 32 (sub ! 1 refl (whole !)))) (no-more !)))) (from ! (stop !)) (init ! 14 refl (tt, (tt, (record { fits = g2 .0 }, tt)))) $
-        assigns ! (addr ! (from ! (fld ! refl (hop ! (look-in ! 30 (sub ! 0 refl (whole !))) (stop !))))) (from ! (stop !)) (init ! 12 refl (tt, tt)) $
-        assigns ! (agg ! (and-then ! (load ! (from ! (stop !)) (look ! 12 refl)) (and-then ! (load ! (from ! (fld ! refl (stop !))) (look-in ! 30 (sub ! 1 refl (whole !)))) (no-more !)))) (from ! (stop !)) (init ! 10 refl (tt, (tt, (record { fits = g3 .0 }, tt)))) $
-        assigns ! (addr ! (from ! (fld ! refl (hop ! (look-in ! 26 (sub ! 0 refl (whole !))) (stop !))))) (from ! (stop !)) (init ! 8 refl (tt, tt)) $
-        assigns ! (agg ! (and-then ! (load ! (from ! (stop !)) (look ! 8 refl)) (and-then ! (load ! (from ! (fld ! refl (stop !))) (look-in ! 26 (sub ! 1 refl (whole !)))) (no-more !)))) (from ! (stop !)) (init ! 6 refl (tt, (tt, (record { fits = g5 .0 }, tt)))) $
+    -- the whole body
+    begun : Triple 𝓤 (C #engine·fresh-count) (Areas 𝓤 H A mem run) → Triple 𝓤 (C #records·clear) (Clear 𝓤 H A mem run)
+        → Sq W (At (‵ (froom U′.mir l7 0)) (‵ (flft κ0 q0) ∷ ‵ (flft κ1 q1) ∷ ‵ (flft κ2 q2) ∷ ‵ (flft κ3 q3) ∷ ‵ (flft κ4 q4) ∷ ‵ (flft κ5 q5) ∷ ‵ (ShrSlice (named 0) κ0 u8 .own x0 (v0 ∷ [])) ∷ ‵ (ShrSlice (named 1) κ1 u32 .own x1 (v1 ∷ [])) ∷ ‵ (MutSlice (named 2) κ2 u32 .own x2 (v2 ∷ [])) ∷ ‵ (MutSlice (named 3) κ3 u32 .own x3 (v3 ∷ [])) ∷ ‵ (MutSlice (named 4) κ4 R .own x4 (v4 ∷ [])) ∷ ‵ (MutSlice (named 5) κ5 u8 .own x5 (v5 ∷ [])) ∷ [])) (runs C Λ En mir′.t-1 (atRet En Post))
+    begun known₁ known₂ =
+        assigns ! (addr ! (from ! (fld ! refl (hop ! (look-in ! 28 (sub ! 0 refl (whole !))) (stop !))))) (from ! (stop !)) (init ! 18 refl (tt, tt)) $
+        assigns ! (agg ! (and-then ! (load ! (from ! (stop !)) (look ! 18 refl)) (and-then ! (load ! (from ! (fld ! refl (stop !))) (look-in ! 28 (sub ! 1 refl (whole !)))) (no-more !)))) (from ! (stop !)) (init ! 16 refl (tt, (tt, (record { fits = g2 .0 }, tt)))) $
+        assigns ! (addr ! (from ! (fld ! refl (hop ! (look-in ! 26 (sub ! 0 refl (whole !))) (stop !))))) (from ! (stop !)) (init ! 14 refl (tt, tt)) $
+        assigns ! (agg ! (and-then ! (load ! (from ! (stop !)) (look ! 14 refl)) (and-then ! (load ! (from ! (fld ! refl (stop !))) (look-in ! 26 (sub ! 1 refl (whole !)))) (no-more !)))) (from ! (stop !)) (init ! 12 refl (tt, (tt, (record { fits = g3 .0 }, tt)))) $
+        assigns ! (of-opd ! (load ! (from ! (fld ! refl (stop !))) (look-in ! 24 (sub ! 1 refl (whole !))))) (from ! (stop !)) (init ! 10 refl (tt, record { fits = g4 .0 })) $
+        assigns ! (addr ! (from ! (fld ! refl (hop ! (look-in ! 22 (sub ! 0 refl (whole !))) (stop !))))) (from ! (stop !)) (init ! 8 refl (tt, tt)) $
+        assigns ! (agg ! (and-then ! (load ! (from ! (stop !)) (look ! 8 refl)) (and-then ! (load ! (from ! (fld ! refl (stop !))) (look-in ! 22 (sub ! 1 refl (whole !)))) (no-more !)))) (from ! (stop !)) (init ! 6 refl (tt, (tt, (record { fits = g5 .0 }, tt)))) $
         nothing ! $
-        move ! (52 ∷ 0 ∷ []) $
-        fjoin ! $
-        owned ! F (Is F) (LL.makes S.the-type S′.the-plain 𝓤 H A) f _ is $
-        fjoin ! $
-        move ! (50 ∷ 0 ∷ []) $
-        fjoin ! $
-        move ! (49 ∷ 0 ∷ []) $
-        fjoin ! $
         move ! (48 ∷ 0 ∷ []) $
         fjoin ! $
-        move ! (47 ∷ 0 ∷ []) $
+        owned ! usize (Is usize) (uint-makes 𝓤 H A W w64) (length z4) _ (refl, g4 .0) $
+        fjoin ! $
+        move ! (46 ∷ 0 ∷ []) $
+        fjoin ! $
+        move ! (45 ∷ 0 ∷ []) $
+        fjoin ! $
+        move ! (44 ∷ 0 ∷ []) $
+        fjoin ! $
+        move ! (43 ∷ 0 ∷ []) $
         fjoin ! $
         nothing ! $
-        move ! (47 ∷ 0 ∷ []) $
-        join ! $
-        move ! (45 ∷ 0 ∷ []) $
-        join ! $
-        move ! (44 ∷ 0 ∷ []) $
-        join ! $
         move ! (43 ∷ 0 ∷ []) $
         join ! $
-        move ! (42 ∷ 0 ∷ []) $
+        move ! (41 ∷ 0 ∷ []) $
         join ! $
-        use2 W (raw (Words 𝓤 H A mem run .pre (to-words f))) (goes-words f (length-of f e)) $
-        calls-at ! fm (Words 𝓤 H A mem run) known₁ (to-words f) (and-then ! (load ! (from ! (stop !)) (look ! 37 refl)) (and-then ! (load ! (from ! (stop !)) (look ! 35 refl)) (and-then ! (load ! (from ! (stop !)) (look ! 15 refl)) (and-then ! (load ! (from ! (stop !)) (look ! 11 refl)) (and-then ! (load ! (from ! (stop !)) (look ! 25 refl)) (and-then ! (load ! (from ! (stop !)) (look ! 7 refl)) (no-more !))))))) (λ w.
-        use1 W (later (some (λ (r : After). ((‵ (flft κ0 q0) ⊛ ‵ (flft κ1 q1) ⊛ ‵ (flft κ2 q2) ⊛ ‵ (flft κ3 q3) ⊛ ‵ (flft κ5 q5) ⊛ ‵ ftrue) ⊛ ‵ (E .own r (w ∷ []))) ⊛ raw (ensured 𝓤 H A words.ended (words.clauses 𝓤 H A mem run) (κ0, (κ1, (κ2, (κ3, (κ5, tt))))) (x0, (x1, (x2, (x3, (f, (x5, tt)))))) tt r)))) (id⊢ 𝓤 _) $
+        move ! (40 ∷ 0 ∷ []) $
+        join ! $
+        move ! (39 ∷ 0 ∷ []) $
+        join ! $
+        move ! (38 ∷ 0 ∷ []) $
+        join ! $
+        use2 W (raw (Areas 𝓤 H A mem run .pre to-areas)) goes-areas $
+        calls-at ! fm (Areas 𝓤 H A mem run) known₁ to-areas (and-then ! (load ! (from ! (stop !)) (look ! 33 refl)) (and-then ! (load ! (from ! (stop !)) (look ! 31 refl)) (and-then ! (load ! (from ! (stop !)) (look ! 17 refl)) (and-then ! (load ! (from ! (stop !)) (look ! 13 refl)) (and-then ! (load ! (from ! (stop !)) (look ! 11 refl)) (and-then ! (load ! (from ! (stop !)) (look ! 7 refl)) (no-more !))))))) (λ w.
+        use1 W (later (some (λ (r : Cleared). ((‵ (flft κ0 q0) ⊛ ‵ (flft κ1 q1) ⊛ ‵ (flft κ2 q2) ⊛ ‵ (flft κ3 q3) ⊛ ‵ (flft κ5 q5) ⊛ ‵ ftrue) ⊛ ‵ (E .own r (w ∷ []))) ⊛ raw (ensured 𝓤 H A areas.ended (areas.clauses 𝓤 H A mem run) (κ0, (κ1, (κ2, (κ3, (κ5, tt))))) (x0, (x1, (x2, (x3, (length z4, (x5, tt)))))) tt r)))) (id⊢ 𝓤 _) $
         await ! tt $
         pick ! (λ r.
         split ! $
         move ! (1 ∷ []) $
-        use1 W (some (λ (us : Unit {0} × (Unit {0} × (List ℕ × (List ℕ × (Unit {0} × (List ℕ × Unit {0})))))). ‵ (lasts words.ended (κ0, (κ1, (κ2, (κ3, (κ5, tt))))) (x0, (x1, (x2, (x3, (f, (x5, tt)))))) us) ⊛ raw (fact 𝓤 ((answer (r .number) (stateOf (us .1 .1 .0) (us .1 .1 .1 .0) (lentOf (f .count) (r .flat .words)) (us .1 .1 .1 .1 .1 .0)) ≡ freshCall z0 z1 (stateOf z2 z3 (lentOf (f .count) (f .words)) z5)) × ((r .flat .count ≡ keptCount (f .count)) × (length (r .flat .words) ≡ 192)))))) (id⊢ 𝓤 _) $
+        use1 W (some (λ (us : Unit {0} × (Unit {0} × (List ℕ × (List ℕ × (Unit {0} × (List ℕ × Unit {0})))))). ‵ (lasts areas.ended (κ0, (κ1, (κ2, (κ3, (κ5, tt))))) (x0, (x1, (x2, (x3, (length z4, (x5, tt)))))) us) ⊛ raw (fact 𝓤 (((rs : List Progress) → length z4 ≡ length rs → answer (r .number) (stateOf (us .1 .1 .0) (us .1 .1 .1 .0) (flatWords (zeroRecords (r .count) rs)) (us .1 .1 .1 .1 .1 .0)) ≡ freshCall z0 z1 (stateOf z2 z3 (flatWords rs) z5)) × (r .count ≤ length z4))))) (id⊢ 𝓤 _) $
         pick ! (λ us.
         split ! $
         move ! (1 ∷ []) $
-        heard ! ((answer (r .number) (stateOf (us .1 .1 .0) (us .1 .1 .1 .0) (lentOf (f .count) (r .flat .words)) (us .1 .1 .1 .1 .1 .0)) ≡ freshCall z0 z1 (stateOf z2 z3 (lentOf (f .count) (f .words)) z5)) × ((r .flat .count ≡ keptCount (f .count)) × (length (r .flat .words) ≡ 192))) (λ said.
+        heard ! (((rs : List Progress) → length z4 ≡ length rs → answer (r .number) (stateOf (us .1 .1 .0) (us .1 .1 .1 .0) (flatWords (zeroRecords (r .count) rs)) (us .1 .1 .1 .1 .1 .0)) ≡ freshCall z0 z1 (stateOf z2 z3 (flatWords rs) z5)) × (r .count ≤ length z4)) (λ said.
         fsplit ! $
         move ! (1 ∷ []) $
         fsplit ! $
@@ -406,71 +334,31 @@ module _ {M : Type 1} (𝓤 : URA M) (H : Heap 𝓤) (A : Atoms 𝓤) (W : Given
         split ! $
         move ! (1 ∷ []) $
         peeks ! E (Is E) (shows 𝓤 H A E) r (w ∷ []) (λ is′.
-        land ! (from ! (stop !)) (init ! 31 refl (LL.lawful U.the-type U′.the-laws 𝓤 H A W .typed r _ is′ .0)) $
-        rewrite ! 31 (λ (u : Val). ‵ (fat fullShare U′.mir l8 0 u)) (ap only (LL.tells U.the-type U′.the-laws r (w ∷ []) is′)) refl $
-        forget ! 33 refl $
+        land ! (from ! (stop !)) (init ! 29 refl (LL.lawful U.the-type U′.the-laws 𝓤 H A W .typed r _ is′ .0)) $
+        rewrite ! 29 (λ (u : Val). ‵ (fat fullShare U′.mir l7 0 u)) (ap only (LL.tells U.the-type U′.the-laws r (w ∷ []) is′)) refl $
+        forget ! 27 refl $
         forget ! 25 refl $
         forget ! 23 refl $
         forget ! 21 refl $
         forget ! 19 refl $
         forget ! 17 refl $
         forget ! 15 refl $
-        keep ! (9 ∷ 10 ∷ 11 ∷ 12 ∷ 13 ∷ 14 ∷ 15 ∷ 16 ∷ 17 ∷ 18 ∷ 19 ∷ 20 ∷ 21 ∷ 22 ∷ 23 ∷ 24 ∷ 25 ∷ 26 ∷ 27 ∷ 28 ∷ 29 ∷ 30 ∷ 31 ∷ 32 ∷ 33 ∷ 34 ∷ 35 ∷ 36 ∷ 37 ∷ 38 ∷ 39 ∷ 40 ∷ 41 ∷ 42 ∷ 43 ∷ 44 ∷ 45 ∷ 46 ∷ 47 ∷ 48 ∷ 1 ∷ 49 ∷ 50 ∷ 6 ∷ 5 ∷ 2 ∷ []) $
-        stored-part known₂ l0 l1 l2 l3 l4 l5 l6 l7 l8 l9 l10 l11 l12 l13 l14 l15 l16 l17 l18 l19 f e r (subst (λ (us : List Val). Is E r us) (LL.tells U.the-type U′.the-laws r (w ∷ []) is′) is′) (us .1 .1 .0) (us .1 .1 .1 .0) (us .1 .1 .1 .1 .1 .0) e2 e3 e5 said))))))))
+        keep ! (9 ∷ 10 ∷ 11 ∷ 12 ∷ 13 ∷ 14 ∷ 15 ∷ 16 ∷ 17 ∷ 18 ∷ 19 ∷ 20 ∷ 21 ∷ 22 ∷ 23 ∷ 24 ∷ 25 ∷ 26 ∷ 27 ∷ 28 ∷ 29 ∷ 30 ∷ 31 ∷ 32 ∷ 33 ∷ 34 ∷ 35 ∷ 36 ∷ 37 ∷ 38 ∷ 39 ∷ 40 ∷ 41 ∷ 42 ∷ 43 ∷ 44 ∷ 1 ∷ 45 ∷ 46 ∷ 6 ∷ 5 ∷ 2 ∷ []) $
+        cleared known₂ r (subst (λ (us : List Val). Is E r us) (LL.tells U.the-type U′.the-laws r (w ∷ []) is′) is′) (us .1 .1 .0) (us .1 .1 .1 .0) (us .1 .1 .1 .1 .1 .0) e2 e3 e5 said))))))))
 
-    -- the whole body
-    begun : Triple 𝓤 (C #records·flatten) (Flatten 𝓤 H A mem run) → Triple 𝓤 (C #lent·fresh-words) (Words 𝓤 H A mem run) → Triple 𝓤 (C #records·store) (Store 𝓤 H A mem run) → (l0 l1 l2 l3 l4 l5 l6 l7 l8 l9 l10 l11 l12 l13 l14 l15 l16 l17 l18 l19 : ℕ)
-        → Sq W (‵ (froom (sliceTy (tyRef erased mut (pointee (R .written)))) l19 0) ∷ ‵ (fdies (sliceTy (tyRef erased mut (pointee (R .written)))) l19) ∷ ‵ (froom (tyRef erased mut (pointee (R .written))) l18 0) ∷ ‵ (fdies (tyRef erased mut (pointee (R .written))) l18) ∷ ‵ (froom (tyUnit) l17 0) ∷ ‵ (fdies (tyUnit) l17) ∷ ‵ (froom (sliceTy (tyRef erased mut (tyInt w8))) l16 0) ∷ ‵ (fdies (sliceTy (tyRef erased mut (tyInt w8))) l16) ∷ ‵ (froom (tyRef erased mut (tyInt w8)) l15 0) ∷ ‵ (fdies (tyRef erased mut (tyInt w8)) l15) ∷ ‵ (froom (sliceTy (tyRef erased mut (tyInt w32))) l14 0) ∷ ‵ (fdies (sliceTy (tyRef erased mut (tyInt w32))) l14) ∷ ‵ (froom (tyRef erased mut (tyInt w32)) l13 0) ∷ ‵ (fdies (tyRef erased mut (tyInt w32)) l13) ∷ ‵ (froom (sliceTy (tyRef erased mut (tyInt w32))) l12 0) ∷ ‵ (fdies (sliceTy (tyRef erased mut (tyInt w32))) l12) ∷ ‵ (froom (tyRef erased mut (tyInt w32)) l11 0) ∷ ‵ (fdies (tyRef erased mut (tyInt w32)) l11) ∷ ‵ (froom (sliceTy (tyRef erased imm (pointee (R .written)))) l10 0) ∷ ‵ (fdies (sliceTy (tyRef erased imm (pointee (R .written)))) l10) ∷ ‵ (froom (tyRef erased imm (pointee (R .written))) l9 0) ∷ ‵ (fdies (tyRef erased imm (pointee (R .written))) l9) ∷ ‵ (froom (U′.mir) l8 0) ∷ ‵ (fdies (U′.mir) l8) ∷ ‵ (froom (S′.mir) l7 0) ∷ ‵ (fdies (S′.mir) l7) ∷ ‵ (fat fullShare (sliceTy (tyRef (named 5) mut (tyInt w8))) l6 0 (v5)) ∷ ‵ (fdies (sliceTy (tyRef (named 5) mut (tyInt w8))) l6) ∷ ‵ (fat fullShare (sliceTy (tyRef (named 4) mut (pointee (R .written)))) l5 0 (v4)) ∷ ‵ (fdies (sliceTy (tyRef (named 4) mut (pointee (R .written)))) l5) ∷ ‵ (fat fullShare (sliceTy (tyRef (named 3) mut (tyInt w32))) l4 0 (v3)) ∷ ‵ (fdies (sliceTy (tyRef (named 3) mut (tyInt w32))) l4) ∷ ‵ (fat fullShare (sliceTy (tyRef (named 2) mut (tyInt w32))) l3 0 (v2)) ∷ ‵ (fdies (sliceTy (tyRef (named 2) mut (tyInt w32))) l3) ∷ ‵ (fat fullShare (sliceTy (tyRef (named 1) imm (tyInt w32))) l2 0 (v1)) ∷ ‵ (fdies (sliceTy (tyRef (named 1) imm (tyInt w32))) l2) ∷ ‵ (fat fullShare (sliceTy (tyRef (named 0) imm (tyInt w8))) l1 0 (v0)) ∷ ‵ (fdies (sliceTy (tyRef (named 0) imm (tyInt w8))) l1) ∷ ‵ (froom (word) l0 0) ∷ ‵ (fdies (word) l0) ∷ ‵ (flft κ0 q0) ∷ ‵ (flft κ1 q1) ∷ ‵ (flft κ2 q2) ∷ ‵ (flft κ3 q3) ∷ ‵ (flft κ4 q4) ∷ ‵ (flft κ5 q5) ∷ ‵ (ShrSlice (named 0) κ0 u8 .own x0 (v0 ∷ [])) ∷ ‵ (ShrSlice (named 1) κ1 u32 .own x1 (v1 ∷ [])) ∷ ‵ (MutSlice (named 2) κ2 u32 .own x2 (v2 ∷ [])) ∷ ‵ (MutSlice (named 3) κ3 u32 .own x3 (v3 ∷ [])) ∷ ‵ (MutSlice (named 4) κ4 R .own x4 (v4 ∷ [])) ∷ ‵ (MutSlice (named 5) κ5 u8 .own x5 (v5 ∷ [])) ∷ [])
-        (runs C Λ ((word, l0) ∷ (sliceTy (tyRef (named 0) imm (tyInt w8)), l1) ∷ (sliceTy (tyRef (named 1) imm (tyInt w32)), l2) ∷ (sliceTy (tyRef (named 2) mut (tyInt w32)), l3) ∷ (sliceTy (tyRef (named 3) mut (tyInt w32)), l4) ∷ (sliceTy (tyRef (named 4) mut (pointee (R .written))), l5) ∷ (sliceTy (tyRef (named 5) mut (tyInt w8)), l6) ∷ (S′.mir, l7) ∷ (U′.mir, l8) ∷ (tyRef erased imm (pointee (R .written)), l9) ∷ (sliceTy (tyRef erased imm (pointee (R .written))), l10) ∷ (tyRef erased mut (tyInt w32), l11) ∷ (sliceTy (tyRef erased mut (tyInt w32)), l12) ∷ (tyRef erased mut (tyInt w32), l13) ∷ (sliceTy (tyRef erased mut (tyInt w32)), l14) ∷ (tyRef erased mut (tyInt w8), l15) ∷ (sliceTy (tyRef erased mut (tyInt w8)), l16) ∷ (tyUnit, l17) ∷ (tyRef erased mut (pointee (R .written)), l18) ∷ (sliceTy (tyRef erased mut (pointee (R .written))), l19) ∷ []) mir′.t-1 (atRet ((word, l0) ∷ (sliceTy (tyRef (named 0) imm (tyInt w8)), l1) ∷ (sliceTy (tyRef (named 1) imm (tyInt w32)), l2) ∷ (sliceTy (tyRef (named 2) mut (tyInt w32)), l3) ∷ (sliceTy (tyRef (named 3) mut (tyInt w32)), l4) ∷ (sliceTy (tyRef (named 4) mut (pointee (R .written))), l5) ∷ (sliceTy (tyRef (named 5) mut (tyInt w8)), l6) ∷ (S′.mir, l7) ∷ (U′.mir, l8) ∷ (tyRef erased imm (pointee (R .written)), l9) ∷ (sliceTy (tyRef erased imm (pointee (R .written))), l10) ∷ (tyRef erased mut (tyInt w32), l11) ∷ (sliceTy (tyRef erased mut (tyInt w32)), l12) ∷ (tyRef erased mut (tyInt w32), l13) ∷ (sliceTy (tyRef erased mut (tyInt w32)), l14) ∷ (tyRef erased mut (tyInt w8), l15) ∷ (sliceTy (tyRef erased mut (tyInt w8)), l16) ∷ (tyUnit, l17) ∷ (tyRef erased mut (pointee (R .written)), l18) ∷ (sliceTy (tyRef erased mut (pointee (R .written))), l19) ∷ []) Post))
-    begun known₀ known₁ known₂ l0 l1 l2 l3 l4 l5 l6 l7 l8 l9 l10 l11 l12 l13 l14 l15 l16 l17 l18 l19 =
-        assigns ! (addr ! (from ! (fld ! refl (hop ! (look-in ! 28 (sub ! 0 refl (whole !))) (stop !))))) (from ! (stop !)) (init ! 20 refl (tt, tt)) $
-        assigns ! (agg ! (and-then ! (load ! (from ! (stop !)) (look ! 20 refl)) (and-then ! (load ! (from ! (fld ! refl (stop !))) (look-in ! 28 (sub ! 1 refl (whole !)))) (no-more !)))) (from ! (stop !)) (init ! 18 refl (tt, (tt, (record { fits = g4 .0 }, tt)))) $
-        lft-new ! tt (λ ν.
-        move ! (51 ∷ 45 ∷ []) $
-        use2 W (later (some (λ (δ : GName). ‵ (ShrSlice (named 0) (ν ∷ []) R .own (y4 δ) (v4 ∷ [])) ⊛ ‵ (LentShared R κ4 (ν ∷ []) q4 γ4 b4 o4 z4)))) (lends-shared R κ4 (ν ∷ []) q4 γ4 b4 o4 𝓤 H A W (named 4) (named 0) z4) $
-        await ! tt $
-        pick ! (λ δ.
-        split ! $
-        move ! (2 ∷ 0 ∷ []) $
-        use2 W (raw (Flatten 𝓤 H A mem run .pre (to-flatten ν δ))) (goes-flatten ν δ) $
-        calls-at ! fm (Flatten 𝓤 H A mem run) known₀ (to-flatten ν δ) (and-then ! (load ! (from ! (stop !)) (look ! 20 refl)) (no-more !)) (λ w.
-        use1 W (later (some (λ (f : Flat). ((‵ (flft (ν ∷ []) fullShare) ⊛ ‵ ftrue) ⊛ ‵ (F .own f (w ∷ []))) ⊛ raw (ensured 𝓤 H A flatten.ended (flatten.clauses 𝓤 H A mem run) (ν ∷ [], tt) (y4 δ, tt) tt f)))) (id⊢ 𝓤 _) $
-        await ! tt $
-        pick ! (λ f.
-        split ! $
-        move ! (1 ∷ []) $
-        use1 W (raw (fact 𝓤 (f ≡ flatOf z4))) (flatten-of 𝓤 H A mem run (ν ∷ []) (y4 δ) f) $
-        heard ! (f ≡ flatOf z4) (λ e.
-        split ! $
-        move ! (1 ∷ []) $
-        peeks ! F (Is F) (shows 𝓤 H A F) f (w ∷ []) (λ is.
-        land ! (from ! (stop !)) (init ! 27 refl (LL.lawful S.the-type S′.the-laws 𝓤 H A W .typed f _ is .0)) $
-        rewrite ! 27 (λ (u : Val). ‵ (fat fullShare S′.mir l7 0 u)) (ap only (LL.tells S.the-type S′.the-laws f (w ∷ []) is)) refl $
-        move ! (1 ∷ []) $
-        split ! $
-        lft-end ! tt $
-        move ! (0 ∷ 3 ∷ []) $
-        use2 W (later (‵ (MutSlice (named 4) κ4 R .own x4 (v4 ∷ [])) ⊛ ‵ (flft κ4 q4))) (shared-back R κ4 (ν ∷ []) q4 γ4 b4 o4 𝓤 H A W (named 4) (named 0) z4 g4) $
-        await ! tt $
-        split ! $
-        forget ! 24 refl $
-        forget ! 22 refl $
-        keep ! (4 ∷ 5 ∷ 6 ∷ 7 ∷ 8 ∷ 9 ∷ 10 ∷ 11 ∷ 12 ∷ 13 ∷ 14 ∷ 15 ∷ 16 ∷ 17 ∷ 18 ∷ 19 ∷ 20 ∷ 21 ∷ 22 ∷ 23 ∷ 24 ∷ 25 ∷ 26 ∷ 27 ∷ 28 ∷ 29 ∷ 30 ∷ 31 ∷ 32 ∷ 33 ∷ 34 ∷ 35 ∷ 36 ∷ 37 ∷ 38 ∷ 39 ∷ 40 ∷ 41 ∷ 42 ∷ 43 ∷ 44 ∷ 45 ∷ 46 ∷ 47 ∷ 1 ∷ 48 ∷ 49 ∷ 50 ∷ 51 ∷ 52 ∷ 0 ∷ 53 ∷ []) $
-        worded known₁ known₂ l0 l1 l2 l3 l4 l5 l6 l7 l8 l9 l10 l11 l12 l13 l14 l15 l16 l17 l18 l19 f (subst (λ (us : List Val). Is F f us) (LL.tells S.the-type S′.the-laws f (w ∷ []) is) is) e))))))
-
-  walk : (C : Calls 𝓤 H) (Λ : Loops 𝓤 H) → FmC 𝓤 H (W .laws) C → Triple 𝓤 (C #records·flatten) (Flatten 𝓤 H A mem run) → Triple 𝓤 (C #lent·fresh-words) (Words 𝓤 H A mem run) → Triple 𝓤 (C #records·store) (Store 𝓤 H A mem run)
+  walk : (C : Calls 𝓤 H) (Λ : Loops 𝓤 H) → FmC 𝓤 H (W .laws) C → Triple 𝓤 (C #engine·fresh-count) (Areas 𝓤 H A mem run) → Triple 𝓤 (C #records·clear) (Clear 𝓤 H A mem run)
       → ent 𝓤 (onEntry 𝓤 H A fresh.signature (κ0, (κ1, (κ2, (κ3, (κ4, (κ5, tt)))))) (q0, (q1, (q2, (q3, (q4, (q5, tt)))))) (x0, (x1, (x2, (x3, (x4, (x5, tt)))))) at) (WpFn 𝓤 H C Λ code.function (v0 ∷ v1 ∷ v2 ∷ v3 ∷ v4 ∷ v5 ∷ []) Post)
-  walk C Λ fm known₀ known₁ known₂ =
+  walk C Λ fm known₁ known₂ =
       qed W ((‵ (flft κ0 q0) ⊛ ‵ (flft κ1 q1) ⊛ ‵ (flft κ2 q2) ⊛ ‵ (flft κ3 q3) ⊛ ‵ (flft κ4 q4) ⊛ ‵ (flft κ5 q5) ⊛ ‵ ftrue) ∷ ‵ (owns (ShrSlice (named 0) κ0 u8 ∷ ShrSlice (named 1) κ1 u32 ∷ MutSlice (named 2) κ2 u32 ∷ MutSlice (named 3) κ3 u32 ∷ MutSlice (named 4) κ4 R ∷ MutSlice (named 5) κ5 u8 ∷ []) (x0, (x1, (x2, (x3, (x4, (x5, tt)))))) at) ∷ []) ∵ enter ! C Λ code.function (v0 ∷ v1 ∷ v2 ∷ v3 ∷ v4 ∷ v5 ∷ []) _ $
-      alloc1 ! (λ l0. alloc1 ! (λ l1. alloc1 ! (λ l2. alloc1 ! (λ l3. alloc1 ! (λ l4. alloc1 ! (λ l5. alloc1 ! (λ l6. alloc1 ! (λ l7. alloc1 ! (λ l8. alloc1 ! (λ l9. alloc1 ! (λ l10. alloc1 ! (λ l11. alloc1 ! (λ l12. alloc1 ! (λ l13. alloc1 ! (λ l14. alloc1 ! (λ l15. alloc1 ! (λ l16. alloc1 ! (λ l17. alloc1 ! (λ l18. alloc1 ! (λ l19. alloc0 ! $ params1 ! $
-      pass1 ! (init ! 36 refl (tt, (tt, (record { fits = g0 .0 }, tt)))) $
-      pass1 ! (init ! 34 refl (tt, (tt, (record { fits = g1 .0 }, tt)))) $
-      pass1 ! (init ! 32 refl (tt, (tt, (record { fits = g2 .0 }, tt)))) $
-      pass1 ! (init ! 30 refl (tt, (tt, (record { fits = g3 .0 }, tt)))) $
-      pass1 ! (init ! 28 refl (tt, (tt, (record { fits = g4 .0 }, tt)))) $
-      pass1 ! (init ! 26 refl (tt, (tt, (record { fits = g5 .0 }, tt)))) $
+      alloc1 ! (λ l0. alloc1 ! (λ l1. alloc1 ! (λ l2. alloc1 ! (λ l3. alloc1 ! (λ l4. alloc1 ! (λ l5. alloc1 ! (λ l6. alloc1 ! (λ l7. alloc1 ! (λ l8. alloc1 ! (λ l9. alloc1 ! (λ l10. alloc1 ! (λ l11. alloc1 ! (λ l12. alloc1 ! (λ l13. alloc1 ! (λ l14. alloc1 ! (λ l15. alloc1 ! (λ l16. alloc1 ! (λ l17. alloc0 ! $ params1 ! $
+      pass1 ! (init ! 32 refl (tt, (tt, (record { fits = g0 .0 }, tt)))) $
+      pass1 ! (init ! 30 refl (tt, (tt, (record { fits = g1 .0 }, tt)))) $
+      pass1 ! (init ! 28 refl (tt, (tt, (record { fits = g2 .0 }, tt)))) $
+      pass1 ! (init ! 26 refl (tt, (tt, (record { fits = g3 .0 }, tt)))) $
+      pass1 ! (init ! 24 refl (tt, (tt, (record { fits = g4 .0 }, tt)))) $
+      pass1 ! (init ! 22 refl (tt, (tt, (record { fits = g5 .0 }, tt)))) $
       pass0 ! $
-      move ! (41 ∷ []) $
+      move ! (37 ∷ []) $
       fsplit ! $
       move ! (1 ∷ []) $
       fsplit ! $
@@ -482,7 +370,7 @@ module _ {M : Type 1} (𝓤 : URA M) (H : Heap 𝓤) (A : Atoms 𝓤) (W : Given
       fsplit ! $
       move ! (1 ∷ []) $
       fsplit ! $
-      move ! (47 ∷ []) $
+      move ! (43 ∷ []) $
       split ! $
       move ! (1 ∷ []) $
       split ! $
@@ -494,27 +382,27 @@ module _ {M : Type 1} (𝓤 : URA M) (H : Heap 𝓤) (A : Atoms 𝓤) (W : Given
       split ! $
       move ! (1 ∷ []) $
       split ! $
-      keep ! (14 ∷ 15 ∷ 16 ∷ 17 ∷ 18 ∷ 19 ∷ 20 ∷ 21 ∷ 22 ∷ 23 ∷ 24 ∷ 25 ∷ 26 ∷ 27 ∷ 28 ∷ 29 ∷ 30 ∷ 31 ∷ 32 ∷ 33 ∷ 34 ∷ 35 ∷ 36 ∷ 37 ∷ 38 ∷ 39 ∷ 40 ∷ 41 ∷ 42 ∷ 43 ∷ 44 ∷ 45 ∷ 46 ∷ 47 ∷ 48 ∷ 49 ∷ 50 ∷ 51 ∷ 52 ∷ 53 ∷ 6 ∷ 5 ∷ 4 ∷ 3 ∷ 2 ∷ 0 ∷ 13 ∷ 12 ∷ 11 ∷ 10 ∷ 9 ∷ 7 ∷ []) $
-      begun C Λ fm known₀ known₁ known₂ l0 l1 l2 l3 l4 l5 l6 l7 l8 l9 l10 l11 l12 l13 l14 l15 l16 l17 l18 l19))))))))))))))))))))
+      keep ! (14 ∷ 15 ∷ 16 ∷ 17 ∷ 18 ∷ 19 ∷ 20 ∷ 21 ∷ 22 ∷ 23 ∷ 24 ∷ 25 ∷ 26 ∷ 27 ∷ 28 ∷ 29 ∷ 30 ∷ 31 ∷ 32 ∷ 33 ∷ 34 ∷ 35 ∷ 36 ∷ 37 ∷ 38 ∷ 39 ∷ 40 ∷ 41 ∷ 42 ∷ 43 ∷ 44 ∷ 45 ∷ 46 ∷ 47 ∷ 48 ∷ 49 ∷ 6 ∷ 5 ∷ 4 ∷ 3 ∷ 2 ∷ 0 ∷ 13 ∷ 12 ∷ 11 ∷ 10 ∷ 9 ∷ 7 ∷ []) $
+      begun C Λ fm l0 l1 l2 l3 l4 l5 l6 l7 l8 l9 l10 l11 l12 l13 l14 l15 l16 l17 known₁ known₂))))))))))))))))))
 
 module _ {M : Type 1} (𝓤 : URA M) (H : Heap 𝓤) (A : Atoms 𝓤) (W : Given 𝓤 H A) (mem : Memory → SProp 𝓤) (run : Routine → Fun 𝓤) where
-  fresh-walks : (C : Calls 𝓤 H) (Λ : Loops 𝓤 H) → FmC 𝓤 H (W .laws) C → Triple 𝓤 (C #records·flatten) (Flatten 𝓤 H A mem run) → Triple 𝓤 (C #lent·fresh-words) (Words 𝓤 H A mem run) → Triple 𝓤 (C #records·store) (Store 𝓤 H A mem run)
+  fresh-walks : (C : Calls 𝓤 H) (Λ : Loops 𝓤 H) → FmC 𝓤 H (W .laws) C → Triple 𝓤 (C #engine·fresh-count) (Areas 𝓤 H A mem run) → Triple 𝓤 (C #records·clear) (Clear 𝓤 H A mem run)
       → Walks 𝓤 H A fresh.ended stayed (WpFn 𝓤 H C Λ code.function) (fresh.clauses 𝓤 H A mem run)
-  fresh-walks C Λ fm known₀ known₁ known₂ =
+  fresh-walks C Λ fm known₁ known₂ =
       walked 𝓤 H A fresh.ended stayed (fresh.clauses 𝓤 H A mem run) (WpFn 𝓤 H C Λ code.function)
       (λ κs. (slice-vals, (slice-vals, (slice-vals, (slice-vals, (slice-vals, (slice-vals, tt)))))))
       (λ κs. (shr-slice-tells (named 0) (κs .0) u8, (shr-slice-tells (named 1) (κs .1 .0) u32, (mut-slice-tells (named 2) (κs .1 .1 .0) u32, (mut-slice-tells (named 3) (κs .1 .1 .1 .0) u32, (mut-slice-tells (named 4) (κs .1 .1 .1 .1 .0) R, (mut-slice-tells (named 5) (κs .1 .1 .1 .1 .1 .0) u8, tt)))))))
       (λ κs qs bounds a g are. via 𝓤 _ (fst∗ 𝓤 _ (emp 𝓤))
-      (walk 𝓤 H A W mem run (κs .0) (qs .0) (a .0 .ptr .0) (a .0 .ptr .1) (a .0 .name) (a .0 .now) (are .0 .0 .1) (κs .1 .0) (qs .1 .0) (a .1 .0 .ptr .0) (a .1 .0 .ptr .1) (a .1 .0 .name) (a .1 .0 .now) (are .1 .0 .0 .1) (κs .1 .1 .0) (qs .1 .1 .0) (a .1 .1 .0 .ptr .0) (a .1 .1 .0 .ptr .1) (a .1 .1 .0 .name) (a .1 .1 .0 .now) (are .1 .1 .0 .0 .1) (κs .1 .1 .1 .0) (qs .1 .1 .1 .0) (a .1 .1 .1 .0 .ptr .0) (a .1 .1 .1 .0 .ptr .1) (a .1 .1 .1 .0 .name) (a .1 .1 .1 .0 .now) (are .1 .1 .1 .0 .0 .1) (κs .1 .1 .1 .1 .0) (qs .1 .1 .1 .1 .0) (a .1 .1 .1 .1 .0 .ptr .0) (a .1 .1 .1 .1 .0 .ptr .1) (a .1 .1 .1 .1 .0 .name) (a .1 .1 .1 .1 .0 .now) (are .1 .1 .1 .1 .0 .0 .1) (κs .1 .1 .1 .1 .1 .0) (qs .1 .1 .1 .1 .1 .0) (a .1 .1 .1 .1 .1 .0 .ptr .0) (a .1 .1 .1 .1 .1 .0 .ptr .1) (a .1 .1 .1 .1 .1 .0 .name) (a .1 .1 .1 .1 .1 .0 .now) (are .1 .1 .1 .1 .1 .0 .0 .1) bounds C Λ fm known₀ known₁ known₂))
+      (walk 𝓤 H A W mem run (κs .0) (qs .0) (a .0 .ptr .0) (a .0 .ptr .1) (a .0 .name) (a .0 .now) (are .0 .0 .1) (κs .1 .0) (qs .1 .0) (a .1 .0 .ptr .0) (a .1 .0 .ptr .1) (a .1 .0 .name) (a .1 .0 .now) (are .1 .0 .0 .1) (κs .1 .1 .0) (qs .1 .1 .0) (a .1 .1 .0 .ptr .0) (a .1 .1 .0 .ptr .1) (a .1 .1 .0 .name) (a .1 .1 .0 .now) (are .1 .1 .0 .0 .1) (κs .1 .1 .1 .0) (qs .1 .1 .1 .0) (a .1 .1 .1 .0 .ptr .0) (a .1 .1 .1 .0 .ptr .1) (a .1 .1 .1 .0 .name) (a .1 .1 .1 .0 .now) (are .1 .1 .1 .0 .0 .1) (κs .1 .1 .1 .1 .0) (qs .1 .1 .1 .1 .0) (a .1 .1 .1 .1 .0 .ptr .0) (a .1 .1 .1 .1 .0 .ptr .1) (a .1 .1 .1 .1 .0 .name) (a .1 .1 .1 .1 .0 .now) (are .1 .1 .1 .1 .0 .0 .1) (κs .1 .1 .1 .1 .1 .0) (qs .1 .1 .1 .1 .1 .0) (a .1 .1 .1 .1 .1 .0 .ptr .0) (a .1 .1 .1 .1 .1 .0 .ptr .1) (a .1 .1 .1 .1 .1 .0 .name) (a .1 .1 .1 .1 .1 .0 .now) (are .1 .1 .1 .1 .1 .0 .0 .1) bounds C Λ fm known₁ known₂))
 
 fresh-meets : {M : Type 1} (𝓤 : URA M) (H : Heap 𝓤) (A : Atoms 𝓤) (W : Given 𝓤 H A) (mem : Memory → SProp 𝓤) (run : Routine → Fun 𝓤) (𝓣 : Tables 𝓤 H)
-    → Triple 𝓤 (𝓣 .C #records·flatten) (Flatten 𝓤 H A mem run) → Triple 𝓤 (𝓣 .C #lent·fresh-words) (Words 𝓤 H A mem run) → Triple 𝓤 (𝓣 .C #records·store) (Store 𝓤 H A mem run)
+    → Triple 𝓤 (𝓣 .C #engine·fresh-count) (Areas 𝓤 H A mem run) → Triple 𝓤 (𝓣 .C #records·clear) (Clear 𝓤 H A mem run)
     → Meets 𝓤 H A fresh.signature (WpFn 𝓤 H (𝓣 .C) (𝓣 .Λ) code.function) (fresh.spec 𝓤 H A mem run)
-fresh-meets 𝓤 H A W mem run 𝓣 known₀ known₁ known₂ =
+fresh-meets 𝓤 H A W mem run 𝓣 known₁ known₂ =
     walk-meets 𝓤 H A fresh.ended stayed W
     (goes-dropped 𝓤 H A W 6 (shrSliceOf (0 ∷ []) tt (plain (λ _. u8))) yes (λ κs x f. refl), (goes-dropped 𝓤 H A W 6 (shrSliceOf (1 ∷ []) tt (plain (λ _. u32))) yes (λ κs x f. refl), (goes-gave-slice 𝓤 H A W 6 2 tt (plain (λ _. u32)), (goes-gave-slice 𝓤 H A W 6 3 tt (plain (λ _. u32)), (goes-gave-slice 𝓤 H A W 6 4 tt (plain (λ _. R)), (goes-gave-slice 𝓤 H A W 6 5 tt (plain (λ _. u8)), tt))))))
     (fresh.clauses 𝓤 H A mem run) (WpFn 𝓤 H (𝓣 .C) (𝓣 .Λ) code.function) (WpFn-mono 𝓤 H (W .laws) 𝓣 code.function)
-    (fresh-walks 𝓤 H A W mem run (𝓣 .C) (𝓣 .Λ) (fmOf 𝓤 H (W .laws) 𝓣) known₀ known₁ known₂)
+    (fresh-walks 𝓤 H A W mem run (𝓣 .C) (𝓣 .Λ) (fmOf 𝓤 H (W .laws) 𝓣) known₁ known₂)
 
 pub rolwyddac-fresh-spec : {M : Type 1} → stated.statement M
 unfolding code.routine tablesOf
@@ -522,6 +410,5 @@ rolwyddac-fresh-spec 𝓤 H 𝓜 𝓖 𝓡 =
     entered 𝓤 H (tripleOf 𝓤 H (𝓖 .A) fresh.signature (fresh.spec 𝓤 H (𝓖 .A) (𝓜 .mem) (𝓡 .run)))
     (tables 𝓤 H 𝓜 𝓡 code.env .C) (tables 𝓤 H 𝓜 𝓡 code.env .Λ) #calls·fresh code.function (code.unfolded 𝓤 H 𝓜 𝓡)
     (fresh-meets 𝓤 H (𝓖 .A) (givenOf 𝓤 H 𝓜 𝓖) (𝓜 .mem) (𝓡 .run) (tablesOf 𝓤 H 𝓜 (tables 𝓤 H 𝓜 𝓡 code.env))
-    (cited 𝓤 H (Flatten 𝓤 H (𝓖 .A) (𝓜 .mem) (𝓡 .run)) 𝓜 𝓡 code.env #records·flatten flatten-def.routine code.calls-records·flatten (flatten-thm.met 𝓤 H 𝓜 𝓖 𝓡))
-    (cited 𝓤 H (Words 𝓤 H (𝓖 .A) (𝓜 .mem) (𝓡 .run)) 𝓜 𝓡 code.env #lent·fresh-words words-def.routine code.calls-lent·fresh-words (words-thm.met 𝓤 H 𝓜 𝓖 𝓡))
-    (cited 𝓤 H (Store 𝓤 H (𝓖 .A) (𝓜 .mem) (𝓡 .run)) 𝓜 𝓡 code.env #records·store store-def.routine code.calls-records·store (store-thm.met 𝓤 H 𝓜 𝓖 𝓡)))
+    (cited 𝓤 H (Areas 𝓤 H (𝓖 .A) (𝓜 .mem) (𝓡 .run)) 𝓜 𝓡 code.env #engine·fresh-count areas-def.routine code.calls-engine·fresh-count (areas-thm.met 𝓤 H 𝓜 𝓖 𝓡))
+    (cited 𝓤 H (Clear 𝓤 H (𝓖 .A) (𝓜 .mem) (𝓡 .run)) 𝓜 𝓡 code.env #records·clear clear-def.routine code.calls-records·clear (clear-thm.met 𝓤 H 𝓜 𝓖 𝓡)))

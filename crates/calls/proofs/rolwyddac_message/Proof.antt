@@ -2,7 +2,7 @@
 use native.Mathlib.Omega.{arith}
 use lib.ListN.{length-set}
 use borrow.Author.Needs.{needs}
-use Rattle.calls.proofs.Figures as L
+use Rattle.calls.proofs.PlanCalls as L
 use Rattle.calls.proofs.rolwyddac_message.Statement.{statement}
 use Rattle.calls.proofs.rolwyddac_message.Tie as tie
 use Rattle.calls.proofs.rolwyddac_message.Reads as reads

@@ -2,7 +2,7 @@
 use native.Mathlib.Omega.{arith}
 use lib.ListN.{length-set}
 use borrow.Author.Needs.{needs}
-use Rattle.calls.proofs.Figures as L
+use Rattle.calls.proofs.PlanCalls as L
 use Rattle.calls.proofs.rolwyddac_summary.Statement.{statement}
 use Rattle.calls.proofs.rolwyddac_summary.Tie as tie
 use Rattle.calls.proofs.rolwyddac_summary.Reads as reads

@@ -1,4 +1,4 @@
--- `rolwyddac_turn` meets its contract: a walk of its MIR, by hand. `flatten` is called on the records, lent as `&` for the call; `turn_words` on their words and all else that was lent; and `store` on the records and the words after it.
+-- `rolwyddac_turn` meets its contract: a walk of its MIR, by hand. `flatten` is called on the records, lent as `&` for the call; `turn_flat` on their words and all else that was lent; and `put` on the records and the one that the turn made.
 -- All that the proof knows of the three is that they meet their contracts. Assumes nothing.
 use mathlib.Core.Path.{_≡_, refl, sym, ap, subst, _∙_}
 use Prim.Native.Nat.{ℕ, _<_, _≤_, _^_}
@@ -20,7 +20,7 @@ use contract.Running.{givenOf, tables, tablesOf}
 use contract.Lifetimes.{AllOutlive}
 use types.Kit.{Given, ‵, raw, some, later, runs, atRet, Sq, _⊛_, ⋆, _$_, _∵_, !, qed, by, move, keep, use1, use2, split, join, pick, rewrite, fsplit, fjoin, feqL, suffices, frame, await, done}
 use types.Part.{whole, sub, look-in, agg}
-use types.Run.{look, init, forget, stop, hop, fld, from, load, of-opd, addr, and-then, no-more, assigns, land, returns, enter, alloc1, alloc0, params1, pass1, pass0, free1, free0}
+use types.Run.{look, init, forget, stop, hop, fld, from, load, of-opd, addr, and-then, no-more, assigns, land, returns, enter, alloc1, alloc0, params1, pass1, pass0}
 use types.Tokens.{lft-new, lft-end}
 use sound.WpLaws.{FmC, fmOf, WpFn-mono}
 use denote.RattleType.{RattleType, owns}
@@ -43,10 +43,11 @@ use denote.Triple.Walked.{says, Stays, stay-dropped, gave-slice, walkOf, goes-dr
 use denote.Exit.{yes}
 use Rattle.machine.specs.Machine.{stateOf}
 use Rattle.engine.specs.Calls.{answer, turnCall}
-use Rattle.records.specs.Records.{flatWords, flatOf, stored}
+use Rattle.records.specs.Records.{flatWords, flatOf, putAt}
 use Rattle.records.specs.declared.Progress.{Progress}
 use Rattle.records.specs.declared.Flat.{Flat}
 use Rattle.records.proofs.Words.{length-flat}
+use Rattle.records.proofs.Leave.{free-all}
 use Rattle.records.proofs.Progress as T
 use Rattle.records.proofs.Flat as S
 use Rattle.records.proofs.Flat.Laws as S′
@@ -54,20 +55,21 @@ use Rattle.records.proofs.flatten as flatten
 use Rattle.records.proofs.flatten.Symbol as flatten-def
 use Rattle.records.proofs.flatten.Symbol.{name as #records·flatten}
 use Rattle.records.proofs.flatten.Met as flatten-thm
-use Rattle.records.proofs.store as stores
-use Rattle.records.proofs.store.Symbol as store-def
-use Rattle.records.proofs.store.Symbol.{name as #records·store}
-use Rattle.records.proofs.store.Met as store-thm
-use Rattle.lent.specs.Lent.{keptCount, lentOf}
-use Rattle.lent.specs.declared.After.{After}
-use Rattle.lent.proofs.After as U
-use Rattle.lent.proofs.After.Laws as U′
+use Rattle.records.proofs.Progress.Laws as T′
+use Rattle.records.proofs.put as puts
+use Rattle.records.proofs.put.Symbol as put-def
+use Rattle.records.proofs.put.Symbol.{name as #records·put}
+use Rattle.records.proofs.put.Met as put-thm
+use Rattle.engine.specs.Given.{recordsAfter}
+use Rattle.engine.specs.declared.Turned.{Turned}
+use Rattle.engine.proofs.Turned as U
+use Rattle.engine.proofs.Turned.Laws as U′
+use Rattle.engine.proofs.Reading.{record-there, stored-after}
+use Rattle.engine.proofs.turn_flat as words
+use Rattle.engine.proofs.turn_flat.Symbol as words-def
+use Rattle.engine.proofs.turn_flat.Symbol.{name as #engine·turn-flat}
+use Rattle.engine.proofs.turn_flat.Met as words-thm
 use Rattle.calls.proofs.Shared.{LentShared, lends-shared, shared-back}
-use Rattle.lent.proofs.Misfit.{refusal, turn-refused, room, changes}
-use Rattle.lent.proofs.turn_words as words
-use Rattle.lent.proofs.turn_words.Symbol as words-def
-use Rattle.lent.proofs.turn_words.Symbol.{name as #lent·turn-words}
-use Rattle.lent.proofs.turn_words.Met as words-thm
 use Rattle.calls.proofs.rolwyddac_turn.Key.{name as #calls·turn}
 use Rattle.calls.proofs.rolwyddac_turn as turn
 use Rattle.calls.proofs.rolwyddac_turn.Statement as stated
@@ -86,13 +88,16 @@ low f = only (LL.vals S.the-type S′.the-laws f)
 abbrev E : RattleType
 E = U.the-row
 
-abbrev high : After → Val
+abbrev high : Turned → Val
 high r = only (LL.vals U.the-type U′.the-laws r)
 
-flat-is : (r : After) → Is E r (high r ∷ []) → Is F (r .flat) (low (r .flat) ∷ [])
-flat-is r is = LL.owed U.the-type U′.the-laws r _ is .1 .0
+abbrev one : Progress → Val
+one p = only (LL.vals T.the-type T′.the-laws p)
 
-number-fits : (r : After) → Is E r (high r ∷ []) → r .number < 2 ^ 32
+progress-is : (r : Turned) → Is E r (high r ∷ []) → Is R (r .progress) (one (r .progress) ∷ [])
+progress-is r is = LL.owed U.the-type U′.the-laws r _ is .1 .0
+
+number-fits : (r : Turned) → Is E r (high r ∷ []) → r .number < 2 ^ 32
 number-fits r is = LL.owed U.the-type U′.the-laws r _ is .0 .1
 
 abbrev word : Ty
@@ -109,8 +114,8 @@ module _ {M : Type 1} (𝓤 : URA M) (H : Heap 𝓤) (A : Atoms 𝓤) (mem : Mem
   abbrev Words : Contract 𝓤
   Words = tripleOf 𝓤 H A words.signature (words.spec 𝓤 H A mem run)
 
-  abbrev Store : Contract 𝓤
-  Store = tripleOf 𝓤 H A stores.signature (stores.spec 𝓤 H A mem run)
+  abbrev Put : Contract 𝓤
+  Put = tripleOf 𝓤 H A puts.signature (puts.spec 𝓤 H A mem run)
 
   flatten-of : (κ : Lft) (x : RefT (List Progress)) (f : Flat) → ent 𝓤 (ensured 𝓤 H A flatten.ended (flatten.clauses 𝓤 H A mem run) (κ, tt) (x, tt) tt f) (fact 𝓤 (f ≡ flatOf (now x)))
   flatten-of κ x f = exE 𝓤 _ (λ ws. snd∗ 𝓤 (sem 𝓤 H A (lasts flatten.ended (κ, tt) (x, tt) ws)) (fact 𝓤 (f ≡ flatOf (now x))))
@@ -234,43 +239,51 @@ module _ {M : Type 1} (𝓤 : URA M) (H : Heap 𝓤) (A : Atoms 𝓤) (W : Given
   goes-words : (f : Flat) → length (f .words) ≡ 192 → ent 𝓤 (⋆ 𝓤 H A ((‵ (flft κ0 q0) ⊛ ‵ (flft κ1 q1) ⊛ ‵ (flft κ2 q2) ⊛ ‵ (flft κ3 q3) ⊛ ‵ (flft κ5 q5) ⊛ ‵ ftrue) ∷ ‵ (owns (ShrSlice (named 0) κ0 u8 ∷ ShrSlice (named 1) κ1 u32 ∷ MutSlice (named 2) κ2 u32 ∷ MutSlice (named 3) κ3 u32 ∷ F ∷ MutSlice (named 5) κ5 u8 ∷ u32 ∷ []) (x0, (x1, (x2, (x3, (f, (x5, (n6, tt))))))) (v0 ∷ [], (v1 ∷ [], (v2 ∷ [], (v3 ∷ [], (low f ∷ [], (v5 ∷ [], (vint w32 n6 ∷ [], tt)))))))) ∷ [])) (Words 𝓤 H A mem run .pre (to-words f))
   goes-words f w = qed W ((‵ (flft κ0 q0) ⊛ ‵ (flft κ1 q1) ⊛ ‵ (flft κ2 q2) ⊛ ‵ (flft κ3 q3) ⊛ ‵ (flft κ5 q5) ⊛ ‵ ftrue) ∷ ‵ (owns (ShrSlice (named 0) κ0 u8 ∷ ShrSlice (named 1) κ1 u32 ∷ MutSlice (named 2) κ2 u32 ∷ MutSlice (named 3) κ3 u32 ∷ F ∷ MutSlice (named 5) κ5 u8 ∷ u32 ∷ []) (x0, (x1, (x2, (x3, (f, (x5, (n6, tt))))))) (v0 ∷ [], (v1 ∷ [], (v2 ∷ [], (v3 ∷ [], (low f ∷ [], (v5 ∷ [], (vint w32 n6 ∷ [], tt)))))))) ∷ []) ∵ says ! w $ done !
 
-  abbrev to-store : Flat → Store 𝓤 H A mem run .Ghost
-  to-store f = (((κ4, tt), (q4, tt), tt, (x4, (f, tt)), (v4 ∷ [], (low f ∷ [], tt))), tt)
+  abbrev to-put : Turned → Put 𝓤 H A mem run .Ghost
+  to-put r = (((κ4, tt), (q4, tt), tt, (x4, (r .number, (n6, (r .progress, tt)))), (v4 ∷ [], (vint w32 (r .number) ∷ [], (vint w32 n6 ∷ [], (one (r .progress) ∷ [], tt))))), tt)
 
-  goes-store : (f : Flat) → (f .count ≤ 64) × (f .count ≤ length z4)
-      → ent 𝓤 (⋆ 𝓤 H A ((‵ (flft κ4 q4) ⊛ ‵ ftrue) ∷ ‵ (owns (MutSlice (named 4) κ4 R ∷ F ∷ []) (x4, (f, tt)) (v4 ∷ [], (low f ∷ [], tt))) ∷ [])) (Store 𝓤 H A mem run .pre (to-store f))
-  goes-store f c = qed W ((‵ (flft κ4 q4) ⊛ ‵ ftrue) ∷ ‵ (owns (MutSlice (named 4) κ4 R ∷ F ∷ []) (x4, (f, tt)) (v4 ∷ [], (low f ∷ [], tt))) ∷ []) ∵ says ! c $ done !
+  goes-put : (r : Turned) → (r .number ≡ 0 → n6 < length z4)
+      → ent 𝓤 (⋆ 𝓤 H A ((‵ (flft κ4 q4) ⊛ ‵ ftrue) ∷ ‵ (owns (MutSlice (named 4) κ4 R ∷ u32 ∷ u32 ∷ R ∷ []) (x4, (r .number, (n6, (r .progress, tt)))) (v4 ∷ [], (vint w32 (r .number) ∷ [], (vint w32 n6 ∷ [], (one (r .progress) ∷ [], tt))))) ∷ [])) (Put 𝓤 H A mem run .pre (to-put r))
+  goes-put r c = qed W ((‵ (flft κ4 q4) ⊛ ‵ ftrue) ∷ ‵ (owns (MutSlice (named 4) κ4 R ∷ u32 ∷ u32 ∷ R ∷ []) (x4, (r .number, (n6, (r .progress, tt)))) (v4 ∷ [], (vint w32 (r .number) ∷ [], (vint w32 n6 ∷ [], (one (r .progress) ∷ [], tt))))) ∷ []) ∵ says ! c $ done !
+
+  -- what the call over words says, for these records
+  abbrev Said : Turned → List ℕ → List ℕ → List ℕ → List Progress → Type 0
+  Said r w2 w3 w5 rs = answer (r .number) (stateOf w2 w3 (recordsAfter (flatWords rs) n6 r) w5) ≡ turnCall z0 z1 (stateOf z2 z3 (flatWords rs) z5) n6
 
   module _ (C : Calls 𝓤 H) (Λ : Loops 𝓤 H) (fm : FmC 𝓤 H (W .laws) C) where
     -- from the words after the call on
-    stored-part : Triple 𝓤 (C #records·store) (Store 𝓤 H A mem run) → (l0 l1 l2 l3 l4 l5 l6 l7 l8 l9 l10 l11 l12 l13 l14 l15 l16 l17 l18 l19 l20 : ℕ) (f : Flat) → f ≡ flatOf z4 → (r : After) → Is E r (high r ∷ []) → (w2 w3 w5 : List ℕ)
+    stored-part : Triple 𝓤 (C #records·put) (Put 𝓤 H A mem run) → (l0 l1 l2 l3 l4 l5 l6 l7 l8 l9 l10 l11 l12 l13 l14 l15 l16 l17 l18 l19 l20 : ℕ) (r : Turned) → Is E r (high r ∷ []) → (w2 w3 w5 : List ℕ)
         → length w2 ≡ length z2 → length w3 ≡ length z3 → length w5 ≡ length z5
-        → (answer (r .number) (stateOf w2 w3 (lentOf (f .count) (r .flat .words)) w5) ≡ turnCall z0 z1 (stateOf z2 z3 (lentOf (f .count) (f .words)) z5) n6) × ((r .flat .count ≡ keptCount (f .count)) × (length (r .flat .words) ≡ 192))
+        → Said r w2 w3 w5 z4
         → Sq W (‵ (froom (sliceTy (tyRef erased mut (pointee (R .written)))) l20 0) ∷ ‵ (fdies (sliceTy (tyRef erased mut (pointee (R .written)))) l20) ∷ ‵ (froom (tyRef erased mut (pointee (R .written))) l19 0) ∷ ‵ (fdies (tyRef erased mut (pointee (R .written))) l19) ∷ ‵ (froom (tyUnit) l18 0) ∷ ‵ (fdies (tyUnit) l18) ∷ ‵ (froom (sliceTy (tyRef erased mut (tyInt w8))) l17 0) ∷ ‵ (fdies (sliceTy (tyRef erased mut (tyInt w8))) l17) ∷ ‵ (froom (tyRef erased mut (tyInt w8)) l16 0) ∷ ‵ (fdies (tyRef erased mut (tyInt w8)) l16) ∷ ‵ (froom (sliceTy (tyRef erased mut (tyInt w32))) l15 0) ∷ ‵ (fdies (sliceTy (tyRef erased mut (tyInt w32))) l15) ∷ ‵ (froom (tyRef erased mut (tyInt w32)) l14 0) ∷ ‵ (fdies (tyRef erased mut (tyInt w32)) l14) ∷ ‵ (froom (sliceTy (tyRef erased mut (tyInt w32))) l13 0) ∷ ‵ (fdies (sliceTy (tyRef erased mut (tyInt w32))) l13) ∷ ‵ (froom (tyRef erased mut (tyInt w32)) l12 0) ∷ ‵ (fdies (tyRef erased mut (tyInt w32)) l12) ∷ ‵ (froom (sliceTy (tyRef erased imm (pointee (R .written)))) l11 0) ∷ ‵ (fdies (sliceTy (tyRef erased imm (pointee (R .written)))) l11) ∷ ‵ (froom (tyRef erased imm (pointee (R .written))) l10 0) ∷ ‵ (fdies (tyRef erased imm (pointee (R .written))) l10) ∷ ‵ (fat fullShare (U′.mir) l9 0 (high r)) ∷ ‵ (fdies (U′.mir) l9) ∷ ‵ (froom (S′.mir) l8 0) ∷ ‵ (fdies (S′.mir) l8) ∷ ‵ (fat fullShare (word) l7 0 (vint w32 n6)) ∷ ‵ (fdies (word) l7) ∷ ‵ (fat fullShare (sliceTy (tyRef (named 5) mut (tyInt w8))) l6 0 (v5)) ∷ ‵ (fdies (sliceTy (tyRef (named 5) mut (tyInt w8))) l6) ∷ ‵ (fat fullShare (sliceTy (tyRef (named 4) mut (pointee (R .written)))) l5 0 (v4)) ∷ ‵ (fdies (sliceTy (tyRef (named 4) mut (pointee (R .written)))) l5) ∷ ‵ (fat fullShare (sliceTy (tyRef (named 3) mut (tyInt w32))) l4 0 (v3)) ∷ ‵ (fdies (sliceTy (tyRef (named 3) mut (tyInt w32))) l4) ∷ ‵ (fat fullShare (sliceTy (tyRef (named 2) mut (tyInt w32))) l3 0 (v2)) ∷ ‵ (fdies (sliceTy (tyRef (named 2) mut (tyInt w32))) l3) ∷ ‵ (fat fullShare (sliceTy (tyRef (named 1) imm (tyInt w32))) l2 0 (v1)) ∷ ‵ (fdies (sliceTy (tyRef (named 1) imm (tyInt w32))) l2) ∷ ‵ (fat fullShare (sliceTy (tyRef (named 0) imm (tyInt w8))) l1 0 (v0)) ∷ ‵ (fdies (sliceTy (tyRef (named 0) imm (tyInt w8))) l1) ∷ ‵ (froom (word) l0 0) ∷ ‵ (fdies (word) l0) ∷ (‵ (flft κ0 q0) ⊛ ‵ (flft κ1 q1) ⊛ ‵ (flft κ2 q2) ⊛ ‵ (flft κ3 q3) ⊛ ‵ (flft κ5 q5) ⊛ ‵ ftrue) ∷ ‵ (flft κ4 q4) ∷ ‵ (MutSlice (named 4) κ4 R .own x4 (v4 ∷ [])) ∷ ‵ (finally u32 γ2 w2) ∷ ‵ (finally u32 γ3 w3) ∷ ‵ (finally u8 γ5 w5) ∷ [])
         (runs C Λ ((word, l0) ∷ (sliceTy (tyRef (named 0) imm (tyInt w8)), l1) ∷ (sliceTy (tyRef (named 1) imm (tyInt w32)), l2) ∷ (sliceTy (tyRef (named 2) mut (tyInt w32)), l3) ∷ (sliceTy (tyRef (named 3) mut (tyInt w32)), l4) ∷ (sliceTy (tyRef (named 4) mut (pointee (R .written))), l5) ∷ (sliceTy (tyRef (named 5) mut (tyInt w8)), l6) ∷ (word, l7) ∷ (S′.mir, l8) ∷ (U′.mir, l9) ∷ (tyRef erased imm (pointee (R .written)), l10) ∷ (sliceTy (tyRef erased imm (pointee (R .written))), l11) ∷ (tyRef erased mut (tyInt w32), l12) ∷ (sliceTy (tyRef erased mut (tyInt w32)), l13) ∷ (tyRef erased mut (tyInt w32), l14) ∷ (sliceTy (tyRef erased mut (tyInt w32)), l15) ∷ (tyRef erased mut (tyInt w8), l16) ∷ (sliceTy (tyRef erased mut (tyInt w8)), l17) ∷ (tyUnit, l18) ∷ (tyRef erased mut (pointee (R .written)), l19) ∷ (sliceTy (tyRef erased mut (pointee (R .written))), l20) ∷ []) mir′.t-11 (atRet ((word, l0) ∷ (sliceTy (tyRef (named 0) imm (tyInt w8)), l1) ∷ (sliceTy (tyRef (named 1) imm (tyInt w32)), l2) ∷ (sliceTy (tyRef (named 2) mut (tyInt w32)), l3) ∷ (sliceTy (tyRef (named 3) mut (tyInt w32)), l4) ∷ (sliceTy (tyRef (named 4) mut (pointee (R .written))), l5) ∷ (sliceTy (tyRef (named 5) mut (tyInt w8)), l6) ∷ (word, l7) ∷ (S′.mir, l8) ∷ (U′.mir, l9) ∷ (tyRef erased imm (pointee (R .written)), l10) ∷ (sliceTy (tyRef erased imm (pointee (R .written))), l11) ∷ (tyRef erased mut (tyInt w32), l12) ∷ (sliceTy (tyRef erased mut (tyInt w32)), l13) ∷ (tyRef erased mut (tyInt w32), l14) ∷ (sliceTy (tyRef erased mut (tyInt w32)), l15) ∷ (tyRef erased mut (tyInt w8), l16) ∷ (sliceTy (tyRef erased mut (tyInt w8)), l17) ∷ (tyUnit, l18) ∷ (tyRef erased mut (pointee (R .written)), l19) ∷ (sliceTy (tyRef erased mut (pointee (R .written))), l20) ∷ []) Post))
-    stored-part known₂ l0 l1 l2 l3 l4 l5 l6 l7 l8 l9 l10 l11 l12 l13 l14 l15 l16 l17 l18 l19 l20 f e r is w2 w3 w5 e2 e3 e5 said =
+    stored-part known₂ l0 l1 l2 l3 l4 l5 l6 l7 l8 l9 l10 l11 l12 l13 l14 l15 l16 l17 l18 l19 l20 r is w2 w3 w5 e2 e3 e5 said =
         assigns ! (addr ! (from ! (fld ! refl (hop ! (look-in ! 30 (sub ! 0 refl (whole !))) (stop !))))) (from ! (stop !)) (init ! 2 refl (tt, tt)) $
         assigns ! (agg ! (and-then ! (load ! (from ! (stop !)) (look ! 2 refl)) (and-then ! (load ! (from ! (fld ! refl (stop !))) (look-in ! 30 (sub ! 1 refl (whole !)))) (no-more !)))) (from ! (stop !)) (init ! 0 refl (tt, (tt, (record { fits = g4 .0 }, tt)))) $
         nothing ! $
-        owned ! F (Is F) (LL.makes S.the-type S′.the-plain 𝓤 H A) (r .flat) _ (flat-is r is) $
+        owned ! R (Is R) (LL.makes T.the-type T′.the-plain 𝓤 H A) (r .progress) _ (progress-is r is) $
+        fjoin ! $
+        owned ! u32 (Is u32) (uint-makes 𝓤 H A W w32) n6 _ (refl, g6) $
+        fjoin ! $
+        owned ! u32 (Is u32) (uint-makes 𝓤 H A W w32) (r .number) _ (refl, number-fits r is) $
         fjoin ! $
         move ! (45 ∷ 0 ∷ []) $
         fjoin ! $
         nothing ! $
         move ! (45 ∷ 0 ∷ []) $
         join ! $
-        use2 W (raw (Store 𝓤 H A mem run .pre (to-store (r .flat)))) (goes-store (r .flat) (room (λ s. turnCall z0 z1 s n6) (refusal z0) (turn-refused z0 z1 n6) z4 f e (r .flat .count) (said .1 .0))) $
-        calls-at ! fm (Store 𝓤 H A mem run) known₂ (to-store (r .flat)) (and-then ! (load ! (from ! (stop !)) (look ! 1 refl)) (and-then ! (load ! (from ! (fld ! refl (stop !))) (look-in ! 23 (sub ! 1 refl (whole !)))) (no-more !))) (λ w.
-        use1 W (later (some (λ (u : Unit {0}). ((‵ (flft κ4 q4) ⊛ ‵ ftrue) ⊛ ‵ (Nothing .own u (w ∷ []))) ⊛ raw (ensured 𝓤 H A stores.ended (stores.clauses 𝓤 H A mem run) (κ4, tt) (x4, (r .flat, tt)) tt u)))) (id⊢ 𝓤 _) $
+        use2 W (raw (Put 𝓤 H A mem run .pre (to-put r))) (goes-put r (record-there z0 z1 z2 z3 z5 z4 n6 (r .number) _ said)) $
+        calls-at ! fm (Put 𝓤 H A mem run) known₂ (to-put r) (and-then ! (load ! (from ! (stop !)) (look ! 1 refl)) (and-then ! (load ! (from ! (fld ! refl (stop !))) (look-in ! 23 (sub ! 0 refl (whole !)))) (and-then ! (load ! (from ! (stop !)) (look ! 27 refl)) (and-then ! (load ! (from ! (fld ! refl (stop !))) (look-in ! 23 (sub ! 1 refl (whole !)))) (no-more !))))) (λ w.
+        use1 W (later (some (λ (u : Unit {0}). ((‵ (flft κ4 q4) ⊛ ‵ ftrue) ⊛ ‵ (Nothing .own u (w ∷ []))) ⊛ raw (ensured 𝓤 H A puts.ended (puts.clauses 𝓤 H A mem run) (κ4, tt) (x4, (r .number, (n6, (r .progress, tt)))) tt u)))) (id⊢ 𝓤 _) $
         await ! tt $
         pick ! (λ u.
         split ! $
         move ! (1 ∷ []) $
-        use1 W (some (λ (us : List Progress × (Unit {0} × Unit {0})). ‵ (lasts stores.ended (κ4, tt) (x4, (r .flat, tt)) us) ⊛ raw (fact 𝓤 (us .0 ≡ stored (r .flat .words) (r .flat .count) z4)))) (id⊢ 𝓤 _) $
+        use1 W (some (λ (us : List Progress × (Unit {0} × (Unit {0} × (Unit {0} × Unit {0})))). ‵ (lasts puts.ended (κ4, tt) (x4, (r .number, (n6, (r .progress, tt)))) us) ⊛ raw (fact 𝓤 (us .0 ≡ putAt (r .number) n6 (r .progress) z4)))) (id⊢ 𝓤 _) $
         pick ! (λ us.
         split ! $
         move ! (1 ∷ []) $
-        heard ! (us .0 ≡ stored (r .flat .words) (r .flat .count) z4) (λ put.
+        heard ! (us .0 ≡ putAt (r .number) n6 (r .progress) z4) (λ put.
         fsplit ! $
         fsplit ! $
         move ! (1 ∷ []) $
@@ -295,54 +308,12 @@ module _ {M : Type 1} (𝓤 : URA M) (H : Heap 𝓤) (A : Atoms 𝓤) (W : Given
         forget ! 8 refl $
         forget ! 6 refl $
         forget ! 4 refl $
-        move ! (44 ∷ 45 ∷ []) $
-        free1 ! $
-        move ! (42 ∷ 43 ∷ []) $
-        free1 ! $
-        move ! (40 ∷ 41 ∷ []) $
-        free1 ! $
-        move ! (38 ∷ 39 ∷ []) $
-        free1 ! $
-        move ! (36 ∷ 37 ∷ []) $
-        free1 ! $
-        move ! (34 ∷ 35 ∷ []) $
-        free1 ! $
-        move ! (32 ∷ 33 ∷ []) $
-        free1 ! $
-        move ! (30 ∷ 31 ∷ []) $
-        free1 ! $
-        move ! (28 ∷ 29 ∷ []) $
-        free1 ! $
-        move ! (26 ∷ 27 ∷ []) $
-        free1 ! $
-        move ! (24 ∷ 25 ∷ []) $
-        free1 ! $
-        move ! (22 ∷ 23 ∷ []) $
-        free1 ! $
-        move ! (20 ∷ 21 ∷ []) $
-        free1 ! $
-        move ! (18 ∷ 19 ∷ []) $
-        free1 ! $
-        move ! (16 ∷ 17 ∷ []) $
-        free1 ! $
-        move ! (14 ∷ 15 ∷ []) $
-        free1 ! $
-        move ! (12 ∷ 13 ∷ []) $
-        free1 ! $
-        move ! (10 ∷ 11 ∷ []) $
-        free1 ! $
-        move ! (8 ∷ 9 ∷ []) $
-        free1 ! $
-        move ! (6 ∷ 7 ∷ []) $
-        free1 ! $
-        move ! (4 ∷ 5 ∷ []) $
-        free1 ! $
-        free0 ! $
-        keep ! (4 ∷ 0 ∷ 5 ∷ 6 ∷ 2 ∷ 7 ∷ []) $
-        by ! (exits (r .number) w2 w3 (us .0) w5 (number-fits r is) e2 e3 e4 e5 (ap (λ (l : List Progress). answer (r .number) (stateOf w2 w3 (flatWords l) w5)) put ∙ changes (λ s. turnCall z0 z1 s n6) (refusal z0) (turn-refused z0 z1 n6) z4 f e r z2 z3 z5 w2 w3 w5 said))))))))
+        keep ! (44 ∷ 45 ∷ 42 ∷ 43 ∷ 40 ∷ 41 ∷ 38 ∷ 39 ∷ 36 ∷ 37 ∷ 34 ∷ 35 ∷ 32 ∷ 33 ∷ 30 ∷ 31 ∷ 28 ∷ 29 ∷ 26 ∷ 27 ∷ 24 ∷ 25 ∷ 22 ∷ 23 ∷ 20 ∷ 21 ∷ 18 ∷ 19 ∷ 16 ∷ 17 ∷ 14 ∷ 15 ∷ 12 ∷ 13 ∷ 10 ∷ 11 ∷ 8 ∷ 9 ∷ 6 ∷ 7 ∷ 4 ∷ 5 ∷ 46 ∷ 0 ∷ 47 ∷ 48 ∷ 2 ∷ 49 ∷ []) $
+        free-all ! _ $
+        by ! (exits (r .number) w2 w3 (us .0) w5 (number-fits r is) e2 e3 e4 e5 (ap (λ (l : List Progress). answer (r .number) (stateOf w2 w3 (flatWords l) w5)) put ∙ ap (λ (k : List ℕ). answer (r .number) (stateOf w2 w3 k w5)) (stored-after z4 n6 r) ∙ said))))))))
 
     -- from the records' words on
-    worded : Triple 𝓤 (C #lent·turn-words) (Words 𝓤 H A mem run) → Triple 𝓤 (C #records·store) (Store 𝓤 H A mem run) → (l0 l1 l2 l3 l4 l5 l6 l7 l8 l9 l10 l11 l12 l13 l14 l15 l16 l17 l18 l19 l20 : ℕ) (f : Flat) → Is F f (low f ∷ []) → f ≡ flatOf z4
+    worded : Triple 𝓤 (C #engine·turn-flat) (Words 𝓤 H A mem run) → Triple 𝓤 (C #records·put) (Put 𝓤 H A mem run) → (l0 l1 l2 l3 l4 l5 l6 l7 l8 l9 l10 l11 l12 l13 l14 l15 l16 l17 l18 l19 l20 : ℕ) (f : Flat) → Is F f (low f ∷ []) → f ≡ flatOf z4
         → Sq W (‵ (froom (sliceTy (tyRef erased mut (pointee (R .written)))) l20 0) ∷ ‵ (fdies (sliceTy (tyRef erased mut (pointee (R .written)))) l20) ∷ ‵ (froom (tyRef erased mut (pointee (R .written))) l19 0) ∷ ‵ (fdies (tyRef erased mut (pointee (R .written))) l19) ∷ ‵ (froom (tyUnit) l18 0) ∷ ‵ (fdies (tyUnit) l18) ∷ ‵ (froom (sliceTy (tyRef erased mut (tyInt w8))) l17 0) ∷ ‵ (fdies (sliceTy (tyRef erased mut (tyInt w8))) l17) ∷ ‵ (froom (tyRef erased mut (tyInt w8)) l16 0) ∷ ‵ (fdies (tyRef erased mut (tyInt w8)) l16) ∷ ‵ (froom (sliceTy (tyRef erased mut (tyInt w32))) l15 0) ∷ ‵ (fdies (sliceTy (tyRef erased mut (tyInt w32))) l15) ∷ ‵ (froom (tyRef erased mut (tyInt w32)) l14 0) ∷ ‵ (fdies (tyRef erased mut (tyInt w32)) l14) ∷ ‵ (froom (sliceTy (tyRef erased mut (tyInt w32))) l13 0) ∷ ‵ (fdies (sliceTy (tyRef erased mut (tyInt w32))) l13) ∷ ‵ (froom (tyRef erased mut (tyInt w32)) l12 0) ∷ ‵ (fdies (tyRef erased mut (tyInt w32)) l12) ∷ ‵ (froom (sliceTy (tyRef erased imm (pointee (R .written)))) l11 0) ∷ ‵ (fdies (sliceTy (tyRef erased imm (pointee (R .written)))) l11) ∷ ‵ (froom (tyRef erased imm (pointee (R .written))) l10 0) ∷ ‵ (fdies (tyRef erased imm (pointee (R .written))) l10) ∷ ‵ (froom (U′.mir) l9 0) ∷ ‵ (fdies (U′.mir) l9) ∷ ‵ (fat fullShare (S′.mir) l8 0 (low f)) ∷ ‵ (fdies (S′.mir) l8) ∷ ‵ (fat fullShare (word) l7 0 (vint w32 n6)) ∷ ‵ (fdies (word) l7) ∷ ‵ (fat fullShare (sliceTy (tyRef (named 5) mut (tyInt w8))) l6 0 (v5)) ∷ ‵ (fdies (sliceTy (tyRef (named 5) mut (tyInt w8))) l6) ∷ ‵ (fat fullShare (sliceTy (tyRef (named 4) mut (pointee (R .written)))) l5 0 (v4)) ∷ ‵ (fdies (sliceTy (tyRef (named 4) mut (pointee (R .written)))) l5) ∷ ‵ (fat fullShare (sliceTy (tyRef (named 3) mut (tyInt w32))) l4 0 (v3)) ∷ ‵ (fdies (sliceTy (tyRef (named 3) mut (tyInt w32))) l4) ∷ ‵ (fat fullShare (sliceTy (tyRef (named 2) mut (tyInt w32))) l3 0 (v2)) ∷ ‵ (fdies (sliceTy (tyRef (named 2) mut (tyInt w32))) l3) ∷ ‵ (fat fullShare (sliceTy (tyRef (named 1) imm (tyInt w32))) l2 0 (v1)) ∷ ‵ (fdies (sliceTy (tyRef (named 1) imm (tyInt w32))) l2) ∷ ‵ (fat fullShare (sliceTy (tyRef (named 0) imm (tyInt w8))) l1 0 (v0)) ∷ ‵ (fdies (sliceTy (tyRef (named 0) imm (tyInt w8))) l1) ∷ ‵ (froom (word) l0 0) ∷ ‵ (fdies (word) l0) ∷ ‵ (flft κ0 q0) ∷ ‵ (flft κ1 q1) ∷ ‵ (flft κ2 q2) ∷ ‵ (flft κ3 q3) ∷ ‵ (flft κ4 q4) ∷ ‵ (flft κ5 q5) ∷ ‵ (ShrSlice (named 0) κ0 u8 .own x0 (v0 ∷ [])) ∷ ‵ (ShrSlice (named 1) κ1 u32 .own x1 (v1 ∷ [])) ∷ ‵ (MutSlice (named 2) κ2 u32 .own x2 (v2 ∷ [])) ∷ ‵ (MutSlice (named 3) κ3 u32 .own x3 (v3 ∷ [])) ∷ ‵ (MutSlice (named 4) κ4 R .own x4 (v4 ∷ [])) ∷ ‵ (MutSlice (named 5) κ5 u8 .own x5 (v5 ∷ [])) ∷ [])
         (runs C Λ ((word, l0) ∷ (sliceTy (tyRef (named 0) imm (tyInt w8)), l1) ∷ (sliceTy (tyRef (named 1) imm (tyInt w32)), l2) ∷ (sliceTy (tyRef (named 2) mut (tyInt w32)), l3) ∷ (sliceTy (tyRef (named 3) mut (tyInt w32)), l4) ∷ (sliceTy (tyRef (named 4) mut (pointee (R .written))), l5) ∷ (sliceTy (tyRef (named 5) mut (tyInt w8)), l6) ∷ (word, l7) ∷ (S′.mir, l8) ∷ (U′.mir, l9) ∷ (tyRef erased imm (pointee (R .written)), l10) ∷ (sliceTy (tyRef erased imm (pointee (R .written))), l11) ∷ (tyRef erased mut (tyInt w32), l12) ∷ (sliceTy (tyRef erased mut (tyInt w32)), l13) ∷ (tyRef erased mut (tyInt w32), l14) ∷ (sliceTy (tyRef erased mut (tyInt w32)), l15) ∷ (tyRef erased mut (tyInt w8), l16) ∷ (sliceTy (tyRef erased mut (tyInt w8)), l17) ∷ (tyUnit, l18) ∷ (tyRef erased mut (pointee (R .written)), l19) ∷ (sliceTy (tyRef erased mut (pointee (R .written))), l20) ∷ []) mir′.t-4 (atRet ((word, l0) ∷ (sliceTy (tyRef (named 0) imm (tyInt w8)), l1) ∷ (sliceTy (tyRef (named 1) imm (tyInt w32)), l2) ∷ (sliceTy (tyRef (named 2) mut (tyInt w32)), l3) ∷ (sliceTy (tyRef (named 3) mut (tyInt w32)), l4) ∷ (sliceTy (tyRef (named 4) mut (pointee (R .written))), l5) ∷ (sliceTy (tyRef (named 5) mut (tyInt w8)), l6) ∷ (word, l7) ∷ (S′.mir, l8) ∷ (U′.mir, l9) ∷ (tyRef erased imm (pointee (R .written)), l10) ∷ (sliceTy (tyRef erased imm (pointee (R .written))), l11) ∷ (tyRef erased mut (tyInt w32), l12) ∷ (sliceTy (tyRef erased mut (tyInt w32)), l13) ∷ (tyRef erased mut (tyInt w32), l14) ∷ (sliceTy (tyRef erased mut (tyInt w32)), l15) ∷ (tyRef erased mut (tyInt w8), l16) ∷ (sliceTy (tyRef erased mut (tyInt w8)), l17) ∷ (tyUnit, l18) ∷ (tyRef erased mut (pointee (R .written)), l19) ∷ (sliceTy (tyRef erased mut (pointee (R .written))), l20) ∷ []) Post))
     worded known₁ known₂ l0 l1 l2 l3 l4 l5 l6 l7 l8 l9 l10 l11 l12 l13 l14 l15 l16 l17 l18 l19 l20 f is e =
@@ -380,16 +351,16 @@ module _ {M : Type 1} (𝓤 : URA M) (H : Heap 𝓤) (A : Atoms 𝓤) (W : Given
         join ! $
         use2 W (raw (Words 𝓤 H A mem run .pre (to-words f))) (goes-words f (length-of f e)) $
         calls-at ! fm (Words 𝓤 H A mem run) known₁ (to-words f) (and-then ! (load ! (from ! (stop !)) (look ! 39 refl)) (and-then ! (load ! (from ! (stop !)) (look ! 37 refl)) (and-then ! (load ! (from ! (stop !)) (look ! 15 refl)) (and-then ! (load ! (from ! (stop !)) (look ! 11 refl)) (and-then ! (load ! (from ! (stop !)) (look ! 25 refl)) (and-then ! (load ! (from ! (stop !)) (look ! 7 refl)) (and-then ! (load ! (from ! (stop !)) (look ! 27 refl)) (no-more !)))))))) (λ w.
-        use1 W (later (some (λ (r : After). ((‵ (flft κ0 q0) ⊛ ‵ (flft κ1 q1) ⊛ ‵ (flft κ2 q2) ⊛ ‵ (flft κ3 q3) ⊛ ‵ (flft κ5 q5) ⊛ ‵ ftrue) ⊛ ‵ (E .own r (w ∷ []))) ⊛ raw (ensured 𝓤 H A words.ended (words.clauses 𝓤 H A mem run) (κ0, (κ1, (κ2, (κ3, (κ5, tt))))) (x0, (x1, (x2, (x3, (f, (x5, (n6, tt))))))) tt r)))) (id⊢ 𝓤 _) $
+        use1 W (later (some (λ (r : Turned). ((‵ (flft κ0 q0) ⊛ ‵ (flft κ1 q1) ⊛ ‵ (flft κ2 q2) ⊛ ‵ (flft κ3 q3) ⊛ ‵ (flft κ5 q5) ⊛ ‵ ftrue) ⊛ ‵ (E .own r (w ∷ []))) ⊛ raw (ensured 𝓤 H A words.ended (words.clauses 𝓤 H A mem run) (κ0, (κ1, (κ2, (κ3, (κ5, tt))))) (x0, (x1, (x2, (x3, (f, (x5, (n6, tt))))))) tt r)))) (id⊢ 𝓤 _) $
         await ! tt $
         pick ! (λ r.
         split ! $
         move ! (1 ∷ []) $
-        use1 W (some (λ (us : Unit {0} × (Unit {0} × (List ℕ × (List ℕ × (Unit {0} × (List ℕ × (Unit {0} × Unit {0}))))))). ‵ (lasts words.ended (κ0, (κ1, (κ2, (κ3, (κ5, tt))))) (x0, (x1, (x2, (x3, (f, (x5, (n6, tt))))))) us) ⊛ raw (fact 𝓤 ((answer (r .number) (stateOf (us .1 .1 .0) (us .1 .1 .1 .0) (lentOf (f .count) (r .flat .words)) (us .1 .1 .1 .1 .1 .0)) ≡ turnCall z0 z1 (stateOf z2 z3 (lentOf (f .count) (f .words)) z5) n6) × ((r .flat .count ≡ keptCount (f .count)) × (length (r .flat .words) ≡ 192)))))) (id⊢ 𝓤 _) $
+        use1 W (some (λ (us : Unit {0} × (Unit {0} × (List ℕ × (List ℕ × (Unit {0} × (List ℕ × (Unit {0} × Unit {0}))))))). ‵ (lasts words.ended (κ0, (κ1, (κ2, (κ3, (κ5, tt))))) (x0, (x1, (x2, (x3, (f, (x5, (n6, tt))))))) us) ⊛ raw (fact 𝓤 ((rs : List Progress) → f ≡ flatOf rs → Said r (us .1 .1 .0) (us .1 .1 .1 .0) (us .1 .1 .1 .1 .1 .0) rs)))) (id⊢ 𝓤 _) $
         pick ! (λ us.
         split ! $
         move ! (1 ∷ []) $
-        heard ! ((answer (r .number) (stateOf (us .1 .1 .0) (us .1 .1 .1 .0) (lentOf (f .count) (r .flat .words)) (us .1 .1 .1 .1 .1 .0)) ≡ turnCall z0 z1 (stateOf z2 z3 (lentOf (f .count) (f .words)) z5) n6) × ((r .flat .count ≡ keptCount (f .count)) × (length (r .flat .words) ≡ 192))) (λ said.
+        heard ! ((rs : List Progress) → f ≡ flatOf rs → Said r (us .1 .1 .0) (us .1 .1 .1 .0) (us .1 .1 .1 .1 .1 .0) rs) (λ said.
         fsplit ! $
         move ! (1 ∷ []) $
         fsplit ! $
@@ -424,10 +395,10 @@ module _ {M : Type 1} (𝓤 : URA M) (H : Heap 𝓤) (A : Atoms 𝓤) (W : Given
         forget ! 17 refl $
         forget ! 15 refl $
         keep ! (9 ∷ 10 ∷ 11 ∷ 12 ∷ 13 ∷ 14 ∷ 15 ∷ 16 ∷ 17 ∷ 18 ∷ 19 ∷ 20 ∷ 21 ∷ 22 ∷ 23 ∷ 24 ∷ 25 ∷ 26 ∷ 27 ∷ 28 ∷ 29 ∷ 30 ∷ 31 ∷ 32 ∷ 33 ∷ 34 ∷ 35 ∷ 36 ∷ 37 ∷ 38 ∷ 39 ∷ 40 ∷ 41 ∷ 42 ∷ 43 ∷ 44 ∷ 45 ∷ 46 ∷ 47 ∷ 48 ∷ 49 ∷ 50 ∷ 1 ∷ 51 ∷ 52 ∷ 6 ∷ 5 ∷ 2 ∷ []) $
-        stored-part known₂ l0 l1 l2 l3 l4 l5 l6 l7 l8 l9 l10 l11 l12 l13 l14 l15 l16 l17 l18 l19 l20 f e r (subst (λ (us : List Val). Is E r us) (LL.tells U.the-type U′.the-laws r (w ∷ []) is′) is′) (us .1 .1 .0) (us .1 .1 .1 .0) (us .1 .1 .1 .1 .1 .0) e2 e3 e5 said))))))))
+        stored-part known₂ l0 l1 l2 l3 l4 l5 l6 l7 l8 l9 l10 l11 l12 l13 l14 l15 l16 l17 l18 l19 l20 r (subst (λ (us : List Val). Is E r us) (LL.tells U.the-type U′.the-laws r (w ∷ []) is′) is′) (us .1 .1 .0) (us .1 .1 .1 .0) (us .1 .1 .1 .1 .1 .0) e2 e3 e5 (said z4 e)))))))))
 
     -- the whole body
-    begun : Triple 𝓤 (C #records·flatten) (Flatten 𝓤 H A mem run) → Triple 𝓤 (C #lent·turn-words) (Words 𝓤 H A mem run) → Triple 𝓤 (C #records·store) (Store 𝓤 H A mem run) → (l0 l1 l2 l3 l4 l5 l6 l7 l8 l9 l10 l11 l12 l13 l14 l15 l16 l17 l18 l19 l20 : ℕ)
+    begun : Triple 𝓤 (C #records·flatten) (Flatten 𝓤 H A mem run) → Triple 𝓤 (C #engine·turn-flat) (Words 𝓤 H A mem run) → Triple 𝓤 (C #records·put) (Put 𝓤 H A mem run) → (l0 l1 l2 l3 l4 l5 l6 l7 l8 l9 l10 l11 l12 l13 l14 l15 l16 l17 l18 l19 l20 : ℕ)
         → Sq W (‵ (froom (sliceTy (tyRef erased mut (pointee (R .written)))) l20 0) ∷ ‵ (fdies (sliceTy (tyRef erased mut (pointee (R .written)))) l20) ∷ ‵ (froom (tyRef erased mut (pointee (R .written))) l19 0) ∷ ‵ (fdies (tyRef erased mut (pointee (R .written))) l19) ∷ ‵ (froom (tyUnit) l18 0) ∷ ‵ (fdies (tyUnit) l18) ∷ ‵ (froom (sliceTy (tyRef erased mut (tyInt w8))) l17 0) ∷ ‵ (fdies (sliceTy (tyRef erased mut (tyInt w8))) l17) ∷ ‵ (froom (tyRef erased mut (tyInt w8)) l16 0) ∷ ‵ (fdies (tyRef erased mut (tyInt w8)) l16) ∷ ‵ (froom (sliceTy (tyRef erased mut (tyInt w32))) l15 0) ∷ ‵ (fdies (sliceTy (tyRef erased mut (tyInt w32))) l15) ∷ ‵ (froom (tyRef erased mut (tyInt w32)) l14 0) ∷ ‵ (fdies (tyRef erased mut (tyInt w32)) l14) ∷ ‵ (froom (sliceTy (tyRef erased mut (tyInt w32))) l13 0) ∷ ‵ (fdies (sliceTy (tyRef erased mut (tyInt w32))) l13) ∷ ‵ (froom (tyRef erased mut (tyInt w32)) l12 0) ∷ ‵ (fdies (tyRef erased mut (tyInt w32)) l12) ∷ ‵ (froom (sliceTy (tyRef erased imm (pointee (R .written)))) l11 0) ∷ ‵ (fdies (sliceTy (tyRef erased imm (pointee (R .written)))) l11) ∷ ‵ (froom (tyRef erased imm (pointee (R .written))) l10 0) ∷ ‵ (fdies (tyRef erased imm (pointee (R .written))) l10) ∷ ‵ (froom (U′.mir) l9 0) ∷ ‵ (fdies (U′.mir) l9) ∷ ‵ (froom (S′.mir) l8 0) ∷ ‵ (fdies (S′.mir) l8) ∷ ‵ (fat fullShare (word) l7 0 (vint w32 n6)) ∷ ‵ (fdies (word) l7) ∷ ‵ (fat fullShare (sliceTy (tyRef (named 5) mut (tyInt w8))) l6 0 (v5)) ∷ ‵ (fdies (sliceTy (tyRef (named 5) mut (tyInt w8))) l6) ∷ ‵ (fat fullShare (sliceTy (tyRef (named 4) mut (pointee (R .written)))) l5 0 (v4)) ∷ ‵ (fdies (sliceTy (tyRef (named 4) mut (pointee (R .written)))) l5) ∷ ‵ (fat fullShare (sliceTy (tyRef (named 3) mut (tyInt w32))) l4 0 (v3)) ∷ ‵ (fdies (sliceTy (tyRef (named 3) mut (tyInt w32))) l4) ∷ ‵ (fat fullShare (sliceTy (tyRef (named 2) mut (tyInt w32))) l3 0 (v2)) ∷ ‵ (fdies (sliceTy (tyRef (named 2) mut (tyInt w32))) l3) ∷ ‵ (fat fullShare (sliceTy (tyRef (named 1) imm (tyInt w32))) l2 0 (v1)) ∷ ‵ (fdies (sliceTy (tyRef (named 1) imm (tyInt w32))) l2) ∷ ‵ (fat fullShare (sliceTy (tyRef (named 0) imm (tyInt w8))) l1 0 (v0)) ∷ ‵ (fdies (sliceTy (tyRef (named 0) imm (tyInt w8))) l1) ∷ ‵ (froom (word) l0 0) ∷ ‵ (fdies (word) l0) ∷ ‵ (flft κ0 q0) ∷ ‵ (flft κ1 q1) ∷ ‵ (flft κ2 q2) ∷ ‵ (flft κ3 q3) ∷ ‵ (flft κ4 q4) ∷ ‵ (flft κ5 q5) ∷ ‵ (ShrSlice (named 0) κ0 u8 .own x0 (v0 ∷ [])) ∷ ‵ (ShrSlice (named 1) κ1 u32 .own x1 (v1 ∷ [])) ∷ ‵ (MutSlice (named 2) κ2 u32 .own x2 (v2 ∷ [])) ∷ ‵ (MutSlice (named 3) κ3 u32 .own x3 (v3 ∷ [])) ∷ ‵ (MutSlice (named 4) κ4 R .own x4 (v4 ∷ [])) ∷ ‵ (MutSlice (named 5) κ5 u8 .own x5 (v5 ∷ [])) ∷ [])
         (runs C Λ ((word, l0) ∷ (sliceTy (tyRef (named 0) imm (tyInt w8)), l1) ∷ (sliceTy (tyRef (named 1) imm (tyInt w32)), l2) ∷ (sliceTy (tyRef (named 2) mut (tyInt w32)), l3) ∷ (sliceTy (tyRef (named 3) mut (tyInt w32)), l4) ∷ (sliceTy (tyRef (named 4) mut (pointee (R .written))), l5) ∷ (sliceTy (tyRef (named 5) mut (tyInt w8)), l6) ∷ (word, l7) ∷ (S′.mir, l8) ∷ (U′.mir, l9) ∷ (tyRef erased imm (pointee (R .written)), l10) ∷ (sliceTy (tyRef erased imm (pointee (R .written))), l11) ∷ (tyRef erased mut (tyInt w32), l12) ∷ (sliceTy (tyRef erased mut (tyInt w32)), l13) ∷ (tyRef erased mut (tyInt w32), l14) ∷ (sliceTy (tyRef erased mut (tyInt w32)), l15) ∷ (tyRef erased mut (tyInt w8), l16) ∷ (sliceTy (tyRef erased mut (tyInt w8)), l17) ∷ (tyUnit, l18) ∷ (tyRef erased mut (pointee (R .written)), l19) ∷ (sliceTy (tyRef erased mut (pointee (R .written))), l20) ∷ []) mir′.t-1 (atRet ((word, l0) ∷ (sliceTy (tyRef (named 0) imm (tyInt w8)), l1) ∷ (sliceTy (tyRef (named 1) imm (tyInt w32)), l2) ∷ (sliceTy (tyRef (named 2) mut (tyInt w32)), l3) ∷ (sliceTy (tyRef (named 3) mut (tyInt w32)), l4) ∷ (sliceTy (tyRef (named 4) mut (pointee (R .written))), l5) ∷ (sliceTy (tyRef (named 5) mut (tyInt w8)), l6) ∷ (word, l7) ∷ (S′.mir, l8) ∷ (U′.mir, l9) ∷ (tyRef erased imm (pointee (R .written)), l10) ∷ (sliceTy (tyRef erased imm (pointee (R .written))), l11) ∷ (tyRef erased mut (tyInt w32), l12) ∷ (sliceTy (tyRef erased mut (tyInt w32)), l13) ∷ (tyRef erased mut (tyInt w32), l14) ∷ (sliceTy (tyRef erased mut (tyInt w32)), l15) ∷ (tyRef erased mut (tyInt w8), l16) ∷ (sliceTy (tyRef erased mut (tyInt w8)), l17) ∷ (tyUnit, l18) ∷ (tyRef erased mut (pointee (R .written)), l19) ∷ (sliceTy (tyRef erased mut (pointee (R .written))), l20) ∷ []) Post))
     begun known₀ known₁ known₂ l0 l1 l2 l3 l4 l5 l6 l7 l8 l9 l10 l11 l12 l13 l14 l15 l16 l17 l18 l19 l20 =
@@ -466,7 +437,7 @@ module _ {M : Type 1} (𝓤 : URA M) (H : Heap 𝓤) (A : Atoms 𝓤) (W : Given
         keep ! (4 ∷ 5 ∷ 6 ∷ 7 ∷ 8 ∷ 9 ∷ 10 ∷ 11 ∷ 12 ∷ 13 ∷ 14 ∷ 15 ∷ 16 ∷ 17 ∷ 18 ∷ 19 ∷ 20 ∷ 21 ∷ 22 ∷ 23 ∷ 24 ∷ 25 ∷ 26 ∷ 27 ∷ 28 ∷ 29 ∷ 30 ∷ 31 ∷ 32 ∷ 33 ∷ 34 ∷ 35 ∷ 36 ∷ 37 ∷ 38 ∷ 39 ∷ 40 ∷ 41 ∷ 42 ∷ 43 ∷ 44 ∷ 45 ∷ 46 ∷ 47 ∷ 48 ∷ 49 ∷ 1 ∷ 50 ∷ 51 ∷ 52 ∷ 53 ∷ 54 ∷ 0 ∷ 55 ∷ []) $
         worded known₁ known₂ l0 l1 l2 l3 l4 l5 l6 l7 l8 l9 l10 l11 l12 l13 l14 l15 l16 l17 l18 l19 l20 f (subst (λ (us : List Val). Is F f us) (LL.tells S.the-type S′.the-laws f (w ∷ []) is) is) e))))))
 
-  walk : (C : Calls 𝓤 H) (Λ : Loops 𝓤 H) → FmC 𝓤 H (W .laws) C → Triple 𝓤 (C #records·flatten) (Flatten 𝓤 H A mem run) → Triple 𝓤 (C #lent·turn-words) (Words 𝓤 H A mem run) → Triple 𝓤 (C #records·store) (Store 𝓤 H A mem run)
+  walk : (C : Calls 𝓤 H) (Λ : Loops 𝓤 H) → FmC 𝓤 H (W .laws) C → Triple 𝓤 (C #records·flatten) (Flatten 𝓤 H A mem run) → Triple 𝓤 (C #engine·turn-flat) (Words 𝓤 H A mem run) → Triple 𝓤 (C #records·put) (Put 𝓤 H A mem run)
       → ent 𝓤 (onEntry 𝓤 H A turn.signature (κ0, (κ1, (κ2, (κ3, (κ4, (κ5, tt)))))) (q0, (q1, (q2, (q3, (q4, (q5, tt)))))) (x0, (x1, (x2, (x3, (x4, (x5, (n6, tt))))))) at) (WpFn 𝓤 H C Λ code.function (v0 ∷ v1 ∷ v2 ∷ v3 ∷ v4 ∷ v5 ∷ vint w32 n6 ∷ []) Post)
   walk C Λ fm known₀ known₁ known₂ =
       qed W ((‵ (flft κ0 q0) ⊛ ‵ (flft κ1 q1) ⊛ ‵ (flft κ2 q2) ⊛ ‵ (flft κ3 q3) ⊛ ‵ (flft κ4 q4) ⊛ ‵ (flft κ5 q5) ⊛ ‵ ftrue) ∷ ‵ (owns (ShrSlice (named 0) κ0 u8 ∷ ShrSlice (named 1) κ1 u32 ∷ MutSlice (named 2) κ2 u32 ∷ MutSlice (named 3) κ3 u32 ∷ MutSlice (named 4) κ4 R ∷ MutSlice (named 5) κ5 u8 ∷ u32 ∷ []) (x0, (x1, (x2, (x3, (x4, (x5, (n6, tt))))))) at) ∷ []) ∵ enter ! C Λ code.function (v0 ∷ v1 ∷ v2 ∷ v3 ∷ v4 ∷ v5 ∷ vint w32 n6 ∷ []) _ $
@@ -509,7 +480,7 @@ module _ {M : Type 1} (𝓤 : URA M) (H : Heap 𝓤) (A : Atoms 𝓤) (W : Given
       begun C Λ fm known₀ known₁ known₂ l0 l1 l2 l3 l4 l5 l6 l7 l8 l9 l10 l11 l12 l13 l14 l15 l16 l17 l18 l19 l20)))))))))))))))))))))
 
 module _ {M : Type 1} (𝓤 : URA M) (H : Heap 𝓤) (A : Atoms 𝓤) (W : Given 𝓤 H A) (mem : Memory → SProp 𝓤) (run : Routine → Fun 𝓤) where
-  turn-walks : (C : Calls 𝓤 H) (Λ : Loops 𝓤 H) → FmC 𝓤 H (W .laws) C → Triple 𝓤 (C #records·flatten) (Flatten 𝓤 H A mem run) → Triple 𝓤 (C #lent·turn-words) (Words 𝓤 H A mem run) → Triple 𝓤 (C #records·store) (Store 𝓤 H A mem run)
+  turn-walks : (C : Calls 𝓤 H) (Λ : Loops 𝓤 H) → FmC 𝓤 H (W .laws) C → Triple 𝓤 (C #records·flatten) (Flatten 𝓤 H A mem run) → Triple 𝓤 (C #engine·turn-flat) (Words 𝓤 H A mem run) → Triple 𝓤 (C #records·put) (Put 𝓤 H A mem run)
       → Walks 𝓤 H A turn.ended stayed (WpFn 𝓤 H C Λ code.function) (turn.clauses 𝓤 H A mem run)
   turn-walks C Λ fm known₀ known₁ known₂ =
       walked 𝓤 H A turn.ended stayed (turn.clauses 𝓤 H A mem run) (WpFn 𝓤 H C Λ code.function)
@@ -519,7 +490,7 @@ module _ {M : Type 1} (𝓤 : URA M) (H : Heap 𝓤) (A : Atoms 𝓤) (W : Given
       (walk 𝓤 H A W mem run (κs .0) (qs .0) (a .0 .ptr .0) (a .0 .ptr .1) (a .0 .name) (a .0 .now) (are .0 .0 .1) (κs .1 .0) (qs .1 .0) (a .1 .0 .ptr .0) (a .1 .0 .ptr .1) (a .1 .0 .name) (a .1 .0 .now) (are .1 .0 .0 .1) (κs .1 .1 .0) (qs .1 .1 .0) (a .1 .1 .0 .ptr .0) (a .1 .1 .0 .ptr .1) (a .1 .1 .0 .name) (a .1 .1 .0 .now) (are .1 .1 .0 .0 .1) (κs .1 .1 .1 .0) (qs .1 .1 .1 .0) (a .1 .1 .1 .0 .ptr .0) (a .1 .1 .1 .0 .ptr .1) (a .1 .1 .1 .0 .name) (a .1 .1 .1 .0 .now) (are .1 .1 .1 .0 .0 .1) (κs .1 .1 .1 .1 .0) (qs .1 .1 .1 .1 .0) (a .1 .1 .1 .1 .0 .ptr .0) (a .1 .1 .1 .1 .0 .ptr .1) (a .1 .1 .1 .1 .0 .name) (a .1 .1 .1 .1 .0 .now) (are .1 .1 .1 .1 .0 .0 .1) (κs .1 .1 .1 .1 .1 .0) (qs .1 .1 .1 .1 .1 .0) (a .1 .1 .1 .1 .1 .0 .ptr .0) (a .1 .1 .1 .1 .1 .0 .ptr .1) (a .1 .1 .1 .1 .1 .0 .name) (a .1 .1 .1 .1 .1 .0 .now) (are .1 .1 .1 .1 .1 .0 .0 .1) (a .1 .1 .1 .1 .1 .1 .0) (are .1 .1 .1 .1 .1 .1 .0 .1) bounds C Λ fm known₀ known₁ known₂))
 
 turn-meets : {M : Type 1} (𝓤 : URA M) (H : Heap 𝓤) (A : Atoms 𝓤) (W : Given 𝓤 H A) (mem : Memory → SProp 𝓤) (run : Routine → Fun 𝓤) (𝓣 : Tables 𝓤 H)
-    → Triple 𝓤 (𝓣 .C #records·flatten) (Flatten 𝓤 H A mem run) → Triple 𝓤 (𝓣 .C #lent·turn-words) (Words 𝓤 H A mem run) → Triple 𝓤 (𝓣 .C #records·store) (Store 𝓤 H A mem run)
+    → Triple 𝓤 (𝓣 .C #records·flatten) (Flatten 𝓤 H A mem run) → Triple 𝓤 (𝓣 .C #engine·turn-flat) (Words 𝓤 H A mem run) → Triple 𝓤 (𝓣 .C #records·put) (Put 𝓤 H A mem run)
     → Meets 𝓤 H A turn.signature (WpFn 𝓤 H (𝓣 .C) (𝓣 .Λ) code.function) (turn.spec 𝓤 H A mem run)
 turn-meets 𝓤 H A W mem run 𝓣 known₀ known₁ known₂ =
     walk-meets 𝓤 H A turn.ended stayed W
@@ -534,5 +505,5 @@ rolwyddac-turn-spec 𝓤 H 𝓜 𝓖 𝓡 =
     (tables 𝓤 H 𝓜 𝓡 code.env .C) (tables 𝓤 H 𝓜 𝓡 code.env .Λ) #calls·turn code.function (code.unfolded 𝓤 H 𝓜 𝓡)
     (turn-meets 𝓤 H (𝓖 .A) (givenOf 𝓤 H 𝓜 𝓖) (𝓜 .mem) (𝓡 .run) (tablesOf 𝓤 H 𝓜 (tables 𝓤 H 𝓜 𝓡 code.env))
     (cited 𝓤 H (Flatten 𝓤 H (𝓖 .A) (𝓜 .mem) (𝓡 .run)) 𝓜 𝓡 code.env #records·flatten flatten-def.routine code.calls-records·flatten (flatten-thm.met 𝓤 H 𝓜 𝓖 𝓡))
-    (cited 𝓤 H (Words 𝓤 H (𝓖 .A) (𝓜 .mem) (𝓡 .run)) 𝓜 𝓡 code.env #lent·turn-words words-def.routine code.calls-lent·turn-words (words-thm.met 𝓤 H 𝓜 𝓖 𝓡))
-    (cited 𝓤 H (Store 𝓤 H (𝓖 .A) (𝓜 .mem) (𝓡 .run)) 𝓜 𝓡 code.env #records·store store-def.routine code.calls-records·store (store-thm.met 𝓤 H 𝓜 𝓖 𝓡)))
+    (cited 𝓤 H (Words 𝓤 H (𝓖 .A) (𝓜 .mem) (𝓡 .run)) 𝓜 𝓡 code.env #engine·turn-flat words-def.routine code.calls-engine·turn-flat (words-thm.met 𝓤 H 𝓜 𝓖 𝓡))
+    (cited 𝓤 H (Put 𝓤 H (𝓖 .A) (𝓜 .mem) (𝓡 .run)) 𝓜 𝓡 code.env #records·put put-def.routine code.calls-records·put (put-thm.met 𝓤 H 𝓜 𝓖 𝓡)))

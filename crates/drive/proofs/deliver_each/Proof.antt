@@ -6,14 +6,14 @@ use Prim.Native.Nat.{_-_, _≤_}
 use lib.ListN.{length}
 use Rattle.machine.specs.Machine.{stateOf}
 use Rattle.engine.specs.Demands.{calls}
-use Rattle.drive.specs.Drive.{deliveriesTo, Passed}
+use Rattle.drive.specs.Drive.{deliveriesTo, Tried}
 use Rattle.drive.proofs.Steps as steps
 use Rattle.drive.proofs.deliver_each.Statement.{statement}
 use Rattle.drive.proofs.deliver_each.Tie as tie
 
 abbrev Inv-loop : tie.InvT-loop
 Inv-loop encoded source memories buffer progress status₀ messages delivered₀ message₀ status delivered message =
-    (length status ≡ length status₀) × ((message ≤ messages) × Passed (calls encoded source) (stateOf memories buffer progress status₀) (deliveriesTo message) delivered (stateOf memories buffer progress status))
+    (length status ≡ length status₀) × ((message ≤ messages) × Tried (calls encoded source) (stateOf memories buffer progress status₀) (deliveriesTo message) delivered (stateOf memories buffer progress status))
 
 abbrev μ-loop : tie.MeasureT-loop
 μ-loop encoded source memories buffer progress status₀ messages delivered₀ message₀ status delivered message =

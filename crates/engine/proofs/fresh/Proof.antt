@@ -1,27 +1,11 @@
--- Each return is the call by the line that counts.
-use mathlib.Core.Path.{sym, _∙_}
+use lib.ListN.{length}
+use Rattle.engine.proofs.Reading as reading
 use borrow.Author.Needs.{needs}
-use borrow.Author.Tests.{not-true, not-false}
-use Rattle.nest.proofs.Answers.{accepted-read}
-use Rattle.machine.specs.Machine.{stateOf}
-use Rattle.engine.proofs.Lines as lines
 use Rattle.engine.proofs.fresh.Statement.{statement}
 use Rattle.engine.proofs.fresh.Tie as tie
 
-read-requires : tie.Need-read-requires
-read-requires c κs = search needs
-
-returns : tie.Need-returns
-returns c = let A = c .before .before .before .before .before .before .before .before .args in lines.fresh-read (A .encoded .now) (A .source .now) (stateOf (A .memories .now) (A .buffer .now) (A .progress .now) (A .status .now)) (c .before .read .result .number) (lines.read-number (A .encoded .now) (c .before .read .result) (c .before .read .ensures .0)) (c .if1 .taken)
-
-sizes-of-requires : tie.Need-sizes-of-requires
-sizes-of-requires c κs = accepted-read _ _ (c .before .before .read .ensures .0) (c .before .if1 .left) (c .before .before .read .ensures .1 (c .before .if1 .left))
-
-fill-requires : tie.Need-fill-requires
-fill-requires c κs = search needs
-
-areas-fit-requires : tie.Need-areas-fit-requires
-areas-fit-requires c κs = search needs
+fresh-areas-requires : tie.Need-fresh-areas-requires
+fresh-areas-requires c κs = search needs
 
 same-length : tie.Need-same-length
 same-length c = search needs
@@ -32,23 +16,14 @@ same-length-2 c = search needs
 same-length-3 : tie.Need-same-length-3
 same-length-3 c = search needs
 
-same-length-4 : tie.Need-same-length-4
-same-length-4 c = search needs
-
-returns-2 : tie.Need-returns-2
-returns-2 c = let A = c .before .before .before .before .before .before .before .before .before .before .before .before .before .before .before .before .before .before .before .args in lines.fresh-area (A .encoded .now) (A .source .now) (stateOf (A .memories .now) (A .buffer .now) (A .progress .now) (A .status .now)) (c .before .before .before .before .before .before .before .before .before .before .before .before .read .result .nest) (lines.opened (A .encoded .now) (c .before .before .before .before .before .before .before .before .before .before .before .before .read .result) (c .before .before .before .before .before .before .before .before .before .before .before .before .read .ensures .0) (c .before .before .before .before .before .before .before .before .before .before .before .if1 .left)) (sym (c .before .areas-fit .ensures) ∙ not-true _ (c .if2 .taken))
+returns : tie.Need-returns
+returns c = let A = c .before .before .before .before .before .before .before .before .before .before .before .before .before .before .before .before .before .args in let G = c .before .before .before .before .before .before .before .fresh-areas in reading.not-cleared _ _ _ _ (A .progress .now) (G .result) (G .ensures (A .progress .now) (reading.all-long (length (A .progress .now)))) (c .if1 .taken)
 
 zero-words-requires : tie.Need-zero-words-requires
 zero-words-requires c κs = search needs
 
-zero-words-requires-2 : tie.Need-zero-words-requires-2
-zero-words-requires-2 c κs = search needs
-
-zero-words-requires-3 : tie.Need-zero-words-requires-3
-zero-words-requires-3 c κs = search needs
-
-zero-bytes-requires : tie.Need-zero-bytes-requires
-zero-bytes-requires c κs = search needs
+same-length-4 : tie.Need-same-length-4
+same-length-4 c = search needs
 
 same-length-5 : tie.Need-same-length-5
 same-length-5 c = search needs
@@ -59,32 +34,21 @@ same-length-6 c = search needs
 same-length-7 : tie.Need-same-length-7
 same-length-7 c = search needs
 
-same-length-8 : tie.Need-same-length-8
-same-length-8 c = search needs
-
-returns-3 : tie.Need-returns-3
-returns-3 c = let A = c .before .before .before .before .before .before .before .before .before .before .before .before .before .before .before .before .before .before .before .before .before .before .before .before .before .before .before .before .before .before .before .before .before .before .before .args in lines.fresh-done (A .encoded .now) (A .source .now) (stateOf (A .memories .now) (A .buffer .now) (A .progress .now) (A .status .now)) (c .before .before .before .before .before .before .before .before .before .before .before .before .before .before .before .before .before .before .before .before .before .before .before .before .before .before .before .before .read .result .nest) (lines.opened (A .encoded .now) (c .before .before .before .before .before .before .before .before .before .before .before .before .before .before .before .before .before .before .before .before .before .before .before .before .before .before .before .before .read .result) (c .before .before .before .before .before .before .before .before .before .before .before .before .before .before .before .before .before .before .before .before .before .before .before .before .before .before .before .before .read .ensures .0) (c .before .before .before .before .before .before .before .before .before .before .before .before .before .before .before .before .before .before .before .before .before .before .before .before .before .before .before .if1 .left)) (sym (c .before .before .before .before .before .before .before .before .before .before .before .before .before .before .before .before .before .areas-fit .ensures) ∙ not-false _ (c .before .before .before .before .before .before .before .before .before .before .before .before .before .before .before .before .if2 .left)) (c .before .before .before .before .before .before .before .before .before .before .before .before .before .before .zero-words .last .0) (c .before .before .before .before .before .before .before .before .before .before .zero-words2 .last .0) (c .before .before .before .before .before .before .zero-words3 .last .0) (c .before .before .zero-bytes .last .0) (c .before .before .before .before .before .before .before .before .before .before .before .before .before .before .zero-words .ensures) (c .before .before .before .before .before .before .before .before .before .before .zero-words2 .ensures) (c .before .before .before .before .before .before .zero-words3 .ensures) (c .before .before .zero-bytes .ensures)
+returns-2 : tie.Need-returns-2
+returns-2 c = let A = c .before .before .before .before .before .before .before .before .before .before .before .before .before .before .before .before .before .before .before .before .before .args in let G = c .before .before .before .before .before .before .before .before .before .before .before .fresh-areas in reading.all-cleared _ _ _ _ (A .progress .now) (G .result) (G .ensures (A .progress .now) (reading.all-long (length (A .progress .now)))) (c .before .before .before .before .if1 .left) _ (c .before .before .zero-words .ensures)
 
 pub fresh-spec : {M : Type 1} → statement M
 fresh-spec =
     tie.close
     (tie.spec
-    read-requires
-    returns
-    sizes-of-requires
-    fill-requires
-    areas-fit-requires
+    fresh-areas-requires
     same-length
     same-length-2
     same-length-3
-    same-length-4
-    returns-2
+    returns
     zero-words-requires
-    zero-words-requires-2
-    zero-words-requires-3
-    zero-bytes-requires
+    same-length-4
     same-length-5
     same-length-6
     same-length-7
-    same-length-8
-    returns-3)
+    returns-2)

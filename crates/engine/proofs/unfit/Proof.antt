@@ -1,9 +1,14 @@
-use mathlib.Core.Path.{sym, _∙_}
-use borrow.Author.Needs.{needs}
+use mathlib.Core.Path.{sym, ap, _∙_}
+use Prim.Native.Nat.{_-_}
+use mathlib.Core.List.{List}
+use native.Mathlib.Omega.{arith}
+use lib.ListN.{length, take, drop}
 use borrow.Author.Tests.{not-true, not-false}
 use Rattle.machine.specs.Machine.{stateOf}
 use Rattle.plan.specs.Messages.{planOf}
 use Rattle.engine.proofs.Lines as lines
+use Rattle.engine.proofs.Reading as reading
+use borrow.Author.Needs.{needs}
 use Rattle.engine.proofs.unfit.Statement.{statement}
 use Rattle.engine.proofs.unfit.Tie as tie
 
@@ -11,22 +16,31 @@ areas-fit-requires : tie.Need-areas-fit-requires
 areas-fit-requires c κs = search needs
 
 returns : tie.Need-returns
-returns c = let A = c .before .before .before .before .before .before .before .args in lines.unfit-9 (planOf (A .nest)) (A .source .now) (stateOf (A .memories .now) (A .buffer .now) (A .progress .now) (A .status .now)) (sym (c .before .areas-fit .ensures) ∙ not-true _ (c .if1 .taken))
+returns c = let S = c .before .before .before .before .before .before .before in let A = S .args in (λ l h. lines.unfit-9 (planOf (A .nest)) (A .source .now) (stateOf (A .memories .now) (A .buffer .now) l (A .status .now)) (sym (c .before .areas-fit .ensures .0 l (reading.as-long (A .progress .now) (A .extent) l (S .pre .1) h)) ∙ not-true _ (c .if1 .taken)), λ q. absurd (omega arith))
+
+sub-fit-records : tie.Need-sub-fit-records
+sub-fit-records c = search needs
+
+part-fit-records-start : tie.Need-part-fit-records-start
+part-fit-records-start c = search needs
+
+part-fit-records-end : tie.Need-part-fit-records-end
+part-fit-records-end c = let S = c .before .before .before .before .before .before .before in S .pre .1 (reading.few-words (S .args .nest) (S .args .sizes) (S .pre .0 .0) (S .args .extent) (c .before .areas-fit .ensures .1 (not-false _ (c .if1 .left))))
 
 fit-records-requires : tie.Need-fit-records-requires
-fit-records-requires c κs = let S = c .before .before .before .before .before .before .before in let A = S .args in (S .pre .0, (S .pre .1, lines.areas-are (planOf (A .nest)) (A .source .now) (stateOf (A .memories .now) (A .buffer .now) (A .progress .now) (A .status .now)) (sym (c .before .areas-fit .ensures) ∙ not-false _ (c .if1 .left)) .progress))
+fit-records-requires c κs = let S = c .before .before .before .before .before .before .before .before in let A = S .args in let few = reading.few-words (A .nest) (A .sizes) (S .pre .0 .0) (A .extent) (c .before .before .areas-fit .ensures .1 (not-false _ (c .before .if1 .left))) in let l = take (A .extent - 0) (drop 0 (A .progress .now)) in let h = reading.part-lent (A .progress .now) (A .extent) few in (S .pre .0 .0, (S .pre .0 .1, lines.areas-are (planOf (A .nest)) (A .source .now) (stateOf (A .memories .now) (A .buffer .now) l (A .status .now)) (sym (c .before .before .areas-fit .ensures .0 l (reading.as-long (A .progress .now) (A .extent) l (S .pre .1) h)) ∙ not-false _ (c .before .if1 .left)) .progress))
 
 returns-2 : tie.Need-returns-2
-returns-2 c = let A = c .before .before .before .before .before .before .before .before .before .args in lines.unfit-10 (planOf (A .nest)) (A .source .now) (stateOf (A .memories .now) (A .buffer .now) (A .progress .now) (A .status .now)) (sym (c .before .before .before .areas-fit .ensures) ∙ not-false _ (c .before .before .if1 .left)) (lines.unfit-record (planOf (A .nest)) (stateOf (A .memories .now) (A .buffer .now) (A .progress .now) (A .status .now)) (sym (c .before .fit-records .ensures) ∙ not-true _ (c .if2 .taken)))
+returns-2 c = let S = c .before .before .before .before .before .before .before .before .before .before in let A = S .args in let few = reading.few-words (A .nest) (A .sizes) (S .pre .0 .0) (A .extent) (c .before .before .before .before .areas-fit .ensures .1 (not-false _ (c .before .before .before .if1 .left))) in (λ l h. lines.unfit-10 (planOf (A .nest)) (A .source .now) (stateOf (A .memories .now) (A .buffer .now) l (A .status .now)) (sym (c .before .before .before .before .areas-fit .ensures .0 l (reading.as-long (A .progress .now) (A .extent) l (S .pre .1) h)) ∙ not-false _ (c .before .before .before .if1 .left)) (lines.unfit-record (planOf (A .nest)) (stateOf (A .memories .now) (A .buffer .now) l (A .status .now)) (reading.fits-as (A .nest) _ l (reading.part-is (A .progress .now) (A .extent) l few h) ∙ sym (c .before .fit-records .ensures) ∙ not-true _ (c .if2 .taken))), λ q. absurd (omega arith))
 
 fit-status-requires : tie.Need-fit-status-requires
 fit-status-requires c κs = search needs
 
 returns-3 : tie.Need-returns-3
-returns-3 c = let A = c .before .before .before .before .before .before .before .before .before .before .before .args in let a = sym (c .before .before .before .before .before .areas-fit .ensures) ∙ not-false _ (c .before .before .before .before .if1 .left) in lines.unfit-10 (planOf (A .nest)) (A .source .now) (stateOf (A .memories .now) (A .buffer .now) (A .progress .now) (A .status .now)) a (lines.unfit-status (planOf (A .nest)) (stateOf (A .memories .now) (A .buffer .now) (A .progress .now) (A .status .now)) (lines.areas-are (planOf (A .nest)) (A .source .now) (stateOf (A .memories .now) (A .buffer .now) (A .progress .now) (A .status .now)) a .status) (sym (c .before .fit-status .ensures) ∙ not-true _ (c .if3 .taken)))
+returns-3 c = let S = c .before .before .before .before .before .before .before .before .before .before .before .before in let A = S .args in (λ l h. let a = sym (c .before .before .before .before .before .before .areas-fit .ensures .0 l (reading.as-long (A .progress .now) (A .extent) l (S .pre .1) h)) ∙ not-false _ (c .before .before .before .before .before .if1 .left) in lines.unfit-10 (planOf (A .nest)) (A .source .now) (stateOf (A .memories .now) (A .buffer .now) l (A .status .now)) a (lines.unfit-status (planOf (A .nest)) (stateOf (A .memories .now) (A .buffer .now) l (A .status .now)) (lines.areas-are (planOf (A .nest)) (A .source .now) (stateOf (A .memories .now) (A .buffer .now) l (A .status .now)) a .status) (sym (c .before .fit-status .ensures) ∙ not-true _ (c .if3 .taken))), λ q. absurd (omega arith))
 
 returns-4 : tie.Need-returns-4
-returns-4 c = let A = c .before .before .before .before .before .before .before .before .before .before .before .args in let a = sym (c .before .before .before .before .before .areas-fit .ensures) ∙ not-false _ (c .before .before .before .before .if1 .left) in lines.unfit-0 (planOf (A .nest)) (A .source .now) (stateOf (A .memories .now) (A .buffer .now) (A .progress .now) (A .status .now)) a (lines.fit-both (planOf (A .nest)) (stateOf (A .memories .now) (A .buffer .now) (A .progress .now) (A .status .now)) (lines.areas-are (planOf (A .nest)) (A .source .now) (stateOf (A .memories .now) (A .buffer .now) (A .progress .now) (A .status .now)) a .status) (sym (c .before .before .before .fit-records .ensures) ∙ not-false _ (c .before .before .if2 .left)) (sym (c .before .fit-status .ensures) ∙ not-false _ (c .if3 .left)))
+returns-4 c = let S = c .before .before .before .before .before .before .before .before .before .before .before .before in let A = S .args in let n = c .before .before .before .before .before .before .areas-fit .ensures .1 (not-false _ (c .before .before .before .before .before .if1 .left)) in let few = reading.few-words (A .nest) (A .sizes) (S .pre .0 .0) (A .extent) n in (λ l h. let a = sym (c .before .before .before .before .before .before .areas-fit .ensures .0 l (reading.as-long (A .progress .now) (A .extent) l (S .pre .1) h)) ∙ not-false _ (c .before .before .before .before .before .if1 .left) in lines.unfit-0 (planOf (A .nest)) (A .source .now) (stateOf (A .memories .now) (A .buffer .now) l (A .status .now)) a (lines.fit-both (planOf (A .nest)) (stateOf (A .memories .now) (A .buffer .now) l (A .status .now)) (lines.areas-are (planOf (A .nest)) (A .source .now) (stateOf (A .memories .now) (A .buffer .now) l (A .status .now)) a .status) (reading.fits-as (A .nest) _ l (reading.part-is (A .progress .now) (A .extent) l few h) ∙ sym (c .before .before .before .fit-records .ensures) ∙ not-false _ (c .before .before .if2 .left)) (sym (c .before .fit-status .ensures) ∙ not-false _ (c .if3 .left))), λ _. n)
 
 pub unfit-spec : {M : Type 1} → statement M
 unfit-spec =
@@ -34,6 +48,9 @@ unfit-spec =
     (tie.spec
     areas-fit-requires
     returns
+    sub-fit-records
+    part-fit-records-start
+    part-fit-records-end
     fit-records-requires
     returns-2
     fit-status-requires

@@ -61,10 +61,10 @@ rem-tile : tie.Need-rem-tile Inv-loop μ-loop
 rem-tile c = turn (c .before) .some
 
 mul-tile : tie.Need-mul-tile Inv-loop μ-loop
-mul-tile c = omega (arith, turn (c .before .before) .within, small (c .before .before))
+mul-tile c = omega (arith, turn (c .before .before) .in-range, small (c .before .before))
 
 add-tile : tie.Need-add-tile Inv-loop μ-loop
-add-tile c = omega (arith, turn (c .before .before .before) .within, small (c .before .before .before))
+add-tile c = omega (arith, turn (c .before .before .before) .in-range, small (c .before .before .before))
 
 mul-tile-2 : tie.Need-mul-tile-2 Inv-loop μ-loop
 mul-tile-2 c = omega (arith, turn (c .before .before .before) .room, turn (c .before .before .before) .wide)

@@ -7,7 +7,7 @@ use mathlib.Core.Path.{refl, sym, ap, _∙_}
 use lib.ListN.{length}
 use Rattle.base.specs.Lists.{pack}
 use Rattle.parcels.proofs.Walks.{parcel-is}
-use Rattle.layout.proofs.Rows.{rows-end}
+use Rattle.layout.proofs.CellRows.{rows-end}
 use Rattle.parcels.specs.Windows.{PackedTo}
 use Rattle.parcels.proofs.Windows.{packed-none, packed-end}
 use Rattle.parcels.proofs.Alike.{sends-walk, sends-far, sends-rows, row-ranked, row-first, row-part, step-room, packed-on}

@@ -4,7 +4,7 @@ use Prim.Native.Nat.{_-_, _*_}
 use native.Mathlib.Nat.{zero-mul}
 use mathlib.Core.Path.{refl, sym, _∙_}
 use Rattle.parcels.proofs.Walks.{Measuring, measure-none, measure-few, measured}
-use Rattle.layout.proofs.Rows.{rows-end}
+use Rattle.layout.proofs.CellRows.{rows-end}
 use Rattle.parcels.proofs.Alike.{sends-walk, sends-far, sends-rows, measure-alike, outside-empty}
 use Rattle.parcels.proofs.parcel_length.Statement.{statement}
 use Rattle.parcels.proofs.parcel_length.Tie as tie

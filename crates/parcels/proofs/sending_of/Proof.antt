@@ -4,7 +4,7 @@ use native.Mathlib.Omega.{arith}
 use mathlib.Core.Path.{refl}
 use Rattle.layout.proofs.Cells.{ways-pos, slot-low, bound-within, count-most}
 use Rattle.parcels.proofs.Walks.{walk-of}
-use Rattle.layout.proofs.Rows.{fewer, box-counts}
+use Rattle.layout.proofs.CellRows.{fewer, box-counts}
 use Rattle.parcels.proofs.Alike.{sends-of}
 use Rattle.parcels.proofs.sending_of.Statement.{statement}
 use Rattle.parcels.proofs.sending_of.Tie as tie

@@ -6,7 +6,7 @@ use native.Mathlib.Nat.{zero-mul}
 use mathlib.Core.Path.{refl, ap}
 use lib.ListN.{length}
 use Rattle.parcels.proofs.Walks.{Unpacking, unpacking-none, unpacking-long, unpacked, parcel-is, parcel-few}
-use Rattle.layout.proofs.Rows.{rows-end}
+use Rattle.layout.proofs.CellRows.{rows-end}
 use Rattle.parcels.proofs.Windows.{run-room}
 use Rattle.parcels.proofs.Alike.{sends-walk, sends-far, sends-rows, row-ranked, row-first, step-room, unpacked-on}
 use Rattle.parcels.proofs.unpack.Statement.{statement}

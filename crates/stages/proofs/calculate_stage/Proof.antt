@@ -1,22 +1,25 @@
 -- The part of the memories that is lent to calculate comes back calculated.
-use mathlib.Core.List.{[]}
+use Prim.Native.Nat.{ℕ, _+_}
+use mathlib.Core.Path.{ap, _∙_}
+use lib.Dec.{ltb}
 use native.Mathlib.Omega.{arith}
-use borrow.Author.Needs.{needs}
-use Rattle.machine.specs.Machine.{stateOf}
+use Rattle.base.specs.Tests.{pick}
+use Rattle.machine.specs.Machine.{stateOf, setProgress}
 use Rattle.nest.specs.Nest.{cells, processors}
 use Rattle.stages.proofs.Parts as parts
 use Rattle.stages.proofs.Stages as stages
+use borrow.Author.Needs.{needs}
 use Rattle.stages.proofs.calculate_stage.Statement.{statement}
 use Rattle.stages.proofs.calculate_stage.Tie as tie
 
 mul-base : tie.Need-mul-base
-mul-base c = let S = c .before .before .before in omega (arith, parts.room (processors (S .args .nest)) (S .args .processor) (S .args .sizes .cells) (cells (S .args .nest)) _ (S .pre .0 .1 .1 .0) (S .pre .0 .0 .cells) (S .pre .1 .0 .1 .0))
+mul-base c = let S = c .before .before in omega (arith, parts.room (processors (S .args .nest)) (S .args .processor) (S .args .sizes .cells) (cells (S .args .nest)) _ (S .pre .0 .1 .1 .0) (S .pre .0 .0 .cells) (S .pre .1 .1 .0))
 
 add-end : tie.Need-add-end
-add-end c = let S = c .before .before .before in omega (arith, parts.room (processors (S .args .nest)) (S .args .processor) (S .args .sizes .cells) (cells (S .args .nest)) _ (S .pre .0 .1 .1 .0) (S .pre .0 .0 .cells) (S .pre .1 .0 .1 .0))
+add-end c = let S = c .before .before in omega (arith, parts.room (processors (S .args .nest)) (S .args .processor) (S .args .sizes .cells) (cells (S .args .nest)) _ (S .pre .0 .1 .1 .0) (S .pre .0 .0 .cells) (S .pre .1 .1 .0))
 
 mul-calculate : tie.Need-mul-calculate
-mul-calculate c = let S = c .before .before .before in omega (arith, parts.room (processors (S .args .nest)) (S .args .processor) (S .args .sizes .cells) (cells (S .args .nest)) _ (S .pre .0 .1 .1 .0) (S .pre .0 .0 .cells) (S .pre .1 .0 .1 .0))
+mul-calculate c = let S = c .before .before in omega (arith, parts.room (processors (S .args .nest)) (S .args .processor) (S .args .sizes .cells) (cells (S .args .nest)) _ (S .pre .0 .1 .1 .0) (S .pre .0 .0 .cells) (S .pre .1 .1 .0))
 
 sub-calculate : tie.Need-sub-calculate
 sub-calculate c = search needs
@@ -25,7 +28,7 @@ part-calculate-start : tie.Need-part-calculate-start
 part-calculate-start c = search needs
 
 part-calculate-end : tie.Need-part-calculate-end
-part-calculate-end c = let S = c .before .before .before in parts.room (processors (S .args .nest)) (S .args .processor) (S .args .sizes .cells) (cells (S .args .nest)) _ (S .pre .0 .1 .1 .0) (S .pre .0 .0 .cells) (S .pre .1 .0 .1 .0)
+part-calculate-end c = let S = c .before .before in parts.room (processors (S .args .nest)) (S .args .processor) (S .args .sizes .cells) (cells (S .args .nest)) _ (S .pre .0 .1 .1 .0) (S .pre .0 .0 .cells) (S .pre .1 .1 .0)
 
 calculate-requires : tie.Need-calculate-requires
 calculate-requires c κs = search needs
@@ -33,26 +36,14 @@ calculate-requires c κs = search needs
 count-at-requires : tie.Need-count-at-requires
 count-at-requires c κs = search needs
 
-mul-finished : tie.Need-mul-finished
-mul-finished c = search needs
-
-mul-finished-2 : tie.Need-mul-finished-2
-mul-finished-2 c = search needs
-
-slice-read-finished : tie.Need-slice-read-finished
-slice-read-finished c = search needs
-
 next-record-requires : tie.Need-next-record-requires
 next-record-requires c κs = search needs
 
 same-length : tie.Need-same-length
 same-length c = search needs
 
-same-length-2 : tie.Need-same-length-2
-same-length-2 c = search needs
-
 returns : tie.Need-returns
-returns c = let S = c .before .before .before .before .before .before .before .before .before .before .before .before .before in let A = S .args in let G = c .before .before .before .before .before .before .before .before .calculate in stages.calculated (A .nest) (stateOf (A .memories .now) [] (A .progress .now) []) (A .processor) (A .tile) (A .sizes .cells) (S .pre .0 .0 .cells) (A .source .now) (G .last .1 .1 .1 .0) (c .before .before .next-record .last .0) (c .before .before .before .before .before .count-at .result) (parts.room (processors (A .nest)) (A .processor) (A .sizes .cells) (cells (A .nest)) _ (S .pre .0 .1 .1 .0) (S .pre .0 .0 .cells) (S .pre .1 .0 .1 .0)) (G .kept .1 .1 .1 .0) (G .ensures) (c .before .before .before .before .before .count-at .ensures .0) (c .before .before .next-record .ensures)
+returns c = let S = c .before .before .before .before .before .before .before .before in let A = S .args in let G = c .before .before .before .before .calculate in let n = c .before .count-at in λ buffer l status f. stages.calculated (A .nest) (stateOf (A .memories .now) buffer l status) (A .processor) (A .tile) (A .sizes .cells) (S .pre .0 .0 .cells) (A .source .now) (G .last .1 .1 .1 .0) _ (n .result) (parts.room (processors (A .nest)) (A .processor) (A .sizes .cells) (cells (A .nest)) _ (S .pre .0 .1 .1 .0) (S .pre .0 .0 .cells) (S .pre .1 .1 .0)) (G .kept .1 .1 .1 .0) (G .ensures) (n .ensures .0) (c .next-record .ensures l (A .processor) ∙ ap (λ (k : ℕ). pick (ltb 0 (n .result)) (setProgress l (A .processor) k 2 0) (setProgress l (A .processor) (k + 1) 0 0)) f)
 
 pub calculate-stage-spec : {M : Type 1} → statement M
 calculate-stage-spec =
@@ -66,10 +57,6 @@ calculate-stage-spec =
     part-calculate-end
     calculate-requires
     count-at-requires
-    mul-finished
-    mul-finished-2
-    slice-read-finished
     next-record-requires
     same-length
-    same-length-2
     returns)

@@ -1,45 +1,21 @@
-use mathlib.Core.Path.{_∙_}
-use borrow.Author.Needs.{needs}
+use mathlib.Core.Path.{sym}
 use borrow.Author.Tests.{lt-ltb, le-ltb}
-use Rattle.base.specs.Tests.{pick}
+use Rattle.base.proofs.Tests.{pick-true, pick-false}
+use borrow.Author.Needs.{needs}
 use Rattle.stages.proofs.next_record.Statement.{statement}
 use Rattle.stages.proofs.next_record.Tie as tie
 
-cast-more : tie.Need-cast-more
-cast-more c = search needs
-
-store-record-requires : tie.Need-store-record-requires
-store-record-requires c κs = search needs
-
-add-store-record : tie.Need-add-store-record
-add-store-record c = search needs
-
-store-record-requires-2 : tie.Need-store-record-requires-2
-store-record-requires-2 c κs = search needs
-
-same-length : tie.Need-same-length
-same-length c = search needs
+cast-t5 : tie.Need-cast-t5
+cast-t5 c = search needs
 
 returns : tie.Need-returns
-unfolding pick
-returns c = let A = c .before .before .before .before .before .before .args in c .before .before .store-record .ensures ∙ rw (lt-ltb (A .sent) (A .n) (c .before .before .before .before .if1 .taken))
+returns c = λ l b. sym (pick-true _ _ _ (lt-ltb _ _ (c .if1 .taken)))
 
-same-length-2 : tie.Need-same-length-2
-same-length-2 c = search needs
+add-t6 : tie.Need-add-t6
+add-t6 c = search needs
 
 returns-2 : tie.Need-returns-2
-unfolding pick
-returns-2 c = let A = c .before .before .before .before .before .before .args in c .before .before .store-record2 .ensures ∙ rw (le-ltb (A .sent) (A .n) (c .before .before .before .before .if1 .left))
+returns-2 c = λ l b. sym (pick-false _ _ _ (le-ltb _ _ (c .if1 .left)))
 
 pub next-record-spec : {M : Type 1} → statement M
-next-record-spec =
-    tie.close
-    (tie.spec
-    cast-more
-    store-record-requires
-    add-store-record
-    store-record-requires-2
-    same-length
-    returns
-    same-length-2
-    returns-2)
+next-record-spec = tie.close (tie.spec cast-t5 returns add-t6 returns-2)

@@ -1,50 +1,28 @@
 -- The message is packed into its place from the processor's own part of the memories.
-use Prim.Native.Nat.{_*_}
-use mathlib.Core.Path.{_∙_}
+use Prim.Native.Nat.{ℕ, _+_, _*_}
+use mathlib.Core.Path.{ap, _∙_}
+use lib.Dec.{ltb}
 use native.Mathlib.Omega.{arith}
-use borrow.Author.Needs.{needs}
-use Rattle.machine.specs.Machine.{stateOf}
+use Rattle.base.specs.Tests.{pick}
+use Rattle.machine.specs.Machine.{stateOf, setProgress}
 use Rattle.nest.specs.Nest.{cells, processors}
 use Rattle.stages.proofs.Parts as parts
 use Rattle.stages.proofs.Stages as stages
+use borrow.Author.Needs.{needs}
 use Rattle.stages.proofs.send_stage.Statement.{statement}
 use Rattle.stages.proofs.send_stage.Tie as tie
 
-mul-finished : tie.Need-mul-finished
-mul-finished c = search needs
-
-mul-finished-2 : tie.Need-mul-finished-2
-mul-finished-2 c = search needs
-
-slice-read-finished : tie.Need-slice-read-finished
-slice-read-finished c = search needs
-
-mul-word-index : tie.Need-mul-word-index
-mul-word-index c = search needs
-
-add-word-index : tie.Need-add-word-index
-add-word-index c = search needs
-
-mul-word-index-2 : tie.Need-mul-word-index-2
-mul-word-index-2 c = search needs
-
-slice-read-word-index : tie.Need-slice-read-word-index
-slice-read-word-index c = search needs
-
-word-index-requires : tie.Need-word-index-requires
-word-index-requires c κs = search needs
-
 mul-base : tie.Need-mul-base
-mul-base c = let S = c .before .before .before .before .before .before .before in omega (arith, parts.room (processors (S .args .nest)) (S .args .processor) (S .args .sizes .cells) (cells (S .args .nest)) _ (S .pre .0 .1 .1) (S .pre .0 .0 .cells) (S .pre .1 .0 .0))
+mul-base c = let S = c .before .before .before in omega (arith, parts.room (processors (S .args .nest)) (S .args .processor) (S .args .sizes .cells) (cells (S .args .nest)) _ (S .pre .0 .1 .1) (S .pre .0 .0 .cells) (S .pre .1 .0 .0))
 
 add-end : tie.Need-add-end
-add-end c = let S = c .before .before .before .before .before .before .before in omega (arith, parts.room (processors (S .args .nest)) (S .args .processor) (S .args .sizes .cells) (cells (S .args .nest)) _ (S .pre .0 .1 .1) (S .pre .0 .0 .cells) (S .pre .1 .0 .0))
+add-end c = let S = c .before .before .before in omega (arith, parts.room (processors (S .args .nest)) (S .args .processor) (S .args .sizes .cells) (cells (S .args .nest)) _ (S .pre .0 .1 .1) (S .pre .0 .0 .cells) (S .pre .1 .0 .0))
 
 nth-at-requires : tie.Need-nth-at-requires
 nth-at-requires c κs = search needs
 
 mul-put-message : tie.Need-mul-put-message
-mul-put-message c = let S = c .before .before .before .before .before .before .before .before in omega (arith, parts.room (processors (S .args .nest)) (S .args .processor) (S .args .sizes .cells) (cells (S .args .nest)) _ (S .pre .0 .1 .1) (S .pre .0 .0 .cells) (S .pre .1 .0 .0))
+mul-put-message c = let S = c .before .before .before .before in omega (arith, parts.room (processors (S .args .nest)) (S .args .processor) (S .args .sizes .cells) (cells (S .args .nest)) _ (S .pre .0 .1 .1) (S .pre .0 .0 .cells) (S .pre .1 .0 .0))
 
 sub-put-message : tie.Need-sub-put-message
 sub-put-message c = search needs
@@ -53,10 +31,10 @@ part-put-message-start : tie.Need-part-put-message-start
 part-put-message-start c = search needs
 
 part-put-message-end : tie.Need-part-put-message-end
-part-put-message-end c = let S = c .before .before .before .before .before .before .before .before in parts.room (processors (S .args .nest)) (S .args .processor) (S .args .sizes .cells) (cells (S .args .nest)) _ (S .pre .0 .1 .1) (S .pre .0 .0 .cells) (S .pre .1 .0 .0)
+part-put-message-end c = let S = c .before .before .before .before in parts.room (processors (S .args .nest)) (S .args .processor) (S .args .sizes .cells) (cells (S .args .nest)) _ (S .pre .0 .1 .1) (S .pre .0 .0 .cells) (S .pre .1 .0 .0)
 
 put-message-requires : tie.Need-put-message-requires
-put-message-requires c κs = let S = c .before .before .before .before .before .before .before .before .before .before in let A = S .args in ((S .pre .0 .0, parts.placed-self (A .nest) _ (c .before .before .nth-at .result) (c .before .before .nth-at .ensures)), (parts.mid-length (A .memories .now) (A .processor * A .sizes .cells) (A .sizes .cells) (parts.room (processors (A .nest)) (A .processor) (A .sizes .cells) (cells (A .nest)) _ (S .pre .0 .1 .1) (S .pre .0 .0 .cells) (S .pre .1 .0 .0)) ∙ S .pre .0 .0 .cells, S .pre .1 .0 .1 .0))
+put-message-requires c κs = let S = c .before .before .before .before .before .before in let A = S .args in ((S .pre .0 .0, parts.placed-self (A .nest) _ (c .before .before .nth-at .result) (c .before .before .nth-at .ensures)), (parts.mid-length (A .memories .now) (A .processor * A .sizes .cells) (A .sizes .cells) (parts.room (processors (A .nest)) (A .processor) (A .sizes .cells) (cells (A .nest)) _ (S .pre .0 .1 .1) (S .pre .0 .0 .cells) (S .pre .1 .0 .0)) ∙ S .pre .0 .0 .cells, S .pre .1 .0 .1 .0))
 
 slice-write-status : tie.Need-slice-write-status
 slice-write-status c = search needs
@@ -68,7 +46,7 @@ add-next-record : tie.Need-add-next-record
 add-next-record c = search needs
 
 next-record-requires : tie.Need-next-record-requires
-next-record-requires c κs = let S = c .before .before .before .before .before .before .before .before .before .before .before .before .before .before .before in (omega (arith, S .pre .1 .0 .1 .1 .0, S .pre .0 .1 .1), (S .pre .1 .1 .0, c .before .count-at .ensures .1))
+next-record-requires c κs = search needs
 
 same-length : tie.Need-same-length
 same-length c = search needs
@@ -76,24 +54,13 @@ same-length c = search needs
 same-length-2 : tie.Need-same-length-2
 same-length-2 c = search needs
 
-same-length-3 : tie.Need-same-length-3
-same-length-3 c = search needs
-
 returns : tie.Need-returns
-returns c = let S = c .before .before .before .before .before .before .before .before .before .before .before .before .before .before .before .before .before .before in let A = S .args in stages.sent-is (A .nest) (stateOf (A .memories .now) (A .buffer .now) (A .progress .now) (A .status .now)) (A .processor) (A .tile) (A .sizes .cells) (S .pre .0 .0 .cells) (c .before .before .before .before .before .before .before .before .before .before .before .word-index .result) (c .before .before .before .before .count-at .result) (c .before .before .before .before .before .before .before .before .before .before .nth-at .result) (c .before .before .before .before .before .before .before .put-message .last .1 .1 .1 .0) (c .before .before .next-record .last .0) (c .before .before .before .before .before .before .before .before .before .before .before .word-index .ensures) (omega (arith, c .before .before .before .before .before .before .before .before .before .before .before .word-index .ensures, S .pre .1 .1 .1)) (c .before .before .before .before .before .before .before .before .before .before .nth-at .ensures) (c .before .before .before .before .count-at .ensures .0) (c .before .before .before .before .before .before .before .put-message .ensures) (c .before .before .next-record .ensures)
+returns c = let S = c .before .before .before .before .before .before .before .before .before .before .before in let A = S .args in let n = c .before .count-at in λ l f g. stages.sent-is (A .nest) (stateOf (A .memories .now) (A .buffer .now) l (A .status .now)) (A .processor) (A .tile) (A .sizes .cells) (S .pre .0 .0 .cells) (A .sent) (n .result) (c .before .before .before .before .before .before .before .nth-at .result) (c .before .before .before .before .put-message .last .1 .1 .1 .0) _ g (S .pre .1 .1 .1) (c .before .before .before .before .before .before .before .nth-at .ensures) (n .ensures .0) (c .before .before .before .before .put-message .ensures) (c .next-record .ensures l (A .processor) ∙ ap (λ (k : ℕ). pick (ltb (A .sent + 1) (n .result)) (setProgress l (A .processor) k 2 (A .sent + 1)) (setProgress l (A .processor) (k + 1) 0 0)) f)
 
 pub send-stage-spec : {M : Type 1} → statement M
 send-stage-spec =
     tie.close
     (tie.spec
-    mul-finished
-    mul-finished-2
-    slice-read-finished
-    mul-word-index
-    add-word-index
-    mul-word-index-2
-    slice-read-word-index
-    word-index-requires
     mul-base
     add-end
     nth-at-requires
@@ -108,5 +75,4 @@ send-stage-spec =
     next-record-requires
     same-length
     same-length-2
-    same-length-3
     returns)

@@ -1,0 +1,190 @@
+-- Laws of the words of records that are lent for reading, and of what a turn and a fresh start make of them.
+use Prim.Native.Nat.{ℕ, _+_, _*_, _-_, _≤_, _<_}
+use mathlib.Core.Path.{_≡_, refl, sym, ap, subst, _∙_}
+use mathlib.Core.Logic.{_≢_}
+use mathlib.Core.Bool.{Bool, true, false}
+use mathlib.Core.List.{List, [], _∷_, _++_}
+use native.Mathlib.Omega.{arith}
+use native.Mathlib.Decide.{ℕ-discrete, decLe}
+use lib.ListN.{length, set, take, drop, replicate}
+use lib.Seq.{length-take-le, take-all}
+use lib.Dec.{ltb, eqb}
+use borrow.Author.Tests.{eq-eqb, ne-eqb, ltb-true}
+use Rattle.base.specs.Tests.{not, pick, every, some}
+use Rattle.base.specs.Numbers.{Line, line, firstOf}
+use Rattle.base.proofs.Tests.{pick-true, pick-false, true-not}
+use Rattle.base.proofs.Numbers.{none-first, first-some, first-behind}
+use Rattle.machine.specs.Machine.{State, stateOf, Answered, setProgress, fitRecord, fit, waiting, tilesLeft, turnLines}
+use Rattle.nest.specs.declared.Nest.{Nest}
+use Rattle.nest.specs.Nest.{processors, readLines}
+use Rattle.plan.specs.Messages.{planOf}
+use Rattle.layout.specs.declared.Sizes.{Sizes}
+use Rattle.layout.specs.Sizes.{Sized}
+use Rattle.records.specs.declared.Progress.{Progress}
+use Rattle.records.specs.declared.Flat.{Flat}
+use Rattle.records.specs.Records.{flatWords, flatOf, putAt, zeroRecords}
+use Rattle.records.proofs.Words.{length-words, count-flat, words-flat, words-put, words-zeros}
+use Rattle.records.proofs.Laws.{zeros-none}
+use Rattle.stages.specs.Progress.{progressOnly, setRecord}
+use Rattle.engine.specs.Given.{AsLong, Lendable, Lent, recordsAfter, zerosAfter}
+use Rattle.engine.specs.Calls.{answer, recipe, areas, areaLines, turnCall}
+use Rattle.engine.specs.declared.Turned.{Turned}
+use Rattle.engine.proofs.Lines.{areas-are, numbered}
+
+-- ---- what is lent
+
+pub few-words : (x : Nest) (z : Sizes) → Sized x z → (n : ℕ) → n ≡ 3 * processors x → n ≤ 192
+few-words x z g n e = omega (arith, e, g .accepted .processors-most)
+
+pub as-long : (words : List ℕ) (n : ℕ) (l : List ℕ) → Lendable words n → Lent words n l → AsLong n (length l)
+as-long words n l k h = record { few = λ m. ap length (h .few m) ∙ length-take-le n words (k m); many = h .many }
+
+pub other-length : (n k p : ℕ) → AsLong n k → p ≤ 64 → n ≢ 3 * p → k ≢ 3 * p
+other-length n k p h m q e = by (decLe n 192)
+  where
+    by : Dec (n ≤ 192) → ⊥
+    by (yes l) = q (sym (h .few l) ∙ e)
+    by (no l) = absurd (omega (arith, h .many (omega arith), m, e))
+
+pub this-length : (n k p : ℕ) → AsLong n k → p ≤ 64 → n ≡ 3 * p → k ≡ 3 * p
+this-length n k p h m e = h .few (omega (arith, m, e)) ∙ e
+
+-- all words, and the first of them
+pub all-lendable : (words : List ℕ) → Lendable words (length words)
+all-lendable words h = omega arith
+
+pub all-lent : (words : List ℕ) → Lent words (length words) words
+all-lent words = record { few = λ _. sym (take-all (length words) words (omega arith)); many = λ h. h }
+
+pub all-long : (n : ℕ) → AsLong n n
+all-long n = record { few = λ _. refl; many = λ h. h }
+
+pub part-lent : (words : List ℕ) (n : ℕ) → n ≤ 192 → Lent words n (take (n - 0) (drop 0 words))
+part-lent words n l = record { few = λ _. let z : n - 0 ≡ n = omega arith in ap (λ (k : ℕ). take k words) z; many = λ h. absurd (omega (arith, h, l)) }
+
+pub part-is : (words : List ℕ) (n : ℕ) (l : List ℕ) → n ≤ 192 → Lent words n l → take (n - 0) (drop 0 words) ≡ l
+part-is words n l m h = part-lent words n m .few m ∙ sym (h .few m)
+
+-- the words of records
+module _ (rs : List Progress) (count n : ℕ) (c : count ≡ length rs) (e : (count ≤ 64 → n ≡ 3 * count) × (64 < count → 192 < n)) where
+  few-records : n ≤ 192 → (length rs ≤ 64) × (n ≡ 3 * length rs)
+  few-records l = by (decLe count 64)
+    where
+      by : Dec (count ≤ 64) → (length rs ≤ 64) × (n ≡ 3 * length rs)
+      by (yes h) = (omega (arith, h, c), omega (arith, e .0 h, c))
+      by (no h) = absurd (omega (arith, e .1 (omega arith), l))
+
+  many-records : 192 < n → 192 < length (flatWords rs)
+  many-records l = by (decLe count 64)
+    where
+      by : Dec (count ≤ 64) → 192 < length (flatWords rs)
+      by (yes h) = absurd (omega (arith, e .0 h, h, l))
+      by (no h) = omega (arith, length-words rs, c)
+
+  pub records-long : AsLong n (length (flatWords rs))
+  records-long = record { few = λ l. length-words rs ∙ sym (few-records l .1); many = many-records }
+
+  pub records-lent : (f : Flat) → f ≡ flatOf rs → Lent (f .words) n (flatWords rs)
+  records-lent f is = record {
+    few = λ l.
+        sym (words-flat rs (few-records l .0)) ∙ ap (λ (k : ℕ). take k (flatOf rs .words)) (sym (few-records l .1))
+        ∙ ap (λ (g : Flat). take n (g .words)) (sym is);
+    many = many-records;
+  }
+
+pub count-is : (rs : List Progress) (f : Flat) → f ≡ flatOf rs → f .count ≡ length rs
+count-is rs f is = ap (λ (g : Flat). g .count) is ∙ count-flat rs
+
+pub flat-lendable : (words : List ℕ) (n : ℕ) → length words ≡ 192 → Lendable words n
+flat-lendable words n e h = omega arith
+
+-- ---- what a turn makes
+
+module _ (r : Turned) (n : ℕ) (e : r .number ≡ n) (h : n ≢ 0) (s : State) (b : ℕ) (x : Answered State) where
+  pub refuses : answer n s ≡ x → answer (r .number) (stateOf (s .memories) (s .buffer) (recordsAfter (s .progress) b r) (s .status)) ≡ x
+  unfolding recordsAfter
+  refuses q =
+      ap (λ (l : List ℕ). answer (r .number) (stateOf (s .memories) (s .buffer) l (s .status))) (pick-false _ _ _ (ne-eqb (r .number) 0 (λ z. h (sym e ∙ z))))
+      ∙ ap (λ (k : ℕ). answer k s) e ∙ q
+
+pub does : (r : Turned) (p : Progress) → (r .number ≡ 0) × (r .progress ≡ p) → (m u l t : List ℕ) (b : ℕ) (x : Answered State)
+    → answer 0 (stateOf m u (setRecord l b p) t) ≡ x → answer (r .number) (stateOf m u (recordsAfter l b r) t) ≡ x
+unfolding recordsAfter
+does r p e m u l t b x q =
+    ap (λ (k : List ℕ). answer (r .number) (stateOf m u k t)) (pick-true _ _ _ (eq-eqb (r .number) 0 (e .0)) ∙ ap (λ (z : Progress). setRecord l b z) (e .1))
+    ∙ ap (λ (k : ℕ). answer k (stateOf m u (setRecord l b p) t)) (e .0) ∙ q
+
+module _ (r : Turned) (m u l t : List ℕ) (b : ℕ) (x : Answered State) (q : answer (r .number) (stateOf m u (recordsAfter l b r) t) ≡ x) where
+  -- the same with the words as they were, or one record's written
+  pub left-out : r .number ≢ 0 → answer (r .number) (stateOf m u l t) ≡ x
+  unfolding recordsAfter
+  left-out h = ap (λ (k : List ℕ). answer (r .number) (stateOf m u k t)) (sym (pick-false _ _ _ (ne-eqb (r .number) 0 h))) ∙ q
+
+  pub written-in : r .number ≡ 0 → (l′ : List ℕ) → l′ ≡ setRecord l b (r .progress) → answer 0 (stateOf m u l′ t) ≡ x
+  unfolding recordsAfter
+  written-in h l′ e =
+      ap (λ (k : List ℕ). answer 0 (stateOf m u k t)) (e ∙ sym (pick-true _ _ _ (eq-eqb (r .number) 0 h)))
+      ∙ ap (λ (k : ℕ). answer k (stateOf m u (recordsAfter l b r) t)) (sym h) ∙ q
+
+-- the words of the records after one of them was stored
+pub stored-after : (rs : List Progress) (b : ℕ) (r : Turned) → flatWords (putAt (r .number) b (r .progress) rs) ≡ recordsAfter (flatWords rs) b r
+unfolding putAt recordsAfter setProgress pick
+stored-after rs b r = by (eqb (r .number) 0)
+  where
+    by : (t : Bool) → flatWords (pick t (set rs b (r .progress)) rs) ≡ pick t (setRecord (flatWords rs) b (r .progress)) (flatWords rs)
+    by true = words-put rs b (r .progress)
+    by false = refl
+
+-- a turn that gives 0 has a record there
+pub turn-inside : (l source : List ℕ) (s : State) (b : ℕ) → turnCall l source s b .number ≡ 0 → 3 * b + 2 < length (s .progress)
+unfolding turnCall
+turn-inside l source s b e = by (ℕ-discrete (firstOf (readLines l)) 0)
+  where
+    behind : firstOf (areaLines (recipe l) source s ++ turnLines (recipe l) s b) ≡ 0 → 3 * b + 2 < length (s .progress)
+    behind z =
+        let a = none-first 9 (not (areas (recipe l) source s)) (turnLines (recipe l) s b) (λ q. omega arith) z in
+        let f = none-first 10 (not (fit (recipe l) s)) (line 11 (not (ltb b (recipe l .processors))) ∷ line 12 (waiting (recipe l) s b) ∷ line 13 (not (tilesLeft (recipe l) s b)) ∷ []) (λ q. omega arith) (a .1) in
+        let p = none-first 11 (not (ltb b (recipe l .processors))) (line 12 (waiting (recipe l) s b) ∷ line 13 (not (tilesLeft (recipe l) s b)) ∷ []) (λ q. omega arith) (f .1) in
+        omega (arith, areas-are (recipe l) source s (true-not (a .0)) .progress, ltb-true b (recipe l .processors) (true-not (p .0)))
+
+    by : Dec (firstOf (readLines l) ≡ 0) → 3 * b + 2 < length (s .progress)
+    by (yes z) = behind (sym (first-behind (readLines l) (areaLines (recipe l) source s ++ turnLines (recipe l) s b) (numbered l) z) ∙ e)
+    by (no z) = absurd (z (sym (first-some (readLines l) (areaLines (recipe l) source s ++ turnLines (recipe l) s b) z) ∙ e))
+
+-- ---- what a fresh start makes
+
+module _ (m u t : List ℕ) (x : Answered State) (l : List ℕ) (r : ℕ) (q : answer r (stateOf m u (zerosAfter l r) t) ≡ x) where
+  pub not-cleared : r ≢ 0 → answer r (stateOf m u l t) ≡ x
+  unfolding zerosAfter
+  not-cleared h = ap (λ (k : List ℕ). answer r (stateOf m u k t)) (sym (pick-false _ _ _ (ne-eqb r 0 h))) ∙ q
+
+  pub all-cleared : r ≡ 0 → (l′ : List ℕ) → l′ ≡ replicate (length l) 0 → answer 0 (stateOf m u l′ t) ≡ x
+  unfolding zerosAfter
+  all-cleared h l′ e =
+      ap (λ (k : List ℕ). answer 0 (stateOf m u k t)) (e ∙ sym (pick-true _ _ _ (eq-eqb r 0 h)))
+      ∙ ap (λ (k : ℕ). answer k (stateOf m u (zerosAfter l r) t)) (sym h) ∙ q
+
+pub zeros-after-no : (l : List ℕ) (r : ℕ) → r ≢ 0 → l ≡ zerosAfter l r
+unfolding zerosAfter
+zeros-after-no l r h = sym (pick-false _ _ _ (ne-eqb r 0 h))
+
+pub zeros-after-yes : (l : List ℕ) → replicate (length l) 0 ≡ zerosAfter l 0
+unfolding zerosAfter pick
+zeros-after-yes l = refl
+
+pub none-cleared : (rs : List Progress) → flatWords (zeroRecords 0 rs) ≡ flatWords rs
+none-cleared rs = ap flatWords (sym (zeros-none rs))
+
+-- ---- tests that look at the records alone
+
+pub fits-as : (x : Nest) (k l : List ℕ) → k ≡ l → every (fitRecord (planOf x) (progressOnly l)) (processors x) ≡ every (fitRecord (planOf x) (progressOnly k)) (processors x)
+fits-as x k l e = ap (λ (z : List ℕ). every (fitRecord (planOf x) (progressOnly z)) (processors x)) (sym e)
+
+pub left-as : (x : Nest) (k l : List ℕ) → k ≡ l → some (tilesLeft (planOf x) (progressOnly l)) (processors x) ≡ some (tilesLeft (planOf x) (progressOnly k)) (processors x)
+left-as x k l e = ap (λ (z : List ℕ). some (tilesLeft (planOf x) (progressOnly z)) (processors x)) (sym e)
+
+-- ---- the records of a turn that gave 0
+
+pub record-there : (l source m u t : List ℕ) (rs : List Progress) (b n : ℕ) (x : State) → answer n x ≡ turnCall l source (stateOf m u (flatWords rs) t) b → n ≡ 0 → b < length rs
+record-there l source m u t rs b n x e z =
+    omega (arith, length-words rs, turn-inside l source (stateOf m u (flatWords rs) t) b (ap (λ (y : Answered State). y .number) (sym e) ∙ z))

@@ -1,0 +1,23 @@
+-- The numbers that reading gives for document 01's recipes A to H, computed.
+use Prim.Native.Nat.{ℕ}
+use mathlib.Core.Path.{_≡_, refl}
+use mathlib.Core.List.{List, [], _∷_, _++_, map}
+use Rattle.base.specs.Tests.{_and_, _or_, not, pick, every, some, keep, those, tabulate, product}
+use Rattle.base.specs.Numbers.{firstOf}
+use Rattle.nest.specs.Nest.{tileCount, cells, tiles, processors}
+use Rattle.nest.specs.Nest.{ofKind, filled, nestBy, nestOf, ragged, blank, checked, fitsAt, wellFormed, strayRecord, outside, badLength, tooLarge, same, beyond, faulty, badDistance, reached, badTile, badProcessors, tooManyTiles, nestLines, readLines}
+use Rattle.nest.specs.Recipes.{dimension, distance, close, rowA, rowB, rowC, rowD, rowE, rowF, rowG, rowH}
+
+pub numbers : map (λ (b : List ℕ). firstOf (readLines b)) (rowA ∷ rowB ∷ rowC ∷ rowD ∷ rowE ∷ rowF ∷ rowG ∷ rowH ∷ [])
+    ≡ 0 ∷ 0 ∷ 0 ∷ 0 ∷ 0 ∷ 0 ∷ 6 ∷ 7 ∷ []
+unfolding firstOf _and_ _or_ not pick every some keep those tabulate product tileCount cells tiles processors ofKind filled nestBy nestOf ragged blank checked fitsAt wellFormed strayRecord outside badLength tooLarge same beyond faulty badDistance reached badTile badProcessors tooManyTiles nestLines readLines
+numbers = refl
+
+-- two faults, a distance of zeros and a tile length 0: the first line counts
+pub first-counts : firstOf (readLines (dimension 4 0 2 ++ dimension 1 1 0 ++ distance 0 0 0 ++ close)) ≡ 5
+unfolding firstOf _and_ _or_ not pick every some keep those tabulate product tileCount cells tiles processors ofKind filled nestBy nestOf ragged blank checked fitsAt wellFormed strayRecord outside badLength tooLarge same beyond faulty badDistance reached badTile badProcessors tooManyTiles nestLines readLines
+first-counts = refl
+
+pub tile-totals : map (λ (b : List ℕ). tiles (nestOf b)) (rowA ∷ rowB ∷ rowC ∷ rowD ∷ rowE ∷ rowF ∷ []) ≡ 16 ∷ 4 ∷ 8 ∷ 2 ∷ 3 ∷ 2 ∷ []
+unfolding pick keep those tabulate product tileCount tiles ofKind filled nestBy nestOf
+tile-totals = refl

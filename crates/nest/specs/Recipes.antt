@@ -1,0 +1,39 @@
+-- Document 01's recipes A to H as bytes.
+-- Renders document 01, "Recipes to be met": the columns N, k, P and distances; weights 1, shift 0, shore 0.
+use Prim.Native.Nat.{ℕ}
+use mathlib.Core.List.{List, [], _∷_, _++_}
+use lib.ListN.{replicate}
+
+-- a dimension: length, tile length, processor count; a distance of weight 1; the close with shift 0 and boundary 0
+abbrev pub dimension : ℕ → ℕ → ℕ → List ℕ
+dimension length tile count = 1 ∷ 0 ∷ length ∷ 0 ∷ tile ∷ 0 ∷ count ∷ replicate 9 0
+
+abbrev pub distance : ℕ → ℕ → ℕ → List ℕ
+distance d1 d2 d3 = 2 ∷ 0 ∷ d1 ∷ d2 ∷ d3 ∷ 0 ∷ 1 ∷ replicate 9 0
+
+abbrev pub close : List ℕ
+close = 3 ∷ replicate 15 0
+
+abbrev pub rowA : List ℕ
+rowA = dimension 8 2 2 ++ dimension 8 2 0 ++ distance 1 0 0 ++ distance 0 1 0 ++ distance 1 1 0 ++ close
+
+abbrev pub rowB : List ℕ
+rowB = dimension 8 4 2 ++ dimension 8 4 0 ++ distance 2 1 0 ++ close
+
+abbrev pub rowC : List ℕ
+rowC = dimension 8 4 2 ++ dimension 8 4 2 ++ dimension 8 4 0 ++ distance 2 1 0 ++ close
+
+abbrev pub rowD : List ℕ
+rowD = dimension 4 2 2 ++ dimension 1 1 0 ++ distance 1 0 0 ++ close
+
+abbrev pub rowE : List ℕ
+rowE = dimension 5 2 2 ++ dimension 1 1 0 ++ distance 1 0 0 ++ close
+
+abbrev pub rowF : List ℕ
+rowF = dimension 1 2 2 ++ dimension 2 1 0 ++ distance 1 0 0 ++ close
+
+abbrev pub rowG : List ℕ
+rowG = dimension 4 1 2 ++ dimension 1 1 0 ++ distance 1 0 0 ++ close
+
+abbrev pub rowH : List ℕ
+rowH = dimension 4 2 1 ++ dimension 1 1 0 ++ distance 1 0 0 ++ close

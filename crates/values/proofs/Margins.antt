@@ -1,0 +1,176 @@
+-- Inner rows: those in which all distances read once far enough along.
+use Prim.Native.Nat.{ℕ, zero, suc, _+_, _*_, _-_, _≤_, _<_}
+use mathlib.Core.Path.{_≡_, refl, sym, ap, _∙_}
+use mathlib.Core.Logic.{_⊎_, inl, inr, _≢_}
+use mathlib.Core.Bool.{Bool, true, false}
+use mathlib.Core.List.{List, [], _∷_, _++_}
+use native.Mathlib.Nat.{eq-or-lt-of-le}
+use native.Mathlib.Numerals.{add-one}
+use native.Mathlib.Omega.{arith}
+use lib.ListN.{length, getD}
+use lib.Dec.{leb}
+use borrow.Author.Tests.{leb-true, leb-false, le-leb, lt-leb}
+use Rattle.base.specs.Tests.{pick, every}
+use Rattle.base.proofs.Tests.{pick-true, pick-false, every-at, every-all}
+use Rattle.nest.specs.declared.Nest.{Nest}
+use Rattle.nest.proofs.Accepted.{Accepted}
+use Rattle.nest.specs.Nest.{component, lengthOf, cells}
+use Rattle.layout.specs.declared.Cell.{Cell}
+use Rattle.layout.specs.Places.{Has, Located}
+use Rattle.layout.specs.CellRows.{Given, rowOf}
+use Rattle.layout.proofs.CellRows.{row-last, row-low}
+use Rattle.base.specs.Lists.{storeAll}
+use Rattle.plan.specs.Geometry.{place, cellPlace}
+use Rattle.values.specs.Waves.{four, rowsOf, Band, Banded, mostIn, mostOf, Lasts, Inner, Inners, Fours}
+use Rattle.values.specs.Reads.{firstRead, Firsts, Backs, InRow}
+use Rattle.values.proofs.Stores.{store-append}
+use Rattle.values.proofs.Words.{in-row}
+use Rattle.values.proofs.Waves.{each-four}
+
+-- the greater of two
+pub greater-is : (t : Bool) (a b : ℕ) → leb a b ≡ t → (a ≤ pick t b a) × (b ≤ pick t b a)
+unfolding pick
+greater-is true a b e = (leb-true a b e, omega arith)
+greater-is false a b e = (omega arith, omega (arith, leb-false a b e))
+
+greater-most : (t : Bool) (a b n : ℕ) → a ≤ n → b ≤ n → pick t b a ≤ n
+unfolding pick
+greater-most true a b n p q = q
+greater-most false a b n p q = p
+
+pub record Mosting (l : List ℕ) (j n most e : ℕ) : Type 0 where
+  pub low : e ≤ n
+  pub is : most ≡ mostIn l j e
+
+module _ (l : List ℕ) (j n : ℕ) where
+  pub mosting-none : Mosting l j n 0 0
+  unfolding mostIn
+  mosting-none = record { low = omega arith; is = refl }
+
+  pub mosting-more : (most e r : ℕ) → Mosting l j n most e → e < n → r ≡ pick (leb most (getD l (4 * e + j) 0)) (getD l (4 * e + j) 0) most → Mosting l j n r (e + 1)
+  unfolding mostIn
+  mosting-more most e r s h q = record { low = omega arith; is = rw (add-one e) (q ∙ ap (λ (a : ℕ). pick (leb a (getD l (4 * e + j) 0)) (getD l (4 * e + j) 0) a) (s .is)) }
+
+  pub mosting-end : (most e : ℕ) → Mosting l j n most e → n ≤ e → most ≡ mostIn l j n
+  mosting-end most e s h = let z : e ≡ n = omega (arith, s .low) in rw z at (s .is)
+
+most-least : (l : List ℕ) (j n e : ℕ) → e < n → getD l (4 * e + j) 0 ≤ mostIn l j n
+unfolding mostIn
+most-least l j zero e h = absurd (omega arith)
+most-least l j (suc n) e h = let q : e ≤ n = omega arith in go (eq-or-lt-of-le q) (greater-is _ (mostIn l j n) (getD l (4 * n + j) 0) refl) (most-least l j n e)
+  where
+    go : (e ≡ n) ⊎ (e < n) → (mostIn l j n ≤ pick (leb (mostIn l j n) (getD l (4 * n + j) 0)) (getD l (4 * n + j) 0) (mostIn l j n)) × (getD l (4 * n + j) 0 ≤ pick (leb (mostIn l j n) (getD l (4 * n + j) 0)) (getD l (4 * n + j) 0) (mostIn l j n))
+        → (e < n → getD l (4 * e + j) 0 ≤ mostIn l j n) → getD l (4 * e + j) 0 ≤ pick (leb (mostIn l j n) (getD l (4 * n + j) 0)) (getD l (4 * n + j) 0) (mostIn l j n)
+    go (inl z) p ih = rw z (p .1)
+    go (inr z) p ih = omega (arith, ih z, p .0)
+
+pub most-most : (x : Nest) → Accepted x → (j n : ℕ) → mostOf x j n ≤ 1024
+unfolding mostIn
+most-most x ok j zero = omega arith
+most-most x ok j (suc n) = greater-most _ (mostOf x j n) (component x n j) 1024 (most-most x ok j n) (ok .component-most n j)
+
+module _ (x : Nest) (ok : Accepted x) (margin : List ℕ) (m : Has margin (λ j. mostOf x j (x .distances)) (x .dimensions)) where
+  pub margin-most : getD margin (x .dimensions - 1) 0 ≤ 1024
+  margin-most = omega (arith, m .each (x .dimensions - 1) (omega (arith, ok .dimensions-least)), most-most x ok (x .dimensions - 1) (x .distances))
+
+  module _ (first : List ℕ) (l : Lasts x first) where
+    pub inner-firsts : (i : List ℕ) → Inner margin i (x .dimensions - 1) → Firsts x i first
+    unfolding firstRead
+    inner-firsts i h =
+        record {
+          each = λ e k. l .each e k ∙ sym (pick-true (every (λ j. leb (component x e j) (getD i j 0)) (x .dimensions - 1)) (component x e (x .dimensions - 1)) 1024
+              (every-all (λ j. leb (component x e j) (getD i j 0)) (x .dimensions - 1)
+              (λ j q. le-leb (component x e j) (getD i j 0)
+              (omega (arith, leb-true (getD margin j 0) (getD i j 0) (every-at (λ j. leb (getD margin j 0) (getD i j 0)) (x .dimensions - 1) h j q), m .each j (omega arith), most-least (x .components) j (x .distances) e k)))));
+        }
+
+    pub first-most : (e : ℕ) → e < x .distances → getD first e 0 ≤ getD margin (x .dimensions - 1) 0
+    first-most e k = omega (arith, l .each e k, m .each (x .dimensions - 1) (omega (arith, ok .dimensions-least)), most-least (x .components) (x .dimensions - 1) (x .distances) e k)
+
+pub lasts-are : (x : Nest) (components first : List ℕ) → Given x components → ((e : ℕ) → e < x .distances → getD first e 0 ≡ getD components (4 * e + (x .dimensions - 1)) 0) → Lasts x first
+lasts-are x components first g h = record { each = λ e k. h e k ∙ ap (λ (l : List ℕ). getD l (4 * e + (x .dimensions - 1)) 0) (g .is) }
+
+pub most-is : (x : Nest) (components : List ℕ) (j : ℕ) → Given x components → (r : ℕ) → r ≡ mostIn components j (x .distances) → r ≡ mostOf x j (x .distances)
+most-is x components j g r e = e ∙ ap (λ (l : List ℕ). mostIn l j (x .distances)) (g .is)
+
+-- ---- four rows
+
+pub rows-four : (f : List ℕ → ℕ → ℕ) (m : List ℕ) (c : ℕ → ℕ) (w : ℕ)
+    → storeAll f m (rowsOf c w 4) ≡ storeAll f (storeAll f (storeAll f (storeAll f m (rowOf (c 0) w)) (rowOf (c 1) w)) (rowOf (c 2) w)) (rowOf (c 3) w)
+unfolding rowsOf
+rows-four f m c w =
+    store-append f m ((rowOf (c 0) w ++ rowOf (c 1) w) ++ rowOf (c 2) w) (rowOf (c 3) w)
+    ∙ ap (λ (z : List ℕ). storeAll f z (rowOf (c 3) w))
+    (store-append f m (rowOf (c 0) w ++ rowOf (c 1) w) (rowOf (c 2) w)
+    ∙ ap (λ (z : List ℕ). storeAll f z (rowOf (c 2) w)) (store-append f m (rowOf (c 0) w) (rowOf (c 1) w)))
+
+pub singly : (f : List ℕ → ℕ → ℕ) (m m₁ m₂ m₃ m₄ : List ℕ) (c : ℕ → ℕ) (w : ℕ) → m₁ ≡ storeAll f m (rowOf (c 0) w) → m₂ ≡ storeAll f m₁ (rowOf (c 1) w)
+    → m₃ ≡ storeAll f m₂ (rowOf (c 2) w) → m₄ ≡ storeAll f m₃ (rowOf (c 3) w) → m₄ ≡ storeAll f m (rowsOf c w 4)
+singly f m m₁ m₂ m₃ m₄ c w e₁ e₂ e₃ e₄ =
+    e₄
+    ∙ ap (λ (z : List ℕ). storeAll f z (rowOf (c 3) w)) (e₃ ∙ ap (λ (z : List ℕ). storeAll f z (rowOf (c 2) w)) (e₂ ∙ ap (λ (z : List ℕ). storeAll f z (rowOf (c 1) w)) e₁))
+    ∙ sym (rows-four f m c w)
+
+module _ (x : Nest) (ok : Accepted x) (a b c d : Cell) (w : ℕ) (h : Fours x a b c d w) where
+  fours-column : (r : Cell) → Located x (r .number) r → getD (r .place) (x .dimensions - 1) 0 ≡ getD (a .place) (x .dimensions - 1) 0 → (y : ℕ) → y < w
+      → cellPlace x (r .number + y) (x .dimensions - 1) ≡ cellPlace x (a .number) (x .dimensions - 1) + y
+  unfolding cellPlace
+  fours-column r l e y k =
+      row-last (lengthOf x) (x .dimensions) (r .number) y (omega (arith, ok .dimensions-least)) (omega (arith, there, e, h .fits))
+      ∙ ap (λ (q : ℕ). q + y) (sym there ∙ e ∙ h .one .place .each (x .dimensions - 1) (omega (arith, ok .dimensions-least)))
+    where
+      there : getD (r .place) (x .dimensions - 1) 0 ≡ place (lengthOf x) (x .dimensions) (r .number) (x .dimensions - 1)
+      there = l .place .each (x .dimensions - 1) (omega (arith, ok .dimensions-least))
+
+  fours-low : (r : Cell) → Located x (r .number) r → getD (r .place) (x .dimensions - 1) 0 ≡ getD (a .place) (x .dimensions - 1) 0 → (y : ℕ) → y < w → r .number + y < cells x
+  unfolding cellPlace cells
+  fours-low r l e y k =
+      row-low (lengthOf x) (x .dimensions) (r .number) y (omega (arith, ok .dimensions-least))
+      (omega (arith, l .place .each (x .dimensions - 1) (omega (arith, ok .dimensions-least)), e, h .fits)) (l .low)
+
+  pub fours-band : Band x (four (a .number) (b .number) (c .number) (d .number)) w 4
+  fours-band =
+      record {
+        low = λ k y l i. each-four (λ k. four (a .number) (b .number) (c .number) (d .number) k + y < cells x) (fours-low a (h .one) refl y i) (fours-low b (h .two) (h .same-two) y i)
+            (fours-low c (h .three) (h .same-three) y i) (fours-low d (h .fourth) (h .same-fourth) y i) k l;
+        apart = λ j k q l. apart j k q l;
+        column = λ k y l i. each-four (λ k. cellPlace x (four (a .number) (b .number) (c .number) (d .number) k + y) (x .dimensions - 1) ≡ cellPlace x (a .number) (x .dimensions - 1) + y)
+            (fours-column a (h .one) refl y i) (fours-column b (h .two) (h .same-two) y i) (fours-column c (h .three) (h .same-three) y i) (fours-column d (h .fourth) (h .same-fourth) y i) k l;
+      }
+    where
+      steps : (k : ℕ) → suc k < 4 → four (a .number) (b .number) (c .number) (d .number) k + w ≤ four (a .number) (b .number) (c .number) (d .number) (suc k)
+      steps zero l = h .then-two
+      steps (suc zero) l = h .then-three
+      steps (suc (suc zero)) l = h .then-fourth
+      steps (suc (suc (suc k))) l = absurd (omega arith)
+
+      apart : (j k : ℕ) → j < k → k < 4 → four (a .number) (b .number) (c .number) (d .number) j + w ≤ four (a .number) (b .number) (c .number) (d .number) k
+      apart j zero q l = absurd (omega arith)
+      apart j (suc k) q l = go (eq-or-lt-of-le (low q)) (λ z. apart j k z (omega arith))
+        where
+          low : j < suc k → j ≤ k
+          low z = omega arith
+
+          go : (j ≡ k) ⊎ (j < k) → (j < k → four (a .number) (b .number) (c .number) (d .number) j + w ≤ four (a .number) (b .number) (c .number) (d .number) k)
+              → four (a .number) (b .number) (c .number) (d .number) j + w ≤ four (a .number) (b .number) (c .number) (d .number) (suc k)
+          go (inl z) ih = rw z (steps k l)
+          go (inr z) ih = omega (arith, ih z, steps k l)
+
+  pub fours-banded : (margin first back weights : List ℕ) → Has margin (λ j. mostOf x j (x .distances)) (x .dimensions) → Lasts x first → Backs x back → weights ≡ x .weights
+      → (from : ℕ) → (3 ≤ from) × ((getD margin (x .dimensions - 1) 0 + 3 ≤ getD (a .place) (x .dimensions - 1) 0 + from) × (from ≤ 1027))
+      → (from ≤ w) × Inners margin (a .place) (b .place) (c .place) (d .place) (x .dimensions - 1)
+      → Banded x (four (a .number) (b .number) (c .number) (d .number)) (getD (a .place) (x .dimensions - 1) 0) from w first back weights
+  fours-banded margin first back weights m l bk wt from s t =
+      record {
+        rows = fours-band;
+        each = each-four (λ k. InRow x (four (a .number) (b .number) (c .number) (d .number) k) (getD (a .place) (x .dimensions - 1) 0) w first back weights)
+            (rows a (h .one) refl (t .1 .one)) (rows b (h .two) (h .same-two) (t .1 .two)) (rows c (h .three) (h .same-three) (t .1 .three)) (rows d (h .fourth) (h .same-fourth) (t .1 .fourth));
+        three = s .0;
+        low = t .0;
+        reads = λ e k. omega (arith, first-most x ok margin m first l e k, s .1 .0);
+      }
+    where
+      rows : (r : Cell) → Located x (r .number) r → getD (r .place) (x .dimensions - 1) 0 ≡ getD (a .place) (x .dimensions - 1) 0 → Inner margin (r .place) (x .dimensions - 1)
+          → InRow x (r .number) (getD (a .place) (x .dimensions - 1) 0) w first back weights
+      rows r q e i =
+          rw e at (in-row x ok r q first back weights (inner-firsts x ok margin m first l (r .place) i) bk wt w (omega (arith, e, h .fits)))

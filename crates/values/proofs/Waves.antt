@@ -1,0 +1,461 @@
+-- Rows side by side: what may be stored next, and that the memory ends as in index order.
+use Prim.Native.Nat.{ℕ, zero, suc, _+_, _*_, _-_, _/_, _%_, _^_, _≤_, _<_}
+use mathlib.Core.Path.{_≡_, refl, sym, ap, _∙_}
+use mathlib.Core.Logic.{_⊎_, inl, inr, _≢_}
+use mathlib.Core.Bool.{true}
+use mathlib.Core.List.{List, [], _∷_, _++_}
+use native.Mathlib.Nat.{add-assoc, mul-le-mul}
+use native.Mathlib.Numerals.{add-one}
+use native.Mathlib.Decide.{decLt, ℕ-discrete}
+use native.Mathlib.Omega.{arith}
+use lib.ListN.{length, getD, set, length-set}
+use lib.Dec.{ltb, eqb}
+use borrow.Author.Tests.{eq-eqb, ne-eqb, lt-ltb, le-ltb, le-leb}
+use Rattle.base.specs.Tests.{tabulate, sum, pick}
+use Rattle.base.proofs.Tests.{sum-same, pick-true, pick-false}
+use Rattle.base.specs.Lists.{In, Rising, storeAll}
+use Rattle.base.proofs.Lists.{AllBelow, store-length}
+use Rattle.base.proofs.Select.{in-append, in-left, in-right}
+use Rattle.machine.specs.Plan.{Sound}
+use Rattle.nest.specs.declared.Nest.{Nest}
+use Rattle.nest.proofs.Accepted.{Accepted}
+use Rattle.nest.specs.Nest.{cells, weight}
+use Rattle.plan.specs.Geometry.{cellPlace, hasRead, readAt, readsOf, value}
+use Rattle.plan.specs.Messages.{planOf}
+use Rattle.plan.proofs.Sound.{reads-at, value-local}
+use Rattle.plan.proofs.Tiles.{read-back, read-before}
+use Rattle.layout.specs.CellRows.{rowOf}
+use Rattle.values.specs.Waves.{four, rowsOf, Full, Fulls, Band, Right, Left, Front, Waved, Wave, Banded}
+use Rattle.values.specs.Reads.{InRow}
+use Rattle.values.proofs.Orders.{store-other, Causal, store-fixed, right-store, right-end}
+use Rattle.values.proofs.Stores.{store-row}
+use Rattle.values.proofs.Words.{Adding, adding-none, adding-more}
+
+-- ---- values where all distances read
+
+pub weighs : (k v : ℕ) → k < 65536 → v < 4294967296 → k * v ≤ 281470681677825
+weighs k v a b = omega (arith, mul-le-mul {n₁ = k} {m₁ = v} {n₂ = 65535} {m₂ = 4294967295} (omega arith) (omega arith))
+
+-- what distance e gives at cell c
+abbrev pub backWord : List ℕ → List ℕ → ℕ → ℕ → ℕ
+backWord memory back c e = getD memory (c - getD back e 0) 0
+
+module _ (x : Nest) (ok : Accepted x) (source memory back weights : List ℕ) (c : ℕ) (full : Full x c back weights) (total e : ℕ) (s : Adding x source (backWord memory back c) c total e) where
+  pub full-fits : total ≤ 4611686018427387904
+  full-fits = omega (arith, s .few, s .low, ok .distances-most)
+
+  pub full-weight : e < x .distances → getD weights e 0 < 65536
+  full-weight h = rw (full .weights-are) (ok .weight-most e)
+
+  pub full-low : e < x .distances → getD back e 0 ≤ c
+  full-low h = omega (arith, full .backs e h)
+
+  pub full-more : (r : ℕ) → (r ≡ total + getD weights e 0 * backWord memory back c e) × (backWord memory back c e < 4294967296) → e < x .distances → Adding x source (backWord memory back c) c r (e + 1)
+  full-more r q h = rw (q .0) (adding-more x ok source (backWord memory back c) c total e s (backWord memory back c e) (getD weights e 0) refl (q .1) h (ap (λ (l : List ℕ). getD l e 0) (full .weights-are)))
+
+  pub full-end : (r : ℕ) → r ≡ total / 2 ^ x .shift % 4294967296 → x .distances ≤ e → r ≡ value x source memory c
+  unfolding value
+  full-end r q h =
+      let z : e ≡ x .distances = omega (arith, s .low) in
+      q
+      ∙ ap (λ (a : ℕ). a / 2 ^ x .shift % 4294967296)
+      (s .is
+      ∙ ap (λ (n : ℕ). getD source c 0 + sum (λ d. weight x d * backWord memory back c d) n) z
+      ∙ ap (λ (a : ℕ). getD source c 0 + a)
+      (sum-same _ _ (x .distances)
+      (λ d k. ap (λ (a : ℕ). weight x d * a)
+      (let y : c - getD back d 0 ≡ readAt x c d = omega (arith, full .backs d k) in ap (λ (i : ℕ). getD memory i 0) y ∙ sym (pick-true (hasRead x c d) _ _ (full .has d k))))))
+
+-- four sums
+pub record Adds (x : Nest) (source memory back : List ℕ) (a b c d ta tb tc td e : ℕ) : Type 0 where
+  pub one : Adding x source (backWord memory back a) a ta e
+  pub two : Adding x source (backWord memory back b) b tb e
+  pub three : Adding x source (backWord memory back c) c tc e
+  pub last : Adding x source (backWord memory back d) d td e
+
+-- a sum begins
+pub sum-none : (x : Nest) (ok : Accepted x) (source memory back : List ℕ) (c t : ℕ) → (t ≡ getD source c 0) × (t < 4294967296) → Adding x source (backWord memory back c) c t 0
+sum-none x ok source memory back c t q = rw (q .0) (adding-none x ok source (backWord memory back c) c (omega (arith, q .0, q .1)))
+
+-- what one more word needs
+pub sum-needs : (x : Nest) (ok : Accepted x) (source memory back weights : List ℕ) (c : ℕ) → Full x c back weights → length memory ≡ cells x → (t e : ℕ) → Adding x source (backWord memory back c) c t e → e < x .distances
+    → (t ≤ 4611686018427387904) × ((getD weights e 0 < 65536) × ((getD back e 0 ≤ c) × ((c < length memory) × (length memory ≤ 16384))))
+sum-needs x ok source memory back weights c full long t e s h = (
+  full-fits x ok source memory back weights c full t e s,
+  (
+    full-weight x ok source memory back weights c full t e s h,
+    (full-low x ok source memory back weights c full t e s h, (omega (arith, full .low), omega (arith, ok .cells-most))),
+  ),
+)
+
+-- ---- who is in a row, and in rows
+
+pub in-row-of : (c n z : ℕ) → In z (rowOf c n) → (c ≤ z) × (z < c + n)
+unfolding tabulate
+in-row-of c zero z i = absurd i
+in-row-of c (suc n) z i = go (in-append z (rowOf c n) ((c + n) ∷ []) i) (in-row-of c n z)
+  where
+    go : In z (rowOf c n) ⊎ In z ((c + n) ∷ []) → (In z (rowOf c n) → (c ≤ z) × (z < c + n)) → (c ≤ z) × (z < c + suc n)
+    go (inl k) ih = let q = ih k in (q .0, omega arith)
+    go (inr (inl e)) ih = (omega arith, omega arith)
+    go (inr (inr e)) ih = absurd e
+
+pub row-of-in : (c n z : ℕ) → c ≤ z → z < c + n → In z (rowOf c n)
+unfolding tabulate
+row-of-in c zero z l h = absurd (omega arith)
+row-of-in c (suc n) z l h = go (decLt z (c + n)) (row-of-in c n z l)
+  where
+    go : Dec (z < c + n) → (z < c + n → In z (rowOf c n)) → In z (rowOf c n ++ ((c + n) ∷ []))
+    go (yes k) ih = in-left z (rowOf c n) ((c + n) ∷ []) (ih k)
+    go (no k) ih = in-right z (rowOf c n) ((c + n) ∷ []) (inl (omega arith))
+
+rising-append : (a b : List ℕ) → Rising a → Rising b → ((y z : ℕ) → In y a → In z b → y < z) → Rising (a ++ b)
+rising-append [] b r s h = s
+rising-append (p ∷ a) b r s h = ((λ y i. go y (in-append y a b i)), rising-append a b (r .1) s (λ y z i k. h y z (inr i) k))
+  where
+    go : (y : ℕ) → In y a ⊎ In y b → p < y
+    go y (inl i) = r .0 y i
+    go y (inr i) = h p y (inl refl) i
+
+row-rising : (c n : ℕ) → Rising (rowOf c n)
+unfolding tabulate
+row-rising c zero = tt
+row-rising c (suc n) = rising-append (rowOf c n) ((c + n) ∷ []) (row-rising c n) ((λ y i. absurd i), tt) (λ y z i k. go y z (in-row-of c n y i) k)
+  where
+    go : (y z : ℕ) → (c ≤ y) × (y < c + n) → In z ((c + n) ∷ []) → y < z
+    go y z b (inl e) = omega arith
+    go y z b (inr e) = absurd e
+
+module _ (c : ℕ → ℕ) (w : ℕ) where
+  rows-in : (n z : ℕ) → In z (rowsOf c w n) → (k : ℕ) × (k < n) × (c k ≤ z) × (z < c k + w)
+  unfolding rowsOf
+  rows-in zero z i = absurd i
+  rows-in (suc n) z i = go (in-append z (rowsOf c w n) (rowOf (c n) w) i) (rows-in n z)
+    where
+      go : In z (rowsOf c w n) ⊎ In z (rowOf (c n) w) → (In z (rowsOf c w n) → (k : ℕ) × (k < n) × (c k ≤ z) × (z < c k + w)) → (k : ℕ) × (k < suc n) × (c k ≤ z) × (z < c k + w)
+      go (inl k) ih = let q = ih k in (q .0, omega arith, q .2, q .3)
+      go (inr k) ih = let q = in-row-of (c n) w z k in (n, omega arith, q .0, q .1)
+
+  in-rows : (n k z : ℕ) → k < n → c k ≤ z → z < c k + w → In z (rowsOf c w n)
+  unfolding rowsOf
+  in-rows zero k z l a b = absurd (omega arith)
+  in-rows (suc n) k z l a b = go (ℕ-discrete k n) (λ q. in-rows n k z q a b)
+    where
+      go : Dec (k ≡ n) → (k < n → In z (rowsOf c w n)) → In z (rowsOf c w n ++ rowOf (c n) w)
+      go (yes e) ih = in-right z (rowsOf c w n) (rowOf (c n) w) (row-of-in (c n) w z (rw e at a) (rw e at b))
+      go (no q) ih = in-left z (rowsOf c w n) (rowOf (c n) w) (ih (omega arith))
+
+  rows-rising : (n : ℕ) → ((j k : ℕ) → j < k → k < n → c j + w ≤ c k) → Rising (rowsOf c w n)
+  unfolding rowsOf
+  rows-rising zero h = tt
+  rows-rising (suc n) h =
+      rising-append (rowsOf c w n) (rowOf (c n) w) (rows-rising n (λ j k a b. h j k a (omega arith))) (row-rising (c n) w)
+      (λ y z i k. let a = rows-in n y i in let b = in-row-of (c n) w z k in let d = h (a .0) n (a .1) (omega arith) in omega (arith, a .3, b .0))
+
+-- ---- the rows of a band, of which h k columns of row k are stored
+
+pub causal : (x : Nest) → Accepted x → (source : List ℕ) → Causal (value x source) (readsOf x) (cells x)
+causal x ok source =
+    record {
+      local = λ m k c l h. value-local x source m k c h;
+      earlier = λ c r l i. let q = reads-at x c r i in omega (arith, q .3, read-before x ok c (q .0) (q .1) (q .2) l);
+    }
+
+module _ (x : Nest) (ok : Accepted x) (source m₀ : List ℕ) (long : length m₀ ≡ cells x) (c : ℕ → ℕ) (w n : ℕ) (band : Band x c w n) where
+  fin : List ℕ
+  fin = storeAll (value x source) m₀ (rowsOf c w n)
+
+  fin-long : length (storeAll (value x source) m₀ (rowsOf c w n)) ≡ cells x
+  fin-long = store-length (value x source) (rowsOf c w n) m₀ ∙ long
+
+  rows-low : AllBelow (cells x) (rowsOf c w n)
+  rows-low z i =
+      let q = rows-in c w n z i in
+      let e : c (q .0) + (z - c (q .0)) ≡ z = omega (arith, q .2) in
+      omega (arith, band .low (q .0) (z - c (q .0)) (q .1) (omega (arith, q .3, q .2)))
+
+  fixed : (k y : ℕ) → k < n → y < w → getD (storeAll (value x source) m₀ (rowsOf c w n)) (c k + y) 0 ≡ value x source (storeAll (value x source) m₀ (rowsOf c w n)) (c k + y)
+  fixed k y l h =
+      store-fixed (value x source) (readsOf x) (cells x) (causal x ok source) (rowsOf c w n) m₀ (c k + y) (rows-rising c w n (band .apart)) rows-low (λ z i. omega (arith, rows-low z i, long))
+      (in-rows c w n k (c k + y) l (omega arith) (omega arith))
+
+  pub front-start : (h : ℕ → ℕ) → ((k : ℕ) → k < n → h k ≡ 0) → Front x source m₀ c w n m₀ h
+  front-start h none =
+      record {
+        long = sym (store-length (value x source) (rowsOf c w n) m₀);
+        is = λ z k. sym (store-other (value x source) (rowsOf c w n) m₀ z (λ i. let q = rows-in c w n z i in
+            k (record { row = q .0; below = q .1; from = omega (arith, none (q .0) (q .1), q .2); to = q .3 })));
+      }
+
+  module _ (m : List ℕ) (h : ℕ → ℕ) (s : Front x source m₀ c w n m h) where
+    pub front-long : length m ≡ cells x
+    front-long = s .long ∙ fin-long
+
+    pub front-same : (h′ : ℕ → ℕ) → ((k : ℕ) → k < n → h′ k ≤ h k) → Front x source m₀ c w n m h′
+    front-same h′ e =
+        record { long = s .long; is = λ z k. s .is z (λ l. k (record { row = l .row; below = l .below; from = omega (arith, l .from, e (l .row) (l .below)); to = l .to })) }
+
+    pub front-end : ((k : ℕ) → k < n → w ≤ h k) → m ≡ storeAll (value x source) m₀ (rowsOf c w n)
+    front-end e = right-end (storeAll (value x source) m₀ (rowsOf c w n)) m (Left c w n h) s (λ z l k. let q = e (k .row) (k .below) in omega (arith, k .from, k .to))
+
+    -- row k may go on where all rows before it are ahead
+    module _ (k : ℕ) (l : k < n) (y : ℕ) (at : y ≡ h k) (i : y < w) where
+      stored : (ahead : (j : ℕ) → j < k → y < h j) (r : ℕ) → In r (readsOf x (c k + y)) → Left c w n h r → ⊥
+      stored ahead r q z = go (decLt (z .row) k) (decLt k (z .row))
+        where
+          e : (e : ℕ) × (e < x .distances) × (hasRead x (c k + y) e ≡ true) × (r ≡ readAt x (c k + y) e)
+          e = reads-at x (c k + y) r q
+
+          before : r < c k + y
+          before = omega (arith, e .3, read-before x ok (c k + y) (e .0) (e .1) (e .2) (band .low k y l i))
+
+          column : cellPlace x r (x .dimensions - 1) ≤ cellPlace x (c 0) (x .dimensions - 1) + y
+          column = rw (e .3) (omega (arith, read-back x ok (c k + y) (e .0) (e .1) (e .2) (x .dimensions - 1) (omega (arith, ok .dimensions-least)), band .column k y l i))
+
+          back : c (z .row) + (r - c (z .row)) ≡ r
+          back = omega (arith, z .from)
+
+          there : cellPlace x r (x .dimensions - 1) ≡ cellPlace x (c 0) (x .dimensions - 1) + (r - c (z .row))
+          there = rw back at (band .column (z .row) (r - c (z .row)) (z .below) (omega (arith, z .from, z .to)))
+
+          go : Dec (z .row < k) → Dec (k < z .row) → ⊥
+          go (yes a) d = let b = ahead (z .row) a in omega (arith, z .from, there, column)
+          go (no a) (yes b) = let d = band .apart k (z .row) b (z .below) in omega (arith, z .from, before)
+          go (no a) (no b) =
+              let t : z .row ≡ k = omega arith in
+              let f : c k + h k ≤ r = rw t at (z .from) in
+              omega (arith, before)
+
+      pub front-word : ((j : ℕ) → j < k → y < h j) → value x source m (c k + y) ≡ getD (storeAll (value x source) m₀ (rowsOf c w n)) (c k + y) 0
+      front-word ahead = value-local x source m (storeAll (value x source) m₀ (rowsOf c w n)) (c k + y) (λ r q. s .is r (stored ahead r q)) ∙ sym (fixed k y l i)
+
+      pub front-store : (v : ℕ) → v ≡ getD (storeAll (value x source) m₀ (rowsOf c w n)) (c k + y) 0 → (h′ : ℕ → ℕ) → h′ k ≤ y + 1 → ((j : ℕ) → j < n → j ≢ k → h′ j ≤ h j)
+          → Front x source m₀ c w n (set m (c k + y) v) h′
+      front-store v e h′ a b =
+          right-store (storeAll (value x source) m₀ (rowsOf c w n)) m (Left c w n h) s (Left c w n h′) (c k + y) v (omega (arith, fin-long, band .low k y l i)) e
+          (λ z q t. go z q t (ℕ-discrete (t .row) k))
+        where
+          go : (z : ℕ) → z ≢ c k + y → (t : Left c w n h z) → Dec (t .row ≡ k) → Left c w n h′ z
+          go z q t (yes d) =
+              let f : c k + h k ≤ z = rw d at (t .from) in
+              let g : z < c k + w = rw d at (t .to) in
+              record { row = k; below = l; from = omega arith; to = g }
+          go z q t (no d) = record { row = t .row; below = t .below; from = omega (arith, t .from, b (t .row) (t .below) d); to = t .to }
+
+-- ---- row k goes on by t columns, in index order
+
+module _ (x : Nest) (ok : Accepted x) (source m₀ : List ℕ) (long : length m₀ ≡ cells x) (c : ℕ → ℕ) (w n : ℕ) (band : Band x c w n) where
+  moved : (ℕ → ℕ) → ℕ → ℕ → ℕ → ℕ
+  moved h k y j = pick (eqb j k) y (h j)
+
+  moved-same : (h : ℕ → ℕ) (k y : ℕ) → pick (eqb k k) y (h k) ≡ y
+  moved-same h k y = pick-true (eqb k k) y (h k) (eq-eqb k k refl)
+
+  moved-other : (h : ℕ → ℕ) (k y j : ℕ) → j ≢ k → pick (eqb j k) y (h j) ≡ h j
+  moved-other h k y j ne = pick-false (eqb j k) y (h j) (ne-eqb j k ne)
+
+  pub front-row : (m : List ℕ) (h : ℕ → ℕ) → Front x source m₀ c w n m h → (k : ℕ) → k < n → (s : ℕ) → s ≡ c k + h k → (t : ℕ) → h k + t ≤ w → ((j : ℕ) → j < k → h k + t ≤ h j)
+      → (h′ : ℕ → ℕ) → h′ k ≤ h k + t → ((j : ℕ) → j < n → j ≢ k → h′ j ≤ h j) → Front x source m₀ c w n (storeAll (value x source) m (rowOf s t)) h′
+  unfolding tabulate storeAll
+  front-row m h f k l s e zero i ahead h′ a b = front-same x ok source m₀ long c w n band m h f h′ (λ j q. go j q (ℕ-discrete j k))
+    where
+      go : (j : ℕ) → j < n → Dec (j ≡ k) → h′ j ≤ h j
+      go j q (yes z) = rw z (omega arith)
+      go j q (no z) = b j q z
+  front-row m h f k l s e (suc t) i ahead h′ a b =
+      let g : Front x source m₀ c w n (storeAll (value x source) m (rowOf s t)) (λ j. pick (eqb j k) (h k + t) (h j)) =
+      front-row m h f k l s e t (omega arith) (λ j q. omega (arith, ahead j q)) (λ j. pick (eqb j k) (h k + t) (h j)) (omega (arith, moved-same h k (h k + t))) (λ j q z. omega (arith, moved-other h k (h k + t) j z)) in
+      let p : s + t ≡ c k + (h k + t) = omega arith in
+      rw (store-row (value x source) m s t, p)
+      (front-store x ok source m₀ long c w n band (storeAll (value x source) m (rowOf s t)) (λ j. pick (eqb j k) (h k + t) (h j)) g k l (h k + t) (sym (moved-same h k (h k + t))) (omega arith)
+      (value x source (storeAll (value x source) m (rowOf s t)) (c k + (h k + t)))
+      (front-word x ok source m₀ long c w n band (storeAll (value x source) m (rowOf s t)) (λ j. pick (eqb j k) (h k + t) (h j)) g k l (h k + t) (sym (moved-same h k (h k + t))) (omega arith)
+      (λ j q. omega (arith, ahead j q, moved-other h k (h k + t) j (λ z. omega arith))))
+      h′ (omega arith) (λ j q z. omega (arith, b j q z, moved-other h k (h k + t) j z)))
+
+-- ---- a column of four rows, each one behind the row before it
+
+-- i rows of the column are stored
+unfoldable stage : ℕ → ℕ → ℕ → ℕ
+stage y i j = pick (ltb j i) (y + 1 - j) (y - j)
+
+stage-done : (y i j : ℕ) → j < i → stage y i j ≡ y + 1 - j
+unfolding stage
+stage-done y i j h = pick-true (ltb j i) (y + 1 - j) (y - j) (lt-ltb j i h)
+
+stage-not : (y i j : ℕ) → i ≤ j → stage y i j ≡ y - j
+unfolding stage
+stage-not y i j h = pick-false (ltb j i) (y + 1 - j) (y - j) (le-ltb j i h)
+
+module _ (x : Nest) (ok : Accepted x) (source m₀ : List ℕ) (long : length m₀ ≡ cells x) (c : ℕ → ℕ) (w : ℕ) (band : Band x c w 4) (m : List ℕ) (y : ℕ) (deep : 3 ≤ y) (wide : y < w) (f : Front x source m₀ c w 4 m (λ k. y - k)) where
+  words : (k : ℕ) → k < 4 → value x source m (c k + (y - k)) ≡ getD (storeAll (value x source) m₀ (rowsOf c w 4)) (c k + (y - k)) 0
+  words k l = front-word x ok source m₀ long c w 4 band m (λ k. y - k) f k l (y - k) refl (omega arith) (λ j q. omega arith)
+
+  next : (k : ℕ) → k < 4 → (m′ : List ℕ) → Front x source m₀ c w 4 m′ (stage y k) → (v : ℕ) → v ≡ value x source m (c k + (y - k)) → Front x source m₀ c w 4 (set m′ (c k + (y - k)) v) (stage y (suc k))
+  next k l m′ g v e =
+      front-store x ok source m₀ long c w 4 band m′ (stage y k) g k l (y - k) (sym (stage-not y k k (omega arith))) (omega arith) v (e ∙ words k l)
+      (stage y (suc k)) (omega (arith, stage-done y (suc k) k (omega arith))) (λ j q z. go j z (decLt j k))
+    where
+      go : (j : ℕ) → j ≢ k → Dec (j < k) → stage y (suc k) j ≤ stage y k j
+      go j z (yes d) = omega (arith, stage-done y (suc k) j (omega arith), stage-done y k j d)
+      go j z (no d) = omega (arith, stage-not y (suc k) j (omega arith), stage-not y k j (omega arith))
+
+  pub column-stored : (va vb vc vd : ℕ) → va ≡ value x source m (c 0 + y) → vb ≡ value x source m (c 1 + (y - 1)) → vc ≡ value x source m (c 2 + (y - 2)) → vd ≡ value x source m (c 3 + (y - 3))
+      → Front x source m₀ c w 4 (set (set (set (set m (c 0 + y) va) (c 1 + (y - 1)) vb) (c 2 + (y - 2)) vc) (c 3 + (y - 3)) vd) (λ k. y + 1 - k)
+  column-stored va vb vc vd ea eb ec ed =
+      let g = front-same x ok source m₀ long c w 4 band m (λ k. y - k) f (stage y 0) (λ k l. omega (arith, stage-not y 0 k (omega arith))) in
+      let z : y - 0 ≡ y = omega arith in
+      let ea′ : va ≡ value x source m (c 0 + (y - 0)) = rw z ea in
+      let g₁ : Front x source m₀ c w 4 (set m (c 0 + y) va) (stage y 1) = rw z at (next 0 (omega arith) m g va ea′) in
+      let g₂ = next 1 (omega arith) _ g₁ vb eb in
+      let g₃ = next 2 (omega arith) _ g₂ vc ec in
+      let g₄ = next 3 (omega arith) _ g₃ vd ed in
+      front-same x ok source m₀ long c w 4 band _ (stage y 4) g₄ (λ k. y + 1 - k) (λ k l. omega (arith, stage-done y 4 k l))
+
+-- ---- the wave, up to column y
+
+pub record Waving (x : Nest) (source memory₀ memory : List ℕ) (c : ℕ → ℕ) (from w y : ℕ) : Type 0 where
+  pub least : from ≤ y
+  pub most : y ≤ w
+  pub long : length memory ≡ length memory₀
+  pub on : (m₀ : List ℕ) → length m₀ ≡ cells x → Front x source m₀ c w 4 memory₀ (λ k. from - k) → Front x source m₀ c w 4 memory (λ k. y - k)
+
+module _ (x : Nest) (source memory₀ : List ℕ) (c : ℕ → ℕ) (from w : ℕ) where
+  pub waving-none : from ≤ w → Waving x source memory₀ memory₀ c from w from
+  waving-none h = record { least = omega arith; most = h; long = refl; on = λ m₀ l f. f }
+
+  module _ (memory : List ℕ) (y : ℕ) (s : Waving x source memory₀ memory c from w y) where
+    pub waving-more : Accepted x → (back weights : List ℕ) → Wave x c from w back weights → y < w → (va vb vc vd : ℕ)
+        → (va ≡ value x source memory (c 0 + y)) × ((vb ≡ value x source memory (c 1 + (y - 1))) × ((vc ≡ value x source memory (c 2 + (y - 2))) × (vd ≡ value x source memory (c 3 + (y - 3)))))
+        → Waving x source memory₀ (set (set (set (set memory (c 0 + y) va) (c 1 + (y - 1)) vb) (c 2 + (y - 2)) vc) (c 3 + (y - 3)) vd) c from w (y + 1)
+    waving-more ok back weights g h va vb vc vd e =
+        record {
+          least = omega (arith, s .least);
+          most = omega arith;
+          long = simp length-set (s .long);
+          on = λ m₀ l f. column-stored x ok source m₀ l c w (g .rows) memory y (omega (arith, g .three, s .least)) h (s .on m₀ l f) va vb vc vd (e .0) (e .1 .0) (e .1 .1 .0) (e .1 .1 .1);
+        }
+
+    pub waving-end : w ≤ y → Waved x source memory₀ memory c from w
+    waving-end h =
+        let z : y ≡ w = omega (arith, s .most) in
+        record { long = s .long; on = λ m₀ l f. rw z at (s .on m₀ l f) }
+
+module _ (x : Nest) (c : ℕ → ℕ) (from w y : ℕ) (back weights : List ℕ) (g : Wave x c from w back weights) (least : from ≤ y) (h : y < w) where
+  pub wave-low : (k : ℕ) → k < 4 → c k + (y - k) < cells x
+  wave-low k l = g .rows .low k (y - k) l (omega arith)
+
+  pub wave-full : Fulls x (c 0 + y) (c 1 + (y - 1)) (c 2 + (y - 2)) (c 3 + (y - 3)) back weights
+  wave-full =
+      record {
+        one = let z : y - 0 ≡ y = omega arith in rw z at (g .full 0 y (omega arith) least h);
+        two = g .full 1 y (omega arith) least h;
+        three = g .full 2 y (omega arith) least h;
+        last = g .full 3 y (omega arith) least h;
+      }
+
+-- ---- parts of a row
+
+module _ (x : Nest) (c a n : ℕ) (first back weights : List ℕ) (r : InRow x c a n first back weights) where
+  pub row-front : (t : ℕ) → t ≤ n → InRow x c a t first back weights
+  row-front t h = record { few = omega (arith, r .few); low = omega (arith, r .low); each = λ y k. r .each y (omega arith) }
+
+  pub row-rest : (s t : ℕ) → s + t ≤ n → InRow x (c + s) (a + s) t first back weights
+  row-rest s t h = record { few = omega (arith, r .few); low = omega (arith, r .low); each = λ y k. rw (add-assoc c s y, add-assoc a s y) (r .each (s + y) (omega arith)) }
+
+  -- where all distances read
+  pub row-full : ((e : ℕ) → e < x .distances → getD first e 0 ≤ a) → (y : ℕ) → y < n → Full x (c + y) back weights
+  row-full h y k =
+      record {
+        low = r .each y k .low;
+        weights-are = r .each y k .weights-are;
+        has = has;
+        backs = λ e l. r .each y k .backs e l (has e l);
+      }
+    where
+      has : (e : ℕ) → e < x .distances → hasRead x (c + y) e ≡ true
+      has e l = sym (r .each y k .firsts e l) ∙ le-leb (getD first e 0) (a + y) (omega (arith, h e l))
+
+-- ---- four rows
+
+pub each-four : (P : ℕ → Type 0) → P 0 → P 1 → P 2 → P 3 → (k : ℕ) → k < 4 → P k
+each-four P a b c d zero h = a
+each-four P a b c d (suc zero) h = b
+each-four P a b c d (suc (suc zero)) h = c
+each-four P a b c d (suc (suc (suc zero))) h = d
+each-four P a b c d (suc (suc (suc (suc k)))) h = absurd (omega arith)
+
+module _ (x : Nest) (ok : Accepted x) (c : ℕ → ℕ) (a from w : ℕ) (first back weights : List ℕ) (g : Banded x c a from w first back weights) where
+  pub band-wave : Wave x c from w back weights
+  band-wave =
+      record {
+        rows = g .rows;
+        three = g .three;
+        low = g .low;
+        full = λ k z l h i. full k z l h i;
+      }
+    where
+      full : (k z : ℕ) → k < 4 → from ≤ z → z < w → Full x (c k + (z - k)) back weights
+      full k z l h i =
+          let s : ℕ = from - 3 in
+          let p : c k + (from - 3) + (z - k - (from - 3)) ≡ c k + (z - k) = omega (arith, g .three) in
+          rw p at
+          (row-full x (c k + (from - 3)) (a + (from - 3)) (w - (from - 3)) first back weights (row-rest x (c k) a w first back weights (g .each k l) (from - 3) (w - (from - 3)) (omega (arith, g .low)))
+          (λ e q. omega (arith, g .reads e q, g .three)) (z - k - (from - 3)) (omega (arith, g .three, g .low)))
+
+  module _ (source m₀ : List ℕ) (long : length m₀ ≡ cells x) where
+    f : List ℕ → ℕ → ℕ
+    f = value x source
+
+    module _ (m : List ℕ) (h₀ h₁ h₂ h₃ : ℕ) (s : Front x source m₀ c w 4 m (four h₀ h₁ h₂ h₃)) (p t : ℕ) where
+      row-0 : p ≡ c 0 + h₀ → h₀ + t ≤ w → Front x source m₀ c w 4 (storeAll (value x source) m (rowOf p t)) (four (h₀ + t) h₁ h₂ h₃)
+      row-0 e i =
+          front-row x ok source m₀ long c w 4 (g .rows) m (four h₀ h₁ h₂ h₃) s 0 (omega arith) p e t i (λ j q. absurd (omega arith))
+          (four (h₀ + t) h₁ h₂ h₃) (omega arith) (each-four (λ j. j ≢ 0 → four (h₀ + t) h₁ h₂ h₃ j ≤ four h₀ h₁ h₂ h₃ j) (λ q. absurd (q refl)) (λ q. omega arith) (λ q. omega arith) (λ q. omega arith))
+
+      row-1 : p ≡ c 1 + h₁ → h₁ + t ≤ w → h₁ + t ≤ h₀ → Front x source m₀ c w 4 (storeAll (value x source) m (rowOf p t)) (four h₀ (h₁ + t) h₂ h₃)
+      row-1 e i a₀ =
+          front-row x ok source m₀ long c w 4 (g .rows) m (four h₀ h₁ h₂ h₃) s 1 (omega arith) p e t i
+          (λ j q. each-four (λ j. j < 1 → h₁ + t ≤ four h₀ h₁ h₂ h₃ j) (λ q. a₀) (λ q. absurd (omega arith)) (λ q. absurd (omega arith)) (λ q. absurd (omega arith)) j (omega arith) q)
+          (four h₀ (h₁ + t) h₂ h₃) (omega arith) (each-four (λ j. j ≢ 1 → four h₀ (h₁ + t) h₂ h₃ j ≤ four h₀ h₁ h₂ h₃ j) (λ q. omega arith) (λ q. absurd (q refl)) (λ q. omega arith) (λ q. omega arith))
+
+      row-2 : p ≡ c 2 + h₂ → h₂ + t ≤ w → h₂ + t ≤ h₀ → h₂ + t ≤ h₁ → Front x source m₀ c w 4 (storeAll (value x source) m (rowOf p t)) (four h₀ h₁ (h₂ + t) h₃)
+      row-2 e i a₀ a₁ =
+          front-row x ok source m₀ long c w 4 (g .rows) m (four h₀ h₁ h₂ h₃) s 2 (omega arith) p e t i
+          (λ j q. each-four (λ j. j < 2 → h₂ + t ≤ four h₀ h₁ h₂ h₃ j) (λ q. a₀) (λ q. a₁) (λ q. absurd (omega arith)) (λ q. absurd (omega arith)) j (omega arith) q)
+          (four h₀ h₁ (h₂ + t) h₃) (omega arith) (each-four (λ j. j ≢ 2 → four h₀ h₁ (h₂ + t) h₃ j ≤ four h₀ h₁ h₂ h₃ j) (λ q. omega arith) (λ q. omega arith) (λ q. absurd (q refl)) (λ q. omega arith))
+
+      row-3 : p ≡ c 3 + h₃ → h₃ + t ≤ w → h₃ + t ≤ h₀ → h₃ + t ≤ h₁ → h₃ + t ≤ h₂ → Front x source m₀ c w 4 (storeAll (value x source) m (rowOf p t)) (four h₀ h₁ h₂ (h₃ + t))
+      row-3 e i a₀ a₁ a₂ =
+          front-row x ok source m₀ long c w 4 (g .rows) m (four h₀ h₁ h₂ h₃) s 3 (omega arith) p e t i
+          (λ j q. each-four (λ j. j < 3 → h₃ + t ≤ four h₀ h₁ h₂ h₃ j) (λ q. a₀) (λ q. a₁) (λ q. a₂) (λ q. absurd (omega arith)) j (omega arith) q)
+          (four h₀ h₁ h₂ (h₃ + t)) (omega arith) (each-four (λ j. j ≢ 3 → four h₀ h₁ h₂ (h₃ + t) j ≤ four h₀ h₁ h₂ h₃ j) (λ q. omega arith) (λ q. omega arith) (λ q. omega arith) (λ q. absurd (q refl)))
+
+    pub band-stored : (m₁ m₂ m₃ m₄ m₅ m₆ m₇ m₈ : List ℕ) → m₁ ≡ storeAll (value x source) m₀ (rowOf (c 0) from) → m₂ ≡ storeAll (value x source) m₁ (rowOf (c 1) (from - 1))
+        → m₃ ≡ storeAll (value x source) m₂ (rowOf (c 2) (from - 2)) → m₄ ≡ storeAll (value x source) m₃ (rowOf (c 3) (from - 3)) → Waved x source m₄ m₅ c from w
+        → m₆ ≡ storeAll (value x source) m₅ (rowOf (c 1 + (w - 1)) 1) → m₇ ≡ storeAll (value x source) m₆ (rowOf (c 2 + (w - 2)) 2) → m₈ ≡ storeAll (value x source) m₇ (rowOf (c 3 + (w - 3)) 3)
+        → m₈ ≡ storeAll (value x source) m₀ (rowsOf c w 4)
+    band-stored m₁ m₂ m₃ m₄ m₅ m₆ m₇ m₈ e₁ e₂ e₃ e₄ wave e₆ e₇ e₈ =
+        let q = g .three in
+        let r = g .low in
+        let s₀ : Front x source m₀ c w 4 m₀ (four 0 0 0 0) = front-start x ok source m₀ long c w 4 (g .rows) (four 0 0 0 0) (each-four (λ k. four 0 0 0 0 k ≡ 0) refl refl refl refl) in
+        let s₁ : Front x source m₀ c w 4 m₁ (four (0 + from) 0 0 0) = rw e₁ (row-0 m₀ 0 0 0 0 s₀ (c 0) from (omega arith) (omega arith)) in
+        let s₂ : Front x source m₀ c w 4 m₂ (four (0 + from) (0 + (from - 1)) 0 0) = rw e₂ (row-1 m₁ (0 + from) 0 0 0 s₁ (c 1) (from - 1) (omega arith) (omega arith) (omega arith)) in
+        let s₃ : Front x source m₀ c w 4 m₃ (four (0 + from) (0 + (from - 1)) (0 + (from - 2)) 0) = rw e₃ (row-2 m₂ (0 + from) (0 + (from - 1)) 0 0 s₂ (c 2) (from - 2) (omega arith) (omega arith) (omega arith) (omega arith)) in
+        let s₄ : Front x source m₀ c w 4 m₄ (four (0 + from) (0 + (from - 1)) (0 + (from - 2)) (0 + (from - 3))) =
+        rw e₄ (row-3 m₃ (0 + from) (0 + (from - 1)) (0 + (from - 2)) 0 s₃ (c 3) (from - 3) (omega arith) (omega arith) (omega arith) (omega arith) (omega arith)) in
+        let s₅ : Front x source m₀ c w 4 m₅ (λ k. w - k) =
+        wave .on m₀ long
+        (front-same x ok source m₀ long c w 4 (g .rows) m₄ _ s₄ (λ k. from - k)
+        (each-four (λ k. from - k ≤ four (0 + from) (0 + (from - 1)) (0 + (from - 2)) (0 + (from - 3)) k) (omega arith) (omega arith) (omega arith) (omega arith))) in
+        let s₅′ : Front x source m₀ c w 4 m₅ (four w (w - 1) (w - 2) (w - 3)) =
+        front-same x ok source m₀ long c w 4 (g .rows) m₅ (λ k. w - k) s₅ (four w (w - 1) (w - 2) (w - 3))
+        (each-four (λ k. four w (w - 1) (w - 2) (w - 3) k ≤ w - k) (omega arith) (omega arith) (omega arith) (omega arith)) in
+        let s₆ : Front x source m₀ c w 4 m₆ (four w (w - 1 + 1) (w - 2) (w - 3)) = rw e₆ (row-1 m₅ w (w - 1) (w - 2) (w - 3) s₅′ (c 1 + (w - 1)) 1 refl (omega arith) (omega arith)) in
+        let s₇ : Front x source m₀ c w 4 m₇ (four w (w - 1 + 1) (w - 2 + 2) (w - 3)) = rw e₇ (row-2 m₆ w (w - 1 + 1) (w - 2) (w - 3) s₆ (c 2 + (w - 2)) 2 refl (omega arith) (omega arith) (omega arith)) in
+        let s₈ : Front x source m₀ c w 4 m₈ (four w (w - 1 + 1) (w - 2 + 2) (w - 3 + 3)) = rw e₈ (row-3 m₇ w (w - 1 + 1) (w - 2 + 2) (w - 3) s₇ (c 3 + (w - 3)) 3 refl (omega arith) (omega arith) (omega arith) (omega arith)) in
+        front-end x ok source m₀ long c w 4 (g .rows) m₈ _ s₈ (each-four (λ k. w ≤ four w (w - 1 + 1) (w - 2 + 2) (w - 3 + 3) k) (omega arith) (omega arith) (omega arith) (omega arith))
+
+-- stores keep the length
+pub kept : (f : List ℕ → ℕ → ℕ) (m m′ cs : List ℕ) (n : ℕ) → length m ≡ n → m′ ≡ storeAll f m cs → length m′ ≡ n
+kept f m m′ cs n l e = ap length e ∙ store-length f cs m ∙ l
