@@ -118,7 +118,7 @@ pub fn product(counts: [usize; 4], left: usize) -> usize
     product_of(&counts, left)
 }
 
-// The one place where a component is divided by a tile length.
+// A component's tile and its place there: the one division of a component. (The reader divides a length, to count tiles for line 8.)
 fn split(component: usize, length: usize) -> Divided
     requires { ⌜ (component < 1024) × (1 ≤ length) ⌝ }
     ensures { λ r. ⌜ Splits component length r ⌝ }
