@@ -17,9 +17,11 @@ unfoldable pub figureWords : Plan → List ℕ
 figureWords p = p .tiles ∷ count p ∷ words p ∷ total p ∷ []
 
 -- lines 1 to 8, then 9 where not four words are lent
+abbrev pub summaryCallLines : List ℕ → List ℕ → List Line
+summaryCallLines bytes out = readLines bytes ++ (line 9 (not (eqb (length out) 4)) ∷ [])
+
 unfoldable pub summaryCall : List ℕ → List ℕ → Answered (List ℕ)
-summaryCall bytes out =
-    answered (firstOf (readLines bytes ++ (line 9 (not (eqb (length out) 4)) ∷ []))) (figureWords (recipe bytes)) out
+summaryCall bytes out = answered (firstOf (summaryCallLines bytes out)) (figureWords (recipe bytes)) out
 
 -- sending tile, taking tile, sending processor, taking processor, words
 unfoldable pub lineWords : Plan → ℕ → List ℕ
@@ -27,8 +29,9 @@ lineWords p m =
     senderOf p m ∷ takerOf p m ∷ p .processorOf (senderOf p m) ∷ p .processorOf (takerOf p m) ∷ length (heldBy p m) ∷ []
 
 -- lines 1 to 8, then 9 where not five words are lent, then 11
+abbrev pub messageCallLines : List ℕ → ℕ → List ℕ → List Line
+messageCallLines bytes m out =
+    readLines bytes ++ (line 9 (not (eqb (length out) 5)) ∷ line 11 (not (ltb m (count (recipe bytes)))) ∷ [])
+
 unfoldable pub messageCall : List ℕ → ℕ → List ℕ → Answered (List ℕ)
-messageCall bytes m out =
-    answered
-    (firstOf (readLines bytes ++ (line 9 (not (eqb (length out) 5)) ∷ line 11 (not (ltb m (count (recipe bytes)))) ∷ [])))
-    (lineWords (recipe bytes) m) out
+messageCall bytes m out = answered (firstOf (messageCallLines bytes m out)) (lineWords (recipe bytes) m) out

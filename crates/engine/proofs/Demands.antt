@@ -1,14 +1,14 @@
 -- The three demands hold: of the calls' definitions, and of every run of them.
-use Prim.Native.Nat.{ℕ, _≤_, _<_}
+use Prim.Native.Nat.{ℕ, zero, suc, _<_}
 use mathlib.Core.Path.{_≡_, refl, sym, ap, _∙_}
-use mathlib.Core.Bool.{Bool, true, false}
+use mathlib.Core.Logic.{_≢_}
+use mathlib.Core.Bool.{true}
 use mathlib.Core.List.{List, [], _∷_, _++_}
-use native.Mathlib.Omega.{arith}
 use lib.ListN.{length}
 use borrow.Author.Tests.{eq-eqb, ne-eqb}
-use Rattle.base.specs.Tests.{pick}
-use Rattle.base.specs.Numbers.{Line, line, firstOf}
+use Rattle.base.specs.Numbers.{Line, firstOf}
 use Rattle.base.proofs.Tests.{and-true, pick-true, pick-false}
+use Rattle.base.proofs.Numbers.{first-own}
 use Rattle.machine.specs.Plan.{Plan, Message, Sound, count, heldBy}
 use Rattle.machine.specs.Machine as machine
 use Rattle.machine.specs.Machine.{State, Answered, answered, turn, deliver, collect, fresh}
@@ -19,7 +19,7 @@ use Rattle.machine.proofs.Along.{run-inv, next-inv}
 use Rattle.machine.proofs.Theorem.{theorem}
 use Rattle.machine.proofs.Values.{sweep-fixed}
 use Rattle.base.specs.Lists.{Rising, Bytes}
-use Rattle.nest.specs.Nest.{nestOf, readLines, nestLines}
+use Rattle.nest.specs.Nest.{nestOf, readLines}
 use Rattle.nest.proofs.Accepted.{Accepted}
 use Rattle.nest.specs.Nest.{cells}
 use Rattle.nest.proofs.Facts.{accepted}
@@ -30,7 +30,9 @@ use Rattle.plan.proofs.Slots.{message-slot}
 use Rattle.plan.proofs.Sound.{sound}
 use Rattle.plan.proofs.Report.{report-agrees}
 use Rattle.plan.proofs.Exact.{exact}
-use Rattle.engine.specs.Calls.{recipe, areas, areaLines, freshCall, turnCall, deliverCall, collectCall, sweepCall}
+use Rattle.plan.specs.Rows.{figures, figuresIf}
+use Rattle.table.specs.Summary.{asFigures, figuresOf, noFigures, summaryOf, lineOf, noLine, messageLines, lineIf, messageLineOf}
+use Rattle.engine.specs.Calls.{answer, recipe, areas, freshCall, turnCall, deliverCall, collectCall, sweepCall}
 use Rattle.engine.proofs.Lines.{areas-are}
 use Rattle.engine.proofs.AsSteps.{turn-is, deliver-is, collect-is, fresh-gave}
 use Rattle.engine.proofs.Exact.{does, written}
@@ -38,46 +40,61 @@ use Rattle.engine.specs.Demands.{Fixed, Demand1, Demand2, calls, Demands
 
 -- ---- demand 1
 
--- every line of the table has a number from 1 to 15
-abbrev InTable : List Line → Type 0
-InTable [] = Unit {0}
-InTable (l ∷ ls) = (l .number ≤ 15) × InTable ls
-
-first-most : (ls : List Line) → InTable ls → firstOf ls ≤ 15
-unfolding firstOf pick
-first-most [] h = omega arith
-first-most (l ∷ ls) h = go (l .holds) (first-most ls (h .1))
-  where
-    go : (t : Bool) → firstOf ls ≤ 15 → pick t (l .number) (firstOf ls) ≤ 15
-    go true r = h .0
-    go false r = r
-
-in-both : (a b : List Line) → InTable a → InTable b → InTable (a ++ b)
-in-both [] b h k = k
-in-both (l ∷ a) b h k = (h .0, in-both a b (h .1) k)
-
-read-in : (bytes : List ℕ) → InTable (readLines bytes)
-unfolding readLines nestLines
-read-in bytes = (omega arith, (omega arith, (omega arith, (omega arith, (omega arith, (omega arith, (omega arith, (omega arith, tt))))))))
-
 module _ {A : Type 0} (ls : List Line) (new old : A) where
-  fixed : InTable ls → Fixed (answered (firstOf ls) new old) new old
-  fixed h =
+  fixed : Fixed (answered (firstOf ls) new old) ls new old
+  fixed =
       record {
+        first = refl;
+        own = first-own ls;
         works = λ z. pick-true _ new old (eq-eqb (firstOf ls) 0 z);
         refuses = λ z. pick-false _ new old (ne-eqb (firstOf ls) 0 z);
-        number = first-most ls h;
       }
+
+-- a call that tells what `tells` says of its number
+module _ {A : Type 0} (ls : List Line) (number : A → ℕ) (tells : ℕ → A) (done : A) (none : ℕ → A) where
+  told : ((n : ℕ) → number (tells n) ≡ n) → (tells 0 ≡ done) → ((n : ℕ) → tells (suc n) ≡ none (suc n))
+      → Fixed (answer (number (tells (firstOf ls))) (tells (firstOf ls))) ls done (none (number (tells (firstOf ls))))
+  told is yes-told no-told =
+      record {
+        first = is (firstOf ls);
+        own = rw (is (firstOf ls)) (first-own ls);
+        works = λ z. ap tells (sym (is (firstOf ls)) ∙ z) ∙ yes-told;
+        refuses = λ z. rw (is (firstOf ls)) (go (firstOf ls) (λ e. z (is (firstOf ls) ∙ e)));
+      }
+    where
+      go : (n : ℕ) → n ≢ 0 → tells n ≡ none n
+      go zero h = absurd (h refl)
+      go (suc n) h = no-told n
+
+summary : (bytes : List ℕ)
+    → Fixed (answer (summaryOf bytes .number) (summaryOf bytes)) (readLines bytes) (figuresOf (recipe bytes)) (noFigures (summaryOf bytes .number))
+unfolding summaryOf figures figuresIf
+summary bytes = told (readLines bytes) (λ f. f .number) (λ n. asFigures (figuresIf n (recipe bytes))) _ noFigures (λ n. is n) refl (λ n. refl)
+  where
+    is : (n : ℕ) → figuresIf n (recipe bytes) .number ≡ n
+    is zero = refl
+    is (suc n) = refl
+
+message : (bytes : List ℕ) (m : ℕ)
+    → Fixed (answer (messageLineOf bytes m .number) (messageLineOf bytes m)) (messageLines bytes m) (lineOf (recipe bytes) m) (noLine (messageLineOf bytes m .number))
+unfolding messageLineOf lineIf
+message bytes m = told (messageLines bytes m) (λ f. f .number) (λ n. lineIf n (recipe bytes) m) _ noLine (λ n. is n) refl (λ n. refl)
+  where
+    is : (n : ℕ) → lineIf n (recipe bytes) m .number ≡ n
+    is zero = refl
+    is (suc n) = refl
 
 demand1 : (bytes source : List ℕ) (s : State) → Demand1 bytes source s
 unfolding freshCall turnCall deliverCall collectCall sweepCall
 demand1 bytes source s =
     record {
-      fresh = fixed (readLines bytes ++ areaLines (recipe bytes) source s) _ s (in-both (readLines bytes) _ (read-in bytes) (omega arith, tt));
-      turn = λ b. fixed _ _ s (in-both (readLines bytes) _ (read-in bytes) (omega arith, (omega arith, (omega arith, (omega arith, (omega arith, tt))))));
-      deliver = λ m. fixed _ _ s (in-both (readLines bytes) _ (read-in bytes) (omega arith, (omega arith, (omega arith, (omega arith, tt)))));
-      collect = λ grid. fixed _ _ grid (in-both (readLines bytes) _ (read-in bytes) (omega arith, (omega arith, (omega arith, tt))));
-      sweep = λ grid. fixed _ _ grid (in-both (readLines bytes) _ (read-in bytes) (omega arith, tt));
+      fresh = fixed _ _ s;
+      turn = λ b. fixed _ _ s;
+      deliver = λ m. fixed _ _ s;
+      collect = λ grid. fixed _ _ grid;
+      sweep = λ grid. fixed _ _ grid;
+      summary = summary bytes;
+      message = message bytes;
     }
 
 -- ---- demand 3

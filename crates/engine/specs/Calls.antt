@@ -32,34 +32,42 @@ areas p source s =
 abbrev pub areaLines : Plan → List ℕ → State → List Line
 areaLines p source s = line 9 (not (areas p source s)) ∷ []
 
+-- ---- each call: its lines, and what it does where none holds
+
+abbrev pub freshCallLines : List ℕ → List ℕ → State → List Line
+freshCallLines bytes source s = readLines bytes ++ areaLines (recipe bytes) source s
+
 -- document 01: a fresh start
 unfoldable pub freshCall : List ℕ → List ℕ → State → Answered State
-freshCall bytes source s =
-    answered (firstOf (readLines bytes ++ areaLines (recipe bytes) source s)) (machine.fresh (recipe bytes)) s
+freshCall bytes source s = answered (firstOf (freshCallLines bytes source s)) (machine.fresh (recipe bytes)) s
+
+abbrev pub turnCallLines : List ℕ → List ℕ → State → ℕ → List Line
+turnCallLines bytes source s b = readLines bytes ++ (areaLines (recipe bytes) source s ++ turnLines (recipe bytes) s b)
 
 unfoldable pub turnCall : List ℕ → List ℕ → State → ℕ → Answered State
 turnCall bytes source s b =
-    answered (firstOf (readLines bytes ++ (areaLines (recipe bytes) source s ++ turnLines (recipe bytes) s b)))
-    (carryOut (recipe bytes) source s b (nextAction (recipe bytes) s b)) s
+    answered (firstOf (turnCallLines bytes source s b)) (carryOut (recipe bytes) source s b (nextAction (recipe bytes) s b)) s
+
+abbrev pub deliverCallLines : List ℕ → List ℕ → State → ℕ → List Line
+deliverCallLines bytes source s m = readLines bytes ++ (areaLines (recipe bytes) source s ++ deliverLines (recipe bytes) s m)
 
 unfoldable pub deliverCall : List ℕ → List ℕ → State → ℕ → Answered State
 deliverCall bytes source s m =
-    answered (firstOf (readLines bytes ++ (areaLines (recipe bytes) source s ++ deliverLines (recipe bytes) s m)))
-    (stateOf (s .memories) (s .buffer) (s .progress) (set (s .status) m 2)) s
+    answered (firstOf (deliverCallLines bytes source s m)) (stateOf (s .memories) (s .buffer) (s .progress) (set (s .status) m 2)) s
 
 -- collecting is lent the grid too, one word a cell
+abbrev pub collectCallLines : List ℕ → List ℕ → State → List ℕ → List Line
+collectCallLines bytes source s grid =
+    readLines bytes
+    ++ (line 9 (not (areas (recipe bytes) source s and eqb (length grid) (recipe bytes .cells))) ∷ collectLines (recipe bytes) s)
+
 unfoldable pub collectCall : List ℕ → List ℕ → State → List ℕ → Answered (List ℕ)
-collectCall bytes source s grid =
-    answered
-    (firstOf
-    (readLines bytes
-    ++ (line 9 (not (areas (recipe bytes) source s and eqb (length grid) (recipe bytes .cells))) ∷ collectLines (recipe bytes) s)))
-    (collected (recipe bytes) s) grid
+collectCall bytes source s grid = answered (firstOf (collectCallLines bytes source s grid)) (collected (recipe bytes) s) grid
 
 -- the sequential sweep is lent the source and the grid alone
+abbrev pub sweepCallLines : List ℕ → List ℕ → List ℕ → List Line
+sweepCallLines bytes source grid =
+    readLines bytes ++ (line 9 (not (eqb (length source) (recipe bytes .cells) and eqb (length grid) (recipe bytes .cells))) ∷ [])
+
 unfoldable pub sweepCall : List ℕ → List ℕ → List ℕ → Answered (List ℕ)
-sweepCall bytes source grid =
-    answered
-    (firstOf
-    (readLines bytes ++ (line 9 (not (eqb (length source) (recipe bytes .cells) and eqb (length grid) (recipe bytes .cells))) ∷ [])))
-    (machine.sweep (recipe bytes) source) grid
+sweepCall bytes source grid = answered (firstOf (sweepCallLines bytes source grid)) (machine.sweep (recipe bytes) source) grid

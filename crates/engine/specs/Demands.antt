@@ -1,36 +1,51 @@
 -- The three demands, for a recipe's bytes, made of the definitions in Calls; each call's contract equates the call with them.
--- Renders the customer's demands 1, 2 and 3 and document 01's "Conditions of acceptance"; proofs/Demands proves `Demands`.
-use Prim.Native.Nat.{ℕ, _≤_, _<_}
+-- Renders the customer's demands 1, 2 and 3 and document 01's "Conditions of acceptance".
+use Prim.Native.Nat.{ℕ, _<_}
 use mathlib.Core.Path.{_≡_}
-use mathlib.Core.Logic.{_≢_}
+use mathlib.Core.Logic.{_⊎_, _≢_}
 use mathlib.Core.List.{List}
 use lib.ListN.{length, getD, set}
-use Rattle.base.specs.Lists.{In, Rising}
-use Rattle.base.specs.Numbers.{firstOf}
+use Rattle.base.specs.Lists.{In, Rising, Bytes}
+use Rattle.base.specs.Numbers.{Line, firstOf, numbersOf}
 use Rattle.machine.specs.Plan.{count, heldBy, duesOf}
 use Rattle.machine.specs.Machine as machine
 use Rattle.machine.specs.Machine.{State, Answered, stateOf, gather, carryOut, nextAction, collected}
 use Rattle.machine.specs.Words.{wordAt, mailAt, cellOf, Does}
 use Rattle.machine.specs.Runs.{Event, turnOf, deliveryOf, Demand3}
-use Rattle.base.specs.Lists.{Bytes}
 use Rattle.nest.specs.Nest.{nestOf, readLines}
 use Rattle.plan.specs.Report.{ReportAgrees}
 use Rattle.plan.specs.Exact.{Exact, sequential, runNest}
-use Rattle.engine.specs.Calls.{recipe, freshCall, turnCall, deliverCall, collectCall, sweepCall}
+use Rattle.table.specs.Summary.{figuresOf, noFigures, summaryOf, lineOf, noLine, messageLines, messageLineOf}
+use Rattle.engine.specs.Calls.{answer, recipe, freshCallLines, freshCall, turnCallLines, turnCall, deliverCallLines, deliverCall, collectCallLines, collectCall, sweepCallLines, sweepCall}
 
--- a call does its work, or gives one number and leaves every lent word as before
-pub record Fixed {A : Type 0} (call : Answered A) (done before : A) : Type 0 where
+-- a call gives the number of its first true line, one of its own; it does its work, or leaves every lent word as before
+pub record Fixed {A : Type 0} (call : Answered A) (lines : List Line) (done before : A) : Type 0 where
+  pub first : call .number ≡ firstOf lines
+  pub own : (call .number ≡ 0) ⊎ In (call .number) (numbersOf lines)
   pub works : call .number ≡ 0 → call .after ≡ done
   pub refuses : call .number ≢ 0 → call .after ≡ before
-  pub number : call .number ≤ 15
 
--- demand 1: every call, on every recipe, lent area and event
+-- demand 1: every call, on every recipe, lent area and event. Its weight lies in the contracts of src/lib.rt and of crates/table:
+-- each equates what is answered, and every lent word at exit, with one of these definitions, for every input, and none has a
+-- `requires`; that a call ends, and does nothing undefined, the language asks of every function.
 pub record Demand1 (bytes source : List ℕ) (s : State) : Type 0 where
-  pub fresh : Fixed (freshCall bytes source s) (machine.fresh (recipe bytes)) s
-  pub turn : (b : ℕ) → Fixed (turnCall bytes source s b) (carryOut (recipe bytes) source s b (nextAction (recipe bytes) s b)) s
-  pub deliver : (m : ℕ) → Fixed (deliverCall bytes source s m) (stateOf (s .memories) (s .buffer) (s .progress) (set (s .status) m 2)) s
-  pub collect : (grid : List ℕ) → Fixed (collectCall bytes source s grid) (collected (recipe bytes) s) grid
-  pub sweep : (grid : List ℕ) → Fixed (sweepCall bytes source grid) (machine.sweep (recipe bytes) source) grid
+  pub fresh : Fixed (freshCall bytes source s) (freshCallLines bytes source s) (machine.fresh (recipe bytes)) s
+  pub turn : (b : ℕ)
+      → Fixed (turnCall bytes source s b) (turnCallLines bytes source s b)
+      (carryOut (recipe bytes) source s b (nextAction (recipe bytes) s b)) s
+  pub deliver : (m : ℕ)
+      → Fixed (deliverCall bytes source s m) (deliverCallLines bytes source s m)
+      (stateOf (s .memories) (s .buffer) (s .progress) (set (s .status) m 2)) s
+  pub collect : (grid : List ℕ)
+      → Fixed (collectCall bytes source s grid) (collectCallLines bytes source s grid) (collected (recipe bytes) s) grid
+  pub sweep : (grid : List ℕ)
+      → Fixed (sweepCall bytes source grid) (sweepCallLines bytes source grid) (machine.sweep (recipe bytes) source) grid
+  -- these two are lent nothing to write: what they tell beside the number is 0 at a refusal
+  pub summary : Fixed (answer (summaryOf bytes .number) (summaryOf bytes)) (readLines bytes)
+      (figuresOf (recipe bytes)) (noFigures (summaryOf bytes .number))
+  pub message : (m : ℕ)
+      → Fixed (answer (messageLineOf bytes m .number) (messageLineOf bytes m)) (messageLines bytes m)
+      (lineOf (recipe bytes) m) (noLine (messageLineOf bytes m .number))
 
 -- demand 2: schedule, message cell sets and sequential sweep are the report's; sets exact, not empty, in index order
 pub record Demand2 (bytes : List ℕ) : Type 0 where

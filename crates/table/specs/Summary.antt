@@ -11,7 +11,7 @@ use Rattle.machine.specs.Runs.{total}
 use Rattle.nest.specs.Nest.{readLines, nestOf}
 use Rattle.plan.specs.Messages.{planOf}
 use Rattle.plan.specs.Rows as rows
-use Rattle.plan.specs.Rows.{accepted, figures}
+use Rattle.plan.specs.Rows.{accepted, refused, figures}
 use Rattle.table.specs.declared.Figures.{Figures}
 use Rattle.table.specs.declared.MessageLine.{MessageLine}
 
@@ -21,6 +21,9 @@ asFigures f = record { number = f .number; tiles = f .tiles; messages = f .messa
 
 abbrev pub figuresOf : Plan → Figures
 figuresOf p = asFigures (accepted (p .tiles) (count p) (words p) (total p))
+
+abbrev pub noFigures : ℕ → Figures
+noFigures n = asFigures (refused n)
 
 unfoldable pub summaryOf : List ℕ → Figures
 summaryOf bytes = asFigures (figures bytes)
