@@ -1,3 +1,3 @@
 pub mod Shared
-pub mod Demands
+pub mod OverRecords
 pub mod PlanCalls

@@ -39,7 +39,7 @@ module _ (l source : List ℕ) (s : State) (z : firstOf (readLines l) ≡ 0) (a 
       (and-right (areas (recipe l) source s) (eqb (length grid) (recipe l .cells)) (eq-eqb _ _ h))
       ∙ ap (λ (n : ℕ). answered n (collected (recipe l) s) grid) (behind (collectLines (recipe l) s))
 
-front : (a b : List Line) → firstOf (a ++ b) ≡ 0 → firstOf a ≡ 0
+pub front : (a b : List Line) → firstOf (a ++ b) ≡ 0 → firstOf a ≡ 0
 front a b e = go (ℕ-discrete (firstOf a) 0)
   where
     go : Dec (firstOf a ≡ 0) → firstOf a ≡ 0

@@ -41,7 +41,7 @@ use Rattle.engine.specs.Demands.{Fixed, Demand1, Demand2, calls, Demands
 -- ---- demand 1
 
 module _ {A : Type 0} (ls : List Line) (new old : A) where
-  fixed : Fixed (answered (firstOf ls) new old) ls new old
+  pub fixed : Fixed (answered (firstOf ls) new old) ls new old
   fixed =
       record {
         first = refl;

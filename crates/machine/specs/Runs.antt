@@ -1,5 +1,5 @@
 -- Runs: events, their answers, the steps among them, what each step did; and demand 3, one claim about the whole list.
--- Renders document 01, "Runs", and its third demand; proofs/ proves the claim for every sound plan, source and list of events.
+-- Renders document 01, "Runs", and the customer's demand 3.
 use Prim.Native.Nat.{ℕ, zero, suc, _+_, _*_, _≤_, _<_}
 use mathlib.Core.Path.{_≡_}
 use mathlib.Core.Bool.{Bool, true, false}

@@ -1,0 +1,218 @@
+-- The demands hold of the calls as exported, board records as structs.
+use Prim.Native.Nat.{ℕ, _+_, _*_}
+use mathlib.Core.Path.{_≡_, refl, sym, ap, subst, _∙_}
+use mathlib.Core.Bool.{Bool, true, false}
+use mathlib.Core.List.{List, [], _∷_}
+use native.Mathlib.Omega.{arith}
+use lib.ListN.{length, set, replicate, length-set, length-replicate}
+use lib.Dec.{eqb}
+use borrow.Author.Tests.{eqb-true}
+use Rattle.base.specs.Tests.{_and_, not, pick}
+use Rattle.base.specs.Lists.{Bytes}
+use Rattle.base.specs.Numbers.{Line, line}
+use Rattle.base.proofs.Tests.{both, true-not}
+use Rattle.base.proofs.Numbers.{none-first, first-behind}
+use Rattle.machine.specs.Plan.{Plan}
+use Rattle.machine.specs.Machine as machine
+use Rattle.machine.specs.Machine.{State, Answered, stateOf, setProgress, afterSends, Action, gather, calculate, send, carryOut, collectLines}
+use Rattle.machine.specs.Runs.{Event, turnOf, deliveryOf, stateAfter, answersTo, Demand3}
+use Rattle.machine.proofs.RunLaws.{number-of, after-of}
+use Rattle.nest.specs.Nest.{readLines}
+use Rattle.engine.specs.Calls.{answer, recipe, areas, freshCall, turnCall, deliverCall, collectCall}
+use Rattle.engine.specs.Demands.{Fixed, calls}
+use Rattle.engine.proofs.Lines.{numbered}
+use Rattle.engine.proofs.AsSteps.{front}
+use Rattle.engine.proofs.Demands as engine
+use Rattle.records.specs.declared.Progress.{Progress}
+use Rattle.records.specs.Records.{flatWords}
+use Rattle.records.proofs.Words.{length-words, unflat, words-unflat, injective}
+use Rattle.calls.specs.PlanCalls.{summaryCall, messageCall}
+use Rattle.calls.specs.OverRecords.{Areas, inWords, FreshGave, EventGave, CollectGave, EventsGave, FixedAreas, FixedCalls, FixedRun, OverRecords}
+
+-- ---- the words after a call are records' words
+
+-- words of whole records
+abbrev Whole : List ℕ → Type 0
+Whole l = (n : ℕ) × (length l ≡ 3 * n)
+
+areasOf : State → Areas
+areasOf s = record { memories = s .memories; buffer = s .buffer; progress = unflat (s .progress); status = s .status }
+
+back : (l : List ℕ) → Whole l → flatWords (unflat l) ≡ l
+back l (n, e) = words-unflat n l e
+
+in-words : (s : State) → Whole (s .progress) → inWords (areasOf s) ≡ s
+unfolding areasOf
+in-words s w = ap (λ (l : List ℕ). stateOf (s .memories) (s .buffer) l (s .status)) (back (s .progress) w)
+
+length-progress : (l : List ℕ) (b i j k : ℕ) → length (setProgress l b i j k) ≡ length l
+unfolding setProgress
+length-progress l b i j k =
+    length-set (set (set l (3 * b) i) (3 * b + 1) j) (3 * b + 2) k ∙ length-set (set l (3 * b) i) (3 * b + 1) j ∙ length-set l (3 * b) i
+
+picked : (t : Bool) (a b l : List ℕ) → length a ≡ length l → length b ≡ length l → length (pick t a b) ≡ length l
+unfolding pick
+picked true a b l e f = e
+picked false a b l e f = f
+
+length-sends : (p : Plan) (s : State) (b t n : ℕ) → length (afterSends p s b t n) ≡ length (s .progress)
+unfolding afterSends
+length-sends p s b t n = picked _ _ _ (s .progress) (length-progress (s .progress) b _ _ _) (length-progress (s .progress) b _ _ _)
+
+length-carry : (p : Plan) (source : List ℕ) (s : State) (b : ℕ) (a : Action) → length (carryOut p source s b a .progress) ≡ length (s .progress)
+unfolding carryOut
+length-carry p source s b (gather t) = length-progress (s .progress) b _ _ _
+length-carry p source s b (calculate t) = length-sends p s b t 0
+length-carry p source s b (send m) = length-sends p s b _ _
+
+whole-pick : (t : Bool) (a b : State) → Whole (a .progress) → Whole (b .progress) → Whole (pick t a b .progress)
+unfolding pick
+whole-pick true a b v w = v
+whole-pick false a b v w = w
+
+module _ (bytes source : List ℕ) (a : Areas) where
+  whole : Whole (flatWords (a .progress))
+  whole = (length (a .progress), length-words (a .progress))
+
+  whole-fresh : Whole (freshCall bytes source (inWords a) .after .progress)
+  unfolding freshCall machine.fresh
+  whole-fresh = whole-pick _ _ (inWords a) (recipe bytes .processors, length-replicate {A = ℕ} (3 * recipe bytes .processors) 0) whole
+
+  whole-call : (e : Event) → Whole (calls bytes source (inWords a) e .after .progress)
+  unfolding calls turnCall deliverCall
+  whole-call (turnOf b) =
+      whole-pick _ _ (inWords a) (length (a .progress), length-carry (recipe bytes) source (inWords a) b _ ∙ length-words (a .progress)) whole
+  whole-call (deliveryOf m) = whole-pick _ _ (inWords a) whole whole
+
+-- ---- demand 1
+
+areas-fixed : (a b : Areas) → inWords a ≡ inWords b → a ≡ b
+areas-fixed a b e =
+    ap (λ (l : List ℕ). at l (a .buffer) (a .progress) (a .status)) (ap (λ (s : State). s .memories) e)
+    ∙ ap (λ (l : List ℕ). at (b .memories) l (a .progress) (a .status)) (ap (λ (s : State). s .buffer) e)
+    ∙ ap (λ (l : List Progress). at (b .memories) (b .buffer) l (a .status)) (injective (a .progress) (b .progress) (ap (λ (s : State). s .progress) e))
+    ∙ ap (λ (l : List ℕ). at (b .memories) (b .buffer) (b .progress) l) (ap (λ (s : State). s .status) e)
+  where
+    at : List ℕ → List ℕ → List Progress → List ℕ → Areas
+    at m b p s = record { memories = m; buffer = b; progress = p; status = s }
+
+module _ {A : Type 0} {ls : List Line} {done before : A} where
+  fixed-as : {x y : Answered A} → x ≡ y → Fixed y ls done before → Fixed x ls done before
+  fixed-as e f = subst (λ (z : Answered A). Fixed z ls done before) (sym e) f
+
+module _ {ls : List Line} {done : State} {a b : Areas} {n : ℕ} {call : Answered State} where
+  fixed-areas : answer n (inWords b) ≡ call → Fixed call ls done (inWords a) → FixedAreas ls done a n b
+  fixed-areas e f =
+      record {
+        fixed = fixed-as e f;
+        as-before = λ h. areas-fixed b a (after-of e ∙ f .refuses (λ z. h (number-of e ∙ z)));
+      }
+
+-- one answer over words, one over records
+one-answer : (b c : Areas) (n k : ℕ) {r : Answered State} → answer n (inWords b) ≡ r → answer k (inWords c) ≡ r → (n ≡ k) × (b ≡ c)
+one-answer b c n k d e = (number-of (d ∙ sym e), areas-fixed b c (after-of (d ∙ sym e)))
+
+can-answer : (r : Answered State) → Whole (r .after .progress) → (n : ℕ) × ((b : Areas) × (answer n (inWords b) ≡ r))
+can-answer r w = (r .number, (areasOf (r .after), ap (λ (s : State). answer (r .number) s) (in-words (r .after) w)))
+
+module _ (bytes source : List ℕ) where
+  -- an event's contract, by the calls over words
+  event-call : (a b : Areas) (e : Event) (n : ℕ) → EventGave bytes source a e n b → answer n (inWords b) ≡ calls bytes source (inWords a) e
+  unfolding calls
+  event-call a b (turnOf p) n h = h
+  event-call a b (deliveryOf m) n h = h
+
+  call-event : (a b : Areas) (e : Event) (n : ℕ) → answer n (inWords b) ≡ calls bytes source (inWords a) e → EventGave bytes source a e n b
+  unfolding calls
+  call-event a b (turnOf p) n h = h
+  call-event a b (deliveryOf m) n h = h
+
+  can-event : (a : Areas) (e : Event) → (n : ℕ) × ((b : Areas) × EventGave bytes source a e n b)
+  can-event a e = let r = can-answer (calls bytes source (inWords a) e) (whole-call bytes source a e) in (r .0, (r .1 .0, call-event a (r .1 .0) e (r .0) (r .1 .1)))
+
+  fixed-calls : FixedCalls bytes source
+  unfolding summaryCall messageCall
+  fixed-calls =
+      record {
+        fresh = λ a b n e. fixed-areas e (engine.demands .one bytes source (inWords a) .fresh);
+        turn = λ a b p n e. fixed-areas e (engine.demands .one bytes source (inWords a) .turn p);
+        deliver = λ a b m n e. fixed-areas e (engine.demands .one bytes source (inWords a) .deliver m);
+        collect = λ a old grid n e. fixed-as e (engine.demands .one bytes source (inWords a) .collect old);
+        sweep = λ old grid n e. fixed-as e (engine.demands .one bytes source (stateOf [] [] [] []) .sweep old);
+        summary = λ old out n e. fixed-as e (engine.fixed _ _ old);
+        message = λ m old out n e. fixed-as e (engine.fixed _ _ old);
+        can-fresh = λ a. can-answer (freshCall bytes source (inWords a)) (whole-fresh bytes source a);
+        can-event = can-event;
+        one-fresh = λ a b c n k. one-answer b c n k;
+        one-event = λ a b c e n k h g. one-answer b c n k (event-call a b e n h) (event-call a c e k g);
+      }
+
+  -- ---- demand 3
+
+  numbers-are : {a b : Areas} {es : List Event} {ns : List ℕ} → EventsGave bytes source a es ns b → ns ≡ answersTo (calls bytes source) (inWords a) es
+  unfolding answersTo
+  numbers-are EventsGave.none = refl
+  numbers-are (EventsGave.next {a = a} {b = b} {e = e} {es = es} {n = n} h g) =
+      let c = event-call a b e n h in
+      ap (λ (l : List ℕ). n ∷ l) (numbers-are g ∙ ap (λ (s : State). answersTo (calls bytes source) s es) (after-of c))
+      ∙ ap (λ (k : ℕ). k ∷ answersTo (calls bytes source) (calls bytes source (inWords a) e .after) es) (number-of c)
+
+  words-are : {a b : Areas} {es : List Event} {ns : List ℕ} → EventsGave bytes source a es ns b → inWords b ≡ stateAfter (calls bytes source) (inWords a) es
+  unfolding stateAfter
+  words-are EventsGave.none = refl
+  words-are (EventsGave.next {a = a} {b = b} {e = e} {es = es} {n = n} h g) =
+      words-are g ∙ ap (λ (s : State). stateAfter (calls bytes source) s es) (after-of (event-call a b e n h))
+
+  -- collecting that gave 0 was lent a grid of the right length
+  collect-length : (s : State) (old : List ℕ) → collectCall bytes source s old .number ≡ 0 → length old ≡ recipe bytes .cells
+  unfolding collectCall
+  collect-length s old z =
+      let r = front (readLines bytes) (line 9 nine ∷ collectLines (recipe bytes) s) z in
+      let n = none-first 9 nine (collectLines (recipe bytes) s) (λ q. omega arith) (sym (first-behind (readLines bytes) _ (numbered bytes) r) ∙ z) in
+      eqb-true _ _ (both (true-not (n .0)) .1)
+    where
+      nine : Bool
+      nine = not (areas (recipe bytes) source s and eqb (length old) (recipe bytes .cells))
+
+  module _ (small : Bytes bytes) (a start b : Areas) (events : List Event) (numbers : List ℕ) (fresh : FreshGave bytes source a 0 start)
+      (gave : EventsGave bytes source start events numbers b) where
+    abbrev ns : numbers ≡ answersTo (calls bytes source) (inWords start) events
+    ns = numbers-are gave
+
+    abbrev ws : inWords b ≡ stateAfter (calls bytes source) (inWords start) events
+    ws = words-are gave
+
+    demand : Demand3 (calls bytes source) (inWords start) events (recipe bytes) source (collectCall bytes source)
+    demand =
+        subst (λ (s : State). Demand3 (calls bytes source) s events (recipe bytes) source (collectCall bytes source)) (sym (after-of fresh))
+        (engine.demands .three bytes source (inWords a) small (sym (number-of fresh)) events)
+
+    -- the next call, of the areas `b`
+    next-number : (e : Event) (n : ℕ) (c : Areas) → EventGave bytes source b e n c
+        → n ≡ calls bytes source (stateAfter (calls bytes source) (inWords start) events) e .number
+    next-number e n c h = number-of (event-call b c e n h) ∙ ap (λ (s : State). calls bytes source s e .number) ws
+
+    collect-is : (old grid : List ℕ) (n : ℕ) → CollectGave bytes source b old n grid
+        → answer n grid ≡ collectCall bytes source (stateAfter (calls bytes source) (inWords start) events) old
+    collect-is old grid n h = h ∙ ap (λ (s : State). collectCall bytes source s old) ws
+
+    fixed-run : FixedRun bytes source start events numbers b
+    fixed-run =
+        record {
+          numbers-are = ns;
+          words-are = ws;
+          demand = demand;
+          goes-on = λ h. let r = demand .goes-on (rw ns at h) in (r .0, λ n c g. next-number (r .0) n c g ∙ r .1);
+          then-fewer = λ e c h. rw ns (demand .then-fewer e (sym (next-number e 0 c h)));
+          collects = λ old grid n l h. (
+            (λ z. rw ns (demand .then-all old l (sym (number-of (collect-is old grid n h)) ∙ z))),
+            (λ t. number-of (collect-is old grid n h) ∙ demand .can-collect (rw ns at t) old l),
+          );
+          grid = λ old grid h.
+              let z = sym (number-of (collect-is old grid 0 h)) in
+              let l = collect-length _ old z in
+              after-of (collect-is old grid 0 h) ∙ demand .grid (demand .then-all old l z) old l;
+        }
+
+pub over-records : (bytes source : List ℕ) → OverRecords bytes source
+over-records bytes source = record { one = fixed-calls bytes source; three = fixed-run bytes source }

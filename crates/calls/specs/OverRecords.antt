@@ -1,0 +1,112 @@
+-- The demands for the calls as exported, board records as structs: what a call's contract says of the areas lent to it, the number
+-- it gave and the areas it left, and a run as a list of such calls. Document 01, "The machine", "Numbers a call gives" and "Runs".
+use Prim.Native.Nat.{ℕ, _<_}
+use mathlib.Core.Path.{_≡_}
+use mathlib.Core.Logic.{_≢_, _↔_}
+use mathlib.Core.List.{List, [], _∷_}
+use lib.ListN.{length, set}
+use lib.Dec.{eqb}
+use Rattle.base.specs.Lists.{Bytes, countIf}
+use Rattle.base.specs.Numbers.{Line}
+use Rattle.machine.specs.Machine as machine
+use Rattle.machine.specs.Machine.{State, stateOf, carryOut, nextAction, collected}
+use Rattle.machine.specs.Runs.{Event, turnOf, deliveryOf, last, answers, total, Demand3}
+use Rattle.records.specs.declared.Progress.{Progress}
+use Rattle.records.specs.Records.{flatWords}
+use Rattle.engine.specs.Calls.{answer, recipe, freshCallLines, freshCall, turnCallLines, turnCall, deliverCallLines, deliverCall, collectCallLines, collectCall, sweepCallLines, sweepCall}
+use Rattle.engine.specs.Demands.{Fixed, calls}
+use Rattle.calls.specs.PlanCalls.{figureWords, summaryCallLines, summaryCall, lineWords, messageCallLines, messageCall}
+
+-- the lent areas that a step may change, records as structs; and their words
+pub record Areas : Type 0 where
+  pub memories : List ℕ
+  pub buffer : List ℕ
+  pub progress : List Progress
+  pub status : List ℕ
+
+abbrev pub inWords : Areas → State
+inWords a = stateOf (a .memories) (a .buffer) (flatWords (a .progress)) (a .status)
+
+-- ---- the contracts of src/lib.rt: lent `a`, the call gave n and left `b`; what is lent for reading alone is left as it was
+
+module _ (bytes source : List ℕ) where
+  abbrev pub FreshGave : Areas → ℕ → Areas → Type 0
+  FreshGave a n b = answer n (inWords b) ≡ freshCall bytes source (inWords a)
+
+  abbrev pub EventGave : Areas → Event → ℕ → Areas → Type 0
+  EventGave a (turnOf p) n b = answer n (inWords b) ≡ turnCall bytes source (inWords a) p
+  EventGave a (deliveryOf m) n b = answer n (inWords b) ≡ deliverCall bytes source (inWords a) m
+
+  -- lent the words `old` too, left as `grid`
+  abbrev pub CollectGave : Areas → List ℕ → ℕ → List ℕ → Type 0
+  CollectGave a old n grid = answer n grid ≡ collectCall bytes source (inWords a) old
+
+  abbrev pub SweepGave : List ℕ → ℕ → List ℕ → Type 0
+  SweepGave old n grid = answer n grid ≡ sweepCall bytes source old
+
+  -- events, each lent the areas as the last left them: areas before, events, their numbers, areas after
+  pub data EventsGave : Areas → List Event → List ℕ → Areas → Type 0 where
+    none : {a : Areas} → EventsGave a [] [] a
+    next : {a b c : Areas} {e : Event} {es : List Event} {n : ℕ} {ns : List ℕ}
+        → EventGave a e n b → EventsGave b es ns c → EventsGave a (e ∷ es) (n ∷ ns) c
+
+abbrev pub SummaryGave : List ℕ → List ℕ → ℕ → List ℕ → Type 0
+SummaryGave bytes old n out = answer n out ≡ summaryCall bytes old
+
+abbrev pub MessageGave : List ℕ → ℕ → List ℕ → ℕ → List ℕ → Type 0
+MessageGave bytes m old n out = answer n out ≡ messageCall bytes m old
+
+-- ---- demand 1
+
+-- a refusal leaves the very records
+pub record FixedAreas (lines : List Line) (done : State) (a : Areas) (n : ℕ) (b : Areas) : Type 0 where
+  pub fixed : Fixed (answer n (inWords b)) lines done (inWords a)
+  pub as-before : n ≢ 0 → b ≡ a
+
+pub record FixedCalls (bytes source : List ℕ) : Type 0 where
+  pub fresh : (a b : Areas) (n : ℕ) → FreshGave bytes source a n b
+      → FixedAreas (freshCallLines bytes source (inWords a)) (machine.fresh (recipe bytes)) a n b
+  pub turn : (a b : Areas) (p n : ℕ) → EventGave bytes source a (turnOf p) n b
+      → FixedAreas (turnCallLines bytes source (inWords a) p)
+      (carryOut (recipe bytes) source (inWords a) p (nextAction (recipe bytes) (inWords a) p)) a n b
+  pub deliver : (a b : Areas) (m n : ℕ) → EventGave bytes source a (deliveryOf m) n b
+      → FixedAreas (deliverCallLines bytes source (inWords a) m)
+      (stateOf (a .memories) (a .buffer) (flatWords (a .progress)) (set (a .status) m 2)) a n b
+  pub collect : (a : Areas) (old grid : List ℕ) (n : ℕ) → CollectGave bytes source a old n grid
+      → Fixed (answer n grid) (collectCallLines bytes source (inWords a) old) (collected (recipe bytes) (inWords a)) old
+  pub sweep : (old grid : List ℕ) (n : ℕ) → SweepGave bytes source old n grid
+      → Fixed (answer n grid) (sweepCallLines bytes source old) (machine.sweep (recipe bytes) source) old
+  pub summary : (old out : List ℕ) (n : ℕ) → SummaryGave bytes old n out
+      → Fixed (answer n out) (summaryCallLines bytes old) (figureWords (recipe bytes)) old
+  pub message : (m : ℕ) (old out : List ℕ) (n : ℕ) → MessageGave bytes m old n out
+      → Fixed (answer n out) (messageCallLines bytes m old) (lineWords (recipe bytes) m) old
+  -- the contracts can be kept, and in one way only
+  pub can-fresh : (a : Areas) → (n : ℕ) × ((b : Areas) × FreshGave bytes source a n b)
+  pub can-event : (a : Areas) (e : Event) → (n : ℕ) × ((b : Areas) × EventGave bytes source a e n b)
+  pub one-fresh : (a b c : Areas) (n k : ℕ) → FreshGave bytes source a n b → FreshGave bytes source a k c → (n ≡ k) × (b ≡ c)
+  pub one-event : (a b c : Areas) (e : Event) (n k : ℕ)
+      → EventGave bytes source a e n b → EventGave bytes source a e k c → (n ≡ k) × (b ≡ c)
+
+-- ---- demand 3: events from the areas `start` that a fresh start left, with their numbers; `b` are the areas after them
+
+abbrev pub stepsIn : List ℕ → ℕ
+stepsIn numbers = countIf (λ n. eqb n 0) numbers
+
+pub record FixedRun (bytes source : List ℕ) (start : Areas) (events : List Event) (numbers : List ℕ) (b : Areas) : Type 0 where
+  -- number by number and word by word the run over words, which has what demand 3 asks
+  pub numbers-are : numbers ≡ answers (calls bytes source) (inWords start) events
+  pub words-are : inWords b ≡ last (calls bytes source) (inWords start) events
+  pub demand : Demand3 (calls bytes source) (inWords start) events (recipe bytes) source (collectCall bytes source)
+  -- what it says of a further call: some event gives 0 exactly when the steps are fewer
+  pub goes-on : stepsIn numbers < total (recipe bytes) → (e : Event) × ((n : ℕ) (c : Areas) → EventGave bytes source b e n c → n ≡ 0)
+  pub then-fewer : (e : Event) (c : Areas) → EventGave bytes source b e 0 c → stepsIn numbers < total (recipe bytes)
+  -- collecting into a grid of the right length gives 0 exactly when they are that many, and then the sweep
+  pub collects : (old grid : List ℕ) (n : ℕ) → length old ≡ recipe bytes .cells → CollectGave bytes source b old n grid
+      → (n ≡ 0) ↔ (stepsIn numbers ≡ total (recipe bytes))
+  pub grid : (old grid : List ℕ) → CollectGave bytes source b old 0 grid → grid ≡ machine.sweep (recipe bytes) source
+
+pub record OverRecords (bytes source : List ℕ) : Type 0 where
+  pub one : FixedCalls bytes source
+  pub three : Bytes bytes → (a start b : Areas) (events : List Event) (numbers : List ℕ)
+      → FreshGave bytes source a 0 start → EventsGave bytes source start events numbers b
+      → FixedRun bytes source start events numbers b
