@@ -3,14 +3,14 @@ use Prim.Native.Nat.{ℕ, zero, suc, _+_, _*_, _-_, _/_, _≤_, _<_, min}
 use mathlib.Core.Path.{_≡_, refl, sym, ap, _∙_}
 use mathlib.Core.Logic.{_⊎_, inl, inr}
 use mathlib.Core.Bool.{true, false}
-use mathlib.Core.List.{List, []}
+use mathlib.Core.List.{List, [], _++_, append-nil}
 use native.Mathlib.Nat.{eq-or-lt-of-le, suc-mul, mul-le-mul-right, zero-mul, add-zero, add-assoc}
 use native.Mathlib.Numerals.{add-one}
 use native.Mathlib.Decide.{decLt}
 use native.Mathlib.Omega.{arith}
 use lib.ListN.{length, getD, take}
-use lib.Dec.{ltb, leb, eqb}
-use borrow.Author.Tests.{lt-ltb, le-ltb, ltb-true, le-leb, lt-leb, leb-true, eq-eqb, ne-eqb, eqb-true}
+use lib.Dec.{ltb, leb}
+use borrow.Author.Tests.{lt-ltb, le-ltb, ltb-true, le-leb, lt-leb, leb-true, eqb-true}
 use Rattle.base.specs.Tests.{_and_, pick, every, some, tabulate, product}
 use Rattle.base.specs.Lists.{part, pack, unpack}
 use Rattle.base.proofs.Tests.{both, every-at, every-all, pick-true, pick-false, and-true, and-false, and-no, is-true, is-false, some-at, some-none, never-both, same-test, tabulate-at}
@@ -35,9 +35,10 @@ use Rattle.parcels.proofs.Walks.{Walk, walked, Measuring, Unpacking}
 use Rattle.layout.proofs.CellRows.{row-before, row-last, row-low, row-start, row-next, row-count, box-all, box-few}
 use Rattle.parcels.specs.declared.Sending.{Sending}
 use Rattle.parcels.specs.declared.Row.{Row}
-use Rattle.parcels.specs.Windows.{Windowed, DistanceEnds, Leading, RowEnds, PackedTo}
+use Rattle.parcels.specs.Windows.{Windowed, DistanceEnds, Leading, RowEnds, RowPacked}
 use Rattle.parcels.specs.Sendings.{carries, Unchanged, Alike, Sends, RowAt}
-use Rattle.parcels.proofs.Windows.{insideAt, tileAt, carry-yes, carry-no, row-ends, run-rest, measure-run, unpack-run}
+use Rattle.parcels.proofs.Windows.{insideAt, tileAt, carry-yes, carry-no, row-ends, run-all, measure-run, unpack-run}
+use Rattle.parcels.proofs.Packing.{PackedTo, packed-row}
 
 -- ---- where the carry test stays as it is
 
@@ -372,77 +373,50 @@ module _ (x : Nest) (s : ℕ) (z : Sending) (r : ℕ) (q : Row) (f : RowAt x s z
   pub measure-alike : (count : ℕ) → Measuring x s (z .bounds) count (r * z .width) → Measuring x s (z .bounds) (count + q .alike * q .run) ((r + q .alike) * z .width)
   measure-alike count m = measure-rows count m (q .alike) (omega arith)
 
-  rows-empty : q .run ≡ 0 → (k : ℕ) → k ≤ q .alike → walked x s (z .bounds) ((r + k) * z .width) ≡ walked x s (z .bounds) (r * z .width)
-  rows-empty e zero h = rw (add-zero r)
-  rows-empty e (suc k) h =
-      ap (walked x s (z .bounds)) (next-row r k (z .width))
-      ∙ run-rest x s (z .bounds) ((r + k) * z .width) _ (q .component) (z .width) (q .ends) (f .alike k (omega arith)) (q .run) (f .run)
-      ∙ ap (λ (a : ℕ). walked x s (z .bounds) ((r + k) * z .width + a)) e
-      ∙ ap (walked x s (z .bounds)) (add-zero ((r + k) * z .width))
-      ∙ rows-empty e k (omega arith)
+  -- rows that have none of the parcel are passed over
+  module _ (e : q .run ≡ 0) where
+    rows-empty : (k : ℕ) → k ≤ q .alike → walked x s (z .bounds) ((r + k) * z .width) ≡ walked x s (z .bounds) (r * z .width)
+    unfolding tabulate
+    rows-empty zero h = rw (add-zero r)
+    rows-empty (suc k) h =
+        ap (walked x s (z .bounds)) (next-row r k (z .width))
+        ∙ run-all x s (z .bounds) ((r + k) * z .width) _ (q .component) (z .width) (q .ends) (f .alike k (omega arith)) (q .run) (f .run)
+        ∙ ap (λ (a : ℕ). walked x s (z .bounds) ((r + k) * z .width) ++ rowOf (boxCell x (z .bounds .tile) ((r + k) * z .width)) a) e
+        ∙ append-nil _
+        ∙ rows-empty k (omega arith)
 
-  module _ (g : ℕ) (is : g ≡ pick (eqb (q .run) 0) (q .alike) 1) where
-    step-cases : ((q .run ≡ 0) × (g ≡ q .alike)) ⊎ ((1 ≤ q .run) × (g ≡ 1))
-    step-cases = go (decLt 0 (q .run))
-      where
-        go : Dec (0 < q .run) → ((q .run ≡ 0) × (g ≡ q .alike)) ⊎ ((1 ≤ q .run) × (g ≡ 1))
-        go (yes l) = inr (l, is ∙ pick-false _ _ _ (ne-eqb (q .run) 0 (λ e. omega arith)))
-        go (no l) = let e : q .run ≡ 0 = omega arith in inl (e, is ∙ pick-true _ _ _ (eq-eqb (q .run) 0 e))
+    over : walked x s (z .bounds) ((r + q .alike) * z .width) ≡ walked x s (z .bounds) (r * z .width)
+    over = rows-empty (q .alike) (omega arith)
 
-    pub step-room : (1 ≤ g) × (r + g ≤ z .rows)
-    step-room = go step-cases
-      where
-        go : ((q .run ≡ 0) × (g ≡ q .alike)) ⊎ ((1 ≤ q .run) × (g ≡ 1)) → (1 ≤ g) × (r + g ≤ z .rows)
-        go (inl (e, k)) = (omega (arith, f .least), omega (arith, f .room))
-        go (inr (e, k)) = (omega arith, omega (arith, f .least, f .room))
-
-    -- what the rows gone on have of the parcel is what the row has
-    step-walked : walked x s (z .bounds) ((r + g) * z .width) ≡ walked x s (z .bounds) (r * z .width + q .run)
-    step-walked = go step-cases
-      where
-        go : ((q .run ≡ 0) × (g ≡ q .alike)) ⊎ ((1 ≤ q .run) × (g ≡ 1)) → walked x s (z .bounds) ((r + g) * z .width) ≡ walked x s (z .bounds) (r * z .width + q .run)
-        go (inl (e, k)) =
-            ap (λ (a : ℕ). walked x s (z .bounds) ((r + a) * z .width)) k
-            ∙ rows-empty e (q .alike) (omega arith)
-            ∙ sym (ap (λ (a : ℕ). walked x s (z .bounds) (r * z .width + a)) e ∙ ap (walked x s (z .bounds)) (add-zero (r * z .width)))
-        go (inr (e, k)) =
-            ap (λ (a : ℕ). walked x s (z .bounds) ((r + a) * z .width)) k
-            ∙ ap (walked x s (z .bounds)) (row-next (z .width) r 0)
-            ∙ run-rest x s (z .bounds) (r * z .width) _ (q .component) (z .width) (q .ends) (f .first) (q .run) (f .run)
-
-    pub packed-on : (memory words : List ℕ) (count : ℕ) → PackedTo x s (z .bounds) memory words count (r * z .width + q .run) → PackedTo x s (z .bounds) memory words count ((r + g) * z .width)
-    packed-on memory words count p =
+    pub packed-over : (memory words : List ℕ) (count : ℕ) → PackedTo x s (z .bounds) memory words count (r * z .width) → PackedTo x s (z .bounds) memory words count ((r + q .alike) * z .width)
+    packed-over memory words count p =
         record {
-          low = rows-room g (step-room .1);
+          low = rows-room (q .alike) (f .room);
           long = p .long;
           small = p .small;
-          count-is = p .count-is ∙ ap length (sym step-walked);
-          is = p .is ∙ ap (pack memory) (sym step-walked);
+          count-is = p .count-is ∙ ap length (sym over);
+          is = p .is ∙ ap (pack memory) (sym over);
         }
 
-    pub unpacked-on : (memory₀ words memory memory′ : List ℕ) (count : ℕ) → Unpacking x s (z .bounds) memory₀ words memory count (r * z .width) → count ≤ length words
-        → (m : ℕ) → RowEnds x s (z .bounds) (r * z .width) m (q .component) (z .width) (q .ends) → memory′ ≡ unpack memory (rowOf m (q .run)) (part words count (q .run)) → Unpacking x s (z .bounds) memory₀ words memory′ (count + q .run) ((r + g) * z .width)
-    unpacked-on memory₀ words memory memory′ count u l m o e =
-        let a = unpack-run x s (z .bounds) (r * z .width) m (q .component) (z .width) (q .ends) o (q .run) (f .run) memory₀ words memory memory′ count u l e in
+    pub unpacked-over : (memory₀ words memory : List ℕ) (count : ℕ) → Unpacking x s (z .bounds) memory₀ words memory count (r * z .width) → Unpacking x s (z .bounds) memory₀ words memory count ((r + q .alike) * z .width)
+    unpacked-over memory₀ words memory count u =
         record {
-          low = rows-room g (step-room .1);
-          count-is = a .count-is ∙ ap length (sym same);
-          is = a .is ∙ ap (λ (k : List ℕ). unpack memory₀ k (take (count + q .run) words)) (sym same);
+          low = rows-room (q .alike) (f .room);
+          count-is = u .count-is ∙ ap length (sym over);
+          is = u .is ∙ ap (λ (k : List ℕ). unpack memory₀ k (take count words)) (sym over);
         }
-      where
-        same : walked x s (z .bounds) ((r + g) * z .width) ≡ walked x s (z .bounds) (r * z .width + z .width)
-        same = step-walked ∙ sym (run-rest x s (z .bounds) (r * z .width) _ (q .component) (z .width) (q .ends) (f .first) (q .run) (f .run))
 
--- the first n cells of a row
-pub row-part : (x : Nest) (s : ℕ) (b : Bounds) (first c a w n : ℕ) (ends : List ℕ) → n ≤ w → RowEnds x s b first c a w ends → RowEnds x s b first c a n ends
-row-part x s b first c a w n ends h f =
-    record {
-      room = omega (arith, f .room);
-      low = omega (arith, f .low);
-      small = omega (arith, f .small);
-      number = λ y k. f .number y (omega arith);
-      tests = λ y e k i. f .tests y e (omega arith) i;
-    }
+  -- a row is gone on
+  module _ (m : ℕ) (g : RowEnds x s (z .bounds) (r * z .width) m (q .component) (z .width) (q .ends)) where
+    pub packed-next : (memory words words′ : List ℕ) (count count′ : ℕ) → PackedTo x s (z .bounds) memory words count (r * z .width)
+        → RowPacked (q .ends) (x .distances) m (q .component) (z .width) memory words count words′ count′ → PackedTo x s (z .bounds) memory words′ count′ ((r + 1) * z .width)
+    packed-next memory words words′ count count′ p k =
+        rw (row-next (z .width) r 0) (packed-row x s (z .bounds) (r * z .width) m (q .component) (z .width) (q .ends) g memory words count p words′ count′ k)
+
+    pub unpacked-next : (memory₀ words memory memory′ : List ℕ) (count : ℕ) → Unpacking x s (z .bounds) memory₀ words memory count (r * z .width) → count ≤ length words
+        → memory′ ≡ unpack memory (rowOf m (q .run)) (part words count (q .run)) → Unpacking x s (z .bounds) memory₀ words memory′ (count + q .run) ((r + 1) * z .width)
+    unpacked-next memory₀ words memory memory′ count u l e =
+        rw (row-next (z .width) r 0) (unpack-run x s (z .bounds) (r * z .width) m (q .component) (z .width) (q .ends) g (q .run) (f .run) memory₀ words memory memory′ count u l e)
 
 -- ---- nothing is bound for a place beyond the last tile
 

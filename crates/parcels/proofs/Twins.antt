@@ -3,15 +3,15 @@ use Prim.Native.Nat.{ℕ, zero, suc, _+_, _*_, _-_, _/_, _%_, _≤_, _<_, min}
 use mathlib.Core.Path.{_≡_, refl, sym, ap, _∙_}
 use mathlib.Core.Logic.{_⊎_, inl, inr}
 use mathlib.Core.Bool.{Bool, true}
-use mathlib.Core.List.{List, [], _∷_, map}
+use mathlib.Core.List.{List}
 use native.Mathlib.Nat.{mul-add-div-right, mul-add-mod-self-right, mod-eq-of-lt, mod-lt, div-add-mod', add-mul, suc-mul, mul-assoc, mul-right-comm, mul-le-mul-right, add-assoc, eq-or-lt-of-le}
 use native.Mathlib.Decide.{decLt}
 use native.Mathlib.Omega.{arith}
-use lib.ListN.{length, getD}
+use lib.ListN.{length, getD, length-map}
 use lib.Dec.{ltb, leb, eqb}
 use borrow.Author.Tests.{lt-ltb, ltb-true, leb-true, eq-eqb, eqb-true}
 use Rattle.base.specs.Tests.{_and_, every, keep, product}
-use Rattle.base.proofs.Tests.{both, same-test}
+use Rattle.base.proofs.Tests.{both, same-test, some-same}
 use Rattle.base.proofs.Select.{keep-same}
 use Rattle.nest.specs.declared.Nest.{Nest}
 use Rattle.nest.proofs.Accepted.{Accepted}
@@ -25,12 +25,8 @@ use Rattle.plan.proofs.Box.{quotient-is, boxHit, boxLength-pos, boxLength-most,
 use Rattle.layout.specs.Places.{nth, Has}
 use Rattle.parcels.specs.Twins.{Twin}
 use Rattle.layout.proofs.Dims.{product-same, product-pos, place-lengths}
-use Rattle.layout.proofs.Loops.{every-same, some-same}
+use Rattle.layout.proofs.Loops.{every-same}
 use Rattle.layout.proofs.Cells.{across-product}
-
-map-length : (f : ℕ → ℕ) (l : List ℕ) → length (map f l) ≡ length l
-map-length f [] = refl
-map-length f (y ∷ l) = ap suc (map-length f l)
 
 -- the quotients of a component moved, seen from the tile
 moved-tile : (u k m a : ℕ) → 1 ≤ k → eqb ((u * k + m) / k) (u + a) ≡ eqb (m / k) a
@@ -41,9 +37,6 @@ moved-tile u k m a p =
 
 module _ (x : Nest) (ok : Accepted x) (t r : ℕ) where
   -- in each dimension the same, or both with a tile of full length after them
-  abbrev pub Alike : Type 0
-  Alike = (j : ℕ) → j < x .dimensions → (tilePlace x r j ≡ tilePlace x t j) ⊎ (((tilePlace x t j + 2) * tileLength x j ≤ lengthOf x j) × ((tilePlace x r j + 2) * tileLength x j ≤ lengthOf x j))
-
   module _ (s : (j : ℕ) → j < x .dimensions → (tilePlace x r j ≡ tilePlace x t j) ⊎ (((tilePlace x t j + 2) * tileLength x j ≤ lengthOf x j) × ((tilePlace x r j + 2) * tileLength x j ≤ lengthOf x j))) where
     -- two full tiles: room for all that a distance reaches
     behind : (u j : ℕ) → (u + 2) * tileLength x j ≤ lengthOf x j → u * tileLength x j + (tileLength x j + tileLength x j) ≤ lengthOf x j
@@ -57,9 +50,6 @@ module _ (x : Nest) (ok : Accepted x) (t r : ℕ) where
             → min (tileLength x j) (lengthOf x j - tilePlace x t j * tileLength x j) ≡ min (tileLength x j) (lengthOf x j - tilePlace x r j * tileLength x j)
         go (inl e) = rw e
         go (inr (a, b)) = omega (arith, behind (tilePlace x t j) j a, behind (tilePlace x r j) j b)
-
-    within : ℕ → ℕ → ℕ
-    within q j = place (boxLength x t) (x .dimensions) q j
 
     from-t : (q j : ℕ) → j < x .dimensions → cellPlace x (boxCell x t q) j ≡ tilePlace x t j * tileLength x j + place (boxLength x t) (x .dimensions) q j
     unfolding boxPlace
@@ -103,10 +93,10 @@ module _ (x : Nest) (ok : Accepted x) (t r : ℕ) where
     unfolding boxSize
     twin-same a b v =
         ap length (parcel-box x ok t v a)
-        ∙ map-length (boxCell x t) (keep (boxHit x t v) (boxSize x t))
+        ∙ length-map (keep (boxHit x t v) (boxSize x t)) (boxCell x t)
         ∙ ap length (keep-same (boxHit x t v) (boxHit x r v) (boxSize x t) (λ q h. hits-same v q))
         ∙ ap (λ (n : ℕ). length (keep (boxHit x r v) n)) (product-same (boxLength x t) (boxLength x r) (x .dimensions) lengths-same)
-        ∙ sym (map-length (boxCell x r) (keep (boxHit x r v) (boxSize x r)))
+        ∙ sym (length-map (keep (boxHit x r v) (boxSize x r)) (boxCell x r))
         ∙ sym (ap length (parcel-box x ok r v b))
 
 -- ---- one tile back along a dimension

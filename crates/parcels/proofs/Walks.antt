@@ -1,4 +1,4 @@
--- Loops over the cells of a tile: counting, packing, unpacking, calculating; and over all cells, the sweep.
+-- A slot's parcel among the first cells of its tile's box: how it grows, and the loops that count and unpack it.
 use Prim.Native.Nat.{ℕ, zero, suc, _+_, _/_, _≤_, _<_}
 use mathlib.Core.Path.{_≡_, refl, sym, ap, _∙_}
 use mathlib.Core.Logic.{_⊎_, inl, inr}
@@ -8,7 +8,7 @@ use native.Mathlib.Numerals.{add-one}
 use native.Mathlib.Nat.{eq-or-lt-of-le, le-of-suc-le-suc}
 use native.Mathlib.Omega.{arith}
 use lib.ListN.{length, getD, take, set, length-append}
-use lib.Seq.{take-suc, take-length, length-take-le}
+use lib.Seq.{take-length}
 use Rattle.base.specs.Lists.{pack, unpack}
 use Rattle.base.proofs.Lists.{unpack-length}
 use Rattle.nest.specs.declared.Nest.{Nest}
@@ -80,12 +80,6 @@ module _ (x : Nest) (s : ℕ) (b : Bounds) where
     pub walked-hit : walked x s b (q + 1) ≡ walked x s b q ++ (boxCell x (b .tile) q ∷ [])
     walked-hit = boxParcel-hit x (b .tile) (slotDirection x s) q e
 
-    pub walked-more : length (walked x s b (q + 1)) ≡ length (walked x s b q) + 1
-    walked-more = rw walked-hit (simp length-append)
-
-    pub walked-room : (n : ℕ) → q < n → length (walked x s b q) < length (walked x s b n)
-    walked-room n h = omega (arith, walked-more, walked-mono n (q + 1) (omega arith))
-
   pub walked-miss : (q : ℕ) → meets x s b q ≡ false → walked x s b (q + 1) ≡ walked x s b q
   walked-miss q e = boxParcel-miss x (b .tile) (slotDirection x s) q e
 
@@ -122,15 +116,6 @@ unpack-append l [] b (w ∷ ws) us e = absurd (omega arith)
 unpack-append l (p ∷ a) b [] us e = absurd (omega arith)
 unpack-append l (p ∷ a) b (w ∷ ws) us e = unpack-append (set l p w) a b ws us (omega arith)
 
--- ---- packing: between two distances of the cell at q₁
-
-pub record Searching (f : ℕ → Bool) (n : ℕ) (words₁ : List ℕ) (count₁ q₁ : ℕ) (words : List ℕ) (count q e : ℕ) : Type 0 where
-  pub same-words : words ≡ words₁
-  pub same-count : count ≡ count₁
-  pub same-q : q ≡ q₁
-  pub low : e ≤ n
-  pub none : (i : ℕ) → i < e → f i ≡ false
-
 -- ---- unpacking
 
 pub record Unpacking (x : Nest) (s : ℕ) (b : Bounds) (memory₀ words memory : List ℕ) (count q : ℕ) : Type 0 where
@@ -151,35 +136,6 @@ module _ (x : Nest) (s : ℕ) (b : Bounds) (memory₀ words : List ℕ) where
   module _ (memory : List ℕ) (count q : ℕ) (p : Unpacking x s b memory₀ words memory count q) where
     pub unpacking-long : length memory ≡ length memory₀
     unpacking-long = ap length (p .is) ∙ unpack-length (walked x s b q) (take count words) memory₀
-
-    module _ (l : q < b .size) (e : length words ≡ length (walked x s b (b .size))) where
-      pub unpacking-room : meets x s b q ≡ true → count < length words
-      unpacking-room h = omega (arith, p .count-is, walked-room x s b q h (b .size) l)
-
-      unpacking-hit : meets x s b q ≡ true → (c : ℕ) → c ≡ boxCell x (b .tile) q → Unpacking x s b memory₀ words (set memory c (getD words count 0)) (count + 1) (q + 1)
-      unfolding unpack
-      unpacking-hit h c k =
-          record {
-            low = omega arith;
-            count-is = omega (arith, p .count-is, walked-more x s b q h);
-            is = rw (k, p .is, walked-hit x s b q h, add-one count, take-suc words count 0 (unpacking-room h))
-                (sym (unpack-append memory₀ (walked x s b q) (boxCell x (b .tile) q ∷ []) (take count words) (getD words count 0 ∷ [])
-                (length-take-le count words (omega (arith, unpacking-room h)) ∙ p .count-is)));
-          }
-
-      unpacking-miss : meets x s b q ≡ false → Unpacking x s b memory₀ words memory count (q + 1)
-      unpacking-miss h =
-          record {
-            low = omega arith;
-            count-is = p .count-is ∙ ap length (sym (walked-miss x s b q h));
-            is = p .is ∙ ap (λ (z : List ℕ). unpack memory₀ z (take count words)) (sym (walked-miss x s b q h));
-          }
-
-      pub unpacking-turn : (c : ℕ) (memory′ : List ℕ) (count′ : ℕ) (t : Bool) → c ≡ boxCell x (b .tile) q → t ≡ meets x s b q
-          → ((t ≡ true) × (memory′ ≡ set memory c (getD words count 0)) × (count′ ≡ count + 1)) ⊎ ((t ≡ false) × (memory′ ≡ memory) × (count′ ≡ count))
-          → Unpacking x s b memory₀ words memory′ count′ (q + 1)
-      unpacking-turn c memory′ count′ t k m (inl (h, a, d)) = rw (a, d) (unpacking-hit (sym m ∙ h) c k)
-      unpacking-turn c memory′ count′ t k m (inr (h, a, d)) = rw (a, d) (unpacking-miss (sym m ∙ h))
 
 pub unpacked : (x : Nest) (ok : Accepted x) (s : ℕ) (b : Bounds) (to : List ℕ) → Walk x s b to → (memory₀ words memory : List ℕ) (count q : ℕ)
     → Unpacking x s b memory₀ words memory count q → b .size ≤ q → length words ≡ length (slotParcel x s) → memory ≡ unpack memory₀ (slotParcel x s) words

@@ -1,20 +1,20 @@
--- Parcels by rows: the window's test, where in a row a distance puts cells there, a row counted, packed and unpacked.
+-- Parcels by rows: the window's test, where in a row a distance puts cells there, a row counted and unpacked.
 use Prim.Native.Nat.{ℕ, zero, suc, _+_, _*_, _-_, _/_, _≤_, _<_, min}
 use mathlib.Core.Path.{_≡_, refl, sym, ap, _∙_}
 use mathlib.Core.Logic.{_⊎_, inl, inr}
 use mathlib.Core.Bool.{Bool, true, false}
-use mathlib.Core.List.{List, [], _∷_, _++_, append-assoc, append-nil}
-use native.Mathlib.Nat.{eq-or-lt-of-le, add-zero, add-assoc, mul-le-mul}
+use mathlib.Core.List.{List, [], _∷_, _++_}
+use native.Mathlib.Nat.{eq-or-lt-of-le, mul-le-mul}
 use native.Mathlib.Numerals.{add-one}
 use native.Mathlib.Decide.{decLt}
 use native.Mathlib.Omega.{arith}
 use lib.ListN.{length, getD, take, drop, set, length-append, length-set, length-drop}
-use lib.Seq.{getD-set-same, getD-set-other, take-suc, take-suc-set, take-length, take-add, getD-drop, length-take-le}
+use lib.Seq.{getD-set-same, getD-set-other, take-suc, take-add, getD-drop, length-take-le}
 use lib.Dec.{ltb, leb, eqb}
 use borrow.Author.Tests.{lt-ltb, le-ltb, ltb-true, le-leb, leb-true, eq-eqb, ne-eqb}
 use Rattle.base.specs.Tests.{_and_, _or_, pick, every, some, tabulate, product}
-use Rattle.base.specs.Lists.{part, pack, unpack}
-use Rattle.base.proofs.Tests.{both, every-at, pick-true, pick-false, some-one, some-none, and-true, and-false, and-no, or-left, never-both, same-test, every-all, every-not, length-tabulate, tabulate-at}
+use Rattle.base.specs.Lists.{part, unpack}
+use Rattle.base.proofs.Tests.{both, every-at, pick-true, pick-false, and-true, and-false, and-no, or-left, never-both, same-test, every-all, every-not, length-tabulate, tabulate-at}
 use Rattle.base.proofs.Lists.{unpack-length}
 use Rattle.nest.specs.declared.Nest.{Nest}
 use Rattle.nest.proofs.Accepted.{Accepted}
@@ -22,21 +22,23 @@ use Rattle.nest.specs.Nest.{lengthOf, tileLength, component, cells}
 use Rattle.plan.specs.Geometry.{place, cellPlace}
 use Rattle.plan.specs.Messages.{reaches, slotDirection}
 use Rattle.plan.specs.Box.{boxCell}
-use Rattle.plan.proofs.Box.{quotient-is, quotient-least, quotient-most, boxParcel-none, boxParcel-few, boxCell-low}
+use Rattle.plan.proofs.Box.{quotient-is, quotient-least, quotient-most, boxCell-low}
 use Rattle.layout.specs.declared.Bounds.{Bounds}
 use Rattle.layout.specs.declared.Cell.{Cell}
 use Rattle.layout.specs.Places.{nth, Located, puts}
 use Rattle.layout.specs.CellRows.{rowOf, Given}
-use Rattle.parcels.specs.Windows.{Windowed, RowEnd, DistanceEnds, Leading, RowEnds, PackedTo}
-use Rattle.layout.proofs.Loops.{every-same, some-same, Sofar, sofar-end, Filled, filled-end}
-use Rattle.parcels.proofs.Walks.{Walk, walked, meets, Measuring, Unpacking, Searching, walked-mono, walked-hit, walked-more, walked-miss, walked-room, reach-is, pack-append, unpack-append}
+use Rattle.parcels.specs.Windows.{Windowed, RowEnd, DistanceEnds, Leading, RowEnds}
+use Rattle.parcels.specs.Sendings.{carries}
+use Rattle.layout.proofs.Loops.{every-same, Sofar, sofar-end, Filled, filled-end}
+use Rattle.parcels.proofs.Walks.{Walk, walked, Measuring, Unpacking, walked-mono, reach-is, unpack-append}
+use Rattle.parcels.proofs.Packing.{row-run, row-all}
 use Rattle.layout.proofs.CellRows.{row-before, row-last, every-last, box-in, box-row, row-fits}
 
 -- ---- the window's test in one dimension
 
 -- as the code has it
 abbrev pub carried : List ℕ → List ℕ → List ℕ → List ℕ → ℕ → ℕ → Bool
-carried components low high i e j = leb (getD low j 0) (getD i j 0 + getD components (4 * e + j) 0) and ltb (getD i j 0 + getD components (4 * e + j) 0) (getD high j 0)
+carried components low high i e j = carries (getD low j 0) (getD high j 0) (getD i j 0 + getD components (4 * e + j) 0)
 
 abbrev pub insideAt : Nest → List ℕ → ℕ → ℕ → Bool
 insideAt x i e j = ltb (getD i j 0 + component x e j) (lengthOf x j)
@@ -45,7 +47,7 @@ abbrev pub tileAt : Nest → List ℕ → List ℕ → ℕ → ℕ → Bool
 tileAt x to i e j = eqb ((getD i j 0 + component x e j) / tileLength x j) (getD to j 0)
 
 module _ (x : Nest) (ok : Accepted x) (to low high : List ℕ) (w : Windowed x to low high) (i : List ℕ) (e j : ℕ) (h : j < x .dimensions) where
-  pub carry-yes : (leb (getD low j 0) (getD i j 0 + component x e j) and ltb (getD i j 0 + component x e j) (getD high j 0)) ≡ true
+  pub carry-yes : carries (getD low j 0) (getD high j 0) (getD i j 0 + component x e j) ≡ true
       → (insideAt x i e j ≡ true) × (j < x .spread → tileAt x to i e j ≡ true)
   carry-yes t = go (decLt j (x .spread))
     where
@@ -62,7 +64,7 @@ module _ (x : Nest) (ok : Accepted x) (to low high : List ℕ) (w : Windowed x t
       )
       go (no l) = (lt-ltb (getD i j 0 + component x e j) (lengthOf x j) (omega (arith, b, w .high-rest j (omega arith) h)), λ k. absurd (l k))
 
-  pub carry-no : (leb (getD low j 0) (getD i j 0 + component x e j) and ltb (getD i j 0 + component x e j) (getD high j 0)) ≡ false
+  pub carry-no : carries (getD low j 0) (getD high j 0) (getD i j 0 + component x e j) ≡ false
       → (insideAt x i e j ≡ false) ⊎ ((j < x .spread) × (tileAt x to i e j ≡ false))
   carry-no t = go (decLt j (x .spread)) (decLt (getD i j 0 + component x e j) (lengthOf x j))
     where
@@ -278,48 +280,9 @@ module _ (x : Nest) (ok : Accepted x) (s : ℕ) (b : Bounds) (to : List ℕ) (w 
 -- ---- the parcel grows by a run
 
 module _ (x : Nest) (s : ℕ) (b : Bounds) (first c a w : ℕ) (ends : List ℕ) (f : RowEnds x s b first c a w ends) where
-  pub row-meets : (y : ℕ) → y < w → some (λ e. ltb (a + y) (getD ends e 0)) (x .distances) ≡ meets x s b (first + y)
-  row-meets y k = some-same _ _ (x .distances) (λ e i. f .tests y e k i)
-
   module _ (n : ℕ) (p : Leading ends (x .distances) a w n) where
-    run-meets : (y : ℕ) → y < w → meets x s b (first + y) ≡ ltb y n
-    run-meets y k = sym (row-meets y k) ∙ sym (p .is y k)
-
-    run-walked : (y : ℕ) → y ≤ w → walked x s b (first + y) ≡ walked x s b first ++ rowOf c (min y n)
-    unfolding tabulate
-    run-walked zero k =
-        let z : min 0 n ≡ 0 = omega arith in
-        rw (z, add-zero first) (sym (append-nil _))
-    run-walked (suc y) k = go (decLt y n) (run-walked y (omega arith))
-      where
-        next : first + suc y ≡ first + y + 1
-        next = omega arith
-
-        go : Dec (y < n) → walked x s b (first + y) ≡ walked x s b first ++ rowOf c (min y n) → walked x s b (first + suc y) ≡ walked x s b first ++ rowOf c (min (suc y) n)
-        go (yes l) ih =
-            let i : min (suc y) n ≡ suc y = omega arith in
-            let j : min y n ≡ y = omega arith in
-            ap (walked x s b) next
-            ∙ walked-hit x s b (first + y) (run-meets y (omega arith) ∙ lt-ltb y n l)
-            ∙ ap (λ (z : List ℕ). z ++ (boxCell x (b .tile) (first + y) ∷ [])) (ih ∙ ap (λ (m : ℕ). walked x s b first ++ rowOf c m) j)
-            ∙ append-assoc (walked x s b first) (rowOf c y) _
-            ∙ ap (λ (m : ℕ). walked x s b first ++ (rowOf c y ++ (m ∷ []))) (sym (f .number y (omega arith)))
-            ∙ ap (λ (m : ℕ). walked x s b first ++ rowOf c m) (sym i)
-        go (no l) ih =
-            let i : min (suc y) n ≡ min y n = omega arith in
-            ap (walked x s b) next
-            ∙ walked-miss x s b (first + y) (run-meets y (omega arith) ∙ le-ltb y n (omega arith))
-            ∙ ih
-            ∙ ap (λ (m : ℕ). walked x s b first ++ rowOf c m) (sym i)
-
     pub run-all : walked x s b (first + w) ≡ walked x s b first ++ rowOf c n
-    run-all = let z : min w n ≡ n = omega (arith, p .low) in run-walked w (omega arith) ∙ ap (λ (m : ℕ). walked x s b first ++ rowOf c m) z
-
-    -- and no more after the run
-    pub run-rest : walked x s b (first + w) ≡ walked x s b (first + n)
-    run-rest =
-        let z : min n n ≡ n = omega arith in
-        run-all ∙ sym (run-walked n (p .low) ∙ ap (λ (m : ℕ). walked x s b first ++ rowOf c m) z)
+    run-all = row-all x s b first c a w ends f ∙ ap (λ (z : List ℕ). walked x s b first ++ z) (row-run ends (x .distances) c a w n p)
 
     pub run-length : length (walked x s b (first + w)) ≡ length (walked x s b first) + n
     run-length = ap length run-all ∙ length-append (walked x s b first) (rowOf c n) ∙ ap (λ (m : ℕ). length (walked x s b first) + m) (length-tabulate _ n)
@@ -344,77 +307,6 @@ module _ (x : Nest) (s : ℕ) (b : Bounds) (first c a w : ℕ) (ends : List ℕ)
     -- what the run takes of the words is there
     pub run-room : (count : ℕ) → count ≡ length (walked x s b first) → count + n ≤ length (walked x s b (b .size))
     run-room count e = omega (arith, run-length, walked-mono x s b (b .size) (first + w) (f .room))
-
--- ---- packing a row
-
-module _ (x : Nest) (s : ℕ) (b : Bounds) (memory words : List ℕ) (count q : ℕ) (p : PackedTo x s b memory words count q) (l : q < b .size) where
-  pub packed-room : meets x s b q ≡ true → count < length words
-  packed-room h = omega (arith, p .count-is, p .long, walked-room x s b q h (b .size) l)
-
-  pub packed-hit : meets x s b q ≡ true → (c : ℕ) → c ≡ boxCell x (b .tile) q → PackedTo x s b memory (set words count (getD memory c 0)) (count + 1) (q + 1)
-  unfolding pack
-  packed-hit h c k =
-      record {
-        low = omega arith;
-        long = length-set words count _ ∙ p .long;
-        small = p .small;
-        count-is = omega (arith, p .count-is, walked-more x s b q h);
-        is = rw (add-one count) (take-suc-set words count (getD memory c 0) (packed-room h))
-            ∙ ap (λ (z : List ℕ). z ++ (getD memory c 0 ∷ [])) (p .is)
-            ∙ ap (λ (z : ℕ). pack memory (walked x s b q) ++ (getD memory z 0 ∷ [])) k
-            ∙ sym (pack-append memory (walked x s b q) (boxCell x (b .tile) q ∷ []))
-            ∙ ap (pack memory) (sym (walked-hit x s b q h));
-      }
-
-  pub packed-miss : meets x s b q ≡ false → PackedTo x s b memory words count (q + 1)
-  packed-miss h =
-      record {
-        low = omega arith;
-        long = p .long;
-        small = p .small;
-        count-is = p .count-is ∙ ap length (sym (walked-miss x s b q h));
-        is = p .is ∙ ap (pack memory) (sym (walked-miss x s b q h));
-      }
-
-pub packed-none : (x : Nest) (s : ℕ) (b : Bounds) (memory words : List ℕ) → length words ≡ length (walked x s b (b .size)) → b .size ≤ 16384 → PackedTo x s b memory words 0 0
-unfolding pack
-packed-none x s b memory words long small =
-    record {
-      low = omega arith;
-      long = long;
-      small = small;
-      count-is = ap length (sym (boxParcel-none x (b .tile) (slotDirection x s)));
-      is = ap (pack memory) (sym (boxParcel-none x (b .tile) (slotDirection x s)));
-    }
-
-pub packed-end : (x : Nest) (s : ℕ) (b : Bounds) (memory words : List ℕ) (count q : ℕ) → PackedTo x s b memory words count q → b .size ≤ q → words ≡ pack memory (walked x s b (b .size))
-packed-end x s b memory words count q p h =
-    let z : q ≡ b .size = omega (arith, p .low) in
-    let k : count ≡ length words = p .count-is ∙ ap (λ (m : ℕ). length (walked x s b m)) z ∙ sym (p .long) in
-    sym (take-length words) ∙ ap (λ (m : ℕ). take m words) (sym k) ∙ p .is ∙ ap (λ (m : ℕ). pack memory (walked x s b m)) z
-
--- between two distances of the cell at y
-module _ (x : Nest) (s : ℕ) (b : Bounds) (first c a w : ℕ) (ends : List ℕ) (r : RowEnds x s b first c a w ends) (memory words₁ : List ℕ) (count₁ y₁ : ℕ)
-    (p : PackedTo x s b memory words₁ count₁ (first + y₁)) (h : y₁ < w) (words : List ℕ) (count y e : ℕ) (f : Searching (λ d. ltb (a + y₁) (getD ends d 0)) (x .distances) words₁ count₁ y₁ words count y e) where
-  room : first + y₁ < b .size
-  room = omega (arith, r .room)
-
-  module _ (k : e < x .distances) (hit : a + y₁ < getD ends e 0) where
-    met : meets x s b (first + y₁) ≡ true
-    met = sym (row-meets x s b first c a w ends r y₁ h) ∙ some-one _ (x .distances) e k (lt-ltb _ _ hit)
-
-    pub find-room : count < length words
-    find-room = omega (arith, f .same-count, ap length (f .same-words), packed-room x s b memory words₁ count₁ (first + y₁) p room met)
-
-    pub find-hit : PackedTo x s b memory (set words count (getD memory (c + y₁) 0)) (count + 1) (first + (y + 1))
-    find-hit =
-        rw (f .same-words, f .same-count, f .same-q, ← add-assoc first y₁ 1)
-        (packed-hit x s b memory words₁ count₁ (first + y₁) p room met (c + y₁) (r .number y₁ h))
-
-  pub find-miss : x .distances ≤ e → PackedTo x s b memory words count (first + (y + 1))
-  find-miss k =
-      rw (f .same-words, f .same-count, f .same-q, ← add-assoc first y₁ 1)
-      (packed-miss x s b memory words₁ count₁ (first + y₁) p room (sym (row-meets x s b first c a w ends r y₁ h) ∙ some-none _ (x .distances) (λ i j. f .none i (omega arith))))
 
 -- ---- unpacking a row
 
@@ -468,42 +360,6 @@ module _ (x : Nest) (to i : List ℕ) where
 
   pub ending-end : (ends : List ℕ) (e : ℕ) → Ending x to i ends e → x .distances ≤ e → DistanceEnds x to i ends
   ending-end ends e s h = record { each = λ d k. s .each d (omega (arith, s .low)) }
-
--- ---- a row being packed, whatever nest and box it is of
-
-pub record Going (s : ℕ) (words₀ memory ends : List ℕ) (a first w packed n c : ℕ) (words : List ℕ) (count y : ℕ) : Type 0 where
-  pub low : y ≤ w
-  pub is : (x : Nest) (b : Bounds) → n ≡ x .distances → RowEnds x s b first c a w ends → PackedTo x s b memory words₀ packed first → PackedTo x s b memory words count (first + y)
-
-module _ (s : ℕ) (words₀ memory ends : List ℕ) (a first w packed n c : ℕ) where
-  pub going-none : Going s words₀ memory ends a first w packed n c words₀ packed 0
-  going-none = record { low = omega arith; is = λ x b q r p. rw (add-zero first) p }
-
-  module _ (words₁ : List ℕ) (count₁ y₁ : ℕ) (g : Going s words₀ memory ends a first w packed n c words₁ count₁ y₁) (h : y₁ < w)
-      (words : List ℕ) (count y e : ℕ) (f : Searching (λ d. ltb (a + y₁) (getD ends d 0)) n words₁ count₁ y₁ words count y e) where
-    pub going-hit : e < n → a + y₁ < getD ends e 0 → Going s words₀ memory ends a first w packed n c (set words count (getD memory (c + y₁) 0)) (count + 1) (y + 1)
-    going-hit k hit =
-        record {
-          low = omega (arith, f .same-q);
-          is = λ x b q r p. find-hit x s b first c a w ends r memory words₁ count₁ y₁ (g .is x b q r p) h words count y e (rw q at f) (rw q at k) hit;
-        }
-
-    pub going-miss : n ≤ e → Going s words₀ memory ends a first w packed n c words count (y + 1)
-    going-miss k =
-        record {
-          low = omega (arith, f .same-q);
-          is = λ x b q r p. find-miss x s b first c a w ends r memory words₁ count₁ y₁ (g .is x b q r p) h words count y e (rw q at f) (rw q at k);
-        }
-
-    pub going-room : (x : Nest) (b : Bounds) → n ≡ x .distances → RowEnds x s b first c a w ends → PackedTo x s b memory words₀ packed first → e < n → a + y₁ < getD ends e 0
-        → (count < length words) × (count < 16384)
-    going-room x b q r p k hit =
-        let m = find-room x s b first c a w ends r memory words₁ count₁ y₁ (g .is x b q r p) h words count y e (rw q at f) (rw q at k) hit in
-        (m, omega (arith, f .same-count, ap length (f .same-words), g .is x b q r p .long, boxParcel-few x (b .tile) (slotDirection x s) (b .size), p .small))
-
-  pub going-end : (words : List ℕ) (count y : ℕ) → Going s words₀ memory ends a first w packed n c words count y → w ≤ y → (x : Nest) (b : Bounds) → n ≡ x .distances → RowEnds x s b first c a w ends
-      → PackedTo x s b memory words₀ packed first → PackedTo x s b memory words count (first + w)
-  going-end words count y g h x b q r p = let z : y ≡ w = omega (arith, g .low) in rw z at (g .is x b q r p)
 
 pub window-few : (x : Nest) (ok : Accepted x) (t j : ℕ) → t ≤ 1024 → t * tileLength x j ≤ 2097152
 window-few x ok t j h = omega (arith, mul-le-mul {n₁ = t} {m₁ = tileLength x j} {n₂ = 1024} {m₂ = 1024} h (ok .tile-most j))

@@ -1,18 +1,17 @@
--- The cells of a parcel by rows: the window that a moved cell has to come into, and where in a row a distance puts cells there.
+-- The cells of a parcel by rows: the window that a moved cell has to come into, where in a row a distance puts cells there, and
+-- which cells of the row are packed.
 -- No sentence of document 01; proofs/ ties each to Messages.
 use Prim.Native.Nat.{ℕ, _+_, _*_, _-_, _≤_, _<_, min}
 use mathlib.Core.Path.{_≡_}
-use mathlib.Core.Bool.{Bool}
-use mathlib.Core.List.{List}
-use lib.ListN.{length, getD, take}
+use mathlib.Core.List.{List, map}
+use lib.ListN.{length, getD}
 use lib.Dec.{ltb}
-use Rattle.base.specs.Tests.{some}
-use Rattle.base.specs.Lists.{pack}
+use Rattle.base.specs.Tests.{some, keep}
+use Rattle.base.specs.Lists.{put, pack}
 use Rattle.nest.specs.declared.Nest.{Nest}
 use Rattle.nest.specs.Nest.{lengthOf, tileLength, cells}
-use Rattle.plan.specs.Messages.{reaches, slotDirection, slotParcel}
+use Rattle.plan.specs.Messages.{reaches, slotDirection}
 use Rattle.plan.specs.Box.{boxCell}
-use Rattle.plan.proofs.Box.{boxParcel}
 use Rattle.layout.specs.declared.Bounds.{Bounds}
 use Rattle.layout.specs.Places.{puts}
 
@@ -44,10 +43,21 @@ pub record RowEnds (x : Nest) (s : ℕ) (b : Bounds) (first c a w : ℕ) (ends :
   pub number : (y : ℕ) → y < w → c + y ≡ boxCell x (b .tile) (first + y)
   pub tests : (y e : ℕ) → y < w → e < x .distances → ltb (a + y) (getD ends e 0) ≡ reaches x (b .tile) (slotDirection x s) (boxCell x (b .tile) (first + y)) e
 
--- the first `count` words are those of the parcel's cells among the first q of the box; all will fit
-pub record PackedTo (x : Nest) (s : ℕ) (b : Bounds) (memory words : List ℕ) (count q : ℕ) : Type 0 where
-  pub low : q ≤ b .size
-  pub long : length words ≡ length (boxParcel x (b .tile) (slotDirection x s) (b .size))
-  pub small : b .size ≤ 16384
-  pub count-is : count ≡ length (boxParcel x (b .tile) (slotDirection x s) q)
-  pub is : take count words ≡ pack memory (boxParcel x (b .tile) (slotDirection x s) q)
+-- of the w cells of a row, the first with number c and last component a, those that one of the n distances puts there, being
+-- below its end: each once, rising
+unfoldable pub rowParcel : List ℕ → ℕ → ℕ → ℕ → ℕ → List ℕ
+rowParcel ends n c a w = map (λ y. c + y) (keep (λ y. some (λ e. ltb (a + y) (getD ends e 0)) n) w)
+
+-- the row is the memory's, and its cells that are to be packed have room from `packed` on
+pub record RowRoom (ends : List ℕ) (n c a w : ℕ) (memory words : List ℕ) (packed : ℕ) : Type 0 where
+  pub few : n ≤ 8
+  pub low : c + w ≤ length memory
+  pub short : length memory ≤ 16384
+  pub small : a + w ≤ 1024
+  pub room : packed + length (rowParcel ends n c a w) ≤ length words
+  pub most : length words ≤ 16384
+
+-- their words stand from `packed` on, all other words as before, and `count` words are then packed
+pub record RowPacked (ends : List ℕ) (n c a w : ℕ) (memory words₀ : List ℕ) (packed : ℕ) (words : List ℕ) (count : ℕ) : Type 0 where
+  pub count-is : count ≡ packed + length (rowParcel ends n c a w)
+  pub is : words ≡ put words₀ packed (pack memory (rowParcel ends n c a w))

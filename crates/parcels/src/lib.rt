@@ -2,7 +2,7 @@
 ghost use mathlib.Core.Path.{_≡_};
 ghost use Prim.Native.Nat.{ℕ, _+_, _*_, _-_, min, _≤_, _<_};
 ghost use lib.ListN.{length, getD};
-ghost use lib.Dec.{eqb, leb, ltb};
+ghost use lib.Dec.{leb, ltb};
 ghost use Rattle.base.specs.Tests.{_and_, pick, some};
 ghost use Rattle.base.specs.Lists.{part, pack, unpack};
 ghost use Rattle.nest.proofs.Accepted.{Accepted};
@@ -12,13 +12,13 @@ ghost use Rattle.layout.specs.Sizes.{Sized};
 ghost use Rattle.layout.specs.Places.{Has, Bounded, bound};
 ghost use Rattle.layout.specs.CellRows.{Given, rowOf};
 ghost use Rattle.parcels.specs.Twins.{Twin};
-ghost use Rattle.parcels.specs.Windows.{Windowed, RowEnd, DistanceEnds, Leading, RowEnds, PackedTo};
-ghost use Rattle.parcels.specs.Sendings.{Unchanged, Alike, Sends, RowAt};
+ghost use Rattle.parcels.specs.Windows.{Windowed, RowEnd, DistanceEnds, Leading, RowRoom, RowPacked};
+ghost use Rattle.parcels.specs.Sendings.{carries, Unchanged, Alike, Sends, RowAt};
 use layout::Bounds;
 use layout::Sizes;
 use nest::Nest;
 
-// Between which components a cell has to come, to be in a parcel.
+// The window: a cell is in a parcel if some distance puts it from `low` on, below `high`, in each dimension.
 struct Window {
     low: [usize; 4],
     high: [usize; 4],
@@ -46,7 +46,7 @@ struct Row {
 // The carry test: whether `component` + `distance` lies from `low` on, below `high`.
 fn carry(component: usize, distance: usize, low: usize, high: usize) -> bool
     requires { ⌜ component + distance ≤ 4096 ⌝ }
-    ensures { λ r. ⌜ r ≡ (leb low (component + distance) and ltb (component + distance) high) ⌝ }
+    ensures { λ r. ⌜ r ≡ carries low high (component + distance) ⌝ }
 {
     let moved = component + distance;
     if moved < low {
@@ -160,6 +160,7 @@ fn end_in_row(
     high[last] - d
 }
 
+// That of each distance.
 fn ends_of(
     nest: Nest,
     components: &[usize; 32],
@@ -235,7 +236,7 @@ fn rows_alike(
     rows
 }
 
-// Whether a place of tiles is beyond the last one: nothing is bound for it.
+// Whether a place of tiles is beyond the last one in some of the first n dimensions: nothing is bound for it.
 fn outside(across: [usize; 4], to: [usize; 4], n: usize) -> bool
     requires { ⌜ n ≤ 4 ⌝ }
     ensures { λ r. ⌜ r ≡ some (λ j. leb (getD across j 0) (getD to j 0)) n ⌝ }
@@ -248,6 +249,7 @@ fn outside(across: [usize; 4], to: [usize; 4], n: usize) -> bool
     false
 }
 
+// What is found once for all rows of a slot's box.
 fn sending_of(nest: Nest, sizes: Sizes, slot: usize, to: [usize; 4]) -> Sending
     requires { ⌜ Sized nest sizes × ((slot < slots nest) × Has to (bound nest slot) (nest .dimensions)) ⌝ }
     ensures { λ r. ⌜ Sends nest slot r ⌝ }
@@ -290,16 +292,6 @@ fn row_at(nest: Nest, components: &[usize; 32], sending: Sending, slot: usize, r
     }
 }
 
-// How many rows to go on: all that are alike where none of their cells is in the parcel.
-fn rows_on(run: usize, alike: usize) -> usize
-    ensures { λ r. ⌜ r ≡ pick (eqb run 0) alike 1 ⌝ }
-{
-    if run == 0 {
-        return alike;
-    }
-    1
-}
-
 // How many cells a slot's parcel has.
 pub fn parcel_length(nest: Nest, sizes: Sizes, slot: usize) -> usize
     requires { ⌜ Sized nest sizes × (slot < slots nest) ⌝ }
@@ -323,31 +315,27 @@ pub fn parcel_length(nest: Nest, sizes: Sizes, slot: usize) -> usize
     count
 }
 
-// The words of a row's cells in the parcel: a cell is packed at the first distance that reads it there.
+// The words of a row's cells that are in the parcel, after those packed before: the search over the distances decides, and a
+// cell is packed at the first of them that reads it there.
 fn pack_row(
-    nest: Nest,
-    bounds: Bounds,
-    slot: usize,
     words: &mut [u32],
     memory: &[u32],
     ends: &[usize; 8],
+    distances: usize,
     from: usize,
     component: usize,
-    first: usize,
     width: usize,
     packed: usize,
 ) -> usize
-    requires { ⌜ Accepted nest × (RowEnds nest slot bounds first from component width (now ends) × (length (now memory) ≡ cells nest)) ⌝ }
-    requires { ⌜ PackedTo nest slot bounds (now memory) (now words) packed first ⌝ }
-    ensures { λ r. ⌜ PackedTo nest slot bounds (now (memory .entry)) (now (words .exit)) r (first + width) ⌝ }
+    requires { ⌜ RowRoom (now ends) distances from component width (now memory) (now words) packed ⌝ }
+    ensures { λ r. ⌜ RowPacked (now (ends .entry)) distances from component width (now (memory .entry)) (now (words .entry)) packed (now (words .exit)) r ⌝ }
 {
-    let distances = nest.distances;
     let mut count = packed;
     'cells: for y in 0..width {
         let number = from + y;
-        let end = component + y;
+        let last = component + y;
         'distances: for e in 0..distances {
-            if end < ends[e] {
+            if last < ends[e] {
                 words[count] = memory[number];
                 count += 1;
                 continue 'cells;
@@ -357,7 +345,7 @@ fn pack_row(
     count
 }
 
-// The words of a slot's parcel, row by row.
+// The words of a slot's parcel, row by row: rows alike that have none of it are passed over at once.
 pub fn pack(nest: Nest, sizes: Sizes, slot: usize, words: &mut [u32], memory: &[u32])
     requires { ⌜ Sized nest sizes × ((slot < slots nest) × ((length (now memory) ≡ cells nest) × (length (now words) ≡ length (slotParcel nest slot)))) ⌝ }
     ensures { λ _. ⌜ now (words .exit) ≡ pack (now (memory .entry)) (slotParcel nest slot) ⌝ }
@@ -367,29 +355,29 @@ pub fn pack(nest: Nest, sizes: Sizes, slot: usize, words: &mut [u32], memory: &[
     let components = nest.components;
     let rows = sending.rows;
     let width = sending.width;
-    let bounds = sending.bounds;
     let lengths = nest.lengths;
     let mut count = 0;
     let mut r = 0;
     while r < rows {
         let row = row_at(nest, &components, sending, slot, r);
+        if row.run == 0 {
+            r += row.alike;
+            continue;
+        }
         let ends = row.ends;
         let at = row.place;
         let number = layout::rank(lengths, at, nest.dimensions);
         count = pack_row(
-            nest,
-            bounds,
-            slot,
             words,
             memory,
             &ends,
+            nest.distances,
             number,
             row.component,
-            r * width,
-            row.run,
+            width,
             count,
         );
-        r += rows_on(row.run, row.alike);
+        r += 1;
     }
 }
 
@@ -417,10 +405,14 @@ pub fn unpack(nest: Nest, sizes: Sizes, slot: usize, memory: &mut [u32], words: 
     let mut r = 0;
     while r < rows {
         let row = row_at(nest, &components, sending, slot, r);
+        if row.run == 0 {
+            r += row.alike;
+            continue;
+        }
         let at = row.place;
         let number = layout::rank(lengths, at, nest.dimensions);
         unpack_row(memory, words, number, count, row.run);
         count += row.run;
-        r += rows_on(row.run, row.alike);
+        r += 1;
     }
 }

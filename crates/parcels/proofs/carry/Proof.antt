@@ -1,6 +1,5 @@
 -- `parcels::carry` meets its contract.
-use native.Mathlib.Omega.{arith}
-use mathlib.Core.Path.{sym, _∙_}
+use mathlib.Core.Path.{sym}
 use borrow.Author.Tests.{lt-leb, le-leb}
 use Rattle.base.proofs.Tests.{and-false, and-left}
 use borrow.Author.Needs.{needs}

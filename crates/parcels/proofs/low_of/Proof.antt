@@ -2,7 +2,6 @@
 use native.Mathlib.Omega.{arith}
 use mathlib.Core.Path.{sym}
 use Rattle.base.proofs.Tests.{pick-true, pick-false}
-use borrow.Author.Needs.{needs}
 use Rattle.parcels.proofs.low_of.Statement.{statement}
 use Rattle.parcels.proofs.low_of.Tie as tie
 

@@ -3,56 +3,55 @@
 use borrow.Author.Needs.{needs}
 use native.Mathlib.Omega.{arith}
 use Prim.Native.Nat.{_-_, _<_}
-use mathlib.Core.Path.{refl, sym, _∙_}
+use mathlib.Core.Path.{refl}
 use lib.ListN.{length, getD}
 use lib.Dec.{ltb}
 use borrow.Author.Tests.{le-ltb}
 use Rattle.layout.proofs.Loops.{nowhere-more}
-use Rattle.parcels.proofs.Walks.{Searching}
-use Rattle.parcels.proofs.Windows.{Going, going-none, going-hit, going-miss, going-room, going-end}
+use Rattle.parcels.proofs.Packing.{Packing, Searching, packing-none, packing-long, packing-room, packing-hit, packing-miss, packing-end}
 use Rattle.parcels.proofs.pack_row.Statement.{statement}
 use Rattle.parcels.proofs.pack_row.Tie as tie
 
 abbrev Inv-distances : tie.InvT-distances
-Inv-distances slot words₀ memory ends from component first width packed distances count₀ y₀ number end e₀ words count y e = Searching (λ d. ltb end (getD ends d 0)) distances words₀ count₀ y₀ words count y e
+Inv-distances words₀ memory ends distances from component width packed count₀ y₀ number last e₀ words count y e = Searching (λ d. ltb last (getD ends d 0)) distances words₀ count₀ y₀ words count y e
 
 abbrev μ-distances : tie.MeasureT-distances
-μ-distances slot words₀ memory ends from component first width packed distances count₀ y₀ number end e₀ words count y e = distances - e
+μ-distances words₀ memory ends distances from component width packed count₀ y₀ number last e₀ words count y e = distances - e
 
 abbrev Inv-cells : tie.InvT-cells
-Inv-cells slot words₀ memory ends from component first width packed distances count₀ y₀ words count y = Going slot words₀ memory ends component first width packed distances from words count y
+Inv-cells words₀ memory ends distances from component width packed count₀ y₀ words count y = Packing ends distances from component width memory words₀ packed words count y
 
 abbrev μ-cells : tie.MeasureT-cells
-μ-cells slot words₀ memory ends from component first width packed distances count₀ y₀ words count y = width - y
+μ-cells words₀ memory ends distances from component width packed count₀ y₀ words count y = width - y
 
 -- a word that is to be packed has room
 room : (c : tie.After-shared-slice-known Inv-distances μ-distances Inv-cells μ-cells) → (c .before .before .before .before .distances .count < length (c .before .before .before .before .distances .words)) × (c .before .before .before .before .distances .count < 16384)
-room c = going-room _ _ _ _ _ _ _ _ _ _ _ _ _ (c .before .before .before .before .before .before .cells .inv) (c .before .before .before .before .before .cells-test .taken) _ _ _ _ (c .before .before .before .before .distances .inv) _ _ refl (c .before .before .before .before .before .before .before .pre .0 .1 .0) (c .before .before .before .before .before .before .before .pre .1) (c .before .before .before .distances-test .taken) (c .before .if1 .taken)
+room c = packing-room _ _ _ _ _ _ _ _ (c .before .before .before .before .before .before .before .pre) _ _ _ (c .before .before .before .before .before .before .cells .inv) (c .before .before .before .before .before .cells-test .taken) _ _ _ _ (c .before .before .before .before .distances .inv) (c .before .before .before .distances-test .taken) (c .before .if1 .taken)
 
 cells-holds : tie.Need-cells-holds Inv-distances μ-distances Inv-cells μ-cells
-cells-holds c = going-none _ _ _ _ _ _ _ _ _ _
+cells-holds c = packing-none _ _ _ _ _ _ _ _
 
 add-number : tie.Need-add-number Inv-distances μ-distances Inv-cells μ-cells
-add-number c = omega (arith, c .cells-test .taken, c .before .before .pre .0 .1 .0 .low, c .before .before .pre .0 .0 .cells-most)
+add-number c = omega (arith, c .cells-test .taken, c .before .before .pre .low, c .before .before .pre .short)
 
-add-end : tie.Need-add-end Inv-distances μ-distances Inv-cells μ-cells
-add-end c = omega (arith, c .cells-test .taken, c .before .before .pre .0 .1 .0 .small)
+add-last : tie.Need-add-last Inv-distances μ-distances Inv-cells μ-cells
+add-last c = omega (arith, c .cells-test .taken, c .before .before .pre .small)
 
 distances-holds : tie.Need-distances-holds Inv-distances μ-distances Inv-cells μ-cells
-distances-holds c = record { same-words = refl; same-count = refl; same-q = refl; low = omega arith; none = λ i h. absurd (omega arith) }
+distances-holds c = record { same-words = refl; same-count = refl; same-y = refl; low = omega arith; none = λ i h. absurd (omega arith) }
 
 mul-if1 : tie.Need-mul-if1 Inv-distances μ-distances Inv-cells μ-cells
-mul-if1 c = omega (arith, c .distances-test .taken, c .before .before .before .before .pre .0 .0 .distances-most)
+mul-if1 c = omega (arith, c .distances-test .taken, c .before .before .before .before .pre .few)
 
 element-copy-out-if1 : tie.Need-element-copy-out-if1 Inv-distances μ-distances Inv-cells μ-cells
-element-copy-out-if1 c = omega (arith, c .distances-test .taken, c .before .before .before .before .pre .0 .0 .distances-most)
+element-copy-out-if1 c = omega (arith, c .distances-test .taken, c .before .before .before .before .pre .few)
 
 mul-words : tie.Need-mul-words Inv-distances μ-distances Inv-cells μ-cells
-mul-words c = omega (arith, c .before .before .before .before .cells-test .taken, c .before .before .before .before .before .before .pre .0 .1 .0 .low, c .before .before .before .before .before .before .pre .0 .0 .cells-most)
+mul-words c = omega (arith, c .before .before .before .before .cells-test .taken, c .before .before .before .before .before .before .pre .low, c .before .before .before .before .before .before .pre .short)
 
 shared-slice-read-words :
     tie.Need-shared-slice-read-words Inv-distances μ-distances Inv-cells μ-cells
-shared-slice-read-words c = omega (arith, c .before .before .before .before .before .cells-test .taken, c .before .before .before .before .before .before .before .pre .0 .1 .0 .low, c .before .before .before .before .before .before .before .pre .0 .1 .1)
+shared-slice-read-words c = omega (arith, c .before .before .before .before .before .cells-test .taken, c .before .before .before .before .before .before .before .pre .low)
 
 mul-words-2 : tie.Need-mul-words-2 Inv-distances μ-distances Inv-cells μ-cells
 mul-words-2 c = omega (arith, room c .1)
@@ -64,37 +63,37 @@ add-count : tie.Need-add-count Inv-distances μ-distances Inv-cells μ-cells
 add-count c = omega (arith, room c .1)
 
 add-y : tie.Need-add-y Inv-distances μ-distances Inv-cells μ-cells
-add-y c = omega (arith, c .before .before .before .before .distances .inv .same-q, c .before .before .before .before .before .cells-test .taken, c .before .before .before .before .before .before .before .pre .0 .1 .0 .small)
+add-y c = omega (arith, c .before .before .before .before .distances .inv .same-y, c .before .before .before .before .before .cells-test .taken, c .before .before .before .before .before .before .before .pre .small)
 
 cells-less : tie.Need-cells-less Inv-distances μ-distances Inv-cells μ-cells
-cells-less c = omega (arith, c .before .before .before .before .distances .inv .same-q, c .before .before .before .before .before .cells-test .taken)
+cells-less c = omega (arith, c .before .before .before .before .distances .inv .same-y, c .before .before .before .before .before .cells-test .taken)
 
 cells-again : tie.Need-cells-again Inv-distances μ-distances Inv-cells μ-cells
-cells-again c = going-hit _ _ _ _ _ _ _ _ _ _ _ _ _ (c .before .before .before .before .before .before .cells .inv) (c .before .before .before .before .before .cells-test .taken) _ _ _ _ (c .before .before .before .before .distances .inv) (c .before .before .before .distances-test .taken) (c .before .if1 .taken)
+cells-again c = packing-hit _ _ _ _ _ _ _ _ (c .before .before .before .before .before .before .before .pre) _ _ _ (c .before .before .before .before .before .before .cells .inv) (c .before .before .before .before .before .cells-test .taken) _ _ _ _ (c .before .before .before .before .distances .inv) (c .before .before .before .distances-test .taken) (c .before .if1 .taken)
 
 add-e : tie.Need-add-e Inv-distances μ-distances Inv-cells μ-cells
-add-e c = omega (arith, c .before .before .distances-test .taken, c .before .before .before .before .before .before .pre .0 .0 .distances-most)
+add-e c = omega (arith, c .before .before .distances-test .taken, c .before .before .before .before .before .before .pre .few)
 
 distances-less : tie.Need-distances-less Inv-distances μ-distances Inv-cells μ-cells
 distances-less c = search needs
 
 distances-again : tie.Need-distances-again Inv-distances μ-distances Inv-cells μ-cells
-distances-again c = record { same-words = c .before .before .before .distances .inv .same-words; same-count = c .before .before .before .distances .inv .same-count; same-q = c .before .before .before .distances .inv .same-q; low = omega (arith, c .before .before .distances-test .taken); none = nowhere-more _ _ _ (record { low = c .before .before .before .distances .inv .low; none = c .before .before .before .distances .inv .none }) (c .before .before .distances-test .taken) (le-ltb _ _ (c .if1 .left)) .none }
+distances-again c = record { same-words = c .before .before .before .distances .inv .same-words; same-count = c .before .before .before .distances .inv .same-count; same-y = c .before .before .before .distances .inv .same-y; low = omega (arith, c .before .before .distances-test .taken); none = nowhere-more _ _ _ (record { low = c .before .before .before .distances .inv .low; none = c .before .before .before .distances .inv .none }) (c .before .before .distances-test .taken) (le-ltb _ _ (c .if1 .left)) .none }
 
 add-y-2 : tie.Need-add-y-2 Inv-distances μ-distances Inv-cells μ-cells
-add-y-2 c = omega (arith, c .before .distances .inv .same-q, c .before .before .cells-test .taken, c .before .before .before .before .pre .0 .1 .0 .small)
+add-y-2 c = omega (arith, c .before .distances .inv .same-y, c .before .before .cells-test .taken, c .before .before .before .before .pre .small)
 
 cells-less-2 : tie.Need-cells-less-2 Inv-distances μ-distances Inv-cells μ-cells
-cells-less-2 c = omega (arith, c .before .distances .inv .same-q, c .before .before .cells-test .taken)
+cells-less-2 c = omega (arith, c .before .distances .inv .same-y, c .before .before .cells-test .taken)
 
 cells-again-2 : tie.Need-cells-again-2 Inv-distances μ-distances Inv-cells μ-cells
-cells-again-2 c = going-miss _ _ _ _ _ _ _ _ _ _ _ _ _ (c .before .before .before .cells .inv) (c .before .before .cells-test .taken) _ _ _ _ (c .before .distances .inv) (c .distances-test .left)
+cells-again-2 c = packing-miss _ _ _ _ _ _ _ _ (c .before .before .before .before .pre) _ _ _ (c .before .before .before .cells .inv) (c .before .before .cells-test .taken) _ _ _ _ (c .before .distances .inv) (c .distances-test .left)
 
 same-length : tie.Need-same-length Inv-distances μ-distances Inv-cells μ-cells
-same-length c = c .before .cells .inv .is _ _ refl (c .before .before .pre .0 .1 .0) (c .before .before .pre .1) .long ∙ sym (c .before .before .pre .1 .long)
+same-length c = packing-long _ _ _ _ _ _ _ _ (c .before .before .pre) _ _ _ (c .before .cells .inv)
 
 returns : tie.Need-returns Inv-distances μ-distances Inv-cells μ-cells
-returns c = going-end _ _ _ _ _ _ _ _ _ _ _ _ _ (c .before .cells .inv) (c .cells-test .left) _ _ refl (c .before .before .pre .0 .1 .0) (c .before .before .pre .1)
+returns c = packing-end _ _ _ _ _ _ _ _ _ _ _ (c .before .cells .inv) (c .cells-test .left)
 
 pub pack-row-spec : {M : Type 1} → statement M
 pack-row-spec =
@@ -106,7 +105,7 @@ pack-row-spec =
     μ-cells
     cells-holds
     add-number
-    add-end
+    add-last
     distances-holds
     mul-if1
     element-copy-out-if1

@@ -1,8 +1,7 @@
 -- `parcels::window_of` meets its contract: the first j dimensions.
 use borrow.Author.Needs.{needs}
 use native.Mathlib.Omega.{arith}
-use Prim.Native.Nat.{_-_, _*_, _≤_}
-use lib.ListN.{getD}
+use Prim.Native.Nat.{_-_}
 use Rattle.layout.proofs.Loops.{Filled, filled-none, filled-more}
 use Rattle.parcels.proofs.Windows.{lowAt, highAt, windowed, window-few}
 use Rattle.parcels.proofs.window_of.Statement.{statement}
