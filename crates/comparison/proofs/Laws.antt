@@ -1,21 +1,22 @@
--- Laws of the comparison: what a run with every step taken lets be collected, when a fresh start gives 0, and each return.
+-- Laws of the comparison: when two areas are the same, when a fresh start gives 0, each return, and that no recipe within the limits differs.
 use Prim.Native.Nat.{ℕ, _+_, _*_, _≤_, _<_}
 use mathlib.Core.Path.{_≡_, refl, sym, ap, _∙_}
 use mathlib.Core.Logic.{_≢_, _⊎_, inl, inr}
-use mathlib.Core.Bool.{Bool, true, false, false≢true}
-use mathlib.Core.List.{List, []}
+use mathlib.Core.Bool.{Bool, true, false}
+use mathlib.Core.List.{List, [], _++_}
 use native.Mathlib.Nat.{mul-comm, eq-or-lt-of-le}
 use native.Mathlib.Omega.{arith}
-use lib.ListN.{length, getD, take, set}
-use lib.Seq.{ext-getD, length-take-le, getD-set-same, getD-set-other}
-use borrow.Author.Tests.{eqb-true, eq-eqb, ne-eqb}
-use Rattle.base.specs.Tests.{_and_, pick}
+use lib.ListN.{length, getD, take, drop, set}
+use lib.Dec.{eqb, ltb}
+use lib.Seq.{ext-getD, length-take-le, take-at, getD-set-same, getD-set-other}
+use borrow.Author.Tests.{eqb-true, eq-eqb, ne-eqb, lt-ltb, le-ltb, ltb-false}
+use Rattle.base.specs.Tests.{_and_, _or_, pick}
 use Rattle.base.specs.Numbers.{firstOf}
-use Rattle.base.proofs.Tests.{both, and-true, not-true, true-not, never-both}
+use Rattle.base.proofs.Tests.{both, and-true, and-left, and-false, and-no, or-left, neither, not-true, true-not, every-all, every-not, length-tabulate, tabulate-at}
 use Rattle.base.proofs.Numbers.{first-false, first-behind, none-first}
 use Rattle.machine.specs.Plan.{count, words}
 use Rattle.machine.specs.Machine.{State, Answered, stateOf, sweep}
-use Rattle.machine.specs.Runs.{Event, stateAfter, steps}
+use Rattle.machine.specs.Runs.{Event, steps, total}
 use Rattle.nest.specs.declared.Reading.{Reading}
 use Rattle.nest.specs.Nest.{cells, processors}
 use Rattle.base.specs.Lists.{Bytes}
@@ -29,22 +30,22 @@ use Rattle.table.proofs.Answers.{nest-is, summary-is}
 use Rattle.engine.specs.Calls.{answer, recipe, areas, freshCall, collectCall, sweepCall}
 use Rattle.engine.specs.Demands.{calls}
 use Rattle.engine.proofs.Demands.{demands}
-use Rattle.drive.specs.Drive.{roundsOf, Started, Driven}
+use Rattle.drive.specs.Drive.{roundsOf, Driven}
 use Rattle.drive.specs.declared.Order.{Order}
-use Rattle.drive.proofs.Whole.{numbered, before-none, behind-none}
+use Rattle.drive.proofs.Whole.{numbered, behind-none, ended}
 use Rattle.comparison.specs.declared.Extent.{Extent}
-use Rattle.comparison.specs.Agreement.{Measured, Within, Finished, Ran, Agreed, Grids, Roomy, Compared}
+use Rattle.comparison.specs.Agreement.{isBeyond, sourceOf, sameWords, driven, ran, Outcome, outcome, agreeing, compared, ranAndCompared, orderOf, fronts, Within, Roomy, Agreed}
 use Rattle.comparison.proofs.Most.{messages-most, words-most}
 
 -- ---- a fresh start
 
 module _ (bytes source : List ℕ) (s : State) where
-  -- one that gave 0: the recipe is accepted, and the source has a word for each cell
-  fresh-says : freshCall bytes source s .number ≡ 0 → (firstOf (readLines bytes) ≡ 0) × (length source ≡ recipe bytes .cells)
+  -- one that gave 0: the source has a word for each cell
+  fresh-says : freshCall bytes source s .number ≡ 0 → length source ≡ recipe bytes .cells
   unfolding freshCall areas
   fresh-says z =
       let a = none-first 9 _ [] (λ e. omega arith) (behind-none (readLines bytes) _ (numbered bytes) z) in
-      (before-none (readLines bytes) _ z, eqb-true _ _ (both (true-not (a .0)) .0))
+      eqb-true _ _ (both (true-not (a .0)) .0)
 
   -- it gives 0 where the recipe is accepted and the areas have their lengths
   fresh-goes : firstOf (readLines bytes) ≡ 0 → length source ≡ recipe bytes .cells
@@ -62,73 +63,108 @@ module _ (bytes source : List ℕ) (s : State) where
   sweep-goes grid z a b =
       first-behind (readLines bytes) _ (numbered bytes) z ∙ first-false 9 _ [] (not-true (and-true (eq-eqb _ _ a) (eq-eqb _ _ b)))
 
--- ---- a run with every step taken
+-- ---- the comparison of two areas
 
-module _ (bytes source : List ℕ) (t : State) (b : Bytes bytes) (f : Finished bytes source t) where
-  pub collects : (grid : List ℕ) → length grid ≡ recipe bytes .cells → collectCall bytes source t grid .number ≡ 0
-  collects grid l = rw (f .state) (demands .three bytes source (f .before) b (f .given) (f .events) .can-collect (f .all) grid l)
+pub same-self : (a : List ℕ) → sameWords a a ≡ true
+unfolding sameWords
+same-self a =
+    and-true (eq-eqb (length a) (length a) refl) (every-all (λ i. eqb (getD a i 0) (getD a i 0)) (length a) (λ i l. eq-eqb (getD a i 0) (getD a i 0) refl))
 
-  pub collected : (grid : List ℕ) → length grid ≡ recipe bytes .cells → collectCall bytes source t grid .after ≡ sweep (recipe bytes) source
-  collected grid l = rw (f .state) (demands .three bytes source (f .before) b (f .given) (f .events) .grid (f .all) grid l)
+pub lengths-differ : (a b : List ℕ) → length a ≢ length b → false ≡ sameWords a b
+unfolding sameWords
+lengths-differ a b n = sym (and-false _ _ (ne-eqb _ _ n))
 
-  pub sweeps : (grid : List ℕ) → length grid ≡ recipe bytes .cells → sweepCall bytes source grid .number ≡ 0
-  sweeps grid l = let x = fresh-says bytes source (f .before) (f .given) in sweep-goes bytes source t grid (x .0) (x .1) l
+pub words-differ : (a b : List ℕ) (i : ℕ) → i < length a → getD a i 0 ≢ getD b i 0 → false ≡ sameWords a b
+unfolding sameWords
+words-differ a b i l n = sym (and-no _ _ (every-not (λ i. eqb (getD a i 0) (getD b i 0)) (length a) i l (ne-eqb _ _ n)))
 
-  pub swept : (grid : List ℕ) → length grid ≡ recipe bytes .cells → sweepCall bytes source grid .after ≡ sweep (recipe bytes) source
-  swept grid l = demands .one bytes source t .sweep grid .works (sweeps grid l)
+pub words-same : (a b : List ℕ) (i : ℕ) → length a ≡ length b → length a ≤ i → ((j : ℕ) → j < i → getD a j 0 ≡ getD b j 0) → true ≡ sameWords a b
+unfolding sameWords
+words-same a b i e l h =
+    sym (and-true (eq-eqb _ _ e) (every-all (λ i. eqb (getD a i 0) (getD b i 0)) (length a) (λ j k. eq-eqb _ _ (h j (omega arith)))))
 
-  -- each way that the comparison can end
-  pub not-collected : (A : Type 0) (grid g : List ℕ) (r : ℕ) → length grid ≡ recipe bytes .cells
-      → answer r g ≡ collectCall bytes source t grid → r ≢ 0 → A
-  not-collected A grid g r l is n = absurd (n (ap (λ (a : Answered (List ℕ)). a .number) is ∙ collects grid l))
+pub one-more : (a b : List ℕ) (i : ℕ) → ((j : ℕ) → j < i → getD a j 0 ≡ getD b j 0) → getD a i 0 ≡ getD b i 0
+    → (j : ℕ) → j < i + 1 → getD a j 0 ≡ getD b j 0
+one-more a b i h e j l = go (eq-or-lt-of-le (omega arith))
+  where
+    go : (j ≡ i) ⊎ (j < i) → getD a j 0 ≡ getD b j 0
+    go (inl q) = rw q e
+    go (inr q) = h j q
 
-  pub not-swept : (A : Type 0) (grid g : List ℕ) (r : ℕ) → length grid ≡ recipe bytes .cells → answer r g ≡ sweepCall bytes source grid
-      → r ≢ 0 → A
-  not-swept A grid g r l is n = absurd (n (ap (λ (a : Answered (List ℕ)). a .number) is ∙ sweeps grid l))
+-- ---- a run, collected and compared: each way that the code can end
 
-  pub agreed : (grid g grid2 h : List ℕ) (q r : ℕ) (same : Bool) → Grids bytes grid grid2 → answer q g ≡ collectCall bytes source t grid
-      → answer r h ≡ sweepCall bytes source grid2 → Compared g h same → Agreed bytes source same g
-  agreed grid g grid2 h q r same l c s x =
-      let a : g ≡ sweep (recipe bytes) source = ap (λ (a : Answered (List ℕ)). a .after) c ∙ collected grid (l .grid) in
-      let d : h ≡ sweep (recipe bytes) source = ap (λ (a : Answered (List ℕ)). a .after) s ∙ swept grid2 (l .swept) in
-      record { says = x .complete (a ∙ sym d); swept = a }
+module _ (bytes source : List ℕ) (s t u : State) (o : Order) (n r : ℕ) where
+  pub run : answer r t ≡ freshCall bytes source s → Driven bytes source o n t u → u ≡ ran bytes source o n s
+  unfolding ran
+  run is d = d .state ∙ ap (λ (a : Answered State). driven bytes source o n (a .after)) is
 
--- ---- a run
+module _ (bytes source : List ℕ) (t : State) (g h g′ h′ : List ℕ) (p q : ℕ) where
+  module _ (c : answer p g′ ≡ collectCall bytes source t g) (w : answer q h′ ≡ sweepCall bytes source h) where
+    by-answers : (b : Bool) → b ≡ agreeing (answer p g′) (answer q h′) → outcome t g′ h′ b ≡ compared bytes source t g h
+    unfolding compared
+    by-answers b e = rw (sym c, sym w) (ap (outcome t g′ h′) e)
 
-module _ (bytes source : List ℕ) (s : State) where
-  pub not-run : (t : State) (r : ℕ) (u : State) → answer r t ≡ freshCall bytes source s → r ≢ 0 → Ran bytes source s false u
-  not-run t r u is n =
-      record {
-        starts = sym (ne-eqb _ 0 (λ z. n (ap (λ (a : Answered State). a .number) is ∙ z)));
-        ends = λ e. absurd (false≢true e);
-      }
+    pub not-collected : p ≢ 0 → outcome t g′ h′ false ≡ compared bytes source t g h
+    unfolding agreeing
+    not-collected n = by-answers false (sym (and-false _ _ (ne-eqb p 0 n)))
 
-  module _ (x : Extent) (falling : Bool) where
-    abbrev pub order : Order
-    order = record { processors = x .processors; messages = x .messages; falling = falling }
+    pub not-swept : p ≡ 0 → q ≢ 0 → outcome t g′ h′ false ≡ compared bytes source t g h
+    unfolding agreeing
+    not-swept e n = by-answers false (sym (and-no _ _ (and-false _ _ (ne-eqb q 0 n))))
 
-    pub run : (t u : State) (r : ℕ) → Measured bytes x → answer r t ≡ freshCall bytes source s → r ≡ 0
-        → Driven bytes source order (x .steps) t u → Ran bytes source s true u
-    run t u r m is z d =
-        let given : freshCall bytes source s .number ≡ 0 = sym (ap (λ (a : Answered State). a .number) is) ∙ z in
-        let there : t ≡ freshCall bytes source s .after = ap (λ (a : Answered State). a .after) is in
-        let start : Started bytes source order (x .steps) t =
-        record { before = s; given = given; state = there; processors = m .processors; messages = m .messages; rounds = m .steps } in
-        let es : List Event = roundsOf (calls bytes source) order (x .steps) t in
-        record {
-          starts = sym (eq-eqb _ 0 given);
-          ends = λ e.
-              record {
-                before = s;
-                given = given;
-                events = es;
-                state = d .state ∙ ap (λ (y : State). stateAfter (calls bytes source) y es) there;
-                all = sym (ap (λ (y : State). steps (calls bytes source) y es) there) ∙ d .whole start;
-              };
-        }
+    pub both-done : (b : Bool) → p ≡ 0 → q ≡ 0 → b ≡ sameWords g′ h′ → outcome t g′ h′ b ≡ compared bytes source t g h
+    unfolding agreeing
+    both-done b e f is = by-answers b (is ∙ sym (and-left _ _ (eq-eqb p 0 e) ∙ and-left _ _ (eq-eqb q 0 f)))
 
-  pub stays-out : (t : State) (r : Bool) (A : Type 0) → Ran bytes source s r t → r ≡ false → freshCall bytes source s .number ≡ 0 → A
-  stays-out t r A x e z = absurd (never-both (x .starts ∙ eq-eqb _ 0 z) e)
+pub then-compared : (bytes source : List ℕ) (o : Order) (n : ℕ) (s t : State) (g h g′ h′ : List ℕ) (b : Bool) → t ≡ ran bytes source o n s
+    → outcome t g′ h′ b ≡ compared bytes source t g h → outcome t g′ h′ b ≡ ranAndCompared bytes source o n s g h
+then-compared bytes source o n s t g h g′ h′ b e f = f ∙ ap (λ (t : State). compared bytes source t g h) e
+
+-- ---- a recipe within the limits never differs
+
+module _ (bytes source : List ℕ) (x : Extent) (falling : Bool) (s : State) (w : Within bytes x) (b : Bytes bytes) where
+  abbrev start : State
+  start = freshCall bytes source s .after
+
+  abbrev end : State
+  end = ran bytes source (orderOf x falling) (x .steps) s
+
+  module _ (given : freshCall bytes source s .number ≡ 0) where
+    abbrev events : List Event
+    events = roundsOf (calls bytes source) (orderOf x falling) (x .steps) start
+
+    all-taken : steps (calls bytes source) start events ≡ total (recipe bytes)
+    all-taken =
+        ended bytes source (orderOf x falling) (x .steps) start b
+        (record {
+          before = s;
+          given = given;
+          state = refl;
+          processors = w .measured .processors;
+          messages = w .measured .messages;
+          rounds = w .measured .steps;
+        })
+
+    collects : (g : List ℕ) → length g ≡ recipe bytes .cells
+        → (collectCall bytes source end g .number ≡ 0) × (collectCall bytes source end g .after ≡ sweep (recipe bytes) source)
+    unfolding ran
+    collects g l =
+        let d = demands .three bytes source s b given events in
+        (d .can-collect all-taken g l, d .grid all-taken g l)
+
+    sweeps : (h : List ℕ) → length h ≡ recipe bytes .cells
+        → (sweepCall bytes source h .number ≡ 0) × (sweepCall bytes source h .after ≡ sweep (recipe bytes) source)
+    sweeps h l =
+        let z = sweep-goes bytes source s h (w .read) (fresh-says bytes source s given) l in
+        (z, demands .one bytes source s .sweep h .works z)
+
+    pub never-differs : (g h : List ℕ) → length g ≡ recipe bytes .cells → length h ≡ recipe bytes .cells
+        → ranAndCompared bytes source (orderOf x falling) (x .steps) s g h .agree ≡ true
+    unfolding compared agreeing
+    never-differs g h l k =
+        let c = collects g l in
+        let d = sweeps h k in
+        and-true (eq-eqb _ 0 (c .0)) (and-true (eq-eqb _ 0 (d .0)) (rw (c .1, d .1) (same-self (sweep (recipe bytes) source))))
 
 -- ---- the program's sources
 
@@ -140,29 +176,32 @@ source-next counting l i w low h e j k = go (eq-or-lt-of-le (omega arith))
     go (inl q) = rw q (getD-set-same l i w 0 low ∙ e)
     go (inr q) = getD-set-other l i j w 0 (λ z. omega arith) ∙ h j q
 
--- ---- two areas compared
+source-long : (counting : Bool) (n : ℕ) → length (sourceOf counting n) ≡ n
+unfolding sourceOf
+source-long counting n = length-tabulate (λ c. pick counting (c + 1) 1) n
 
-pub unlike : (a b : List ℕ) → (a ≡ b → ⊥) → Compared a b false
-unlike a b n = record { sound = λ e. absurd (false≢true e); complete = λ e. absurd (n e) }
+pub source-done : (counting : Bool) (l m : List ℕ) (i : ℕ) → length l ≡ length m → length m ≤ i → ((j : ℕ) → j < i → getD l j 0 ≡ pick counting (j + 1) 1)
+    → l ≡ sourceOf counting (length m)
+unfolding sourceOf
+source-done counting l m i e k h =
+    ext-getD 0 l _ (e ∙ sym (length-tabulate (λ c. pick counting (c + 1) 1) (length m)))
+    (λ j q. h j (omega arith) ∙ sym (tabulate-at (λ c. pick counting (c + 1) 1) (length m) j (omega arith)))
 
-pub alike : (a b : List ℕ) → length a ≡ length b → ((i : ℕ) → i < length a → getD a i 0 ≡ getD b i 0) → Compared a b true
-alike a b l h = record { sound = λ e. ext-getD 0 a b l h; complete = λ e. refl }
+-- ---- the limits
 
-pub one-more : (a b : List ℕ) (i : ℕ) → ((j : ℕ) → j < i → getD a j 0 ≡ getD b j 0) → getD a i 0 ≡ getD b i 0
-    → (j : ℕ) → j < i + 1 → getD a j 0 ≡ getD b j 0
-one-more a b i h e j l = go (eq-or-lt-of-le (omega arith))
-  where
-    go : (j ≡ i) ⊎ (j < i) → getD a j 0 ≡ getD b j 0
-    go (inl q) = rw q e
-    go (inr q) = h j q
+pub many-cells : (c p : ℕ) → 1024 < c → true ≡ isBeyond c p
+unfolding isBeyond
+many-cells c p h = sym (or-left _ (lt-ltb 1024 c h))
 
--- ---- the first words of an area
+pub many-words : (c p w : ℕ) → c ≤ 1024 → w ≡ c * p → ltb 4096 w ≡ isBeyond c p
+unfolding isBeyond _or_
+many-words c p w h e = rw (le-ltb 1024 c h, e)
 
-pub counted : (k n : ℕ) (l : List ℕ) → k ≡ n → n ≤ length l → k ≡ length (take k l)
-counted k n l e h = sym (length-take-le k l (omega arith))
-
-pub front : (k n : ℕ) (l : List ℕ) → k ≡ n → n ≤ length l → length (take k l) ≡ n
-front k n l e h = length-take-le k l (omega arith) ∙ e
+pub not-beyond : (c p : ℕ) (r : Bool) → r ≡ isBeyond c p → r ≡ false → (c ≤ 1024) × (c * p ≤ 4096)
+unfolding isBeyond
+not-beyond c p r is e =
+    let n = neither {a = ltb 1024 c} {b = ltb 4096 (c * p)} (sym is ∙ e) in
+    (omega (arith, ltb-false 1024 c (n .0)), omega (arith, ltb-false 4096 (c * p) (n .1)))
 
 -- ---- the areas of a recipe within the limits
 
@@ -195,6 +234,52 @@ module _ (bytes : List ℕ) (x : Extent) (b : Bytes bytes) (w : Within bytes x) 
       let q = w .measured in
       fresh-goes bytes source (stateOf m v p s) (w .read) (e1 ∙ q .cells)
       (e2 ∙ mul-comm (x .cells) (x .processors) ∙ rw (q .cells, q .processors) refl) (e3 ∙ q .words) (e4 ∙ ap (λ (k : ℕ). 3 * k) (q .processors)) (e5 ∙ q .messages)
+
+-- ---- the first words of an area
+
+pub counted : (k n : ℕ) (l : List ℕ) → k ≡ n → n ≤ length l → k ≡ length (take k l)
+counted k n l e h = sym (length-take-le k l (omega arith))
+
+pub front : (k n : ℕ) (l : List ℕ) → k ≡ n → n ≤ length l → length (take k l) ≡ n
+front k n l e h = length-take-le k l (omega arith) ∙ e
+
+-- what a call left of the first k words, lent as a part, is what stands first when the part is back
+pub front-back : (k n : ℕ) (l new : List ℕ) → k ≡ n → n ≤ length l → length new ≡ length (take k l) → take n (new ++ drop k l) ≡ new
+front-back k n l new e h q = take-at new (drop k l) n (q ∙ front k n l e h)
+
+module _ (bytes : List ℕ) (x : Extent) (falling : Bool) (a m w p s g h : List ℕ) (room : Roomy x a m w p s g h) where
+  -- the equation over the parts is the one over the areas' first words
+  pub on-fronts : (kc km kw kp ks : ℕ) (m′ w′ p′ s′ g′ h′ : List ℕ) (b : Bool) → kc ≡ x .cells → km ≡ x .cells * x .processors
+      → kw ≡ x .words → kp ≡ 3 * x .processors → ks ≡ x .messages → length m′ ≡ length (take km m) → length w′ ≡ length (take kw w)
+      → length p′ ≡ length (take kp p) → length s′ ≡ length (take ks s) → length g′ ≡ length (take kc g) → length h′ ≡ length (take kc h)
+      → outcome (stateOf m′ w′ p′ s′) g′ h′ b
+      ≡ ranAndCompared bytes (take kc a) (orderOf x falling) (x .steps) (stateOf (take km m) (take kw w) (take kp p) (take ks s)) (take kc g) (take kc h)
+      → outcome (fronts x (m′ ++ drop km m) (w′ ++ drop kw w) (p′ ++ drop kp p) (s′ ++ drop ks s)) (take (x .cells) (g′ ++ drop kc g)) (take (x .cells) (h′ ++ drop kc h)) b
+      ≡ ranAndCompared bytes (take (x .cells) a) (orderOf x falling) (x .steps) (fronts x m w p s) (take (x .cells) g) (take (x .cells) h)
+  on-fronts kc km kw kp ks m′ w′ p′ s′ g′ h′ b ec em ew ep es lm lw lp ls lg lh is =
+      rw (front-back km (x .cells * x .processors) m m′ em (room .memories) lm, front-back kw (x .words) w w′ ew (room .buffer) lw, front-back kp (3 * x .processors) p p′ ep (room .progress) lp, front-back ks (x .messages) s s′ es (room .status) ls, front-back kc (x .cells) g g′ ec (room .grid) lg, front-back kc (x .cells) h h′ ec (room .swept) lh)
+      (rw (ec, em, ew, ep, es) at is)
+
+  module _ (kc : ℕ) (e : kc ≡ x .cells) (filled : List ℕ) (l : length filled ≡ length (take kc a)) where
+    pub agreed : (counting : Bool) (o : Outcome) → Bytes bytes → Within bytes x → filled ≡ sourceOf counting (length (take kc a))
+        → o ≡ ranAndCompared bytes (take (x .cells) (filled ++ drop kc a)) (orderOf x falling) (x .steps) (fronts x m w p s) (take (x .cells) g) (take (x .cells) h)
+        → Agreed bytes x counting falling (fronts x m w p s) (take (x .cells) g) (take (x .cells) h) (take (x .cells) (filled ++ drop kc a)) o
+    agreed counting o b i f is =
+        let long : length (take kc a) ≡ x .cells = front kc (x .cells) a e (room .source) in
+        let source : take (x .cells) (filled ++ drop kc a) ≡ sourceOf counting (x .cells) =
+        front-back kc (x .cells) a filled e (room .source) l ∙ f ∙ ap (sourceOf counting) long in
+        let same : o ≡ ranAndCompared bytes (sourceOf counting (x .cells)) (orderOf x falling) (x .steps) (fronts x m w p s) (take (x .cells) g) (take (x .cells) h) =
+        rw source at is in
+        record {
+          source = source;
+          outcome = same;
+          always =
+              ap (λ (o : Outcome). o .agree) same
+              ∙ never-differs bytes (sourceOf counting (x .cells)) x falling (fronts x m w p s) i b
+              (starts bytes x b i (sourceOf counting (x .cells)) (take (x .cells * x .processors) m) (take (x .words) w) (take (3 * x .processors) p) (take (x .messages) s) (source-long counting (x .cells))
+              (length-take-le _ m (room .memories)) (length-take-le _ w (room .buffer)) (length-take-le _ p (room .progress)) (length-take-le _ s (room .status)))
+              (take (x .cells) g) (take (x .cells) h) (length-take-le _ g (room .grid) ∙ i .measured .cells) (length-take-le _ h (room .swept) ∙ i .measured .cells);
+        }
 
 -- ---- the figures that the program gives
 

@@ -1,20 +1,66 @@
--- What the functions of the second program hand to each other: the plan's figures, a run with every step taken, areas that hold it.
--- Renders document 01, "The second program": a collected grid equal to the sweep is `agree`.
-use Prim.Native.Nat.{ℕ, _+_, _*_, _≤_, _<_}
+-- What the second program computes of one source and one order: a run driven to its end, its grid collected, the sweep, their comparison.
+-- Renders document 01, "Recipes to be met": the second program's two sources, its two orders, `agree`, `differ` and `beyond`.
+use Prim.Native.Nat.{ℕ, _+_, _*_, _≤_}
 use mathlib.Core.Path.{_≡_}
 use mathlib.Core.Bool.{Bool, true}
 use mathlib.Core.List.{List}
-use lib.ListN.{length, getD}
-use lib.Dec.{eqb}
-use Rattle.base.specs.Tests.{pick}
+use lib.ListN.{length, getD, take}
+use lib.Dec.{eqb, ltb}
+use Rattle.base.specs.Tests.{_and_, _or_, pick, every, tabulate}
 use Rattle.base.specs.Numbers.{firstOf}
 use Rattle.machine.specs.Plan.{count, words}
-use Rattle.machine.specs.Machine.{State, sweep}
-use Rattle.machine.specs.Runs.{Event, stateAfter, total, steps}
+use Rattle.machine.specs.Machine.{State, Answered, stateOf}
+use Rattle.machine.specs.Runs.{stateAfter, total}
 use Rattle.nest.specs.Nest.{readLines}
-use Rattle.engine.specs.Calls.{recipe, freshCall}
+use Rattle.engine.specs.Calls.{recipe, freshCall, collectCall, sweepCall}
 use Rattle.engine.specs.Demands.{calls}
+use Rattle.drive.specs.declared.Order.{Order}
+use Rattle.drive.specs.Drive.{roundsOf}
 use Rattle.comparison.specs.declared.Extent.{Extent}
+
+-- the program's limits: more than 1,024 cells, or more than 4,096 words of memories
+unfoldable pub isBeyond : ℕ → ℕ → Bool
+isBeyond cells processors = ltb 1024 cells or ltb 4096 (cells * processors)
+
+-- the program's two sources: 1 at each cell, or the cell's number plus 1
+unfoldable pub sourceOf : Bool → ℕ → List ℕ
+sourceOf counting cells = tabulate (λ c. pick counting (c + 1) 1) cells
+
+-- two areas have the same words
+unfoldable pub sameWords : List ℕ → List ℕ → Bool
+sameWords a b = eqb (length a) (length b) and every (λ i. eqb (getD a i 0) (getD b i 0)) (length a)
+
+-- the areas after a fresh start of s and at most n rounds in the order
+abbrev pub driven : List ℕ → List ℕ → Order → ℕ → State → State
+driven bytes source o n t = stateAfter (calls bytes source) t (roundsOf (calls bytes source) o n t)
+
+unfoldable pub ran : List ℕ → List ℕ → Order → ℕ → State → State
+ran bytes source o n s = driven bytes source o n (freshCall bytes source s .after)
+
+-- what stands in the areas and in the two grids at the end, and what is said of the grids
+pub record Outcome : Type 0 where
+  pub areas : State
+  pub grid : List ℕ
+  pub swept : List ℕ
+  pub agree : Bool
+
+abbrev pub outcome : State → List ℕ → List ℕ → Bool → Outcome
+outcome t g h b = record { areas = t; grid = g; swept = h; agree = b }
+
+-- both calls gave 0, and they left the same words
+unfoldable pub agreeing : Answered (List ℕ) → Answered (List ℕ) → Bool
+agreeing collected swept = eqb (collected .number) 0 and eqb (swept .number) 0 and sameWords (collected .after) (swept .after)
+
+-- the areas t collected into g, the sweep into h
+unfoldable pub compared : List ℕ → List ℕ → State → List ℕ → List ℕ → Outcome
+compared bytes source t g h =
+    outcome t (collectCall bytes source t g .after) (sweepCall bytes source h .after) (agreeing (collectCall bytes source t g) (sweepCall bytes source h))
+
+-- a run from the areas s, collected and compared
+abbrev pub ranAndCompared : List ℕ → List ℕ → Order → ℕ → State → List ℕ → List ℕ → Outcome
+ranAndCompared bytes source o n s g h = compared bytes source (ran bytes source o n s) g h
+
+-- ---- what the functions hand to each other
 
 -- the figures are the recipe's
 pub record Measured (bytes : List ℕ) (x : Extent) : Type 0 where
@@ -31,29 +77,6 @@ pub record Within (bytes : List ℕ) (x : Extent) : Type 0 where
   pub cells : x .cells ≤ 1024
   pub memories : x .cells * x .processors ≤ 4096
 
--- a fresh start gave 0, and the events after it took every step of the run
-pub record Finished (bytes source : List ℕ) (t : State) : Type 0 where
-  pub before : State
-  pub given : freshCall bytes source before .number ≡ 0
-  pub events : List Event
-  pub state : t ≡ stateAfter (calls bytes source) (freshCall bytes source before .after) events
-  pub all : steps (calls bytes source) (freshCall bytes source before .after) events ≡ total (recipe bytes)
-
--- a fresh start from s that gave 0, driven to its end
-pub record Ran (bytes source : List ℕ) (s : State) (answer : Bool) (t : State) : Type 0 where
-  pub starts : answer ≡ eqb (freshCall bytes source s .number) 0
-  pub ends : answer ≡ true → Finished bytes source t
-
--- the collected grid is the sweep, and so the comparison says
-pub record Agreed (bytes source : List ℕ) (answer : Bool) (grid : List ℕ) : Type 0 where
-  pub says : answer ≡ true
-  pub swept : grid ≡ sweep (recipe bytes) source
-
--- a word for each cell
-pub record Grids (bytes g h : List ℕ) : Type 0 where
-  pub grid : length g ≡ recipe bytes .cells
-  pub swept : length h ≡ recipe bytes .cells
-
 -- each area has room
 pub record Roomy (x : Extent) (a m w p s g h : List ℕ) : Type 0 where
   pub source : x .cells ≤ length a
@@ -64,11 +87,18 @@ pub record Roomy (x : Extent) (a m w p s g h : List ℕ) : Type 0 where
   pub grid : x .cells ≤ length g
   pub swept : x .cells ≤ length h
 
--- the answer tells whether the words are the same
-pub record Compared (a b : List ℕ) (answer : Bool) : Type 0 where
-  pub sound : answer ≡ true → a ≡ b
-  pub complete : a ≡ b → answer ≡ true
+-- the order of a recipe's processors and messages
+abbrev pub orderOf : Extent → Bool → Order
+orderOf x falling = record { processors = x .processors; messages = x .messages; falling = falling }
 
--- the program's two sources: 1 at each cell, or the cell's number plus 1
-pub record Sourced (counting : Bool) (source : List ℕ) : Type 0 where
-  pub each : (c : ℕ) → c < length source → getD source c 0 ≡ pick counting (c + 1) 1
+-- the first words of the areas, as many as the recipe has
+abbrev pub fronts : Extent → List ℕ → List ℕ → List ℕ → List ℕ → State
+fronts x m w p s =
+    stateOf (take (x .cells * x .processors) m) (take (x .words) w) (take (3 * x .processors) p) (take (x .messages) s)
+
+-- one run of an accepted recipe within the limits: the source and what stands in the areas at the end, the comparison of the two grids,
+-- and that it never says that they differ
+pub record Agreed (bytes : List ℕ) (x : Extent) (counting falling : Bool) (s : State) (g h filled : List ℕ) (o : Outcome) : Type 0 where
+  pub source : filled ≡ sourceOf counting (x .cells)
+  pub outcome : o ≡ ranAndCompared bytes (sourceOf counting (x .cells)) (orderOf x falling) (x .steps) s g h
+  pub always : o .agree ≡ true

@@ -1,13 +1,12 @@
 // A recipe swept both ways, over two sources and in two orders of turns: what the second program of document 01 writes.
+use drive::Order;
 use libc::STDOUT_FILENO;
 ghost use mathlib.Core.Path.{_≡_};
-ghost use mathlib.Core.Bool.{true, false};
-ghost use Prim.Native.Nat.{_+_, _*_, _≤_, _<_};
-ghost use lib.ListN.{length};
+ghost use Prim.Native.Nat.{_*_, _≤_, _<_};
+ghost use lib.ListN.{length, take};
 ghost use Rattle.base.specs.Tests.{pick};
 ghost use Rattle.machine.specs.Machine.{stateOf};
-ghost use Rattle.engine.specs.Calls.{freshCall};
-ghost use Rattle.comparison.specs.Agreement.{Measured, Within, Finished, Ran, Agreed, Grids, Roomy, Compared, Sourced};
+ghost use Rattle.comparison.specs.Agreement.{isBeyond, sourceOf, sameWords, ran, outcome, compared, ranAndCompared, orderOf, fronts, Within, Roomy, Agreed};
 
 // What the areas of a run are made of.
 pub struct Extent {
@@ -34,27 +33,19 @@ fn source_word(number: u32, counting: bool) -> u32
     if counting { number } else { 1 }
 }
 
-fn one_more(x: u32) -> u32
-    ensures { λ r. ⌜ (x < 4294967295 → r ≡ x + 1) ⌝ }
-{
-    if x < 4294967295 { x + 1 } else { 0 }
-}
-
 fn fill_source(source: &mut [u32], counting: bool)
-    requires { ⌜ length (now source) ≡ 1024 ⌝ }
-    ensures { λ _. ⌜ Sourced counting (now (source .exit)) ⌝ }
+    requires { ⌜ length (now source) ≤ 1024 ⌝ }
+    ensures { λ _. ⌜ now (source .exit) ≡ sourceOf counting (length (now (source .entry))) ⌝ }
 {
-    let mut number: u32 = 0;
     let mut c: usize = 0;
     while c < source.len() {
-        number = one_more(number);
-        source[c] = source_word(number, counting);
+        source[c] = source_word((c + 1) as u32, counting);
         c += 1;
     }
 }
 
 fn same(a: &[u32], b: &[u32]) -> bool
-    ensures { λ r. ⌜ Compared (now (a .entry)) (now (b .entry)) r ⌝ }
+    ensures { λ r. ⌜ r ≡ sameWords (now (a .entry)) (now (b .entry)) ⌝ }
 {
     if a.len() != b.len() {
         return false;
@@ -69,7 +60,7 @@ fn same(a: &[u32], b: &[u32]) -> bool
     true
 }
 
-// A fresh start, and the run driven to its end.
+// A fresh start, and the run driven to its end. Where the fresh start is refused so is every call after it, and the comparison says so.
 fn run_whole(
     encoded: &[u8],
     source: &[u32],
@@ -77,22 +68,13 @@ fn run_whole(
     buffer: &mut [u32],
     progress: &mut [u32],
     status: &mut [u8],
-    extent: Extent,
-    falling: bool,
-) -> bool
-    requires { ⌜ Measured (now encoded) extent ⌝ }
-    ensures { λ r. ⌜ Ran (now (encoded .entry)) (now (source .entry)) (stateOf (now (memories .entry)) (now (buffer .entry)) (now (progress .entry)) (now (status .entry))) r
-        (stateOf (now (memories .exit)) (now (buffer .exit)) (now (progress .exit)) (now (status .exit))) ⌝ }
+    order: Order,
+    steps: u32,
+)
+    ensures { λ _. ⌜ stateOf (now (memories .exit)) (now (buffer .exit)) (now (progress .exit)) (now (status .exit))
+        ≡ ran (now (encoded .entry)) (now (source .entry)) order steps (stateOf (now (memories .entry)) (now (buffer .entry)) (now (progress .entry)) (now (status .entry))) ⌝ }
 {
-    if engine::fresh(encoded, source, memories, buffer, progress, status) != 0 {
-        return false;
-    }
-    let order = drive::Order {
-        processors: extent.processors,
-        messages: extent.messages,
-        falling: falling,
-    };
-    let steps = extent.steps;
+    engine::fresh(encoded, source, memories, buffer, progress, status);
     drive::drive(
         encoded,
         source,
@@ -103,11 +85,10 @@ fn run_whole(
         order,
         steps,
     );
-    true
 }
 
-// What the run left, collected, is the sequential sweep.
-fn is_swept(
+// What the run left, collected, and the sequential sweep: whether both were done and are the same.
+fn compare(
     encoded: &[u8],
     source: &[u32],
     memories: &[u32],
@@ -117,14 +98,15 @@ fn is_swept(
     grid: &mut [u32],
     swept: &mut [u32],
 ) -> bool
-    requires { ⌜ Finished (now encoded) (now source) (stateOf (now memories) (now buffer) (now progress) (now status)) ⌝ }
-    requires { ⌜ Grids (now encoded) (now grid) (now swept) ⌝ }
-    ensures { λ r. ⌜ Agreed (now (encoded .entry)) (now (source .entry)) r (now (grid .exit)) ⌝ }
+    ensures { λ r. ⌜ outcome (stateOf (now (memories .entry)) (now (buffer .entry)) (now (progress .entry)) (now (status .entry))) (now (grid .exit)) (now (swept .exit)) r
+        ≡ compared (now (encoded .entry)) (now (source .entry)) (stateOf (now (memories .entry)) (now (buffer .entry)) (now (progress .entry)) (now (status .entry))) (now (grid .entry)) (now (swept .entry)) ⌝ }
 {
-    if engine::collect(encoded, source, memories, buffer, progress, status, grid) != 0 {
+    let collecting = engine::collect(encoded, source, memories, buffer, progress, status, grid);
+    let sweeping = engine::sweep(encoded, source, swept);
+    if collecting != 0 {
         return false;
     }
-    if engine::sweep(encoded, source, swept) != 0 {
+    if sweeping != 0 {
         return false;
     }
     same(grid, swept)
@@ -140,38 +122,35 @@ fn agrees_in(
     status: &mut [u8],
     grid: &mut [u32],
     swept: &mut [u32],
-    extent: Extent,
-    falling: bool,
+    order: Order,
+    steps: u32,
 ) -> bool
-    requires { ⌜ Measured (now encoded) extent × Grids (now encoded) (now grid) (now swept) ⌝ }
-    ensures { λ r. ⌜ (freshCall (now (encoded .entry)) (now (source .entry)) (stateOf (now (memories .entry)) (now (buffer .entry)) (now (progress .entry)) (now (status .entry))) .number ≡ 0
-        → Agreed (now (encoded .entry)) (now (source .entry)) r (now (grid .exit))) ⌝ }
+    ensures { λ r. ⌜ outcome (stateOf (now (memories .exit)) (now (buffer .exit)) (now (progress .exit)) (now (status .exit))) (now (grid .exit)) (now (swept .exit)) r
+        ≡ ranAndCompared (now (encoded .entry)) (now (source .entry)) order steps (stateOf (now (memories .entry)) (now (buffer .entry)) (now (progress .entry)) (now (status .entry))) (now (grid .entry)) (now (swept .entry)) ⌝ }
 {
-    if run_whole(
+    run_whole(
         encoded,
         source,
         memories,
         buffer,
         progress,
         status,
-        extent,
-        falling,
-    ) {
-        return is_swept(
-            encoded,
-            source,
-            memories,
-            buffer,
-            progress,
-            status,
-            grid,
-            swept,
-        );
-    }
-    false
+        order,
+        steps,
+    );
+    compare(
+        encoded,
+        source,
+        memories,
+        buffer,
+        progress,
+        status,
+        grid,
+        swept,
+    )
 }
 
-// One run and the sweep, in the first words of the areas lent.
+// The same in the first words of the areas lent, as many as the recipe has.
 fn agrees_on(
     encoded: &[u8],
     source: &[u32],
@@ -184,19 +163,25 @@ fn agrees_on(
     extent: Extent,
     falling: bool,
 ) -> bool
-    requires { ⌜ Within (now encoded) extent ⌝ }
     requires { ⌜ Roomy extent (now source) (now memories) (now buffer) (now progress) (now status) (now grid) (now swept) ⌝ }
-    ensures { λ r. ⌜ r ≡ true ⌝ }
+    ensures { λ r. ⌜ outcome (fronts extent (now (memories .exit)) (now (buffer .exit)) (now (progress .exit)) (now (status .exit))) (take (extent .cells) (now (grid .exit))) (take (extent .cells) (now (swept .exit))) r
+        ≡ ranAndCompared (now (encoded .entry)) (take (extent .cells) (now (source .entry))) (orderOf extent falling) (extent .steps) (fronts extent (now (memories .entry)) (now (buffer .entry)) (now (progress .entry)) (now (status .entry))) (take (extent .cells) (now (grid .entry))) (take (extent .cells) (now (swept .entry))) ⌝ }
 {
     let cells = extent.cells;
     let processors = extent.processors;
     let words = extent.words;
     let messages = extent.messages;
+    let steps = extent.steps;
     let c = parts::wide(cells);
     let m = memory_words(cells, processors) as usize;
     let w = parts::wide(words);
     let p = 3 * parts::wide(processors);
     let s = parts::wide(messages);
+    let order = Order {
+        processors: processors,
+        messages: messages,
+        falling: falling,
+    };
     agrees_in(
         encoded,
         &source[..c],
@@ -206,16 +191,53 @@ fn agrees_on(
         &mut status[..s],
         &mut grid[..c],
         &mut swept[..c],
+        order,
+        steps,
+    )
+}
+
+// The source is written, then the run and the sweep over it are compared.
+fn agrees(
+    encoded: &[u8],
+    source: &mut [u32],
+    memories: &mut [u32],
+    buffer: &mut [u32],
+    progress: &mut [u32],
+    status: &mut [u8],
+    grid: &mut [u32],
+    swept: &mut [u32],
+    extent: Extent,
+    counting: bool,
+    falling: bool,
+) -> bool
+    requires { ⌜ Within (now encoded) extent ⌝ }
+    requires { ⌜ Roomy extent (now source) (now memories) (now buffer) (now progress) (now status) (now grid) (now swept) ⌝ }
+    ensures { λ r. ⌜ Agreed (now (encoded .entry)) extent counting falling
+        (fronts extent (now (memories .entry)) (now (buffer .entry)) (now (progress .entry)) (now (status .entry))) (take (extent .cells) (now (grid .entry))) (take (extent .cells) (now (swept .entry)))
+        (take (extent .cells) (now (source .exit)))
+        (outcome (fronts extent (now (memories .exit)) (now (buffer .exit)) (now (progress .exit)) (now (status .exit))) (take (extent .cells) (now (grid .exit))) (take (extent .cells) (now (swept .exit))) r) ⌝ }
+{
+    let cells = extent.cells;
+    let c = parts::wide(cells);
+    fill_source(&mut source[..c], counting);
+    agrees_on(
+        encoded,
+        source,
+        memories,
+        buffer,
+        progress,
+        status,
+        grid,
+        swept,
         extent,
         falling,
     )
 }
 
 // The areas hold every recipe of at most 1,024 cells with at most 4,096 words of memories: a message is a tile and one of at most
-// 7 directions, and a cell is at most once in each.
-fn agrees(encoded: &[u8], extent: Extent, counting: bool, falling: bool) -> bool
+// 7 directions, and a cell is at most once in each. `differ` is never written: of such a recipe `agrees` is proved to be true.
+fn print_verdict(encoded: &[u8], extent: Extent, counting: bool, falling: bool)
     requires { ⌜ Within (now encoded) extent ⌝ }
-    ensures { λ r. ⌜ r ≡ true ⌝ }
 {
     let mut source = [0u32; 1024];
     let mut memories = [0u32; 4096];
@@ -224,10 +246,9 @@ fn agrees(encoded: &[u8], extent: Extent, counting: bool, falling: bool) -> bool
     let mut status = [0u8; 7168];
     let mut grid = [0u32; 1024];
     let mut swept = [0u32; 1024];
-    fill_source(&mut source, counting);
-    agrees_on(
+    if agrees(
         encoded,
-        &source,
+        &mut source,
         &mut memories,
         &mut buffer,
         &mut progress,
@@ -235,15 +256,9 @@ fn agrees(encoded: &[u8], extent: Extent, counting: bool, falling: bool) -> bool
         &mut grid,
         &mut swept,
         extent,
+        counting,
         falling,
-    )
-}
-
-// `differ` is never written: of a recipe within the limits `agrees` is proved to be true.
-fn print_verdict(encoded: &[u8], extent: Extent, counting: bool, falling: bool)
-    requires { ⌜ Within (now encoded) extent ⌝ }
-{
-    if agrees(encoded, extent, counting, falling) {
+    ) {
         io::write_all(STDOUT_FILENO, b"agree\n");
     } else {
         io::write_all(STDOUT_FILENO, b"differ\n");
@@ -264,7 +279,7 @@ fn narrow(x: usize) -> u32
 }
 
 fn is_beyond(cells: u32, processors: u32) -> bool
-    ensures { λ r. ⌜ (r ≡ false → (cells ≤ 1024) × (cells * processors ≤ 4096)) ⌝ }
+    ensures { λ r. ⌜ r ≡ isBeyond cells processors ⌝ }
 {
     if cells > 1024 {
         return true;

@@ -1,5 +1,5 @@
 -- The events of a drive: a turn of each processor in the order; where none gave 0, a delivery of each message; again until none did.
--- Renders document 01, "The second program": the order in which it drives the offered calls; and what is claimed of such a drive.
+-- Renders document 01, "Recipes to be met": how the second program takes turns and delivers; and what is claimed of such a drive.
 use Prim.Native.Nat.{ℕ, zero, suc, _-_}
 use mathlib.Core.Path.{_≡_}
 use mathlib.Core.Bool.{Bool}

@@ -1,9 +1,8 @@
 -- Each area, cut to its length.
-use borrow.Author.Needs.{needs}
-use mathlib.Core.Path.{_∙_, ap}
-use native.Mathlib.Omega.{arith}
+use mathlib.Core.Path.{ap}
 use Prim.Native.Nat.{ℕ, _*_}
 use Rattle.comparison.proofs.Laws as laws
+use borrow.Author.Needs.{needs}
 use Rattle.comparison.proofs.agrees_on.Statement.{statement}
 use Rattle.comparison.proofs.agrees_on.Tie as tie
 
@@ -26,46 +25,46 @@ wide-requires-4 : tie.Need-wide-requires-4
 wide-requires-4 c κs = search needs
 
 slice-aggregate-agrees-in : tie.Need-slice-aggregate-agrees-in
-slice-aggregate-agrees-in c = let S = c .before .before .before .before .before .before .before .before .before .before .before .before .before .before in laws.counted (c .before .before .before .before .before .wide .result) _ (S .args .source .now) (c .before .before .before .before .before .wide .ensures .0) (S .pre .1 .source)
+slice-aggregate-agrees-in c = laws.counted (c .before .before .before .before .before .wide .result) _ (c .before .before .before .before .before .before .before .before .before .before .before .before .before .before .args .source .now) (c .before .before .before .before .before .wide .ensures .0) (c .before .before .before .before .before .before .before .before .before .before .before .before .before .before .pre .source)
 
 slice-relend-prefix-agrees-in : tie.Need-slice-relend-prefix-agrees-in
 slice-relend-prefix-agrees-in c = search needs
 
 slice-aggregate-agrees-in-2 : tie.Need-slice-aggregate-agrees-in-2
-slice-aggregate-agrees-in-2 c = let S = c .before .before .before .before .before .before .before .before .before .before .before .before .before .before .before in laws.counted (c .before .before .before .before .before .memory-words .result) _ (S .args .memories .now) (c .before .before .before .before .before .memory-words .ensures) (S .pre .1 .memories)
+slice-aggregate-agrees-in-2 c = laws.counted (c .before .before .before .before .before .memory-words .result) _ (c .before .before .before .before .before .before .before .before .before .before .before .before .before .before .before .args .memories .now) (c .before .before .before .before .before .memory-words .ensures) (c .before .before .before .before .before .before .before .before .before .before .before .before .before .before .before .pre .memories)
 
 slice-relend-prefix-agrees-in-2 : tie.Need-slice-relend-prefix-agrees-in-2
 slice-relend-prefix-agrees-in-2 c = search needs
 
 slice-aggregate-agrees-in-3 : tie.Need-slice-aggregate-agrees-in-3
-slice-aggregate-agrees-in-3 c = let S = c .before .before .before .before .before .before .before .before .before .before .before .before .before .before .before .before in laws.counted (c .before .before .before .before .before .wide2 .result) _ (S .args .buffer .now) (c .before .before .before .before .before .wide2 .ensures .0) (S .pre .1 .buffer)
+slice-aggregate-agrees-in-3 c = laws.counted (c .before .before .before .before .before .wide2 .result) _ (c .before .before .before .before .before .before .before .before .before .before .before .before .before .before .before .before .args .buffer .now) (c .before .before .before .before .before .wide2 .ensures .0) (c .before .before .before .before .before .before .before .before .before .before .before .before .before .before .before .before .pre .buffer)
 
 slice-relend-prefix-agrees-in-3 : tie.Need-slice-relend-prefix-agrees-in-3
 slice-relend-prefix-agrees-in-3 c = search needs
 
 slice-aggregate-agrees-in-4 : tie.Need-slice-aggregate-agrees-in-4
-slice-aggregate-agrees-in-4 c = let S = c .before .before .before .before .before .before .before .before .before .before .before .before .before .before .before .before .before in laws.counted (3 * c .before .before .before .before .before .wide3 .result) _ (S .args .progress .now) (ap (λ (n : ℕ). 3 * n) (c .before .before .before .before .before .wide3 .ensures .0)) (S .pre .1 .progress)
+slice-aggregate-agrees-in-4 c = laws.counted (3 * c .before .before .before .before .before .wide3 .result) _ (c .before .before .before .before .before .before .before .before .before .before .before .before .before .before .before .before .before .args .progress .now) (ap (λ (n : ℕ). 3 * n) (c .before .before .before .before .before .wide3 .ensures .0)) (c .before .before .before .before .before .before .before .before .before .before .before .before .before .before .before .before .before .pre .progress)
 
 slice-relend-prefix-agrees-in-4 : tie.Need-slice-relend-prefix-agrees-in-4
 slice-relend-prefix-agrees-in-4 c = search needs
 
 slice-aggregate-agrees-in-5 : tie.Need-slice-aggregate-agrees-in-5
-slice-aggregate-agrees-in-5 c = let S = c .before .before .before .before .before .before .before .before .before .before .before .before .before .before .before .before .before .before in laws.counted (c .before .before .before .before .before .wide4 .result) _ (S .args .status .now) (c .before .before .before .before .before .wide4 .ensures .0) (S .pre .1 .status)
+slice-aggregate-agrees-in-5 c = laws.counted (c .before .before .before .before .before .wide4 .result) _ (c .before .before .before .before .before .before .before .before .before .before .before .before .before .before .before .before .before .before .args .status .now) (c .before .before .before .before .before .wide4 .ensures .0) (c .before .before .before .before .before .before .before .before .before .before .before .before .before .before .before .before .before .before .pre .status)
 
 slice-relend-prefix-agrees-in-5 : tie.Need-slice-relend-prefix-agrees-in-5
 slice-relend-prefix-agrees-in-5 c = search needs
 
 slice-aggregate-agrees-in-6 : tie.Need-slice-aggregate-agrees-in-6
-slice-aggregate-agrees-in-6 c = let S = c .before .before .before .before .before .before .before .before .before .before .before .before .before .before .before .before .before .before .before in laws.counted (c .before .before .before .before .before .before .before .before .before .before .wide .result) _ (S .args .grid .now) (c .before .before .before .before .before .before .before .before .before .before .wide .ensures .0) (S .pre .1 .grid)
+slice-aggregate-agrees-in-6 c = laws.counted (c .before .before .before .before .before .before .before .before .before .before .wide .result) _ (c .before .before .before .before .before .before .before .before .before .before .before .before .before .before .before .before .before .before .before .args .grid .now) (c .before .before .before .before .before .before .before .before .before .before .wide .ensures .0) (c .before .before .before .before .before .before .before .before .before .before .before .before .before .before .before .before .before .before .before .pre .grid)
 
 slice-relend-prefix-agrees-in-6 : tie.Need-slice-relend-prefix-agrees-in-6
 slice-relend-prefix-agrees-in-6 c = search needs
 
 slice-aggregate-agrees-in-7 : tie.Need-slice-aggregate-agrees-in-7
-slice-aggregate-agrees-in-7 c = let S = c .before .before .before .before .before .before .before .before .before .before .before .before .before .before .before .before .before .before .before .before in laws.counted (c .before .before .before .before .before .before .before .before .before .before .before .wide .result) _ (S .args .swept .now) (c .before .before .before .before .before .before .before .before .before .before .before .wide .ensures .0) (S .pre .1 .swept)
+slice-aggregate-agrees-in-7 c = laws.counted (c .before .before .before .before .before .before .before .before .before .before .before .wide .result) _ (c .before .before .before .before .before .before .before .before .before .before .before .before .before .before .before .before .before .before .before .before .args .swept .now) (c .before .before .before .before .before .before .before .before .before .before .before .wide .ensures .0) (c .before .before .before .before .before .before .before .before .before .before .before .before .before .before .before .before .before .before .before .before .pre .swept)
 
 agrees-in-requires : tie.Need-agrees-in-requires
-agrees-in-requires c κs = let S = c .before .before .before .before .before .before .before .before .before .before .before .before .before .before .before .before .before .before .before .before in (S .pre .0 .measured, record { grid = (laws.front (c .before .before .before .before .before .before .before .before .before .before .before .wide .result) _ (S .args .grid .now) (c .before .before .before .before .before .before .before .before .before .before .before .wide .ensures .0) (S .pre .1 .grid)) ∙ S .pre .0 .measured .cells; swept = (laws.front (c .before .before .before .before .before .before .before .before .before .before .before .wide .result) _ (S .args .swept .now) (c .before .before .before .before .before .before .before .before .before .before .before .wide .ensures .0) (S .pre .1 .swept)) ∙ S .pre .0 .measured .cells })
+agrees-in-requires c κs = search needs
 
 same-length : tie.Need-same-length
 same-length c = search needs
@@ -86,7 +85,7 @@ same-length-6 : tie.Need-same-length-6
 same-length-6 c = search needs
 
 returns : tie.Need-returns
-returns c = let S = c .before .before .before .before .before .before .before .before .before .before .before .before .before .before .before .before .before .before .before .before .before .before .before .before .before .before .before .before .before .before .before .before .before in let A = S .args in c .before .before .before .before .before .before .before .before .before .before .before .before .agrees-in .ensures (laws.starts (A .encoded .now) (A .extent) (λ i. omega (arith, c .before .before .before .before .before .before .before .before .before .before .before .before .before .before .before .before .before .before .before .before .before .before .before .before .before .before .before .before .before .before .before .before .shared-slice-known .given i)) (S .pre .0) _ _ _ _ _ (laws.front (c .before .before .before .before .before .before .before .before .before .before .before .before .before .before .before .before .before .before .before .before .before .before .before .before .wide .result) _ (S .args .source .now) (c .before .before .before .before .before .before .before .before .before .before .before .before .before .before .before .before .before .before .before .before .before .before .before .before .wide .ensures .0) (S .pre .1 .source)) (laws.front (c .before .before .before .before .before .before .before .before .before .before .before .before .before .before .before .before .before .before .before .before .before .before .before .memory-words .result) _ (S .args .memories .now) (c .before .before .before .before .before .before .before .before .before .before .before .before .before .before .before .before .before .before .before .before .before .before .before .memory-words .ensures) (S .pre .1 .memories)) (laws.front (c .before .before .before .before .before .before .before .before .before .before .before .before .before .before .before .before .before .before .before .before .before .before .wide2 .result) _ (S .args .buffer .now) (c .before .before .before .before .before .before .before .before .before .before .before .before .before .before .before .before .before .before .before .before .before .before .wide2 .ensures .0) (S .pre .1 .buffer)) (laws.front (3 * c .before .before .before .before .before .before .before .before .before .before .before .before .before .before .before .before .before .before .before .before .before .wide3 .result) _ (S .args .progress .now) (ap (λ (n : ℕ). 3 * n) (c .before .before .before .before .before .before .before .before .before .before .before .before .before .before .before .before .before .before .before .before .before .wide3 .ensures .0)) (S .pre .1 .progress)) (laws.front (c .before .before .before .before .before .before .before .before .before .before .before .before .before .before .before .before .before .before .before .before .wide4 .result) _ (S .args .status .now) (c .before .before .before .before .before .before .before .before .before .before .before .before .before .before .before .before .before .before .before .before .wide4 .ensures .0) (S .pre .1 .status))) .says
+returns c = let A = c .before .before .before .before .before .before .before .before .before .before .before .before .before .before .before .before .before .before .before .before .before .before .before .before .before .before .before .before .before .before .before .before .before .args in let G = c .before .before .before .before .before .before .before .before .before .before .before .before .agrees-in in laws.on-fronts (A .encoded .now) (A .extent) (A .falling) (A .source .now) (A .memories .now) (A .buffer .now) (A .progress .now) (A .status .now) (A .grid .now) (A .swept .now) (c .before .before .before .before .before .before .before .before .before .before .before .before .before .before .before .before .before .before .before .before .before .before .before .before .before .before .before .before .before .before .before .before .before .pre) (c .before .before .before .before .before .before .before .before .before .before .before .before .before .before .before .before .before .before .before .before .before .before .before .before .wide .result) (c .before .before .before .before .before .before .before .before .before .before .before .before .before .before .before .before .before .before .before .before .before .before .before .memory-words .result) (c .before .before .before .before .before .before .before .before .before .before .before .before .before .before .before .before .before .before .before .before .before .before .wide2 .result) (3 * c .before .before .before .before .before .before .before .before .before .before .before .before .before .before .before .before .before .before .before .before .before .wide3 .result) (c .before .before .before .before .before .before .before .before .before .before .before .before .before .before .before .before .before .before .before .before .wide4 .result) _ _ _ _ _ _ (G .result) (c .before .before .before .before .before .before .before .before .before .before .before .before .before .before .before .before .before .before .before .before .before .before .before .before .wide .ensures .0) (c .before .before .before .before .before .before .before .before .before .before .before .before .before .before .before .before .before .before .before .before .before .before .before .memory-words .ensures) (c .before .before .before .before .before .before .before .before .before .before .before .before .before .before .before .before .before .before .before .before .before .before .wide2 .ensures .0) (ap (λ (n : ℕ). 3 * n) (c .before .before .before .before .before .before .before .before .before .before .before .before .before .before .before .before .before .before .before .before .before .wide3 .ensures .0)) (c .before .before .before .before .before .before .before .before .before .before .before .before .before .before .before .before .before .before .before .before .wide4 .ensures .0) (G .kept .1 .1 .0) (G .kept .1 .1 .1 .0) (G .kept .1 .1 .1 .1 .0) (G .kept .1 .1 .1 .1 .1 .0) (G .kept .1 .1 .1 .1 .1 .1 .0) (G .kept .1 .1 .1 .1 .1 .1 .1 .0) (G .ensures)
 
 pub agrees-on-spec : {M : Type 1} → statement M
 agrees-on-spec =

@@ -1,6 +1,6 @@
 -- The words so far are the source's.
 use borrow.Author.Needs.{needs}
-use mathlib.Core.Path.{_≡_, _∙_, ap}
+use mathlib.Core.Path.{_≡_}
 use native.Mathlib.Omega.{arith}
 use lib.ListN.{length, getD}
 use Prim.Native.Nat.{ℕ, _+_, _-_, _<_}
@@ -10,17 +10,19 @@ use Rattle.comparison.proofs.fill_source.Statement.{statement}
 use Rattle.comparison.proofs.fill_source.Tie as tie
 
 abbrev Inv-loop : tie.InvT-loop
-Inv-loop source₀ counting number₀ c₀ source number c =
-    (length source ≡ length source₀) × ((number ≡ c) × ((j : ℕ) → j < c → getD source j 0 ≡ pick counting (j + 1) 1))
+Inv-loop source₀ counting c₀ source c = (length source ≡ length source₀) × ((j : ℕ) → j < c → getD source j 0 ≡ pick counting (j + 1) 1)
 
 abbrev μ-loop : tie.MeasureT-loop
-μ-loop source₀ counting number₀ c₀ source number c = length source₀ - c
+μ-loop source₀ counting c₀ source c = length source₀ - c
 
 loop-holds : tie.Need-loop-holds Inv-loop μ-loop
-loop-holds c = (search needs, (search needs, λ j l. absurd (omega arith)))
+loop-holds c = (search needs, λ j l. absurd (omega arith))
 
-one-more-requires : tie.Need-one-more-requires Inv-loop μ-loop
-one-more-requires c κs = search needs
+add-source-word : tie.Need-add-source-word Inv-loop μ-loop
+add-source-word c = omega (arith, c .before .loop .inv .0, c .loop-test .taken, c .before .before .before .pre)
+
+cast-source-word : tie.Need-cast-source-word Inv-loop μ-loop
+cast-source-word c = omega (arith, c .before .loop .inv .0, c .loop-test .taken, c .before .before .before .pre)
 
 source-word-requires : tie.Need-source-word-requires Inv-loop μ-loop
 source-word-requires c κs = search needs
@@ -38,13 +40,13 @@ loop-less : tie.Need-loop-less Inv-loop μ-loop
 loop-less c = search needs
 
 loop-again : tie.Need-loop-again Inv-loop μ-loop
-loop-again c = let S = c .before .before .before .before .before in let X = c .before .before .before .loop in let more : c .before .one-more .result ≡ X .c + 1 = c .before .one-more .ensures (omega (arith, X .inv .0, X .inv .1 .0, S .pre, c .before .before .loop-test .taken)) ∙ ap (λ (n : ℕ). n + 1) (X .inv .1 .0) in (search needs, (more, laws.source-next (S .args .counting) (X .source) (X .c) _ (c .before .before .loop-test .taken) (X .inv .1 .1) (c .source-word .ensures ∙ ap (λ (n : ℕ). pick (S .args .counting) n 1) more)))
+loop-again c = (search needs, laws.source-next (c .before .before .before .before .args .counting) (c .before .before .loop .source) (c .before .before .loop .c) _ (c .before .loop-test .taken) (c .before .before .loop .inv .1) (c .source-word .ensures))
 
 same-length : tie.Need-same-length Inv-loop μ-loop
 same-length c = search needs
 
 returns : tie.Need-returns Inv-loop μ-loop
-returns c = let X = c .before .loop in record { each = λ j l. X .inv .1 .1 j (omega (arith, c .loop-test .left, l)) }
+returns c = laws.source-done (c .before .before .before .args .counting) (c .before .loop .source) (c .before .before .before .args .source .now) (c .before .loop .c) (c .before .loop .inv .0) (omega (arith, c .before .loop .inv .0, c .loop-test .left)) (c .before .loop .inv .1)
 
 pub fill-source-spec : {M : Type 1} → statement M
 fill-source-spec =
@@ -53,7 +55,8 @@ fill-source-spec =
     Inv-loop
     μ-loop
     loop-holds
-    one-more-requires
+    add-source-word
+    cast-source-word
     source-word-requires
     mul-source
     slice-write-source

@@ -1,24 +1,21 @@
 -- The words so far are the same.
 use borrow.Author.Needs.{needs}
-use mathlib.Core.Path.{_≡_, ap}
+use mathlib.Core.Path.{_≡_}
 use native.Mathlib.Omega.{arith}
 use Prim.Native.Nat.{ℕ, _-_, _<_}
 use lib.ListN.{length, getD}
-use mathlib.Core.List.{List}
 use Rattle.comparison.proofs.Laws as laws
 use Rattle.comparison.proofs.same.Statement.{statement}
 use Rattle.comparison.proofs.same.Tie as tie
 
 abbrev Inv-loop : tie.InvT-loop
-Inv-loop a b i₀ i =
-    (j : ℕ) → j < i → getD a j 0 ≡ getD b j 0
+Inv-loop a b i₀ i = (j : ℕ) → j < i → getD a j 0 ≡ getD b j 0
 
 abbrev μ-loop : tie.MeasureT-loop
-μ-loop a b i₀ i =
-    length a - i
+μ-loop a b i₀ i = length a - i
 
 returns : tie.Need-returns Inv-loop μ-loop
-returns c = laws.unlike _ _ (λ e. c .if1 .taken (ap length e))
+returns c = laws.lengths-differ _ _ (c .if1 .taken)
 
 loop-holds : tie.Need-loop-holds Inv-loop μ-loop
 loop-holds c = λ j l. absurd (omega arith)
@@ -36,7 +33,7 @@ shared-slice-read-if2-2 : tie.Need-shared-slice-read-if2-2 Inv-loop μ-loop
 shared-slice-read-if2-2 c = search needs
 
 returns-2 : tie.Need-returns-2 Inv-loop μ-loop
-returns-2 c = let X = c .before .before .before .before .loop in laws.unlike _ _ (λ e. c .if2 .taken (ap (λ (l : List ℕ). getD l (X .i) 0) e))
+returns-2 c = let A = c .before .before .before .before .before .before .args in laws.words-differ (A .a .now) (A .b .now) (c .before .before .before .before .loop .i) (c .before .before .before .loop-test .taken) (c .if2 .taken)
 
 add-i : tie.Need-add-i Inv-loop μ-loop
 add-i c = search needs
@@ -45,10 +42,10 @@ loop-less : tie.Need-loop-less Inv-loop μ-loop
 loop-less c = search needs
 
 loop-again : tie.Need-loop-again Inv-loop μ-loop
-loop-again c = let A = c .before .before .before .before .before .before .args in let X = c .before .before .before .before .loop in laws.one-more (A .a .now) (A .b .now) (X .i) (X .inv) (c .if2 .left)
+loop-again c = let A = c .before .before .before .before .before .before .args in laws.one-more (A .a .now) (A .b .now) (c .before .before .before .before .loop .i) (c .before .before .before .before .loop .inv) (c .if2 .left)
 
 returns-3 : tie.Need-returns-3 Inv-loop μ-loop
-returns-3 c = let X = c .before .loop in laws.alike _ _ (c .before .before .if1 .left) (λ j l. X .inv j (omega (arith, c .loop-test .left, l)))
+returns-3 c = let A = c .before .before .before .args in laws.words-same (A .a .now) (A .b .now) (c .before .loop .i) (c .before .before .if1 .left) (c .loop-test .left) (c .before .loop .inv)
 
 pub same-spec : {M : Type 1} → statement M
 same-spec =
