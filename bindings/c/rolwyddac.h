@@ -128,8 +128,9 @@ uint32_t rolwyddac_deliver(const uint8_t *encoded, size_t encoded_length, const 
                            const uint32_t *buffer, size_t buffer_length, const rolwyddac_progress *progress,
                            size_t progress_length, uint8_t *status, size_t status_length, uint32_t message);
 
-/* Copies each cell to grid from the memory of its tile's processor, once all processors have finished. After any
- * list of turns and deliveries since a fresh start this is what rolwyddac_sweep writes.
+/* Copies each cell to grid from the memory of its tile's processor, once all processors have finished. Where it gives
+ * 0 after a fresh start that gave 0 and then any turns and deliveries, all of these given the same recipe and source
+ * and lent the areas as the last left them, grid is what rolwyddac_sweep writes for that recipe and source.
  * Numbers: 1 to 10, 15. A refusal leaves grid as it was. */
 uint32_t rolwyddac_collect(const uint8_t *encoded, size_t encoded_length, const uint32_t *source,
                            size_t source_length, const uint32_t *memories, size_t memories_length,

@@ -79,184 +79,92 @@ pub struct Message {
 const SUMMARY_WORDS: usize = 4;
 const MESSAGE_WORDS: usize = 5;
 
-extern "C" {
-    fn rolwyddac_fresh(
-        encoded: *const u8, encoded_length: usize, source: *const u32, source_length: usize, memories: *mut u32,
-        memories_length: usize, buffer: *mut u32, buffer_length: usize, progress: *mut Progress,
-        progress_length: usize, status: *mut u8, status_length: usize,
-    ) -> u32;
-    fn rolwyddac_turn(
-        encoded: *const u8, encoded_length: usize, source: *const u32, source_length: usize, memories: *mut u32,
-        memories_length: usize, buffer: *mut u32, buffer_length: usize, progress: *mut Progress,
-        progress_length: usize, status: *mut u8, status_length: usize, processor: u32,
-    ) -> u32;
-    fn rolwyddac_deliver(
-        encoded: *const u8, encoded_length: usize, source: *const u32, source_length: usize, memories: *const u32,
-        memories_length: usize, buffer: *const u32, buffer_length: usize, progress: *const Progress,
-        progress_length: usize, status: *mut u8, status_length: usize, message: u32,
-    ) -> u32;
-    fn rolwyddac_collect(
-        encoded: *const u8, encoded_length: usize, source: *const u32, source_length: usize, memories: *const u32,
-        memories_length: usize, buffer: *const u32, buffer_length: usize, progress: *const Progress,
-        progress_length: usize, status: *const u8, status_length: usize, grid: *mut u32, grid_length: usize,
-    ) -> u32;
-    fn rolwyddac_sweep(
-        encoded: *const u8, encoded_length: usize, source: *const u32, source_length: usize, grid: *mut u32,
-        grid_length: usize,
-    ) -> u32;
-    fn rolwyddac_summary(encoded: *const u8, encoded_length: usize, out: *mut u32, out_length: usize) -> u32;
-    fn rolwyddac_message(
-        encoded: *const u8, encoded_length: usize, message: u32, out: *mut u32, out_length: usize,
-    ) -> u32;
+/// Declares each exported call and makes its safe form. A slice goes over as its pointer and its length; a number
+/// as it is.
+macro_rules! calls {
+    ($($(#[$doc:meta])* $exported:ident as $name:ident($($parameters:tt)*);)*) => {$(
+        $(#[$doc])*
+        #[inline]
+        pub fn $name($($parameters)*) -> Result<(), Refusal> {
+            calls!(@ $exported [] [] $($parameters)*)
+        }
+    )*};
+    (@ $exported:ident [$($declared:tt)*] [$($given:tt)*] $area:ident: &mut [$element:ty] $(, $($rest:tt)*)?) => {
+        calls!(@ $exported [$($declared)* $area: *mut $element, _: usize,]
+            [$($given)* $area.as_mut_ptr(), $area.len(),] $($($rest)*)?)
+    };
+    (@ $exported:ident [$($declared:tt)*] [$($given:tt)*] $area:ident: &[$element:ty] $(, $($rest:tt)*)?) => {
+        calls!(@ $exported [$($declared)* $area: *const $element, _: usize,]
+            [$($given)* $area.as_ptr(), $area.len(),] $($($rest)*)?)
+    };
+    (@ $exported:ident [$($declared:tt)*] [$($given:tt)*] $number:ident: u32 $(, $($rest:tt)*)?) => {
+        calls!(@ $exported [$($declared)* $number: u32,] [$($given)* $number,] $($($rest)*)?)
+    };
+    (@ $exported:ident [$($declared:tt)*] [$($given:tt)*]) => {{
+        extern "C" {
+            fn $exported($($declared)*) -> u32;
+        }
+        // SAFETY: pointers and lengths come from slices, so they are aligned, not null and in bounds; what is written
+        // is borrowed mutably, so nothing overlaps. The engine keeps no pointer.
+        Refusal::of(unsafe { $exported($($given)*) })
+    }};
 }
 
-// In each call below the pointers and lengths come from slices, so they are aligned, not null and in bounds,
-// what is written is borrowed mutably, and so nothing overlaps. The engine keeps no pointer.
+calls! {
+    /// Makes a fresh start: writes zero to `memories`, `buffer`, `progress` and `status`, whatever they held.
+    ///
+    /// Refusals: 1 to 9.
+    rolwyddac_fresh as fresh(
+        encoded: &[u8], source: &[u32], memories: &mut [u32], buffer: &mut [u32], progress: &mut [Progress],
+        status: &mut [u8],
+    );
 
-/// Makes a fresh start: writes zero to `memories`, `buffer`, `progress` and `status`, whatever they held.
-///
-/// Refusals: 1 to 9.
-#[inline]
-pub fn fresh(
-    encoded: &[u8], source: &[u32], memories: &mut [u32], buffer: &mut [u32], progress: &mut [Progress],
-    status: &mut [u8],
-) -> Result<(), Refusal> {
-    // SAFETY: see above.
-    Refusal::of(unsafe {
-        rolwyddac_fresh(
-            encoded.as_ptr(),
-            encoded.len(),
-            source.as_ptr(),
-            source.len(),
-            memories.as_mut_ptr(),
-            memories.len(),
-            buffer.as_mut_ptr(),
-            buffer.len(),
-            progress.as_mut_ptr(),
-            progress.len(),
-            status.as_mut_ptr(),
-            status.len(),
-        )
-    })
-}
+    /// Gives one processor a turn: it does the stage at which its record stands, once.
+    ///
+    /// - Gather unpacks the messages due at its tile into its memory and marks them taken.
+    /// - Calculate gives the tile's cells their values there, reading only that memory and `source`.
+    /// - Send packs the next message into the buffer and marks it in flight.
+    ///
+    /// Refusals: 1 to 13.
+    rolwyddac_turn as turn(
+        encoded: &[u8], source: &[u32], memories: &mut [u32], buffer: &mut [u32], progress: &mut [Progress],
+        status: &mut [u8], processor: u32,
+    );
 
-/// Gives one processor a turn: it does the stage at which its record stands, once.
-///
-/// - Gather unpacks the messages due at its tile into its memory and marks them taken.
-/// - Calculate gives the tile's cells their values there, reading only that memory and `source`.
-/// - Send packs the next message into the buffer and marks it in flight.
-///
-/// Refusals: 1 to 13.
-#[inline]
-pub fn turn(
-    encoded: &[u8], source: &[u32], memories: &mut [u32], buffer: &mut [u32], progress: &mut [Progress],
-    status: &mut [u8], processor: u32,
-) -> Result<(), Refusal> {
-    // SAFETY: see above.
-    Refusal::of(unsafe {
-        rolwyddac_turn(
-            encoded.as_ptr(),
-            encoded.len(),
-            source.as_ptr(),
-            source.len(),
-            memories.as_mut_ptr(),
-            memories.len(),
-            buffer.as_mut_ptr(),
-            buffer.len(),
-            progress.as_mut_ptr(),
-            progress.len(),
-            status.as_mut_ptr(),
-            status.len(),
-            processor,
-        )
-    })
-}
+    /// Delivers one message: its status goes from 1 to 2.
+    ///
+    /// Refusals: 1 to 11 and 14.
+    rolwyddac_deliver as deliver(
+        encoded: &[u8], source: &[u32], memories: &[u32], buffer: &[u32], progress: &[Progress], status: &mut [u8],
+        message: u32,
+    );
 
-/// Delivers one message: its status goes from 1 to 2.
-///
-/// Refusals: 1 to 11 and 14.
-#[inline]
-pub fn deliver(
-    encoded: &[u8], source: &[u32], memories: &[u32], buffer: &[u32], progress: &[Progress], status: &mut [u8],
-    message: u32,
-) -> Result<(), Refusal> {
-    // SAFETY: see above.
-    Refusal::of(unsafe {
-        rolwyddac_deliver(
-            encoded.as_ptr(),
-            encoded.len(),
-            source.as_ptr(),
-            source.len(),
-            memories.as_ptr(),
-            memories.len(),
-            buffer.as_ptr(),
-            buffer.len(),
-            progress.as_ptr(),
-            progress.len(),
-            status.as_mut_ptr(),
-            status.len(),
-            message,
-        )
-    })
-}
+    /// Copies each cell to `grid` from the memory of its tile's processor, once all processors have finished.
+    ///
+    /// Where it is done, and all calls since the fresh start were turns and deliveries given this recipe and `source`
+    /// and lent the areas as the last left them, `grid` is what [`sweep`] writes.
+    ///
+    /// Refusals: 1 to 10 and 15.
+    rolwyddac_collect as collect(
+        encoded: &[u8], source: &[u32], memories: &[u32], buffer: &[u32], progress: &[Progress], status: &[u8],
+        grid: &mut [u32],
+    );
 
-/// Copies each cell to `grid` from the memory of its tile's processor, once all processors have finished.
-///
-/// Refusals: 1 to 10 and 15.
-#[inline]
-pub fn collect(
-    encoded: &[u8], source: &[u32], memories: &[u32], buffer: &[u32], progress: &[Progress], status: &[u8],
-    grid: &mut [u32],
-) -> Result<(), Refusal> {
-    // SAFETY: see above.
-    Refusal::of(unsafe {
-        rolwyddac_collect(
-            encoded.as_ptr(),
-            encoded.len(),
-            source.as_ptr(),
-            source.len(),
-            memories.as_ptr(),
-            memories.len(),
-            buffer.as_ptr(),
-            buffer.len(),
-            progress.as_ptr(),
-            progress.len(),
-            status.as_ptr(),
-            status.len(),
-            grid.as_mut_ptr(),
-            grid.len(),
-        )
-    })
-}
+    /// Sweeps the whole nest in index order on one processor and writes each cell's value to `grid`.
+    ///
+    /// Refusals: 1 to 9.
+    rolwyddac_sweep as sweep(encoded: &[u8], source: &[u32], grid: &mut [u32]);
 
-/// Sweeps the whole nest in index order on one processor and writes each cell's value to `grid`.
-///
-/// Refusals: 1 to 9.
-#[inline]
-pub fn sweep(encoded: &[u8], source: &[u32], grid: &mut [u32]) -> Result<(), Refusal> {
-    // SAFETY: see above.
-    Refusal::of(unsafe {
-        rolwyddac_sweep(encoded.as_ptr(), encoded.len(), source.as_ptr(), source.len(), grid.as_mut_ptr(), grid.len())
-    })
-}
+    /// Writes the plan's totals to `out`: tiles, messages, words, steps. [`summary`] is the handier form.
+    ///
+    /// Refusals: 1 to 8, and 9 if `out` has not 4 words.
+    rolwyddac_summary as summary_words(encoded: &[u8], out: &mut [u32]);
 
-/// Writes the plan's totals to `out`: tiles, messages, words, steps. [`summary`] is the handier form.
-///
-/// Refusals: 1 to 8, and 9 if `out` has not 4 words.
-#[inline]
-pub fn summary_words(encoded: &[u8], out: &mut [u32]) -> Result<(), Refusal> {
-    // SAFETY: see above.
-    Refusal::of(unsafe { rolwyddac_summary(encoded.as_ptr(), encoded.len(), out.as_mut_ptr(), out.len()) })
-}
-
-/// Writes the line of one message to `out`: sending tile, taking tile, sending processor, taking processor, words.
-/// [`message`] is the handier form.
-///
-/// Refusals: 1 to 8, 9 if `out` has not 5 words, 11.
-#[inline]
-pub fn message_words(encoded: &[u8], message: u32, out: &mut [u32]) -> Result<(), Refusal> {
-    // SAFETY: see above.
-    Refusal::of(unsafe { rolwyddac_message(encoded.as_ptr(), encoded.len(), message, out.as_mut_ptr(), out.len()) })
+    /// Writes the line of one message to `out`: sending tile, taking tile, sending processor, taking processor,
+    /// words. [`message`] is the handier form.
+    ///
+    /// Refusals: 1 to 8, 9 if `out` has not 5 words, 11.
+    rolwyddac_message as message_words(encoded: &[u8], message: u32, out: &mut [u32]);
 }
 
 /// The totals of a recipe's plan, which give every area its size.

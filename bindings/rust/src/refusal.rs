@@ -2,121 +2,83 @@
 
 use std::{error::Error, fmt};
 
-/// Why a call was refused: the table of document 01, "Numbers a call gives". No lent word has changed.
-#[derive(Clone, Copy, Debug, PartialEq, Eq, PartialOrd, Ord, Hash)]
-#[repr(u32)]
-pub enum Refusal {
-    /// Recipe empty or not a multiple of 16 bytes.
-    Ragged = 1,
-    /// Kind, order, count, unnamed byte or shift not as the format has them.
-    StrayRecord = 2,
-    /// Some length is 0 or above 1,024.
-    Length = 3,
-    /// More than 16,384 cells.
-    TooLarge = 4,
-    /// Components all zero, the same as an earlier record's, or non-zero beyond the last dimension.
-    Distance = 5,
-    /// Some tile length is 0, above 1,024, or not greater than every distance there.
-    Tile = 6,
-    /// Processor counts not as the format has them.
-    Boards = 7,
-    /// More than 1,024 tiles.
-    Tiles = 8,
-    /// A lent area has not exactly its length.
-    Area = 9,
-    /// Progress records or status bytes not fit.
-    Unfit = 10,
-    /// Processor or message number too high.
-    NoSuch = 11,
-    /// The processor is to gather and a message due at its tile is not delivered.
-    Waiting = 12,
-    /// The processor has no tiles left.
-    Finished = 13,
-    /// Delivery of a message that is not in flight.
-    NoMail = 14,
-    /// Collecting while a processor has tiles left.
-    Early = 15,
+/// The table of document 01, "Numbers a call gives": of each line the number, the name here, the term and when it is
+/// true.
+macro_rules! refusals {
+    ($($number:literal $name:ident $term:literal: $reason:literal;)*) => {
+        /// Why a call was refused: the table of document 01, "Numbers a call gives". No lent word has changed.
+        ///
+        /// Later archives give more numbers. One that has no name here is [`Refusal::Other`], and more names may come:
+        /// a `match` has an arm for the rest.
+        #[derive(Clone, Copy, Debug, PartialEq, Eq, Hash)]
+        #[non_exhaustive]
+        pub enum Refusal {
+            $(
+                #[doc = concat!("Number ", $number, ", ", $term, ": ", $reason, ".")]
+                $name,
+            )*
+            /// A number that has no name here: the archive is newer than this crate.
+            Other(u32),
+        }
+
+        impl Refusal {
+            /// All refusals that have a name, by number.
+            pub const NAMED: &'static [Refusal] = &[$(Refusal::$name),*];
+
+            /// The table's number, as the call gave it.
+            pub fn number(self) -> u32 {
+                match self {
+                    $(Refusal::$name => $number,)*
+                    Refusal::Other(number) => number,
+                }
+            }
+
+            /// The table's term.
+            pub fn term(self) -> &'static str {
+                match self {
+                    $(Refusal::$name => $term,)*
+                    Refusal::Other(_) => "other",
+                }
+            }
+
+            /// What the table says of it.
+            pub fn reason(self) -> &'static str {
+                match self {
+                    $(Refusal::$name => $reason,)*
+                    Refusal::Other(_) => "a number that this crate has no name for",
+                }
+            }
+
+            /// A call's number as a result.
+            #[inline]
+            pub(crate) fn of(number: u32) -> Result<(), Refusal> {
+                match number {
+                    0 => Ok(()),
+                    $($number => Err(Refusal::$name),)*
+                    _ => Err(Refusal::Other(number)),
+                }
+            }
+        }
+    };
 }
 
-impl Refusal {
-    /// All refusals, in table order.
-    pub const ALL: [Refusal; 15] = [
-        Refusal::Ragged,
-        Refusal::StrayRecord,
-        Refusal::Length,
-        Refusal::TooLarge,
-        Refusal::Distance,
-        Refusal::Tile,
-        Refusal::Boards,
-        Refusal::Tiles,
-        Refusal::Area,
-        Refusal::Unfit,
-        Refusal::NoSuch,
-        Refusal::Waiting,
-        Refusal::Finished,
-        Refusal::NoMail,
-        Refusal::Early,
-    ];
-
-    /// The table's number, 1 to 15.
-    pub fn number(self) -> u32 {
-        self as u32
-    }
-
-    /// The table's term.
-    pub fn term(self) -> &'static str {
-        match self {
-            Refusal::Ragged => "ragged",
-            Refusal::StrayRecord => "stray record",
-            Refusal::Length => "length",
-            Refusal::TooLarge => "too large",
-            Refusal::Distance => "distance",
-            Refusal::Tile => "tile",
-            Refusal::Boards => "boards",
-            Refusal::Tiles => "tiles",
-            Refusal::Area => "area",
-            Refusal::Unfit => "unfit",
-            Refusal::NoSuch => "no such",
-            Refusal::Waiting => "waiting",
-            Refusal::Finished => "finished",
-            Refusal::NoMail => "no mail",
-            Refusal::Early => "early",
-        }
-    }
-
-    /// What the table says of it.
-    pub fn reason(self) -> &'static str {
-        match self {
-            Refusal::Ragged => "recipe empty or not a multiple of 16",
-            Refusal::StrayRecord => "kind, order, count, unnamed byte or shift not as the format has them",
-            Refusal::Length => "some length is 0 or above 1,024",
-            Refusal::TooLarge => "more than 16,384 cells",
-            Refusal::Distance => {
-                "components all zero, the same as an earlier record's, or non-zero beyond the last dimension"
-            }
-            Refusal::Tile => "some tile length is 0, above 1,024, or not greater than every distance there",
-            Refusal::Boards => "processor counts not as the format has them",
-            Refusal::Tiles => "more than 1,024 tiles",
-            Refusal::Area => "a lent area has not exactly its length",
-            Refusal::Unfit => "progress records or status bytes not fit",
-            Refusal::NoSuch => "processor or message number too high",
-            Refusal::Waiting => "a message due at the processor's tile is not delivered",
-            Refusal::Finished => "the processor has no tiles left",
-            Refusal::NoMail => "delivery of a message that is not in flight",
-            Refusal::Early => "collecting while a processor has tiles left",
-        }
-    }
-
-    /// A call's number as a result.
-    ///
-    /// Panics at a number above 15: no call gives one.
-    #[inline]
-    pub(crate) fn of(number: u32) -> Result<(), Refusal> {
-        match number {
-            0 => Ok(()),
-            _ => Err(Refusal::ALL[number as usize - 1]),
-        }
-    }
+refusals! {
+    1 Ragged "ragged": "recipe empty or not a multiple of 16 bytes";
+    2 StrayRecord "stray record": "kind, order, count, unnamed byte or shift not as the format has them";
+    3 Length "length": "some length is 0 or above 1,024";
+    4 TooLarge "too large": "more than 16,384 cells";
+    5 Distance "distance":
+        "components all zero, the same as an earlier record's, or non-zero beyond the last dimension";
+    6 Tile "tile": "some tile length is 0, above 1,024, or not greater than every distance there";
+    7 Boards "boards": "processor counts not as the format has them";
+    8 Tiles "tiles": "more than 1,024 tiles";
+    9 Area "area": "a lent area has not exactly its length";
+    10 Unfit "unfit": "progress records or status bytes not fit";
+    11 NoSuch "no such": "processor or message number too high";
+    12 Waiting "waiting": "the processor is to gather and a message due at its tile is not delivered";
+    13 Finished "finished": "the processor has no tiles left";
+    14 NoMail "no mail": "delivery of a message that is not in flight";
+    15 Early "early": "collecting while a processor has tiles left";
 }
 
 impl fmt::Display for Refusal {
@@ -132,17 +94,28 @@ mod tests {
     use super::*;
 
     #[test]
-    fn numbers_are_the_places() {
-        for (place, refusal) in Refusal::ALL.into_iter().enumerate() {
+    fn named_numbers_are_the_places() {
+        for (place, &refusal) in Refusal::NAMED.iter().enumerate() {
             assert_eq!(refusal.number() as usize, place + 1);
-            assert_eq!(Refusal::of(refusal.number()), Err(refusal));
         }
+    }
+
+    #[test]
+    fn every_number_is_kept() {
         assert_eq!(Refusal::of(0), Ok(()));
+        for number in (1..1000).chain([u32::MAX - 1, u32::MAX]) {
+            let refusal = Refusal::of(number).expect_err("a refusal");
+            assert_eq!(refusal.number(), number);
+            let named = Refusal::NAMED.iter().find(|named| named.number() == number);
+            assert_eq!(refusal, named.copied().unwrap_or(Refusal::Other(number)));
+        }
     }
 
     #[test]
     fn display_has_number_and_term() {
         let text = Refusal::NoMail.to_string();
         assert_eq!(text, "refused 14, no mail: delivery of a message that is not in flight");
+        let text = Refusal::Other(4000).to_string();
+        assert_eq!(text, "refused 4000, other: a number that this crate has no name for");
     }
 }

@@ -29,8 +29,8 @@ impl Areas {
 
 /// A run of one recipe over one source: a fresh start, then any turns and deliveries.
 ///
-/// All calls are given the same recipe and the areas as the last left them, so the engine's theorem about runs
-/// applies: whatever the order, [`Run::collect`] gives the grid of the sequential sweep.
+/// All calls are given the same recipe and source, and the areas as the last left them, so the engine's theorem about
+/// runs applies: whatever the order, the grid that [`Run::collect`] gives is that of the sequential sweep.
 #[derive(Clone, Debug)]
 pub struct Run<'a> {
     encoded: &'a [u8],

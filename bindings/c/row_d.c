@@ -1,0 +1,139 @@
+/* Row D of document 01 step by step: four cells in a line, in tiles of two on two processors. Every call gives the
+ * number that the paper's table has for it, each number is met, and a refusal leaves every lent word as it was. */
+#include <inttypes.h>
+#include <stdio.h>
+#include <stdlib.h>
+#include <string.h>
+
+#include "rolwyddac.h"
+
+enum { CELLS = 4, PROCESSORS = 2, MESSAGES = 1, WORDS = 1, RECIPE = 4 * 16 };
+
+static const uint8_t row_d[RECIPE] = {
+    [0] = 1, [2] = 4, [4] = 2, [6] = PROCESSORS, [16] = 1, [18] = 1, [20] = 1, [32] = 2, [34] = 1, [38] = 1, [48] = 3,
+};
+
+/* what the calls are lent; with four bytes of status there is no padding, and memcmp compares nothing else */
+typedef struct {
+  uint32_t source[CELLS], memories[PROCESSORS * CELLS], buffer[WORDS], grid[CELLS], out[ROLWYDDAC_MESSAGE_LENGTH];
+  rolwyddac_progress progress[PROCESSORS];
+  uint8_t status[4];
+} lent;
+
+static lent at, before;
+static uint8_t recipe[RECIPE];
+static size_t recipe_length = RECIPE, source_length = CELLS;
+static unsigned met;
+
+static void expect(const char *call, uint32_t number, uint32_t wanted) {
+  int kept = number == ROLWYDDAC_DONE || memcmp(&at, &before, sizeof at) == 0;
+  met |= 1u << (number & 31);
+  if (number == wanted && kept) return;
+  printf("%s gave %" PRIu32 ", not %" PRIu32 "%s\n", call, number, wanted, kept ? "" : ", and wrote");
+  exit(1);
+}
+
+static void fresh(uint32_t wanted) {
+  before = at;
+  expect("fresh", rolwyddac_fresh(recipe, recipe_length, at.source, source_length, at.memories, PROCESSORS * CELLS,
+                                  at.buffer, WORDS, at.progress, PROCESSORS, at.status, MESSAGES), wanted);
+}
+
+static void turn(uint32_t processor, uint32_t wanted) {
+  before = at;
+  expect("turn", rolwyddac_turn(recipe, recipe_length, at.source, source_length, at.memories, PROCESSORS * CELLS,
+                                at.buffer, WORDS, at.progress, PROCESSORS, at.status, MESSAGES, processor), wanted);
+}
+
+static void deliver(uint32_t message, uint32_t wanted) {
+  before = at;
+  expect("deliver", rolwyddac_deliver(recipe, recipe_length, at.source, source_length, at.memories, PROCESSORS * CELLS,
+                                      at.buffer, WORDS, at.progress, PROCESSORS, at.status, MESSAGES, message), wanted);
+}
+
+static void collect(uint32_t wanted) {
+  before = at;
+  expect("collect", rolwyddac_collect(recipe, recipe_length, at.source, source_length, at.memories, PROCESSORS * CELLS,
+                                      at.buffer, WORDS, at.progress, PROCESSORS, at.status, MESSAGES, at.grid, CELLS),
+         wanted);
+}
+
+static void sweep(uint32_t wanted) {
+  before = at;
+  expect("sweep", rolwyddac_sweep(recipe, recipe_length, at.source, source_length, at.grid, CELLS), wanted);
+}
+
+static void summary(size_t length, uint32_t wanted) {
+  before = at;
+  expect("summary", rolwyddac_summary(recipe, recipe_length, at.out, length), wanted);
+}
+
+static void message(uint32_t number, size_t length, uint32_t wanted) {
+  before = at;
+  expect("message", rolwyddac_message(recipe, recipe_length, number, at.out, length), wanted);
+}
+
+static void same(const char *what, const uint32_t *words, const uint32_t *wanted, size_t length) {
+  if (memcmp(words, wanted, length * sizeof *words) == 0) return;
+  printf("%s are not as document 01 has them\n", what);
+  exit(1);
+}
+
+/* every call, with the recipe as it stands, gives a number of 1 to 8; then the recipe is row D again */
+static void refused(uint32_t wanted) {
+  fresh(wanted), turn(0, wanted), deliver(0, wanted), collect(wanted), sweep(wanted);
+  summary(ROLWYDDAC_SUMMARY_LENGTH, wanted), message(0, ROLWYDDAC_MESSAGE_LENGTH, wanted);
+  memcpy(recipe, row_d, RECIPE);
+  recipe_length = RECIPE;
+}
+
+static void recipes_refused(void) {
+  recipe_length = RECIPE - 1, refused(ROLWYDDAC_RAGGED);
+  recipe_length = 0, refused(ROLWYDDAC_RAGGED);
+  recipe[0] = 9, refused(ROLWYDDAC_STRAY_RECORD);
+  recipe[2] = 0, refused(ROLWYDDAC_LENGTH);
+  recipe[2] = 128, recipe[18] = 129, refused(ROLWYDDAC_TOO_LARGE);
+  recipe[34] = 0, refused(ROLWYDDAC_DISTANCE);
+  recipe[4] = 0, refused(ROLWYDDAC_TILE);
+  recipe[6] = 65, refused(ROLWYDDAC_BOARDS);
+  recipe[2] = 255, recipe[18] = 64, refused(ROLWYDDAC_TILES);
+}
+
+static void plan(void) {
+  summary(ROLWYDDAC_SUMMARY_LENGTH - 1, ROLWYDDAC_AREA);
+  summary(ROLWYDDAC_SUMMARY_LENGTH, ROLWYDDAC_DONE);
+  same("totals", at.out, (const uint32_t[]){2, 1, 1, 6}, ROLWYDDAC_SUMMARY_LENGTH);
+  message(0, ROLWYDDAC_MESSAGE_LENGTH - 1, ROLWYDDAC_AREA);
+  message(1, ROLWYDDAC_MESSAGE_LENGTH, ROLWYDDAC_NO_SUCH);
+  message(0, ROLWYDDAC_MESSAGE_LENGTH, ROLWYDDAC_DONE);
+  same("the message's numbers", at.out, (const uint32_t[]){0, 1, 0, 1, 1}, ROLWYDDAC_MESSAGE_LENGTH);
+}
+
+static void run(void) {
+  source_length = CELLS - 1, fresh(ROLWYDDAC_AREA), turn(9, ROLWYDDAC_AREA), deliver(9, ROLWYDDAC_AREA);
+  collect(ROLWYDDAC_AREA), sweep(ROLWYDDAC_AREA), source_length = CELLS;
+  turn(9, ROLWYDDAC_UNFIT), deliver(9, ROLWYDDAC_UNFIT), collect(ROLWYDDAC_UNFIT);
+  fresh(ROLWYDDAC_DONE);
+  turn(1, ROLWYDDAC_WAITING), deliver(0, ROLWYDDAC_NO_MAIL), turn(2, ROLWYDDAC_NO_SUCH), deliver(1, ROLWYDDAC_NO_SUCH);
+  turn(0, ROLWYDDAC_DONE), turn(0, ROLWYDDAC_DONE), turn(0, ROLWYDDAC_DONE), turn(0, ROLWYDDAC_FINISHED);
+  same("the words sent", at.buffer, (const uint32_t[]){2}, WORDS);
+  turn(1, ROLWYDDAC_WAITING), deliver(0, ROLWYDDAC_DONE), deliver(0, ROLWYDDAC_NO_MAIL);
+  turn(1, ROLWYDDAC_DONE), collect(ROLWYDDAC_EARLY), turn(1, ROLWYDDAC_DONE), turn(1, ROLWYDDAC_FINISHED);
+  collect(ROLWYDDAC_DONE);
+  same("the values", at.grid, (const uint32_t[]){1, 2, 3, 4}, CELLS);
+  memset(at.grid, 0, sizeof at.grid);
+  sweep(ROLWYDDAC_DONE);
+  same("the swept values", at.grid, (const uint32_t[]){1, 2, 3, 4}, CELLS);
+}
+
+int main(void) {
+  memset(&at, 9, sizeof at);
+  for (size_t c = 0; c < CELLS; c++) at.source[c] = 1;
+  memcpy(recipe, row_d, RECIPE);
+  recipes_refused();
+  plan();
+  run();
+  if (met != 0xffff) return printf("not every number was met: %x\n", met), 1;
+  puts("row D as document 01 has it, each number met");
+  return 0;
+}

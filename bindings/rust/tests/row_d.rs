@@ -1,0 +1,87 @@
+//! Row D of document 01 step by step: four cells in a line, in tiles of two on two processors. Every call gives what
+//! the paper's table has for it, and a refusal leaves every lent word as it was.
+
+use rolwyddac::{message, message_words, summary, summary_words, sweep, Areas, Recipe, Refusal, Run};
+
+const SOURCE: [u32; 4] = [1; 4];
+
+fn row_d() -> Recipe {
+    Recipe::new().dimension(4, 2, 2).dimension(1, 1, 0).distance(&[1, 0], 1).close(0, 0)
+}
+
+#[test]
+fn a_run_step_by_step() {
+    let recipe = row_d();
+    let mut run = Run::start(&recipe, &SOURCE).unwrap();
+    assert_eq!(run.turn(1), Err(Refusal::Waiting));
+    assert_eq!(run.turn(2), Err(Refusal::NoSuch));
+    assert_eq!(run.deliver(0), Err(Refusal::NoMail));
+    assert_eq!(run.deliver(1), Err(Refusal::NoSuch));
+    for _ in 0..3 {
+        assert_eq!(run.turn(0), Ok(()));
+    }
+    assert_eq!(run.turn(0), Err(Refusal::Finished));
+    assert_eq!((&run.areas().buffer[..], run.in_flight()), (&[2][..], vec![0]));
+    assert_eq!(run.turn(1), Err(Refusal::Waiting));
+    assert_eq!(run.deliver(0), Ok(()));
+    assert_eq!(run.turn(1), Ok(()));
+    assert_eq!(run.collect(), Err(Refusal::Early));
+    assert_eq!(run.turn(1), Ok(()));
+    assert_eq!(run.collect().unwrap(), [1, 2, 3, 4]);
+    assert_eq!(run.finish(), Ok(0));
+}
+
+#[test]
+fn the_plan() {
+    let plan = summary(&row_d()).unwrap();
+    assert_eq!((plan.cells, plan.processors), (4, 2));
+    assert_eq!([plan.tiles, plan.messages, plan.words, plan.steps], [2, 1, 1, 6]);
+    let line = message(&row_d(), 0).unwrap();
+    assert_eq!((line.sending_tile, line.taking_tile, line.words), (0, 1, 1));
+    assert_eq!((line.sending_processor, line.taking_processor), (0, 1));
+    assert_eq!(message(&row_d(), 1), Err(Refusal::NoSuch));
+    assert_eq!(summary_words(&row_d(), &mut [0; 3]), Err(Refusal::Area));
+    assert_eq!(message_words(&row_d(), 0, &mut [0; 6]), Err(Refusal::Area));
+}
+
+#[test]
+fn recipes_refused() {
+    let line = |n, k, p, d| Recipe::new().dimension(n, k, p).dimension(1, 1, 0).distance(&[d, 0], 1).close(0, 0);
+    let refused = [
+        (line(0, 2, 2, 1), Refusal::Length),
+        (line(1024, 2, 2, 1).dimension(4, 2, 2), Refusal::StrayRecord),
+        (Recipe::new().dimension(128, 8, 2).dimension(129, 8, 0).distance(&[1, 0], 1).close(0, 0), Refusal::TooLarge),
+        (line(4, 2, 2, 0), Refusal::Distance),
+        (line(4, 0, 2, 1), Refusal::Tile),
+        (line(4, 2, 65, 1), Refusal::Boards),
+        (Recipe::new().dimension(255, 2, 2).dimension(64, 1, 0).distance(&[1, 0], 1).close(0, 0), Refusal::Tiles),
+    ];
+    for (recipe, refusal) in refused {
+        assert_eq!(summary(&recipe), Err(refusal));
+        assert_eq!(sweep(&recipe, &SOURCE, &mut [0; 4]), Err(refusal));
+        assert_eq!(Run::start(&recipe, &SOURCE).err(), Some(refusal));
+    }
+    assert_eq!(summary(&[]), Err(Refusal::Ragged));
+    assert_eq!(summary(&row_d()[..63]), Err(Refusal::Ragged));
+}
+
+#[test]
+fn a_refusal_leaves_all_as_it_was() {
+    let recipe = row_d();
+    let mut areas = Areas::sized(&summary(&recipe).unwrap());
+    areas.memories.fill(7);
+    areas.buffer.fill(7);
+    areas.status.fill(4);
+    let before = areas.clone();
+    let Areas { memories, buffer, progress, status } = &mut areas;
+    assert_eq!(rolwyddac::turn(&recipe, &SOURCE, memories, buffer, progress, status, 0), Err(Refusal::Unfit));
+    assert_eq!(rolwyddac::fresh(&recipe, &SOURCE[1..], memories, buffer, progress, status), Err(Refusal::Area));
+    assert_eq!(rolwyddac::deliver(&recipe, &SOURCE, &[], buffer, progress, status, 0), Err(Refusal::Area));
+    let mut grid = [9; 4];
+    assert_eq!(
+        rolwyddac::collect(&recipe, &SOURCE, memories, buffer, progress, status, &mut grid),
+        Err(Refusal::Unfit)
+    );
+    assert_eq!(grid, [9; 4]);
+    assert!(areas == before);
+}
