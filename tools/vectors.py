@@ -12,7 +12,7 @@ import sys
 
 import model
 
-ROOT = os.path.join(os.path.dirname(os.path.abspath(__file__)), '..', 'crates')
+ROOT = os.path.join(os.path.dirname(os.path.abspath(__file__)), '..')
 
 
 class Draw:
@@ -699,21 +699,33 @@ def run_script():
 
 # The stored files
 
+def row_a_text():
+    """What the examples of bindings/ print: row A's grid over a source of ones, a line a row, and its steps."""
+    plan = model.plan_of(model.ROWS['A'])[1]
+    grid = plan.swept([1] * plan.cells)
+    rows = [grid[at:at + 8] for at in range(0, plan.cells, 8)]
+    lines = [' '.join(str(word) for word in row) for row in rows]
+    return '\n'.join(lines + ['steps %d of %d, equal to the sweep\n' % (plan.steps, plan.steps)])
+
+
 def all_files():
-    """Name under crates/ to content, in a fixed order."""
+    """Name to content, in a fixed order."""
     model.check_paper()
     plans = plan_recipes()
     sweeps = sweep_recipes()
     script = run_script()
     return {
-        'plan_cases/data/cases': cases_file(plans),
-        'plan_cases/stdout': cases_text(plans, model.plan_text),
-        'sweep_cases/data/cases': cases_file(sweeps),
-        'sweep_cases/stdout': cases_text(sweeps, model.compare_text),
-        'compare_sweeps/stdin': model.ROWS['D'],
-        'compare_sweeps/stdout': model.compare_text(model.ROWS['D']).encode(),
-        'run_cases/data/script': b''.join(script.records),
-        'run_cases/stdout': ''.join(line + '\n' for line in script.lines).encode(),
+        'crates/plan_cases/data/cases': cases_file(plans),
+        'crates/plan_cases/stdout': cases_text(plans, model.plan_text),
+        'crates/sweep_cases/data/cases': cases_file(sweeps),
+        'crates/sweep_cases/stdout': cases_text(sweeps, model.compare_text),
+        'crates/print_plan/stdin': model.ROWS['D'],
+        'crates/print_plan/stdout': model.plan_text(model.ROWS['D']).encode(),
+        'crates/compare_sweeps/stdin': model.ROWS['D'],
+        'crates/compare_sweeps/stdout': model.compare_text(model.ROWS['D']).encode(),
+        'crates/run_cases/data/script': b''.join(script.records),
+        'crates/run_cases/stdout': ''.join(line + '\n' for line in script.lines).encode(),
+        'bindings/row_a.stdout': row_a_text().encode(),
     }
 
 
@@ -723,7 +735,7 @@ def write_all():
         os.makedirs(os.path.dirname(path), exist_ok=True)
         with open(path, 'wb') as out:
             out.write(content)
-        print('wrote crates/%s, %d bytes' % (name, len(content)))
+        print('wrote %s, %d bytes' % (name, len(content)))
 
 
 def check_all():
@@ -733,7 +745,7 @@ def check_all():
         stored = open(path, 'rb').read() if os.path.exists(path) else None
         same = stored == content
         wrong += not same
-        print('crates/%s: %s' % (name, 'as generated' if same else 'DIFFERS'))
+        print('%s: %s' % (name, 'as generated' if same else 'DIFFERS'))
     sys.exit(1 if wrong else 0)
 
 

@@ -96,9 +96,9 @@ enum {
  * Numbers: 1 to 8; 9 if out has not 4 words. A refusal leaves out as it was. */
 uint32_t rolwyddac_summary(const uint8_t *encoded, size_t encoded_length, uint32_t *out, size_t out_length);
 
-/* Writes the line of one message to out: sending tile, taking tile, sending processor, taking processor, words.
+/* Writes the line of message m to out: sending tile, taking tile, sending processor, taking processor, words.
  * Numbers: 1 to 8; 9 if out has not 5 words; 11. A refusal leaves out as it was. */
-uint32_t rolwyddac_message(const uint8_t *encoded, size_t encoded_length, uint32_t message, uint32_t *out,
+uint32_t rolwyddac_message(const uint8_t *encoded, size_t encoded_length, uint32_t m, uint32_t *out,
                            size_t out_length);
 
 /* Sweeps the whole nest in index order on one processor and writes each cell's value to grid.

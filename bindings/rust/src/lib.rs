@@ -160,11 +160,11 @@ calls! {
     /// Refusals: 1 to 8, and 9 if `out` has not 4 words.
     rolwyddac_summary as summary_words(encoded: &[u8], out: &mut [u32]);
 
-    /// Writes the line of one message to `out`: sending tile, taking tile, sending processor, taking processor,
-    /// words. [`message`] is the handier form.
+    /// Writes the line of message `m` to `out`: sending tile, taking tile, sending processor, taking processor, words.
+    /// [`message`] is the handier form.
     ///
     /// Refusals: 1 to 8, 9 if `out` has not 5 words, 11.
-    rolwyddac_message as message_words(encoded: &[u8], message: u32, out: &mut [u32]);
+    rolwyddac_message as message_words(encoded: &[u8], m: u32, out: &mut [u32]);
 }
 
 /// The totals of a recipe's plan, which give every area its size.
@@ -182,12 +182,12 @@ pub fn summary(encoded: &[u8]) -> Result<Summary, Refusal> {
     Ok(Summary { cells, processors, tiles, messages, words, steps })
 }
 
-/// The line of one message of a recipe's plan.
+/// The line of message `m` of a recipe's plan.
 ///
 /// Refusals: 1 to 8 and 11.
-pub fn message(encoded: &[u8], message: u32) -> Result<Message, Refusal> {
+pub fn message(encoded: &[u8], m: u32) -> Result<Message, Refusal> {
     let mut out = [0; MESSAGE_WORDS];
-    message_words(encoded, message, &mut out)?;
+    message_words(encoded, m, &mut out)?;
     let [sending_tile, taking_tile, sending_processor, taking_processor, words] = out;
     Ok(Message { sending_tile, taking_tile, sending_processor, taking_processor, words })
 }
