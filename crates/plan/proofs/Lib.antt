@@ -1,6 +1,7 @@
 pub mod AToH
 pub mod Rank
 pub mod Tiles
+pub mod Listed
 pub mod Slots
 pub mod Parcels
 pub mod Sound

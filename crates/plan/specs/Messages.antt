@@ -54,10 +54,14 @@ slotTaker x s = taker x (slotTile x s) (slotDirection x s)
 abbrev pub slotMessage : Nest → ℕ → Message
 slotMessage x s = record { sender = slotTile x s; taker = slotTaker x s; cells = slotParcel x s }
 
--- the messages of the first s slots: an empty set is no message
+-- the messages of the first n slots, whatever each holds: an empty set is no message
+unfoldable pub messagesOf : (ℕ → Message) → ℕ → List Message
+messagesOf slot zero = []
+messagesOf slot (suc s) = messagesOf slot s ++ pick (ltb 0 (length (slot s .cells))) (slot s ∷ []) []
+
 unfoldable pub messagesTo : Nest → ℕ → List Message
-messagesTo x zero = []
-messagesTo x (suc s) = messagesTo x s ++ pick (ltb 0 (length (slotParcel x s))) (slotMessage x s ∷ []) []
+unfolding messagesOf
+messagesTo x s = messagesOf (slotMessage x) s
 
 abbrev pub messages : Nest → List Message
 messages x = messagesTo x (slots x)
