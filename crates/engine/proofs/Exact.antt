@@ -1,27 +1,25 @@
 -- A turn that gave 0 did its action's rule, word by word; a gather wrote every word of every message due.
-use Prim.Native.Nat.{ℕ, _≤_, _<_}
-use mathlib.Core.Path.{_≡_, refl, sym, ap, _∙_}
-use mathlib.Core.Bool.{Bool, true}
-use mathlib.Core.List.{List, [], _∷_, _++_}
+use Prim.Native.Nat.{ℕ, _<_}
+use mathlib.Core.Path.{_≡_, sym, _∙_}
+use mathlib.Core.Bool.{true}
+use mathlib.Core.List.{List, _++_}
 use native.Mathlib.Omega.{arith}
-use native.Mathlib.Decide.{ℕ-discrete}
-use lib.ListN.{length, getD}
-use borrow.Author.Tests.{eq-eqb}
+use lib.ListN.{length}
 use Rattle.base.specs.Tests.{not}
-use Rattle.base.specs.Lists.{In, Rising, Bytes}
-use Rattle.base.specs.Numbers.{Line, line, firstOf}
-use Rattle.base.proofs.Tests.{true-not, pick-true}
-use Rattle.base.proofs.Numbers.{none-first, first-some, first-behind}
-use Rattle.machine.specs.Plan.{Plan, Sound, count, heldBy, duesOf}
-use Rattle.machine.specs.Machine.{State, Answered, Action, gather, nextAction, turn, turnLines, sweep}
+use Rattle.base.specs.Lists.{In}
+use Rattle.base.specs.Numbers.{firstOf}
+use Rattle.base.proofs.Tests.{true-not}
+use Rattle.base.proofs.Numbers.{none-first, first-behind}
+use Rattle.machine.specs.Plan.{heldBy, duesOf}
+use Rattle.machine.specs.Machine.{State, Action, gather, nextAction, turnLines}
 use Rattle.machine.specs.Words.{wordAt, mailAt, cellOf, Unpacks, Does}
-use Rattle.machine.proofs.Words.{turn-does, at-in}
-use Rattle.nest.specs.Nest.{nestOf, readLines, cells}
+use Rattle.base.proofs.Entries.{at-in}
+use Rattle.machine.proofs.Words.{turn-does}
+use Rattle.nest.specs.Nest.{nestOf, readLines}
 use Rattle.nest.proofs.Accepted.{Accepted}
-use Rattle.plan.specs.Exact.{Exact, sequential, runNest}
 use Rattle.plan.proofs.Sound.{sound}
 use Rattle.plan.proofs.Exact.{exact}
-use Rattle.engine.specs.Calls.{recipe, areas, areaLines, turnCall, sweepCall}
+use Rattle.engine.specs.Calls.{recipe, areas, areaLines, turnCall}
 use Rattle.engine.proofs.Lines.{numbered, areas-are}
 use Rattle.engine.proofs.AsSteps.{turn-is}
 
@@ -32,15 +30,14 @@ turn-areas l source s b h z =
     true-not (none-first 9 (not (areas (recipe l) source s)) (turnLines (recipe l) s b) (λ q. omega arith)
     (sym (first-behind (readLines l) (areaLines (recipe l) source s ++ turnLines (recipe l) s b) (numbered l) h) ∙ z) .0)
 
-module _ (bytes : List ℕ) (ok : Accepted (nestOf bytes)) (z : firstOf (readLines bytes) ≡ 0)
-    (in-order : (m : ℕ) → m < count (recipe bytes) → Rising (heldBy (recipe bytes) m)) where
+module _ (bytes : List ℕ) (ok : Accepted (nestOf bytes)) (z : firstOf (readLines bytes) ≡ 0) where
   pub does : (source : List ℕ) (s : State) (b : ℕ) → turnCall bytes source s b .number ≡ 0
       → Does (recipe bytes) source s (turnCall bytes source s b .after) b (nextAction (recipe bytes) s b)
   does source s b e =
       let a = turn-areas bytes source s b z e in
       let k = areas-are (recipe bytes) source s a in
       let i = turn-is bytes source s z a b in
-      rw i (turn-does (recipe bytes) (sound (nestOf bytes) ok) source s b (k .memories) (k .buffer) in-order (rw i at e))
+      rw i (turn-does (recipe bytes) (sound (nestOf bytes) ok) source s b (k .memories) (k .buffer) (rw i at e))
 
   pub written : (source : List ℕ) (s after : State) (b t : ℕ) (a : Action) → Does (recipe bytes) source s after b a → a ≡ gather t
       → (m q : ℕ) → In m (duesOf (recipe bytes) t) → q < length (heldBy (recipe bytes) m)

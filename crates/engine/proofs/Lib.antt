@@ -2,5 +2,6 @@ pub mod Turns
 pub mod Lines
 pub mod Reading
 pub mod AsSteps
+pub mod AsRuns
 pub mod Demands
 pub mod Exact

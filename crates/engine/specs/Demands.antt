@@ -9,8 +9,8 @@ use Rattle.base.specs.Lists.{In, Rising, Bytes}
 use Rattle.base.specs.Numbers.{Line, firstOf, numbersOf}
 use Rattle.machine.specs.Plan.{count, heldBy, duesOf}
 use Rattle.machine.specs.Machine as machine
-use Rattle.machine.specs.Machine.{State, Answered, stateOf, gather, carryOut, nextAction, collected}
-use Rattle.machine.specs.Words.{wordAt, mailAt, cellOf, Does}
+use Rattle.machine.specs.Machine.{State, Answered, stateOf, gather, send, carryOut, nextAction, collected}
+use Rattle.machine.specs.Words.{wordAt, mailAt, cellOf, Does, Did, Posted}
 use Rattle.machine.specs.Runs.{Event, turnOf, deliveryOf, Demand3}
 use Rattle.nest.specs.Nest.{nestOf, readLines}
 use Rattle.plan.specs.Report.{ReportAgrees}
@@ -47,15 +47,19 @@ pub record Demand1 (bytes source : List ℕ) (s : State) : Type 0 where
       → Fixed (answer (messageLineOf bytes m .number) (messageLineOf bytes m)) (messageLines bytes m)
       (lineOf (recipe bytes) m) (noLine (messageLineOf bytes m .number))
 
--- demand 2: schedule, message cell sets and sequential sweep are the report's; sets exact, not empty, in index order
+-- the events of a run, each a call
+unfoldable pub calls : List ℕ → List ℕ → State → Event → Answered State
+calls bytes source s (turnOf b) = turnCall bytes source s b
+calls bytes source s (deliveryOf m) = deliverCall bytes source s m
+
+-- demand 2: schedule, message cell sets and sequential sweep are the report's, and packing and unpacking move exactly these
 pub record Demand2 (bytes : List ℕ) : Type 0 where
   pub report : ReportAgrees (nestOf bytes)
+  -- which cells a message holds, which messages there are, index order, the report's loops and its sequential nest
+  pub exact : Exact (nestOf bytes)
+  -- a message's cells stand in index order, each once, and there is one
   pub in-order : (m : ℕ) → m < count (recipe bytes) → Rising (heldBy (recipe bytes) m)
   pub not-empty : (m : ℕ) → m < count (recipe bytes) → 0 < length (heldBy (recipe bytes) m)
-  pub swept : (source : List ℕ) (c : ℕ) → c < recipe bytes .cells
-      → getD (machine.sweep (recipe bytes) source) c 0 ≡ recipe bytes .value source (machine.sweep (recipe bytes) source) c
-  -- which cells a message holds, which messages there are, the report's loops and the sequential nest
-  pub exact : Exact (nestOf bytes)
   -- each turn that gave 0 did the rule of its action, word by word: it packed, unpacked or stored exactly what is named
   pub turned : (source : List ℕ) (s : State) (b : ℕ) → turnCall bytes source s b .number ≡ 0
       → Does (recipe bytes) source s (turnCall bytes source s b .after) b (nextAction (recipe bytes) s b)
@@ -63,14 +67,15 @@ pub record Demand2 (bytes : List ℕ) : Type 0 where
   pub unpacked : (source : List ℕ) (s : State) (b t : ℕ) → turnCall bytes source s b .number ≡ 0 → nextAction (recipe bytes) s b ≡ gather t
       → (m q : ℕ) → In m (duesOf (recipe bytes) t) → q < length (heldBy (recipe bytes) m)
       → wordAt (recipe bytes) (turnCall bytes source s b .after) b (cellOf (recipe bytes) m q) ≡ mailAt (recipe bytes) s m q
-  -- the sweep call leaves what the sequential nest leaves, from an array of any content
+  -- in a run, a message's words stay from its send on, and are what its taker gathers
+  pub posted : (source : List ℕ) (s : State) → freshCall bytes source s .number ≡ 0 → (before : List Event) (b m : ℕ)
+      → Did (calls bytes source) (freshCall bytes source s .after) (recipe bytes) before b (send m)
+      → Posted (calls bytes source) (freshCall bytes source s .after) (recipe bytes) before b m
+  -- the sweep call leaves what the sequential nest leaves, from an array of any content; each word is the value of what the sweep has
   pub nest : (source grid array : List ℕ) → sweepCall bytes source grid .number ≡ 0 → length array ≡ recipe bytes .cells
       → sweepCall bytes source grid .after ≡ runNest (nestOf bytes) source array (sequential (nestOf bytes))
-
--- the events of a run, each a call
-unfoldable pub calls : List ℕ → List ℕ → State → Event → Answered State
-calls bytes source s (turnOf b) = turnCall bytes source s b
-calls bytes source s (deliveryOf m) = deliverCall bytes source s m
+  pub swept : (source : List ℕ) (c : ℕ) → c < recipe bytes .cells
+      → getD (machine.sweep (recipe bytes) source) c 0 ≡ recipe bytes .value source (machine.sweep (recipe bytes) source) c
 
 pub record Demands : Type 0 where
   pub one : (bytes source : List ℕ) (s : State) → Demand1 bytes source s

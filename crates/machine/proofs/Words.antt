@@ -1,91 +1,26 @@
 -- A send packs, and a gather unpacks, exactly the words that their messages name; a calculate stores exactly its tile's values.
-use Prim.Native.Nat.{ℕ, zero, suc, _+_, _*_, _-_, _≤_, _<_}
+use Prim.Native.Nat.{ℕ, zero, _+_, _*_, _-_, _≤_, _<_}
 use mathlib.Core.Path.{_≡_, refl, sym, ap, _∙_}
-use mathlib.Core.Logic.{_⊎_, inl, inr, _≢_}
-use mathlib.Core.Bool.{Bool, true, false}
-use mathlib.Core.List.{List, [], _∷_, _++_}
-use native.Mathlib.Nat.{le-of-suc-le-suc}
+use mathlib.Core.Logic.{inl, inr}
+use mathlib.Core.Bool.{true}
+use mathlib.Core.List.{List, [], _∷_}
 use native.Mathlib.Omega.{arith}
-use native.Mathlib.Decide.{decLt, ℕ-discrete}
-use lib.ListN.{length, getD, take, drop, set, length-append, length-take, length-drop, length-set, List·getD-append}
-use lib.Seq.{getD-take, getD-drop, getD-set-same, getD-set-other, getD-append-add, length-take-le, drop-drop}
+use native.Mathlib.Decide.{ℕ-discrete}
+use lib.ListN.{length, getD, set, length-set}
+use lib.Seq.{getD-set-same, getD-set-other}
 use Rattle.base.specs.Lists.{In, Rising, part, put, unpack, pack, storeAll}
 use Rattle.base.specs.Tests.{every}
 use Rattle.base.proofs.Tests.{both, true-not, every-at}
 use Rattle.base.proofs.Numbers.{none-first}
-use Rattle.base.proofs.Select.{those-in, at-low}
+use Rattle.base.proofs.Select.{those-in, at-low, at-is}
+use Rattle.base.proofs.Entries.{part-at, put-same, put-rest, pack-at, at-in, unpack-other, unpack-at, store-other}
 use Rattle.base.proofs.Lists.{AllBelow, part-length, length-put, piece-fits, piece-same, unpack-length, pack-length, store-length}
-use Rattle.machine.specs.Plan.{Plan, Sound, count, senderOf, takerOf, heldBy, sendsOf, duesOf, offset, words}
-use Rattle.machine.specs.Machine.{State, Answered, stateOf, memoryOf, placeOf, finishedOf, stageOf, sentOf, currentTile, fitRecord, fit, unpackAll, gather, calculate, send, actionAt, nextAction, carryOut, turn}
-use Rattle.machine.specs.Words.{wordAt, mailAt, cellOf, Packs, Unpacks, Stores, Does}
+use Rattle.machine.specs.Plan.{Plan, Sound, count, senderOf, takerOf, heldBy, tilesOf, sendsOf, duesOf, offset, words}
+use Rattle.machine.specs.Machine.{State, Answered, memoryOf, placeOf, finishedOf, stageOf, sentOf, currentTile, fitRecord, fit, unpackAll, gather, calculate, send, nextAction, carryOut, turn}
+use Rattle.machine.specs.Words.{cellOf, Outside, Packs, Unpacks, Stores, Does}
 use Rattle.machine.proofs.Records.{fit-is, fit-sending}
-use Rattle.machine.proofs.Turns.{Turned, turned}
+use Rattle.machine.proofs.Turns.{Turned, turned, next-zero, next-one, next-two}
 use Rattle.machine.proofs.Values.{gathered-length, offset-apart}
-
--- ---- words of a part, and of a list with a part replaced
-
-part-at : (l : List ℕ) (i n q : ℕ) → q < n → getD (part l i n) q 0 ≡ getD l (i + q) 0
-unfolding part
-part-at l i n q h = getD-take n (drop i l) q 0 h ∙ getD-drop i l q 0
-
-module _ (l : List ℕ) (i : ℕ) (s : List ℕ) (fits : i + length s ≤ length l) where
-  head-length : length (take i l) ≡ i
-  head-length = length-take-le i l (omega arith)
-
-  put-same : (q : ℕ) → q < length s → getD (put l i s) (i + q) 0 ≡ getD s q 0
-  unfolding put
-  put-same q h =
-      ap (λ (k : ℕ). getD (take i l ++ (s ++ drop (length s) (drop i l))) (k + q) 0) (sym head-length)
-      ∙ getD-append-add (take i l) (s ++ drop (length s) (drop i l)) q 0
-      ∙ List·getD-append s _ 0 q h
-
-  put-before : (k : ℕ) → k < i → getD (put l i s) k 0 ≡ getD l k 0
-  unfolding put
-  put-before k h = List·getD-append (take i l) _ 0 k (rw head-length h) ∙ getD-take i l k 0 h
-
-  put-after : (k : ℕ) → i + length s ≤ k → getD (put l i s) k 0 ≡ getD l k 0
-  unfolding put
-  put-after k h =
-      let r : ℕ = k - (i + length s) in
-      let e : k ≡ i + (length s + r) = omega arith in
-      ap (λ (z : ℕ). getD (take i l ++ (s ++ drop (length s) (drop i l))) z 0) (e ∙ ap (λ (z : ℕ). z + (length s + r)) (sym head-length))
-      ∙ getD-append-add (take i l) (s ++ drop (length s) (drop i l)) (length s + r) 0
-      ∙ getD-append-add s (drop (length s) (drop i l)) r 0
-      ∙ getD-drop (length s) (drop i l) r 0
-      ∙ getD-drop i l (length s + r) 0
-      ∙ ap (λ (z : ℕ). getD l z 0) (sym e)
-
-  put-rest : (k : ℕ) → (k < i) ⊎ (i + length s ≤ k) → getD (put l i s) k 0 ≡ getD l k 0
-  put-rest k (inl h) = put-before k h
-  put-rest k (inr h) = put-after k h
-
--- ---- packing and unpacking one message
-
-pack-at : (cs s : List ℕ) (q : ℕ) → q < length cs → getD (pack s cs) q 0 ≡ getD s (getD cs q 0) 0
-unfolding pack
-pack-at [] s q h = absurd (omega arith)
-pack-at (c ∷ cs) s zero h = refl
-pack-at (c ∷ cs) s (suc q) h = pack-at cs s q (le-of-suc-le-suc h)
-
-pub at-in : (cs : List ℕ) (q : ℕ) → q < length cs → In (getD cs q 0) cs
-at-in [] q h = absurd (omega arith)
-at-in (c ∷ cs) zero h = inl refl
-at-in (c ∷ cs) (suc q) h = inr (at-in cs q (le-of-suc-le-suc h))
-
-unpack-other : (cs ws s : List ℕ) (c : ℕ) → (In c cs → ⊥) → getD (unpack s cs ws) c 0 ≡ getD s c 0
-unfolding unpack
-unpack-other [] ws s c h = refl
-unpack-other (y ∷ cs) [] s c h = refl
-unpack-other (y ∷ cs) (w ∷ ws) s c h = unpack-other cs ws (set s y w) c (λ i. h (inr i)) ∙ getD-set-other s y c w 0 (λ e. h (inl e))
-
-unpack-at : (cs ws s : List ℕ) (q : ℕ) → Rising cs → length ws ≡ length cs → AllBelow (length s) cs → q < length cs → getD (unpack s cs ws) (getD cs q 0) 0 ≡ getD ws q 0
-unfolding unpack
-unpack-at [] ws s q up e b h = absurd (omega arith)
-unpack-at (c ∷ cs) [] s q up e b h = absurd (omega arith)
-unpack-at (c ∷ cs) (w ∷ ws) s zero up e b h =
-    unpack-other cs ws (set s c w) c (λ i. let z = up .0 c i in absurd (omega arith)) ∙ getD-set-same s c w 0 (b c (inl refl))
-unpack-at (c ∷ cs) (w ∷ ws) s (suc q) up e b h =
-    unpack-at cs ws (set s c w) q (up .1) (omega arith) (λ y k. rw length-set (b y (inr k))) (le-of-suc-le-suc h)
 
 -- ---- unpacking many
 
@@ -128,11 +63,6 @@ module _ (p : Plan) (buffer : List ℕ) where
 
 -- ---- storing the values of a tile's cells
 
-store-other : (f : List ℕ → ℕ → ℕ) (cs s : List ℕ) (c : ℕ) → (In c cs → ⊥) → getD (storeAll f s cs) c 0 ≡ getD s c 0
-unfolding storeAll
-store-other f [] s c h = refl
-store-other f (y ∷ cs) s c h = store-other f cs (set s y (f s y)) c (λ i. h (inr i)) ∙ getD-set-other s y c (f s y) 0 (λ e. h (inl e))
-
 module _ (p : Plan) (source : List ℕ) (so : Sound p) where
   -- what a cell reads comes before it, and is not stored again
   store-at : (cs s : List ℕ) → Rising cs → AllBelow (p .cells) cs → length s ≡ p .cells → (c : ℕ) → In c cs
@@ -171,7 +101,7 @@ unfolding turn
 turn-fit p source s b z = true-not (none-first 10 _ _ (λ k. omega arith) z .0)
 
 module _ (p : Plan) (so : Sound p) (source : List ℕ) (s : State) (b : ℕ) where
-  module _ (m : ℕ) (low : m < count p) (long : length (s .buffer) ≡ words p) where
+  module _ (m : ℕ) (low : m < count p) (own : p .processorOf (senderOf p m) ≡ b) (long : length (s .buffer) ≡ words p) where
     abbrev packed : List ℕ
     packed = pack (memoryOf p s b) (heldBy p m)
 
@@ -185,6 +115,8 @@ module _ (p : Plan) (so : Sound p) (source : List ℕ) (s : State) (b : ℕ) whe
     unfolding carryOut
     packs =
         record {
+          message = low;
+          own = own;
           packed = λ q h.
               put-same (s .buffer) (offset (p .messages) m) packed place-fits q (rw packed-length h)
               ∙ pack-at (heldBy p m) (memoryOf p s b) q h
@@ -206,7 +138,7 @@ module _ (p : Plan) (so : Sound p) (source : List ℕ) (s : State) (b : ℕ) whe
       new-at : (c : ℕ) → c < p .cells → getD (put (s .memories) (b * p .cells) new) (b * p .cells + c) 0 ≡ getD new c 0
       new-at c h = put-same (s .memories) (b * p .cells) new memory-fits c (rw new-length h)
 
-      new-rest : (i : ℕ) → (i < b * p .cells) ⊎ (b * p .cells + p .cells ≤ i) → getD (put (s .memories) (b * p .cells) new) i 0 ≡ getD (s .memories) i 0
+      new-rest : (i : ℕ) → Outside (b * p .cells) (p .cells) i → getD (put (s .memories) (b * p .cells) new) i 0 ≡ getD (s .memories) i 0
       new-rest i h = put-rest (s .memories) (b * p .cells) new memory-fits i (rw new-length h)
 
       memories-length : length (put (s .memories) (b * p .cells) new) ≡ length (s .memories)
@@ -215,7 +147,7 @@ module _ (p : Plan) (so : Sound p) (source : List ℕ) (s : State) (b : ℕ) whe
       new-is : part (put (s .memories) (b * p .cells) new) (b * p .cells) (p .cells) ≡ new
       new-is = piece-same (s .memories) (p .cells) (p .processors) b new long new-length low
 
-    module _ (t : ℕ) (mail : length (s .buffer) ≡ words p) (in-order : (m : ℕ) → m < count p → Rising (heldBy p m)) where
+    module _ (t : ℕ) (own : p .processorOf t ≡ b) (mail : length (s .buffer) ≡ words p) where
       abbrev gathered : List ℕ
       gathered = unpackAll p (s .buffer) (memoryOf p s b) (duesOf p t)
 
@@ -232,10 +164,11 @@ module _ (p : Plan) (so : Sound p) (source : List ℕ) (s : State) (b : ℕ) whe
       unfolding carryOut
       unpacks =
           record {
+            own = own;
             written = λ m q i h only.
                 let lm = due-low m i in
                 new-at gathered gathered-long (cellOf p m q) (so .held-low m (cellOf p m q) lm (at-in (heldBy p m) q h))
-                ∙ all-at p (s .buffer) m q h (in-order m lm) (mail-length m lm) (duesOf p t) (memoryOf p s b)
+                ∙ all-at p (s .buffer) m q h (so .held-rising m lm) (mail-length m lm) (duesOf p t) (memoryOf p s b)
                 (λ c k. rw memory-length (so .held-low m c lm k)) i only
                 ∙ part-at (s .buffer) (offset (p .messages) m) (length (heldBy p m)) q h;
             kept = λ c h none.
@@ -247,7 +180,7 @@ module _ (p : Plan) (so : Sound p) (source : List ℕ) (s : State) (b : ℕ) whe
             buffer = refl;
           }
 
-    module _ (t : ℕ) (lt : t < p .tiles) where
+    module _ (t : ℕ) (own : p .processorOf t ≡ b) (lt : t < p .tiles) where
       abbrev computed : List ℕ
       computed = storeAll (p .value source) (memoryOf p s b) (p .cellsOf t)
 
@@ -258,6 +191,7 @@ module _ (p : Plan) (so : Sound p) (source : List ℕ) (s : State) (b : ℕ) whe
       unfolding carryOut
       stores =
           record {
+            own = own;
             stored = λ c i.
                 new-at computed computed-long c (so .cell-low t c lt i)
                 ∙ store-at p source so (p .cellsOf t) (memoryOf p s b) (so .rising t lt) (λ y k. so .cell-low t y lt k) memory-length c i
@@ -272,24 +206,27 @@ module _ (p : Plan) (so : Sound p) (source : List ℕ) (s : State) (b : ℕ) whe
           }
 
   -- ---- a turn that gave 0
-  module _ (long : length (s .memories) ≡ p .processors * p .cells) (mail : length (s .buffer) ≡ words p) (in-order : (m : ℕ) → m < count p → Rising (heldBy p m)) where
+  module _ (long : length (s .memories) ≡ p .processors * p .cells) (mail : length (s .buffer) ≡ words p) where
+    here : finishedOf s b < length (tilesOf p b) → p .processorOf (currentTile p s b) ≡ b
+    here h = at-is (p .processorOf) b (p .tiles) (finishedOf s b) h
+
     does : (a : Answered State) → fit p s ≡ true → Turned p source s b a → a .number ≡ 0 → Does p source s (a .after) b (nextAction p s b)
-    unfolding actionAt
     does a f (Turned.unfit h) z = absurd (omega arith)
     does a f (Turned.no-such h) z = absurd (omega arith)
     does a f (Turned.waits m low h g i k) z = absurd (omega arith)
     does a f (Turned.over h) z = absurd (omega arith)
-    does a f (Turned.gathers low h g r) z = rw g (unpacks low long (currentTile p s b) mail in-order)
-    does a f (Turned.calculates low h g) z = rw g (stores low long (currentTile p s b) (at-low (p .processorOf) b (p .tiles) (finishedOf s b) h))
+    does a f (Turned.gathers low h g r) z = rw (next-zero p _ _ _ g) (unpacks low long (currentTile p s b) (here h) mail)
+    does a f (Turned.calculates low h g) z =
+        rw (next-one p _ _ _ g) (stores low long (currentTile p s b) (here h) (at-low (p .processorOf) b (p .tiles) (finishedOf s b) h))
     does a f (Turned.sends low h g) z =
-        rw (next-send _ g)
-        (packs _ (at-low (senderOf p) (currentTile p s b) (count p) (sentOf s b)
-        (fit-sending p b (finishedOf s b) (stageOf s b) (sentOf s b) h g (sym (fit-is p s b) ∙ every-at (fitRecord p s) (p .processors) (fit-records p s f) b low))) mail)
+        rw (next-two p _ _ _ g)
+        (packs _ (at-low (senderOf p) (currentTile p s b) (count p) (sentOf s b) more)
+        (ap (p .processorOf) (at-is (senderOf p) (currentTile p s b) (count p) (sentOf s b) more) ∙ here h) mail)
       where
-        next-send : (k : ℕ) → 2 ≤ k → actionAt p k (currentTile p s b) (sentOf s b) ≡ send (getD (sendsOf p (currentTile p s b)) (sentOf s b) 0)
-        next-send zero two = absurd (omega arith)
-        next-send (suc zero) two = absurd (omega arith)
-        next-send (suc (suc k)) two = refl
+        more : sentOf s b < length (sendsOf p (currentTile p s b))
+        more =
+            fit-sending p b (finishedOf s b) (stageOf s b) (sentOf s b) h g
+            (sym (fit-is p s b) ∙ every-at (fitRecord p s) (p .processors) (fit-records p s f) b low)
 
     pub turn-does : turn p source s b .number ≡ 0 → Does p source s (turn p source s b .after) b (nextAction p s b)
     turn-does z = does _ (turn-fit p source s b z) (turned p source s b) z

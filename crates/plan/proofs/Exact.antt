@@ -1,16 +1,14 @@
 -- A message holds exactly what the receiving column reads of the sending tile; each message is one tile's in one direction, in order.
-use Prim.Native.Nat.{ℕ, zero, suc, _+_, _*_, _-_, _/_, _%_, _≤_, _<_}
+use Prim.Native.Nat.{ℕ, suc, _+_, _*_, _-_, _/_, _≤_, _<_}
 use mathlib.Core.Path.{_≡_, refl, sym, ap, _∙_}
 use mathlib.Core.Logic.{_⊎_, inl, inr, _↔_}
-use mathlib.Core.Bool.{Bool, true, false}
-use mathlib.Core.List.{List, [], _∷_}
-use native.Mathlib.Decide.{decLt, ℕ-discrete}
-use native.Mathlib.Nat.{div-add-mod'}
+use mathlib.Core.Bool.{true}
+use native.Mathlib.Decide.{decLt}
+use native.Mathlib.Nat.{div-add-mod', mul-le-mul-right, suc-mul}
 use native.Mathlib.Omega.{arith}
 use lib.ListN.{length}
 use lib.Dec.{leb}
 use borrow.Author.Tests.{le-leb}
-use Rattle.base.specs.Tests.{every}
 use Rattle.base.specs.Lists.{In}
 use Rattle.base.proofs.Tests.{every-all}
 use Rattle.base.proofs.Select.{those-in}
@@ -18,16 +16,17 @@ use Rattle.machine.specs.Plan.{Message, count, senderOf, takerOf, heldBy, duesO
 use Rattle.nest.specs.declared.Nest.{Nest}
 use Rattle.nest.proofs.Accepted.{Accepted}
 use Rattle.nest.specs.Nest.{lengthOf, tileLength, component, cells, tiles}
-use Rattle.plan.specs.Geometry.{rank, cellAt, cellPlace, tilePlace, tileOf, hasRead, readAt, readsOf}
+use Rattle.plan.specs.Geometry.{cellAt, cellPlace, tilePlace, tileOf, hasRead, readAt, readsOf}
 use Rattle.plan.specs.Messages.{two, directions, ahead, parcel, taker, slots, slotTile, slotDirection, slotParcel, slotTaker, messagesTo, planOf}
 use Rattle.plan.specs.Exact.{Read, Carries, Exact}
-use Rattle.plan.proofs.Rank.{Within, rank-same, rank-place}
-use Rattle.plan.proofs.Tiles.{cellPlace-low, cellAt-low, cellPlace-cellAt, cellAt-cellPlace, tilePlace-tileOf, read-back}
+use Rattle.plan.proofs.Rank.{rank-same, rank-place}
+use Rattle.plan.proofs.Tiles.{cellPlace-low, cellAt-low, cellPlace-cellAt, cellAt-cellPlace, tilePlace-tileOf, read-low, read-back}
 use Rattle.plan.proofs.Slots.{full-in, message-slot, number-low}
-use Rattle.plan.proofs.Parcels.{Held, parcel-held, held-parcel, ahead-beyond, slotTile-low, slotDirection-low, slotDirection-pos, taker-place, slot-parcel}
+use Rattle.plan.proofs.Parcels.{Held, parcel-held, held-parcel, ahead-beyond, slotTile-low, slotDirection-low, slotDirection-pos, taker-place}
 use Rattle.plan.proofs.Sound.{reads-at, at-reads, parcel-sent}
-use Rattle.plan.proofs.Nested.{cells-in-order, tile-in-order, sweep-is}
-use Rattle.plan.proofs.Program.{lexicographic, program}
+use Rattle.plan.proofs.Nested.{cells-in-order, tiles-in-order, tile-in-order, sweep-is}
+use Rattle.plan.proofs.Program.{cell-order, tile-order, processor-order, direction-order, program}
+use Rattle.plan.proofs.Tiled.{tiled-is}
 
 module _ (x : Nest) (ok : Accepted x) where
   low : (j : ℕ) → j < x .spread → j < x .dimensions
@@ -108,25 +107,43 @@ module _ (x : Nest) (ok : Accepted x) where
           absurd (omega (arith, ap (λ (u : ℕ). length (messagesTo x u)) e))
 
   module _ (m n t v u w : ℕ) (lm : m < count (planOf x)) (ln : n < count (planOf x)) (a : Carries x m t v) (b : Carries x n u w) where
-    pub order : (m < n) ↔ (t * directions x + v < u * directions x + w)
-    order =
+    -- by the place of tile and direction among the slots
+    by-slot : (m < n) ↔ (t * directions x + v < u * directions x + w)
+    by-slot =
         let p = number-of m t v lm a in
         let q = number-of n u w ln b in (
           (λ h. let k : p .0 < q .0 = ordered (p .0) (q .0) (p .2) (q .2) (omega (arith, p .3, q .3)) in omega (arith, p .1, q .1)),
           (λ h. let k : p .0 < q .0 = omega (arith, p .1, q .1) in omega (arith, number-lt (p .0) (q .0) (p .2) k, p .3, q .3)),
         )
 
+    pub order : (m < n) ↔ ((t < u) ⊎ ((t ≡ u) × (v < w)))
+    order = ((λ h. go (by-slot .0 h) (decLt t u) (decLt u t)), (λ h. by-slot .1 (back h)))
+      where
+        more : (i k : ℕ) → i < k → i * directions x + directions x ≤ k * directions x
+        more i k h = omega (arith, mul-le-mul-right (directions x) h, suc-mul i (directions x))
+
+        go : t * directions x + v < u * directions x + w → Dec (t < u) → Dec (u < t) → (t < u) ⊎ ((t ≡ u) × (v < w))
+        go h (yes l) d = inl l
+        go h (no l) (yes d) = absurd (omega (arith, more u t d, a .least, b .most))
+        go h (no l) (no d) =
+            let e : t ≡ u = omega arith in
+            inr (e, omega (arith, ap (λ (k : ℕ). k * directions x) e))
+
+        back : (t < u) ⊎ ((t ≡ u) × (v < w)) → t * directions x + v < u * directions x + w
+        back (inl l) = omega (arith, more t u l, a .most, b .least)
+        back (inr (e, l)) = omega (arith, ap (λ (k : ℕ). k * directions x) e)
+
   pub one : (m n t v : ℕ) → m < count (planOf x) → n < count (planOf x) → Carries x m t v → Carries x n t v → m ≡ n
   one m n t v lm ln a b = go (decLt m n) (decLt n m)
     where
       go : Dec (m < n) → Dec (n < m) → m ≡ n
-      go (yes h) d = absurd (omega (arith, order m n t v t v lm ln a b .0 h))
-      go (no h) (yes k) = absurd (omega (arith, order n m t v t v ln lm b a .0 k))
+      go (yes h) d = absurd (omega (arith, by-slot m n t v t v lm ln a b .0 h))
+      go (no h) (yes k) = absurd (omega (arith, by-slot n m t v t v ln lm b a .0 k))
       go (no h) (no k) = omega arith
 
   -- ---- what a message holds, by the reads of the sweep
 
-  module _ (m c : ℕ) (lm : m < count (planOf x)) (lc : c < cells x) where
+  module _ (m c : ℕ) (lm : m < count (planOf x)) where
     -- the cell that distance e leads to reads c
     module _ (t v e : ℕ) (h : Held x t v c e) where
       ahead-place : ℕ → ℕ
@@ -149,7 +166,7 @@ module _ (x : Nest) (ok : Accepted x) where
 
       r-reads : readAt x r e ≡ c
       unfolding readAt cellAt
-      r-reads = rank-same (lengthOf x) _ (cellPlace x c) (x .dimensions) (λ j l. omega (arith, r-place j l)) ∙ cellAt-cellPlace x ok c lc
+      r-reads = rank-same (lengthOf x) _ (cellPlace x c) (x .dimensions) (λ j l. omega (arith, r-place j l)) ∙ cellAt-cellPlace x ok c (h .cell)
 
       r-in : In c (readsOf x r)
       r-in = rw r-reads at (at-reads x r e (h .distance) r-has)
@@ -166,7 +183,7 @@ module _ (x : Nest) (ok : Accepted x) where
           reader = r t v (g .0) (g .1);
           cell = r-low t v (g .0) (g .1);
           reads = r-in t v (g .0) (g .1);
-          column = λ j l.
+          chain = λ j l.
               tilePlace-tileOf x ok (r t v (g .0) (g .1)) j (low j l)
               ∙ ap (λ (y : ℕ). y / tileLength x j) (r-place t v (g .0) (g .1) j (low j l))
               ∙ g .1 .steps j l
@@ -185,14 +202,14 @@ module _ (x : Nest) (ok : Accepted x) where
         λ j l. ap (λ (y : ℕ). cellPlace x y j + component x e j) (b .3) ∙ read-back x ok (d .reader) e (b .1) (b .2) j l in
         rw (k .holds)
         (held-parcel x t v c e (record {
-          cell = lc;
+          cell = rw (b .3) (read-low x ok (d .reader) e (b .1) (b .2));
           own = d .own ∙ k .sender;
           distance = b .1;
           stays = λ j l. rw (back j l) (cellPlace-low x ok (d .reader) j l);
           steps = λ j l.
               ap (λ (y : ℕ). y / tileLength x j) (back j (low j l))
               ∙ sym (tilePlace-tileOf x ok (d .reader) j (low j l))
-              ∙ d .column j l
+              ∙ d .chain j l
               ∙ k .ahead-of j l;
         }))
 
@@ -225,9 +242,14 @@ exact x ok =
       order = order x ok;
       one = one x ok;
       once = once x ok;
-      lexicographic = lexicographic x;
+      cell-order = cell-order x ok;
+      tile-order = tile-order x ok;
+      processor-order = processor-order x ok;
+      direction-order = direction-order x ok;
       cells-in-order = cells-in-order x ok;
+      tiles-in-order = tiles-in-order x ok;
       tile-in-order = tile-in-order x ok;
       program = program x ok;
       sweep-is = sweep-is x ok;
+      tiled-is = tiled-is x ok;
     }

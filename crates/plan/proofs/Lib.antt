@@ -14,3 +14,4 @@ pub mod Report
 pub mod Exact
 pub mod Nested
 pub mod Program
+pub mod Tiled

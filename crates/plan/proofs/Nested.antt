@@ -4,17 +4,16 @@ use mathlib.Core.Path.{_≡_, refl, sym, ap, _∙_}
 use mathlib.Core.Logic.{_⊎_, inl, inr}
 use mathlib.Core.Bool.{Bool, true, false}
 use mathlib.Core.List.{List, [], _∷_, _++_, map}
-use native.Mathlib.Nat.{div-one, one-mul}
-use native.Mathlib.Numerals.{add-one}
+use native.Mathlib.Nat.{div-one}
 use native.Mathlib.Decide.{decLt}
 use native.Mathlib.Omega.{arith}
-use lib.ListN.{length, getD, set}
+use lib.ListN.{length, getD}
 use lib.Seq.{ext-getD}
 use lib.Dec.{leb, eqb}
 use borrow.Author.Tests.{eq-eqb, ne-eqb}
-use Rattle.base.specs.Tests.{pick, every, keep, product, sum, tabulate}
-use Rattle.base.specs.Lists.{In, Rising, storeAll}
-use Rattle.base.proofs.Tests.{pick-true, pick-false, sum-same, tabulate-same, length-tabulate}
+use Rattle.base.specs.Tests.{pick, keep, product, tabulate}
+use Rattle.base.specs.Lists.{In, storeAll}
+use Rattle.base.proofs.Tests.{pick-true, pick-false, sum-same, tabulate-same}
 use Rattle.base.proofs.Select.{keep-in, in-keep, keep-rising, in-append}
 use Rattle.base.proofs.Lists.{store-length}
 use Rattle.machine.specs.Plan.{Plan, Sound}
@@ -22,16 +21,17 @@ use Rattle.machine.specs.Machine.{sweep}
 use Rattle.machine.proofs.Values.{stored-right, sweep-fits, sweep-length}
 use Rattle.nest.specs.declared.Nest.{Nest}
 use Rattle.nest.proofs.Accepted.{Accepted}
-use Rattle.nest.specs.Nest.{lengthOf, tileLength, component, weight, cells, tiles}
-use Rattle.plan.specs.Geometry.{rank, place, cellAt, cellPlace, tilePlace, cellsOf, hasRead, readAt, value}
+use Rattle.nest.specs.Nest.{lengthOf, tileLength, component, weight, tileCount, cells, tiles}
+use Rattle.plan.specs.Geometry.{rank, place, cellAt, cellPlace, tileAt, tilePlace, cellsOf, hasRead, readAt, value}
 use Rattle.plan.specs.Messages.{planOf}
 use Rattle.plan.specs.Box.{boxLength, boxSize, boxPlace, boxCell}
-use Rattle.plan.specs.Report.{Index, values, doLoop, forEach, extend}
-use Rattle.plan.specs.Exact.{nested, sequential, inner, body, runNest}
-use Rattle.plan.proofs.Rank.{Within, rank-same, rank-place, place-last, place-before}
-use Rattle.plan.proofs.Tiles.{cellPlace-cellAt, tilePlace-low, tile-inside}
-use Rattle.plan.proofs.Grid.{keep-all, tabulate-add, forEach-tabulate, every-same}
+use Rattle.plan.specs.Report.{Index, values, doLoop, forEach, extend, lastTile, nested}
+use Rattle.plan.specs.Exact.{sequential, inner, outer, readFrom, body, runNest}
+use Rattle.plan.proofs.Rank.{Within, Positive, rank-same, rank-place, place-last, place-before}
+use Rattle.plan.proofs.Tiles.{cellPlace-cellAt, tileCount-pos, tilePlace-low, tile-inside}
+use Rattle.plan.proofs.Grid.{keep-all, forEach-tabulate, every-same}
 use Rattle.plan.proofs.Box.{cellsOf-box}
+use Rattle.plan.proofs.Loops.{number, forEach-rank}
 use Rattle.plan.proofs.Sound.{sound}
 
 -- ---- one loop of stride 1
@@ -71,43 +71,27 @@ loop-one s b = rw (div-one (b + 1 - s)) (values-one s (b + 1 - s))
 -- ---- loops in one another
 
 module _ (N : ℕ → ℕ) where
-  extend-rank : (l : ℕ) (i : ℕ → ℕ) (v : ℕ) → rank N (extend i l v) (suc l) ≡ rank N i l * N l + v
-  unfolding rank
-  extend-rank l i v =
-      ap (λ (r : ℕ). r * N l + extend i l v l) (rank-same N (extend i l v) i l (λ j h. pick-false (eqb j l) v (i j) (ne-eqb j l (λ (e : j ≡ l). omega arith))))
-      ∙ ap (λ (a : ℕ). rank N i l * N l + a) (pick-true (eqb l l) v (i l) (eq-eqb l l refl))
-
-  abbrev number : ℕ → (ℕ → ℕ) → ℕ
-  number l i = rank N i l
-
-  inner-rank : (l : ℕ) (i : ℕ → ℕ) (vs : List ℕ) → map (number (suc l)) (map (extend i l) vs) ≡ map (λ v. rank N i l * N l + v) vs
-  inner-rank l i [] = refl
-  inner-rank l i (v ∷ vs) = rw (extend-rank l i v, inner-rank l i vs)
-
-  number-append : (l : ℕ) (a b : List (ℕ → ℕ)) → map (number l) (a ++ b) ≡ map (number l) a ++ map (number l) b
-  number-append l [] b = refl
-  number-append l (i ∷ a) b = ap (λ (r : List ℕ). rank N i l ∷ r) (number-append l a b)
-
-  forEach-rank : (l : ℕ) (vs : List ℕ) (is : List (ℕ → ℕ))
-      → map (number (suc l)) (forEach (λ i. map (extend i l) vs) is) ≡ forEach (λ r. map (λ v. r * N l + v) vs) (map (number l) is)
-  unfolding forEach
-  forEach-rank l vs [] = refl
-  forEach-rank l vs (i ∷ is) = rw (number-append (suc l) (map (extend i l) vs) (forEach (λ i. map (extend i l) vs) is), inner-rank l i vs, forEach-rank l vs is)
-
   -- where the j-th loop runs over b j numbers from a j on, the loops meet a box in index order
   module _ (range : ℕ → List ℕ) (a b : ℕ → ℕ) where
     pub nested-box : (l : ℕ) → ((j : ℕ) → j < l → range j ≡ tabulate (λ u. a j + u) (b j))
-        → map (number l) (nested range l) ≡ tabulate (λ q. rank N (λ j. a j + place b l q j) l) (product b l)
+        → map (number N l) (nested range l) ≡ tabulate (λ q. rank N (λ j. a j + place b l q j) l) (product b l)
     unfolding nested product rank tabulate
     nested-box zero h = refl
     nested-box (suc l) h =
-        forEach-rank l (range l) (nested range l)
+        forEach-rank N l (range l) (nested range l)
         ∙ rw (nested-box l (λ j k. h j (omega arith)), h l (omega arith)) (forEach-tabulate (λ q. rank N (λ j. a j + place b l q j) l) (λ u. a l + u) (N l) (product b l) (b l))
         ∙ tabulate-same _ _ (product b l * b l)
         (λ q k. ap (λ (c : ℕ). c * N l + (a l + q % b l)) (before q) ∙ ap (λ (c : ℕ). rank N (λ j. a j + place b (suc l) q j) l * N l + (a l + c)) (sym (place-last b l q)))
       where
         before : (q : ℕ) → rank N (λ j. a j + place b l (q / b l) j) l ≡ rank N (λ j. a j + place b (suc l) q j) l
         before q = rank-same N _ _ l (λ j k. ap (λ (c : ℕ). a j + c) (sym (place-before b l q j k)))
+
+-- where each loop runs over all its numbers, the places are met in index order
+all-in-order : (N : ℕ → ℕ) (l : ℕ) (range : ℕ → List ℕ) → Positive N l → ((j : ℕ) → j < l → range j ≡ tabulate (λ u. 0 + u) (N j))
+    → map (number N l) (nested range l) ≡ tabulate (λ c. c) (product N l)
+all-in-order N l range pos h =
+    nested-box N range (λ j. 0) N l h
+    ∙ tabulate-same _ (λ c. c) (product N l) (λ q k. rank-same N _ (place N l q) l (λ j i. omega arith) ∙ rank-place N l q pos k)
 
 module _ (x : Nest) (ok : Accepted x) where
   abbrev seq : ℕ → List ℕ
@@ -120,10 +104,20 @@ module _ (x : Nest) (ok : Accepted x) where
 
   pub cells-in-order : map (cellAt x) (sequential x) ≡ tabulate (λ c. c) (cells x)
   unfolding sequential cellAt cells
-  cells-in-order =
-      nested-box (lengthOf x) seq (λ j. 0) (lengthOf x) (x .dimensions) seq-range
-      ∙ tabulate-same _ (λ c. c) (product (lengthOf x) (x .dimensions))
-      (λ q k. rank-same (lengthOf x) _ (place (lengthOf x) (x .dimensions) q) (x .dimensions) (λ j h. omega arith) ∙ rank-place (lengthOf x) (x .dimensions) q (ok .long) k)
+  cells-in-order = all-in-order (lengthOf x) (x .dimensions) seq (ok .long) seq-range
+
+  abbrev over : ℕ → List ℕ
+  over j = doLoop 0 (lastTile x j) 1
+
+  over-range : (j : ℕ) → j < x .dimensions → over j ≡ tabulate (λ u. 0 + u) (tileCount x j)
+  unfolding tileCount
+  over-range j h =
+      let e : lastTile x j + 1 - 0 ≡ lastTile x j + 1 = omega arith in
+      loop-one 0 (lastTile x j) ∙ ap (tabulate (λ u. 0 + u)) e
+
+  pub tiles-in-order : map (tileAt x) (outer x) ≡ tabulate (λ t. t) (tiles x)
+  unfolding outer tileAt tiles
+  tiles-in-order = all-in-order (tileCount x) (x .dimensions) over (tileCount-pos x ok) over-range
 
   module _ (t : ℕ) (lt : t < tiles x) where
     abbrev first : ℕ → ℕ
@@ -150,7 +144,7 @@ abbrev pub Each : ((ℕ → ℕ) → Type 0) → List (ℕ → ℕ) → Type 0
 Each P [] = Unit {0}
 Each P (i ∷ is) = P i × Each P is
 
-each-append : (P : (ℕ → ℕ) → Type 0) (a b : List (ℕ → ℕ)) → Each P a → Each P b → Each P (a ++ b)
+pub each-append : (P : (ℕ → ℕ) → Type 0) (a b : List (ℕ → ℕ)) → Each P a → Each P b → Each P (a ++ b)
 each-append P [] b h k = k
 each-append P (i ∷ a) b h k = (h .0, each-append P a b (h .1) k)
 
@@ -176,15 +170,19 @@ module _ (N : ℕ → ℕ) (range : ℕ → List ℕ) where
   nested-each zero h = ((λ j k. absurd (omega arith)), tt)
   nested-each (suc l) h = forEach-each l (nested range l) (nested-each l (λ j v k q. h j v (omega arith) q)) (λ v q. h l v (omega arith) q)
 
-tabulate-low : (n v : ℕ) → In v (tabulate (λ u. 0 + u) n) → v < n
+tabulate-in : (f : ℕ → ℕ) (n v : ℕ) → In v (tabulate f n) → (u : ℕ) × (u < n) × (v ≡ f u)
 unfolding tabulate
-tabulate-low zero v i = absurd i
-tabulate-low (suc n) v i = go (tabulate-low n v) (in-append v (tabulate (λ u. 0 + u) n) ((0 + n) ∷ []) i)
+tabulate-in f zero v i = absurd i
+tabulate-in f (suc n) v i = go (tabulate-in f n v) (in-append v (tabulate f n) (f n ∷ []) i)
   where
-    go : (In v (tabulate (λ u. 0 + u) n) → v < n) → In v (tabulate (λ u. 0 + u) n) ⊎ In v ((0 + n) ∷ []) → v < suc n
-    go ih (inl k) = let q = ih k in omega arith
-    go ih (inr (inl k)) = omega arith
+    go : (In v (tabulate f n) → (u : ℕ) × (u < n) × (v ≡ f u)) → In v (tabulate f n) ⊎ In v (f n ∷ []) → (u : ℕ) × (u < suc n) × (v ≡ f u)
+    go ih (inl k) = let q = ih k in (q .0, omega (arith, q .1), q .2)
+    go ih (inr (inl k)) = (n, omega arith, k)
     go ih (inr (inr k)) = absurd k
+
+-- a loop of stride 1 goes no further than its last number
+pub loop-most : (s b v : ℕ) → In v (doLoop s b 1) → v ≤ b
+loop-most s b v i = let q = tabulate-in (λ u. s + u) (b + 1 - s) v (rw (loop-one s b) at i) in omega (arith, q .1, q .2)
 
 -- ---- the nest's run
 
@@ -194,7 +192,7 @@ module _ (x : Nest) (ok : Accepted x) (source : List ℕ) where
   cellAt-same i k h = rank-same (lengthOf x) i k (x .dimensions) h
 
   body-value : (array : List ℕ) (i : ℕ → ℕ) → Index x i → body x source array i ≡ value x source array (cellAt x i)
-  unfolding body value hasRead readAt
+  unfolding body readFrom value hasRead readAt
   body-value array i w =
       ap (λ (a : ℕ). (getD source (cellAt x i) 0 + a) / 2 ^ x .shift % 2 ^ 32)
       (sum-same _ _ (x .distances) (λ e l.
@@ -205,14 +203,14 @@ module _ (x : Nest) (ok : Accepted x) (source : List ℕ) where
       back : (e : ℕ) → cellAt x (λ j. i j - component x e j) ≡ readAt x (cellAt x i) e
       back e = cellAt-same (λ j. i j - component x e j) (λ j. cellPlace x (cellAt x i) j - component x e j) (λ j h. ap (λ (a : ℕ). a - component x e j) (sym (cellPlace-cellAt x ok i w j h)))
 
-  run-stores : (is : List (ℕ → ℕ)) (array : List ℕ) → Each (Index x) is → runNest x source array is ≡ storeAll (value x source) array (map (cellAt x) is)
+  pub run-stores : (is : List (ℕ → ℕ)) (array : List ℕ) → Each (Index x) is → runNest x source array is ≡ storeAll (value x source) array (map (cellAt x) is)
   unfolding runNest storeAll
   run-stores [] array w = refl
   run-stores (i ∷ is) array w = rw (body-value array i (w .0)) (run-stores is _ (w .1))
 
   sequential-each : Each (Index x) (sequential x)
   unfolding sequential
-  sequential-each = nested-each (lengthOf x) (seq x ok) (x .dimensions) (λ j v h i. tabulate-low (lengthOf x j) v (rw (seq-range x ok j h) at i))
+  sequential-each = nested-each (lengthOf x) (seq x ok) (x .dimensions) (λ j v h i. omega (arith, loop-most 0 (lengthOf x j - 1) v i, ok .long j h))
 
   -- storing the values of all cells in index order
   module _ (array : List ℕ) (len : length array ≡ cells x) where

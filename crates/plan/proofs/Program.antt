@@ -1,28 +1,28 @@
--- A cell's number is its place in the lexicographic order; all loops of Figure 4 meet the cells of a processor's tiles, tile by tile.
-use Prim.Native.Nat.{ℕ, zero, suc, _+_, _*_, _-_, _/_, _%_, _≤_, _<_, min, max}
+-- Cells, tiles, processors and directions are numbered in lexicographic order; Figure 4 meets the cells of a processor's tiles, tile by tile.
+use Prim.Native.Nat.{ℕ, zero, suc, _+_, _*_, _-_, _%_, _≤_, _<_, min, max}
 use mathlib.Core.Path.{_≡_, refl, sym, ap, _∙_}
 use mathlib.Core.Logic.{_⊎_, inl, inr, _↔_}
-use mathlib.Core.Bool.{Bool, true, false}
-use mathlib.Core.List.{List, [], _∷_, _++_, map}
+use mathlib.Core.List.{List, [], _∷_, map}
 use native.Mathlib.Nat.{eq-or-lt-of-le, le-of-suc-le-suc, mul-le-mul-right, suc-mul, mod-lt}
 use native.Mathlib.Decide.{decLt}
 use native.Mathlib.Omega.{arith}
 use lib.Dec.{ltb, eqb}
 use borrow.Author.Tests.{lt-ltb, le-ltb}
-use Rattle.base.specs.Tests.{pick, keep}
+use Rattle.base.specs.Tests.{product}
 use Rattle.base.specs.Lists.{In}
 use Rattle.base.proofs.Tests.{pick-true, pick-false}
 use Rattle.base.proofs.Select.{keep-in}
 use Rattle.machine.specs.Plan.{tilesOf}
 use Rattle.nest.specs.declared.Nest.{Nest}
 use Rattle.nest.proofs.Accepted.{Accepted}
-use Rattle.nest.specs.Nest.{lengthOf, tileLength, processorCount, tileCount, processors, tiles}
-use Rattle.plan.specs.Geometry.{rank, place, cellAt, tileAt, tilePlace, cellsOf}
-use Rattle.plan.specs.Messages.{planOf}
-use Rattle.plan.specs.Report.{Index, doLoop, tileLoop, forEach, extend, loops}
-use Rattle.plan.specs.Exact.{nested, inner, Before}
-use Rattle.plan.proofs.Rank.{Within, rank-same, place-rank}
-use Rattle.plan.proofs.Tiles.{tileAt-low, tilePlace-tileAt}
+use Rattle.nest.specs.Nest.{lengthOf, tileLength, processorCount, tileCount, cells, tiles, processors}
+use Rattle.plan.specs.Geometry.{rank, place, cellAt, cellPlace, tileAt, tilePlace, cellsOf}
+use Rattle.plan.specs.Messages.{two, directions, ahead, planOf}
+use Rattle.plan.specs.Report.{doLoop, tileLoop, forEach, lastTile, nested, loops}
+use Rattle.plan.specs.Exact.{inner, figure4, Before}
+use Rattle.plan.proofs.Rank.{Within, Positive, place-low, rank-low, rank-same, place-rank, rank-place}
+use Rattle.plan.proofs.Tiles.{tileCount-pos, tileAt-low, tilePlace-tileAt}
+use Rattle.plan.proofs.Grid.{map-append}
 use Rattle.plan.proofs.Loops.{loop-keep, loops-are-tiles}
 use Rattle.plan.proofs.Nested.{Each, nested-each, tile-in-order}
 
@@ -59,12 +59,36 @@ module _ (N i k : ℕ → ℕ) where
             omega (arith, ap (λ (a : ℕ). a * N l) z),
           )
 
-pub lexicographic : (x : Nest) (i k : ℕ → ℕ) → Index x i → Index x k → (cellAt x i < cellAt x k) ↔ Before x i k
-unfolding cellAt
-lexicographic x i k w v = (
-  (λ h. let r = rank-lex (lengthOf x) i k (x .dimensions) w v h in record { at = r .0; low = r .1; same = r .2; less = r .3 }),
-  (λ b. lex-rank (lengthOf x) i k (x .dimensions) w (b .at) (b .low) (b .same) (b .less)),
-)
+-- numbers follow each other as their places do
+place-order : (N : ℕ → ℕ) (l : ℕ) → Positive N l → (c e : ℕ) → c < product N l → e < product N l → (c < e) ↔ Before l (place N l c) (place N l e)
+place-order N l pos c e a b =
+    let p = rank-place N l c pos a in
+    let q = rank-place N l e pos b in
+    let w = place-low N l c pos in (
+      (λ h. let r = rank-lex N (place N l c) (place N l e) l w (place-low N l e pos) (rw (p, q) h) in
+          record { at = r .0; low = r .1; same = r .2; less = r .3 }),
+      (λ o. rw (p, q) at (lex-rank N (place N l c) (place N l e) l w (o .at) (o .low) (o .same) (o .less))),
+    )
+
+module _ (x : Nest) (ok : Accepted x) where
+  pub cell-order : (c e : ℕ) → c < cells x → e < cells x → (c < e) ↔ Before (x .dimensions) (cellPlace x c) (cellPlace x e)
+  unfolding cellPlace cells
+  cell-order = place-order (lengthOf x) (x .dimensions) (ok .long)
+
+  pub tile-order : (t u : ℕ) → t < tiles x → u < tiles x → (t < u) ↔ Before (x .dimensions) (tilePlace x t) (tilePlace x u)
+  unfolding tilePlace tiles
+  tile-order = place-order (tileCount x) (x .dimensions) (tileCount-pos x ok)
+
+  pub processor-order : (p q : ℕ) → p < processors x → q < processors x
+      → (p < q) ↔ Before (x .spread) (place (processorCount x) (x .spread) p) (place (processorCount x) (x .spread) q)
+  unfolding processors
+  processor-order = place-order (processorCount x) (x .spread) (ok .manned)
+
+  pub direction-order : (v w : ℕ) → v ≤ directions x → w ≤ directions x → (v < w) ↔ Before (x .spread) (ahead x v) (ahead x w)
+  unfolding ahead directions
+  direction-order v w a b =
+      let some = rank-low two (λ j. 0) (x .spread) (λ j h. omega arith) in
+      place-order two (x .spread) (λ j h. omega arith) v w (omega arith) (omega arith)
 
 -- ---- Figure 4
 
@@ -73,15 +97,11 @@ unfolding nested
 nested-same f g zero h = refl
 nested-same f g (suc l) h = rw (h l (omega arith), nested-same f g l (λ j k. h j (omega arith)))
 
-map-append : (f : (ℕ → ℕ) → ℕ) (a b : List (ℕ → ℕ)) → map f (a ++ b) ≡ map f a ++ map f b
-map-append f [] b = refl
-map-append f (y ∷ a) b = ap (λ (l : List ℕ). f y ∷ l) (map-append f a b)
-
 do-low : (s b p v : ℕ) → s < p → In v (doLoop s b p) → v < b + 1
 do-low s b p v h i = keep-in (λ t. eqb (t % p) s) (b + 1) v (rw (loop-keep s b p h) at i) .0
 
 module _ (x : Nest) (ok : Accepted x) where
-  abbrev Tiled : (ℕ → ℕ) → Type 0
+  abbrev pub Tiled : (ℕ → ℕ) → Type 0
   Tiled u = Within (tileCount x) u (x .dimensions)
 
   inner-same : (u : ℕ → ℕ) → Tiled u → inner x u ≡ inner x (tilePlace x (tileAt x u))
@@ -93,25 +113,17 @@ module _ (x : Nest) (ok : Accepted x) where
   inner-tile : (u : ℕ → ℕ) → Tiled u → map (cellAt x) (inner x u) ≡ cellsOf x (tileAt x u)
   inner-tile u w = ap (map (cellAt x)) (inner-same u w) ∙ tile-in-order x ok (tileAt x u) (tileAt-low x ok u w)
 
-  inner-tiles : (us : List (ℕ → ℕ)) → Each Tiled us → map (cellAt x) (forEach (inner x) us) ≡ forEach (cellsOf x) (map (tileAt x) us)
+  pub inner-tiles : (us : List (ℕ → ℕ)) → Each Tiled us → map (cellAt x) (forEach (inner x) us) ≡ forEach (cellsOf x) (map (tileAt x) us)
   unfolding forEach
   inner-tiles [] w = refl
   inner-tiles (u ∷ us) w = rw (map-append (cellAt x) (inner x u) (forEach (inner x) us), inner-tile u (w .0), inner-tiles us (w .1))
 
   module _ (p : ℕ → ℕ) where
-    loops-nested : (l : ℕ) → loops x p l ≡ nested (tileLoop x p) l
-    unfolding loops nested
-    loops-nested zero = refl
-    loops-nested (suc l) = rw (loops-nested l)
-
-    abbrev last : ℕ → ℕ
-    last j = (lengthOf x j - 1) / tileLength x j
-
-    loop-spread : (j : ℕ) → j < x .spread → tileLoop x p j ≡ doLoop (p j % processorCount x j) (last j) (processorCount x j)
+    loop-spread : (j : ℕ) → j < x .spread → tileLoop x p j ≡ doLoop (p j % processorCount x j) (lastTile x j) (processorCount x j)
     unfolding tileLoop
     loop-spread j h = pick-true (ltb j (x .spread)) _ _ (lt-ltb j (x .spread) h)
 
-    loop-rest : (j : ℕ) → x .spread ≤ j → tileLoop x p j ≡ doLoop 0 (last j) 1
+    loop-rest : (j : ℕ) → x .spread ≤ j → tileLoop x p j ≡ doLoop 0 (lastTile x j) 1
     unfolding tileLoop
     loop-rest j h = pick-false (ltb j (x .spread)) _ _ (le-ltb j (x .spread) h)
 
@@ -119,13 +131,15 @@ module _ (x : Nest) (ok : Accepted x) where
     unfolding tileCount
     loop-low j v i = go (decLt j (x .spread))
       where
-        go : Dec (j < x .spread) → v < last j + 1
-        go (yes h) = do-low (p j % processorCount x j) (last j) (processorCount x j) v (mod-lt (p j) (ok .manned j h)) (rw (loop-spread j h) at i)
-        go (no h) = do-low 0 (last j) 1 v (omega arith) (rw (loop-rest j (omega arith)) at i)
+        go : Dec (j < x .spread) → v < lastTile x j + 1
+        go (yes h) = do-low (p j % processorCount x j) (lastTile x j) (processorCount x j) v (mod-lt (p j) (ok .manned j h)) (rw (loop-spread j h) at i)
+        go (no h) = do-low 0 (lastTile x j) 1 v (omega arith) (rw (loop-rest j (omega arith)) at i)
 
     loops-tiled : Each Tiled (loops x p (x .dimensions))
-    loops-tiled = rw (loops-nested (x .dimensions)) (nested-each (tileCount x) (tileLoop x p) (x .dimensions) (λ j v h i. loop-low j v i))
+    unfolding loops
+    loops-tiled = nested-each (tileCount x) (tileLoop x p) (x .dimensions) (λ j v h i. loop-low j v i)
 
-  pub program : (p : ℕ) → p < processors x
-      → map (cellAt x) (forEach (inner x) (loops x (place (processorCount x) (x .spread) p) (x .dimensions))) ≡ forEach (cellsOf x) (tilesOf (planOf x) p)
-  program p h = inner-tiles _ (loops-tiled (place (processorCount x) (x .spread) p)) ∙ ap (forEach (cellsOf x)) (loops-are-tiles x ok p h)
+  pub program : (p : ℕ) → p < processors x → map (cellAt x) (figure4 x p) ≡ forEach (cellsOf x) (tilesOf (planOf x) p)
+  unfolding figure4
+  program p h =
+      inner-tiles _ (loops-tiled (place (processorCount x) (x .spread) p)) ∙ ap (forEach (cellsOf x)) (loops-are-tiles x ok p h)

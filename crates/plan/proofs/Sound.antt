@@ -9,9 +9,9 @@ use native.Mathlib.Decide.{decLt, ℕ-discrete}
 use native.Mathlib.Omega.{arith}
 use lib.ListN.{length, getD}
 use Rattle.base.specs.Tests.{pick, keep, sum}
-use Rattle.base.specs.Lists.{In}
+use Rattle.base.specs.Lists.{In, Rising}
 use Rattle.base.proofs.Tests.{sum-same}
-use Rattle.base.proofs.Select.{in-map, map-in, keep-in, in-keep}
+use Rattle.base.proofs.Select.{in-map, map-in, keep-in, in-keep, keep-rising}
 use Rattle.machine.specs.Plan.{Message, Plan, noMessage, message, count, senderOf, takerOf, heldBy, Knows, Sound}
 use Rattle.nest.specs.declared.Nest.{Nest}
 use Rattle.nest.proofs.Accepted.{Accepted}
@@ -74,6 +74,10 @@ module _ (x : Nest) where
         },
       )
 
+  held-rising : (m : ℕ) → m < count (planOf x) → Rising (heldBy (planOf x) m)
+  unfolding slotParcel parcel
+  held-rising m h = rw (sent m h .1 .holds) (keep-rising _ (cells x))
+
   -- a cell of message (t, v) is in a message of the plan
   module _ (t v c : ℕ) (h : t < tiles x) (l : 1 ≤ v) (k : v ≤ directions x) (i : In c (parcel x t v)) where
     s : ℕ
@@ -118,7 +122,7 @@ module _ (x : Nest) (ok : Accepted x) where
     step-v j h =
         omega (arith, read-tile x ok c e low has j (omega (arith, ok .spread-low)), ahead-rank x step step-two j h)
 
-    tile-le : tileOf x r ≤ tileOf x c
+    pub tile-le : tileOf x r ≤ tileOf x c
     tile-le =
         let a = tileAt-tilePlace x ok (tileOf x r) (tileOf-low x ok r) in
         let b = tileAt-tilePlace x ok (tileOf x c) (tileOf-low x ok c) in
@@ -217,6 +221,7 @@ sound x ok =
       local = λ source m n c h f. value-local x source m n c f;
       earlier = λ c r h i. let a = reads-at x c r i in rw (a .3) (read-before x ok c (a .0) (a .1) (a .2) h);
       reads-known = λ t c r h i k. known x ok t c r i k;
+      held-rising = held-rising x;
       held-low = λ m c h i. held-own x ok m c h i .0;
       held-known = λ m c h i. let a = held-own x ok m c h i in inl (in-cellsOf x (senderOf (planOf x) m) c (a .0) (a .1));
       forward = λ m h. forward x ok m h;

@@ -1,0 +1,132 @@
+-- From a fresh start that gave 0 the calls answer, event by event, as the machine does on the recipe's plan: what holds of its runs holds of theirs.
+use Prim.Native.Nat.{ℕ}
+use mathlib.Core.Path.{_≡_, refl, sym, ap, _∙_}
+use mathlib.Core.Bool.{true}
+use mathlib.Core.List.{List, [], _∷_, _++_}
+use lib.ListN.{length}
+use borrow.Author.Tests.{eq-eqb}
+use Rattle.base.specs.Numbers.{firstOf}
+use Rattle.base.proofs.Tests.{and-true}
+use Rattle.machine.specs.Plan.{Plan, Sound, takerOf}
+use Rattle.machine.specs.Machine.{State, Answered, Action, gather, send, collect, fresh}
+use Rattle.machine.specs.Runs.{Event, turnOf, deliveryOf, act, stateAfter, answersTo, turnsOf, CarriedOut, Demand3}
+use Rattle.machine.specs.Words.{wordAt, cellOf, Did, Posted}
+use Rattle.machine.proofs.Kept.{Inv}
+use Rattle.machine.proofs.Fresh.{inv-fresh}
+use Rattle.machine.proofs.Along.{run-inv, next-inv}
+use Rattle.machine.proofs.RunLaws.{number-of, after-of}
+use Rattle.machine.proofs.Theorem.{theorem}
+use Rattle.machine.proofs.Posted.{posted}
+use Rattle.nest.specs.Nest.{readLines}
+use Rattle.engine.specs.Calls.{recipe, areas, collectCall}
+use Rattle.engine.specs.Demands.{calls}
+use Rattle.engine.proofs.AsSteps.{turn-is, deliver-is, collect-is}
+
+module _ (bytes source : List ℕ) (ok : firstOf (readLines bytes) ≡ 0) (so : Sound (recipe bytes)) (long : length source ≡ recipe bytes .cells) where
+  abbrev p : Plan
+  p = recipe bytes
+
+  inv-areas : (s : State) → Inv p source s → areas p source s ≡ true
+  unfolding areas
+  inv-areas s inv =
+      and-true (eq-eqb _ _ long)
+      (and-true (eq-eqb _ _ (inv .shape .memories))
+      (and-true (eq-eqb _ _ (inv .shape .buffer)) (and-true (eq-eqb _ _ (inv .shape .progress)) (eq-eqb _ _ (inv .shape .status)))))
+
+  same : (s : State) → Inv p source s → (e : Event) → calls bytes source s e ≡ act p source s e
+  unfolding calls act
+  same s inv (turnOf b) = turn-is bytes source s ok (inv-areas s inv) b
+  same s inv (deliveryOf m) = deliver-is bytes source s ok (inv-areas s inv) m
+
+  same-state : (es : List Event) (s : State) → Inv p source s → stateAfter (calls bytes source) s es ≡ stateAfter (act p source) s es
+  unfolding stateAfter
+  same-state [] s inv = refl
+  same-state (e ∷ es) s inv =
+      ap (λ (a : Answered State). stateAfter (calls bytes source) (a .after) es) (same s inv e) ∙ same-state es _ (next-inv p so source s inv e)
+
+  same-answers : (es : List Event) (s : State) → Inv p source s → answersTo (calls bytes source) s es ≡ answersTo (act p source) s es
+  unfolding answersTo
+  same-answers [] s inv = refl
+  same-answers (e ∷ es) s inv =
+      ap (λ (a : Answered State). a .number ∷ answersTo (calls bytes source) (a .after) es) (same s inv e)
+      ∙ ap (λ (l : List ℕ). act p source s e .number ∷ l) (same-answers es _ (next-inv p so source s inv e))
+
+  -- after the events `es` from the fresh start
+  module _ (es : List Event) where
+    abbrev here : State
+    here = stateAfter (act p source) (fresh p) es
+
+    inv-here : Inv p source here
+    inv-here = run-inv p so source es (fresh p) (inv-fresh p source)
+
+    state-is : stateAfter (calls bytes source) (fresh p) es ≡ here
+    state-is = same-state es (fresh p) (inv-fresh p source)
+
+    answers-are : answersTo (calls bytes source) (fresh p) es ≡ answersTo (act p source) (fresh p) es
+    answers-are = same-answers es (fresh p) (inv-fresh p source)
+
+    next-is : (e : Event) → calls bytes source (stateAfter (calls bytes source) (fresh p) es) e ≡ act p source here e
+    next-is e = ap (λ (s : State). calls bytes source s e) state-is ∙ same here inv-here e
+
+    grid-is : (grid : List ℕ) → length grid ≡ p .cells
+        → collectCall bytes source (stateAfter (calls bytes source) (fresh p) es) grid ≡ collect p here grid
+    grid-is grid e =
+        ap (λ (s : State). collectCall bytes source s grid) state-is ∙ collect-is bytes source here ok (inv-areas here inv-here) grid e
+
+    -- the action that a turn then did
+    did : (b : ℕ) (a : Action) → Did (calls bytes source) (fresh p) p es b a → Did (act p source) (fresh p) p es b a
+    did b a d = record { gave = sym (number-of (next-is (turnOf b))) ∙ d .gave; named = rw answers-are at (d .named) }
+
+  -- ---- demand 3
+  module _ (events : List Event) where
+    abbrev claim : Type 0
+    claim = Demand3 (act p source) (fresh p) events p source (collect p)
+
+    carried : claim → (before after : List Event) (b : ℕ) → events ≡ before ++ (turnOf b ∷ after)
+        → calls bytes source (stateAfter (calls bytes source) (fresh p) before) (turnOf b) .number ≡ 0
+        → CarriedOut p source (act p source) (here before) b (turnsOf b before (answersTo (act p source) (fresh p) before))
+    carried d before after b e z = d .carried-out before after b e (sym (number-of (next-is before (turnOf b))) ∙ z)
+
+    demand3 : claim → Demand3 (calls bytes source) (fresh p) events p source (collectCall bytes source)
+    demand3 d =
+        record {
+          bound = rw answers-are (d .bound);
+          goes-on = λ h. let r = d .goes-on (rw answers-are at h) in (r .0, number-of (next-is events (r .0)) ∙ r .1);
+          then-fewer = λ e z. rw answers-are (d .then-fewer e (sym (number-of (next-is events e)) ∙ z));
+          can-collect = λ h grid l. number-of (grid-is events grid l) ∙ d .can-collect (rw answers-are at h) grid l;
+          then-all = λ grid l z. rw answers-are (d .then-all grid l (sym (number-of (grid-is events grid l)) ∙ z));
+          calculated = λ c l. rw answers-are (d .calculated c l);
+          sent = λ m l. rw answers-are (d .sent m l);
+          delivered = λ m l. rw answers-are (d .delivered m l);
+          taken = λ m l. rw answers-are (d .taken m l);
+          all-calculated = λ h c l. rw answers-are (d .all-calculated (rw answers-are at h) c l);
+          all-sent = λ h m l. rw answers-are (d .all-sent (rw answers-are at h) m l);
+          all-delivered = λ h m l. rw answers-are (d .all-delivered (rw answers-are at h) m l);
+          all-taken = λ h m l. rw answers-are (d .all-taken (rw answers-are at h) m l);
+          carried-out = λ before after b e z.
+              let x = carried d before after b e z in
+              record {
+                named = rw answers-are (x .named);
+                by-rule = rw (answers-are, state-is) (after-of (same (here before) (inv-here before) (turnOf b)) ∙ x .by-rule);
+              };
+          no-more = λ b. rw answers-are (d .no-more b);
+          grid = λ h old l. after-of (grid-is events old l) ∙ d .grid (rw answers-are at h) old l;
+        }
+
+    pub run-demand3 : Demand3 (calls bytes source) (fresh p) events p source (collectCall bytes source)
+    run-demand3 = demand3 (theorem p so source events)
+
+  -- ---- what was sent
+  module _ (before : List Event) (b m : ℕ) (d : Did (calls bytes source) (fresh p) p before b (send m)) where
+    mailed : Posted (act p source) (fresh p) p before b m
+    mailed = posted p so source before b m (did before b (send m) d)
+
+    pub run-posted : Posted (calls bytes source) (fresh p) p before b m
+    run-posted =
+        record {
+          stays = λ then q h. rw (state-is (before ++ (turnOf b ∷ then)), state-is before) (mailed .stays then q h);
+          arrives = λ then c q h g.
+              ap (λ (a : Answered State). wordAt p (a .after) c (cellOf p m q)) (next-is (before ++ (turnOf b ∷ then)) (turnOf c))
+              ∙ mailed .arrives then c q h (did (before ++ (turnOf b ∷ then)) c (gather (takerOf p m)) g)
+              ∙ ap (λ (s : State). wordAt p s b (cellOf p m q)) (sym (state-is before));
+        }
