@@ -1,5 +1,5 @@
 -- Packing by rows: the cells of a row that some distance reads, their words from a place on, and the parcel that grows by a row.
-use Prim.Native.Nat.{ℕ, zero, suc, _+_, _≤_, _<_}
+use Prim.Native.Nat.{ℕ, zero, suc, _+_, _-_, _≤_, _<_}
 use mathlib.Core.Path.{_≡_, refl, sym, ap, _∙_}
 use mathlib.Core.Bool.{Bool, true, false}
 use mathlib.Core.List.{List, [], _∷_, _++_, map, append-assoc, append-nil}
@@ -9,7 +9,7 @@ use native.Mathlib.Omega.{arith}
 use lib.ListN.{length, getD, take, drop, set, length-append, length-map, length-take, length-drop}
 use lib.Seq.{drop-cons, set-at, take-at, take-length}
 use lib.Dec.{ltb}
-use borrow.Author.Tests.{lt-ltb, le-ltb}
+use borrow.Author.Tests.{lt-ltb, le-ltb, ltb-false}
 use Rattle.base.specs.Tests.{_or_, some, keep}
 use Rattle.base.specs.Lists.{put, pack}
 use Rattle.base.proofs.Tests.{some-one, some-none, some-same, tabulate-same}
@@ -19,7 +19,7 @@ use Rattle.nest.specs.declared.Nest.{Nest}
 use Rattle.nest.proofs.Accepted.{Accepted}
 use Rattle.nest.specs.Nest.{cells}
 use Rattle.plan.specs.Messages.{slotDirection}
-use Rattle.plan.proofs.Grid.{map-append, keep-run, map-tabulate}
+use Rattle.plan.proofs.Grid.{map-append, keep-add, keep-nothing, keep-run, map-tabulate}
 use Rattle.plan.proofs.Box.{boxParcel-none, boxParcel-few}
 use Rattle.layout.specs.declared.Bounds.{Bounds}
 use Rattle.layout.specs.CellRows.{rowOf}
@@ -38,6 +38,11 @@ row-of-two : rowParcel (5 ∷ 7 ∷ []) 2 20 4 4 ≡ 20 ∷ 21 ∷ 22 ∷ []
 unfolding rowParcel keep some _or_
 row-of-two = refl
 
+keep-rest : (f : ℕ → Bool) (y w : ℕ) → y ≤ w → ((i : ℕ) → y ≤ i → i < w → f i ≡ false) → keep f w ≡ keep f y
+keep-rest f y w h none =
+    let k : w ≡ y + (w - y) = omega arith in
+    ap (keep f) k ∙ keep-add f y (w - y) ∙ rw (keep-nothing (λ t. f (y + t)) (w - y) (λ t l. none (y + t) (omega arith) (omega arith))) (append-nil (keep f y))
+
 module _ (ends : List ℕ) (n c a : ℕ) where
   row-none : rowParcel ends n c a 0 ≡ []
   unfolding rowParcel keep
@@ -51,6 +56,13 @@ module _ (ends : List ℕ) (n c a : ℕ) where
     row-miss : some (λ e. ltb (a + y) (getD ends e 0)) n ≡ false → rowParcel ends n c a (y + 1) ≡ rowParcel ends n c a y
     unfolding rowParcel
     row-miss h = rw (add-one y, keep-none (λ i. some (λ e. ltb (a + i) (getD ends e 0)) n) y h)
+
+    -- none is read after one that no distance reads
+    row-rest : (w : ℕ) → y ≤ w → ((e : ℕ) → e < n → ltb (a + y) (getD ends e 0) ≡ false) → rowParcel ends n c a w ≡ rowParcel ends n c a y
+    unfolding rowParcel
+    row-rest w h f =
+        ap (map (λ i. c + i)) (keep-rest (λ i. some (λ e. ltb (a + i) (getD ends e 0)) n) y w h
+        (λ i k l. some-none _ n (λ e o. le-ltb (a + i) (getD ends e 0) (omega (arith, ltb-false (a + y) (getD ends e 0) (f e o))))))
 
     row-more : (w : ℕ) → y ≤ w → length (rowParcel ends n c a y) ≤ length (rowParcel ends n c a w)
     unfolding rowParcel
@@ -124,10 +136,10 @@ module _ (ends : List ℕ) (n c a w : ℕ) (memory words₀ : List ℕ) (packed 
   packing-end words count y p h = let z : y ≡ w = omega (arith, p .low) in rw z at (p .first)
 
   module _ (k : RowRoom ends n c a w memory words₀ packed) where
-    pub packing-long : (words : List ℕ) (count y : ℕ) → Packing ends n c a w memory words₀ packed words count y → length words ≡ length words₀
-    packing-long words count y p =
-        ap length (p .first .is)
-        ∙ length-put words₀ packed (pack memory (rowParcel ends n c a y)) (omega (arith, k .room, pack-length (rowParcel ends n c a y) memory, row-more ends n c a y w (p .low)))
+    pub packing-long : (words : List ℕ) (count y : ℕ) → y ≤ w → RowPacked ends n c a y memory words₀ packed words count → length words ≡ length words₀
+    packing-long words count y h p =
+        ap length (p .is)
+        ∙ length-put words₀ packed (pack memory (rowParcel ends n c a y)) (omega (arith, k .room, pack-length (rowParcel ends n c a y) memory, row-more ends n c a y w h))
 
     module _ (words₁ : List ℕ) (count₁ y₁ : ℕ) (p : Packing ends n c a w memory words₀ packed words₁ count₁ y₁) (h : y₁ < w)
         (words : List ℕ) (count y e : ℕ) (f : Searching (λ d. ltb (a + y₁) (getD ends d 0)) n words₁ count₁ y₁ words count y e) where
@@ -138,7 +150,7 @@ module _ (ends : List ℕ) (n c a w : ℕ) (memory words₀ : List ℕ) (packed 
         pub packing-room : (count < length words) × (count < 16384)
         packing-room =
             let m : count < length words₀ = omega (arith, f .same-count, p .first .count-is, k .room, row-lt ends n c a y₁ w h met) in
-            (omega (arith, ap length (f .same-words), packing-long words₁ count₁ y₁ p), omega (arith, k .most))
+            (omega (arith, ap length (f .same-words), packing-long words₁ count₁ y₁ (p .low) (p .first)), omega (arith, k .most))
 
         pub packing-hit : Packing ends n c a w memory words₀ packed (set words count (getD memory (c + y₁) 0)) (count + 1) (y + 1)
         unfolding pack
@@ -154,18 +166,15 @@ module _ (ends : List ℕ) (n c a w : ℕ) (memory words₀ : List ℕ) (packed 
               });
             }
 
-      pub packing-miss : n ≤ e → Packing ends n c a w memory words₀ packed words count (y + 1)
-      packing-miss l =
-          record {
-            low = omega (arith, f .same-y);
-            first = rw (f .same-words, f .same-count, f .same-y) (record {
-              count-is = p .first .count-is ∙ ap (λ (z : List ℕ). packed + length z) (sym unread);
-              is = p .first .is ∙ ap (λ (z : List ℕ). put words₀ packed (pack memory z)) (sym unread);
-            });
-          }
+      pub packing-left : n ≤ e → RowPacked ends n c a w memory words₀ packed words count
+      packing-left l =
+          rw (f .same-words, f .same-count) (record {
+            count-is = p .first .count-is ∙ ap (λ (z : List ℕ). packed + length z) (sym rest);
+            is = p .first .is ∙ ap (λ (z : List ℕ). put words₀ packed (pack memory z)) (sym rest);
+          })
         where
-          unread : rowParcel ends n c a (y₁ + 1) ≡ rowParcel ends n c a y₁
-          unread = row-miss ends n c a y₁ (some-none _ n (λ i j. f .none i (omega arith)))
+          rest : rowParcel ends n c a w ≡ rowParcel ends n c a y₁
+          rest = row-rest ends n c a y₁ w (p .low) (λ i j. f .none i (omega arith))
 
 -- ---- the parcel grows by a row
 

@@ -316,7 +316,7 @@ pub fn parcel_length(nest: Nest, sizes: Sizes, slot: usize) -> usize
 }
 
 // The words of a row's cells that are in the parcel, after those packed before: the search over the distances decides, and a
-// cell is packed at the first of them that reads it there.
+// cell is packed at the first of them that reads it there. At a cell that none reads the row is left: they read none after it.
 fn pack_row(
     words: &mut [u32],
     memory: &[u32],
@@ -341,6 +341,7 @@ fn pack_row(
                 continue 'cells;
             }
         }
+        return count;
     }
     count
 }

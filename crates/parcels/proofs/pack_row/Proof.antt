@@ -1,5 +1,5 @@
--- `parcels::pack_row` meets its contract: between two cells, the words of the parcel's cells so far are packed; between two
--- distances, nothing has changed since the cell was begun and no distance before e reads it there.
+-- `parcels::pack_row` meets its contract: between two cells, the words of the row's cells so far that are read are packed; between
+-- two distances, nothing has changed since the cell was begun and no distance before e reads it there.
 use borrow.Author.Needs.{needs}
 use native.Mathlib.Omega.{arith}
 use Prim.Native.Nat.{_-_, _<_}
@@ -8,7 +8,7 @@ use lib.ListN.{length, getD}
 use lib.Dec.{ltb}
 use borrow.Author.Tests.{le-ltb}
 use Rattle.layout.proofs.Loops.{nowhere-more}
-use Rattle.parcels.proofs.Packing.{Packing, Searching, packing-none, packing-long, packing-room, packing-hit, packing-miss, packing-end}
+use Rattle.parcels.proofs.Packing.{Packing, Searching, packing-none, packing-long, packing-room, packing-hit, packing-left, packing-end}
 use Rattle.parcels.proofs.pack_row.Statement.{statement}
 use Rattle.parcels.proofs.pack_row.Tie as tie
 
@@ -80,20 +80,17 @@ distances-less c = search needs
 distances-again : tie.Need-distances-again Inv-distances μ-distances Inv-cells μ-cells
 distances-again c = record { same-words = c .before .before .before .distances .inv .same-words; same-count = c .before .before .before .distances .inv .same-count; same-y = c .before .before .before .distances .inv .same-y; low = omega (arith, c .before .before .distances-test .taken); none = nowhere-more _ _ _ (record { low = c .before .before .before .distances .inv .low; none = c .before .before .before .distances .inv .none }) (c .before .before .distances-test .taken) (le-ltb _ _ (c .if1 .left)) .none }
 
-add-y-2 : tie.Need-add-y-2 Inv-distances μ-distances Inv-cells μ-cells
-add-y-2 c = omega (arith, c .before .distances .inv .same-y, c .before .before .cells-test .taken, c .before .before .before .before .pre .small)
-
-cells-less-2 : tie.Need-cells-less-2 Inv-distances μ-distances Inv-cells μ-cells
-cells-less-2 c = omega (arith, c .before .distances .inv .same-y, c .before .before .cells-test .taken)
-
-cells-again-2 : tie.Need-cells-again-2 Inv-distances μ-distances Inv-cells μ-cells
-cells-again-2 c = packing-miss _ _ _ _ _ _ _ _ (c .before .before .before .before .pre) _ _ _ (c .before .before .before .cells .inv) (c .before .before .cells-test .taken) _ _ _ _ (c .before .distances .inv) (c .distances-test .left)
-
 same-length : tie.Need-same-length Inv-distances μ-distances Inv-cells μ-cells
-same-length c = packing-long _ _ _ _ _ _ _ _ (c .before .before .pre) _ _ _ (c .before .cells .inv)
+same-length c = packing-long _ _ _ _ _ _ _ _ (c .before .before .before .before .pre) _ _ _ (omega arith) (packing-left _ _ _ _ _ _ _ _ (c .before .before .before .before .pre) _ _ _ (c .before .before .before .cells .inv) (c .before .before .cells-test .taken) _ _ _ _ (c .before .distances .inv) (c .distances-test .left))
 
 returns : tie.Need-returns Inv-distances μ-distances Inv-cells μ-cells
-returns c = packing-end _ _ _ _ _ _ _ _ _ _ _ (c .before .cells .inv) (c .cells-test .left)
+returns c = packing-left _ _ _ _ _ _ _ _ (c .before .before .before .before .pre) _ _ _ (c .before .before .before .cells .inv) (c .before .before .cells-test .taken) _ _ _ _ (c .before .distances .inv) (c .distances-test .left)
+
+same-length-2 : tie.Need-same-length-2 Inv-distances μ-distances Inv-cells μ-cells
+same-length-2 c = packing-long _ _ _ _ _ _ _ _ (c .before .before .pre) _ _ _ (c .before .cells .inv .low) (c .before .cells .inv .first)
+
+returns-2 : tie.Need-returns-2 Inv-distances μ-distances Inv-cells μ-cells
+returns-2 c = packing-end _ _ _ _ _ _ _ _ _ _ _ (c .before .cells .inv) (c .cells-test .left)
 
 pub pack-row-spec : {M : Type 1} → statement M
 pack-row-spec =
@@ -120,8 +117,7 @@ pack-row-spec =
     add-e
     distances-less
     distances-again
-    add-y-2
-    cells-less-2
-    cells-again-2
     same-length
-    returns)
+    returns
+    same-length-2
+    returns-2)
