@@ -4,7 +4,7 @@
 //!     bench faults [--seed S]                            each planted fault must be found by such trials
 //!     bench time [--quick] [--engine E]                  ratios and growth
 //!
-//! Engines: library (built with the feature of that name), plain, naive.
+//! Engines: library (built with the feature of that name), plain, wavefront, naive.
 
 mod differ;
 mod engine;
@@ -18,6 +18,7 @@ mod rng;
 #[cfg(test)]
 mod rows;
 mod timing;
+mod wavefront;
 
 use engine::Engine;
 use naive::{Naive, FAULTS};
@@ -61,7 +62,8 @@ fn engine(name: &str) -> Result<(Box<dyn Engine>, Limits), String> {
     match name {
         #[cfg(feature = "library")]
         "library" => Ok((Box::new(library::Library), LIMITS)),
-        "plain" => Ok((Box::new(plain::Plain), LIMITS)),
+        "plain" => Ok((Box::new(plain::PLAIN), LIMITS)),
+        "wavefront" => Ok((Box::new(plain::WAVEFRONT), LIMITS)),
         "naive" => Ok((Box::new(Naive::default()), NAIVE_LIMITS)),
         _ => Err(format!("no engine {name}")),
     }

@@ -4,21 +4,22 @@
 //! one row is counted for each kind of tile and copied.
 
 use crate::engine::{Areas, Engine, Progress, MESSAGE_WORDS, SUMMARY_WORDS};
+use crate::wavefront::Wavefront;
 
 const SLOTS: usize = 7 * 1024;
 
-struct Nest {
-    n: usize,
+pub struct Nest {
+    pub n: usize,
     /// spread dimensions
     m: usize,
     lengths: [usize; 4],
     tile: [usize; 4],
     counts: [usize; 4],
-    distances: usize,
-    components: [[usize; 4]; 8],
-    weights: [u64; 8],
-    shift: u32,
-    boundary: u32,
+    pub distances: usize,
+    pub components: [[usize; 4]; 8],
+    pub weights: [u64; 8],
+    pub shift: u32,
+    pub boundary: u32,
     /// tiles in each dimension
     across: [usize; 4],
     /// cells from one index to the next, in each dimension, and tiles
@@ -314,14 +315,35 @@ fn row(nest: &Nest, back: &[usize; 8], at: &[usize; 4], source: &[u32], values: 
     }
 }
 
-fn sweep(nest: &Nest, source: &[u32], grid: &mut [u32]) {
+/// how rows are given their values
+#[derive(Clone, Copy)]
+enum Rows {
+    /// each for itself
+    Single,
+    /// four at a time
+    Wavefront,
+}
+
+fn sweep(nest: &Nest, source: &[u32], grid: &mut [u32], rows: Rows) {
     let back = steps_back(nest);
     let last = nest.n - 1;
     let width = nest.lengths[last];
     let mut at = [0; 4];
-    for cell in (0..nest.cells).step_by(width) {
-        row(nest, &back, &at, source, grid, cell, width);
-        advance(&mut at, &nest.lengths, last);
+    match rows {
+        Rows::Single => {
+            for cell in (0..nest.cells).step_by(width) {
+                row(nest, &back, &at, source, grid, cell, width);
+                advance(&mut at, &nest.lengths, last);
+            }
+        }
+        Rows::Wavefront => {
+            let mut wavefront = Wavefront::new(nest, back, source, grid, 0, width);
+            for cell in (0..nest.cells).step_by(width) {
+                wavefront.row(&at, cell);
+                advance(&mut at, &nest.lengths, last);
+            }
+            wavefront.finish();
+        }
     }
 }
 
@@ -495,11 +517,23 @@ impl<'a> Plan<'a> {
         areas.progress[processor].stage = 1;
     }
 
-    fn calculate(&self, areas: &mut Areas, tile: &[usize; 4], processor: usize) {
+    fn calculate(&self, areas: &mut Areas, tile: &[usize; 4], processor: usize, rows: Rows) {
         let nest = &self.nest;
         let memory = &mut areas.memories[processor * nest.cells..][..nest.cells];
         let back = steps_back(nest);
-        rows_of(nest, tile, |cell, at, width| row(nest, &back, at, &areas.source, memory, cell, width));
+        match rows {
+            Rows::Single => {
+                rows_of(nest, tile, |cell, at, width| row(nest, &back, at, &areas.source, memory, cell, width));
+            }
+            Rows::Wavefront => {
+                let last = nest.n - 1;
+                let column = tile[last] * nest.tile[last];
+                let width = nest.tile[last].min(nest.lengths[last] - column);
+                let mut wavefront = Wavefront::new(nest, back, &areas.source, memory, column, width);
+                rows_of(nest, tile, |cell, at, _| wavefront.row(at, cell));
+                wavefront.finish();
+            }
+        }
         self.sent(&mut areas.progress[processor], tile, 0);
     }
 
@@ -543,11 +577,17 @@ fn planned(encoded: &[u8], rest: impl FnOnce(&Plan) -> Result<(), u32>) -> u32 {
 }
 
 /// the plain calls
-pub struct Plain;
+pub struct Plain(Rows);
+
+pub const PLAIN: Plain = Plain(Rows::Single);
+pub const WAVEFRONT: Plain = Plain(Rows::Wavefront);
 
 impl Engine for Plain {
     fn name(&self) -> String {
-        "plain Rust".into()
+        match self.0 {
+            Rows::Single => "plain Rust".into(),
+            Rows::Wavefront => "wavefront".into(),
+        }
     }
 
     fn fresh(&self, encoded: &[u8], areas: &mut Areas) -> u32 {
@@ -575,7 +615,7 @@ impl Engine for Plain {
                     refused(plan.waiting(areas, &tile), 12)?;
                     plan.gather(areas, &tile, processor);
                 }
-                1 => plan.calculate(areas, &tile, processor),
+                1 => plan.calculate(areas, &tile, processor, self.0),
                 _ => plan.send(areas, &tile, processor),
             }
             Ok(())
@@ -616,7 +656,7 @@ impl Engine for Plain {
     fn sweep(&self, encoded: &[u8], source: &[u32], grid: &mut [u32]) -> u32 {
         let swept = read(encoded).and_then(|nest| {
             refused(source.len() != nest.cells || grid.len() != nest.cells, 9)?;
-            sweep(&nest, source, grid);
+            sweep(&nest, source, grid, self.0);
             Ok(())
         });
         swept.err().unwrap_or(0)

@@ -4,7 +4,7 @@ use crate::differ;
 use crate::engine::{Areas, Engine, Progress};
 use crate::model::Model;
 use crate::naive::{Naive, FAULTS};
-use crate::plain::Plain;
+use crate::plain::{PLAIN, WAVEFRONT};
 use crate::recipe::{Limits, Numbers};
 
 /// the rows of document 01, "Recipes to be met"
@@ -34,7 +34,7 @@ fn processors(numbers: &Numbers) -> usize {
 #[cfg_attr(not(feature = "library"), allow(unused_mut))]
 fn engines() -> Vec<Box<dyn Engine>> {
     let mut engines: Vec<Box<dyn Engine>> =
-        vec![Box::new(Model::default()), Box::new(Naive::default()), Box::new(Plain)];
+        vec![Box::new(Model::default()), Box::new(Naive::default()), Box::new(PLAIN), Box::new(WAVEFRONT)];
     #[cfg(feature = "library")]
     engines.push(Box::new(crate::library::Library));
     engines
@@ -189,8 +189,15 @@ const SMALL: Limits = Limits { cells: 30, words: 300 };
 
 #[test]
 fn naive_and_plain_agree_with_the_model() {
-    for (engine, trials) in [(&Naive::default() as &dyn Engine, 300), (&Plain, 3000)] {
-        if let Err((_, difference)) = differ::trials(1, trials, engine, SMALL) {
+    let engines: [(&dyn Engine, u64, Limits); 4] = [
+        (&Naive::default(), 300, SMALL),
+        (&PLAIN, 3000, SMALL),
+        (&WAVEFRONT, 3000, SMALL),
+        // rows long enough for four at a time, and large recipes
+        (&WAVEFRONT, 3000, crate::LIMITS),
+    ];
+    for (engine, trials, limits) in engines {
+        if let Err((_, difference)) = differ::trials(1, trials, engine, limits) {
             panic!("{}: {difference}", engine.name());
         }
     }
@@ -206,7 +213,7 @@ fn planted_faults_are_found() {
 
 #[test]
 fn trials_meet_every_number() {
-    let Ok(tally) = differ::trials(1, 6000, &Plain, SMALL) else { panic!("a difference") };
+    let Ok(tally) = differ::trials(1, 6000, &PLAIN, SMALL) else { panic!("a difference") };
     let expected: [(&str, &[usize]); 7] = [
         ("fresh", &[0, 1, 2, 3, 4, 5, 6, 7, 9]),
         ("turn", &[0, 1, 2, 3, 4, 5, 6, 7, 9, 10, 11, 12, 13]),

@@ -3,7 +3,7 @@
 
 use crate::engine::{Areas, Engine, Progress, SUMMARY_WORDS};
 use crate::model::{Model, Plan};
-use crate::plain::Plain;
+use crate::plain::{PLAIN, WAVEFRONT};
 use crate::recipe::Numbers;
 use crate::rng::Rng;
 use std::hint::black_box;
@@ -163,28 +163,42 @@ struct Setting {
 
 /// the recipe of the main figures: N 128,128, k 16,16, P 8,0, distances (1,0) (0,1) (1,1)
 pub fn reference() -> Numbers {
-    Numbers::new(&[[128, 16, 8], [128, 16, 0]], &[&[1, 0], &[0, 1], &[1, 1]])
+    Numbers::new(&[[128, 16, 8], [128, 16, 0]], &NEAR)
 }
 
-/// the same on the engine (function 0) and in plain Rust (function 1)
-fn both(numbers: &Numbers, engine: &dyn Engine, rounds: usize, what: impl Fn(&mut Case, &dyn Engine)) -> Rounds {
-    let (mut theirs, mut ours) = (Case::new(numbers), Case::new(numbers));
-    Rounds::new(&mut [&mut || what(&mut theirs, engine), &mut || what(&mut ours, &Plain)], rounds)
+/// the same by each engine, in their order
+fn each(numbers: &Numbers, engines: &[&dyn Engine], rounds: usize, what: impl Fn(&mut Case, &dyn Engine)) -> Rounds {
+    let mut cases: Vec<Case> = engines.iter().map(|_| Case::new(numbers)).collect();
+    let what = &what;
+    let functions = cases.iter_mut().zip(engines).map(|(case, engine)| move || what(case, *engine));
+    let mut functions: Vec<_> = functions.collect();
+    let mut functions: Vec<&mut dyn FnMut()> = functions.iter_mut().map(|f| f as &mut dyn FnMut()).collect();
+    Rounds::new(&mut functions, rounds)
 }
 
-fn both_calls(numbers: &Numbers, engine: &dyn Engine, rounds: usize, call: Call) -> Option<Rounds> {
+fn each_call(numbers: &Numbers, engines: &[&dyn Engine], rounds: usize, call: Call) -> Option<Rounds> {
     let setting = Case::new(numbers).setting(call)?;
-    Some(both(numbers, engine, rounds, |case, engine| case.call(engine, &setting)))
+    Some(each(numbers, engines, rounds, |case, engine| case.call(engine, &setting)))
 }
 
-/// sweep on the engine (0) and in plain Rust (1), whole run on the engine (2) and in plain Rust (3)
+// places in what `sweeps_and_runs` finds
+const SWEEP: usize = 0;
+const PLAIN_SWEEP: usize = 1;
+const WAVEFRONT_SWEEP: usize = 2;
+const RUN: usize = 3;
+const PLAIN_RUN: usize = 4;
+
+/// sweep on the engine, in plain Rust and by the wavefront, whole run on the engine and in plain Rust
 fn sweeps_and_runs(numbers: &Numbers, engine: &dyn Engine, rounds: usize) -> Rounds {
-    let mut cases = [(); 4].map(|()| Case::new(numbers));
-    let [a, b, c, d] = &mut cases;
-    let functions: &mut [&mut dyn FnMut()] =
-        &mut [&mut || a.sweep(engine), &mut || b.sweep(&Plain), &mut || c.whole_run(engine), &mut || {
-            d.whole_run(&Plain)
-        }];
+    let mut cases = [(); 5].map(|()| Case::new(numbers));
+    let [a, b, c, d, e] = &mut cases;
+    let functions: &mut [&mut dyn FnMut()] = &mut [
+        &mut || a.sweep(engine),
+        &mut || b.sweep(&PLAIN),
+        &mut || c.sweep(&WAVEFRONT),
+        &mut || d.whole_run(engine),
+        &mut || e.whole_run(&PLAIN),
+    ];
     Rounds::new(functions, rounds)
 }
 
@@ -199,10 +213,10 @@ fn figures(engine: &dyn Engine, rounds: usize) {
         println!("| {label} | {:.2} | {:.2} | {:.2} |", found.time(a) / 1e3, found.time(b) / 1e3, found.ratio(a, b));
     };
     let found = sweeps_and_runs(&numbers, engine, rounds);
-    line("sweep", &found, 0, 1);
-    line("whole run", &found, 2, 3);
-    line("whole run, against the plain sweep", &found, 2, 1);
-    line("whole run in plain Rust, against the plain sweep", &found, 3, 1);
+    line("sweep", &found, SWEEP, PLAIN_SWEEP);
+    line("whole run", &found, RUN, PLAIN_RUN);
+    line("whole run, against the plain sweep", &found, RUN, PLAIN_SWEEP);
+    line("whole run in plain Rust, against the plain sweep", &found, PLAIN_RUN, PLAIN_SWEEP);
     let calls = [
         ("turn: gather", Call::Gather),
         ("turn: calculate", Call::Calculate),
@@ -211,32 +225,43 @@ fn figures(engine: &dyn Engine, rounds: usize) {
         ("deliver", Call::Deliver),
         ("deliver refused 14", Call::NoMail),
     ];
+    let engines = [engine, &PLAIN];
     for (label, call) in calls {
-        line(label, &both_calls(&numbers, engine, rounds, call).expect("a tile with messages"), 0, 1);
+        line(label, &each_call(&numbers, &engines, rounds, call).expect("a tile with messages"), 0, 1);
     }
     let fresh = |case: &mut Case, engine: &dyn Engine| {
         assert_eq!(engine.fresh(black_box(&case.encoded), &mut case.areas), 0);
     };
-    line("fresh start", &both(&numbers, engine, rounds, fresh), 0, 1);
+    line("fresh start", &each(&numbers, &engines, rounds, fresh), 0, 1);
     let summary = |case: &mut Case, engine: &dyn Engine| {
         assert_eq!(engine.summary(black_box(&case.encoded), &mut case.grid[..SUMMARY_WORDS]), 0);
     };
-    line("summary", &both(&numbers, engine, rounds, summary), 0, 1);
+    line("summary", &each(&numbers, &engines, rounds, summary), 0, 1);
     println!();
 }
 
 /// one line for each recipe of a family
 fn growth(title: &str, family: &[(String, Numbers)], engine: &dyn Engine, rounds: usize) {
     println!("Growth with {title}\n");
-    println!("| {title} | cells, tiles, messages | sweep µs | to plain | whole run µs | to plain run | to plain sweep | send µs | to plain |");
-    println!("|---|---|---|---|---|---|---|---|---|");
+    println!(
+        "| {title} | cells, tiles, messages | sweep µs | to plain | to wavefront | whole run µs | to plain run \
+         | to plain sweep | send µs | to plain |"
+    );
+    println!("|---|---|---|---|---|---|---|---|---|---|");
     for (label, numbers) in family {
         let plan = Case::new(numbers).plan;
         let sizes = format!("{}, {}, {}", plan.cells, plan.cells_of_tile.len(), plan.messages.len());
         let found = sweeps_and_runs(numbers, engine, rounds);
-        let sweep = format!("{:.1} | {:.2}", found.time(0) / 1e3, found.ratio(0, 1));
-        let run = format!("{:.1} | {:.2} | {:.2}", found.time(2) / 1e3, found.ratio(2, 3), found.ratio(2, 1));
-        let send = match both_calls(numbers, engine, rounds, Call::Send) {
+        let time = |at: usize| found.time(at) / 1e3;
+        let sweep = format!(
+            "{:.1} | {:.2} | {:.2}",
+            time(SWEEP),
+            found.ratio(SWEEP, PLAIN_SWEEP),
+            found.ratio(SWEEP, WAVEFRONT_SWEEP)
+        );
+        let run =
+            format!("{:.1} | {:.2} | {:.2}", time(RUN), found.ratio(RUN, PLAIN_RUN), found.ratio(RUN, PLAIN_SWEEP));
+        let send = match each_call(numbers, &[engine, &PLAIN], rounds, Call::Send) {
             Some(send) => format!("{:.2} | {:.2}", send.time(0) / 1e3, send.ratio(0, 1)),
             None => "- | -".into(),
         };
@@ -245,9 +270,51 @@ fn growth(title: &str, family: &[(String, Numbers)], engine: &dyn Engine, rounds
     println!();
 }
 
+/// values alone, against rows one by one and the wavefront: sweeps, and the turns that calculate a tile
+fn values(engine: &dyn Engine, rounds: usize) {
+    let name = engine.name();
+    println!("Values: {name} against plain Rust, row by row and four rows at a time\n");
+    println!("| what | {name} µs | plain µs | ratio | wavefront µs | ratio |");
+    println!("|---|---|---|---|---|---|");
+    let line = |label: String, found: &Rounds| {
+        let time = |at: usize| found.time(at) / 1e3;
+        let rival = |at: usize| format!("{:.2} | {:.2}", time(at), found.ratio(0, at));
+        println!("| {label} | {:.2} | {} | {} |", time(0), rival(1), rival(2));
+    };
+    let engines = [engine, &PLAIN, &WAVEFRONT];
+    for (label, numbers) in sweeps() {
+        line(format!("sweep, {label}"), &each(&numbers, &engines, rounds, |case, engine| case.sweep(engine)));
+    }
+    for tile in [16, 8] {
+        let numbers = Numbers::new(&[[128, tile, 8], [128, tile, 0]], &NEAR);
+        let found = each_call(&numbers, &engines, rounds, Call::Calculate).expect("a tile with messages");
+        line(format!("turn: calculate, N 128,128, k {tile},{tile}, 3 distances"), &found);
+    }
+    println!();
+}
+
+const NEAR: [&[u8]; 3] = [&[1, 0], &[0, 1], &[1, 1]];
+
+/// the sweeps of the last table
+fn sweeps() -> Vec<(&'static str, Numbers)> {
+    let square = [[128, 16, 8], [128, 16, 0]];
+    let three = [[16, 8, 2], [32, 8, 2], [32, 8, 0]];
+    let four = [[8, 4, 2], [8, 4, 2], [16, 8, 2], [16, 8, 0]];
+    vec![
+        ("N 128,128, (1,0) (0,1) (1,1)", Numbers::new(&square, &NEAR)),
+        ("N 128,128, (1,0) (0,1)", Numbers::new(&square, &NEAR[..2])),
+        ("N 128,128, (1,0)", Numbers::new(&square, &[&[1, 0]])),
+        ("N 128,128, (0,1)", Numbers::new(&square, &[&[0, 1]])),
+        ("N 16,32,32, (1,0,0) (0,1,0) (0,0,1)", Numbers::new(&three, &[&[1, 0, 0], &[0, 1, 0], &[0, 0, 1]])),
+        (
+            "N 8,8,16,16, (1,0,0,0) (0,1,0,0) (0,0,1,0) (0,0,0,1)",
+            Numbers::new(&four, &[&[1, 0, 0, 0], &[0, 1, 0, 0], &[0, 0, 1, 0], &[0, 0, 0, 1]]),
+        ),
+    ]
+}
+
 fn families() -> Vec<(&'static str, Vec<(String, Numbers)>)> {
-    let near: &[&[u8]] = &[&[1, 0], &[0, 1], &[1, 1]];
-    let square = |side: u16, tile: u16| Numbers::new(&[[side, tile, 8], [side, tile, 0]], near);
+    let square = |side: u16, tile: u16| Numbers::new(&[[side, tile, 8], [side, tile, 0]], &NEAR);
     let all: [&[u8]; 8] = [&[1, 0], &[0, 1], &[1, 1], &[2, 0], &[0, 2], &[2, 1], &[1, 2], &[2, 2]];
     let two = [[64, 8, 8], [64, 8, 0]];
     let three = [[16, 4, 4], [16, 4, 2], [16, 4, 0]];
@@ -264,9 +331,9 @@ fn families() -> Vec<(&'static str, Vec<(String, Numbers)>)> {
         (
             "dimensions",
             vec![
-                ("2".into(), Numbers::new(&two, near)),
-                ("3".into(), Numbers::new(&three, near)),
-                ("4".into(), Numbers::new(&four, near)),
+                ("2".into(), Numbers::new(&two, &NEAR)),
+                ("3".into(), Numbers::new(&three, &NEAR)),
+                ("4".into(), Numbers::new(&four, &NEAR)),
             ],
         ),
     ]
@@ -279,6 +346,7 @@ pub fn report(engine: &dyn Engine, quick: bool) {
     for (title, family) in families() {
         growth(title, &family, engine, rounds / 3);
     }
+    values(engine, rounds);
 }
 
 #[cfg(test)]
@@ -287,13 +355,17 @@ mod tests {
 
     #[test]
     fn every_case_runs() {
-        for (_, family) in families() {
-            for (_, numbers) in family {
-                let mut case = Case::new(&numbers);
-                case.whole_run(&Plain);
-                let run = case.grid.clone();
-                case.sweep(&Plain);
-                assert!(run == case.grid);
+        let recipes = families().into_iter().flat_map(|(_, family)| family).map(|(_, numbers)| numbers);
+        for numbers in recipes.chain(sweeps().into_iter().map(|(_, numbers)| numbers)) {
+            let mut case = Case::new(&numbers);
+            case.sweep(&Model::default());
+            let expected = case.grid.clone();
+            for engine in [&PLAIN, &WAVEFRONT] {
+                case.whole_run(engine);
+                assert!(case.grid == expected);
+                case.grid.fill(0);
+                case.sweep(engine);
+                assert!(case.grid == expected);
             }
         }
     }
@@ -303,8 +375,8 @@ mod tests {
         let mut case = Case::new(&reference());
         for call in [Call::Gather, Call::Calculate, Call::Send, Call::Deliver, Call::Waiting, Call::NoMail] {
             let setting = case.setting(call).unwrap();
-            case.call(&Plain, &setting);
-            case.call(&Plain, &setting);
+            case.call(&PLAIN, &setting);
+            case.call(&PLAIN, &setting);
         }
     }
 }
