@@ -22,7 +22,7 @@ pub extern "C" fn rolwyddac_turn(
         ≡ turnCall (now (encoded .entry)) (now (source .entry)) (stateOf (now (memories .entry)) (now (buffer .entry)) (flatWords (now (progress .entry))) (now (status .entry))) processor ⌝ }
 {
     let flat = records::flatten(progress);
-    let after = engine::turn_flat(encoded, source, memories, buffer, flat, status, processor);
+    let after = engine::core::turn(encoded, source, memories, buffer, flat, status, processor);
     records::put(progress, after.number, processor, after.progress);
     after.number
 }
@@ -40,9 +40,10 @@ pub extern "C" fn rolwyddac_fresh(
     ensures { λ n. ⌜ answer n (stateOf (now (memories .exit)) (now (buffer .exit)) (flatWords (now (progress .exit))) (now (status .exit)))
         ≡ freshCall (now (encoded .entry)) (now (source .entry)) (stateOf (now (memories .entry)) (now (buffer .entry)) (flatWords (now (progress .entry))) (now (status .entry))) ⌝ }
 {
-    let after = engine::fresh_count(encoded, source, memories, buffer, progress.len(), status);
-    records::clear(progress, after.count);
-    after.number
+    let words = 3 * progress.len();
+    let number = engine::core::fresh(encoded, source, memories, buffer, words, status);
+    records::clear(progress, number);
+    number
 }
 
 // The delivery of a message.
@@ -60,7 +61,7 @@ pub extern "C" fn rolwyddac_deliver(
         ≡ deliverCall (now (encoded .entry)) (now (source .entry)) (stateOf (now (memories .entry)) (now (buffer .entry)) (flatWords (now (progress .entry))) (now (status .entry))) message ⌝ }
 {
     let flat = records::flatten(progress);
-    engine::deliver_flat(encoded, source, memories, buffer, flat, status, message)
+    engine::core::deliver(encoded, source, memories, buffer, flat, status, message)
 }
 
 // The grid, once all processors have finished.
@@ -78,7 +79,7 @@ pub extern "C" fn rolwyddac_collect(
         ≡ collectCall (now (encoded .entry)) (now (source .entry)) (stateOf (now (memories .entry)) (now (buffer .entry)) (flatWords (now (progress .entry))) (now (status .entry))) (now (grid .entry)) ⌝ }
 {
     let flat = records::flatten(progress);
-    engine::collect_flat(encoded, source, memories, buffer, flat, status, grid)
+    engine::core::collect(encoded, source, memories, buffer, flat, status, grid)
 }
 
 // The sequential sweep of the whole grid.

@@ -1,17 +1,17 @@
--- Laws of the words of records that are lent for reading, and of what a turn and a fresh start make of them.
+-- Laws of the records' words as a call reads them, and of what a turn and a fresh start make of them.
 use Prim.Native.Nat.{ℕ, _+_, _*_, _-_, _≤_, _<_}
-use mathlib.Core.Path.{_≡_, refl, sym, ap, subst, _∙_}
+use mathlib.Core.Path.{_≡_, refl, sym, ap, _∙_}
 use mathlib.Core.Logic.{_≢_}
 use mathlib.Core.Bool.{Bool, true, false}
 use mathlib.Core.List.{List, [], _∷_, _++_}
 use native.Mathlib.Omega.{arith}
-use native.Mathlib.Decide.{ℕ-discrete, decLe}
+use native.Mathlib.Decide.{ℕ-discrete}
 use lib.ListN.{length, set, take, drop, replicate}
-use lib.Seq.{length-take-le, take-all}
+use lib.Seq.{length-take-le}
 use lib.Dec.{ltb, eqb}
 use borrow.Author.Tests.{eq-eqb, ne-eqb, ltb-true}
 use Rattle.base.specs.Tests.{not, pick, every, some}
-use Rattle.base.specs.Numbers.{Line, line, firstOf}
+use Rattle.base.specs.Numbers.{line, firstOf}
 use Rattle.base.proofs.Tests.{pick-true, pick-false, true-not}
 use Rattle.base.proofs.Numbers.{none-first, first-some, first-behind}
 use Rattle.machine.specs.Machine.{State, stateOf, Answered, setProgress, fitRecord, fit, waiting, tilesLeft, turnLines}
@@ -22,81 +22,40 @@ use Rattle.layout.specs.declared.Sizes.{Sizes}
 use Rattle.layout.specs.Sizes.{Sized}
 use Rattle.records.specs.declared.Progress.{Progress}
 use Rattle.records.specs.declared.Flat.{Flat}
-use Rattle.records.specs.Records.{flatWords, flatOf, putAt, zeroRecords}
-use Rattle.records.proofs.Words.{length-words, count-flat, words-flat, words-put, words-zeros}
-use Rattle.records.proofs.Laws.{zeros-none}
+use Rattle.records.specs.Records.{flatWords, Carries, putAt, zeros, clearAll}
+use Rattle.records.proofs.Words.{length-words, words-put, words-cleared}
 use Rattle.stages.specs.Progress.{progressOnly, setRecord}
-use Rattle.engine.specs.Given.{AsLong, Lendable, Lent, recordsAfter, zerosAfter}
+use Rattle.engine.specs.Given.{recordsAfter, zerosAfter}
 use Rattle.engine.specs.Calls.{answer, recipe, areas, areaLines, turnCall}
-use Rattle.engine.specs.declared.Turned.{Turned}
+use Rattle.engine.specs.declared.core.Turned.{Turned}
 use Rattle.engine.proofs.Lines.{areas-are, numbered}
 
--- ---- what is lent
+-- ---- what is read
 
 pub few-words : (x : Nest) (z : Sizes) → Sized x z → (n : ℕ) → n ≡ 3 * processors x → n ≤ 192
 few-words x z g n e = omega (arith, e, g .accepted .processors-most)
 
-pub as-long : (words : List ℕ) (n : ℕ) (l : List ℕ) → Lendable words n → Lent words n l → AsLong n (length l)
-as-long words n l k h = record { few = λ m. ap length (h .few m) ∙ length-take-le n words (k m); many = h .many }
-
-pub other-length : (n k p : ℕ) → AsLong n k → p ≤ 64 → n ≢ 3 * p → k ≢ 3 * p
-other-length n k p h m q e = by (decLe n 192)
+-- the words that a call reads of records, where they are no more than any recipe's
+pub part-carries : (f : Flat) → length (f .words) ≡ 192 → f .count ≤ 192 → Carries f (take (f .count - 0) (drop 0 (f .words)))
+part-carries f room few = record { counted = sym long; kept = λ _. ap (λ (k : ℕ). take k (f .words)) long ∙ all; room = room }
   where
-    by : Dec (n ≤ 192) → ⊥
-    by (yes l) = q (sym (h .few l) ∙ e)
-    by (no l) = absurd (omega (arith, h .many (omega arith), m, e))
+    long : length (take (f .count - 0) (drop 0 (f .words))) ≡ f .count
+    long = length-take-le (f .count - 0) (f .words) (omega (arith, room, few)) ∙ whole (f .count)
+      where
+        whole : (n : ℕ) → n - 0 ≡ n
+        whole n = omega arith
 
-pub this-length : (n k p : ℕ) → AsLong n k → p ≤ 64 → n ≡ 3 * p → k ≡ 3 * p
-this-length n k p h m e = h .few (omega (arith, m, e)) ∙ e
+    all : take (f .count) (f .words) ≡ take (f .count - 0) (drop 0 (f .words))
+    all = ap (λ (k : ℕ). take k (f .words)) (same (f .count))
+      where
+        same : (n : ℕ) → n ≡ n - 0
+        same n = omega arith
 
--- all words, and the first of them
-pub all-lendable : (words : List ℕ) → Lendable words (length words)
-all-lendable words h = omega arith
-
-pub all-lent : (words : List ℕ) → Lent words (length words) words
-all-lent words = record { few = λ _. sym (take-all (length words) words (omega arith)); many = λ h. h }
-
-pub all-long : (n : ℕ) → AsLong n n
-all-long n = record { few = λ _. refl; many = λ h. h }
-
-pub part-lent : (words : List ℕ) (n : ℕ) → n ≤ 192 → Lent words n (take (n - 0) (drop 0 words))
-part-lent words n l = record { few = λ _. let z : n - 0 ≡ n = omega arith in ap (λ (k : ℕ). take k words) z; many = λ h. absurd (omega (arith, h, l)) }
-
-pub part-is : (words : List ℕ) (n : ℕ) (l : List ℕ) → n ≤ 192 → Lent words n l → take (n - 0) (drop 0 words) ≡ l
-part-is words n l m h = part-lent words n m .few m ∙ sym (h .few m)
-
--- the words of records
-module _ (rs : List Progress) (count n : ℕ) (c : count ≡ length rs) (e : (count ≤ 64 → n ≡ 3 * count) × (64 < count → 192 < n)) where
-  few-records : n ≤ 192 → (length rs ≤ 64) × (n ≡ 3 * length rs)
-  few-records l = by (decLe count 64)
-    where
-      by : Dec (count ≤ 64) → (length rs ≤ 64) × (n ≡ 3 * length rs)
-      by (yes h) = (omega (arith, h, c), omega (arith, e .0 h, c))
-      by (no h) = absurd (omega (arith, e .1 (omega arith), l))
-
-  many-records : 192 < n → 192 < length (flatWords rs)
-  many-records l = by (decLe count 64)
-    where
-      by : Dec (count ≤ 64) → 192 < length (flatWords rs)
-      by (yes h) = absurd (omega (arith, e .0 h, h, l))
-      by (no h) = omega (arith, length-words rs, c)
-
-  pub records-long : AsLong n (length (flatWords rs))
-  records-long = record { few = λ l. length-words rs ∙ sym (few-records l .1); many = many-records }
-
-  pub records-lent : (f : Flat) → f ≡ flatOf rs → Lent (f .words) n (flatWords rs)
-  records-lent f is = record {
-    few = λ l.
-        sym (words-flat rs (few-records l .0)) ∙ ap (λ (k : ℕ). take k (flatOf rs .words)) (sym (few-records l .1))
-        ∙ ap (λ (g : Flat). take n (g .words)) (sym is);
-    many = many-records;
-  }
-
-pub count-is : (rs : List Progress) (f : Flat) → f ≡ flatOf rs → f .count ≡ length rs
-count-is rs f is = ap (λ (g : Flat). g .count) is ∙ count-flat rs
-
-pub flat-lendable : (words : List ℕ) (n : ℕ) → length words ≡ 192 → Lendable words n
-flat-lendable words n e h = omega arith
+pub part-is : (f : Flat) (l : List ℕ) → f .count ≤ 192 → Carries f l → take (f .count - 0) (drop 0 (f .words)) ≡ l
+part-is f l few h = ap (λ (k : ℕ). take k (f .words)) (whole (f .count) (length l) (h .counted)) ∙ h .kept (omega (arith, few, h .counted))
+  where
+    whole : (n k : ℕ) → n ≡ k → n - 0 ≡ k
+    whole n k e = omega (arith, e)
 
 -- ---- what a turn makes
 
@@ -172,8 +131,13 @@ pub zeros-after-yes : (l : List ℕ) → replicate (length l) 0 ≡ zerosAfter l
 unfolding zerosAfter pick
 zeros-after-yes l = refl
 
-pub none-cleared : (rs : List Progress) → flatWords (zeroRecords 0 rs) ≡ flatWords rs
-none-cleared rs = ap flatWords (sym (zeros-none rs))
+pub cleared-after : (rs : List Progress) (r : ℕ) → flatWords (clearAll r rs) ≡ zerosAfter (flatWords rs) r
+unfolding clearAll zerosAfter pick
+cleared-after rs r = by (eqb r 0)
+  where
+    by : (t : Bool) → flatWords (pick t (replicate (length rs) zeros) rs) ≡ pick t (replicate (length (flatWords rs)) 0) (flatWords rs)
+    by true = words-cleared rs
+    by false = refl
 
 -- ---- tests that look at the records alone
 

@@ -1,10 +1,10 @@
 -- What the code below the calls is given: areas of their lengths, a fit state, a processor.
 -- No sentence of document 01; the contracts of the functions below the offered calls cite it.
-use Prim.Native.Nat.{ℕ, _*_, _<_, _≤_}
+use Prim.Native.Nat.{ℕ, _*_, _<_}
 use mathlib.Core.Path.{_≡_}
 use mathlib.Core.Bool.{true}
 use mathlib.Core.List.{List, [], _∷_, _++_}
-use lib.ListN.{length, take, replicate}
+use lib.ListN.{length, replicate}
 use lib.Dec.{eqb}
 use Rattle.base.specs.Tests.{not, pick}
 use Rattle.base.specs.Numbers.{Line, line}
@@ -12,7 +12,7 @@ use Rattle.machine.specs.Plan.{Plan, count, words}
 use Rattle.machine.specs.Machine.{State, fit}
 use Rattle.stages.specs.Progress.{setRecord}
 use Rattle.engine.specs.Calls.{areaLines}
-use Rattle.engine.specs.declared.Turned.{Turned}
+use Rattle.engine.specs.declared.core.Turned.{Turned}
 
 -- each lent area has exactly its length
 pub record AreaLengths (p : Plan) (input : List ℕ) (s : State) : Type 0 where
@@ -32,21 +32,7 @@ pub record MayTurn (p : Plan) (source : List ℕ) (s : State) (b : ℕ) : Type 0
 abbrev pub unfitLines : Plan → List ℕ → State → List Line
 unfitLines p source s = areaLines p source s ++ (line 10 (not (fit p s)) ∷ [])
 
--- ---- the words of records, lent for reading: the first n of these, or, above 192, any more than 192; no recipe has more
-
--- n stands for the length k
-pub record AsLong (n k : ℕ) : Type 0 where
-  pub few : n ≤ 192 → k ≡ n
-  pub many : 192 < n → 192 < k
-
-abbrev pub Lendable : List ℕ → ℕ → Type 0
-Lendable words n = n ≤ 192 → n ≤ length words
-
-pub record Lent (words : List ℕ) (n : ℕ) (records : List ℕ) : Type 0 where
-  pub few : n ≤ 192 → records ≡ take n words
-  pub many : 192 < n → 192 < length records
-
--- the records' words after a turn of processor b
+-- the records' words after a turn of processor b that gave r
 unfoldable pub recordsAfter : List ℕ → ℕ → Turned → List ℕ
 recordsAfter records b r = pick (eqb (r .number) 0) (setRecord records b (r .progress)) records
 

@@ -1,20 +1,19 @@
--- The words of records, without the code: their number, what `flatOf` keeps of them, what a store changes of them, and that they fix the records.
-use Prim.Native.Nat.{ℕ, zero, suc, _+_, _*_, _≤_, _<_}
+-- Laws of the words of records: their number, that `flatten` carries them, what a store changes of them, that they fix the records.
+use Prim.Native.Nat.{ℕ, zero, suc, _+_, _*_, _≤_, _<_, zero-le}
 use mathlib.Core.Path.{_≡_, refl, sym, ap, _∙_}
 use mathlib.Core.Bool.{Bool, true, false}
 use mathlib.Core.List.{List, [], _∷_, _++_, append-assoc, append-nil}
 use native.Mathlib.Nat.{add-zero, zero-add}
 use native.Mathlib.Omega.{arith}
 use native.Mathlib.Numerals.{add-one}
-use lib.ListN.{length, getD, set, take, drop, replicate, length-append, length-replicate, length-set, drop-of-length-le}
+use lib.ListN.{length, getD, set, take, drop, replicate, length-append, length-replicate, length-set}
 use lib.Dec.{ltb}
-use lib.Seq.{take-at, length-take-le, sets-eq}
-use borrow.Author.Tests.{lt-ltb}
+use lib.Seq.{take-all, take-at, take-suc, take-suc-set, length-take-le, sets-eq}
 use Rattle.base.specs.Tests.{pick}
 use Rattle.records.specs.declared.Progress.{Progress}
 use Rattle.records.specs.declared.Flat.{Flat}
-use Rattle.records.specs.Records.{flatWords, Injective, zeros, zeroRecords, blank, wordsAt, withRecord, flatFrom, flatOf}
-use Rattle.records.proofs.Laws.{written}
+use Rattle.records.specs.Records.{flatWords, Injective, Carries, zeros, blank, wordsAt, withRecord}
+use Rattle.records.proofs.Laws.{written, flatFrom, flatOf}
 
 -- three words a record
 pub length-words : (rs : List Progress) → length (flatWords rs) ≡ 3 * length rs
@@ -48,11 +47,6 @@ words-unflat (suc n) [] e = absurd (omega arith)
 
 pub injective : Injective
 injective rs ss e = sym (unflat-words rs) ∙ ap unflat e ∙ unflat-words ss
-
-words-append : (rs ss : List Progress) → flatWords (rs ++ ss) ≡ flatWords rs ++ flatWords ss
-unfolding flatWords
-words-append [] ss = refl
-words-append (r ∷ rs) ss = ap (λ (l : List ℕ). r .finished ∷ r .stage ∷ r .sent ∷ l) (words-append rs ss)
 
 length-picked : (words : List ℕ) (i j k a b c : ℕ) (t : Bool) → length (pick t (set (set (set words i a) j b) k c) words) ≡ length words
 unfolding pick
@@ -113,16 +107,52 @@ take-from (r ∷ rs) i f e l =
     moved : (i n : ℕ) → i + suc n ≡ (i + 1) + n
     moved i n = omega arith
 
-pub length-flat : (rs : List Progress) → length (flatOf rs .words) ≡ 192
-length-flat rs = length-from rs 0 (blank (length rs)) ∙ length-replicate {A = ℕ} 192 0
+pub carries-flat : (rs : List Progress) (f : Flat) → f ≡ flatOf rs → Carries f (flatWords rs)
+carries-flat rs f e = rw e (record { counted = count-from rs 0 first ∙ sym (length-words rs); kept = all; room = length-from rs 0 first ∙ length-replicate {A = ℕ} 192 0 })
+  where
+    first : Flat
+    first = blank (3 * length rs)
 
-pub count-flat : (rs : List Progress) → flatOf rs .count ≡ length rs
-count-flat rs = count-from rs 0 (blank (length rs))
+    all : length (flatWords rs) ≤ 192 → take (length (flatWords rs)) (flatOf rs .words) ≡ flatWords rs
+    all l =
+        ap (λ (k : ℕ). take k (flatOf rs .words)) (length-words rs)
+        ∙ ap (λ (k : ℕ). take (3 * k) (flatOf rs .words)) (sym (zero-add (length rs)))
+        ∙ take-from rs 0 first (length-replicate {A = ℕ} 192 0) (omega (arith, l, length-words rs))
 
-pub words-flat : (rs : List Progress) → length rs ≤ 64 → take (3 * length rs) (flatOf rs .words) ≡ flatWords rs
-words-flat rs l =
-    ap (λ (k : ℕ). take (3 * k) (flatOf rs .words)) (sym (zero-add (length rs)))
-    ∙ take-from rs 0 (blank (length rs)) (length-replicate {A = ℕ} 192 0) (omega arith)
+-- ---- the same of words: the first i of them copied
+
+pub record Copied (words kept : List ℕ) (i : ℕ) : Type 0 where
+  pub within : i ≤ length words
+  pub room : length kept ≡ 192
+  pub same : take i kept ≡ take i words
+
+pub copied-none : (words : List ℕ) → Copied words (replicate 192 0) 0
+copied-none words = record { within = zero-le; room = length-replicate {A = ℕ} 192 0; same = refl }
+
+pub copied-more : (words kept : List ℕ) (i : ℕ) → Copied words kept i → i < length words → length words ≤ 192
+    → Copied words (set kept i (getD words i 0)) (i + 1)
+copied-more words kept i h l few = record {
+  within = omega (arith, l);
+  room = length-set kept i (getD words i 0) ∙ h .room;
+  same =
+      ap (λ (k : ℕ). take k (set kept i (getD words i 0))) (add-one i) ∙ take-suc-set kept i (getD words i 0) (omega (arith, l, few, h .room))
+      ∙ ap (λ (z : List ℕ). z ++ (getD words i 0 ∷ [])) (h .same) ∙ sym (take-suc words i 0 l)
+      ∙ ap (λ (k : ℕ). take k words) (sym (add-one i));
+}
+
+pub copied-all : (words kept : List ℕ) (i : ℕ) → Copied words kept i → length words ≤ i
+    → Carries (record { words = kept; count = length words }) words
+copied-all words kept i h over = record { counted = refl; kept = λ _. all; room = h .room }
+  where
+    e : i ≡ length words
+    e = omega (arith, over, h .within)
+
+    all : take (length words) kept ≡ words
+    all = ap (λ (k : ℕ). take k kept) (sym e) ∙ h .same ∙ take-all i words over
+
+pub carries-many : (words : List ℕ) (f : Flat) → f ≡ blank (length words) → 192 < length words → Carries f words
+carries-many words f e many =
+    rw e (record { counted = refl; kept = λ l. absurd (omega (arith, l, many)); room = length-replicate {A = ℕ} 192 0 })
 
 -- ---- one record stored, and records set to zero
 
@@ -150,8 +180,5 @@ unfolding flatWords
 words-zero zero = refl
 words-zero (suc n) = let z : 3 * suc n ≡ suc (suc (suc (3 * n))) = omega arith in rw z (ap (λ (l : List ℕ). 0 ∷ 0 ∷ 0 ∷ l) (words-zero n))
 
-pub words-zeros : (rs : List Progress) → flatWords (zeroRecords (length rs) rs) ≡ replicate (length (flatWords rs)) 0
-unfolding zeroRecords
-words-zeros rs =
-    rw (drop-of-length-le rs {i = length rs} (omega arith))
-    (ap flatWords (append-nil (replicate (length rs) zeros)) ∙ words-zero (length rs) ∙ ap (λ (k : ℕ). replicate k 0) (sym (length-words rs)))
+pub words-cleared : (rs : List Progress) → flatWords (replicate (length rs) zeros) ≡ replicate (length (flatWords rs)) 0
+words-cleared rs = words-zero (length rs) ∙ ap (λ (k : ℕ). replicate k 0) (sym (length-words rs))

@@ -1,9 +1,9 @@
--- The words of the board records, three a record; a record stored, records set to zero.
--- Renders document 01, "The machine": "These are three words, and there is one record for each board".
-use Prim.Native.Nat.{ℕ, zero, suc, _+_, _*_}
+-- The words of the processors' records, three a record, and the stores into a slice of records.
+-- Renders document 01, "The machine": the board records.
+use Prim.Native.Nat.{ℕ, _+_, _*_, _≤_}
 use mathlib.Core.Path.{_≡_}
-use mathlib.Core.List.{List, [], _∷_, _++_}
-use lib.ListN.{length, getD, set, drop, replicate}
+use mathlib.Core.List.{List, [], _∷_}
+use lib.ListN.{length, set, take, replicate}
 use lib.Dec.{ltb, eqb}
 use Rattle.base.specs.Tests.{pick}
 use Rattle.records.specs.declared.Progress.{Progress}
@@ -18,31 +18,32 @@ flatWords (r ∷ rs) = r .finished ∷ r .stage ∷ r .sent ∷ flatWords rs
 abbrev pub Injective : Type 0
 Injective = (rs ss : List Progress) → flatWords rs ≡ flatWords ss → rs ≡ ss
 
--- what the code keeps of the words of records: 192 of them, and the number of records
+-- ---- the words of records as a call reads them: 192 at most, since a recipe has at most 64 processors
+
+-- f tells of the words l what a call reads of them: how many they are, and, unless they are too many for any recipe, the words
+pub record Carries (f : Flat) (l : List ℕ) : Type 0 where
+  pub counted : f .count ≡ length l
+  pub kept : length l ≤ 192 → take (length l) (f .words) ≡ l
+  pub room : length (f .words) ≡ 192
+
+-- n words, none of them written yet
 abbrev pub blank : ℕ → Flat
 blank n = record { words = replicate 192 0; count = n }
 
+-- the words of record i written, where they are among the first 192
 unfoldable pub wordsAt : List ℕ → ℕ → Progress → List ℕ
 wordsAt words i r = pick (ltb i 64) (set (set (set words (3 * i) (r .finished)) (3 * i + 1) (r .stage)) (3 * i + 2) (r .sent)) words
 
 abbrev pub withRecord : Flat → ℕ → Progress → Flat
 withRecord f i r = record { words = wordsAt (f .words) i r; count = f .count }
 
--- the records from number i on
-unfoldable pub flatFrom : ℕ → List Progress → Flat → Flat
-flatFrom i [] f = f
-flatFrom i (r ∷ rs) f = flatFrom (i + 1) rs (withRecord f i r)
+-- ---- stores of a call that gave this number; a refusal stores nothing
 
-abbrev pub flatOf : List Progress → Flat
-flatOf rs = flatFrom 0 rs (blank (length rs))
-
--- one record stored where the number is 0
 unfoldable pub putAt : ℕ → ℕ → Progress → List Progress → List Progress
 putAt number i r rs = pick (eqb number 0) (set rs i r) rs
 
--- the first n records set to zero
 abbrev pub zeros : Progress
 zeros = record { finished = 0; stage = 0; sent = 0 }
 
-unfoldable pub zeroRecords : ℕ → List Progress → List Progress
-zeroRecords n rs = replicate n zeros ++ drop n rs
+unfoldable pub clearAll : ℕ → List Progress → List Progress
+clearAll number rs = pick (eqb number 0) (replicate (length rs) zeros) rs

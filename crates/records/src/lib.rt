@@ -1,8 +1,10 @@
-// The board records as structs: the words of a slice of them, and the slice from its words; the same of an array.
+// A processor's record as a struct: the words of a slice of records, for reading, and the stores into it.
 ghost use mathlib.Core.Path.{_≡_};
-ghost use Prim.Native.Nat.{_<_, _≤_};
+ghost use Prim.Native.Nat.{_<_};
 ghost use lib.ListN.{length};
-ghost use Rattle.records.specs.Records.{blank, withRecord, flatOf, flatWords, putAt, zeros, zeroRecords};
+ghost use lib.Dec.{eqb};
+ghost use Rattle.base.specs.Tests.{pick};
+ghost use Rattle.records.specs.Records.{flatWords, Carries, blank, withRecord, putAt, zeros, clearAll};
 
 // A processor's record (document 01: board record): tiles finished, stage (0 gather, 1 calculate, 2 send), messages sent of the current tile.
 #[repr(C)]
@@ -12,13 +14,14 @@ pub struct Progress {
     pub sent: u32,
 }
 
-// Records as words, three each, and how many records there are; a recipe has at most 64, and words of more are not kept.
+// The words of records, three each, as a call reads them, and how many there are. A recipe has at most 64 processors, so of more than 192
+// words only their number is of use.
 pub struct Flat {
     pub words: [u32; 192],
     pub count: usize,
 }
 
-pub fn empty(count: usize) -> Flat
+fn empty(count: usize) -> Flat
     ensures { λ r. ⌜ r ≡ blank count ⌝ }
 {
     Flat {
@@ -28,7 +31,7 @@ pub fn empty(count: usize) -> Flat
 }
 
 // The words of record i written.
-pub fn with_record(flat: Flat, i: usize, p: Progress) -> Flat
+fn with_record(flat: Flat, i: usize, p: Progress) -> Flat
     ensures { λ r. ⌜ r ≡ withRecord flat i p ⌝ }
 {
     let mut words = flat.words;
@@ -43,11 +46,11 @@ pub fn with_record(flat: Flat, i: usize, p: Progress) -> Flat
     }
 }
 
-// The words of all records.
+// All records taken apart into their words.
 pub fn flatten(progress: &[Progress]) -> Flat
-    ensures { λ r. ⌜ r ≡ flatOf (now (progress .entry)) ⌝ }
+    ensures { λ r. ⌜ Carries r (flatWords (now (progress .entry))) ⌝ }
 {
-    let mut flat = empty(progress.len());
+    let mut flat = empty(3 * progress.len());
     let mut i = 0;
     while i < progress.len() {
         flat = with_record(flat, i, progress[i]);
@@ -56,7 +59,27 @@ pub fn flatten(progress: &[Progress]) -> Flat
     flat
 }
 
-// One record stored, where the number is 0.
+// The same of records that their caller keeps as words.
+pub fn flat_of(words: &[u32]) -> Flat
+    ensures { λ r. ⌜ Carries r (now (words .entry)) ⌝ }
+{
+    let count = words.len();
+    if count > 192 {
+        return empty(count);
+    }
+    let mut kept = [0; 192];
+    let mut i = 0;
+    while i < count {
+        kept[i] = words[i];
+        i += 1;
+    }
+    Flat {
+        words: kept,
+        count: count,
+    }
+}
+
+// Record i stored where the call's number is 0; at a refusal nothing is written.
 pub fn put(progress: &mut [Progress], number: u32, i: u32, p: Progress)
     requires { ⌜ (number ≡ 0 → i < length (now progress)) ⌝ }
     ensures { λ _. ⌜ now (progress .exit) ≡ putAt number i p (now (progress .entry)) ⌝ }
@@ -76,13 +99,23 @@ fn zero() -> Progress
     }
 }
 
-// The first records set to zero.
-pub fn clear(progress: &mut [Progress], count: usize)
-    requires { ⌜ count ≤ length (now progress) ⌝ }
-    ensures { λ _. ⌜ now (progress .exit) ≡ zeroRecords count (now (progress .entry)) ⌝ }
+// How many of n records a fresh start clears that gave this number.
+fn cleared(number: u32, n: usize) -> usize
+    ensures { λ r. ⌜ r ≡ pick (eqb number 0) n 0 ⌝ }
 {
+    if number != 0 {
+        return 0;
+    }
+    n
+}
+
+// All records set to zero where the call's number is 0; at a refusal nothing is written.
+pub fn clear(progress: &mut [Progress], number: u32)
+    ensures { λ _. ⌜ now (progress .exit) ≡ clearAll number (now (progress .entry)) ⌝ }
+{
+    let n = cleared(number, progress.len());
     let mut i = 0;
-    while i < count {
+    while i < n {
         progress[i] = zero();
         i += 1;
     }

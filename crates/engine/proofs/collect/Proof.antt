@@ -1,16 +1,22 @@
-use Rattle.engine.proofs.Reading as reading
 use borrow.Author.Needs.{needs}
 use Rattle.engine.proofs.collect.Statement.{statement}
 use Rattle.engine.proofs.collect.Tie as tie
 
-collect-read-requires : tie.Need-collect-read-requires
-collect-read-requires c κs = search needs
+flat-of-requires : tie.Need-flat-of-requires
+flat-of-requires c κs = search needs
+
+collect-requires : tie.Need-collect-requires
+collect-requires c κs = search needs
 
 same-length : tie.Need-same-length
 same-length c = search needs
 
 returns : tie.Need-returns
-returns c = let A = c .before .before .before .before .before .before .before .before .before .before .before .args in c .before .before .collect-read .ensures (A .progress .now) (reading.all-lent (A .progress .now))
+returns c =
+    let flat-of = c .before .before .before .before .flat-of in
+    let collect = c .before .before .collect in
+    let A = c .before .before .before .before .before .before .before .before .before .before .before .before .args in
+    collect .ensures (A .progress .now) (flat-of .ensures)
 
 pub collect-spec : {M : Type 1} → statement M
-collect-spec = tie.close (tie.spec collect-read-requires same-length returns)
+collect-spec = tie.close (tie.spec flat-of-requires collect-requires same-length returns)

@@ -1,16 +1,22 @@
-use Rattle.engine.proofs.Reading as reading
 use borrow.Author.Needs.{needs}
 use Rattle.engine.proofs.deliver.Statement.{statement}
 use Rattle.engine.proofs.deliver.Tie as tie
 
-deliver-read-requires : tie.Need-deliver-read-requires
-deliver-read-requires c κs = search needs
+flat-of-requires : tie.Need-flat-of-requires
+flat-of-requires c κs = search needs
+
+deliver-requires : tie.Need-deliver-requires
+deliver-requires c κs = search needs
 
 same-length : tie.Need-same-length
 same-length c = search needs
 
 returns : tie.Need-returns
-returns c = let A = c .before .before .before .before .before .before .before .before .before .before .args in c .before .before .deliver-read .ensures (A .progress .now) (reading.all-lent (A .progress .now))
+returns c =
+    let flat-of = c .before .before .before .before .flat-of in
+    let deliver = c .before .before .deliver in
+    let A = c .before .before .before .before .before .before .before .before .before .before .before .args in
+    deliver .ensures (A .progress .now) (flat-of .ensures)
 
 pub deliver-spec : {M : Type 1} → statement M
-deliver-spec = tie.close (tie.spec deliver-read-requires same-length returns)
+deliver-spec = tie.close (tie.spec flat-of-requires deliver-requires same-length returns)

@@ -1,11 +1,11 @@
-use lib.ListN.{length}
+use mathlib.Core.Path.{refl}
 use Rattle.engine.proofs.Reading as reading
 use borrow.Author.Needs.{needs}
 use Rattle.engine.proofs.fresh.Statement.{statement}
 use Rattle.engine.proofs.fresh.Tie as tie
 
-fresh-areas-requires : tie.Need-fresh-areas-requires
-fresh-areas-requires c κs = search needs
+fresh-requires : tie.Need-fresh-requires
+fresh-requires c κs = search needs
 
 same-length : tie.Need-same-length
 same-length c = search needs
@@ -17,7 +17,11 @@ same-length-3 : tie.Need-same-length-3
 same-length-3 c = search needs
 
 returns : tie.Need-returns
-returns c = let A = c .before .before .before .before .before .before .before .before .before .before .before .before .before .before .before .before .before .args in let G = c .before .before .before .before .before .before .before .fresh-areas in reading.not-cleared _ _ _ _ (A .progress .now) (G .result) (G .ensures (A .progress .now) (reading.all-long (length (A .progress .now)))) (c .if1 .taken)
+returns c =
+    let fresh = c .before .before .before .before .before .before .before .fresh in
+    let if1 = c .if1 in
+    let A = c .before .before .before .before .before .before .before .before .before .before .before .before .before .before .before .before .before .args in
+    reading.not-cleared _ _ _ _ (A .progress .now) (fresh .result) (fresh .ensures (A .progress .now) refl) (if1 .taken)
 
 zero-words-requires : tie.Need-zero-words-requires
 zero-words-requires c κs = search needs
@@ -35,13 +39,18 @@ same-length-7 : tie.Need-same-length-7
 same-length-7 c = search needs
 
 returns-2 : tie.Need-returns-2
-returns-2 c = let A = c .before .before .before .before .before .before .before .before .before .before .before .before .before .before .before .before .before .before .before .before .before .args in let G = c .before .before .before .before .before .before .before .before .before .before .before .fresh-areas in reading.all-cleared _ _ _ _ (A .progress .now) (G .result) (G .ensures (A .progress .now) (reading.all-long (length (A .progress .now)))) (c .before .before .before .before .if1 .left) _ (c .before .before .zero-words .ensures)
+returns-2 c =
+    let fresh = c .before .before .before .before .before .before .before .before .before .before .before .fresh in
+    let if1 = c .before .before .before .before .if1 in
+    let zero-words = c .before .before .zero-words in
+    let A = c .before .before .before .before .before .before .before .before .before .before .before .before .before .before .before .before .before .before .before .before .before .args in
+    reading.all-cleared _ _ _ _ (A .progress .now) (fresh .result) (fresh .ensures (A .progress .now) refl) (if1 .left) _ (zero-words .ensures)
 
 pub fresh-spec : {M : Type 1} → statement M
 fresh-spec =
     tie.close
     (tie.spec
-    fresh-areas-requires
+    fresh-requires
     same-length
     same-length-2
     same-length-3

@@ -1,13 +1,15 @@
 use mathlib.Core.Path.{sym, ap, _∙_}
-use native.Mathlib.Omega.{arith}
 use Rattle.machine.specs.Machine.{State, stateOf, Answered}
 use Rattle.engine.proofs.Reading as reading
 use borrow.Author.Needs.{needs}
 use Rattle.engine.proofs.turn.Statement.{statement}
 use Rattle.engine.proofs.turn.Tie as tie
 
-turn-read-requires : tie.Need-turn-read-requires
-turn-read-requires c κs = search needs
+flat-of-requires : tie.Need-flat-of-requires
+flat-of-requires c κs = search needs
+
+turn-requires : tie.Need-turn-requires
+turn-requires c κs = search needs
 
 same-length : tie.Need-same-length
 same-length c = search needs
@@ -22,10 +24,21 @@ same-length-4 : tie.Need-same-length-4
 same-length-4 c = search needs
 
 returns : tie.Need-returns
-returns c = let A = c .before .before .before .before .before .before .before .before .before .before .before .before .before .before .before .before .before .before .args in let G = c .before .before .before .before .before .before .before .turn-read in reading.left-out (G .result) _ _ (A .progress .now) _ (A .processor) _ (G .ensures (A .progress .now) (reading.all-lent (A .progress .now))) (c .if1 .taken)
+returns c =
+    let flat-of = c .before .before .before .before .before .before .before .before .before .flat-of in
+    let turn = c .before .before .before .before .before .before .before .turn in
+    let if1 = c .if1 in
+    let A = c .before .before .before .before .before .before .before .before .before .before .before .before .before .before .before .before .before .before .before .args in
+    reading.left-out (turn .result) _ _ (A .progress .now) _ (A .processor) _ (turn .ensures (A .progress .now) (flat-of .ensures)) (if1 .taken)
 
 store-record-requires : tie.Need-store-record-requires
-store-record-requires c κs = let A = c .before .before .before .before .before .before .before .before .before .before .before .before .before .before .before .before .before .before .before .before .args in let G = c .before .before .before .before .before .before .before .before .before .turn-read in reading.turn-inside (A .encoded .now) (A .source .now) (stateOf (A .memories .now) (A .buffer .now) (A .progress .now) (A .status .now)) (A .processor) (ap (λ (z : Answered State). z .number) (sym (G .ensures (A .progress .now) (reading.all-lent (A .progress .now)))) ∙ c .before .before .if1 .left)
+store-record-requires c κs =
+    let flat-of = c .before .before .before .before .before .before .before .before .before .before .before .flat-of in
+    let turn = c .before .before .before .before .before .before .before .before .before .turn in
+    let if1 = c .before .before .if1 in
+    let A = c .before .before .before .before .before .before .before .before .before .before .before .before .before .before .before .before .before .before .before .before .before .args in
+    reading.turn-inside (A .encoded .now) (A .source .now) (stateOf (A .memories .now) (A .buffer .now) (A .progress .now) (A .status .now)) (A .processor)
+    (ap (λ (z : Answered State). z .number) (sym (turn .ensures (A .progress .now) (flat-of .ensures))) ∙ if1 .left)
 
 same-length-5 : tie.Need-same-length-5
 same-length-5 c = search needs
@@ -40,13 +53,20 @@ same-length-8 : tie.Need-same-length-8
 same-length-8 c = search needs
 
 returns-2 : tie.Need-returns-2
-returns-2 c = let A = c .before .before .before .before .before .before .before .before .before .before .before .before .before .before .before .before .before .before .before .before .before .before .before .args in let G = c .before .before .before .before .before .before .before .before .before .before .before .before .turn-read in reading.written-in (G .result) _ _ (A .progress .now) _ (A .processor) _ (G .ensures (A .progress .now) (reading.all-lent (A .progress .now))) (c .before .before .before .before .before .if1 .left) _ (c .before .before .store-record .ensures)
+returns-2 c =
+    let flat-of = c .before .before .before .before .before .before .before .before .before .before .before .before .before .before .flat-of in
+    let turn = c .before .before .before .before .before .before .before .before .before .before .before .before .turn in
+    let if1 = c .before .before .before .before .before .if1 in
+    let store-record = c .before .before .store-record in
+    let A = c .before .before .before .before .before .before .before .before .before .before .before .before .before .before .before .before .before .before .before .before .before .before .before .before .args in
+    reading.written-in (turn .result) _ _ (A .progress .now) _ (A .processor) _ (turn .ensures (A .progress .now) (flat-of .ensures)) (if1 .left) _ (store-record .ensures)
 
 pub turn-spec : {M : Type 1} → statement M
 turn-spec =
     tie.close
     (tie.spec
-    turn-read-requires
+    flat-of-requires
+    turn-requires
     same-length
     same-length-2
     same-length-3

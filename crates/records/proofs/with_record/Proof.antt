@@ -2,58 +2,43 @@ use borrow.Author.Needs.{needs}
 use Rattle.records.proofs.Laws.{written, unwritten, with-written}
 use Rattle.records.proofs.with_record.Statement.{statement}
 use Rattle.records.proofs.with_record.Tie as tie
-use Rattle.records.proofs.with_record.Reads as reads
-use Rattle.records.proofs.with_record.Lts as lts
 
--- src/lib.rt:32:15
 mul-words : tie.Need-mul-words
 mul-words c = search needs
 
--- src/lib.rt:32:9
 mul-words-2 : tie.Need-mul-words-2
 mul-words-2 c = search needs
 
--- src/lib.rt:32:9
 array-write-words : tie.Need-array-write-words
 array-write-words c = search needs
 
--- src/lib.rt:33:15
 mul-words-3 : tie.Need-mul-words-3
 mul-words-3 c = search needs
 
--- src/lib.rt:33:15
 add-words : tie.Need-add-words
 add-words c = search needs
 
--- src/lib.rt:33:9
 mul-words-4 : tie.Need-mul-words-4
 mul-words-4 c = search needs
 
--- src/lib.rt:33:9
 array-write-words-2 : tie.Need-array-write-words-2
 array-write-words-2 c = search needs
 
--- src/lib.rt:34:15
 mul-words-5 : tie.Need-mul-words-5
 mul-words-5 c = search needs
 
--- src/lib.rt:34:15
 add-words-2 : tie.Need-add-words-2
 add-words-2 c = search needs
 
--- src/lib.rt:34:9
 mul-words-6 : tie.Need-mul-words-6
 mul-words-6 c = search needs
 
--- src/lib.rt:34:9
 array-write-words-3 : tie.Need-array-write-words-3
 array-write-words-3 c = search needs
 
--- src/lib.rt:27:1
 returns : tie.Need-returns
 returns c = with-written _ _ _ _ (written _ _ _ (c .if1 .taken))
 
--- src/lib.rt:27:1
 returns-2 : tie.Need-returns-2
 returns-2 c = with-written _ _ _ _ (unwritten _ _ _ (c .if1 .left))
 

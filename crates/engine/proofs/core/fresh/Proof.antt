@@ -10,8 +10,8 @@ use Rattle.engine.specs.Calls.{answer}
 use Rattle.engine.proofs.Lines as lines
 use Rattle.engine.proofs.Reading as reading
 use borrow.Author.Needs.{needs}
-use Rattle.engine.proofs.fresh_areas.Statement.{statement}
-use Rattle.engine.proofs.fresh_areas.Tie as tie
+use Rattle.engine.proofs.core.fresh.Statement.{statement}
+use Rattle.engine.proofs.core.fresh.Tie as tie
 
 read-requires : tie.Need-read-requires
 read-requires c κs = search needs
@@ -61,8 +61,8 @@ same-length-6 c = search needs
 returns-3 : tie.Need-returns-3
 returns-3 c = let A = c .before .before .before .before .before .before .before .before .before .before .before .before .before .before .before .before .before .before .before .before .before .before .before .before .before .before .before .before .before .args in λ l h. lines.fresh-done (A .encoded .now) (A .source .now) (stateOf (A .memories .now) (A .buffer .now) l (A .status .now)) (c .before .before .before .before .before .before .before .before .before .before .before .before .before .before .before .before .before .before .before .before .before .before .before .read .result .nest) (lines.opened (A .encoded .now) (c .before .before .before .before .before .before .before .before .before .before .before .before .before .before .before .before .before .before .before .before .before .before .before .read .result) (c .before .before .before .before .before .before .before .before .before .before .before .before .before .before .before .before .before .before .before .before .before .before .before .read .ensures .0) (c .before .before .before .before .before .before .before .before .before .before .before .before .before .before .before .before .before .before .before .before .before .before .if1 .left)) (sym (c .before .before .before .before .before .before .before .before .before .before .before .before .before .areas-fit .ensures .0 l h) ∙ not-false _ (c .before .before .before .before .before .before .before .before .before .before .before .before .if2 .left)) _ _ _ _ (c .before .before .before .before .before .before .before .before .before .before .zero-words .ensures) (c .before .before .before .before .before .before .zero-words2 .ensures) (sym (reading.zeros-after-yes l)) (c .before .before .zero-bytes .ensures)
 
-pub fresh-areas-spec : {M : Type 1} → statement M
-fresh-areas-spec =
+pub fresh-spec : {M : Type 1} → statement M
+fresh-spec =
     tie.close
     (tie.spec
     read-requires

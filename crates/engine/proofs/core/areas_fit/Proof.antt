@@ -1,16 +1,14 @@
 use mathlib.Core.Bool.{false≢true}
-use mathlib.Core.Path.{refl, sym, ap, _∙_}
+use mathlib.Core.Path.{sym, ap, _∙_}
 use native.Mathlib.Omega.{arith}
 use lib.ListN.{length}
 use lib.Dec.{eqb}
-use Rattle.nest.specs.Nest.{processors}
 use Rattle.machine.specs.Machine.{stateOf}
 use Rattle.plan.specs.Messages.{planOf}
 use Rattle.engine.proofs.Lines as lines
-use Rattle.engine.proofs.Reading as reading
 use borrow.Author.Needs.{needs}
-use Rattle.engine.proofs.areas_fit.Statement.{statement}
-use Rattle.engine.proofs.areas_fit.Tie as tie
+use Rattle.engine.proofs.core.areas_fit.Statement.{statement}
+use Rattle.engine.proofs.core.areas_fit.Tie as tie
 
 totals-requires : tie.Need-totals-requires
 totals-requires c κs = search needs
@@ -31,10 +29,10 @@ mul-if4 : tie.Need-mul-if4
 mul-if4 c = search needs
 
 returns-4 : tie.Need-returns-4
-returns-4 c = let S = c .before .before .before .before .before .before .before .before .before .before in let A = S .args in (λ l h. lines.no-progress (planOf (A .nest)) (A .source .now) (stateOf (A .memories .now) (A .buffer .now) l (A .status .now)) (reading.other-length (A .extent) (length l) (processors (A .nest)) h (S .pre .0 .accepted .processors-most) (λ q. c .if4 .taken (q ∙ sym (lines.records-are (A .nest) (A .sizes) (S .pre .0))))), λ q. absurd (false≢true q))
+returns-4 c = let S = c .before .before .before .before .before .before .before .before .before .before in let A = S .args in (λ l h. lines.no-progress (planOf (A .nest)) (A .source .now) (stateOf (A .memories .now) (A .buffer .now) l (A .status .now)) (λ q. c .if4 .taken (h ∙ q ∙ sym (lines.records-are (A .nest) (A .sizes) (S .pre .0)))), λ q. absurd (false≢true q))
 
 returns-5 : tie.Need-returns-5
-returns-5 c = let S = c .before .before .before .before .before .before .before .before .before .before .before in let A = S .args in let T = c .before .before .before .before .before .before .totals .ensures in let e = c .before .if4 .left ∙ lines.records-are (A .nest) (A .sizes) (S .pre .0) in (λ l h. ap (eqb (length (A .status .now))) (T .0) ∙ lines.by-status (planOf (A .nest)) (A .source .now) (stateOf (A .memories .now) (A .buffer .now) l (A .status .now)) (c .before .before .before .before .before .if1 .left ∙ S .pre .0 .cells) (c .before .before .before .before .if2 .left ∙ lines.area-is (A .nest) (A .sizes) (S .pre .0)) (c .before .before .if3 .left ∙ T .1 .0) (reading.this-length (A .extent) (length l) (processors (A .nest)) h (S .pre .0 .accepted .processors-most) e), λ _. e)
+returns-5 c = let S = c .before .before .before .before .before .before .before .before .before .before .before in let A = S .args in let T = c .before .before .before .before .before .before .totals .ensures in let e = c .before .if4 .left ∙ lines.records-are (A .nest) (A .sizes) (S .pre .0) in (λ l h. ap (eqb (length (A .status .now))) (T .0) ∙ lines.by-status (planOf (A .nest)) (A .source .now) (stateOf (A .memories .now) (A .buffer .now) l (A .status .now)) (c .before .before .before .before .before .if1 .left ∙ S .pre .0 .cells) (c .before .before .before .before .if2 .left ∙ lines.area-is (A .nest) (A .sizes) (S .pre .0)) (c .before .before .if3 .left ∙ T .1 .0) (sym h ∙ e), λ _. e)
 
 pub areas-fit-spec : {M : Type 1} → statement M
 areas-fit-spec =

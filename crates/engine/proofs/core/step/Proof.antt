@@ -11,8 +11,8 @@ use Rattle.stages.specs.Progress.{setRecord}
 use Rattle.engine.proofs.Turns as turns
 use Rattle.engine.proofs.Reading as reading
 use borrow.Author.Needs.{needs}
-use Rattle.engine.proofs.step.Statement.{statement}
-use Rattle.engine.proofs.step.Tie as tie
+use Rattle.engine.proofs.core.step.Statement.{statement}
+use Rattle.engine.proofs.core.step.Tie as tie
 
 mul-finished : tie.Need-mul-finished
 mul-finished c = search needs

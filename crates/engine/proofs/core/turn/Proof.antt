@@ -1,0 +1,186 @@
+-- Each return is the call by the line that counts.
+use Prim.Native.Nat.{ℕ, _-_}
+use mathlib.Core.Path.{refl, subst, _≡_}
+use mathlib.Core.List.{List}
+use native.Mathlib.Omega.{arith}
+use lib.ListN.{take, drop}
+use Rattle.nest.proofs.Answers.{accepted-read}
+use Rattle.machine.specs.Machine.{stateOf}
+use Rattle.plan.specs.Messages.{planOf}
+use Rattle.engine.specs.Calls.{answer, turnCall}
+use Rattle.engine.specs.Given.{recordsAfter}
+use Rattle.engine.proofs.Lines as lines
+use Rattle.engine.proofs.Reading as reading
+use borrow.Author.Needs.{needs}
+use Rattle.engine.proofs.core.turn.Statement.{statement}
+use Rattle.engine.proofs.core.turn.Tie as tie
+
+read-requires : tie.Need-read-requires
+read-requires c κs = search needs
+
+refused-requires : tie.Need-refused-requires
+refused-requires c κs = search needs
+
+returns : tie.Need-returns
+returns c =
+    let read = c .before .before .read in
+    let if1 = c .before .if1 in
+    let refused = c .refused in
+    let A = c .before .before .before .before .before .before .before .before .args in
+    λ l h. reading.refuses (refused .result) (read .result .number) (refused .ensures) (if1 .taken) (stateOf (A .memories .now) (A .buffer .now) l (A .status .now)) (A .processor) _
+    (lines.turn-read (A .encoded .now) (A .source .now) (stateOf (A .memories .now) (A .buffer .now) l (A .status .now)) (A .processor) (read .result .number)
+    (lines.read-number (A .encoded .now) (read .result) (read .ensures .0)) (if1 .taken))
+
+sizes-of-requires : tie.Need-sizes-of-requires
+sizes-of-requires c κs = accepted-read _ _ (c .before .before .read .ensures .0) (c .before .if1 .left) (c .before .before .read .ensures .1 (c .before .if1 .left))
+
+fill-requires : tie.Need-fill-requires
+fill-requires c κs = (c .before .sizes-of .ensures, refl)
+
+unfit-requires : tie.Need-unfit-requires
+unfit-requires c κs = search needs
+
+refused-requires-2 : tie.Need-refused-requires-2
+refused-requires-2 c κs = search needs
+
+same-length : tie.Need-same-length
+same-length c = search needs
+
+same-length-2 : tie.Need-same-length-2
+same-length-2 c = search needs
+
+same-length-3 : tie.Need-same-length-3
+same-length-3 c = search needs
+
+returns-2 : tie.Need-returns-2
+returns-2 c =
+    let read = c .before .before .before .before .before .before .before .before .before .before .before .before .read in
+    let if1 = c .before .before .before .before .before .before .before .before .before .before .before .if1 in
+    let unfit = c .before .before .unfit in
+    let if2 = c .before .if2 in
+    let refused2 = c .refused2 in
+    let A = c .before .before .before .before .before .before .before .before .before .before .before .before .before .before .before .before .before .before .args in
+    λ l h. reading.refuses (refused2 .result) (unfit .result) (refused2 .ensures) (if2 .taken) (stateOf (A .memories .now) (A .buffer .now) l (A .status .now)) (A .processor) _
+    (lines.turn-unfit (A .encoded .now) (A .source .now) (stateOf (A .memories .now) (A .buffer .now) l (A .status .now)) (A .processor) (read .result .nest)
+    (lines.opened (A .encoded .now) (read .result) (read .ensures .0) (if1 .left))
+    (unfit .result) (unfit .ensures .0 l h) (if2 .taken))
+
+refused-requires-3 : tie.Need-refused-requires-3
+refused-requires-3 c κs = search needs
+
+same-length-4 : tie.Need-same-length-4
+same-length-4 c = search needs
+
+same-length-5 : tie.Need-same-length-5
+same-length-5 c = search needs
+
+same-length-6 : tie.Need-same-length-6
+same-length-6 c = search needs
+
+returns-3 : tie.Need-returns-3
+returns-3 c =
+    let read = c .before .before .before .before .before .before .before .before .before .before .before .before .before .before .read in
+    let if1 = c .before .before .before .before .before .before .before .before .before .before .before .before .before .if1 in
+    let sizes-of = c .before .before .before .before .before .before .before .before .before .before .before .sizes-of in
+    let unfit = c .before .before .before .before .unfit in
+    let if2 = c .before .before .before .if2 in
+    let if3 = c .before .if3 in
+    let refused3 = c .refused3 in
+    let A = c .before .before .before .before .before .before .before .before .before .before .before .before .before .before .before .before .before .before .before .before .args in
+    λ l h. reading.refuses (refused3 .result) 11 (refused3 .ensures) (λ q. omega arith) (stateOf (A .memories .now) (A .buffer .now) l (A .status .now)) (A .processor) _
+    (lines.turn-beyond (A .encoded .now) (A .source .now) (stateOf (A .memories .now) (A .buffer .now) l (A .status .now)) (A .processor) (read .result .nest)
+    (lines.opened (A .encoded .now) (read .result) (read .ensures .0) (if1 .left))
+    (unfit .result) (unfit .ensures .0 l h) (if2 .left) (omega (arith, sizes-of .ensures .processors, if3 .taken)))
+
+sub-step : tie.Need-sub-step
+sub-step c = search needs
+
+part-step-start : tie.Need-part-step-start
+part-step-start c = search needs
+
+part-step-end : tie.Need-part-step-end
+part-step-end c =
+    let S = c .before .before .before .before .before .before .before .before .before .before .before .before .before .before .before .before .before .before .before .before .before .before .before .before in
+    let sizes-of = c .before .before .before .before .before .before .before .before .before .before .before .before .before .before .before .sizes-of in
+    let unfit = c .before .before .before .before .before .before .before .before .unfit in
+    let if2 = c .before .before .before .before .before .before .before .if2 in
+    let A = S .args in
+    omega (arith, S .pre, reading.few-words _ _ (sizes-of .ensures) (A .progress .count) (unfit .ensures .1 (if2 .left)))
+
+step-requires : tie.Need-step-requires
+step-requires c κs =
+    let S = c .before .before .before .before .before .before .before .before .before .before .before .before .before .before .before .before .before .before .before .before .before .before .before .before .before .before in
+    let read = c .before .before .before .before .before .before .before .before .before .before .before .before .before .before .before .before .before .before .before .before .read in
+    let sizes-of = c .before .before .before .before .before .before .before .before .before .before .before .before .before .before .before .before .before .sizes-of in
+    let fill = c .before .before .before .before .before .before .before .before .before .before .before .before .before .before .before .fill in
+    let unfit = c .before .before .before .before .before .before .before .before .before .before .unfit in
+    let if2 = c .before .before .before .before .before .before .before .before .before .if2 in
+    let if3 = c .before .before .before .before .before .before .before .if3 in
+    let A = S .args in
+    let few = reading.few-words _ _ (sizes-of .ensures) (A .progress .count) (unfit .ensures .1 (if2 .left)) in
+    let l = take (A .progress .count - 0) (drop 0 (A .progress .words)) in (
+      (sizes-of .ensures, fill .ensures),
+      lines.passed (planOf (read .result .nest)) (A .source .now) (stateOf (A .memories .now) (A .buffer .now) l (A .status .now)) (A .processor) (unfit .result)
+          (unfit .ensures .0 l (reading.part-carries (A .progress) (S .pre) few)) (if2 .left)
+          (omega (arith, sizes-of .ensures .processors, if3 .left)),
+    )
+
+same-length-7 : tie.Need-same-length-7
+same-length-7 c = search needs
+
+same-length-8 : tie.Need-same-length-8
+same-length-8 c = search needs
+
+same-length-9 : tie.Need-same-length-9
+same-length-9 c = search needs
+
+returns-4 : tie.Need-returns-4
+returns-4 c =
+    let sizes-of = c .before .before .before .before .before .before .before .before .before .before .before .before .before .before .before .before .before .before .before .before .before .before .before .before .sizes-of in
+    let S = c .before .before .before .before .before .before .before .before .before .before .before .before .before .before .before .before .before .before .before .before .before .before .before .before .before .before .before .before .before .before .before .before .before in
+    let read = c .before .before .before .before .before .before .before .before .before .before .before .before .before .before .before .before .before .before .before .before .before .before .before .before .before .before .before .read in
+    let if1 = c .before .before .before .before .before .before .before .before .before .before .before .before .before .before .before .before .before .before .before .before .before .before .before .before .before .before .if1 in
+    let unfit = c .before .before .before .before .before .before .before .before .before .before .before .before .before .before .before .before .before .unfit in
+    let if2 = c .before .before .before .before .before .before .before .before .before .before .before .before .before .before .before .before .if2 in
+    let step = c .before .before .before .before .before .before .step in
+    let A = S .args in
+    let few = reading.few-words _ _ (sizes-of .ensures) (A .progress .count) (unfit .ensures .1 (if2 .left)) in
+    let part = take (A .progress .count - 0) (drop 0 (A .progress .words)) in
+    λ l h.
+    subst (λ (k : List ℕ).
+    answer (step .result .number)
+    (stateOf (step .last .1 .1 .1 .1 .0) (step .last .1 .1 .1 .1 .1 .0) (recordsAfter k (A .processor) (step .result)) (step .last .1 .1 .1 .1 .1 .1 .1 .0))
+    ≡ turnCall (A .encoded .now) (A .source .now) (stateOf (A .memories .now) (A .buffer .now) k (A .status .now)) (A .processor))
+    (reading.part-is (A .progress) l few h)
+    (lines.turn-steps (A .encoded .now) (A .source .now) (stateOf (A .memories .now) (A .buffer .now) part (A .status .now)) (A .processor) (read .result .nest)
+    (lines.opened (A .encoded .now) (read .result) (read .ensures .0) (if1 .left))
+    (unfit .result) (unfit .ensures .0 _ (reading.part-carries (A .progress) (S .pre) few)) (if2 .left) _ (step .ensures))
+
+pub turn-spec : {M : Type 1} → statement M
+turn-spec =
+    tie.close
+    (tie.spec
+    read-requires
+    refused-requires
+    returns
+    sizes-of-requires
+    fill-requires
+    unfit-requires
+    refused-requires-2
+    same-length
+    same-length-2
+    same-length-3
+    returns-2
+    refused-requires-3
+    same-length-4
+    same-length-5
+    same-length-6
+    returns-3
+    sub-step
+    part-step-start
+    part-step-end
+    step-requires
+    same-length-7
+    same-length-8
+    same-length-9
+    returns-4)

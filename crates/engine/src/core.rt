@@ -1,0 +1,368 @@
+// The calls, each by the first true line of document 01's table, but for the stores into the records: these are read as words, and a call
+// gives its number and what is to be stored. The contracts hold for every list of words that the `Flat` carries, since code has no other
+// way to name the caller's records.
+ghost use mathlib.Core.Path.{_≡_};
+ghost use mathlib.Core.Bool.{true};
+ghost use mathlib.Core.List.{List};
+ghost use Prim.Native.Nat.{ℕ, _*_};
+ghost use lib.ListN.{length};
+ghost use Rattle.base.specs.Numbers.{firstOf};
+ghost use Rattle.machine.specs.Machine.{stateOf, turn};
+ghost use Rattle.plan.specs.Messages.{planOf};
+ghost use Rattle.layout.specs.Sizes.{Sized};
+ghost use Rattle.nest.specs.Nest.{processors};
+ghost use Rattle.table.specs.Table.{Table};
+ghost use Rattle.records.specs.Records.{Carries};
+ghost use Rattle.engine.specs.Given.{MayTurn, unfitLines, recordsAfter, zerosAfter};
+ghost use Rattle.engine.specs.Calls.{answer, areas, freshCall, turnCall, deliverCall, collectCall};
+use base::word_index;
+use layout::Sizes;
+use layout::sizes_of;
+use nest::Nest;
+use nest::read;
+use records::Flat;
+use records::Progress;
+use stages::calculate_stage;
+use stages::copy_cells;
+use stages::fit_records;
+use stages::fit_status;
+use stages::gather_stage;
+use stages::ready;
+use stages::send_stage;
+use stages::tiles_left;
+use stages::zero_bytes;
+use stages::zero_words;
+use table::fill;
+use table::tile_at;
+use table::tile_count;
+use table::totals;
+
+// Each area has its length; `words` is how many words the records have.
+fn areas_fit(
+    nest: Nest,
+    sizes: Sizes,
+    lens: &[u16; 7168],
+    source: &[u32],
+    memories: &[u32],
+    buffer: &[u32],
+    words: usize,
+    status: &[u8],
+) -> bool
+    requires { ⌜ Sized nest sizes × Table nest (now lens) ⌝ }
+    ensures { λ r. ⌜ ((records : List ℕ) → words ≡ length records
+        → r ≡ areas (planOf nest) (now (source .entry)) (stateOf (now (memories .entry)) (now (buffer .entry)) records (now (status .entry))))
+        × (r ≡ true → words ≡ 3 * processors nest) ⌝ }
+{
+    let t = totals(nest, sizes, lens);
+    let cells = sizes.cells;
+    let processors = sizes.processors;
+    if source.len() != cells {
+        return false;
+    }
+    if memories.len() != processors * cells {
+        return false;
+    }
+    if buffer.len() != t.words {
+        return false;
+    }
+    if words != 3 * processors {
+        return false;
+    }
+    status.len() == t.messages
+}
+
+// Lines 9 and 10.
+fn unfit(
+    nest: Nest,
+    sizes: Sizes,
+    lens: &[u16; 7168],
+    source: &[u32],
+    memories: &[u32],
+    buffer: &[u32],
+    progress: Flat,
+    status: &[u8],
+) -> u32
+    requires { ⌜ Sized nest sizes × Table nest (now lens) ⌝ }
+    requires { ⌜ length (progress .words) ≡ 192 ⌝ }
+    ensures { λ r. ⌜ ((records : List ℕ) → Carries progress records
+        → r ≡ firstOf (unfitLines (planOf nest) (now (source .entry)) (stateOf (now (memories .entry)) (now (buffer .entry)) records (now (status .entry)))))
+        × (r ≡ 0 → progress .count ≡ 3 * processors nest) ⌝ }
+{
+    let words = progress.words;
+    let count = progress.count;
+    if !areas_fit(nest, sizes, lens, source, memories, buffer, count, status) {
+        return 9;
+    }
+    if !fit_records(nest, sizes, lens, &words[0..count]) {
+        return 10;
+    }
+    if !fit_status(status) {
+        return 10;
+    }
+    0
+}
+
+// What a turn makes: its number and, where that is 0, the processor's record after it.
+pub struct Turned {
+    pub number: u32,
+    pub progress: Progress,
+}
+
+fn refused(number: u32) -> Turned
+    ensures { λ r. ⌜ r .number ≡ number ⌝ }
+{
+    let none = Progress {
+        finished: 0,
+        stage: 0,
+        sent: 0,
+    };
+    Turned {
+        number: number,
+        progress: none,
+    }
+}
+
+fn done(progress: Progress) -> Turned
+    ensures { λ r. ⌜ (r .number ≡ 0) × (r .progress ≡ progress) ⌝ }
+{
+    Turned {
+        number: 0,
+        progress: progress,
+    }
+}
+
+// The stage at which processor b stands.
+fn step(
+    nest: Nest,
+    sizes: Sizes,
+    lens: &[u16; 7168],
+    source: &[u32],
+    memories: &mut [u32],
+    buffer: &mut [u32],
+    progress: &[u32],
+    status: &mut [u8],
+    b: usize,
+) -> Turned
+    requires { ⌜ Sized nest sizes × Table nest (now lens) ⌝ }
+    requires { ⌜ MayTurn (planOf nest) (now source) (stateOf (now memories) (now buffer) (now progress) (now status)) b ⌝ }
+    ensures { λ r. ⌜ answer (r .number) (stateOf (now (memories .exit)) (now (buffer .exit)) (recordsAfter (now (progress .entry)) b r) (now (status .exit)))
+        ≡ turn (planOf nest) (now (source .entry)) (stateOf (now (memories .entry)) (now (buffer .entry)) (now (progress .entry)) (now (status .entry))) b ⌝ }
+{
+    let finished = progress[3 * b];
+    let stage = progress[3 * b + 1];
+    let sent = word_index(progress[3 * b + 2]);
+    let i = word_index(finished);
+    let n = tile_count(nest, sizes, b);
+    if i >= n {
+        return refused(13);
+    }
+    let t = tile_at(nest, sizes, b, i);
+    if stage == 0 {
+        if !ready(nest, sizes, lens, status, t) {
+            return refused(12);
+        }
+        let gathered = gather_stage(nest, sizes, lens, memories, buffer, status, b, t, finished);
+        return done(gathered);
+    }
+    if stage == 1 {
+        let calculated = calculate_stage(nest, sizes, lens, source, memories, b, t, finished);
+        return done(calculated);
+    }
+    let left = send_stage(
+        nest,
+        sizes,
+        lens,
+        memories,
+        buffer,
+        status,
+        b,
+        t,
+        finished,
+        sent,
+    );
+    done(left)
+}
+
+// One turn of a processor.
+pub fn turn(
+    encoded: &[u8],
+    source: &[u32],
+    memories: &mut [u32],
+    buffer: &mut [u32],
+    progress: Flat,
+    status: &mut [u8],
+    processor: u32,
+) -> Turned
+    requires { ⌜ length (progress .words) ≡ 192 ⌝ }
+    ensures { λ r. ⌜ ((records : List ℕ) → Carries progress records
+        → answer (r .number) (stateOf (now (memories .exit)) (now (buffer .exit)) (recordsAfter records processor r) (now (status .exit)))
+        ≡ turnCall (now (encoded .entry)) (now (source .entry)) (stateOf (now (memories .entry)) (now (buffer .entry)) records (now (status .entry))) processor) ⌝ }
+{
+    let reading = read(encoded);
+    let number = reading.number;
+    if number != 0 {
+        return refused(number);
+    }
+    let nest = reading.nest;
+    let sizes = sizes_of(nest);
+    let b = processor as usize;
+    let mut lens = [0u16; 7168];
+    fill(nest, sizes, &mut lens);
+    let n = unfit(
+        nest,
+        sizes,
+        &lens,
+        source,
+        memories,
+        buffer,
+        progress,
+        status,
+    );
+    if n != 0 {
+        return refused(n);
+    }
+    if b >= sizes.processors {
+        return refused(11);
+    }
+    let words = progress.words;
+    let count = progress.count;
+    step(
+        nest,
+        sizes,
+        &lens,
+        source,
+        memories,
+        buffer,
+        &words[0..count],
+        status,
+        b,
+    )
+}
+
+// The delivery of a message.
+pub fn deliver(
+    encoded: &[u8],
+    source: &[u32],
+    memories: &[u32],
+    buffer: &[u32],
+    progress: Flat,
+    status: &mut [u8],
+    message: u32,
+) -> u32
+    requires { ⌜ length (progress .words) ≡ 192 ⌝ }
+    ensures { λ r. ⌜ ((records : List ℕ) → Carries progress records
+        → answer r (stateOf (now (memories .entry)) (now (buffer .entry)) records (now (status .exit)))
+        ≡ deliverCall (now (encoded .entry)) (now (source .entry)) (stateOf (now (memories .entry)) (now (buffer .entry)) records (now (status .entry))) message) ⌝ }
+{
+    let reading = read(encoded);
+    let number = reading.number;
+    if number != 0 {
+        return number;
+    }
+    let nest = reading.nest;
+    let sizes = sizes_of(nest);
+    let m = message as usize;
+    let mut lens = [0u16; 7168];
+    fill(nest, sizes, &mut lens);
+    let n = unfit(
+        nest,
+        sizes,
+        &lens,
+        source,
+        memories,
+        buffer,
+        progress,
+        status,
+    );
+    if n != 0 {
+        return n;
+    }
+    if m >= status.len() {
+        return 11;
+    }
+    if status[m] != 1 {
+        return 14;
+    }
+    status[m] = 2;
+    0
+}
+
+// The grid, once all processors have finished.
+pub fn collect(
+    encoded: &[u8],
+    source: &[u32],
+    memories: &[u32],
+    buffer: &[u32],
+    progress: Flat,
+    status: &[u8],
+    grid: &mut [u32],
+) -> u32
+    requires { ⌜ length (progress .words) ≡ 192 ⌝ }
+    ensures { λ r. ⌜ ((records : List ℕ) → Carries progress records
+        → answer r (now (grid .exit))
+        ≡ collectCall (now (encoded .entry)) (now (source .entry)) (stateOf (now (memories .entry)) (now (buffer .entry)) records (now (status .entry))) (now (grid .entry))) ⌝ }
+{
+    let reading = read(encoded);
+    let number = reading.number;
+    if number != 0 {
+        return number;
+    }
+    let nest = reading.nest;
+    let sizes = sizes_of(nest);
+    if grid.len() != sizes.cells {
+        return 9;
+    }
+    let mut lens = [0u16; 7168];
+    fill(nest, sizes, &mut lens);
+    let n = unfit(
+        nest,
+        sizes,
+        &lens,
+        source,
+        memories,
+        buffer,
+        progress,
+        status,
+    );
+    if n != 0 {
+        return n;
+    }
+    let words = progress.words;
+    let count = progress.count;
+    if tiles_left(nest, sizes, &words[0..count]) {
+        return 15;
+    }
+    copy_cells(nest, sizes, memories, grid);
+    0
+}
+
+// A fresh start of all but the records, which have so many words.
+pub fn fresh(
+    encoded: &[u8],
+    source: &[u32],
+    memories: &mut [u32],
+    buffer: &mut [u32],
+    words: usize,
+    status: &mut [u8],
+) -> u32
+    ensures { λ r. ⌜ ((records : List ℕ) → words ≡ length records
+        → answer r (stateOf (now (memories .exit)) (now (buffer .exit)) (zerosAfter records r) (now (status .exit)))
+        ≡ freshCall (now (encoded .entry)) (now (source .entry)) (stateOf (now (memories .entry)) (now (buffer .entry)) records (now (status .entry)))) ⌝ }
+{
+    let reading = read(encoded);
+    let number = reading.number;
+    if number != 0 {
+        return number;
+    }
+    let nest = reading.nest;
+    let sizes = sizes_of(nest);
+    let mut lens = [0u16; 7168];
+    fill(nest, sizes, &mut lens);
+    if !areas_fit(nest, sizes, &lens, source, memories, buffer, words, status) {
+        return 9;
+    }
+    zero_words(memories);
+    zero_words(buffer);
+    zero_bytes(status);
+    0
+}
