@@ -11,7 +11,7 @@ use Rattle.base.proofs.Tests.{both, never-both, sum-most, sum-same, sum-const}
 use Rattle.base.proofs.Select.{sum-those}
 use Rattle.machine.specs.Plan.{count, words}
 use Rattle.nest.specs.declared.Nest.{Nest}
-use Rattle.nest.proofs.Accepted.{Accepted}
+use Rattle.nest.specs.Accepted.{Accepted}
 use Rattle.nest.specs.Nest.{cells, tiles}
 use Rattle.plan.specs.Geometry.{tileOf}
 use Rattle.plan.specs.Messages.{parcel, slots, slotTile, slotParcel, directions, planOf}

@@ -17,7 +17,7 @@ use Rattle.machine.specs.Runs.{Event, Demand3}
 use Rattle.machine.proofs.Values.{sweep-fixed}
 use Rattle.nest.specs.declared.Nest.{Nest}
 use Rattle.nest.specs.Nest.{nestOf, readLines}
-use Rattle.nest.proofs.Accepted.{Accepted}
+use Rattle.nest.specs.Accepted.{Accepted}
 use Rattle.nest.proofs.Facts.{accepted}
 use Rattle.plan.specs.Messages.{slots, planOf}
 use Rattle.plan.specs.Rows.{figures, figuresIf}

@@ -16,7 +16,7 @@ use Rattle.machine.specs.Words.{wordAt, mailAt, cellOf, Unpacks, Does}
 use Rattle.base.proofs.Entries.{at-in}
 use Rattle.machine.proofs.Words.{turn-does}
 use Rattle.nest.specs.Nest.{nestOf, readLines}
-use Rattle.nest.proofs.Accepted.{Accepted}
+use Rattle.nest.specs.Accepted.{Accepted}
 use Rattle.plan.proofs.Sound.{sound}
 use Rattle.plan.proofs.Exact.{exact}
 use Rattle.engine.specs.Calls.{recipe, areas, areaLines, turnCall}

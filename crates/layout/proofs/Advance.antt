@@ -11,7 +11,7 @@ use lib.Seq.{getD-set-same, getD-set-other}
 use lib.Dec.{eqb}
 use Rattle.base.specs.Tests.{pick}
 use Rattle.nest.specs.declared.Nest.{Nest}
-use Rattle.nest.proofs.Accepted.{Accepted}
+use Rattle.nest.specs.Accepted.{Accepted}
 use Rattle.plan.specs.Geometry.{rank, place}
 use Rattle.plan.specs.Box.{boxCell}
 use Rattle.plan.proofs.Rank.{place-last, place-before, place-low}

@@ -9,7 +9,7 @@ use native.Mathlib.Omega.{arith}
 use lib.ListN.{getD}
 use Rattle.base.specs.Tests.{_and_, every, product}
 use Rattle.nest.specs.declared.Nest.{Nest}
-use Rattle.nest.proofs.Accepted.{Accepted}
+use Rattle.nest.specs.Accepted.{Accepted}
 use Rattle.nest.specs.Nest.{lengthOf, tileLength}
 use Rattle.plan.specs.Geometry.{rank, place, cellAt, tilePlace}
 use Rattle.plan.specs.Box.{boxLength, boxPlace, boxCell}

@@ -14,7 +14,7 @@ use Rattle.base.specs.Tests.{pick, product, those}
 use Rattle.base.proofs.Tests.{pick-true, pick-false}
 use Rattle.machine.specs.Plan.{tilesOf}
 use Rattle.nest.specs.declared.Nest.{Nest}
-use Rattle.nest.proofs.Accepted.{Accepted}
+use Rattle.nest.specs.Accepted.{Accepted}
 use Rattle.nest.specs.Nest.{lengthOf, tileLength, processorCount, tileCount, tiles, processors}
 use Rattle.plan.specs.Geometry.{rank, place, tileAt, processorOf}
 use Rattle.plan.specs.Messages.{planOf}

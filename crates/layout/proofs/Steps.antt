@@ -7,7 +7,7 @@ use native.Mathlib.Decide.{decLt}
 use native.Mathlib.Omega.{arith}
 use lib.ListN.{getD, replicate, getD-replicate}
 use Rattle.nest.specs.declared.Nest.{Nest}
-use Rattle.nest.proofs.Accepted.{Accepted}
+use Rattle.nest.specs.Accepted.{Accepted}
 use Rattle.nest.specs.Nest.{tileCount}
 use Rattle.plan.specs.Geometry.{place, tileAt, tilePlace}
 use Rattle.plan.specs.Messages.{two, directions, ahead, taker, slots, slotTile, slotDirection, slotTaker}

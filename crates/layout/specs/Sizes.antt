@@ -5,7 +5,7 @@ use mathlib.Core.Path.{_≡_}
 use mathlib.Core.List.{List}
 use lib.ListN.{getD}
 use Rattle.nest.specs.declared.Nest.{Nest}
-use Rattle.nest.proofs.Accepted.{Accepted}
+use Rattle.nest.specs.Accepted.{Accepted}
 use Rattle.nest.specs.Nest.{tileCount, cells, tiles, processors}
 use Rattle.plan.specs.Messages.{directions, slots, slotTile, slotTaker}
 use Rattle.layout.specs.declared.Sizes.{Sizes}

@@ -6,7 +6,7 @@ ghost use lib.Dec.{ltb};
 ghost use Rattle.base.specs.Tests.{_and_, pick, product};
 ghost use mathlib.Core.Bool.{true};
 ghost use Rattle.machine.specs.Plan.{tilesOf};
-ghost use Rattle.nest.proofs.Accepted.{Accepted};
+ghost use Rattle.nest.specs.Accepted.{Accepted};
 ghost use Rattle.nest.specs.Nest.{component, tileCount, tileLength, cells, tiles, processors};
 ghost use Rattle.plan.specs.Geometry.{rank, tileAt, tileOf, processorOf, tilePlace};
 ghost use Rattle.plan.specs.Messages.{ahead, slots, planOf};

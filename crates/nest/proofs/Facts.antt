@@ -14,7 +14,7 @@ use Rattle.base.specs.Numbers.{firstOf}
 use Rattle.base.proofs.Tests.{both, neither, true-not, and-true, never-both, every-at, none-some, pick-false}
 use Rattle.base.proofs.Numbers.{none-first}
 use Rattle.nest.specs.declared.Nest.{Nest}
-use Rattle.nest.proofs.Accepted.{Accepted}
+use Rattle.nest.specs.Accepted.{Accepted}
 use Rattle.nest.specs.Nest.{lengthOf, tileLength, processorCount, component, weight, cells, tiles, processors}
 use Rattle.base.specs.Lists.{Bytes}
 use Rattle.nest.specs.Nest.{kind, records, ofKind, nestBy, nestOf, ragged, fitsAt, strayRecord, outside, badLength, tooLarge, beyond, faulty, badDistance, reached, badTile, badProcessors, tooManyTiles, nestLines, readLines}

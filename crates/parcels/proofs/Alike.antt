@@ -15,7 +15,7 @@ use Rattle.base.specs.Tests.{_and_, pick, every, some, tabulate, product}
 use Rattle.base.specs.Lists.{part, pack, unpack}
 use Rattle.base.proofs.Tests.{both, every-at, every-all, pick-true, pick-false, and-true, and-false, and-no, is-true, is-false, some-at, some-none, never-both, same-test, tabulate-at}
 use Rattle.nest.specs.declared.Nest.{Nest}
-use Rattle.nest.proofs.Accepted.{Accepted}
+use Rattle.nest.specs.Accepted.{Accepted}
 use Rattle.nest.specs.Nest.{lengthOf, tileLength, component, tileCount, cells}
 use Rattle.plan.specs.Geometry.{rank, place, cellAt, cellPlace, tilePlace, inside}
 use Rattle.plan.specs.Messages.{reaches, slots, slotTile, slotDirection, slotParcel}

@@ -16,7 +16,7 @@ use Rattle.base.proofs.Tests.{some-one, some-none, some-same, tabulate-same}
 use Rattle.base.proofs.Select.{keep-hit, keep-none, keep-lt, keep-mono}
 use Rattle.base.proofs.Lists.{length-put, put-none, pack-length}
 use Rattle.nest.specs.declared.Nest.{Nest}
-use Rattle.nest.proofs.Accepted.{Accepted}
+use Rattle.nest.specs.Accepted.{Accepted}
 use Rattle.nest.specs.Nest.{cells}
 use Rattle.plan.specs.Messages.{slotDirection}
 use Rattle.plan.proofs.Grid.{map-append, keep-add, keep-nothing, keep-run, map-tabulate}

@@ -14,7 +14,7 @@ use Rattle.base.specs.Tests.{_and_, every, keep, product}
 use Rattle.base.proofs.Tests.{both, same-test, some-same}
 use Rattle.base.proofs.Select.{keep-same}
 use Rattle.nest.specs.declared.Nest.{Nest}
-use Rattle.nest.proofs.Accepted.{Accepted}
+use Rattle.nest.specs.Accepted.{Accepted}
 use Rattle.nest.specs.Nest.{lengthOf, tileLength, component, tileCount, tiles}
 use Rattle.plan.specs.Geometry.{place, cellPlace, tilePlace, inside}
 use Rattle.plan.specs.Messages.{ahead, reaches, parcel}

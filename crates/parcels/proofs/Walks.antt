@@ -12,7 +12,7 @@ use lib.Seq.{take-length}
 use Rattle.base.specs.Lists.{pack, unpack}
 use Rattle.base.proofs.Lists.{unpack-length}
 use Rattle.nest.specs.declared.Nest.{Nest}
-use Rattle.nest.proofs.Accepted.{Accepted}
+use Rattle.nest.specs.Accepted.{Accepted}
 use Rattle.plan.specs.Messages.{directions, reaches, slots, slotTile, slotDirection, slotParcel}
 use Rattle.plan.specs.Box.{boxSize, boxCell}
 use Rattle.plan.proofs.Parcels.{slotTile-low}

@@ -17,7 +17,7 @@ use Rattle.base.specs.Lists.{part, unpack}
 use Rattle.base.proofs.Tests.{both, every-at, pick-true, pick-false, and-true, and-false, and-no, or-left, never-both, same-test, every-all, every-not, length-tabulate, tabulate-at}
 use Rattle.base.proofs.Lists.{unpack-length}
 use Rattle.nest.specs.declared.Nest.{Nest}
-use Rattle.nest.proofs.Accepted.{Accepted}
+use Rattle.nest.specs.Accepted.{Accepted}
 use Rattle.nest.specs.Nest.{lengthOf, tileLength, component, cells}
 use Rattle.plan.specs.Geometry.{place, cellPlace}
 use Rattle.plan.specs.Messages.{reaches, slotDirection}

@@ -5,7 +5,7 @@ ghost use lib.ListN.{length, getD};
 ghost use lib.Dec.{leb, ltb};
 ghost use Rattle.base.specs.Tests.{_and_, pick, some};
 ghost use Rattle.base.specs.Lists.{part, pack, unpack};
-ghost use Rattle.nest.proofs.Accepted.{Accepted};
+ghost use Rattle.nest.specs.Accepted.{Accepted};
 ghost use Rattle.nest.specs.Nest.{cells, tiles};
 ghost use Rattle.plan.specs.Messages.{slots, slotParcel};
 ghost use Rattle.layout.specs.Sizes.{Sized};

@@ -14,7 +14,7 @@ use Rattle.base.proofs.Tests.{every-all}
 use Rattle.base.proofs.Select.{those-in}
 use Rattle.machine.specs.Plan.{Message, count, senderOf, takerOf, heldBy, duesOf}
 use Rattle.nest.specs.declared.Nest.{Nest}
-use Rattle.nest.proofs.Accepted.{Accepted}
+use Rattle.nest.specs.Accepted.{Accepted}
 use Rattle.nest.specs.Nest.{lengthOf, tileLength, component, cells, tiles}
 use Rattle.plan.specs.Geometry.{cellAt, cellPlace, tilePlace, tileOf, hasRead, readAt, readsOf}
 use Rattle.plan.specs.Messages.{two, directions, ahead, parcel, taker, slots, slotTile, slotDirection, slotParcel, slotTaker, messagesTo, planOf}

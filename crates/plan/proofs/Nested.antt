@@ -20,7 +20,7 @@ use Rattle.machine.specs.Plan.{Plan, Sound}
 use Rattle.machine.specs.Machine.{sweep}
 use Rattle.machine.proofs.Values.{stored-right, sweep-fits, sweep-length}
 use Rattle.nest.specs.declared.Nest.{Nest}
-use Rattle.nest.proofs.Accepted.{Accepted}
+use Rattle.nest.specs.Accepted.{Accepted}
 use Rattle.nest.specs.Nest.{lengthOf, tileLength, component, weight, tileCount, cells, tiles}
 use Rattle.plan.specs.Geometry.{rank, place, cellAt, cellPlace, tileAt, tilePlace, cellsOf, hasRead, readAt, value}
 use Rattle.plan.specs.Messages.{planOf}

@@ -14,7 +14,7 @@ use Rattle.base.proofs.Tests.{pick-true, pick-false}
 use Rattle.base.proofs.Select.{keep-in}
 use Rattle.machine.specs.Plan.{tilesOf}
 use Rattle.nest.specs.declared.Nest.{Nest}
-use Rattle.nest.proofs.Accepted.{Accepted}
+use Rattle.nest.specs.Accepted.{Accepted}
 use Rattle.nest.specs.Nest.{lengthOf, tileLength, processorCount, tileCount, cells, tiles, processors}
 use Rattle.plan.specs.Geometry.{rank, place, cellAt, cellPlace, tileAt, tilePlace, cellsOf}
 use Rattle.plan.specs.Messages.{two, directions, ahead, planOf}

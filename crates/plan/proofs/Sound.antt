@@ -14,7 +14,7 @@ use Rattle.base.proofs.Tests.{sum-same}
 use Rattle.base.proofs.Select.{in-map, map-in, keep-in, in-keep, keep-rising}
 use Rattle.machine.specs.Plan.{Message, Plan, noMessage, message, count, senderOf, takerOf, heldBy, Knows, Sound}
 use Rattle.nest.specs.declared.Nest.{Nest}
-use Rattle.nest.proofs.Accepted.{Accepted}
+use Rattle.nest.specs.Accepted.{Accepted}
 use Rattle.nest.specs.Nest.{component, weight, cells, tiles}
 use Rattle.plan.specs.Geometry.{rank, tilePlace, tileOf, cellsOf, processorOf, hasRead, readAt, readsOf, value}
 use Rattle.plan.specs.Messages.{two, directions, ahead, parcel, taker, slots, slotTile, slotDirection, slotParcel, slotTaker, slotMessage, messages, planOf}

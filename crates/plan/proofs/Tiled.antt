@@ -15,7 +15,7 @@ use Rattle.machine.specs.Plan.{Plan, Sound}
 use Rattle.machine.specs.Machine.{sweep}
 use Rattle.machine.proofs.Values.{stored-right, sweep-fits, sweep-length}
 use Rattle.nest.specs.declared.Nest.{Nest}
-use Rattle.nest.proofs.Accepted.{Accepted}
+use Rattle.nest.specs.Accepted.{Accepted}
 use Rattle.nest.specs.Nest.{lengthOf, tileLength, tileCount, cells, tiles}
 use Rattle.plan.specs.Geometry.{cellAt, tileOf, cellsOf, readsOf, value}
 use Rattle.plan.specs.Messages.{planOf}

@@ -12,7 +12,7 @@ use Rattle.base.specs.Lists.{part, put}
 use Rattle.base.proofs.Lists.{length-put, part-length, part-put-same, part-put-before}
 use Rattle.machine.specs.Machine.{stateOf, collected}
 use Rattle.nest.specs.declared.Nest.{Nest}
-use Rattle.nest.proofs.Accepted.{Accepted}
+use Rattle.nest.specs.Accepted.{Accepted}
 use Rattle.nest.specs.Nest.{lengthOf, tileLength, cells, processors}
 use Rattle.plan.specs.Geometry.{place, cellPlace, tileOf, processorOf}
 use Rattle.plan.specs.Messages.{planOf}

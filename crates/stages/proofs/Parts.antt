@@ -22,7 +22,7 @@ use Rattle.nest.specs.declared.Nest.{Nest}
 use Rattle.nest.specs.Nest.{cells}
 use Rattle.plan.specs.Messages.{slotParcel, messages, planOf}
 use Rattle.table.specs.declared.Place.{Place}
-use Rattle.table.specs.Table.{Located}
+use Rattle.table.specs.Table.{FoundAt}
 
 -- ---- parts
 
@@ -53,9 +53,9 @@ room n b c m l h e q = rw (q, e) (piece-fits m n b h)
 
 -- ---- messages
 
-module _ (x : Nest) (m : ℕ) (r : Place) (q : Located x m r) where
-  pub placed-self : Located x (r .number) r
-  placed-self = subst (λ (k : ℕ). Located x k r) (sym (q .number)) q
+module _ (x : Nest) (m : ℕ) (r : Place) (q : FoundAt x m r) where
+  pub placed-self : FoundAt x (r .number) r
+  placed-self = subst (λ (k : ℕ). FoundAt x k r) (sym (q .number)) q
 
   held-is : heldBy (planOf x) m ≡ slotParcel x (r .slot)
   held-is = ap (λ (z : Message). z .cells) (q .is)
@@ -126,7 +126,7 @@ module _ (x : Nest) (tile : ℕ) (buffer memory₀ status₀ : List ℕ) (m : �
   gather-start e = record { low = omega arith; all = e; long = refl; longStatus = refl; memories = refl; statuses = refl }
 
   pub gather-again : (memory memory′ status : List ℕ) (j : ℕ) (r : Place) → Gathering x tile buffer memory₀ status₀ memory status m j → j < m
-      → Located x (getD (duesOf (planOf x) tile) j 0) r → length memory′ ≡ length memory
+      → FoundAt x (getD (duesOf (planOf x) tile) j 0) r → length memory′ ≡ length memory
       → memory′ ≡ unpack memory (heldBy (planOf x) (r .number)) (placeOf (planOf x) buffer (r .number))
       → Gathering x tile buffer memory₀ status₀ memory′ (set status (r .number) 3) m (j + 1)
   gather-again memory memory′ status j r g l q k e =
@@ -158,7 +158,7 @@ pub record Looking (x : Nest) (tile : ℕ) (status : List ℕ) (m j : ℕ) : Typ
   pub is : allAt status 2 (drop j (duesOf (planOf x) tile)) ≡ allAt status 2 (duesOf (planOf x) tile)
 
 module _ (x : Nest) (tile : ℕ) (status : List ℕ) (m j : ℕ) (g : Looking x tile status m j) where
-  pub look-again : (r : Place) → j < m → Located x (getD (duesOf (planOf x) tile) j 0) r → getD status (r .number) 0 ≡ 2 → Looking x tile status m (j + 1)
+  pub look-again : (r : Place) → j < m → FoundAt x (getD (duesOf (planOf x) tile) j 0) r → getD status (r .number) 0 ≡ 2 → Looking x tile status m (j + 1)
   look-again r l q e =
       record {
         low = omega arith;
@@ -166,7 +166,7 @@ module _ (x : Nest) (tile : ℕ) (status : List ℕ) (m j : ℕ) (g : Looking x 
         is = all-turn (duesOf (planOf x) tile) j status 2 (omega (arith, g .all)) (ap (λ (i : ℕ). getD status i 0) (sym (q .number)) ∙ e) ∙ g .is;
       }
 
-  pub look-no : (r : Place) → j < m → Located x (getD (duesOf (planOf x) tile) j 0) r → getD status (r .number) 0 ≢ 2
+  pub look-no : (r : Place) → j < m → FoundAt x (getD (duesOf (planOf x) tile) j 0) r → getD status (r .number) 0 ≢ 2
       → false ≡ allAt status 2 (duesOf (planOf x) tile)
   look-no r l q e =
       sym (all-no (duesOf (planOf x) tile) j status 2 (omega (arith, g .all)) (λ z. e (ap (λ (i : ℕ). getD status i 0) (q .number) ∙ z))) ∙ g .is

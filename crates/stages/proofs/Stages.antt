@@ -19,7 +19,7 @@ use Rattle.nest.specs.Nest.{cells}
 use Rattle.plan.specs.Geometry.{cellsOf, value}
 use Rattle.plan.specs.Messages.{messages, planOf}
 use Rattle.table.specs.declared.Place.{Place}
-use Rattle.table.specs.Table.{Located}
+use Rattle.table.specs.Table.{FoundAt}
 use Rattle.stages.specs.Progress.{progressOnly}
 use Rattle.stages.proofs.Parts.{piece-back, mid-is}
 
@@ -46,7 +46,7 @@ module _ (x : Nest) (s : State) (b t k : ℕ) (e : k ≡ cells x) where
       rw (g, c, piece-back (s .memories) ys (λ z. storeAll (value x source) z (cellsOf x t)) b k (cells x) e h l q)
 
   pub sent-is : (sent n : ℕ) (r : Place) (ys progress : List ℕ) → sent ≡ sentOf s b → sent < length (sendsOf (planOf x) t)
-      → Located x (getD (sendsOf (planOf x) t) sent 0) r → n ≡ length (sendsOf (planOf x) t)
+      → FoundAt x (getD (sendsOf (planOf x) t) sent 0) r → n ≡ length (sendsOf (planOf x) t)
       → ys ≡ put (s .buffer) (offset (messages x) (r .number))
       (pack (take (b * k + k - b * k) (drop (b * k) (s .memories))) (heldBy (planOf x) (r .number)))
       → progress ≡ pick (ltb (sent + 1) n) (setProgress (s .progress) b (finishedOf s b) 2 (sent + 1)) (setProgress (s .progress) b (finishedOf s b + 1) 0 0)

@@ -11,7 +11,7 @@ ghost use Rattle.machine.specs.Machine.{stateOf, placeOf, setProgress, fitRecor
 ghost use Rattle.nest.specs.Nest.{cells, tiles, processors};
 ghost use Rattle.plan.specs.Messages.{messages, planOf};
 ghost use Rattle.layout.specs.Sizes.{Sized};
-ghost use Rattle.table.specs.Table.{Table, Located};
+ghost use Rattle.table.specs.Table.{Table, FoundAt};
 ghost use Rattle.stages.specs.Progress.{progressOnly, setRecord};
 use base::word_index;
 use layout::Sizes;
@@ -30,7 +30,7 @@ use values::calculate;
 
 // One message from its place in the buffer into one processor's memory.
 fn take_message(nest: Nest, sizes: Sizes, memory: &mut [u32], buffer: &[u32], place: Place)
-    requires { ⌜ Sized nest sizes × Located nest (place .number) place ⌝ }
+    requires { ⌜ Sized nest sizes × FoundAt nest (place .number) place ⌝ }
     requires { ⌜ (length (now memory) ≡ cells nest) × (length (now buffer) ≡ words (planOf nest)) ⌝ }
     ensures { λ _. ⌜ now (memory .exit)
         ≡ unpack (now (memory .entry)) (heldBy (planOf nest) (place .number)) (placeOf (planOf nest) (now (buffer .entry)) (place .number)) ⌝ }
@@ -169,7 +169,7 @@ pub fn calculate_stage(
 
 // One message from a processor's memory into its place in the buffer.
 fn put_message(nest: Nest, sizes: Sizes, memory: &[u32], buffer: &mut [u32], place: Place)
-    requires { ⌜ Sized nest sizes × Located nest (place .number) place ⌝ }
+    requires { ⌜ Sized nest sizes × FoundAt nest (place .number) place ⌝ }
     requires { ⌜ (length (now memory) ≡ cells nest) × (length (now buffer) ≡ words (planOf nest)) ⌝ }
     ensures { λ _. ⌜ now (buffer .exit)
         ≡ put (now (buffer .entry)) (offset (messages nest) (place .number)) (pack (now (memory .entry)) (heldBy (planOf nest) (place .number))) ⌝ }

@@ -14,7 +14,7 @@ use Rattle.base.proofs.Numbers.{Numbered, first-true, first-false, first-some, 
 use Rattle.machine.specs.Plan.{Message, words, count, senderOf, takerOf, heldBy}
 use Rattle.nest.specs.declared.Nest.{Nest}
 use Rattle.nest.specs.declared.Reading.{Reading}
-use Rattle.nest.proofs.Accepted.{Accepted}
+use Rattle.nest.specs.Accepted.{Accepted}
 use Rattle.nest.specs.Nest.{tiles}
 use Rattle.nest.specs.Nest.{readLines, nestLines, nestOf, readingOf}
 use Rattle.plan.specs.Geometry.{processorOf}
@@ -25,12 +25,12 @@ use Rattle.layout.specs.Sizes.{endAt}
 use Rattle.table.specs.declared.Place.{Place}
 use Rattle.table.specs.declared.MessageLine.{MessageLine}
 use Rattle.table.specs.declared.Figures.{Figures}
-use Rattle.table.specs.Table.{Located}
+use Rattle.table.specs.Table.{FoundAt}
 use Rattle.table.specs.Summary.{asFigures, figuresOf, summaryOf, lineOf, noLine, messageLines, lineIf, messageLineOf}
 
 -- ---- the line of a message
 
-module _ (n : Nest) (m : ℕ) (r : Place) (a : Accepted n) (p : Located n m r) where
+module _ (n : Nest) (m : ℕ) (r : Place) (a : Accepted n) (p : FoundAt n m r) where
   pub from-is : senderOf (planOf n) m ≡ endAt n 0 (r .slot)
   unfolding endAt
   from-is = ap (λ (x : Message). x .sender) (p .is)

@@ -16,7 +16,7 @@ use Rattle.base.proofs.Tests.{same-test, one-true, one-false, sum-same, sum-les
 use Rattle.base.proofs.Select.{those-at}
 use Rattle.machine.specs.Plan.{count}
 use Rattle.nest.specs.declared.Nest.{Nest}
-use Rattle.nest.proofs.Accepted.{Accepted}
+use Rattle.nest.specs.Accepted.{Accepted}
 use Rattle.nest.specs.Nest.{tiles}
 use Rattle.plan.specs.Messages.{directions, slots, slotTile, slotParcel, messagesTo, planOf}
 use Rattle.plan.proofs.Parcels.{slotTile-low}
@@ -24,7 +24,7 @@ use Rattle.plan.proofs.Slots.{number-low}
 use Rattle.layout.specs.declared.Sizes.{Sizes}
 use Rattle.layout.specs.Sizes.{Sized, Stepped, endAt}
 use Rattle.layout.proofs.Cells.{directions-pos}
-use Rattle.table.specs.Table.{Summing, Only, Ends, Located, endOf, atEnd, countBelow}
+use Rattle.table.specs.Table.{Summing, Only, Ends, FoundAt, endOf, atEnd, countBelow}
 use Rattle.table.proofs.Scans.{seen, seen-none, seen-hit, seen-miss, end-is, found, slots-are, directions-few}
 
 -- ---- the only slot in a direction
@@ -253,7 +253,7 @@ module _ (n : Nest) (ok : Accepted n) (side tile : ℕ) (ends : List ℕ) (x : E
 
     pub found-at : (s : ℕ) → s < slots n → (d : ℕ) → d < directions n → getD ends d 0 ≡ s → (k : ℕ) → k ≡ directions n → countBelow ends k s ≡ j
         → (m o w : ℕ) → Summing n s m o → w ≡ length (slotParcel n s)
-        → Located n (getD (atEnd side (planOf n) tile) j 0) (record { slot = s; number = m; offset = o; words = w })
+        → FoundAt n (getD (atEnd side (planOf n) tile) j 0) (record { slot = s; number = m; offset = o; words = w })
     found-at s l d h e k is c m o w y q =
         let t = x .each d h .there (rw e l) in
         let f : 0 < length (slotParcel n s) = rw e at (t .1 .1) in

@@ -12,7 +12,7 @@ use Rattle.base.specs.Tests.{those, keep, product}
 use Rattle.base.proofs.Select.{those-more, those-none, those-at}
 use Rattle.machine.specs.Plan.{Message, offset, words, count}
 use Rattle.nest.specs.declared.Nest.{Nest}
-use Rattle.nest.proofs.Accepted.{Accepted}
+use Rattle.nest.specs.Accepted.{Accepted}
 use Rattle.nest.specs.Nest.{tiles}
 use Rattle.plan.specs.Messages.{two, directions, parcel, slots, slotParcel, slotMessage, messagesTo, planOf}
 use Rattle.plan.proofs.Slots.{total, total-append, total-one, slotParcel-few, step-none, step-one, at-number, number-low, offset-is, room-is}
@@ -20,7 +20,7 @@ use Rattle.layout.specs.declared.Sizes.{Sizes}
 use Rattle.layout.specs.Sizes.{Sized, endAt}
 use Rattle.layout.proofs.Cells.{directions-pos}
 use Rattle.parcels.specs.Twins.{Twin}
-use Rattle.table.specs.Table.{Table, Filling, Summing, Located, endOf}
+use Rattle.table.specs.Table.{Table, Filling, Summing, FoundAt, endOf}
 
 -- ---- the ends of a slot's message
 
@@ -175,7 +175,7 @@ summed n s m o a x h =
 
 -- the message of a slot is found there
 pub found : (n : Nest) (s m o w : ℕ) → Summing n s m o → s < slots n → w ≡ length (slotParcel n s) → 0 < w
-    → Located n (length (messagesTo n s)) (record { slot = s; number = m; offset = o; words = w })
+    → FoundAt n (length (messagesTo n s)) (record { slot = s; number = m; offset = o; words = w })
 found n s m o w x l e h =
     let f : 0 < length (slotParcel n s) = omega arith in
     record {
@@ -226,11 +226,11 @@ seek-turn n m s k o w k′ a x l e (inr (h, q)) =
     record { before = omega (arith, x .before); sums = sum-turn n s k o w k′ a (x .sums) l e (inr (h, q)) }
 
 pub seek-found : (n : Nest) (m s k o w : ℕ) → Seeking n m s k o → s < slots n → w ≡ length (slotParcel n s) → 0 < w → k ≡ m
-    → Located n m (record { slot = s; number = m; offset = o; words = w })
+    → FoundAt n m (record { slot = s; number = m; offset = o; words = w })
 seek-found n m s k o w x l e h q =
     let z : m ≡ length (messagesTo n s) = sym q ∙ x .sums .number in
     let y : Summing n s m o = record { low = x .sums .low; number = z; few = omega (arith, x .sums .few); offset = x .sums .offset; small = x .sums .small } in
-    subst (λ (i : ℕ). Located n i (record { slot = s; number = m; offset = o; words = w })) (sym z) (found n s m o w y l e h)
+    subst (λ (i : ℕ). FoundAt n i (record { slot = s; number = m; offset = o; words = w })) (sym z) (found n s m o w y l e h)
 
 pub seek-nowhere : (n : Nest) (m s k o : ℕ) → Seeking n m s k o → slots n ≤ s → m < count (planOf n) → ⊥
 seek-nowhere n m s k o x h q =

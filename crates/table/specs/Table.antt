@@ -55,7 +55,7 @@ unfoldable pub countBelow : List ℕ → ℕ → ℕ → ℕ
 countBelow l n k = sum (λ d. one (ltb (getD l d 0) k)) n
 
 -- message m is found at r
-pub record Located (x : Nest) (m : ℕ) (r : Place) : Type 0 where
+pub record FoundAt (x : Nest) (m : ℕ) (r : Place) : Type 0 where
   pub number : r .number ≡ m
   pub low : m < count (planOf x)
   pub offset : r .offset ≡ machine.offset (messages x) m

@@ -3,13 +3,13 @@ ghost use mathlib.Core.Path.{_≡_};
 ghost use Prim.Native.Nat.{ℕ, _+_, _*_, _≤_, _<_};
 ghost use lib.ListN.{length, getD};
 ghost use Rattle.machine.specs.Plan.{count, words, tilesOf};
-ghost use Rattle.nest.proofs.Accepted.{Accepted};
+ghost use Rattle.nest.specs.Accepted.{Accepted};
 ghost use Rattle.nest.specs.Nest.{tiles};
 ghost use Rattle.plan.specs.Messages.{directions, slots, slotParcel, planOf};
 ghost use Rattle.plan.specs.Rows.{refused};
 ghost use Rattle.layout.specs.Sizes.{Sized, Stepped};
 ghost use Rattle.parcels.specs.Twins.{Twin};
-ghost use Rattle.table.specs.Table.{Table, Filling, Summing, Only, Ends, Located, atEnd, countBelow};
+ghost use Rattle.table.specs.Table.{Table, Filling, Summing, Only, Ends, FoundAt, atEnd, countBelow};
 ghost use Rattle.table.specs.Summary.{asFigures, figuresOf, summaryOf, lineOf, noLine, messageLineOf};
 use layout::Sizes;
 use nest::Nest;
@@ -230,7 +230,7 @@ pub fn nth_at(
 ) -> Place
     requires { ⌜ Sized nest sizes × Table nest (now lens) ⌝ }
     requires { ⌜ j < length (atEnd side (planOf nest) tile) ⌝ }
-    ensures { λ r. ⌜ Located nest (getD (atEnd side (planOf nest) tile) j 0) r ⌝ }
+    ensures { λ r. ⌜ FoundAt nest (getD (atEnd side (planOf nest) tile) j 0) r ⌝ }
 {
     let ends = slots_at(nest, sizes, lens, tile, side);
     let n = sizes.directions;
@@ -261,7 +261,7 @@ pub fn nth_at(
 pub fn nth(nest: Nest, sizes: Sizes, lens: &[u16; 7168], m: usize) -> Place
     requires { ⌜ Sized nest sizes × Table nest (now lens) ⌝ }
     requires { ⌜ m < count (planOf nest) ⌝ }
-    ensures { λ r. ⌜ Located nest m r ⌝ }
+    ensures { λ r. ⌜ FoundAt nest m r ⌝ }
 {
     let slots = sizes.tiles * sizes.directions;
     let mut slot = 0;

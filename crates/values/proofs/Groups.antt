@@ -11,7 +11,7 @@ use Rattle.base.specs.Lists.{In, Rising, storeAll}
 use Rattle.base.proofs.Select.{in-left, in-right}
 use Rattle.machine.specs.Plan.{Sound}
 use Rattle.nest.specs.declared.Nest.{Nest}
-use Rattle.nest.proofs.Accepted.{Accepted}
+use Rattle.nest.specs.Accepted.{Accepted}
 use Rattle.nest.specs.Nest.{lengthOf, cells, tiles}
 use Rattle.plan.specs.Geometry.{rank, cellsOf, value}
 use Rattle.plan.specs.Messages.{planOf}

@@ -13,7 +13,7 @@ use borrow.Author.Tests.{leb-true, leb-false, le-leb, lt-leb}
 use Rattle.base.specs.Tests.{pick, every}
 use Rattle.base.proofs.Tests.{pick-true, pick-false, every-at, every-all}
 use Rattle.nest.specs.declared.Nest.{Nest}
-use Rattle.nest.proofs.Accepted.{Accepted}
+use Rattle.nest.specs.Accepted.{Accepted}
 use Rattle.nest.specs.Nest.{component, lengthOf, cells}
 use Rattle.layout.specs.declared.Cell.{Cell}
 use Rattle.layout.specs.Places.{Has, Located}

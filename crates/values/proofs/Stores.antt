@@ -13,7 +13,7 @@ use Rattle.base.proofs.Lists.{store-length}
 use Rattle.machine.specs.Plan.{Plan, Sound}
 use Rattle.machine.specs.Machine.{sweepTo, sweep}
 use Rattle.nest.specs.declared.Nest.{Nest}
-use Rattle.nest.proofs.Accepted.{Accepted}
+use Rattle.nest.specs.Accepted.{Accepted}
 use Rattle.nest.specs.Nest.{lengthOf, cells, tiles}
 use Rattle.plan.specs.Geometry.{cellsOf, value}
 use Rattle.plan.specs.Messages.{planOf}

@@ -18,7 +18,7 @@ use Rattle.base.proofs.Lists.{AllBelow, store-length}
 use Rattle.base.proofs.Select.{in-append, in-left, in-right}
 use Rattle.machine.specs.Plan.{Sound}
 use Rattle.nest.specs.declared.Nest.{Nest}
-use Rattle.nest.proofs.Accepted.{Accepted}
+use Rattle.nest.specs.Accepted.{Accepted}
 use Rattle.nest.specs.Nest.{cells, weight}
 use Rattle.plan.specs.Geometry.{cellPlace, hasRead, readAt, readsOf, value}
 use Rattle.plan.specs.Messages.{planOf}

@@ -14,7 +14,7 @@ use borrow.Author.Tests.{le-leb, lt-leb, leb-true}
 use Rattle.base.specs.Tests.{_and_, pick, every, sum, product}
 use Rattle.base.proofs.Tests.{every-at, every-not, sum-same, pick-true, pick-false}
 use Rattle.nest.specs.declared.Nest.{Nest}
-use Rattle.nest.proofs.Accepted.{Accepted}
+use Rattle.nest.specs.Accepted.{Accepted}
 use Rattle.nest.specs.Nest.{lengthOf, component, weight, cells}
 use Rattle.plan.specs.Geometry.{rank, place, cellAt, cellPlace, hasRead, readAt, value}
 use Rattle.plan.proofs.Rank.{place-last, rank-same}

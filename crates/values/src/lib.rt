@@ -7,7 +7,7 @@ ghost use mathlib.Core.Bool.{true};
 ghost use Rattle.base.specs.Tests.{_and_, pick, every};
 ghost use Rattle.base.specs.Lists.{storeAll};
 ghost use Rattle.machine.specs.Machine.{sweep};
-ghost use Rattle.nest.proofs.Accepted.{Accepted};
+ghost use Rattle.nest.specs.Accepted.{Accepted};
 ghost use Rattle.nest.specs.Nest.{component, cells, tiles};
 ghost use Rattle.plan.specs.Geometry.{cellsOf, value};
 ghost use Rattle.plan.specs.Messages.{planOf};

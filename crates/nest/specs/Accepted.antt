@@ -1,4 +1,5 @@
--- What the layers above may use of a nest that was accepted; Facts proves it of every recipe that reading gives 0.
+-- What every accepted nest has, and all that the layers above use of it; contracts of functions below the calls cite it.
+-- Follows from lines 2 to 8 of document 01, "Numbers a call gives"; nothing a reader must believe.
 use Prim.Native.Nat.{ℕ, _≤_, _<_}
 use Rattle.nest.specs.declared.Nest.{Nest}
 use Rattle.nest.specs.Nest.{lengthOf, tileLength, processorCount, component, weight, cells, tiles, processors}
