@@ -1,25 +1,26 @@
 -- The demands hold of the calls as exported, board records as structs.
-use Prim.Native.Nat.{ℕ, _+_, _*_}
+use Prim.Native.Nat.{ℕ, _+_, _*_, _<_}
 use mathlib.Core.Path.{_≡_, refl, sym, ap, subst, _∙_}
 use mathlib.Core.Bool.{Bool, true, false}
-use mathlib.Core.List.{List, [], _∷_}
+use mathlib.Core.List.{List, [], _∷_, _++_}
 use native.Mathlib.Omega.{arith}
 use lib.ListN.{length, set, replicate, length-set, length-replicate}
 use lib.Dec.{eqb}
 use borrow.Author.Tests.{eqb-true}
 use Rattle.base.specs.Tests.{_and_, not, pick}
 use Rattle.base.specs.Lists.{Bytes}
-use Rattle.base.specs.Numbers.{Line, line}
+use Rattle.base.specs.Numbers.{Line, line, firstOf}
 use Rattle.base.proofs.Tests.{both, true-not}
 use Rattle.base.proofs.Numbers.{none-first, first-behind}
-use Rattle.machine.specs.Plan.{Plan}
+use Rattle.machine.specs.Plan.{Plan, takerOf, heldBy}
 use Rattle.machine.specs.Machine as machine
-use Rattle.machine.specs.Machine.{State, Answered, stateOf, setProgress, afterSends, Action, gather, calculate, send, carryOut, collectLines}
+use Rattle.machine.specs.Machine.{State, Answered, stateOf, setProgress, afterSends, Action, gather, calculate, send, carryOut, nextAction, collectLines}
 use Rattle.machine.specs.Runs.{Event, turnOf, deliveryOf, stateAfter, answersTo, Demand3}
+use Rattle.machine.specs.Words.{wordAt, mailAt, cellOf, Does, Did, Posted}
 use Rattle.machine.proofs.RunLaws.{number-of, after-of}
 use Rattle.nest.specs.Nest.{readLines}
 use Rattle.engine.specs.Calls.{answer, recipe, areas, freshCall, turnCall, deliverCall, collectCall}
-use Rattle.engine.specs.Demands.{Fixed, calls}
+use Rattle.engine.specs.Demands.{Fixed, calls, Demand2}
 use Rattle.engine.proofs.Lines.{numbered}
 use Rattle.engine.proofs.AsSteps.{front}
 use Rattle.engine.proofs.Demands as engine
@@ -27,7 +28,7 @@ use Rattle.records.specs.declared.Progress.{Progress}
 use Rattle.records.specs.Records.{flatWords}
 use Rattle.records.proofs.Words.{length-words, unflat, words-unflat, injective}
 use Rattle.calls.specs.PlanCalls.{summaryCall, messageCall}
-use Rattle.calls.specs.OverRecords.{Areas, inWords, FreshGave, EventGave, CollectGave, EventsGave, FixedAreas, FixedCalls, FixedRun, OverRecords}
+use Rattle.calls.specs.OverRecords.{Areas, inWords, FreshGave, EventGave, CollectGave, EventsGave, namedNext, FixedAreas, FixedCalls, ExactCalls, FixedRun, OverRecords}
 
 -- ---- the words after a call are records' words
 
@@ -147,7 +148,7 @@ module _ (bytes source : List ℕ) where
         one-event = λ a b c e n k h g. one-answer b c n k (event-call a b e n h) (event-call a c e k g);
       }
 
-  -- ---- demand 3
+  -- ---- a run over records is a run over words
 
   numbers-are : {a b : Areas} {es : List Event} {ns : List ℕ} → EventsGave bytes source a es ns b → ns ≡ answersTo (calls bytes source) (inWords a) es
   unfolding answersTo
@@ -163,6 +164,11 @@ module _ (bytes source : List ℕ) where
   words-are (EventsGave.next {a = a} {b = b} {e = e} {es = es} {n = n} h g) =
       words-are g ∙ ap (λ (s : State). stateAfter (calls bytes source) s es) (after-of (event-call a b e n h))
 
+  joined : {a b d : Areas} {es ts : List Event} {ns ks : List ℕ}
+      → EventsGave bytes source a es ns b → EventsGave bytes source b ts ks d → EventsGave bytes source a (es ++ ts) (ns ++ ks) d
+  joined EventsGave.none k = k
+  joined (EventsGave.next h g) k = EventsGave.next h (joined g k)
+
   -- collecting that gave 0 was lent a grid of the right length
   collect-length : (s : State) (old : List ℕ) → collectCall bytes source s old .number ≡ 0 → length old ≡ recipe bytes .cells
   unfolding collectCall
@@ -173,6 +179,64 @@ module _ (bytes source : List ℕ) where
     where
       nine : Bool
       nine = not (areas (recipe bytes) source s and eqb (length old) (recipe bytes .cells))
+
+  -- ---- demand 2
+
+  module _ (small : Bytes bytes) (z : firstOf (readLines bytes) ≡ 0) where
+    abbrev over : Demand2 bytes
+    over = engine.demands .two bytes small z
+
+    turned : (a b : Areas) (p : ℕ) → EventGave bytes source a (turnOf p) 0 b
+        → Does (recipe bytes) source (inWords a) (inWords b) p (nextAction (recipe bytes) (inWords a) p)
+    turned a b p h = rw (after-of h) (over .turned source (inWords a) p (sym (number-of h)))
+
+    -- a turn of p that gave 0 after the events `before`, lent the areas b
+    module _ (a start : Areas) (fresh : FreshGave bytes source a 0 start) where
+      did : {b : Areas} {before : List Event} {ns : List ℕ} (c : Areas) (p : ℕ) (k : Action) → EventsGave bytes source start before ns b
+          → EventGave bytes source b (turnOf p) 0 c → namedNext bytes p before ns ≡ k
+          → Did (calls bytes source) (inWords start) (recipe bytes) before p k
+      did {b = b} c p k g t n =
+          record {
+            gave = ap (λ (s : State). calls bytes source s (turnOf p) .number) (sym (words-are g)) ∙ sym (number-of (event-call b c (turnOf p) 0 t));
+            named = rw (numbers-are g) at n;
+          }
+
+      posted : (before : List Event) (p m : ℕ) → Did (calls bytes source) (inWords start) (recipe bytes) before p (send m)
+          → Posted (calls bytes source) (inWords start) (recipe bytes) before p m
+      posted before p m =
+          subst (λ (s : State). Did (calls bytes source) s (recipe bytes) before p (send m) → Posted (calls bytes source) s (recipe bytes) before p m)
+          (sym (after-of fresh)) (over .posted source (inWords a) (sym (number-of fresh)) before p m)
+
+      module _ (b c d : Areas) (before then : List Event) (ns ks : List ℕ) (p m q : ℕ) (g : EventsGave bytes source start before ns b)
+          (t : EventGave bytes source b (turnOf p) 0 c) (n : namedNext bytes p before ns ≡ send m) (k : EventsGave bytes source c then ks d)
+          (h : q < length (heldBy (recipe bytes) m)) where
+        all : EventsGave bytes source start (before ++ (turnOf p ∷ then)) (ns ++ (0 ∷ ks)) d
+        all = joined g (EventsGave.next t k)
+
+        stays : mailAt (recipe bytes) (inWords d) m q ≡ wordAt (recipe bytes) (inWords b) p (cellOf (recipe bytes) m q)
+        stays = rw (words-are all, words-are g) (posted before p m (did c p (send m) g t n) .stays then q h)
+
+        arrives : (e : Areas) (r : ℕ) → EventGave bytes source d (turnOf r) 0 e
+            → namedNext bytes r (before ++ (turnOf p ∷ then)) (ns ++ (0 ∷ ks)) ≡ gather (takerOf (recipe bytes) m)
+            → wordAt (recipe bytes) (inWords e) r (cellOf (recipe bytes) m q) ≡ wordAt (recipe bytes) (inWords b) p (cellOf (recipe bytes) m q)
+        arrives e r u o =
+            ap (λ (s : State). wordAt (recipe bytes) s r (cellOf (recipe bytes) m q))
+            (after-of (event-call d e (turnOf r) 0 u) ∙ ap (λ (s : State). calls bytes source s (turnOf r) .after) (words-are all))
+            ∙ posted before p m (did c p (send m) g t n) .arrives then r q h (did e r (gather (takerOf (recipe bytes) m)) all u o)
+            ∙ ap (λ (s : State). wordAt (recipe bytes) s p (cellOf (recipe bytes) m q)) (sym (words-are g))
+
+    exact-calls : ExactCalls bytes source
+    exact-calls =
+        record {
+          plan = over;
+          turned = turned;
+          unpacked = λ a b p t h n m q i l. rw (after-of h) (over .unpacked source (inWords a) p t (sym (number-of h)) n m q i l);
+          stays = λ a start b c d before then ns ks p m q f g t n k h. stays a start f b c d before then ns ks p m q g t n k h;
+          arrives = λ a start b c d e before then ns ks p r m q f g t n k h u o. arrives a start f b c d before then ns ks p m q g t n k h e r u o;
+          nest = λ old grid array h l. after-of h ∙ over .nest source old array (sym (number-of h)) l;
+        }
+
+  -- ---- demand 3
 
   module _ (small : Bytes bytes) (a start b : Areas) (events : List Event) (numbers : List ℕ) (fresh : FreshGave bytes source a 0 start)
       (gave : EventsGave bytes source start events numbers b) where
@@ -215,4 +279,4 @@ module _ (bytes source : List ℕ) where
         }
 
 pub over-records : (bytes source : List ℕ) → OverRecords bytes source
-over-records bytes source = record { one = fixed-calls bytes source; three = fixed-run bytes source }
+over-records bytes source = record { one = fixed-calls bytes source; two = exact-calls bytes source; three = fixed-run bytes source }

@@ -3,18 +3,22 @@
 use Prim.Native.Nat.{ℕ, _<_}
 use mathlib.Core.Path.{_≡_}
 use mathlib.Core.Logic.{_≢_, _↔_}
-use mathlib.Core.List.{List, [], _∷_}
-use lib.ListN.{length, set}
+use mathlib.Core.List.{List, [], _∷_, _++_}
+use lib.ListN.{length, getD, set}
 use lib.Dec.{eqb}
-use Rattle.base.specs.Lists.{Bytes, countIf}
-use Rattle.base.specs.Numbers.{Line}
+use Rattle.base.specs.Lists.{In, Bytes, countIf}
+use Rattle.base.specs.Numbers.{Line, firstOf}
+use Rattle.machine.specs.Plan.{takerOf, heldBy, duesOf}
 use Rattle.machine.specs.Machine as machine
-use Rattle.machine.specs.Machine.{State, stateOf, carryOut, nextAction, collected}
-use Rattle.machine.specs.Runs.{Event, turnOf, deliveryOf, last, answers, total, Demand3}
+use Rattle.machine.specs.Machine.{State, Action, gather, send, stateOf, carryOut, nextAction, collected}
+use Rattle.machine.specs.Runs.{Event, turnOf, deliveryOf, last, answers, total, program, turnsOf, Demand3}
+use Rattle.machine.specs.Words.{wordAt, mailAt, cellOf, Does}
+use Rattle.nest.specs.Nest.{nestOf, readLines}
+use Rattle.plan.specs.Exact.{sequential, runNest}
 use Rattle.records.specs.declared.Progress.{Progress}
 use Rattle.records.specs.Records.{flatWords}
 use Rattle.engine.specs.Calls.{answer, recipe, freshCallLines, freshCall, turnCallLines, turnCall, deliverCallLines, deliverCall, collectCallLines, collectCall, sweepCallLines, sweepCall}
-use Rattle.engine.specs.Demands.{Fixed, calls}
+use Rattle.engine.specs.Demands.{Fixed, calls, Demand2}
 use Rattle.calls.specs.PlanCalls.{figureWords, summaryCallLines, summaryCall, lineWords, messageCallLines, messageCall}
 
 -- the lent areas that a step may change, records as structs; and their words
@@ -56,6 +60,10 @@ SummaryGave bytes old n out = answer n out ≡ summaryCall bytes old
 abbrev pub MessageGave : List ℕ → ℕ → List ℕ → ℕ → List ℕ → Type 0
 MessageGave bytes m old n out = answer n out ≡ messageCall bytes m old
 
+-- the action that processor p's program names after these events and their numbers
+abbrev pub namedNext : List ℕ → ℕ → List Event → List ℕ → Action
+namedNext bytes p events numbers = getD (program (recipe bytes) p) (turnsOf p events numbers) (gather 0)
+
 -- ---- demand 1
 
 -- a refusal leaves the very records
@@ -87,6 +95,34 @@ pub record FixedCalls (bytes source : List ℕ) : Type 0 where
   pub one-event : (a b c : Areas) (e : Event) (n k : ℕ)
       → EventGave bytes source a e n b → EventGave bytes source a e k c → (n ≡ k) × (b ≡ c)
 
+-- ---- demand 2, where calls are made: what is true of the plan alone is engine's
+
+pub record ExactCalls (bytes source : List ℕ) : Type 0 where
+  pub plan : Demand2 bytes
+  -- a turn that gave 0 did the rule of its action, word by word; a gather wrote every word of every message due to its cell
+  pub turned : (a b : Areas) (p : ℕ) → EventGave bytes source a (turnOf p) 0 b
+      → Does (recipe bytes) source (inWords a) (inWords b) p (nextAction (recipe bytes) (inWords a) p)
+  pub unpacked : (a b : Areas) (p t : ℕ) → EventGave bytes source a (turnOf p) 0 b → nextAction (recipe bytes) (inWords a) p ≡ gather t
+      → (m q : ℕ) → In m (duesOf (recipe bytes) t) → q < length (heldBy (recipe bytes) m)
+      → wordAt (recipe bytes) (inWords b) p (cellOf (recipe bytes) m q) ≡ mailAt (recipe bytes) (inWords a) m q
+  -- in a run a turn of p, lent b, sent m: whatever was called then, the message's words are what its cells had in p's memory,
+  pub stays : (a start b c d : Areas) (before then : List Event) (ns ks : List ℕ) (p m q : ℕ)
+      → FreshGave bytes source a 0 start → EventsGave bytes source start before ns b
+      → EventGave bytes source b (turnOf p) 0 c → namedNext bytes p before ns ≡ send m
+      → EventsGave bytes source c then ks d → q < length (heldBy (recipe bytes) m)
+      → mailAt (recipe bytes) (inWords d) m q ≡ wordAt (recipe bytes) (inWords b) p (cellOf (recipe bytes) m q)
+  -- and the taking tile's gather, by processor r, writes these
+  pub arrives : (a start b c d e : Areas) (before then : List Event) (ns ks : List ℕ) (p r m q : ℕ)
+      → FreshGave bytes source a 0 start → EventsGave bytes source start before ns b
+      → EventGave bytes source b (turnOf p) 0 c → namedNext bytes p before ns ≡ send m
+      → EventsGave bytes source c then ks d → q < length (heldBy (recipe bytes) m)
+      → EventGave bytes source d (turnOf r) 0 e
+      → namedNext bytes r (before ++ (turnOf p ∷ then)) (ns ++ (0 ∷ ks)) ≡ gather (takerOf (recipe bytes) m)
+      → wordAt (recipe bytes) (inWords e) r (cellOf (recipe bytes) m q) ≡ wordAt (recipe bytes) (inWords b) p (cellOf (recipe bytes) m q)
+  -- the sweep call leaves what the sequential nest leaves, from an array of any content
+  pub nest : (old grid array : List ℕ) → SweepGave bytes source old 0 grid → length array ≡ recipe bytes .cells
+      → grid ≡ runNest (nestOf bytes) source array (sequential (nestOf bytes))
+
 -- ---- demand 3: events from the areas `start` that a fresh start left, with their numbers; `b` are the areas after them
 
 abbrev pub stepsIn : List ℕ → ℕ
@@ -107,6 +143,7 @@ pub record FixedRun (bytes source : List ℕ) (start : Areas) (events : List Eve
 
 pub record OverRecords (bytes source : List ℕ) : Type 0 where
   pub one : FixedCalls bytes source
+  pub two : Bytes bytes → firstOf (readLines bytes) ≡ 0 → ExactCalls bytes source
   pub three : Bytes bytes → (a start b : Areas) (events : List Event) (numbers : List ℕ)
       → FreshGave bytes source a 0 start → EventsGave bytes source start events numbers b
       → FixedRun bytes source start events numbers b
