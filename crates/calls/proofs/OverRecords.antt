@@ -60,7 +60,8 @@ length-sends : (p : Plan) (s : State) (b t n : ℕ) → length (afterSends p s b
 unfolding afterSends
 length-sends p s b t n = picked _ _ _ (s .progress) (length-progress (s .progress) b _ _ _) (length-progress (s .progress) b _ _ _)
 
-length-carry : (p : Plan) (source : List ℕ) (s : State) (b : ℕ) (a : Action) → length (carryOut p source s b a .progress) ≡ length (s .progress)
+length-carry : (p : Plan) (source : List ℕ) (s : State) (b : ℕ) (a : Action)
+    → length (carryOut p source s b a .progress) ≡ length (s .progress)
 unfolding carryOut
 length-carry p source s b (gather t) = length-progress (s .progress) b _ _ _
 length-carry p source s b (calculate t) = length-sends p s b t 0
@@ -82,7 +83,8 @@ module _ (bytes source : List ℕ) (a : Areas) where
   whole-call : (e : Event) → Whole (calls bytes source (inWords a) e .after .progress)
   unfolding calls turnCall deliverCall
   whole-call (turnOf b) =
-      whole-pick _ _ (inWords a) (length (a .progress), length-carry (recipe bytes) source (inWords a) b _ ∙ length-words (a .progress)) whole
+      let e = length-carry (recipe bytes) source (inWords a) b _ ∙ length-words (a .progress) in
+      whole-pick _ _ (inWords a) (length (a .progress), e) whole
   whole-call (deliveryOf m) = whole-pick _ _ (inWords a) whole whole
 
 -- ---- demand 1
@@ -91,7 +93,8 @@ areas-fixed : (a b : Areas) → inWords a ≡ inWords b → a ≡ b
 areas-fixed a b e =
     ap (λ (l : List ℕ). at l (a .buffer) (a .progress) (a .status)) (ap (λ (s : State). s .memories) e)
     ∙ ap (λ (l : List ℕ). at (b .memories) l (a .progress) (a .status)) (ap (λ (s : State). s .buffer) e)
-    ∙ ap (λ (l : List Progress). at (b .memories) (b .buffer) l (a .status)) (injective (a .progress) (b .progress) (ap (λ (s : State). s .progress) e))
+    ∙ ap (λ (l : List Progress). at (b .memories) (b .buffer) l (a .status))
+    (injective (a .progress) (b .progress) (ap (λ (s : State). s .progress) e))
     ∙ ap (λ (l : List ℕ). at (b .memories) (b .buffer) (b .progress) l) (ap (λ (s : State). s .status) e)
   where
     at : List ℕ → List ℕ → List Progress → List ℕ → Areas
@@ -129,7 +132,9 @@ module _ (bytes source : List ℕ) where
   call-event a b (deliveryOf m) n h = h
 
   can-event : (a : Areas) (e : Event) → (n : ℕ) × ((b : Areas) × EventGave bytes source a e n b)
-  can-event a e = let r = can-answer (calls bytes source (inWords a) e) (whole-call bytes source a e) in (r .0, (r .1 .0, call-event a (r .1 .0) e (r .0) (r .1 .1)))
+  can-event a e =
+      let r = can-answer (calls bytes source (inWords a) e) (whole-call bytes source a e) in
+      (r .0, (r .1 .0, call-event a (r .1 .0) e (r .0) (r .1 .1)))
 
   fixed-calls : FixedCalls bytes source
   unfolding summaryCall messageCall
@@ -150,7 +155,8 @@ module _ (bytes source : List ℕ) where
 
   -- ---- a run over records is a run over words
 
-  numbers-are : {a b : Areas} {es : List Event} {ns : List ℕ} → EventsGave bytes source a es ns b → ns ≡ answersTo (calls bytes source) (inWords a) es
+  numbers-are : {a b : Areas} {es : List Event} {ns : List ℕ} → EventsGave bytes source a es ns b
+      → ns ≡ answersTo (calls bytes source) (inWords a) es
   unfolding answersTo
   numbers-are EventsGave.none = refl
   numbers-are (EventsGave.next {a = a} {b = b} {e = e} {es = es} {n = n} h g) =
@@ -158,7 +164,8 @@ module _ (bytes source : List ℕ) where
       ap (λ (l : List ℕ). n ∷ l) (numbers-are g ∙ ap (λ (s : State). answersTo (calls bytes source) s es) (after-of c))
       ∙ ap (λ (k : ℕ). k ∷ answersTo (calls bytes source) (calls bytes source (inWords a) e .after) es) (number-of c)
 
-  words-are : {a b : Areas} {es : List Event} {ns : List ℕ} → EventsGave bytes source a es ns b → inWords b ≡ stateAfter (calls bytes source) (inWords a) es
+  words-are : {a b : Areas} {es : List Event} {ns : List ℕ} → EventsGave bytes source a es ns b
+      → inWords b ≡ stateAfter (calls bytes source) (inWords a) es
   unfolding stateAfter
   words-are EventsGave.none = refl
   words-are (EventsGave.next {a = a} {b = b} {e = e} {es = es} {n = n} h g) =
@@ -174,7 +181,8 @@ module _ (bytes source : List ℕ) where
   unfolding collectCall
   collect-length s old z =
       let r = front (readLines bytes) (line 9 nine ∷ collectLines (recipe bytes) s) z in
-      let n = none-first 9 nine (collectLines (recipe bytes) s) (λ q. omega arith) (sym (first-behind (readLines bytes) _ (numbered bytes) r) ∙ z) in
+      let n = none-first 9 nine (collectLines (recipe bytes) s) (λ q. omega arith)
+      (sym (first-behind (readLines bytes) _ (numbered bytes) r) ∙ z) in
       eqb-true _ _ (both (true-not (n .0)) .1)
     where
       nine : Bool
@@ -197,14 +205,17 @@ module _ (bytes source : List ℕ) where
           → Did (calls bytes source) (inWords start) (recipe bytes) before p k
       did {b = b} c p k g t n =
           record {
-            gave = ap (λ (s : State). calls bytes source s (turnOf p) .number) (sym (words-are g)) ∙ sym (number-of (event-call b c (turnOf p) 0 t));
+            gave =
+                ap (λ (s : State). calls bytes source s (turnOf p) .number) (sym (words-are g))
+                ∙ sym (number-of (event-call b c (turnOf p) 0 t));
             named = rw (numbers-are g) at n;
           }
 
       posted : (before : List Event) (p m : ℕ) → Did (calls bytes source) (inWords start) (recipe bytes) before p (send m)
           → Posted (calls bytes source) (inWords start) (recipe bytes) before p m
       posted before p m =
-          subst (λ (s : State). Did (calls bytes source) s (recipe bytes) before p (send m) → Posted (calls bytes source) s (recipe bytes) before p m)
+          subst (λ (s : State). Did (calls bytes source) s (recipe bytes) before p (send m)
+          → Posted (calls bytes source) s (recipe bytes) before p m)
           (sym (after-of fresh)) (over .posted source (inWords a) (sym (number-of fresh)) before p m)
 
       module _ (b c d : Areas) (before then : List Event) (ns ks : List ℕ) (p m q : ℕ) (g : EventsGave bytes source start before ns b)
@@ -218,7 +229,8 @@ module _ (bytes source : List ℕ) where
 
         arrives : (e : Areas) (r : ℕ) → EventGave bytes source d (turnOf r) 0 e
             → namedNext bytes r (before ++ (turnOf p ∷ then)) (ns ++ (0 ∷ ks)) ≡ gather (takerOf (recipe bytes) m)
-            → wordAt (recipe bytes) (inWords e) r (cellOf (recipe bytes) m q) ≡ wordAt (recipe bytes) (inWords b) p (cellOf (recipe bytes) m q)
+            → wordAt (recipe bytes) (inWords e) r (cellOf (recipe bytes) m q)
+            ≡ wordAt (recipe bytes) (inWords b) p (cellOf (recipe bytes) m q)
         arrives e r u o =
             ap (λ (s : State). wordAt (recipe bytes) s r (cellOf (recipe bytes) m q))
             (after-of (event-call d e (turnOf r) 0 u) ∙ ap (λ (s : State). calls bytes source s (turnOf r) .after) (words-are all))
@@ -232,7 +244,8 @@ module _ (bytes source : List ℕ) where
           turned = turned;
           unpacked = λ a b p t h n m q i l. rw (after-of h) (over .unpacked source (inWords a) p t (sym (number-of h)) n m q i l);
           stays = λ a start b c d before then ns ks p m q f g t n k h. stays a start f b c d before then ns ks p m q g t n k h;
-          arrives = λ a start b c d e before then ns ks p r m q f g t n k h u o. arrives a start f b c d before then ns ks p m q g t n k h e r u o;
+          arrives =
+              λ a start b c d e before then ns ks p r m q f g t n k h u o. arrives a start f b c d before then ns ks p m q g t n k h e r u o;
           nest = λ old grid array h l. after-of h ∙ over .nest source old array (sym (number-of h)) l;
         }
 

@@ -1,4 +1,5 @@
--- From a fresh start that gave 0 the calls answer, event by event, as the machine does on the recipe's plan: what holds of its runs holds of theirs.
+-- From a fresh start that gave 0 the calls answer, event by event, as the machine on the recipe's plan; so what holds of its runs
+-- holds of theirs.
 use Prim.Native.Nat.{ℕ}
 use mathlib.Core.Path.{_≡_, refl, sym, ap, _∙_}
 use mathlib.Core.Bool.{true}
@@ -22,7 +23,8 @@ use Rattle.engine.specs.Calls.{recipe, areas, collectCall}
 use Rattle.engine.specs.Demands.{calls}
 use Rattle.engine.proofs.AsSteps.{turn-is, deliver-is, collect-is}
 
-module _ (bytes source : List ℕ) (ok : firstOf (readLines bytes) ≡ 0) (so : Sound (recipe bytes)) (long : length source ≡ recipe bytes .cells) where
+module _ (bytes source : List ℕ) (ok : firstOf (readLines bytes) ≡ 0)
+    (so : Sound (recipe bytes)) (long : length source ≡ recipe bytes .cells) where
   abbrev p : Plan
   p = recipe bytes
 
@@ -42,7 +44,8 @@ module _ (bytes source : List ℕ) (ok : firstOf (readLines bytes) ≡ 0) (so : 
   unfolding stateAfter
   same-state [] s inv = refl
   same-state (e ∷ es) s inv =
-      ap (λ (a : Answered State). stateAfter (calls bytes source) (a .after) es) (same s inv e) ∙ same-state es _ (next-inv p so source s inv e)
+      ap (λ (a : Answered State). stateAfter (calls bytes source) (a .after) es) (same s inv e)
+      ∙ same-state es _ (next-inv p so source s inv e)
 
   same-answers : (es : List Event) (s : State) → Inv p source s → answersTo (calls bytes source) s es ≡ answersTo (act p source) s es
   unfolding answersTo

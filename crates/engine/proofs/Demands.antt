@@ -62,16 +62,19 @@ module _ {A : Type 0} (ls : List Line) (number : A → ℕ) (tells : ℕ → A) 
       go (suc n) h = no-told n
 
 summary : (bytes : List ℕ)
-    → Fixed (answer (summaryOf bytes .number) (summaryOf bytes)) (readLines bytes) (figuresOf (recipe bytes)) (noFigures (summaryOf bytes .number))
+    → Fixed (answer (summaryOf bytes .number) (summaryOf bytes)) (readLines bytes) (figuresOf (recipe bytes))
+    (noFigures (summaryOf bytes .number))
 unfolding summaryOf figures figuresIf
-summary bytes = told (readLines bytes) (λ f. f .number) (λ n. asFigures (figuresIf n (recipe bytes))) _ noFigures (λ n. is n) refl (λ n. refl)
+summary bytes =
+    told (readLines bytes) (λ f. f .number) (λ n. asFigures (figuresIf n (recipe bytes))) _ noFigures (λ n. is n) refl (λ n. refl)
   where
     is : (n : ℕ) → figuresIf n (recipe bytes) .number ≡ n
     is zero = refl
     is (suc n) = refl
 
 message : (bytes : List ℕ) (m : ℕ)
-    → Fixed (answer (messageLineOf bytes m .number) (messageLineOf bytes m)) (messageLines bytes m) (lineOf (recipe bytes) m) (noLine (messageLineOf bytes m .number))
+    → Fixed (answer (messageLineOf bytes m .number) (messageLineOf bytes m)) (messageLines bytes m) (lineOf (recipe bytes) m)
+    (noLine (messageLineOf bytes m .number))
 unfolding messageLineOf lineIf
 message bytes m = told (messageLines bytes m) (λ f. f .number) (λ n. lineIf n (recipe bytes) m) _ noLine (λ n. is n) refl (λ n. refl)
   where
@@ -114,7 +117,8 @@ module _ (bytes : List ℕ) (ok : Accepted (nestOf bytes)) (z : firstOf (readLin
             rw (demand1 bytes source s .fresh .works e)
             (run-posted bytes source z so (areas-are (recipe bytes) source s (fresh-gave bytes source s e .1) .source) before b m);
         nest = λ source grid array e l.
-            demand1 bytes source (machine.stateOf [] [] [] []) .sweep grid .works e ∙ sym (exact (nestOf bytes) ok .sweep-is source array l);
+            demand1 bytes source (machine.stateOf [] [] [] []) .sweep grid .works e
+            ∙ sym (exact (nestOf bytes) ok .sweep-is source array l);
         swept = λ source c l. sym (sweep-fixed (recipe bytes) source (so .local source) (so .earlier) c l);
       }
 

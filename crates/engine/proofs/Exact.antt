@@ -24,7 +24,8 @@ use Rattle.engine.proofs.Lines.{numbered, areas-are}
 use Rattle.engine.proofs.AsSteps.{turn-is}
 
 -- a turn that gave 0 found the areas of their lengths
-turn-areas : (l source : List ℕ) (s : State) (b : ℕ) → firstOf (readLines l) ≡ 0 → turnCall l source s b .number ≡ 0 → areas (recipe l) source s ≡ true
+turn-areas : (l source : List ℕ) (s : State) (b : ℕ) → firstOf (readLines l) ≡ 0 → turnCall l source s b .number ≡ 0
+    → areas (recipe l) source s ≡ true
 unfolding turnCall
 turn-areas l source s b h z =
     true-not (none-first 9 (not (areas (recipe l) source s)) (turnLines (recipe l) s b) (λ q. omega arith)
@@ -44,4 +45,5 @@ module _ (bytes : List ℕ) (ok : Accepted (nestOf bytes)) (z : firstOf (readLin
       → wordAt (recipe bytes) after b (cellOf (recipe bytes) m q) ≡ mailAt (recipe bytes) s m q
   written source s after b t a d e m q i h =
       let u : Unpacks (recipe bytes) s after b t = rw e at d in
-      u .written m q i h (λ n k g. exact (nestOf bytes) ok .once t n m (cellOf (recipe bytes) m q) k i g (at-in (heldBy (recipe bytes) m) q h))
+      u .written m q i h (λ n k g. exact (nestOf bytes) ok .once t n m (cellOf (recipe bytes) m q) k i g
+      (at-in (heldBy (recipe bytes) m) q h))

@@ -86,7 +86,8 @@ module _ (p : Plan) (so : Sound p) (source : List ℕ) where
     unfolding act
     did b a d = rw (next-is b a d) at (turn-does p so source here b (inv-here .shape .memories) (inv-here .shape .buffer) (d .gave))
 
-    after-is : (b : ℕ) (a : Action) → Did (act p source) (fresh p) p es b a → act p source here (turnOf b) .after ≡ carryOut p source here b a
+    after-is : (b : ℕ) (a : Action) → Did (act p source) (fresh p) p es b a
+        → act p source here (turnOf b) .after ≡ carryOut p source here b a
     unfolding act
     after-is b a d = by-next p source here b (d .gave) ∙ ap (carryOut p source here b) (next-is b a d)
 

@@ -1,4 +1,4 @@
--- Demand 3 of document 01, for every sound plan, every source and every list of events.
+-- The customer's demand 3, for every sound plan, every source and every list of events.
 use Prim.Native.Nat.{ℕ, _+_, _-_, _≤_, _<_}
 use mathlib.Core.Path.{_≡_, sym, ap, _∙_}
 use mathlib.Core.Bool.{Bool}

@@ -25,12 +25,15 @@ use Rattle.machine.proofs.Values.{gathered-length, offset-apart}
 -- ---- unpacking many
 
 module _ (p : Plan) (buffer : List ℕ) where
-  all-other : (ms memory : List ℕ) (c : ℕ) → ((m : ℕ) → In m ms → In c (heldBy p m) → ⊥) → getD (unpackAll p buffer memory ms) c 0 ≡ getD memory c 0
+  all-other : (ms memory : List ℕ) (c : ℕ) → ((m : ℕ) → In m ms → In c (heldBy p m) → ⊥)
+      → getD (unpackAll p buffer memory ms) c 0 ≡ getD memory c 0
   unfolding unpackAll
   all-other [] memory c h = refl
-  all-other (m ∷ ms) memory c h = all-other ms _ c (λ n i. h n (inr i)) ∙ unpack-other (heldBy p m) (placeOf p buffer m) memory c (h m (inl refl))
+  all-other (m ∷ ms) memory c h =
+      all-other ms _ c (λ n i. h n (inr i)) ∙ unpack-other (heldBy p m) (placeOf p buffer m) memory c (h m (inl refl))
 
-  module _ (m q : ℕ) (low : q < length (heldBy p m)) (up : Rising (heldBy p m)) (long : length (placeOf p buffer m) ≡ length (heldBy p m)) where
+  module _ (m q : ℕ) (low : q < length (heldBy p m)) (up : Rising (heldBy p m))
+      (long : length (placeOf p buffer m) ≡ length (heldBy p m)) where
     abbrev Only : List ℕ → Type 0
     Only ms = (n : ℕ) → In n ms → In (cellOf p m q) (heldBy p n) → n ≡ m
 
@@ -38,10 +41,12 @@ module _ (p : Plan) (buffer : List ℕ) where
         → getD (unpack memory (heldBy p n) (placeOf p buffer n)) (cellOf p m q) 0 ≡ getD (placeOf p buffer m) q 0
     one-more memory n b e = rw e (unpack-at (heldBy p m) (placeOf p buffer m) memory q up long b low)
 
-    below-next : (memory : List ℕ) (n : ℕ) → AllBelow (length memory) (heldBy p m) → AllBelow (length (unpack memory (heldBy p n) (placeOf p buffer n))) (heldBy p m)
+    below-next : (memory : List ℕ) (n : ℕ) → AllBelow (length memory) (heldBy p m)
+        → AllBelow (length (unpack memory (heldBy p n) (placeOf p buffer n))) (heldBy p m)
     below-next memory n b c i = rw (unpack-length (heldBy p n) (placeOf p buffer n) memory) (b c i)
 
-    all-keeps : (ms memory : List ℕ) → AllBelow (length memory) (heldBy p m) → Only ms → getD memory (cellOf p m q) 0 ≡ getD (placeOf p buffer m) q 0
+    all-keeps : (ms memory : List ℕ) → AllBelow (length memory) (heldBy p m) → Only ms
+        → getD memory (cellOf p m q) 0 ≡ getD (placeOf p buffer m) q 0
         → getD (unpackAll p buffer memory ms) (cellOf p m q) 0 ≡ getD (placeOf p buffer m) q 0
     unfolding unpackAll
     all-keeps [] memory b only h = h
@@ -57,7 +62,8 @@ module _ (p : Plan) (buffer : List ℕ) where
     unfolding unpackAll
     all-at [] memory b i only = absurd i
     all-at (n ∷ ms) memory b (inl e) only =
-        all-keeps ms (unpack memory (heldBy p n) (placeOf p buffer n)) (below-next memory n b) (λ k i. only k (inr i)) (one-more memory n b (sym e))
+        all-keeps ms (unpack memory (heldBy p n) (placeOf p buffer n)) (below-next memory n b) (λ k i. only k (inr i))
+        (one-more memory n b (sym e))
     all-at (n ∷ ms) memory b (inr i) only =
         all-at ms (unpack memory (heldBy p n) (placeOf p buffer n)) (below-next memory n b) i (λ k i. only k (inr i))
 
@@ -88,7 +94,8 @@ module _ (p : Plan) (source : List ℕ) (so : Sound p) where
           ∙ getD-set-same s y (p .value source s y) 0 (rw len low)
           ∙ so .local source s (storeAll (p .value source) next cs) y low
           (λ r k. let q = so .earlier y r low k in
-          sym (store-other (p .value source) cs next r (before r (omega arith)) ∙ getD-set-other s y r (p .value source s y) 0 (λ z. omega arith)))
+          sym (store-other (p .value source) cs next r (before r (omega arith))
+          ∙ getD-set-other s y r (p .value source s y) 0 (λ z. omega arith)))
 
 -- ---- the machine
 
@@ -158,7 +165,8 @@ module _ (p : Plan) (so : Sound p) (source : List ℕ) (s : State) (b : ℕ) whe
       due-low m i = those-in (takerOf p) t (count p) m i .0
 
       mail-length : (m : ℕ) → m < count p → length (placeOf p (s .buffer) m) ≡ length (heldBy p m)
-      mail-length m h = part-length (s .buffer) (offset (p .messages) m) (length (heldBy p m)) (rw mail (offset-apart (p .messages) m (count p) h h))
+      mail-length m h =
+          part-length (s .buffer) (offset (p .messages) m) (length (heldBy p m)) (rw mail (offset-apart (p .messages) m (count p) h h))
 
       pub unpacks : Unpacks p s (carryOut p source s b (gather t)) b t
       unfolding carryOut

@@ -1,8 +1,8 @@
 -- Runs: events, their answers, the steps among them, what each step did; and demand 3, one claim about the whole list.
 -- Renders document 01, "Runs", and the customer's demand 3.
-use Prim.Native.Nat.{ℕ, zero, suc, _+_, _*_, _≤_, _<_}
+use Prim.Native.Nat.{ℕ, _+_, _*_, _≤_, _<_}
 use mathlib.Core.Path.{_≡_}
-use mathlib.Core.Bool.{Bool, true, false}
+use mathlib.Core.Bool.{Bool, false}
 use mathlib.Core.List.{List, [], _∷_, _++_, map}
 use lib.ListN.{length, getD, take}
 use lib.Dec.{eqb}
@@ -102,15 +102,18 @@ module _ (acts : State → Event → Answered State) (start : State) (events : L
     pub goes-on : steps acts start events < total p → (e : Event) × (acts (last acts start events) e .number ≡ 0)
     pub then-fewer : (e : Event) → acts (last acts start events) e .number ≡ 0 → steps acts start events < total p
     -- collecting into a grid of the right length gives 0 exactly when they are that many
-    pub can-collect : steps acts start events ≡ total p → (grid : List ℕ) → length grid ≡ p .cells → collects (last acts start events) grid .number ≡ 0
-    pub then-all : (grid : List ℕ) → length grid ≡ p .cells → collects (last acts start events) grid .number ≡ 0 → steps acts start events ≡ total p
+    pub can-collect : steps acts start events ≡ total p → (grid : List ℕ) → length grid ≡ p .cells
+        → collects (last acts start events) grid .number ≡ 0
+    pub then-all : (grid : List ℕ) → length grid ≡ p .cells → collects (last acts start events) grid .number ≡ 0
+        → steps acts start events ≡ total p
     -- no cell is calculated twice, no message sent, delivered or taken twice
     pub calculated : (c : ℕ) → c < p .cells → timesOf p events (answers acts start events) (calculates p c) ≤ 1
     pub sent : (m : ℕ) → m < count p → timesOf p events (answers acts start events) (sends m) ≤ 1
     pub delivered : (m : ℕ) → m < count p → deliveriesOf m events (answers acts start events) ≤ 1
     pub taken : (m : ℕ) → m < count p → timesOf p events (answers acts start events) (takes p m) ≤ 1
     -- when they are that many, each exactly once
-    pub all-calculated : steps acts start events ≡ total p → (c : ℕ) → c < p .cells → timesOf p events (answers acts start events) (calculates p c) ≡ 1
+    pub all-calculated : steps acts start events ≡ total p → (c : ℕ) → c < p .cells
+        → timesOf p events (answers acts start events) (calculates p c) ≡ 1
     pub all-sent : steps acts start events ≡ total p → (m : ℕ) → m < count p → timesOf p events (answers acts start events) (sends m) ≡ 1
     pub all-delivered : steps acts start events ≡ total p → (m : ℕ) → m < count p → deliveriesOf m events (answers acts start events) ≡ 1
     pub all-taken : steps acts start events ≡ total p → (m : ℕ) → m < count p → timesOf p events (answers acts start events) (takes p m) ≡ 1
@@ -121,4 +124,5 @@ module _ (acts : State → Event → Answered State) (start : State) (events : L
     -- no processor has a step beyond its program
     pub no-more : (b : ℕ) → turnsOf b events (answers acts start events) ≤ length (program p b)
     -- the collected grid equals the sweep
-    pub grid : steps acts start events ≡ total p → (old : List ℕ) → length old ≡ p .cells → collects (last acts start events) old .after ≡ sweep p source
+    pub grid : steps acts start events ≡ total p → (old : List ℕ) → length old ≡ p .cells
+        → collects (last acts start events) old .after ≡ sweep p source

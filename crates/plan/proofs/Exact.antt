@@ -54,7 +54,8 @@ module _ (x : Nest) (ok : Accepted x) where
 
   -- the slot of message m, with its number
   slot-of : (m : ℕ) → m < count (planOf x)
-      → (s : ℕ) × (s < slots x) × (0 < length (slotParcel x s)) × (length (messagesTo x s) ≡ m) × Carries x m (slotTile x s) (slotDirection x s)
+      → (s : ℕ) × (s < slots x) × (0 < length (slotParcel x s)) × (length (messagesTo x s) ≡ m)
+      × Carries x m (slotTile x s) (slotDirection x s)
   unfolding slotParcel slotTaker
   slot-of m h =
       let a = message-slot x (slots x) m h in (
@@ -62,14 +63,16 @@ module _ (x : Nest) (ok : Accepted x) where
         a .1,
         a .2,
         a .3,
-        carried m (slotTile x (a .0)) (slotDirection x (a .0)) (slotTile-low x (a .0) (a .1)) (slotDirection-pos x (a .0)) (slotDirection-low x (a .0) (a .1)) (a .2)
+        carried m (slotTile x (a .0)) (slotDirection x (a .0)) (slotTile-low x (a .0) (a .1)) (slotDirection-pos x (a .0))
+            (slotDirection-low x (a .0) (a .1)) (a .2)
             (ap (λ (y : Message). y .sender) (a .4)) (ap (λ (y : Message). y .taker) (a .4)) (ap (λ (y : Message). y .cells) (a .4)),
       )
 
   pub message : (m : ℕ) → m < count (planOf x) → (t : ℕ) × ((v : ℕ) × Carries x m t v)
   message m h = let a = slot-of m h in (slotTile x (a .0), (slotDirection x (a .0), a .4))
 
-  pub messages : (t v : ℕ) → t < tiles x → 1 ≤ v → v ≤ directions x → 0 < length (parcel x t v) → (m : ℕ) × (m < count (planOf x)) × Carries x m t v
+  pub messages : (t v : ℕ) → t < tiles x → 1 ≤ v → v ≤ directions x → 0 < length (parcel x t v)
+      → (m : ℕ) × (m < count (planOf x)) × Carries x m t v
   messages t v lt a b full =
       let f = full-in (parcel x t v) full in
       let s = parcel-sent x t v (f .0) lt a b (f .1) in
@@ -85,7 +88,8 @@ module _ (x : Nest) (ok : Accepted x) where
       ∙ rank-place two (x .spread) w (λ j h. omega arith) (omega (arith, b .most, b .least))
 
   -- the number of message (t, v): the messages of the slots before it
-  number-of : (m t v : ℕ) → m < count (planOf x) → Carries x m t v → (s : ℕ) × (suc s ≡ t * directions x + v) × (0 < length (slotParcel x s)) × (length (messagesTo x s) ≡ m)
+  number-of : (m t v : ℕ) → m < count (planOf x) → Carries x m t v
+      → (s : ℕ) × (suc s ≡ t * directions x + v) × (0 < length (slotParcel x s)) × (length (messagesTo x s) ≡ m)
   number-of m t v h c =
       let a = slot-of m h in
       let s = a .0 in
@@ -96,7 +100,8 @@ module _ (x : Nest) (ok : Accepted x) where
   number-lt : (s s′ : ℕ) → 0 < length (slotParcel x s) → s < s′ → length (messagesTo x s) < length (messagesTo x s′)
   number-lt s s′ f l = number-low x s′ s l f
 
-  ordered : (s s′ : ℕ) → 0 < length (slotParcel x s) → 0 < length (slotParcel x s′) → length (messagesTo x s) < length (messagesTo x s′) → s < s′
+  ordered : (s s′ : ℕ) → 0 < length (slotParcel x s) → 0 < length (slotParcel x s′) → length (messagesTo x s) < length (messagesTo x s′)
+      → s < s′
   ordered s s′ f g l = go (decLt s s′) (decLt s′ s)
     where
       go : Dec (s < s′) → Dec (s′ < s) → s < s′
@@ -162,11 +167,14 @@ module _ (x : Nest) (ok : Accepted x) where
 
       r-has : hasRead x r e ≡ true
       unfolding hasRead
-      r-has = every-all (λ j. leb (component x e j) (cellPlace x r j)) (x .dimensions) (λ j l. le-leb (component x e j) (cellPlace x r j) (omega (arith, r-place j l)))
+      r-has =
+          every-all (λ j. leb (component x e j) (cellPlace x r j)) (x .dimensions)
+          (λ j l. le-leb (component x e j) (cellPlace x r j) (omega (arith, r-place j l)))
 
       r-reads : readAt x r e ≡ c
       unfolding readAt cellAt
-      r-reads = rank-same (lengthOf x) _ (cellPlace x c) (x .dimensions) (λ j l. omega (arith, r-place j l)) ∙ cellAt-cellPlace x ok c (h .cell)
+      r-reads =
+          rank-same (lengthOf x) _ (cellPlace x c) (x .dimensions) (λ j l. omega (arith, r-place j l)) ∙ cellAt-cellPlace x ok c (h .cell)
 
       r-in : In c (readsOf x r)
       r-in = rw r-reads at (at-reads x r e (h .distance) r-has)
@@ -217,7 +225,8 @@ module _ (x : Nest) (ok : Accepted x) where
     reads = (held-read, read-held)
 
   -- ---- at most one message due at a tile holds a cell
-  pub once : (t m n c : ℕ) → In m (duesOf (planOf x) t) → In n (duesOf (planOf x) t) → In c (heldBy (planOf x) m) → In c (heldBy (planOf x) n) → m ≡ n
+  pub once : (t m n c : ℕ) → In m (duesOf (planOf x) t) → In n (duesOf (planOf x) t) → In c (heldBy (planOf x) m)
+      → In c (heldBy (planOf x) n) → m ≡ n
   once t m n c i k p q =
       let d = those-in (takerOf (planOf x)) t (count (planOf x)) m i in
       let f = those-in (takerOf (planOf x)) t (count (planOf x)) n k in
@@ -227,7 +236,8 @@ module _ (x : Nest) (ok : Accepted x) where
       let h = parcel-held x (b .0) (b .1 .0) c (rw (b .1 .1 .holds) at q) in
       same (a .0) (a .1 .0) (b .0) (b .1 .0) m n (d .0) (f .0) (a .1 .1) (b .1 .1) (sym (g .1 .own) ∙ h .1 .own) (d .1 ∙ sym (f .1))
     where
-      same : (t v u w m n : ℕ) → m < count (planOf x) → n < count (planOf x) → Carries x m t v → Carries x n u w → t ≡ u → takerOf (planOf x) m ≡ takerOf (planOf x) n → m ≡ n
+      same : (t v u w m n : ℕ) → m < count (planOf x) → n < count (planOf x) → Carries x m t v → Carries x n u w → t ≡ u
+          → takerOf (planOf x) m ≡ takerOf (planOf x) n → m ≡ n
       same t v u w m n lm ln a b e to =
           let z : v ≡ w = direction-of m n t v u w a b e to in
           one m n u w lm ln (rw (e, z) at a) b

@@ -108,13 +108,15 @@ module _ (slot : ℕ → Message) where
 
   -- each message is a slot's
   pub message-slot : (n m : ℕ) → m < length (messagesOf slot n)
-      → (s : ℕ) × (s < n) × (0 < length (slot s .cells)) × (length (messagesOf slot s) ≡ m) × (getD (messagesOf slot n) m noMessage ≡ slot s)
+      → (s : ℕ) × (s < n) × (0 < length (slot s .cells)) × (length (messagesOf slot s) ≡ m)
+      × (getD (messagesOf slot n) m noMessage ≡ slot s)
   unfolding messagesOf pick
   message-slot zero m h = absurd (omega arith)
   message-slot (suc n) m h = go (message-slot n m) (ltb 0 (length (slot n .cells))) refl (decLt m (length (messagesOf slot n))) h
     where
       go : (m < length (messagesOf slot n)
-          → (s : ℕ) × (s < n) × (0 < length (slot s .cells)) × (length (messagesOf slot s) ≡ m) × (getD (messagesOf slot n) m noMessage ≡ slot s))
+          → (s : ℕ) × (s < n) × (0 < length (slot s .cells)) × (length (messagesOf slot s) ≡ m)
+          × (getD (messagesOf slot n) m noMessage ≡ slot s))
           → (t : Bool) → ltb 0 (length (slot n .cells)) ≡ t
           → Dec (m < length (messagesOf slot n)) → m < length (messagesOf slot n ++ pick t (slot n ∷ []) [])
           → (s : ℕ) × (s < suc n) × (0 < length (slot s .cells)) × (length (messagesOf slot s) ≡ m)

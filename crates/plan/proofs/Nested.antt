@@ -79,9 +79,11 @@ module _ (N : ℕ → ℕ) where
     nested-box zero h = refl
     nested-box (suc l) h =
         forEach-rank N l (range l) (nested range l)
-        ∙ rw (nested-box l (λ j k. h j (omega arith)), h l (omega arith)) (forEach-tabulate (λ q. rank N (λ j. a j + place b l q j) l) (λ u. a l + u) (N l) (product b l) (b l))
+        ∙ rw (nested-box l (λ j k. h j (omega arith)), h l (omega arith))
+        (forEach-tabulate (λ q. rank N (λ j. a j + place b l q j) l) (λ u. a l + u) (N l) (product b l) (b l))
         ∙ tabulate-same _ _ (product b l * b l)
-        (λ q k. ap (λ (c : ℕ). c * N l + (a l + q % b l)) (before q) ∙ ap (λ (c : ℕ). rank N (λ j. a j + place b (suc l) q j) l * N l + (a l + c)) (sym (place-last b l q)))
+        (λ q k. ap (λ (c : ℕ). c * N l + (a l + q % b l)) (before q)
+        ∙ ap (λ (c : ℕ). rank N (λ j. a j + place b (suc l) q j) l * N l + (a l + c)) (sym (place-last b l q)))
       where
         before : (q : ℕ) → rank N (λ j. a j + place b l (q / b l) j) l ≡ rank N (λ j. a j + place b (suc l) q j) l
         before q = rank-same N _ _ l (λ j k. ap (λ (c : ℕ). a j + c) (sym (place-before b l q j k)))
@@ -131,7 +133,8 @@ module _ (x : Nest) (ok : Accepted x) where
     own-range j h =
         rw (max-zero (first j))
         (loop-one (first j) _
-        ∙ ap (tabulate (λ u. first j + u)) (width (lengthOf x j) (tileLength x j) (first j) (ok .long j h) (ok .tiled j h) (tile-inside x ok (tilePlace x t j) j h (tilePlace-low x ok t j h))))
+        ∙ ap (tabulate (λ u. first j + u)) (width (lengthOf x j) (tileLength x j) (first j) (ok .long j h) (ok .tiled j h)
+        (tile-inside x ok (tilePlace x t j) j h (tilePlace-low x ok t j h))))
 
     pub tile-in-order : map (cellAt x) (inner x (tilePlace x t)) ≡ cellsOf x t
     unfolding inner cellAt boxSize boxCell boxPlace
@@ -149,7 +152,8 @@ each-append P [] b h k = k
 each-append P (i ∷ a) b h k = (h .0, each-append P a b (h .1) k)
 
 module _ (N : ℕ → ℕ) (range : ℕ → List ℕ) where
-  extend-each : (l : ℕ) (i : ℕ → ℕ) (vs : List ℕ) → Within N i l → ((v : ℕ) → In v vs → v < N l) → Each (λ i. Within N i (suc l)) (map (extend i l) vs)
+  extend-each : (l : ℕ) (i : ℕ → ℕ) (vs : List ℕ) → Within N i l → ((v : ℕ) → In v vs → v < N l)
+      → Each (λ i. Within N i (suc l)) (map (extend i l) vs)
   extend-each l i [] w h = tt
   extend-each l i (v ∷ vs) w h = ((λ j k. go j k (decLt j l)), extend-each l i vs w (λ y q. h y (inr q)))
     where
@@ -163,7 +167,8 @@ module _ (N : ℕ → ℕ) (range : ℕ → List ℕ) where
       → Each (λ i. Within N i (suc l)) (forEach (λ i. map (extend i l) (range l)) is)
   unfolding forEach
   forEach-each l [] e h = tt
-  forEach-each l (i ∷ is) e h = each-append (λ i. Within N i (suc l)) (map (extend i l) (range l)) _ (extend-each l i (range l) (e .0) h) (forEach-each l is (e .1) h)
+  forEach-each l (i ∷ is) e h =
+      each-append (λ i. Within N i (suc l)) (map (extend i l) (range l)) _ (extend-each l i (range l) (e .0) h) (forEach-each l is (e .1) h)
 
   pub nested-each : (l : ℕ) → ((j v : ℕ) → j < l → In v (range j) → v < N j) → Each (λ i. Within N i l) (nested range l)
   unfolding nested
@@ -201,16 +206,20 @@ module _ (x : Nest) (ok : Accepted x) (source : List ℕ) where
       ∙ ap (λ (r : ℕ). weight x e * pick (hasRead x (cellAt x i) e) (getD array r 0) (x .boundary)) (back e)))
     where
       back : (e : ℕ) → cellAt x (λ j. i j - component x e j) ≡ readAt x (cellAt x i) e
-      back e = cellAt-same (λ j. i j - component x e j) (λ j. cellPlace x (cellAt x i) j - component x e j) (λ j h. ap (λ (a : ℕ). a - component x e j) (sym (cellPlace-cellAt x ok i w j h)))
+      back e =
+          cellAt-same (λ j. i j - component x e j) (λ j. cellPlace x (cellAt x i) j - component x e j)
+          (λ j h. ap (λ (a : ℕ). a - component x e j) (sym (cellPlace-cellAt x ok i w j h)))
 
-  pub run-stores : (is : List (ℕ → ℕ)) (array : List ℕ) → Each (Index x) is → runNest x source array is ≡ storeAll (value x source) array (map (cellAt x) is)
+  pub run-stores : (is : List (ℕ → ℕ)) (array : List ℕ) → Each (Index x) is
+      → runNest x source array is ≡ storeAll (value x source) array (map (cellAt x) is)
   unfolding runNest storeAll
   run-stores [] array w = refl
   run-stores (i ∷ is) array w = rw (body-value array i (w .0)) (run-stores is _ (w .1))
 
   sequential-each : Each (Index x) (sequential x)
   unfolding sequential
-  sequential-each = nested-each (lengthOf x) (seq x ok) (x .dimensions) (λ j v h i. omega (arith, loop-most 0 (lengthOf x j - 1) v i, ok .long j h))
+  sequential-each =
+      nested-each (lengthOf x) (seq x ok) (x .dimensions) (λ j v h i. omega (arith, loop-most 0 (lengthOf x j - 1) v i, ok .long j h))
 
   -- storing the values of all cells in index order
   module _ (array : List ℕ) (len : length array ≡ cells x) where

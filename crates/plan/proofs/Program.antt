@@ -1,4 +1,5 @@
--- Cells, tiles, processors and directions are numbered in lexicographic order; Figure 4 meets the cells of a processor's tiles, tile by tile.
+-- Cells, tiles, processors and directions are numbered in lexicographic order; Figure 4 meets the cells of a processor's tiles, tile
+-- by tile.
 use Prim.Native.Nat.{ℕ, zero, suc, _+_, _*_, _-_, _%_, _≤_, _<_, min, max}
 use mathlib.Core.Path.{_≡_, refl, sym, ap, _∙_}
 use mathlib.Core.Logic.{_⊎_, inl, inr, _↔_}
@@ -41,13 +42,16 @@ module _ (N i k : ℕ → ℕ) where
           omega (arith, ap (λ (a : ℕ). a * N l) z)
       go ih (inr r) = omega (arith, mul-le-mul-right (N l) (ih r), suc-mul (rank N i l) (N l), w l (omega arith))
 
-  rank-lex : (l : ℕ) → Within N i l → Within N k l → rank N i l < rank N k l → (q : ℕ) × (q < l) × ((j : ℕ) → j < q → i j ≡ k j) × (i q < k q)
+  rank-lex : (l : ℕ) → Within N i l → Within N k l → rank N i l < rank N k l
+      → (q : ℕ) × (q < l) × ((j : ℕ) → j < q → i j ≡ k j) × (i q < k q)
   unfolding rank
   rank-lex zero w v h = absurd (omega arith)
   rank-lex (suc l) w v h =
-      go (rank-lex l (λ j b. w j (omega arith)) (λ j b. v j (omega arith))) (decLt (rank N i l) (rank N k l)) (decLt (rank N k l) (rank N i l)) h
+      go (rank-lex l (λ j b. w j (omega arith)) (λ j b. v j (omega arith))) (decLt (rank N i l) (rank N k l))
+      (decLt (rank N k l) (rank N i l)) h
     where
-      go : (rank N i l < rank N k l → (q : ℕ) × (q < l) × ((j : ℕ) → j < q → i j ≡ k j) × (i q < k q)) → Dec (rank N i l < rank N k l) → Dec (rank N k l < rank N i l)
+      go : (rank N i l < rank N k l → (q : ℕ) × (q < l) × ((j : ℕ) → j < q → i j ≡ k j) × (i q < k q)) → Dec (rank N i l < rank N k l)
+          → Dec (rank N k l < rank N i l)
           → rank N i l * N l + i l < rank N k l * N l + k l → (q : ℕ) × (q < suc l) × ((j : ℕ) → j < q → i j ≡ k j) × (i q < k q)
       go ih (yes a) d h = let r = ih a in (r .0, omega (arith, r .1), r .2, r .3)
       go ih (no a) (yes d) h = absurd (omega (arith, mul-le-mul-right (N l) d, suc-mul (rank N k l) (N l), v l (omega arith)))
@@ -55,12 +59,14 @@ module _ (N i k : ℕ → ℕ) where
           let z : rank N i l ≡ rank N k l = omega arith in (
             l,
             omega arith,
-            (λ j b. sym (place-rank N i l (λ o c. w o (omega arith)) j b) ∙ ap (λ (c : ℕ). place N l c j) z ∙ place-rank N k l (λ o c. v o (omega arith)) j b),
+            (λ j b. sym (place-rank N i l (λ o c. w o (omega arith)) j b) ∙ ap (λ (c : ℕ). place N l c j) z ∙ place-rank N k l
+                (λ o c. v o (omega arith)) j b),
             omega (arith, ap (λ (a : ℕ). a * N l) z),
           )
 
 -- numbers follow each other as their places do
-place-order : (N : ℕ → ℕ) (l : ℕ) → Positive N l → (c e : ℕ) → c < product N l → e < product N l → (c < e) ↔ Before l (place N l c) (place N l e)
+place-order : (N : ℕ → ℕ) (l : ℕ) → Positive N l → (c e : ℕ) → c < product N l → e < product N l
+    → (c < e) ↔ Before l (place N l c) (place N l e)
 place-order N l pos c e a b =
     let p = rank-place N l c pos a in
     let q = rank-place N l e pos b in
@@ -108,7 +114,8 @@ module _ (x : Nest) (ok : Accepted x) where
   unfolding inner
   inner-same u w =
       nested-same _ _ (x .dimensions)
-      (λ j h. ap (λ (a : ℕ). doLoop (max 0 (a * tileLength x j)) (min (lengthOf x j - 1) (a * tileLength x j + tileLength x j - 1)) 1) (sym (tilePlace-tileAt x ok u w j h)))
+      (λ j h. ap (λ (a : ℕ). doLoop (max 0 (a * tileLength x j)) (min (lengthOf x j - 1) (a * tileLength x j + tileLength x j - 1)) 1)
+      (sym (tilePlace-tileAt x ok u w j h)))
 
   inner-tile : (u : ℕ → ℕ) → Tiled u → map (cellAt x) (inner x u) ≡ cellsOf x (tileAt x u)
   inner-tile u w = ap (map (cellAt x)) (inner-same u w) ∙ tile-in-order x ok (tileAt x u) (tileAt-low x ok u w)
@@ -132,7 +139,9 @@ module _ (x : Nest) (ok : Accepted x) where
     loop-low j v i = go (decLt j (x .spread))
       where
         go : Dec (j < x .spread) → v < lastTile x j + 1
-        go (yes h) = do-low (p j % processorCount x j) (lastTile x j) (processorCount x j) v (mod-lt (p j) (ok .manned j h)) (rw (loop-spread j h) at i)
+        go (yes h) =
+            do-low (p j % processorCount x j) (lastTile x j) (processorCount x j) v (mod-lt (p j) (ok .manned j h))
+            (rw (loop-spread j h) at i)
         go (no h) = do-low 0 (lastTile x j) 1 v (omega arith) (rw (loop-rest j (omega arith)) at i)
 
     loops-tiled : Each Tiled (loops x p (x .dimensions))

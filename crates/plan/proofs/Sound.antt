@@ -1,23 +1,23 @@
 -- The plan of an accepted nest is sound: what a tile reads, its processor knows by then.
-use Prim.Native.Nat.{ℕ, zero, suc, _+_, _*_, _-_, _/_, _%_, _^_, _≤_, _<_}
+use Prim.Native.Nat.{ℕ, _+_, _*_, _-_, _/_, _%_, _^_, _≤_, _<_}
 use mathlib.Core.Path.{_≡_, refl, sym, ap, _∙_}
 use mathlib.Core.Logic.{_⊎_, inl, inr}
 use mathlib.Core.Bool.{Bool, true, false}
-use mathlib.Core.List.{List, [], _∷_, map}
+use mathlib.Core.List.{List, map}
 use native.Mathlib.Nat.{eq-or-lt-of-le}
 use native.Mathlib.Decide.{decLt, ℕ-discrete}
 use native.Mathlib.Omega.{arith}
 use lib.ListN.{length, getD}
-use Rattle.base.specs.Tests.{pick, keep, sum}
+use Rattle.base.specs.Tests.{pick, keep}
 use Rattle.base.specs.Lists.{In, Rising}
 use Rattle.base.proofs.Tests.{sum-same}
 use Rattle.base.proofs.Select.{in-map, map-in, keep-in, in-keep, keep-rising}
-use Rattle.machine.specs.Plan.{Message, Plan, noMessage, message, count, senderOf, takerOf, heldBy, Knows, Sound}
+use Rattle.machine.specs.Plan.{Message, message, count, senderOf, takerOf, heldBy, Knows, Sound}
 use Rattle.nest.specs.declared.Nest.{Nest}
 use Rattle.nest.specs.Accepted.{Accepted}
-use Rattle.nest.specs.Nest.{component, weight, cells, tiles}
+use Rattle.nest.specs.Nest.{weight, cells, tiles}
 use Rattle.plan.specs.Geometry.{rank, tilePlace, tileOf, cellsOf, processorOf, hasRead, readAt, readsOf, value}
-use Rattle.plan.specs.Messages.{two, directions, ahead, parcel, taker, slots, slotTile, slotDirection, slotParcel, slotTaker, slotMessage, messages, planOf}
+use Rattle.plan.specs.Messages.{two, directions, ahead, parcel, taker, slots, slotTile, slotDirection, slotParcel, slotTaker, slotMessage, planOf}
 use Rattle.plan.proofs.Rank.{Within, rank-low, rank-lt}
 use Rattle.plan.proofs.Tiles.{cellPlace-low, tileAt-tilePlace, tileAt-le, tileOf-low, tilePlace-tileOf, processorOf-low, processorOf-same, read-low, read-back, read-before, read-tile}
 use Rattle.plan.proofs.Slots.{in-full, message-slot, number-low, at-number}

@@ -33,7 +33,8 @@ module _ (x : Nest) (ok : Accepted x) where
 
   inner-each : (u : ℕ → ℕ) → Each (Index x) (inner x u)
   unfolding inner
-  inner-each u = nested-each (lengthOf x) _ (x .dimensions) (λ j v h i. omega (arith, loop-most (max 0 (u j * tileLength x j)) _ v i, ok .long j h))
+  inner-each u =
+      nested-each (lengthOf x) _ (x .dimensions) (λ j v h i. omega (arith, loop-most (max 0 (u j * tileLength x j)) _ v i, ok .long j h))
 
   each-inner : (us : List (ℕ → ℕ)) → Each (Index x) (forEach (inner x) us)
   unfolding forEach
@@ -82,7 +83,8 @@ module _ (x : Nest) (ok : Accepted x) where
     after-next : (n : ℕ) → after (suc n) ≡ storeAll (value x source) (after n) (cellsOf x n)
     unfolding after tabulate forEach
     after-next n =
-        ap (storeAll (value x source) array) (forEach-append (cellsOf x) (upTo n) (n ∷ []) ∙ ap (λ (l : List ℕ). forEach (cellsOf x) (upTo n) ++ l) (append-nil (cellsOf x n)))
+        ap (storeAll (value x source) array) (forEach-append (cellsOf x) (upTo n) (n ∷ []) ∙ ap
+        (λ (l : List ℕ). forEach (cellsOf x) (upTo n) ++ l) (append-nil (cellsOf x n)))
         ∙ store-append (value x source) array (forEach (cellsOf x) (upTo n)) (cellsOf x n)
 
     abbrev Earlier : ℕ → ℕ → Type 0
@@ -94,7 +96,8 @@ module _ (x : Nest) (ok : Accepted x) where
         rw (after-next n)
         (stored-right p source w (sweep-fits p source (so .local source) (so .earlier)) (cellsOf x n) (Earlier n)
         (λ c r i k. reads c r (cellsOf-in x n c i) k) (λ c i. cellsOf-in x n c i .0) (cellsOf x n) (after n)
-        (cellsOf-rising x n) (λ y i. i) (after-length n) (λ y k. right n y k) (λ y i. inl i) c (now (right n c) (eq-or-lt-of-le (le-of-suc-le-suc (e .1)))))
+        (cellsOf-rising x n) (λ y i. i) (after-length n) (λ y k. right n y k) (λ y i. inl i) c
+        (now (right n c) (eq-or-lt-of-le (le-of-suc-le-suc (e .1)))))
       where
         reads : (c r : ℕ) → (c < cells x) × (tileOf x c ≡ n) → In r (readsOf x c) → (In r (cellsOf x n) × (r < c)) ⊎ Earlier n r
         reads c r a k = go (eq-or-lt-of-le (b .1))
@@ -106,7 +109,8 @@ module _ (x : Nest) (ok : Accepted x) where
             go (inl e) = inl (in-cellsOf x n r (omega (arith, b .0, a .0)) (e ∙ a .1), b .0)
             go (inr l) = inr (omega (arith, b .0, a .0), omega (arith, a .1))
 
-        now : (Earlier n c → getD (after n) c 0 ≡ w c) → (tileOf x c ≡ n) ⊎ (tileOf x c < n) → (getD (after n) c 0 ≡ w c) ⊎ In c (cellsOf x n)
+        now : (Earlier n c → getD (after n) c 0 ≡ w c) → (tileOf x c ≡ n) ⊎ (tileOf x c < n)
+            → (getD (after n) c 0 ≡ w c) ⊎ In c (cellsOf x n)
         now ih (inl q) = inr (in-cellsOf x n c (e .0) q)
         now ih (inr q) = inl (ih (e .0, q))
 

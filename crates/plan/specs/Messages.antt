@@ -7,7 +7,7 @@ use lib.ListN.{length}
 use lib.Dec.{ltb, eqb}
 use Rattle.base.specs.Tests.{_and_, pick, every, some, keep, product}
 use Rattle.nest.specs.declared.Nest.{Nest}
-use Rattle.nest.specs.Nest.{tileLength, component, tileCount, cells, tiles, processors}
+use Rattle.nest.specs.Nest.{tileLength, component, cells, tiles, processors}
 use Rattle.machine.specs.Plan.{Message, Plan}
 use Rattle.plan.specs.Geometry.{place, cellPlace, tileAt, tilePlace, tileOf, cellsOf, processorOf, inside, readsOf, value}
 
