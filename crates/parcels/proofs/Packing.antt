@@ -23,7 +23,7 @@ use Rattle.plan.proofs.Grid.{map-append, keep-add, keep-nothing, keep-run, map-
 use Rattle.plan.proofs.Box.{boxParcel-none, boxParcel-few}
 use Rattle.layout.specs.declared.Bounds.{Bounds}
 use Rattle.layout.specs.CellRows.{rowOf}
-use Rattle.parcels.specs.Windows.{Leading, RowEnds, rowParcel, RowRoom, RowPacked}
+use Rattle.parcels.specs.Windows.{isRead, Leading, RowEnds, rowParcel, RowRoom, RowPacked}
 use Rattle.parcels.proofs.Walks.{walked, meets, walked-mono, walked-hit, walked-miss, pack-append}
 
 -- ---- the cells of a row that some distance reads
@@ -41,7 +41,9 @@ row-of-two = refl
 keep-rest : (f : ℕ → Bool) (y w : ℕ) → y ≤ w → ((i : ℕ) → y ≤ i → i < w → f i ≡ false) → keep f w ≡ keep f y
 keep-rest f y w h none =
     let k : w ≡ y + (w - y) = omega arith in
-    ap (keep f) k ∙ keep-add f y (w - y) ∙ rw (keep-nothing (λ t. f (y + t)) (w - y) (λ t l. none (y + t) (omega arith) (omega arith))) (append-nil (keep f y))
+    ap (keep f) k
+    ∙ keep-add f y (w - y)
+    ∙ rw (keep-nothing (λ t. f (y + t)) (w - y) (λ t l. none (y + t) (omega arith) (omega arith))) (append-nil (keep f y))
 
 module _ (ends : List ℕ) (n c a : ℕ) where
   row-none : rowParcel ends n c a 0 ≡ []
@@ -49,34 +51,35 @@ module _ (ends : List ℕ) (n c a : ℕ) where
   row-none = refl
 
   module _ (y : ℕ) where
-    row-hit : some (λ e. ltb (a + y) (getD ends e 0)) n ≡ true → rowParcel ends n c a (y + 1) ≡ rowParcel ends n c a y ++ ((c + y) ∷ [])
+    row-hit : isRead ends n (a + y) ≡ true → rowParcel ends n c a (y + 1) ≡ rowParcel ends n c a y ++ ((c + y) ∷ [])
     unfolding rowParcel
-    row-hit h = rw (add-one y, keep-hit (λ i. some (λ e. ltb (a + i) (getD ends e 0)) n) y h) (map-append (λ i. c + i) (keep (λ i. some (λ e. ltb (a + i) (getD ends e 0)) n) y) (y ∷ []))
+    row-hit h =
+        rw (add-one y, keep-hit (λ i. isRead ends n (a + i)) y h) (map-append (λ i. c + i) (keep (λ i. isRead ends n (a + i)) y) (y ∷ []))
 
-    row-miss : some (λ e. ltb (a + y) (getD ends e 0)) n ≡ false → rowParcel ends n c a (y + 1) ≡ rowParcel ends n c a y
+    row-miss : isRead ends n (a + y) ≡ false → rowParcel ends n c a (y + 1) ≡ rowParcel ends n c a y
     unfolding rowParcel
-    row-miss h = rw (add-one y, keep-none (λ i. some (λ e. ltb (a + i) (getD ends e 0)) n) y h)
+    row-miss h = rw (add-one y, keep-none (λ i. isRead ends n (a + i)) y h)
 
     -- none is read after one that no distance reads
     row-rest : (w : ℕ) → y ≤ w → ((e : ℕ) → e < n → ltb (a + y) (getD ends e 0) ≡ false) → rowParcel ends n c a w ≡ rowParcel ends n c a y
     unfolding rowParcel
     row-rest w h f =
-        ap (map (λ i. c + i)) (keep-rest (λ i. some (λ e. ltb (a + i) (getD ends e 0)) n) y w h
+        ap (map (λ i. c + i)) (keep-rest (λ i. isRead ends n (a + i)) y w h
         (λ i k l. some-none _ n (λ e o. le-ltb (a + i) (getD ends e 0) (omega (arith, ltb-false (a + y) (getD ends e 0) (f e o))))))
 
     row-more : (w : ℕ) → y ≤ w → length (rowParcel ends n c a y) ≤ length (rowParcel ends n c a w)
     unfolding rowParcel
-    row-more w h = simp length-map (keep-mono (λ i. some (λ e. ltb (a + i) (getD ends e 0)) n) w y h)
+    row-more w h = simp length-map (keep-mono (λ i. isRead ends n (a + i)) w y h)
 
-    row-lt : (w : ℕ) → y < w → some (λ e. ltb (a + y) (getD ends e 0)) n ≡ true → length (rowParcel ends n c a y) < length (rowParcel ends n c a w)
+    row-lt : (w : ℕ) → y < w → isRead ends n (a + y) ≡ true → length (rowParcel ends n c a y) < length (rowParcel ends n c a w)
     unfolding rowParcel
-    row-lt w h t = simp length-map (keep-lt (λ i. some (λ e. ltb (a + i) (getD ends e 0)) n) w y h t)
+    row-lt w h t = simp length-map (keep-lt (λ i. isRead ends n (a + i)) w y h t)
 
   -- they are the first ones
   pub row-run : (w r : ℕ) → Leading ends n a w r → rowParcel ends n c a w ≡ rowOf c r
   unfolding rowParcel
   row-run w r p =
-      ap (map (λ i. c + i)) (keep-run (λ i. some (λ e. ltb (a + i) (getD ends e 0)) n) 0 r w (omega (arith, p .low))
+      ap (map (λ i. c + i)) (keep-run (λ i. isRead ends n (a + i)) 0 r w (omega (arith, p .low))
       (λ i h. absurd (omega arith))
       (λ i h. sym (p .is (0 + i) (omega (arith, p .low))) ∙ lt-ltb (0 + i) r (omega arith))
       (λ i h k. sym (p .is i k) ∙ le-ltb i r (omega arith)))
@@ -132,19 +135,22 @@ module _ (ends : List ℕ) (n c a w : ℕ) (memory words₀ : List ℕ) (packed 
         };
       }
 
-  pub packing-end : (words : List ℕ) (count y : ℕ) → Packing ends n c a w memory words₀ packed words count y → w ≤ y → RowPacked ends n c a w memory words₀ packed words count
+  pub packing-end : (words : List ℕ) (count y : ℕ) → Packing ends n c a w memory words₀ packed words count y → w ≤ y
+      → RowPacked ends n c a w memory words₀ packed words count
   packing-end words count y p h = let z : y ≡ w = omega (arith, p .low) in rw z at (p .first)
 
   module _ (k : RowRoom ends n c a w memory words₀ packed) where
-    pub packing-long : (words : List ℕ) (count y : ℕ) → y ≤ w → RowPacked ends n c a y memory words₀ packed words count → length words ≡ length words₀
+    pub packing-long : (words : List ℕ) (count y : ℕ) → y ≤ w → RowPacked ends n c a y memory words₀ packed words count
+        → length words ≡ length words₀
     packing-long words count y h p =
         ap length (p .is)
-        ∙ length-put words₀ packed (pack memory (rowParcel ends n c a y)) (omega (arith, k .room, pack-length (rowParcel ends n c a y) memory, row-more ends n c a y w h))
+        ∙ length-put words₀ packed (pack memory (rowParcel ends n c a y))
+        (omega (arith, k .room, pack-length (rowParcel ends n c a y) memory, row-more ends n c a y w h))
 
     module _ (words₁ : List ℕ) (count₁ y₁ : ℕ) (p : Packing ends n c a w memory words₀ packed words₁ count₁ y₁) (h : y₁ < w)
         (words : List ℕ) (count y e : ℕ) (f : Searching (λ d. ltb (a + y₁) (getD ends d 0)) n words₁ count₁ y₁ words count y e) where
       module _ (l : e < n) (hit : a + y₁ < getD ends e 0) where
-        met : some (λ d. ltb (a + y₁) (getD ends d 0)) n ≡ true
+        met : isRead ends n (a + y₁) ≡ true
         met = some-one _ n e l (lt-ltb _ _ hit)
 
         pub packing-room : (count < length words) × (count < 16384)
@@ -158,13 +164,21 @@ module _ (ends : List ℕ) (n c a w : ℕ) (memory words₀ : List ℕ) (packed 
             record {
               low = omega (arith, f .same-y);
               first = rw (f .same-words, f .same-count, f .same-y) (record {
-                count-is = omega (arith, p .first .count-is, ap length (row-hit ends n c a y₁ met), length-append (rowParcel ends n c a y₁) ((c + y₁) ∷ []));
+                count-is = omega (arith, p .first .count-is, ap length found, length-append (rowParcel ends n c a y₁) ((c + y₁) ∷ []));
                 is = ap (λ (z : List ℕ). set z count₁ (getD memory (c + y₁) 0)) (p .first .is)
-                    ∙ ap (λ (m : ℕ). set (put words₀ packed (pack memory (rowParcel ends n c a y₁))) m (getD memory (c + y₁) 0)) (p .first .count-is ∙ ap (λ (m : ℕ). packed + m) (sym (pack-length (rowParcel ends n c a y₁) memory)))
-                    ∙ put-more words₀ packed (pack memory (rowParcel ends n c a y₁)) (getD memory (c + y₁) 0) (omega (arith, k .room, pack-length (rowParcel ends n c a y₁) memory, row-lt ends n c a y₁ w h met))
-                    ∙ ap (put words₀ packed) (sym (ap (pack memory) (row-hit ends n c a y₁ met) ∙ pack-append memory (rowParcel ends n c a y₁) ((c + y₁) ∷ [])));
+                    ∙ ap (λ (m : ℕ). set (put words₀ packed (pack memory (rowParcel ends n c a y₁))) m (getD memory (c + y₁) 0))
+                    (p .first .count-is ∙ ap (λ (m : ℕ). packed + m) (sym as-long))
+                    ∙ put-more words₀ packed (pack memory (rowParcel ends n c a y₁)) (getD memory (c + y₁) 0)
+                    (omega (arith, k .room, as-long, row-lt ends n c a y₁ w h met))
+                    ∙ ap (put words₀ packed) (sym (ap (pack memory) found ∙ pack-append memory (rowParcel ends n c a y₁) ((c + y₁) ∷ [])));
               });
             }
+          where
+            found : rowParcel ends n c a (y₁ + 1) ≡ rowParcel ends n c a y₁ ++ ((c + y₁) ∷ [])
+            found = row-hit ends n c a y₁ met
+
+            as-long : length (pack memory (rowParcel ends n c a y₁)) ≡ length (rowParcel ends n c a y₁)
+            as-long = pack-length (rowParcel ends n c a y₁) memory
 
       pub packing-left : n ≤ e → RowPacked ends n c a w memory words₀ packed words count
       packing-left l =
@@ -186,7 +200,8 @@ pub record PackedTo (x : Nest) (s : ℕ) (b : Bounds) (memory words : List ℕ) 
   pub count-is : count ≡ length (walked x s b q)
   pub is : take count words ≡ pack memory (walked x s b q)
 
-pub packed-none : (x : Nest) (s : ℕ) (b : Bounds) (memory words : List ℕ) → length words ≡ length (walked x s b (b .size)) → b .size ≤ 16384 → PackedTo x s b memory words 0 0
+pub packed-none : (x : Nest) (s : ℕ) (b : Bounds) (memory words : List ℕ) → length words ≡ length (walked x s b (b .size))
+    → b .size ≤ 16384 → PackedTo x s b memory words 0 0
 unfolding pack
 packed-none x s b memory words long small =
     record {
@@ -197,25 +212,28 @@ packed-none x s b memory words long small =
       is = ap (pack memory) (sym (boxParcel-none x (b .tile) (slotDirection x s)));
     }
 
-pub packed-end : (x : Nest) (s : ℕ) (b : Bounds) (memory words : List ℕ) (count q : ℕ) → PackedTo x s b memory words count q → b .size ≤ q → words ≡ pack memory (walked x s b (b .size))
+pub packed-end : (x : Nest) (s : ℕ) (b : Bounds) (memory words : List ℕ) (count q : ℕ) → PackedTo x s b memory words count q
+    → b .size ≤ q → words ≡ pack memory (walked x s b (b .size))
 packed-end x s b memory words count q p h =
     let z : q ≡ b .size = omega (arith, p .low) in
     let k : count ≡ length words = p .count-is ∙ ap (λ (m : ℕ). length (walked x s b m)) z ∙ sym (p .long) in
     sym (take-length words) ∙ ap (λ (m : ℕ). take m words) (sym k) ∙ p .is ∙ ap (λ (m : ℕ). pack memory (walked x s b m)) z
 
 module _ (x : Nest) (s : ℕ) (b : Bounds) (first c a w : ℕ) (ends : List ℕ) (f : RowEnds x s b first c a w ends) where
-  row-meets : (y : ℕ) → y < w → some (λ e. ltb (a + y) (getD ends e 0)) (x .distances) ≡ meets x s b (first + y)
+  row-meets : (y : ℕ) → y < w → isRead ends (x .distances) (a + y) ≡ meets x s b (first + y)
   row-meets y k = some-same _ _ (x .distances) (λ e i. f .tests y e k i)
 
   row-walked : (y : ℕ) → y ≤ w → walked x s b (first + y) ≡ walked x s b first ++ rowParcel ends (x .distances) c a y
   row-walked zero k = rw (add-zero first, row-none ends (x .distances) c a) (sym (append-nil _))
   row-walked (suc y) k = rw (← add-one y, ← add-assoc first y 1) (go _ refl (row-walked y (omega arith)))
     where
-      go : (t : Bool) → some (λ e. ltb (a + y) (getD ends e 0)) (x .distances) ≡ t → walked x s b (first + y) ≡ walked x s b first ++ rowParcel ends (x .distances) c a y
+      go : (t : Bool) → isRead ends (x .distances) (a + y) ≡ t
+          → walked x s b (first + y) ≡ walked x s b first ++ rowParcel ends (x .distances) c a y
           → walked x s b (first + y + 1) ≡ walked x s b first ++ rowParcel ends (x .distances) c a (y + 1)
       go true e ih =
           walked-hit x s b (first + y) (sym (row-meets y (omega arith)) ∙ e)
-          ∙ rw (ih, row-hit ends (x .distances) c a y e, f .number y (omega arith)) (append-assoc (walked x s b first) (rowParcel ends (x .distances) c a y) _)
+          ∙ rw (ih, row-hit ends (x .distances) c a y e, f .number y (omega arith))
+          (append-assoc (walked x s b first) (rowParcel ends (x .distances) c a y) _)
       go false e ih = walked-miss x s b (first + y) (sym (row-meets y (omega arith)) ∙ e) ∙ rw (row-miss ends (x .distances) c a y e) ih
 
   pub row-all : walked x s b (first + w) ≡ walked x s b first ++ rowParcel ends (x .distances) c a w
@@ -239,16 +257,19 @@ module _ (x : Nest) (s : ℕ) (b : Bounds) (first c a w : ℕ) (ends : List ℕ)
           most = omega (arith, p .long, p .small, boxParcel-few x (b .tile) (slotDirection x s) (b .size));
         }
 
-    pub packed-row : (words′ : List ℕ) (count′ : ℕ) → RowPacked ends (x .distances) c a w memory words count words′ count′ → PackedTo x s b memory words′ count′ (first + w)
+    as-long : length (pack memory (rowParcel ends (x .distances) c a w)) ≡ length (rowParcel ends (x .distances) c a w)
+    as-long = pack-length (rowParcel ends (x .distances) c a w) memory
+
+    pub packed-row : (words′ : List ℕ) (count′ : ℕ) → RowPacked ends (x .distances) c a w memory words count words′ count′
+        → PackedTo x s b memory words′ count′ (first + w)
     packed-row words′ count′ r =
-        let k : length (pack memory (rowParcel ends (x .distances) c a w)) ≡ length (rowParcel ends (x .distances) c a w) = pack-length (rowParcel ends (x .distances) c a w) memory in
-        let h : count + length (pack memory (rowParcel ends (x .distances) c a w)) ≤ length words = omega (arith, all-room) in
+        let h : count + length (pack memory (rowParcel ends (x .distances) c a w)) ≤ length words = omega (arith, all-room, as-long) in
         record {
           low = f .room;
           long = ap length (r .is) ∙ length-put words count (pack memory (rowParcel ends (x .distances) c a w)) h ∙ p .long;
           small = p .small;
           count-is = omega (arith, r .count-is, p .count-is, row-long);
-          is = ap (λ (m : ℕ). take m words′) (r .count-is ∙ ap (λ (m : ℕ). count + m) (sym k))
+          is = ap (λ (m : ℕ). take m words′) (r .count-is ∙ ap (λ (m : ℕ). count + m) (sym as-long))
               ∙ ap (take (count + length (pack memory (rowParcel ends (x .distances) c a w)))) (r .is)
               ∙ take-put words count (pack memory (rowParcel ends (x .distances) c a w)) h
               ∙ ap (λ (z : List ℕ). z ++ pack memory (rowParcel ends (x .distances) c a w)) (p .is)

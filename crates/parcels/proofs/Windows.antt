@@ -27,7 +27,7 @@ use Rattle.layout.specs.declared.Bounds.{Bounds}
 use Rattle.layout.specs.declared.Cell.{Cell}
 use Rattle.layout.specs.Places.{nth, Located, puts}
 use Rattle.layout.specs.CellRows.{rowOf, Given}
-use Rattle.parcels.specs.Windows.{Windowed, RowEnd, DistanceEnds, Leading, RowEnds}
+use Rattle.parcels.specs.Windows.{Windowed, RowEnd, DistanceEnds, isRead, Leading, RowEnds}
 use Rattle.parcels.specs.Sendings.{carries}
 use Rattle.layout.proofs.Loops.{every-same, Sofar, sofar-end, Filled, filled-end}
 use Rattle.parcels.proofs.Walks.{Walk, walked, Measuring, Unpacking, walked-mono, reach-is, unpack-append}
@@ -166,7 +166,7 @@ module _ (x : Nest) (ok : Accepted x) (to i : List ℕ) (e : ℕ) where
 pub record Highest (ends : List ℕ) (n a m e : ℕ) : Type 0 where
   pub low : e ≤ n
   pub most : a ≤ m
-  pub is : (y : ℕ) → ltb (a + y) m ≡ some (λ d. ltb (a + y) (getD ends d 0)) e
+  pub is : (y : ℕ) → ltb (a + y) m ≡ isRead ends e (a + y)
 
 or-none : (t : Bool) → t ≡ false → (u : Bool) → u ≡ (t or u)
 unfolding _or_

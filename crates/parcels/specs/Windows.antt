@@ -3,6 +3,7 @@
 -- No sentence of document 01; proofs/ ties each to Messages.
 use Prim.Native.Nat.{ℕ, _+_, _*_, _-_, _≤_, _<_, min}
 use mathlib.Core.Path.{_≡_}
+use mathlib.Core.Bool.{Bool}
 use mathlib.Core.List.{List, map}
 use lib.ListN.{length, getD}
 use lib.Dec.{ltb}
@@ -30,10 +31,14 @@ pub record RowEnd (x : Nest) (to i : List ℕ) (e r : ℕ) : Type 0 where
 pub record DistanceEnds (x : Nest) (to i ends : List ℕ) : Type 0 where
   pub each : (e : ℕ) → e < x .distances → RowEnd x to i e (getD ends e 0)
 
+-- a cell of the row with the last component m is below one of the n ends: some distance puts it there
+abbrev pub isRead : List ℕ → ℕ → ℕ → Bool
+isRead ends n m = some (λ e. ltb m (getD ends e 0)) n
+
 -- of the w cells from the last component a on, the first r are below one of the n ends, and no others
 pub record Leading (ends : List ℕ) (n a w r : ℕ) : Type 0 where
   pub low : r ≤ w
-  pub is : (y : ℕ) → y < w → ltb y r ≡ some (λ e. ltb (a + y) (getD ends e 0)) n
+  pub is : (y : ℕ) → y < w → ltb y r ≡ isRead ends n (a + y)
 
 -- the w cells of the box from the first-th on, a row's, with the ends there
 pub record RowEnds (x : Nest) (s : ℕ) (b : Bounds) (first c a w : ℕ) (ends : List ℕ) : Type 0 where
@@ -46,7 +51,7 @@ pub record RowEnds (x : Nest) (s : ℕ) (b : Bounds) (first c a w : ℕ) (ends :
 -- of the w cells of a row, the first with number c and last component a, those that one of the n distances puts there, being
 -- below its end: each once, rising
 unfoldable pub rowParcel : List ℕ → ℕ → ℕ → ℕ → ℕ → List ℕ
-rowParcel ends n c a w = map (λ y. c + y) (keep (λ y. some (λ e. ltb (a + y) (getD ends e 0)) n) w)
+rowParcel ends n c a w = map (λ y. c + y) (keep (λ y. isRead ends n (a + y)) w)
 
 -- the row is the memory's, and its cells that are to be packed have room from `packed` on
 pub record RowRoom (ends : List ℕ) (n c a w : ℕ) (memory words : List ℕ) (packed : ℕ) : Type 0 where
