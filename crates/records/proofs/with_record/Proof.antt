@@ -1,3 +1,4 @@
+use native.Mathlib.Omega.{arith}
 use borrow.Author.Needs.{needs}
 use Rattle.records.proofs.Laws.{written, unwritten, with-written}
 use Rattle.records.proofs.with_record.Statement.{statement}
@@ -37,10 +38,10 @@ array-write-words-3 : tie.Need-array-write-words-3
 array-write-words-3 c = search needs
 
 returns : tie.Need-returns
-returns c = with-written _ _ _ _ (written _ _ _ (c .if1 .taken))
+returns c = with-written _ _ _ _ (written _ _ _ (omega (arith, c .if1 .taken)))
 
 returns-2 : tie.Need-returns-2
-returns-2 c = with-written _ _ _ _ (unwritten _ _ _ (c .if1 .left))
+returns-2 c = with-written _ _ _ _ (unwritten _ _ _ (omega (arith, c .if1 .left)))
 
 pub with-record-spec : {M : Type 1} → statement M
 with-record-spec =
