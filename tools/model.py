@@ -1,4 +1,4 @@
-"""A plain model of document 01, written from its text, read as docs/DECISIONS.md says, and not from the engine.
+"""A plain model of document 01 and of request W-201, written from their text, read as docs/DECISIONS.md says, and not from the engine.
 
 Every set is made by trying all its candidates. It shares no code, no table and no closed form with
 the engine, so that a test vector made from it tells whether the engine means what the paper says.
@@ -87,11 +87,11 @@ def is_faulty_distance(nest):
 
 
 def is_faulty_tile(nest):
-    """Line 6."""
+    """Line 6, as W-201 has it: a tile may be as long as a distance."""
     for j, k in enumerate(nest.tiling):
         if k == 0 or k > 1024:
             return True
-        if any(not k > d[j] for d in nest.components):
+        if any(k < d[j] for d in nest.components):
             return True
     return False
 
@@ -475,14 +475,16 @@ def expect(what, got, wanted):
 
 
 def check_paper():
-    """The rows and facts that document 01 prints."""
+    """The rows and facts that document 01 prints, row G as W-201 has it."""
     totals = {
         'A': (16, 12, 24, 56), 'B': (4, 2, 14, 12), 'C': (8, 10, 144, 36),
-        'D': (2, 1, 1, 6), 'E': (3, 2, 2, 10), 'F': (2, 0, 0, 4)}
+        'D': (2, 1, 1, 6), 'E': (3, 2, 2, 10), 'F': (2, 0, 0, 4), 'G': (4, 3, 3, 14)}
     for row, wanted in totals.items():
         expect('row ' + row, plan_text(ROWS[row]).split('\n')[0], 'tiles %d messages %d words %d steps %d' % wanted)
-    expect('row G', plan_text(ROWS['G']), 'refused 6\n')
     expect('row H', plan_text(ROWS['H']), 'refused 7\n')
+    # every reader of tile 0's cells is in tile 3, and tile 2 takes the message
+    unread = encode([4, 4], [2, 2], [2, 0], [(2, 2)])
+    expect('a message that its taker does not read', plan_text(unread), 'tiles 4 messages 1 words 4 steps 10\n0 0 2 0 1 4\n')
     expect('lines of B', plan_text(ROWS['B']).split('\n')[1:3], ['0 0 2 0 1 8', '1 1 3 0 1 6'])
     expect('text of D', plan_text(ROWS['D']), 'tiles 2 messages 1 words 1 steps 6\n0 0 1 0 1 1\n')
     expect('last tile of E', len(plan_of(ROWS['E'])[1].cells_of[2]), 1)
@@ -497,7 +499,7 @@ def check_paper():
     expect('board 1 in F', run(ROWS['F'], areas, [('turn', 1)]), [0, 13])
     expect('128,128', read(encode([128, 128], [8, 8], [2, 0], [(1, 0)]))[0], 0)
     expect('128,129', read(encode([128, 129], [8, 8], [2, 0], [(1, 0)]))[0], 4)
-    for row in 'ABCDEF':
+    for row in 'ABCDEFG':
         expect('row %s both ways' % row, compare_text(ROWS[row]), 'agree\n' * 4)
         for falling in (False, True):
             areas = areas_for(plan_of(ROWS[row])[1], [1] * plan_of(ROWS[row])[1].cells)
@@ -506,4 +508,4 @@ def check_paper():
 
 if __name__ == '__main__':
     check_paper()
-    print('the model gives what document 01 prints')
+    print('the model gives what document 01 and W-201 print')

@@ -1,10 +1,10 @@
 #!/usr/bin/env python3
-"""Test recipes for the reader, with the numbers that document 01 gives them.
+"""Test recipes for the reader, with the numbers that document 01 and request W-201 give them.
 
     python3 tools/recipes.py          write crates/nest_cases/data/cases and crates/nest_cases/stdout
     python3 tools/recipes.py check    compare both with a fresh generation, and every number with tools/model.py
 
-The number of every case is written here by hand or, for damaged bytes, by `number`, which is made from document 01 alone; both are
+The number of every case is written here by hand or, for damaged bytes, by `number`, which is made from those papers alone; both are
 held against each other where a case has both.
 
 The file `cases` is a sequence of cases: the label's length (1 byte), the label, the recipe's length (2 bytes, low one first), the recipe.
@@ -40,7 +40,7 @@ def recipe(lengths, tiles, counts, distances, shift=0, shore=0, weights=None):
             + b"".join(distance(d, w) for d, w in zip(distances, weights)) + close(shift, shore))
 
 
-# ---- document 01, lines 1 to 8 of its table
+# ---- document 01, lines 1 to 8 of its table; line 6 as W-201 has it
 
 def number(b):
     if len(b) == 0 or len(b) % 16 != 0:
@@ -67,7 +67,7 @@ def number(b):
         return 4
     if any(not any(d) for d in D) or len(set(D)) < len(D) or any(any(d[n:]) for d in D):
         return 5
-    if any(not 1 <= k[j] <= 1024 or any(not k[j] > d[j] for d in D) for j in range(n)):
+    if any(not 1 <= k[j] <= 1024 or any(k[j] < d[j] for d in D) for j in range(n)):
         return 6
     spread = [j for j in range(n) if P[j] != 0]
     boards = 1
@@ -109,7 +109,7 @@ case("row-C", C, 0)
 case("row-D", D, 0)
 case("row-E", recipe([5, 1], [2, 1], [2, 0], [(1, 0)]), 0)
 case("row-F", recipe([1, 2], [2, 1], [2, 0], [(1, 0)]), 0)
-case("row-G", recipe([4, 1], [1, 1], [2, 0], [(1, 0)]), 6)
+case("row-G", recipe([4, 1], [1, 1], [2, 0], [(1, 0)]), 0)
 case("row-H", recipe([4, 1], [2, 1], [1, 0], [(1, 0)]), 7)
 case("four-dimensions", FOUR, 0)
 
@@ -190,13 +190,18 @@ case("weight-0", recipe([8, 8], [4, 4], [2, 0], [(1, 0)], weights=[0]), 0)
 case("weight-65535", recipe([8, 8], [4, 4], [2, 0], [(1, 0)], weights=[65535]), 0)
 
 # line 6
-for tile, expected in ((0, 6), (1, 6), (2, 6), (3, 0), (1024, 0), (1025, 6), (65535, 6)):
+for tile, expected in ((0, 6), (1, 6), (2, 0), (3, 0), (1024, 0), (1025, 6), (65535, 6)):
     case("tile-%d-distance-2" % tile, recipe([8, 8], [tile, 4], [2, 0], [(2, 0)]), expected)
     case("tile-%d-distance-2-in-the-second" % tile, recipe([8, 8], [4, tile], [2, 0], [(1, 2)]), expected)
 case("tile-1-distance-0", recipe([8, 8], [2, 1], [2, 0], [(1, 0)]), 0)
-case("tile-255-distance-255", recipe([8, 8], [255, 2], [2, 0], [(255, 0)]), 6)
+case("tile-254-distance-255", recipe([8, 8], [254, 2], [2, 0], [(255, 0)]), 6)
+case("tile-255-distance-255", recipe([8, 8], [255, 2], [2, 0], [(255, 0)]), 0)
 case("tile-256-distance-255", recipe([8, 8], [256, 2], [2, 0], [(255, 0)]), 0)
-case("tile-equals-the-eighth-distance", recipe([8, 8], [4, 4], [2, 0], EIGHT[:7] + [(4, 0)]), 6)
+case("tile-equals-the-eighth-distance", recipe([8, 8], [4, 4], [2, 0], EIGHT[:7] + [(4, 0)]), 0)
+case("tile-below-the-eighth-distance", recipe([8, 8], [4, 4], [2, 0], EIGHT[:7] + [(5, 0)]), 6)
+case("tile-equals-in-the-last-of-four", recipe([2, 2, 2, 8], [2, 2, 2, 3], [2, 0, 0, 0], [(0, 0, 0, 3)]), 0)
+case("tile-below-in-the-last-of-four", recipe([2, 2, 2, 8], [2, 2, 2, 3], [2, 0, 0, 0], [(0, 0, 0, 4)]), 6)
+case("tile-1-in-both-distance-1-1", recipe([8, 8], [1, 1], [2, 0], [(1, 1)]), 0)
 
 # line 7
 for counts, expected in (((0, 0), 7), ((1, 0), 7), ((0, 1), 7), ((0, 2), 7), ((2, 1), 7), ((2, 2), 7), ((2, 0), 0), ((64, 0), 0), ((65, 0), 7),

@@ -53,7 +53,7 @@ def drawn_recipe(draw, most_cells, most_words=None, n=None, m=None, distances=No
         wanted = distances or draw.between(1, 8)
         found = []
         for _ in range(60):
-            d = tuple(draw.below(min(k, 4)) for k in tiling)
+            d = tuple(draw.below(min(k, 4) + 1) for k in tiling)
             if any(d) and d not in found and len(found) < wanted:
                 found.append(d)
         if len(found) != wanted and distances or not found:
@@ -126,9 +126,9 @@ def refused_recipes():
               (5, model.encode([4, 4, 4], [2, 2, 2], [2, 0, 0], [(1, 0, 0, 1)])),
               (5, model.encode([4, 4], [2, 2], [2, 0], [(0, 1, 0, 255)]))]
     found += [(6, model.encode([4, 4], [0, 2], [2, 0], [(0, 1)])), (6, model.encode([4, 4], [2, 1025], [2, 0], [(1, 0)])),
-              (6, model.encode([4, 4], [2, 2], [2, 0], [(2, 0)])), (6, model.encode([4, 4], [4, 4], [2, 0], [(1, 0), (0, 5)])),
+              (6, model.encode([4, 4], [2, 2], [2, 0], [(3, 0)])), (6, model.encode([4, 4], [4, 4], [2, 0], [(1, 0), (0, 5)])),
               (6, model.encode([4, 4, 4], [4, 4, 65535], [2, 0, 0], [(1, 0, 0)])),
-              (6, model.encode([300, 1], [255, 1], [2, 0], [(255, 0)]))]
+              (6, model.encode([300, 1], [254, 1], [2, 0], [(255, 0)]))]
     found += [(7, model.encode([4, 4], [2, 2], [0, 2], [(1, 0)])), (7, model.encode([4, 4], [2, 2], [0, 0], [(1, 0)])),
               (7, model.encode([4, 4], [2, 2], [2, 2], [(1, 0)])), (7, model.encode([4, 4], [2, 2], [1, 0], [(1, 0)])),
               (7, model.encode([4, 4, 4], [2, 2, 2], [2, 0, 2], [(1, 0, 0)])), (7, model.encode([4, 4, 4], [2, 2, 2], [2, 1, 0], [(1, 0, 0)])),
@@ -182,6 +182,14 @@ def chosen_recipes():
         # the longest dimension
         model.encode([1024, 1], [16, 1], [8, 0], [(15, 0), (1, 0)]),
         model.encode([1, 1024], [2, 16], [2, 0], [(1, 15)]),
+        # tiles exactly as long as the reach: every cell crosses; nothing for tile t + v, all for later ones of its column
+        model.encode([6, 6], [2, 3], [2, 0], [(2, 0)]),
+        model.encode([4, 4], [2, 2], [2, 0], [(2, 2)]),
+        model.encode([6, 9], [3, 3], [2, 0], [(3, 3), (0, 3), (1, 0)], [3, 2, 1], 1, 9),
+        model.encode([4, 4, 1], [2, 2, 1], [2, 2, 0], [(2, 2, 0)]),
+        model.encode([5, 7, 3], [2, 3, 1], [2, 3, 0], [(2, 3, 1), (0, 3, 0), (2, 0, 1)]),
+        model.encode([3, 3, 3, 4], [1, 1, 1, 2], [2, 2, 2, 0], [(1, 1, 1, 2), (0, 1, 0, 2), (1, 0, 1, 0)]),
+        model.encode([510, 1], [255, 1], [2, 0], [(255, 0)]),
     ]
 
 
@@ -259,11 +267,15 @@ def sweep_recipes():
         encode([240, 1], [60, 1], [17, 0], [(59, 0), (1, 0)], [1, 2], 0, 3),
         encode([2, 1024], [2, 64], [2, 0], [(1, 1)]),
         encode([128, 128], [16, 16], [2, 0], [(1, 1)]),
+        # tiles exactly as long as the reach
+        encode([32, 32], [8, 16], [4, 0], [(8, 16), (0, 16), (1, 0)], [3, 65535, 2], 1, 7),
+        encode([10, 10, 10], [3, 5, 2], [2, 2, 0], [(3, 5, 2), (3, 0, 0), (0, 5, 1)]),
+        encode([4, 4, 4, 4], [2, 1, 2, 3], [2, 2, 2, 0], [(2, 1, 2, 3), (0, 1, 0, 3)], [65535, 65535], 4, 4294967295),
         # many small tiles
         encode([2, 16, 2], [2, 2, 1], [2, 2, 0], [(1, 1, 0), (0, 1, 0)]),
         encode([40, 1], [2, 1], [3, 0], [(1, 0)]),
     ]
-    assert len(recipes) >= 8 + 34
+    assert len(recipes) >= 8 + 37
     for n in (2, 3, 4):
         for m in range(1, n):
             recipes.append(drawn_recipe(draw, 100, most_words=800, n=n, m=m))
@@ -614,7 +626,7 @@ def steps_from_drawn_states(s):
 def runs_to_the_end(s):
     """Whole runs in drawn orders, refused calls among them; the grid collected is the sweep's."""
     draw = Draw(4)
-    recipes = [model.ROWS[row] for row in 'ABCE'] + chosen_recipes()[:3] + [chosen_recipes()[at] for at in (4, 6, 7, 9, 11)]
+    recipes = [model.ROWS[row] for row in 'ABCEG'] + [chosen_recipes()[at] for at in (0, 1, 2, 4, 6, 7, 9, 11, 16, 17, 19, 20)]
     for n in (2, 3, 4):
         for m in range(1, n):
             for _ in range(2):

@@ -1,6 +1,6 @@
 //! A plain model of the tiled sweep engine: it reads a recipe, lays out its whole plan as lists, and runs the machine
 //! on that plan. It is meant to be read and compared with, not to be quick. Its author had document 01, the trait of
-//! engine.rs and the list of public fields below, and nothing else of this repository or of its other papers.
+//! engine.rs and the list of public fields below, and nothing else of this repository; later the text of request W-201.
 
 use std::array::from_fn;
 use std::cell::RefCell;
@@ -136,7 +136,7 @@ impl Recipe {
         require(in_range(self.lengths), LENGTH)?;
         require(product(self.lengths) <= MAX_CELLS, TOO_LARGE)?;
         require(self.distances_fit(), DISTANCE)?;
-        require(in_range(self.tile_lengths) && self.tiles_exceed_distances(), TILE)?;
+        require(in_range(self.tile_lengths) && self.tiles_span_distances(), TILE)?;
         require(self.counts_fit(), PROCESSORS)?;
         require(product(self.tile_box()) <= MAX_TILES, TILES)
     }
@@ -151,9 +151,10 @@ impl Recipe {
         })
     }
 
-    fn tiles_exceed_distances(&self) -> bool {
-        let shorter = |components: Point| (0..MAX_DIMENSIONS).all(|j| components[j] < self.tile_lengths[j]);
-        self.distances.iter().all(|distance| shorter(distance.components))
+    /// No distance is longer than a tile, in any dimension (W-201: it may be as long).
+    fn tiles_span_distances(&self) -> bool {
+        let spanned = |components: Point| (0..MAX_DIMENSIONS).all(|j| components[j] <= self.tile_lengths[j]);
+        self.distances.iter().all(|distance| spanned(distance.components))
     }
 
     /// A first group of dimensions is spread, neither none nor all of them, over two processors or more each.
@@ -195,7 +196,7 @@ impl Recipe {
         inside.then(|| number_of(taker, self.tile_box()))
     }
 
-    /// All messages by number, which is the order of sender, then taker: a tile is longer than any distance, so its
+    /// All messages by number, which is the order of sender, then taker: no distance is longer than a tile, so a tile's
     /// takers are its neighbours t + v, and their rising order is the lexicographic order of the directions v.
     fn messages(&self) -> Vec<Message> {
         let mut sets: BTreeMap<(usize, usize), BTreeSet<usize>> = BTreeMap::new();

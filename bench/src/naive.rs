@@ -25,8 +25,12 @@ pub enum Fault {
     BoundaryZero,
     /// the same distance with another weight counts as another distance
     WeightTellsApart,
-    /// a tile may be as long as a distance
-    TileAsLong,
+    /// a tile must be longer than every distance
+    TileLonger,
+    /// a message of which tile t + v reads nothing is left out
+    UnreadLeftOut,
+    /// a message is taken by the first tile of the column that reads some of it
+    TakenByReader,
     /// a longer recipe of the right start is accepted
     TailUnread,
     /// only the record of the processor that takes the turn is tested
@@ -57,7 +61,7 @@ pub enum Fault {
     Neighbour,
 }
 
-pub const FAULTS: [Fault; 23] = [
+pub const FAULTS: [Fault; 25] = [
     Fault::UnspreadShift,
     Fault::EdgeTileFull,
     Fault::OnlyTaker,
@@ -66,7 +70,9 @@ pub const FAULTS: [Fault; 23] = [
     Fault::ModuloFirst,
     Fault::BoundaryZero,
     Fault::WeightTellsApart,
-    Fault::TileAsLong,
+    Fault::TileLonger,
+    Fault::UnreadLeftOut,
+    Fault::TakenByReader,
     Fault::TailUnread,
     Fault::OwnRecordOnly,
     Fault::SendNothing,
@@ -200,10 +206,10 @@ impl<'a> View<'a> {
     }
 
     fn bad_tile(&self) -> bool {
-        let room = if self.has(Fault::TileAsLong) { 1 } else { 0 };
+        let more = u64::from(self.has(Fault::TileLonger));
         (0..self.n).any(|j| {
             let k = self.tile(j);
-            k == 0 || k > 1024 || (0..self.distances).any(|d| self.component(d, j) >= k + room)
+            k == 0 || k > 1024 || (0..self.distances).any(|d| self.component(d, j) + more > k)
         })
     }
 
@@ -326,6 +332,18 @@ impl<'a> View<'a> {
         held
     }
 
+    /// the tiles in direction v that read cells of a message, rising
+    fn reading_tiles(&self, tile: &Index, direction: &Index, held: &[u64]) -> Vec<u64> {
+        let mut tiles = vec![];
+        for &number in held {
+            let cell = self.cell(number);
+            let readers = (0..self.distances).filter(|&d| self.reads(tile, direction, &cell, d));
+            tiles.extend(readers.map(|d| self.tile_number(&self.tile_at(&self.ahead(&cell, d)))));
+        }
+        tiles.sort();
+        tiles
+    }
+
     /// the directions in lexicographic order
     fn directions(&self) -> Vec<Index> {
         let m = self.spread;
@@ -350,7 +368,15 @@ impl<'a> View<'a> {
                 for j in 0..self.spread {
                     taker[j] += direction[j];
                 }
-                messages.push((tile, self.tile_number(&taker), held));
+                let mut taker = self.tile_number(&taker);
+                let readers = || self.reading_tiles(&index, &direction, &held);
+                if self.has(Fault::UnreadLeftOut) && !readers().contains(&taker) {
+                    continue;
+                }
+                if self.has(Fault::TakenByReader) {
+                    taker = readers()[0];
+                }
+                messages.push((tile, taker, held));
             }
         }
         Rc::new(messages)

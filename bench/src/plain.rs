@@ -57,7 +57,7 @@ fn read(encoded: &[u8]) -> Result<Nest, u32> {
     }
     for j in 0..n {
         let k = nest.tile[j];
-        if k == 0 || k > 1024 || nest.components[..nest.distances].iter().any(|c| c[j] >= k) {
+        if k == 0 || k > 1024 || nest.components[..nest.distances].iter().any(|c| c[j] > k) {
             return Err(6);
         }
     }

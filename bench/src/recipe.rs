@@ -62,11 +62,7 @@ pub fn random(rng: &mut Rng, limits: Limits) -> Numbers {
     let spread = rng.between(1, n - 1);
     let cells = if rng.one_in(3) { limits.cells } else { rng.between(1, limits.cells) };
     let lengths = random_lengths(rng, n, cells);
-    let mut tiles: Vec<usize> = lengths.iter().map(|&length| random_tile(rng, length)).collect();
-    if tiles.iter().all(|&tile| tile == 1) {
-        // no distance but the zero one would be shorter than such a tile
-        tiles[rng.below(n)] = 2;
-    }
+    let tiles: Vec<usize> = lengths.iter().map(|&length| random_tile(rng, length)).collect();
     let distances = random_distances(rng, &tiles);
     let mut dimensions: Vec<[u16; 3]> = (0..n).map(|j| [lengths[j] as u16, tiles[j] as u16, 0]).collect();
     let mut room = (limits.words / lengths.iter().product::<usize>()).clamp(1, 64);
@@ -121,7 +117,7 @@ fn random_tile(rng: &mut Rng, length: usize) -> usize {
     }
 }
 
-/// distances shorter than the tiles, of every kind: none, short, long, just short enough
+/// distances no longer than the tiles, of every kind: none, short, long, as long as a tile or almost
 fn random_distances(rng: &mut Rng, tiles: &[usize]) -> Vec<([u8; 4], u16)> {
     let wanted = if rng.one_in(3) { rng.between(1, 8) } else { rng.between(1, 3) };
     let mut distances: Vec<([u8; 4], u16)> = vec![];
@@ -129,11 +125,12 @@ fn random_distances(rng: &mut Rng, tiles: &[usize]) -> Vec<([u8; 4], u16)> {
         for _ in 0..wanted * 2 {
             let mut components = [0; 4];
             for (component, &tile) in components.iter_mut().zip(tiles) {
-                let most = (tile - 1).min(255);
-                *component = match rng.below(5) {
+                let most = tile.min(255);
+                *component = match rng.below(6) {
                     0 | 1 => 0,
                     2 => most,
-                    3 => rng.between(0, most),
+                    3 => most - 1,
+                    4 => rng.between(0, most),
                     _ => rng.between(0, most.min(2)),
                 } as u8;
             }
@@ -208,23 +205,22 @@ fn damage_numbers(rng: &mut Rng, numbers: &mut Numbers) {
         }
         5 => numbers.distances[d].0[rng.below(4)] = rng.of(&[1, 2, 254, 255]),
         6 => numbers.dimensions[j][1] = rng.of(&[0, 1, 1024, 1025, 65535]),
-        // a tile as long as a distance, or just longer
-        7 => numbers.dimensions[j][1] = u16::from(numbers.distances[d].0[j.min(3)]) + rng.below(2) as u16,
+        // a tile as long as a distance, or just shorter
+        7 => {
+            let component = u16::from(numbers.distances[d].0[j.min(3)]);
+            numbers.dimensions[j][1] = component.saturating_sub(rng.below(2) as u16);
+        }
         8 => numbers.dimensions[j][2] = rng.of(&[0, 1, 2, 64, 65, 32768, 65535]),
         9 => numbers.dimensions[0][2] = 0,
         10 => numbers.dimensions[n - 1][2] = rng.of(&[1, 2]),
         11 => numbers.dimensions.iter_mut().for_each(|x| x[2] = rng.of(&[2, 8, 9, 65535])),
         // small tiles: about the border of line 8
         12 => numbers.dimensions.iter_mut().enumerate().for_each(|(i, x)| {
-            x[1] = 1 + numbers.distances.iter().map(|y| u16::from(y.0[i.min(3)])).max().unwrap_or(0);
+            x[1] = numbers.distances.iter().map(|y| u16::from(y.0[i.min(3)])).fold(1, u16::max);
         }),
         13 => {
             numbers.dimensions = vec![[32, 1, 2], [rng.of(&[32, 33]), 1, 0]];
-            numbers.distances = vec![([0, 0, 0, 0], 1)];
-            if rng.one_in(2) {
-                numbers.dimensions.iter_mut().for_each(|x| *x = [2 * x[0], 2, x[2]]);
-                numbers.distances[0].0 = [1, 0, 0, 0];
-            }
+            numbers.distances = vec![([1, 0, 0, 0], 1)];
         }
         14 => numbers.shift = rng.of(&[31, 32, 33, 255]),
         15 => {

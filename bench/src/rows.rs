@@ -68,7 +68,7 @@ fn totals_of_the_rows() {
             ('D', Ok([2, 1, 1, 6])),
             ('E', Ok([3, 2, 2, 10])),
             ('F', Ok([2, 0, 0, 4])),
-            ('G', Err(6)),
+            ('G', Ok([4, 3, 3, 14])),
             ('H', Err(7)),
         ];
         for (letter, expected) in rows {
@@ -89,6 +89,19 @@ fn message_lines() {
         assert_eq!(line('B', 1), (0, [1, 3, 0, 1, 6]), "{}", engine.name());
         assert_eq!(line('B', 2), (11, [9; 5]), "{}", engine.name());
         assert_eq!(line('D', 0), (0, [0, 1, 0, 1, 1]), "{}", engine.name());
+        assert_eq!(line('G', 1), (0, [1, 2, 1, 0, 1]), "{}", engine.name());
+    }
+}
+
+#[test]
+fn tiles_as_long_as_the_reach() {
+    for engine in engines() {
+        let side = |tile| Numbers::new(&[[4, tile, 2], [4, 2, 0]], &[&[2, 2]]);
+        // tile 0's cells are all read by tile 3, none by tile 2, which takes the message
+        assert_eq!(totals(&*engine, &side(2)), Ok([4, 1, 4, 10]), "{}", engine.name());
+        let mut line = [0; 5];
+        assert_eq!((engine.message(&side(2).bytes(), 0, &mut line), line), (0, [0, 2, 0, 1, 4]), "{}", engine.name());
+        assert_eq!(totals(&*engine, &side(1)), Err(6), "{}", engine.name());
     }
 }
 

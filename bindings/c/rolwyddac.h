@@ -10,7 +10,7 @@
  *    3 length         some length is 0 or above 1,024
  *    4 too large      more than 16,384 cells
  *    5 distance       components all zero, the same as an earlier record's, or non-zero beyond the last dimension
- *    6 tile           some tile length is 0, above 1,024, or not greater than every distance there
+ *    6 tile           some tile length is 0, above 1,024, or smaller than some distance there
  *    7 boards         processor counts not as the format has them
  *    8 tiles          more than 1,024 tiles
  *    9 area           a lent area has not exactly its length

@@ -69,7 +69,7 @@ refusals! {
     4 TooLarge "too large": "more than 16,384 cells";
     5 Distance "distance":
         "components all zero, the same as an earlier record's, or non-zero beyond the last dimension";
-    6 Tile "tile": "some tile length is 0, above 1,024, or not greater than every distance there";
+    6 Tile "tile": "some tile length is 0, above 1,024, or smaller than some distance there";
     7 Boards "boards": "processor counts not as the format has them";
     8 Tiles "tiles": "more than 1,024 tiles";
     9 Area "area": "a lent area has not exactly its length";

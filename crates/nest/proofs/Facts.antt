@@ -64,9 +64,9 @@ module _ (x : Nest) where
   unfolding badTile
   tile-in h j l = inside-range (tileLength x j) (neither (none-some _ _ h j l) .0)
 
-  pub nearer-in : badTile x ≡ false → (e j : ℕ) → e < x .distances → j < x .dimensions → component x e j < tileLength x j
+  pub near-in : badTile x ≡ false → (e j : ℕ) → e < x .distances → j < x .dimensions → component x e j ≤ tileLength x j
   unfolding badTile reached
-  nearer-in h e j d l = leb-false _ _ (none-some _ _ (neither (none-some _ _ h j l) .1) e d)
+  near-in h e j d l = ltb-false _ _ (none-some _ _ (neither (none-some _ _ h j l) .1) e d)
 
   pub moves-in : badDistance x ≡ false → (e : ℕ) → e < x .distances → (j : ℕ) × (j < x .dimensions) × (1 ≤ component x e j)
   unfolding badDistance faulty beyond
@@ -172,7 +172,7 @@ module _ (bytes : List ℕ) (n e : ℕ) where
         tiled = λ j l. tile-in x (p .tiling) j l .0;
         tile-most = λ j. small-tile j (decLt j n);
         manned = λ j l. let k = s .shared j l in omega arith;
-        near = λ d j l m. let k = nearer-in x (p .tiling) d j l m in omega arith;
+        near = near-in x (p .tiling);
         component-most = λ d j. let k = component-small b (4 * d + j) in omega arith;
         moves = moves-in x (p .distances);
         weight-most = weight-small b;
@@ -182,7 +182,6 @@ module _ (bytes : List ℕ) (n e : ℕ) where
         tiles-most = number-in x (p .number);
         processors-most = s .most;
         shared = s .shared;
-        nearer = nearer-in x (p .tiling);
       }
     where
       small-length : (j : ℕ) → Dec (j < n) → lengthOf (nestBy bytes n e) j ≤ 1024

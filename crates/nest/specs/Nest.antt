@@ -124,7 +124,7 @@ unfoldable pub badDistance : Nest → Bool
 badDistance x = some (faulty x) (x .distances)
 
 unfoldable pub reached : Nest → ℕ → Bool
-reached x j = some (λ e. leb (tileLength x j) (component x e j)) (x .distances)
+reached x j = some (λ e. ltb (tileLength x j) (component x e j)) (x .distances)
 
 unfoldable pub badTile : Nest → Bool
 badTile x = some (λ j. outside (tileLength x j) or reached x j) (x .dimensions)

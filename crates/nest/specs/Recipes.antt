@@ -1,4 +1,4 @@
--- Document 01's recipes A to H as bytes.
+-- Document 01's recipes A to H as bytes, and one of request W-201's.
 -- Renders document 01, "Recipes to be met": the columns N, k, P and distances; weights 1, shift 0, shore 0.
 use Prim.Native.Nat.{ℕ}
 use mathlib.Core.List.{List, [], _∷_, _++_}
@@ -37,3 +37,7 @@ rowG = dimension 4 1 2 ++ dimension 1 1 0 ++ distance 1 0 0 ++ close
 
 abbrev pub rowH : List ℕ
 rowH = dimension 4 2 1 ++ dimension 1 1 0 ++ distance 1 0 0 ++ close
+
+-- a tile as long as the reach: its one message is read one tile later in the chain
+abbrev pub rowLater : List ℕ
+rowLater = dimension 4 2 2 ++ dimension 4 2 0 ++ distance 1 2 0 ++ close

@@ -421,7 +421,7 @@ fn reached(nest: Nest, j: usize) -> bool
     let n = nest.distances;
     let tile = nest.tiling[j];
     for e in 0..n {
-        if tile <= nest.components[4 * e + j] {
+        if tile < nest.components[4 * e + j] {
             return true;
         }
     }
