@@ -1,5 +1,5 @@
 -- Rows: cells that differ in the last component alone.
--- No sentence of document 01; proofs/ ties each to Geometry.
+-- No sentence of document 01: contracts of functions below the calls cite it.
 use Prim.Native.Nat.{ℕ, _+_}
 use mathlib.Core.Path.{_≡_}
 use mathlib.Core.List.{List}

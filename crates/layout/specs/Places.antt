@@ -1,5 +1,5 @@
 -- What the functions below hand to each other: places as arrays of four, a processor's share of a dimension, the box of a tile's cells, tests of a place.
--- No sentence of document 01; proofs/ ties each to Geometry and Messages.
+-- No sentence of document 01: contracts of functions below the calls cite it.
 use Prim.Native.Nat.{ℕ, _+_, _*_, _-_, _/_, _%_, _≤_, _<_}
 use mathlib.Core.Path.{_≡_}
 use mathlib.Core.Bool.{Bool}

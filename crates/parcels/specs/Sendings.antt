@@ -1,5 +1,5 @@
 -- A slot's parcel by the rows of its tile's box: what is found of it once, what of a row, and how many rows are alike.
--- No sentence of document 01; proofs/ ties each to Messages.
+-- No sentence of document 01: contracts of functions below the calls cite it.
 use Prim.Native.Nat.{ℕ, _+_, _*_, _-_, _≤_, _<_}
 use mathlib.Core.Path.{_≡_}
 use mathlib.Core.Bool.{Bool}

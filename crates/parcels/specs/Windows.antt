@@ -1,6 +1,6 @@
 -- The cells of a parcel by rows: the window that a moved cell has to come into, where in a row a distance puts cells there, and
 -- which cells of the row are packed.
--- No sentence of document 01; proofs/ ties each to Messages.
+-- No sentence of document 01: contracts of functions below the calls cite it.
 use Prim.Native.Nat.{ℕ, _+_, _*_, _-_, _≤_, _<_, min}
 use mathlib.Core.Path.{_≡_}
 use mathlib.Core.Bool.{Bool}

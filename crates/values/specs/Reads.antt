@@ -1,5 +1,5 @@
 -- Where the distances read in a row: from which cell on, and how far back.
--- No sentence of document 01; proofs/ ties each to Geometry.
+-- No sentence of document 01: contracts of functions below the calls cite it.
 use Prim.Native.Nat.{ℕ, _+_, _-_, _≤_, _<_, min}
 use mathlib.Core.Path.{_≡_}
 use mathlib.Core.Bool.{true}

@@ -1,5 +1,5 @@
 -- Four rows calculated side by side, each one column behind the row before it.
--- No sentence of document 01; proofs/ ties each to Geometry.
+-- No sentence of document 01: contracts of functions below the calls cite it.
 use Prim.Native.Nat.{ℕ, zero, suc, _+_, _*_, _-_, _≤_, _<_}
 use mathlib.Core.Path.{_≡_}
 use mathlib.Core.Bool.{true}
