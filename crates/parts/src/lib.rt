@@ -2,6 +2,7 @@
 ghost use mathlib.Core.Path.{_≡_};
 ghost use Prim.Native.Nat.{_≤_, _<_};
 ghost use Rattle.io.specs.Counts.{Counts};
+ghost use Rattle.parts.specs.Bytes.{wordIn};
 
 fn least(a: usize, b: usize) -> usize
     ensures { λ r. ⌜ (r ≤ a) × (r ≤ b) ⌝ }
@@ -47,17 +48,25 @@ pub fn half(bytes: &[u8]) -> usize
     wide(low + 256 * high)
 }
 
+fn byte_value(x: u8) -> u32
+    ensures { λ r. ⌜ (r ≡ x) × (r < 256) ⌝ }
+{
+    x as u32
+}
+
 // The number in four bytes of a record of 16, from byte at on; 0 where they are not in it.
-pub fn word(record: &[u8], at: usize) -> u32 {
+pub fn word(bytes: &[u8], at: usize) -> u32
+    ensures { λ r. ⌜ r ≡ wordIn (now (bytes .entry)) at ⌝ }
+{
     if at > 12 {
         return 0;
     }
-    if record.len() < 16 {
+    if bytes.len() < 16 {
         return 0;
     }
-    let b0 = of_byte(record[at]);
-    let b1 = of_byte(record[at + 1]);
-    let b2 = of_byte(record[at + 2]);
-    let b3 = of_byte(record[at + 3]);
+    let b0 = byte_value(bytes[at]);
+    let b1 = byte_value(bytes[at + 1]);
+    let b2 = byte_value(bytes[at + 2]);
+    let b3 = byte_value(bytes[at + 3]);
     b0 + 256 * b1 + 65536 * b2 + 16777216 * b3
 }
