@@ -226,6 +226,7 @@ def differences(sources, record, header, crate, refusals):
         found.append('the record in the crate is not laid out as in C')
     table = crate_table(refusals)
     found += same('the header\'s table', header_table(header), {n: line[1:] for n, line in table.items()})
+    found += same('the order of the header\'s table', list(header_table(header)), list(table))
     names = {n: term.upper().replace(' ', '_') for n, (_, term, _) in table.items()}
     found += same('the header\'s names', header_names(header), {0: 'DONE', **names})
     found += same('the crate\'s names', {n: name for n, (name, _, _) in table.items()},

@@ -154,6 +154,14 @@ impl Pair<'_> {
         self.compare("message", &|| format!("{message}"), (theirs, ours), (&copy, out))
     }
 
+    fn write(&mut self, numbers: &Numbers, space: &mut [u8]) -> Outcome<u32> {
+        let mut copy = space.to_vec();
+        let theirs = self.engine.write(numbers, &mut copy);
+        let ours = self.model.write(numbers, space);
+        let words = |bytes: &[u8]| bytes.iter().map(|&byte| u32::from(byte)).collect::<Vec<u32>>();
+        self.compare("write", &String::new, (theirs, ours), (&words(&copy), &words(space)))
+    }
+
     /// any one call, its numbers mostly in range
     fn any_call(&mut self, rng: &mut Rng) -> Outcome<u32> {
         let processor = some_number(rng, self.ours.progress.len());
@@ -288,13 +296,25 @@ fn reading(pair: &mut Pair, rng: &mut Rng) -> Outcome<()> {
     Ok(())
 }
 
-/// a damaged recipe through every call, with areas as its sound form has them
+/// the recipe of these numbers into a space of its length, and seldom of another
+fn writing(pair: &mut Pair, rng: &mut Rng, numbers: &Numbers) -> Outcome<()> {
+    let length = numbers.bytes().len();
+    let length = if rng.one_in(4) { other_length(rng, length) } else { length };
+    let mut space: Vec<u8> = (0..length).map(|_| rng.word() as u8).collect();
+    pair.write(numbers, &mut space).map(|_| ())
+}
+
+/// a damaged recipe through every call, with areas as its sound form has them; it and its sound form are written too
 fn damaged(pair: &mut Pair, rng: &mut Rng, numbers: Numbers) -> Outcome<()> {
     if let Ok(plan) = pair.model.plan(&numbers.bytes()) {
         let areas = any_state(rng, &plan);
         pair.lend(areas);
     }
-    pair.encoded = recipe::damaged(rng, numbers);
+    writing(pair, rng, &numbers)?;
+    let faulty = recipe::faulty(rng, numbers);
+    pair.encoded = faulty.bytes();
+    writing(pair, rng, &faulty)?;
+    pair.encoded = recipe::damaged(rng, &faulty);
     reading(pair, rng)?;
     for _ in 0..3 {
         pair.any_call(rng)?;

@@ -1,5 +1,7 @@
 //! The calls of the engine, as a trait: the library, the plain models and the calls used for timing all have it.
 
+use crate::recipe::Numbers;
+
 #[cfg(feature = "library")]
 pub use rolwyddac::Progress;
 
@@ -36,4 +38,16 @@ pub trait Engine {
     fn sweep(&self, encoded: &[u8], source: &[u32], grid: &mut [u32]) -> u32;
     fn summary(&self, encoded: &[u8], out: &mut [u32]) -> u32;
     fn message(&self, encoded: &[u8], message: u32, out: &mut [u32]) -> u32;
+
+    /// The numbers' recipe. Unless an engine has a writer of its own: what reading the bytes gives, then the length.
+    fn write(&self, numbers: &Numbers, space: &mut [u8]) -> u32 {
+        const AREA: u32 = 9;
+        let bytes = numbers.bytes();
+        match self.summary(&bytes, &mut [0; SUMMARY_WORDS]) {
+            0 if space.len() == bytes.len() => space.copy_from_slice(&bytes),
+            0 => return AREA,
+            number => return number,
+        }
+        0
+    }
 }

@@ -1,6 +1,7 @@
 //! The engine's library, through the safe crate over it.
 
 use crate::engine::{Areas, Engine};
+use crate::recipe::Numbers;
 use rolwyddac::Refusal;
 
 pub struct Library;
@@ -44,5 +45,13 @@ impl Engine for Library {
 
     fn message(&self, encoded: &[u8], message: u32, out: &mut [u32]) -> u32 {
         number(rolwyddac::message_words(encoded, message, out))
+    }
+
+    fn write(&self, numbers: &Numbers, space: &mut [u8]) -> u32 {
+        let field = |at: usize| numbers.dimensions.iter().map(|dimension| dimension[at]).collect::<Vec<u16>>();
+        let components: Vec<u16> = numbers.distances.iter().flat_map(|distance| distance.0.map(u16::from)).collect();
+        let weights: Vec<u16> = numbers.distances.iter().map(|distance| distance.1).collect();
+        let Numbers { shift, boundary, .. } = *numbers;
+        number(rolwyddac::write(&field(0), &field(1), &field(2), &components, &weights, shift, boundary, space))
     }
 }

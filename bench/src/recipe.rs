@@ -164,13 +164,18 @@ pub fn extreme(rng: &mut Rng) -> Numbers {
     Numbers { dimensions, distances, shift: random_shift(rng), boundary: rng.any_word() }
 }
 
-/// bytes with one fault of any line of the table, or with several
-pub fn damaged(rng: &mut Rng, mut numbers: Numbers) -> Vec<u8> {
+/// one fault of lines 2 to 8 of the table, or several
+pub fn faulty(rng: &mut Rng, mut numbers: Numbers) -> Numbers {
     let faults = rng.of(&[1, 1, 1, 2, 2, 3]);
     for _ in 0..faults {
         damage_numbers(rng, &mut numbers);
     }
-    let mut bytes = numbers.bytes();
+    numbers
+}
+
+/// their bytes, sometimes damaged too: a fault of any line of the table
+pub fn damaged(rng: &mut Rng, faulty: &Numbers) -> Vec<u8> {
+    let mut bytes = faulty.bytes();
     if rng.one_in(3) {
         damage_bytes(rng, &mut bytes);
     }

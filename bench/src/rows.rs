@@ -147,12 +147,12 @@ fn row_f_has_an_idle_processor() {
 
 #[test]
 fn border_of_line_4() {
+    let side = |last| Numbers::new(&[[128, 16, 8], [last, 16, 0]], &[&[1, 0]]);
     for engine in engines() {
-        let side = |last| Numbers::new(&[[128, 16, 8], [last, 16, 0]], &[&[1, 0]]);
         assert_eq!(totals(&*engine, &side(129)), Err(4));
-        if engine.name() != "naive" {
-            assert!(totals(&*engine, &side(128)).is_ok());
-        }
+    }
+    for engine in quick_engines() {
+        assert!(totals(&*engine, &side(128)).is_ok());
     }
 }
 
@@ -195,6 +195,65 @@ fn sum_is_divided_before_it_is_cut() {
         let mut grid = [0; 4];
         assert_eq!(engine.sweep(&numbers.bytes(), &[7; 4], &mut grid), 0);
         assert_eq!(grid[0], ((65535 * u64::from(u32::MAX) + 7) >> 20) as u32);
+    }
+}
+
+/// a stored file of the repository
+fn stored(name: &str) -> Vec<u8> {
+    let path = std::path::Path::new(env!("CARGO_MANIFEST_DIR")).join("../crates").join(name);
+    std::fs::read(&path).unwrap_or_else(|error| panic!("{}: {error}", path.display()))
+}
+
+/// all but the naive model, which takes long over large recipes
+fn quick_engines() -> impl Iterator<Item = Box<dyn Engine>> {
+    engines().into_iter().filter(|engine| engine.name() != "naive")
+}
+
+/// what the plan printer writes for a recipe
+fn printed(engine: &dyn Engine, encoded: &[u8]) -> String {
+    let mut out = [0; 4];
+    match if encoded.len() > 512 { 1 } else { engine.summary(encoded, &mut out) } {
+        0 => {}
+        number => return format!("refused {number}\n"),
+    }
+    let mut text = format!("tiles {} messages {} words {} steps {}\n", out[0], out[1], out[2], out[3]);
+    for message in 0..out[1] {
+        let mut line = [0; 5];
+        assert_eq!(engine.message(encoded, message, &mut line), 0);
+        text += &format!("{message} {}\n", line.map(|number| number.to_string()).join(" "));
+    }
+    text
+}
+
+/// The stored cases come from the models in tools/, which share nothing with those here.
+#[test]
+fn stored_plans() {
+    let (cases, expected) = (stored("plan_cases/data/cases"), stored("plan_cases/stdout"));
+    for engine in quick_engines() {
+        let (mut rest, mut text, mut number) = (&cases[..], String::new(), 0);
+        while let [low, high, tail @ ..] = rest {
+            let (encoded, tail) = tail.split_at(usize::from(*low) + 256 * usize::from(*high));
+            text += &format!("case {number}\n{}", printed(&*engine, encoded));
+            (rest, number) = (tail, number + 1);
+        }
+        assert!(text.as_bytes() == expected, "{}", engine.name());
+    }
+}
+
+#[test]
+fn stored_recipes() {
+    let (cases, expected) = (stored("nest_cases/data/cases"), stored("nest_cases/stdout"));
+    for engine in quick_engines() {
+        let (mut rest, mut text) = (&cases[..], String::new());
+        while let [label, tail @ ..] = rest {
+            let (label, tail) = tail.split_at(usize::from(*label));
+            let (encoded, tail) = tail[2..].split_at(usize::from(tail[0]) + 256 * usize::from(tail[1]));
+            // a length that fits no recipe: an accepted one gives 9
+            let number = engine.summary(encoded, &mut []);
+            text += &format!("{} {}\n", String::from_utf8_lossy(label), if number == 9 { 0 } else { number });
+            rest = tail;
+        }
+        assert!(text.as_bytes() == expected, "{}", engine.name());
     }
 }
 

@@ -21,8 +21,8 @@
  *   14 no mail        delivery of a message that is not in flight
  *   15 early          collecting while a processor has tiles left
  *
- * The recipe (`encoded`) is given to every call. Beside it a call is lent these areas, each a pointer and then
- * the number of its elements (words, records or bytes, as the pointer's type says):
+ * The recipe (`encoded`) is given to every call but the one that writes it. Beside it a call is lent these areas,
+ * each a pointer and then the number of its elements (words, records or bytes, as the pointer's type says):
  *
  *    source     one word a cell
  *    memories   one word a cell for each processor, processor after processor
@@ -137,6 +137,17 @@ uint32_t rolwyddac_collect(const uint8_t *encoded, size_t encoded_length, const 
                            const uint32_t *buffer, size_t buffer_length, const rolwyddac_progress *progress,
                            size_t progress_length, const uint8_t *status, size_t status_length, uint32_t *grid,
                            size_t grid_length);
+
+/* Writes the recipe of the fields to space: lengths, tiling (tile lengths) and counts (processor counts) have one
+ * number a dimension; components has four numbers a distance, zero beyond the last dimension, and weights one. The
+ * recipe has 16 bytes for each dimension and each distance, and 16 more. What was written is accepted and reads back
+ * to the fields given. What is refused has the number that reading it would have; lists of other lengths and
+ * components above 255 stand in no recipe and are 2.
+ * Numbers: 2 to 8; 9 if space has not exactly the recipe's length. A refusal leaves space as it was. */
+uint32_t rolwyddac_write(const uint16_t *lengths, size_t lengths_length, const uint16_t *tiling, size_t tiling_length,
+                         const uint16_t *counts, size_t counts_length, const uint16_t *components,
+                         size_t components_length, const uint16_t *weights, size_t weights_length, uint8_t shift,
+                         uint32_t boundary, uint8_t *space, size_t space_length);
 
 #ifdef __cplusplus
 }

@@ -9,15 +9,11 @@
 
 enum { SIDE = 8, CELLS = SIDE * SIDE, PROCESSORS = 2 };
 
-/* two dimensions (length, tile length, processors), three distances (components, weight), the close */
-static const uint8_t recipe[6 * 16] = {
-    [0] = 1,  [2] = SIDE, [4] = 2, [6] = PROCESSORS,
-    [16] = 1, [18] = SIDE, [20] = 2,
-    [32] = 2, [34] = 1, [35] = 0, [38] = 1,
-    [48] = 2, [50] = 0, [51] = 1, [54] = 1,
-    [64] = 2, [66] = 1, [67] = 1, [70] = 1,
-    [80] = 3,
-};
+enum { DIMENSIONS = 2, DISTANCES = 3 };
+static const uint16_t lengths[DIMENSIONS] = {SIDE, SIDE}, tiling[DIMENSIONS] = {2, 2};
+static const uint16_t counts[DIMENSIONS] = {PROCESSORS, 0};
+static const uint16_t components[4 * DISTANCES] = {1, 0, 0, 0, 0, 1, 0, 0, 1, 1, 0, 0}, weights[DISTANCES] = {1, 1, 1};
+static uint8_t recipe[16 * (DIMENSIONS + DISTANCES + 1)];
 
 static uint32_t source[CELLS], swept[CELLS], grid[CELLS], memories[PROCESSORS * CELLS];
 static rolwyddac_progress progress[PROCESSORS];
@@ -53,6 +49,8 @@ static size_t deliver_all(void) {
 }
 
 int main(void) {
+  must_be_done("write", rolwyddac_write(lengths, DIMENSIONS, tiling, DIMENSIONS, counts, DIMENSIONS, components,
+                                        4 * DISTANCES, weights, DISTANCES, 0, 0, recipe, sizeof recipe));
   uint32_t plan[ROLWYDDAC_SUMMARY_LENGTH];
   must_be_done("summary", rolwyddac_summary(recipe, sizeof recipe, plan, ROLWYDDAC_SUMMARY_LENGTH));
   words = plan[ROLWYDDAC_SUMMARY_WORDS];

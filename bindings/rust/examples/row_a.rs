@@ -1,15 +1,15 @@
 //! Runs row A of document 01 to the end and prints the grid: 8 by 8 cells in tiles of 2 by 2 on two processors.
 
-use rolwyddac::{sweep, Recipe, Refusal, Run};
+use rolwyddac::{sweep, Fields, Refusal, Run};
 
 fn main() -> Result<(), Refusal> {
-    let recipe = Recipe::new()
+    let recipe = Fields::new()
         .dimension(8, 2, 2)
         .dimension(8, 2, 0)
         .distance(&[1, 0], 1)
         .distance(&[0, 1], 1)
         .distance(&[1, 1], 1)
-        .close(0, 0);
+        .close(0, 0)?;
     let source = [1; 64];
 
     let mut run = Run::start(&recipe, &source)?;

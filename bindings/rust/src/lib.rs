@@ -7,11 +7,11 @@
 //! [`Run`] owns the areas of one run, with the right sizes, and is the short way:
 //!
 //! ```
-//! use rolwyddac::{Recipe, Refusal, Run};
+//! use rolwyddac::{Fields, Refusal, Run};
 //!
 //! # fn main() -> Result<(), Refusal> {
 //! // a line of four cells in tiles of two on two processors; each cell adds the one before it
-//! let recipe = Recipe::new().dimension(4, 2, 2).dimension(1, 1, 0).distance(&[1, 0], 1).close(0, 0);
+//! let recipe = Fields::new().dimension(4, 2, 2).dimension(1, 1, 0).distance(&[1, 0], 1).close(0, 0)?;
 //! let source = [1; 4];
 //! let mut run = Run::start(&recipe, &source)?;
 //! assert_eq!(run.turn(1), Err(Refusal::Waiting));
@@ -27,7 +27,7 @@ mod recipe;
 mod refusal;
 mod run;
 
-pub use recipe::Recipe;
+pub use recipe::{Fields, Recipe};
 pub use refusal::Refusal;
 pub use run::{Areas, Run};
 
@@ -85,6 +85,7 @@ macro_rules! calls {
     ($($(#[$doc:meta])* $exported:ident as $name:ident($($parameters:tt)*);)*) => {$(
         $(#[$doc])*
         #[inline]
+        #[allow(clippy::too_many_arguments)] // as they are exported
         pub fn $name($($parameters)*) -> Result<(), Refusal> {
             calls!(@ $exported [] [] $($parameters)*)
         }
@@ -97,8 +98,8 @@ macro_rules! calls {
         calls!(@ $exported [$($declared)* $area: *const $element, _: usize,]
             [$($given)* $area.as_ptr(), $area.len(),] $($($rest)*)?)
     };
-    (@ $exported:ident [$($declared:tt)*] [$($given:tt)*] $number:ident: u32 $(, $($rest:tt)*)?) => {
-        calls!(@ $exported [$($declared)* $number: u32,] [$($given)* $number,] $($($rest)*)?)
+    (@ $exported:ident [$($declared:tt)*] [$($given:tt)*] $number:ident: $width:ident $(, $($rest:tt)*)?) => {
+        calls!(@ $exported [$($declared)* $number: $width,] [$($given)* $number,] $($($rest)*)?)
     };
     (@ $exported:ident [$($declared:tt)*] [$($given:tt)*]) => {{
         extern "C" {
@@ -165,6 +166,21 @@ calls! {
     ///
     /// Refusals: 1 to 8, 9 if `out` has not 5 words, 11.
     rolwyddac_message as message_words(encoded: &[u8], m: u32, out: &mut [u32]);
+
+    /// Writes the recipe of the fields to `space`. [`Fields`] is the handier form.
+    ///
+    /// - `lengths`, `tiling` and `counts` have one number a dimension: its length, tile length and processor count.
+    /// - `components` has four numbers a distance, zero beyond the last dimension, and `weights` one.
+    ///
+    /// The recipe has 16 bytes for each dimension and each distance, and 16 more. What was written is accepted and
+    /// reads back to the fields given. What is refused has the number that reading it would have; lists of other
+    /// lengths and components above 255 stand in no recipe and are 2.
+    ///
+    /// Refusals: 2 to 8, and 9 if `space` has not exactly the recipe's length.
+    rolwyddac_write as write(
+        lengths: &[u16], tiling: &[u16], counts: &[u16], components: &[u16], weights: &[u16], shift: u8,
+        boundary: u32, space: &mut [u8],
+    );
 }
 
 /// The totals of a recipe's plan, which give every area its size.

@@ -1,53 +1,63 @@
-//! Building a recipe's bytes.
+//! Recipes, made by the proved writer.
 
 use std::ops::Deref;
 
-/// The bytes of a recipe, built record by record: the dimensions, then the distances, then [`Recipe::close`].
-///
-/// Nothing is tested here; the engine refuses what is not as the format has it.
+use crate::{write, Refusal};
+
+/// Bytes of one record.
+const RECORD: usize = 16;
+
+/// Components of one distance.
+const COMPONENTS: usize = 4;
+
+/// The fields of a recipe, put together one by one: the dimensions, the distances, then [`Fields::close`].
 #[derive(Clone, Debug, Default, PartialEq, Eq)]
-pub struct Recipe {
-    bytes: Vec<u8>,
+pub struct Fields {
+    lengths: Vec<u16>,
+    tiling: Vec<u16>,
+    counts: Vec<u16>,
+    components: Vec<u16>,
+    weights: Vec<u16>,
 }
 
-impl Recipe {
-    /// A recipe without records.
-    pub fn new() -> Recipe {
-        Recipe::default()
+impl Fields {
+    /// No dimension and no distance.
+    pub fn new() -> Fields {
+        Fields::default()
     }
 
     /// Adds a dimension: its length, its tile length and its processor count, 0 where it is not spread.
-    pub fn dimension(mut self, length: u16, tile: u16, processors: u16) -> Recipe {
-        let mut record = [0; 16];
-        record[0] = 1;
-        record[2..4].copy_from_slice(&length.to_le_bytes());
-        record[4..6].copy_from_slice(&tile.to_le_bytes());
-        record[6..8].copy_from_slice(&processors.to_le_bytes());
-        self.bytes.extend(record);
+    pub fn dimension(mut self, length: u16, tile: u16, processors: u16) -> Fields {
+        self.lengths.push(length);
+        self.tiling.push(tile);
+        self.counts.push(processors);
         self
     }
 
-    /// Adds a distance of at most four components, with its weight.
+    /// Adds a distance with its weight. Components that are not given are 0; more than four are refused by
+    /// [`Fields::close`].
+    pub fn distance(mut self, components: &[u16], weight: u16) -> Fields {
+        self.components.extend(components);
+        self.components.extend((components.len()..COMPONENTS).map(|_| 0));
+        self.weights.push(weight);
+        self
+    }
+
+    /// Has the writer make the recipe, with the shift and the boundary value (document 01: shore value).
     ///
-    /// Panics at more than four components: the format has no place for them.
-    pub fn distance(mut self, components: &[u8], weight: u16) -> Recipe {
-        let mut record = [0; 16];
-        record[0] = 2;
-        record[2..6][..components.len()].copy_from_slice(components);
-        record[6..8].copy_from_slice(&weight.to_le_bytes());
-        self.bytes.extend(record);
-        self
+    /// Refusals: 2 to 8, as reading such a recipe would be refused.
+    pub fn close(&self, shift: u8, boundary: u32) -> Result<Recipe, Refusal> {
+        let mut bytes = vec![0; RECORD * (self.lengths.len() + self.weights.len() + 1)];
+        let Fields { lengths, tiling, counts, components, weights } = self;
+        write(lengths, tiling, counts, components, weights, shift, boundary, &mut bytes)?;
+        Ok(Recipe { bytes })
     }
+}
 
-    /// Adds the close: the shift and the boundary value (document 01: shore value).
-    pub fn close(mut self, shift: u8, boundary: u32) -> Recipe {
-        let mut record = [0; 16];
-        record[0] = 3;
-        record[1] = shift;
-        record[4..8].copy_from_slice(&boundary.to_le_bytes());
-        self.bytes.extend(record);
-        self
-    }
+/// The bytes of a recipe that the engine accepts: [`Fields::close`] makes no other.
+#[derive(Clone, Debug, PartialEq, Eq)]
+pub struct Recipe {
+    bytes: Vec<u8>,
 }
 
 impl Deref for Recipe {
@@ -64,9 +74,25 @@ mod tests {
 
     #[test]
     fn records_are_laid_out() {
-        let recipe = Recipe::new().dimension(0x0102, 0x0304, 0x0506).distance(&[7, 8], 0x090a).close(11, 0x0c0d_0e0f);
-        assert_eq!(recipe[..16], [1, 0, 2, 1, 4, 3, 6, 5, 0, 0, 0, 0, 0, 0, 0, 0]);
-        assert_eq!(recipe[16..32], [2, 0, 7, 8, 0, 0, 10, 9, 0, 0, 0, 0, 0, 0, 0, 0]);
-        assert_eq!(recipe[32..], [3, 11, 0, 0, 15, 14, 13, 12, 0, 0, 0, 0, 0, 0, 0, 0]);
+        let recipe = Fields::new()
+            .dimension(0x0102, 0x0304, 0x0020)
+            .dimension(0x0003, 0x0004, 0)
+            .distance(&[7, 2], 0x090a)
+            .close(11, 0x0c0d_0e0f)
+            .unwrap();
+        assert_eq!(recipe[..16], [1, 0, 2, 1, 4, 3, 0x20, 0, 0, 0, 0, 0, 0, 0, 0, 0]);
+        assert_eq!(recipe[16..32], [1, 0, 3, 0, 4, 0, 0, 0, 0, 0, 0, 0, 0, 0, 0, 0]);
+        assert_eq!(recipe[32..48], [2, 0, 7, 2, 0, 0, 10, 9, 0, 0, 0, 0, 0, 0, 0, 0]);
+        assert_eq!(recipe[48..], [3, 11, 0, 0, 15, 14, 13, 12, 0, 0, 0, 0, 0, 0, 0, 0]);
+    }
+
+    #[test]
+    fn what_the_reader_refuses_is_refused() {
+        let fields = Fields::new().dimension(4, 2, 2).dimension(1, 1, 0).distance(&[1, 0], 1);
+        assert!(fields.close(0, 0).is_ok());
+        assert_eq!(fields.close(32, 0), Err(Refusal::StrayRecord));
+        assert_eq!(fields.clone().distance(&[0, 0, 0, 0, 1], 1).close(0, 0), Err(Refusal::StrayRecord));
+        assert_eq!(fields.clone().distance(&[1], 2).close(0, 0), Err(Refusal::Distance));
+        assert_eq!(fields.dimension(0, 1, 0).close(0, 0), Err(Refusal::Length));
     }
 }

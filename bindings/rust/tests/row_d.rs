@@ -1,12 +1,19 @@
 //! Row D of document 01 step by step: four cells in a line, in tiles of two on two processors. Every call gives what
 //! the paper's table has for it, and a refusal leaves every lent word as it was.
 
-use rolwyddac::{message, message_words, summary, summary_words, sweep, Areas, Recipe, Refusal, Run};
+use rolwyddac::{message, message_words, summary, summary_words, sweep, Areas, Fields, Recipe, Refusal, Run};
 
 const SOURCE: [u32; 4] = [1; 4];
 
 fn row_d() -> Recipe {
-    Recipe::new().dimension(4, 2, 2).dimension(1, 1, 0).distance(&[1, 0], 1).close(0, 0)
+    Fields::new().dimension(4, 2, 2).dimension(1, 1, 0).distance(&[1, 0], 1).close(0, 0).unwrap()
+}
+
+/// row D's bytes, some of them changed
+fn changed(bytes: &[(usize, u8)]) -> Vec<u8> {
+    let mut recipe = row_d().to_vec();
+    bytes.iter().for_each(|&(at, byte)| recipe[at] = byte);
+    recipe
 }
 
 #[test]
@@ -46,15 +53,14 @@ fn the_plan() {
 
 #[test]
 fn recipes_refused() {
-    let line = |n, k, p, d| Recipe::new().dimension(n, k, p).dimension(1, 1, 0).distance(&[d, 0], 1).close(0, 0);
     let refused = [
-        (line(0, 2, 2, 1), Refusal::Length),
-        (line(1024, 2, 2, 1).dimension(4, 2, 2), Refusal::StrayRecord),
-        (Recipe::new().dimension(128, 8, 2).dimension(129, 8, 0).distance(&[1, 0], 1).close(0, 0), Refusal::TooLarge),
-        (line(4, 2, 2, 0), Refusal::Distance),
-        (line(4, 0, 2, 1), Refusal::Tile),
-        (line(4, 2, 65, 1), Refusal::Boards),
-        (Recipe::new().dimension(255, 2, 2).dimension(64, 1, 0).distance(&[1, 0], 1).close(0, 0), Refusal::Tiles),
+        (changed(&[(2, 0)]), Refusal::Length),
+        (changed(&[(0, 3)]), Refusal::StrayRecord),
+        (changed(&[(2, 128), (18, 129)]), Refusal::TooLarge),
+        (changed(&[(34, 0)]), Refusal::Distance),
+        (changed(&[(4, 0)]), Refusal::Tile),
+        (changed(&[(6, 65)]), Refusal::Boards),
+        (changed(&[(2, 255), (18, 64)]), Refusal::Tiles),
     ];
     for (recipe, refusal) in refused {
         assert_eq!(summary(&recipe), Err(refusal));
@@ -63,6 +69,26 @@ fn recipes_refused() {
     }
     assert_eq!(summary(&[]), Err(Refusal::Ragged));
     assert_eq!(summary(&row_d()[..63]), Err(Refusal::Ragged));
+}
+
+#[test]
+fn fields_refused() {
+    let line = |n, k, p, d| Fields::new().dimension(n, k, p).dimension(1, 1, 0).distance(&[d, 0], 1);
+    let refused = [
+        (line(0, 2, 2, 1), Refusal::Length),
+        (Fields::new().dimension(4, 2, 2).distance(&[1], 1), Refusal::StrayRecord),
+        (Fields::new().dimension(128, 8, 2).dimension(129, 8, 0).distance(&[1, 0], 1), Refusal::TooLarge),
+        (line(4, 2, 2, 0), Refusal::Distance),
+        (line(4, 0, 2, 1), Refusal::Tile),
+        (line(4, 2, 65, 1), Refusal::Boards),
+        (Fields::new().dimension(255, 2, 2).dimension(64, 1, 0).distance(&[1, 0], 1), Refusal::Tiles),
+    ];
+    for (fields, refusal) in refused {
+        assert_eq!(fields.close(0, 0), Err(refusal));
+    }
+    let mut space = [7; 65];
+    let written = rolwyddac::write(&[4, 1], &[2, 1], &[2, 0], &[1, 0, 0, 0], &[1], 0, 0, &mut space);
+    assert_eq!((written, space), (Err(Refusal::Area), [7; 65]));
 }
 
 #[test]

@@ -1,9 +1,11 @@
 // The offered calls with C linkage: over progress records as structs a fresh start, a turn, a delivery, collecting;
-// over words the sweep, a plan's figures and a message's line.
+// over words the sweep, a plan's figures and a message's line; over bytes the recipe writer.
 ghost use mathlib.Core.Path.{_≡_};
 ghost use Rattle.machine.specs.Machine.{stateOf};
 ghost use Rattle.engine.specs.Calls.{answer, freshCall, turnCall, deliverCall, collectCall, sweepCall};
 ghost use Rattle.records.specs.Records.{flatWords};
+ghost use Rattle.writer.specs.Fields.{fields};
+ghost use Rattle.writer.specs.Writing.{writeCall};
 ghost use Rattle.calls.specs.PlanCalls.{summaryCall, messageCall};
 use records::Progress;
 
@@ -134,4 +136,33 @@ pub extern "C" fn rolwyddac_message(encoded: &[u8], m: u32, out: &mut [u32]) -> 
     out[3] = line.to;
     out[4] = line.words;
     0
+}
+
+// The recipe of the fields: of each dimension its length, tile length and processor count, of each distance its four components and
+// its weight, the shift, the boundary.
+#[no_mangle]
+pub extern "C" fn rolwyddac_write(
+    lengths: &[u16],
+    tiling: &[u16],
+    counts: &[u16],
+    components: &[u16],
+    weights: &[u16],
+    shift: u8,
+    boundary: u32,
+    space: &mut [u8],
+) -> u32
+    ensures { λ r. ⌜ answer r (now (space .exit))
+        ≡ writeCall (fields (now (lengths .entry)) (now (tiling .entry)) (now (counts .entry)) (now (components .entry))
+        (now (weights .entry)) shift boundary) (now (space .entry)) ⌝ }
+{
+    writer::write(
+        lengths,
+        tiling,
+        counts,
+        components,
+        weights,
+        shift,
+        boundary,
+        space,
+    )
 }

@@ -1,0 +1,216 @@
+//! Reads a recipe as text on standard input and writes its bytes, as the proved writer makes them, to standard output.
+//!
+//! ```text
+//! # a basin of 6 by 5 cells
+//! dimension 6 tile 3 processors 2
+//! dimension 5 tile 2               # not spread
+//! distance 1 0 weight 3
+//! distance 0 1 weight 2
+//! distance 1 1                     # weight 1
+//! close shift 2 boundary 7
+//! ```
+//!
+//! One record a line, in this order: the dimensions, the distances, the close. `processors`, `weight`, `shift` and
+//! `boundary` may be left out: 0, 1, 0 and 0. Words are set apart by blanks, and `#` starts a comment. A text that is
+//! no recipe is told with the number of its line, a recipe that is refused with the number and its term, both on
+//! standard error; the status is then 1 and nothing is written. With `--list` the bytes are written as a list for a
+//! file of specs/.
+
+use std::{
+    env, fmt,
+    io::{self, Read, Write},
+    process::ExitCode,
+};
+
+use rolwyddac::{Fields, Recipe, Refusal};
+
+/// What a text that is no recipe lacks, and in which line, counted from 1.
+#[derive(Debug, PartialEq, Eq)]
+struct Fault {
+    line: usize,
+    what: String,
+}
+
+impl fmt::Display for Fault {
+    fn fmt(&self, f: &mut fmt::Formatter<'_>) -> fmt::Result {
+        write!(f, "line {}: {}", self.line, self.what)
+    }
+}
+
+/// Why nothing is written.
+#[derive(Debug, PartialEq, Eq)]
+enum Failure {
+    Text(Fault),
+    Refused(Refusal),
+}
+
+impl fmt::Display for Failure {
+    fn fmt(&self, f: &mut fmt::Formatter<'_>) -> fmt::Result {
+        match self {
+            Failure::Text(fault) => fault.fmt(f),
+            Failure::Refused(refusal) => refusal.fmt(f),
+        }
+    }
+}
+
+/// The words of one line that are left to read.
+struct Words<'a> {
+    line: usize,
+    left: Vec<&'a str>,
+}
+
+impl<'a> Words<'a> {
+    /// The words before the comment, if there is any.
+    fn of(line: usize, text: &'a str) -> Words<'a> {
+        let text = text.split('#').next().unwrap_or("");
+        Words { line, left: text.split_whitespace().rev().collect() }
+    }
+
+    fn fault(&self, what: impl Into<String>) -> Fault {
+        Fault { line: self.line, what: what.into() }
+    }
+
+    /// The next word, where it is a number.
+    fn number(&mut self, name: &str, most: u32) -> Result<Option<u32>, Fault> {
+        let Some(word) = self.left.last().copied() else { return Ok(None) };
+        if !word.bytes().all(|byte| byte.is_ascii_digit()) {
+            return Ok(None);
+        }
+        self.left.pop();
+        match word.parse::<u32>() {
+            Ok(value) if value <= most => Ok(Some(value)),
+            _ => Err(self.fault(format!("{name} {word} is above {most}"))),
+        }
+    }
+
+    /// A number that has to stand here.
+    fn needed(&mut self, name: &str, most: u32) -> Result<u32, Fault> {
+        self.number(name, most)?.ok_or_else(|| self.fault(format!("{name}: a number is missing")))
+    }
+
+    /// A word with its number behind it, or what it stands for where it is left out.
+    fn named(&mut self, name: &str, most: u32, otherwise: u32) -> Result<u32, Fault> {
+        if self.left.last() != Some(&name) {
+            return Ok(otherwise);
+        }
+        self.left.pop();
+        self.needed(name, most)
+    }
+
+    fn end(&self) -> Result<(), Fault> {
+        match self.left.last() {
+            None => Ok(()),
+            Some(word) => Err(self.fault(format!("`{word}` was not expected here"))),
+        }
+    }
+}
+
+const BYTE: u32 = u8::MAX as u32;
+const HALF: u32 = u16::MAX as u32;
+
+/// The recipe that a text tells.
+fn recipe_of(text: &str) -> Result<Recipe, Failure> {
+    let mut fields = Fields::new();
+    let mut distances = 0;
+    let mut close = None;
+    let mut lines = 0;
+    for (i, text) in text.lines().enumerate() {
+        lines = i + 1;
+        let mut words = Words::of(lines, text);
+        let Some(kind) = words.left.pop() else { continue };
+        if close.is_some() {
+            return Err(Failure::Text(words.fault("nothing stands behind the close")));
+        }
+        match kind {
+            "dimension" if distances > 0 => {
+                return Err(Failure::Text(words.fault("the dimensions stand before the distances")));
+            }
+            "dimension" => fields = dimension(fields, &mut words).map_err(Failure::Text)?,
+            "distance" => {
+                fields = distance(fields, &mut words).map_err(Failure::Text)?;
+                distances += 1;
+            }
+            "close" => close = Some(close_of(&mut words).map_err(Failure::Text)?),
+            other => {
+                let what = format!("`{other}` is no record: dimension, distance or close");
+                return Err(Failure::Text(words.fault(what)));
+            }
+        }
+        words.end().map_err(Failure::Text)?;
+    }
+    let Some((shift, boundary)) = close else {
+        return Err(Failure::Text(Fault { line: lines + 1, what: "the close is missing".into() }));
+    };
+    fields.close(shift, boundary).map_err(Failure::Refused)
+}
+
+/// `dimension LENGTH tile LENGTH [processors COUNT]`
+fn dimension(fields: Fields, words: &mut Words) -> Result<Fields, Fault> {
+    let length = words.needed("dimension", HALF)?;
+    if words.left.last() != Some(&"tile") {
+        return Err(words.fault("`tile` is missing behind the length"));
+    }
+    let tile = words.named("tile", HALF, 0)?;
+    let processors = words.named("processors", HALF, 0)?;
+    Ok(fields.dimension(length as u16, tile as u16, processors as u16))
+}
+
+/// `distance D1 D2 [D3 [D4]] [weight WEIGHT]`
+fn distance(fields: Fields, words: &mut Words) -> Result<Fields, Fault> {
+    let mut components = vec![words.needed("distance", HALF)? as u16];
+    while let Some(component) = words.number("distance", HALF)? {
+        components.push(component as u16);
+    }
+    if components.len() > 4 {
+        return Err(words.fault(format!("a distance has four components at most, not {}", components.len())));
+    }
+    let weight = words.named("weight", HALF, 1)?;
+    Ok(fields.distance(&components, weight as u16))
+}
+
+/// `close [shift SHIFT] [boundary VALUE]`
+fn close_of(words: &mut Words) -> Result<(u8, u32), Fault> {
+    let shift = words.named("shift", BYTE, 0)?;
+    let boundary = words.named("boundary", u32::MAX, 0)?;
+    Ok((shift as u8, boundary))
+}
+
+/// The bytes as antt writes a list.
+fn list(bytes: &[u8]) -> String {
+    let mut text: String = bytes.iter().map(|byte| format!("{byte} ∷ ")).collect();
+    text.push_str("[]\n");
+    text
+}
+
+fn main() -> ExitCode {
+    let words: Vec<String> = env::args().skip(1).collect();
+    let as_list = match words.iter().map(String::as_str).collect::<Vec<_>>()[..] {
+        [] => false,
+        ["--list"] => true,
+        _ => {
+            eprintln!("usage: write_recipe [--list] < TEXT > RECIPE");
+            return ExitCode::from(2);
+        }
+    };
+    let mut text = String::new();
+    if let Err(error) = io::stdin().read_to_string(&mut text) {
+        eprintln!("standard input: {error}");
+        return ExitCode::FAILURE;
+    }
+    match recipe_of(&text) {
+        Ok(recipe) => {
+            let written = if as_list { list(&recipe).into_bytes() } else { recipe.to_vec() };
+            match io::stdout().write_all(&written) {
+                Ok(()) => ExitCode::SUCCESS,
+                Err(error) => {
+                    eprintln!("standard output: {error}");
+                    ExitCode::FAILURE
+                }
+            }
+        }
+        Err(failure) => {
+            eprintln!("{failure}");
+            ExitCode::FAILURE
+        }
+    }
+}

@@ -1,0 +1,46 @@
+-- A recipe's bytes from a nest's values: the records in order, each field at its place, zero elsewhere. Nest reads them back.
+-- Renders document 01, "The recipe", as the recipe writer of document 02, W-202, has to spell it.
+use Prim.Native.Nat.{ℕ, zero, suc, _/_, _%_}
+use mathlib.Core.List.{List, [], _∷_, _++_}
+use lib.ListN.{replicate}
+use Rattle.nest.specs.declared.Nest.{Nest}
+use Rattle.nest.specs.Nest.{lengthOf, tileLength, processorCount, component, weight}
+
+-- numbers of one, two and four bytes, little-endian; of a wider number only these are written
+abbrev pub low : ℕ → ℕ
+low v = v % 256
+
+abbrev pub high : ℕ → ℕ
+high v = v / 256 % 256
+
+abbrev pub halfBytes : ℕ → List ℕ
+halfBytes v = low v ∷ high v ∷ []
+
+abbrev pub wordBytes : ℕ → List ℕ
+wordBytes v = halfBytes v ++ halfBytes (v / 65536)
+
+-- the records, 16 bytes each
+unfoldable pub dimensionRecord : ℕ → ℕ → ℕ → List ℕ
+dimensionRecord length tile count = 1 ∷ 0 ∷ halfBytes length ++ halfBytes tile ++ halfBytes count ++ replicate 8 0
+
+unfoldable pub distanceRecord : ℕ → ℕ → ℕ → ℕ → ℕ → List ℕ
+distanceRecord d1 d2 d3 d4 weight = 2 ∷ 0 ∷ low d1 ∷ low d2 ∷ low d3 ∷ low d4 ∷ halfBytes weight ++ replicate 8 0
+
+unfoldable pub closeRecord : ℕ → ℕ → List ℕ
+closeRecord shift boundary = 3 ∷ low shift ∷ 0 ∷ 0 ∷ wordBytes boundary ++ replicate 8 0
+
+-- of dimension j, of distance e
+unfoldable pub dimensionOf : Nest → ℕ → List ℕ
+dimensionOf x j = dimensionRecord (lengthOf x j) (tileLength x j) (processorCount x j)
+
+unfoldable pub distanceOf : Nest → ℕ → List ℕ
+distanceOf x e = distanceRecord (component x e 0) (component x e 1) (component x e 2) (component x e 3) (weight x e)
+
+-- f 0, then f 1, .. , n of them
+unfoldable pub joined : (ℕ → List ℕ) → ℕ → List ℕ
+joined f zero = []
+joined f (suc n) = joined f n ++ f n
+
+-- the dimensions, the distances, the close
+unfoldable pub encode : Nest → List ℕ
+encode x = joined (dimensionOf x) (x .dimensions) ++ (joined (distanceOf x) (x .distances) ++ closeRecord (x .shift) (x .boundary))

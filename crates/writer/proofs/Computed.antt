@@ -1,0 +1,74 @@
+-- Rows A and D of document 01 written from their values, computed; and wrong answers that the definitions rule out.
+use Prim.Native.Nat.{ℕ}
+use mathlib.Core.Path.{_≡_, refl, sym, ap, _∙_}
+use mathlib.Core.Bool.{true}
+use mathlib.Core.List.{List, [], _∷_}
+use native.Mathlib.Omega.{arith}
+use lib.ListN.{length, getD, replicate}
+use Rattle.base.specs.Tests.{_and_, not, pick, every, keep, tabulate}
+use Rattle.base.specs.Numbers.{firstOf}
+use Rattle.nest.specs.Nest.{filled, readLines}
+use Rattle.nest.specs.Encode.{dimensionRecord, distanceRecord, closeRecord, dimensionOf, distanceOf, joined, encode}
+use Rattle.nest.specs.Recipes.{rowA, rowD}
+use Rattle.nest.proofs.RowNumbers.{numbers}
+use Rattle.writer.specs.Fields.{Fields, fields, counted, agree, nestFrom}
+use Rattle.writer.specs.Writing.{written, fitsIn, fits, nestWritable, writable, writeLines, writing, writeCall}
+use Rattle.writer.proofs.Calls.{produces, nine}
+
+abbrev fieldsA : Fields
+fieldsA = fields (8 ∷ 8 ∷ []) (2 ∷ 2 ∷ []) (2 ∷ 0 ∷ []) (1 ∷ 0 ∷ 0 ∷ 0 ∷ 0 ∷ 1 ∷ 0 ∷ 0 ∷ 1 ∷ 1 ∷ 0 ∷ 0 ∷ []) (1 ∷ 1 ∷ 1 ∷ []) 0 0
+
+-- row D, where d is 1
+abbrev fieldsD : ℕ → Fields
+fieldsD d = fields (4 ∷ 1 ∷ []) (2 ∷ 1 ∷ []) (2 ∷ 0 ∷ []) (d ∷ 0 ∷ 0 ∷ 0 ∷ []) (1 ∷ []) 0 0
+
+pub bytes-A : encode (nestFrom fieldsA) ≡ rowA
+unfolding pick keep tabulate filled dimensionRecord distanceRecord closeRecord dimensionOf distanceOf joined encode nestFrom
+bytes-A = refl
+
+pub bytes-D : encode (nestFrom (fieldsD 1)) ≡ rowD
+unfolding pick keep tabulate filled dimensionRecord distanceRecord closeRecord dimensionOf distanceOf joined encode nestFrom
+bytes-D = refl
+
+writable-A : writable fieldsA ≡ true
+unfolding _and_ pick every keep tabulate filled fitsIn fits nestWritable counted agree nestFrom writable
+writable-A = refl
+
+writable-D : writable (fieldsD 1) ≡ true
+unfolding _and_ pick every keep tabulate filled fitsIn fits nestWritable counted agree nestFrom writable
+writable-D = refl
+
+accepted-A : firstOf (readLines rowA) ≡ 0
+accepted-A = ap (λ (l : List ℕ). getD l 0 1) numbers
+
+accepted-D : firstOf (readLines rowD) ≡ 0
+accepted-D = ap (λ (l : List ℕ). getD l 3 1) numbers
+
+pub row-A : writeCall fieldsA (replicate 96 7) ≡ written 0 rowA
+unfolding writeCall
+row-A =
+    produces (writable fieldsA) (encode (nestFrom fieldsA)) (replicate 96 7) writable-A
+    (ap (λ (b : List ℕ). firstOf (readLines b)) bytes-A ∙ accepted-A)
+    (ap length (sym bytes-A)) ∙ ap (written 0) bytes-A
+
+pub row-D : writeCall (fieldsD 1) (replicate 64 7) ≡ written 0 rowD
+unfolding writeCall
+row-D =
+    produces (writable (fieldsD 1)) (encode (nestFrom (fieldsD 1))) (replicate 64 7) writable-D
+    (ap (λ (b : List ℕ). firstOf (readLines b)) bytes-D ∙ accepted-D)
+    (ap length (sym bytes-D)) ∙ ap (written 0) bytes-D
+
+-- ruled out: 0 and row D at the front of a space that is one byte longer
+pub longer-D : writeCall (fieldsD 1) (replicate 65 7) ≡ written 9 (replicate 65 7)
+unfolding writeCall
+longer-D =
+    nine (writable (fieldsD 1)) (encode (nestFrom (fieldsD 1))) (replicate 65 7) writable-D
+    (ap (λ (b : List ℕ). firstOf (readLines b)) bytes-D ∙ accepted-D)
+    (λ e. let w : _≡_ {A = ℕ} 65 64 = e ∙ ap length bytes-D in omega (arith, w))
+
+-- ruled out: row D for a component of 257, whose low byte is row D's; and row D where a dimension's tile length is missing
+pub others : writeCall (fieldsD 257) (replicate 64 7) .number
+    ∷ writeCall (fields (4 ∷ 1 ∷ []) (2 ∷ []) (2 ∷ 0 ∷ []) (1 ∷ 0 ∷ 0 ∷ 0 ∷ []) (1 ∷ []) 0 0) (replicate 64 7) .number ∷ []
+    ≡ 2 ∷ 2 ∷ []
+unfolding firstOf _and_ not pick every keep tabulate filled fitsIn fits nestWritable counted agree nestFrom writable writeLines writing writeCall
+others = refl

@@ -1,0 +1,10 @@
+pub mod Places
+pub mod Records
+pub mod Fitting
+pub mod Loops
+pub mod Rebuilt
+pub mod ReadBack
+pub mod Calls
+pub mod FromFields
+pub mod Demand202
+pub mod Computed

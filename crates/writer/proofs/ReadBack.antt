@@ -1,0 +1,270 @@
+-- The bytes of a nest that fits read back to it, `read-back`; of line 2 the counts and the shift are left, `stray-is`.
+use Prim.Native.Nat.{ℕ, zero, suc, _+_, _*_, _-_, _/_, _%_, _≤_, _<_}
+use mathlib.Core.Path.{_≡_, refl, sym, ap, _∙_}
+use mathlib.Core.Logic.{inl, inr}
+use mathlib.Core.Bool.{Bool, true, false}
+use mathlib.Core.List.{List, [], _∷_}
+use native.Mathlib.Omega.{arith}
+use native.Mathlib.Decide.{decLt}
+use lib.ListN.{length, getD, replicate, getD-replicate}
+use lib.Seq.{ext-getD, getD-append-add}
+use lib.Dec.{eqb, ltb, leb}
+use borrow.Author.Tests.{eq-eqb, ne-eqb, lt-ltb, le-ltb, ltb-true, le-leb, leb-true}
+use Rattle.base.specs.Tests.{_and_, not, pick, every, keep, those}
+use Rattle.base.specs.Numbers.{firstOf}
+use Rattle.base.proofs.Numbers.{first-true, first-false}
+use Rattle.base.proofs.Tests.{both, and-left, and-true, or-false, not-true, not-false, is-false, every-all, pick-true, pick-false, tabulate-at}
+use Rattle.base.proofs.Select.{keep-more, keep-none, keep-same}
+use Rattle.nest.specs.declared.Nest.{Nest}
+use Rattle.nest.specs.Nest.{lengthOf, tileLength, processorCount, component, weight, records, half, word, kind, ofKind, filled, nestBy, nestOf, ragged, blank, fitsAt, wellFormed, strayRecord, nestLines, readLines}
+use Rattle.nest.proofs.Laws.{filled-length, made, checked-plain, checked-close}
+use Rattle.nest.specs.Encode.{low, high, dimensionRecord, distanceRecord, closeRecord, dimensionOf, distanceOf, encode}
+use Rattle.writer.proofs.Fitting.{Table, Fits}
+use Rattle.writer.proofs.Places.{encode-length, at-dimension, at-distance, at-close}
+
+-- ---- tests that hold on one run of numbers
+
+module _ (f : ℕ → Bool) (a k most : ℕ) (before : (i : ℕ) → i < a → f i ≡ false) (run : (i : ℕ) → a ≤ i → i < a + k → f i ≡ true)
+    (after : (i : ℕ) → a + k ≤ i → i < most → f i ≡ false) where
+  kept-so-far : (m : ℕ) → m ≤ most → length (keep f m) ≡ (m - a) - (m - (a + k))
+  unfolding keep
+  kept-so-far zero h = omega arith
+  kept-so-far (suc m) h = go (kept-so-far m (omega arith)) (decLt m a) (decLt m (a + k))
+    where
+      go : length (keep f m) ≡ (m - a) - (m - (a + k)) → Dec (m < a) → Dec (m < a + k) → length (keep f (suc m)) ≡ (suc m - a) - (suc m - (a + k))
+      go ih (yes p) q = omega (arith, ap length (keep-none f m (before m p)))
+      go ih (no p) (yes q) = omega (arith, keep-more f m (run m (omega arith) q))
+      go ih (no p) (no q) = omega (arith, ap length (keep-none f m (after m (omega arith) (omega arith))))
+
+  pub kept-run : a + k ≤ most → length (keep f most) ≡ k
+  kept-run h = omega (arith, kept-so-far most (omega arith))
+
+-- ---- tables and fields
+
+filled-at : (size n : ℕ) (f : ℕ → ℕ) (i : ℕ) → i < size → getD (filled size n f) i 0 ≡ pick (ltb i n) (f i) 0
+unfolding filled
+filled-at size n f i h = tabulate-at (λ j. pick (ltb j n) (f j) 0) size i h
+
+pub table-is : (size n bound : ℕ) (l : List ℕ) (f : ℕ → ℕ) → Table size n bound l → ((i : ℕ) → i < n → getD l i 0 ≡ f i) → l ≡ filled size n f
+table-is size n bound l f t h = ext-getD 0 l (filled size n f) (t .long ∙ sym (filled-length size f n)) (λ i m. go i (rw (t .long) at m) (decLt i n))
+  where
+    go : (i : ℕ) → i < size → Dec (i < n) → getD l i 0 ≡ getD (filled size n f) i 0
+    go i m (yes k) = h i k ∙ sym (filled-at size n f i m ∙ pick-true (ltb i n) (f i) 0 (lt-ltb i n k))
+    go i m (no k) = t .rest i (omega arith) ∙ sym (filled-at size n f i m ∙ pick-false (ltb i n) (f i) 0 (le-ltb i n (omega arith)))
+
+half-back : (b : List ℕ) (p v : ℕ) → v < 65536 → getD b p 0 ≡ low v → getD b (p + 1) 0 ≡ high v → v ≡ half b p
+half-back b p v h e f = omega arith
+
+word-back : (b : List ℕ) (p v : ℕ) → v < 4294967296 → getD b p 0 ≡ low v → getD b (p + 1) 0 ≡ high v
+    → getD b (p + 2) 0 ≡ low (v / 65536) → getD b (p + 2 + 1) 0 ≡ high (v / 65536) → v ≡ word b p
+word-back b p v h e0 e1 e2 e3 = omega arith
+
+tail-zero : (a0 a1 a2 a3 a4 a5 a6 a7 k : ℕ) → k < 8 → getD (a0 ∷ a1 ∷ a2 ∷ a3 ∷ a4 ∷ a5 ∷ a6 ∷ a7 ∷ replicate 8 0) (8 + k) 0 ≡ 0
+tail-zero a0 a1 a2 a3 a4 a5 a6 a7 k h =
+    getD-append-add (a0 ∷ a1 ∷ a2 ∷ a3 ∷ a4 ∷ a5 ∷ a6 ∷ a7 ∷ []) (replicate 8 0) k 0 ∙ getD-replicate {A = ℕ} 8 k 0 0 h
+
+and-right : (a b : Bool) → b ≡ true → (a and b) ≡ a
+unfolding _and_
+and-right true b e = e
+and-right false b e = refl
+
+module _ (x : Nest) where
+  dimension-byte : (j i p : ℕ) → j < x .dimensions → i < 16 → p ≡ 16 * j + i → getD (encode x) p 0 ≡ getD (dimensionOf x j) i 0
+  dimension-byte j i p h l e = rw e (at-dimension x j i h l)
+
+  distance-byte : (d i p : ℕ) → d < x .distances → i < 16 → p ≡ 16 * (x .dimensions + d) + i → getD (encode x) p 0 ≡ getD (distanceOf x d) i 0
+  distance-byte d i p h l e = rw e (at-distance x d i h l)
+
+  close-byte : (i p : ℕ) → p ≡ 16 * (x .dimensions + x .distances) + i → getD (encode x) p 0 ≡ getD (closeRecord (x .shift) (x .boundary)) i 0
+  close-byte i p e = rw e (at-close x i)
+
+  pub records-are : records (encode x) ≡ x .dimensions + x .distances + 1
+  records-are = omega (arith, encode-length x)
+
+  -- ---- kinds
+
+  kind-dimension : (r : ℕ) → r < x .dimensions → kind (encode x) r ≡ 1
+  unfolding dimensionOf dimensionRecord
+  kind-dimension r h = dimension-byte r 0 (16 * r) h (omega arith) (omega arith)
+
+  kind-distance : (r : ℕ) → x .dimensions ≤ r → r < x .dimensions + x .distances → kind (encode x) r ≡ 2
+  unfolding distanceOf distanceRecord
+  kind-distance r l h = distance-byte (r - x .dimensions) 0 (16 * r) (omega arith) (omega arith) (omega arith)
+
+  kind-close : (r : ℕ) → r ≡ x .dimensions + x .distances → kind (encode x) r ≡ 3
+  unfolding closeRecord
+  kind-close r e = close-byte 0 (16 * r) (omega arith)
+
+  not-kind : (r k m : ℕ) → kind (encode x) r ≡ k → (k ≡ m → ⊥) → eqb (kind (encode x) r) m ≡ false
+  not-kind r k m e h = ne-eqb _ m (λ q. h (sym e ∙ q))
+
+  pub dimensions-are : ofKind (encode x) 1 ≡ x .dimensions
+  unfolding ofKind those
+  dimensions-are =
+      rw records-are
+      (kept-run (λ r. eqb (kind (encode x) r) 1) 0 (x .dimensions) (x .dimensions + x .distances + 1) (λ i h. absurd (omega arith))
+      (λ i l h. eq-eqb _ 1 (kind-dimension i (omega arith))) (λ i l h. after i l h (decLt i (x .dimensions + x .distances))) (omega arith))
+    where
+      after : (i : ℕ) → 0 + x .dimensions ≤ i → i < x .dimensions + x .distances + 1 → Dec (i < x .dimensions + x .distances) → eqb (kind (encode x) i) 1 ≡ false
+      after i l h (yes k) = not-kind i 2 1 (kind-distance i (omega arith) k) (λ e. omega arith)
+      after i l h (no k) = not-kind i 3 1 (kind-close i (omega arith)) (λ e. omega arith)
+
+  pub distances-are : ofKind (encode x) 2 ≡ x .distances
+  unfolding ofKind those
+  distances-are =
+      rw records-are
+      (kept-run (λ r. eqb (kind (encode x) r) 2) (x .dimensions) (x .distances) (x .dimensions + x .distances + 1)
+      (λ i h. not-kind i 1 2 (kind-dimension i h) (λ e. omega arith)) (λ i l h. eq-eqb _ 2 (kind-distance i l h))
+      (λ i l h. not-kind i 3 2 (kind-close i (omega arith)) (λ e. omega arith)) (omega arith))
+
+  -- ---- fields
+
+  component-byte : (d k : ℕ) → k < 4 → getD (distanceOf x d) (2 + k) 0 ≡ low (component x d k)
+  unfolding distanceOf distanceRecord
+  component-byte d zero h = refl
+  component-byte d (suc zero) h = refl
+  component-byte d (suc (suc zero)) h = refl
+  component-byte d (suc (suc (suc zero))) h = refl
+  component-byte d (suc (suc (suc (suc k)))) h = absurd (omega arith)
+
+  module _ (f : Fits x) where
+    length-back : (j : ℕ) → j < x .dimensions → lengthOf x j ≡ half (encode x) (16 * j + 2)
+    unfolding dimensionOf dimensionRecord
+    length-back j h =
+        half-back (encode x) (16 * j + 2) _ (f .lengths .fit j h) (dimension-byte j 2 _ h (omega arith) refl)
+        (dimension-byte j 3 _ h (omega arith) (omega arith))
+
+    tile-back : (j : ℕ) → j < x .dimensions → tileLength x j ≡ half (encode x) (16 * j + 4)
+    unfolding dimensionOf dimensionRecord
+    tile-back j h =
+        half-back (encode x) (16 * j + 4) _ (f .tiling .fit j h) (dimension-byte j 4 _ h (omega arith) refl)
+        (dimension-byte j 5 _ h (omega arith) (omega arith))
+
+    count-back : (j : ℕ) → j < x .dimensions → processorCount x j ≡ half (encode x) (16 * j + 6)
+    unfolding dimensionOf dimensionRecord
+    count-back j h =
+        half-back (encode x) (16 * j + 6) _ (f .counts .fit j h) (dimension-byte j 6 _ h (omega arith) refl)
+        (dimension-byte j 7 _ h (omega arith) (omega arith))
+
+    weight-back : (d : ℕ) → d < x .distances → weight x d ≡ half (encode x) (16 * (x .dimensions + d) + 6)
+    unfolding distanceOf distanceRecord
+    weight-back d h =
+        half-back (encode x) (16 * (x .dimensions + d) + 6) _ (f .weights .fit d h) (distance-byte d 6 _ h (omega arith) refl)
+        (distance-byte d 7 _ h (omega arith) (omega arith))
+
+    component-back : (i : ℕ) → i < 4 * x .distances → getD (x .components) i 0 ≡ getD (encode x) (16 * (x .dimensions + i / 4) + (2 + i % 4)) 0
+    component-back i h =
+        let e : 4 * (i / 4) + i % 4 ≡ i = omega arith in
+        let v : component x (i / 4) (i % 4) ≡ getD (x .components) i 0 = ap (λ (p : ℕ). getD (x .components) p 0) e in
+        let w = at-distance x (i / 4) (2 + i % 4) (omega arith) (omega arith) ∙ component-byte (i / 4) (i % 4) (omega arith) in
+        let b = f .components .fit i h in
+        omega (arith, v, w, b)
+
+    shift-back : x .shift ≡ getD (encode x) (16 * (x .dimensions + x .distances) + 1) 0
+    unfolding closeRecord
+    shift-back = let w : getD (encode x) (16 * (x .dimensions + x .distances) + 1) 0 ≡ low (x .shift) = at-close x 1 in omega (arith, f .shift)
+
+    boundary-back : x .boundary ≡ word (encode x) (16 * (x .dimensions + x .distances) + 4)
+    unfolding closeRecord
+    boundary-back =
+        word-back (encode x) (16 * (x .dimensions + x .distances) + 4) (x .boundary) (f .boundary) (close-byte 4 _ refl) (close-byte 5 _ (omega arith))
+        (close-byte 6 _ (omega arith)) (close-byte 7 _ (omega arith))
+
+    spread-back : x .spread ≡ length (keep (λ (j : ℕ). ltb 0 (half (encode x) (16 * j + 6))) (x .dimensions))
+    spread-back = f .spread ∙ ap length (keep-same _ _ (x .dimensions) (λ i h. ap (ltb 0) (count-back i h)))
+
+    pub read-back-by : x ≡ nestBy (encode x) (x .dimensions) (x .distances)
+    read-back-by =
+        made (encode x) (x .dimensions) (x .distances) (x .spread) (x .shift) (x .boundary) (x .lengths) (x .tiling) (x .counts) (x .components) (x .weights)
+        spread-back (table-is 4 _ _ _ _ (f .lengths) length-back) (table-is 4 _ _ _ _ (f .tiling) tile-back) (table-is 4 _ _ _ _ (f .counts) count-back)
+        (table-is 32 _ _ _ _ (f .components) component-back) (table-is 8 _ _ _ _ (f .weights) weight-back) shift-back boundary-back
+
+    pub read-back : nestOf (encode x) ≡ x
+    unfolding nestOf
+    read-back = rw (dimensions-are, distances-are) (sym read-back-by)
+
+  -- ---- lines
+
+  pub even : ragged (encode x) ≡ false
+  unfolding ragged
+  even =
+      let w = encode-length x in
+      or-false (ne-eqb (length (encode x)) 0 (λ e. omega arith)) (not-true (eq-eqb (length (encode x) % 16) 0 (omega arith)))
+
+  blank-is : (p n : ℕ) → ((i : ℕ) → i < n → getD (encode x) (p + i) 0 ≡ 0) → blank (encode x) p n ≡ true
+  unfolding blank
+  blank-is p n h = every-all _ n (λ i l. eq-eqb _ 0 (h i l))
+
+  dimension-fits : (r : ℕ) → r < x .dimensions → fitsAt (encode x) (x .dimensions) (x .distances) r ≡ true
+  unfolding fitsAt dimensionOf dimensionRecord
+  dimension-fits r h =
+      let k = kind-dimension r h in
+      and-true (eq-eqb _ _ (k ∙ sym (pick-true (ltb r (x .dimensions)) 1 _ (lt-ltb r (x .dimensions) h))))
+      (checked-plain (encode x) r _ (inl k)
+      ∙ and-true (blank-is (16 * r + 1) 1 (λ i l. dimension-byte r 1 _ h (omega arith) (omega arith)))
+      (blank-is (16 * r + 8) 8 (λ i l. dimension-byte r (8 + i) _ h (omega arith) (omega arith) ∙ tail-zero _ _ _ _ _ _ _ _ i l)))
+
+  distance-fits : (r : ℕ) → x .dimensions ≤ r → r < x .dimensions + x .distances → fitsAt (encode x) (x .dimensions) (x .distances) r ≡ true
+  unfolding fitsAt distanceOf distanceRecord
+  distance-fits r m h =
+      let k = kind-distance r m h in
+      let d : ℕ = r - x .dimensions in
+      and-true
+      (eq-eqb _ _ (k ∙ sym (pick-false (ltb r (x .dimensions)) 1 _ (le-ltb r (x .dimensions) m) ∙ pick-true (ltb r (x .dimensions + x .distances)) 2 3 (lt-ltb r _ h))))
+      (checked-plain (encode x) r _ (inr k)
+      ∙ and-true (blank-is (16 * r + 1) 1 (λ i l. distance-byte (r - x .dimensions) 1 _ (omega arith) (omega arith) (omega arith)))
+      (blank-is (16 * r + 8) 8 (λ i l. distance-byte (r - x .dimensions) (8 + i) _ (omega arith) (omega arith) (omega arith) ∙ tail-zero _ _ _ _ _ _ _ _ i l)))
+
+  close-fits : (r : ℕ) → r ≡ x .dimensions + x .distances → fitsAt (encode x) (x .dimensions) (x .distances) r ≡ ltb (low (x .shift)) 32
+  unfolding fitsAt closeRecord
+  close-fits r e =
+      let k = kind-close r e in
+      and-left _ _
+      (eq-eqb _ _ (k ∙ sym (pick-false (ltb r (x .dimensions)) 1 _ (le-ltb r (x .dimensions) (omega arith)) ∙ pick-false (ltb r (x .dimensions + x .distances)) 2 3 (le-ltb r _ (omega arith)))))
+      ∙ (checked-close (encode x) r _ k
+      ∙ (and-right _ _
+      (and-true (blank-is (16 * r + 2) 2 (λ i l. blank-two i l)) (blank-is (16 * r + 8) 8 (λ i l. close-byte (8 + i) _ (omega arith) ∙ tail-zero _ _ _ _ _ _ _ _ i l)))
+      ∙ ap (λ (v : ℕ). ltb v 32) (close-byte 1 _ (omega arith))))
+    where
+      blank-two : (i : ℕ) → i < 2 → getD (encode x) (16 * r + 2 + i) 0 ≡ 0
+      blank-two zero l = close-byte 2 _ (omega arith)
+      blank-two (suc zero) l = close-byte 3 _ (omega arith)
+      blank-two (suc (suc i)) l = absurd (omega arith)
+
+  all-fit : every (fitsAt (encode x) (x .dimensions) (x .distances)) (records (encode x)) ≡ ltb (low (x .shift)) 32
+  unfolding every
+  all-fit =
+      let e : records (encode x) ≡ suc (x .dimensions + x .distances) = omega (arith, records-are) in
+      ap (every (fitsAt (encode x) (x .dimensions) (x .distances))) e
+      ∙ (and-left _ _ (every-all _ (x .dimensions + x .distances) (λ r h. fits r h (decLt r (x .dimensions)))) ∙ close-fits _ refl)
+    where
+      fits : (r : ℕ) → r < x .dimensions + x .distances → Dec (r < x .dimensions) → fitsAt (encode x) (x .dimensions) (x .distances) r ≡ true
+      fits r h (yes k) = dimension-fits r k
+      fits r h (no k) = distance-fits r (omega arith) h
+
+  pub stray-is : strayRecord (encode x)
+      ≡ not (leb 2 (x .dimensions) and leb (x .dimensions) 4 and leb 1 (x .distances) and leb (x .distances) 8 and ltb (low (x .shift)) 32)
+  unfolding strayRecord wellFormed
+  stray-is =
+      rw (dimensions-are, distances-are)
+      (ap (λ (t : Bool). not (leb 2 (x .dimensions) and leb (x .dimensions) 4 and leb 1 (x .distances) and leb (x .distances) 8 and t))
+      (and-left _ _ (eq-eqb (records (encode x)) (x .dimensions + x .distances + 1) records-are) ∙ all-fit))
+
+  -- ---- the number
+
+  pub read-two : (2 ≤ x .dimensions → x .dimensions ≤ 4 → 1 ≤ x .distances → x .distances ≤ 8 → low (x .shift) < 32 → ⊥) → firstOf (readLines (encode x)) ≡ 2
+  unfolding readLines
+  read-two h =
+      first-false 1 (ragged (encode x)) _ even
+      ∙ first-true 2 (strayRecord (encode x)) _
+      (stray-is ∙ not-false (is-false (λ t. let p1 = both t in let p2 = both (p1 .1) in let p3 = both (p2 .1) in let p4 = both (p3 .1) in
+      h (leb-true _ _ (p1 .0)) (leb-true _ _ (p2 .0)) (leb-true _ _ (p3 .0)) (leb-true _ _ (p4 .0)) (ltb-true _ _ (p4 .1)))))
+
+  pub read-lines : Fits x → 2 ≤ x .dimensions → 1 ≤ x .distances → x .shift < 32 → firstOf (readLines (encode x)) ≡ firstOf (nestLines x)
+  unfolding readLines
+  read-lines f a b h =
+      let e : low (x .shift) ≡ x .shift = omega arith in
+      first-false 1 (ragged (encode x)) _ even
+      ∙ (first-false 2 (strayRecord (encode x)) _
+      (stray-is ∙ not-true (and-true (le-leb _ _ a) (and-true (le-leb _ _ (f .dimensions)) (and-true (le-leb _ _ b) (and-true (le-leb _ _ (f .distances)) (lt-ltb (low (x .shift)) 32 (rw e h)))))))
+      ∙ ap (λ (y : Nest). firstOf (nestLines y)) (read-back f))

@@ -1,0 +1,57 @@
+-- The records that the code makes, over plain variables.
+use Prim.Native.Nat.{ℕ, _+_, _*_, _-_, _/_, _≤_, _<_}
+use mathlib.Core.Path.{_≡_, refl, sym, ap, _∙_}
+use mathlib.Core.List.{List}
+use native.Mathlib.Omega.{arith}
+use lib.ListN.{getD, set, replicate}
+use Rattle.nest.specs.declared.Nest.{Nest}
+use Rattle.nest.specs.Nest.{lengthOf, tileLength, processorCount, component, weight}
+use Rattle.nest.specs.Encode.{low, high, dimensionRecord, distanceRecord, closeRecord, dimensionOf, distanceOf, encode}
+use Rattle.writer.proofs.Places.{at-dimension, at-distance, at-close}
+
+pub dimension-made : (l t p a b c d e f : ℕ) → a ≡ low l → b ≡ high l → c ≡ low t → d ≡ high t → e ≡ low p → f ≡ high p
+    → set (set (set (set (set (set (set (replicate 16 0) 0 1) 2 a) 3 b) 4 c) 5 d) 6 e) 7 f ≡ dimensionRecord l t p
+unfolding dimensionRecord
+dimension-made l t p a b c d e f e1 e2 e3 e4 e5 e6 = rw (e1, e2, e3, e4, e5, e6) refl
+
+pub distance-made : (d1 d2 d3 d4 w a b c d e f : ℕ) → a ≡ low d1 → b ≡ low d2 → c ≡ low d3 → d ≡ low d4 → e ≡ low w → f ≡ high w
+    → set (set (set (set (set (set (set (replicate 16 0) 0 2) 2 a) 3 b) 4 c) 5 d) 6 e) 7 f ≡ distanceRecord d1 d2 d3 d4 w
+unfolding distanceRecord
+distance-made d1 d2 d3 d4 w a b c d e f e1 e2 e3 e4 e5 e6 = rw (e1, e2, e3, e4, e5, e6) refl
+
+pub close-made : (s v a b c d e : ℕ) → a ≡ low s → b ≡ low v → c ≡ high v → d ≡ low (v / 65536) → e ≡ high (v / 65536)
+    → set (set (set (set (set (set (replicate 16 0) 0 3) 1 a) 4 b) 5 c) 6 d) 7 e ≡ closeRecord s v
+unfolding closeRecord
+close-made s v a b c d e e1 e2 e3 e4 e5 = rw (e1, e2, e3, e4, e5) refl
+
+-- of a nest
+
+pub dimension-is : (x : Nest) (j l t p : ℕ) (o : List ℕ) → l ≡ lengthOf x j → t ≡ tileLength x j → p ≡ processorCount x j
+    → o ≡ dimensionRecord l t p → o ≡ dimensionOf x j
+unfolding dimensionOf
+dimension-is x j l t p o e1 e2 e3 h = rw (e1, e2, e3) at h
+
+pub distance-is : (x : Nest) (k p q r s : ℕ) (o : List ℕ) → p ≡ getD (x .components) (4 * k) 0 → q ≡ component x k 1 → r ≡ component x k 2
+    → s ≡ component x k 3 → o ≡ distanceRecord p q r s (weight x k) → o ≡ distanceOf x k
+unfolding distanceOf
+distance-is x k p q r s o e1 e2 e3 e4 h =
+    let w : component x k 0 ≡ getD (x .components) (4 * k) 0 = let z : 4 * k + 0 ≡ 4 * k = omega arith in ap (λ (i : ℕ). getD (x .components) i 0) z in
+    rw (e1 ∙ sym w, e2, e3, e4) at h
+
+-- record r
+
+module _ (x : Nest) (r : ℕ) (o : List ℕ) where
+  pub dimension-row : r < x .dimensions → o ≡ dimensionOf x r → (i : ℕ) → i < 16 → getD o i 0 ≡ getD (encode x) (16 * r + i) 0
+  dimension-row h e i l = rw e (sym (at-dimension x r i h l))
+
+  pub distance-row : (d : ℕ) → x .dimensions ≤ r → d ≡ r - x .dimensions → d < x .distances → o ≡ distanceOf x d
+      → (i : ℕ) → i < 16 → getD o i 0 ≡ getD (encode x) (16 * r + i) 0
+  distance-row d m q h e i l =
+      let w : r ≡ x .dimensions + d = omega arith in
+      rw (e, w) (sym (at-distance x d i h l))
+
+  pub close-row : x .dimensions ≤ r → r ≤ x .dimensions + x .distances → x .distances ≤ r - x .dimensions → o ≡ closeRecord (x .shift) (x .boundary)
+      → (i : ℕ) → i < 16 → getD o i 0 ≡ getD (encode x) (16 * r + i) 0
+  close-row m h k e i l =
+      let w : r ≡ x .dimensions + x .distances = omega arith in
+      rw (e, w) (sym (at-close x i))

@@ -1,0 +1,52 @@
+-- `writer::nest_from` meets its contract: each table is filled from its list.
+use mathlib.Core.Path.{_∙_}
+use Rattle.writer.proofs.FromFields as F
+use native.Mathlib.Omega.{arith}
+use borrow.Author.Needs.{needs}
+use Rattle.writer.proofs.nest_from.Statement.{statement}
+use Rattle.writer.proofs.nest_from.Tie as tie
+
+table-4-requires : tie.Need-table-4-requires
+table-4-requires c κs = omega (arith, F.agreed _ (c .before .before .before .before .before .pre) .dimensions, F.agreed _ (c .before .before .before .before .before .pre) .counts)
+
+spread-of-requires : tie.Need-spread-of-requires
+spread-of-requires c κs = F.agreed _ (c .before .before .before .before .before .before .pre) .dimensions
+
+table-4-requires-2 : tie.Need-table-4-requires-2
+table-4-requires-2 c κs = F.agreed _ (c .before .before .before .before .before .before .before .pre) .dimensions
+
+table-4-requires-3 : tie.Need-table-4-requires-3
+table-4-requires-3 c κs = omega (arith, F.agreed _ (c .before .before .before .before .before .before .before .before .pre) .dimensions, F.agreed _ (c .before .before .before .before .before .before .before .before .pre) .tiling)
+
+table-32-requires : tie.Need-table-32-requires
+table-32-requires c κs = omega (arith, F.agreed _ (c .before .before .before .before .before .before .before .before .before .pre) .distances, F.agreed _ (c .before .before .before .before .before .before .before .before .before .pre) .components)
+
+table-8-requires : tie.Need-table-8-requires
+table-8-requires c κs = F.agreed _ (c .before .before .before .before .before .before .before .before .before .before .pre) .distances
+
+byte-index-requires : tie.Need-byte-index-requires
+byte-index-requires c κs = search needs
+
+wide-requires : tie.Need-wide-requires
+wide-requires c κs = search needs
+
+word-wide-requires : tie.Need-word-wide-requires
+word-wide-requires c κs = search needs
+
+returns : tie.Need-returns
+returns c = F.from-made (c .before .before .before .before .before .before .before .before .before .before .before .before .before .before .args .lengths .now) (c .before .before .before .before .before .before .before .before .before .before .before .before .before .before .args .tiling .now) (c .before .before .before .before .before .before .before .before .before .before .before .before .before .before .args .counts .now) (c .before .before .before .before .before .before .before .before .before .before .before .before .before .before .args .components .now) (c .before .before .before .before .before .before .before .before .before .before .before .before .before .before .args .weights .now) (c .before .before .before .before .before .before .before .before .before .before .before .before .before .before .args .shift) (c .before .before .before .before .before .before .before .before .before .before .before .before .before .before .args .boundary) (c .before .before .before .before .before .before .before .before .before .before .before .before .before .before .pre) _ _ _ _ _ _ _ _ (c .before .before .before .before .before .before .before .before .table-4 .ensures) (c .before .before .before .before .before .before .before .spread-of .ensures) (c .before .before .before .before .before .before .table-42 .ensures) (c .before .before .before .before .before .table-43 .ensures) (c .before .before .before .before .table-32 .ensures) (c .before .before .before .table-8 .ensures) (c .before .wide .ensures ∙ c .before .before .byte-index .ensures) (c .word-wide .ensures)
+
+pub nest-from-spec : {M : Type 1} → statement M
+nest-from-spec =
+    tie.close
+    (tie.spec
+    table-4-requires
+    spread-of-requires
+    table-4-requires-2
+    table-4-requires-3
+    table-32-requires
+    table-8-requires
+    byte-index-requires
+    wide-requires
+    word-wide-requires
+    returns)

@@ -1,0 +1,3 @@
+pub mod Fields
+pub mod Writing
+pub mod Demand202

@@ -1,0 +1,396 @@
+// The writer: a recipe's fields to its bytes, with the number that the reader would give for them.
+// The bytes are made in an array of the largest recipe's size and the reader itself is asked about them, so its lines stand in one place.
+use nest::Nest;
+ghost use mathlib.Core.Path.{_≡_};
+ghost use mathlib.Core.Bool.{true};
+ghost use Prim.Native.Nat.{ℕ, _+_, _*_, _<_, _≤_};
+ghost use lib.ListN.{length, getD, take};
+ghost use lib.Dec.{ltb};
+ghost use Rattle.base.specs.Tests.{pick, keep, tabulate};
+ghost use Rattle.base.specs.Numbers.{firstOf};
+ghost use Rattle.nest.specs.Nest.{filled, readLines};
+ghost use Rattle.nest.specs.Encode.{low, high, dimensionRecord, distanceRecord, closeRecord, dimensionOf, distanceOf, encode};
+ghost use Rattle.writer.specs.Fields.{fields, counted, agree, nestFrom};
+ghost use Rattle.writer.specs.Writing.{written, fitsIn, fits, writeNestCall, writeCall};
+
+// ---- records
+
+fn wide(x: usize) -> u64
+    ensures { λ r. ⌜ r ≡ x ⌝ }
+{
+    x as u64
+}
+
+fn low(v: u64) -> u8
+    ensures { λ r. ⌜ r ≡ low v ⌝ }
+{
+    (v % 256) as u8
+}
+
+fn high(v: u64) -> u8
+    ensures { λ r. ⌜ r ≡ high v ⌝ }
+{
+    (v / 256 % 256) as u8
+}
+
+fn dimension_record(length: u64, tile: u64, count: u64) -> [u8; 16]
+    ensures { λ r. ⌜ r ≡ dimensionRecord length tile count ⌝ }
+{
+    let mut row = [0u8; 16];
+    row[0] = 1;
+    row[2] = low(length);
+    row[3] = high(length);
+    row[4] = low(tile);
+    row[5] = high(tile);
+    row[6] = low(count);
+    row[7] = high(count);
+    row
+}
+
+fn distance_record(d1: u64, d2: u64, d3: u64, d4: u64, weight: u64) -> [u8; 16]
+    ensures { λ r. ⌜ r ≡ distanceRecord d1 d2 d3 d4 weight ⌝ }
+{
+    let mut row = [0u8; 16];
+    row[0] = 2;
+    row[2] = low(d1);
+    row[3] = low(d2);
+    row[4] = low(d3);
+    row[5] = low(d4);
+    row[6] = low(weight);
+    row[7] = high(weight);
+    row
+}
+
+fn close_record(shift: u64, boundary: u64) -> [u8; 16]
+    ensures { λ r. ⌜ r ≡ closeRecord shift boundary ⌝ }
+{
+    let top = boundary / 65536;
+    let mut row = [0u8; 16];
+    row[0] = 3;
+    row[1] = low(shift);
+    row[4] = low(boundary);
+    row[5] = high(boundary);
+    row[6] = low(top);
+    row[7] = high(top);
+    row
+}
+
+fn dimension_of(nest: Nest, j: usize) -> [u8; 16]
+    requires { ⌜ j < 4 ⌝ }
+    ensures { λ r. ⌜ r ≡ dimensionOf nest j ⌝ }
+{
+    let lengths = nest.lengths;
+    let tiling = nest.tiling;
+    let counts = nest.counts;
+    dimension_record(wide(lengths[j]), wide(tiling[j]), wide(counts[j]))
+}
+
+fn distance_of(nest: Nest, e: usize) -> [u8; 16]
+    requires { ⌜ e < 8 ⌝ }
+    ensures { λ r. ⌜ r ≡ distanceOf nest e ⌝ }
+{
+    let d = nest.components;
+    let weights = nest.weights;
+    let at = 4 * e;
+    distance_record(
+        wide(d[at]),
+        wide(d[at + 1]),
+        wide(d[at + 2]),
+        wide(d[at + 3]),
+        weights[e],
+    )
+}
+
+// Record r: the dimensions, the distances, the close.
+fn record_of(nest: Nest, r: usize) -> [u8; 16]
+    requires { ⌜ (nest .dimensions ≤ 4) × ((nest .distances ≤ 8) × (r ≤ nest .dimensions + nest .distances)) ⌝ }
+    ensures { λ o. ⌜ ((i : ℕ) → i < 16 → getD o i 0 ≡ getD (encode nest) (16 * r + i) 0) ⌝ }
+{
+    if r < nest.dimensions {
+        return dimension_of(nest, r);
+    }
+    let e = r - nest.dimensions;
+    if e < nest.distances {
+        return distance_of(nest, e);
+    }
+    close_record(nest.shift, nest.boundary)
+}
+
+// ---- the recipe
+
+// Bytes that are right up to a place are right 16 bytes further, the record's.
+fn put_record(mut bytes: [u8; 208], at: usize, row: [u8; 16]) -> [u8; 208]
+    requires { ⌜ at + 16 ≤ 208 ⌝ }
+    ensures { λ o. ⌜ ((f : ℕ → ℕ) → bytes ≡ filled 208 at f → ((i : ℕ) → i < 16 → getD row i 0 ≡ f (at + i))
+        → o ≡ filled 208 (at + 16) f) ⌝ }
+{
+    for i in 0..16 {
+        bytes[at + i] = row[i];
+    }
+    bytes
+}
+
+// The recipe, in the largest recipe's space.
+fn bytes_of(nest: Nest) -> [u8; 208]
+    requires { ⌜ (nest .dimensions ≤ 4) × (nest .distances ≤ 8) ⌝ }
+    ensures { λ o. ⌜ o ≡ filled 208 (16 * (nest .dimensions + nest .distances + 1)) (λ (p : ℕ). getD (encode nest) p 0) ⌝ }
+{
+    let records = nest.dimensions + nest.distances + 1;
+    let mut bytes = [0u8; 208];
+    for r in 0..records {
+        let row = record_of(nest, r);
+        let next = put_record(bytes, 16 * r, row);
+        bytes = next;
+    }
+    bytes
+}
+
+// The number that the reader gives for the first bytes.
+fn number_of(bytes: [u8; 208], length: usize) -> u32
+    requires { ⌜ length ≤ 208 ⌝ }
+    ensures { λ r. ⌜ r ≡ firstOf (readLines (take length bytes)) ⌝ }
+{
+    let reading = nest::read(&bytes[0..length]);
+    reading.number
+}
+
+fn copy(bytes: [u8; 208], space: &mut [u8])
+    requires { ⌜ length (now space) ≤ 208 ⌝ }
+    ensures { λ _. ⌜ now (space .exit) ≡ tabulate (λ (i : ℕ). getD bytes i 0) (length (now (space .entry))) ⌝ }
+{
+    for i in 0..space.len() {
+        space[i] = bytes[i];
+    }
+}
+
+// ---- values that a recipe can hold
+
+// Below the bound, or 0 where there is no field.
+fn limit(i: usize, n: usize, bound: usize) -> usize
+    ensures { λ r. ⌜ r ≡ pick (ltb i n) bound 1 ⌝ }
+{
+    if i < n {
+        return bound;
+    }
+    1
+}
+
+fn fits_in(values: &[usize], n: usize, bound: usize) -> bool
+    ensures { λ r. ⌜ r ≡ fitsIn n bound (now (values .entry)) ⌝ }
+{
+    for i in 0..values.len() {
+        if values[i] >= limit(i, n, bound) {
+            return false;
+        }
+    }
+    true
+}
+
+fn weights_fit(values: &[u64], n: usize) -> bool
+    ensures { λ r. ⌜ r ≡ fitsIn n 65536 (now (values .entry)) ⌝ }
+{
+    for i in 0..values.len() {
+        if values[i] >= wide(limit(i, n, 65536)) {
+            return false;
+        }
+    }
+    true
+}
+
+// How many dimensions have a count.
+fn spread_of(counts: [usize; 4], n: usize) -> usize
+    requires { ⌜ n ≤ 4 ⌝ }
+    ensures { λ r. ⌜ r ≡ length (keep (λ (j : ℕ). ltb 0 (getD counts j 0)) n) ⌝ }
+{
+    let mut m: usize = 0;
+    for j in 0..n {
+        if 0 < counts[j] {
+            m += 1;
+        }
+    }
+    m
+}
+
+fn fits(nest: Nest) -> bool
+    requires { ⌜ (nest .dimensions ≤ 4) × (nest .distances ≤ 8) ⌝ }
+    ensures { λ r. ⌜ r ≡ fits nest ⌝ }
+{
+    let n = nest.dimensions;
+    let e = nest.distances;
+    let lengths = nest.lengths;
+    if !fits_in(&lengths, n, 65536) {
+        return false;
+    }
+    let tiling = nest.tiling;
+    if !fits_in(&tiling, n, 65536) {
+        return false;
+    }
+    let counts = nest.counts;
+    if !fits_in(&counts, n, 65536) {
+        return false;
+    }
+    let components = nest.components;
+    if !fits_in(&components, 4 * e, 256) {
+        return false;
+    }
+    let weights = nest.weights;
+    if !weights_fit(&weights, e) {
+        return false;
+    }
+    if nest.shift >= 256 {
+        return false;
+    }
+    if nest.boundary >= 4294967296 {
+        return false;
+    }
+    nest.spread == spread_of(counts, n)
+}
+
+// ---- the calls
+
+// The nest's recipe into the space, which must have exactly its length; or the number that refuses it, and the space as it was.
+// A nest that no recipe can hold gives 2.
+pub fn write_nest(nest: Nest, space: &mut [u8]) -> u32
+    ensures { λ r. ⌜ written r (now (space .exit)) ≡ writeNestCall nest (now (space .entry)) ⌝ }
+{
+    if nest.dimensions > 4 {
+        return 2;
+    }
+    if nest.distances > 8 {
+        return 2;
+    }
+    if !fits(nest) {
+        return 2;
+    }
+    let length = 16 * (nest.dimensions + nest.distances + 1);
+    let bytes = bytes_of(nest);
+    let number = number_of(bytes, length);
+    if number != 0 {
+        return number;
+    }
+    if space.len() != length {
+        return 9;
+    }
+    copy(bytes, space);
+    0
+}
+
+// ---- from fields
+
+fn table_4(values: &[u16]) -> [usize; 4]
+    requires { ⌜ length (now values) ≤ 4 ⌝ }
+    ensures { λ r. ⌜ r ≡ filled 4 (length (now (values .entry))) (λ (i : ℕ). getD (now (values .entry)) i 0) ⌝ }
+{
+    let mut table = [0usize; 4];
+    for i in 0..values.len() {
+        table[i] = base::half_index(values[i]);
+    }
+    table
+}
+
+fn table_8(values: &[u16]) -> [u64; 8]
+    requires { ⌜ length (now values) ≤ 8 ⌝ }
+    ensures { λ r. ⌜ r ≡ filled 8 (length (now (values .entry))) (λ (i : ℕ). getD (now (values .entry)) i 0) ⌝ }
+{
+    let mut table = [0u64; 8];
+    for i in 0..values.len() {
+        table[i] = wide(base::half_index(values[i]));
+    }
+    table
+}
+
+fn table_32(values: &[u16]) -> [usize; 32]
+    requires { ⌜ length (now values) ≤ 32 ⌝ }
+    ensures { λ r. ⌜ r ≡ filled 32 (length (now (values .entry))) (λ (i : ℕ). getD (now (values .entry)) i 0) ⌝ }
+{
+    let mut table = [0usize; 32];
+    for i in 0..values.len() {
+        table[i] = base::half_index(values[i]);
+    }
+    table
+}
+
+fn nest_from(
+    lengths: &[u16],
+    tiling: &[u16],
+    counts: &[u16],
+    components: &[u16],
+    weights: &[u16],
+    shift: u8,
+    boundary: u32,
+) -> Nest
+    requires { ⌜ agree (fields (now lengths) (now tiling) (now counts) (now components) (now weights) shift boundary) ≡ true ⌝ }
+    ensures { λ r. ⌜ r ≡ nestFrom (fields (now (lengths .entry)) (now (tiling .entry)) (now (counts .entry)) (now (components .entry))
+        (now (weights .entry)) shift boundary) ⌝ }
+{
+    let n = lengths.len();
+    let spread_over = table_4(counts);
+    Nest {
+        dimensions: n,
+        spread: spread_of(spread_over, n),
+        distances: weights.len(),
+        lengths: table_4(lengths),
+        tiling: table_4(tiling),
+        counts: spread_over,
+        components: table_32(components),
+        weights: table_8(weights),
+        shift: wide(base::byte_index(shift)),
+        boundary: base::word_wide(boundary),
+    }
+}
+
+// Lists of these lengths agree.
+fn counted(lengths: usize, tiling: usize, counts: usize, components: usize, weights: usize) -> bool
+    ensures { λ r. ⌜ r ≡ counted lengths tiling counts components weights ⌝ }
+{
+    if lengths > 4 {
+        return false;
+    }
+    if weights > 8 {
+        return false;
+    }
+    if tiling != lengths {
+        return false;
+    }
+    if counts != lengths {
+        return false;
+    }
+    components == 4 * weights
+}
+
+// The recipe of the fields: of each dimension its length, tile length and processor count, of each distance its four components and
+// its weight. Lists that disagree, and a component above 255, give 2; else as `write_nest`.
+pub fn write(
+    lengths: &[u16],
+    tiling: &[u16],
+    counts: &[u16],
+    components: &[u16],
+    weights: &[u16],
+    shift: u8,
+    boundary: u32,
+    space: &mut [u8],
+) -> u32
+    ensures { λ r. ⌜ written r (now (space .exit))
+        ≡ writeCall (fields (now (lengths .entry)) (now (tiling .entry)) (now (counts .entry)) (now (components .entry))
+        (now (weights .entry)) shift boundary) (now (space .entry)) ⌝ }
+{
+    if !counted(
+        lengths.len(),
+        tiling.len(),
+        counts.len(),
+        components.len(),
+        weights.len(),
+    ) {
+        return 2;
+    }
+    let nest = nest_from(
+        lengths,
+        tiling,
+        counts,
+        components,
+        weights,
+        shift,
+        boundary,
+    );
+    write_nest(nest, space)
+}
