@@ -256,6 +256,7 @@ FAULTS = [
     ('header', 'ROLWYDDAC_NO_MAIL = 14', 'ROLWYDDAC_NO_MAIL = 13'),
     ('header', 'more than 16,384 cells', 'more than 16,383 cells'),
     ('header', 'Numbers: 1 to 10, 15', 'Numbers: 1 to 11, 15'),
+    ('header', ' *   17 last spread    the last dimension is spread\n', ''),
     ('crate', 'rolwyddac_turn as turn(\n        encoded: &[u8], source: &[u32], memories: &mut [u32]',
      'rolwyddac_turn as turn(\n        encoded: &[u8], source: &[u32], memories: &[u32]'),
     ('crate', 'rolwyddac_sweep as', 'rolwyddac_swept as'),
@@ -264,6 +265,7 @@ FAULTS = [
     ('crate', '#[repr(C)]\n', ''),
     ('refusals', '14 NoMail', '13 NoMail'),
     ('refusals', '7 Boards "boards"', '7 Boards "board"'),
+    ('refusals', '    17 LastSpread "last spread": "the last dimension is spread";\n    7 Boards', '    7 Boards'),
     ('sources', 'message: u32', 'message: u16'),
     ('sources', '#[no_mangle]\npub extern "C" fn rolwyddac_sweep', 'pub extern "C" fn rolwyddac_sweep'),
 ]

@@ -1,4 +1,5 @@
-"""A plain model of document 01 and of request W-201, written from their text, read as docs/DECISIONS.md says, and not from the engine.
+"""A plain model of document 01 and of the requests W-201 and W-203, written from their text, read as docs/DECISIONS.md says, and not
+from the engine.
 
 Every set is made by trying all its candidates. It shares no code, no table and no closed form with
 the engine, so that a test vector made from it tells whether the engine means what the paper says.
@@ -96,16 +97,24 @@ def is_faulty_tile(nest):
     return False
 
 
+def is_out_of_order(nest):
+    """Line 16 (W-203): dimension one isn't spread, or a spread dimension follows an unspread one."""
+    spread = [p != 0 for p in nest.counts]
+    return not spread[0] or any(spread[j] and not spread[i] for j in range(nest.n) for i in range(j))
+
+
+def is_last_spread(nest):
+    """Line 17 (W-203)."""
+    return nest.counts[-1] != 0
+
+
 def is_faulty_boards(nest):
-    """Line 7: the first m dimensions are spread, 1 <= m < n, each with P >= 2; their product is at most 64."""
-    right = any(
-        all(p >= 2 for p in nest.counts[:m]) and all(p == 0 for p in nest.counts[m:])
-        for m in range(1, nest.n))
-    return not right or all_product(p for p in nest.counts if p != 0) > 64
+    """Line 7, as W-203 leaves it: a count of 1, or a product above 64."""
+    return 1 in nest.counts or all_product(p for p in nest.counts if p != 0) > 64
 
 
 def read(encoded):
-    """The number of the first true line of 1 to 8, and the nest where there is none."""
+    """The number of the first true line of those on the recipe, and the nest where there is none."""
     encoded = bytes(encoded)
     if len(encoded) == 0 or len(encoded) % 16 != 0:
         return 1, None
@@ -120,6 +129,10 @@ def read(encoded):
         return 5, None
     if is_faulty_tile(nest):
         return 6, None
+    if is_out_of_order(nest):
+        return 16, None
+    if is_last_spread(nest):
+        return 17, None
     if is_faulty_boards(nest):
         return 7, None
     if all_product(tiles_along(length, k) for length, k in zip(nest.lengths, nest.tiling)) > 1024:
@@ -221,7 +234,7 @@ PLANS = {}
 
 
 def plan_of(encoded):
-    """The number of lines 1 to 8 and the plan; kept, since every call is given the same bytes again."""
+    """The number of the lines on the recipe and the plan; kept, since every call is given the same bytes again."""
     encoded = bytes(encoded)
     if encoded not in PLANS:
         number, nest = read(encoded)
@@ -293,7 +306,7 @@ def after_sends(plan, areas, b, tile, sent):
 
 
 def tested(encoded, areas, others_right=lambda plan: True):
-    """Lines 1 to 10, tested by every call on a run's state, and the plan; what else is lent counts for line 9."""
+    """The lines up to 10, tested by every call on a run's state, and the plan; what else is lent counts for line 9."""
     number, plan = plan_of(encoded)
     if number != 0:
         return number, plan
@@ -482,6 +495,8 @@ def check_paper():
     for row, wanted in totals.items():
         expect('row ' + row, plan_text(ROWS[row]).split('\n')[0], 'tiles %d messages %d words %d steps %d' % wanted)
     expect('row H', plan_text(ROWS['H']), 'refused 7\n')
+    for counts, number in (((0, 2), 16), ((2, 0, 2), 16), ((2, 2), 17), ((1, 0), 7), ((65, 0), 7)):
+        expect('counts %s' % (counts,), read(encode([4] * 3, [2] * 3, counts, [(1, 0)]))[0], number)
     # every reader of tile 0's cells is in tile 3, and tile 2 takes the message
     unread = encode([4, 4], [2, 2], [2, 0], [(2, 2)])
     expect('a message that its taker does not read', plan_text(unread), 'tiles 4 messages 1 words 4 steps 10\n0 0 2 0 1 4\n')
@@ -508,4 +523,4 @@ def check_paper():
 
 if __name__ == '__main__':
     check_paper()
-    print('the model gives what document 01 and W-201 print')
+    print('the model gives what document 01, W-201 and W-203 print')

@@ -1,5 +1,5 @@
 #!/usr/bin/env python3
-"""Test recipes for the reader, with the numbers that document 01 and request W-201 give them.
+"""Test recipes for the reader, with the numbers that document 01 and the requests W-201 and W-203 give them.
 
     python3 tools/recipes.py          write crates/nest_cases/data/cases and crates/nest_cases/stdout
     python3 tools/recipes.py check    compare both with a fresh generation, and every number with tools/model.py
@@ -40,7 +40,7 @@ def recipe(lengths, tiles, counts, distances, shift=0, shore=0, weights=None):
             + b"".join(distance(d, w) for d, w in zip(distances, weights)) + close(shift, shore))
 
 
-# ---- document 01, lines 1 to 8 of its table; line 6 as W-201 has it
+# ---- document 01, lines 1 to 8 of its table; line 6 as W-201 has it, lines 16, 17 and 7 as W-203 has them
 
 def number(b):
     if len(b) == 0 or len(b) % 16 != 0:
@@ -73,7 +73,11 @@ def number(b):
     boards = 1
     for j in spread:
         boards *= P[j]
-    if not 1 <= len(spread) < n or spread != list(range(len(spread))) or any(P[j] < 2 for j in spread) or boards > 64:
+    if spread == [] or spread != list(range(len(spread))):
+        return 16
+    if n - 1 in spread:
+        return 17
+    if 1 in P or boards > 64:
         return 7
     tiles = 1
     for j in range(n):
@@ -129,7 +133,7 @@ for r in range(6):
             # the first distance read as a third dimension has tile length 0
             case("kind-%d-in-record-%d" % (kind, r), splice(A, 16 * r, kind), 6 if (r, kind) == (2, 1) else 2)
 RA = [A[i:i + 16] for i in range(0, 96, 16)]
-for r, expected in enumerate((7, 2, 0, 0, 2)):
+for r, expected in enumerate((16, 2, 0, 0, 2)):
     case("records-%d-and-%d-swapped" % (r, r + 1), b"".join(RA[:r] + [RA[r + 1], RA[r]] + RA[r + 2:]), expected)
 case("reversed", b"".join(reversed(RA)), 2)
 case("close-first", RA[5] + b"".join(RA[:5]), 2)
@@ -203,12 +207,15 @@ case("tile-equals-in-the-last-of-four", recipe([2, 2, 2, 8], [2, 2, 2, 3], [2, 0
 case("tile-below-in-the-last-of-four", recipe([2, 2, 2, 8], [2, 2, 2, 3], [2, 0, 0, 0], [(0, 0, 0, 4)]), 6)
 case("tile-1-in-both-distance-1-1", recipe([8, 8], [1, 1], [2, 0], [(1, 1)]), 0)
 
-# line 7
-for counts, expected in (((0, 0), 7), ((1, 0), 7), ((0, 1), 7), ((0, 2), 7), ((2, 1), 7), ((2, 2), 7), ((2, 0), 0), ((64, 0), 0), ((65, 0), 7),
-                         ((256, 0), 7), ((65535, 0), 7), ((2, 0, 0), 0), ((2, 2, 0), 0), ((2, 2, 2), 7), ((2, 0, 2), 7), ((0, 2, 0), 7), ((0, 2, 2), 7),
-                         ((2, 1, 0), 7), ((1, 2, 0), 7), ((8, 8, 0), 0), ((32, 2, 0), 0), ((13, 5, 0), 7), ((5, 13, 0), 7), ((4, 4, 4, 0), 0),
-                         ((4, 4, 5, 0), 7), ((2, 2, 16, 0), 0), ((2, 2, 2, 2), 7), ((2, 2, 0, 2), 7), ((2, 0, 0, 0), 0), ((32768, 32768, 4, 0), 7),
-                         ((65535, 65535, 65535, 0), 7), ((65535, 65535, 65535, 65535), 7), ((0, 0, 0, 0), 7)):
+# lines 16, 17 and 7
+for counts, expected in (((0, 0), 16), ((1, 0), 7), ((0, 1), 16), ((0, 2), 16), ((1, 1), 17), ((2, 1), 17), ((2, 2), 17), ((2, 0), 0),
+                         ((64, 0), 0), ((65, 0), 7), ((256, 0), 7), ((65535, 0), 7), ((0, 65535), 16), ((65535, 65535), 17),
+                         ((2, 0, 0), 0), ((2, 2, 0), 0), ((2, 2, 2), 17), ((2, 0, 2), 16), ((2, 0, 1), 16), ((0, 2, 0), 16), ((0, 0, 2), 16),
+                         ((0, 2, 2), 16), ((0, 1, 0), 16), ((2, 1, 0), 7), ((1, 2, 0), 7), ((1, 1, 0), 7), ((1, 2, 2), 17), ((1, 0, 2), 16),
+                         ((8, 8, 0), 0), ((32, 2, 0), 0), ((13, 5, 0), 7), ((5, 13, 0), 7), ((13, 5, 2), 17), ((65, 0, 2), 16),
+                         ((4, 4, 4, 0), 0), ((4, 4, 5, 0), 7), ((2, 2, 16, 0), 0), ((2, 2, 2, 2), 17), ((2, 2, 0, 2), 16), ((2, 0, 2, 0), 16),
+                         ((2, 0, 0, 2), 16), ((2, 0, 0, 0), 0), ((32768, 32768, 4, 0), 7), ((65535, 65535, 65535, 0), 7),
+                         ((65535, 65535, 65535, 65535), 17), ((65535, 65535, 0, 65535), 16), ((0, 0, 0, 0), 16)):
     n = len(counts)
     case("counts-" + "-".join(map(str, counts)), recipe([4] * n, [2] * n, list(counts), [(1, 0)]), expected)
 
@@ -220,9 +227,10 @@ case("tiles-1000", recipe([80, 25], [2, 1], [2, 0], [(1, 0)]), 0)
 case("tiles-8192", recipe([128, 128], [2, 1], [2, 0], [(1, 0)]), 8)
 case("tiles-1-of-1024", recipe([1024, 16], [1024, 1024], [2, 0], [(1, 0)]), 0)
 
-# two faults at once: the first line counts
-for first in range(1, 9):
-    for second in range(first + 1, 9):
+# two faults at once: the first line counts, in the order in which the lines are tested
+ORDER = (1, 2, 3, 4, 5, 6, 16, 17, 7, 8)
+for first in ORDER:
+    for second in ORDER[ORDER.index(first) + 1:]:
         faults = (first, second)
         N, k, P, V = [4, 4, 1, 1], [2, 2, 2, 2], [2, 0, 0, 0], [(1, 0)]
         if 8 in faults:
@@ -235,6 +243,10 @@ for first in range(1, 9):
             V = [(1, 0), (0, 0)]
         if 6 in faults:
             k[2] = 1025
+        if 16 in faults:
+            P = [2, 0, 2, 0]
+        if 17 in faults:
+            P = [2, 2, 2, 2] if 16 not in faults else [2, 0, 2, 2]
         if 7 in faults:
             P[0] = 1
         b = recipe(N, k, P, V)

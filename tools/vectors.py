@@ -74,8 +74,12 @@ def changed(encoded, at, value):
     return bytes(out)
 
 
+# the lines on the recipe, in the order in which they are tested
+ORDER = (1, 2, 3, 4, 5, 6, 16, 17, 7, 8)
+
+
 def faults():
-    """A fault of each line of 2 to 8, as changes of a recipe of three dimensions and two distances that is right."""
+    """A fault of each line on the recipe but 1, in their order, as changes of a recipe of three dimensions and two distances."""
     def first_length(value):
         return lambda e: changed(changed(e, 2, value % 256), 3, value // 256)
 
@@ -91,13 +95,15 @@ def faults():
         (4, all_lengths),
         (5, lambda e: changed(e, 16 * 3 + 5, 1)),
         (6, lambda e: changed(e, 16 + 4, 1)),
-        (7, lambda e: changed(e, 16 * 2 + 6, 2)),
+        (16, lambda e: changed(e, 6, 0)),
+        (17, lambda e: changed(e, 16 * 2 + 6, 2)),
+        (7, lambda e: changed(e, 16 + 6, 1)),
         (8, lambda e: changed(changed(changed(changed(e, 2, 0), 3, 4), 16 + 2, 7), 16 * 2 + 2, 2)),
     ]
 
 
 def refused_recipes():
-    """Each of 1 to 8 in several ways, and recipes in which two lines are true at once."""
+    """Each number of the lines on the recipe in several ways, and recipes in which two lines are true at once."""
     d = model.ROWS['D']
     one, two, three = d[:16], d[32:48], d[48:64]
     assert one[0] == 1 and two[0] == 2 and three[0] == 3
@@ -129,11 +135,14 @@ def refused_recipes():
               (6, model.encode([4, 4], [2, 2], [2, 0], [(3, 0)])), (6, model.encode([4, 4], [4, 4], [2, 0], [(1, 0), (0, 5)])),
               (6, model.encode([4, 4, 4], [4, 4, 65535], [2, 0, 0], [(1, 0, 0)])),
               (6, model.encode([300, 1], [254, 1], [2, 0], [(255, 0)]))]
-    found += [(7, model.encode([4, 4], [2, 2], [0, 2], [(1, 0)])), (7, model.encode([4, 4], [2, 2], [0, 0], [(1, 0)])),
-              (7, model.encode([4, 4], [2, 2], [2, 2], [(1, 0)])), (7, model.encode([4, 4], [2, 2], [1, 0], [(1, 0)])),
-              (7, model.encode([4, 4, 4], [2, 2, 2], [2, 0, 2], [(1, 0, 0)])), (7, model.encode([4, 4, 4], [2, 2, 2], [2, 1, 0], [(1, 0, 0)])),
+    found += [(16, model.encode([4, 4], [2, 2], [0, 2], [(1, 0)])), (16, model.encode([4, 4], [2, 2], [0, 0], [(1, 0)])),
+              (16, model.encode([4, 4], [2, 2], [0, 1], [(1, 0)])), (16, model.encode([4, 4, 4], [2, 2, 2], [2, 0, 2], [(1, 0, 0)])),
+              (16, model.encode([4, 4, 4], [2, 2, 2], [65, 0, 1], [(1, 0, 0)])), (16, model.encode([2] * 4, [2] * 4, [2, 0, 2, 0], [(1, 0, 0, 0)]))]
+    found += [(17, model.encode([4, 4], [2, 2], [2, 2], [(1, 0)])), (17, model.encode([4, 4], [2, 2], [1, 1], [(1, 0)])),
+              (17, model.encode([4, 4, 4], [2, 2, 2], [2, 65, 2], [(1, 0, 0)])), (17, model.encode([2] * 4, [2] * 4, [65535] * 4, [(1, 0, 0, 0)]))]
+    found += [(7, model.encode([4, 4], [2, 2], [1, 0], [(1, 0)])), (7, model.encode([4, 4, 4], [2, 2, 2], [2, 1, 0], [(1, 0, 0)])),
               (7, model.encode([4, 4], [2, 2], [65, 0], [(1, 0)])), (7, model.encode([4, 4, 4], [2, 2, 2], [13, 5, 0], [(1, 0, 0)])),
-              (7, model.encode([2] * 4, [2] * 4, [65535] * 4, [(1, 0, 0, 0)])), (7, model.encode([2] * 4, [2] * 4, [32768, 32768, 4, 0], [(1, 0, 0, 0)])),
+              (7, model.encode([2] * 4, [2] * 4, [32768, 32768, 4, 0], [(1, 0, 0, 0)])),
               (7, model.encode([2] * 4, [2] * 4, [4096, 4096, 256, 0], [(1, 0, 0, 0)]))]
     found += [(8, model.encode([64, 34], [2, 1], [2, 0], [(1, 0)])), (8, model.encode([1024, 16], [2, 7], [2, 0], [(1, 0)])),
               (8, model.encode([41, 50], [2, 1], [2, 0], [(1, 0)])), (8, model.encode([4, 16, 16, 16], [2, 2, 2, 1], [2, 0, 0, 0], [(1, 0, 0, 0)]))]
@@ -141,15 +150,11 @@ def refused_recipes():
     assert model.read(right)[0] == 0
     for number, fault in faults():
         found.append((number, fault(right)))
-    for i, (_, fault) in enumerate(faults()):
-        for j in range(i + 1, len(faults())):
-            if faults()[i][0] == faults()[j][0]:
-                continue
-            both = faults()[j][1](fault(right)) if i != 3 else fault(faults()[j][1](right))
-            found.append((model.read(both)[0], both))
+    for i, (first, fault) in enumerate(faults()):
+        found += [(first, fault(other(right))) for second, other in faults()[i + 1:] if second != first]
     for number, encoded in found:
         assert model.read(encoded)[0] == number != 0, (number, encoded)
-    assert set(number for number, _ in found) == set(range(1, 9))
+    assert set(number for number, _ in found) == set(ORDER)
     return [encoded for _, encoded in found]
 
 
@@ -206,7 +211,10 @@ def rows():
 # Files of recipes: plan_cases and sweep_cases
 
 def cases_file(recipes):
-    return b''.join(len(encoded).to_bytes(2, 'little') + encoded for encoded in recipes)
+    content = b''.join(len(encoded).to_bytes(2, 'little') + encoded for encoded in recipes)
+    # the room of the programs that read it whole
+    assert len(content) <= 65536, len(content)
+    return content
 
 
 def cases_text(recipes, text_of):
@@ -280,7 +288,7 @@ def sweep_recipes():
         for m in range(1, n):
             recipes.append(drawn_recipe(draw, 100, most_words=800, n=n, m=m))
     refused = refused_recipes()
-    for number in range(1, 9):
+    for number in ORDER:
         recipes.append([encoded for encoded in refused if model.read(encoded)[0] == number][-1])
     recipes += [model.ROWS['D'][:16] * 32, model.ROWS['D'][:16] * 33]
     return recipes
@@ -453,7 +461,7 @@ def facts_of_the_paper(s):
 
 
 def refused_by_reading(s):
-    """Numbers 1 to 8 by every call, whatever is lent."""
+    """The numbers of the lines on the recipe by every call, whatever is lent."""
     seen = {}
     for encoded in refused_recipes():
         number = model.read(encoded)[0]
@@ -702,7 +710,7 @@ def run_script():
     steps_from_drawn_states(s)
     runs_to_the_end(s)
     largest_areas(s)
-    low = set(range(1, 10))
+    low = {*ORDER, 9}
     wanted = {'fresh': {0} | low, 'turn': {0, 10, 11, 12, 13} | low, 'deliver': {0, 10, 11, 14} | low,
               'collect': {0, 10, 15} | low, 'sweep': {0} | low}
     assert s.numbers == wanted, s.numbers

@@ -32,7 +32,7 @@ impl fmt::Display for Difference {
 pub struct Tally {
     pub trials: u64,
     pub runs: u64,
-    calls: BTreeMap<&'static str, [u64; 16]>,
+    calls: BTreeMap<&'static str, [u64; 32]>,
 }
 
 impl Tally {

@@ -1,6 +1,7 @@
 //! A plain model of the tiled sweep engine: it reads a recipe, lays out its whole plan as lists, and runs the machine
 //! on that plan. It is meant to be read and compared with, not to be quick. Its author had document 01, the trait of
-//! engine.rs and the list of public fields below, and nothing else of this repository; later the text of request W-201.
+//! engine.rs and the list of public fields below, and nothing else of this repository; later the text of
+//! the requests W-201 and W-203.
 
 use std::array::from_fn;
 use std::cell::RefCell;
@@ -25,6 +26,8 @@ const WAITING: u32 = 12;
 const FINISHED: u32 = 13;
 const NO_MAIL: u32 = 14;
 const EARLY: u32 = 15;
+const SPREAD_ORDER: u32 = 16;
+const LAST_SPREAD: u32 = 17;
 
 const RECORD_BYTES: usize = 16;
 const MAX_DIMENSIONS: usize = 4;
@@ -137,8 +140,18 @@ impl Recipe {
         require(product(self.lengths) <= MAX_CELLS, TOO_LARGE)?;
         require(self.distances_fit(), DISTANCE)?;
         require(in_range(self.tile_lengths) && self.tiles_span_distances(), TILE)?;
-        require(self.counts_fit(), PROCESSORS)?;
+        self.check_counts()?;
         require(product(self.tile_box()) <= MAX_TILES, TILES)
+    }
+
+    /// The lines on processor counts (W-203): a first group of dimensions is spread, not all, over two or more each.
+    fn check_counts(&self) -> Result<(), u32> {
+        let named = &self.counts[..self.dimensions];
+        let spread = named.iter().take_while(|&&count| count != 0).count();
+        let follows = named[spread..].iter().any(|&count| count != 0);
+        require(spread > 0 && !follows, SPREAD_ORDER)?;
+        require(named[self.dimensions - 1] == 0, LAST_SPREAD)?;
+        require(!named.contains(&1) && product(self.processor_box()) <= MAX_PROCESSORS, PROCESSORS)
     }
 
     /// Every distance is non-zero, keeps to the nest's dimensions and is new.
@@ -155,15 +168,6 @@ impl Recipe {
     fn tiles_span_distances(&self) -> bool {
         let spanned = |components: Point| (0..MAX_DIMENSIONS).all(|j| components[j] <= self.tile_lengths[j]);
         self.distances.iter().all(|distance| spanned(distance.components))
-    }
-
-    /// A first group of dimensions is spread, neither none nor all of them, over two processors or more each.
-    fn counts_fit(&self) -> bool {
-        let named = &self.counts[..self.dimensions];
-        let spread = named.iter().take_while(|&&count| count >= 2).count();
-        (1..self.dimensions).contains(&spread)
-            && named[spread..].iter().all(|&count| count == 0)
-            && product(self.processor_box()) <= MAX_PROCESSORS
     }
 
     /// How many tiles lie along each dimension, a cut-off last one included.

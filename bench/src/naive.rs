@@ -31,6 +31,14 @@ pub enum Fault {
     UnreadLeftOut,
     /// a message is taken by the first tile of the column that reads some of it
     TakenByReader,
+    /// number 17 before number 16
+    LastFirst,
+    /// number 7 before numbers 16 and 17
+    CountsFirst,
+    /// a dimension with one processor counts as not spread
+    OneIsNone,
+    /// any spread dimensions will do, as long as the first is one of them
+    GapPasses,
     /// a longer recipe of the right start is accepted
     TailUnread,
     /// only the record of the processor that takes the turn is tested
@@ -61,7 +69,7 @@ pub enum Fault {
     Neighbour,
 }
 
-pub const FAULTS: [Fault; 25] = [
+pub const FAULTS: [Fault; 29] = [
     Fault::UnspreadShift,
     Fault::EdgeTileFull,
     Fault::OnlyTaker,
@@ -73,6 +81,10 @@ pub const FAULTS: [Fault; 25] = [
     Fault::TileLonger,
     Fault::UnreadLeftOut,
     Fault::TakenByReader,
+    Fault::LastFirst,
+    Fault::CountsFirst,
+    Fault::OneIsNone,
+    Fault::GapPasses,
     Fault::TailUnread,
     Fault::OwnRecordOnly,
     Fault::SendNothing,
@@ -213,12 +225,24 @@ impl<'a> View<'a> {
         })
     }
 
+    fn is_spread(&self, j: usize) -> bool {
+        self.count(j) > u64::from(self.has(Fault::OneIsNone))
+    }
+
+    /// dimension one is not spread, or one that is spread follows one that is not
+    fn bad_order(&self) -> bool {
+        let gap = (1..self.n).any(|j| self.is_spread(j) && !self.is_spread(j - 1));
+        !self.is_spread(0) || (gap && !self.has(Fault::GapPasses))
+    }
+
+    fn last_spread(&self) -> bool {
+        self.is_spread(self.n - 1)
+    }
+
     fn bad_counts(&self) -> bool {
-        let m = self.spread;
-        m == 0
-            || m == self.n
-            || (0..m).any(|j| self.count(j) < 2)
-            || (0..m).fold(1u64, |product, j| (product * self.count(j)).min(1 << 20)) > 64
+        let counts = (0..self.n).map(|j| self.count(j)).filter(|&count| count != 0);
+        counts.clone().any(|count| count == 1)
+            || counts.fold(1u64, |product, count| (product * count).min(1 << 20)) > 64
     }
 
     fn across(&self, j: usize) -> u64 {
@@ -237,6 +261,10 @@ impl<'a> View<'a> {
             (4, &|| self.cells() > 16384),
             (5, &|| self.bad_distance()),
             (6, &|| self.bad_tile()),
+            (7, &|| self.has(Fault::CountsFirst) && self.bad_counts()),
+            (17, &|| self.has(Fault::LastFirst) && self.last_spread()),
+            (16, &|| self.bad_order()),
+            (17, &|| self.last_spread()),
             (7, &|| self.bad_counts()),
             (8, &|| self.tiles() > 1024),
         ])

@@ -62,8 +62,11 @@ fn read(encoded: &[u8]) -> Result<Nest, u32> {
         }
     }
     nest.m = nest.counts[..n].iter().take_while(|&&p| p != 0).count();
-    if nest.m == 0 || nest.m == n || nest.counts[nest.m..n].iter().any(|&p| p != 0) {
-        return Err(7);
+    if nest.m == 0 || nest.counts[nest.m..n].iter().any(|&p| p != 0) {
+        return Err(16);
+    }
+    if nest.m == n {
+        return Err(17);
     }
     nest.processors = 1;
     for &p in &nest.counts[..nest.m] {

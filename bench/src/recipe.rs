@@ -216,7 +216,8 @@ fn damage_numbers(rng: &mut Rng, numbers: &mut Numbers) {
             numbers.dimensions[j][1] = component.saturating_sub(rng.below(2) as u16);
         }
         8 => numbers.dimensions[j][2] = rng.of(&[0, 1, 2, 64, 65, 32768, 65535]),
-        9 => numbers.dimensions[0][2] = 0,
+        // where the spread dimensions stand: none at the first, one behind a gap, the last
+        9 => numbers.dimensions[rng.of(&[0, j])][2] = 0,
         10 => numbers.dimensions[n - 1][2] = rng.of(&[1, 2]),
         11 => numbers.dimensions.iter_mut().for_each(|x| x[2] = rng.of(&[2, 8, 9, 65535])),
         // small tiles: about the border of line 8

@@ -11,7 +11,9 @@
  *    4 too large      more than 16,384 cells
  *    5 distance       components all zero, the same as an earlier record's, or non-zero beyond the last dimension
  *    6 tile           some tile length is 0, above 1,024, or smaller than some distance there
- *    7 boards         processor counts not as the format has them
+ *   16 spread order   the first dimension is not spread, or a spread one follows one that is not
+ *   17 last spread    the last dimension is spread
+ *    7 boards         some processor count is 1, or their product is above 64
  *    8 tiles          more than 1,024 tiles
  *    9 area           a lent area has not exactly its length
  *   10 unfit          progress records or status bytes not fit
@@ -61,7 +63,9 @@ enum {
   ROLWYDDAC_WAITING = 12,
   ROLWYDDAC_FINISHED = 13,
   ROLWYDDAC_NO_MAIL = 14,
-  ROLWYDDAC_EARLY = 15
+  ROLWYDDAC_EARLY = 15,
+  ROLWYDDAC_SPREAD_ORDER = 16,
+  ROLWYDDAC_LAST_SPREAD = 17
 };
 
 /* How far a processor is: tiles finished, the stage of its current tile (0 gather, 1 calculate, 2 send) and how
@@ -93,21 +97,21 @@ enum {
 
 /* Writes the plan's totals to out: tiles, messages, words, steps. Cells (the product of the lengths) and
  * processors (the product of the counts that are not 0) stand in the recipe itself.
- * Numbers: 1 to 8; 9 if out has not 4 words. A refusal leaves out as it was. */
+ * Numbers: 1 to 8, 16, 17; 9 if out has not 4 words. A refusal leaves out as it was. */
 uint32_t rolwyddac_summary(const uint8_t *encoded, size_t encoded_length, uint32_t *out, size_t out_length);
 
 /* Writes the line of message m to out: sending tile, taking tile, sending processor, taking processor, words.
- * Numbers: 1 to 8; 9 if out has not 5 words; 11. A refusal leaves out as it was. */
+ * Numbers: 1 to 8, 16, 17; 9 if out has not 5 words; 11. A refusal leaves out as it was. */
 uint32_t rolwyddac_message(const uint8_t *encoded, size_t encoded_length, uint32_t m, uint32_t *out,
                            size_t out_length);
 
 /* Sweeps the whole nest in index order on one processor and writes each cell's value to grid.
- * Numbers: 1 to 9. A refusal leaves grid as it was. */
+ * Numbers: 1 to 9, 16, 17. A refusal leaves grid as it was. */
 uint32_t rolwyddac_sweep(const uint8_t *encoded, size_t encoded_length, const uint32_t *source, size_t source_length,
                          uint32_t *grid, size_t grid_length);
 
 /* Makes a fresh start: writes zero to memories, buffer, progress and status, whatever they held.
- * Numbers: 1 to 9. A refusal leaves all four as they were. */
+ * Numbers: 1 to 9, 16, 17. A refusal leaves all four as they were. */
 uint32_t rolwyddac_fresh(const uint8_t *encoded, size_t encoded_length, const uint32_t *source, size_t source_length,
                          uint32_t *memories, size_t memories_length, uint32_t *buffer, size_t buffer_length,
                          rolwyddac_progress *progress, size_t progress_length, uint8_t *status, size_t status_length);
@@ -115,14 +119,14 @@ uint32_t rolwyddac_fresh(const uint8_t *encoded, size_t encoded_length, const ui
 /* Gives one processor a turn: it does the stage at which its record stands, once. Gather unpacks the messages
  * due at its tile into its memory and marks them taken; calculate gives the tile's cells their values there;
  * send packs the next message into the buffer and marks it in flight.
- * Numbers: 1 to 13. A refusal leaves memories, buffer, progress and status as they were. */
+ * Numbers: 1 to 13, 16, 17. A refusal leaves memories, buffer, progress and status as they were. */
 uint32_t rolwyddac_turn(const uint8_t *encoded, size_t encoded_length, const uint32_t *source, size_t source_length,
                         uint32_t *memories, size_t memories_length, uint32_t *buffer, size_t buffer_length,
                         rolwyddac_progress *progress, size_t progress_length, uint8_t *status, size_t status_length,
                         uint32_t processor);
 
 /* Delivers one message: its status goes from 1 to 2. Nothing else is written.
- * Numbers: 1 to 11, 14. A refusal leaves status as it was. */
+ * Numbers: 1 to 11, 14, 16, 17. A refusal leaves status as it was. */
 uint32_t rolwyddac_deliver(const uint8_t *encoded, size_t encoded_length, const uint32_t *source,
                            size_t source_length, const uint32_t *memories, size_t memories_length,
                            const uint32_t *buffer, size_t buffer_length, const rolwyddac_progress *progress,
@@ -131,7 +135,7 @@ uint32_t rolwyddac_deliver(const uint8_t *encoded, size_t encoded_length, const 
 /* Copies each cell to grid from the memory of its tile's processor, once all processors have finished. Where it gives
  * 0 after a fresh start that gave 0 and then any turns and deliveries, all of these given the same recipe and source
  * and lent the areas as the last left them, grid is what rolwyddac_sweep writes for that recipe and source.
- * Numbers: 1 to 10, 15. A refusal leaves grid as it was. */
+ * Numbers: 1 to 10, 15 to 17. A refusal leaves grid as it was. */
 uint32_t rolwyddac_collect(const uint8_t *encoded, size_t encoded_length, const uint32_t *source,
                            size_t source_length, const uint32_t *memories, size_t memories_length,
                            const uint32_t *buffer, size_t buffer_length, const rolwyddac_progress *progress,
@@ -143,7 +147,7 @@ uint32_t rolwyddac_collect(const uint8_t *encoded, size_t encoded_length, const 
  * recipe has 16 bytes for each dimension and each distance, and 16 more. What was written is accepted and reads back
  * to the fields given. What is refused has the number that reading it would have; lists of other lengths and
  * components above 255 stand in no recipe and are 2.
- * Numbers: 2 to 8; 9 if space has not exactly the recipe's length. A refusal leaves space as it was. */
+ * Numbers: 2 to 8, 16, 17; 9 if space has not exactly the recipe's length. A refusal leaves space as it was. */
 uint32_t rolwyddac_write(const uint16_t *lengths, size_t lengths_length, const uint16_t *tiling, size_t tiling_length,
                          const uint16_t *counts, size_t counts_length, const uint16_t *components,
                          size_t components_length, const uint16_t *weights, size_t weights_length, uint8_t shift,

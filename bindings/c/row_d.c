@@ -79,7 +79,7 @@ static void same(const char *what, const uint32_t *words, const uint32_t *wanted
   exit(1);
 }
 
-/* every call, with the recipe as it stands, gives a number of 1 to 8; then the recipe is row D again */
+/* every call, with the recipe as it stands, gives this number; then the recipe is row D again */
 static void refused(uint32_t wanted) {
   fresh(wanted), turn(0, wanted), deliver(0, wanted), collect(wanted), sweep(wanted);
   summary(ROLWYDDAC_SUMMARY_LENGTH, wanted), message(0, ROLWYDDAC_MESSAGE_LENGTH, wanted);
@@ -95,6 +95,8 @@ static void recipes_refused(void) {
   recipe[2] = 128, recipe[18] = 129, refused(ROLWYDDAC_TOO_LARGE);
   recipe[34] = 0, refused(ROLWYDDAC_DISTANCE);
   recipe[4] = 0, refused(ROLWYDDAC_TILE);
+  recipe[6] = 0, refused(ROLWYDDAC_SPREAD_ORDER);
+  recipe[22] = 2, refused(ROLWYDDAC_LAST_SPREAD);
   recipe[6] = 65, refused(ROLWYDDAC_BOARDS);
   recipe[2] = 255, recipe[18] = 64, refused(ROLWYDDAC_TILES);
 }
@@ -133,7 +135,7 @@ int main(void) {
   recipes_refused();
   plan();
   run();
-  if (met != 0xffff) return printf("not every number was met: %x\n", met), 1;
+  if (met != 0x3ffff) return printf("not every number was met: %x\n", met), 1;
   puts("row D as document 01 has it, each number met");
   return 0;
 }

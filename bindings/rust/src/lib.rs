@@ -114,7 +114,7 @@ macro_rules! calls {
 calls! {
     /// Makes a fresh start: writes zero to `memories`, `buffer`, `progress` and `status`, whatever they held.
     ///
-    /// Refusals: 1 to 9.
+    /// Refusals: 1 to 9, 16 and 17.
     rolwyddac_fresh as fresh(
         encoded: &[u8], source: &[u32], memories: &mut [u32], buffer: &mut [u32], progress: &mut [Progress],
         status: &mut [u8],
@@ -126,7 +126,7 @@ calls! {
     /// - Calculate gives the tile's cells their values there, reading only that memory and `source`.
     /// - Send packs the next message into the buffer and marks it in flight.
     ///
-    /// Refusals: 1 to 13.
+    /// Refusals: 1 to 13, 16 and 17.
     rolwyddac_turn as turn(
         encoded: &[u8], source: &[u32], memories: &mut [u32], buffer: &mut [u32], progress: &mut [Progress],
         status: &mut [u8], processor: u32,
@@ -134,7 +134,7 @@ calls! {
 
     /// Delivers one message: its status goes from 1 to 2.
     ///
-    /// Refusals: 1 to 11 and 14.
+    /// Refusals: 1 to 11, 14, 16 and 17.
     rolwyddac_deliver as deliver(
         encoded: &[u8], source: &[u32], memories: &[u32], buffer: &[u32], progress: &[Progress], status: &mut [u8],
         message: u32,
@@ -145,7 +145,7 @@ calls! {
     /// Where it is done, and all calls since the fresh start were turns and deliveries given this recipe and `source`
     /// and lent the areas as the last left them, `grid` is what [`sweep`] writes.
     ///
-    /// Refusals: 1 to 10 and 15.
+    /// Refusals: 1 to 10 and 15 to 17.
     rolwyddac_collect as collect(
         encoded: &[u8], source: &[u32], memories: &[u32], buffer: &[u32], progress: &[Progress], status: &[u8],
         grid: &mut [u32],
@@ -153,18 +153,18 @@ calls! {
 
     /// Sweeps the whole nest in index order on one processor and writes each cell's value to `grid`.
     ///
-    /// Refusals: 1 to 9.
+    /// Refusals: 1 to 9, 16 and 17.
     rolwyddac_sweep as sweep(encoded: &[u8], source: &[u32], grid: &mut [u32]);
 
     /// Writes the plan's totals to `out`: tiles, messages, words, steps. [`summary`] is the handier form.
     ///
-    /// Refusals: 1 to 8, and 9 if `out` has not 4 words.
+    /// Refusals: 1 to 8, 16, 17, and 9 if `out` has not 4 words.
     rolwyddac_summary as summary_words(encoded: &[u8], out: &mut [u32]);
 
     /// Writes the line of message `m` to `out`: sending tile, taking tile, sending processor, taking processor, words.
     /// [`message`] is the handier form.
     ///
-    /// Refusals: 1 to 8, 9 if `out` has not 5 words, 11.
+    /// Refusals: 1 to 8, 16, 17, 9 if `out` has not 5 words, 11.
     rolwyddac_message as message_words(encoded: &[u8], m: u32, out: &mut [u32]);
 
     /// Writes the recipe of the fields to `space`. [`Fields`] is the handier form.
@@ -176,7 +176,7 @@ calls! {
     /// reads back to the fields given. What is refused has the number that reading it would have; lists of other
     /// lengths and components above 255 stand in no recipe and are 2.
     ///
-    /// Refusals: 2 to 8, and 9 if `space` has not exactly the recipe's length.
+    /// Refusals: 2 to 8, 16, 17, and 9 if `space` has not exactly the recipe's length.
     rolwyddac_write as write(
         lengths: &[u16], tiling: &[u16], counts: &[u16], components: &[u16], weights: &[u16], shift: u8,
         boundary: u32, space: &mut [u8],
@@ -185,7 +185,7 @@ calls! {
 
 /// The totals of a recipe's plan, which give every area its size.
 ///
-/// Refusals: 1 to 8.
+/// Refusals: 1 to 8, 16 and 17.
 pub fn summary(encoded: &[u8]) -> Result<Summary, Refusal> {
     let mut out = [0; SUMMARY_WORDS];
     summary_words(encoded, &mut out)?;
@@ -200,7 +200,7 @@ pub fn summary(encoded: &[u8]) -> Result<Summary, Refusal> {
 
 /// The line of message `m` of a recipe's plan.
 ///
-/// Refusals: 1 to 8 and 11.
+/// Refusals: 1 to 8, 11, 16 and 17.
 pub fn message(encoded: &[u8], m: u32) -> Result<Message, Refusal> {
     let mut out = [0; MESSAGE_WORDS];
     message_words(encoded, m, &mut out)?;

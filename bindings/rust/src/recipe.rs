@@ -45,7 +45,7 @@ impl Fields {
 
     /// Has the writer make the recipe, with the shift and the boundary value (document 01: shore value).
     ///
-    /// Refusals: 2 to 8, as reading such a recipe would be refused.
+    /// Refusals: those of the reader but 1, as reading such a recipe would be refused.
     pub fn close(&self, shift: u8, boundary: u32) -> Result<Recipe, Refusal> {
         let mut bytes = vec![0; RECORD * (self.lengths.len() + self.weights.len() + 1)];
         let Fields { lengths, tiling, counts, components, weights } = self;

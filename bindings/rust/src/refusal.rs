@@ -22,7 +22,7 @@ macro_rules! refusals {
         }
 
         impl Refusal {
-            /// All refusals that have a name, by number.
+            /// All refusals that have a name, in table order: the order in which they are tested.
             pub const NAMED: &'static [Refusal] = &[$(Refusal::$name),*];
 
             /// The table's number, as the call gave it.
@@ -70,7 +70,9 @@ refusals! {
     5 Distance "distance":
         "components all zero, the same as an earlier record's, or non-zero beyond the last dimension";
     6 Tile "tile": "some tile length is 0, above 1,024, or smaller than some distance there";
-    7 Boards "boards": "processor counts not as the format has them";
+    16 SpreadOrder "spread order": "the first dimension is not spread, or a spread one follows one that is not";
+    17 LastSpread "last spread": "the last dimension is spread";
+    7 Boards "boards": "some processor count is 1, or their product is above 64";
     8 Tiles "tiles": "more than 1,024 tiles";
     9 Area "area": "a lent area has not exactly its length";
     10 Unfit "unfit": "progress records or status bytes not fit";
@@ -94,10 +96,10 @@ mod tests {
     use super::*;
 
     #[test]
-    fn named_numbers_are_the_places() {
-        for (place, &refusal) in Refusal::NAMED.iter().enumerate() {
-            assert_eq!(refusal.number() as usize, place + 1);
-        }
+    fn no_number_is_missing() {
+        let mut numbers: Vec<u32> = Refusal::NAMED.iter().map(|refusal| refusal.number()).collect();
+        numbers.sort();
+        assert_eq!(numbers, (1..=17).collect::<Vec<u32>>());
     }
 
     #[test]

@@ -42,7 +42,7 @@ pub struct Run<'a> {
 impl<'a> Run<'a> {
     /// Sizes the areas and makes a fresh start.
     ///
-    /// Refusals: 1 to 9.
+    /// Refusals: 1 to 9, 16 and 17.
     pub fn start(encoded: &'a [u8], source: &'a [u32]) -> Result<Run<'a>, Refusal> {
         let plan = summary(encoded)?;
         let mut areas = Areas::sized(&plan);

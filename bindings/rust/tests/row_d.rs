@@ -59,6 +59,8 @@ fn recipes_refused() {
         (changed(&[(2, 128), (18, 129)]), Refusal::TooLarge),
         (changed(&[(34, 0)]), Refusal::Distance),
         (changed(&[(4, 0)]), Refusal::Tile),
+        (changed(&[(6, 0)]), Refusal::SpreadOrder),
+        (changed(&[(22, 2)]), Refusal::LastSpread),
         (changed(&[(6, 65)]), Refusal::Boards),
         (changed(&[(2, 255), (18, 64)]), Refusal::Tiles),
     ];

@@ -21,7 +21,7 @@ use Rattle.machine.proofs.RunLaws.{number-of, after-of}
 use Rattle.nest.specs.Nest.{readLines}
 use Rattle.engine.specs.Calls.{answer, recipe, areas, freshCall, turnCall, deliverCall, collectCall}
 use Rattle.engine.specs.Demands.{Fixed, calls, Demand2}
-use Rattle.engine.proofs.Lines.{numbered}
+use Rattle.nest.proofs.Numbered.{numbered}
 use Rattle.engine.proofs.AsSteps.{front}
 use Rattle.engine.proofs.Demands as engine
 use Rattle.records.specs.declared.Progress.{Progress}

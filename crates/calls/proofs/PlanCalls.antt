@@ -20,7 +20,8 @@ use Rattle.table.specs.declared.Figures.{Figures}
 use Rattle.table.specs.declared.MessageLine.{MessageLine}
 use Rattle.table.specs.Summary.{summaryOf, lineIf, messageLines, messageLineOf}
 use Rattle.engine.specs.Calls.{answer, recipe}
-use Rattle.engine.proofs.Lines.{numbered, call-read, call-later, call-done}
+use Rattle.nest.proofs.Numbered.{numbered}
+use Rattle.engine.proofs.Lines.{call-read, call-later, call-done}
 use Rattle.calls.specs.PlanCalls.{figureWords, summaryCall, lineWords, messageCall}
 
 -- ---- all words of a short slice written

@@ -16,7 +16,7 @@ use Rattle.engine.specs.Calls.{recipe}
 unfoldable pub figureWords : Plan → List ℕ
 figureWords p = p .tiles ∷ count p ∷ words p ∷ total p ∷ []
 
--- lines 1 to 8, then 9 where not four words are lent
+-- the reader's lines, then 9 where not four words are lent
 abbrev pub summaryCallLines : List ℕ → List ℕ → List Line
 summaryCallLines bytes out = readLines bytes ++ (line 9 (not (eqb (length out) 4)) ∷ [])
 
@@ -28,7 +28,7 @@ unfoldable pub lineWords : Plan → ℕ → List ℕ
 lineWords p m =
     senderOf p m ∷ takerOf p m ∷ p .processorOf (senderOf p m) ∷ p .processorOf (takerOf p m) ∷ length (heldBy p m) ∷ []
 
--- lines 1 to 8, then 9 where not five words are lent, then 11
+-- the reader's lines, then 9 where not five words are lent, then 11
 abbrev pub messageCallLines : List ℕ → ℕ → List ℕ → List Line
 messageCallLines bytes m out =
     readLines bytes ++ (line 9 (not (eqb (length out) 5)) ∷ line 11 (not (ltb m (count (recipe bytes)))) ∷ [])

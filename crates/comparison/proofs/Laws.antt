@@ -32,7 +32,8 @@ use Rattle.engine.specs.Demands.{calls}
 use Rattle.engine.proofs.Demands.{demands}
 use Rattle.drive.specs.Drive.{roundsOf, Driven}
 use Rattle.drive.specs.declared.Order.{Order}
-use Rattle.drive.proofs.Whole.{numbered, behind-none, ended}
+use Rattle.nest.proofs.Numbered.{numbered}
+use Rattle.drive.proofs.Whole.{behind-none, ended}
 use Rattle.comparison.specs.declared.Extent.{Extent}
 use Rattle.comparison.specs.Agreement.{isBeyond, sourceOf, sameWords, driven, ran, Outcome, outcome, agreeing, compared, ranAndCompared, orderOf, fronts, Within, Roomy, Agreed}
 use Rattle.comparison.proofs.Most.{messages-most, words-most}

@@ -18,7 +18,8 @@ use Rattle.machine.specs.Plan.{count}
 use Rattle.machine.specs.Machine.{State, Answered}
 use Rattle.machine.specs.Runs.{Event, turnOf, deliveryOf, stateAfter, answersTo, total, steps, Demand3}
 use Rattle.base.specs.Lists.{Bytes}
-use Rattle.nest.specs.Nest.{readLines, nestLines}
+use Rattle.nest.specs.Nest.{readLines}
+use Rattle.nest.proofs.Numbered.{numbered}
 use Rattle.engine.specs.Calls.{recipe, freshCall, turnCall, deliverCall, collectCall}
 use Rattle.engine.specs.Demands.{calls}
 use Rattle.engine.proofs.Demands.{demands}
@@ -29,11 +30,6 @@ use Rattle.drive.proofs.Passes as passes
 use Rattle.drive.proofs.Passes.{took-none, took-some}
 
 -- more lines behind the reader's: none of either counts
-pub numbered : (bytes : List ℕ) → Numbered (readLines bytes)
-unfolding readLines nestLines
-numbered bytes =
-    (λ e. omega arith, (λ e. omega arith, (λ e. omega arith, (λ e. omega arith, (λ e. omega arith, (λ e. omega arith, (λ e. omega arith, (λ e. omega arith, tt))))))))
-
 pub behind-none : (a b : List Line) → Numbered a → firstOf (a ++ b) ≡ 0 → firstOf b ≡ 0
 behind-none a b n h = go (ℕ-discrete (firstOf a) 0)
   where

@@ -15,7 +15,8 @@ use Rattle.base.proofs.Numbers.{first-false, none-first, first-some, first-behi
 use Rattle.machine.specs.Machine.{State, stateOf, answered, carryOut, nextAction, turnLines, turn, deliverLines, deliver, collectLines, collected, collect}
 use Rattle.nest.specs.Nest.{readLines}
 use Rattle.engine.specs.Calls.{recipe, areas, areaLines, freshCall, turnCall, deliverCall, collectCall}
-use Rattle.engine.proofs.Lines.{numbered, and-right}
+use Rattle.nest.proofs.Numbered.{numbered}
+use Rattle.engine.proofs.Lines.{and-right}
 
 module _ (l source : List ℕ) (s : State) (z : firstOf (readLines l) ≡ 0) (a : areas (recipe l) source s ≡ true) where
   behind : (more : List Line) → firstOf (readLines l ++ (areaLines (recipe l) source s ++ more)) ≡ firstOf more

@@ -19,8 +19,9 @@ use Rattle.nest.specs.Nest.{nestOf, readLines}
 use Rattle.nest.specs.Accepted.{Accepted}
 use Rattle.plan.proofs.Sound.{sound}
 use Rattle.plan.proofs.Exact.{exact}
+use Rattle.nest.proofs.Numbered.{numbered}
 use Rattle.engine.specs.Calls.{recipe, areas, areaLines, turnCall}
-use Rattle.engine.proofs.Lines.{numbered, areas-are}
+use Rattle.engine.proofs.Lines.{areas-are}
 use Rattle.engine.proofs.AsSteps.{turn-is}
 
 -- a turn that gave 0 found the areas of their lengths

@@ -1,5 +1,5 @@
 -- Laws of the lines: areas and fit states, what reading gives, and each call by the line that counts.
-use Prim.Native.Nat.{ℕ, suc, _*_, _≤_, _<_}
+use Prim.Native.Nat.{ℕ, _*_, _≤_, _<_}
 use mathlib.Core.Path.{_≡_, refl, sym, ap, _∙_}
 use mathlib.Core.Logic.{_≢_}
 use mathlib.Core.Bool.{Bool, true, false}
@@ -12,7 +12,7 @@ use borrow.Author.Tests.{eqb-true, eq-eqb, ne-eqb, lt-ltb, le-ltb}
 use Rattle.base.specs.Tests.{_and_, not, pick, every, some}
 use Rattle.base.specs.Numbers.{Line, line, firstOf}
 use Rattle.base.proofs.Tests.{both, and-true, and-left, and-false, and-no, not-true, not-false, true-not, pick-true}
-use Rattle.base.proofs.Numbers.{first-true, first-false, none-first, Numbered, first-some, first-behind}
+use Rattle.base.proofs.Numbers.{first-true, first-false, none-first, first-some, first-behind}
 use Rattle.machine.specs.Plan.{Plan, count, words}
 use Rattle.machine.specs.Machine as machine
 use Rattle.machine.specs.Machine.{State, stateOf, fitRecord, fit, tilesLeft, carryOut, nextAction, Answered, answered, turnLines, turn, deliverLines, collectLines, collected}
@@ -22,7 +22,8 @@ use Rattle.plan.specs.Messages.{planOf}
 use Rattle.layout.specs.declared.Sizes.{Sizes}
 use Rattle.layout.specs.Sizes.{Sized}
 use Rattle.nest.specs.declared.Reading.{Reading}
-use Rattle.nest.specs.Nest.{readLines, nestLines, nestOf, readingOf}
+use Rattle.nest.specs.Nest.{readLines, nestOf, readingOf}
+use Rattle.nest.proofs.Numbered.{numbered}
 use Rattle.stages.specs.Progress.{progressOnly}
 use Rattle.engine.specs.Given.{AreaLengths, MayTurn, unfitLines}
 use Rattle.engine.specs.Calls.{answer, areas, areaLines, freshCall, turnCall, deliverCall, collectCall, sweepCall}
@@ -133,15 +134,8 @@ module _ (l : List ℕ) (r : Reading) (e : r ≡ readingOf l) where
       let n : firstOf (readLines l) ≡ 0 = sym read-number ∙ h in
       record { none = n; is = ap (λ (z : Reading). z .nest) e ∙ pick-true _ _ _ (eq-eqb _ _ n) }
 
-pub numbered : (l : List ℕ) → Numbered (readLines l)
-unfolding readLines nestLines
-numbered l = (ne, (ne, (ne, (ne, (ne, (ne, (ne, (ne, tt))))))))
-  where
-    ne : {n : ℕ} → suc n ≢ 0
-    ne q = omega arith
-
 module _ {A : Type 0} (l : List ℕ) (more : List Line) (r : ℕ) (new old : A) where
-  -- the number is one of lines 1 to 8
+  -- the number is one of the reader's
   pub call-read : r ≡ firstOf (readLines l) → r ≢ 0 → answer r old ≡ answered (firstOf (readLines l ++ more)) new old
   call-read e h =
       answered-no r new old h ∙ ap (λ (n : ℕ). answered n new old) (e ∙ sym (first-some (readLines l) more (λ q. h (e ∙ q))))

@@ -28,7 +28,8 @@ use Rattle.stages.specs.Progress.{progressOnly, setRecord}
 use Rattle.engine.specs.Given.{recordsAfter, zerosAfter}
 use Rattle.engine.specs.Calls.{answer, recipe, areas, areaLines, turnCall}
 use Rattle.engine.specs.declared.core.Turned.{Turned}
-use Rattle.engine.proofs.Lines.{areas-are, numbered}
+use Rattle.nest.proofs.Numbered.{numbered}
+use Rattle.engine.proofs.Lines.{areas-are}
 
 -- ---- what is read
 

@@ -28,7 +28,7 @@ areas p source s =
     and (eqb (length (s .memories)) (p .processors * p .cells)
     and (eqb (length (s .buffer)) (words p) and (eqb (length (s .progress)) (3 * p .processors) and eqb (length (s .status)) (count p))))
 
--- lines 1 to 8 are the reader's, line 9 the areas'; the lines behind them are the machine's
+-- the reader's lines come first, then line 9, the areas'; the lines behind them are the machine's
 abbrev pub areaLines : Plan → List ℕ → State → List Line
 areaLines p source s = line 9 (not (areas p source s)) ∷ []
 

@@ -1,6 +1,6 @@
 -- What holds of an accepted nest: `accepted`, for every list of bytes that reading gives 0.
-use Prim.Native.Nat.{ℕ, zero, suc, _+_, _*_, _≤_, _<_}
-use mathlib.Core.Path.{_≡_, refl, sym, _∙_}
+use Prim.Native.Nat.{ℕ, zero, suc, _+_, _*_, _-_, _≤_, _<_}
+use mathlib.Core.Path.{_≡_, refl, sym, ap, _∙_}
 use mathlib.Core.Logic.{_≢_}
 use mathlib.Core.Bool.{Bool, true, false, true≢false}
 use mathlib.Core.List.{List}
@@ -8,17 +8,18 @@ use native.Mathlib.Omega.{arith}
 use native.Mathlib.Decide.{decLt}
 use lib.ListN.{length, getD}
 use lib.Dec.{ltb, leb}
-use borrow.Author.Tests.{ltb-true, ltb-false, leb-true, leb-false, eqb-true, eqb-false, le-ltb, le-leb, lt-ltb}
-use Rattle.base.specs.Tests.{_and_, every}
+use borrow.Author.Tests.{ltb-true, ltb-false, leb-false, eqb-true, eqb-false, le-ltb, le-leb, lt-ltb}
+use Rattle.base.specs.Tests.{_and_, every, keep}
 use Rattle.base.specs.Numbers.{firstOf}
-use Rattle.base.proofs.Tests.{both, neither, true-not, and-true, never-both, every-at, none-some, pick-false}
+use Rattle.base.proofs.Tests.{both, neither, true-not, not-false, is-false, and-true, never-both, every-at, none-some, pick-false}
+use Rattle.base.proofs.Select.{keep-same, keep-few}
 use Rattle.base.proofs.Numbers.{none-first}
 use Rattle.nest.specs.declared.Nest.{Nest}
 use Rattle.nest.specs.Accepted.{Accepted}
 use Rattle.nest.specs.Nest.{lengthOf, tileLength, processorCount, component, weight, cells, tiles, processors}
 use Rattle.base.specs.Lists.{Bytes}
-use Rattle.nest.specs.Nest.{kind, records, ofKind, nestBy, nestOf, ragged, fitsAt, strayRecord, outside, badLength, tooLarge, beyond, faulty, badDistance, reached, badTile, badProcessors, tooManyTiles, nestLines, readLines}
-use Rattle.nest.proofs.Laws.{Formed, formed, filled-out, filled-below, half-small, word-small, checked-close}
+use Rattle.nest.specs.Nest.{half, kind, records, ofKind, nestBy, nestOf, ragged, fitsAt, strayRecord, outside, badLength, tooLarge, beyond, faulty, badDistance, reached, badTile, isSpread, badSpread, lastSpread, badProcessors, tooManyTiles, nestLines, readLines}
+use Rattle.nest.proofs.Laws.{Formed, formed, front-kept, filled-in, filled-out, filled-below, half-small, word-small, checked-close}
 
 pub inside-range : (v : ℕ) → outside v ≡ false → (1 ≤ v) × (v ≤ 1024)
 unfolding outside
@@ -34,13 +35,15 @@ not-every f (suc n) e = go (not-every f n) (every f n) refl e
     go ih true q r = (n, omega arith, r)
     go ih false q r = let a = ih q in (a .0, omega arith, a .2)
 
--- ---- lines 3 to 8, where none of them holds
+-- ---- the lines of the nest, where none of them holds
 
 pub record Unrefused (x : Nest) : Type 0 where
   pub lengths : badLength x ≡ false
   pub size : tooLarge x ≡ false
   pub distances : badDistance x ≡ false
   pub tiling : badTile x ≡ false
+  pub spread : badSpread x ≡ false
+  pub last : lastSpread x ≡ false
   pub counts : badProcessors x ≡ false
   pub number : tooManyTiles x ≡ false
 
@@ -51,9 +54,20 @@ unrefused x h =
     let p4 = none-first 4 (tooLarge x) _ (λ e. omega arith) (p3 .1) in
     let p5 = none-first 5 (badDistance x) _ (λ e. omega arith) (p4 .1) in
     let p6 = none-first 6 (badTile x) _ (λ e. omega arith) (p5 .1) in
-    let p7 = none-first 7 (badProcessors x) _ (λ e. omega arith) (p6 .1) in
+    let p16 = none-first 16 (badSpread x) _ (λ e. omega arith) (p6 .1) in
+    let p17 = none-first 17 (lastSpread x) _ (λ e. omega arith) (p16 .1) in
+    let p7 = none-first 7 (badProcessors x) _ (λ e. omega arith) (p17 .1) in
     let p8 = none-first 8 (tooManyTiles x) _ (λ e. omega arith) (p7 .1) in
-    record { lengths = p3 .0; size = p4 .0; distances = p5 .0; tiling = p6 .0; counts = p7 .0; number = p8 .0 }
+    record {
+      lengths = p3 .0;
+      size = p4 .0;
+      distances = p5 .0;
+      tiling = p6 .0;
+      spread = p16 .0;
+      last = p17 .0;
+      counts = p7 .0;
+      number = p8 .0;
+    }
 
 module _ (x : Nest) where
   pub length-in : badLength x ≡ false → (j : ℕ) → j < x .dimensions → (1 ≤ lengthOf x j) × (lengthOf x j ≤ 1024)
@@ -88,18 +102,31 @@ module _ (x : Nest) where
     pub shared : (j : ℕ) → j < x .spread → 2 ≤ processorCount x j
     pub most : processors x ≤ 64
 
-  pub spread-in : badProcessors x ≡ false → Spread
-  unfolding badProcessors
-  spread-in h =
-      let p1 = both (true-not h) in
-      let p2 = both (p1 .1) in
-      let p3 = both (p2 .1) in
+  -- the spread dimensions, as many as are counted, are the first ones
+  pub spread-in : 2 ≤ x .dimensions → x .spread ≡ length (keep (isSpread x) (x .dimensions)) → Unrefused x → Spread
+  unfolding badSpread lastSpread badProcessors
+  spread-in two counted p =
       record {
-        least = leb-true _ _ (p1 .0);
-        low = ltb-true _ _ (p2 .0);
-        shared = λ j l. leb-true _ _ (every-at _ _ (p3 .0) j l);
-        most = leb-true _ _ (p3 .1);
+        least = ltb-true 0 _ (sym (front 0 (omega arith)) ∙ true-not (neither (p .spread) .0));
+        low = let l = ltb-false (x .dimensions - 1) _ (sym (front (x .dimensions - 1) (omega arith)) ∙ p .last) in omega arith;
+        shared = λ j l. at-least-2 j l;
+        most = ltb-false 64 _ (neither (p .counts) .1);
       }
+    where
+      down : (j : ℕ) → j + 1 < x .dimensions → isSpread x j ≡ false → isSpread x (j + 1) ≡ false
+      down j l h = is-false (λ t. never-both (and-true (not-false h) t) (none-some _ _ (neither (p .spread) .1) j (omega arith)))
+
+      front : (j : ℕ) → j < x .dimensions → isSpread x j ≡ ltb j (x .spread)
+      front j l = front-kept (isSpread x) (x .dimensions) down j l ∙ ap (ltb j) (sym counted)
+
+      few : x .spread ≤ x .dimensions
+      few = rw counted (keep-few (isSpread x) (x .dimensions))
+
+      at-least-2 : (j : ℕ) → j < x .spread → 2 ≤ processorCount x j
+      at-least-2 j l =
+          let some-count = ltb-true 0 (processorCount x j) (front j (omega (arith, few)) ∙ lt-ltb j (x .spread) l) in
+          let more = eqb-false (processorCount x j) 1 (none-some _ _ (neither (p .counts) .0) j (omega (arith, few))) in
+          omega arith
 
   pub size-in : tooLarge x ≡ false → cells x ≤ 16384
   unfolding tooLarge
@@ -156,10 +183,19 @@ module _ (bytes : List ℕ) (n e : ℕ) where
   unfolding nestBy
   sizes-are = (refl, refl, refl)
 
+  pub spread-few : nestBy bytes n e .spread ≤ n
+  unfolding nestBy
+  spread-few = keep-few (λ j. ltb 0 (half bytes (16 * j + 6))) n
+
+  -- the spread dimensions that the nest tells are those of its counts
+  spread-counted : n ≤ 4 → nestBy bytes n e .spread ≡ length (keep (isSpread (nestBy bytes n e)) (nestBy bytes n e .dimensions))
+  unfolding nestBy
+  spread-counted l = ap length (keep-same _ _ n (λ j h. ap (ltb 0) (sym (filled-in 4 (λ i. half bytes (16 * i + 6)) n j h l))))
+
   pub accepted-by : Bytes bytes → Formed bytes n e → Unrefused (nestBy bytes n e) → Accepted (nestBy bytes n e)
   accepted-by b f p =
       let x : Nest = nestBy bytes n e in
-      let s = spread-in x (p .counts) in
+      let s = spread-in x (rw (sizes-are .0) (f .dimensions-least)) (spread-counted (f .dimensions-most)) p in
       record {
         dimensions-least = rw (sizes-are .0) (f .dimensions-least);
         dimensions-most = rw (sizes-are .0) (f .dimensions-most);

@@ -11,17 +11,17 @@ use native.Mathlib.Numerals.{add-one}
 use native.Mathlib.Nat.{mul-le-mul, div-le-self}
 use lib.ListN.{length, getD, set, replicate, length-set, length-replicate, getD-replicate, List·getD-eq-default}
 use lib.Seq.{ext-getD, getD-set-same, getD-set-other}
-use lib.Dec.{eqb, ltb, leb}
+use lib.Dec.{eqb, ltb}
 use borrow.Author.Tests.{lt-ltb, le-ltb, le-leb, lt-leb, eq-eqb, ne-eqb, leb-true, eqb-true}
 use Rattle.base.specs.Tests.{_and_, _or_, not, pick, every, some, keep, those, product}
-use Rattle.base.proofs.Tests.{both, and-left, and-false, or-false, every-more, pick-true, pick-false, length-tabulate, tabulate-at}
+use Rattle.base.proofs.Tests.{both, and-true, and-left, and-false, and-no, or-left, or-right, or-false, not-true, not-false, is-true, never-both, every-more, some-one, pick-true, pick-false, length-tabulate, tabulate-at}
 use Rattle.base.specs.Numbers.{line, firstOf}
-use Rattle.base.proofs.Select.{those-more, those-none, keep-more, keep-none}
+use Rattle.base.proofs.Select.{those-more, those-none, keep-more, keep-none, keep-few}
 use Rattle.base.proofs.Numbers.{first-true, first-false}
 use Rattle.nest.specs.declared.Nest.{Nest}
 use Rattle.nest.specs.Nest.{lengthOf, tileLength, processorCount, tileCount, cells, tiles, processors}
 use Rattle.base.specs.Lists.{Bytes}
-use Rattle.nest.specs.Nest.{half, word, filled, nestBy, ragged, blank, checked, fitsAt, wellFormed, kind, records, badLength, tooLarge, badDistance, badTile, badProcessors, tooManyTiles, nestLines}
+use Rattle.nest.specs.Nest.{half, word, filled, nestBy, ragged, blank, checked, fitsAt, wellFormed, kind, records, badLength, tooLarge, badDistance, badTile, isSpread, badSpread, lastSpread, badProcessors, tooManyTiles, nestLines}
 
 -- ---- loops
 
@@ -59,6 +59,25 @@ module _ (f : ℕ → Bool) where
 
   pub kept-end : (n j m : ℕ) → j ≤ n → n ≤ j → m ≡ length (keep f j) → m ≡ length (keep f n)
   kept-end n j m a b e = let k : j ≡ n = omega arith in rw k at e
+
+-- a test that is false from some place on holds of the first ones, as many as are kept
+pub front-kept : (f : ℕ → Bool) (n : ℕ) → ((j : ℕ) → j + 1 < n → f j ≡ false → f (j + 1) ≡ false) → (j : ℕ) → j < n → f j ≡ ltb j (length (keep f n))
+front-kept f zero down j h = absurd (omega arith)
+front-kept f (suc n) down j h = go (λ k. front-kept f n (λ i l. down i (omega arith)) j k) (f n) refl (ℕ-discrete j n)
+  where
+    -- what holds of n holds of every one before it
+    held : (i k : ℕ) → i + k ≡ n → f n ≡ true → f i ≡ true
+    held i zero e t = let q : i ≡ n = omega arith in ap f q ∙ t
+    held i (suc k) e t = is-true (λ z. never-both (held (i + 1) k (omega arith) t) (down i (omega arith) z))
+
+    all : (m : ℕ) → m ≤ n → f n ≡ true → length (keep f m) ≡ m
+    all zero l t = sym (kept-start f)
+    all (suc m) l t = keep-more f m (held m (n - m) (omega arith) t) ∙ ap suc (all m (omega arith) t)
+
+    go : (j < n → f j ≡ ltb j (length (keep f n))) → (t : Bool) → f n ≡ t → Dec (j ≡ n) → f j ≡ ltb j (length (keep f (suc n)))
+    go ih true e d = held j (n - j) (omega arith) e ∙ sym (lt-ltb j _ (omega (arith, keep-more f n e, all n (omega arith) e)))
+    go ih false e (yes q) = rw (q, keep-none f n e) (e ∙ sym (le-ltb n _ (keep-few f n)))
+    go ih false e (no q) = rw (keep-none f n e) (ih (omega arith))
 
 pub or-skip : {a b : Bool} → a ≡ false → (a or b) ≡ b
 unfolding _or_
@@ -277,7 +296,7 @@ formed bytes n e h =
       fit = p5 .1;
     }
 
--- ---- lines 3 to 8
+-- ---- the lines of the nest
 
 module _ (x : Nest) where
   pub large-yes : (p : ℕ) → p ≡ product (lengthOf x) (x .dimensions) → 16384 < p → tooLarge x ≡ true
@@ -296,33 +315,36 @@ module _ (x : Nest) where
   unfolding tooManyTiles
   many-no p e h = le-ltb 1024 _ (rw e at h)
 
-  pub spread-none : x .spread < 1 → badProcessors x ≡ true
-  unfolding badProcessors _and_ not
-  spread-none h = rw (lt-leb 1 (x .spread) h)
+  -- a spread dimension after the unspread dimension j
+  abbrev pub spreadAfter : ℕ → Bool
+  spreadAfter j = not (isSpread x j) and isSpread x (j + 1)
 
-  pub spread-all : 1 ≤ x .spread → x .dimensions ≤ x .spread → badProcessors x ≡ true
-  unfolding badProcessors _and_ not
-  spread-all a h = rw (le-leb 1 (x .spread) a, le-ltb (x .spread) (x .dimensions) h)
+  pub after-spread : (j : ℕ) → processorCount x j ≢ 0 → spreadAfter j ≡ false
+  after-spread j h = and-false _ _ (not-true (lt-ltb 0 (processorCount x j) (omega arith)))
 
-  pub shared-no : 1 ≤ x .spread → x .spread < x .dimensions → every (λ j. leb 2 (processorCount x j)) (x .spread) ≡ false → badProcessors x ≡ true
-  unfolding badProcessors _and_ not
-  shared-no a b h = rw (le-leb 1 (x .spread) a, lt-ltb (x .spread) (x .dimensions) b, h)
+  pub after-no : (j : ℕ) → processorCount x (j + 1) ≤ 0 → spreadAfter j ≡ false
+  after-no j h = and-no _ _ (le-ltb 0 _ h)
 
-  not-above : (p : ℕ) → ltb 64 p ≡ not (leb p 64)
-  unfolding not
-  not-above p = go (decLt 64 p)
-    where
-      go : Dec (64 < p) → ltb 64 p ≡ not (leb p 64)
-      go (yes h) = rw (lt-ltb 64 p h, lt-leb p 64 h)
-      go (no h) = rw (le-ltb 64 p (omega arith), le-leb p 64 (omega arith))
+  pub first-unspread : processorCount x 0 ≡ 0 → badSpread x ≡ true
+  unfolding badSpread
+  first-unspread z = or-left _ (not-false (le-ltb 0 (processorCount x 0) (omega arith)))
 
-  pub shared-yes : (p : ℕ) → 1 ≤ x .spread → x .spread < x .dimensions → every (λ j. leb 2 (processorCount x j)) (x .spread) ≡ true
-      → p ≡ product (processorCount x) (x .spread) → ltb 64 p ≡ badProcessors x
+  pub later-spread : (j : ℕ) → j < x .dimensions - 1 → processorCount x j ≡ 0 → 0 < processorCount x (j + 1) → badSpread x ≡ true
+  unfolding badSpread
+  later-spread j l z h = or-right _ (some-one spreadAfter _ j l (and-true (not-false (le-ltb 0 (processorCount x j) (omega arith))) (lt-ltb 0 _ h)))
+
+  pub spread-well : processorCount x 0 ≢ 0 → some spreadAfter (x .dimensions - 1) ≡ false → badSpread x ≡ false
+  unfolding badSpread
+  spread-well h k = or-false (not-true (lt-ltb 0 (processorCount x 0) (omega arith))) k
+
+  pub single-yes : some (λ j. eqb (processorCount x j) 1) (x .dimensions) ≡ true → badProcessors x ≡ true
+  unfolding badProcessors
+  single-yes h = or-left _ h
+
+  pub single-no : (p : ℕ) → some (λ j. eqb (processorCount x j) 1) (x .dimensions) ≡ false → p ≡ product (processorCount x) (x .spread)
+      → ltb 64 p ≡ badProcessors x
   unfolding badProcessors processors
-  shared-yes p a b h e =
-      not-above p
-      ∙ (ap (λ (q : ℕ). not (leb q 64)) e
-      ∙ sym (ap not (and-left _ _ (le-leb 1 (x .spread) a) ∙ (and-left _ _ (lt-ltb (x .spread) (x .dimensions) b) ∙ and-left _ _ h))))
+  single-no p h e = ap (ltb 64) e ∙ sym (or-skip h)
 
   no-line : firstOf [] ≡ 0
   unfolding firstOf
@@ -343,7 +365,8 @@ module _ (x : Nest) where
       line-5 h = first-false 3 (badLength x) _ h3 ∙ (first-false 4 (tooLarge x) _ h4 ∙ first-true 5 (badDistance x) _ h)
 
       module _ (h5 : badDistance x ≡ false) where
-        to-6 : firstOf (nestLines x) ≡ firstOf (line 6 (badTile x) ∷ line 7 (badProcessors x) ∷ line 8 (tooManyTiles x) ∷ [])
+        to-6 : firstOf (nestLines x)
+            ≡ firstOf (line 6 (badTile x) ∷ line 16 (badSpread x) ∷ line 17 (lastSpread x) ∷ line 7 (badProcessors x) ∷ line 8 (tooManyTiles x) ∷ [])
         unfolding nestLines
         to-6 = first-false 3 (badLength x) _ h3 ∙ (first-false 4 (tooLarge x) _ h4 ∙ first-false 5 (badDistance x) _ h5)
 
@@ -351,16 +374,30 @@ module _ (x : Nest) where
         line-6 h = to-6 ∙ first-true 6 (badTile x) _ h
 
         module _ (h6 : badTile x ≡ false) where
-          pub line-7 : badProcessors x ≡ true → firstOf (nestLines x) ≡ 7
-          line-7 h = to-6 ∙ (first-false 6 (badTile x) _ h6 ∙ first-true 7 (badProcessors x) _ h)
+          to-16 : firstOf (nestLines x)
+              ≡ firstOf (line 16 (badSpread x) ∷ line 17 (lastSpread x) ∷ line 7 (badProcessors x) ∷ line 8 (tooManyTiles x) ∷ [])
+          to-16 = to-6 ∙ first-false 6 (badTile x) _ h6
 
-          module _ (h7 : badProcessors x ≡ false) where
-            pub line-8 : tooManyTiles x ≡ true → firstOf (nestLines x) ≡ 8
-            line-8 h = to-6 ∙ (first-false 6 (badTile x) _ h6 ∙ (first-false 7 (badProcessors x) _ h7 ∙ first-true 8 (tooManyTiles x) _ h))
+          pub line-16 : badSpread x ≡ true → firstOf (nestLines x) ≡ 16
+          line-16 h = to-16 ∙ first-true 16 (badSpread x) _ h
 
-            pub line-none : tooManyTiles x ≡ false → firstOf (nestLines x) ≡ 0
-            line-none h =
-                to-6 ∙ (first-false 6 (badTile x) _ h6 ∙ (first-false 7 (badProcessors x) _ h7 ∙ (first-false 8 (tooManyTiles x) _ h ∙ no-line)))
+          module _ (h16 : badSpread x ≡ false) where
+            pub line-17 : lastSpread x ≡ true → firstOf (nestLines x) ≡ 17
+            line-17 h = to-16 ∙ (first-false 16 (badSpread x) _ h16 ∙ first-true 17 (lastSpread x) _ h)
+
+            module _ (h17 : lastSpread x ≡ false) where
+              to-7 : firstOf (nestLines x) ≡ firstOf (line 7 (badProcessors x) ∷ line 8 (tooManyTiles x) ∷ [])
+              to-7 = to-16 ∙ (first-false 16 (badSpread x) _ h16 ∙ first-false 17 (lastSpread x) _ h17)
+
+              pub line-7 : badProcessors x ≡ true → firstOf (nestLines x) ≡ 7
+              line-7 h = to-7 ∙ first-true 7 (badProcessors x) _ h
+
+              module _ (h7 : badProcessors x ≡ false) where
+                pub line-8 : tooManyTiles x ≡ true → firstOf (nestLines x) ≡ 8
+                line-8 h = to-7 ∙ (first-false 7 (badProcessors x) _ h7 ∙ first-true 8 (tooManyTiles x) _ h)
+
+                pub line-none : tooManyTiles x ≡ false → firstOf (nestLines x) ≡ 0
+                line-none h = to-7 ∙ (first-false 7 (badProcessors x) _ h7 ∙ (first-false 8 (tooManyTiles x) _ h ∙ no-line))
 
 -- ---- the nest made of its parts
 

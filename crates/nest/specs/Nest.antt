@@ -1,5 +1,5 @@
--- A nest: what its fields mean; and a recipe's bytes: records and fields, the nest they give, lines 1 to 8, what reading answers.
--- Renders document 01, "The recipe", "Cells, tiles and boards" and "Numbers a call gives", lines 1 to 8.
+-- A nest: what its fields mean; and a recipe's bytes: records and fields, the nest they give, the reader's lines, what reading answers.
+-- Renders document 01, "The recipe", "Cells, tiles and boards" and "Numbers a call gives", lines 1 to 8; W-203's lines 16 and 17.
 use Prim.Native.Nat.{ℕ, _+_, _*_, _-_, _/_, _%_}
 use mathlib.Core.Bool.{Bool}
 use mathlib.Core.List.{List, [], _∷_}
@@ -101,7 +101,7 @@ wellFormed bytes n e =
 unfoldable pub strayRecord : List ℕ → Bool
 strayRecord bytes = not (wellFormed bytes (ofKind bytes 1) (ofKind bytes 2))
 
--- lines 3 to 8, of the nest that the bytes give; in line 7, where the first m of m dimensions with a count have one, no other has
+-- lines 3 to 8, of the nest that the bytes give, with 16 and 17 before 7
 unfoldable pub outside : ℕ → Bool
 outside v = eqb v 0 or ltb 1024 v
 
@@ -129,16 +129,28 @@ reached x j = some (λ e. ltb (tileLength x j) (component x e j)) (x .distances)
 unfoldable pub badTile : Nest → Bool
 badTile x = some (λ j. outside (tileLength x j) or reached x j) (x .dimensions)
 
+-- a dimension is spread where its count is not 0
+abbrev pub isSpread : Nest → ℕ → Bool
+isSpread x j = ltb 0 (processorCount x j)
+
+-- an unspread dimension stands first, or directly before a spread one
+unfoldable pub badSpread : Nest → Bool
+badSpread x = not (isSpread x 0) or some (λ j. not (isSpread x j) and isSpread x (j + 1)) (x .dimensions - 1)
+
+unfoldable pub lastSpread : Nest → Bool
+lastSpread x = isSpread x (x .dimensions - 1)
+
+-- a count of 1, or more than 64 processors
 unfoldable pub badProcessors : Nest → Bool
-badProcessors x =
-    not (leb 1 (x .spread) and ltb (x .spread) (x .dimensions) and every (λ j. leb 2 (processorCount x j)) (x .spread) and leb (processors x) 64)
+badProcessors x = some (λ j. eqb (processorCount x j) 1) (x .dimensions) or ltb 64 (processors x)
 
 unfoldable pub tooManyTiles : Nest → Bool
 tooManyTiles x = ltb 1024 (tiles x)
 
 unfoldable pub nestLines : Nest → List Line
 nestLines x =
-    line 3 (badLength x) ∷ line 4 (tooLarge x) ∷ line 5 (badDistance x) ∷ line 6 (badTile x) ∷ line 7 (badProcessors x) ∷ line 8 (tooManyTiles x) ∷ []
+    line 3 (badLength x) ∷ line 4 (tooLarge x) ∷ line 5 (badDistance x) ∷ line 6 (badTile x)
+    ∷ line 16 (badSpread x) ∷ line 17 (lastSpread x) ∷ line 7 (badProcessors x) ∷ line 8 (tooManyTiles x) ∷ []
 
 unfoldable pub readLines : List ℕ → List Line
 readLines bytes = line 1 (ragged bytes) ∷ line 2 (strayRecord bytes) ∷ nestLines (nestOf bytes)

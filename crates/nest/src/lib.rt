@@ -1,16 +1,16 @@
 // The reader: a recipe's bytes to a nest by value, or the number of the first line of document 01's table that refuses it.
-// `read` takes any bytes. Lines 1 and 2 are tested on the bytes, lines 3 to 8 on the nest made of them.
+// `read` takes any bytes. Lines 1 and 2 are tested on the bytes, the others on the nest made of them.
 ghost use mathlib.Core.Path.{_≡_};
 ghost use mathlib.Core.List.{[]};
 ghost use mathlib.Core.Bool.{false};
 ghost use Prim.Native.Nat.{ℕ, _+_, _*_, _/_, _%_, _<_, _≤_};
 ghost use lib.ListN.{length, getD};
-ghost use lib.Dec.{eqb, ltb, leb};
+ghost use lib.Dec.{eqb, ltb};
 ghost use Rattle.base.specs.Tests.{_and_, pick, every, some, keep, product};
 ghost use Rattle.base.specs.Lists.{Bytes};
 ghost use Rattle.base.specs.Numbers.{firstOf};
 ghost use Rattle.nest.specs.Nest.{lengthOf, tileLength, processorCount, component, tiles};
-ghost use Rattle.nest.specs.Nest.{half, word, kind, ofKind, filled, nestBy, ragged, blank, checked, fitsAt, wellFormed, outside, badLength, same, beyond, faulty, badDistance, reached, badTile, badProcessors, nestLines, readingOf};
+ghost use Rattle.nest.specs.Nest.{half, word, kind, ofKind, filled, nestBy, ragged, blank, checked, fitsAt, wellFormed, outside, badLength, same, beyond, faulty, badDistance, reached, badTile, badSpread, lastSpread, badProcessors, nestLines, readingOf};
 
 // A rectangular loop nest with constant distances, cut into tiles.
 pub struct Nest {
@@ -316,7 +316,7 @@ fn bad_length(nest: Nest) -> bool
     false
 }
 
-// ---- line 4, and the products of lines 7 and 8
+// ---- line 4, and the product of line 7
 
 // Four numbers of two bytes have a product of at most eight bytes.
 fn product_of(values: [usize; 4], n: usize) -> usize
@@ -444,37 +444,59 @@ fn bad_tile(nest: Nest) -> bool
     false
 }
 
-// ---- line 7
+// ---- lines 16 and 17: which dimensions are spread
 
-// Each of the first m counts is at least 2.
-fn all_shared(nest: Nest, m: usize) -> bool
-    requires { ⌜ m ≤ 4 ⌝ }
-    ensures { λ r. ⌜ r ≡ every (λ (j : ℕ). leb 2 (processorCount nest j)) m ⌝ }
+fn bad_spread(nest: Nest) -> bool
+    requires { ⌜ (1 ≤ nest .dimensions) × (nest .dimensions ≤ 4) ⌝ }
+    ensures { λ r. ⌜ r ≡ badSpread nest ⌝ }
 {
-    for j in 0..m {
-        if nest.counts[j] < 2 {
-            return false;
+    if nest.counts[0] == 0 {
+        return true;
+    }
+    let last = nest.dimensions - 1;
+    for j in 0..last {
+        if nest.counts[j] == 0 {
+            if nest.counts[j + 1] > 0 {
+                return true;
+            }
         }
     }
-    true
+    false
+}
+
+fn last_spread(nest: Nest) -> bool
+    requires { ⌜ (1 ≤ nest .dimensions) × (nest .dimensions ≤ 4) ⌝ }
+    ensures { λ r. ⌜ r ≡ lastSpread nest ⌝ }
+{
+    let last = nest.dimensions - 1;
+    nest.counts[last] > 0
+}
+
+// ---- line 7
+
+// Some dimension has a count of 1.
+fn single(nest: Nest) -> bool
+    requires { ⌜ nest .dimensions ≤ 4 ⌝ }
+    ensures { λ r. ⌜ r ≡ some (λ (j : ℕ). eqb (processorCount nest j) 1) (nest .dimensions) ⌝ }
+{
+    let n = nest.dimensions;
+    for j in 0..n {
+        if nest.counts[j] == 1 {
+            return true;
+        }
+    }
+    false
 }
 
 fn bad_processors(nest: Nest) -> bool
-    requires { ⌜ (nest .dimensions ≤ 4) × ((j : ℕ) → processorCount nest j < 65536) ⌝ }
+    requires { ⌜ (nest .dimensions ≤ 4) × ((nest .spread ≤ 4) × ((j : ℕ) → processorCount nest j < 65536)) ⌝ }
     ensures { λ r. ⌜ r ≡ badProcessors nest ⌝ }
 {
-    let m = nest.spread;
-    if m < 1 {
-        return true;
-    }
-    if m >= nest.dimensions {
-        return true;
-    }
-    if !all_shared(nest, m) {
+    if single(nest) {
         return true;
     }
     let counts = nest.counts;
-    product_of(counts, m) > 64
+    product_of(counts, nest.spread) > 64
 }
 
 // ---- line 8
@@ -494,9 +516,9 @@ fn tile_total(nest: Nest) -> usize
 
 // ---- the answer
 
-// The first of lines 3 to 8 that refuses the nest, or 0.
+// The first of the nest's lines that refuses it, or 0.
 fn refused(nest: Nest) -> u32
-    requires { ⌜ (nest .dimensions ≤ 4) × (nest .distances ≤ 8) ⌝ }
+    requires { ⌜ ((1 ≤ nest .dimensions) × (nest .dimensions ≤ 4)) × ((nest .spread ≤ 4) × (nest .distances ≤ 8)) ⌝ }
     requires { ⌜ ((j : ℕ) → lengthOf nest j < 65536) × ((j : ℕ) → processorCount nest j < 65536) ⌝ }
     ensures { λ r. ⌜ r ≡ firstOf (nestLines nest) ⌝ }
 {
@@ -512,6 +534,12 @@ fn refused(nest: Nest) -> u32
     }
     if bad_tile(nest) {
         return 6;
+    }
+    if bad_spread(nest) {
+        return 16;
+    }
+    if last_spread(nest) {
+        return 17;
     }
     if bad_processors(nest) {
         return 7;

@@ -10,13 +10,14 @@ use borrow.Author.Tests.{eq-eqb, lt-ltb, le-ltb}
 use Rattle.base.specs.Tests.{pick, not}
 use Rattle.base.specs.Numbers.{line, firstOf}
 use Rattle.base.proofs.Tests.{not-true, not-false}
-use Rattle.base.proofs.Numbers.{Numbered, first-true, first-false, first-some, first-behind}
+use Rattle.base.proofs.Numbers.{first-true, first-false, first-some, first-behind}
 use Rattle.machine.specs.Plan.{Message, words, count, senderOf, takerOf, heldBy}
 use Rattle.nest.specs.declared.Nest.{Nest}
 use Rattle.nest.specs.declared.Reading.{Reading}
 use Rattle.nest.specs.Accepted.{Accepted}
 use Rattle.nest.specs.Nest.{tiles}
-use Rattle.nest.specs.Nest.{readLines, nestLines, nestOf, readingOf}
+use Rattle.nest.specs.Nest.{readLines, nestOf, readingOf}
+use Rattle.nest.proofs.Numbered.{numbered}
 use Rattle.plan.specs.Geometry.{processorOf}
 use Rattle.plan.specs.Messages.{planOf}
 use Rattle.plan.specs.Rows.{refused, figures, figuresIf}
@@ -70,11 +71,6 @@ summary-refused bytes (suc k) e h = ap (λ (i : ℕ). asFigures (figuresIf i (pl
 pub summary-is : (bytes : List ℕ) (x : Nest) → firstOf (readLines bytes) ≡ 0 → x ≡ nestOf bytes → figuresOf (planOf x) ≡ summaryOf bytes
 unfolding summaryOf figures figuresIf
 summary-is bytes x e h = rw (h, e) refl
-
-numbered : (bytes : List ℕ) → Numbered (readLines bytes)
-unfolding readLines nestLines
-numbered bytes =
-    ((λ z. omega arith), ((λ z. omega arith), ((λ z. omega arith), ((λ z. omega arith), ((λ z. omega arith), ((λ z. omega arith), ((λ z. omega arith), ((λ z. omega arith), tt))))))))
 
 module _ (bytes : List ℕ) (m : ℕ) where
   pub message-refused : (k : ℕ) → k ≡ firstOf (readLines bytes) → k ≢ 0 → noLine k ≡ messageLineOf bytes m

@@ -43,7 +43,7 @@ lineOf p m =
 abbrev pub noLine : ℕ → MessageLine
 noLine n = record { number = n; sender = 0; taker = 0; from = 0; to = 0; words = 0 }
 
--- lines 1 to 8, then 11
+-- the reader's lines, then 11
 unfoldable pub messageLines : List ℕ → ℕ → List Line
 messageLines bytes m = readLines bytes ++ (line 11 (not (ltb m (count (planOf (nestOf bytes))))) ∷ [])
 
