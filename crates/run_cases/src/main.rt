@@ -229,32 +229,6 @@ fn answer(
     }
 }
 
-fn call(
-    encoded: &[u8],
-    source: &[u32],
-    memories: &mut [u32],
-    buffer: &mut [u32],
-    progress: &mut [u32],
-    status: &mut [u8],
-    grid: &mut [u32],
-    op: u8,
-    a: u32,
-) {
-    let number = answer(
-        encoded,
-        source,
-        memories,
-        buffer,
-        progress,
-        status,
-        grid,
-        op,
-        a,
-    );
-    let sum = checksum(source, memories, buffer, progress, status, grid);
-    print_answer(number, sum);
-}
-
 // One record on the parts that are lent.
 fn act(
     encoded: &[u8],
@@ -274,8 +248,8 @@ fn act(
     let rule = record[2];
     let a = parts::word(record, 4);
     let b = parts::word(record, 8);
-    match area {
-        0 => call(
+    if area == 0 {
+        let number = answer(
             encoded,
             source,
             memories,
@@ -285,7 +259,12 @@ fn act(
             grid,
             op,
             a,
-        ),
+        );
+        let sum = checksum(source, memories, buffer, progress, status, grid);
+        print_answer(number, sum);
+        return;
+    }
+    match area {
         1 => change_words(source, op, rule, a, b),
         2 => change_words(memories, op, rule, a, b),
         3 => change_words(buffer, op, rule, a, b),
@@ -350,70 +329,8 @@ fn arrange(fd: i32, recipe: &mut [u8], lent: &mut [u32], record: &[u8]) -> bool 
     false
 }
 
-// The next record: whether there was one.
-fn step(
-    fd: i32,
-    recipe: &mut [u8],
-    source: &mut [u32],
-    memories: &mut [u32],
-    buffer: &mut [u32],
-    progress: &mut [u32],
-    status: &mut [u8],
-    grid: &mut [u32],
-    lent: &mut [u32],
-) -> bool {
-    let mut record = [0u8; 16];
-    let got = io::read_full(fd, &mut record);
-    if got < 16 {
-        return false;
-    }
-    if arrange(fd, recipe, lent, &record) {
-        return true;
-    }
-    act_on_lent(
-        recipe,
-        source,
-        memories,
-        buffer,
-        progress,
-        status,
-        grid,
-        lent,
-        &record,
-    );
-    true
-}
-
-// Nothing says that a file ends, so the records are counted, down from a number that no file has.
-fn run_script(
-    fd: i32,
-    recipe: &mut [u8],
-    source: &mut [u32],
-    memories: &mut [u32],
-    buffer: &mut [u32],
-    progress: &mut [u32],
-    status: &mut [u8],
-    grid: &mut [u32],
-    lent: &mut [u32],
-) {
-    let mut records = u64::MAX;
-    while records > 0
-        && step(
-            fd,
-            recipe,
-            source,
-            memories,
-            buffer,
-            progress,
-            status,
-            grid,
-            lent,
-        )
-    {
-        records -= 1;
-    }
-}
-
+// The script's records one by one, on areas of its own. Nothing says that a file ends, so the records are counted, down from a
+// number that no file has.
 fn run(fd: i32) {
     let mut recipe = [0u8; 512];
     let mut source = [0u32; 1024];
@@ -423,17 +340,28 @@ fn run(fd: i32) {
     let mut status = [0u8; 7168];
     let mut grid = [0u32; 1024];
     let mut lent = [0u32; 7];
-    run_script(
-        fd,
-        &mut recipe,
-        &mut source,
-        &mut memories,
-        &mut buffer,
-        &mut progress,
-        &mut status,
-        &mut grid,
-        &mut lent,
-    );
+    let mut record = [0u8; 16];
+    let mut records = u64::MAX;
+    while records > 0 {
+        records -= 1;
+        if io::read_full(fd, &mut record) < 16 {
+            return;
+        }
+        if arrange(fd, &mut recipe, &mut lent, &record) {
+            continue;
+        }
+        act_on_lent(
+            &recipe,
+            &mut source,
+            &mut memories,
+            &mut buffer,
+            &mut progress,
+            &mut status,
+            &mut grid,
+            &lent,
+            &record,
+        );
+    }
 }
 
 fn main() {
