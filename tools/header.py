@@ -3,8 +3,8 @@
     python3 tools/header.py [ARCHIVE]
 
 Every function marked `#[no_mangle] pub extern "C"` is declared in both with the same parameters in the same order, and
-nothing else is declared; the progress record has the same fields; header and crate have the same numbers, with the same
-terms and reasons, and name the same ones at each call. With an ARCHIVE its symbols are held to the functions as well.
+nothing else is declared; the progress record has the same fields, the routes are the same words; header and crate have the
+same numbers, with the same terms and reasons, and name the same ones at each call. With an ARCHIVE its symbols are held to the functions as well.
 Then planted faults are tried, each of which must be told. Status 1 where anything is wrong.
 """
 
@@ -18,6 +18,9 @@ ROOT = os.path.join(os.path.dirname(os.path.abspath(__file__)), '..')
 HEADER = 'bindings/c/rolwyddac.h'
 CRATE = 'bindings/rust/src/lib.rs'
 REFUSALS = 'bindings/rust/src/refusal.rs'
+
+# what the crate's route is in the exported functions
+ROUTE = 'u32'
 
 C_TYPES = {'u8': 'uint8_t', 'u16': 'uint16_t', 'u32': 'uint32_t', 'u64': 'uint64_t', 'usize': 'size_t',
            'i8': 'int8_t', 'i16': 'int16_t', 'i32': 'int32_t', 'i64': 'int64_t', 'Progress': 'rolwyddac_progress'}
@@ -124,7 +127,8 @@ def called(crate):
     for entry in parted(enclosed(words, starts[0] + 2, '}'), ';'):
         if entry[1] != 'as' or entry[3] != '(' or entry[0] in found:
             raise Wrong('no call, or the second: %s' % ' '.join(entry[:4]))
-        found[entry[0]] = rust_parameters(enclosed(entry, 3, ')'))
+        words = enclosed(entry, 3, ')')
+        found[entry[0]] = rust_parameters([ROUTE if word == 'Route' else word for word in words])
     return found
 
 
@@ -148,6 +152,20 @@ def c_fields(header):
     if words[starts[0] + len(inside) + 4] != 'rolwyddac_progress':
         raise Wrong('the struct is not rolwyddac_progress')
     return [(name, kind) for kind, name in parted(inside, ';')]
+
+
+# The routes
+
+def rust_routes(crate):
+    """Name to word; an enum that is laid out as the exported functions take it."""
+    text = re.search(r'#\[repr\((\w+)\)\]\s*(?:#\[[^\]]*\]\s*)*pub enum Route \{(.*?)\}', crate, flags=re.S)
+    if not text or text[1] != ROUTE:
+        raise Wrong('the route in the crate is not laid out as a word')
+    return {name: int(word) for name, word in re.findall(r'^\s*(\w+) = (\d+),$', text[2], flags=re.M)}
+
+
+def c_routes(header):
+    return {name.title(): int(word) for name, word in re.findall(r'ROLWYDDAC_(\w*DIRECT) = (\d+)', header)}
 
 
 # The numbers
@@ -224,6 +242,7 @@ def differences(sources, record, header, crate, refusals):
     found += same('the record in the crate', rust_fields(crate), fields)
     if not re.search(r'#\[repr\(C\)\]\s*(#\[[^\]]*\]\s*)*pub struct Progress\b', crate):
         found.append('the record in the crate is not laid out as in C')
+    found += same('the routes in the header', c_routes(header), rust_routes(crate))
     table = crate_table(refusals)
     found += same('the header\'s table', header_table(header), {n: line[1:] for n, line in table.items()})
     found += same('the order of the header\'s table', list(header_table(header)), list(table))
@@ -246,7 +265,11 @@ def symbols(archive):
 FAULTS = [
     ('header', 'uint32_t rolwyddac_sweep(', 'uint32_t rolwyddac_swept('),
     ('header', 'uint32_t m, uint32_t *out', 'uint32_t *out, uint32_t m'),
-    ('header', 'const uint8_t *encoded, size_t encoded_length, uint32_t *out', 'const uint8_t *encoded, uint32_t *out'),
+    ('header', 'size_t encoded_length, uint32_t route, uint32_t *out', 'uint32_t route, uint32_t *out'),
+    ('header', 'size_t encoded_length, uint32_t route, uint32_t m', 'size_t encoded_length, uint32_t m'),
+    ('header', 'uint32_t route, const uint32_t *source', 'uint8_t route, const uint32_t *source'),
+    ('header', 'ROLWYDDAC_INDIRECT = 1', 'ROLWYDDAC_INDIRECT = 2'),
+    ('header', '9 if out has not 1 word; 11', '9 if out has not 1 word'),
     ('header', 'size_t progress_length, const uint8_t *status', 'size_t progress_length, uint8_t *status'),
     ('header', 'uint32_t *memories, size_t memories_length', 'uint64_t *memories, size_t memories_length'),
     ('header', 'const uint32_t *source', 'const uint32_t *bed'),
@@ -257,8 +280,11 @@ FAULTS = [
     ('header', 'more than 16,384 cells', 'more than 16,383 cells'),
     ('header', 'Numbers: 1 to 10, 15', 'Numbers: 1 to 11, 15'),
     ('header', ' *   17 last spread    the last dimension is spread\n', ''),
-    ('crate', 'rolwyddac_turn as turn(\n        encoded: &[u8], source: &[u32], memories: &mut [u32]',
-     'rolwyddac_turn as turn(\n        encoded: &[u8], source: &[u32], memories: &[u32]'),
+    ('crate', 'rolwyddac_turn as turn(\n        encoded: &[u8], route: Route, source: &[u32], memories: &mut [u32]',
+     'rolwyddac_turn as turn(\n        encoded: &[u8], route: Route, source: &[u32], memories: &[u32]'),
+    ('crate', 'encoded: &[u8], route: Route, m: u32', 'encoded: &[u8], m: u32, route: Route'),
+    ('crate', '    Direct = 0,', '    Direct = 1,'),
+    ('crate', '#[repr(u32)]', '#[repr(u8)]'),
     ('crate', 'rolwyddac_sweep as', 'rolwyddac_swept as'),
     ('crate', 'encoded: &[u8], m: u32, out: &mut [u32]', 'encoded: &[u8], out: &mut [u32], m: u32'),
     ('crate', 'pub stage: u32', 'pub stage: u64'),

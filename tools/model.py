@@ -1,5 +1,5 @@
-"""A plain model of document 01 and of the requests W-201 and W-203, written from their text, read as docs/DECISIONS.md says, and not
-from the engine.
+"""A plain model of document 01 and of the requests W-201, W-203 and W-204, written from their text, read as docs/DECISIONS.md says, and
+not from the engine.
 
 Every set is made by trying all its candidates. It shares no code, no table and no closed form with
 the engine, so that a test vector made from it tells whether the engine means what the paper says.
@@ -11,6 +11,9 @@ Run as a program it checks the rows and the single facts that the paper prints.
 from itertools import product
 
 WORD = 2 ** 32
+
+# W-204: how messages travel; any other word is the indirect route too
+DIRECT, INDIRECT = 0, 1
 
 
 # "The recipe": records of 16 bytes
@@ -143,17 +146,39 @@ def read(encoded):
 # "Cells, tiles and boards" and "Messages"
 
 class Message:
-    def __init__(self, sender, taker, cells, offset):
+    """Direction is the step from the sending to the taking tile in the spread dimensions."""
+
+    def __init__(self, sender, taker, direction, cells, offset):
         self.sender = sender
         self.taker = taker
+        self.direction = direction
         self.cells = cells
         self.offset = offset
+
+
+def direct_sets(place, m, held):
+    """The directions and the sets of a tile's messages, each in lexicographic order; a set may be empty."""
+    return [(v, held[place, v]) for v in product((0, 1), repeat=m) if any(v)]
+
+
+def indirect_sets(place, m, held):
+    """W-204: along each spread dimension, in their order, every cell of the messages (t', v) with a one there, t' being the tile less
+    v's components before that dimension; each cell once, in index order."""
+    found = []
+    for q in range(m):
+        cells = set()
+        for v in product((0, 1), repeat=m):
+            start = tuple(i - (v[j] if j < q else 0) for j, i in enumerate(place))
+            if v[q] == 1 and (start, v) in held:
+                cells |= set(held[start, v])
+        found.append((tuple(int(j == q) for j in range(m)), sorted(cells)))
+    return found
 
 
 class Plan:
     """Cells, tiles, boards and messages by their numbers, each list made by trying all candidates."""
 
-    def __init__(self, nest):
+    def __init__(self, nest, route=DIRECT):
         self.nest = nest
         n = nest.n
         m = len([p for p in nest.counts if p != 0])
@@ -179,19 +204,18 @@ class Plan:
             board_number[tuple(place[j] % nest.counts[j] for j in range(m))] for place in tile_places]
         self.tiles_of = [
             [t for t in range(self.tiles) if self.board_of[t] == b] for b in range(self.boards)]
-        # the messages, by tile, then direction
+        # the messages, by tile, then in the route's order
         self.messages = []
         offset = 0
+        held = {(place, v): [c for c in self.cells_of[t] if self.is_read_in(c, place, v, m, tile_place_of)]
+                for t, place in enumerate(tile_places) for v in product((0, 1), repeat=m) if any(v)}
         for t, place in enumerate(tile_places):
-            for v in product((0, 1), repeat=m):
-                if all(bit == 0 for bit in v):
-                    continue
-                held = [c for c in self.cells_of[t] if self.is_read_in(c, place, v, m, tile_place_of)]
-                if held == []:
+            for v, cells in (direct_sets if route == DIRECT else indirect_sets)(place, m, held):
+                if cells == []:
                     continue
                 taker = tuple(place[j] + (v[j] if j < m else 0) for j in range(n))
-                self.messages.append(Message(t, tile_number[taker], held, offset))
-                offset += len(held)
+                self.messages.append(Message(t, tile_number[taker], v, cells, offset))
+                offset += len(cells)
         self.words = offset
         self.sends_of = [[] for _ in range(self.tiles)]
         self.due_at = [[] for _ in range(self.tiles)]
@@ -233,13 +257,23 @@ class Plan:
 PLANS = {}
 
 
-def plan_of(encoded):
+def plan_of(encoded, route=DIRECT):
     """The number of the lines on the recipe and the plan; kept, since every call is given the same bytes again."""
-    encoded = bytes(encoded)
-    if encoded not in PLANS:
-        number, nest = read(encoded)
-        PLANS[encoded] = (number, Plan(nest) if number == 0 else None)
-    return PLANS[encoded]
+    key = bytes(encoded), DIRECT if route == DIRECT else INDIRECT
+    if key not in PLANS:
+        number, nest = read(key[0])
+        PLANS[key] = (number, Plan(nest, key[1]) if number == 0 else None)
+    return PLANS[key]
+
+
+def hops(encoded, m):
+    """W-204: the number of the call, and how many wires direct message m takes on the indirect route."""
+    number, plan = plan_of(encoded)
+    if number != 0:
+        return number, 0
+    if not m < len(plan.messages):
+        return 11, 0
+    return 0, sum(plan.messages[m].direction)
 
 
 # "The machine"
@@ -283,8 +317,8 @@ def is_fit(plan, areas):
             and all(mark <= 3 for mark in areas.status))
 
 
-def fresh(encoded, areas):
-    number, plan = plan_of(encoded)
+def fresh(encoded, areas, route=DIRECT):
+    number, plan = plan_of(encoded, route)
     if number != 0:
         return number
     if not lengths_right(plan, areas):
@@ -305,9 +339,9 @@ def after_sends(plan, areas, b, tile, sent):
         areas.progress[3 * b + 2] = 0
 
 
-def tested(encoded, areas, others_right=lambda plan: True):
+def tested(encoded, areas, route, others_right=lambda plan: True):
     """The lines up to 10, tested by every call on a run's state, and the plan; what else is lent counts for line 9."""
-    number, plan = plan_of(encoded)
+    number, plan = plan_of(encoded, route)
     if number != 0:
         return number, plan
     if not lengths_right(plan, areas) or not others_right(plan):
@@ -315,8 +349,8 @@ def tested(encoded, areas, others_right=lambda plan: True):
     return (0 if is_fit(plan, areas) else 10), plan
 
 
-def turn(encoded, areas, b):
-    number, plan = tested(encoded, areas)
+def turn(encoded, areas, b, route=DIRECT):
+    number, plan = tested(encoded, areas, route)
     if number != 0:
         return number
     if not b < plan.boards:
@@ -351,8 +385,8 @@ def turn(encoded, areas, b):
     return 0
 
 
-def deliver(encoded, areas, m):
-    number, plan = tested(encoded, areas)
+def deliver(encoded, areas, m, route=DIRECT):
+    number, plan = tested(encoded, areas, route)
     if number != 0:
         return number
     if not m < len(plan.messages):
@@ -363,8 +397,8 @@ def deliver(encoded, areas, m):
     return 0
 
 
-def collect(encoded, areas):
-    number, plan = tested(encoded, areas, lambda plan: len(areas.grid) == plan.cells)
+def collect(encoded, areas, route=DIRECT):
+    number, plan = tested(encoded, areas, route, lambda plan: len(areas.grid) == plan.cells)
     if number != 0:
         return number
     if any(areas.progress[3 * b] < len(plan.tiles_of[b]) for b in range(plan.boards)):
@@ -399,36 +433,36 @@ def areas_for(plan, source):
     return areas
 
 
-def run(encoded, areas, events):
+def run(encoded, areas, events, route=DIRECT):
     """A fresh start, then turns ('turn', b) and deliveries ('deliver', m): the numbers given."""
-    answers = [fresh(encoded, areas)]
+    answers = [fresh(encoded, areas, route)]
     for kind, which in events:
-        answers.append(turn(encoded, areas, which) if kind == 'turn' else deliver(encoded, areas, which))
+        answers.append((turn if kind == 'turn' else deliver)(encoded, areas, which, route))
     return answers
 
 
-def drive(encoded, areas, falling):
+def drive(encoded, areas, falling, route=DIRECT):
     """Turns in rising or falling order; when none can be taken each mailed message is delivered; until nothing can be done."""
-    _, plan = plan_of(encoded)
+    _, plan = plan_of(encoded, route)
     order = list(range(plan.boards))
     if falling:
         order.reverse()
     steps = 0
-    fresh(encoded, areas)
+    fresh(encoded, areas, route)
     while True:
-        done = len([b for b in order if turn(encoded, areas, b) == 0])
+        done = len([b for b in order if turn(encoded, areas, b, route) == 0])
         if done == 0:
             mailed = [m for m in range(len(plan.messages)) if areas.status[m] == 1]
-            done = len([m for m in mailed if deliver(encoded, areas, m) == 0])
+            done = len([m for m in mailed if deliver(encoded, areas, m, route) == 0])
         if done == 0:
             return steps
         steps += done
 
 
-def plan_text(encoded):
-    """What the plan printer writes."""
+def plan_text(encoded, route=DIRECT):
+    """What the plan printer writes, which stays with direct passing; on the indirect route the same figures and lines of its messages."""
     encoded = bytes(encoded)
-    number, plan = plan_of(encoded) if len(encoded) <= 512 else (1, None)
+    number, plan = plan_of(encoded, route) if len(encoded) <= 512 else (1, None)
     if number != 0:
         return 'refused %d\n' % number
     text = 'tiles %d messages %d words %d steps %d\n' % (plan.tiles, len(plan.messages), plan.words, plan.steps)
@@ -437,6 +471,14 @@ def plan_text(encoded):
             m, message.sender, message.taker, plan.board_of[message.sender], plan.board_of[message.taker],
             len(message.cells))
     return text
+
+
+def hops_text(encoded):
+    """The hops of every direct message, in a line; nothing where the recipe is refused."""
+    number, plan = plan_of(encoded)
+    if number != 0:
+        return ''
+    return 'hops' + ''.join(' %d' % hops(encoded, m)[1] for m in range(len(plan.messages))) + '\n'
 
 
 def compare_text(encoded):
@@ -519,8 +561,36 @@ def check_paper():
         for falling in (False, True):
             areas = areas_for(plan_of(ROWS[row])[1], [1] * plan_of(ROWS[row])[1].cells)
             expect('steps of %s driven' % row, drive(ROWS[row], areas, falling), totals[row][3])
+    check_routes()
+
+
+def check_routes():
+    """What W-204 prints, and its places that a reader passes over."""
+    lines = plan_text(ROWS['C'], INDIRECT).split('\n')
+    expect('row C, indirect', lines[0], 'tiles 8 messages 8 words 160 steps 32')
+    # dimension one before dimension two; tile 4 passes on the 8 corner cells that tile 0 sent it, tile 5 those of tile 1
+    expect('lines of C, indirect', lines[1:-1],
+           ['0 0 4 0 2 32', '1 0 2 0 1 8', '2 1 5 0 2 32', '3 1 3 0 1 8', '4 2 6 1 3 24', '5 3 7 1 3 24', '6 4 6 2 3 16', '7 5 7 2 3 16'])
+    expect('row C, any other word', plan_text(ROWS['C'], 4294967295), plan_text(ROWS['C'], INDIRECT))
+    expect('hops of C', hops_text(ROWS['C']), 'hops 1 1 2 1 1 2 1 1 1 1\n')
+    expect('hops beyond the last message', [hops(ROWS['C'], m) for m in (9, 10, 4294967295)], [(0, 1), (11, 0), (11, 0)])
+    expect('hops of a refused recipe', hops(ROWS['H'], 0), (7, 0))
+    # a short edge tile, and a full one under W-201: the message is there for the forwarded cells alone
+    for recipe, cells in ((encode([3, 4, 1], [2, 2, 1], [2, 2, 0], [(1, 1, 0)]), [5]),
+                          (encode([4, 4, 1], [2, 2, 1], [2, 2, 0], [(2, 2, 0)]), [0, 1, 4, 5])):
+        plan = plan_of(recipe, INDIRECT)[1]
+        alone = [message for message in plan.messages if not set(message.cells) & set(plan.cells_of[message.sender])]
+        expect('forwarded alone', [(message.sender, message.taker, message.cells) for message in alone], [(2, 3, cells)])
+    expect('one spread dimension', [plan_text(ROWS[row], INDIRECT) for row in 'ABDEFGH'], [plan_text(ROWS[row]) for row in 'ABDEFGH'])
+    for row in 'ABCDEFG':
+        plan = plan_of(ROWS[row], INDIRECT)[1]
+        for falling in (False, True):
+            source = [c + 1 for c in range(plan.cells)]
+            areas = areas_for(plan, source)
+            expect('steps of %s driven, indirect' % row, drive(ROWS[row], areas, falling, INDIRECT), plan.steps)
+            expect('collecting %s, indirect' % row, (collect(ROWS[row], areas, INDIRECT), areas.grid), (0, plan.swept(source)))
 
 
 if __name__ == '__main__':
     check_paper()
-    print('the model gives what document 01, W-201 and W-203 print')
+    print('the model gives what document 01, W-201, W-203 and W-204 print')

@@ -62,8 +62,11 @@ def drawn_recipe(draw, most_cells, most_words=None, n=None, m=None, distances=No
         shift = 0 if plain else draw.pick([0, 0, 1, 3, 16, 31])
         boundary = 0 if plain else draw.pick([0, 1, 7, 4294967295])
         encoded = model.encode(lengths, tiling, counts, found, weights, shift, boundary)
-        number, plan = model.plan_of(encoded)
-        if number == 0 and plan.cells <= most_cells and plan.tiles >= 3 * spread and len(plan.messages) >= 2 * spread:
+        # cells first: a plan takes its time
+        if model.read(encoded)[0] != 0 or model.all_product(lengths) > most_cells:
+            continue
+        plan = model.plan_of(encoded)[1]
+        if plan.tiles >= 3 * spread and len(plan.messages) >= 2 * spread:
             if most_words is None or plan.cells * plan.boards <= most_words:
                 return encoded
 
@@ -210,8 +213,13 @@ def rows():
 
 # Files of recipes: plan_cases and sweep_cases
 
-def cases_file(recipes):
+# added to the length of a recipe that is planned with indirect passing (W-204)
+INDIRECT_MARK = 32768
+
+
+def cases_file(recipes, indirect=()):
     content = b''.join(len(encoded).to_bytes(2, 'little') + encoded for encoded in recipes)
+    content += b''.join((len(encoded) + INDIRECT_MARK).to_bytes(2, 'little') + encoded for encoded in indirect)
     # the room of the programs that read it whole
     assert len(content) <= 65536, len(content)
     return content
@@ -219,6 +227,13 @@ def cases_file(recipes):
 
 def cases_text(recipes, text_of):
     return ''.join('case %d\n' % k + text_of(encoded) for k, encoded in enumerate(recipes)).encode()
+
+
+def plans_text(recipes, indirect):
+    """The plans of both routes; behind those of the indirect one the hops of the direct messages."""
+    texts = [model.plan_text(encoded) for encoded in recipes]
+    texts += [model.plan_text(encoded, model.INDIRECT) + model.hops_text(encoded) for encoded in indirect]
+    return ''.join('case %d\n' % k + text for k, text in enumerate(texts)).encode()
 
 
 def plan_recipes():
@@ -233,6 +248,48 @@ def plan_recipes():
     recipes.append(largest_recipe())
     # at the printer's limit of 512 bytes, and above it
     recipes += [model.ROWS['D'][:16] * 32, model.ROWS['D'][:16] * 33]
+    return recipes
+
+
+def route_recipes():
+    """Accepted recipes for the places where a reader of W-204 goes wrong."""
+    return [
+        # the report's example with a second distance that crosses at the corner: parts that overlap are merged
+        model.encode([8, 8, 8], [4, 4, 4], [2, 2, 0], [(2, 1, 0), (1, 2, 0), (1, 0, 3)]),
+        # forwarded alone at a short edge, in the first and in the second dimension, and under W-201 at full tiles
+        model.encode([3, 4, 1], [2, 2, 1], [2, 2, 0], [(1, 1, 0)]),
+        model.encode([4, 3, 2], [2, 2, 1], [2, 2, 0], [(1, 1, 0)]),
+        model.encode([6, 6, 1], [2, 2, 1], [2, 2, 0], [(2, 2, 0)]),
+        model.encode([7, 5, 3], [3, 2, 2], [2, 3, 0], [(3, 2, 1)]),
+        # three hops, alone and joined by others; corners of every two dimensions
+        model.encode([4, 4, 4, 1], [2, 2, 2, 1], [2, 2, 2, 0], [(1, 1, 1, 0)]),
+        model.encode([4, 4, 4, 2], [2, 2, 2, 1], [2, 2, 2, 0], [(2, 2, 2, 1)]),
+        model.encode([5, 5, 5, 2], [2, 3, 2, 2], [2, 2, 2, 0], [(2, 3, 2, 0), (1, 0, 1, 1), (0, 1, 1, 0), (1, 1, 0, 0)]),
+        model.encode([3, 3, 3, 3], [1, 1, 1, 2], [2, 2, 2, 0], [(1, 1, 1, 2), (0, 1, 0, 2), (1, 0, 1, 0)]),
+        model.encode([3, 5, 3, 3], [2, 3, 2, 2], [2, 3, 2, 0], [(1, 2, 1, 1), (0, 1, 0, 1)]),
+        # a middle dimension that is not crossed: its hop is left out
+        model.encode([4, 4, 4, 2], [2, 2, 2, 2], [2, 2, 2, 0], [(1, 0, 1, 0)]),
+        # fewer tiles than processors, tiles longer than their dimension, no message at all
+        model.encode([3, 3, 4], [2, 2, 9], [4, 4, 0], [(1, 1, 3)]),
+        model.encode([3, 2, 4], [5, 2, 2], [2, 2, 0], [(1, 1, 1)]),
+        model.encode([4, 8, 3], [2, 2, 2], [2, 2, 0], [(0, 0, 1)]),
+        # a chain that comes back to its processor
+        model.encode([9, 7, 2], [2, 2, 1], [2, 3, 0], [(1, 2, 0), (2, 1, 1), (2, 2, 0)]),
+    ]
+
+
+def indirect_recipes():
+    """Those of plan_cases that are planned with indirect passing."""
+    draw = Draw(6)
+    recipes = rows() + route_recipes() + chosen_recipes()
+    for n in (3, 4):
+        for m in range(2, n):
+            for distances in (1, 2, 3, 5, 8):
+                recipes.append(drawn_recipe(draw, 300, n=n, m=m, distances=distances))
+    refused = refused_recipes()
+    for number in ORDER:
+        recipes.append([encoded for encoded in refused if model.read(encoded)[0] == number][-1])
+    recipes.append(model.encode([16, 16, 8, 8], [4, 4, 4, 4], [4, 4, 4, 0], [(1, 0, 2, 1), (3, 4, 0, 0), (0, 1, 4, 4), (4, 4, 4, 4)]))
     return recipes
 
 
@@ -298,7 +355,7 @@ def sweep_recipes():
 
 AREAS = ['', 'source', 'memories', 'buffer', 'progress', 'status', 'grid']
 ROOM = {'source': 1024, 'memories': 4096, 'buffer': 7168, 'progress': 192, 'status': 7168, 'grid': 1024}
-CASE, RECIPE, LEND, FILL, POKE, FRESH, TURN, DELIVER, COLLECT, SWEEP, SHOW = range(1, 12)
+CASE, RECIPE, LEND, FILL, POKE, FRESH, TURN, DELIVER, COLLECT, SWEEP, SHOW, ROUTE = range(1, 13)
 EACH, COUNT, DRAWN, DRAWN_FEW = range(4)
 
 
@@ -312,6 +369,7 @@ class Script:
         self.arrays = {name: [0] * room for name, room in ROOM.items()}
         self.lent = {name: 0 for name in ROOM}
         self.encoded = b''
+        self.route = model.DIRECT
         self.count = 0
         self.numbers = {}
 
@@ -329,6 +387,7 @@ class Script:
         self.explain('case %d: %s' % (self.count, what))
         self.count += 1
         self.encoded = b''
+        self.route = model.DIRECT
         self.lent = {name: 0 for name in ROOM}
 
     def recipe(self, encoded):
@@ -338,6 +397,13 @@ class Script:
         self.records += [padded[at:at + 16] for at in range(0, len(padded), 16)]
         self.encoded = encoded
         self.explain('  recipe of %d bytes' % len(encoded))
+
+    def by(self, route):
+        """The route that calls are given from now on; direct passing needs no record at the start of a case."""
+        if route != self.route:
+            self.record(ROUTE, a=route)
+            self.explain('  route %d' % route)
+        self.route = route
 
     def lend(self, area, length):
         assert 0 <= length <= ROOM[area]
@@ -389,16 +455,16 @@ class Script:
         return number
 
     def fresh(self):
-        return self.call(FRESH, 'fresh', 0, lambda areas: model.fresh(self.encoded, areas))
+        return self.call(FRESH, 'fresh', 0, lambda areas: model.fresh(self.encoded, areas, self.route))
 
     def turn(self, b):
-        return self.call(TURN, 'turn', b, lambda areas: model.turn(self.encoded, areas, b))
+        return self.call(TURN, 'turn', b, lambda areas: model.turn(self.encoded, areas, b, self.route))
 
     def deliver(self, m):
-        return self.call(DELIVER, 'deliver', m, lambda areas: model.deliver(self.encoded, areas, m))
+        return self.call(DELIVER, 'deliver', m, lambda areas: model.deliver(self.encoded, areas, m, self.route))
 
     def collect(self):
-        return self.call(COLLECT, 'collect', 0, lambda areas: model.collect(self.encoded, areas))
+        return self.call(COLLECT, 'collect', 0, lambda areas: model.collect(self.encoded, areas, self.route))
 
     def sweep(self):
         return self.call(SWEEP, 'sweep', 0, lambda areas: model.sweep(self.encoded, areas.source, areas.grid))
@@ -415,12 +481,13 @@ class Script:
         return {'source': plan.cells, 'memories': plan.cells * plan.boards, 'buffer': plan.words,
                 'progress': 3 * plan.boards, 'status': len(plan.messages), 'grid': plan.cells}
 
-    def start(self, what, encoded, source=(DRAWN, 5), others=0):
+    def start(self, what, encoded, source=(DRAWN, 5), others=0, route=model.DIRECT):
         """A case with every area lent at its length: the source by its rule, the others drawn, records and marks zero."""
-        number, plan = model.plan_of(encoded)
+        number, plan = model.plan_of(encoded, route)
         assert number == 0
         self.case(what)
         self.recipe(encoded)
+        self.by(route)
         for area, length in self.lengths(plan).items():
             self.lend(area, length)
         self.fill('source', *source)
@@ -641,40 +708,46 @@ def runs_to_the_end(s):
                 recipes.append(drawn_recipe(draw, 150, most_words=1500, n=n, m=m, distances=draw.between(2, 6)))
     for k, encoded in enumerate(recipes):
         source = [(EACH, 1), (COUNT, 0), (DRAWN, draw.word())][k % 3]
-        plan = s.start('a whole run, %d steps' % model.plan_of(encoded)[1].steps, encoded, source)
-        assert s.fresh() == 0
-        steps = 0
-        # some boards are favoured, so that the others wait
-        favoured = draw.below(plan.boards)
-        while steps < plan.steps:
-            mailed = [m for m in range(len(plan.messages)) if s.arrays['status'][m] == 1]
-            kind = draw.below(32)
-            if kind < 12:
-                number = s.turn(favoured if draw.below(3) else draw.below(plan.boards))
-            elif kind < 20:
-                # a turn that can be taken, if there is one: otherwise most calls would be refused
-                able = [b for b in range(plan.boards) if model.turn(encoded, s.areas(), b) == 0]
-                number = s.turn(draw.pick(able)) if able else s.deliver(draw.pick(mailed))
-            elif kind < 29 and mailed:
-                number = s.deliver(draw.pick(mailed))
-            elif kind == 30 and draw.below(4) == 0:
-                assert s.collect() == 15
-                continue
-            elif kind == 31 and draw.below(4) == 0:
-                number = s.deliver(draw.below(len(plan.messages)))
-            else:
-                continue
-            steps += number == 0
-            if draw.below(24) == 0:
-                favoured = draw.below(plan.boards)
-        for b in range(plan.boards):
-            assert s.turn(b) == 13
-        for m in range(min(len(plan.messages), 4)):
-            assert s.deliver(m) == 14
-        assert s.collect() == 0
-        collected = s.arrays['grid'][:plan.cells]
-        s.fill('grid', DRAWN, k)
-        assert s.sweep() == 0 and s.arrays['grid'][:plan.cells] == collected
+        whole_run(s, draw, encoded, source, model.DIRECT, k)
+
+
+def whole_run(s, draw, encoded, source, route, grid):
+    """A fresh start, then drawn calls until all steps are done, collected and held to the sweep."""
+    by_route = 'a whole run, %d steps' if route == model.DIRECT else 'a whole run on the indirect route, %d steps'
+    plan = s.start(by_route % model.plan_of(encoded, route)[1].steps, encoded, source, route=route)
+    assert s.fresh() == 0
+    steps = 0
+    # some boards are favoured, so that the others wait
+    favoured = draw.below(plan.boards)
+    while steps < plan.steps:
+        mailed = [m for m in range(len(plan.messages)) if s.arrays['status'][m] == 1]
+        kind = draw.below(32)
+        if kind < 12:
+            number = s.turn(favoured if draw.below(3) else draw.below(plan.boards))
+        elif kind < 20:
+            # a turn that can be taken, if there is one: otherwise most calls would be refused
+            able = [b for b in range(plan.boards) if model.turn(encoded, s.areas(), b, route) == 0]
+            number = s.turn(draw.pick(able)) if able else s.deliver(draw.pick(mailed))
+        elif kind < 29 and mailed:
+            number = s.deliver(draw.pick(mailed))
+        elif kind == 30 and draw.below(4) == 0:
+            assert s.collect() == 15
+            continue
+        elif kind == 31 and draw.below(4) == 0:
+            number = s.deliver(draw.below(len(plan.messages)))
+        else:
+            continue
+        steps += number == 0
+        if draw.below(24) == 0:
+            favoured = draw.below(plan.boards)
+    for b in range(plan.boards):
+        assert s.turn(b) == 13
+    for m in range(min(len(plan.messages), 4)):
+        assert s.deliver(m) == 14
+    assert s.collect() == 0
+    collected = s.arrays['grid'][:plan.cells]
+    s.fill('grid', DRAWN, grid)
+    assert s.sweep() == 0 and s.arrays['grid'][:plan.cells] == collected
 
 
 def largest_areas(s):
@@ -700,6 +773,63 @@ def largest_areas(s):
             s.turn(b)
 
 
+# W-204: words that are the indirect route
+OTHERS = (1, 2, 256, 65536, 4294967295)
+
+
+def calls_by_route(s):
+    """Row C, whose routes have other lengths; a recipe whose routes have equal ones, so that only the word tells them apart."""
+    encoded = model.ROWS['C']
+    for lent, given in ((model.DIRECT, 1), (1, model.DIRECT), (1, 4294967295)):
+        s.start('row C, areas of route %d, calls of route %d' % (lent, given), encoded, route=lent)
+        s.by(given)
+        plan = model.plan_of(encoded, given)[1]
+        alike = (lent == model.DIRECT) == (given == model.DIRECT)
+        assert (s.fresh() == 0) == alike and (9 in s.calls(plan)) == (not alike)
+    # the fitness of a record goes by the route's messages: tile 2 sends one message on either, tile 0 three or two
+    plan = s.start('row C, indirect, a record unfit there', encoded, route=1)
+    for sent in (0, 1, 2):
+        set_record(s, 0, 0, 2, sent)
+        assert s.turn(0) == (0 if sent < 2 else 10)
+    alike = model.encode([3, 3, 1], [2, 1, 2], [2, 3, 0], [(1, 1, 0), (1, 0, 0)])
+    for first, second in ((model.DIRECT, 1), (2, model.DIRECT)):
+        plan = s.start('equal lengths, from route %d to %d on the way' % (first, second), alike, (DRAWN, 8), route=first)
+        s.fresh()
+        for b in (0, 0, 0, 0, 1, 1, 2):
+            s.turn(b)
+        s.by(second)
+        for m in range(len(plan.messages)):
+            s.deliver(m)
+        for b in 2 * list(range(plan.boards)):
+            s.turn(b)
+        s.collect()
+
+
+def states_on_the_indirect_route(s):
+    """Fit states that no run reaches, stepped by that route's messages."""
+    draw = Draw(7)
+    recipes = [model.ROWS['C']] + route_recipes()[:5] + route_recipes()[6:8]
+    recipes += [drawn_recipe(draw, 100, most_words=1000, n=n, m=m) for n, m in ((3, 2), (4, 2), (4, 3))]
+    for k, encoded in enumerate(recipes):
+        plan = s.start('a drawn fit state, indirect', encoded, (DRAWN, draw.word()), draw.below(50), OTHERS[k % 5])
+        drawn_state(s, plan, draw)
+        for _ in range(16):
+            assert drawn_call(s, plan, draw) != 10
+        s.fill('status', EACH, 2)
+        for b in range(plan.boards):
+            s.turn(b)
+
+
+def runs_on_the_indirect_route(s):
+    """Whole runs by route, the grid the sweep's."""
+    draw = Draw(8)
+    recipes = [model.ROWS['A'], model.ROWS['C']] + [recipe for at, recipe in enumerate(route_recipes()) if at not in (7, 13)]
+    for n, m in ((3, 2), (4, 2), (4, 3)):
+        recipes.append(drawn_recipe(draw, 100, most_words=1000, n=n, m=m, distances=draw.between(2, 4)))
+    for k, encoded in enumerate(recipes):
+        whole_run(s, draw, encoded, [(EACH, 1), (COUNT, 0), (DRAWN, draw.word())][k % 3], OTHERS[k % 5], k)
+
+
 def run_script():
     s = Script()
     facts_of_the_paper(s)
@@ -710,6 +840,9 @@ def run_script():
     steps_from_drawn_states(s)
     runs_to_the_end(s)
     largest_areas(s)
+    calls_by_route(s)
+    states_on_the_indirect_route(s)
+    runs_on_the_indirect_route(s)
     low = {*ORDER, 9}
     wanted = {'fresh': {0} | low, 'turn': {0, 10, 11, 12, 13} | low, 'deliver': {0, 10, 11, 14} | low,
               'collect': {0, 10, 15} | low, 'sweep': {0} | low}
@@ -732,11 +865,12 @@ def all_files():
     """Name to content, in a fixed order."""
     model.check_paper()
     plans = plan_recipes()
+    indirect = indirect_recipes()
     sweeps = sweep_recipes()
     script = run_script()
     return {
-        'crates/plan_cases/data/cases': cases_file(plans),
-        'crates/plan_cases/stdout': cases_text(plans, model.plan_text),
+        'crates/plan_cases/data/cases': cases_file(plans, indirect),
+        'crates/plan_cases/stdout': plans_text(plans, indirect),
         'crates/sweep_cases/data/cases': cases_file(sweeps),
         'crates/sweep_cases/stdout': cases_text(sweeps, model.compare_text),
         'crates/print_plan/stdin': model.ROWS['D'],

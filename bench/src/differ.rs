@@ -1,13 +1,14 @@
 //! Random trials of an engine against the model: every answer and every lent word is compared.
 //! A trial follows from its seed alone, so a difference is found again by that seed.
 
-use crate::engine::{Areas, Engine, Progress, MESSAGE_WORDS, SUMMARY_WORDS};
+use crate::engine::{Areas, Engine, Progress, Route, HOPS_WORDS, MESSAGE_WORDS, SUMMARY_WORDS};
 use crate::model::{Model, Plan};
 use crate::recipe::{self, Limits, Numbers};
 use crate::rng::Rng;
 use std::collections::BTreeMap;
 use std::fmt::{self, Debug};
 use std::panic::{catch_unwind, AssertUnwindSafe};
+use std::rc::Rc;
 
 /// where the engine and the model part
 pub struct Difference {
@@ -32,6 +33,8 @@ impl fmt::Display for Difference {
 pub struct Tally {
     pub trials: u64,
     pub runs: u64,
+    /// trials of a plan with a message of forwarded cells alone
+    pub forwarded: u64,
     calls: BTreeMap<&'static str, [u64; 32]>,
 }
 
@@ -49,7 +52,9 @@ impl Tally {
 
 impl fmt::Display for Tally {
     fn fmt(&self, f: &mut fmt::Formatter<'_>) -> fmt::Result {
-        writeln!(f, "{} trials, {} whole runs, {} calls; by call and number:", self.trials, self.runs, self.calls())?;
+        let Tally { trials, runs, forwarded, .. } = self;
+        write!(f, "{trials} trials, {forwarded} of them with a message of forwarded cells alone, {runs} whole runs, ")?;
+        writeln!(f, "{} calls; by call and number:", self.calls())?;
         for (call, numbers) in &self.calls {
             write!(f, "  {call:8}")?;
             for (number, count) in numbers.iter().enumerate().filter(|(_, count)| **count != 0) {
@@ -69,6 +74,7 @@ struct Pair<'a> {
     model: &'a Model,
     tally: &'a mut Tally,
     encoded: Vec<u8>,
+    route: Route,
     theirs: Areas,
     ours: Areas,
 }
@@ -108,29 +114,33 @@ impl Pair<'_> {
     }
 
     fn fresh(&mut self) -> Outcome<u32> {
-        let theirs = self.engine.fresh(&self.encoded, &mut self.theirs);
-        let ours = self.model.fresh(&self.encoded, &mut self.ours);
-        self.compare("fresh", &String::new, (theirs, ours), (&[], &[]))
+        let theirs = self.engine.fresh(&self.encoded, self.route, &mut self.theirs);
+        let ours = self.model.fresh(&self.encoded, self.route, &mut self.ours);
+        let route = self.route;
+        self.compare("fresh", &|| format!("{route:?}"), (theirs, ours), (&[], &[]))
     }
 
     fn turn(&mut self, processor: u32) -> Outcome<u32> {
         let before = self.ours.progress.get(processor as usize).copied();
-        let theirs = self.engine.turn(&self.encoded, &mut self.theirs, processor);
-        let ours = self.model.turn(&self.encoded, &mut self.ours, processor);
-        self.compare("turn", &|| format!("of {processor} at {before:?}"), (theirs, ours), (&[], &[]))
+        let theirs = self.engine.turn(&self.encoded, self.route, &mut self.theirs, processor);
+        let ours = self.model.turn(&self.encoded, self.route, &mut self.ours, processor);
+        let route = self.route;
+        self.compare("turn", &|| format!("{route:?} of {processor} at {before:?}"), (theirs, ours), (&[], &[]))
     }
 
     fn deliver(&mut self, message: u32) -> Outcome<u32> {
-        let theirs = self.engine.deliver(&self.encoded, &mut self.theirs, message);
-        let ours = self.model.deliver(&self.encoded, &mut self.ours, message);
-        self.compare("deliver", &|| format!("of {message}"), (theirs, ours), (&[], &[]))
+        let theirs = self.engine.deliver(&self.encoded, self.route, &mut self.theirs, message);
+        let ours = self.model.deliver(&self.encoded, self.route, &mut self.ours, message);
+        let route = self.route;
+        self.compare("deliver", &|| format!("{route:?} of {message}"), (theirs, ours), (&[], &[]))
     }
 
     fn collect(&mut self, grid: &mut [u32]) -> Outcome<u32> {
         let mut copy = grid.to_vec();
-        let theirs = self.engine.collect(&self.encoded, &mut self.theirs, &mut copy);
-        let ours = self.model.collect(&self.encoded, &mut self.ours, grid);
-        self.compare("collect", &String::new, (theirs, ours), (&copy, grid))
+        let theirs = self.engine.collect(&self.encoded, self.route, &mut self.theirs, &mut copy);
+        let ours = self.model.collect(&self.encoded, self.route, &mut self.ours, grid);
+        let route = self.route;
+        self.compare("collect", &|| format!("{route:?}"), (theirs, ours), (&copy, grid))
     }
 
     fn sweep(&mut self, source: &[u32], grid: &mut [u32]) -> Outcome<u32> {
@@ -142,16 +152,25 @@ impl Pair<'_> {
 
     fn summary(&mut self, out: &mut [u32]) -> Outcome<u32> {
         let mut copy = out.to_vec();
-        let theirs = self.engine.summary(&self.encoded, &mut copy);
-        let ours = self.model.summary(&self.encoded, out);
-        self.compare("summary", &String::new, (theirs, ours), (&copy, out))
+        let theirs = self.engine.summary(&self.encoded, self.route, &mut copy);
+        let ours = self.model.summary(&self.encoded, self.route, out);
+        let route = self.route;
+        self.compare("summary", &|| format!("{route:?}"), (theirs, ours), (&copy, out))
     }
 
     fn message(&mut self, message: u32, out: &mut [u32]) -> Outcome<u32> {
         let mut copy = out.to_vec();
-        let theirs = self.engine.message(&self.encoded, message, &mut copy);
-        let ours = self.model.message(&self.encoded, message, out);
-        self.compare("message", &|| format!("{message}"), (theirs, ours), (&copy, out))
+        let theirs = self.engine.message(&self.encoded, self.route, message, &mut copy);
+        let ours = self.model.message(&self.encoded, self.route, message, out);
+        let route = self.route;
+        self.compare("message", &|| format!("{route:?} {message}"), (theirs, ours), (&copy, out))
+    }
+
+    fn hops(&mut self, message: u32, out: &mut [u32]) -> Outcome<u32> {
+        let mut copy = out.to_vec();
+        let theirs = self.engine.hops(&self.encoded, message, &mut copy);
+        let ours = self.model.hops(&self.encoded, message, out);
+        self.compare("hops", &|| format!("of {message}"), (theirs, ours), (&copy, out))
     }
 
     fn write(&mut self, numbers: &Numbers, space: &mut [u8]) -> Outcome<u32> {
@@ -166,13 +185,27 @@ impl Pair<'_> {
     fn any_call(&mut self, rng: &mut Rng) -> Outcome<u32> {
         let processor = some_number(rng, self.ours.progress.len());
         let message = some_number(rng, self.ours.status.len());
-        match rng.below(8) {
+        let route = self.route;
+        // now and then the route for which the areas were not made
+        self.route = if rng.one_in(10) { some_route(rng) } else { route };
+        let called = match rng.below(8) {
             0 => self.fresh(),
             1 | 2 => self.deliver(message),
             3 => self.collect(&mut words(rng, self.ours.source.len())),
             _ => self.turn(processor),
-        }
+        };
+        self.route = route;
+        called
     }
+
+    /// the model's plan by the pair's route
+    fn plan(&self) -> Option<Rc<Plan>> {
+        self.model.plan(&self.encoded, self.route).ok()
+    }
+}
+
+fn some_route(rng: &mut Rng) -> Route {
+    rng.of(&[Route::Direct, Route::Indirect])
 }
 
 fn words(rng: &mut Rng, length: usize) -> Vec<u32> {
@@ -267,20 +300,32 @@ fn wrong_lengths(rng: &mut Rng, areas: &mut Areas) {
     }
 }
 
-/// the plan's totals and lines, and the sweep
-fn reading(pair: &mut Pair, rng: &mut Rng) -> Outcome<()> {
+/// the plan's totals and lines on a route
+fn lines(pair: &mut Pair, rng: &mut Rng) -> Outcome<()> {
     let mut totals = words(rng, SUMMARY_WORDS);
     pair.summary(&mut totals)?;
-    let plan = pair.model.plan(&pair.encoded).ok();
-    let messages = plan.as_ref().map_or(2, |plan| plan.messages.len());
+    let messages = pair.plan().map_or(2, |plan| plan.messages.len());
     for message in 0..messages.min(40) {
         // all of a short list, else some of a long one
         let message = if messages <= 40 { message } else { rng.below(messages) };
         pair.message(message as u32, &mut words(rng, MESSAGE_WORDS))?;
+        // the count of direct messages may be another, so some of these are too high
+        pair.hops(message as u32, &mut words(rng, HOPS_WORDS))?;
     }
     let beyond = rng.of(&[messages as u32, messages as u32 + 1, u32::MAX]);
     pair.message(beyond, &mut words(rng, MESSAGE_WORDS))?;
-    let cells = plan.as_ref().map_or(rng.below(5), |plan| plan.cells);
+    pair.hops(beyond, &mut words(rng, HOPS_WORDS)).map(|_| ())
+}
+
+/// the plan's totals and lines, by one route or by both, and the sweep
+fn reading(pair: &mut Pair, rng: &mut Rng) -> Outcome<()> {
+    lines(pair, rng)?;
+    let route = pair.route;
+    pair.route = some_route(rng);
+    if pair.route != route {
+        lines(pair, rng)?;
+    }
+    let cells = pair.plan().map_or(rng.below(5), |plan| plan.cells);
     let source = words(rng, cells);
     pair.sweep(&source, &mut words(rng, cells))?;
     if rng.one_in(4) {
@@ -288,11 +333,14 @@ fn reading(pair: &mut Pair, rng: &mut Rng) -> Outcome<()> {
         pair.summary(&mut words(rng, length))?;
         let length = other_length(rng, MESSAGE_WORDS);
         pair.message(0, &mut words(rng, length))?;
+        let length = other_length(rng, HOPS_WORDS);
+        pair.hops(0, &mut words(rng, length))?;
         let lengths = (other_length(rng, cells), other_length(rng, cells));
         let lengths = rng.of(&[lengths, (cells, lengths.1), (lengths.0, cells)]);
         let source = words(rng, lengths.0);
         pair.sweep(&source, &mut words(rng, lengths.1))?;
     }
+    pair.route = route;
     Ok(())
 }
 
@@ -306,7 +354,7 @@ fn writing(pair: &mut Pair, rng: &mut Rng, numbers: &Numbers) -> Outcome<()> {
 
 /// a damaged recipe through every call, with areas as its sound form has them; it and its sound form are written too
 fn damaged(pair: &mut Pair, rng: &mut Rng, numbers: Numbers) -> Outcome<()> {
-    if let Ok(plan) = pair.model.plan(&numbers.bytes()) {
+    if let Some(plan) = pair.plan() {
         let areas = any_state(rng, &plan);
         pair.lend(areas);
     }
@@ -320,8 +368,8 @@ fn damaged(pair: &mut Pair, rng: &mut Rng, numbers: Numbers) -> Outcome<()> {
         pair.any_call(rng)?;
     }
     // what is still accepted lies near a limit
-    match pair.model.plan(&pair.encoded) {
-        Ok(plan) if plan.cells * plan.processors <= 20_000 => states(pair, rng, &plan),
+    match pair.plan() {
+        Some(plan) if plan.cells * plan.processors <= 20_000 => states(pair, rng, &plan),
         _ => Ok(()),
     }
 }
@@ -497,13 +545,15 @@ pub fn trial(
     let is_large = limits.cells >= 400 && rng.one_in(60);
     let limits = if is_large { Limits { cells: 16384, words: 1 << 18 } } else { limits };
     let numbers = if is_large && rng.one_in(2) { recipe::extreme(&mut rng) } else { recipe::random(&mut rng, limits) };
-    let encoded = numbers.bytes();
+    let (encoded, route) = (numbers.bytes(), some_route(&mut rng));
     let (theirs, ours) = Default::default();
-    let mut pair = Pair { engine, model, tally, encoded, theirs, ours };
-    let outcome = match model.plan(&pair.encoded) {
-        Err(_) => reading(&mut pair, &mut rng),
-        Ok(plan) if is_large => large(&mut pair, &mut rng, &plan),
-        Ok(plan) => match rng.below(10) {
+    let mut pair = Pair { engine, model, tally, encoded, route, theirs, ours };
+    let plan = pair.plan();
+    pair.tally.forwarded += u64::from(plan.as_ref().is_some_and(|plan| plan.passes_on_alone()));
+    let outcome = match plan {
+        None => reading(&mut pair, &mut rng),
+        Some(plan) if is_large => large(&mut pair, &mut rng, &plan),
+        Some(plan) => match rng.below(10) {
             0..=2 => damaged(&mut pair, &mut rng, numbers),
             3 => reading(&mut pair, &mut rng),
             4..=5 => run(&mut pair, &mut rng, &plan),
@@ -516,7 +566,7 @@ pub fn trial(
 }
 
 /// trials from `seed` on, each with the next seed, up to the first difference
-pub fn trials(seed: u64, count: u64, engine: &dyn Engine, limits: Limits) -> Result<Tally, (Tally, Difference)> {
+pub fn trials(seed: u64, count: u64, engine: &dyn Engine, limits: Limits) -> Result<Tally, (Tally, Box<Difference>)> {
     let model = Model::default();
     let mut tally = Tally::default();
     for n in 0..count {
@@ -528,7 +578,7 @@ pub fn trials(seed: u64, count: u64, engine: &dyn Engine, limits: Limits) -> Res
             Err(Difference { seed, call, encoded: vec![], detail })
         });
         if let Err(difference) = outcome {
-            return Err((tally, difference));
+            return Err((tally, Box::new(difference)));
         }
     }
     Ok(tally)

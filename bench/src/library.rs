@@ -1,6 +1,6 @@
 //! The engine's library, through the safe crate over it.
 
-use crate::engine::{Areas, Engine};
+use crate::engine::{Areas, Engine, Route};
 use crate::recipe::Numbers;
 use rolwyddac::Refusal;
 
@@ -15,36 +15,40 @@ impl Engine for Library {
         "library".into()
     }
 
-    fn fresh(&self, encoded: &[u8], areas: &mut Areas) -> u32 {
+    fn fresh(&self, encoded: &[u8], route: Route, areas: &mut Areas) -> u32 {
         let Areas { source, memories, buffer, progress, status } = areas;
-        number(rolwyddac::fresh(encoded, source, memories, buffer, progress, status))
+        number(rolwyddac::fresh(encoded, route, source, memories, buffer, progress, status))
     }
 
-    fn turn(&self, encoded: &[u8], areas: &mut Areas, processor: u32) -> u32 {
+    fn turn(&self, encoded: &[u8], route: Route, areas: &mut Areas, processor: u32) -> u32 {
         let Areas { source, memories, buffer, progress, status } = areas;
-        number(rolwyddac::turn(encoded, source, memories, buffer, progress, status, processor))
+        number(rolwyddac::turn(encoded, route, source, memories, buffer, progress, status, processor))
     }
 
-    fn deliver(&self, encoded: &[u8], areas: &mut Areas, message: u32) -> u32 {
+    fn deliver(&self, encoded: &[u8], route: Route, areas: &mut Areas, message: u32) -> u32 {
         let Areas { source, memories, buffer, progress, status } = areas;
-        number(rolwyddac::deliver(encoded, source, memories, buffer, progress, status, message))
+        number(rolwyddac::deliver(encoded, route, source, memories, buffer, progress, status, message))
     }
 
-    fn collect(&self, encoded: &[u8], areas: &mut Areas, grid: &mut [u32]) -> u32 {
+    fn collect(&self, encoded: &[u8], route: Route, areas: &mut Areas, grid: &mut [u32]) -> u32 {
         let Areas { source, memories, buffer, progress, status } = areas;
-        number(rolwyddac::collect(encoded, source, memories, buffer, progress, status, grid))
+        number(rolwyddac::collect(encoded, route, source, memories, buffer, progress, status, grid))
     }
 
     fn sweep(&self, encoded: &[u8], source: &[u32], grid: &mut [u32]) -> u32 {
         number(rolwyddac::sweep(encoded, source, grid))
     }
 
-    fn summary(&self, encoded: &[u8], out: &mut [u32]) -> u32 {
-        number(rolwyddac::summary_words(encoded, out))
+    fn summary(&self, encoded: &[u8], route: Route, out: &mut [u32]) -> u32 {
+        number(rolwyddac::summary_words(encoded, route, out))
     }
 
-    fn message(&self, encoded: &[u8], message: u32, out: &mut [u32]) -> u32 {
-        number(rolwyddac::message_words(encoded, message, out))
+    fn message(&self, encoded: &[u8], route: Route, message: u32, out: &mut [u32]) -> u32 {
+        number(rolwyddac::message_words(encoded, route, message, out))
+    }
+
+    fn hops(&self, encoded: &[u8], message: u32, out: &mut [u32]) -> u32 {
+        number(rolwyddac::hops_words(encoded, message, out))
     }
 
     fn write(&self, numbers: &Numbers, space: &mut [u8]) -> u32 {

@@ -1,14 +1,14 @@
 //! A plain model of the tiled sweep engine: it reads a recipe, lays out its whole plan as lists, and runs the machine
 //! on that plan. It is meant to be read and compared with, not to be quick. Its author had document 01, the trait of
 //! engine.rs and the list of public fields below, and nothing else of this repository; later the text of
-//! the requests W-201 and W-203.
+//! the requests W-201, W-203 and W-204.
 
 use std::array::from_fn;
 use std::cell::RefCell;
 use std::collections::{BTreeMap, BTreeSet};
 use std::rc::Rc;
 
-use crate::engine::{Areas, Engine, Progress, MESSAGE_WORDS, SUMMARY_WORDS};
+use crate::engine::{Areas, Engine, Progress, Route, HOPS_WORDS, MESSAGE_WORDS, SUMMARY_WORDS};
 
 // the numbers of refused calls
 const RAGGED: u32 = 1;
@@ -200,9 +200,9 @@ impl Recipe {
         inside.then(|| number_of(taker, self.tile_box()))
     }
 
-    /// All messages by number, which is the order of sender, then taker: no distance is longer than a tile, so a tile's
-    /// takers are its neighbours t + v, and their rising order is the lexicographic order of the directions v.
-    fn messages(&self) -> Vec<Message> {
+    /// Which cells of which tile go to which other tile. No distance is longer than a tile, so a tile's takers are its
+    /// neighbours t + v, and their rising order is the lexicographic order of the directions v.
+    fn parcels(&self) -> BTreeMap<(usize, usize), BTreeSet<usize>> {
         let mut sets: BTreeMap<(usize, usize), BTreeSet<usize>> = BTreeMap::new();
         for cell in 0..product(self.lengths) as usize {
             let point = point_of(cell, self.lengths);
@@ -212,13 +212,58 @@ impl Recipe {
                 sets.entry((sender, taker)).or_default().insert(cell);
             }
         }
-        let mut messages: Vec<Message> = Vec::new();
-        for ((sender, taker), cells) in sets {
-            let offset = messages.last().map_or(0, |last| last.offset + last.cells.len());
-            messages.push(Message { sender, taker, cells: cells.into_iter().collect(), offset });
-        }
-        messages
+        sets
     }
+
+    /// The wires that a parcel takes on the indirect route (W-204), as tile and dimension: one dimension at a time, the
+    /// lowest first.
+    fn wires(&self, sender: usize, taker: usize) -> Vec<(usize, usize)> {
+        let tiles = self.tile_box();
+        let (mut at, end) = (point_of(sender, tiles), point_of(taker, tiles));
+        let mut wires = Vec::new();
+        for dimension in 0..MAX_DIMENSIONS {
+            if at[dimension] != end[dimension] {
+                wires.push((number_of(at, tiles), dimension));
+                at[dimension] = end[dimension];
+            }
+        }
+        wires
+    }
+
+    /// All messages by number. On the direct route each parcel is one. On the indirect route all that goes over a wire is
+    /// one, whoever it is for; a tile's wires are in the order of their dimensions.
+    fn messages(&self, route: Route) -> Vec<Message> {
+        let tiles = self.tile_box();
+        let next = |tile, dimension| {
+            let mut point = point_of(tile, tiles);
+            point[dimension] += 1;
+            number_of(point, tiles)
+        };
+        let parcels = self.parcels();
+        match route {
+            Route::Direct => numbered(parcels.into_iter().map(|((sender, taker), cells)| (sender, taker, cells))),
+            Route::Indirect => {
+                let mut loads: BTreeMap<(usize, usize), BTreeSet<usize>> = BTreeMap::new();
+                for ((sender, taker), cells) in &parcels {
+                    for wire in self.wires(*sender, *taker) {
+                        loads.entry(wire).or_default().extend(cells);
+                    }
+                }
+                numbered(loads.into_iter().map(|((tile, dimension), cells)| (tile, next(tile, dimension), cells)))
+            }
+        }
+    }
+}
+
+/// Senders, takers and cells as messages, one behind the other in the buffer.
+fn numbered(parts: impl Iterator<Item = (usize, usize, BTreeSet<usize>)>) -> Vec<Message> {
+    let mut offset = 0;
+    let message = |(sender, taker, cells): (usize, usize, BTreeSet<usize>)| {
+        let message = Message { sender, taker, cells: cells.into_iter().collect(), offset };
+        offset += message.cells.len();
+        message
+    };
+    parts.map(message).collect()
 }
 
 /// A message's ends, the cells whose values it carries (rising), and the words of the buffer that lie before it.
@@ -230,7 +275,7 @@ pub struct Message {
     pub offset: usize,
 }
 
-/// Everything that follows from an accepted recipe. All lists of numbers are rising.
+/// Everything that follows from an accepted recipe and a route. All lists of numbers are rising.
 pub struct Plan {
     pub cells: usize,
     pub processors: usize,
@@ -256,7 +301,7 @@ fn grouped(count: usize, groups: impl Iterator<Item = usize>) -> Vec<Vec<usize>>
 }
 
 impl Plan {
-    fn new(recipe: Recipe) -> Plan {
+    fn new(recipe: Recipe, route: Route) -> Plan {
         let (cell_box, tile_box, processor_box) = (recipe.lengths, recipe.tile_box(), recipe.processor_box());
         let [cells, tiles, processors] = [cell_box, tile_box, processor_box].map(|sides| product(sides) as usize);
         let tile_of = |cell| number_of(recipe.tile_of(point_of(cell, cell_box)), tile_box);
@@ -264,7 +309,7 @@ impl Plan {
             let tile = point_of(tile, tile_box);
             number_of(from_fn(|j| tile[j] % processor_box[j]), processor_box)
         };
-        let messages = recipe.messages();
+        let messages = recipe.messages(route);
         Plan {
             cells,
             processors,
@@ -282,6 +327,14 @@ impl Plan {
     /// The step bound: a gather and a calculate for each tile, a send and a delivery for each message.
     pub fn steps(&self) -> usize {
         2 * self.cells_of_tile.len() + 2 * self.messages.len()
+    }
+
+    /// Is there a message without a cell of its sending tile?
+    pub fn passes_on_alone(&self) -> bool {
+        let own = |message: &Message| {
+            message.cells.iter().any(|cell| self.cells_of_tile[message.sender].binary_search(cell).is_ok())
+        };
+        self.messages.iter().any(|message| !own(message))
     }
 
     /// The value of one cell over the values so far; eight products of 16 by 32 bits leave room in 64 for the source.
@@ -376,22 +429,26 @@ impl Plan {
     }
 }
 
-/// The engine's calls over plans; the plan of the last accepted recipe is kept.
+/// A recipe's bytes and its plan.
+type Kept = Option<(Vec<u8>, Rc<Plan>)>;
+
+/// The engine's calls over plans; the plan of the last accepted recipe is kept, one for each route.
 #[derive(Default)]
 pub struct Model {
-    last: RefCell<Option<(Vec<u8>, Rc<Plan>)>>,
+    last: RefCell<[Kept; 2]>,
 }
 
 impl Model {
-    /// The recipe's plan, or the number that refuses it.
-    pub fn plan(&self, encoded: &[u8]) -> Result<Rc<Plan>, u32> {
-        if let Some((bytes, plan)) = &*self.last.borrow() {
+    /// The recipe's plan by a route, or the number that refuses it.
+    pub fn plan(&self, encoded: &[u8], route: Route) -> Result<Rc<Plan>, u32> {
+        let kept = &mut self.last.borrow_mut()[usize::from(route == Route::Indirect)];
+        if let Some((bytes, plan)) = kept {
             if bytes == encoded {
                 return Ok(Rc::clone(plan));
             }
         }
-        let plan = Rc::new(Plan::new(Recipe::read(encoded)?));
-        *self.last.borrow_mut() = Some((encoded.to_vec(), Rc::clone(&plan)));
+        let plan = Rc::new(Plan::new(Recipe::read(encoded)?, route));
+        *kept = Some((encoded.to_vec(), Rc::clone(&plan)));
         Ok(plan)
     }
 }
@@ -411,9 +468,9 @@ impl Engine for Model {
         "model".to_string()
     }
 
-    fn fresh(&self, encoded: &[u8], areas: &mut Areas) -> u32 {
+    fn fresh(&self, encoded: &[u8], route: Route, areas: &mut Areas) -> u32 {
         answer(|| {
-            self.plan(encoded)?.check_areas(areas)?;
+            self.plan(encoded, route)?.check_areas(areas)?;
             areas.memories.fill(0);
             areas.buffer.fill(0);
             for progress in &mut areas.progress {
@@ -424,9 +481,9 @@ impl Engine for Model {
         })
     }
 
-    fn turn(&self, encoded: &[u8], areas: &mut Areas, processor: u32) -> u32 {
+    fn turn(&self, encoded: &[u8], route: Route, areas: &mut Areas, processor: u32) -> u32 {
         answer(|| {
-            let plan = self.plan(encoded)?;
+            let plan = self.plan(encoded, route)?;
             plan.check_state(areas)?;
             let processor = index(processor, plan.processors)?;
             let (tiles, progress) = (&plan.tiles_of_processor[processor], &areas.progress[processor]);
@@ -440,9 +497,9 @@ impl Engine for Model {
         })
     }
 
-    fn deliver(&self, encoded: &[u8], areas: &mut Areas, message: u32) -> u32 {
+    fn deliver(&self, encoded: &[u8], route: Route, areas: &mut Areas, message: u32) -> u32 {
         answer(|| {
-            let plan = self.plan(encoded)?;
+            let plan = self.plan(encoded, route)?;
             plan.check_state(areas)?;
             let mark = &mut areas.status[index(message, plan.messages.len())?];
             require(*mark == IN_FLIGHT, NO_MAIL)?;
@@ -451,9 +508,9 @@ impl Engine for Model {
         })
     }
 
-    fn collect(&self, encoded: &[u8], areas: &mut Areas, grid: &mut [u32]) -> u32 {
+    fn collect(&self, encoded: &[u8], route: Route, areas: &mut Areas, grid: &mut [u32]) -> u32 {
         answer(|| {
-            let plan = self.plan(encoded)?;
+            let plan = self.plan(encoded, route)?;
             require(grid.len() == plan.cells, AREA)?;
             plan.check_state(areas)?;
             let mut records = areas.progress.iter().zip(&plan.tiles_of_processor);
@@ -468,16 +525,16 @@ impl Engine for Model {
 
     fn sweep(&self, encoded: &[u8], source: &[u32], grid: &mut [u32]) -> u32 {
         answer(|| {
-            let plan = self.plan(encoded)?;
+            let plan = self.plan(encoded, Route::Direct)?;
             require(source.len() == plan.cells && grid.len() == plan.cells, AREA)?;
             (0..plan.cells).for_each(|cell| grid[cell] = plan.value(cell, source, grid));
             Ok(())
         })
     }
 
-    fn summary(&self, encoded: &[u8], out: &mut [u32]) -> u32 {
+    fn summary(&self, encoded: &[u8], route: Route, out: &mut [u32]) -> u32 {
         answer(|| {
-            let plan = self.plan(encoded)?;
+            let plan = self.plan(encoded, route)?;
             require(out.len() == SUMMARY_WORDS, AREA)?;
             let line = [plan.cells_of_tile.len(), plan.messages.len(), plan.words, plan.steps()];
             out.copy_from_slice(&line.map(|number| number as u32));
@@ -485,15 +542,25 @@ impl Engine for Model {
         })
     }
 
-    fn message(&self, encoded: &[u8], message: u32, out: &mut [u32]) -> u32 {
+    fn message(&self, encoded: &[u8], route: Route, message: u32, out: &mut [u32]) -> u32 {
         answer(|| {
-            let plan = self.plan(encoded)?;
+            let plan = self.plan(encoded, route)?;
             require(out.len() == MESSAGE_WORDS, AREA)?;
             let message = &plan.messages[index(message, plan.messages.len())?];
             let tiles = [message.sender, message.taker];
             let processors = tiles.map(|tile| plan.processor_of_tile[tile]);
             let line = [tiles[0], tiles[1], processors[0], processors[1], message.cells.len()];
             out.copy_from_slice(&line.map(|number| number as u32));
+            Ok(())
+        })
+    }
+
+    fn hops(&self, encoded: &[u8], message: u32, out: &mut [u32]) -> u32 {
+        answer(|| {
+            let plan = self.plan(encoded, Route::Direct)?;
+            require(out.len() == HOPS_WORDS, AREA)?;
+            let message = &plan.messages[index(message, plan.messages.len())?];
+            out[0] = plan.recipe.wires(message.sender, message.taker).len() as u32;
             Ok(())
         })
     }

@@ -2,7 +2,8 @@
 //! trying all cells for each.
 //! It can carry one fault, so that the comparison itself can be tested: each fault must be found.
 
-use crate::engine::{Areas, Engine, Progress, MESSAGE_WORDS, SUMMARY_WORDS};
+use crate::engine::{Areas, Engine, Progress, Route, HOPS_WORDS, MESSAGE_WORDS, SUMMARY_WORDS};
+use crate::recipe::Numbers;
 use std::cell::RefCell;
 use std::rc::Rc;
 
@@ -67,9 +68,27 @@ pub enum Fault {
     NeverLast,
     /// a gather also writes to the next processor's memory
     Neighbour,
+    /// on the indirect route a tile sends its own cells only
+    ForwardedDropped,
+    /// there a message needs a cell of its sending tile
+    ForwardedAloneDropped,
+    /// a tile's messages there from the last dimension to the first
+    DimensionsFalling,
+    /// a cell is listed there once for each direction by which it goes
+    ListedForEachWay,
+    /// the sending tile's own cells stand there before those it passes on
+    PartsUnmerged,
+    /// every hop of a message there starts at its first tile
+    HopFromStart,
+    /// messages there go along the highest dimension first
+    HighestFirst,
+    /// the last hop is not counted
+    LastHopUncounted,
+    /// the two routes are taken for one
+    RouteUnread,
 }
 
-pub const FAULTS: [Fault; 29] = [
+pub const FAULTS: [Fault; 38] = [
     Fault::UnspreadShift,
     Fault::EdgeTileFull,
     Fault::OnlyTaker,
@@ -99,16 +118,28 @@ pub const FAULTS: [Fault; 29] = [
     Fault::LongSource,
     Fault::NeverLast,
     Fault::Neighbour,
+    Fault::ForwardedDropped,
+    Fault::ForwardedAloneDropped,
+    Fault::DimensionsFalling,
+    Fault::ListedForEachWay,
+    Fault::PartsUnmerged,
+    Fault::HopFromStart,
+    Fault::HighestFirst,
+    Fault::LastHopUncounted,
+    Fault::RouteUnread,
 ];
 
 /// sending tile, taking tile, cells
 type Messages = Rc<Vec<(u64, u64, Vec<u64>)>>;
 
+/// a recipe and its messages
+type Kept = Option<(Vec<u8>, Messages)>;
+
 #[derive(Default)]
 pub struct Naive {
     fault: Option<Fault>,
-    /// the messages of the last recipe
-    last: RefCell<Option<(Vec<u8>, Messages)>>,
+    /// the messages of the last recipe, for each route
+    last: RefCell<[Kept; 2]>,
 }
 
 /// bytes, seen as records
@@ -382,8 +413,67 @@ impl<'a> View<'a> {
         directions
     }
 
-    /// all messages in order
-    fn messages(&self) -> Messages {
+    /// where a cell with this reader is sent along dimension q: its own tile, moved by what was crossed before q
+    fn stop(&self, q: usize, here: &Index, there: &Index) -> Index {
+        let mut stop = *here;
+        for j in 0..self.spread {
+            let before = if self.has(Fault::HighestFirst) { j > q } else { j < q };
+            if before && !self.has(Fault::HopFromStart) {
+                stop[j] = there[j];
+            }
+        }
+        stop
+    }
+
+    /// the cells that a tile sends along dimension q, each with its own tile: those of all tiles are tried
+    fn passed(&self, tile: &Index, q: usize) -> Vec<u64> {
+        let mut passed = vec![];
+        for number in 0..self.cells() {
+            let cell = self.cell(number);
+            let here = self.tile_at(&cell);
+            let mut ways = vec![];
+            for d in 0..self.distances {
+                let reader = self.ahead(&cell, d);
+                let there = self.tile_at(&reader);
+                let way: Vec<u64> = (0..self.spread).map(|j| there[j] - here[j]).collect();
+                if self.inside(&reader) && way[q] == 1 && self.stop(q, &here, &there) == *tile && !ways.contains(&way) {
+                    ways.push(way);
+                }
+            }
+            let listed = if self.has(Fault::ListedForEachWay) { ways.len() } else { ways.len().min(1) };
+            let own = here == *tile;
+            passed.extend(vec![number; if own || !self.has(Fault::ForwardedDropped) { listed } else { 0 }]);
+        }
+        let forwarded = |number: &u64| self.tile_at(&self.cell(*number)) != *tile;
+        if self.has(Fault::ForwardedAloneDropped) && passed.iter().all(forwarded) {
+            passed.clear();
+        }
+        if self.has(Fault::PartsUnmerged) {
+            passed.sort_by_key(forwarded);
+        }
+        passed
+    }
+
+    /// all messages of the indirect route in order
+    fn indirect(&self) -> Messages {
+        let mut messages = vec![];
+        for tile in 0..self.tiles() {
+            let index = self.tile_index(tile);
+            for place in 0..self.spread {
+                let q = if self.has(Fault::DimensionsFalling) { self.spread - 1 - place } else { place };
+                let passed = self.passed(&index, q);
+                let mut taker = index;
+                taker[q] += 1;
+                if !passed.is_empty() {
+                    messages.push((tile, self.tile_number(&taker), passed));
+                }
+            }
+        }
+        Rc::new(messages)
+    }
+
+    /// all messages of the direct route in order
+    fn direct(&self) -> Messages {
         let mut messages = vec![];
         for tile in 0..self.tiles() {
             let index = self.tile_index(tile);
@@ -568,12 +658,16 @@ impl Naive {
         Naive { fault: Some(fault), last: RefCell::default() }
     }
 
-    fn messages(&self, bytes: &[u8]) -> Messages {
-        let mut last = self.last.borrow_mut();
-        match &*last {
+    fn messages(&self, bytes: &[u8], route: Route) -> Messages {
+        let route = if self.fault == Some(Fault::RouteUnread) { Route::Direct } else { route };
+        let last = &mut self.last.borrow_mut()[usize::from(route == Route::Indirect)];
+        match last {
             Some((known, messages)) if known == bytes => messages.clone(),
             _ => {
-                let messages = self.view(bytes).messages();
+                let messages = match route {
+                    Route::Direct => self.view(bytes).direct(),
+                    Route::Indirect => self.view(bytes).indirect(),
+                };
                 *last = Some((bytes.to_vec(), messages.clone()));
                 messages
             }
@@ -585,9 +679,9 @@ impl Naive {
     }
 
     /// refused recipes answered, the rest made
-    fn made<'a>(&self, bytes: &'a [u8]) -> Result<Made<'a>, u32> {
+    fn made<'a>(&self, bytes: &'a [u8], route: Route) -> Result<Made<'a>, u32> {
         match self.view(bytes).read() {
-            0 => Ok(Made { view: self.view(bytes), messages: self.messages(bytes) }),
+            0 => Ok(Made { view: self.view(bytes), messages: self.messages(bytes, route) }),
             number => Err(number),
         }
     }
@@ -601,8 +695,8 @@ impl Engine for Naive {
         }
     }
 
-    fn fresh(&self, encoded: &[u8], areas: &mut Areas) -> u32 {
-        let made = match self.made(encoded) {
+    fn fresh(&self, encoded: &[u8], route: Route, areas: &mut Areas) -> u32 {
+        let made = match self.made(encoded, route) {
             Ok(made) => made,
             Err(number) => return number,
         };
@@ -618,8 +712,8 @@ impl Engine for Naive {
         0
     }
 
-    fn turn(&self, encoded: &[u8], areas: &mut Areas, processor: u32) -> u32 {
-        let made = match self.made(encoded) {
+    fn turn(&self, encoded: &[u8], route: Route, areas: &mut Areas, processor: u32) -> u32 {
+        let made = match self.made(encoded, route) {
             Ok(made) => made,
             Err(number) => return number,
         };
@@ -644,8 +738,8 @@ impl Engine for Naive {
         number
     }
 
-    fn deliver(&self, encoded: &[u8], areas: &mut Areas, message: u32) -> u32 {
-        let made = match self.made(encoded) {
+    fn deliver(&self, encoded: &[u8], route: Route, areas: &mut Areas, message: u32) -> u32 {
+        let made = match self.made(encoded, route) {
             Ok(made) => made,
             Err(number) => return number,
         };
@@ -662,8 +756,8 @@ impl Engine for Naive {
         number
     }
 
-    fn collect(&self, encoded: &[u8], areas: &mut Areas, grid: &mut [u32]) -> u32 {
-        let made = match self.made(encoded) {
+    fn collect(&self, encoded: &[u8], route: Route, areas: &mut Areas, grid: &mut [u32]) -> u32 {
+        let made = match self.made(encoded, route) {
             Ok(made) => made,
             Err(number) => return number,
         };
@@ -697,8 +791,8 @@ impl Engine for Naive {
         number
     }
 
-    fn summary(&self, encoded: &[u8], out: &mut [u32]) -> u32 {
-        let made = match self.made(encoded) {
+    fn summary(&self, encoded: &[u8], route: Route, out: &mut [u32]) -> u32 {
+        let made = match self.made(encoded, route) {
             Ok(made) => made,
             Err(number) => return number,
         };
@@ -712,8 +806,8 @@ impl Engine for Naive {
         0
     }
 
-    fn message(&self, encoded: &[u8], message: u32, out: &mut [u32]) -> u32 {
-        let made = match self.made(encoded) {
+    fn message(&self, encoded: &[u8], route: Route, message: u32, out: &mut [u32]) -> u32 {
+        let made = match self.made(encoded, route) {
             Ok(made) => made,
             Err(number) => return number,
         };
@@ -726,6 +820,32 @@ impl Engine for Naive {
         out[2] = made.view.processor(*sender) as u32;
         out[3] = made.view.processor(*taker) as u32;
         out[4] = held.len() as u32;
+        0
+    }
+
+    fn hops(&self, encoded: &[u8], message: u32, out: &mut [u32]) -> u32 {
+        let made = match self.made(encoded, Route::Direct) {
+            Ok(made) => made,
+            Err(number) => return number,
+        };
+        if out.len() != HOPS_WORDS {
+            return 9;
+        }
+        let Some((sender, taker, _)) = made.messages.get(message as usize) else { return 11 };
+        let (from, to) = (made.view.tile_index(*sender), made.view.tile_index(*taker));
+        let ones = (0..made.view.spread).filter(|&j| to[j] == from[j] + 1).count() as u32;
+        out[0] = if self.fault == Some(Fault::LastHopUncounted) { ones - 1 } else { ones };
+        0
+    }
+
+    /// reading alone: the messages of a large recipe would take long
+    fn write(&self, numbers: &Numbers, space: &mut [u8]) -> u32 {
+        let bytes = numbers.bytes();
+        match self.view(&bytes).read() {
+            0 if space.len() == bytes.len() => space.copy_from_slice(&bytes),
+            0 => return 9,
+            number => return number,
+        }
         0
     }
 }

@@ -1,10 +1,12 @@
 //! The calls in plain Rust, for timing: every call reads the recipe, sizes the areas and tests every record and mark
 //! again, as the library's must. No heap. The lengths of all messages stand in one table of slots, a slot being a
-//! tile and a direction; a tile's row of it depends only on how near the tile is to the end of each dimension, so
-//! one row is counted for each kind of tile and copied.
+//! tile and a direction, or a tile and a dimension on the indirect route; a tile's row of it depends only on how near
+//! the tile is to the end of each dimension, and there to its beginning, so one row is counted for each kind of tile
+//! and copied.
 
-use crate::engine::{Areas, Engine, Progress, MESSAGE_WORDS, SUMMARY_WORDS};
+use crate::engine::{Areas, Engine, Progress, Route, HOPS_WORDS, MESSAGE_WORDS, SUMMARY_WORDS};
 use crate::wavefront::Wavefront;
+use std::cmp::Ordering;
 
 const SLOTS: usize = 7 * 1024;
 
@@ -28,7 +30,7 @@ pub struct Nest {
     cells: usize,
     tiles: usize,
     processors: usize,
-    /// 2^m - 1
+    /// slots of a tile: 2^m - 1, or m on the indirect route
     directions: usize,
 }
 
@@ -249,6 +251,24 @@ fn fill(nest: &Nest, table: &mut [u16]) {
     }
 }
 
+/// the same on the indirect route, where a tile that is the first in a dimension has nothing to pass on from there
+fn fill_along(nest: &Nest, table: &mut [u16]) {
+    let mut known = [false; 1296];
+    let mut rows = [[0u16; 3]; 1296];
+    let mut at = [0usize; 4];
+    for slots in table.chunks_exact_mut(nest.m) {
+        let number = (0..nest.n).fold(0, |number, j| number * 6 + kind(nest, j, at[j]) + 3 * usize::from(at[j] == 0));
+        if !known[number] {
+            known[number] = true;
+            for (q, words) in rows[number][..nest.m].iter_mut().enumerate() {
+                passed_rows(nest, &at, q, |_, width| *words += width as u16);
+            }
+        }
+        slots.copy_from_slice(&rows[number][..nest.m]);
+        advance(&mut at, &nest.across, nest.n);
+    }
+}
+
 /// the next index of a box, in index order
 fn advance(at: &mut [usize; 4], sides: &[usize; 4], n: usize) {
     for j in (0..n).rev() {
@@ -352,15 +372,21 @@ fn sweep(nest: &Nest, source: &[u32], grid: &mut [u32], rows: Rows) {
 
 /// calls `each` with the number, the index and the width of every row of a tile, in index order
 #[inline(always)]
-fn rows_of(nest: &Nest, tile: &[usize; 4], mut each: impl FnMut(usize, &[usize; 4], usize)) {
+fn rows_of(nest: &Nest, tile: &[usize; 4], each: impl FnMut(usize, &[usize; 4], usize)) {
     let mut start = [0; 4];
     let mut end = [1; 4];
     for j in 0..nest.n {
         start[j] = tile[j] * nest.tile[j];
         end[j] = (start[j] + nest.tile[j]).min(nest.lengths[j]);
     }
+    rows_in(nest, &start, &end, each);
+}
+
+/// the same for the rows of a box that is not empty
+#[inline(always)]
+fn rows_in(nest: &Nest, start: &[usize; 4], end: &[usize; 4], mut each: impl FnMut(usize, &[usize; 4], usize)) {
     let last = nest.n - 1;
-    let mut at = start;
+    let mut at = *start;
     loop {
         let cell: usize = (0..nest.n).map(|j| at[j] * nest.step[j]).sum();
         each(cell, &at, end[last] - start[last]);
@@ -401,19 +427,75 @@ fn held(nest: &Nest, tile: &[usize; 4], direction: usize, mut each: impl FnMut(u
     })
 }
 
+/// the cells that a tile sends along dimension q for one distance: a box, from the first index to below the second.
+/// Before q a cell stands where its reader is in the tile, in q it crosses, behind q it is in the tile itself.
+fn passed_box(nest: &Nest, tile: &[usize; 4], q: usize, c: &[usize; 4]) -> ([usize; 4], [usize; 4]) {
+    let (mut from, mut below) = ([0; 4], [1; 4]);
+    for j in 0..nest.n {
+        let start = tile[j] * nest.tile[j];
+        let end = (start + nest.tile[j]).min(nest.lengths[j]);
+        let inside = end.min(nest.lengths[j].saturating_sub(c[j]));
+        (from[j], below[j]) = match j.cmp(&q) {
+            Ordering::Less => (start.saturating_sub(c[j]), end.saturating_sub(c[j])),
+            Ordering::Equal => (start + nest.tile[j] - c[j], inside),
+            Ordering::Greater => (start, inside),
+        };
+    }
+    (from, below)
+}
+
+/// calls `each` with the first cell and the width of every row of what a tile sends along dimension q, in index order
+fn passed_rows(nest: &Nest, tile: &[usize; 4], q: usize, mut each: impl FnMut(usize, usize)) {
+    let last = nest.n - 1;
+    let mut boxes = [([0; 4], [0; 4]); 8];
+    let mut found = 0;
+    let (mut from, mut below) = ([usize::MAX; 4], [0; 4]);
+    for c in &nest.components[..nest.distances] {
+        let (low, high) = passed_box(nest, tile, q, c);
+        if (0..nest.n).all(|j| low[j] < high[j]) {
+            boxes[found] = (low, high);
+            found += 1;
+            (0..nest.n).for_each(|j| (from[j], below[j]) = (from[j].min(low[j]), below[j].max(high[j])));
+        }
+    }
+    if found == 0 {
+        return;
+    }
+    // the last dimension is not spread, so every box starts with the tile there
+    rows_in(nest, &from, &below, |row, at, _| {
+        let holds = |(low, high): &&([usize; 4], [usize; 4])| (0..last).all(|j| low[j] <= at[j] && at[j] < high[j]);
+        let end = boxes[..found].iter().filter(holds).map(|(_, high)| high[last]).max().unwrap_or(from[last]);
+        if end > from[last] {
+            each(row, end - from[last]);
+        }
+    })
+}
+
 struct Plan<'a> {
     nest: Nest,
+    route: Route,
     table: &'a [u16],
     messages: usize,
     words: usize,
 }
 
 impl<'a> Plan<'a> {
-    fn new(encoded: &[u8], table: &'a mut [u16; SLOTS]) -> Result<Plan<'a>, u32> {
-        let nest = read(encoded)?;
-        let table = &mut table[..nest.tiles * nest.directions];
-        fill(&nest, table);
-        let mut plan = Plan { nest, table, messages: 0, words: 0 };
+    fn new(encoded: &[u8], route: Route, table: &'a mut [u16; SLOTS]) -> Result<Plan<'a>, u32> {
+        let mut nest = read(encoded)?;
+        let table = match route {
+            Route::Direct => {
+                let table = &mut table[..nest.tiles * nest.directions];
+                fill(&nest, table);
+                table
+            }
+            Route::Indirect => {
+                nest.directions = nest.m;
+                let table = &mut table[..nest.tiles * nest.m];
+                fill_along(&nest, table);
+                table
+            }
+        };
+        let mut plan = Plan { nest, route, table, messages: 0, words: 0 };
         (plan.messages, plan.words) = plan.before(plan.table.len());
         Ok(plan)
     }
@@ -483,22 +565,40 @@ impl<'a> Plan<'a> {
         !areas.progress.iter().enumerate().all(record) || areas.status.iter().any(|&mark| mark > 3)
     }
 
-    /// calls `each` with the slot, sending tile and direction of every message due at a tile
+    /// how far a tile's slot reaches in dimension j, 0 or 1
+    fn step(&self, place: usize, j: usize) -> usize {
+        match self.route {
+            Route::Direct => (place + 1) >> (self.nest.m - 1 - j) & 1,
+            Route::Indirect => usize::from(place == j),
+        }
+    }
+
+    /// calls `each` with every cell of a tile's slot, in index order
+    fn held(&self, tile: &[usize; 4], place: usize, mut each: impl FnMut(usize)) {
+        match self.route {
+            Route::Direct => held(&self.nest, tile, place + 1, each),
+            Route::Indirect => {
+                passed_rows(&self.nest, tile, place, |row, width| (row..row + width).for_each(&mut each))
+            }
+        }
+    }
+
+    /// calls `each` with the slot, sending tile and its place in the tile's row of every message due at a tile
     fn dues(&self, tile: &[usize; 4], mut each: impl FnMut(usize, &[usize; 4], usize)) {
         let nest = &self.nest;
         // falling directions are rising senders
-        'directions: for direction in (1..=nest.directions).rev() {
+        'places: for place in (0..nest.directions).rev() {
             let mut sender = *tile;
             for j in 0..nest.m {
-                let v = direction >> (nest.m - 1 - j) & 1;
+                let v = self.step(place, j);
                 if sender[j] < v {
-                    continue 'directions;
+                    continue 'places;
                 }
                 sender[j] -= v;
             }
-            let slot = self.number(&sender) * nest.directions + direction - 1;
+            let slot = self.number(&sender) * nest.directions + place;
             if self.table[slot] != 0 {
-                each(slot, &sender, direction);
+                each(slot, &sender, place);
             }
         }
     }
@@ -511,10 +611,10 @@ impl<'a> Plan<'a> {
 
     fn gather(&self, areas: &mut Areas, tile: &[usize; 4], processor: usize) {
         let memory = &mut areas.memories[processor * self.nest.cells..][..self.nest.cells];
-        self.dues(tile, |slot, sender, direction| {
+        self.dues(tile, |slot, sender, place| {
             let (message, offset) = self.before(slot);
             let mut words = areas.buffer[offset..].iter();
-            held(&self.nest, sender, direction, |cell| memory[cell] = *words.next().unwrap());
+            self.held(sender, place, |cell| memory[cell] = *words.next().unwrap());
             areas.status[message] = 3;
         });
         areas.progress[processor].stage = 1;
@@ -548,7 +648,7 @@ impl<'a> Plan<'a> {
         let (message, offset) = self.before(from + place);
         let memory = &areas.memories[processor * self.nest.cells..][..self.nest.cells];
         let mut words = areas.buffer[offset..].iter_mut();
-        held(&self.nest, tile, place + 1, |cell| *words.next().unwrap() = memory[cell]);
+        self.held(tile, place, |cell| *words.next().unwrap() = memory[cell]);
         areas.status[message] = 1;
         let sent = record.sent + 1;
         self.sent(record, tile, sent);
@@ -574,9 +674,9 @@ fn refused(line: bool, number: u32) -> Result<(), u32> {
 }
 
 /// a call: the recipe's plan is made, then the rest is done with it; gives the number
-fn planned(encoded: &[u8], rest: impl FnOnce(&Plan) -> Result<(), u32>) -> u32 {
+fn planned(encoded: &[u8], route: Route, rest: impl FnOnce(&Plan) -> Result<(), u32>) -> u32 {
     let mut table = [0; SLOTS];
-    Plan::new(encoded, &mut table).and_then(|plan| rest(&plan)).err().unwrap_or(0)
+    Plan::new(encoded, route, &mut table).and_then(|plan| rest(&plan)).err().unwrap_or(0)
 }
 
 /// the plain calls
@@ -593,8 +693,8 @@ impl Engine for Plain {
         }
     }
 
-    fn fresh(&self, encoded: &[u8], areas: &mut Areas) -> u32 {
-        planned(encoded, |plan| {
+    fn fresh(&self, encoded: &[u8], route: Route, areas: &mut Areas) -> u32 {
+        planned(encoded, route, |plan| {
             refused(plan.area(areas), 9)?;
             areas.memories.fill(0);
             areas.buffer.fill(0);
@@ -604,8 +704,8 @@ impl Engine for Plain {
         })
     }
 
-    fn turn(&self, encoded: &[u8], areas: &mut Areas, processor: u32) -> u32 {
-        planned(encoded, |plan| {
+    fn turn(&self, encoded: &[u8], route: Route, areas: &mut Areas, processor: u32) -> u32 {
+        planned(encoded, route, |plan| {
             refused(plan.area(areas), 9)?;
             refused(plan.unfit(areas), 10)?;
             let processor = processor as usize;
@@ -625,8 +725,8 @@ impl Engine for Plain {
         })
     }
 
-    fn deliver(&self, encoded: &[u8], areas: &mut Areas, message: u32) -> u32 {
-        planned(encoded, |plan| {
+    fn deliver(&self, encoded: &[u8], route: Route, areas: &mut Areas, message: u32) -> u32 {
+        planned(encoded, route, |plan| {
             refused(plan.area(areas), 9)?;
             refused(plan.unfit(areas), 10)?;
             let mark = areas.status.get_mut(message as usize).ok_or(11u32)?;
@@ -636,8 +736,8 @@ impl Engine for Plain {
         })
     }
 
-    fn collect(&self, encoded: &[u8], areas: &mut Areas, grid: &mut [u32]) -> u32 {
-        planned(encoded, |plan| {
+    fn collect(&self, encoded: &[u8], route: Route, areas: &mut Areas, grid: &mut [u32]) -> u32 {
+        planned(encoded, route, |plan| {
             let nest = &plan.nest;
             refused(plan.area(areas) || grid.len() != nest.cells, 9)?;
             refused(plan.unfit(areas), 10)?;
@@ -665,8 +765,8 @@ impl Engine for Plain {
         swept.err().unwrap_or(0)
     }
 
-    fn summary(&self, encoded: &[u8], out: &mut [u32]) -> u32 {
-        planned(encoded, |plan| {
+    fn summary(&self, encoded: &[u8], route: Route, out: &mut [u32]) -> u32 {
+        planned(encoded, route, |plan| {
             refused(out.len() != SUMMARY_WORDS, 9)?;
             let steps = 2 * (plan.nest.tiles + plan.messages);
             out.copy_from_slice(&[plan.nest.tiles, plan.messages, plan.words, steps].map(|word| word as u32));
@@ -674,21 +774,30 @@ impl Engine for Plain {
         })
     }
 
-    fn message(&self, encoded: &[u8], message: u32, out: &mut [u32]) -> u32 {
-        planned(encoded, |plan| {
+    fn message(&self, encoded: &[u8], route: Route, message: u32, out: &mut [u32]) -> u32 {
+        planned(encoded, route, |plan| {
             refused(out.len() != MESSAGE_WORDS, 9)?;
             let nest = &plan.nest;
             let mut filled = plan.table.iter().enumerate().filter(|(_, &words)| words != 0);
             let (slot, &words) = filled.nth(message as usize).ok_or(11u32)?;
             let sender = split(slot / nest.directions, &nest.across, nest.n);
-            let direction = slot % nest.directions + 1;
             let mut taker = sender;
-            (0..nest.m).for_each(|j| taker[j] += direction >> (nest.m - 1 - j) & 1);
+            (0..nest.m).for_each(|j| taker[j] += plan.step(slot % nest.directions, j));
             let processor =
                 |tile: &[usize; 4]| (0..nest.m).fold(0, |number, j| number * nest.counts[j] + tile[j] % nest.counts[j]);
             let line =
                 [plan.number(&sender), plan.number(&taker), processor(&sender), processor(&taker), usize::from(words)];
             out.copy_from_slice(&line.map(|word| word as u32));
+            Ok(())
+        })
+    }
+
+    fn hops(&self, encoded: &[u8], message: u32, out: &mut [u32]) -> u32 {
+        planned(encoded, Route::Direct, |plan| {
+            refused(out.len() != HOPS_WORDS, 9)?;
+            let mut filled = (0..plan.table.len()).filter(|&slot| plan.table[slot] != 0);
+            let slot = filled.nth(message as usize).ok_or(11u32)?;
+            out[0] = (slot % plan.nest.directions + 1).count_ones();
             Ok(())
         })
     }

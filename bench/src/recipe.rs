@@ -58,8 +58,9 @@ pub struct Limits {
 
 /// a random recipe that is accepted, unless it happens to have more than 1,024 tiles
 pub fn random(rng: &mut Rng, limits: Limits) -> Numbers {
-    let n = rng.between(2, 4);
-    let spread = rng.between(1, n - 1);
+    // mostly two or three spread dimensions, so that mail goes round corners
+    let n = rng.of(&[2, 3, 3, 4, 4]);
+    let spread = if rng.one_in(4) { rng.between(1, n - 1) } else { n - 1 };
     let cells = if rng.one_in(3) { limits.cells } else { rng.between(1, limits.cells) };
     let lengths = random_lengths(rng, n, cells);
     let tiles: Vec<usize> = lengths.iter().map(|&length| random_tile(rng, length)).collect();
@@ -108,11 +109,12 @@ fn random_lengths(rng: &mut Rng, n: usize, cells: usize) -> Vec<usize> {
     lengths
 }
 
-/// a tile length: mostly some two to five tiles, else one tile with room to spare, or any
+/// a tile length: mostly some two to five tiles, often a short one at the edge, else one tile with room to spare, or any
 fn random_tile(rng: &mut Rng, length: usize) -> usize {
     match rng.below(10) {
         0 => rng.between(1, 1024),
         1 => rng.between(length, length + 3).min(1024),
+        2 | 3 => ((length - 1) / rng.between(1, 3)).max(1),
         _ => length.div_ceil(rng.between(2, 5)),
     }
 }
@@ -120,13 +122,15 @@ fn random_tile(rng: &mut Rng, length: usize) -> usize {
 /// distances no longer than the tiles, of every kind: none, short, long, as long as a tile or almost
 fn random_distances(rng: &mut Rng, tiles: &[usize]) -> Vec<([u8; 4], u16)> {
     let wanted = if rng.one_in(3) { rng.between(1, 8) } else { rng.between(1, 3) };
+    // all round the corner, so that some tile may have nothing of its own to send along a dimension
+    let corners = rng.one_in(4);
     let mut distances: Vec<([u8; 4], u16)> = vec![];
     while distances.is_empty() {
         for _ in 0..wanted * 2 {
             let mut components = [0; 4];
             for (component, &tile) in components.iter_mut().zip(tiles) {
                 let most = tile.min(255);
-                *component = match rng.below(6) {
+                *component = match if corners { rng.between(2, 3) } else { rng.below(6) } {
                     0 | 1 => 0,
                     2 => most,
                     3 => most - 1,

@@ -1,7 +1,7 @@
 //! The models held to what document 01 prints: rows A to H, the printer's lines, the values of D.
 
 use crate::differ;
-use crate::engine::{Areas, Engine, Progress};
+use crate::engine::{Areas, Engine, Progress, Route};
 use crate::model::Model;
 use crate::naive::{Naive, FAULTS};
 use crate::plain::{PLAIN, WAVEFRONT};
@@ -40,12 +40,36 @@ fn engines() -> Vec<Box<dyn Engine>> {
     engines
 }
 
-fn totals(engine: &dyn Engine, numbers: &Numbers) -> Result<[u32; 4], u32> {
+fn totals_by(engine: &dyn Engine, numbers: &Numbers, route: Route) -> Result<[u32; 4], u32> {
     let mut out = [0; 4];
-    match engine.summary(&numbers.bytes(), &mut out) {
+    match engine.summary(&numbers.bytes(), route, &mut out) {
         0 => Ok(out),
         number => Err(number),
     }
+}
+
+fn totals(engine: &dyn Engine, numbers: &Numbers) -> Result<[u32; 4], u32> {
+    totals_by(engine, numbers, Route::Direct)
+}
+
+/// the lines of all messages on a route
+fn lines(engine: &dyn Engine, numbers: &Numbers, route: Route) -> Vec<[u32; 5]> {
+    let line = |message| {
+        let mut out = [0; 5];
+        assert_eq!(engine.message(&numbers.bytes(), route, message, &mut out), 0);
+        out
+    };
+    (0..totals_by(engine, numbers, route).unwrap()[1]).map(line).collect()
+}
+
+/// the hops of all direct messages
+fn hops(engine: &dyn Engine, numbers: &Numbers) -> Vec<u32> {
+    let hops = |message| {
+        let mut out = [0];
+        assert_eq!(engine.hops(&numbers.bytes(), message, &mut out), 0);
+        out[0]
+    };
+    (0..totals(engine, numbers).unwrap()[1]).map(hops).collect()
 }
 
 fn areas(numbers: &Numbers, totals: [u32; 4]) -> Areas {
@@ -82,7 +106,7 @@ fn message_lines() {
     for engine in engines() {
         let line = |letter, message| {
             let mut out = [9; 5];
-            let number = engine.message(&row(letter).bytes(), message, &mut out);
+            let number = engine.message(&row(letter).bytes(), Route::Direct, message, &mut out);
             (number, out)
         };
         assert_eq!(line('B', 0), (0, [0, 2, 0, 1, 8]), "{}", engine.name());
@@ -99,8 +123,7 @@ fn tiles_as_long_as_the_reach() {
         let side = |tile| Numbers::new(&[[4, tile, 2], [4, 2, 0]], &[&[2, 2]]);
         // tile 0's cells are all read by tile 3, none by tile 2, which takes the message
         assert_eq!(totals(&*engine, &side(2)), Ok([4, 1, 4, 10]), "{}", engine.name());
-        let mut line = [0; 5];
-        assert_eq!((engine.message(&side(2).bytes(), 0, &mut line), line), (0, [0, 2, 0, 1, 4]), "{}", engine.name());
+        assert_eq!(lines(&*engine, &side(2), Route::Direct), [[0, 2, 0, 1, 4]], "{}", engine.name());
         assert_eq!(totals(&*engine, &side(1)), Err(6), "{}", engine.name());
     }
 }
@@ -135,30 +158,88 @@ fn counts_told_exactly() {
 }
 
 #[test]
+fn rows_on_the_indirect_route() {
+    for engine in engines() {
+        let name = engine.name();
+        let of_c = row('C');
+        assert_eq!(totals_by(&*engine, &of_c, Route::Indirect), Ok([8, 8, 160, 32]), "{name}");
+        // dimension one before dimension two; tiles 4 and 5 pass on the corner cells of tiles 0 and 1
+        let expected = [
+            [0, 4, 0, 2, 32],
+            [0, 2, 0, 1, 8],
+            [1, 5, 0, 2, 32],
+            [1, 3, 0, 1, 8],
+            [2, 6, 1, 3, 24],
+            [3, 7, 1, 3, 24],
+            [4, 6, 2, 3, 16],
+            [5, 7, 2, 3, 16],
+        ];
+        assert_eq!(lines(&*engine, &of_c, Route::Indirect), expected, "{name}");
+        assert_eq!(hops(&*engine, &of_c), [1, 1, 2, 1, 1, 2, 1, 1, 1, 1], "{name}");
+        for letter in ['A', 'B', 'D', 'E', 'F', 'G'] {
+            let both = [Route::Direct, Route::Indirect].map(|route| lines(&*engine, &row(letter), route));
+            assert!(both[0] == both[1], "row {letter} has one spread dimension, {name}");
+            assert!(hops(&*engine, &row(letter)).iter().all(|&hops| hops == 1), "row {letter}, {name}");
+        }
+        assert_eq!(totals_by(&*engine, &row('H'), Route::Indirect), Err(7), "{name}");
+    }
+}
+
+#[test]
+fn forwarded_cells_alone() {
+    for engine in engines() {
+        let square = |side, reach: u8| Numbers::new(&[[side, 2, 2], [4, 2, 2], [1, 1, 0]], &[&[reach, reach, 0]]);
+        // a short edge tile: (1, 0, 0) sends only the corner cell of (0, 0, 0) on
+        let expected = [[0, 2, 0, 2, 2], [0, 1, 0, 1, 1], [1, 3, 1, 3, 1], [2, 3, 2, 3, 1]];
+        assert_eq!(lines(&*engine, &square(3, 1), Route::Indirect), expected, "{}", engine.name());
+        // tiles as long as the reach: full tiles pass on, and there are more messages than on the direct route
+        assert_eq!(lines(&*engine, &square(4, 2), Route::Direct), [[0, 3, 0, 3, 4]], "{}", engine.name());
+        let expected = [[0, 2, 0, 2, 4], [2, 3, 2, 3, 4]];
+        assert_eq!(lines(&*engine, &square(4, 2), Route::Indirect), expected, "{}", engine.name());
+        assert_eq!(hops(&*engine, &square(4, 2)), [2], "{}", engine.name());
+    }
+}
+
+#[test]
+fn hops_are_refused() {
+    for engine in engines() {
+        let call = |letter, message, length| {
+            let mut out = vec![7; length];
+            let number = engine.hops(&row(letter).bytes(), message, &mut out);
+            assert!(number == 0 || out.iter().all(|&word| word == 7));
+            number
+        };
+        assert_eq!([call('C', 9, 1), call('C', 10, 1), call('C', u32::MAX, 1)], [0, 11, 11], "{}", engine.name());
+        assert_eq!([call('C', 10, 0), call('C', 0, 2), call('F', 0, 1)], [9, 9, 11], "{}", engine.name());
+        assert_eq!(call('H', 0, 0), 7, "{}", engine.name());
+    }
+}
+
+#[test]
 fn row_d_by_hand() {
     for engine in engines() {
         let numbers = row('D');
         let encoded = numbers.bytes();
         let mut areas = areas(&numbers, totals(&*engine, &numbers).unwrap());
-        assert_eq!(engine.turn(&encoded, &mut areas, 0), 10);
-        assert_eq!(engine.fresh(&encoded, &mut areas), 0);
-        assert_eq!(engine.turn(&encoded, &mut areas, 1), 12);
-        assert_eq!(engine.deliver(&encoded, &mut areas, 0), 14);
+        assert_eq!(engine.turn(&encoded, Route::Direct, &mut areas, 0), 10);
+        assert_eq!(engine.fresh(&encoded, Route::Direct, &mut areas), 0);
+        assert_eq!(engine.turn(&encoded, Route::Direct, &mut areas, 1), 12);
+        assert_eq!(engine.deliver(&encoded, Route::Direct, &mut areas, 0), 14);
         for _ in 0..3 {
-            assert_eq!(engine.turn(&encoded, &mut areas, 0), 0);
+            assert_eq!(engine.turn(&encoded, Route::Direct, &mut areas, 0), 0);
         }
         assert_eq!(areas.buffer, [2]);
-        assert_eq!(engine.turn(&encoded, &mut areas, 0), 13);
-        assert_eq!(engine.turn(&encoded, &mut areas, 1), 12);
-        assert_eq!(engine.deliver(&encoded, &mut areas, 1), 11);
-        assert_eq!(engine.deliver(&encoded, &mut areas, 0), 0);
-        assert_eq!(engine.turn(&encoded, &mut areas, 1), 0);
+        assert_eq!(engine.turn(&encoded, Route::Direct, &mut areas, 0), 13);
+        assert_eq!(engine.turn(&encoded, Route::Direct, &mut areas, 1), 12);
+        assert_eq!(engine.deliver(&encoded, Route::Direct, &mut areas, 1), 11);
+        assert_eq!(engine.deliver(&encoded, Route::Direct, &mut areas, 0), 0);
+        assert_eq!(engine.turn(&encoded, Route::Direct, &mut areas, 1), 0);
         let mut grid = [9; 4];
-        assert_eq!(engine.collect(&encoded, &mut areas, &mut grid), 15);
+        assert_eq!(engine.collect(&encoded, Route::Direct, &mut areas, &mut grid), 15);
         assert_eq!(grid, [9; 4]);
-        assert_eq!(engine.turn(&encoded, &mut areas, 1), 0);
-        assert_eq!(engine.turn(&encoded, &mut areas, 2), 11);
-        assert_eq!(engine.collect(&encoded, &mut areas, &mut grid), 0);
+        assert_eq!(engine.turn(&encoded, Route::Direct, &mut areas, 1), 0);
+        assert_eq!(engine.turn(&encoded, Route::Direct, &mut areas, 2), 11);
+        assert_eq!(engine.collect(&encoded, Route::Direct, &mut areas, &mut grid), 0);
         assert_eq!(grid, [1, 2, 3, 4]);
         assert_eq!(areas.status, [3]);
     }
@@ -169,8 +250,8 @@ fn row_f_has_an_idle_processor() {
     for engine in engines() {
         let numbers = row('F');
         let mut areas = areas(&numbers, totals(&*engine, &numbers).unwrap());
-        assert_eq!(engine.fresh(&numbers.bytes(), &mut areas), 0);
-        assert_eq!(engine.turn(&numbers.bytes(), &mut areas, 1), 13);
+        assert_eq!(engine.fresh(&numbers.bytes(), Route::Direct, &mut areas), 0);
+        assert_eq!(engine.turn(&numbers.bytes(), Route::Direct, &mut areas, 1), 13);
     }
 }
 
@@ -185,34 +266,46 @@ fn border_of_line_4() {
     }
 }
 
-#[test]
-fn row_a_runs_to_the_sweep() {
-    for engine in engines() {
-        let numbers = row('A');
-        let encoded = numbers.bytes();
-        let totals = totals(&*engine, &numbers).unwrap();
-        let mut areas = areas(&numbers, totals);
-        assert_eq!(engine.fresh(&encoded, &mut areas), 0);
-        let mut steps = 0;
-        loop {
-            let before = steps;
-            for processor in 0..2 {
-                while engine.turn(&encoded, &mut areas, processor) == 0 {
-                    steps += 1;
-                }
-            }
-            for message in 0..totals[1] {
-                steps += u32::from(engine.deliver(&encoded, &mut areas, message) == 0);
-            }
-            if steps == before {
-                break;
+/// a run to its end by a route; the grid is the sweep's
+fn runs_to_the_sweep(engine: &dyn Engine, numbers: &Numbers, route: Route) {
+    let encoded = numbers.bytes();
+    let totals = totals_by(engine, numbers, route).unwrap();
+    let mut areas = areas(numbers, totals);
+    assert_eq!(engine.fresh(&encoded, route, &mut areas), 0);
+    let mut steps = 0;
+    loop {
+        let before = steps;
+        for processor in 0..processors(numbers) as u32 {
+            while engine.turn(&encoded, route, &mut areas, processor) == 0 {
+                steps += 1;
             }
         }
-        assert_eq!(steps, totals[3]);
-        let (mut grid, mut swept) = (vec![0; 64], vec![0; 64]);
-        assert_eq!(engine.collect(&encoded, &mut areas, &mut grid), 0);
-        assert_eq!(engine.sweep(&encoded, &vec![1; 64], &mut swept), 0);
-        assert_eq!(grid, swept);
+        for message in 0..totals[1] {
+            steps += u32::from(engine.deliver(&encoded, route, &mut areas, message) == 0);
+        }
+        if steps == before {
+            break;
+        }
+    }
+    assert_eq!(steps, totals[3]);
+    let (mut grid, mut swept) = (vec![0; cells(numbers)], vec![0; cells(numbers)]);
+    assert_eq!(engine.collect(&encoded, route, &mut areas, &mut grid), 0);
+    assert_eq!(engine.sweep(&encoded, &vec![1; cells(numbers)], &mut swept), 0);
+    assert_eq!(grid, swept);
+}
+
+#[test]
+fn rows_run_to_the_sweep() {
+    for engine in engines() {
+        for route in [Route::Direct, Route::Indirect] {
+            runs_to_the_sweep(&*engine, &row('A'), route);
+            runs_to_the_sweep(&*engine, &row('G'), route);
+        }
+    }
+    for engine in quick_engines() {
+        for route in [Route::Direct, Route::Indirect] {
+            runs_to_the_sweep(&*engine, &row('C'), route);
+        }
     }
 }
 
@@ -238,18 +331,28 @@ fn quick_engines() -> impl Iterator<Item = Box<dyn Engine>> {
     engines().into_iter().filter(|engine| engine.name() != "naive")
 }
 
-/// what the plan printer writes for a recipe
-fn printed(engine: &dyn Engine, encoded: &[u8]) -> String {
+/// what the plan printer writes for a recipe; on the indirect route its figures and lines, and the hops
+fn printed(engine: &dyn Engine, encoded: &[u8], route: Route) -> String {
     let mut out = [0; 4];
-    match if encoded.len() > 512 { 1 } else { engine.summary(encoded, &mut out) } {
+    match if encoded.len() > 512 { 1 } else { engine.summary(encoded, route, &mut out) } {
         0 => {}
         number => return format!("refused {number}\n"),
     }
     let mut text = format!("tiles {} messages {} words {} steps {}\n", out[0], out[1], out[2], out[3]);
     for message in 0..out[1] {
         let mut line = [0; 5];
-        assert_eq!(engine.message(encoded, message, &mut line), 0);
+        assert_eq!(engine.message(encoded, route, message, &mut line), 0);
         text += &format!("{message} {}\n", line.map(|number| number.to_string()).join(" "));
+    }
+    if route == Route::Indirect {
+        assert_eq!(engine.summary(encoded, Route::Direct, &mut out), 0);
+        text += "hops";
+        for message in 0..out[1] {
+            let mut hops = [0];
+            assert_eq!(engine.hops(encoded, message, &mut hops), 0);
+            text += &format!(" {}", hops[0]);
+        }
+        text += "\n";
     }
     text
 }
@@ -261,8 +364,10 @@ fn stored_plans() {
     for engine in quick_engines() {
         let (mut rest, mut text, mut number) = (&cases[..], String::new(), 0);
         while let [low, high, tail @ ..] = rest {
-            let (encoded, tail) = tail.split_at(usize::from(*low) + 256 * usize::from(*high));
-            text += &format!("case {number}\n{}", printed(&*engine, encoded));
+            // the highest bit of the length is the route
+            let (encoded, tail) = tail.split_at(usize::from(*low) + 256 * usize::from(*high & 127));
+            let route = if *high < 128 { Route::Direct } else { Route::Indirect };
+            text += &format!("case {number}\n{}", printed(&*engine, encoded, route));
             (rest, number) = (tail, number + 1);
         }
         assert!(text.as_bytes() == expected, "{}", engine.name());
@@ -278,7 +383,7 @@ fn stored_recipes() {
             let (label, tail) = tail.split_at(usize::from(*label));
             let (encoded, tail) = tail[2..].split_at(usize::from(tail[0]) + 256 * usize::from(tail[1]));
             // a length that fits no recipe: an accepted one gives 9
-            let number = engine.summary(encoded, &mut []);
+            let number = engine.summary(encoded, Route::Direct, &mut []);
             text += &format!("{} {}\n", String::from_utf8_lossy(label), if number == 9 { 0 } else { number });
             rest = tail;
         }
@@ -315,7 +420,7 @@ fn planted_faults_are_found() {
 #[test]
 fn trials_meet_every_number() {
     let Ok(tally) = differ::trials(1, 6000, &PLAIN, SMALL) else { panic!("a difference") };
-    let expected: [(&str, &[usize]); 7] = [
+    let expected: [(&str, &[usize]); 8] = [
         ("fresh", &[0, 1, 2, 3, 4, 5, 6, 7, 9, 16, 17]),
         ("turn", &[0, 1, 2, 3, 4, 5, 6, 7, 9, 10, 11, 12, 13, 16, 17]),
         ("deliver", &[0, 2, 3, 5, 6, 7, 9, 10, 11, 14, 16, 17]),
@@ -323,7 +428,9 @@ fn trials_meet_every_number() {
         ("sweep", &[0, 1, 2, 3, 4, 5, 6, 7, 8, 9, 16, 17]),
         ("summary", &[0, 1, 2, 3, 4, 5, 6, 7, 8, 9, 16, 17]),
         ("message", &[0, 1, 2, 3, 4, 5, 6, 7, 8, 9, 11, 16, 17]),
+        ("hops", &[0, 1, 2, 3, 4, 5, 6, 7, 8, 9, 11, 16, 17]),
     ];
+    assert!(tally.forwarded > 100, "{tally}");
     for (call, numbers) in expected {
         for &number in numbers {
             assert!(tally.count(call, number) > 0, "{call} never gave {number}\n{tally}");

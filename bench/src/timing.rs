@@ -1,7 +1,7 @@
 //! Timing, as ratios within one run. The functions compared take turns, a sample of each in a round, so that what
 //! else the machine does meets all of them; a ratio is the median over the rounds, a time the best one.
 
-use crate::engine::{Areas, Engine, Progress, SUMMARY_WORDS};
+use crate::engine::{Areas, Engine, Progress, Route, SUMMARY_WORDS};
 use crate::model::{Model, Plan};
 use crate::plain::{PLAIN, WAVEFRONT};
 use crate::recipe::Numbers;
@@ -52,9 +52,10 @@ impl Rounds {
     }
 }
 
-/// a recipe with its plan, source and areas
+/// a recipe with its route, plan, source and areas
 struct Case {
     encoded: Vec<u8>,
+    route: Route,
     plan: Rc<Plan>,
     areas: Areas,
     grid: Vec<u32>,
@@ -62,8 +63,12 @@ struct Case {
 
 impl Case {
     fn new(numbers: &Numbers) -> Case {
+        Case::by(numbers, Route::Direct)
+    }
+
+    fn by(numbers: &Numbers, route: Route) -> Case {
         let encoded = numbers.bytes();
-        let plan = Model::default().plan(&encoded).expect("an accepted recipe");
+        let plan = Model::default().plan(&encoded, route).expect("an accepted recipe");
         let mut rng = Rng::new(1);
         let areas = Areas {
             source: (0..plan.cells).map(|_| rng.word()).collect(),
@@ -73,7 +78,7 @@ impl Case {
             status: vec![0; plan.messages.len()],
         };
         let grid = vec![0; plan.cells];
-        Case { encoded, plan, areas, grid }
+        Case { encoded, route, plan, areas, grid }
     }
 
     fn sweep(&mut self, engine: &dyn Engine) {
@@ -86,21 +91,21 @@ impl Case {
     fn whole_run(&mut self, engine: &dyn Engine) {
         let encoded = black_box(&self.encoded);
         let mut steps = 0;
-        assert_eq!(engine.fresh(encoded, &mut self.areas), 0);
+        assert_eq!(engine.fresh(encoded, self.route, &mut self.areas), 0);
         while steps < self.plan.steps() {
             for processor in 0..self.plan.processors {
-                while engine.turn(encoded, &mut self.areas, processor as u32) == 0 {
+                while engine.turn(encoded, self.route, &mut self.areas, processor as u32) == 0 {
                     steps += 1;
                 }
                 for message in 0..self.plan.messages.len() {
                     if self.areas.status[message] == 1 {
-                        assert_eq!(engine.deliver(encoded, &mut self.areas, message as u32), 0);
+                        assert_eq!(engine.deliver(encoded, self.route, &mut self.areas, message as u32), 0);
                         steps += 1;
                     }
                 }
             }
         }
-        assert_eq!(engine.collect(encoded, &mut self.areas, &mut self.grid), 0);
+        assert_eq!(engine.collect(encoded, self.route, &mut self.areas, &mut self.grid), 0);
         black_box(&self.grid);
     }
 
@@ -131,8 +136,8 @@ impl Case {
         setting.marks.iter().for_each(|&(message, mark)| self.areas.status[message] = mark);
         let encoded = black_box(&self.encoded);
         let number = match setting.call {
-            Call::Deliver | Call::NoMail => engine.deliver(encoded, &mut self.areas, setting.message),
-            _ => engine.turn(encoded, &mut self.areas, setting.processor),
+            Call::Deliver | Call::NoMail => engine.deliver(encoded, self.route, &mut self.areas, setting.message),
+            _ => engine.turn(encoded, self.route, &mut self.areas, setting.processor),
         };
         let expected = match setting.call {
             Call::Waiting => 12,
@@ -168,7 +173,13 @@ pub fn reference() -> Numbers {
 
 /// the same by each engine, in their order
 fn each(numbers: &Numbers, engines: &[&dyn Engine], rounds: usize, what: impl Fn(&mut Case, &dyn Engine)) -> Rounds {
-    let mut cases: Vec<Case> = engines.iter().map(|_| Case::new(numbers)).collect();
+    each_by(numbers, Route::Direct, engines, rounds, what)
+}
+
+fn each_by(
+    numbers: &Numbers, route: Route, engines: &[&dyn Engine], rounds: usize, what: impl Fn(&mut Case, &dyn Engine),
+) -> Rounds {
+    let mut cases: Vec<Case> = engines.iter().map(|_| Case::by(numbers, route)).collect();
     let what = &what;
     let functions = cases.iter_mut().zip(engines).map(|(case, engine)| move || what(case, *engine));
     let mut functions: Vec<_> = functions.collect();
@@ -230,11 +241,11 @@ fn figures(engine: &dyn Engine, rounds: usize) {
         line(label, &each_call(&numbers, &engines, rounds, call).expect("a tile with messages"), 0, 1);
     }
     let fresh = |case: &mut Case, engine: &dyn Engine| {
-        assert_eq!(engine.fresh(black_box(&case.encoded), &mut case.areas), 0);
+        assert_eq!(engine.fresh(black_box(&case.encoded), case.route, &mut case.areas), 0);
     };
     line("fresh start", &each(&numbers, &engines, rounds, fresh), 0, 1);
     let summary = |case: &mut Case, engine: &dyn Engine| {
-        assert_eq!(engine.summary(black_box(&case.encoded), &mut case.grid[..SUMMARY_WORDS]), 0);
+        assert_eq!(engine.summary(black_box(&case.encoded), case.route, &mut case.grid[..SUMMARY_WORDS]), 0);
     };
     line("summary", &each(&numbers, &engines, rounds, summary), 0, 1);
     println!();
@@ -268,6 +279,38 @@ fn growth(title: &str, family: &[(String, Numbers)], engine: &dyn Engine, rounds
         println!("| {label} | {sizes} | {sweep} | {run} | {send} |");
     }
     println!();
+}
+
+/// whole runs by either route, where they differ
+fn routes(engine: &dyn Engine, rounds: usize) {
+    let name = engine.name();
+    println!("Routes: whole runs of {name} against plain Rust\n");
+    println!("| recipe | route | messages, words | {name} µs | plain Rust µs | ratio |");
+    println!("|---|---|---|---|---|---|");
+    for (label, numbers) in corners() {
+        for route in [Route::Direct, Route::Indirect] {
+            let plan = Case::by(&numbers, route).plan;
+            let found = each_by(&numbers, route, &[engine, &PLAIN], rounds, |case, engine| case.whole_run(engine));
+            let times = [0, 1].map(|at| found.time(at) / 1e3);
+            println!(
+                "| {label} | {route:?} | {}, {} | {:.1} | {:.1} | {:.2} |",
+                plan.messages.len(),
+                plan.words,
+                times[0],
+                times[1],
+                found.ratio(0, 1)
+            );
+        }
+    }
+    println!();
+}
+
+/// recipes whose mail goes round corners
+fn corners() -> Vec<(&'static str, Numbers)> {
+    let three = Numbers::new(&[[16, 4, 4], [16, 4, 2], [16, 4, 0]], &[&[1, 1, 0], &[2, 1, 1], &[0, 0, 1]]);
+    let four =
+        Numbers::new(&[[8, 2, 2], [8, 2, 2], [8, 2, 2], [8, 4, 0]], &[&[1, 1, 1, 0], &[0, 1, 1, 1], &[1, 0, 0, 0]]);
+    vec![("N 16,16,16, k 4,4,4, P 4,2,0", three), ("N 8,8,8,8, k 2,2,2,4, P 2,2,2,0", four)]
 }
 
 /// values alone, against rows one by one and the wavefront: sweeps, and the turns that calculate a tile
@@ -346,6 +389,7 @@ pub fn report(engine: &dyn Engine, quick: bool) {
     for (title, family) in families() {
         growth(title, &family, engine, rounds / 3);
     }
+    routes(engine, rounds / 3);
     values(engine, rounds);
 }
 
@@ -356,8 +400,11 @@ mod tests {
     #[test]
     fn every_case_runs() {
         let recipes = families().into_iter().flat_map(|(_, family)| family).map(|(_, numbers)| numbers);
-        for numbers in recipes.chain(sweeps().into_iter().map(|(_, numbers)| numbers)) {
-            let mut case = Case::new(&numbers);
+        let recipes = recipes.chain(sweeps().into_iter().chain(corners()).map(|(_, numbers)| numbers));
+        for (numbers, route) in
+            recipes.flat_map(|numbers| [(numbers.clone(), Route::Direct), (numbers, Route::Indirect)])
+        {
+            let mut case = Case::by(&numbers, route);
             case.sweep(&Model::default());
             let expected = case.grid.clone();
             for engine in [&PLAIN, &WAVEFRONT] {

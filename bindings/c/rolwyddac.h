@@ -33,6 +33,11 @@
  *    status     one byte a message: 0 unsent, 1 in flight, 2 delivered, 3 taken
  *    grid       one word a cell
  *
+ * Calls that work on messages are told the route by which these travel, a word: 0 is direct passing, each message straight
+ * to the processor of its taking tile; any other is indirect passing, between neighbours only, one spread dimension at
+ * a time and the lowest first. The routes have messages of their own, and so other lengths of buffer and status. All
+ * calls of a run are given the same route.
+ *
  * What C must see to, for no call can test it: each pointer is aligned and not null, even where the length
  * is 0; it points to at least as many elements as the length says; areas do not overlap. Two calls at the same
  * time must not share an area that one of them may write. A call keeps no pointer and no memory of its own.
@@ -76,6 +81,9 @@ typedef struct {
   uint32_t sent;
 } rolwyddac_progress;
 
+/* The routes. */
+enum { ROLWYDDAC_DIRECT = 0, ROLWYDDAC_INDIRECT = 1 };
+
 /* Places in what rolwyddac_summary writes, and their number. */
 enum {
   ROLWYDDAC_SUMMARY_TILES = 0,
@@ -95,15 +103,21 @@ enum {
   ROLWYDDAC_MESSAGE_LENGTH = 5
 };
 
-/* Writes the plan's totals to out: tiles, messages, words, steps. Cells (the product of the lengths) and
+/* Writes the plan's totals on the route to out: tiles, messages, words, steps. Cells (the product of the lengths) and
  * processors (the product of the counts that are not 0) stand in the recipe itself.
  * Numbers: 1 to 8, 16, 17; 9 if out has not 4 words. A refusal leaves out as it was. */
-uint32_t rolwyddac_summary(const uint8_t *encoded, size_t encoded_length, uint32_t *out, size_t out_length);
-
-/* Writes the line of message m to out: sending tile, taking tile, sending processor, taking processor, words.
- * Numbers: 1 to 8, 16, 17; 9 if out has not 5 words; 11. A refusal leaves out as it was. */
-uint32_t rolwyddac_message(const uint8_t *encoded, size_t encoded_length, uint32_t m, uint32_t *out,
+uint32_t rolwyddac_summary(const uint8_t *encoded, size_t encoded_length, uint32_t route, uint32_t *out,
                            size_t out_length);
+
+/* Writes the line of message m of the route to out: sending tile, taking tile, sending processor, taking processor,
+ * words. On the indirect route the words are those of the sending tile's own cells and of those it passes on.
+ * Numbers: 1 to 8, 16, 17; 9 if out has not 5 words; 11. A refusal leaves out as it was. */
+uint32_t rolwyddac_message(const uint8_t *encoded, size_t encoded_length, uint32_t route, uint32_t m, uint32_t *out,
+                           size_t out_length);
+
+/* Writes one word to out: the hops that message m of the direct route makes on the indirect one.
+ * Numbers: 1 to 8, 16, 17; 9 if out has not 1 word; 11. A refusal leaves out as it was. */
+uint32_t rolwyddac_hops(const uint8_t *encoded, size_t encoded_length, uint32_t m, uint32_t *out, size_t out_length);
 
 /* Sweeps the whole nest in index order on one processor and writes each cell's value to grid.
  * Numbers: 1 to 9, 16, 17. A refusal leaves grid as it was. */
@@ -112,31 +126,33 @@ uint32_t rolwyddac_sweep(const uint8_t *encoded, size_t encoded_length, const ui
 
 /* Makes a fresh start: writes zero to memories, buffer, progress and status, whatever they held.
  * Numbers: 1 to 9, 16, 17. A refusal leaves all four as they were. */
-uint32_t rolwyddac_fresh(const uint8_t *encoded, size_t encoded_length, const uint32_t *source, size_t source_length,
-                         uint32_t *memories, size_t memories_length, uint32_t *buffer, size_t buffer_length,
-                         rolwyddac_progress *progress, size_t progress_length, uint8_t *status, size_t status_length);
+uint32_t rolwyddac_fresh(const uint8_t *encoded, size_t encoded_length, uint32_t route, const uint32_t *source,
+                         size_t source_length, uint32_t *memories, size_t memories_length, uint32_t *buffer,
+                         size_t buffer_length, rolwyddac_progress *progress, size_t progress_length, uint8_t *status,
+                         size_t status_length);
 
 /* Gives one processor a turn: it does the stage at which its record stands, once. Gather unpacks the messages
  * due at its tile into its memory and marks them taken; calculate gives the tile's cells their values there;
  * send packs the next message into the buffer and marks it in flight.
  * Numbers: 1 to 13, 16, 17. A refusal leaves memories, buffer, progress and status as they were. */
-uint32_t rolwyddac_turn(const uint8_t *encoded, size_t encoded_length, const uint32_t *source, size_t source_length,
-                        uint32_t *memories, size_t memories_length, uint32_t *buffer, size_t buffer_length,
-                        rolwyddac_progress *progress, size_t progress_length, uint8_t *status, size_t status_length,
-                        uint32_t processor);
+uint32_t rolwyddac_turn(const uint8_t *encoded, size_t encoded_length, uint32_t route, const uint32_t *source,
+                        size_t source_length, uint32_t *memories, size_t memories_length, uint32_t *buffer,
+                        size_t buffer_length, rolwyddac_progress *progress, size_t progress_length, uint8_t *status,
+                        size_t status_length, uint32_t processor);
 
 /* Delivers one message: its status goes from 1 to 2. Nothing else is written.
  * Numbers: 1 to 11, 14, 16, 17. A refusal leaves status as it was. */
-uint32_t rolwyddac_deliver(const uint8_t *encoded, size_t encoded_length, const uint32_t *source,
+uint32_t rolwyddac_deliver(const uint8_t *encoded, size_t encoded_length, uint32_t route, const uint32_t *source,
                            size_t source_length, const uint32_t *memories, size_t memories_length,
                            const uint32_t *buffer, size_t buffer_length, const rolwyddac_progress *progress,
                            size_t progress_length, uint8_t *status, size_t status_length, uint32_t message);
 
 /* Copies each cell to grid from the memory of its tile's processor, once all processors have finished. Where it gives
- * 0 after a fresh start that gave 0 and then any turns and deliveries, all of these given the same recipe and source
- * and lent the areas as the last left them, grid is what rolwyddac_sweep writes for that recipe and source.
+ * 0 after a fresh start that gave 0 and then any turns and deliveries, all of these and this call given the same recipe,
+ * route and source and lent the areas as the last left them, grid is what rolwyddac_sweep writes for that recipe and
+ * source.
  * Numbers: 1 to 10, 15 to 17. A refusal leaves grid as it was. */
-uint32_t rolwyddac_collect(const uint8_t *encoded, size_t encoded_length, const uint32_t *source,
+uint32_t rolwyddac_collect(const uint8_t *encoded, size_t encoded_length, uint32_t route, const uint32_t *source,
                            size_t source_length, const uint32_t *memories, size_t memories_length,
                            const uint32_t *buffer, size_t buffer_length, const rolwyddac_progress *progress,
                            size_t progress_length, const uint8_t *status, size_t status_length, uint32_t *grid,

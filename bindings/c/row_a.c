@@ -31,8 +31,8 @@ static void must_be_done(const char *call, uint32_t number) {
 static size_t take_turns(void) {
   size_t taken = 0;
   for (uint32_t p = 0; p < PROCESSORS; p++)
-    while (rolwyddac_turn(recipe, sizeof recipe, source, CELLS, memories, PROCESSORS * CELLS, buffer, words, progress,
-                          PROCESSORS, status, messages, p) == ROLWYDDAC_DONE)
+    while (rolwyddac_turn(recipe, sizeof recipe, ROLWYDDAC_DIRECT, source, CELLS, memories, PROCESSORS * CELLS, buffer,
+                          words, progress, PROCESSORS, status, messages, p) == ROLWYDDAC_DONE)
       taken++;
   return taken;
 }
@@ -41,8 +41,9 @@ static size_t deliver_all(void) {
   size_t delivered = 0;
   for (uint32_t m = 0; m < messages; m++) {
     if (status[m] != 1) continue;
-    must_be_done("deliver", rolwyddac_deliver(recipe, sizeof recipe, source, CELLS, memories, PROCESSORS * CELLS,
-                                              buffer, words, progress, PROCESSORS, status, messages, m));
+    must_be_done("deliver", rolwyddac_deliver(recipe, sizeof recipe, ROLWYDDAC_DIRECT, source, CELLS, memories,
+                                              PROCESSORS * CELLS, buffer, words, progress, PROCESSORS, status, messages,
+                                              m));
     delivered++;
   }
   return delivered;
@@ -52,7 +53,7 @@ int main(void) {
   must_be_done("write", rolwyddac_write(lengths, DIMENSIONS, tiling, DIMENSIONS, counts, DIMENSIONS, components,
                                         4 * DISTANCES, weights, DISTANCES, 0, 0, recipe, sizeof recipe));
   uint32_t plan[ROLWYDDAC_SUMMARY_LENGTH];
-  must_be_done("summary", rolwyddac_summary(recipe, sizeof recipe, plan, ROLWYDDAC_SUMMARY_LENGTH));
+  must_be_done("summary", rolwyddac_summary(recipe, sizeof recipe, ROLWYDDAC_DIRECT, plan, ROLWYDDAC_SUMMARY_LENGTH));
   words = plan[ROLWYDDAC_SUMMARY_WORDS];
   messages = plan[ROLWYDDAC_SUMMARY_MESSAGES];
   /* one element more than needed, for a pointer that is not null where a plan has no message */
@@ -61,15 +62,16 @@ int main(void) {
   if (!buffer || !status) return 1;
   for (size_t c = 0; c < CELLS; c++) source[c] = 1;
 
-  must_be_done("fresh", rolwyddac_fresh(recipe, sizeof recipe, source, CELLS, memories, PROCESSORS * CELLS, buffer,
-                                        words, progress, PROCESSORS, status, messages));
+  must_be_done("fresh", rolwyddac_fresh(recipe, sizeof recipe, ROLWYDDAC_DIRECT, source, CELLS, memories,
+                                        PROCESSORS * CELLS, buffer, words, progress, PROCESSORS, status, messages));
   size_t steps = 0;
   for (size_t more = 1; more > 0;) {
     more = take_turns() + deliver_all();
     steps += more;
   }
-  must_be_done("collect", rolwyddac_collect(recipe, sizeof recipe, source, CELLS, memories, PROCESSORS * CELLS, buffer,
-                                            words, progress, PROCESSORS, status, messages, grid, CELLS));
+  must_be_done("collect", rolwyddac_collect(recipe, sizeof recipe, ROLWYDDAC_DIRECT, source, CELLS, memories,
+                                            PROCESSORS * CELLS, buffer, words, progress, PROCESSORS, status, messages,
+                                            grid, CELLS));
   for (size_t c = 0; c < CELLS; c++)
     printf("%" PRIu32 "%c", grid[c], c % SIDE == SIDE - 1 ? '\n' : ' ');
 

@@ -1,5 +1,6 @@
 /* Row D of document 01 step by step: four cells in a line, in tiles of two on two processors. Every call gives the
- * number that the paper's table has for it, each number is met, and a refusal leaves every lent word as it was. */
+ * number that the paper's table has for it, each number is met, and a refusal leaves every lent word as it was. One
+ * dimension is spread, so both routes have the same message: all is done by each of them. */
 #include <inttypes.h>
 #include <stdio.h>
 #include <stdlib.h>
@@ -23,6 +24,7 @@ typedef struct {
 static lent at, before;
 static uint8_t recipe[RECIPE];
 static size_t recipe_length = RECIPE, source_length = CELLS;
+static uint32_t route;
 static unsigned met;
 
 static void expect(const char *call, uint32_t number, uint32_t wanted) {
@@ -35,27 +37,30 @@ static void expect(const char *call, uint32_t number, uint32_t wanted) {
 
 static void fresh(uint32_t wanted) {
   before = at;
-  expect("fresh", rolwyddac_fresh(recipe, recipe_length, at.source, source_length, at.memories, PROCESSORS * CELLS,
-                                  at.buffer, WORDS, at.progress, PROCESSORS, at.status, MESSAGES), wanted);
+  expect("fresh", rolwyddac_fresh(recipe, recipe_length, route, at.source, source_length, at.memories,
+                                  PROCESSORS * CELLS, at.buffer, WORDS, at.progress, PROCESSORS, at.status, MESSAGES),
+         wanted);
 }
 
 static void turn(uint32_t processor, uint32_t wanted) {
   before = at;
-  expect("turn", rolwyddac_turn(recipe, recipe_length, at.source, source_length, at.memories, PROCESSORS * CELLS,
-                                at.buffer, WORDS, at.progress, PROCESSORS, at.status, MESSAGES, processor), wanted);
+  expect("turn", rolwyddac_turn(recipe, recipe_length, route, at.source, source_length, at.memories,
+                                PROCESSORS * CELLS, at.buffer, WORDS, at.progress, PROCESSORS, at.status, MESSAGES,
+                                processor), wanted);
 }
 
 static void deliver(uint32_t message, uint32_t wanted) {
   before = at;
-  expect("deliver", rolwyddac_deliver(recipe, recipe_length, at.source, source_length, at.memories, PROCESSORS * CELLS,
-                                      at.buffer, WORDS, at.progress, PROCESSORS, at.status, MESSAGES, message), wanted);
+  expect("deliver", rolwyddac_deliver(recipe, recipe_length, route, at.source, source_length, at.memories,
+                                      PROCESSORS * CELLS, at.buffer, WORDS, at.progress, PROCESSORS, at.status, MESSAGES,
+                                      message), wanted);
 }
 
 static void collect(uint32_t wanted) {
   before = at;
-  expect("collect", rolwyddac_collect(recipe, recipe_length, at.source, source_length, at.memories, PROCESSORS * CELLS,
-                                      at.buffer, WORDS, at.progress, PROCESSORS, at.status, MESSAGES, at.grid, CELLS),
-         wanted);
+  expect("collect", rolwyddac_collect(recipe, recipe_length, route, at.source, source_length, at.memories,
+                                      PROCESSORS * CELLS, at.buffer, WORDS, at.progress, PROCESSORS, at.status, MESSAGES,
+                                      at.grid, CELLS), wanted);
 }
 
 static void sweep(uint32_t wanted) {
@@ -65,12 +70,17 @@ static void sweep(uint32_t wanted) {
 
 static void summary(size_t length, uint32_t wanted) {
   before = at;
-  expect("summary", rolwyddac_summary(recipe, recipe_length, at.out, length), wanted);
+  expect("summary", rolwyddac_summary(recipe, recipe_length, route, at.out, length), wanted);
 }
 
 static void message(uint32_t number, size_t length, uint32_t wanted) {
   before = at;
-  expect("message", rolwyddac_message(recipe, recipe_length, number, at.out, length), wanted);
+  expect("message", rolwyddac_message(recipe, recipe_length, route, number, at.out, length), wanted);
+}
+
+static void hops(uint32_t number, size_t length, uint32_t wanted) {
+  before = at;
+  expect("hops", rolwyddac_hops(recipe, recipe_length, number, at.out, length), wanted);
 }
 
 static void same(const char *what, const uint32_t *words, const uint32_t *wanted, size_t length) {
@@ -83,6 +93,7 @@ static void same(const char *what, const uint32_t *words, const uint32_t *wanted
 static void refused(uint32_t wanted) {
   fresh(wanted), turn(0, wanted), deliver(0, wanted), collect(wanted), sweep(wanted);
   summary(ROLWYDDAC_SUMMARY_LENGTH, wanted), message(0, ROLWYDDAC_MESSAGE_LENGTH, wanted);
+  hops(0, 1, wanted);
   memcpy(recipe, row_d, RECIPE);
   recipe_length = RECIPE;
 }
@@ -109,6 +120,8 @@ static void plan(void) {
   message(1, ROLWYDDAC_MESSAGE_LENGTH, ROLWYDDAC_NO_SUCH);
   message(0, ROLWYDDAC_MESSAGE_LENGTH, ROLWYDDAC_DONE);
   same("the message's numbers", at.out, (const uint32_t[]){0, 1, 0, 1, 1}, ROLWYDDAC_MESSAGE_LENGTH);
+  hops(0, 0, ROLWYDDAC_AREA), hops(1, 1, ROLWYDDAC_NO_SUCH), hops(0, 1, ROLWYDDAC_DONE);
+  same("the message's hops", at.out, (const uint32_t[]){1}, 1);
 }
 
 static void run(void) {
@@ -129,12 +142,16 @@ static void run(void) {
 }
 
 int main(void) {
-  memset(&at, 9, sizeof at);
-  for (size_t c = 0; c < CELLS; c++) at.source[c] = 1;
+  const uint32_t routes[] = {ROLWYDDAC_DIRECT, ROLWYDDAC_INDIRECT, UINT32_MAX};
   memcpy(recipe, row_d, RECIPE);
-  recipes_refused();
-  plan();
-  run();
+  for (size_t r = 0; r < sizeof routes / sizeof *routes; r++) {
+    route = routes[r];
+    memset(&at, 9, sizeof at);
+    for (size_t c = 0; c < CELLS; c++) at.source[c] = 1;
+    recipes_refused();
+    plan();
+    run();
+  }
   if (met != 0x3ffff) return printf("not every number was met: %x\n", met), 1;
   puts("row D as document 01 has it, each number met");
   return 0;

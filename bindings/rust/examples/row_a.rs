@@ -1,6 +1,6 @@
 //! Runs row A of document 01 to the end and prints the grid: 8 by 8 cells in tiles of 2 by 2 on two processors.
 
-use rolwyddac::{sweep, Fields, Refusal, Run};
+use rolwyddac::{sweep, Fields, Refusal, Route, Run};
 
 fn main() -> Result<(), Refusal> {
     let recipe = Fields::new()
@@ -12,7 +12,7 @@ fn main() -> Result<(), Refusal> {
         .close(0, 0)?;
     let source = [1; 64];
 
-    let mut run = Run::start(&recipe, &source)?;
+    let mut run = Run::start(&recipe, Route::Direct, &source)?;
     let steps = run.finish()?;
     let grid = run.collect()?;
     for row in grid.chunks(8) {

@@ -7,13 +7,13 @@
 //! [`Run`] owns the areas of one run, with the right sizes, and is the short way:
 //!
 //! ```
-//! use rolwyddac::{Fields, Refusal, Run};
+//! use rolwyddac::{Fields, Refusal, Route, Run};
 //!
 //! # fn main() -> Result<(), Refusal> {
 //! // a line of four cells in tiles of two on two processors; each cell adds the one before it
 //! let recipe = Fields::new().dimension(4, 2, 2).dimension(1, 1, 0).distance(&[1, 0], 1).close(0, 0)?;
 //! let source = [1; 4];
-//! let mut run = Run::start(&recipe, &source)?;
+//! let mut run = Run::start(&recipe, Route::Direct, &source)?;
 //! assert_eq!(run.turn(1), Err(Refusal::Waiting));
 //! run.finish()?;
 //! assert_eq!(run.collect()?, [1, 2, 3, 4]);
@@ -30,6 +30,19 @@ mod run;
 pub use recipe::{Fields, Recipe};
 pub use refusal::Refusal;
 pub use run::{Areas, Run};
+
+/// How messages travel. The routes have messages of their own, and so other sizes of buffer and status; all calls of a
+/// run are given the same one.
+#[repr(u32)]
+#[derive(Clone, Copy, Debug, Default, PartialEq, Eq, Hash)]
+pub enum Route {
+    /// Each message goes straight to the processor of its taking tile.
+    #[default]
+    Direct = 0,
+    /// Messages go between neighbours only, one spread dimension at a time and the lowest first; what a tile passes on goes
+    /// with its own cells.
+    Indirect = 1,
+}
 
 /// How far a processor is (document 01: board record).
 #[repr(C)]
@@ -75,12 +88,13 @@ pub struct Message {
     pub words: u32,
 }
 
-/// Words that the summary and a message's line take.
+/// Words that the summary, a message's line and its hops take.
 const SUMMARY_WORDS: usize = 4;
 const MESSAGE_WORDS: usize = 5;
+const HOPS_WORDS: usize = 1;
 
 /// Declares each exported call and makes its safe form. A slice goes over as its pointer and its length; a number
-/// as it is.
+/// as it is, and so does a route, which is laid out as a word.
 macro_rules! calls {
     ($($(#[$doc:meta])* $exported:ident as $name:ident($($parameters:tt)*);)*) => {$(
         $(#[$doc])*
@@ -116,8 +130,8 @@ calls! {
     ///
     /// Refusals: 1 to 9, 16 and 17.
     rolwyddac_fresh as fresh(
-        encoded: &[u8], source: &[u32], memories: &mut [u32], buffer: &mut [u32], progress: &mut [Progress],
-        status: &mut [u8],
+        encoded: &[u8], route: Route, source: &[u32], memories: &mut [u32], buffer: &mut [u32],
+        progress: &mut [Progress], status: &mut [u8],
     );
 
     /// Gives one processor a turn: it does the stage at which its record stands, once.
@@ -128,27 +142,27 @@ calls! {
     ///
     /// Refusals: 1 to 13, 16 and 17.
     rolwyddac_turn as turn(
-        encoded: &[u8], source: &[u32], memories: &mut [u32], buffer: &mut [u32], progress: &mut [Progress],
-        status: &mut [u8], processor: u32,
+        encoded: &[u8], route: Route, source: &[u32], memories: &mut [u32], buffer: &mut [u32],
+        progress: &mut [Progress], status: &mut [u8], processor: u32,
     );
 
     /// Delivers one message: its status goes from 1 to 2.
     ///
     /// Refusals: 1 to 11, 14, 16 and 17.
     rolwyddac_deliver as deliver(
-        encoded: &[u8], source: &[u32], memories: &[u32], buffer: &[u32], progress: &[Progress], status: &mut [u8],
-        message: u32,
+        encoded: &[u8], route: Route, source: &[u32], memories: &[u32], buffer: &[u32], progress: &[Progress],
+        status: &mut [u8], message: u32,
     );
 
     /// Copies each cell to `grid` from the memory of its tile's processor, once all processors have finished.
     ///
-    /// Where it is done, and all calls since the fresh start were turns and deliveries given this recipe and `source`
-    /// and lent the areas as the last left them, `grid` is what [`sweep`] writes.
+    /// Where it is done, and all calls since the fresh start were turns and deliveries given this recipe, route and
+    /// `source` and lent the areas as the last left them, `grid` is what [`sweep`] writes.
     ///
     /// Refusals: 1 to 10 and 15 to 17.
     rolwyddac_collect as collect(
-        encoded: &[u8], source: &[u32], memories: &[u32], buffer: &[u32], progress: &[Progress], status: &[u8],
-        grid: &mut [u32],
+        encoded: &[u8], route: Route, source: &[u32], memories: &[u32], buffer: &[u32], progress: &[Progress],
+        status: &[u8], grid: &mut [u32],
     );
 
     /// Sweeps the whole nest in index order on one processor and writes each cell's value to `grid`.
@@ -156,16 +170,22 @@ calls! {
     /// Refusals: 1 to 9, 16 and 17.
     rolwyddac_sweep as sweep(encoded: &[u8], source: &[u32], grid: &mut [u32]);
 
-    /// Writes the plan's totals to `out`: tiles, messages, words, steps. [`summary`] is the handier form.
+    /// Writes the plan's totals on the route to `out`: tiles, messages, words, steps. [`summary`] is the handier form.
     ///
     /// Refusals: 1 to 8, 16, 17, and 9 if `out` has not 4 words.
-    rolwyddac_summary as summary_words(encoded: &[u8], out: &mut [u32]);
+    rolwyddac_summary as summary_words(encoded: &[u8], route: Route, out: &mut [u32]);
 
-    /// Writes the line of message `m` to `out`: sending tile, taking tile, sending processor, taking processor, words.
-    /// [`message`] is the handier form.
+    /// Writes the line of message `m` of the route to `out`: sending tile, taking tile, sending processor, taking
+    /// processor, words. [`message`] is the handier form.
     ///
     /// Refusals: 1 to 8, 16, 17, 9 if `out` has not 5 words, 11.
-    rolwyddac_message as message_words(encoded: &[u8], m: u32, out: &mut [u32]);
+    rolwyddac_message as message_words(encoded: &[u8], route: Route, m: u32, out: &mut [u32]);
+
+    /// Writes one word to `out`: the hops that message `m` of the direct route makes on the indirect one. [`hops`] is the
+    /// handier form.
+    ///
+    /// Refusals: 1 to 8, 16, 17, 9 if `out` has not 1 word, 11.
+    rolwyddac_hops as hops_words(encoded: &[u8], m: u32, out: &mut [u32]);
 
     /// Writes the recipe of the fields to `space`. [`Fields`] is the handier form.
     ///
@@ -183,12 +203,12 @@ calls! {
     );
 }
 
-/// The totals of a recipe's plan, which give every area its size.
+/// The totals of a recipe's plan on a route, which give every area its size.
 ///
 /// Refusals: 1 to 8, 16 and 17.
-pub fn summary(encoded: &[u8]) -> Result<Summary, Refusal> {
+pub fn summary(encoded: &[u8], route: Route) -> Result<Summary, Refusal> {
     let mut out = [0; SUMMARY_WORDS];
-    summary_words(encoded, &mut out)?;
+    summary_words(encoded, route, &mut out)?;
     let [tiles, messages, words, steps] = out;
     // The recipe is accepted, so its records of kind 1 are as the format has them.
     let field = |record: &[u8], at: usize| usize::from(u16::from_le_bytes([record[at], record[at + 1]]));
@@ -198,12 +218,21 @@ pub fn summary(encoded: &[u8]) -> Result<Summary, Refusal> {
     Ok(Summary { cells, processors, tiles, messages, words, steps })
 }
 
-/// The line of message `m` of a recipe's plan.
+/// The line of message `m` of a recipe's plan on a route.
 ///
 /// Refusals: 1 to 8, 11, 16 and 17.
-pub fn message(encoded: &[u8], m: u32) -> Result<Message, Refusal> {
+pub fn message(encoded: &[u8], route: Route, m: u32) -> Result<Message, Refusal> {
     let mut out = [0; MESSAGE_WORDS];
-    message_words(encoded, m, &mut out)?;
+    message_words(encoded, route, m, &mut out)?;
     let [sending_tile, taking_tile, sending_processor, taking_processor, words] = out;
     Ok(Message { sending_tile, taking_tile, sending_processor, taking_processor, words })
+}
+
+/// How many wires message `m` of the direct route takes on the indirect one: as many as dimensions in which it crosses.
+///
+/// Refusals: 1 to 8, 11, 16 and 17.
+pub fn hops(encoded: &[u8], m: u32) -> Result<u32, Refusal> {
+    let mut out = [0; HOPS_WORDS];
+    hops_words(encoded, m, &mut out)?;
+    Ok(out[0])
 }

@@ -1,6 +1,6 @@
 //! The areas of a run with their right sizes, and a run that owns them.
 
-use crate::{collect, deliver, fresh, summary, turn, Progress, Refusal, Summary};
+use crate::{collect, deliver, fresh, summary, turn, Progress, Refusal, Route, Summary};
 
 /// The four areas that a run changes, with the sizes a plan asks for.
 #[derive(Clone, Debug, PartialEq, Eq)]
@@ -27,13 +27,14 @@ impl Areas {
     }
 }
 
-/// A run of one recipe over one source: a fresh start, then any turns and deliveries.
+/// A run of one recipe by one route over one source: a fresh start, then any turns and deliveries.
 ///
-/// All calls are given the same recipe and source, and the areas as the last left them, so the engine's theorem about
+/// All calls are given the same recipe, route and source, and the areas as the last left them, so the engine's theorem about
 /// runs applies: whatever the order, the grid that [`Run::collect`] gives is that of the sequential sweep.
 #[derive(Clone, Debug)]
 pub struct Run<'a> {
     encoded: &'a [u8],
+    route: Route,
     source: &'a [u32],
     plan: Summary,
     areas: Areas,
@@ -43,11 +44,12 @@ impl<'a> Run<'a> {
     /// Sizes the areas and makes a fresh start.
     ///
     /// Refusals: 1 to 9, 16 and 17.
-    pub fn start(encoded: &'a [u8], source: &'a [u32]) -> Result<Run<'a>, Refusal> {
-        let plan = summary(encoded)?;
+    pub fn start(encoded: &'a [u8], route: Route, source: &'a [u32]) -> Result<Run<'a>, Refusal> {
+        let plan = summary(encoded, route)?;
         let mut areas = Areas::sized(&plan);
-        fresh(encoded, source, &mut areas.memories, &mut areas.buffer, &mut areas.progress, &mut areas.status)?;
-        Ok(Run { encoded, source, plan, areas })
+        let Areas { memories, buffer, progress, status } = &mut areas;
+        fresh(encoded, route, source, memories, buffer, progress, status)?;
+        Ok(Run { encoded, route, source, plan, areas })
     }
 
     /// The plan's totals.
@@ -65,7 +67,7 @@ impl<'a> Run<'a> {
     /// Refusals: 11, 12 and 13.
     pub fn turn(&mut self, processor: u32) -> Result<(), Refusal> {
         let Areas { memories, buffer, progress, status } = &mut self.areas;
-        turn(self.encoded, self.source, memories, buffer, progress, status, processor)
+        turn(self.encoded, self.route, self.source, memories, buffer, progress, status, processor)
     }
 
     /// Delivers one message.
@@ -73,7 +75,7 @@ impl<'a> Run<'a> {
     /// Refusals: 11 and 14.
     pub fn deliver(&mut self, message: u32) -> Result<(), Refusal> {
         let Areas { memories, buffer, progress, status } = &mut self.areas;
-        deliver(self.encoded, self.source, memories, buffer, progress, status, message)
+        deliver(self.encoded, self.route, self.source, memories, buffer, progress, status, message)
     }
 
     /// The messages in flight, by number.
@@ -113,7 +115,7 @@ impl<'a> Run<'a> {
     pub fn collect(&self) -> Result<Vec<u32>, Refusal> {
         let mut grid = vec![0; self.plan.cells];
         let Areas { memories, buffer, progress, status } = &self.areas;
-        collect(self.encoded, self.source, memories, buffer, progress, status, &mut grid)?;
+        collect(self.encoded, self.route, self.source, memories, buffer, progress, status, &mut grid)?;
         Ok(grid)
     }
 }

@@ -1,7 +1,10 @@
 //! Row D of document 01 step by step: four cells in a line, in tiles of two on two processors. Every call gives what
 //! the paper's table has for it, and a refusal leaves every lent word as it was.
 
-use rolwyddac::{message, message_words, summary, summary_words, sweep, Areas, Fields, Recipe, Refusal, Run};
+use rolwyddac::{
+    hops, hops_words, message, message_words, summary, summary_words, sweep, Areas, Fields, Recipe, Refusal,
+    Route::Direct, Run,
+};
 
 const SOURCE: [u32; 4] = [1; 4];
 
@@ -19,7 +22,7 @@ fn changed(bytes: &[(usize, u8)]) -> Vec<u8> {
 #[test]
 fn a_run_step_by_step() {
     let recipe = row_d();
-    let mut run = Run::start(&recipe, &SOURCE).unwrap();
+    let mut run = Run::start(&recipe, Direct, &SOURCE).unwrap();
     assert_eq!(run.turn(1), Err(Refusal::Waiting));
     assert_eq!(run.turn(2), Err(Refusal::NoSuch));
     assert_eq!(run.deliver(0), Err(Refusal::NoMail));
@@ -40,15 +43,17 @@ fn a_run_step_by_step() {
 
 #[test]
 fn the_plan() {
-    let plan = summary(&row_d()).unwrap();
+    let plan = summary(&row_d(), Direct).unwrap();
     assert_eq!((plan.cells, plan.processors), (4, 2));
     assert_eq!([plan.tiles, plan.messages, plan.words, plan.steps], [2, 1, 1, 6]);
-    let line = message(&row_d(), 0).unwrap();
+    let line = message(&row_d(), Direct, 0).unwrap();
     assert_eq!((line.sending_tile, line.taking_tile, line.words), (0, 1, 1));
     assert_eq!((line.sending_processor, line.taking_processor), (0, 1));
-    assert_eq!(message(&row_d(), 1), Err(Refusal::NoSuch));
-    assert_eq!(summary_words(&row_d(), &mut [0; 3]), Err(Refusal::Area));
-    assert_eq!(message_words(&row_d(), 0, &mut [0; 6]), Err(Refusal::Area));
+    assert_eq!(message(&row_d(), Direct, 1), Err(Refusal::NoSuch));
+    assert_eq!(summary_words(&row_d(), Direct, &mut [0; 3]), Err(Refusal::Area));
+    assert_eq!(message_words(&row_d(), Direct, 0, &mut [0; 6]), Err(Refusal::Area));
+    assert_eq!((hops(&row_d(), 0), hops(&row_d(), 1)), (Ok(1), Err(Refusal::NoSuch)));
+    assert_eq!(hops_words(&row_d(), 0, &mut []), Err(Refusal::Area));
 }
 
 #[test]
@@ -65,12 +70,13 @@ fn recipes_refused() {
         (changed(&[(2, 255), (18, 64)]), Refusal::Tiles),
     ];
     for (recipe, refusal) in refused {
-        assert_eq!(summary(&recipe), Err(refusal));
+        assert_eq!(summary(&recipe, Direct), Err(refusal));
+        assert_eq!(hops(&recipe, 0), Err(refusal));
         assert_eq!(sweep(&recipe, &SOURCE, &mut [0; 4]), Err(refusal));
-        assert_eq!(Run::start(&recipe, &SOURCE).err(), Some(refusal));
+        assert_eq!(Run::start(&recipe, Direct, &SOURCE).err(), Some(refusal));
     }
-    assert_eq!(summary(&[]), Err(Refusal::Ragged));
-    assert_eq!(summary(&row_d()[..63]), Err(Refusal::Ragged));
+    assert_eq!(summary(&[], Direct), Err(Refusal::Ragged));
+    assert_eq!(summary(&row_d()[..63], Direct), Err(Refusal::Ragged));
 }
 
 #[test]
@@ -96,18 +102,18 @@ fn fields_refused() {
 #[test]
 fn a_refusal_leaves_all_as_it_was() {
     let recipe = row_d();
-    let mut areas = Areas::sized(&summary(&recipe).unwrap());
+    let mut areas = Areas::sized(&summary(&recipe, Direct).unwrap());
     areas.memories.fill(7);
     areas.buffer.fill(7);
     areas.status.fill(4);
     let before = areas.clone();
     let Areas { memories, buffer, progress, status } = &mut areas;
-    assert_eq!(rolwyddac::turn(&recipe, &SOURCE, memories, buffer, progress, status, 0), Err(Refusal::Unfit));
-    assert_eq!(rolwyddac::fresh(&recipe, &SOURCE[1..], memories, buffer, progress, status), Err(Refusal::Area));
-    assert_eq!(rolwyddac::deliver(&recipe, &SOURCE, &[], buffer, progress, status, 0), Err(Refusal::Area));
+    assert_eq!(rolwyddac::turn(&recipe, Direct, &SOURCE, memories, buffer, progress, status, 0), Err(Refusal::Unfit));
+    assert_eq!(rolwyddac::fresh(&recipe, Direct, &SOURCE[1..], memories, buffer, progress, status), Err(Refusal::Area));
+    assert_eq!(rolwyddac::deliver(&recipe, Direct, &SOURCE, &[], buffer, progress, status, 0), Err(Refusal::Area));
     let mut grid = [9; 4];
     assert_eq!(
-        rolwyddac::collect(&recipe, &SOURCE, memories, buffer, progress, status, &mut grid),
+        rolwyddac::collect(&recipe, Direct, &SOURCE, memories, buffer, progress, status, &mut grid),
         Err(Refusal::Unfit)
     );
     assert_eq!(grid, [9; 4]);

@@ -27,7 +27,7 @@ use Rattle.engine.proofs.Demands as engine
 use Rattle.records.specs.declared.Progress.{Progress}
 use Rattle.records.specs.Records.{flatWords}
 use Rattle.records.proofs.Words.{length-words, unflat, words-unflat, injective}
-use Rattle.calls.specs.PlanCalls.{summaryCall, messageCall}
+use Rattle.calls.specs.PlanCalls.{summaryCall, messageCall, hopsCall}
 use Rattle.calls.specs.OverRecords.{Areas, inWords, FreshGave, EventGave, CollectGave, EventsGave, namedNext, FixedAreas, FixedCalls, ExactCalls, FixedRun, OverRecords}
 
 -- ---- the words after a call are records' words
@@ -72,18 +72,18 @@ unfolding pick
 whole-pick true a b v w = v
 whole-pick false a b v w = w
 
-module _ (bytes source : List ℕ) (a : Areas) where
+module _ (bytes : List ℕ) (route : ℕ) (source : List ℕ) (a : Areas) where
   whole : Whole (flatWords (a .progress))
   whole = (length (a .progress), length-words (a .progress))
 
-  whole-fresh : Whole (freshCall bytes source (inWords a) .after .progress)
+  whole-fresh : Whole (freshCall bytes route source (inWords a) .after .progress)
   unfolding freshCall machine.fresh
-  whole-fresh = whole-pick _ _ (inWords a) (recipe bytes .processors, length-replicate {A = ℕ} (3 * recipe bytes .processors) 0) whole
+  whole-fresh = whole-pick _ _ (inWords a) (recipe bytes route .processors, length-replicate {A = ℕ} (3 * recipe bytes route .processors) 0) whole
 
-  whole-call : (e : Event) → Whole (calls bytes source (inWords a) e .after .progress)
+  whole-call : (e : Event) → Whole (calls bytes route source (inWords a) e .after .progress)
   unfolding calls turnCall deliverCall
   whole-call (turnOf b) =
-      let e = length-carry (recipe bytes) source (inWords a) b _ ∙ length-words (a .progress) in
+      let e = length-carry (recipe bytes route) source (inWords a) b _ ∙ length-words (a .progress) in
       whole-pick _ _ (inWords a) (length (a .progress), e) whole
   whole-call (deliveryOf m) = whole-pick _ _ (inWords a) whole whole
 
@@ -119,35 +119,36 @@ one-answer b c n k d e = (number-of (d ∙ sym e), areas-fixed b c (after-of (d 
 can-answer : (r : Answered State) → Whole (r .after .progress) → (n : ℕ) × ((b : Areas) × (answer n (inWords b) ≡ r))
 can-answer r w = (r .number, (areasOf (r .after), ap (λ (s : State). answer (r .number) s) (in-words (r .after) w)))
 
-module _ (bytes source : List ℕ) where
+module _ (bytes : List ℕ) (route : ℕ) (source : List ℕ) where
   -- an event's contract, by the calls over words
-  event-call : (a b : Areas) (e : Event) (n : ℕ) → EventGave bytes source a e n b → answer n (inWords b) ≡ calls bytes source (inWords a) e
+  event-call : (a b : Areas) (e : Event) (n : ℕ) → EventGave bytes route source a e n b → answer n (inWords b) ≡ calls bytes route source (inWords a) e
   unfolding calls
   event-call a b (turnOf p) n h = h
   event-call a b (deliveryOf m) n h = h
 
-  call-event : (a b : Areas) (e : Event) (n : ℕ) → answer n (inWords b) ≡ calls bytes source (inWords a) e → EventGave bytes source a e n b
+  call-event : (a b : Areas) (e : Event) (n : ℕ) → answer n (inWords b) ≡ calls bytes route source (inWords a) e → EventGave bytes route source a e n b
   unfolding calls
   call-event a b (turnOf p) n h = h
   call-event a b (deliveryOf m) n h = h
 
-  can-event : (a : Areas) (e : Event) → (n : ℕ) × ((b : Areas) × EventGave bytes source a e n b)
+  can-event : (a : Areas) (e : Event) → (n : ℕ) × ((b : Areas) × EventGave bytes route source a e n b)
   can-event a e =
-      let r = can-answer (calls bytes source (inWords a) e) (whole-call bytes source a e) in
+      let r = can-answer (calls bytes route source (inWords a) e) (whole-call bytes route source a e) in
       (r .0, (r .1 .0, call-event a (r .1 .0) e (r .0) (r .1 .1)))
 
-  fixed-calls : FixedCalls bytes source
-  unfolding summaryCall messageCall
+  fixed-calls : FixedCalls bytes route source
+  unfolding summaryCall messageCall hopsCall
   fixed-calls =
       record {
-        fresh = λ a b n e. fixed-areas e (engine.demands .one bytes source (inWords a) .fresh);
-        turn = λ a b p n e. fixed-areas e (engine.demands .one bytes source (inWords a) .turn p);
-        deliver = λ a b m n e. fixed-areas e (engine.demands .one bytes source (inWords a) .deliver m);
-        collect = λ a old grid n e. fixed-as e (engine.demands .one bytes source (inWords a) .collect old);
-        sweep = λ old grid n e. fixed-as e (engine.demands .one bytes source (stateOf [] [] [] []) .sweep old);
+        fresh = λ a b n e. fixed-areas e (engine.demands .one bytes route source (inWords a) .fresh);
+        turn = λ a b p n e. fixed-areas e (engine.demands .one bytes route source (inWords a) .turn p);
+        deliver = λ a b m n e. fixed-areas e (engine.demands .one bytes route source (inWords a) .deliver m);
+        collect = λ a old grid n e. fixed-as e (engine.demands .one bytes route source (inWords a) .collect old);
+        sweep = λ old grid n e. fixed-as e (engine.demands .one bytes route source (stateOf [] [] [] []) .sweep old);
         summary = λ old out n e. fixed-as e (engine.fixed _ _ old);
         message = λ m old out n e. fixed-as e (engine.fixed _ _ old);
-        can-fresh = λ a. can-answer (freshCall bytes source (inWords a)) (whole-fresh bytes source a);
+        hops = λ m old out n e. fixed-as e (engine.fixed _ _ old);
+        can-fresh = λ a. can-answer (freshCall bytes route source (inWords a)) (whole-fresh bytes route source a);
         can-event = can-event;
         one-fresh = λ a b c n k. one-answer b c n k;
         one-event = λ a b c e n k h g. one-answer b c n k (event-call a b e n h) (event-call a c e k g);
@@ -155,89 +156,89 @@ module _ (bytes source : List ℕ) where
 
   -- ---- a run over records is a run over words
 
-  numbers-are : {a b : Areas} {es : List Event} {ns : List ℕ} → EventsGave bytes source a es ns b
-      → ns ≡ answersTo (calls bytes source) (inWords a) es
+  numbers-are : {a b : Areas} {es : List Event} {ns : List ℕ} → EventsGave bytes route source a es ns b
+      → ns ≡ answersTo (calls bytes route source) (inWords a) es
   unfolding answersTo
   numbers-are EventsGave.none = refl
   numbers-are (EventsGave.next {a = a} {b = b} {e = e} {es = es} {n = n} h g) =
       let c = event-call a b e n h in
-      ap (λ (l : List ℕ). n ∷ l) (numbers-are g ∙ ap (λ (s : State). answersTo (calls bytes source) s es) (after-of c))
-      ∙ ap (λ (k : ℕ). k ∷ answersTo (calls bytes source) (calls bytes source (inWords a) e .after) es) (number-of c)
+      ap (λ (l : List ℕ). n ∷ l) (numbers-are g ∙ ap (λ (s : State). answersTo (calls bytes route source) s es) (after-of c))
+      ∙ ap (λ (k : ℕ). k ∷ answersTo (calls bytes route source) (calls bytes route source (inWords a) e .after) es) (number-of c)
 
-  words-are : {a b : Areas} {es : List Event} {ns : List ℕ} → EventsGave bytes source a es ns b
-      → inWords b ≡ stateAfter (calls bytes source) (inWords a) es
+  words-are : {a b : Areas} {es : List Event} {ns : List ℕ} → EventsGave bytes route source a es ns b
+      → inWords b ≡ stateAfter (calls bytes route source) (inWords a) es
   unfolding stateAfter
   words-are EventsGave.none = refl
   words-are (EventsGave.next {a = a} {b = b} {e = e} {es = es} {n = n} h g) =
-      words-are g ∙ ap (λ (s : State). stateAfter (calls bytes source) s es) (after-of (event-call a b e n h))
+      words-are g ∙ ap (λ (s : State). stateAfter (calls bytes route source) s es) (after-of (event-call a b e n h))
 
   joined : {a b d : Areas} {es ts : List Event} {ns ks : List ℕ}
-      → EventsGave bytes source a es ns b → EventsGave bytes source b ts ks d → EventsGave bytes source a (es ++ ts) (ns ++ ks) d
+      → EventsGave bytes route source a es ns b → EventsGave bytes route source b ts ks d → EventsGave bytes route source a (es ++ ts) (ns ++ ks) d
   joined EventsGave.none k = k
   joined (EventsGave.next h g) k = EventsGave.next h (joined g k)
 
   -- collecting that gave 0 was lent a grid of the right length
-  collect-length : (s : State) (old : List ℕ) → collectCall bytes source s old .number ≡ 0 → length old ≡ recipe bytes .cells
+  collect-length : (s : State) (old : List ℕ) → collectCall bytes route source s old .number ≡ 0 → length old ≡ recipe bytes route .cells
   unfolding collectCall
   collect-length s old z =
-      let r = front (readLines bytes) (line 9 nine ∷ collectLines (recipe bytes) s) z in
-      let n = none-first 9 nine (collectLines (recipe bytes) s) (λ q. omega arith)
+      let r = front (readLines bytes) (line 9 nine ∷ collectLines (recipe bytes route) s) z in
+      let n = none-first 9 nine (collectLines (recipe bytes route) s) (λ q. omega arith)
       (sym (first-behind (readLines bytes) _ (numbered bytes) r) ∙ z) in
       eqb-true _ _ (both (true-not (n .0)) .1)
     where
       nine : Bool
-      nine = not (areas (recipe bytes) source s and eqb (length old) (recipe bytes .cells))
+      nine = not (areas (recipe bytes route) source s and eqb (length old) (recipe bytes route .cells))
 
   -- ---- demand 2
 
   module _ (small : Bytes bytes) (z : firstOf (readLines bytes) ≡ 0) where
-    abbrev over : Demand2 bytes
-    over = engine.demands .two bytes small z
+    abbrev over : Demand2 bytes route
+    over = engine.demands .two bytes route small z
 
-    turned : (a b : Areas) (p : ℕ) → EventGave bytes source a (turnOf p) 0 b
-        → Does (recipe bytes) source (inWords a) (inWords b) p (nextAction (recipe bytes) (inWords a) p)
+    turned : (a b : Areas) (p : ℕ) → EventGave bytes route source a (turnOf p) 0 b
+        → Does (recipe bytes route) source (inWords a) (inWords b) p (nextAction (recipe bytes route) (inWords a) p)
     turned a b p h = rw (after-of h) (over .turned source (inWords a) p (sym (number-of h)))
 
     -- a turn of p that gave 0 after the events `before`, lent the areas b
-    module _ (a start : Areas) (fresh : FreshGave bytes source a 0 start) where
-      did : {b : Areas} {before : List Event} {ns : List ℕ} (c : Areas) (p : ℕ) (k : Action) → EventsGave bytes source start before ns b
-          → EventGave bytes source b (turnOf p) 0 c → namedNext bytes p before ns ≡ k
-          → Did (calls bytes source) (inWords start) (recipe bytes) before p k
+    module _ (a start : Areas) (fresh : FreshGave bytes route source a 0 start) where
+      did : {b : Areas} {before : List Event} {ns : List ℕ} (c : Areas) (p : ℕ) (k : Action) → EventsGave bytes route source start before ns b
+          → EventGave bytes route source b (turnOf p) 0 c → namedNext bytes route p before ns ≡ k
+          → Did (calls bytes route source) (inWords start) (recipe bytes route) before p k
       did {b = b} c p k g t n =
           record {
             gave =
-                ap (λ (s : State). calls bytes source s (turnOf p) .number) (sym (words-are g))
+                ap (λ (s : State). calls bytes route source s (turnOf p) .number) (sym (words-are g))
                 ∙ sym (number-of (event-call b c (turnOf p) 0 t));
             named = rw (numbers-are g) at n;
           }
 
-      posted : (before : List Event) (p m : ℕ) → Did (calls bytes source) (inWords start) (recipe bytes) before p (send m)
-          → Posted (calls bytes source) (inWords start) (recipe bytes) before p m
+      posted : (before : List Event) (p m : ℕ) → Did (calls bytes route source) (inWords start) (recipe bytes route) before p (send m)
+          → Posted (calls bytes route source) (inWords start) (recipe bytes route) before p m
       posted before p m =
-          subst (λ (s : State). Did (calls bytes source) s (recipe bytes) before p (send m)
-          → Posted (calls bytes source) s (recipe bytes) before p m)
+          subst (λ (s : State). Did (calls bytes route source) s (recipe bytes route) before p (send m)
+          → Posted (calls bytes route source) s (recipe bytes route) before p m)
           (sym (after-of fresh)) (over .posted source (inWords a) (sym (number-of fresh)) before p m)
 
-      module _ (b c d : Areas) (before then : List Event) (ns ks : List ℕ) (p m q : ℕ) (g : EventsGave bytes source start before ns b)
-          (t : EventGave bytes source b (turnOf p) 0 c) (n : namedNext bytes p before ns ≡ send m) (k : EventsGave bytes source c then ks d)
-          (h : q < length (heldBy (recipe bytes) m)) where
-        all : EventsGave bytes source start (before ++ (turnOf p ∷ then)) (ns ++ (0 ∷ ks)) d
+      module _ (b c d : Areas) (before then : List Event) (ns ks : List ℕ) (p m q : ℕ) (g : EventsGave bytes route source start before ns b)
+          (t : EventGave bytes route source b (turnOf p) 0 c) (n : namedNext bytes route p before ns ≡ send m) (k : EventsGave bytes route source c then ks d)
+          (h : q < length (heldBy (recipe bytes route) m)) where
+        all : EventsGave bytes route source start (before ++ (turnOf p ∷ then)) (ns ++ (0 ∷ ks)) d
         all = joined g (EventsGave.next t k)
 
-        stays : mailAt (recipe bytes) (inWords d) m q ≡ wordAt (recipe bytes) (inWords b) p (cellOf (recipe bytes) m q)
+        stays : mailAt (recipe bytes route) (inWords d) m q ≡ wordAt (recipe bytes route) (inWords b) p (cellOf (recipe bytes route) m q)
         stays = rw (words-are all, words-are g) (posted before p m (did c p (send m) g t n) .stays then q h)
 
-        arrives : (e : Areas) (r : ℕ) → EventGave bytes source d (turnOf r) 0 e
-            → namedNext bytes r (before ++ (turnOf p ∷ then)) (ns ++ (0 ∷ ks)) ≡ gather (takerOf (recipe bytes) m)
-            → wordAt (recipe bytes) (inWords e) r (cellOf (recipe bytes) m q)
-            ≡ wordAt (recipe bytes) (inWords b) p (cellOf (recipe bytes) m q)
+        arrives : (e : Areas) (r : ℕ) → EventGave bytes route source d (turnOf r) 0 e
+            → namedNext bytes route r (before ++ (turnOf p ∷ then)) (ns ++ (0 ∷ ks)) ≡ gather (takerOf (recipe bytes route) m)
+            → wordAt (recipe bytes route) (inWords e) r (cellOf (recipe bytes route) m q)
+            ≡ wordAt (recipe bytes route) (inWords b) p (cellOf (recipe bytes route) m q)
         arrives e r u o =
-            ap (λ (s : State). wordAt (recipe bytes) s r (cellOf (recipe bytes) m q))
-            (after-of (event-call d e (turnOf r) 0 u) ∙ ap (λ (s : State). calls bytes source s (turnOf r) .after) (words-are all))
-            ∙ posted before p m (did c p (send m) g t n) .arrives then r q h (did e r (gather (takerOf (recipe bytes) m)) all u o)
-            ∙ ap (λ (s : State). wordAt (recipe bytes) s p (cellOf (recipe bytes) m q)) (sym (words-are g))
+            ap (λ (s : State). wordAt (recipe bytes route) s r (cellOf (recipe bytes route) m q))
+            (after-of (event-call d e (turnOf r) 0 u) ∙ ap (λ (s : State). calls bytes route source s (turnOf r) .after) (words-are all))
+            ∙ posted before p m (did c p (send m) g t n) .arrives then r q h (did e r (gather (takerOf (recipe bytes route) m)) all u o)
+            ∙ ap (λ (s : State). wordAt (recipe bytes route) s p (cellOf (recipe bytes route) m q)) (sym (words-are g))
 
-    exact-calls : ExactCalls bytes source
+    exact-calls : ExactCalls bytes route source
     exact-calls =
         record {
           plan = over;
@@ -251,29 +252,29 @@ module _ (bytes source : List ℕ) where
 
   -- ---- demand 3
 
-  module _ (small : Bytes bytes) (a start b : Areas) (events : List Event) (numbers : List ℕ) (fresh : FreshGave bytes source a 0 start)
-      (gave : EventsGave bytes source start events numbers b) where
-    abbrev ns : numbers ≡ answersTo (calls bytes source) (inWords start) events
+  module _ (small : Bytes bytes) (a start b : Areas) (events : List Event) (numbers : List ℕ) (fresh : FreshGave bytes route source a 0 start)
+      (gave : EventsGave bytes route source start events numbers b) where
+    abbrev ns : numbers ≡ answersTo (calls bytes route source) (inWords start) events
     ns = numbers-are gave
 
-    abbrev ws : inWords b ≡ stateAfter (calls bytes source) (inWords start) events
+    abbrev ws : inWords b ≡ stateAfter (calls bytes route source) (inWords start) events
     ws = words-are gave
 
-    demand : Demand3 (calls bytes source) (inWords start) events (recipe bytes) source (collectCall bytes source)
+    demand : Demand3 (calls bytes route source) (inWords start) events (recipe bytes route) source (collectCall bytes route source)
     demand =
-        subst (λ (s : State). Demand3 (calls bytes source) s events (recipe bytes) source (collectCall bytes source)) (sym (after-of fresh))
-        (engine.demands .three bytes source (inWords a) small (sym (number-of fresh)) events)
+        subst (λ (s : State). Demand3 (calls bytes route source) s events (recipe bytes route) source (collectCall bytes route source)) (sym (after-of fresh))
+        (engine.demands .three bytes route source (inWords a) small (sym (number-of fresh)) events)
 
     -- the next call, of the areas `b`
-    next-number : (e : Event) (n : ℕ) (c : Areas) → EventGave bytes source b e n c
-        → n ≡ calls bytes source (stateAfter (calls bytes source) (inWords start) events) e .number
-    next-number e n c h = number-of (event-call b c e n h) ∙ ap (λ (s : State). calls bytes source s e .number) ws
+    next-number : (e : Event) (n : ℕ) (c : Areas) → EventGave bytes route source b e n c
+        → n ≡ calls bytes route source (stateAfter (calls bytes route source) (inWords start) events) e .number
+    next-number e n c h = number-of (event-call b c e n h) ∙ ap (λ (s : State). calls bytes route source s e .number) ws
 
-    collect-is : (old grid : List ℕ) (n : ℕ) → CollectGave bytes source b old n grid
-        → answer n grid ≡ collectCall bytes source (stateAfter (calls bytes source) (inWords start) events) old
-    collect-is old grid n h = h ∙ ap (λ (s : State). collectCall bytes source s old) ws
+    collect-is : (old grid : List ℕ) (n : ℕ) → CollectGave bytes route source b old n grid
+        → answer n grid ≡ collectCall bytes route source (stateAfter (calls bytes route source) (inWords start) events) old
+    collect-is old grid n h = h ∙ ap (λ (s : State). collectCall bytes route source s old) ws
 
-    fixed-run : FixedRun bytes source start events numbers b
+    fixed-run : FixedRun bytes route source start events numbers b
     fixed-run =
         record {
           numbers-are = ns;
@@ -291,5 +292,5 @@ module _ (bytes source : List ℕ) where
               after-of (collect-is old grid 0 h) ∙ demand .grid (demand .then-all old l z) old l;
         }
 
-pub over-records : (bytes source : List ℕ) → OverRecords bytes source
-over-records bytes source = record { one = fixed-calls bytes source; two = exact-calls bytes source; three = fixed-run bytes source }
+pub over-records : (bytes : List ℕ) (route : ℕ) (source : List ℕ) → OverRecords bytes route source
+over-records bytes route source = record { one = fixed-calls bytes route source; two = exact-calls bytes route source; three = fixed-run bytes route source }

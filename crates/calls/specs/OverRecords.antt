@@ -1,5 +1,5 @@
--- The demands for the calls as exported, board records as structs: what a call's contract says of the areas lent to it, the number
--- it gave and the areas it left, and a run as a list of such calls. Document 01, "The machine", "Numbers a call gives" and "Runs".
+-- The demands for the calls as exported, board records as structs: what a contract says of the areas lent, the number given and the areas
+-- left; a run as a list of such calls on one route. Document 01, "The machine", "Numbers a call gives", "Runs"; W-204.
 use Prim.Native.Nat.{ℕ, _<_}
 use mathlib.Core.Path.{_≡_}
 use mathlib.Core.Logic.{_≢_, _↔_}
@@ -14,12 +14,14 @@ use Rattle.machine.specs.Machine.{State, Action, gather, send, stateOf, carryOu
 use Rattle.machine.specs.Runs.{Event, turnOf, deliveryOf, last, answers, total, program, turnsOf, Demand3}
 use Rattle.machine.specs.Words.{wordAt, mailAt, cellOf, Does}
 use Rattle.nest.specs.Nest.{nestOf, readLines}
+use Rattle.plan.specs.Hops.{hops}
 use Rattle.plan.specs.Exact.{sequential, runNest}
+use Rattle.table.specs.Summary.{directionOf}
 use Rattle.records.specs.declared.Progress.{Progress}
 use Rattle.records.specs.Records.{flatWords}
 use Rattle.engine.specs.Calls.{answer, recipe, freshCallLines, freshCall, turnCallLines, turnCall, deliverCallLines, deliverCall, collectCallLines, collectCall, sweepCallLines, sweepCall}
 use Rattle.engine.specs.Demands.{Fixed, calls, Demand2}
-use Rattle.calls.specs.PlanCalls.{figureWords, summaryCallLines, summaryCall, lineWords, messageCallLines, messageCall}
+use Rattle.calls.specs.PlanCalls.{figureWords, summaryCallLines, summaryCall, lineWords, messageCallLines, messageCall, hopsCallLines, hopsCall}
 
 -- the lent areas that a step may change, records as structs; and their words
 pub record Areas : Type 0 where
@@ -33,36 +35,39 @@ inWords a = stateOf (a .memories) (a .buffer) (flatWords (a .progress)) (a .stat
 
 -- ---- the contracts of src/lib.rt: lent `a`, the call gave n and left `b`; what is lent for reading alone is left as it was
 
-module _ (bytes source : List ℕ) where
+module _ (bytes : List ℕ) (route : ℕ) (source : List ℕ) where
   abbrev pub FreshGave : Areas → ℕ → Areas → Type 0
-  FreshGave a n b = answer n (inWords b) ≡ freshCall bytes source (inWords a)
+  FreshGave a n b = answer n (inWords b) ≡ freshCall bytes route source (inWords a)
 
   abbrev pub EventGave : Areas → Event → ℕ → Areas → Type 0
-  EventGave a (turnOf p) n b = answer n (inWords b) ≡ turnCall bytes source (inWords a) p
-  EventGave a (deliveryOf m) n b = answer n (inWords b) ≡ deliverCall bytes source (inWords a) m
+  EventGave a (turnOf p) n b = answer n (inWords b) ≡ turnCall bytes route source (inWords a) p
+  EventGave a (deliveryOf m) n b = answer n (inWords b) ≡ deliverCall bytes route source (inWords a) m
 
   -- lent the words `old` too, left as `grid`
   abbrev pub CollectGave : Areas → List ℕ → ℕ → List ℕ → Type 0
-  CollectGave a old n grid = answer n grid ≡ collectCall bytes source (inWords a) old
+  CollectGave a old n grid = answer n grid ≡ collectCall bytes route source (inWords a) old
 
-  abbrev pub SweepGave : List ℕ → ℕ → List ℕ → Type 0
-  SweepGave old n grid = answer n grid ≡ sweepCall bytes source old
-
-  -- events, each lent the areas as the last left them: areas before, events, their numbers, areas after
+  -- events, each given this route and lent the areas as the last left them: areas before, events, their numbers, areas after
   pub data EventsGave : Areas → List Event → List ℕ → Areas → Type 0 where
     none : {a : Areas} → EventsGave a [] [] a
     next : {a b c : Areas} {e : Event} {es : List Event} {n : ℕ} {ns : List ℕ}
         → EventGave a e n b → EventsGave b es ns c → EventsGave a (e ∷ es) (n ∷ ns) c
 
-abbrev pub SummaryGave : List ℕ → List ℕ → ℕ → List ℕ → Type 0
-SummaryGave bytes old n out = answer n out ≡ summaryCall bytes old
+abbrev pub SweepGave : List ℕ → List ℕ → List ℕ → ℕ → List ℕ → Type 0
+SweepGave bytes source old n grid = answer n grid ≡ sweepCall bytes source old
 
-abbrev pub MessageGave : List ℕ → ℕ → List ℕ → ℕ → List ℕ → Type 0
-MessageGave bytes m old n out = answer n out ≡ messageCall bytes m old
+abbrev pub SummaryGave : List ℕ → ℕ → List ℕ → ℕ → List ℕ → Type 0
+SummaryGave bytes route old n out = answer n out ≡ summaryCall bytes route old
+
+abbrev pub MessageGave : List ℕ → ℕ → ℕ → List ℕ → ℕ → List ℕ → Type 0
+MessageGave bytes route m old n out = answer n out ≡ messageCall bytes route m old
+
+abbrev pub HopsGave : List ℕ → ℕ → List ℕ → ℕ → List ℕ → Type 0
+HopsGave bytes m old n out = answer n out ≡ hopsCall bytes m old
 
 -- the action that processor p's program names after these events and their numbers
-abbrev pub namedNext : List ℕ → ℕ → List Event → List ℕ → Action
-namedNext bytes p events numbers = getD (program (recipe bytes) p) (turnsOf p events numbers) (gather 0)
+abbrev pub namedNext : List ℕ → ℕ → ℕ → List Event → List ℕ → Action
+namedNext bytes route p events numbers = getD (program (recipe bytes route) p) (turnsOf p events numbers) (gather 0)
 
 -- ---- demand 1
 
@@ -71,56 +76,59 @@ pub record FixedAreas (lines : List Line) (done : State) (a : Areas) (n : ℕ) (
   pub fixed : Fixed (answer n (inWords b)) lines done (inWords a)
   pub as-before : n ≢ 0 → b ≡ a
 
-pub record FixedCalls (bytes source : List ℕ) : Type 0 where
-  pub fresh : (a b : Areas) (n : ℕ) → FreshGave bytes source a n b
-      → FixedAreas (freshCallLines bytes source (inWords a)) (machine.fresh (recipe bytes)) a n b
-  pub turn : (a b : Areas) (p n : ℕ) → EventGave bytes source a (turnOf p) n b
-      → FixedAreas (turnCallLines bytes source (inWords a) p)
-      (carryOut (recipe bytes) source (inWords a) p (nextAction (recipe bytes) (inWords a) p)) a n b
-  pub deliver : (a b : Areas) (m n : ℕ) → EventGave bytes source a (deliveryOf m) n b
-      → FixedAreas (deliverCallLines bytes source (inWords a) m)
+pub record FixedCalls (bytes : List ℕ) (route : ℕ) (source : List ℕ) : Type 0 where
+  pub fresh : (a b : Areas) (n : ℕ) → FreshGave bytes route source a n b
+      → FixedAreas (freshCallLines bytes route source (inWords a)) (machine.fresh (recipe bytes route)) a n b
+  pub turn : (a b : Areas) (p n : ℕ) → EventGave bytes route source a (turnOf p) n b
+      → FixedAreas (turnCallLines bytes route source (inWords a) p)
+      (carryOut (recipe bytes route) source (inWords a) p (nextAction (recipe bytes route) (inWords a) p)) a n b
+  pub deliver : (a b : Areas) (m n : ℕ) → EventGave bytes route source a (deliveryOf m) n b
+      → FixedAreas (deliverCallLines bytes route source (inWords a) m)
       (stateOf (a .memories) (a .buffer) (flatWords (a .progress)) (set (a .status) m 2)) a n b
-  pub collect : (a : Areas) (old grid : List ℕ) (n : ℕ) → CollectGave bytes source a old n grid
-      → Fixed (answer n grid) (collectCallLines bytes source (inWords a) old) (collected (recipe bytes) (inWords a)) old
+  pub collect : (a : Areas) (old grid : List ℕ) (n : ℕ) → CollectGave bytes route source a old n grid
+      → Fixed (answer n grid) (collectCallLines bytes route source (inWords a) old) (collected (recipe bytes route) (inWords a)) old
   pub sweep : (old grid : List ℕ) (n : ℕ) → SweepGave bytes source old n grid
-      → Fixed (answer n grid) (sweepCallLines bytes source old) (machine.sweep (recipe bytes) source) old
-  pub summary : (old out : List ℕ) (n : ℕ) → SummaryGave bytes old n out
-      → Fixed (answer n out) (summaryCallLines bytes old) (figureWords (recipe bytes)) old
-  pub message : (m : ℕ) (old out : List ℕ) (n : ℕ) → MessageGave bytes m old n out
-      → Fixed (answer n out) (messageCallLines bytes m old) (lineWords (recipe bytes) m) old
+      → Fixed (answer n grid) (sweepCallLines bytes source old) (machine.sweep (recipe bytes route) source) old
+  pub summary : (old out : List ℕ) (n : ℕ) → SummaryGave bytes route old n out
+      → Fixed (answer n out) (summaryCallLines bytes old) (figureWords (recipe bytes route)) old
+  pub message : (m : ℕ) (old out : List ℕ) (n : ℕ) → MessageGave bytes route m old n out
+      → Fixed (answer n out) (messageCallLines bytes route m old) (lineWords (recipe bytes route) m) old
+  pub hops : (m : ℕ) (old out : List ℕ) (n : ℕ) → HopsGave bytes m old n out
+      → Fixed (answer n out) (hopsCallLines bytes m old) (hops (nestOf bytes) (directionOf (nestOf bytes) m) ∷ []) old
   -- the contracts can be kept, and in one way only
-  pub can-fresh : (a : Areas) → (n : ℕ) × ((b : Areas) × FreshGave bytes source a n b)
-  pub can-event : (a : Areas) (e : Event) → (n : ℕ) × ((b : Areas) × EventGave bytes source a e n b)
-  pub one-fresh : (a b c : Areas) (n k : ℕ) → FreshGave bytes source a n b → FreshGave bytes source a k c → (n ≡ k) × (b ≡ c)
+  pub can-fresh : (a : Areas) → (n : ℕ) × ((b : Areas) × FreshGave bytes route source a n b)
+  pub can-event : (a : Areas) (e : Event) → (n : ℕ) × ((b : Areas) × EventGave bytes route source a e n b)
+  pub one-fresh : (a b c : Areas) (n k : ℕ) → FreshGave bytes route source a n b → FreshGave bytes route source a k c → (n ≡ k) × (b ≡ c)
   pub one-event : (a b c : Areas) (e : Event) (n k : ℕ)
-      → EventGave bytes source a e n b → EventGave bytes source a e k c → (n ≡ k) × (b ≡ c)
+      → EventGave bytes route source a e n b → EventGave bytes route source a e k c → (n ≡ k) × (b ≡ c)
 
 -- ---- demand 2, where calls are made: what is true of the plan alone is engine's
 
-pub record ExactCalls (bytes source : List ℕ) : Type 0 where
-  pub plan : Demand2 bytes
+pub record ExactCalls (bytes : List ℕ) (route : ℕ) (source : List ℕ) : Type 0 where
+  pub plan : Demand2 bytes route
   -- a turn that gave 0 did the rule of its action, word by word; a gather wrote every word of every message due to its cell
-  pub turned : (a b : Areas) (p : ℕ) → EventGave bytes source a (turnOf p) 0 b
-      → Does (recipe bytes) source (inWords a) (inWords b) p (nextAction (recipe bytes) (inWords a) p)
-  pub unpacked : (a b : Areas) (p t : ℕ) → EventGave bytes source a (turnOf p) 0 b → nextAction (recipe bytes) (inWords a) p ≡ gather t
-      → (m q : ℕ) → In m (duesOf (recipe bytes) t) → q < length (heldBy (recipe bytes) m)
-      → wordAt (recipe bytes) (inWords b) p (cellOf (recipe bytes) m q) ≡ mailAt (recipe bytes) (inWords a) m q
+  pub turned : (a b : Areas) (p : ℕ) → EventGave bytes route source a (turnOf p) 0 b
+      → Does (recipe bytes route) source (inWords a) (inWords b) p (nextAction (recipe bytes route) (inWords a) p)
+  pub unpacked : (a b : Areas) (p t : ℕ) → EventGave bytes route source a (turnOf p) 0 b
+      → nextAction (recipe bytes route) (inWords a) p ≡ gather t → (m q : ℕ) → In m (duesOf (recipe bytes route) t) → q < length (heldBy (recipe bytes route) m)
+      → wordAt (recipe bytes route) (inWords b) p (cellOf (recipe bytes route) m q) ≡ mailAt (recipe bytes route) (inWords a) m q
   -- in a run a turn of p, lent b, sent m: whatever was called then, the message's words are what its cells had in p's memory,
   pub stays : (a start b c d : Areas) (before then : List Event) (ns ks : List ℕ) (p m q : ℕ)
-      → FreshGave bytes source a 0 start → EventsGave bytes source start before ns b
-      → EventGave bytes source b (turnOf p) 0 c → namedNext bytes p before ns ≡ send m
-      → EventsGave bytes source c then ks d → q < length (heldBy (recipe bytes) m)
-      → mailAt (recipe bytes) (inWords d) m q ≡ wordAt (recipe bytes) (inWords b) p (cellOf (recipe bytes) m q)
+      → FreshGave bytes route source a 0 start → EventsGave bytes route source start before ns b
+      → EventGave bytes route source b (turnOf p) 0 c → namedNext bytes route p before ns ≡ send m
+      → EventsGave bytes route source c then ks d → q < length (heldBy (recipe bytes route) m)
+      → mailAt (recipe bytes route) (inWords d) m q ≡ wordAt (recipe bytes route) (inWords b) p (cellOf (recipe bytes route) m q)
   -- and the taking tile's gather, by processor r, writes these
   pub arrives : (a start b c d e : Areas) (before then : List Event) (ns ks : List ℕ) (p r m q : ℕ)
-      → FreshGave bytes source a 0 start → EventsGave bytes source start before ns b
-      → EventGave bytes source b (turnOf p) 0 c → namedNext bytes p before ns ≡ send m
-      → EventsGave bytes source c then ks d → q < length (heldBy (recipe bytes) m)
-      → EventGave bytes source d (turnOf r) 0 e
-      → namedNext bytes r (before ++ (turnOf p ∷ then)) (ns ++ (0 ∷ ks)) ≡ gather (takerOf (recipe bytes) m)
-      → wordAt (recipe bytes) (inWords e) r (cellOf (recipe bytes) m q) ≡ wordAt (recipe bytes) (inWords b) p (cellOf (recipe bytes) m q)
+      → FreshGave bytes route source a 0 start → EventsGave bytes route source start before ns b
+      → EventGave bytes route source b (turnOf p) 0 c → namedNext bytes route p before ns ≡ send m
+      → EventsGave bytes route source c then ks d → q < length (heldBy (recipe bytes route) m)
+      → EventGave bytes route source d (turnOf r) 0 e
+      → namedNext bytes route r (before ++ (turnOf p ∷ then)) (ns ++ (0 ∷ ks)) ≡ gather (takerOf (recipe bytes route) m)
+      → wordAt (recipe bytes route) (inWords e) r (cellOf (recipe bytes route) m q)
+      ≡ wordAt (recipe bytes route) (inWords b) p (cellOf (recipe bytes route) m q)
   -- the sweep call leaves what the sequential nest leaves, from an array of any content
-  pub nest : (old grid array : List ℕ) → SweepGave bytes source old 0 grid → length array ≡ recipe bytes .cells
+  pub nest : (old grid array : List ℕ) → SweepGave bytes source old 0 grid → length array ≡ recipe bytes route .cells
       → grid ≡ runNest (nestOf bytes) source array (sequential (nestOf bytes))
 
 -- ---- demand 3: events from the areas `start` that a fresh start left, with their numbers; `b` are the areas after them
@@ -128,22 +136,24 @@ pub record ExactCalls (bytes source : List ℕ) : Type 0 where
 abbrev pub stepsIn : List ℕ → ℕ
 stepsIn numbers = countIf (λ n. eqb n 0) numbers
 
-pub record FixedRun (bytes source : List ℕ) (start : Areas) (events : List Event) (numbers : List ℕ) (b : Areas) : Type 0 where
+pub record FixedRun (bytes : List ℕ) (route : ℕ) (source : List ℕ) (start : Areas) (events : List Event) (numbers : List ℕ) (b : Areas)
+    : Type 0 where
   -- number by number and word by word the run over words, which has what demand 3 asks
-  pub numbers-are : numbers ≡ answers (calls bytes source) (inWords start) events
-  pub words-are : inWords b ≡ last (calls bytes source) (inWords start) events
-  pub demand : Demand3 (calls bytes source) (inWords start) events (recipe bytes) source (collectCall bytes source)
+  pub numbers-are : numbers ≡ answers (calls bytes route source) (inWords start) events
+  pub words-are : inWords b ≡ last (calls bytes route source) (inWords start) events
+  pub demand : Demand3 (calls bytes route source) (inWords start) events (recipe bytes route) source (collectCall bytes route source)
   -- what it says of a further call: some event gives 0 exactly when the steps are fewer
-  pub goes-on : stepsIn numbers < total (recipe bytes) → (e : Event) × ((n : ℕ) (c : Areas) → EventGave bytes source b e n c → n ≡ 0)
-  pub then-fewer : (e : Event) (c : Areas) → EventGave bytes source b e 0 c → stepsIn numbers < total (recipe bytes)
+  pub goes-on : stepsIn numbers < total (recipe bytes route)
+      → (e : Event) × ((n : ℕ) (c : Areas) → EventGave bytes route source b e n c → n ≡ 0)
+  pub then-fewer : (e : Event) (c : Areas) → EventGave bytes route source b e 0 c → stepsIn numbers < total (recipe bytes route)
   -- collecting into a grid of the right length gives 0 exactly when they are that many, and then the sweep
-  pub collects : (old grid : List ℕ) (n : ℕ) → length old ≡ recipe bytes .cells → CollectGave bytes source b old n grid
-      → (n ≡ 0) ↔ (stepsIn numbers ≡ total (recipe bytes))
-  pub grid : (old grid : List ℕ) → CollectGave bytes source b old 0 grid → grid ≡ machine.sweep (recipe bytes) source
+  pub collects : (old grid : List ℕ) (n : ℕ) → length old ≡ recipe bytes route .cells → CollectGave bytes route source b old n grid
+      → (n ≡ 0) ↔ (stepsIn numbers ≡ total (recipe bytes route))
+  pub grid : (old grid : List ℕ) → CollectGave bytes route source b old 0 grid → grid ≡ machine.sweep (recipe bytes route) source
 
-pub record OverRecords (bytes source : List ℕ) : Type 0 where
-  pub one : FixedCalls bytes source
-  pub two : Bytes bytes → firstOf (readLines bytes) ≡ 0 → ExactCalls bytes source
+pub record OverRecords (bytes : List ℕ) (route : ℕ) (source : List ℕ) : Type 0 where
+  pub one : FixedCalls bytes route source
+  pub two : Bytes bytes → firstOf (readLines bytes) ≡ 0 → ExactCalls bytes route source
   pub three : Bytes bytes → (a start b : Areas) (events : List Event) (numbers : List ℕ)
-      → FreshGave bytes source a 0 start → EventsGave bytes source start events numbers b
-      → FixedRun bytes source start events numbers b
+      → FreshGave bytes route source a 0 start → EventsGave bytes route source start events numbers b
+      → FixedRun bytes route source start events numbers b

@@ -1,18 +1,20 @@
 // The offered calls with C linkage: over progress records as structs a fresh start, a turn, a delivery, collecting;
-// over words the sweep, a plan's figures and a message's line; over bytes the recipe writer.
+// over words the sweep, a plan's figures, a message's line and its hops; over bytes the recipe writer. The word `route` is 0 for direct
+// passing, any other for indirect.
 ghost use mathlib.Core.Path.{_≡_};
 ghost use Rattle.machine.specs.Machine.{stateOf};
 ghost use Rattle.engine.specs.Calls.{answer, freshCall, turnCall, deliverCall, collectCall, sweepCall};
 ghost use Rattle.records.specs.Records.{flatWords};
 ghost use Rattle.writer.specs.Fields.{fields};
 ghost use Rattle.writer.specs.Writing.{writeCall};
-ghost use Rattle.calls.specs.PlanCalls.{summaryCall, messageCall};
+ghost use Rattle.calls.specs.PlanCalls.{summaryCall, messageCall, hopsCall};
 use records::Progress;
 
 // One turn of a processor.
 #[no_mangle]
 pub extern "C" fn rolwyddac_turn(
     encoded: &[u8],
+    route: u32,
     source: &[u32],
     memories: &mut [u32],
     buffer: &mut [u32],
@@ -21,10 +23,19 @@ pub extern "C" fn rolwyddac_turn(
     processor: u32,
 ) -> u32
     ensures { λ r. ⌜ answer r (stateOf (now (memories .exit)) (now (buffer .exit)) (flatWords (now (progress .exit))) (now (status .exit)))
-        ≡ turnCall (now (encoded .entry)) (now (source .entry)) (stateOf (now (memories .entry)) (now (buffer .entry)) (flatWords (now (progress .entry))) (now (status .entry))) processor ⌝ }
+        ≡ turnCall (now (encoded .entry)) route (now (source .entry)) (stateOf (now (memories .entry)) (now (buffer .entry)) (flatWords (now (progress .entry))) (now (status .entry))) processor ⌝ }
 {
     let flat = records::flatten(progress);
-    let after = engine::core::turn(encoded, source, memories, buffer, flat, status, processor);
+    let after = engine::core::turn(
+        encoded,
+        route,
+        source,
+        memories,
+        buffer,
+        flat,
+        status,
+        processor,
+    );
     records::put(progress, after.number, processor, after.progress);
     after.number
 }
@@ -33,6 +44,7 @@ pub extern "C" fn rolwyddac_turn(
 #[no_mangle]
 pub extern "C" fn rolwyddac_fresh(
     encoded: &[u8],
+    route: u32,
     source: &[u32],
     memories: &mut [u32],
     buffer: &mut [u32],
@@ -40,10 +52,10 @@ pub extern "C" fn rolwyddac_fresh(
     status: &mut [u8],
 ) -> u32
     ensures { λ n. ⌜ answer n (stateOf (now (memories .exit)) (now (buffer .exit)) (flatWords (now (progress .exit))) (now (status .exit)))
-        ≡ freshCall (now (encoded .entry)) (now (source .entry)) (stateOf (now (memories .entry)) (now (buffer .entry)) (flatWords (now (progress .entry))) (now (status .entry))) ⌝ }
+        ≡ freshCall (now (encoded .entry)) route (now (source .entry)) (stateOf (now (memories .entry)) (now (buffer .entry)) (flatWords (now (progress .entry))) (now (status .entry))) ⌝ }
 {
     let words = 3 * progress.len();
-    let number = engine::core::fresh(encoded, source, memories, buffer, words, status);
+    let number = engine::core::fresh(encoded, route, source, memories, buffer, words, status);
     records::clear(progress, number);
     number
 }
@@ -52,6 +64,7 @@ pub extern "C" fn rolwyddac_fresh(
 #[no_mangle]
 pub extern "C" fn rolwyddac_deliver(
     encoded: &[u8],
+    route: u32,
     source: &[u32],
     memories: &[u32],
     buffer: &[u32],
@@ -60,16 +73,26 @@ pub extern "C" fn rolwyddac_deliver(
     message: u32,
 ) -> u32
     ensures { λ r. ⌜ answer r (stateOf (now (memories .entry)) (now (buffer .entry)) (flatWords (now (progress .entry))) (now (status .exit)))
-        ≡ deliverCall (now (encoded .entry)) (now (source .entry)) (stateOf (now (memories .entry)) (now (buffer .entry)) (flatWords (now (progress .entry))) (now (status .entry))) message ⌝ }
+        ≡ deliverCall (now (encoded .entry)) route (now (source .entry)) (stateOf (now (memories .entry)) (now (buffer .entry)) (flatWords (now (progress .entry))) (now (status .entry))) message ⌝ }
 {
     let flat = records::flatten(progress);
-    engine::core::deliver(encoded, source, memories, buffer, flat, status, message)
+    engine::core::deliver(
+        encoded,
+        route,
+        source,
+        memories,
+        buffer,
+        flat,
+        status,
+        message,
+    )
 }
 
 // The grid, once all processors have finished.
 #[no_mangle]
 pub extern "C" fn rolwyddac_collect(
     encoded: &[u8],
+    route: u32,
     source: &[u32],
     memories: &[u32],
     buffer: &[u32],
@@ -78,10 +101,10 @@ pub extern "C" fn rolwyddac_collect(
     grid: &mut [u32],
 ) -> u32
     ensures { λ r. ⌜ answer r (now (grid .exit))
-        ≡ collectCall (now (encoded .entry)) (now (source .entry)) (stateOf (now (memories .entry)) (now (buffer .entry)) (flatWords (now (progress .entry))) (now (status .entry))) (now (grid .entry)) ⌝ }
+        ≡ collectCall (now (encoded .entry)) route (now (source .entry)) (stateOf (now (memories .entry)) (now (buffer .entry)) (flatWords (now (progress .entry))) (now (status .entry))) (now (grid .entry)) ⌝ }
 {
     let flat = records::flatten(progress);
-    engine::core::collect(encoded, source, memories, buffer, flat, status, grid)
+    engine::core::collect(encoded, route, source, memories, buffer, flat, status, grid)
 }
 
 // The sequential sweep of the whole grid.
@@ -94,10 +117,10 @@ pub extern "C" fn rolwyddac_sweep(encoded: &[u8], source: &[u32], grid: &mut [u3
 
 // The figures of the recipe's plan: tiles, messages, words, steps.
 #[no_mangle]
-pub extern "C" fn rolwyddac_summary(encoded: &[u8], out: &mut [u32]) -> u32
-    ensures { λ r. ⌜ answer r (now (out .exit)) ≡ summaryCall (now (encoded .entry)) (now (out .entry)) ⌝ }
+pub extern "C" fn rolwyddac_summary(encoded: &[u8], route: u32, out: &mut [u32]) -> u32
+    ensures { λ r. ⌜ answer r (now (out .exit)) ≡ summaryCall (now (encoded .entry)) route (now (out .entry)) ⌝ }
 {
-    let figures = table::summary(encoded);
+    let figures = table::summary(encoded, route);
     let number = figures.number;
     if number != 0 {
         return number;
@@ -114,8 +137,8 @@ pub extern "C" fn rolwyddac_summary(encoded: &[u8], out: &mut [u32]) -> u32
 
 // The line of message m: sending tile, taking tile, sending processor, taking processor, words.
 #[no_mangle]
-pub extern "C" fn rolwyddac_message(encoded: &[u8], m: u32, out: &mut [u32]) -> u32
-    ensures { λ r. ⌜ answer r (now (out .exit)) ≡ messageCall (now (encoded .entry)) m (now (out .entry)) ⌝ }
+pub extern "C" fn rolwyddac_message(encoded: &[u8], route: u32, m: u32, out: &mut [u32]) -> u32
+    ensures { λ r. ⌜ answer r (now (out .exit)) ≡ messageCall (now (encoded .entry)) route m (now (out .entry)) ⌝ }
 {
     let reading = nest::read(encoded);
     let read = reading.number;
@@ -125,7 +148,7 @@ pub extern "C" fn rolwyddac_message(encoded: &[u8], m: u32, out: &mut [u32]) -> 
     if out.len() != 5 {
         return 9;
     }
-    let line = table::message(encoded, m);
+    let line = table::message(encoded, route, m);
     let number = line.number;
     if number != 0 {
         return number;
@@ -135,6 +158,28 @@ pub extern "C" fn rolwyddac_message(encoded: &[u8], m: u32, out: &mut [u32]) -> 
     out[2] = line.from;
     out[3] = line.to;
     out[4] = line.words;
+    0
+}
+
+// The hops on the indirect route of message m of the direct one.
+#[no_mangle]
+pub extern "C" fn rolwyddac_hops(encoded: &[u8], m: u32, out: &mut [u32]) -> u32
+    ensures { λ r. ⌜ answer r (now (out .exit)) ≡ hopsCall (now (encoded .entry)) m (now (out .entry)) ⌝ }
+{
+    let reading = nest::read(encoded);
+    let read = reading.number;
+    if read != 0 {
+        return read;
+    }
+    if out.len() != 1 {
+        return 9;
+    }
+    let told = table::hops(encoded, m);
+    let number = told.number;
+    if number != 0 {
+        return number;
+    }
+    out[0] = told.hops;
     0
 }
 

@@ -23,7 +23,7 @@ use Rattle.base.specs.Lists.{Bytes}
 use Rattle.nest.specs.Nest.{readLines, nestOf, readingOf}
 use Rattle.nest.proofs.Facts.{accepted}
 use Rattle.layout.specs.declared.Sizes.{Sizes}
-use Rattle.layout.specs.Sizes.{Sized}
+use Rattle.layout.specs.Sizes.{Sized, routeOf}
 use Rattle.table.specs.declared.Figures.{Figures}
 use Rattle.table.specs.Summary.{figuresOf, summaryOf}
 use Rattle.table.proofs.Answers.{nest-is, summary-is}
@@ -42,23 +42,23 @@ use Rattle.comparison.proofs.Most.{messages-most, words-most}
 
 module _ (bytes source : List ℕ) (s : State) where
   -- one that gave 0: the source has a word for each cell
-  fresh-says : freshCall bytes source s .number ≡ 0 → length source ≡ recipe bytes .cells
+  fresh-says : freshCall bytes 0 source s .number ≡ 0 → length source ≡ recipe bytes 0 .cells
   unfolding freshCall areas
   fresh-says z =
       let a = none-first 9 _ [] (λ e. omega arith) (behind-none (readLines bytes) _ (numbered bytes) z) in
       eqb-true _ _ (both (true-not (a .0)) .0)
 
   -- it gives 0 where the recipe is accepted and the areas have their lengths
-  fresh-goes : firstOf (readLines bytes) ≡ 0 → length source ≡ recipe bytes .cells
-      → length (s .memories) ≡ recipe bytes .processors * recipe bytes .cells → length (s .buffer) ≡ words (recipe bytes)
-      → length (s .progress) ≡ 3 * recipe bytes .processors → length (s .status) ≡ count (recipe bytes)
-      → freshCall bytes source s .number ≡ 0
+  fresh-goes : firstOf (readLines bytes) ≡ 0 → length source ≡ recipe bytes 0 .cells
+      → length (s .memories) ≡ recipe bytes 0 .processors * recipe bytes 0 .cells → length (s .buffer) ≡ words (recipe bytes 0)
+      → length (s .progress) ≡ 3 * recipe bytes 0 .processors → length (s .status) ≡ count (recipe bytes 0)
+      → freshCall bytes 0 source s .number ≡ 0
   unfolding freshCall areas firstOf
   fresh-goes z a b c d e =
       first-behind (readLines bytes) _ (numbered bytes) z
       ∙ first-false 9 _ [] (not-true (and-true (eq-eqb _ _ a) (and-true (eq-eqb _ _ b) (and-true (eq-eqb _ _ c) (and-true (eq-eqb _ _ d) (eq-eqb _ _ e))))))
 
-  sweep-goes : (grid : List ℕ) → firstOf (readLines bytes) ≡ 0 → length source ≡ recipe bytes .cells → length grid ≡ recipe bytes .cells
+  sweep-goes : (grid : List ℕ) → firstOf (readLines bytes) ≡ 0 → length source ≡ recipe bytes 0 .cells → length grid ≡ recipe bytes 0 .cells
       → sweepCall bytes source grid .number ≡ 0
   unfolding sweepCall firstOf
   sweep-goes grid z a b =
@@ -95,12 +95,12 @@ one-more a b i h e j l = go (eq-or-lt-of-le (omega arith))
 -- ---- a run, collected and compared: each way that the code can end
 
 module _ (bytes source : List ℕ) (s t u : State) (o : Order) (n r : ℕ) where
-  pub run : answer r t ≡ freshCall bytes source s → Driven bytes source o n t u → u ≡ ran bytes source o n s
+  pub run : answer r t ≡ freshCall bytes 0 source s → Driven bytes source o n t u → u ≡ ran bytes source o n s
   unfolding ran
   run is d = d .state ∙ ap (λ (a : Answered State). driven bytes source o n (a .after)) is
 
 module _ (bytes source : List ℕ) (t : State) (g h g′ h′ : List ℕ) (p q : ℕ) where
-  module _ (c : answer p g′ ≡ collectCall bytes source t g) (w : answer q h′ ≡ sweepCall bytes source h) where
+  module _ (c : answer p g′ ≡ collectCall bytes 0 source t g) (w : answer q h′ ≡ sweepCall bytes source h) where
     by-answers : (b : Bool) → b ≡ agreeing (answer p g′) (answer q h′) → outcome t g′ h′ b ≡ compared bytes source t g h
     unfolding compared
     by-answers b e = rw (sym c, sym w) (ap (outcome t g′ h′) e)
@@ -125,16 +125,16 @@ then-compared bytes source o n s t g h g′ h′ b e f = f ∙ ap (λ (t : State
 
 module _ (bytes source : List ℕ) (x : Extent) (falling : Bool) (s : State) (w : Within bytes x) (b : Bytes bytes) where
   abbrev start : State
-  start = freshCall bytes source s .after
+  start = freshCall bytes 0 source s .after
 
   abbrev end : State
   end = ran bytes source (orderOf x falling) (x .steps) s
 
-  module _ (given : freshCall bytes source s .number ≡ 0) where
+  module _ (given : freshCall bytes 0 source s .number ≡ 0) where
     abbrev events : List Event
-    events = roundsOf (calls bytes source) (orderOf x falling) (x .steps) start
+    events = roundsOf (calls bytes 0 source) (orderOf x falling) (x .steps) start
 
-    all-taken : steps (calls bytes source) start events ≡ total (recipe bytes)
+    all-taken : steps (calls bytes 0 source) start events ≡ total (recipe bytes 0)
     all-taken =
         ended bytes source (orderOf x falling) (x .steps) start b
         (record {
@@ -146,26 +146,26 @@ module _ (bytes source : List ℕ) (x : Extent) (falling : Bool) (s : State) (w 
           rounds = w .measured .steps;
         })
 
-    collects : (g : List ℕ) → length g ≡ recipe bytes .cells
-        → (collectCall bytes source end g .number ≡ 0) × (collectCall bytes source end g .after ≡ sweep (recipe bytes) source)
+    collects : (g : List ℕ) → length g ≡ recipe bytes 0 .cells
+        → (collectCall bytes 0 source end g .number ≡ 0) × (collectCall bytes 0 source end g .after ≡ sweep (recipe bytes 0) source)
     unfolding ran
     collects g l =
-        let d = demands .three bytes source s b given events in
+        let d = demands .three bytes 0 source s b given events in
         (d .can-collect all-taken g l, d .grid all-taken g l)
 
-    sweeps : (h : List ℕ) → length h ≡ recipe bytes .cells
-        → (sweepCall bytes source h .number ≡ 0) × (sweepCall bytes source h .after ≡ sweep (recipe bytes) source)
+    sweeps : (h : List ℕ) → length h ≡ recipe bytes 0 .cells
+        → (sweepCall bytes source h .number ≡ 0) × (sweepCall bytes source h .after ≡ sweep (recipe bytes 0) source)
     sweeps h l =
         let z = sweep-goes bytes source s h (w .read) (fresh-says bytes source s given) l in
-        (z, demands .one bytes source s .sweep h .works z)
+        (z, demands .one bytes 0 source s .sweep h .works z)
 
-    pub never-differs : (g h : List ℕ) → length g ≡ recipe bytes .cells → length h ≡ recipe bytes .cells
+    pub never-differs : (g h : List ℕ) → length g ≡ recipe bytes 0 .cells → length h ≡ recipe bytes 0 .cells
         → ranAndCompared bytes source (orderOf x falling) (x .steps) s g h .agree ≡ true
     unfolding compared agreeing
     never-differs g h l k =
         let c = collects g l in
         let d = sweeps h k in
-        and-true (eq-eqb _ 0 (c .0)) (and-true (eq-eqb _ 0 (d .0)) (rw (c .1, d .1) (same-self (sweep (recipe bytes) source))))
+        and-true (eq-eqb _ 0 (c .0)) (and-true (eq-eqb _ 0 (d .0)) (rw (c .1, d .1) (same-self (sweep (recipe bytes 0) source))))
 
 -- ---- the program's sources
 
@@ -230,7 +230,7 @@ module _ (bytes : List ℕ) (x : Extent) (b : Bytes bytes) (w : Within bytes x) 
       }
 
   pub starts : (source m v p s : List ℕ) → length source ≡ x .cells → length m ≡ x .cells * x .processors → length v ≡ x .words
-      → length p ≡ 3 * x .processors → length s ≡ x .messages → freshCall bytes source (stateOf m v p s) .number ≡ 0
+      → length p ≡ 3 * x .processors → length s ≡ x .messages → freshCall bytes 0 source (stateOf m v p s) .number ≡ 0
   starts source m v p s e1 e2 e3 e4 e5 =
       let q = w .measured in
       fresh-goes bytes source (stateOf m v p s) (w .read) (e1 ∙ q .cells)
@@ -286,11 +286,11 @@ module _ (bytes : List ℕ) (x : Extent) (falling : Bool) (a m w p s g h : List 
 
 pub in-limits : (bytes : List ℕ) (r : Reading) (z : Sizes) (f : Figures) (c p : ℕ) → r ≡ readingOf bytes → r .number ≡ 0 → Sized (r .nest) z
     → (z .cells < 4294967296 → c ≡ z .cells) → (z .processors < 4294967296 → p ≡ z .processors) → (c ≤ 1024) × (c * p ≤ 4096)
-    → f ≡ summaryOf bytes → Within bytes (record { cells = c; processors = p; messages = f .messages; words = f .words; steps = f .steps })
+    → f ≡ summaryOf (routeOf 0) bytes → Within bytes (record { cells = c; processors = p; messages = f .messages; words = f .words; steps = f .steps })
 in-limits bytes r z f c p is zero-read g narrow narrow2 low e =
     let read : firstOf (readLines bytes) ≡ 0 = sym (ap (λ (x : Reading). x .number) is) ∙ zero-read in
     let nest = nest-is bytes r is zero-read in
-    let figures : f ≡ figuresOf (recipe bytes) = e ∙ sym (summary-is bytes (nestOf bytes) read refl) in
+    let figures : f ≡ figuresOf (recipe bytes 0) = e ∙ sym (summary-is (routeOf 0) bytes (nestOf bytes) read refl (routeOf 0) refl) in
     record {
       read = read;
       measured =

@@ -32,10 +32,10 @@ sameWords a b = eqb (length a) (length b) and every (λ i. eqb (getD a i 0) (get
 
 -- the areas after a fresh start of s and at most n rounds in the order
 abbrev pub driven : List ℕ → List ℕ → Order → ℕ → State → State
-driven bytes source o n t = stateAfter (calls bytes source) t (roundsOf (calls bytes source) o n t)
+driven bytes source o n t = stateAfter (calls bytes 0 source) t (roundsOf (calls bytes 0 source) o n t)
 
 unfoldable pub ran : List ℕ → List ℕ → Order → ℕ → State → State
-ran bytes source o n s = driven bytes source o n (freshCall bytes source s .after)
+ran bytes source o n s = driven bytes source o n (freshCall bytes 0 source s .after)
 
 -- what stands in the areas and in the two grids at the end, and what is said of the grids
 pub record Outcome : Type 0 where
@@ -54,7 +54,8 @@ agreeing collected swept = eqb (collected .number) 0 and eqb (swept .number) 0 a
 -- the areas t collected into g, the sweep into h
 unfoldable pub compared : List ℕ → List ℕ → State → List ℕ → List ℕ → Outcome
 compared bytes source t g h =
-    outcome t (collectCall bytes source t g .after) (sweepCall bytes source h .after) (agreeing (collectCall bytes source t g) (sweepCall bytes source h))
+    outcome t (collectCall bytes 0 source t g .after) (sweepCall bytes source h .after)
+    (agreeing (collectCall bytes 0 source t g) (sweepCall bytes source h))
 
 -- a run from the areas s, collected and compared
 abbrev pub ranAndCompared : List ℕ → List ℕ → Order → ℕ → State → List ℕ → List ℕ → Outcome
@@ -64,11 +65,11 @@ ranAndCompared bytes source o n s g h = compared bytes source (ran bytes source 
 
 -- the figures are the recipe's
 pub record Measured (bytes : List ℕ) (x : Extent) : Type 0 where
-  pub cells : x .cells ≡ recipe bytes .cells
-  pub processors : x .processors ≡ recipe bytes .processors
-  pub messages : x .messages ≡ count (recipe bytes)
-  pub words : x .words ≡ words (recipe bytes)
-  pub steps : x .steps ≡ total (recipe bytes)
+  pub cells : x .cells ≡ recipe bytes 0 .cells
+  pub processors : x .processors ≡ recipe bytes 0 .processors
+  pub messages : x .messages ≡ count (recipe bytes 0)
+  pub words : x .words ≡ words (recipe bytes 0)
+  pub steps : x .steps ≡ total (recipe bytes 0)
 
 -- an accepted recipe within the program's limits, with its figures
 pub record Within (bytes : List ℕ) (x : Extent) : Type 0 where

@@ -1,6 +1,8 @@
-// A recipe swept both ways, over two sources and in two orders of turns: what the second program of document 01 writes.
+// A recipe swept both ways, over two sources and in two orders of turns, messages passed directly: what the second program of document 01
+// writes.
 use drive::Order;
 use libc::STDOUT_FILENO;
+use plan::Route;
 ghost use mathlib.Core.Path.{_≡_};
 ghost use Prim.Native.Nat.{_*_, _≤_, _<_};
 ghost use lib.ListN.{length, take};
@@ -74,7 +76,7 @@ fn run_whole(
     ensures { λ _. ⌜ stateOf (now (memories .exit)) (now (buffer .exit)) (now (progress .exit)) (now (status .exit))
         ≡ ran (now (encoded .entry)) (now (source .entry)) order steps (stateOf (now (memories .entry)) (now (buffer .entry)) (now (progress .entry)) (now (status .entry))) ⌝ }
 {
-    engine::fresh(encoded, source, memories, buffer, progress, status);
+    engine::fresh(encoded, 0, source, memories, buffer, progress, status);
     drive::drive(
         encoded,
         source,
@@ -101,7 +103,7 @@ fn compare(
     ensures { λ r. ⌜ outcome (stateOf (now (memories .entry)) (now (buffer .entry)) (now (progress .entry)) (now (status .entry))) (now (grid .exit)) (now (swept .exit)) r
         ≡ compared (now (encoded .entry)) (now (source .entry)) (stateOf (now (memories .entry)) (now (buffer .entry)) (now (progress .entry)) (now (status .entry))) (now (grid .entry)) (now (swept .entry)) ⌝ }
 {
-    let collecting = engine::collect(encoded, source, memories, buffer, progress, status, grid);
+    let collecting = engine::collect(encoded, 0, source, memories, buffer, progress, status, grid);
     let sweeping = engine::sweep(encoded, source, swept);
     if collecting != 0 {
         return false;
@@ -300,14 +302,14 @@ pub fn print(encoded: &[u8]) {
         return;
     }
     let nest = reading.nest;
-    let sizes = layout::sizes_of(nest);
+    let sizes = layout::sizes_of(nest, Route::Direct);
     let cells = narrow(sizes.cells);
     let processors = narrow(sizes.processors);
     if is_beyond(cells, processors) {
         io::write_all(STDOUT_FILENO, b"beyond\n");
         return;
     }
-    let figures = table::summary(encoded);
+    let figures = table::summary(encoded, 0);
     let extent = Extent {
         cells: cells,
         processors: processors,

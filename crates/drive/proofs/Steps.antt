@@ -74,107 +74,107 @@ module _ (acts : State → Event → Answered State) (o : Order) (k : ℕ) (t : 
 module _ (bytes source : List ℕ) (s : State) where
   -- ---- turns
 
-  pub turns-start : (P : ℕ) (f : Bool) → Tried (calls bytes source) s (turnsTo P f 0) false s
+  pub turns-start : (P : ℕ) (f : Bool) → Tried (calls bytes 0 source) s (turnsTo P f 0) false s
   unfolding turnsTo
-  turns-start P f = begun (calls bytes source) s
+  turns-start P f = begun (calls bytes 0 source) s
 
   pub turns-next : (P : ℕ) (f : Bool) (n : ℕ) (taken next : Bool) (t u : State) (b r : ℕ)
-      → Tried (calls bytes source) s (turnsTo P f n) taken t → b ≡ inOrder P f n → answer r u ≡ turnCall bytes source t b
-      → next ≡ (taken or eqb r 0) → Tried (calls bytes source) s (turnsTo P f (n + 1)) next u
+      → Tried (calls bytes 0 source) s (turnsTo P f n) taken t → b ≡ inOrder P f n → answer r u ≡ turnCall bytes 0 source t b
+      → next ≡ (taken or eqb r 0) → Tried (calls bytes 0 source) s (turnsTo P f (n + 1)) next u
   unfolding turnsTo calls
   turns-next P f n taken next t u b r h e is k =
-      rw add-one (more (calls bytes source) s (turnsTo P f n) (turnOf (inOrder P f n)) taken next t u r h (rw e at is) k)
+      rw add-one (more (calls bytes 0 source) s (turnsTo P f n) (turnOf (inOrder P f n)) taken next t u r h (rw e at is) k)
 
   pub turns-done : (P : ℕ) (f : Bool) (n : ℕ) (taken : Bool) (t : State) → n ≤ P → P ≤ n
-      → Tried (calls bytes source) s (turnsTo P f n) taken t → Tried (calls bytes source) s (turnsTo P f P) taken t
+      → Tried (calls bytes 0 source) s (turnsTo P f n) taken t → Tried (calls bytes 0 source) s (turnsTo P f P) taken t
   turns-done P f n taken t l h x = let e : n ≡ P = omega arith in rw e at x
 
   -- ---- deliveries
 
-  pub delivered : (m r : ℕ) (t : State) → answer r t ≡ deliverCall bytes source s m → Delivered (deliverCall bytes source s m) (eqb r 0) t
+  pub delivered : (m r : ℕ) (t : State) → answer r t ≡ deliverCall bytes 0 source s m → Delivered (deliverCall bytes 0 source s m) (eqb r 0) t
   delivered m r t is =
       record {
         state = ap (λ (a : Answered State). a .after) is;
         done = ap (λ (a : Answered State). eqb (a .number) 0) is;
       }
 
-  pub not-delivered : (m : ℕ) → eqb (getD (s .status) m 0) 1 ≡ false → Delivered (deliverCall bytes source s m) false s
+  pub not-delivered : (m : ℕ) → eqb (getD (s .status) m 0) 1 ≡ false → Delivered (deliverCall bytes 0 source s m) false s
   not-delivered m e =
-      let n : deliverCall bytes source s m .number ≢ 0 = (λ z. eqb-false _ _ e (delivery-low bytes source s m z .1)) in
+      let n : deliverCall bytes 0 source s m .number ≢ 0 = (λ z. eqb-false _ _ e (delivery-low bytes source s m z .1)) in
       record {
-        state = sym (demands .one bytes source s .deliver m .refuses n);
+        state = sym (demands .one bytes 0 source s .deliver m .refuses n);
         done = sym (ne-eqb _ 0 n);
       }
 
-  pub deliveries-start : Tried (calls bytes source) s (deliveriesTo 0) false s
+  pub deliveries-start : Tried (calls bytes 0 source) s (deliveriesTo 0) false s
   unfolding deliveriesTo
-  deliveries-start = begun (calls bytes source) s
+  deliveries-start = begun (calls bytes 0 source) s
 
-  pub deliveries-next : (n : ℕ) (done this next : Bool) (t u : State) → Tried (calls bytes source) s (deliveriesTo n) done t
-      → Delivered (deliverCall bytes source t n) this u → next ≡ (done or this) → Tried (calls bytes source) s (deliveriesTo (n + 1)) next u
+  pub deliveries-next : (n : ℕ) (done this next : Bool) (t u : State) → Tried (calls bytes 0 source) s (deliveriesTo n) done t
+      → Delivered (deliverCall bytes 0 source t n) this u → next ≡ (done or this) → Tried (calls bytes 0 source) s (deliveriesTo (n + 1)) next u
   unfolding deliveriesTo calls
   deliveries-next n done this next t u h d k =
       rw add-one
-      (more (calls bytes source) s (deliveriesTo n) (deliveryOf n) done next t u (deliverCall bytes source t n .number) h
-      (ap (λ (x : State). answer (deliverCall bytes source t n .number) x) (d .state)) (k ∙ ap (λ (x : Bool). done or x) (d .done)))
+      (more (calls bytes 0 source) s (deliveriesTo n) (deliveryOf n) done next t u (deliverCall bytes 0 source t n .number) h
+      (ap (λ (x : State). answer (deliverCall bytes 0 source t n .number) x) (d .state)) (k ∙ ap (λ (x : Bool). done or x) (d .done)))
 
-  pub deliveries-done : (M n : ℕ) (done : Bool) (t : State) → n ≤ M → M ≤ n → Tried (calls bytes source) s (deliveriesTo n) done t
-      → Tried (calls bytes source) s (deliveriesTo M) done t
+  pub deliveries-done : (M n : ℕ) (done : Bool) (t : State) → n ≤ M → M ≤ n → Tried (calls bytes 0 source) s (deliveriesTo n) done t
+      → Tried (calls bytes 0 source) s (deliveriesTo M) done t
   deliveries-done M n done t l h x = let e : n ≡ M = omega arith in rw e at x
 
   -- ---- a round
 
-  pub round-turns : (o : Order) (r : Bool) (t : State) → Tried (calls bytes source) s (turns o) r t → r ≡ true
-      → Tried (calls bytes source) s (roundOf (calls bytes source) o s) true t
+  pub round-turns : (o : Order) (r : Bool) (t : State) → Tried (calls bytes 0 source) s (turns o) r t → r ≡ true
+      → Tried (calls bytes 0 source) s (roundOf (calls bytes 0 source) o s) true t
   unfolding roundOf
   round-turns o r t h e =
-      let is = pick-true (took (calls bytes source) s (turns o)) (turns o) (turns o ++ deliveriesTo (o .messages)) (sym (h .some) ∙ e) in
+      let is = pick-true (took (calls bytes 0 source) s (turns o)) (turns o) (turns o ++ deliveriesTo (o .messages)) (sym (h .some) ∙ e) in
       rw is (rw e at h)
 
-  pub round-both : (o : Order) (r q : Bool) (t u : State) → Tried (calls bytes source) s (turns o) r t → r ≡ false
-      → Tried (calls bytes source) t (deliveriesTo (o .messages)) q u → Tried (calls bytes source) s (roundOf (calls bytes source) o s) q u
+  pub round-both : (o : Order) (r q : Bool) (t u : State) → Tried (calls bytes 0 source) s (turns o) r t → r ≡ false
+      → Tried (calls bytes 0 source) t (deliveriesTo (o .messages)) q u → Tried (calls bytes 0 source) s (roundOf (calls bytes 0 source) o s) q u
   unfolding roundOf took
   round-both o r q t u h e d =
-      let is = pick-false (took (calls bytes source) s (turns o)) (turns o) (turns o ++ deliveriesTo (o .messages)) (sym (h .some) ∙ e) in
-      let idle = took-none (calls bytes source) s (turns o) (sym (h .some) ∙ e) in
+      let is = pick-false (took (calls bytes 0 source) s (turns o)) (turns o) (turns o ++ deliveriesTo (o .messages)) (sym (h .some) ∙ e) in
+      let idle = took-none (calls bytes 0 source) s (turns o) (sym (h .some) ∙ e) in
       rw is
       (record {
-        state = d .state ∙ ap (λ (x : State). stateAfter (calls bytes source) x (deliveriesTo (o .messages))) (h .state) ∙ sym (after-append (calls bytes source) s (turns o) (deliveriesTo (o .messages)));
-        some = d .some ∙ ap (λ (x : State). ltb 0 (steps (calls bytes source) x (deliveriesTo (o .messages)))) (h .state)
+        state = d .state ∙ ap (λ (x : State). stateAfter (calls bytes 0 source) x (deliveriesTo (o .messages))) (h .state) ∙ sym (after-append (calls bytes 0 source) s (turns o) (deliveriesTo (o .messages)));
+        some = d .some ∙ ap (λ (x : State). ltb 0 (steps (calls bytes 0 source) x (deliveriesTo (o .messages)))) (h .state)
             ∙ ap (ltb 0) (sum-behind idle);
       })
     where
-      sum-behind : steps (calls bytes source) s (turns o) ≡ 0
-          → steps (calls bytes source) (stateAfter (calls bytes source) s (turns o)) (deliveriesTo (o .messages))
-          ≡ steps (calls bytes source) s (turns o ++ deliveriesTo (o .messages))
-      sum-behind idle = omega (arith, idle, steps-append (calls bytes source) s (turns o) (deliveriesTo (o .messages)))
+      sum-behind : steps (calls bytes 0 source) s (turns o) ≡ 0
+          → steps (calls bytes 0 source) (stateAfter (calls bytes 0 source) s (turns o)) (deliveriesTo (o .messages))
+          ≡ steps (calls bytes 0 source) s (turns o ++ deliveriesTo (o .messages))
+      sum-behind idle = omega (arith, idle, steps-append (calls bytes 0 source) s (turns o) (deliveriesTo (o .messages)))
 
   -- ---- the drive: the rounds left from the state reached give what all the rounds give
 
   abbrev pub Left : Order → ℕ → ℕ → State → Type 0
   Left o n left t =
-      stateAfter (calls bytes source) t (roundsOf (calls bytes source) o left t)
-      ≡ stateAfter (calls bytes source) s (roundsOf (calls bytes source) o n s)
+      stateAfter (calls bytes 0 source) t (roundsOf (calls bytes 0 source) o left t)
+      ≡ stateAfter (calls bytes 0 source) s (roundsOf (calls bytes 0 source) o n s)
 
   pub drive-next : (o : Order) (n left : ℕ) (t u : State) (r : Bool) → 0 < left → Left o n left t
-      → Tried (calls bytes source) t (roundOf (calls bytes source) o t) r u → r ≡ true → Left o n (left - 1) u
+      → Tried (calls bytes 0 source) t (roundOf (calls bytes 0 source) o t) r u → r ≡ true → Left o n (left - 1) u
   drive-next o n zero t u r l h p e = absurd (omega arith)
   drive-next o n (suc k) t u r l h p e =
       let less : suc k - 1 ≡ k = omega arith in
-      rw (less, p .state) (sym (goes-on (calls bytes source) o k t (sym (p .some) ∙ e)) ∙ h)
+      rw (less, p .state) (sym (goes-on (calls bytes 0 source) o k t (sym (p .some) ∙ e)) ∙ h)
 
   pub drive-none : (o : Order) (n left : ℕ) (t u : State) (r : Bool) → 0 < left → Left o n left t
-      → Tried (calls bytes source) t (roundOf (calls bytes source) o t) r u → r ≡ false
-      → u ≡ stateAfter (calls bytes source) s (roundsOf (calls bytes source) o n s)
+      → Tried (calls bytes 0 source) t (roundOf (calls bytes 0 source) o t) r u → r ≡ false
+      → u ≡ stateAfter (calls bytes 0 source) s (roundsOf (calls bytes 0 source) o n s)
   drive-none o n zero t u r l h p e = absurd (omega arith)
-  drive-none o n (suc k) t u r l h p e = p .state ∙ sym (stops (calls bytes source) o k t (sym (p .some) ∙ e)) ∙ h
+  drive-none o n (suc k) t u r l h p e = p .state ∙ sym (stops (calls bytes 0 source) o k t (sym (p .some) ∙ e)) ∙ h
 
   pub drive-end : (o : Order) (n left : ℕ) (t : State) → left ≡ 0 → Left o n left t
-      → t ≡ stateAfter (calls bytes source) s (roundsOf (calls bytes source) o n s)
+      → t ≡ stateAfter (calls bytes 0 source) s (roundsOf (calls bytes 0 source) o n s)
   unfolding roundsOf stateAfter
   drive-end o n zero t l h = h
   drive-end o n (suc k) t l h = absurd (omega (arith, l))
 
-  pub drive-done : (o : Order) (n : ℕ) (t : State) → Bytes bytes → t ≡ stateAfter (calls bytes source) s (roundsOf (calls bytes source) o n s)
+  pub drive-done : (o : Order) (n : ℕ) (t : State) → Bytes bytes → t ≡ stateAfter (calls bytes 0 source) s (roundsOf (calls bytes 0 source) o n s)
       → Driven bytes source o n s t
   drive-done o n t b h = record { state = h; whole = ended bytes source o n s b }

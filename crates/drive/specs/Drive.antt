@@ -57,13 +57,13 @@ pub record Delivered (call : Answered State) (answer : Bool) (t : State) : Type 
 -- the state that a fresh start left which gave 0; the order and the number of rounds are the plan's
 pub record Started (bytes source : List ℕ) (o : Order) (n : ℕ) (s : State) : Type 0 where
   pub before : State
-  pub given : freshCall bytes source before .number ≡ 0
-  pub state : s ≡ freshCall bytes source before .after
-  pub processors : o .processors ≡ recipe bytes .processors
-  pub messages : o .messages ≡ count (recipe bytes)
-  pub rounds : n ≡ total (recipe bytes)
+  pub given : freshCall bytes 0 source before .number ≡ 0
+  pub state : s ≡ freshCall bytes 0 source before .after
+  pub processors : o .processors ≡ recipe bytes 0 .processors
+  pub messages : o .messages ≡ count (recipe bytes 0)
+  pub rounds : n ≡ total (recipe bytes 0)
 
 -- a drive does the rounds' events; from a fresh start it takes every step of the run
 pub record Driven (bytes source : List ℕ) (o : Order) (n : ℕ) (s t : State) : Type 0 where
-  pub state : t ≡ stateAfter (calls bytes source) s (roundsOf (calls bytes source) o n s)
-  pub whole : Started bytes source o n s → steps (calls bytes source) s (roundsOf (calls bytes source) o n s) ≡ total (recipe bytes)
+  pub state : t ≡ stateAfter (calls bytes 0 source) s (roundsOf (calls bytes 0 source) o n s)
+  pub whole : Started bytes source o n s → steps (calls bytes 0 source) s (roundsOf (calls bytes 0 source) o n s) ≡ total (recipe bytes 0)

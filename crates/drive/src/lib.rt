@@ -1,5 +1,5 @@
-// Drives a run to its end by the offered calls: the processors take turns in rising or in falling order; when no turn can be
-// taken, each message in flight is delivered; until nothing can be done.
+// Drives a run on the direct route to its end by the offered calls: the processors take turns in rising or in falling order; when no
+// turn can be taken, each message in flight is delivered; until nothing can be done.
 ghost use mathlib.Core.Path.{_≡_};
 ghost use lib.ListN.{getD};
 ghost use lib.Dec.{eqb};
@@ -46,7 +46,7 @@ fn turn_each(
     processors: u32,
     falling: bool,
 ) -> bool
-    ensures { λ r. ⌜ Tried (calls (now (encoded .entry)) (now (source .entry))) (stateOf (now (memories .entry)) (now (buffer .entry)) (now (progress .entry)) (now (status .entry))) (turnsTo processors falling processors) r
+    ensures { λ r. ⌜ Tried (calls (now (encoded .entry)) 0 (now (source .entry))) (stateOf (now (memories .entry)) (now (buffer .entry)) (now (progress .entry)) (now (status .entry))) (turnsTo processors falling processors) r
         (stateOf (now (memories .exit)) (now (buffer .exit)) (now (progress .exit)) (now (status .exit))) ⌝ }
 {
     let mut taken = false;
@@ -55,6 +55,7 @@ fn turn_each(
         let processor = in_order(place, processors, falling);
         let answer = engine::turn(
             encoded,
+            0,
             source,
             memories,
             buffer,
@@ -89,11 +90,21 @@ fn deliver_one(
     status: &mut [u8],
     message: u32,
 ) -> bool
-    ensures { λ r. ⌜ Delivered (deliverCall (now (encoded .entry)) (now (source .entry)) (stateOf (now (memories .entry)) (now (buffer .entry)) (now (progress .entry)) (now (status .entry))) message) r
+    ensures { λ r. ⌜ Delivered (deliverCall (now (encoded .entry)) 0 (now (source .entry)) (stateOf (now (memories .entry)) (now (buffer .entry)) (now (progress .entry)) (now (status .entry))) message) r
         (stateOf (now (memories .entry)) (now (buffer .entry)) (now (progress .entry)) (now (status .exit))) ⌝ }
 {
     if in_flight(status, message) {
-        return engine::deliver(encoded, source, memories, buffer, progress, status, message) == 0;
+        return engine::deliver(
+            encoded,
+            0,
+            source,
+            memories,
+            buffer,
+            progress,
+            status,
+            message,
+        )
+            == 0;
     }
     false
 }
@@ -108,7 +119,7 @@ fn deliver_each(
     status: &mut [u8],
     messages: u32,
 ) -> bool
-    ensures { λ r. ⌜ Tried (calls (now (encoded .entry)) (now (source .entry))) (stateOf (now (memories .entry)) (now (buffer .entry)) (now (progress .entry)) (now (status .entry))) (deliveriesTo messages) r
+    ensures { λ r. ⌜ Tried (calls (now (encoded .entry)) 0 (now (source .entry))) (stateOf (now (memories .entry)) (now (buffer .entry)) (now (progress .entry)) (now (status .entry))) (deliveriesTo messages) r
         (stateOf (now (memories .entry)) (now (buffer .entry)) (now (progress .entry)) (now (status .exit))) ⌝ }
 {
     let mut delivered = false;
@@ -131,7 +142,7 @@ fn round(
     status: &mut [u8],
     order: Order,
 ) -> bool
-    ensures { λ r. ⌜ Tried (calls (now (encoded .entry)) (now (source .entry))) (stateOf (now (memories .entry)) (now (buffer .entry)) (now (progress .entry)) (now (status .entry))) (roundOf (calls (now (encoded .entry)) (now (source .entry))) order (stateOf (now (memories .entry)) (now (buffer .entry)) (now (progress .entry)) (now (status .entry)))) r
+    ensures { λ r. ⌜ Tried (calls (now (encoded .entry)) 0 (now (source .entry))) (stateOf (now (memories .entry)) (now (buffer .entry)) (now (progress .entry)) (now (status .entry))) (roundOf (calls (now (encoded .entry)) 0 (now (source .entry))) order (stateOf (now (memories .entry)) (now (buffer .entry)) (now (progress .entry)) (now (status .entry)))) r
         (stateOf (now (memories .exit)) (now (buffer .exit)) (now (progress .exit)) (now (status .exit))) ⌝ }
 {
     let processors = order.processors;

@@ -23,10 +23,10 @@ use Rattle.engine.specs.Calls.{recipe, areas, collectCall}
 use Rattle.engine.specs.Demands.{calls}
 use Rattle.engine.proofs.AsSteps.{turn-is, deliver-is, collect-is}
 
-module _ (bytes source : List ℕ) (ok : firstOf (readLines bytes) ≡ 0)
-    (so : Sound (recipe bytes)) (long : length source ≡ recipe bytes .cells) where
+module _ (bytes : List ℕ) (route : ℕ) (source : List ℕ) (ok : firstOf (readLines bytes) ≡ 0)
+    (so : Sound (recipe bytes route)) (long : length source ≡ recipe bytes route .cells) where
   abbrev p : Plan
-  p = recipe bytes
+  p = recipe bytes route
 
   inv-areas : (s : State) → Inv p source s → areas p source s ≡ true
   unfolding areas
@@ -35,23 +35,23 @@ module _ (bytes source : List ℕ) (ok : firstOf (readLines bytes) ≡ 0)
       (and-true (eq-eqb _ _ (inv .shape .memories))
       (and-true (eq-eqb _ _ (inv .shape .buffer)) (and-true (eq-eqb _ _ (inv .shape .progress)) (eq-eqb _ _ (inv .shape .status)))))
 
-  same : (s : State) → Inv p source s → (e : Event) → calls bytes source s e ≡ act p source s e
+  same : (s : State) → Inv p source s → (e : Event) → calls bytes route source s e ≡ act p source s e
   unfolding calls act
-  same s inv (turnOf b) = turn-is bytes source s ok (inv-areas s inv) b
-  same s inv (deliveryOf m) = deliver-is bytes source s ok (inv-areas s inv) m
+  same s inv (turnOf b) = turn-is bytes route source s ok (inv-areas s inv) b
+  same s inv (deliveryOf m) = deliver-is bytes route source s ok (inv-areas s inv) m
 
-  same-state : (es : List Event) (s : State) → Inv p source s → stateAfter (calls bytes source) s es ≡ stateAfter (act p source) s es
+  same-state : (es : List Event) (s : State) → Inv p source s → stateAfter (calls bytes route source) s es ≡ stateAfter (act p source) s es
   unfolding stateAfter
   same-state [] s inv = refl
   same-state (e ∷ es) s inv =
-      ap (λ (a : Answered State). stateAfter (calls bytes source) (a .after) es) (same s inv e)
+      ap (λ (a : Answered State). stateAfter (calls bytes route source) (a .after) es) (same s inv e)
       ∙ same-state es _ (next-inv p so source s inv e)
 
-  same-answers : (es : List Event) (s : State) → Inv p source s → answersTo (calls bytes source) s es ≡ answersTo (act p source) s es
+  same-answers : (es : List Event) (s : State) → Inv p source s → answersTo (calls bytes route source) s es ≡ answersTo (act p source) s es
   unfolding answersTo
   same-answers [] s inv = refl
   same-answers (e ∷ es) s inv =
-      ap (λ (a : Answered State). a .number ∷ answersTo (calls bytes source) (a .after) es) (same s inv e)
+      ap (λ (a : Answered State). a .number ∷ answersTo (calls bytes route source) (a .after) es) (same s inv e)
       ∙ ap (λ (l : List ℕ). act p source s e .number ∷ l) (same-answers es _ (next-inv p so source s inv e))
 
   -- after the events `es` from the fresh start
@@ -62,22 +62,22 @@ module _ (bytes source : List ℕ) (ok : firstOf (readLines bytes) ≡ 0)
     inv-here : Inv p source here
     inv-here = run-inv p so source es (fresh p) (inv-fresh p source)
 
-    state-is : stateAfter (calls bytes source) (fresh p) es ≡ here
+    state-is : stateAfter (calls bytes route source) (fresh p) es ≡ here
     state-is = same-state es (fresh p) (inv-fresh p source)
 
-    answers-are : answersTo (calls bytes source) (fresh p) es ≡ answersTo (act p source) (fresh p) es
+    answers-are : answersTo (calls bytes route source) (fresh p) es ≡ answersTo (act p source) (fresh p) es
     answers-are = same-answers es (fresh p) (inv-fresh p source)
 
-    next-is : (e : Event) → calls bytes source (stateAfter (calls bytes source) (fresh p) es) e ≡ act p source here e
-    next-is e = ap (λ (s : State). calls bytes source s e) state-is ∙ same here inv-here e
+    next-is : (e : Event) → calls bytes route source (stateAfter (calls bytes route source) (fresh p) es) e ≡ act p source here e
+    next-is e = ap (λ (s : State). calls bytes route source s e) state-is ∙ same here inv-here e
 
     grid-is : (grid : List ℕ) → length grid ≡ p .cells
-        → collectCall bytes source (stateAfter (calls bytes source) (fresh p) es) grid ≡ collect p here grid
+        → collectCall bytes route source (stateAfter (calls bytes route source) (fresh p) es) grid ≡ collect p here grid
     grid-is grid e =
-        ap (λ (s : State). collectCall bytes source s grid) state-is ∙ collect-is bytes source here ok (inv-areas here inv-here) grid e
+        ap (λ (s : State). collectCall bytes route source s grid) state-is ∙ collect-is bytes route source here ok (inv-areas here inv-here) grid e
 
     -- the action that a turn then did
-    did : (b : ℕ) (a : Action) → Did (calls bytes source) (fresh p) p es b a → Did (act p source) (fresh p) p es b a
+    did : (b : ℕ) (a : Action) → Did (calls bytes route source) (fresh p) p es b a → Did (act p source) (fresh p) p es b a
     did b a d = record { gave = sym (number-of (next-is (turnOf b))) ∙ d .gave; named = rw answers-are at (d .named) }
 
   -- ---- demand 3
@@ -86,11 +86,11 @@ module _ (bytes source : List ℕ) (ok : firstOf (readLines bytes) ≡ 0)
     claim = Demand3 (act p source) (fresh p) events p source (collect p)
 
     carried : claim → (before after : List Event) (b : ℕ) → events ≡ before ++ (turnOf b ∷ after)
-        → calls bytes source (stateAfter (calls bytes source) (fresh p) before) (turnOf b) .number ≡ 0
+        → calls bytes route source (stateAfter (calls bytes route source) (fresh p) before) (turnOf b) .number ≡ 0
         → CarriedOut p source (act p source) (here before) b (turnsOf b before (answersTo (act p source) (fresh p) before))
     carried d before after b e z = d .carried-out before after b e (sym (number-of (next-is before (turnOf b))) ∙ z)
 
-    demand3 : claim → Demand3 (calls bytes source) (fresh p) events p source (collectCall bytes source)
+    demand3 : claim → Demand3 (calls bytes route source) (fresh p) events p source (collectCall bytes route source)
     demand3 d =
         record {
           bound = rw answers-are (d .bound);
@@ -116,15 +116,15 @@ module _ (bytes source : List ℕ) (ok : firstOf (readLines bytes) ≡ 0)
           grid = λ h old l. after-of (grid-is events old l) ∙ d .grid (rw answers-are at h) old l;
         }
 
-    pub run-demand3 : Demand3 (calls bytes source) (fresh p) events p source (collectCall bytes source)
+    pub run-demand3 : Demand3 (calls bytes route source) (fresh p) events p source (collectCall bytes route source)
     run-demand3 = demand3 (theorem p so source events)
 
   -- ---- what was sent
-  module _ (before : List Event) (b m : ℕ) (d : Did (calls bytes source) (fresh p) p before b (send m)) where
+  module _ (before : List Event) (b m : ℕ) (d : Did (calls bytes route source) (fresh p) p before b (send m)) where
     mailed : Posted (act p source) (fresh p) p before b m
     mailed = posted p so source before b m (did before b (send m) d)
 
-    pub run-posted : Posted (calls bytes source) (fresh p) p before b m
+    pub run-posted : Posted (calls bytes route source) (fresh p) p before b m
     run-posted =
         record {
           stays = λ then q h. rw (state-is (before ++ (turnOf b ∷ then)), state-is before) (mailed .stays then q h);

@@ -18,27 +18,27 @@ use Rattle.engine.specs.Calls.{recipe, areas, areaLines, freshCall, turn
 use Rattle.nest.proofs.Numbered.{numbered}
 use Rattle.engine.proofs.Lines.{and-right}
 
-module _ (l source : List ℕ) (s : State) (z : firstOf (readLines l) ≡ 0) (a : areas (recipe l) source s ≡ true) where
-  behind : (more : List Line) → firstOf (readLines l ++ (areaLines (recipe l) source s ++ more)) ≡ firstOf more
+module _ (l : List ℕ) (route : ℕ) (source : List ℕ) (s : State) (z : firstOf (readLines l) ≡ 0) (a : areas (recipe l route) source s ≡ true) where
+  behind : (more : List Line) → firstOf (readLines l ++ (areaLines (recipe l route) source s ++ more)) ≡ firstOf more
   behind more =
-      first-behind (readLines l) (areaLines (recipe l) source s ++ more) (numbered l) z
-      ∙ first-false 9 (not (areas (recipe l) source s)) more (not-true a)
+      first-behind (readLines l) (areaLines (recipe l route) source s ++ more) (numbered l) z
+      ∙ first-false 9 (not (areas (recipe l route) source s)) more (not-true a)
 
-  pub turn-is : (b : ℕ) → turnCall l source s b ≡ turn (recipe l) source s b
+  pub turn-is : (b : ℕ) → turnCall l route source s b ≡ turn (recipe l route) source s b
   unfolding turnCall turn
-  turn-is b = ap (λ (n : ℕ). answered n (carryOut (recipe l) source s b (nextAction (recipe l) s b)) s) (behind (turnLines (recipe l) s b))
+  turn-is b = ap (λ (n : ℕ). answered n (carryOut (recipe l route) source s b (nextAction (recipe l route) s b)) s) (behind (turnLines (recipe l route) s b))
 
-  pub deliver-is : (m : ℕ) → deliverCall l source s m ≡ deliver (recipe l) s m
+  pub deliver-is : (m : ℕ) → deliverCall l route source s m ≡ deliver (recipe l route) s m
   unfolding deliverCall deliver
   deliver-is m =
-      ap (λ (n : ℕ). answered n (stateOf (s .memories) (s .buffer) (s .progress) (set (s .status) m 2)) s) (behind (deliverLines (recipe l) s m))
+      ap (λ (n : ℕ). answered n (stateOf (s .memories) (s .buffer) (s .progress) (set (s .status) m 2)) s) (behind (deliverLines (recipe l route) s m))
 
-  pub collect-is : (grid : List ℕ) → length grid ≡ recipe l .cells → collectCall l source s grid ≡ collect (recipe l) s grid
+  pub collect-is : (grid : List ℕ) → length grid ≡ recipe l route .cells → collectCall l route source s grid ≡ collect (recipe l route) s grid
   unfolding collectCall collect
   collect-is grid h =
-      ap (λ (t : Bool). answered (firstOf (readLines l ++ (line 9 (not t) ∷ collectLines (recipe l) s))) (collected (recipe l) s) grid)
-      (and-right (areas (recipe l) source s) (eqb (length grid) (recipe l .cells)) (eq-eqb _ _ h))
-      ∙ ap (λ (n : ℕ). answered n (collected (recipe l) s) grid) (behind (collectLines (recipe l) s))
+      ap (λ (t : Bool). answered (firstOf (readLines l ++ (line 9 (not t) ∷ collectLines (recipe l route) s))) (collected (recipe l route) s) grid)
+      (and-right (areas (recipe l route) source s) (eqb (length grid) (recipe l route .cells)) (eq-eqb _ _ h))
+      ∙ ap (λ (n : ℕ). answered n (collected (recipe l route) s) grid) (behind (collectLines (recipe l route) s))
 
 pub front : (a b : List Line) → firstOf (a ++ b) ≡ 0 → firstOf a ≡ 0
 front a b e = go (ℕ-discrete (firstOf a) 0)
@@ -48,13 +48,13 @@ front a b e = go (ℕ-discrete (firstOf a) 0)
     go (no q) = absurd (q (sym (first-some a b q) ∙ e))
 
 -- a fresh start that gave 0
-pub fresh-gave : (l source : List ℕ) (s : State) → freshCall l source s .number ≡ 0
-    → (firstOf (readLines l) ≡ 0) × (areas (recipe l) source s ≡ true)
+pub fresh-gave : (l : List ℕ) (route : ℕ) (source : List ℕ) (s : State) → freshCall l route source s .number ≡ 0
+    → (firstOf (readLines l) ≡ 0) × (areas (recipe l route) source s ≡ true)
 unfolding freshCall
-fresh-gave l source s e = (y, true-not (none-first 9 (not (areas (recipe l) source s)) [] (λ q. omega arith) (x y) .0))
+fresh-gave l route source s e = (y, true-not (none-first 9 (not (areas (recipe l route) source s)) [] (λ q. omega arith) (x y) .0))
   where
     y : firstOf (readLines l) ≡ 0
-    y = front (readLines l) (areaLines (recipe l) source s) e
+    y = front (readLines l) (areaLines (recipe l route) source s) e
 
-    x : firstOf (readLines l) ≡ 0 → firstOf (areaLines (recipe l) source s) ≡ 0
-    x h = sym (first-behind (readLines l) (areaLines (recipe l) source s) (numbered l) h) ∙ e
+    x : firstOf (readLines l) ≡ 0 → firstOf (areaLines (recipe l route) source s) ≡ 0
+    x h = sym (first-behind (readLines l) (areaLines (recipe l route) source s) (numbered l) h) ∙ e

@@ -20,31 +20,32 @@ use Rattle.nest.specs.Accepted.{Accepted}
 use Rattle.plan.proofs.Sound.{sound}
 use Rattle.plan.proofs.Exact.{exact}
 use Rattle.nest.proofs.Numbered.{numbered}
+use Rattle.layout.specs.Sizes.{routeOf}
 use Rattle.engine.specs.Calls.{recipe, areas, areaLines, turnCall}
 use Rattle.engine.proofs.Lines.{areas-are}
 use Rattle.engine.proofs.AsSteps.{turn-is}
 
 -- a turn that gave 0 found the areas of their lengths
-turn-areas : (l source : List ℕ) (s : State) (b : ℕ) → firstOf (readLines l) ≡ 0 → turnCall l source s b .number ≡ 0
-    → areas (recipe l) source s ≡ true
+turn-areas : (l : List ℕ) (route : ℕ) (source : List ℕ) (s : State) (b : ℕ) → firstOf (readLines l) ≡ 0 → turnCall l route source s b .number ≡ 0
+    → areas (recipe l route) source s ≡ true
 unfolding turnCall
-turn-areas l source s b h z =
-    true-not (none-first 9 (not (areas (recipe l) source s)) (turnLines (recipe l) s b) (λ q. omega arith)
-    (sym (first-behind (readLines l) (areaLines (recipe l) source s ++ turnLines (recipe l) s b) (numbered l) h) ∙ z) .0)
+turn-areas l route source s b h z =
+    true-not (none-first 9 (not (areas (recipe l route) source s)) (turnLines (recipe l route) s b) (λ q. omega arith)
+    (sym (first-behind (readLines l) (areaLines (recipe l route) source s ++ turnLines (recipe l route) s b) (numbered l) h) ∙ z) .0)
 
-module _ (bytes : List ℕ) (ok : Accepted (nestOf bytes)) (z : firstOf (readLines bytes) ≡ 0) where
-  pub does : (source : List ℕ) (s : State) (b : ℕ) → turnCall bytes source s b .number ≡ 0
-      → Does (recipe bytes) source s (turnCall bytes source s b .after) b (nextAction (recipe bytes) s b)
+module _ (bytes : List ℕ) (route : ℕ) (ok : Accepted (nestOf bytes)) (z : firstOf (readLines bytes) ≡ 0) where
+  pub does : (source : List ℕ) (s : State) (b : ℕ) → turnCall bytes route source s b .number ≡ 0
+      → Does (recipe bytes route) source s (turnCall bytes route source s b .after) b (nextAction (recipe bytes route) s b)
   does source s b e =
-      let a = turn-areas bytes source s b z e in
-      let k = areas-are (recipe bytes) source s a in
-      let i = turn-is bytes source s z a b in
-      rw i (turn-does (recipe bytes) (sound (nestOf bytes) ok) source s b (k .memories) (k .buffer) (rw i at e))
+      let a = turn-areas bytes route source s b z e in
+      let k = areas-are (recipe bytes route) source s a in
+      let i = turn-is bytes route source s z a b in
+      rw i (turn-does (recipe bytes route) (sound (routeOf route) (nestOf bytes) ok) source s b (k .memories) (k .buffer) (rw i at e))
 
-  pub written : (source : List ℕ) (s after : State) (b t : ℕ) (a : Action) → Does (recipe bytes) source s after b a → a ≡ gather t
-      → (m q : ℕ) → In m (duesOf (recipe bytes) t) → q < length (heldBy (recipe bytes) m)
-      → wordAt (recipe bytes) after b (cellOf (recipe bytes) m q) ≡ mailAt (recipe bytes) s m q
+  pub written : (source : List ℕ) (s after : State) (b t : ℕ) (a : Action) → Does (recipe bytes route) source s after b a → a ≡ gather t
+      → (m q : ℕ) → In m (duesOf (recipe bytes route) t) → q < length (heldBy (recipe bytes route) m)
+      → wordAt (recipe bytes route) after b (cellOf (recipe bytes route) m q) ≡ mailAt (recipe bytes route) s m q
   written source s after b t a d e m q i h =
-      let u : Unpacks (recipe bytes) s after b t = rw e at d in
-      u .written m q i h (λ n k g. exact (nestOf bytes) ok .once t n m (cellOf (recipe bytes) m q) k i g
-      (at-in (heldBy (recipe bytes) m) q h))
+      let u : Unpacks (recipe bytes route) s after b t = rw e at d in
+      u .written m q i h (λ n k g. exact (nestOf bytes) ok .once (routeOf route) t n m (cellOf (recipe bytes route) m q) k i g
+      (at-in (heldBy (recipe bytes route) m) q h))

@@ -18,15 +18,16 @@ use Rattle.machine.specs.Machine as machine
 use Rattle.machine.specs.Machine.{State, stateOf, fitRecord, fit, tilesLeft, carryOut, nextAction, Answered, answered, turnLines, turn, deliverLines, collectLines, collected}
 use Rattle.nest.specs.declared.Nest.{Nest}
 use Rattle.nest.specs.Nest.{cells, processors}
+use Rattle.plan.specs.declared.Route.{Route}
 use Rattle.plan.specs.Messages.{planOf}
 use Rattle.layout.specs.declared.Sizes.{Sizes}
-use Rattle.layout.specs.Sizes.{Sized}
+use Rattle.layout.specs.Sizes.{Sized, routeOf}
 use Rattle.nest.specs.declared.Reading.{Reading}
 use Rattle.nest.specs.Nest.{readLines, nestOf, readingOf}
 use Rattle.nest.proofs.Numbered.{numbered}
 use Rattle.stages.specs.Progress.{progressOnly}
 use Rattle.engine.specs.Given.{AreaLengths, MayTurn, unfitLines}
-use Rattle.engine.specs.Calls.{answer, areas, areaLines, freshCall, turnCall, deliverCall, collectCall, sweepCall}
+use Rattle.engine.specs.Calls.{answer, recipe, areas, areaLines, freshCall, turnCall, deliverCall, collectCall, sweepCall}
 use Rattle.engine.proofs.Turns.{answered-no, answered-yes}
 
 -- ---- areas
@@ -121,18 +122,20 @@ module _ (p : Plan) (source : List ℕ) (s : State) where
 
 -- ---- what reading gives
 
-pub record Opened (l : List ℕ) (x : Nest) : Type 0 where
+-- p is the plan of the recipe l on the route that a word names
+pub record Opened (l : List ℕ) (word : ℕ) (p : Plan) : Type 0 where
   pub none : firstOf (readLines l) ≡ 0
-  pub is : x ≡ nestOf l
+  pub is : p ≡ recipe l word
 
 module _ (l : List ℕ) (r : Reading) (e : r ≡ readingOf l) where
   pub read-number : r .number ≡ firstOf (readLines l)
   read-number = ap (λ (z : Reading). z .number) e
 
-  pub opened : r .number ≡ 0 → Opened l (r .nest)
-  opened h =
+  pub opened : r .number ≡ 0 → {word : ℕ} {route : Route} → route ≡ routeOf word → Opened l word (planOf route (r .nest))
+  opened h {word} {route} k =
       let n : firstOf (readLines l) ≡ 0 = sym read-number ∙ h in
-      record { none = n; is = ap (λ (z : Reading). z .nest) e ∙ pick-true _ _ _ (eq-eqb _ _ n) }
+      let i : r .nest ≡ nestOf l = ap (λ (z : Reading). z .nest) e ∙ pick-true _ _ _ (eq-eqb _ _ n) in
+      record { none = n; is = ap (λ (z : Route). planOf z (r .nest)) k ∙ ap (planOf (routeOf word)) i }
 
 module _ {A : Type 0} (l : List ℕ) (more : List Line) (r : ℕ) (new old : A) where
   -- the number is one of the reader's
@@ -151,96 +154,96 @@ module _ {A : Type 0} (l : List ℕ) (more : List Line) (r : ℕ) (new old : A) 
 
 -- ---- the turn
 
-module _ (l source : List ℕ) (s : State) (b : ℕ) where
-  pub turn-read : (r : ℕ) → r ≡ firstOf (readLines l) → r ≢ 0 → answer r s ≡ turnCall l source s b
+module _ (l : List ℕ) (route : ℕ) (source : List ℕ) (s : State) (b : ℕ) where
+  pub turn-read : (r : ℕ) → r ≡ firstOf (readLines l) → r ≢ 0 → answer r s ≡ turnCall l route source s b
   unfolding turnCall
   turn-read r e h = call-read l _ r _ s e h
 
-  module _ (x : Nest) (o : Opened l x) where
-    turn-at : answered (firstOf (readLines l ++ (areaLines (planOf x) source s ++ turnLines (planOf x) s b)))
-        (carryOut (planOf x) source s b (nextAction (planOf x) s b)) s
-        ≡ turnCall l source s b
+  module _ (p : Plan) (o : Opened l route p) where
+    turn-at : answered (firstOf (readLines l ++ (areaLines p source s ++ turnLines p s b)))
+        (carryOut p source s b (nextAction p s b)) s
+        ≡ turnCall l route source s b
     unfolding turnCall
     turn-at =
         ap
-        (λ (n : Nest).
-        answered (firstOf (readLines l ++ (areaLines (planOf n) source s ++ turnLines (planOf n) s b)))
-        (carryOut (planOf n) source s b (nextAction (planOf n) s b)) s)
+        (λ (q : Plan).
+        answered (firstOf (readLines l ++ (areaLines q source s ++ turnLines q s b)))
+        (carryOut q source s b (nextAction q s b)) s)
         (o .is)
 
-    module _ (r : ℕ) (e : r ≡ firstOf (unfitLines (planOf x) source s)) where
-      pub turn-unfit : r ≢ 0 → answer r s ≡ turnCall l source s b
+    module _ (r : ℕ) (e : r ≡ firstOf (unfitLines p source s)) where
+      pub turn-unfit : r ≢ 0 → answer r s ≡ turnCall l route source s b
       turn-unfit h =
           call-later l _ r _ s (o .none)
-          (e ∙ sym (first-some (unfitLines (planOf x) source s) _ (λ q. h (e ∙ q)))) h
+          (e ∙ sym (first-some (unfitLines p source s) _ (λ q. h (e ∙ q)))) h
           ∙ turn-at
 
-      pub turn-beyond : r ≡ 0 → processors x ≤ b → answer 11 s ≡ turnCall l source s b
+      pub turn-beyond : r ≡ 0 → p .processors ≤ b → answer 11 s ≡ turnCall l route source s b
       turn-beyond z h =
-          let q = unfit-none (planOf x) source s r e z in
+          let q = unfit-none p source s r e z in
           call-later l _ 11 _ s (o .none)
           (sym
-          (first-false 9 _ _ (not-true (q .0)) ∙ first-false 10 _ _ (not-true (q .1)) ∙ first-true 11 _ _ (not-false (le-ltb b (processors x) h))))
+          (first-false 9 _ _ (not-true (q .0)) ∙ first-false 10 _ _ (not-true (q .1)) ∙ first-true 11 _ _ (not-false (le-ltb b (p .processors) h))))
           (λ k. omega arith)
           ∙ turn-at
 
-      pub turn-steps : r ≡ 0 → (a : Answered State) → a ≡ turn (planOf x) source s b → a ≡ turnCall l source s b
+      pub turn-steps : r ≡ 0 → (a : Answered State) → a ≡ turn p source s b → a ≡ turnCall l route source s b
       unfolding turn
       turn-steps z a t =
-          let q = unfit-none (planOf x) source s r e z in
+          let q = unfit-none p source s r e z in
           t
-          ∙ ap (λ (n : ℕ). answered n (carryOut (planOf x) source s b (nextAction (planOf x) s b)) s)
+          ∙ ap (λ (n : ℕ). answered n (carryOut p source s b (nextAction p s b)) s)
           (sym
-          (first-behind (readLines l) (areaLines (planOf x) source s ++ turnLines (planOf x) s b) (numbered l) (o .none)
-          ∙ first-false 9 (not (areas (planOf x) source s)) (turnLines (planOf x) s b) (not-true (q .0))))
+          (first-behind (readLines l) (areaLines p source s ++ turnLines p s b) (numbered l) (o .none)
+          ∙ first-false 9 (not (areas p source s)) (turnLines p s b) (not-true (q .0))))
           ∙ turn-at
 
 -- ---- the delivery
 
-module _ (l source : List ℕ) (s : State) (m : ℕ) where
-  pub deliver-read : (r : ℕ) → r ≡ firstOf (readLines l) → r ≢ 0 → answer r s ≡ deliverCall l source s m
+module _ (l : List ℕ) (route : ℕ) (source : List ℕ) (s : State) (m : ℕ) where
+  pub deliver-read : (r : ℕ) → r ≡ firstOf (readLines l) → r ≢ 0 → answer r s ≡ deliverCall l route source s m
   unfolding deliverCall
   deliver-read r e h = call-read l _ r _ s e h
 
-  module _ (x : Nest) (o : Opened l x) where
-    deliver-at : answered (firstOf (readLines l ++ (areaLines (planOf x) source s ++ deliverLines (planOf x) s m)))
+  module _ (p : Plan) (o : Opened l route p) where
+    deliver-at : answered (firstOf (readLines l ++ (areaLines p source s ++ deliverLines p s m)))
         (stateOf (s .memories) (s .buffer) (s .progress) (set (s .status) m 2)) s
-        ≡ deliverCall l source s m
+        ≡ deliverCall l route source s m
     unfolding deliverCall
     deliver-at =
         ap
-        (λ (n : Nest).
-        answered (firstOf (readLines l ++ (areaLines (planOf n) source s ++ deliverLines (planOf n) s m)))
+        (λ (q : Plan).
+        answered (firstOf (readLines l ++ (areaLines q source s ++ deliverLines q s m)))
         (stateOf (s .memories) (s .buffer) (s .progress) (set (s .status) m 2)) s)
         (o .is)
 
-    module _ (r : ℕ) (e : r ≡ firstOf (unfitLines (planOf x) source s)) where
-      pub deliver-unfit : r ≢ 0 → answer r s ≡ deliverCall l source s m
+    module _ (r : ℕ) (e : r ≡ firstOf (unfitLines p source s)) where
+      pub deliver-unfit : r ≢ 0 → answer r s ≡ deliverCall l route source s m
       deliver-unfit h =
           call-later l _ r _ s (o .none)
-          (e ∙ sym (first-some (unfitLines (planOf x) source s) _ (λ q. h (e ∙ q)))) h
+          (e ∙ sym (first-some (unfitLines p source s) _ (λ q. h (e ∙ q)))) h
           ∙ deliver-at
 
       module _ (z : r ≡ 0) where
-        behind : firstOf (areaLines (planOf x) source s ++ deliverLines (planOf x) s m)
-            ≡ firstOf (line 11 (not (ltb m (count (planOf x)))) ∷ line 14 (not (eqb (getD (s .status) m 0) 1)) ∷ [])
-        behind = let q = unfit-none (planOf x) source s r e z in first-false 9 _ _ (not-true (q .0)) ∙ first-false 10 _ _ (not-true (q .1))
+        behind : firstOf (areaLines p source s ++ deliverLines p s m)
+            ≡ firstOf (line 11 (not (ltb m (count p))) ∷ line 14 (not (eqb (getD (s .status) m 0) 1)) ∷ [])
+        behind = let q = unfit-none p source s r e z in first-false 9 _ _ (not-true (q .0)) ∙ first-false 10 _ _ (not-true (q .1))
 
-        long : length (s .status) ≡ count (planOf x)
-        long = areas-are (planOf x) source s (unfit-none (planOf x) source s r e z .0) .status
+        long : length (s .status) ≡ count p
+        long = areas-are p source s (unfit-none p source s r e z .0) .status
 
-        pub deliver-beyond : length (s .status) ≤ m → answer 11 s ≡ deliverCall l source s m
+        pub deliver-beyond : length (s .status) ≤ m → answer 11 s ≡ deliverCall l route source s m
         deliver-beyond h =
             call-later l _ 11 _ s (o .none)
-            (sym (behind ∙ first-true 11 _ _ (not-false (le-ltb m (count (planOf x)) (omega (arith, long)))))) (λ k. omega arith)
+            (sym (behind ∙ first-true 11 _ _ (not-false (le-ltb m (count p) (omega (arith, long)))))) (λ k. omega arith)
             ∙ deliver-at
 
         module _ (h : m < length (s .status)) where
-          known : firstOf (areaLines (planOf x) source s ++ deliverLines (planOf x) s m)
+          known : firstOf (areaLines p source s ++ deliverLines p s m)
               ≡ firstOf (line 14 (not (eqb (getD (s .status) m 0) 1)) ∷ [])
-          known = behind ∙ first-false 11 _ _ (not-true (lt-ltb m (count (planOf x)) (omega (arith, long))))
+          known = behind ∙ first-false 11 _ _ (not-true (lt-ltb m (count p) (omega (arith, long))))
 
-          pub deliver-none : getD (s .status) m 0 ≢ 1 → answer 14 s ≡ deliverCall l source s m
+          pub deliver-none : getD (s .status) m 0 ≢ 1 → answer 14 s ≡ deliverCall l route source s m
           deliver-none k =
               call-later l _ 14 _ s (o .none) (sym (known ∙ first-true 14 _ _ (not-false (ne-eqb _ _ k)))) (λ q. omega arith) ∙ deliver-at
 
@@ -249,7 +252,7 @@ module _ (l source : List ℕ) (s : State) (m : ℕ) where
           empty k = first-false 14 (not (eqb (getD (s .status) m 0) 1)) [] (not-true (eq-eqb _ _ k))
 
           pub deliver-done : getD (s .status) m 0 ≡ 1
-              → answer 0 (stateOf (s .memories) (s .buffer) (s .progress) (set (s .status) m 2)) ≡ deliverCall l source s m
+              → answer 0 (stateOf (s .memories) (s .buffer) (s .progress) (set (s .status) m 2)) ≡ deliverCall l route source s m
           deliver-done k = call-done l _ 0 _ s (o .none) (known ∙ empty k) ∙ deliver-at
 
 -- ---- collecting
@@ -262,85 +265,85 @@ and-right false b e = refl
 abbrev gridLines : Plan → List ℕ → State → List ℕ → List Line
 gridLines p source s grid = line 9 (not (areas p source s and eqb (length grid) (p .cells))) ∷ collectLines p s
 
-module _ (l source : List ℕ) (s : State) (grid : List ℕ) where
-  pub collect-read : (r : ℕ) → r ≡ firstOf (readLines l) → r ≢ 0 → answer r grid ≡ collectCall l source s grid
+module _ (l : List ℕ) (route : ℕ) (source : List ℕ) (s : State) (grid : List ℕ) where
+  pub collect-read : (r : ℕ) → r ≡ firstOf (readLines l) → r ≢ 0 → answer r grid ≡ collectCall l route source s grid
   unfolding collectCall
   collect-read r e h = call-read l _ r _ grid e h
 
-  module _ (x : Nest) (o : Opened l x) where
-    collect-at : answered (firstOf (readLines l ++ gridLines (planOf x) source s grid)) (collected (planOf x) s) grid ≡ collectCall l source s grid
+  module _ (p : Plan) (o : Opened l route p) where
+    collect-at : answered (firstOf (readLines l ++ gridLines p source s grid)) (collected p s) grid ≡ collectCall l route source s grid
     unfolding collectCall
     collect-at =
-        ap (λ (n : Nest). answered (firstOf (readLines l ++ gridLines (planOf n) source s grid)) (collected (planOf n) s) grid) (o .is)
+        ap (λ (q : Plan). answered (firstOf (readLines l ++ gridLines q source s grid)) (collected q s) grid) (o .is)
 
-    pub collect-grid : length grid ≢ cells x → answer 9 grid ≡ collectCall l source s grid
+    pub collect-grid : length grid ≢ p .cells → answer 9 grid ≡ collectCall l route source s grid
     collect-grid h =
         call-later l _ 9 _ grid (o .none) (sym (first-true 9 _ _ (not-false (and-no _ _ (ne-eqb _ _ h))))) (λ q. omega arith) ∙ collect-at
 
-    module _ (g : length grid ≡ cells x) (r : ℕ) (e : r ≡ firstOf (unfitLines (planOf x) source s)) where
-      long-grid : (areas (planOf x) source s and eqb (length grid) (cells x)) ≡ areas (planOf x) source s
+    module _ (g : length grid ≡ p .cells) (r : ℕ) (e : r ≡ firstOf (unfitLines p source s)) where
+      long-grid : (areas p source s and eqb (length grid) (p .cells)) ≡ areas p source s
       long-grid = and-right _ _ (eq-eqb _ _ g)
 
-      same-lines : firstOf (gridLines (planOf x) source s grid)
-          ≡ firstOf (unfitLines (planOf x) source s ++ (line 15 (some (tilesLeft (planOf x) s) (processors x)) ∷ []))
-      same-lines = ap (λ (t : Bool). firstOf (line 9 (not t) ∷ collectLines (planOf x) s)) long-grid
+      same-lines : firstOf (gridLines p source s grid)
+          ≡ firstOf (unfitLines p source s ++ (line 15 (some (tilesLeft p s) (p .processors)) ∷ []))
+      same-lines = ap (λ (t : Bool). firstOf (line 9 (not t) ∷ collectLines p s)) long-grid
 
-      pub collect-unfit : r ≢ 0 → answer r grid ≡ collectCall l source s grid
+      pub collect-unfit : r ≢ 0 → answer r grid ≡ collectCall l route source s grid
       collect-unfit h =
           call-later l _ r _ grid (o .none)
-          (e ∙ sym (same-lines ∙ first-some (unfitLines (planOf x) source s) _ (λ q. h (e ∙ q)))) h
+          (e ∙ sym (same-lines ∙ first-some (unfitLines p source s) _ (λ q. h (e ∙ q)))) h
           ∙ collect-at
 
       module _ (z : r ≡ 0) where
-        last-line : firstOf (gridLines (planOf x) source s grid) ≡ firstOf (line 15 (some (tilesLeft (planOf x) s) (processors x)) ∷ [])
+        last-line : firstOf (gridLines p source s grid) ≡ firstOf (line 15 (some (tilesLeft p s) (p .processors)) ∷ [])
         last-line =
-            let q = unfit-none (planOf x) source s r e z in
+            let q = unfit-none p source s r e z in
             same-lines ∙ first-false 9 _ _ (not-true (q .0)) ∙ first-false 10 _ _ (not-true (q .1))
 
-        module _ (t : Bool) (q : t ≡ some (tilesLeft (planOf x) (progressOnly (s .progress))) (processors x)) where
-          left-is : some (tilesLeft (planOf x) s) (processors x) ≡ t
+        module _ (t : Bool) (q : t ≡ some (tilesLeft p (progressOnly (s .progress))) (p .processors)) where
+          left-is : some (tilesLeft p s) (p .processors) ≡ t
           unfolding tilesLeft
           left-is = sym q
 
-          pub collect-left : t ≡ true → answer 15 grid ≡ collectCall l source s grid
+          pub collect-left : t ≡ true → answer 15 grid ≡ collectCall l route source s grid
           collect-left k =
               call-later l _ 15 _ grid (o .none) (sym (last-line ∙ first-true 15 _ _ (left-is ∙ k))) (λ y. omega arith) ∙ collect-at
 
-          over : t ≡ false → firstOf (line 15 (some (tilesLeft (planOf x) s) (processors x)) ∷ []) ≡ 0
+          over : t ≡ false → firstOf (line 15 (some (tilesLeft p s) (p .processors)) ∷ []) ≡ 0
           unfolding firstOf
-          over k = first-false 15 (some (tilesLeft (planOf x) s) (processors x)) [] (left-is ∙ k)
+          over k = first-false 15 (some (tilesLeft p s) (p .processors)) [] (left-is ∙ k)
 
-          pub collect-done : (new : List ℕ) → t ≡ false → new ≡ collected (planOf x) (stateOf (s .memories) [] [] []) → answer 0 new ≡ collectCall l source s grid
+          pub collect-done : (new : List ℕ) → t ≡ false → new ≡ collected p (stateOf (s .memories) [] [] []) → answer 0 new ≡ collectCall l route source s grid
           unfolding collected
           collect-done new k c = ap (answer 0) c ∙ call-done l _ 0 _ grid (o .none) (last-line ∙ over k) ∙ collect-at
 
 -- ---- the fresh start
 
-module _ (l source : List ℕ) (s : State) where
-  pub fresh-read : (r : ℕ) → r ≡ firstOf (readLines l) → r ≢ 0 → answer r s ≡ freshCall l source s
+module _ (l : List ℕ) (route : ℕ) (source : List ℕ) (s : State) where
+  pub fresh-read : (r : ℕ) → r ≡ firstOf (readLines l) → r ≢ 0 → answer r s ≡ freshCall l route source s
   unfolding freshCall
   fresh-read r e h = call-read l _ r _ s e h
 
-  module _ (x : Nest) (o : Opened l x) where
-    fresh-at : answered (firstOf (readLines l ++ areaLines (planOf x) source s)) (machine.fresh (planOf x)) s ≡ freshCall l source s
+  module _ (p : Plan) (o : Opened l route p) where
+    fresh-at : answered (firstOf (readLines l ++ areaLines p source s)) (machine.fresh p) s ≡ freshCall l route source s
     unfolding freshCall
-    fresh-at = ap (λ (n : Nest). answered (firstOf (readLines l ++ areaLines (planOf n) source s)) (machine.fresh (planOf n)) s) (o .is)
+    fresh-at = ap (λ (q : Plan). answered (firstOf (readLines l ++ areaLines q source s)) (machine.fresh q) s) (o .is)
 
-    pub fresh-area : areas (planOf x) source s ≡ false → answer 9 s ≡ freshCall l source s
+    pub fresh-area : areas p source s ≡ false → answer 9 s ≡ freshCall l route source s
     fresh-area h = call-later l _ 9 _ s (o .none) (sym (first-true 9 _ _ (not-false h))) (λ q. omega arith) ∙ fresh-at
 
-    nothing : areas (planOf x) source s ≡ true → firstOf (areaLines (planOf x) source s) ≡ 0
+    nothing : areas p source s ≡ true → firstOf (areaLines p source s) ≡ 0
     unfolding firstOf
-    nothing h = first-false 9 (not (areas (planOf x) source s)) [] (not-true h)
+    nothing h = first-false 9 (not (areas p source s)) [] (not-true h)
 
-    pub fresh-done : areas (planOf x) source s ≡ true → (memories buffer progress status : List ℕ) → memories ≡ replicate (length (s .memories)) 0
+    pub fresh-done : areas p source s ≡ true → (memories buffer progress status : List ℕ) → memories ≡ replicate (length (s .memories)) 0
         → buffer ≡ replicate (length (s .buffer)) 0 → progress ≡ replicate (length (s .progress)) 0 → status ≡ replicate (length (s .status)) 0
-        → answer 0 (stateOf memories buffer progress status) ≡ freshCall l source s
+        → answer 0 (stateOf memories buffer progress status) ≡ freshCall l route source s
     unfolding machine.fresh
     fresh-done h memories buffer progress status a b c d =
-        let k = areas-are (planOf x) source s h in
+        let k = areas-are p source s h in
         ap (answer 0) (rw (a, b, c, d, k .memories, k .buffer, k .progress, k .status))
-        ∙ call-done l (areaLines (planOf x) source s) 0 (machine.fresh (planOf x)) s (o .none) (nothing h) ∙ fresh-at
+        ∙ call-done l (areaLines p source s) 0 (machine.fresh p) s (o .none) (nothing h) ∙ fresh-at
 
 -- ---- the sweep
 
@@ -352,25 +355,25 @@ module _ (l source grid : List ℕ) where
   unfolding sweepCall
   sweep-read r e h = call-read l _ r _ grid e h
 
-  module _ (x : Nest) (o : Opened l x) where
-    sweep-at : answered (firstOf (readLines l ++ sweepLines (planOf x) source grid)) (machine.sweep (planOf x) source) grid ≡ sweepCall l source grid
+  module _ (p : Plan) (o : Opened l 0 p) where
+    sweep-at : answered (firstOf (readLines l ++ sweepLines p source grid)) (machine.sweep p source) grid ≡ sweepCall l source grid
     unfolding sweepCall
-    sweep-at = ap (λ (n : Nest). answered (firstOf (readLines l ++ sweepLines (planOf n) source grid)) (machine.sweep (planOf n) source) grid) (o .is)
+    sweep-at = ap (λ (q : Plan). answered (firstOf (readLines l ++ sweepLines q source grid)) (machine.sweep q source) grid) (o .is)
 
-    pub sweep-source : length source ≢ cells x → answer 9 grid ≡ sweepCall l source grid
+    pub sweep-source : length source ≢ p .cells → answer 9 grid ≡ sweepCall l source grid
     sweep-source h =
         call-later l _ 9 _ grid (o .none) (sym (first-true 9 _ _ (not-false (and-false _ _ (ne-eqb _ _ h))))) (λ q. omega arith) ∙ sweep-at
 
-    pub sweep-grid : length grid ≢ cells x → answer 9 grid ≡ sweepCall l source grid
+    pub sweep-grid : length grid ≢ p .cells → answer 9 grid ≡ sweepCall l source grid
     sweep-grid h =
         call-later l _ 9 _ grid (o .none) (sym (first-true 9 _ _ (not-false (and-no _ _ (ne-eqb _ _ h))))) (λ q. omega arith) ∙ sweep-at
 
-    right : length source ≡ cells x → length grid ≡ cells x → firstOf (sweepLines (planOf x) source grid) ≡ 0
+    right : length source ≡ p .cells → length grid ≡ p .cells → firstOf (sweepLines p source grid) ≡ 0
     unfolding firstOf
     right a b =
-        first-false 9 (not (eqb (length source) (cells x) and eqb (length grid) (cells x))) []
+        first-false 9 (not (eqb (length source) (p .cells) and eqb (length grid) (p .cells))) []
         (not-true (and-true (eq-eqb _ _ a) (eq-eqb _ _ b)))
 
-    pub sweep-done : (new : List ℕ) → length source ≡ cells x → length grid ≡ cells x → new ≡ machine.sweep (planOf x) source
+    pub sweep-done : (new : List ℕ) → length source ≡ p .cells → length grid ≡ p .cells → new ≡ machine.sweep p source
         → answer 0 new ≡ sweepCall l source grid
     sweep-done new a b c = ap (answer 0) c ∙ call-done l _ 0 _ grid (o .none) (right a b) ∙ sweep-at

@@ -14,10 +14,10 @@ use Rattle.base.specs.Tests.{not, pick, every, some}
 use Rattle.base.specs.Numbers.{line, firstOf}
 use Rattle.base.proofs.Tests.{pick-true, pick-false, true-not}
 use Rattle.base.proofs.Numbers.{none-first, first-some, first-behind}
+use Rattle.machine.specs.Plan.{Plan}
 use Rattle.machine.specs.Machine.{State, stateOf, Answered, setProgress, fitRecord, fit, waiting, tilesLeft, turnLines}
 use Rattle.nest.specs.declared.Nest.{Nest}
 use Rattle.nest.specs.Nest.{processors, readLines}
-use Rattle.plan.specs.Messages.{planOf}
 use Rattle.layout.specs.declared.Sizes.{Sizes}
 use Rattle.layout.specs.Sizes.{Sized}
 use Rattle.records.specs.declared.Progress.{Progress}
@@ -96,20 +96,20 @@ stored-after rs b r = by (eqb (r .number) 0)
     by false = refl
 
 -- a turn that gives 0 has a record there
-pub turn-inside : (l source : List ℕ) (s : State) (b : ℕ) → turnCall l source s b .number ≡ 0 → 3 * b + 2 < length (s .progress)
+pub turn-inside : (l : List ℕ) (route : ℕ) (source : List ℕ) (s : State) (b : ℕ) → turnCall l route source s b .number ≡ 0 → 3 * b + 2 < length (s .progress)
 unfolding turnCall
-turn-inside l source s b e = by (ℕ-discrete (firstOf (readLines l)) 0)
+turn-inside l route source s b e = by (ℕ-discrete (firstOf (readLines l)) 0)
   where
-    behind : firstOf (areaLines (recipe l) source s ++ turnLines (recipe l) s b) ≡ 0 → 3 * b + 2 < length (s .progress)
+    behind : firstOf (areaLines (recipe l route) source s ++ turnLines (recipe l route) s b) ≡ 0 → 3 * b + 2 < length (s .progress)
     behind z =
-        let a = none-first 9 (not (areas (recipe l) source s)) (turnLines (recipe l) s b) (λ q. omega arith) z in
-        let f = none-first 10 (not (fit (recipe l) s)) (line 11 (not (ltb b (recipe l .processors))) ∷ line 12 (waiting (recipe l) s b) ∷ line 13 (not (tilesLeft (recipe l) s b)) ∷ []) (λ q. omega arith) (a .1) in
-        let p = none-first 11 (not (ltb b (recipe l .processors))) (line 12 (waiting (recipe l) s b) ∷ line 13 (not (tilesLeft (recipe l) s b)) ∷ []) (λ q. omega arith) (f .1) in
-        omega (arith, areas-are (recipe l) source s (true-not (a .0)) .progress, ltb-true b (recipe l .processors) (true-not (p .0)))
+        let a = none-first 9 (not (areas (recipe l route) source s)) (turnLines (recipe l route) s b) (λ q. omega arith) z in
+        let f = none-first 10 (not (fit (recipe l route) s)) (line 11 (not (ltb b (recipe l route .processors))) ∷ line 12 (waiting (recipe l route) s b) ∷ line 13 (not (tilesLeft (recipe l route) s b)) ∷ []) (λ q. omega arith) (a .1) in
+        let p = none-first 11 (not (ltb b (recipe l route .processors))) (line 12 (waiting (recipe l route) s b) ∷ line 13 (not (tilesLeft (recipe l route) s b)) ∷ []) (λ q. omega arith) (f .1) in
+        omega (arith, areas-are (recipe l route) source s (true-not (a .0)) .progress, ltb-true b (recipe l route .processors) (true-not (p .0)))
 
     by : Dec (firstOf (readLines l) ≡ 0) → 3 * b + 2 < length (s .progress)
-    by (yes z) = behind (sym (first-behind (readLines l) (areaLines (recipe l) source s ++ turnLines (recipe l) s b) (numbered l) z) ∙ e)
-    by (no z) = absurd (z (sym (first-some (readLines l) (areaLines (recipe l) source s ++ turnLines (recipe l) s b) z) ∙ e))
+    by (yes z) = behind (sym (first-behind (readLines l) (areaLines (recipe l route) source s ++ turnLines (recipe l route) s b) (numbered l) z) ∙ e)
+    by (no z) = absurd (z (sym (first-some (readLines l) (areaLines (recipe l route) source s ++ turnLines (recipe l route) s b) z) ∙ e))
 
 -- ---- what a fresh start makes
 
@@ -142,14 +142,16 @@ cleared-after rs r = by (eqb r 0)
 
 -- ---- tests that look at the records alone
 
-pub fits-as : (x : Nest) (k l : List ℕ) → k ≡ l → every (fitRecord (planOf x) (progressOnly l)) (processors x) ≡ every (fitRecord (planOf x) (progressOnly k)) (processors x)
-fits-as x k l e = ap (λ (z : List ℕ). every (fitRecord (planOf x) (progressOnly z)) (processors x)) (sym e)
+pub fits-as : (p : Plan) (k l : List ℕ) → k ≡ l
+    → every (fitRecord p (progressOnly l)) (p .processors) ≡ every (fitRecord p (progressOnly k)) (p .processors)
+fits-as p k l e = ap (λ (z : List ℕ). every (fitRecord p (progressOnly z)) (p .processors)) (sym e)
 
-pub left-as : (x : Nest) (k l : List ℕ) → k ≡ l → some (tilesLeft (planOf x) (progressOnly l)) (processors x) ≡ some (tilesLeft (planOf x) (progressOnly k)) (processors x)
-left-as x k l e = ap (λ (z : List ℕ). some (tilesLeft (planOf x) (progressOnly z)) (processors x)) (sym e)
+pub left-as : (p : Plan) (k l : List ℕ) → k ≡ l
+    → some (tilesLeft p (progressOnly l)) (p .processors) ≡ some (tilesLeft p (progressOnly k)) (p .processors)
+left-as p k l e = ap (λ (z : List ℕ). some (tilesLeft p (progressOnly z)) (p .processors)) (sym e)
 
 -- ---- the records of a turn that gave 0
 
-pub record-there : (l source m u t : List ℕ) (rs : List Progress) (b n : ℕ) (x : State) → answer n x ≡ turnCall l source (stateOf m u (flatWords rs) t) b → n ≡ 0 → b < length rs
-record-there l source m u t rs b n x e z =
-    omega (arith, length-words rs, turn-inside l source (stateOf m u (flatWords rs) t) b (ap (λ (y : Answered State). y .number) (sym e) ∙ z))
+pub record-there : (l : List ℕ) (route : ℕ) (source m u t : List ℕ) (rs : List Progress) (b n : ℕ) (x : State) → answer n x ≡ turnCall l route source (stateOf m u (flatWords rs) t) b → n ≡ 0 → b < length rs
+record-there l route source m u t rs b n x e z =
+    omega (arith, length-words rs, turn-inside l route source (stateOf m u (flatWords rs) t) b (ap (λ (y : Answered State). y .number) (sym e) ∙ z))

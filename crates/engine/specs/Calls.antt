@@ -1,5 +1,5 @@
--- The offered calls, each from the recipe's bytes and the lent areas: the number it gives and what is written.
--- Renders document 01, "The machine" and "Numbers a call gives": all lines in table order, the first true one counts.
+-- The offered calls, each from the recipe's bytes, the word that names its route and the lent areas: its number, and what is written.
+-- Renders document 01, "The machine" and "Numbers a call gives", and W-204: all lines in table order, the first true one counts.
 use Prim.Native.Nat.{ℕ, _*_}
 use mathlib.Core.Bool.{Bool}
 use mathlib.Core.List.{List, [], _∷_, _++_}
@@ -10,16 +10,17 @@ use Rattle.base.specs.Numbers.{Line, line, firstOf}
 use Rattle.machine.specs.Plan.{Plan, count, words}
 use Rattle.machine.specs.Machine as machine
 use Rattle.machine.specs.Machine.{State, Answered, answered, stateOf, carryOut, nextAction, turnLines, deliverLines, collectLines, collected}
-use Rattle.plan.specs.Messages.{planOf}
 use Rattle.nest.specs.Nest.{readLines, nestOf}
+use Rattle.plan.specs.Messages.{planOf}
+use Rattle.layout.specs.Sizes.{routeOf}
 
 -- what a call answers: its number and the lent words after it
 abbrev pub answer : {A : Type 0} → ℕ → A → Answered A
 answer n after = record { number = n; after = after }
 
--- the plan of a recipe
-abbrev pub recipe : List ℕ → Plan
-recipe bytes = planOf (nestOf bytes)
+-- the plan of a recipe on the route that the word names
+abbrev pub recipe : List ℕ → ℕ → Plan
+recipe bytes route = planOf (routeOf route) (nestOf bytes)
 
 -- each lent area has exactly its length
 unfoldable pub areas : Plan → List ℕ → State → Bool
@@ -34,40 +35,46 @@ areaLines p source s = line 9 (not (areas p source s)) ∷ []
 
 -- ---- each call: its lines, and what it does where none holds
 
-abbrev pub freshCallLines : List ℕ → List ℕ → State → List Line
-freshCallLines bytes source s = readLines bytes ++ areaLines (recipe bytes) source s
+abbrev pub freshCallLines : List ℕ → ℕ → List ℕ → State → List Line
+freshCallLines bytes route source s = readLines bytes ++ areaLines (recipe bytes route) source s
 
 -- document 01: a fresh start
-unfoldable pub freshCall : List ℕ → List ℕ → State → Answered State
-freshCall bytes source s = answered (firstOf (freshCallLines bytes source s)) (machine.fresh (recipe bytes)) s
+unfoldable pub freshCall : List ℕ → ℕ → List ℕ → State → Answered State
+freshCall bytes route source s = answered (firstOf (freshCallLines bytes route source s)) (machine.fresh (recipe bytes route)) s
 
-abbrev pub turnCallLines : List ℕ → List ℕ → State → ℕ → List Line
-turnCallLines bytes source s b = readLines bytes ++ (areaLines (recipe bytes) source s ++ turnLines (recipe bytes) s b)
+abbrev pub turnCallLines : List ℕ → ℕ → List ℕ → State → ℕ → List Line
+turnCallLines bytes route source s b =
+    readLines bytes ++ (areaLines (recipe bytes route) source s ++ turnLines (recipe bytes route) s b)
 
-unfoldable pub turnCall : List ℕ → List ℕ → State → ℕ → Answered State
-turnCall bytes source s b =
-    answered (firstOf (turnCallLines bytes source s b)) (carryOut (recipe bytes) source s b (nextAction (recipe bytes) s b)) s
+unfoldable pub turnCall : List ℕ → ℕ → List ℕ → State → ℕ → Answered State
+turnCall bytes route source s b =
+    answered (firstOf (turnCallLines bytes route source s b))
+    (carryOut (recipe bytes route) source s b (nextAction (recipe bytes route) s b)) s
 
-abbrev pub deliverCallLines : List ℕ → List ℕ → State → ℕ → List Line
-deliverCallLines bytes source s m = readLines bytes ++ (areaLines (recipe bytes) source s ++ deliverLines (recipe bytes) s m)
+abbrev pub deliverCallLines : List ℕ → ℕ → List ℕ → State → ℕ → List Line
+deliverCallLines bytes route source s m =
+    readLines bytes ++ (areaLines (recipe bytes route) source s ++ deliverLines (recipe bytes route) s m)
 
-unfoldable pub deliverCall : List ℕ → List ℕ → State → ℕ → Answered State
-deliverCall bytes source s m =
-    answered (firstOf (deliverCallLines bytes source s m)) (stateOf (s .memories) (s .buffer) (s .progress) (set (s .status) m 2)) s
+unfoldable pub deliverCall : List ℕ → ℕ → List ℕ → State → ℕ → Answered State
+deliverCall bytes route source s m =
+    answered (firstOf (deliverCallLines bytes route source s m))
+    (stateOf (s .memories) (s .buffer) (s .progress) (set (s .status) m 2)) s
 
 -- collecting is lent the grid too, one word a cell
-abbrev pub collectCallLines : List ℕ → List ℕ → State → List ℕ → List Line
-collectCallLines bytes source s grid =
+abbrev pub collectCallLines : List ℕ → ℕ → List ℕ → State → List ℕ → List Line
+collectCallLines bytes route source s grid =
     readLines bytes
-    ++ (line 9 (not (areas (recipe bytes) source s and eqb (length grid) (recipe bytes .cells))) ∷ collectLines (recipe bytes) s)
+    ++ (line 9 (not (areas (recipe bytes route) source s and eqb (length grid) (recipe bytes route .cells)))
+    ∷ collectLines (recipe bytes route) s)
 
-unfoldable pub collectCall : List ℕ → List ℕ → State → List ℕ → Answered (List ℕ)
-collectCall bytes source s grid = answered (firstOf (collectCallLines bytes source s grid)) (collected (recipe bytes) s) grid
+unfoldable pub collectCall : List ℕ → ℕ → List ℕ → State → List ℕ → Answered (List ℕ)
+collectCall bytes route source s grid =
+    answered (firstOf (collectCallLines bytes route source s grid)) (collected (recipe bytes route) s) grid
 
--- the sequential sweep is lent the source and the grid alone
+-- the sequential sweep is lent the source and the grid alone; it is the same on every route
 abbrev pub sweepCallLines : List ℕ → List ℕ → List ℕ → List Line
 sweepCallLines bytes source grid =
-    readLines bytes ++ (line 9 (not (eqb (length source) (recipe bytes .cells) and eqb (length grid) (recipe bytes .cells))) ∷ [])
+    readLines bytes ++ (line 9 (not (eqb (length source) (recipe bytes 0 .cells) and eqb (length grid) (recipe bytes 0 .cells))) ∷ [])
 
 unfoldable pub sweepCall : List ℕ → List ℕ → List ℕ → Answered (List ℕ)
-sweepCall bytes source grid = answered (firstOf (sweepCallLines bytes source grid)) (machine.sweep (recipe bytes) source) grid
+sweepCall bytes source grid = answered (firstOf (sweepCallLines bytes source grid)) (machine.sweep (recipe bytes 0) source) grid

@@ -1,5 +1,5 @@
--- The three demands, for a recipe's bytes, made of the definitions in Calls; each call's contract equates the call with them.
--- Renders the customer's demands 1, 2 and 3 and document 01's "Conditions of acceptance".
+-- The three demands, for a recipe's bytes and a route, made of the definitions in Calls; each call's contract equates the call with them.
+-- Renders the customer's demands 1, 2 and 3, document 01's "Conditions of acceptance" and W-204; any word may name the route.
 use Prim.Native.Nat.{ℕ, _<_}
 use mathlib.Core.Path.{_≡_}
 use mathlib.Core.Logic.{_⊎_, _≢_}
@@ -13,9 +13,12 @@ use Rattle.machine.specs.Machine.{State, Answered, stateOf, gather, send, carry
 use Rattle.machine.specs.Words.{wordAt, mailAt, cellOf, Does, Did, Posted}
 use Rattle.machine.specs.Runs.{Event, turnOf, deliveryOf, Demand3}
 use Rattle.nest.specs.Nest.{nestOf, readLines}
+use Rattle.plan.specs.declared.Route.the-variants.{Direct}
+use Rattle.plan.specs.Hops.{hops}
 use Rattle.plan.specs.Report.{ReportAgrees}
 use Rattle.plan.specs.Exact.{Exact, sequential, runNest}
-use Rattle.table.specs.Summary.{figuresOf, noFigures, summaryOf, lineOf, noLine, messageLines, messageLineOf}
+use Rattle.layout.specs.Sizes.{routeOf}
+use Rattle.table.specs.Summary.{figuresOf, noFigures, summaryOf, lineOf, noLine, messageLines, messageLineOf, directionOf, Directed, noHops, hopsOf}
 use Rattle.engine.specs.Calls.{answer, recipe, freshCallLines, freshCall, turnCallLines, turnCall, deliverCallLines, deliverCall, collectCallLines, collectCall, sweepCallLines, sweepCall}
 
 -- a call gives the number of its first true line, one of its own; it does its work, or leaves every lent word as before
@@ -28,58 +31,68 @@ pub record Fixed {A : Type 0} (call : Answered A) (lines : List Line) (done befo
 -- demand 1: every call, on every recipe, lent area and event. Its weight lies in the contracts of src/lib.rt and of crates/table:
 -- each equates what is answered, and every lent word at exit, with one of these definitions, for every input, and none has a
 -- `requires`; that a call ends, and does nothing undefined, the language asks of every function.
-pub record Demand1 (bytes source : List ℕ) (s : State) : Type 0 where
-  pub fresh : Fixed (freshCall bytes source s) (freshCallLines bytes source s) (machine.fresh (recipe bytes)) s
+pub record Demand1 (bytes : List ℕ) (route : ℕ) (source : List ℕ) (s : State) : Type 0 where
+  pub fresh : Fixed (freshCall bytes route source s) (freshCallLines bytes route source s) (machine.fresh (recipe bytes route)) s
   pub turn : (b : ℕ)
-      → Fixed (turnCall bytes source s b) (turnCallLines bytes source s b)
-      (carryOut (recipe bytes) source s b (nextAction (recipe bytes) s b)) s
+      → Fixed (turnCall bytes route source s b) (turnCallLines bytes route source s b)
+      (carryOut (recipe bytes route) source s b (nextAction (recipe bytes route) s b)) s
   pub deliver : (m : ℕ)
-      → Fixed (deliverCall bytes source s m) (deliverCallLines bytes source s m)
+      → Fixed (deliverCall bytes route source s m) (deliverCallLines bytes route source s m)
       (stateOf (s .memories) (s .buffer) (s .progress) (set (s .status) m 2)) s
   pub collect : (grid : List ℕ)
-      → Fixed (collectCall bytes source s grid) (collectCallLines bytes source s grid) (collected (recipe bytes) s) grid
+      → Fixed (collectCall bytes route source s grid) (collectCallLines bytes route source s grid) (collected (recipe bytes route) s) grid
   pub sweep : (grid : List ℕ)
-      → Fixed (sweepCall bytes source grid) (sweepCallLines bytes source grid) (machine.sweep (recipe bytes) source) grid
-  -- these two are lent nothing to write: what they tell beside the number is 0 at a refusal
-  pub summary : Fixed (answer (summaryOf bytes .number) (summaryOf bytes)) (readLines bytes)
-      (figuresOf (recipe bytes)) (noFigures (summaryOf bytes .number))
+      → Fixed (sweepCall bytes source grid) (sweepCallLines bytes source grid) (machine.sweep (recipe bytes route) source) grid
+  -- these three are lent nothing to write: what they tell beside the number is 0 at a refusal; the hops are a direct message's
+  pub summary : Fixed (answer (summaryOf (routeOf route) bytes .number) (summaryOf (routeOf route) bytes)) (readLines bytes)
+      (figuresOf (recipe bytes route)) (noFigures (summaryOf (routeOf route) bytes .number))
   pub message : (m : ℕ)
-      → Fixed (answer (messageLineOf bytes m .number) (messageLineOf bytes m)) (messageLines bytes m)
-      (lineOf (recipe bytes) m) (noLine (messageLineOf bytes m .number))
+      → Fixed (answer (messageLineOf (routeOf route) bytes m .number) (messageLineOf (routeOf route) bytes m))
+      (messageLines (routeOf route) bytes m) (lineOf (recipe bytes route) m) (noLine (messageLineOf (routeOf route) bytes m .number))
+  pub hops : (m : ℕ)
+      → Fixed (answer (hopsOf bytes m .number) (hopsOf bytes m)) (messageLines Direct bytes m)
+      (record { number = 0; hops = hops (nestOf bytes) (directionOf (nestOf bytes) m) }) (noHops (hopsOf bytes m .number))
 
--- the events of a run, each a call
-unfoldable pub calls : List ℕ → List ℕ → State → Event → Answered State
-calls bytes source s (turnOf b) = turnCall bytes source s b
-calls bytes source s (deliveryOf m) = deliverCall bytes source s m
+-- the events of a run, each a call, all given one route
+unfoldable pub calls : List ℕ → ℕ → List ℕ → State → Event → Answered State
+calls bytes route source s (turnOf b) = turnCall bytes route source s b
+calls bytes route source s (deliveryOf m) = deliverCall bytes route source s m
 
 -- demand 2: schedule, message cell sets and sequential sweep are the report's, and packing and unpacking move exactly these
-pub record Demand2 (bytes : List ℕ) : Type 0 where
+pub record Demand2 (bytes : List ℕ) (route : ℕ) : Type 0 where
   pub report : ReportAgrees (nestOf bytes)
   -- which cells a message holds, which messages there are, index order, the report's loops and its sequential nest
   pub exact : Exact (nestOf bytes)
+  -- the direction by which the hops call counts is that of the message
+  pub directed : Directed (nestOf bytes)
   -- a message's cells stand in index order, each once, and there is one
-  pub in-order : (m : ℕ) → m < count (recipe bytes) → Rising (heldBy (recipe bytes) m)
-  pub not-empty : (m : ℕ) → m < count (recipe bytes) → 0 < length (heldBy (recipe bytes) m)
+  pub in-order : (m : ℕ) → m < count (recipe bytes route) → Rising (heldBy (recipe bytes route) m)
+  pub not-empty : (m : ℕ) → m < count (recipe bytes route) → 0 < length (heldBy (recipe bytes route) m)
   -- each turn that gave 0 did the rule of its action, word by word: it packed, unpacked or stored exactly what is named
-  pub turned : (source : List ℕ) (s : State) (b : ℕ) → turnCall bytes source s b .number ≡ 0
-      → Does (recipe bytes) source s (turnCall bytes source s b .after) b (nextAction (recipe bytes) s b)
+  pub turned : (source : List ℕ) (s : State) (b : ℕ) → turnCall bytes route source s b .number ≡ 0
+      → Does (recipe bytes route) source s (turnCall bytes route source s b .after) b (nextAction (recipe bytes route) s b)
   -- a gather writes every word of every message due to its cell
-  pub unpacked : (source : List ℕ) (s : State) (b t : ℕ) → turnCall bytes source s b .number ≡ 0 → nextAction (recipe bytes) s b ≡ gather t
-      → (m q : ℕ) → In m (duesOf (recipe bytes) t) → q < length (heldBy (recipe bytes) m)
-      → wordAt (recipe bytes) (turnCall bytes source s b .after) b (cellOf (recipe bytes) m q) ≡ mailAt (recipe bytes) s m q
+  pub unpacked : (source : List ℕ) (s : State) (b t : ℕ) → turnCall bytes route source s b .number ≡ 0
+      → nextAction (recipe bytes route) s b ≡ gather t
+      → (m q : ℕ) → In m (duesOf (recipe bytes route) t) → q < length (heldBy (recipe bytes route) m)
+      → wordAt (recipe bytes route) (turnCall bytes route source s b .after) b (cellOf (recipe bytes route) m q)
+      ≡ mailAt (recipe bytes route) s m q
   -- in a run, a message's words stay from its send on, and are what its taker gathers
-  pub posted : (source : List ℕ) (s : State) → freshCall bytes source s .number ≡ 0 → (before : List Event) (b m : ℕ)
-      → Did (calls bytes source) (freshCall bytes source s .after) (recipe bytes) before b (send m)
-      → Posted (calls bytes source) (freshCall bytes source s .after) (recipe bytes) before b m
+  pub posted : (source : List ℕ) (s : State) → freshCall bytes route source s .number ≡ 0 → (before : List Event) (b m : ℕ)
+      → Did (calls bytes route source) (freshCall bytes route source s .after) (recipe bytes route) before b (send m)
+      → Posted (calls bytes route source) (freshCall bytes route source s .after) (recipe bytes route) before b m
   -- the sweep call leaves what the sequential nest leaves, from an array of any content; each word is the value of what the sweep has
-  pub nest : (source grid array : List ℕ) → sweepCall bytes source grid .number ≡ 0 → length array ≡ recipe bytes .cells
+  pub nest : (source grid array : List ℕ) → sweepCall bytes source grid .number ≡ 0 → length array ≡ recipe bytes route .cells
       → sweepCall bytes source grid .after ≡ runNest (nestOf bytes) source array (sequential (nestOf bytes))
-  pub swept : (source : List ℕ) (c : ℕ) → c < recipe bytes .cells
-      → getD (machine.sweep (recipe bytes) source) c 0 ≡ recipe bytes .value source (machine.sweep (recipe bytes) source) c
+  pub swept : (source : List ℕ) (c : ℕ) → c < recipe bytes route .cells
+      → getD (machine.sweep (recipe bytes route) source) c 0 ≡ recipe bytes route .value source (machine.sweep (recipe bytes route) source) c
 
 pub record Demands : Type 0 where
-  pub one : (bytes source : List ℕ) (s : State) → Demand1 bytes source s
-  pub two : (bytes : List ℕ) → Bytes bytes → firstOf (readLines bytes) ≡ 0 → Demand2 bytes
-  -- demand 3: one recipe, one source, one fresh start that gave 0, and every list of turns and deliveries
-  pub three : (bytes source : List ℕ) (s : State) → Bytes bytes → freshCall bytes source s .number ≡ 0 → (events : List Event)
-      → Demand3 (calls bytes source) (freshCall bytes source s .after) events (recipe bytes) source (collectCall bytes source)
+  pub one : (bytes : List ℕ) (route : ℕ) (source : List ℕ) (s : State) → Demand1 bytes route source s
+  pub two : (bytes : List ℕ) (route : ℕ) → Bytes bytes → firstOf (readLines bytes) ≡ 0 → Demand2 bytes route
+  -- demand 3: one recipe, one route, one source, one fresh start that gave 0, and every list of turns and deliveries; collecting too is
+  -- given that route
+  pub three : (bytes : List ℕ) (route : ℕ) (source : List ℕ) (s : State) → Bytes bytes → freshCall bytes route source s .number ≡ 0
+      → (events : List Event)
+      → Demand3 (calls bytes route source) (freshCall bytes route source s .after) events (recipe bytes route) source
+      (collectCall bytes route source)

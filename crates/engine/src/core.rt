@@ -1,6 +1,6 @@
 // The calls, each by the first true line of document 01's table, but for the stores into the records: these are read as words, and a call
 // gives its number and what is to be stored. The contracts hold for every list of words that the `Flat` carries, since code has no other
-// way to name the caller's records.
+// way to name the caller's records. The route is a word, 0 direct, any other indirect, so that nothing is asked of it.
 ghost use mathlib.Core.Path.{_≡_};
 ghost use mathlib.Core.Bool.{true};
 ghost use mathlib.Core.List.{List};
@@ -17,6 +17,7 @@ ghost use Rattle.engine.specs.Given.{MayTurn, unfitLines, recordsAfter, 
 ghost use Rattle.engine.specs.Calls.{answer, areas, freshCall, turnCall, deliverCall, collectCall};
 use base::word_index;
 use layout::Sizes;
+use layout::route_of;
 use layout::sizes_of;
 use nest::Nest;
 use nest::read;
@@ -48,9 +49,9 @@ fn areas_fit(
     words: usize,
     status: &[u8],
 ) -> bool
-    requires { ⌜ Sized nest sizes × Table nest (now lens) ⌝ }
+    requires { ⌜ Sized nest sizes × Table (sizes .route) nest (now lens) ⌝ }
     ensures { λ r. ⌜ ((records : List ℕ) → words ≡ length records
-        → r ≡ areas (planOf nest) (now (source .entry)) (stateOf (now (memories .entry)) (now (buffer .entry)) records (now (status .entry))))
+        → r ≡ areas (planOf (sizes .route) nest) (now (source .entry)) (stateOf (now (memories .entry)) (now (buffer .entry)) records (now (status .entry))))
         × (r ≡ true → words ≡ 3 * processors nest) ⌝ }
 {
     let t = totals(nest, sizes, lens);
@@ -82,10 +83,10 @@ fn unfit(
     progress: Flat,
     status: &[u8],
 ) -> u32
-    requires { ⌜ Sized nest sizes × Table nest (now lens) ⌝ }
+    requires { ⌜ Sized nest sizes × Table (sizes .route) nest (now lens) ⌝ }
     requires { ⌜ length (progress .words) ≡ 192 ⌝ }
     ensures { λ r. ⌜ ((records : List ℕ) → Carries progress records
-        → r ≡ firstOf (unfitLines (planOf nest) (now (source .entry)) (stateOf (now (memories .entry)) (now (buffer .entry)) records (now (status .entry)))))
+        → r ≡ firstOf (unfitLines (planOf (sizes .route) nest) (now (source .entry)) (stateOf (now (memories .entry)) (now (buffer .entry)) records (now (status .entry)))))
         × (r ≡ 0 → progress .count ≡ 3 * processors nest) ⌝ }
 {
     let words = progress.words;
@@ -143,10 +144,10 @@ fn step(
     status: &mut [u8],
     b: usize,
 ) -> Turned
-    requires { ⌜ Sized nest sizes × Table nest (now lens) ⌝ }
-    requires { ⌜ MayTurn (planOf nest) (now source) (stateOf (now memories) (now buffer) (now progress) (now status)) b ⌝ }
+    requires { ⌜ Sized nest sizes × Table (sizes .route) nest (now lens) ⌝ }
+    requires { ⌜ MayTurn (planOf (sizes .route) nest) (now source) (stateOf (now memories) (now buffer) (now progress) (now status)) b ⌝ }
     ensures { λ r. ⌜ answer (r .number) (stateOf (now (memories .exit)) (now (buffer .exit)) (recordsAfter (now (progress .entry)) b r) (now (status .exit)))
-        ≡ turn (planOf nest) (now (source .entry)) (stateOf (now (memories .entry)) (now (buffer .entry)) (now (progress .entry)) (now (status .entry))) b ⌝ }
+        ≡ turn (planOf (sizes .route) nest) (now (source .entry)) (stateOf (now (memories .entry)) (now (buffer .entry)) (now (progress .entry)) (now (status .entry))) b ⌝ }
 {
     let finished = progress[3 * b];
     let stage = progress[3 * b + 1];
@@ -186,6 +187,7 @@ fn step(
 // One turn of a processor.
 pub fn turn(
     encoded: &[u8],
+    route: u32,
     source: &[u32],
     memories: &mut [u32],
     buffer: &mut [u32],
@@ -196,7 +198,7 @@ pub fn turn(
     requires { ⌜ length (progress .words) ≡ 192 ⌝ }
     ensures { λ r. ⌜ ((records : List ℕ) → Carries progress records
         → answer (r .number) (stateOf (now (memories .exit)) (now (buffer .exit)) (recordsAfter records processor r) (now (status .exit)))
-        ≡ turnCall (now (encoded .entry)) (now (source .entry)) (stateOf (now (memories .entry)) (now (buffer .entry)) records (now (status .entry))) processor) ⌝ }
+        ≡ turnCall (now (encoded .entry)) route (now (source .entry)) (stateOf (now (memories .entry)) (now (buffer .entry)) records (now (status .entry))) processor) ⌝ }
 {
     let reading = read(encoded);
     let number = reading.number;
@@ -204,7 +206,7 @@ pub fn turn(
         return refused(number);
     }
     let nest = reading.nest;
-    let sizes = sizes_of(nest);
+    let sizes = sizes_of(nest, route_of(route));
     let b = processor as usize;
     let mut lens = [0u16; 7168];
     fill(nest, sizes, &mut lens);
@@ -242,6 +244,7 @@ pub fn turn(
 // The delivery of a message.
 pub fn deliver(
     encoded: &[u8],
+    route: u32,
     source: &[u32],
     memories: &[u32],
     buffer: &[u32],
@@ -252,7 +255,7 @@ pub fn deliver(
     requires { ⌜ length (progress .words) ≡ 192 ⌝ }
     ensures { λ r. ⌜ ((records : List ℕ) → Carries progress records
         → answer r (stateOf (now (memories .entry)) (now (buffer .entry)) records (now (status .exit)))
-        ≡ deliverCall (now (encoded .entry)) (now (source .entry)) (stateOf (now (memories .entry)) (now (buffer .entry)) records (now (status .entry))) message) ⌝ }
+        ≡ deliverCall (now (encoded .entry)) route (now (source .entry)) (stateOf (now (memories .entry)) (now (buffer .entry)) records (now (status .entry))) message) ⌝ }
 {
     let reading = read(encoded);
     let number = reading.number;
@@ -260,7 +263,7 @@ pub fn deliver(
         return number;
     }
     let nest = reading.nest;
-    let sizes = sizes_of(nest);
+    let sizes = sizes_of(nest, route_of(route));
     let m = message as usize;
     let mut lens = [0u16; 7168];
     fill(nest, sizes, &mut lens);
@@ -290,6 +293,7 @@ pub fn deliver(
 // The grid, once all processors have finished.
 pub fn collect(
     encoded: &[u8],
+    route: u32,
     source: &[u32],
     memories: &[u32],
     buffer: &[u32],
@@ -300,7 +304,7 @@ pub fn collect(
     requires { ⌜ length (progress .words) ≡ 192 ⌝ }
     ensures { λ r. ⌜ ((records : List ℕ) → Carries progress records
         → answer r (now (grid .exit))
-        ≡ collectCall (now (encoded .entry)) (now (source .entry)) (stateOf (now (memories .entry)) (now (buffer .entry)) records (now (status .entry))) (now (grid .entry))) ⌝ }
+        ≡ collectCall (now (encoded .entry)) route (now (source .entry)) (stateOf (now (memories .entry)) (now (buffer .entry)) records (now (status .entry))) (now (grid .entry))) ⌝ }
 {
     let reading = read(encoded);
     let number = reading.number;
@@ -308,7 +312,7 @@ pub fn collect(
         return number;
     }
     let nest = reading.nest;
-    let sizes = sizes_of(nest);
+    let sizes = sizes_of(nest, route_of(route));
     if grid.len() != sizes.cells {
         return 9;
     }
@@ -339,6 +343,7 @@ pub fn collect(
 // A fresh start of all but the records, which have so many words.
 pub fn fresh(
     encoded: &[u8],
+    route: u32,
     source: &[u32],
     memories: &mut [u32],
     buffer: &mut [u32],
@@ -347,7 +352,7 @@ pub fn fresh(
 ) -> u32
     ensures { λ r. ⌜ ((records : List ℕ) → words ≡ length records
         → answer r (stateOf (now (memories .exit)) (now (buffer .exit)) (zerosAfter records r) (now (status .exit)))
-        ≡ freshCall (now (encoded .entry)) (now (source .entry)) (stateOf (now (memories .entry)) (now (buffer .entry)) records (now (status .entry)))) ⌝ }
+        ≡ freshCall (now (encoded .entry)) route (now (source .entry)) (stateOf (now (memories .entry)) (now (buffer .entry)) records (now (status .entry)))) ⌝ }
 {
     let reading = read(encoded);
     let number = reading.number;
@@ -355,7 +360,7 @@ pub fn fresh(
         return number;
     }
     let nest = reading.nest;
-    let sizes = sizes_of(nest);
+    let sizes = sizes_of(nest, route_of(route));
     let mut lens = [0u16; 7168];
     fill(nest, sizes, &mut lens);
     if !areas_fit(nest, sizes, &lens, source, memories, buffer, words, status) {

@@ -10,6 +10,7 @@ pub mod core; // core.rt: the calls without the stores into the records
 
 use layout::sizes_of;
 use nest::read;
+use plan::Route;
 use records::Progress;
 use records::flat_of;
 use stages::zero_words;
@@ -17,6 +18,7 @@ use stages::zero_words;
 // A fresh start.
 pub fn fresh(
     encoded: &[u8],
+    route: u32,
     source: &[u32],
     memories: &mut [u32],
     buffer: &mut [u32],
@@ -24,9 +26,17 @@ pub fn fresh(
     status: &mut [u8],
 ) -> u32
     ensures { λ r. ⌜ answer r (stateOf (now (memories .exit)) (now (buffer .exit)) (now (progress .exit)) (now (status .exit)))
-        ≡ freshCall (now (encoded .entry)) (now (source .entry)) (stateOf (now (memories .entry)) (now (buffer .entry)) (now (progress .entry)) (now (status .entry))) ⌝ }
+        ≡ freshCall (now (encoded .entry)) route (now (source .entry)) (stateOf (now (memories .entry)) (now (buffer .entry)) (now (progress .entry)) (now (status .entry))) ⌝ }
 {
-    let number = core::fresh(encoded, source, memories, buffer, progress.len(), status);
+    let number = core::fresh(
+        encoded,
+        route,
+        source,
+        memories,
+        buffer,
+        progress.len(),
+        status,
+    );
     if number != 0 {
         return number;
     }
@@ -48,6 +58,7 @@ fn store_record(progress: &mut [u32], processor: usize, p: Progress)
 // One turn of a processor.
 pub fn turn(
     encoded: &[u8],
+    route: u32,
     source: &[u32],
     memories: &mut [u32],
     buffer: &mut [u32],
@@ -56,10 +67,11 @@ pub fn turn(
     processor: u32,
 ) -> u32
     ensures { λ r. ⌜ answer r (stateOf (now (memories .exit)) (now (buffer .exit)) (now (progress .exit)) (now (status .exit)))
-        ≡ turnCall (now (encoded .entry)) (now (source .entry)) (stateOf (now (memories .entry)) (now (buffer .entry)) (now (progress .entry)) (now (status .entry))) processor ⌝ }
+        ≡ turnCall (now (encoded .entry)) route (now (source .entry)) (stateOf (now (memories .entry)) (now (buffer .entry)) (now (progress .entry)) (now (status .entry))) processor ⌝ }
 {
     let after = core::turn(
         encoded,
+        route,
         source,
         memories,
         buffer,
@@ -79,6 +91,7 @@ pub fn turn(
 // The delivery of a message.
 pub fn deliver(
     encoded: &[u8],
+    route: u32,
     source: &[u32],
     memories: &[u32],
     buffer: &[u32],
@@ -87,10 +100,11 @@ pub fn deliver(
     message: u32,
 ) -> u32
     ensures { λ r. ⌜ answer r (stateOf (now (memories .entry)) (now (buffer .entry)) (now (progress .entry)) (now (status .exit)))
-        ≡ deliverCall (now (encoded .entry)) (now (source .entry)) (stateOf (now (memories .entry)) (now (buffer .entry)) (now (progress .entry)) (now (status .entry))) message ⌝ }
+        ≡ deliverCall (now (encoded .entry)) route (now (source .entry)) (stateOf (now (memories .entry)) (now (buffer .entry)) (now (progress .entry)) (now (status .entry))) message ⌝ }
 {
     core::deliver(
         encoded,
+        route,
         source,
         memories,
         buffer,
@@ -103,6 +117,7 @@ pub fn deliver(
 // The grid, once all processors have finished.
 pub fn collect(
     encoded: &[u8],
+    route: u32,
     source: &[u32],
     memories: &[u32],
     buffer: &[u32],
@@ -111,10 +126,11 @@ pub fn collect(
     grid: &mut [u32],
 ) -> u32
     ensures { λ r. ⌜ answer r (now (grid .exit))
-        ≡ collectCall (now (encoded .entry)) (now (source .entry)) (stateOf (now (memories .entry)) (now (buffer .entry)) (now (progress .entry)) (now (status .entry))) (now (grid .entry)) ⌝ }
+        ≡ collectCall (now (encoded .entry)) route (now (source .entry)) (stateOf (now (memories .entry)) (now (buffer .entry)) (now (progress .entry)) (now (status .entry))) (now (grid .entry)) ⌝ }
 {
     core::collect(
         encoded,
+        route,
         source,
         memories,
         buffer,
@@ -124,7 +140,7 @@ pub fn collect(
     )
 }
 
-// The sequential sweep of the whole grid.
+// The sequential sweep of the whole grid, the same on every route.
 pub fn sweep(encoded: &[u8], source: &[u32], grid: &mut [u32]) -> u32
     ensures { λ r. ⌜ answer r (now (grid .exit)) ≡ sweepCall (now (encoded .entry)) (now (source .entry)) (now (grid .entry)) ⌝ }
 {
@@ -134,7 +150,7 @@ pub fn sweep(encoded: &[u8], source: &[u32], grid: &mut [u32]) -> u32
         return number;
     }
     let nest = reading.nest;
-    let sizes = sizes_of(nest);
+    let sizes = sizes_of(nest, Route::Direct);
     if source.len() != sizes.cells {
         return 9;
     }

@@ -1,31 +1,26 @@
--- Places of cells, tiles, processors and slots as the arrays that hold them.
+-- Places of cells, tiles and processors as the arrays that hold them.
 use Prim.Native.Nat.{ℕ, zero, suc, _+_, _*_, _-_, _/_, _%_, _≤_, _<_, min}
 use mathlib.Core.Path.{_≡_, refl, sym, ap, _∙_, subst}
-use mathlib.Core.Bool.{Bool}
 use mathlib.Core.List.{List}
 use native.Mathlib.Nat.{mod-lt, div-le-self}
-use native.Mathlib.Decide.{decLt}
 use native.Mathlib.Omega.{arith}
 use lib.ListN.{length, getD, set, replicate}
-use lib.Dec.{ltb, eqb}
-use Rattle.base.specs.Tests.{_and_, every, product}
+use Rattle.base.specs.Tests.{product}
 use Rattle.nest.specs.declared.Nest.{Nest}
 use Rattle.nest.specs.Accepted.{Accepted}
-use Rattle.nest.specs.Nest.{lengthOf, tileLength, processorCount, component, tileCount, cells, tiles, processors}
-use Rattle.plan.specs.Geometry.{rank, place, cellAt, cellPlace, tileAt, tilePlace, processorOf, inside}
-use Rattle.plan.specs.Messages.{two, directions, ahead, reaches, taker, slots, slotTile, slotDirection, slotTaker}
+use Rattle.nest.specs.Nest.{lengthOf, tileLength, processorCount, tileCount, cells, tiles, processors}
+use Rattle.plan.specs.Geometry.{rank, place, cellAt, cellPlace, tileAt, tilePlace, processorOf}
+use Rattle.plan.specs.Messages.{two}
 use Rattle.plan.specs.Box.{boxLength, boxSize, boxPlace, boxCell}
 use Rattle.plan.proofs.Rank.{rank-same}
 use Rattle.plan.proofs.Tiles.{cellPlace-low, tileCount-pos, tilePlace-low, quotient-low, tile-inside}
-use Rattle.plan.proofs.Parcels.{ahead-beyond, ahead-low, slotTile-low}
 use Rattle.plan.proofs.Box.{boxLength-pos, boxCell-low, boxCell-place, boxPlace-low, boxSize-few}
 use Rattle.layout.specs.declared.Bounds.{Bounds}
 use Rattle.layout.specs.declared.Cell.{Cell}
-use Rattle.layout.specs.Sizes.{endAt}
-use Rattle.layout.specs.Places.{nth, Has, Countable, Ranked, Places, Placed, Located, Bounded, bound, puts}
-use Rattle.layout.proofs.Dims.{product-same, rank-lengths, place-lengths, product-pos}
+use Rattle.layout.specs.Places.{nth, Has, Countable, Ranked, Places, Placed, Located, Bounded}
+use Rattle.layout.proofs.Dims.{product-same, rank-lengths, place-lengths}
 use lib.Seq.{getD-set-other}
-use Rattle.layout.proofs.Loops.{every-same, Filled, filled-none, filled-more, filled-end}
+use Rattle.layout.proofs.Loops.{Filled, filled-none, filled-more, filled-end}
 
 -- ---- arrays of one number
 
@@ -45,11 +40,6 @@ twos (suc zero) h = refl
 twos (suc (suc zero)) h = refl
 twos (suc (suc (suc zero))) h = refl
 twos (suc (suc (suc (suc j)))) h = absurd (omega arith)
-
-many : (m : ℕ) → 1 ≤ m → 2 ≤ product two m
-unfolding product
-many zero h = absurd (omega arith)
-many (suc m) h = omega (arith, product-pos two m (λ j k. omega arith))
 
 pub two-few : (m : ℕ) → m ≤ 3 → product two m ≤ 8
 unfolding product
@@ -162,70 +152,6 @@ module _ (x : Nest) (ok : Accepted x) where
         rank-same (processorCount x) (nth u) (λ j. tilePlace x t j % processorCount x j) (x .spread)
         (λ j h. f .each j h ∙ ap (λ (a : ℕ). a % processorCount x j) (e .each j (omega (arith, ok .spread-low))))
 
-  -- ---- slots
-
-  pub directions-pos : 1 ≤ directions x
-  unfolding directions
-  directions-pos = go (x .spread) (ok .spread-least)
-    where
-      go : (m : ℕ) → 1 ≤ m → 1 ≤ product two m - 1
-      go m h = omega (arith, many m h)
-
-  module _ (s : ℕ) (i : List ℕ) (e : Has i (tilePlace x (slotTile x s)) (x .dimensions)) where
-    pub bound-places : Places (four 2) i (x .spread)
-    bound-places =
-        record {
-          low = omega (arith, ok .spread-low, ok .dimensions-most);
-          positive = λ j h. omega (arith, twos j (omega (arith, ok .spread-low, ok .dimensions-most)));
-          small = λ j h. let l : j < x .dimensions = omega (arith, ok .spread-low) in
-              omega (arith, twos j (omega (arith, ok .spread-low, ok .dimensions-most)), e .each j l, tilePlace-low x ok (slotTile x s) j l, count-most j l);
-        }
-
-    pub placed-bound : (r : List ℕ) → Placed (four 2) i (slotDirection x s) (x .spread) r → Has r (bound x s) (x .dimensions)
-    unfolding ahead
-    placed-bound r p = record { each = λ j h. go j h (decLt j (x .spread)) }
-      where
-        go : (j : ℕ) → j < x .dimensions → Dec (j < x .spread) → getD r j 0 ≡ tilePlace x (slotTile x s) j + place two (x .spread) (slotDirection x s) j
-        go j h (yes l) =
-            omega (arith, p .first j l, e .each j h, place-lengths (nth (four 2)) two (x .spread) (slotDirection x s) j (λ q k. twos q (omega (arith, ok .spread-low, ok .dimensions-most))))
-        go j h (no l) = omega (arith, p .rest j (omega arith), e .each j h, ahead-beyond x (slotDirection x s) j (omega arith))
-
-  pub bound-within : (s j : ℕ) → j < x .dimensions → bound x s j ≤ tileCount x j
-  bound-within s j h = go (decLt j (x .spread))
-    where
-      go : Dec (j < x .spread) → bound x s j ≤ tileCount x j
-      go (yes l) = omega (arith, tilePlace-low x ok (slotTile x s) j h, ahead-low x (slotDirection x s) j l)
-      go (no l) = omega (arith, tilePlace-low x ok (slotTile x s) j h, ahead-beyond x (slotDirection x s) j (omega arith))
-
-  -- ---- the same from the counts made by the code
-
-  module _ (d : ℕ) (is : d ≡ directions x) where
-    pub ways-pos : 0 < d
-    ways-pos = omega (arith, directions-pos)
-
-    pub slot-low : (s : ℕ) → s < slots x → s / d < tiles x
-    slot-low s h = rw is (slotTile-low x s h)
-
-    module _ (s : ℕ) (i : List ℕ) (e : Has i (tilePlace x (s / d)) (x .dimensions)) where
-      at-slot : Has i (tilePlace x (slotTile x s)) (x .dimensions)
-      at-slot = rw is at e
-
-      pub slot-places : Places (four 2) i (x .spread)
-      slot-places = bound-places s i at-slot
-
-      pub placed-slot : (r : List ℕ) → Placed (four 2) i (s % d + 1) (x .spread) r → Has r (bound x s) (x .dimensions)
-      placed-slot r p = placed-bound s i at-slot r (rw is at p)
-
-    pub sender-is : (s i : ℕ) → i ≡ 0 → s / d ≡ endAt x i s
-    unfolding endAt
-    sender-is s i e = rw (e, is)
-
-  pub taker-is : (across : List ℕ) → Has across (tileCount x) (x .dimensions) → (s i : ℕ) (to : List ℕ) → (i ≡ 0 → ⊥) → Has to (bound x s) (x .dimensions)
-      → (r : ℕ) → r ≡ rank (nth across) (nth to) (x .dimensions) → r ≡ endAt x i s
-  unfolding endAt slotTaker taker
-  taker-is across has s zero to f e r q = absurd (f refl)
-  taker-is across has s (suc i) to f e r q = q ∙ tile-rank across has to (bound x s) e
-
   -- ---- the box of a tile
 
   corner-fits : (t j : ℕ) → j < x .dimensions → tilePlace x t j * tileLength x j + boxLength x t j ≤ lengthOf x j
@@ -307,18 +233,3 @@ module _ (x : Nest) (ok : Accepted x) where
       pub boxing-end : (n : ℕ) → n ≡ product (nth lengths) (x .dimensions) → Bounded x (record { tile = t; corner = corner; lengths = lengths; size = n })
       boxing-end n e =
           record { low = l; corner = filled-end _ _ corner j (s .first) h; lengths = boxed; size = e ∙ box-countable t lengths l boxed .0 }
-
-  -- ---- what a distance does to a place
-
-  module _ (c : ℕ) (i : List ℕ) (has : Has i (cellPlace x c) (x .dimensions)) where
-    pub puts-reaches : (s : ℕ) (to : List ℕ) → Has to (bound x s) (x .dimensions) → (e : ℕ) → puts x to i e ≡ reaches x (slotTile x s) (slotDirection x s) c e
-    unfolding puts reaches inside
-    puts-reaches s to b e =
-        ap (λ (t : Bool). t and every (λ j. eqb ((getD i j 0 + component x e j) / tileLength x j) (getD to j 0)) (x .spread))
-        (every-same _ _ (x .dimensions) (λ j h. ap (λ (a : ℕ). ltb (a + component x e j) (lengthOf x j)) (has .each j h)))
-        ∙ ap (λ (t : Bool). every (λ j. ltb (cellPlace x c j + component x e j) (lengthOf x j)) (x .dimensions) and t)
-        (every-same _ _ (x .spread) (λ j h. two-same j (omega (arith, ok .spread-low))))
-      where
-        two-same : (j : ℕ) → j < x .dimensions
-            → eqb ((getD i j 0 + component x e j) / tileLength x j) (getD to j 0) ≡ eqb ((cellPlace x c j + component x e j) / tileLength x j) (bound x s j)
-        two-same j h = rw (has .each j h, b .each j h)

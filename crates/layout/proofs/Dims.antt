@@ -11,24 +11,15 @@ use lib.Seq.{getD-set-same, getD-set-other}
 use Rattle.base.specs.Tests.{product}
 use Rattle.plan.specs.Geometry.{rank, place}
 use Rattle.plan.proofs.Rank.{Positive, place-last, place-before}
+pub use Rattle.plan.proofs.Rank.{product-same, place-lengths}
 use Rattle.layout.specs.Places.{nth, Countable, Ranked, Places, Placed}
 
 -- ---- equal lengths give the same
-
-pub product-same : (N M : ℕ → ℕ) (l : ℕ) → ((j : ℕ) → j < l → N j ≡ M j) → product N l ≡ product M l
-unfolding product
-product-same N M zero h = refl
-product-same N M (suc l) h = rw (product-same N M l (λ j k. h j (omega arith)), h l (omega arith))
 
 pub rank-lengths : (N M i : ℕ → ℕ) (l : ℕ) → ((j : ℕ) → j < l → N j ≡ M j) → rank N i l ≡ rank M i l
 unfolding rank
 rank-lengths N M i zero h = refl
 rank-lengths N M i (suc l) h = rw (rank-lengths N M i l (λ j k. h j (omega arith)), h l (omega arith))
-
-pub place-lengths : (N M : ℕ → ℕ) (l c j : ℕ) → ((j : ℕ) → j < l → N j ≡ M j) → place N l c j ≡ place M l c j
-unfolding place
-place-lengths N M zero c j h = refl
-place-lengths N M (suc l) c j h = rw (h l (omega arith), place-lengths N M l (c / M l) j (λ q k. h q (omega arith)))
 
 -- ---- bounds
 

@@ -17,6 +17,7 @@ use Rattle.nest.specs.declared.Nest.{Nest}
 use Rattle.nest.specs.Accepted.{Accepted}
 use Rattle.nest.specs.Nest.{lengthOf, tileLength, processorCount, tileCount, tiles, processors}
 use Rattle.plan.specs.Geometry.{rank, place, tileAt, processorOf}
+use Rattle.plan.specs.declared.Route.{Route}
 use Rattle.plan.specs.Messages.{planOf}
 use Rattle.plan.specs.Report.{values, tileLoop, loops}
 use Rattle.plan.proofs.Rank.{Positive, place-last, place-before, place-low, rank-same, div-le}
@@ -142,11 +143,11 @@ module _ (counts across : List ℕ) (spread m p : ℕ) where
     pub wide : weight * getD across l 0 ≤ 1024
     pub next : Finding f l (r .rest) (left / r .tiles) (weight * getD across l 0) (tile + (r .first + left % r .tiles * r .stride) * weight)
 
-pub no-tiles : (x : Nest) → Accepted x → (p : ℕ) → processors x ≤ p → length (tilesOf (planOf x) p) ≡ 0
+pub no-tiles : (r : Route) (x : Nest) → Accepted x → (p : ℕ) → processors x ≤ p → length (tilesOf (planOf r x) p) ≡ 0
 unfolding those
-no-tiles x ok p h = ap length (keep-nothing (λ t. eqb (processorOf x t) p) (tiles x) (λ t l. ne-eqb (processorOf x t) p (λ e. omega (arith, processorOf-low x ok t))))
+no-tiles r x ok p h = ap length (keep-nothing (λ t. eqb (processorOf x t) p) (tiles x) (λ t l. ne-eqb (processorOf x t) p (λ e. omega (arith, processorOf-low x ok t))))
 
-module _ (x : Nest) (ok : Accepted x) (across : List ℕ) (a : Has across (tileCount x) (x .dimensions)) (p : ℕ) where
+module _ (route : Route) (x : Nest) (ok : Accepted x) (across : List ℕ) (a : Has across (tileCount x) (x .dimensions)) (p : ℕ) where
   abbrev N : ℕ → ℕ
   N = nth across
 
@@ -218,19 +219,19 @@ module _ (x : Nest) (ok : Accepted x) (across : List ℕ) (a : Has across (tileC
 
   -- ---- its tiles
 
-  pub count-is : p < processors x → product M (x .dimensions) ≡ length (tilesOf (planOf x) p)
+  pub count-is : p < processors x → product M (x .dimensions) ≡ length (tilesOf (planOf route x) p)
   count-is low =
       sym (loops-length x at F S M (x .dimensions) loop-is (x .dimensions) (omega arith))
       ∙ sym (length-map (loops x at (x .dimensions)) (tileAt x))
-      ∙ ap length (loops-are-tiles x ok p low)
+      ∙ ap length (loops-are-tiles x ok p route low)
 
-  pub tile-is : p < processors x → (f : ℕ) → f < product M (x .dimensions) → rank N (after (x .counts) across (x .spread) (x .dimensions) p f) (x .dimensions) ≡ getD (tilesOf (planOf x) p) f 0
+  pub tile-is : p < processors x → (f : ℕ) → f < product M (x .dimensions) → rank N (after (x .counts) across (x .spread) (x .dimensions) p f) (x .dimensions) ≡ getD (tilesOf (planOf route x) p) f 0
   unfolding tileAt
   tile-is low f h =
       rank-lengths N (tileCount x) _ (x .dimensions) (a .each)
       ∙ sym (rank-same (tileCount x) _ _ (x .dimensions) (loops-at x at F S M (x .dimensions) loop-is (x .dimensions) (omega arith) f h))
       ∙ sym (map-at (tileAt x) (loops x at (x .dimensions)) f (λ j. 0) 0 (omega (arith, loops-length x at F S M (x .dimensions) loop-is (x .dimensions) (omega arith))))
-      ∙ ap (λ (l : List ℕ). getD l f 0) (loops-are-tiles x ok p low)
+      ∙ ap (λ (l : List ℕ). getD l f 0) (loops-are-tiles x ok p route low)
 
   -- ---- counting them
 
@@ -282,7 +283,7 @@ module _ (x : Nest) (ok : Accepted x) (across : List ℕ) (a : Has across (tileC
   counting-few j rest n c =
       omega (arith, c .few, across-few, weight-most (product N j) n (product N j * n) (product-pos N j (λ i h. across-pos i (omega (arith, c .low)))) refl, mul-comm n (product N j))
 
-  pub counting-end : p < processors x → (j rest n : ℕ) → C j rest n → j ≡ 0 → n ≡ length (tilesOf (planOf x) p)
+  pub counting-end : p < processors x → (j rest n : ℕ) → C j rest n → j ≡ 0 → n ≡ length (tilesOf (planOf route x) p)
   unfolding product
   counting-end low j rest n c e =
       let q : n * 1 ≡ product M (x .dimensions) = rw e at (c .is) in
@@ -290,7 +291,7 @@ module _ (x : Nest) (ok : Accepted x) (across : List ℕ) (a : Has across (tileC
 
   -- ---- finding one
 
-  module _ (f : ℕ) (held : f < length (tilesOf (planOf x) p)) where
+  module _ (f : ℕ) (held : f < length (tilesOf (planOf route x) p)) where
     abbrev U : ℕ → ℕ
     U = after (x .counts) across (x .spread) (x .dimensions) p f
 
@@ -305,7 +306,7 @@ module _ (x : Nest) (ok : Accepted x) (across : List ℕ) (a : Has across (tileC
       where
         go : Dec (p < processors x) → p < processors x
         go (yes h) = h
-        go (no h) = absurd (omega (arith, no-tiles x ok p (omega arith)))
+        go (no h) = absurd (omega (arith, no-tiles route x ok p (omega arith)))
 
     few : f < product M (x .dimensions)
     few = rw (count-is low) held
@@ -327,7 +328,7 @@ module _ (x : Nest) (ok : Accepted x) (across : List ℕ) (a : Has across (tileC
           under = omega arith;
         }
 
-    pub finding-end : (j rest left weight tile : ℕ) → D j rest left weight tile → j ≡ 0 → (tile ≡ getD (tilesOf (planOf x) p) f 0) × (tile < tiles x)
+    pub finding-end : (j rest left weight tile : ℕ) → D j rest left weight tile → j ≡ 0 → (tile ≡ getD (tilesOf (planOf route x) p) f 0) × (tile < tiles x)
     unfolding product rank
     finding-end zero rest left weight tile c e =
         (omega (arith, zero-mul weight, c .is, tile-is low f few), omega (arith, c .few, one-mul weight, c .under, across-product x ok across a))

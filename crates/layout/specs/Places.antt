@@ -1,16 +1,13 @@
--- What the functions below hand to each other: places as arrays of four, a processor's share of a dimension, the box of a tile's cells, tests of a place.
+-- What the functions below hand to each other: places as arrays of four, a processor's share of a dimension, the box of a tile's cells.
 -- No sentence of document 01: contracts of functions below the calls cite it.
 use Prim.Native.Nat.{ℕ, _+_, _*_, _-_, _/_, _%_, _≤_, _<_}
 use mathlib.Core.Path.{_≡_}
-use mathlib.Core.Bool.{Bool}
 use mathlib.Core.List.{List}
 use lib.ListN.{getD}
-use lib.Dec.{ltb, eqb}
-use Rattle.base.specs.Tests.{_and_, every, product}
+use Rattle.base.specs.Tests.{product}
 use Rattle.nest.specs.declared.Nest.{Nest}
-use Rattle.nest.specs.Nest.{lengthOf, tileLength, component, cells, tiles}
+use Rattle.nest.specs.Nest.{tileLength, cells, tiles}
 use Rattle.plan.specs.Geometry.{place, cellPlace, tilePlace}
-use Rattle.plan.specs.Messages.{ahead, slotTile, slotDirection}
 use Rattle.plan.specs.Box.{boxLength, boxSize}
 use Rattle.layout.specs.declared.Cell.{Cell}
 use Rattle.layout.specs.declared.Bounds.{Bounds}
@@ -76,13 +73,3 @@ pub record Bounded (x : Nest) (b : Bounds) : Type 0 where
   pub corner : Has (b .corner) (λ j. tilePlace x (b .tile) j * tileLength x j) (x .dimensions)
   pub lengths : Has (b .lengths) (boxLength x (b .tile)) (x .dimensions)
   pub size : b .size ≡ boxSize x (b .tile)
-
--- the place that a slot's parcel is bound for: its tile's, moved by its direction
-abbrev pub bound : Nest → ℕ → ℕ → ℕ
-bound x s j = tilePlace x (slotTile x s) j + ahead x (slotDirection x s) j
-
--- distance e puts the place inside the nest, in a tile that is `to` in the spread dimensions
-unfoldable pub puts : Nest → List ℕ → List ℕ → ℕ → Bool
-puts x to i e =
-    every (λ j. ltb (getD i j 0 + component x e j) (lengthOf x j)) (x .dimensions)
-    and every (λ j. eqb ((getD i j 0 + component x e j) / tileLength x j) (getD to j 0)) (x .spread)

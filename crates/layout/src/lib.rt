@@ -2,25 +2,26 @@
 ghost use mathlib.Core.Path.{_≡_};
 ghost use Prim.Native.Nat.{ℕ, _+_, _*_, _-_, _/_, _%_, min, _≤_, _<_};
 ghost use lib.ListN.{length, getD};
-ghost use lib.Dec.{ltb};
-ghost use Rattle.base.specs.Tests.{_and_, pick, product};
+ghost use Rattle.base.specs.Tests.{pick, product};
 ghost use mathlib.Core.Bool.{true};
 ghost use Rattle.machine.specs.Plan.{tilesOf};
 ghost use Rattle.nest.specs.Accepted.{Accepted};
-ghost use Rattle.nest.specs.Nest.{component, tileCount, tileLength, cells, tiles, processors};
+ghost use Rattle.nest.specs.Nest.{tileCount, tileLength, cells, tiles, processors};
 ghost use Rattle.plan.specs.Geometry.{rank, tileAt, tileOf, processorOf, tilePlace};
-ghost use Rattle.plan.specs.Messages.{ahead, slots, planOf};
+ghost use Rattle.plan.specs.Messages.{ways, slots, planOf};
 ghost use Rattle.plan.specs.Box.{boxCell};
-ghost use Rattle.layout.specs.Sizes.{Sized, Stepped, endAt};
-ghost use Rattle.layout.specs.Places.{nth, Has, Countable, Ranked, Places, Placed, Inside, Follows, Splits, Shared, Located, Bounded, bound};
+ghost use Rattle.layout.specs.Sizes.{routeOf, Sized, along, endAt, Stepped};
+ghost use Rattle.layout.specs.Places.{nth, Has, Countable, Ranked, Places, Placed, Inside, Follows, Splits, Shared, Located, Bounded};
 use nest::Nest;
+use plan::Route;
 
-// A nest's counts, made once in a call: tiles along each dimension, and the products.
+// A nest's counts on a route, made once in a call: tiles along each dimension, the products, and the ways that a tile's messages go.
 pub struct Sizes {
     pub cells: usize,
     pub tiles: usize,
     pub processors: usize,
-    pub directions: usize,
+    pub route: Route,
+    pub ways: usize,
     pub across: [usize; 4],
 }
 
@@ -143,9 +144,31 @@ fn across_of(nest: Nest) -> [usize; 4]
     across
 }
 
-pub fn sizes_of(nest: Nest) -> Sizes
+// The route that a word names: 0 direct, any other indirect.
+pub fn route_of(word: u32) -> Route
+    ensures { λ r. ⌜ r ≡ routeOf word ⌝ }
+{
+    if word == 0 {
+        Route::Direct
+    } else {
+        Route::Indirect
+    }
+}
+
+// Directions, or spread dimensions.
+fn ways_of(nest: Nest, route: Route) -> usize
     requires { ⌜ Accepted nest ⌝ }
-    ensures { λ r. ⌜ Sized nest r ⌝ }
+    ensures { λ r. ⌜ r ≡ ways route nest ⌝ }
+{
+    match route {
+        Route::Direct => product([2; 4], nest.spread) - 1,
+        Route::Indirect => nest.spread,
+    }
+}
+
+pub fn sizes_of(nest: Nest, route: Route) -> Sizes
+    requires { ⌜ Accepted nest ⌝ }
+    ensures { λ r. ⌜ Sized nest r × (r .route ≡ route) ⌝ }
 {
     let lengths = nest.lengths;
     let counts = nest.counts;
@@ -153,12 +176,13 @@ pub fn sizes_of(nest: Nest) -> Sizes
     let cells = product(lengths, nest.dimensions);
     let tiles = product(across, nest.dimensions);
     let processors = product(counts, nest.spread);
-    let ways = product([2; 4], nest.spread);
+    let ways = ways_of(nest, route);
     Sizes {
         cells: cells,
         tiles: tiles,
         processors: processors,
-        directions: ways - 1,
+        route: route,
+        ways: ways,
         across: across,
     }
 }
@@ -274,7 +298,7 @@ fn share_of(across: usize, count: usize, processor: usize, spread: bool) -> Shar
 // How many tiles a processor has: the product of its shares.
 pub fn tile_count(nest: Nest, sizes: Sizes, processor: usize) -> usize
     requires { ⌜ Sized nest sizes ⌝ }
-    ensures { λ r. ⌜ (r ≡ length (tilesOf (planOf nest) processor)) × (r ≤ 1024) ⌝ }
+    ensures { λ r. ⌜ (r ≡ length (tilesOf (planOf (sizes .route) nest) processor)) × (r ≤ 1024) ⌝ }
 {
     if processor >= sizes.processors {
         return 0;
@@ -297,8 +321,8 @@ pub fn tile_count(nest: Nest, sizes: Sizes, processor: usize) -> usize
 
 // Its tile after so many finished ones: in each dimension the place among its share, from the last dimension on.
 pub fn tile_at(nest: Nest, sizes: Sizes, processor: usize, finished: usize) -> usize
-    requires { ⌜ Sized nest sizes × (finished < length (tilesOf (planOf nest) processor)) ⌝ }
-    ensures { λ r. ⌜ (r ≡ getD (tilesOf (planOf nest) processor) finished 0) × (r < tiles nest) ⌝ }
+    requires { ⌜ Sized nest sizes × (finished < length (tilesOf (planOf (sizes .route) nest) processor)) ⌝ }
+    ensures { λ r. ⌜ (r ≡ getD (tilesOf (planOf (sizes .route) nest) processor) finished 0) × (r < tiles nest) ⌝ }
 {
     let counts = nest.counts;
     let across = sizes.across;
@@ -381,63 +405,56 @@ pub fn next_place(lengths: [usize; 4], from: [usize; 4], at: [usize; 4], left: u
     next_place(lengths, from, next, j)
 }
 
-// Puts the place that a slot's parcel is bound for into `at`: its tile's, moved by its direction.
-pub fn put_bound(nest: Nest, sizes: Sizes, slot: usize, at: &mut [usize; 4])
-    requires { ⌜ Sized nest sizes × (slot < slots nest) ⌝ }
-    ensures { λ _. ⌜ Has (now (at .exit)) (bound nest slot) (nest .dimensions) ⌝ }
+// How a way moves a tile's place: by a direction's components, or by one in a spread dimension.
+pub fn along_of(nest: Nest, sizes: Sizes, way: usize) -> [usize; 4]
+    requires { ⌜ Sized nest sizes × (way < ways (sizes .route) nest) ⌝ }
+    ensures { λ r. ⌜ Has r (along (sizes .route) nest way) (nest .dimensions) ⌝ }
 {
-    let two = [2; 4];
-    let tile = slot / sizes.directions;
-    let direction = slot % sizes.directions + 1;
-    put_tile(nest, sizes, tile, at);
-    add_place(&two, at, direction, nest.spread);
-}
-
-pub fn bound_for(nest: Nest, sizes: Sizes, slot: usize) -> [usize; 4]
-    requires { ⌜ Sized nest sizes × (slot < slots nest) ⌝ }
-    ensures { λ r. ⌜ Has r (bound nest slot) (nest .dimensions) ⌝ }
-{
-    let mut at = [0; 4];
-    put_bound(nest, sizes, slot, &mut at);
-    at
-}
-
-// The tile at an end of a slot: 0 the sender, else the taker.
-pub fn end_of(nest: Nest, sizes: Sizes, slot: usize, side: usize) -> usize
-    requires { ⌜ Sized nest sizes × (slot < slots nest) ⌝ }
-    ensures { λ r. ⌜ r ≡ endAt nest side slot ⌝ }
-{
-    if side == 0 {
-        return slot / sizes.directions;
+    let route = sizes.route;
+    match route {
+        Route::Direct => place([2; 4], [0; 4], way + 1, nest.spread),
+        Route::Indirect => {
+            let mut at = [0; 4];
+            at[way] = 1;
+            at
+        }
     }
-    let across = sizes.across;
-    let mut to = [0; 4];
-    put_bound(nest, sizes, slot, &mut to);
-    rank_of(&across, &to, nest.dimensions)
 }
 
-// How far the taker is from the sender in a direction: the same from every tile.
-fn step_of(nest: Nest, sizes: Sizes, direction: usize) -> usize
-    requires { ⌜ Sized nest sizes ⌝ }
-    ensures { λ r. ⌜ r ≡ tileAt nest (ahead nest direction) ⌝ }
+// How far the taker is from the sender along a way: the same from every tile.
+fn step_of(nest: Nest, sizes: Sizes, way: usize) -> usize
+    requires { ⌜ Sized nest sizes × (way < ways (sizes .route) nest) ⌝ }
+    ensures { λ r. ⌜ (r ≡ tileAt nest (along (sizes .route) nest way)) × (r ≤ 4096) ⌝ }
 {
-    let at = place([2; 4], [0; 4], direction, nest.spread);
+    let at = along_of(nest, sizes, way);
     let across = sizes.across;
     rank(across, at, nest.dimensions)
 }
 
-// How far the tile at that end is from the sender, in each direction.
+// The tile at an end of a slot: 0 the sender, else the taker.
+pub fn end_of(nest: Nest, sizes: Sizes, slot: usize, side: usize) -> usize
+    requires { ⌜ Sized nest sizes × (slot < slots (sizes .route) nest) ⌝ }
+    ensures { λ r. ⌜ r ≡ endAt (sizes .route) nest side slot ⌝ }
+{
+    let sender = slot / sizes.ways;
+    if side == 0 {
+        return sender;
+    }
+    sender + step_of(nest, sizes, slot % sizes.ways)
+}
+
+// How far the tile at that end is from the sender, along each way.
 pub fn steps_of(nest: Nest, sizes: Sizes, side: usize) -> [usize; 8]
     requires { ⌜ Sized nest sizes ⌝ }
-    ensures { λ r. ⌜ Stepped nest side r ⌝ }
+    ensures { λ r. ⌜ Stepped (sizes .route) nest side r ⌝ }
 {
     let mut steps = [0; 8];
     if side == 0 {
         return steps;
     }
-    let n = sizes.directions;
-    for d in 0..n {
-        steps[d] = step_of(nest, sizes, d + 1);
+    let n = sizes.ways;
+    for w in 0..n {
+        steps[w] = step_of(nest, sizes, w);
     }
     steps
 }

@@ -1,5 +1,7 @@
 pub mod Walks
 pub mod Packing
-pub mod Twins
 pub mod Windows
+pub mod Rows
 pub mod Alike
+pub mod Sendings
+pub mod Twins

@@ -1,5 +1,5 @@
 -- Packing by rows: the cells of a row that some distance reads, their words from a place on, and the parcel that grows by a row.
-use Prim.Native.Nat.{ℕ, zero, suc, _+_, _-_, _≤_, _<_}
+use Prim.Native.Nat.{ℕ, zero, suc, _+_, _*_, _-_, _≤_, _<_}
 use mathlib.Core.Path.{_≡_, refl, sym, ap, _∙_}
 use mathlib.Core.Bool.{Bool, true, false}
 use mathlib.Core.List.{List, [], _∷_, _++_, map, append-assoc, append-nil}
@@ -18,13 +18,13 @@ use Rattle.base.proofs.Lists.{length-put, put-none, pack-length}
 use Rattle.nest.specs.declared.Nest.{Nest}
 use Rattle.nest.specs.Accepted.{Accepted}
 use Rattle.nest.specs.Nest.{cells}
-use Rattle.plan.specs.Messages.{slotDirection}
+use Rattle.plan.specs.Regions.{comesInto}
 use Rattle.plan.proofs.Grid.{map-append, keep-add, keep-nothing, keep-run, map-tabulate}
-use Rattle.plan.proofs.Box.{boxParcel-none, boxParcel-few}
-use Rattle.layout.specs.declared.Bounds.{Bounds}
 use Rattle.layout.specs.CellRows.{rowOf}
-use Rattle.parcels.specs.Windows.{isRead, Leading, RowEnds, rowParcel, RowRoom, RowPacked}
-use Rattle.parcels.proofs.Walks.{walked, meets, walked-mono, walked-hit, walked-miss, pack-append}
+use Rattle.parcels.specs.declared.Sending.{Sending}
+use Rattle.parcels.specs.Windows.{isRead, Leading, rowParcel, RowRoom, RowPacked}
+use Rattle.parcels.specs.Sendings.{found, RowEnds}
+use Rattle.parcels.proofs.Walks.{meets, found-none, found-hit, found-miss, found-few, found-mono, pack-append}
 
 -- ---- the cells of a row that some distance reads
 
@@ -192,59 +192,60 @@ module _ (ends : List ℕ) (n c a w : ℕ) (memory words₀ : List ℕ) (packed 
 
 -- ---- the parcel grows by a row
 
--- the first `count` words are those of the parcel's cells among the first q of the box; all will fit
-pub record PackedTo (x : Nest) (s : ℕ) (b : Bounds) (memory words : List ℕ) (count q : ℕ) : Type 0 where
-  pub low : q ≤ b .size
-  pub long : length words ≡ length (walked x s b (b .size))
-  pub small : b .size ≤ 16384
-  pub count-is : count ≡ length (walked x s b q)
-  pub is : take count words ≡ pack memory (walked x s b q)
+-- the first `count` words are those of the slot's cells among the first q of the box; all will fit
+pub record PackedTo (x : Nest) (z : Sending) (memory words : List ℕ) (count q : ℕ) : Type 0 where
+  pub low : q ≤ z .rows * z .width
+  pub long : length words ≡ length (found x z (z .rows * z .width))
+  pub small : z .rows * z .width ≤ 16384
+  pub count-is : count ≡ length (found x z q)
+  pub is : take count words ≡ pack memory (found x z q)
 
-pub packed-none : (x : Nest) (s : ℕ) (b : Bounds) (memory words : List ℕ) → length words ≡ length (walked x s b (b .size))
-    → b .size ≤ 16384 → PackedTo x s b memory words 0 0
+pub packed-none : (x : Nest) (z : Sending) (memory words : List ℕ) → length words ≡ length (found x z (z .rows * z .width))
+    → z .rows * z .width ≤ 16384 → PackedTo x z memory words 0 0
 unfolding pack
-packed-none x s b memory words long small =
+packed-none x z memory words long small =
     record {
       low = omega arith;
       long = long;
       small = small;
-      count-is = ap length (sym (boxParcel-none x (b .tile) (slotDirection x s)));
-      is = ap (pack memory) (sym (boxParcel-none x (b .tile) (slotDirection x s)));
+      count-is = ap length (sym (found-none x z));
+      is = ap (pack memory) (sym (found-none x z));
     }
 
-pub packed-end : (x : Nest) (s : ℕ) (b : Bounds) (memory words : List ℕ) (count q : ℕ) → PackedTo x s b memory words count q
-    → b .size ≤ q → words ≡ pack memory (walked x s b (b .size))
-packed-end x s b memory words count q p h =
-    let z : q ≡ b .size = omega (arith, p .low) in
-    let k : count ≡ length words = p .count-is ∙ ap (λ (m : ℕ). length (walked x s b m)) z ∙ sym (p .long) in
-    sym (take-length words) ∙ ap (λ (m : ℕ). take m words) (sym k) ∙ p .is ∙ ap (λ (m : ℕ). pack memory (walked x s b m)) z
+pub packed-end : (x : Nest) (z : Sending) (memory words : List ℕ) (count q : ℕ) → PackedTo x z memory words count q
+    → z .rows * z .width ≤ q → words ≡ pack memory (found x z (z .rows * z .width))
+packed-end x z memory words count q p h =
+    let e : q ≡ z .rows * z .width = omega (arith, p .low) in
+    let k : count ≡ length words = p .count-is ∙ ap (λ (m : ℕ). length (found x z m)) e ∙ sym (p .long) in
+    sym (take-length words) ∙ ap (λ (m : ℕ). take m words) (sym k) ∙ p .is ∙ ap (λ (m : ℕ). pack memory (found x z m)) e
 
-module _ (x : Nest) (s : ℕ) (b : Bounds) (first c a w : ℕ) (ends : List ℕ) (f : RowEnds x s b first c a w ends) where
-  row-meets : (y : ℕ) → y < w → isRead ends (x .distances) (a + y) ≡ meets x s b (first + y)
+module _ (x : Nest) (z : Sending) (first c a w : ℕ) (ends : List ℕ) (f : RowEnds x z first c a w ends) where
+  row-meets : (y : ℕ) → y < w → isRead ends (x .distances) (a + y) ≡ meets x z (first + y)
+  unfolding comesInto
   row-meets y k = some-same _ _ (x .distances) (λ e i. f .tests y e k i)
 
-  row-walked : (y : ℕ) → y ≤ w → walked x s b (first + y) ≡ walked x s b first ++ rowParcel ends (x .distances) c a y
-  row-walked zero k = rw (add-zero first, row-none ends (x .distances) c a) (sym (append-nil _))
-  row-walked (suc y) k = rw (← add-one y, ← add-assoc first y 1) (go _ refl (row-walked y (omega arith)))
+  row-found : (y : ℕ) → y ≤ w → found x z (first + y) ≡ found x z first ++ rowParcel ends (x .distances) c a y
+  row-found zero k = rw (add-zero first, row-none ends (x .distances) c a) (sym (append-nil _))
+  row-found (suc y) k = rw (← add-one y, ← add-assoc first y 1) (go _ refl (row-found y (omega arith)))
     where
       go : (t : Bool) → isRead ends (x .distances) (a + y) ≡ t
-          → walked x s b (first + y) ≡ walked x s b first ++ rowParcel ends (x .distances) c a y
-          → walked x s b (first + y + 1) ≡ walked x s b first ++ rowParcel ends (x .distances) c a (y + 1)
+          → found x z (first + y) ≡ found x z first ++ rowParcel ends (x .distances) c a y
+          → found x z (first + y + 1) ≡ found x z first ++ rowParcel ends (x .distances) c a (y + 1)
       go true e ih =
-          walked-hit x s b (first + y) (sym (row-meets y (omega arith)) ∙ e)
+          found-hit x z (first + y) (sym (row-meets y (omega arith)) ∙ e)
           ∙ rw (ih, row-hit ends (x .distances) c a y e, f .number y (omega arith))
-          (append-assoc (walked x s b first) (rowParcel ends (x .distances) c a y) _)
-      go false e ih = walked-miss x s b (first + y) (sym (row-meets y (omega arith)) ∙ e) ∙ rw (row-miss ends (x .distances) c a y e) ih
+          (append-assoc (found x z first) (rowParcel ends (x .distances) c a y) _)
+      go false e ih = found-miss x z (first + y) (sym (row-meets y (omega arith)) ∙ e) ∙ rw (row-miss ends (x .distances) c a y e) ih
 
-  pub row-all : walked x s b (first + w) ≡ walked x s b first ++ rowParcel ends (x .distances) c a w
-  row-all = row-walked w (omega arith)
+  pub row-all : found x z (first + w) ≡ found x z first ++ rowParcel ends (x .distances) c a w
+  row-all = row-found w (omega arith)
 
-  row-long : length (walked x s b (first + w)) ≡ length (walked x s b first) + length (rowParcel ends (x .distances) c a w)
-  row-long = ap length row-all ∙ length-append (walked x s b first) (rowParcel ends (x .distances) c a w)
+  row-long : length (found x z (first + w)) ≡ length (found x z first) + length (rowParcel ends (x .distances) c a w)
+  row-long = ap length row-all ∙ length-append (found x z first) (rowParcel ends (x .distances) c a w)
 
-  module _ (memory words : List ℕ) (count : ℕ) (p : PackedTo x s b memory words count first) where
+  module _ (memory words : List ℕ) (count : ℕ) (p : PackedTo x z memory words count first) where
     all-room : count + length (rowParcel ends (x .distances) c a w) ≤ length words
-    all-room = omega (arith, p .count-is, p .long, row-long, walked-mono x s b (b .size) (first + w) (f .room))
+    all-room = omega (arith, p .count-is, p .long, row-long, found-mono x z (z .rows * z .width) (first + w) (f .room))
 
     pub packed-room : Accepted x → length memory ≡ cells x → RowRoom ends (x .distances) c a w memory words count
     packed-room ok m =
@@ -254,14 +255,14 @@ module _ (x : Nest) (s : ℕ) (b : Bounds) (first c a w : ℕ) (ends : List ℕ)
           short = omega (arith, ok .cells-most);
           small = f .small;
           room = all-room;
-          most = omega (arith, p .long, p .small, boxParcel-few x (b .tile) (slotDirection x s) (b .size));
+          most = omega (arith, p .long, p .small, found-few x z (z .rows * z .width));
         }
 
     as-long : length (pack memory (rowParcel ends (x .distances) c a w)) ≡ length (rowParcel ends (x .distances) c a w)
     as-long = pack-length (rowParcel ends (x .distances) c a w) memory
 
     pub packed-row : (words′ : List ℕ) (count′ : ℕ) → RowPacked ends (x .distances) c a w memory words count words′ count′
-        → PackedTo x s b memory words′ count′ (first + w)
+        → PackedTo x z memory words′ count′ (first + w)
     packed-row words′ count′ r =
         let h : count + length (pack memory (rowParcel ends (x .distances) c a w)) ≤ length words = omega (arith, all-room, as-long) in
         record {
@@ -272,6 +273,6 @@ module _ (x : Nest) (s : ℕ) (b : Bounds) (first c a w : ℕ) (ends : List ℕ)
           is = ap (λ (m : ℕ). take m words′) (r .count-is ∙ ap (λ (m : ℕ). count + m) (sym as-long))
               ∙ ap (take (count + length (pack memory (rowParcel ends (x .distances) c a w)))) (r .is)
               ∙ take-put words count (pack memory (rowParcel ends (x .distances) c a w)) h
-              ∙ ap (λ (z : List ℕ). z ++ pack memory (rowParcel ends (x .distances) c a w)) (p .is)
-              ∙ sym (ap (pack memory) row-all ∙ pack-append memory (walked x s b first) (rowParcel ends (x .distances) c a w));
+              ∙ ap (λ (k : List ℕ). k ++ pack memory (rowParcel ends (x .distances) c a w)) (p .is)
+              ∙ sym (ap (pack memory) row-all ∙ pack-append memory (found x z first) (rowParcel ends (x .distances) c a w));
         }

@@ -1,106 +1,65 @@
--- A slot's parcel among the first cells of its tile's box: how it grows, and the loops that count and unpack it.
-use Prim.Native.Nat.{ℕ, zero, suc, _+_, _/_, _≤_, _<_}
+-- A slot's cells among the first ones of its box: how they grow, and the loops that count and unpack them.
+use Prim.Native.Nat.{ℕ, _+_, _*_, _≤_}
 use mathlib.Core.Path.{_≡_, refl, sym, ap, _∙_}
-use mathlib.Core.Logic.{_⊎_, inl, inr}
 use mathlib.Core.Bool.{Bool, true, false}
 use mathlib.Core.List.{List, [], _∷_, _++_}
 use native.Mathlib.Numerals.{add-one}
-use native.Mathlib.Nat.{eq-or-lt-of-le, le-of-suc-le-suc}
 use native.Mathlib.Omega.{arith}
-use lib.ListN.{length, getD, take, set, length-append}
+use lib.ListN.{length, getD, take, set, length-map}
 use lib.Seq.{take-length}
+use Rattle.base.specs.Tests.{keep}
 use Rattle.base.specs.Lists.{pack, unpack}
+use Rattle.base.proofs.Select.{keep-hit, keep-none, keep-few, keep-mono}
 use Rattle.base.proofs.Lists.{unpack-length}
 use Rattle.nest.specs.declared.Nest.{Nest}
-use Rattle.nest.specs.Accepted.{Accepted}
-use Rattle.plan.specs.Messages.{directions, reaches, slots, slotTile, slotDirection, slotParcel}
-use Rattle.plan.specs.Box.{boxSize, boxCell}
-use Rattle.plan.proofs.Parcels.{slotTile-low}
-use Rattle.plan.proofs.Box.{boxHit, boxParcel, boxParcel-none, boxParcel-hit, boxParcel-miss, boxParcel-few, parcel-box, boxSize-few}
-use Rattle.layout.specs.declared.Bounds.{Bounds}
-use Rattle.layout.specs.declared.Cell.{Cell}
-use Rattle.layout.specs.Places.{Has, Located, Bounded, bound, puts}
-use Rattle.layout.proofs.Cells.{puts-reaches}
+use Rattle.plan.specs.Regions.{comesInto}
+use Rattle.plan.proofs.Grid.{map-append}
+use Rattle.parcels.specs.declared.Sending.{Sending}
+use Rattle.parcels.specs.Windows.{windowOf}
+use Rattle.parcels.specs.Sendings.{found, placeIn, cellIn}
 
--- ---- a slot's box as the code has it
+-- ---- they grow
 
-pub record Walk (x : Nest) (s : ℕ) (b : Bounds) (to : List ℕ) : Type 0 where
-  pub low : s < slots x
-  pub box : Bounded x b
-  pub tile : b .tile ≡ slotTile x s
-  pub way : Has to (bound x s) (x .dimensions)
+-- some distance puts the q-th cell of the box into the window
+abbrev pub meets : Nest → Sending → ℕ → Bool
+meets x z q = comesInto x (windowOf (z .window)) (placeIn x z q)
 
--- the cells of the parcel among the first q of the box
-abbrev pub walked : Nest → ℕ → Bounds → ℕ → List ℕ
-walked x s b q = boxParcel x (b .tile) (slotDirection x s) q
+module _ (x : Nest) (z : Sending) where
+  pub found-none : found x z 0 ≡ []
+  unfolding found keep
+  found-none = refl
 
-abbrev pub meets : Nest → ℕ → Bounds → ℕ → Bool
-meets x s b q = boxHit x (b .tile) (slotDirection x s) q
+  pub found-hit : (q : ℕ) → meets x z q ≡ true → found x z (q + 1) ≡ found x z q ++ (cellIn x z q ∷ [])
+  unfolding found
+  found-hit q e = rw (add-one q, keep-hit (meets x z) q e) (map-append (cellIn x z) (keep (meets x z) q) (q ∷ []))
 
-pub walk-of : (x : Nest) (d s : ℕ) (b : Bounds) (to : List ℕ) → d ≡ directions x → s < slots x → Bounded x b × (b .tile ≡ s / d) → Has to (bound x s) (x .dimensions)
-    → Walk x s b to
-walk-of x d s b to is l (p, e) h = record { low = l; box = p; tile = e ∙ ap (λ (k : ℕ). s / k) is; way = h }
+  pub found-miss : (q : ℕ) → meets x z q ≡ false → found x z (q + 1) ≡ found x z q
+  unfolding found
+  found-miss q e = rw (add-one q, keep-none (meets x z) q e)
 
-module _ (x : Nest) (ok : Accepted x) (s : ℕ) (b : Bounds) (to : List ℕ) (w : Walk x s b to) where
-  pub parcel-is : slotParcel x s ≡ walked x s b (b .size)
-  unfolding slotParcel
-  parcel-is =
-      parcel-box x ok (slotTile x s) (slotDirection x s) (slotTile-low x s (w .low))
-      ∙ ap (λ (t : ℕ). boxParcel x t (slotDirection x s) (boxSize x t)) (sym (w .tile))
-      ∙ ap (walked x s b) (sym (w .box .size))
+  pub found-few : (q : ℕ) → length (found x z q) ≤ q
+  unfolding found
+  found-few q = simp length-map (keep-few (meets x z) q)
 
-  pub size-few : b .size ≤ 16384
-  size-few = omega (arith, w .box .size, boxSize-few x ok (b .tile) (w .box .low), ok .cells-most)
-
-  pub parcel-few : length (slotParcel x s) ≤ 16384
-  parcel-few = omega (arith, ap length parcel-is, boxParcel-few x (b .tile) (slotDirection x s) (b .size), size-few)
-
-  module _ (q : ℕ) (r : Cell) (l : Located x (boxCell x (b .tile) q) r) where
-    pub reach-is : (e : ℕ) → puts x to (r .place) e ≡ reaches x (b .tile) (slotDirection x s) (boxCell x (b .tile) q) e
-    reach-is e =
-        puts-reaches x ok (boxCell x (b .tile) q) (r .place) (l .place) s to (w .way) e
-        ∙ ap (λ (t : ℕ). reaches x t (slotDirection x s) (boxCell x (b .tile) q) e) (sym (w .tile))
-
--- ---- the parcel grows
-
-module _ (x : Nest) (s : ℕ) (b : Bounds) where
-  walked-step : (q : ℕ) (t : Bool) → meets x s b q ≡ t → length (walked x s b q) ≤ length (walked x s b (q + 1))
-  walked-step q true e = rw (boxParcel-hit x (b .tile) (slotDirection x s) q e) (simp length-append (omega arith))
-  walked-step q false e = rw (boxParcel-miss x (b .tile) (slotDirection x s) q e) (omega arith)
-
-  pub walked-mono : (n q : ℕ) → q ≤ n → length (walked x s b q) ≤ length (walked x s b n)
-  walked-mono zero q h = let z : q ≡ 0 = omega arith in rw z (omega arith)
-  walked-mono (suc n) q h = go (walked-mono n q) (eq-or-lt-of-le h)
-    where
-      go : (q ≤ n → length (walked x s b q) ≤ length (walked x s b n)) → (q ≡ suc n) ⊎ (q < suc n) → length (walked x s b q) ≤ length (walked x s b (suc n))
-      go ih (inl e) = rw e (omega arith)
-      go ih (inr k) = let a = ih (le-of-suc-le-suc k) in let z : length (walked x s b n) ≤ length (walked x s b (suc n)) = rw (← add-one n) (walked-step n (meets x s b n) refl) in omega arith
-
-  module _ (q : ℕ) (e : meets x s b q ≡ true) where
-    pub walked-hit : walked x s b (q + 1) ≡ walked x s b q ++ (boxCell x (b .tile) q ∷ [])
-    walked-hit = boxParcel-hit x (b .tile) (slotDirection x s) q e
-
-  pub walked-miss : (q : ℕ) → meets x s b q ≡ false → walked x s b (q + 1) ≡ walked x s b q
-  walked-miss q e = boxParcel-miss x (b .tile) (slotDirection x s) q e
+  pub found-mono : (n q : ℕ) → q ≤ n → length (found x z q) ≤ length (found x z n)
+  unfolding found
+  found-mono n q h = simp length-map (keep-mono (meets x z) n q h)
 
 -- ---- counting
 
-pub record Measuring (x : Nest) (s : ℕ) (b : Bounds) (count q : ℕ) : Type 0 where
-  pub low : q ≤ b .size
-  pub is : count ≡ length (walked x s b q)
+pub record Measuring (x : Nest) (z : Sending) (count q : ℕ) : Type 0 where
+  pub low : q ≤ z .rows * z .width
+  pub is : count ≡ length (found x z q)
 
-module _ (x : Nest) (s : ℕ) (b : Bounds) where
-  pub measure-none : Measuring x s b 0 0
-  measure-none = record { low = omega arith; is = ap length (sym (boxParcel-none x (b .tile) (slotDirection x s))) }
+module _ (x : Nest) (z : Sending) where
+  pub measure-none : Measuring x z 0 0
+  measure-none = record { low = omega arith; is = ap length (sym (found-none x z)) }
 
-  pub measure-few : (count q : ℕ) → Measuring x s b count q → count ≤ q
-  measure-few count q m = omega (arith, m .is, boxParcel-few x (b .tile) (slotDirection x s) q)
+  pub measure-few : (count q : ℕ) → Measuring x z count q → count ≤ z .rows * z .width
+  measure-few count q m = omega (arith, m .low, m .is, found-few x z q)
 
-pub measured : (x : Nest) (ok : Accepted x) (s : ℕ) (b : Bounds) (to : List ℕ) → Walk x s b to → (count q : ℕ) → Measuring x s b count q → b .size ≤ q
-    → (count ≡ length (slotParcel x s)) × (count ≤ 16384)
-measured x ok s b to w count q m h =
-    let z : q ≡ b .size = omega (arith, m .low) in
-    (m .is ∙ ap (λ (k : ℕ). length (walked x s b k)) z ∙ ap length (sym (parcel-is x ok s b to w)), omega (arith, measure-few x s b count q m, size-few x ok s b to w))
+  pub measure-all : (count q : ℕ) → Measuring x z count q → z .rows * z .width ≤ q → count ≡ length (found x z (z .rows * z .width))
+  measure-all count q m h = let e : q ≡ z .rows * z .width = omega (arith, m .low) in m .is ∙ ap (λ (k : ℕ). length (found x z k)) e
 
 -- ---- lists that grow at their end
 
@@ -118,32 +77,31 @@ unpack-append l (p ∷ a) b (w ∷ ws) us e = unpack-append (set l p w) a b ws u
 
 -- ---- unpacking
 
-pub record Unpacking (x : Nest) (s : ℕ) (b : Bounds) (memory₀ words memory : List ℕ) (count q : ℕ) : Type 0 where
-  pub low : q ≤ b .size
-  pub count-is : count ≡ length (walked x s b q)
-  pub is : memory ≡ unpack memory₀ (walked x s b q) (take count words)
+pub record Unpacking (x : Nest) (z : Sending) (memory₀ words memory : List ℕ) (count q : ℕ) : Type 0 where
+  pub low : q ≤ z .rows * z .width
+  pub count-is : count ≡ length (found x z q)
+  pub is : memory ≡ unpack memory₀ (found x z q) (take count words)
 
-module _ (x : Nest) (s : ℕ) (b : Bounds) (memory₀ words : List ℕ) where
-  pub unpacking-none : Unpacking x s b memory₀ words memory₀ 0 0
+module _ (x : Nest) (z : Sending) (memory₀ words : List ℕ) where
+  pub unpacking-none : Unpacking x z memory₀ words memory₀ 0 0
   unfolding unpack
   unpacking-none =
       record {
         low = omega arith;
-        count-is = ap length (sym (boxParcel-none x (b .tile) (slotDirection x s)));
-        is = ap (λ (z : List ℕ). unpack memory₀ z []) (sym (boxParcel-none x (b .tile) (slotDirection x s)));
+        count-is = ap length (sym (found-none x z));
+        is = ap (λ (k : List ℕ). unpack memory₀ k []) (sym (found-none x z));
       }
 
-  module _ (memory : List ℕ) (count q : ℕ) (p : Unpacking x s b memory₀ words memory count q) where
+  module _ (memory : List ℕ) (count q : ℕ) (p : Unpacking x z memory₀ words memory count q) where
     pub unpacking-long : length memory ≡ length memory₀
-    unpacking-long = ap length (p .is) ∙ unpack-length (walked x s b q) (take count words) memory₀
+    unpacking-long = ap length (p .is) ∙ unpack-length (found x z q) (take count words) memory₀
 
-pub unpacked : (x : Nest) (ok : Accepted x) (s : ℕ) (b : Bounds) (to : List ℕ) → Walk x s b to → (memory₀ words memory : List ℕ) (count q : ℕ)
-    → Unpacking x s b memory₀ words memory count q → b .size ≤ q → length words ≡ length (slotParcel x s) → memory ≡ unpack memory₀ (slotParcel x s) words
-unpacked x ok s b to w memory₀ words memory count q p h e =
-    let z : q ≡ b .size = omega (arith, p .low) in
-    let k : count ≡ length words = p .count-is ∙ ap (λ (a : ℕ). length (walked x s b a)) z ∙ ap length (sym (parcel-is x ok s b to w)) ∙ sym e in
-    p .is
-    ∙ ap (λ (a : ℕ). unpack memory₀ (walked x s b a) (take count words)) z
-    ∙ ap (λ (a : ℕ). unpack memory₀ (walked x s b (b .size)) (take a words)) k
-    ∙ ap (unpack memory₀ (walked x s b (b .size))) (take-length words)
-    ∙ ap (λ (a : List ℕ). unpack memory₀ a words) (sym (parcel-is x ok s b to w))
+    pub unpacked : z .rows * z .width ≤ q → length words ≡ length (found x z (z .rows * z .width))
+        → memory ≡ unpack memory₀ (found x z (z .rows * z .width)) words
+    unpacked h e =
+        let k : q ≡ z .rows * z .width = omega (arith, p .low) in
+        let m : count ≡ length words = p .count-is ∙ ap (λ (a : ℕ). length (found x z a)) k ∙ sym e in
+        p .is
+        ∙ ap (λ (a : ℕ). unpack memory₀ (found x z a) (take count words)) k
+        ∙ ap (λ (a : ℕ). unpack memory₀ (found x z (z .rows * z .width)) (take a words)) m
+        ∙ ap (unpack memory₀ (found x z (z .rows * z .width))) (take-length words)

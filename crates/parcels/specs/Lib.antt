@@ -1,3 +1,3 @@
-pub mod Windows
 pub mod Twins
+pub mod Windows
 pub mod Sendings

@@ -1,56 +1,111 @@
--- A slot's parcel by the rows of its tile's box: what is found of it once, what of a row, and how many rows are alike.
+-- A slot's cells by the rows of its box: box and window on either route, what is found of them once, and what of a row.
 -- No sentence of document 01: contracts of functions below the calls cite it.
-use Prim.Native.Nat.{ℕ, _+_, _*_, _-_, _≤_, _<_}
+use Prim.Native.Nat.{ℕ, _+_, _*_, _-_, _%_, _≤_, _<_}
 use mathlib.Core.Path.{_≡_}
-use mathlib.Core.Bool.{Bool}
-use mathlib.Core.List.{List}
-use lib.ListN.{getD}
+use mathlib.Core.Bool.{Bool, true, false}
+use mathlib.Core.List.{List, map}
+use lib.ListN.{length, getD}
 use lib.Dec.{ltb, leb}
-use Rattle.base.specs.Tests.{_and_, product}
+use Rattle.base.specs.Tests.{one, keep, product}
 use Rattle.nest.specs.declared.Nest.{Nest}
-use Rattle.nest.specs.Nest.{component}
-use Rattle.plan.specs.Geometry.{cellPlace}
-use Rattle.plan.specs.Messages.{slots, slotTile}
-use Rattle.plan.specs.Box.{boxCell}
-use Rattle.layout.specs.declared.Bounds.{Bounds}
-use Rattle.layout.specs.Places.{nth, Has, Bounded, bound}
+use Rattle.nest.specs.Nest.{lengthOf, component, cells}
+use Rattle.plan.specs.declared.Route.{Route}
+use Rattle.plan.specs.declared.Route.the-variants.{Direct, Indirect}
+use Rattle.plan.specs.Geometry.{tilePlace}
+use Rattle.plan.specs.Messages.{ways, slots, slotTile, slotCells, slotParcel}
+use Rattle.plan.specs.Regions.{Region, among, side, regionPlace, regionCell, tilesBox, tilesWindow, comesInto}
+use Rattle.layout.specs.Sizes.{along}
+use Rattle.layout.specs.Places.{nth, Has}
+use Rattle.parcels.specs.declared.Block.{Block}
+use Rattle.parcels.specs.declared.Window.{Window}
 use Rattle.parcels.specs.declared.Sending.{Sending}
 use Rattle.parcels.specs.declared.Row.{Row}
-use Rattle.parcels.specs.Windows.{Windowed, Leading, RowEnds}
+use Rattle.parcels.specs.Windows.{last, windowOf, Leading}
 
--- the carry test
-abbrev pub carries : ℕ → ℕ → ℕ → Bool
-carries low high m = leb low m and ltb m high
+-- ---- box and window of a slot
 
--- it is the same at the r numbers from m on
-pub record Unchanged (m low high r : ℕ) : Type 0 where
-  pub least : 1 ≤ r
-  pub same : (y : ℕ) → y < r → carries low high (m + y) ≡ carries low high m
+-- its tile's place, and how its way moves it
+pub record Headed (r : Route) (x : Nest) (s : ℕ) (at ahead : List ℕ) : Type 0 where
+  pub low : s < slots r x
+  pub tile : Has at (tilePlace x (slotTile r x s)) (x .dimensions)
+  pub way : Has ahead (along r x (s % ways r x)) (x .dimensions)
 
--- and at the r components from the last but one of place i on, which are the box's, for each distance
-pub record Alike (x : Nest) (low high : List ℕ) (b : Bounds) (i : List ℕ) (r : ℕ) : Type 0 where
-  pub least : 1 ≤ r
-  pub room : getD i (x .dimensions - 1 - 1) 0 + r ≤ getD (b .corner) (x .dimensions - 1 - 1) 0 + getD (b .lengths) (x .dimensions - 1 - 1) 0
-  pub same : (e y : ℕ) → e < x .distances → y < r
-      → carries (getD low (x .dimensions - 1 - 1) 0) (getD high (x .dimensions - 1 - 1) 0) (getD i (x .dimensions - 1 - 1) 0 + component x e (x .dimensions - 1 - 1) + y)
-      ≡ carries (getD low (x .dimensions - 1 - 1) 0) (getD high (x .dimensions - 1 - 1) 0) (getD i (x .dimensions - 1 - 1) 0 + component x e (x .dimensions - 1 - 1))
+-- nothing is to be counted, or all of the slot's cells
+pub record Idle (r : Route) (x : Nest) (s : ℕ) (t : Bool) : Type 0 where
+  pub none : t ≡ true → length (slotParcel r x s) ≡ 0
+  pub all : t ≡ false → slotParcel r x s ≡ slotCells r x s
 
--- the box of slot s's tile with its rows, the place that its parcel is bound for, the window there
-pub record Sends (x : Nest) (s : ℕ) (z : Sending) : Type 0 where
-  pub low : s < slots x
-  pub box : Bounded x (z .bounds)
-  pub tile : z .bounds .tile ≡ slotTile x s
-  pub way : Has (z .to) (bound x s) (x .dimensions)
-  pub window : Windowed x (z .to) (z .window .low) (z .window .high)
-  pub rows : z .rows ≡ product (nth (z .bounds .lengths)) (x .dimensions - 1)
-  pub width : z .width ≡ getD (z .bounds .lengths) (x .dimensions - 1) 0
+-- in the dimensions below the first number cells come from the tile before too, from the second on they may go to the tile after too
+abbrev pub earlier : Route → ℕ → ℕ
+earlier Direct w = 0
+earlier Indirect w = w
+
+abbrev pub later : Route → ℕ → ℕ
+later Direct w = 4
+later Indirect w = w + 1
+
+-- so the box of tile place `at`, and the window of the place `to` that it is bound for
+abbrev pub boxAt : Nest → (ℕ → ℕ) → ℕ → Region
+boxAt x at n = tilesBox x (λ j. at j - one (ltb j n)) at
+
+abbrev pub windowAt : Nest → (ℕ → ℕ) → ℕ → Region
+windowAt x to n = tilesWindow x to (λ j. to j + one (leb n j))
+
+-- the arrays have them
+pub record Boxed (x : Nest) (g : Region) (b : Block) : Type 0 where
+  pub corner : Has (b .corner) (g .low) (x .dimensions)
+  pub lengths : Has (b .lengths) (side g) (x .dimensions)
+
+pub record Windowed (x : Nest) (g : Region) (w : Window) : Type 0 where
+  pub low : Has (w .low) (g .low) (x .dimensions)
+  pub high : Has (w .high) (g .high) (x .dimensions)
+
+-- ---- what is found once
+
+-- the box as the arrays have it
+abbrev pub boxOf : Block → Region
+boxOf b = record { low = nth (b .corner); high = λ j. getD (b .corner) j 0 + getD (b .lengths) j 0 }
+
+-- in index order its n-th place, and the cell there
+abbrev pub placeIn : Nest → Sending → ℕ → ℕ → ℕ
+placeIn x z = regionPlace x (boxOf (z .block))
+
+abbrev pub cellIn : Nest → Sending → ℕ → ℕ
+cellIn x z = regionCell x (boxOf (z .block))
+
+-- it has a cell, lies inside the nest and is so many rows of this width; the window is open at the start of a row
+pub record Shaped (x : Nest) (z : Sending) : Type 0 where
+  pub least : (j : ℕ) → j < x .dimensions → 1 ≤ getD (z .block .lengths) j 0
+  pub inside : (j : ℕ) → j < x .dimensions → getD (z .block .corner) j 0 + getD (z .block .lengths) j 0 ≤ lengthOf x j
+  pub opens : getD (z .window .low) (last x) 0 ≡ 0
+  pub rows : z .rows ≡ product (nth (z .block .lengths)) (last x)
+  pub width : z .width ≡ getD (z .block .lengths) (last x) 0
+
+-- of the first n cells of the box, those that some distance puts into the window
+unfoldable pub found : Nest → Sending → ℕ → List ℕ
+found x z n = map (cellIn x z) (keep (λ q. comesInto x (windowOf (z .window)) (placeIn x z q)) n)
+
+-- they are slot s's
+pub record Sends (r : Route) (x : Nest) (s : ℕ) (z : Sending) : Type 0 where
+  pub shape : Shaped x z
+  pub cells : slotCells r x s ≡ found x z (z .rows * z .width)
+
+-- ---- what is found of a row
+
+-- the w cells of the box from the first-th on, a row's, with the ends there
+pub record RowEnds (x : Nest) (z : Sending) (first c a w : ℕ) (ends : List ℕ) : Type 0 where
+  pub room : first + w ≤ z .rows * z .width
+  pub low : c + w ≤ cells x
+  pub small : a + w ≤ 1024
+  pub number : (y : ℕ) → y < w → c + y ≡ cellIn x z (first + y)
+  pub tests : (y e : ℕ) → y < w → e < x .distances
+      → ltb (a + y) (getD ends e 0) ≡ among x (windowOf (z .window)) (λ j. placeIn x z (first + y) j + component x e j)
 
 -- row r of the box: its place, the ends in it, how many of its cells are in the parcel, and the rows from it on that have the same ends
-pub record RowAt (x : Nest) (s : ℕ) (z : Sending) (r : ℕ) (q : Row) : Type 0 where
-  pub place : Has (q .place) (cellPlace x (boxCell x (z .bounds .tile) (r * z .width))) (x .dimensions)
-  pub first : RowEnds x s (z .bounds) (r * z .width) (boxCell x (z .bounds .tile) (r * z .width)) (q .component) (z .width) (q .ends)
+pub record RowAt (x : Nest) (z : Sending) (r : ℕ) (q : Row) : Type 0 where
+  pub place : Has (q .place) (placeIn x z (r * z .width)) (x .dimensions)
   pub run : Leading (q .ends) (x .distances) (q .component) (z .width) (q .run)
   pub least : 1 ≤ q .alike
   pub room : r + q .alike ≤ z .rows
   pub alike : (y : ℕ) → y < q .alike
-      → RowEnds x s (z .bounds) ((r + y) * z .width) (boxCell x (z .bounds .tile) ((r + y) * z .width)) (q .component) (z .width) (q .ends)
+      → RowEnds x z ((r + y) * z .width) (cellIn x z ((r + y) * z .width)) (q .component) (z .width) (q .ends)

@@ -1,35 +1,38 @@
--- The cells of a parcel by rows: the window that a moved cell has to come into, where in a row a distance puts cells there, and
--- which cells of the row are packed.
+-- Rows of a box: where in a row a distance puts cells into the window, how many rows are alike, and which cells of a row are packed.
 -- No sentence of document 01: contracts of functions below the calls cite it.
-use Prim.Native.Nat.{ℕ, _+_, _*_, _-_, _≤_, _<_, min}
+use Prim.Native.Nat.{ℕ, _+_, _-_, _≤_, _<_}
 use mathlib.Core.Path.{_≡_}
 use mathlib.Core.Bool.{Bool}
 use mathlib.Core.List.{List, map}
 use lib.ListN.{length, getD}
-use lib.Dec.{ltb}
-use Rattle.base.specs.Tests.{some, keep}
+use lib.Dec.{ltb, leb}
+use Rattle.base.specs.Tests.{_and_, some, keep}
 use Rattle.base.specs.Lists.{put, pack}
 use Rattle.nest.specs.declared.Nest.{Nest}
-use Rattle.nest.specs.Nest.{lengthOf, tileLength, cells}
-use Rattle.plan.specs.Messages.{reaches, slotDirection}
-use Rattle.plan.specs.Box.{boxCell}
-use Rattle.layout.specs.declared.Bounds.{Bounds}
-use Rattle.layout.specs.Places.{puts}
+use Rattle.nest.specs.Nest.{component}
+use Rattle.plan.specs.Regions.{Region, among}
+use Rattle.layout.specs.Places.{nth}
+use Rattle.parcels.specs.declared.Block.{Block}
+use Rattle.parcels.specs.declared.Window.{Window}
 
--- the window of the place `to`: a tile's components where spread, else the nest's
-pub record Windowed (x : Nest) (to low high : List ℕ) : Type 0 where
-  pub low-is : (j : ℕ) → j < x .spread → getD low j 0 ≡ getD to j 0 * tileLength x j
-  pub high-is : (j : ℕ) → j < x .spread → getD high j 0 ≡ min (getD to j 0 * tileLength x j + tileLength x j) (lengthOf x j)
-  pub low-rest : (j : ℕ) → x .spread ≤ j → j < x .dimensions → getD low j 0 ≡ 0
-  pub high-rest : (j : ℕ) → x .spread ≤ j → j < x .dimensions → getD high j 0 ≡ lengthOf x j
+-- rows are along the last dimension, and follow each other along the one before it
+abbrev pub last : Nest → ℕ
+last x = x .dimensions - 1
 
--- in the row of place i, distance e puts a cell there just where its last component is below r
-pub record RowEnd (x : Nest) (to i : List ℕ) (e r : ℕ) : Type 0 where
-  pub is : (k : List ℕ) → ((j : ℕ) → j < x .dimensions - 1 → getD k j 0 ≡ getD i j 0) → ltb (getD k (x .dimensions - 1) 0) r ≡ puts x to k e
+abbrev pub beside : Nest → ℕ
+beside x = x .dimensions - 1 - 1
+
+-- the window as the arrays have it
+abbrev pub windowOf : Window → Region
+windowOf w = record { low = nth (w .low); high = nth (w .high) }
+
+-- in the row of place i, distance e puts a cell into the window just where its last component is below r
+pub record RowEnd (x : Nest) (w : Region) (i : ℕ → ℕ) (e r : ℕ) : Type 0 where
+  pub is : (k : ℕ → ℕ) → ((j : ℕ) → j < last x → k j ≡ i j) → ltb (k (last x)) r ≡ among x w (λ j. k j + component x e j)
 
 -- so for each distance
-pub record DistanceEnds (x : Nest) (to i ends : List ℕ) : Type 0 where
-  pub each : (e : ℕ) → e < x .distances → RowEnd x to i e (getD ends e 0)
+pub record DistanceEnds (x : Nest) (w : Region) (i : ℕ → ℕ) (ends : List ℕ) : Type 0 where
+  pub each : (e : ℕ) → e < x .distances → RowEnd x w i e (getD ends e 0)
 
 -- a cell of the row with the last component m is below one of the n ends: some distance puts it there
 abbrev pub isRead : List ℕ → ℕ → ℕ → Bool
@@ -40,13 +43,31 @@ pub record Leading (ends : List ℕ) (n a w r : ℕ) : Type 0 where
   pub low : r ≤ w
   pub is : (y : ℕ) → y < w → ltb y r ≡ isRead ends n (a + y)
 
--- the w cells of the box from the first-th on, a row's, with the ends there
-pub record RowEnds (x : Nest) (s : ℕ) (b : Bounds) (first c a w : ℕ) (ends : List ℕ) : Type 0 where
-  pub room : first + w ≤ b .size
-  pub low : c + w ≤ cells x
-  pub small : a + w ≤ 1024
-  pub number : (y : ℕ) → y < w → c + y ≡ boxCell x (b .tile) (first + y)
-  pub tests : (y e : ℕ) → y < w → e < x .distances → ltb (a + y) (getD ends e 0) ≡ reaches x (b .tile) (slotDirection x s) (boxCell x (b .tile) (first + y)) e
+-- ---- rows alike
+
+-- the carry test
+abbrev pub carries : ℕ → ℕ → ℕ → Bool
+carries low high m = leb low m and ltb m high
+
+-- it is the same at the r numbers from m on
+pub record Unchanged (m low high r : ℕ) : Type 0 where
+  pub least : 1 ≤ r
+  pub same : (y : ℕ) → y < r → carries low high (m + y) ≡ carries low high m
+
+-- the row of place i is the box's
+pub record InBlock (x : Nest) (b : Block) (i : List ℕ) : Type 0 where
+  pub low : getD i (beside x) 0 < getD (b .corner) (beside x) 0 + getD (b .lengths) (beside x) 0
+  pub most : getD (b .corner) (beside x) 0 + getD (b .lengths) (beside x) 0 ≤ 1024
+
+-- so are the r rows from it on, and each distance's test is the same in them
+pub record Alike (x : Nest) (w : Window) (b : Block) (i : List ℕ) (r : ℕ) : Type 0 where
+  pub least : 1 ≤ r
+  pub room : getD i (beside x) 0 + r ≤ getD (b .corner) (beside x) 0 + getD (b .lengths) (beside x) 0
+  pub same : (e y : ℕ) → e < x .distances → y < r
+      → carries (getD (w .low) (beside x) 0) (getD (w .high) (beside x) 0) (getD i (beside x) 0 + component x e (beside x) + y)
+      ≡ carries (getD (w .low) (beside x) 0) (getD (w .high) (beside x) 0) (getD i (beside x) 0 + component x e (beside x))
+
+-- ---- a row packed
 
 -- of the w cells of a row, the first with number c and last component a, those that one of the n distances puts there, being
 -- below its end: each once, rising

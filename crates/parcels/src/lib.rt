@@ -1,33 +1,38 @@
-// Parcels in code: the window that a moved cell has to come into, a parcel's length, packing, unpacking.
+// Parcels in code: the box that holds a slot's cells and the window that a distance puts them into, a parcel's length, packing, unpacking.
 ghost use mathlib.Core.Path.{_≡_};
 ghost use Prim.Native.Nat.{ℕ, _+_, _*_, _-_, min, _≤_, _<_};
 ghost use lib.ListN.{length, getD};
-ghost use lib.Dec.{leb, ltb};
-ghost use Rattle.base.specs.Tests.{_and_, pick, some};
+ghost use lib.Dec.{eqb, leb, ltb};
+ghost use Rattle.base.specs.Tests.{_and_, one, some};
 ghost use Rattle.base.specs.Lists.{part, pack, unpack};
 ghost use Rattle.nest.specs.Accepted.{Accepted};
-ghost use Rattle.nest.specs.Nest.{cells, tiles};
+ghost use Rattle.nest.specs.Nest.{tileCount, cells, tiles};
 ghost use Rattle.plan.specs.Messages.{slots, slotParcel};
 ghost use Rattle.layout.specs.Sizes.{Sized};
-ghost use Rattle.layout.specs.Places.{Has, Bounded, bound};
+ghost use Rattle.layout.specs.Places.{nth};
 ghost use Rattle.layout.specs.CellRows.{Given, rowOf};
-ghost use Rattle.parcels.specs.Twins.{Twin};
-ghost use Rattle.parcels.specs.Windows.{Windowed, RowEnd, DistanceEnds, Leading, RowRoom, RowPacked};
-ghost use Rattle.parcels.specs.Sendings.{carries, Unchanged, Alike, Sends, RowAt};
-use layout::Bounds;
+ghost use Rattle.parcels.specs.Twins.{twoBefore, Twin};
+ghost use Rattle.parcels.specs.Windows.{windowOf, RowEnd, DistanceEnds, Leading, carries, Unchanged, InBlock, Alike, RowRoom, RowPacked};
+ghost use Rattle.parcels.specs.Sendings.{earlier, later, boxAt, windowAt, Boxed, Windowed, Headed, Idle, Shaped, Sends, RowAt};
 use layout::Sizes;
 use nest::Nest;
+use plan::Route;
 
-// The window: a cell is in a parcel if some distance puts it from `low` on, below `high`, in each dimension.
+// A box of places, from its first one with its lengths.
+struct Block {
+    corner: [usize; 4],
+    lengths: [usize; 4],
+}
+
+// The window: a cell of the box is the slot's if some distance puts it from `low` on, below `high`, in each dimension.
 struct Window {
     low: [usize; 4],
     high: [usize; 4],
 }
 
-// What a slot's parcel is found by: the box of its tile's cells by rows, the place it is bound for, the window there.
+// What a slot's cells are found by: the box by rows, and the window.
 struct Sending {
-    bounds: Bounds,
-    to: [usize; 4],
+    block: Block,
     window: Window,
     rows: usize,
     width: usize,
@@ -55,33 +60,65 @@ fn carry(component: usize, distance: usize, low: usize, high: usize) -> bool
     moved < high
 }
 
-// Whether a tile has one before it in a dimension, and after it another of full length.
-fn one_back(at: usize, tiling: usize, length: usize) -> bool
-    requires { ⌜ (at ≤ 1024) × (tiling ≤ 1024) ⌝ }
-    ensures { λ r. ⌜ r ≡ (ltb 0 at and leb ((at + 2) * tiling) length) ⌝ }
+// 1 where the test is true, else 0.
+fn one(test: bool) -> usize
+    ensures { λ r. ⌜ r ≡ one test ⌝ }
 {
-    if at == 0 {
+    if test { 1 } else { 0 }
+}
+
+// The tile before, where the test is true and there is one.
+fn back(at: usize, test: bool) -> usize
+    ensures { λ r. ⌜ r ≡ at - one test ⌝ }
+{
+    let n = one(test);
+    if at < n {
+        return 0;
+    }
+    at - n
+}
+
+// Whether a tile has one before it in a dimension, or two where two are asked for, and after it another of full length.
+fn one_back(at: usize, two: bool, tiling: usize, length: usize) -> bool
+    requires { ⌜ (at ≤ 1024) × (tiling ≤ 1024) ⌝ }
+    ensures { λ r. ⌜ r ≡ (ltb (one two) at and leb ((at + 2) * tiling) length) ⌝ }
+{
+    if at <= one(two) {
         return false;
     }
     (at + 2) * tiling <= length
 }
 
-// A tile before this one whose parcels have the lengths that this one's have, or the tile itself: only at the end of a
+// In how many of the first dimensions a tile is like the one before it only if that one has another before it: on the indirect
+// route cells come from there too.
+fn two_before(nest: Nest, route: Route) -> usize
+    requires { ⌜ Accepted nest ⌝ }
+    ensures { λ r. ⌜ r ≡ twoBefore route nest ⌝ }
+{
+    match route {
+        Route::Direct => 0,
+        Route::Indirect => nest.spread - 1,
+    }
+}
+
+// A tile before this one whose parcels have the lengths that this one's have, or the tile itself: only at the ends of a
 // dimension do they change, so that one tile back along the last dimension that allows it will do.
 pub fn twin_of(nest: Nest, sizes: Sizes, tile: usize) -> usize
     requires { ⌜ Sized nest sizes × (tile < tiles nest) ⌝ }
-    ensures { λ r. ⌜ Twin nest tile r ⌝ }
+    ensures { λ r. ⌜ Twin (sizes .route) nest tile r ⌝ }
 {
     let across = sizes.across;
     let tiling = nest.tiling;
     let lengths = nest.lengths;
+    let route = sizes.route;
+    let two = two_before(nest, route);
     let mut left = nest.dimensions;
     let mut rest = tile;
     let mut stride = 1;
     while left > 0 {
         left -= 1;
         let n = across[left];
-        if one_back(rest % n, tiling[left], lengths[left]) {
+        if one_back(rest % n, left < two, tiling[left], lengths[left]) {
             return tile - stride;
         }
         rest = rest / n;
@@ -90,41 +127,79 @@ pub fn twin_of(nest: Nest, sizes: Sizes, tile: usize) -> usize
     tile
 }
 
-// Where a window begins and ends in a dimension: the tile's there where spread, else the nest's.
-fn low_of(to: usize, tiling: usize, spread: bool) -> usize
-    requires { ⌜ to * tiling ≤ 2097152 ⌝ }
-    ensures { λ r. ⌜ r ≡ pick spread (to * tiling) 0 ⌝ }
+// In how many of the first dimensions a slot's cells come from the tile before too: on the indirect route in those that
+// messages go along before the slot's own.
+fn earlier_of(route: Route, way: usize) -> usize
+    ensures { λ r. ⌜ r ≡ earlier route way ⌝ }
 {
-    if spread {
-        return to * tiling;
+    match route {
+        Route::Direct => 0,
+        Route::Indirect => way,
     }
-    0
 }
 
-fn high_of(to: usize, tiling: usize, length: usize, spread: bool) -> usize
-    requires { ⌜ (to * tiling ≤ 2097152) × (tiling ≤ 1024) ⌝ }
-    ensures { λ r. ⌜ r ≡ pick spread (min (to * tiling + tiling) length) length ⌝ }
+// From which dimension on they may be bound for the tile after too: on the indirect route from the one after the slot's own.
+fn later_of(route: Route, way: usize) -> usize
+    requires { ⌜ way ≤ 8 ⌝ }
+    ensures { λ r. ⌜ r ≡ later route way ⌝ }
 {
-    if spread {
-        return layout::least(to * tiling + tiling, length);
+    match route {
+        Route::Direct => 4,
+        Route::Indirect => way + 1,
     }
-    length
 }
 
-// The window of a place that a parcel is bound for.
-fn window_of(nest: Nest, to: [usize; 4]) -> Window
-    requires { ⌜ Accepted nest × ((j : ℕ) → j < nest .dimensions → getD to j 0 ≤ 1024) ⌝ }
-    ensures { λ r. ⌜ Windowed nest to (r .low) (r .high) ⌝ }
+// Where a tile ends, short at an edge.
+fn end_of(at: usize, tiling: usize, length: usize) -> usize
+    requires { ⌜ (at ≤ 1025) × (tiling ≤ 1024) ⌝ }
+    ensures { λ r. ⌜ r ≡ min (at * tiling + tiling) length ⌝ }
 {
-    let mut low = [0; 4];
-    let mut high = [0; 4];
+    layout::least(at * tiling + tiling, length)
+}
+
+// The box of a slot's cells: the tile's and, in dimensions below `earlier`, those of the tile before it.
+fn block_of(nest: Nest, at: [usize; 4], earlier: usize) -> Block
+    requires { ⌜ Accepted nest × ((j : ℕ) → j < nest .dimensions → getD at j 0 < tileCount nest j) ⌝ }
+    ensures { λ r. ⌜ Boxed nest (boxAt nest (nth at) earlier) r ⌝ }
+{
+    let mut corner = [0; 4];
+    let mut lengths = [0; 4];
     let tiling = nest.tiling;
-    let lengths = nest.lengths;
+    let ends = nest.lengths;
     let n = nest.dimensions;
     for j in 0..n {
         let k = tiling[j];
-        low[j] = low_of(to[j], k, j < nest.spread);
-        high[j] = high_of(to[j], k, lengths[j], j < nest.spread);
+        let first = back(at[j], j < earlier) * k;
+        corner[j] = first;
+        lengths[j] = end_of(at[j], k, ends[j]) - first;
+    }
+    Block {
+        corner: corner,
+        lengths: lengths,
+    }
+}
+
+// The window: in a spread dimension the tile that the way leads to and, from `later` on, the one after it; else the whole nest,
+// whose lengths are given.
+fn window_of(
+    nest: Nest,
+    lengths: [usize; 4],
+    at: [usize; 4],
+    ahead: [usize; 4],
+    later: usize,
+) -> Window
+    requires { ⌜ Accepted nest × ((lengths ≡ nest .lengths) × ((j : ℕ) → j < nest .spread → getD at j 0 + getD ahead j 0 ≤ 1024)) ⌝ }
+    ensures { λ r. ⌜ Windowed nest (windowAt nest (λ j. getD at j 0 + getD ahead j 0) later) r ⌝ }
+{
+    let tiling = nest.tiling;
+    let mut low = [0; 4];
+    let mut high = lengths;
+    let n = nest.spread;
+    for j in 0..n {
+        let k = tiling[j];
+        let to = at[j] + ahead[j];
+        low[j] = to * k;
+        high[j] = end_of(to + one(j >= later), k, lengths[j]);
     }
     Window {
         low: low,
@@ -138,12 +213,11 @@ fn end_in_row(
     components: &[usize; 32],
     window: Window,
     at: [usize; 4],
-    to: [usize; 4],
     e: usize,
 ) -> usize
     requires { ⌜ Accepted nest × ((e < nest .distances) × Given nest (now components)) ⌝ }
-    requires { ⌜ Windowed nest to (window .low) (window .high) × ((j : ℕ) → j < nest .dimensions → getD at j 0 < 1024) ⌝ }
-    ensures { λ r. ⌜ RowEnd nest to at e r ⌝ }
+    requires { ⌜ (getD (window .low) (nest .dimensions - 1) 0 ≡ 0) × ((j : ℕ) → j < nest .dimensions → getD at j 0 < 1024) ⌝ }
+    ensures { λ r. ⌜ RowEnd nest (windowOf window) (nth at) e r ⌝ }
 {
     let last = nest.dimensions - 1;
     let low = window.low;
@@ -161,21 +235,15 @@ fn end_in_row(
 }
 
 // That of each distance.
-fn ends_of(
-    nest: Nest,
-    components: &[usize; 32],
-    window: Window,
-    at: [usize; 4],
-    to: [usize; 4],
-) -> [usize; 8]
+fn ends_of(nest: Nest, components: &[usize; 32], window: Window, at: [usize; 4]) -> [usize; 8]
     requires { ⌜ Accepted nest × Given nest (now components) ⌝ }
-    requires { ⌜ Windowed nest to (window .low) (window .high) × ((j : ℕ) → j < nest .dimensions → getD at j 0 < 1024) ⌝ }
-    ensures { λ r. ⌜ DistanceEnds nest to at r ⌝ }
+    requires { ⌜ (getD (window .low) (nest .dimensions - 1) 0 ≡ 0) × ((j : ℕ) → j < nest .dimensions → getD at j 0 < 1024) ⌝ }
+    ensures { λ r. ⌜ DistanceEnds nest (windowOf window) (nth at) r ⌝ }
 {
     let mut ends = [0; 8];
     let n = nest.distances;
     for e in 0..n {
-        ends[e] = end_in_row(nest, components, window, at, to, e);
+        ends[e] = end_in_row(nest, components, window, at, e);
     }
     ends
 }
@@ -213,12 +281,11 @@ fn rows_alike(
     nest: Nest,
     components: &[usize; 32],
     window: Window,
-    bounds: Bounds,
+    block: Block,
     at: [usize; 4],
 ) -> usize
-    requires { ⌜ Accepted nest × (Given nest (now components) × Bounded nest bounds) ⌝ }
-    requires { ⌜ getD at (nest .dimensions - 1 - 1) 0 < getD (bounds .corner) (nest .dimensions - 1 - 1) 0 + getD (bounds .lengths) (nest .dimensions - 1 - 1) 0 ⌝ }
-    ensures { λ r. ⌜ Alike nest (window .low) (window .high) bounds at r ⌝ }
+    requires { ⌜ Accepted nest × (Given nest (now components) × InBlock nest block at) ⌝ }
+    ensures { λ r. ⌜ Alike nest window block at r ⌝ }
 {
     let last = nest.dimensions - 1;
     let j = last - 1;
@@ -226,7 +293,7 @@ fn rows_alike(
     let low = window.low[j];
     let high = window.high[j];
     let n = nest.distances;
-    let mut rows = bounds.corner[j] + bounds.lengths[j] - component;
+    let mut rows = block.corner[j] + block.lengths[j] - component;
     for e in 0..n {
         rows = layout::least(
             rows,
@@ -236,32 +303,70 @@ fn rows_alike(
     rows
 }
 
-// Whether a place of tiles is beyond the last one in some of the first n dimensions: nothing is bound for it.
-fn outside(across: [usize; 4], to: [usize; 4], n: usize) -> bool
-    requires { ⌜ n ≤ 4 ⌝ }
-    ensures { λ r. ⌜ r ≡ some (λ j. leb (getD across j 0) (getD to j 0)) n ⌝ }
+// Whether a way leads beyond the last tile in a spread dimension: nothing is bound there.
+fn outside(across: [usize; 4], at: [usize; 4], ahead: [usize; 4], n: usize) -> bool
+    requires { ⌜ (n ≤ 4) × ((j : ℕ) → j < n → getD at j 0 + getD ahead j 0 ≤ 1024) ⌝ }
+    ensures { λ r. ⌜ r ≡ some (λ j. leb (getD across j 0) (getD at j 0 + getD ahead j 0)) n ⌝ }
 {
     for j in 0..n {
-        if to[j] >= across[j] {
+        if at[j] + ahead[j] >= across[j] {
             return true;
         }
     }
     false
 }
 
-// What is found once for all rows of a slot's box.
-fn sending_of(nest: Nest, sizes: Sizes, slot: usize, to: [usize; 4]) -> Sending
-    requires { ⌜ Sized nest sizes × ((slot < slots nest) × Has to (bound nest slot) (nest .dimensions)) ⌝ }
-    ensures { λ r. ⌜ Sends nest slot r ⌝ }
+// Whether a step along a dimension comes to another processor.
+fn hops(ahead: usize, count: usize) -> bool
+    ensures { λ r. ⌜ r ≡ (eqb ahead 1 and ltb 1 count) ⌝ }
 {
-    let bounds = layout::bounds_of(nest, sizes, slot / sizes.directions);
-    let window = window_of(nest, to);
+    if ahead == 1 {
+        return count > 1;
+    }
+    false
+}
+
+// Whether a way does.
+fn leaves(counts: [usize; 4], ahead: [usize; 4], n: usize) -> bool
+    requires { ⌜ n ≤ 4 ⌝ }
+    ensures { λ r. ⌜ r ≡ some (λ j. eqb (getD ahead j 0) 1 and ltb 1 (getD counts j 0)) n ⌝ }
+{
+    for j in 0..n {
+        if hops(ahead[j], counts[j]) {
+            return true;
+        }
+    }
+    false
+}
+
+// Whether a slot is to be looked at no further: the way leads beyond the last tile, or to the same processor.
+fn idle(nest: Nest, sizes: Sizes, slot: usize, at: [usize; 4], ahead: [usize; 4]) -> bool
+    requires { ⌜ Sized nest sizes × Headed (sizes .route) nest slot at ahead ⌝ }
+    ensures { λ r. ⌜ Idle (sizes .route) nest slot r ⌝ }
+{
+    let across = sizes.across;
+    let counts = nest.counts;
+    if outside(across, at, ahead, nest.spread) {
+        return true;
+    }
+    !leaves(counts, ahead, nest.spread)
+}
+
+// What is found once for all rows of a slot's box.
+fn sending_of(nest: Nest, sizes: Sizes, slot: usize, at: [usize; 4], ahead: [usize; 4]) -> Sending
+    requires { ⌜ Sized nest sizes × Headed (sizes .route) nest slot at ahead ⌝ }
+    ensures { λ r. ⌜ Sends (sizes .route) nest slot r ⌝ }
+{
+    let route = sizes.route;
+    let way = slot % sizes.ways;
+    let block = block_of(nest, at, earlier_of(route, way));
+    let whole = nest.lengths;
+    let window = window_of(nest, whole, at, ahead, later_of(route, way));
     let last = nest.dimensions - 1;
-    let lengths = bounds.lengths;
+    let lengths = block.lengths;
     let rows = layout::product(lengths, last);
     Sending {
-        bounds: bounds,
-        to: to,
+        block: block,
         window: window,
         rows: rows,
         width: lengths[last],
@@ -269,20 +374,19 @@ fn sending_of(nest: Nest, sizes: Sizes, slot: usize, to: [usize; 4]) -> Sending
 }
 
 // Row r of the box.
-fn row_at(nest: Nest, components: &[usize; 32], sending: Sending, slot: usize, r: usize) -> Row
-    requires { ⌜ Accepted nest × (Given nest (now components) × (Sends nest slot sending × (r < sending .rows))) ⌝ }
-    ensures { λ q. ⌜ RowAt nest slot sending r q ⌝ }
+fn row_at(nest: Nest, components: &[usize; 32], sending: Sending, r: usize) -> Row
+    requires { ⌜ Accepted nest × (Given nest (now components) × (Shaped nest sending × (r < sending .rows))) ⌝ }
+    ensures { λ q. ⌜ RowAt nest sending r q ⌝ }
 {
     let last = nest.dimensions - 1;
-    let to = sending.to;
-    let bounds = sending.bounds;
-    let lengths = bounds.lengths;
-    let corner = bounds.corner;
+    let block = sending.block;
+    let lengths = block.lengths;
+    let corner = block.corner;
     let at = layout::place(lengths, corner, r, last);
-    let ends = ends_of(nest, components, sending.window, at, to);
+    let ends = ends_of(nest, components, sending.window, at);
     let component = at[last];
     let run = run_of(&ends, nest.distances, component, sending.width);
-    let alike = rows_alike(nest, components, sending.window, bounds, at);
+    let alike = rows_alike(nest, components, sending.window, block, at);
     Row {
         place: at,
         component: component,
@@ -294,21 +398,21 @@ fn row_at(nest: Nest, components: &[usize; 32], sending: Sending, slot: usize, r
 
 // How many cells a slot's parcel has.
 pub fn parcel_length(nest: Nest, sizes: Sizes, slot: usize) -> usize
-    requires { ⌜ Sized nest sizes × (slot < slots nest) ⌝ }
-    ensures { λ r. ⌜ (r ≡ length (slotParcel nest slot)) × (r ≤ 16384) ⌝ }
+    requires { ⌜ Sized nest sizes × (slot < slots (sizes .route) nest) ⌝ }
+    ensures { λ r. ⌜ (r ≡ length (slotParcel (sizes .route) nest slot)) × (r ≤ 16384) ⌝ }
 {
-    let to = layout::bound_for(nest, sizes, slot);
-    let across = sizes.across;
-    if outside(across, to, nest.spread) {
+    let at = layout::place_of_tile(nest, sizes, slot / sizes.ways);
+    let ahead = layout::along_of(nest, sizes, slot % sizes.ways);
+    if idle(nest, sizes, slot, at, ahead) {
         return 0;
     }
-    let sending = sending_of(nest, sizes, slot, to);
+    let sending = sending_of(nest, sizes, slot, at, ahead);
     let components = nest.components;
     let rows = sending.rows;
     let mut count = 0;
     let mut r = 0;
     while r < rows {
-        let row = row_at(nest, &components, sending, slot, r);
+        let row = row_at(nest, &components, sending, r);
         count += row.alike * row.run;
         r += row.alike;
     }
@@ -348,11 +452,12 @@ fn pack_row(
 
 // The words of a slot's parcel, row by row: rows alike that have none of it are passed over at once.
 pub fn pack(nest: Nest, sizes: Sizes, slot: usize, words: &mut [u32], memory: &[u32])
-    requires { ⌜ Sized nest sizes × ((slot < slots nest) × ((length (now memory) ≡ cells nest) × (length (now words) ≡ length (slotParcel nest slot)))) ⌝ }
-    ensures { λ _. ⌜ now (words .exit) ≡ pack (now (memory .entry)) (slotParcel nest slot) ⌝ }
+    requires { ⌜ Sized nest sizes × ((slot < slots (sizes .route) nest) × ((length (now memory) ≡ cells nest) × ((length (now words) ≡ length (slotParcel (sizes .route) nest slot)) × (0 < length (now words))))) ⌝ }
+    ensures { λ _. ⌜ now (words .exit) ≡ pack (now (memory .entry)) (slotParcel (sizes .route) nest slot) ⌝ }
 {
-    let to = layout::bound_for(nest, sizes, slot);
-    let sending = sending_of(nest, sizes, slot, to);
+    let at = layout::place_of_tile(nest, sizes, slot / sizes.ways);
+    let ahead = layout::along_of(nest, sizes, slot % sizes.ways);
+    let sending = sending_of(nest, sizes, slot, at, ahead);
     let components = nest.components;
     let rows = sending.rows;
     let width = sending.width;
@@ -360,14 +465,14 @@ pub fn pack(nest: Nest, sizes: Sizes, slot: usize, words: &mut [u32], memory: &[
     let mut count = 0;
     let mut r = 0;
     while r < rows {
-        let row = row_at(nest, &components, sending, slot, r);
+        let row = row_at(nest, &components, sending, r);
         if row.run == 0 {
             r += row.alike;
             continue;
         }
         let ends = row.ends;
-        let at = row.place;
-        let number = layout::rank(lengths, at, nest.dimensions);
+        let place = row.place;
+        let number = layout::rank(lengths, place, nest.dimensions);
         count = pack_row(
             words,
             memory,
@@ -394,24 +499,25 @@ fn unpack_row(memory: &mut [u32], words: &[u32], cell: usize, from: usize, n: us
 
 // Each word of a slot's parcel to its cell, row by row.
 pub fn unpack(nest: Nest, sizes: Sizes, slot: usize, memory: &mut [u32], words: &[u32])
-    requires { ⌜ Sized nest sizes × ((slot < slots nest) × ((length (now memory) ≡ cells nest) × (length (now words) ≡ length (slotParcel nest slot)))) ⌝ }
-    ensures { λ _. ⌜ now (memory .exit) ≡ unpack (now (memory .entry)) (slotParcel nest slot) (now (words .entry)) ⌝ }
+    requires { ⌜ Sized nest sizes × ((slot < slots (sizes .route) nest) × ((length (now memory) ≡ cells nest) × ((length (now words) ≡ length (slotParcel (sizes .route) nest slot)) × (0 < length (now words))))) ⌝ }
+    ensures { λ _. ⌜ now (memory .exit) ≡ unpack (now (memory .entry)) (slotParcel (sizes .route) nest slot) (now (words .entry)) ⌝ }
 {
-    let to = layout::bound_for(nest, sizes, slot);
-    let sending = sending_of(nest, sizes, slot, to);
+    let at = layout::place_of_tile(nest, sizes, slot / sizes.ways);
+    let ahead = layout::along_of(nest, sizes, slot % sizes.ways);
+    let sending = sending_of(nest, sizes, slot, at, ahead);
     let components = nest.components;
     let rows = sending.rows;
     let lengths = nest.lengths;
     let mut count = 0;
     let mut r = 0;
     while r < rows {
-        let row = row_at(nest, &components, sending, slot, r);
+        let row = row_at(nest, &components, sending, r);
         if row.run == 0 {
             r += row.alike;
             continue;
         }
-        let at = row.place;
-        let number = layout::rank(lengths, at, nest.dimensions);
+        let place = row.place;
+        let number = layout::rank(lengths, place, nest.dimensions);
         unpack_row(memory, words, number, count, row.run);
         count += row.run;
         r += 1;

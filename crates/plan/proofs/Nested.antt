@@ -23,6 +23,7 @@ use Rattle.nest.specs.declared.Nest.{Nest}
 use Rattle.nest.specs.Accepted.{Accepted}
 use Rattle.nest.specs.Nest.{lengthOf, tileLength, component, weight, tileCount, cells, tiles}
 use Rattle.plan.specs.Geometry.{rank, place, cellAt, cellPlace, tileAt, tilePlace, cellsOf, hasRead, readAt, value}
+use Rattle.plan.specs.declared.Route.{Route}
 use Rattle.plan.specs.Messages.{planOf}
 use Rattle.plan.specs.Box.{boxLength, boxSize, boxPlace, boxCell}
 use Rattle.plan.specs.Report.{Index, values, doLoop, forEach, extend, lastTile, nested}
@@ -221,16 +222,16 @@ module _ (x : Nest) (ok : Accepted x) (source : List ℕ) where
   sequential-each =
       nested-each (lengthOf x) (seq x ok) (x .dimensions) (λ j v h i. omega (arith, loop-most 0 (lengthOf x j - 1) v i, ok .long j h))
 
-  -- storing the values of all cells in index order
-  module _ (array : List ℕ) (len : length array ≡ cells x) where
+  -- storing the values of all cells in index order; the sweep of either route's plan is the same
+  module _ (route : Route) (array : List ℕ) (len : length array ≡ cells x) where
     abbrev all : List ℕ
     all = keep (λ c. true) (cells x)
 
     abbrev p : Plan
-    p = planOf x
+    p = planOf route x
 
     abbrev so : Sound p
-    so = sound x ok
+    so = sound route x ok
 
     all-low : (c : ℕ) → In c all → c < cells x
     all-low c i = keep-in (λ c. true) (cells x) c i .0
@@ -250,7 +251,7 @@ module _ (x : Nest) (ok : Accepted x) (source : List ℕ) where
         (store-length (value x source) all array ∙ len ∙ sym (sweep-length p source (so .local source) (so .earlier) (cells x)))
         (λ c k. stored-at c (rw (store-length (value x source) all array ∙ len) at k))
 
-    pub sweep-is : runNest x source array (sequential x) ≡ sweep (planOf x) source
+    pub sweep-is : runNest x source array (sequential x) ≡ sweep (planOf route x) source
     sweep-is =
         run-stores (sequential x) array sequential-each
         ∙ ap (storeAll (value x source) array) (cells-in-order x ok ∙ sym (keep-all (λ c. true) (cells x) (λ c h. refl)))

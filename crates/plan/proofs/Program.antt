@@ -18,6 +18,7 @@ use Rattle.nest.specs.declared.Nest.{Nest}
 use Rattle.nest.specs.Accepted.{Accepted}
 use Rattle.nest.specs.Nest.{lengthOf, tileLength, processorCount, tileCount, cells, tiles, processors}
 use Rattle.plan.specs.Geometry.{rank, place, cellAt, cellPlace, tileAt, tilePlace, cellsOf}
+use Rattle.plan.specs.declared.Route.{Route}
 use Rattle.plan.specs.Messages.{two, directions, ahead, planOf}
 use Rattle.plan.specs.Report.{doLoop, tileLoop, forEach, lastTile, nested, loops}
 use Rattle.plan.specs.Exact.{inner, figure4, Before}
@@ -148,7 +149,7 @@ module _ (x : Nest) (ok : Accepted x) where
     unfolding loops
     loops-tiled = nested-each (tileCount x) (tileLoop x p) (x .dimensions) (λ j v h i. loop-low j v i)
 
-  pub program : (p : ℕ) → p < processors x → map (cellAt x) (figure4 x p) ≡ forEach (cellsOf x) (tilesOf (planOf x) p)
+  pub program : (r : Route) (p : ℕ) → p < processors x → map (cellAt x) (figure4 x p) ≡ forEach (cellsOf x) (tilesOf (planOf r x) p)
   unfolding figure4
-  program p h =
-      inner-tiles _ (loops-tiled (place (processorCount x) (x .spread) p)) ∙ ap (forEach (cellsOf x)) (loops-are-tiles x ok p h)
+  program r p h =
+      inner-tiles _ (loops-tiled (place (processorCount x) (x .spread) p)) ∙ ap (forEach (cellsOf x)) (loops-are-tiles x ok p r h)

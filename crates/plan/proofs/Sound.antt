@@ -1,27 +1,31 @@
 -- The plan of an accepted nest is sound: what a tile reads, its processor knows by then.
-use Prim.Native.Nat.{ℕ, _+_, _*_, _-_, _/_, _%_, _^_, _≤_, _<_}
+use Prim.Native.Nat.{ℕ, zero, suc, _+_, _*_, _-_, _/_, _%_, _^_, _≤_, _<_}
 use mathlib.Core.Path.{_≡_, refl, sym, ap, _∙_}
 use mathlib.Core.Logic.{_⊎_, inl, inr}
 use mathlib.Core.Bool.{Bool, true, false}
-use mathlib.Core.List.{List, map}
+use mathlib.Core.List.{List}
 use native.Mathlib.Nat.{eq-or-lt-of-le}
 use native.Mathlib.Decide.{decLt, ℕ-discrete}
 use native.Mathlib.Omega.{arith}
 use lib.ListN.{length, getD}
+use borrow.Author.Tests.{ne-eqb}
 use Rattle.base.specs.Tests.{pick, keep}
 use Rattle.base.specs.Lists.{In, Rising}
 use Rattle.base.proofs.Tests.{sum-same}
-use Rattle.base.proofs.Select.{in-map, map-in, keep-in, in-keep, keep-rising}
-use Rattle.machine.specs.Plan.{Message, message, count, senderOf, takerOf, heldBy, Knows, Sound}
+use Rattle.base.proofs.Select.{in-map, map-in, keep-in, in-keep}
+use Rattle.machine.specs.Plan.{Message, count, senderOf, takerOf, heldBy, Knows, Sound}
 use Rattle.nest.specs.declared.Nest.{Nest}
 use Rattle.nest.specs.Accepted.{Accepted}
 use Rattle.nest.specs.Nest.{weight, cells, tiles}
 use Rattle.plan.specs.Geometry.{rank, tilePlace, tileOf, cellsOf, processorOf, hasRead, readAt, readsOf, value}
-use Rattle.plan.specs.Messages.{two, directions, ahead, parcel, taker, slots, slotTile, slotDirection, slotParcel, slotTaker, slotMessage, planOf}
-use Rattle.plan.proofs.Rank.{Within, rank-low, rank-lt}
+use Rattle.plan.specs.declared.Route.{Route}
+use Rattle.plan.specs.declared.Route.the-variants.{Direct, Indirect}
+use Rattle.plan.specs.Messages.{two, directions, ahead, taker, slots, slotTile, slotDimension, slotCells, slotTaker, atHome, slotParcel, planOf}
+use Rattle.plan.specs.Hops.{stop}
+use Rattle.plan.proofs.Rank.{Within, rank-low}
 use Rattle.plan.proofs.Tiles.{cellPlace-low, tileAt-tilePlace, tileAt-le, tileOf-low, tilePlace-tileOf, processorOf-low, processorOf-same, read-low, read-back, read-before, read-tile}
-use Rattle.plan.proofs.Slots.{in-full, message-slot, number-low, at-number}
-use Rattle.plan.proofs.Parcels.{cellsOf-in, in-cellsOf, cellsOf-rising, Held, parcel-held, held-parcel, ahead-rank, ahead-beyond, slot-low, slot-tile, slot-parcel, slot-taker, taker-place, slotTaker-low, slotTaker-after}
+use Rattle.plan.proofs.Slots.{in-full, full-in, parcel-cells, parcel-away, full-away, message-slot, number-low, at-number}
+use Rattle.plan.proofs.Parcels.{cellsOf-in, in-cellsOf, cellsOf-rising, Held, parcel-held, held-parcel, ahead-rank, ahead-beyond, ahead-none, ahead-low, passed-in, in-passed, slotCells-rising, slotTile-low, slotDimension-low, slot-low, slot-tile, slot-parcel, slot-taker, slot-passed, slot-neighbour, taker-low, taker-place, stop-low, stop-first, stop-last, stop-skip, stop-hop, stop-passed, passed-stop, slotTaker-low, slotTaker-after}
 
 -- ---- reads
 pub reads-at : (x : Nest) (c r : ℕ) → In r (readsOf x c) → (e : ℕ) × (e < x .distances) × (hasRead x c e ≡ true) × (r ≡ readAt x c e)
@@ -52,17 +56,17 @@ value-local x source s s′ c h =
 -- ---- messages
 
 -- message m is slot s's
-pub record Sent (x : Nest) (m s : ℕ) : Type 0 where
-  pub slot : s < slots x
-  pub full : 0 < length (slotParcel x s)
-  pub sender : senderOf (planOf x) m ≡ slotTile x s
-  pub taker : takerOf (planOf x) m ≡ slotTaker x s
-  pub holds : heldBy (planOf x) m ≡ slotParcel x s
+pub record Sent (r : Route) (x : Nest) (m s : ℕ) : Type 0 where
+  pub slot : s < slots r x
+  pub full : 0 < length (slotParcel r x s)
+  pub sender : senderOf (planOf r x) m ≡ slotTile r x s
+  pub taker : takerOf (planOf r x) m ≡ slotTaker r x s
+  pub holds : heldBy (planOf r x) m ≡ slotParcel r x s
 
-module _ (x : Nest) where
-  pub sent : (m : ℕ) → m < count (planOf x) → (s : ℕ) × Sent x m s
+module _ (r : Route) (x : Nest) where
+  pub sent : (m : ℕ) → m < count (planOf r x) → (s : ℕ) × Sent r x m s
   sent m h =
-      let a = message-slot x (slots x) m h in
+      let a = message-slot r x (slots r x) m h in
       let is = a .4 in (
         a .0,
         record {
@@ -74,34 +78,120 @@ module _ (x : Nest) where
         },
       )
 
-  held-rising : (m : ℕ) → m < count (planOf x) → Rising (heldBy (planOf x) m)
-  unfolding slotParcel parcel
-  held-rising m h = rw (sent m h .1 .holds) (keep-rising _ (cells x))
+  held-rising : (m : ℕ) → m < count (planOf r x) → Rising (heldBy (planOf r x) m)
+  held-rising m h = let a = sent m h in rw (a .1 .holds, full-away r x (a .0) (a .1 .full)) (slotCells-rising x r (a .0))
 
-  -- a cell of message (t, v) is in a message of the plan
-  module _ (t v c : ℕ) (h : t < tiles x) (l : 1 ≤ v) (k : v ≤ directions x) (i : In c (parcel x t v)) where
-    s : ℕ
-    s = t * directions x + (v - 1)
+  -- a slot that holds a cell for another processor is a message
+  pub slot-sent : (s c : ℕ) → s < slots r x → In c (slotParcel r x s)
+      → (m : ℕ) × (m < count (planOf r x)) × (senderOf (planOf r x) m ≡ slotTile r x s) × (takerOf (planOf r x) m ≡ slotTaker r x s)
+      × (heldBy (planOf r x) m ≡ slotParcel r x s)
+  slot-sent s c h i =
+      let full = in-full c (slotParcel r x s) i in
+      let is = at-number r x (slots r x) s h full in (
+        _,
+        number-low r x (slots r x) s h full,
+        ap (λ (y : Message). y .sender) is,
+        ap (λ (y : Message). y .taker) is,
+        ap (λ (y : Message). y .cells) is,
+      )
 
-    full : 0 < length (slotParcel x s)
-    unfolding s
-    full = rw (slot-parcel x t v h l k) (in-full c (parcel x t v) i)
+-- ---- what a tile's processor has of the cells, once it has gathered for the tile and calculated it
 
-    is : (m : ℕ) × (m < count (planOf x)) × (message (planOf x) m ≡ slotMessage x s)
-    unfolding s
-    is = (_, number-low x (slots x) s (slot-low x t v h l k) full, at-number x (slots x) s (slot-low x t v h l k) full)
+abbrev pub Has : Route → Nest → ℕ → ℕ → Type 0
+Has r x t c = In c (cellsOf x t) ⊎ Knows (planOf r x) (processorOf x t) t c
 
-    pub parcel-sent : (m : ℕ) × (m < count (planOf x)) × (senderOf (planOf x) m ≡ t) × (takerOf (planOf x) m ≡ taker x t v) × (heldBy (planOf x) m ≡ parcel x t v)
-    unfolding s
-    parcel-sent = (
-      is .0,
-      is .1,
-      ap (λ (y : Message). y .sender) (is .2) ∙ slot-tile x t v h l k,
-      ap (λ (y : Message). y .taker) (is .2) ∙ slot-taker x t v h l k,
-      ap (λ (y : Message). y .cells) (is .2) ∙ slot-parcel x t v h l k,
-    )
+module _ (r : Route) (x : Nest) where
+  -- a later tile of the same processor has it too
+  pub later : (t u c : ℕ) → t ≤ u → processorOf x t ≡ processorOf x u → Has r x t c → Has r x u c
+  later t u c h e (inl i) = go (eq-or-lt-of-le h)
+    where
+      go : (t ≡ u) ⊎ (t < u) → Has r x u c
+      go (inl k) = inl (rw (← k) i)
+      go (inr k) = inr (Knows.calculated t k e i)
+  later t u c h e (inr (Knows.calculated w l p i)) = inr (Knows.calculated w (omega arith) (p ∙ e) i)
+  later t u c h e (inr (Knows.taken m l f p i)) = inr (Knows.taken m l (omega arith) (p ∙ e) i)
+
+  -- what a slot holds and its tile has, its taker has: on the same processor without a message
+  pub hop : (s c : ℕ) → s < slots r x → In c (slotCells r x s) → slotTile r x s < slotTaker r x s → Has r x (slotTile r x s) c
+      → Has r x (slotTaker r x s) c
+  unfolding atHome
+  hop s c l i after has = go (ℕ-discrete (processorOf x (slotTile r x s)) (processorOf x (slotTaker r x s)))
+    where
+      go : Dec (processorOf x (slotTile r x s) ≡ processorOf x (slotTaker r x s)) → Has r x (slotTaker r x s) c
+      go (yes e) = later (slotTile r x s) (slotTaker r x s) c (omega arith) e has
+      go (no e) =
+          let is : slotParcel r x s ≡ slotCells r x s = parcel-away r x s (ne-eqb _ _ e) in
+          let k : In c (slotParcel r x s) = rw is i in
+          let m = slot-sent r x s c l k in
+          inr (Knows.taken (m .0) (m .1) (omega (arith, m .3)) (ap (processorOf x) (m .3)) (rw (m .4) k))
 
 module _ (x : Nest) (ok : Accepted x) where
+  -- ---- the way of cell c in direction v
+  module _ (c v e : ℕ) (most : v ≤ directions x) (held : Held x (tileOf x c) v c e) where
+    t : ℕ
+    t = tileOf x c
+
+    low : t < tiles x
+    unfolding t
+    low = tileOf-low x ok c
+
+    at-first : (r : Route) → Has r x t c
+    unfolding t
+    at-first r = inl (in-cellsOf x (tileOf x c) c (held .cell) refl)
+
+    straight : 1 ≤ v → Has Direct x (taker x t v) c
+    unfolding t
+    straight l =
+        let s : ℕ = t * directions x + (v - 1) in
+        let a = slot-low x Direct t (v - 1) low (omega arith) in
+        let b : slotTile Direct x s ≡ t = slot-tile x Direct t (v - 1) low (omega arith) in
+        let d : slotTaker Direct x s ≡ taker x t v = slot-taker x t v low l most in
+        let i : In c (slotCells Direct x s) = rw (slot-parcel x t v low l most) (held-parcel x t v c e held) in
+        rw d at (hop Direct x s c a i (slotTaker-after x ok Direct s c a i) (rw b (at-first Direct)))
+
+    along : (q : ℕ) → q < x .spread → ahead x v q ≡ 1 → Has Indirect x (stop x t v q) c → Has Indirect x (stop x t v (suc q)) c
+    unfolding t
+    along q l z has =
+        let u : ℕ = stop x t v q in
+        let lu : u < tiles x = stop-low x ok t v c e held q in
+        let s : ℕ = u * x .spread + q in
+        let a = slot-low x Indirect u q lu l in
+        let b : slotTile Indirect x s ≡ u = slot-tile x Indirect u q lu l in
+        let d : slotTaker Indirect x s ≡ stop x t v (suc q) = slot-neighbour x u q lu l ∙ stop-hop x ok t v c e held q z in
+        let i : In c (slotCells Indirect x s) =
+        rw (slot-passed x u q lu l) (in-passed x u q c v e (stop-passed x ok t v c e held q low most z)) in
+        rw d at (hop Indirect x s c a i (slotTaker-after x ok Indirect s c a i) (rw b has))
+
+    pub come : (q : ℕ) → q ≤ x .spread → Has Indirect x (stop x (tileOf x c) v q) c
+    unfolding t
+    come zero h = rw (stop-first x ok (tileOf x c) v c e held low) (at-first Indirect)
+    come (suc q) h = go (come q (omega arith)) (ℕ-discrete (ahead x v q) 0)
+      where
+        go : Has Indirect x (stop x (tileOf x c) v q) c → Dec (ahead x v q ≡ 0) → Has Indirect x (stop x (tileOf x c) v (suc q)) c
+        go k (yes z) = rw (stop-skip x ok (tileOf x c) v c e held q z) k
+        go k (no z) = along q h (omega (arith, ahead-low x v q h)) k
+
+    -- the tile that takes it on the direct route has it on either
+    pub arrives : (r : Route) → Has r x (taker x (tileOf x c) v) c
+    unfolding t
+    arrives Indirect = rw (← stop-last x ok (tileOf x c) v c e held) (come (x .spread) (omega arith))
+    arrives Direct = go (ℕ-discrete v 0)
+      where
+        -- no step at all
+        none : v ≡ 0 → Has Direct x (taker x (tileOf x c) v) c
+        none z = later Direct x t (taker x t v) c (omega (arith, same)) (ap (processorOf x) same) (at-first Direct)
+          where
+            same : t ≡ taker x t v
+            same = sym (stop-first x ok t v c e held low) ∙ zeros (x .spread) (omega arith) ∙ stop-last x ok t v c e held
+              where
+                zeros : (q : ℕ) → q ≤ x .spread → stop x t v 0 ≡ stop x t v q
+                zeros zero h = refl
+                zeros (suc q) h = zeros q (omega arith) ∙ sym (stop-skip x ok t v c e held q (ahead-none x v q z))
+
+        go : Dec (v ≡ 0) → Has Direct x (taker x (tileOf x c) v) c
+        go (yes z) = none z
+        go (no z) = straight (omega arith)
+
   -- ---- what a cell reads is known in time
   module _ (c e : ℕ) (cell : c < cells x) (low : e < x .distances) (has : hasRead x c e ≡ true) where
     abbrev r : ℕ
@@ -119,8 +209,7 @@ module _ (x : Nest) (ok : Accepted x) where
 
     step-v : (j : ℕ) → j < x .spread → tilePlace x (tileOf x c) j ≡ tilePlace x (tileOf x r) j + ahead x v j
     unfolding v step
-    step-v j h =
-        omega (arith, read-tile x ok c e low has j (omega (arith, ok .spread-low)), ahead-rank x step step-two j h)
+    step-v j h = omega (arith, read-tile x ok c e low has j (omega (arith, ok .spread-low)), ahead-rank x step step-two j h)
 
     pub tile-le : tileOf x r ≤ tileOf x c
     tile-le =
@@ -152,65 +241,64 @@ module _ (x : Nest) (ok : Accepted x) where
     unfolding v directions
     v-low = omega (arith, rank-low two step (x .spread) step-two)
 
-    -- no step in a spread dimension: the same processor
-    chain-same : v ≡ 0 → processorOf x (tileOf x r) ≡ processorOf x (tileOf x c)
-    unfolding v step
-    chain-same z = processorOf-same x ok (tileOf x r) (tileOf x c) (λ j h. go j h (decLt 0 (step j)))
-      where
-        go : (j : ℕ) → j < x .spread → Dec (0 < step j) → tilePlace x (tileOf x r) j ≡ tilePlace x (tileOf x c) j
-        go j h (yes l) = absurd (omega (arith, rank-lt two (λ q. 0) step (x .spread) j (λ q k. omega arith) (λ q k. omega arith) h l))
-        go j h (no l) = omega (arith, read-tile x ok c e low has j (omega (arith, ok .spread-low)))
+    -- the direction from the cell that is read to the one that reads it
+    pub read-way : (w : ℕ) × (w ≤ directions x)
+        × ((j : ℕ) → j < x .spread → tilePlace x (tileOf x c) j ≡ tilePlace x (tileOf x r) j + ahead x w j)
+    read-way = (v, v-low, step-v)
 
     taker-processor : processorOf x (taker x (tileOf x r) v) ≡ processorOf x (tileOf x c)
     taker-processor =
         processorOf-same x ok (taker x (tileOf x r) v) (tileOf x c)
         (λ j h. taker-place x ok (tileOf x r) v r e held-read j (omega (arith, ok .spread-low)) ∙ sym (step-v j h))
 
-    pub read-known : In r (cellsOf x (tileOf x c)) ⊎ Knows (planOf x) (processorOf x (tileOf x c)) (tileOf x c) r
-    read-known = go (ℕ-discrete (processorOf x (tileOf x r)) (processorOf x (tileOf x c))) (eq-or-lt-of-le tile-le)
-      where
-        go : Dec (processorOf x (tileOf x r) ≡ processorOf x (tileOf x c)) → (tileOf x r ≡ tileOf x c) ⊎ (tileOf x r < tileOf x c)
-            → In r (cellsOf x (tileOf x c)) ⊎ Knows (planOf x) (processorOf x (tileOf x c)) (tileOf x c) r
-        go d (inl t) = inl (in-cellsOf x (tileOf x c) r (read-low x ok c e low has) t)
-        go (yes z) (inr t) = inr (Knows.calculated (tileOf x r) t z (in-cellsOf x (tileOf x r) r (read-low x ok c e low has) refl))
-        go (no z) (inr t) = inr (told (parcel-sent x (tileOf x r) v r (tileOf-low x ok r) v-pos v-low held))
-          where
-            v-pos : 1 ≤ v
-            v-pos = pos (ℕ-discrete v 0)
-              where
-                pos : Dec (v ≡ 0) → 1 ≤ v
-                pos (yes q) = absurd (z (chain-same q))
-                pos (no q) = omega arith
+    pub read-known : (route : Route) → Has route x (tileOf x c) r
+    read-known route = later route x (taker x (tileOf x r) v) (tileOf x c) r taker-le taker-processor (arrives r v e v-low held-read route)
 
-            held : In r (parcel x (tileOf x r) v)
-            held = held-parcel x (tileOf x r) v r e held-read
-
-            told : (m : ℕ) × (m < count (planOf x)) × (senderOf (planOf x) m ≡ tileOf x r) × (takerOf (planOf x) m ≡ taker x (tileOf x r) v) × (heldBy (planOf x) m ≡ parcel x (tileOf x r) v)
-                → Knows (planOf x) (processorOf x (tileOf x c)) (tileOf x c) r
-            told (m, l, f, to, is) = Knows.taken m l (rw to taker-le) (ap (processorOf x) to ∙ taker-processor) (rw is held)
-
-  known : (t c r : ℕ) → In c (cellsOf x t) → In r (readsOf x c) → In r (cellsOf x t) ⊎ Knows (planOf x) (processorOf x t) t r
-  known t c r i k =
+  known : (route : Route) (t c r : ℕ) → In c (cellsOf x t) → In r (readsOf x c) → Has route x t r
+  known route t c r i k =
       let a = cellsOf-in x t c i in
       let b = reads-at x c r k in
-      rw (← a .1, b .3) (read-known c (b .0) (a .0) (b .1) (b .2))
+      rw (← a .1, b .3) (read-known c (b .0) (a .0) (b .1) (b .2) route)
 
-  held-own : (m c : ℕ) → m < count (planOf x) → In c (heldBy (planOf x) m) → (c < cells x) × (tileOf x c ≡ senderOf (planOf x) m)
-  unfolding slotParcel
-  held-own m c h i =
-      let a = sent x m h in
-      let j : In c (parcel x (slotTile x (a .0)) (slotDirection x (a .0))) = rw (a .1 .holds) at i in
-      let g = parcel-held x _ _ c j .1 in
-      (g .cell, g .own ∙ sym (a .1 .sender))
+  -- what a slot holds its tile has
+  pub slot-has : (route : Route) (s c : ℕ) → s < slots route x → In c (slotCells route x s)
+      → (c < cells x) × Has route x (slotTile route x s) c
+  unfolding slotCells
+  slot-has Direct s c l i =
+      let g = parcel-held x _ _ c i .1 in
+      (g .cell, inl (in-cellsOf x _ c (g .cell) (g .own)))
+  slot-has Indirect s c l i =
+      let g = passed-in x _ _ c i in
+      let p = g .2 in
+      let t = slotTile Indirect x s in
+      let q = slotDimension x s in
+      let low = slotTile-low x Indirect s l in
+      let own = p .held .own in
+      let h : Held x (tileOf x c) (g .0) c (g .1) = rw (← own) at (p .held) in
+      let at : stop x (tileOf x c) (g .0) q ≡ t = ap (λ (u : ℕ). stop x u (g .0) q) own ∙ passed-stop x ok t q c (g .0) (g .1) low p in
+      (p .held .cell, rw at at (come c (g .0) (g .1) (p .most) h q (omega (arith, slotDimension-low x s l))))
 
-  forward : (m : ℕ) → m < count (planOf x) → senderOf (planOf x) m < takerOf (planOf x) m
-  forward m h = let a = sent x m h in rw (a .1 .sender, a .1 .taker) (slotTaker-after x ok (a .0) (a .1 .slot) (a .1 .full))
+  module _ (route : Route) (m : ℕ) (h : m < count (planOf route x)) where
+    some-cell : (c : ℕ) × In c (slotCells route x (sent route x m h .0))
+    some-cell = let a = sent route x m h .1 in let k = full-in (slotParcel route x (sent route x m h .0)) (a .full) in
+        (k .0, parcel-cells route x _ (k .0) (k .1) .1)
 
-  taker-in : (m : ℕ) → m < count (planOf x) → takerOf (planOf x) m < tiles x
-  taker-in m h = let a = sent x m h in rw (a .1 .taker) (slotTaker-low x ok (a .0) (a .1 .slot) (a .1 .full))
+    pub message-has : (c : ℕ) → In c (heldBy (planOf route x) m) → (c < cells x) × Has route x (senderOf (planOf route x) m) c
+    message-has c i =
+        let a = sent route x m h in
+        let k : In c (slotParcel route x (a .0)) = rw (a .1 .holds) at i in
+        rw (a .1 .sender) (slot-has route (a .0) c (a .1 .slot) (parcel-cells route x _ c k .1))
 
-pub sound : (x : Nest) → Accepted x → Sound (planOf x)
-sound x ok =
+    pub message-forward : senderOf (planOf route x) m < takerOf (planOf route x) m
+    message-forward = let a = sent route x m h in
+        rw (a .1 .sender, a .1 .taker) (slotTaker-after x ok route (a .0) (some-cell .0) (a .1 .slot) (some-cell .1))
+
+    pub message-taker : takerOf (planOf route x) m < tiles x
+    message-taker = let a = sent route x m h in
+        rw (a .1 .taker) (slotTaker-low x ok route (a .0) (some-cell .0) (a .1 .slot) (some-cell .1))
+
+pub sound : (r : Route) (x : Nest) → Accepted x → Sound (planOf r x)
+sound r x ok =
     record {
       tile-low = λ c h. tileOf-low x ok c;
       cell-in = λ c h. in-cellsOf x (tileOf x c) c h refl;
@@ -220,10 +308,10 @@ sound x ok =
       processor-low = λ t h. processorOf-low x ok t;
       local = λ source m n c h f. value-local x source m n c f;
       earlier = λ c r h i. let a = reads-at x c r i in rw (a .3) (read-before x ok c (a .0) (a .1) (a .2) h);
-      reads-known = λ t c r h i k. known x ok t c r i k;
-      held-rising = held-rising x;
-      held-low = λ m c h i. held-own x ok m c h i .0;
-      held-known = λ m c h i. let a = held-own x ok m c h i in inl (in-cellsOf x (senderOf (planOf x) m) c (a .0) (a .1));
-      forward = λ m h. forward x ok m h;
-      taker-low = λ m h. taker-in x ok m h;
+      reads-known = λ t c b h i k. known x ok r t c b i k;
+      held-rising = held-rising r x;
+      held-low = λ m c h i. message-has x ok r m h c i .0;
+      held-known = λ m c h i. message-has x ok r m h c i .1;
+      forward = λ m h. message-forward x ok r m h;
+      taker-low = λ m h. message-taker x ok r m h;
     }

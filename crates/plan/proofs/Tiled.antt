@@ -18,6 +18,8 @@ use Rattle.nest.specs.declared.Nest.{Nest}
 use Rattle.nest.specs.Accepted.{Accepted}
 use Rattle.nest.specs.Nest.{lengthOf, tileLength, tileCount, cells, tiles}
 use Rattle.plan.specs.Geometry.{cellAt, tileOf, cellsOf, readsOf, value}
+use Rattle.plan.specs.declared.Route.{Route}
+use Rattle.plan.specs.declared.Route.the-variants.{Direct}
 use Rattle.plan.specs.Messages.{planOf}
 use Rattle.plan.specs.Report.{Index, forEach, lastTile}
 use Rattle.plan.specs.Exact.{inner, outer, tiled, runNest}
@@ -60,15 +62,15 @@ module _ (x : Nest) (ok : Accepted x) where
   read-in : (c r : ℕ) → c < cells x → In r (readsOf x c) → (r < c) × (tileOf x r ≤ tileOf x c)
   read-in c r h i =
       let a = reads-at x c r i in
-      (sound x ok .earlier c r h i, rw (a .3) (tile-le x ok c (a .0) h (a .1) (a .2)))
+      (sound Direct x ok .earlier c r h i, rw (a .3) (tile-le x ok c (a .0) h (a .1) (a .2)))
 
   -- ---- storing the tiles one after the other
-  module _ (source array : List ℕ) (len : length array ≡ cells x) where
+  module _ (route : Route) (source array : List ℕ) (len : length array ≡ cells x) where
     abbrev p : Plan
-    p = planOf x
+    p = planOf route x
 
     abbrev so : Sound p
-    so = sound x ok
+    so = sound route x ok
 
     abbrev w : ℕ → ℕ
     w c = getD (sweep p source) c 0
@@ -114,7 +116,7 @@ module _ (x : Nest) (ok : Accepted x) where
         now ih (inl q) = inr (in-cellsOf x n c (e .0) q)
         now ih (inr q) = inl (ih (e .0, q))
 
-    pub tiled-is : runNest x source array (tiled x) ≡ sweep (planOf x) source
+    pub tiled-is : runNest x source array (tiled x) ≡ sweep (planOf route x) source
     unfolding after
     tiled-is =
         run-stores x ok source (tiled x) array each-tiled

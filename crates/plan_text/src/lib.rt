@@ -1,4 +1,4 @@
-// The plan printer's text of one recipe, written to standard output.
+// The plan printer's text of one recipe on a route, and the hops of its messages, written to standard output.
 ghost use mathlib.Core.Path.{_≡_};
 ghost use Prim.Native.Nat.{_+_, _≤_};
 ghost use lib.ListN.{length};
@@ -41,8 +41,8 @@ fn print_line(number: u32, of: MessageLine) {
 
 // The messages in their order.
 fn print_lines(nest: Nest, sizes: Sizes, lens: &[u16; 7168], messages: u32)
-    requires { ⌜ Sized nest sizes × Table nest (now lens) ⌝ }
-    requires { ⌜ messages ≡ count (planOf nest) ⌝ }
+    requires { ⌜ Sized nest sizes × Table (sizes .route) nest (now lens) ⌝ }
+    requires { ⌜ messages ≡ count (planOf (sizes .route) nest) ⌝ }
 {
     let mut m = 0;
     while m < messages {
@@ -63,14 +63,36 @@ fn print_figures(of: table::Figures) {
     io::write_all(STDOUT_FILENO, b"\n");
 }
 
+fn print_hop(of: table::HopCount) {
+    io::write_all(STDOUT_FILENO, b" ");
+    io::print_decimal(STDOUT_FILENO, of.hops as u64);
+}
+
+// The hops of each message of the direct plan, in one line; nothing where the recipe is refused.
+pub fn print_hops(encoded: &[u8]) {
+    let figures = table::summary(encoded, 0);
+    if figures.number != 0 {
+        return;
+    }
+    let messages = figures.messages;
+    io::write_all(STDOUT_FILENO, b"hops");
+    let mut m = 0;
+    while m < messages {
+        print_hop(table::hops(encoded, m));
+        m += 1;
+    }
+    io::write_all(STDOUT_FILENO, b"\n");
+}
+
 fn print_refused(number: u32) {
     io::write_all(STDOUT_FILENO, b"refused ");
     io::print_decimal(STDOUT_FILENO, number as u64);
     io::write_all(STDOUT_FILENO, b"\n");
 }
 
-// The plan of a recipe of at most 512 bytes, or why it is refused; a longer one is refused as ragged.
-pub fn print_recipe(encoded: &[u8]) {
+// The plan of a recipe of at most 512 bytes, or why it is refused; a longer one is refused as ragged. The route is 0 for direct passing,
+// any other for indirect.
+pub fn print_recipe(encoded: &[u8], route: u32) {
     if encoded.len() > 512 {
         print_refused(1);
         return;
@@ -82,7 +104,7 @@ pub fn print_recipe(encoded: &[u8]) {
         return;
     }
     let nest = reading.nest;
-    let sizes = layout::sizes_of(nest);
+    let sizes = layout::sizes_of(nest, layout::route_of(route));
     let mut lens = [0u16; 7168];
     table::fill(nest, sizes, &mut lens);
     let figures = table::figures_of(nest, sizes, &lens);

@@ -3,7 +3,7 @@
 use libc::STDOUT_FILENO;
 ghost use Rattle.io.specs.Counts.{Counts};
 
-// What of an area is lent: lent[0] is the recipe's length in bytes, lent[1] to lent[6] those of the areas.
+// What of an area is lent: lent[0] is the recipe's length in bytes, lent[1] to lent[6] those of the areas; lent[7] is the route of calls.
 fn lent_at(lent: &[u32], area: usize) -> usize {
     if area < lent.len() {
         return parts::wide(lent[area]);
@@ -23,6 +23,13 @@ fn front_bytes(bytes: &[u8], lent: &[u32], area: usize) -> usize
 {
     let n = lent_at(lent, area);
     parts::front_bytes(bytes, n)
+}
+
+fn route_in(lent: &[u32]) -> u32 {
+    if lent.len() > 7 {
+        return lent[7];
+    }
+    0
 }
 
 // ---- rules by which areas are filled
@@ -211,6 +218,7 @@ fn change_bytes(bytes: &mut [u8], op: u8, rule: u8, a: u32, b: u32) {
 // Records 6 to 10, on the areas as lent.
 fn answer(
     encoded: &[u8],
+    route: u32,
     source: &[u32],
     memories: &mut [u32],
     buffer: &mut [u32],
@@ -221,10 +229,37 @@ fn answer(
     a: u32,
 ) -> u32 {
     match op {
-        6 => engine::fresh(encoded, source, memories, buffer, progress, status),
-        7 => engine::turn(encoded, source, memories, buffer, progress, status, a),
-        8 => engine::deliver(encoded, source, memories, buffer, progress, status, a),
-        9 => engine::collect(encoded, source, memories, buffer, progress, status, grid),
+        6 => engine::fresh(encoded, route, source, memories, buffer, progress, status),
+        7 => engine::turn(
+            encoded,
+            route,
+            source,
+            memories,
+            buffer,
+            progress,
+            status,
+            a,
+        ),
+        8 => engine::deliver(
+            encoded,
+            route,
+            source,
+            memories,
+            buffer,
+            progress,
+            status,
+            a,
+        ),
+        9 => engine::collect(
+            encoded,
+            route,
+            source,
+            memories,
+            buffer,
+            progress,
+            status,
+            grid,
+        ),
         _ => engine::sweep(encoded, source, grid),
     }
 }
@@ -232,6 +267,7 @@ fn answer(
 // One record on the parts that are lent.
 fn act(
     encoded: &[u8],
+    route: u32,
     source: &mut [u32],
     memories: &mut [u32],
     buffer: &mut [u32],
@@ -251,6 +287,7 @@ fn act(
     if area == 0 {
         let number = answer(
             encoded,
+            route,
             source,
             memories,
             buffer,
@@ -295,6 +332,7 @@ fn act_on_lent(
     let g = front(grid, lent, 6);
     act(
         &recipe[..e],
+        route_in(lent),
         &mut source[..s],
         &mut memories[..m],
         &mut buffer[..b],
@@ -305,7 +343,7 @@ fn act_on_lent(
     );
 }
 
-// Records 1 to 3, which change what is lent; whether the record was one of them.
+// Records 1 to 3 and 12, which change what is lent and the route; whether the record was one of them.
 fn arrange(fd: i32, recipe: &mut [u8], lent: &mut [u32], record: &[u8]) -> bool {
     if record.len() != 16 {
         return true;
@@ -326,6 +364,10 @@ fn arrange(fd: i32, recipe: &mut [u8], lent: &mut [u32], record: &[u8]) -> bool 
         poke_word(lent, area, a);
         return true;
     }
+    if op == 12 {
+        poke_word(lent, 7, a);
+        return true;
+    }
     false
 }
 
@@ -339,7 +381,7 @@ fn run(fd: i32) {
     let mut progress = [0u32; 192];
     let mut status = [0u8; 7168];
     let mut grid = [0u32; 1024];
-    let mut lent = [0u32; 7];
+    let mut lent = [0u32; 8];
     let mut record = [0u8; 16];
     let mut records = u64::MAX;
     while records > 0 {

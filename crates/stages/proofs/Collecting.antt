@@ -14,6 +14,7 @@ use Rattle.machine.specs.Machine.{stateOf, collected}
 use Rattle.nest.specs.declared.Nest.{Nest}
 use Rattle.nest.specs.Accepted.{Accepted}
 use Rattle.nest.specs.Nest.{lengthOf, tileLength, cells, processors}
+use Rattle.plan.specs.declared.Route.{Route}
 use Rattle.plan.specs.Geometry.{place, cellPlace, tileOf, processorOf}
 use Rattle.plan.specs.Messages.{planOf}
 use Rattle.plan.proofs.Rank.{place-last}
@@ -161,7 +162,7 @@ module _ {x : Nest} {memories old new : List ℕ} {c b k : ℕ} (g : Copied x me
           begins = add-mod-right c (rowLength x) ∙ g .begins;
         }
 
-pub copied-all : {x : Nest} {memories old new : List ℕ} {c k : ℕ} → Copied x memories old new c → length old ≡ cells x → k ≡ cells x → k ≤ c
-    → new ≡ collected (planOf x) (stateOf memories [] [] [])
+pub copied-all : (route : Route) {x : Nest} {memories old new : List ℕ} {c k : ℕ} → Copied x memories old new c → length old ≡ cells x → k ≡ cells x → k ≤ c
+    → new ≡ collected (planOf route x) (stateOf memories [] [] [])
 unfolding collected
-copied-all {x} {memories} {old} {new} {c} g e z h = stored-all (cellWord x memories) old new c (cells x) (g .stored) e (omega arith)
+copied-all route {x} {memories} {old} {new} {c} g e z h = stored-all (cellWord x memories) old new c (cells x) (g .stored) e (omega arith)

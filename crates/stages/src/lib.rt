@@ -30,10 +30,10 @@ use values::calculate;
 
 // One message from its place in the buffer into one processor's memory.
 fn take_message(nest: Nest, sizes: Sizes, memory: &mut [u32], buffer: &[u32], place: Place)
-    requires { ⌜ Sized nest sizes × FoundAt nest (place .number) place ⌝ }
-    requires { ⌜ (length (now memory) ≡ cells nest) × (length (now buffer) ≡ words (planOf nest)) ⌝ }
+    requires { ⌜ Sized nest sizes × FoundAt (sizes .route) nest (place .number) place ⌝ }
+    requires { ⌜ (length (now memory) ≡ cells nest) × (length (now buffer) ≡ words (planOf (sizes .route) nest)) ⌝ }
     ensures { λ _. ⌜ now (memory .exit)
-        ≡ unpack (now (memory .entry)) (heldBy (planOf nest) (place .number)) (placeOf (planOf nest) (now (buffer .entry)) (place .number)) ⌝ }
+        ≡ unpack (now (memory .entry)) (heldBy (planOf (sizes .route) nest) (place .number)) (placeOf (planOf (sizes .route) nest) (now (buffer .entry)) (place .number)) ⌝ }
 {
     let offset = place.offset;
     let end = offset + place.words;
@@ -51,10 +51,10 @@ fn gather(
     status: &mut [u8],
     tile: usize,
 )
-    requires { ⌜ Sized nest sizes × Table nest (now lens) ⌝ }
-    requires { ⌜ (length (now memory) ≡ cells nest) × ((length (now buffer) ≡ words (planOf nest)) × (length (now status) ≡ count (planOf nest))) ⌝ }
-    ensures { λ _. ⌜ (now (memory .exit) ≡ unpackAll (planOf nest) (now (buffer .entry)) (now (memory .entry)) (duesOf (planOf nest) tile))
-        × (now (status .exit) ≡ setAll (now (status .entry)) (duesOf (planOf nest) tile) 3) ⌝ }
+    requires { ⌜ Sized nest sizes × Table (sizes .route) nest (now lens) ⌝ }
+    requires { ⌜ (length (now memory) ≡ cells nest) × ((length (now buffer) ≡ words (planOf (sizes .route) nest)) × (length (now status) ≡ count (planOf (sizes .route) nest))) ⌝ }
+    ensures { λ _. ⌜ (now (memory .exit) ≡ unpackAll (planOf (sizes .route) nest) (now (buffer .entry)) (now (memory .entry)) (duesOf (planOf (sizes .route) nest) tile))
+        × (now (status .exit) ≡ setAll (now (status .entry)) (duesOf (planOf (sizes .route) nest) tile) 3) ⌝ }
 {
     let n = count_at(nest, sizes, lens, tile, 1);
     let mut j = 0;
@@ -69,9 +69,9 @@ fn gather(
 
 // All messages due at the tile are delivered.
 pub fn ready(nest: Nest, sizes: Sizes, lens: &[u16; 7168], status: &[u8], tile: usize) -> bool
-    requires { ⌜ Sized nest sizes × Table nest (now lens) ⌝ }
-    requires { ⌜ length (now status) ≡ count (planOf nest) ⌝ }
-    ensures { λ r. ⌜ r ≡ allAt (now (status .entry)) 2 (duesOf (planOf nest) tile) ⌝ }
+    requires { ⌜ Sized nest sizes × Table (sizes .route) nest (now lens) ⌝ }
+    requires { ⌜ length (now status) ≡ count (planOf (sizes .route) nest) ⌝ }
+    ensures { λ r. ⌜ r ≡ allAt (now (status .entry)) 2 (duesOf (planOf (sizes .route) nest) tile) ⌝ }
 {
     let n = count_at(nest, sizes, lens, tile, 1);
     let mut j = 0;
@@ -98,11 +98,11 @@ pub fn gather_stage(
     tile: usize,
     finished: u32,
 ) -> Progress
-    requires { ⌜ Sized nest sizes × (Table nest (now lens) × (processor < processors nest)) ⌝ }
-    requires { ⌜ (length (now memories) ≡ processors nest * cells nest) × ((length (now buffer) ≡ words (planOf nest)) × (length (now status) ≡ count (planOf nest))) ⌝ }
+    requires { ⌜ Sized nest sizes × (Table (sizes .route) nest (now lens) × (processor < processors nest)) ⌝ }
+    requires { ⌜ (length (now memories) ≡ processors nest * cells nest) × ((length (now buffer) ≡ words (planOf (sizes .route) nest)) × (length (now status) ≡ count (planOf (sizes .route) nest))) ⌝ }
     ensures { λ r. ⌜ ((l : List ℕ) → finished ≡ getD l (3 * processor) 0
         → stateOf (now (memories .exit)) (now (buffer .entry)) (setRecord l processor r) (now (status .exit))
-        ≡ carryOut (planOf nest) [] (stateOf (now (memories .entry)) (now (buffer .entry)) l (now (status .entry))) processor (gather tile)) ⌝ }
+        ≡ carryOut (planOf (sizes .route) nest) [] (stateOf (now (memories .entry)) (now (buffer .entry)) l (now (status .entry))) processor (gather tile)) ⌝ }
 {
     let cells = sizes.cells;
     let base = processor * cells;
@@ -153,11 +153,11 @@ pub fn calculate_stage(
     tile: usize,
     finished: u32,
 ) -> Progress
-    requires { ⌜ Sized nest sizes × (Table nest (now lens) × ((processor < processors nest) × (tile < tiles nest))) ⌝ }
+    requires { ⌜ Sized nest sizes × (Table (sizes .route) nest (now lens) × ((processor < processors nest) × (tile < tiles nest))) ⌝ }
     requires { ⌜ (length (now source) ≡ cells nest) × ((length (now memories) ≡ processors nest * cells nest) × (finished < 1024)) ⌝ }
     ensures { λ r. ⌜ ((buffer l status : List ℕ) → finished ≡ getD l (3 * processor) 0
         → stateOf (now (memories .exit)) buffer (setRecord l processor r) status
-        ≡ carryOut (planOf nest) (now (source .entry)) (stateOf (now (memories .entry)) buffer l status) processor (calculate tile)) ⌝ }
+        ≡ carryOut (planOf (sizes .route) nest) (now (source .entry)) (stateOf (now (memories .entry)) buffer l status) processor (calculate tile)) ⌝ }
 {
     let cells = sizes.cells;
     let base = processor * cells;
@@ -169,10 +169,10 @@ pub fn calculate_stage(
 
 // One message from a processor's memory into its place in the buffer.
 fn put_message(nest: Nest, sizes: Sizes, memory: &[u32], buffer: &mut [u32], place: Place)
-    requires { ⌜ Sized nest sizes × FoundAt nest (place .number) place ⌝ }
-    requires { ⌜ (length (now memory) ≡ cells nest) × (length (now buffer) ≡ words (planOf nest)) ⌝ }
+    requires { ⌜ Sized nest sizes × FoundAt (sizes .route) nest (place .number) place ⌝ }
+    requires { ⌜ (length (now memory) ≡ cells nest) × (length (now buffer) ≡ words (planOf (sizes .route) nest)) ⌝ }
     ensures { λ _. ⌜ now (buffer .exit)
-        ≡ put (now (buffer .entry)) (offset (messages nest) (place .number)) (pack (now (memory .entry)) (heldBy (planOf nest) (place .number))) ⌝ }
+        ≡ put (now (buffer .entry)) (offset (messages (sizes .route) nest) (place .number)) (pack (now (memory .entry)) (heldBy (planOf (sizes .route) nest) (place .number))) ⌝ }
 {
     let offset = place.offset;
     let end = offset + place.words;
@@ -193,13 +193,13 @@ pub fn send_stage(
     finished: u32,
     sent: usize,
 ) -> Progress
-    requires { ⌜ Sized nest sizes × (Table nest (now lens) × (processor < processors nest)) ⌝ }
-    requires { ⌜ (length (now memories) ≡ processors nest * cells nest) × ((length (now buffer) ≡ words (planOf nest)) × (length (now status) ≡ count (planOf nest))) ⌝ }
-    requires { ⌜ (finished < 1024) × (sent < length (sendsOf (planOf nest) tile)) ⌝ }
+    requires { ⌜ Sized nest sizes × (Table (sizes .route) nest (now lens) × (processor < processors nest)) ⌝ }
+    requires { ⌜ (length (now memories) ≡ processors nest * cells nest) × ((length (now buffer) ≡ words (planOf (sizes .route) nest)) × (length (now status) ≡ count (planOf (sizes .route) nest))) ⌝ }
+    requires { ⌜ (finished < 1024) × (sent < length (sendsOf (planOf (sizes .route) nest) tile)) ⌝ }
     ensures { λ r. ⌜ ((l : List ℕ) → finished ≡ getD l (3 * processor) 0 → sent ≡ getD l (3 * processor + 2) 0
         → stateOf (now (memories .entry)) (now (buffer .exit)) (setRecord l processor r) (now (status .exit))
-        ≡ carryOut (planOf nest) [] (stateOf (now (memories .entry)) (now (buffer .entry)) l (now (status .entry))) processor
-        (send (getD (sendsOf (planOf nest) tile) (getD l (3 * processor + 2) 0) 0))) ⌝ }
+        ≡ carryOut (planOf (sizes .route) nest) [] (stateOf (now (memories .entry)) (now (buffer .entry)) l (now (status .entry))) processor
+        (send (getD (sendsOf (planOf (sizes .route) nest) tile) (getD l (3 * processor + 2) 0) 0))) ⌝ }
 {
     let cells = sizes.cells;
     let base = processor * cells;
@@ -220,8 +220,8 @@ fn fit_record(
     progress: &[u32],
     processor: usize,
 ) -> bool
-    requires { ⌜ Sized nest sizes × (Table nest (now lens) × (3 * processor + 2 < length (now progress))) ⌝ }
-    ensures { λ r. ⌜ r ≡ fitRecord (planOf nest) (progressOnly (now (progress .entry))) processor ⌝ }
+    requires { ⌜ Sized nest sizes × (Table (sizes .route) nest (now lens) × (3 * processor + 2 < length (now progress))) ⌝ }
+    ensures { λ r. ⌜ r ≡ fitRecord (planOf (sizes .route) nest) (progressOnly (now (progress .entry))) processor ⌝ }
 {
     let finished = word_index(progress[3 * processor]);
     let stage = progress[3 * processor + 1];
@@ -249,8 +249,8 @@ fn fit_record(
 
 // All records are fit.
 pub fn fit_records(nest: Nest, sizes: Sizes, lens: &[u16; 7168], progress: &[u32]) -> bool
-    requires { ⌜ Sized nest sizes × (Table nest (now lens) × (length (now progress) ≡ 3 * processors nest)) ⌝ }
-    ensures { λ r. ⌜ r ≡ every (fitRecord (planOf nest) (progressOnly (now (progress .entry)))) (processors nest) ⌝ }
+    requires { ⌜ Sized nest sizes × (Table (sizes .route) nest (now lens) × (length (now progress) ≡ 3 * processors nest)) ⌝ }
+    ensures { λ r. ⌜ r ≡ every (fitRecord (planOf (sizes .route) nest) (progressOnly (now (progress .entry)))) (processors nest) ⌝ }
 {
     let n = sizes.processors;
     let mut b = 0;
@@ -280,7 +280,7 @@ pub fn fit_status(status: &[u8]) -> bool
 // Some processor has tiles left.
 pub fn tiles_left(nest: Nest, sizes: Sizes, progress: &[u32]) -> bool
     requires { ⌜ Sized nest sizes × (length (now progress) ≡ 3 * processors nest) ⌝ }
-    ensures { λ r. ⌜ r ≡ some (tilesLeft (planOf nest) (progressOnly (now (progress .entry)))) (processors nest) ⌝ }
+    ensures { λ r. ⌜ r ≡ some (tilesLeft (planOf (sizes .route) nest) (progressOnly (now (progress .entry)))) (processors nest) ⌝ }
 {
     let n = sizes.processors;
     let mut b = 0;
@@ -310,7 +310,7 @@ fn copy_row(row: &mut [u32], words: &[u32])
 // Each cell from the memory of its tile's processor. The last dimension is never spread, so a row has one processor.
 pub fn copy_cells(nest: Nest, sizes: Sizes, memories: &[u32], grid: &mut [u32])
     requires { ⌜ Sized nest sizes × ((length (now memories) ≡ processors nest * cells nest) × (length (now grid) ≡ cells nest)) ⌝ }
-    ensures { λ _. ⌜ now (grid .exit) ≡ collected (planOf nest) (stateOf (now (memories .entry)) [] [] []) ⌝ }
+    ensures { λ _. ⌜ now (grid .exit) ≡ collected (planOf (sizes .route) nest) (stateOf (now (memories .entry)) [] [] []) ⌝ }
 {
     let cells = sizes.cells;
     let width = nest.lengths[nest.dimensions - 1];

@@ -1,3 +1,4 @@
 pub mod Scans
 pub mod Answers
 pub mod Ends
+pub mod Ones

@@ -1,6 +1,7 @@
--- What the calls about a plan answer: its figures, and the line of one message; all 0 beside the number at a refusal.
--- Renders document 01, "Recipes to be met": the columns of its table and the plan printer's lines.
-use Prim.Native.Nat.{ℕ, zero, suc}
+-- What the calls about a plan answer: its figures, the line of one message, its hops; all 0 beside the number at a refusal.
+-- Renders document 01, "Recipes to be met": the columns of its table and the plan printer's lines; request W-204's hops.
+use Prim.Native.Nat.{ℕ, zero, suc, _-_}
+use mathlib.Core.Path.{_≡_}
 use mathlib.Core.List.{List, [], _∷_, _++_}
 use lib.ListN.{length}
 use lib.Dec.{ltb}
@@ -8,12 +9,19 @@ use Rattle.base.specs.Tests.{not}
 use Rattle.base.specs.Numbers.{Line, line, firstOf}
 use Rattle.machine.specs.Plan.{Plan, count, words, senderOf, takerOf, heldBy}
 use Rattle.machine.specs.Runs.{total}
+use Rattle.nest.specs.declared.Nest.{Nest}
 use Rattle.nest.specs.Nest.{readLines, nestOf}
-use Rattle.plan.specs.Messages.{planOf}
+use Rattle.plan.specs.declared.Route.{Route}
+use Rattle.plan.specs.declared.Route.the-variants.{Direct}
+use Rattle.plan.specs.Geometry.{rank, tilePlace}
+use Rattle.plan.specs.Messages.{two, planOf}
+use Rattle.plan.specs.Exact.{Carries}
+use Rattle.plan.specs.Hops.{hops}
 use Rattle.plan.specs.Rows as rows
 use Rattle.plan.specs.Rows.{accepted, refused, figures}
 use Rattle.table.specs.declared.Figures.{Figures}
 use Rattle.table.specs.declared.MessageLine.{MessageLine}
+use Rattle.table.specs.declared.HopCount.{HopCount}
 
 -- the figures of the table of rows, as the call gives them
 abbrev pub asFigures : rows.PlanFigures → Figures
@@ -25,8 +33,8 @@ figuresOf p = asFigures (accepted (p .tiles) (count p) (words p) (total p))
 abbrev pub noFigures : ℕ → Figures
 noFigures n = asFigures (refused n)
 
-unfoldable pub summaryOf : List ℕ → Figures
-summaryOf bytes = asFigures (figures bytes)
+unfoldable pub summaryOf : Route → List ℕ → Figures
+summaryOf r bytes = asFigures (figures r bytes)
 
 -- sending and taking tile, sending and taking processor, words
 abbrev pub lineOf : Plan → ℕ → MessageLine
@@ -44,12 +52,32 @@ abbrev pub noLine : ℕ → MessageLine
 noLine n = record { number = n; sender = 0; taker = 0; from = 0; to = 0; words = 0 }
 
 -- the reader's lines, then 11
-unfoldable pub messageLines : List ℕ → ℕ → List Line
-messageLines bytes m = readLines bytes ++ (line 11 (not (ltb m (count (planOf (nestOf bytes))))) ∷ [])
+unfoldable pub messageLines : Route → List ℕ → ℕ → List Line
+messageLines r bytes m = readLines bytes ++ (line 11 (not (ltb m (count (planOf r (nestOf bytes))))) ∷ [])
 
 unfoldable pub lineIf : ℕ → Plan → ℕ → MessageLine
 lineIf zero p m = lineOf p m
 lineIf (suc n) p m = noLine (suc n)
 
-unfoldable pub messageLineOf : List ℕ → ℕ → MessageLine
-messageLineOf bytes m = lineIf (firstOf (messageLines bytes m)) (planOf (nestOf bytes)) m
+unfoldable pub messageLineOf : Route → List ℕ → ℕ → MessageLine
+messageLineOf r bytes m = lineIf (firstOf (messageLines r bytes m)) (planOf r (nestOf bytes)) m
+
+-- the direction of a direct message: its taker's place less its sender's, in the spread dimensions
+unfoldable pub directionOf : Nest → ℕ → ℕ
+directionOf x m =
+    rank two (λ j. tilePlace x (takerOf (planOf Direct x) m) j - tilePlace x (senderOf (planOf Direct x) m) j) (x .spread)
+
+-- so it is the v by which its tile sends it
+pub record Directed (x : Nest) : Type 0 where
+  pub is : (m t v : ℕ) → Carries Direct x m t v → directionOf x m ≡ v
+
+abbrev pub noHops : ℕ → HopCount
+noHops n = record { number = n; hops = 0 }
+
+-- its hops on the indirect route
+unfoldable pub hopsIf : ℕ → Nest → ℕ → HopCount
+hopsIf zero x m = record { number = 0; hops = hops x (directionOf x m) }
+hopsIf (suc n) x m = noHops (suc n)
+
+unfoldable pub hopsOf : List ℕ → ℕ → HopCount
+hopsOf bytes m = hopsIf (firstOf (messageLines Direct bytes m)) (nestOf bytes) m

@@ -14,6 +14,7 @@ use Rattle.nest.specs.declared.Nest.{Nest}
 use Rattle.nest.specs.Accepted.{Accepted}
 use Rattle.nest.specs.Nest.{lengthOf, cells, tiles}
 use Rattle.plan.specs.Geometry.{rank, cellsOf, value}
+use Rattle.plan.specs.declared.Route.the-variants.{Direct}
 use Rattle.plan.specs.Messages.{planOf}
 use Rattle.plan.specs.Box.{boxSize, boxCell}
 use Rattle.layout.specs.declared.Bounds.{Bounds}
@@ -72,7 +73,7 @@ module _ (x : Nest) (ok : Accepted x) (rows w : ℕ) (e : rows ≡ product (nth 
         then-fourth = omega (arith, rw y₂ at (row-next w (q + 2) rows));
       }
 
-  pub sweeping-fours : (source grid₀ grid grid′ : List ℕ) → length grid₀ ≡ cells x → Sweeping x source grid₀ grid (q * w) → Sound (planOf x)
+  pub sweeping-fours : (source grid₀ grid grid′ : List ℕ) → length grid₀ ≡ cells x → Sweeping x source grid₀ grid (q * w) → Sound (planOf Direct x)
       → grid′ ≡ storeAll (value x source) grid (rowsOf (four (q * w) ((q + 1) * w) ((q + 2) * w) ((q + 3) * w)) w 4) → Sweeping x source grid₀ grid′ ((q + 4) * w)
   sweeping-fours source grid₀ grid grid′ long s sound g =
       let y₁ : q + 1 + 1 ≡ q + 2 = omega arith in

@@ -10,6 +10,7 @@ ghost use Rattle.machine.specs.Machine.{sweep};
 ghost use Rattle.nest.specs.Accepted.{Accepted};
 ghost use Rattle.nest.specs.Nest.{component, cells, tiles};
 ghost use Rattle.plan.specs.Geometry.{cellsOf, value};
+ghost use Rattle.plan.specs.declared.Route.the-variants.{Direct};
 ghost use Rattle.plan.specs.Messages.{planOf};
 ghost use Rattle.layout.specs.Sizes.{Sized};
 ghost use Rattle.layout.specs.Places.{Located, Has};
@@ -655,7 +656,7 @@ pub fn calculate(nest: Nest, sizes: Sizes, source: &[u32], memory: &mut [u32], t
 // The sequential sweep: all cells in index order, row by row.
 pub fn sweep(nest: Nest, sizes: Sizes, source: &[u32], grid: &mut [u32])
     requires { ⌜ Sized nest sizes × ((length (now source) ≡ cells nest) × (length (now grid) ≡ cells nest)) ⌝ }
-    ensures { λ _. ⌜ now (grid .exit) ≡ sweep (planOf nest) (now (source .entry)) ⌝ }
+    ensures { λ _. ⌜ now (grid .exit) ≡ sweep (planOf Direct nest) (now (source .entry)) ⌝ }
 {
     let components = nest.components;
     let weights = nest.weights;

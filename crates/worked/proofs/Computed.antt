@@ -17,7 +17,8 @@ use Rattle.nest.specs.Nest.{tileCount, cells, tiles, processors}
 use Rattle.base.specs.Lists.{Bytes}
 use Rattle.nest.specs.Nest.{ofKind, filled, nestBy, nestOf, ragged, blank, checked, fitsAt, wellFormed, strayRecord, outside, badLength, tooLarge, same, beyond, faulty, badDistance, reached, badTile, badSpread, lastSpread, badProcessors, tooManyTiles, nestLines, readLines}
 use Rattle.plan.specs.Geometry.{rank, place, cellAt, cellPlace, tileAt, tilePlace, tileOf, cellsOf, processorOf, inside, hasRead, readAt, readsOf, value}
-use Rattle.plan.specs.Messages.{directions, ahead, reaches, parcel, taker, slotParcel, slotTaker, messagesTo, planOf}
+use Rattle.plan.specs.declared.Route.the-variants.{Direct}
+use Rattle.plan.specs.Messages.{directions, ahead, reaches, crosses, parcel, taker, slotCells, slotTaker, atHome, slotParcel, messagesTo, planOf}
 use Rattle.plan.specs.Rows.{accepted, figures, figuresIf, messageLine, linesTo, linesOf}
 use Rattle.engine.proofs.Demands.{demands}
 use Rattle.worked.specs.Harbour.{harbour, depths, Expected, Agrees}
@@ -46,19 +47,19 @@ nest-is : nestOf harbour ≡ nest
 unfolding ofKind filled nestBy nestOf pick keep those tabulate
 nest-is = refl
 
-plan-is : figuresIf 0 (planOf nest) ≡ accepted 6 3 5 18
-unfolding figuresIf offset _and_ _or_ pick every some keep product tileCount cells tiles rank place cellAt cellPlace tileAt tilePlace tileOf inside directions ahead reaches parcel taker slotParcel slotTaker messagesTo
+plan-is : figuresIf 0 (planOf Direct nest) ≡ accepted 6 3 5 18
+unfolding figuresIf offset processorOf _and_ _or_ pick every some keep product tileCount cells tiles rank place cellAt cellPlace tileAt tilePlace tileOf inside directions ahead reaches crosses parcel taker slotCells slotTaker atHome slotParcel messagesTo
 plan-is = refl
 
-lines-are : linesTo (planOf nest) (count (planOf nest)) ≡ (0 ∷ 0 ∷ 3 ∷ 0 ∷ 1 ∷ 2 ∷ []) ∷ (1 ∷ 1 ∷ 4 ∷ 0 ∷ 1 ∷ 2 ∷ []) ∷ (2 ∷ 2 ∷ 5 ∷ 0 ∷ 1 ∷ 1 ∷ []) ∷ []
-unfolding linesTo messageLine processorOf _and_ _or_ pick every some keep product tileCount cells tiles rank place cellAt cellPlace tileAt tilePlace tileOf inside directions ahead reaches parcel taker slotParcel slotTaker messagesTo
+lines-are : linesTo (planOf Direct nest) (count (planOf Direct nest)) ≡ (0 ∷ 0 ∷ 3 ∷ 0 ∷ 1 ∷ 2 ∷ []) ∷ (1 ∷ 1 ∷ 4 ∷ 0 ∷ 1 ∷ 2 ∷ []) ∷ (2 ∷ 2 ∷ 5 ∷ 0 ∷ 1 ∷ 1 ∷ []) ∷ []
+unfolding linesTo messageLine processorOf _and_ _or_ pick every some keep product tileCount cells tiles rank place cellAt cellPlace tileAt tilePlace tileOf inside directions ahead reaches crosses parcel taker slotCells slotTaker atHome slotParcel messagesTo
 lines-are = refl
 
-cells-are : heldBy (planOf nest) 1 ≡ 12 ∷ 13 ∷ []
-unfolding processorOf _and_ _or_ pick every some keep product tileCount cells tiles rank place cellAt cellPlace tileAt tilePlace tileOf inside directions ahead reaches parcel taker slotParcel slotTaker messagesTo
+cells-are : heldBy (planOf Direct nest) 1 ≡ 12 ∷ 13 ∷ []
+unfolding processorOf _and_ _or_ pick every some keep product tileCount cells tiles rank place cellAt cellPlace tileAt tilePlace tileOf inside directions ahead reaches crosses parcel taker slotCells slotTaker atHome slotParcel messagesTo
 cells-are = refl
 
-grid-is : sweep (planOf nest) depths
+grid-is : sweep (planOf Direct nest) depths
     ≡ 35 ∷ 49 ∷ 57 ∷ 61 ∷ 63 ∷ 57 ∷ 100 ∷ 131 ∷ 152 ∷ 165 ∷ 75 ∷ 154 ∷ 228 ∷ 289 ∷ 334 ∷ 90 ∷ 208 ∷ 342 ∷ 474 ∷ 589 ∷ 102 ∷ 259 ∷ 468 ∷ 705 ∷ 943 ∷ 113 ∷ 307 ∷ 601 ∷ 978 ∷ 1404 ∷ []
 unfolding sweepTo cells product value hasRead readAt cellAt cellPlace place rank every sum _and_ pick tabulate
 grid-is = refl
@@ -84,4 +85,4 @@ harbour-small = refl
 
 pub agrees : Agrees
 unfolding Agrees
-agrees source s z events = demands .three harbour source s (small-bytes harbour harbour-small) z events
+agrees route source s z events = demands .three harbour route source s (small-bytes harbour harbour-small) z events

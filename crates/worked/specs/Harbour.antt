@@ -9,6 +9,7 @@ use Rattle.machine.specs.Plan.{heldBy}
 use Rattle.machine.specs.Machine.{State, sweep}
 use Rattle.machine.specs.Runs.{Event, Demand3}
 use Rattle.nest.specs.Nest.{nestOf, readLines}
+use Rattle.plan.specs.declared.Route.the-variants.{Direct}
 use Rattle.plan.specs.Messages.{planOf}
 use Rattle.plan.specs.Rows.{accepted, figures, linesOf}
 use Rattle.engine.specs.Calls.{recipe, freshCall, collectCall}
@@ -23,16 +24,17 @@ harbour =
 abbrev pub depths : List ℕ
 depths = tabulate (λ c. 100 + c) 30
 
--- worked out by hand, or by another program
+-- worked out by hand, or by another program; messages are passed directly
 pub record Expected : Type 0 where
   pub number : firstOf (readLines harbour) ≡ 0
-  pub plan : figures harbour ≡ accepted 6 3 5 18
-  pub lines : linesOf harbour ≡ (0 ∷ 0 ∷ 3 ∷ 0 ∷ 1 ∷ 2 ∷ []) ∷ (1 ∷ 1 ∷ 4 ∷ 0 ∷ 1 ∷ 2 ∷ []) ∷ (2 ∷ 2 ∷ 5 ∷ 0 ∷ 1 ∷ 1 ∷ []) ∷ []
-  pub cells : heldBy (planOf (nestOf harbour)) 1 ≡ 12 ∷ 13 ∷ []
-  pub grid : sweep (planOf (nestOf harbour)) depths
+  pub plan : figures Direct harbour ≡ accepted 6 3 5 18
+  pub lines : linesOf Direct harbour ≡ (0 ∷ 0 ∷ 3 ∷ 0 ∷ 1 ∷ 2 ∷ []) ∷ (1 ∷ 1 ∷ 4 ∷ 0 ∷ 1 ∷ 2 ∷ []) ∷ (2 ∷ 2 ∷ 5 ∷ 0 ∷ 1 ∷ 1 ∷ []) ∷ []
+  pub cells : heldBy (planOf Direct (nestOf harbour)) 1 ≡ 12 ∷ 13 ∷ []
+  pub grid : sweep (planOf Direct (nestOf harbour)) depths
       ≡ 35 ∷ 49 ∷ 57 ∷ 61 ∷ 63 ∷ 57 ∷ 100 ∷ 131 ∷ 152 ∷ 165 ∷ 75 ∷ 154 ∷ 228 ∷ 289 ∷ 334 ∷ 90 ∷ 208 ∷ 342 ∷ 474 ∷ 589 ∷ 102 ∷ 259 ∷ 468 ∷ 705 ∷ 943 ∷ 113 ∷ 307 ∷ 601 ∷ 978 ∷ 1404 ∷ []
 
--- and what the theorem says of it, whatever the source, the areas and the order
+-- and what the theorem says of it, whatever the route, the source, the areas and the order
 unfoldable pub Agrees : Type 0
-Agrees = (source : List ℕ) (s : State) → freshCall harbour source s .number ≡ 0 → (events : List Event)
-    → Demand3 (calls harbour source) (freshCall harbour source s .after) events (recipe harbour) source (collectCall harbour source)
+Agrees = (route : ℕ) (source : List ℕ) (s : State) → freshCall harbour route source s .number ≡ 0 → (events : List Event)
+    → Demand3 (calls harbour route source) (freshCall harbour route source s .after) events (recipe harbour route) source
+    (collectCall harbour route source)

@@ -25,7 +25,7 @@ use sound.WpLaws.{FmC, fmOf, WpFn-mono}
 use denote.RattleType.{RattleType, owns}
 use denote.Memory.{pointee}
 use denote.Laws.{Is, shows}
-use denote.Plain.{Nothing, uint-tells, uint-makes, uint-lawful}
+use denote.Plain.{Nothing, uint-vals, uint-tells, uint-makes, uint-lawful}
 use denote.Builtin.{u8, u32, usize}
 use denote.Ref.{RefT, now}
 use denote.Slice.{sliceTy, sliceVal, MutSlice, ShrSlice, Room, finally, slice-vals, mut-slice-tells, shr-slice-tells}
@@ -83,7 +83,7 @@ abbrev records : Lifetime → Mutability → Ty
 records ℓ m = sliceTy (ref ℓ m)
 
 abbrev stayed : Stays (fresh.ended .signature .params) (fresh.ended .kept)
-stayed = (stay-dropped (shrSliceOf (0 ∷ []) tt (plain (λ _. u8))) yes, (stay-dropped (shrSliceOf (1 ∷ []) tt (plain (λ _. u32))) yes, (gave-slice (2 ∷ []) tt (plain (λ _. u32)), (gave-slice (3 ∷ []) tt (plain (λ _. u32)), (gave-slice (4 ∷ []) tt (plain (λ _. R)), (gave-slice (5 ∷ []) tt (plain (λ _. u8)), tt))))))
+stayed = (stay-dropped (shrSliceOf (0 ∷ []) tt (plain (λ _. u8))) yes, (stay-dropped (plain (λ _. u32)) yes, (stay-dropped (shrSliceOf (1 ∷ []) tt (plain (λ _. u32))) yes, (gave-slice (2 ∷ []) tt (plain (λ _. u32)), (gave-slice (3 ∷ []) tt (plain (λ _. u32)), (gave-slice (4 ∷ []) tt (plain (λ _. R)), (gave-slice (5 ∷ []) tt (plain (λ _. u8)), tt)))))))
 
 -- the contracts that the proof cites
 module _ {M : Type 1} (𝓤 : URA M) (H : Heap 𝓤) (A : Atoms 𝓤) (mem : Memory → SProp 𝓤) (run : Routine → Fun 𝓤) where
@@ -95,6 +95,7 @@ module _ {M : Type 1} (𝓤 : URA M) (H : Heap 𝓤) (A : Atoms 𝓤) (mem : Mem
 
 module _ {M : Type 1} (𝓤 : URA M) (H : Heap 𝓤) (A : Atoms 𝓤) (W : Given 𝓤 H A) (mem : Memory → SProp 𝓤) (run : Routine → Fun 𝓤)
     (κ0 : Lft) (q0 : Share) (b0 o0 : ℕ) (γ0 : GName) (z0 : List ℕ) (g0 : Room u8 (length z0))
+    (route : ℕ) (gr : route < 2 ^ 32)
     (κ1 : Lft) (q1 : Share) (b1 o1 : ℕ) (γ1 : GName) (z1 : List ℕ) (g1 : Room u32 (length z1))
     (κ2 : Lft) (q2 : Share) (b2 o2 : ℕ) (γ2 : GName) (z2 : List ℕ) (g2 : Room u32 (length z2))
     (κ3 : Lft) (q3 : Share) (b3 o3 : ℕ) (γ3 : GName) (z3 : List ℕ) (g3 : Room u32 (length z3))
@@ -138,10 +139,10 @@ module _ {M : Type 1} (𝓤 : URA M) (H : Heap 𝓤) (A : Atoms 𝓤) (W : Given
   v5 = sliceVal (b5, o5) (length z5)
 
   abbrev at : Vals fresh.signature (κ0, (κ1, (κ2, (κ3, (κ4, (κ5, tt))))))
-  at = (v0 ∷ [], (v1 ∷ [], (v2 ∷ [], (v3 ∷ [], (v4 ∷ [], (v5 ∷ [], tt))))))
+  at = (v0 ∷ [], (vint w32 route ∷ [], (v1 ∷ [], (v2 ∷ [], (v3 ∷ [], (v4 ∷ [], (v5 ∷ [], tt)))))))
 
   abbrev Post : Val → SProp 𝓤
-  Post = walkOf 𝓤 H A fresh.ended stayed (fresh.clauses 𝓤 H A mem run) .post (((κ0, (κ1, (κ2, (κ3, (κ4, (κ5, tt)))))), (q0, (q1, (q2, (q3, (q4, (q5, tt)))))), bounds, (x0, (x1, (x2, (x3, (x4, (x5, tt)))))), at), tt)
+  Post = walkOf 𝓤 H A fresh.ended stayed (fresh.clauses 𝓤 H A mem run) .post (((κ0, (κ1, (κ2, (κ3, (κ4, (κ5, tt)))))), (q0, (q1, (q2, (q3, (q4, (q5, tt)))))), bounds, (x0, (route, (x1, (x2, (x3, (x4, (x5, tt))))))), at), tt)
 
   -- what the call over the other areas is lent: lifetimes, and the arguments
   abbrev Lives : Item 𝓤
@@ -150,17 +151,17 @@ module _ {M : Type 1} (𝓤 : URA M) (H : Heap 𝓤) (A : Atoms 𝓤) (W : Given
   abbrev κw : Lft × (Lft × (Lft × (Lft × (Lft × Unit {0}))))
   κw = (κ0, (κ1, (κ2, (κ3, (κ5, tt)))))
 
-  abbrev xw : RefT (List ℕ) × (RefT (List ℕ) × (RefT (List ℕ) × (RefT (List ℕ) × (ℕ × (RefT (List ℕ) × Unit {0})))))
-  xw = (x0, (x1, (x2, (x3, (3 * length z4, (x5, tt))))))
+  abbrev xw : RefT (List ℕ) × (ℕ × (RefT (List ℕ) × (RefT (List ℕ) × (RefT (List ℕ) × (ℕ × (RefT (List ℕ) × Unit {0}))))))
+  xw = (x0, (route, (x1, (x2, (x3, (3 * length z4, (x5, tt)))))))
 
-  abbrev vw : List Val × (List Val × (List Val × (List Val × (List Val × (List Val × Unit {0})))))
-  vw = (v0 ∷ [], (v1 ∷ [], (v2 ∷ [], (v3 ∷ [], (vint w64 (3 * length z4) ∷ [], (v5 ∷ [], tt))))))
+  abbrev vw : List Val × (List Val × (List Val × (List Val × (List Val × (List Val × (List Val × Unit {0}))))))
+  vw = (v0 ∷ [], (vint w32 route ∷ [], (v1 ∷ [], (v2 ∷ [], (v3 ∷ [], (vint w64 (3 * length z4) ∷ [], (v5 ∷ [], tt)))))))
 
-  exits : (r : ℕ) (w2 w3 : List ℕ) (w4 : List Progress) (w5 : List ℕ) → r < 2 ^ 32 → length w2 ≡ length z2 → length w3 ≡ length z3 → length w4 ≡ length z4 → length w5 ≡ length z5 → answer r (stateOf w2 w3 (flatWords w4) w5) ≡ freshCall z0 z1 (stateOf z2 z3 (flatWords z4) z5)
+  exits : (r : ℕ) (w2 w3 : List ℕ) (w4 : List Progress) (w5 : List ℕ) → r < 2 ^ 32 → length w2 ≡ length z2 → length w3 ≡ length z3 → length w4 ≡ length z4 → length w5 ≡ length z5 → answer r (stateOf w2 w3 (flatWords w4) w5) ≡ freshCall z0 route z1 (stateOf z2 z3 (flatWords z4) z5)
       → ent 𝓤 (⋆ 𝓤 H A (Lives ∷ ‵ (flft κ4 q4) ∷ ‵ (finally u32 γ2 w2) ∷ ‵ (finally u32 γ3 w3) ∷ ‵ (finally R γ4 w4) ∷ ‵ (finally u8 γ5 w5) ∷ [])) (Post (vint w32 r))
   exits r w2 w3 w4 w5 fits e2 e3 e4 e5 said =
       qed W (Lives ∷ ‵ (flft κ4 q4) ∷ ‵ (finally u32 γ2 w2) ∷ ‵ (finally u32 γ3 w3) ∷ ‵ (finally R γ4 w4) ∷ ‵ (finally u8 γ5 w5) ∷ []) ∵
-      suffices ! _ (ends-at 𝓤 H A fresh.ended stayed (fresh.clauses 𝓤 H A mem run) W (((κ0, (κ1, (κ2, (κ3, (κ4, (κ5, tt)))))), (q0, (q1, (q2, (q3, (q4, (q5, tt)))))), bounds, (x0, (x1, (x2, (x3, (x4, (x5, tt)))))), at), tt) (vint w32 r) r (tt, (tt, (w2, (w3, (w4, (w5, tt)))))) (tt, (tt, (e2, (e3, (e4, (e5, tt))))))) $ says ! said $
+      suffices ! _ (ends-at 𝓤 H A fresh.ended stayed (fresh.clauses 𝓤 H A mem run) W (((κ0, (κ1, (κ2, (κ3, (κ4, (κ5, tt)))))), (q0, (q1, (q2, (q3, (q4, (q5, tt)))))), bounds, (x0, (route, (x1, (x2, (x3, (x4, (x5, tt))))))), at), tt) (vint w32 r) r (tt, (tt, (tt, (w2, (w3, (w4, (w5, tt))))))) (tt, (tt, (tt, (e2, (e3, (e4, (e5, tt)))))))) $ says ! said $
       split ! $
       move ! (1 ∷ []) $
       split ! $
@@ -197,6 +198,8 @@ module _ {M : Type 1} (𝓤 : URA M) (H : Heap 𝓤) (A : Atoms 𝓤) (W : Given
       fjoin ! $
       nothing ! $
       fjoin ! $
+      nothing ! $
+      fjoin ! $
       owned ! u32 (Is u32) (uint-makes 𝓤 H A W w32) r _ (refl, fits) $
       keep ! (1 ∷ 0 ∷ []) $
       done !
@@ -204,8 +207,8 @@ module _ {M : Type 1} (𝓤 : URA M) (H : Heap 𝓤) (A : Atoms 𝓤) (W : Given
   abbrev to-areas : Areas 𝓤 H A mem run .Ghost
   to-areas = ((κw, (q0, (q1, (q2, (q3, (q5, tt))))), tt, xw, vw), tt)
 
-  goes-areas : ent 𝓤 (⋆ 𝓤 H A (Lives ∷ ‵ (owns (ShrSlice (named 0) κ0 u8 ∷ ShrSlice (named 1) κ1 u32 ∷ MutSlice (named 2) κ2 u32 ∷ MutSlice (named 3) κ3 u32 ∷ usize ∷ MutSlice (named 5) κ5 u8 ∷ []) xw vw) ∷ [])) (Areas 𝓤 H A mem run .pre to-areas)
-  goes-areas = qed W (Lives ∷ ‵ (owns (ShrSlice (named 0) κ0 u8 ∷ ShrSlice (named 1) κ1 u32 ∷ MutSlice (named 2) κ2 u32 ∷ MutSlice (named 3) κ3 u32 ∷ usize ∷ MutSlice (named 5) κ5 u8 ∷ []) xw vw) ∷ []) ∵ join ! $ frame ! $ done !
+  goes-areas : ent 𝓤 (⋆ 𝓤 H A (Lives ∷ ‵ (owns (ShrSlice (named 0) κ0 u8 ∷ u32 ∷ ShrSlice (named 1) κ1 u32 ∷ MutSlice (named 2) κ2 u32 ∷ MutSlice (named 3) κ3 u32 ∷ usize ∷ MutSlice (named 5) κ5 u8 ∷ []) xw vw) ∷ [])) (Areas 𝓤 H A mem run .pre to-areas)
+  goes-areas = qed W (Lives ∷ ‵ (owns (ShrSlice (named 0) κ0 u8 ∷ u32 ∷ ShrSlice (named 1) κ1 u32 ∷ MutSlice (named 2) κ2 u32 ∷ MutSlice (named 3) κ3 u32 ∷ usize ∷ MutSlice (named 5) κ5 u8 ∷ []) xw vw) ∷ []) ∵ join ! $ frame ! $ done !
 
   abbrev to-clear : ℕ → Clear 𝓤 H A mem run .Ghost
   to-clear r = (((κ4, tt), (q4, tt), tt, (x4, (r, tt)), (v4 ∷ [], (vint w32 r ∷ [], tt))), tt)
@@ -215,30 +218,30 @@ module _ {M : Type 1} (𝓤 : URA M) (H : Heap 𝓤) (A : Atoms 𝓤) (W : Given
 
   -- what the call over the other areas says, for these words of records
   abbrev Said : ℕ → List ℕ → List ℕ → List ℕ → List ℕ → Type 0
-  Said r w2 w3 w5 l = answer r (stateOf w2 w3 (zerosAfter l r) w5) ≡ freshCall z0 z1 (stateOf z2 z3 l z5)
+  Said r w2 w3 w5 l = answer r (stateOf w2 w3 (zerosAfter l r) w5) ≡ freshCall z0 route z1 (stateOf z2 z3 l z5)
 
-  module _ (C : Calls 𝓤 H) (Λ : Loops 𝓤 H) (fm : FmC 𝓤 H (W .laws) C) (l0 l1 l2 l3 l4 l5 l6 l7 l8 l9 l10 l11 l12 l13 l14 l15 l16 l17 l18 : ℕ) where
+  module _ (C : Calls 𝓤 H) (Λ : Loops 𝓤 H) (fm : FmC 𝓤 H (W .laws) C) (l0 l1 l2 l3 l4 l5 l6 l7 l8 l9 l10 l11 l12 l13 l14 l15 l16 l17 l18 l19 : ℕ) where
     abbrev En : Env 𝓤 H
     En =
-        (word, l0) ∷ (bytes (named 0) imm, l1) ∷ (words32 (named 1) imm, l2) ∷ (words32 (named 2) mut, l3) ∷ (words32 (named 3) mut, l4)
-        ∷ (records (named 4) mut, l5) ∷ (bytes (named 5) mut, l6) ∷ (tyInt w64, l7) ∷ (word, l8) ∷ (tyInt w64, l9) ∷ (tyRef erased mut word, l10)
-        ∷ (words32 erased mut, l11) ∷ (tyRef erased mut word, l12) ∷ (words32 erased mut, l13) ∷ (tyRef erased mut (tyInt w8), l14)
-        ∷ (bytes erased mut, l15) ∷ (tyUnit, l16) ∷ (ref erased mut, l17) ∷ (records erased mut, l18) ∷ []
+        (word, l0) ∷ (bytes (named 0) imm, l1) ∷ (word, l2) ∷ (words32 (named 1) imm, l3) ∷ (words32 (named 2) mut, l4) ∷ (words32 (named 3) mut, l5)
+        ∷ (records (named 4) mut, l6) ∷ (bytes (named 5) mut, l7) ∷ (tyInt w64, l8) ∷ (word, l9) ∷ (tyInt w64, l10) ∷ (tyRef erased mut word, l11)
+        ∷ (words32 erased mut, l12) ∷ (tyRef erased mut word, l13) ∷ (words32 erased mut, l14) ∷ (tyRef erased mut (tyInt w8), l15)
+        ∷ (bytes erased mut, l16) ∷ (tyUnit, l17) ∷ (ref erased mut, l18) ∷ (records erased mut, l19) ∷ []
 
     -- the locals, the number being t
     abbrev At : Item 𝓤 → List (Item 𝓤) → List (Item 𝓤)
     At t more =
-        rooms 𝓤 ((records erased mut, l18) ∷ (ref erased mut, l17) ∷ (tyUnit, l16) ∷ (bytes erased mut, l15) ∷ (tyRef erased mut (tyInt w8), l14)
-        ∷ (words32 erased mut, l13) ∷ (tyRef erased mut word, l12) ∷ (words32 erased mut, l11) ∷ (tyRef erased mut word, l10) ∷ (tyInt w64, l9) ∷ [])
-        (t ∷ ‵ (fdies word l8) ∷ rooms 𝓤 ((tyInt w64, l7) ∷ [])
-        (holds 𝓤 (((bytes (named 5) mut, l6), v5) ∷ ((records (named 4) mut, l5), v4) ∷ ((words32 (named 3) mut, l4), v3)
-        ∷ ((words32 (named 2) mut, l3), v2) ∷ ((words32 (named 1) imm, l2), v1) ∷ ((bytes (named 0) imm, l1), v0) ∷ [])
+        rooms 𝓤 ((records erased mut, l19) ∷ (ref erased mut, l18) ∷ (tyUnit, l17) ∷ (bytes erased mut, l16) ∷ (tyRef erased mut (tyInt w8), l15)
+        ∷ (words32 erased mut, l14) ∷ (tyRef erased mut word, l13) ∷ (words32 erased mut, l12) ∷ (tyRef erased mut word, l11) ∷ (tyInt w64, l10) ∷ [])
+        (t ∷ ‵ (fdies word l9) ∷ rooms 𝓤 ((tyInt w64, l8) ∷ [])
+        (holds 𝓤 (((bytes (named 5) mut, l7), v5) ∷ ((records (named 4) mut, l6), v4) ∷ ((words32 (named 3) mut, l5), v3)
+        ∷ ((words32 (named 2) mut, l4), v2) ∷ ((words32 (named 1) imm, l3), v1) ∷ ((word, l2), vint w32 route) ∷ ((bytes (named 0) imm, l1), v0) ∷ [])
         (rooms 𝓤 ((word, l0) ∷ []) more)))
 
     -- from the number on
     cleared : Triple 𝓤 (C #records·clear) (Clear 𝓤 H A mem run) → (r : ℕ) → r < 2 ^ 32 → (w2 w3 w5 : List ℕ)
         → length w2 ≡ length z2 → length w3 ≡ length z3 → length w5 ≡ length z5 → Said r w2 w3 w5 (flatWords z4)
-        → Sq W (At (‵ (fat fullShare word l8 0 (vint w32 r)))
+        → Sq W (At (‵ (fat fullShare word l9 0 (vint w32 r)))
         (Lives ∷ ‵ (flft κ4 q4) ∷ ‵ (MutSlice (named 4) κ4 R .own x4 (v4 ∷ [])) ∷ ‵ (finally u32 γ2 w2) ∷ ‵ (finally u32 γ3 w3) ∷ ‵ (finally u8 γ5 w5) ∷ []))
         (runs C Λ En mir′.t-10 (atRet En Post))
     cleared known₂ r fits w2 w3 w5 e2 e3 e5 said =
@@ -247,10 +250,10 @@ module _ {M : Type 1} (𝓤 : URA M) (H : Heap 𝓤) (A : Atoms 𝓤) (W : Given
         nothing ! $
         owned ! u32 (Is u32) (uint-makes 𝓤 H A W w32) r _ (refl, fits) $
         fjoin ! $
-        move ! (41 ∷ 0 ∷ []) $
+        move ! (43 ∷ 0 ∷ []) $
         fjoin ! $
         nothing ! $
-        move ! (41 ∷ 0 ∷ []) $
+        move ! (43 ∷ 0 ∷ []) $
         join ! $
         use2 W (raw (Clear 𝓤 H A mem run .pre (to-clear r))) (goes-clear r) $
         calls-at ! fm (Clear 𝓤 H A mem run) known₂ (to-clear r) (and-then ! (load ! (from ! (stop !)) (look ! 1 refl)) (and-then ! (load ! (from ! (stop !)) (look ! 21 refl)) (no-more !))) (λ w.
@@ -273,9 +276,10 @@ module _ {M : Type 1} (𝓤 : URA M) (H : Heap 𝓤) (A : Atoms 𝓤) (W : Given
         move ! (1 ∷ []) $
         feqL ! (λ unit.
         land ! (from ! (stop !)) (init ! 7 refl (subst (λ (y : Val). Holds (hasTy tyUnit y) × WT y) (sym (ap only unit)) (tt, tt))) $
-        assigns ! (of-opd ! (load ! (from ! (stop !)) (look ! 23 refl))) (from ! (stop !)) (init ! 39 refl (tt, record { fits = fits })) $
+        assigns ! (of-opd ! (load ! (from ! (stop !)) (look ! 23 refl))) (from ! (stop !)) (init ! 41 refl (tt, record { fits = fits })) $
         split ! $
-        returns ! (look ! 40 refl) $
+        returns ! (look ! 42 refl) $
+        forget ! 42 refl $
         forget ! 40 refl $
         forget ! 38 refl $
         forget ! 36 refl $
@@ -287,7 +291,7 @@ module _ {M : Type 1} (𝓤 : URA M) (H : Heap 𝓤) (A : Atoms 𝓤) (W : Given
         forget ! 8 refl $
         forget ! 6 refl $
         forget ! 4 refl $
-        keep ! (40 ∷ 41 ∷ 38 ∷ 39 ∷ 36 ∷ 37 ∷ 34 ∷ 35 ∷ 32 ∷ 33 ∷ 30 ∷ 31 ∷ 28 ∷ 29 ∷ 26 ∷ 27 ∷ 24 ∷ 25 ∷ 22 ∷ 23 ∷ 20 ∷ 21 ∷ 18 ∷ 19 ∷ 16 ∷ 17 ∷ 14 ∷ 15 ∷ 12 ∷ 13 ∷ 10 ∷ 11 ∷ 8 ∷ 9 ∷ 6 ∷ 7 ∷ 4 ∷ 5 ∷ 42 ∷ 0 ∷ 43 ∷ 44 ∷ 2 ∷ 45 ∷ []) $
+        keep ! (42 ∷ 43 ∷ 40 ∷ 41 ∷ 38 ∷ 39 ∷ 36 ∷ 37 ∷ 34 ∷ 35 ∷ 32 ∷ 33 ∷ 30 ∷ 31 ∷ 28 ∷ 29 ∷ 26 ∷ 27 ∷ 24 ∷ 25 ∷ 22 ∷ 23 ∷ 20 ∷ 21 ∷ 18 ∷ 19 ∷ 16 ∷ 17 ∷ 14 ∷ 15 ∷ 12 ∷ 13 ∷ 10 ∷ 11 ∷ 8 ∷ 9 ∷ 6 ∷ 7 ∷ 4 ∷ 5 ∷ 44 ∷ 0 ∷ 45 ∷ 46 ∷ 2 ∷ 47 ∷ []) $
         free-all ! _ $
         by ! (exits r w2 w3 (us .0) w5 fits e2 e3 e4 e5
         (ap (λ (l : List Progress). answer r (stateOf w2 w3 (flatWords l) w5)) put
@@ -295,7 +299,7 @@ module _ {M : Type 1} (𝓤 : URA M) (H : Heap 𝓤) (A : Atoms 𝓤) (W : Given
 
     -- the whole body
     begun : Triple 𝓤 (C #engine·core·fresh) (Areas 𝓤 H A mem run) → Triple 𝓤 (C #records·clear) (Clear 𝓤 H A mem run)
-        → Sq W (At (‵ (froom word l8 0)) (‵ (flft κ0 q0) ∷ ‵ (flft κ1 q1) ∷ ‵ (flft κ2 q2) ∷ ‵ (flft κ3 q3) ∷ ‵ (flft κ4 q4) ∷ ‵ (flft κ5 q5) ∷ ‵ (ShrSlice (named 0) κ0 u8 .own x0 (v0 ∷ [])) ∷ ‵ (ShrSlice (named 1) κ1 u32 .own x1 (v1 ∷ [])) ∷ ‵ (MutSlice (named 2) κ2 u32 .own x2 (v2 ∷ [])) ∷ ‵ (MutSlice (named 3) κ3 u32 .own x3 (v3 ∷ [])) ∷ ‵ (MutSlice (named 4) κ4 R .own x4 (v4 ∷ [])) ∷ ‵ (MutSlice (named 5) κ5 u8 .own x5 (v5 ∷ [])) ∷ [])) (runs C Λ En mir′.t-1 (atRet En Post))
+        → Sq W (At (‵ (froom word l9 0)) (‵ (flft κ0 q0) ∷ ‵ (flft κ1 q1) ∷ ‵ (flft κ2 q2) ∷ ‵ (flft κ3 q3) ∷ ‵ (flft κ4 q4) ∷ ‵ (flft κ5 q5) ∷ ‵ (ShrSlice (named 0) κ0 u8 .own x0 (v0 ∷ [])) ∷ ‵ (ShrSlice (named 1) κ1 u32 .own x1 (v1 ∷ [])) ∷ ‵ (MutSlice (named 2) κ2 u32 .own x2 (v2 ∷ [])) ∷ ‵ (MutSlice (named 3) κ3 u32 .own x3 (v3 ∷ [])) ∷ ‵ (MutSlice (named 4) κ4 R .own x4 (v4 ∷ [])) ∷ ‵ (MutSlice (named 5) κ5 u8 .own x5 (v5 ∷ [])) ∷ [])) (runs C Λ En mir′.t-1 (atRet En Post))
     begun known₁ known₂ =
         assigns ! (of-opd ! (load ! (from ! (fld ! refl (stop !))) (look-in ! 26 (sub ! 1 refl (whole !))))) (from ! (stop !)) (init ! 18 refl (tt, record { fits = g4 .0 })) $
         assigns ! (bin ! (lit ! tt) (load ! (from ! (stop !)) (look ! 18 refl)) (record { fits = words-fit (length z4) (g4 .1) })) (from ! (stop !)) (init ! 22 refl (tt, record { fits = words-fit (length z4) (g4 .1) })) $
@@ -306,41 +310,45 @@ module _ {M : Type 1} (𝓤 : URA M) (H : Heap 𝓤) (A : Atoms 𝓤) (W : Given
         assigns ! (addr ! (from ! (fld ! refl (hop ! (look-in ! 24 (sub ! 0 refl (whole !))) (stop !))))) (from ! (stop !)) (init ! 8 refl (tt, tt)) $
         assigns ! (agg ! (and-then ! (load ! (from ! (stop !)) (look ! 8 refl)) (and-then ! (load ! (from ! (fld ! refl (stop !))) (look-in ! 24 (sub ! 1 refl (whole !)))) (no-more !)))) (from ! (stop !)) (init ! 6 refl (tt, (tt, (record { fits = g5 .0 }, tt)))) $
         nothing ! $
-        move ! (50 ∷ 0 ∷ []) $
+        move ! (52 ∷ 0 ∷ []) $
         fjoin ! $
         owned ! usize (Is usize) (uint-makes 𝓤 H A W w64) (3 * length z4) _ (refl, words-fit (length z4) (g4 .1)) $
         fjoin ! $
+        move ! (50 ∷ 0 ∷ []) $
+        fjoin ! $
+        move ! (49 ∷ 0 ∷ []) $
+        fjoin ! $
         move ! (48 ∷ 0 ∷ []) $
+        fjoin ! $
+        owned ! u32 (Is u32) (uint-makes 𝓤 H A W w32) route _ (refl, gr) $
         fjoin ! $
         move ! (47 ∷ 0 ∷ []) $
         fjoin ! $
-        move ! (46 ∷ 0 ∷ []) $
-        fjoin ! $
-        move ! (45 ∷ 0 ∷ []) $
-        fjoin ! $
         nothing ! $
+        move ! (47 ∷ 0 ∷ []) $
+        join ! $
         move ! (45 ∷ 0 ∷ []) $
+        join ! $
+        move ! (44 ∷ 0 ∷ []) $
         join ! $
         move ! (43 ∷ 0 ∷ []) $
         join ! $
         move ! (42 ∷ 0 ∷ []) $
         join ! $
-        move ! (41 ∷ 0 ∷ []) $
-        join ! $
-        move ! (40 ∷ 0 ∷ []) $
-        join ! $
         use2 W (raw (Areas 𝓤 H A mem run .pre to-areas)) goes-areas $
-        calls-at ! fm (Areas 𝓤 H A mem run) known₁ to-areas (and-then ! (load ! (from ! (stop !)) (look ! 35 refl)) (and-then ! (load ! (from ! (stop !)) (look ! 33 refl)) (and-then ! (load ! (from ! (stop !)) (look ! 15 refl)) (and-then ! (load ! (from ! (stop !)) (look ! 11 refl)) (and-then ! (load ! (from ! (stop !)) (look ! 23 refl)) (and-then ! (load ! (from ! (stop !)) (look ! 7 refl)) (no-more !))))))) (λ w.
+        calls-at ! fm (Areas 𝓤 H A mem run) known₁ to-areas (and-then ! (load ! (from ! (stop !)) (look ! 37 refl)) (and-then ! (load ! (from ! (stop !)) (look ! 35 refl)) (and-then ! (load ! (from ! (stop !)) (look ! 33 refl)) (and-then ! (load ! (from ! (stop !)) (look ! 15 refl)) (and-then ! (load ! (from ! (stop !)) (look ! 11 refl)) (and-then ! (load ! (from ! (stop !)) (look ! 23 refl)) (and-then ! (load ! (from ! (stop !)) (look ! 7 refl)) (no-more !)))))))) (λ w.
         use1 W (later (some (λ (r : ℕ). (Lives ⊛ ‵ (u32 .own r (w ∷ []))) ⊛ raw (ensured 𝓤 H A areas.ended (areas.clauses 𝓤 H A mem run) κw xw tt r)))) (id⊢ 𝓤 _) $
         await ! tt $
         pick ! (λ r.
         split ! $
         move ! (1 ∷ []) $
-        use1 W (some (λ (us : Unit {0} × (Unit {0} × (List ℕ × (List ℕ × (Unit {0} × (List ℕ × Unit {0})))))). ‵ (lasts areas.ended κw xw us) ⊛ raw (fact 𝓤 ((l : List ℕ) → 3 * length z4 ≡ length l → Said r (us .1 .1 .0) (us .1 .1 .1 .0) (us .1 .1 .1 .1 .1 .0) l)))) (id⊢ 𝓤 _) $
+        use1 W (some (λ (us : Unit {0} × (Unit {0} × (Unit {0} × (List ℕ × (List ℕ × (Unit {0} × (List ℕ × Unit {0}))))))). ‵ (lasts areas.ended κw xw us) ⊛ raw (fact 𝓤 ((l : List ℕ) → 3 * length z4 ≡ length l → Said r (us .1 .1 .1 .0) (us .1 .1 .1 .1 .0) (us .1 .1 .1 .1 .1 .1 .0) l)))) (id⊢ 𝓤 _) $
         pick ! (λ us.
         split ! $
         move ! (1 ∷ []) $
-        heard ! ((l : List ℕ) → 3 * length z4 ≡ length l → Said r (us .1 .1 .0) (us .1 .1 .1 .0) (us .1 .1 .1 .1 .1 .0) l) (λ said.
+        heard ! ((l : List ℕ) → 3 * length z4 ≡ length l → Said r (us .1 .1 .1 .0) (us .1 .1 .1 .1 .0) (us .1 .1 .1 .1 .1 .1 .0) l) (λ said.
+        fsplit ! $
+        move ! (1 ∷ []) $
         fsplit ! $
         move ! (1 ∷ []) $
         fsplit ! $
@@ -361,36 +369,37 @@ module _ {M : Type 1} (𝓤 : URA M) (H : Heap 𝓤) (A : Atoms 𝓤) (W : Given
         fsplit ! $
         move ! (1 ∷ []) $
         feqL ! (λ e5.
-        move ! (7 ∷ []) $
+        move ! (8 ∷ []) $
         split ! $
         move ! (1 ∷ []) $
         peeks ! u32 (Is u32) (shows 𝓤 H A u32) r (w ∷ []) (λ is′.
-        land ! (from ! (stop !)) (init ! 29 refl (uint-lawful 𝓤 H A W w32 .typed r _ is′ .0)) $
-        rewrite ! 29 (λ (u : Val). ‵ (fat fullShare word l8 0 u)) (ap only (uint-tells w32 r (w ∷ []) is′)) refl $
-        forget ! 31 refl $
-        forget ! 27 refl $
-        forget ! 25 refl $
-        forget ! 23 refl $
-        forget ! 21 refl $
-        forget ! 19 refl $
-        forget ! 17 refl $
-        forget ! 15 refl $
-        keep ! (9 ∷ 10 ∷ 11 ∷ 12 ∷ 13 ∷ 14 ∷ 15 ∷ 16 ∷ 17 ∷ 18 ∷ 19 ∷ 20 ∷ 21 ∷ 22 ∷ 23 ∷ 24 ∷ 25 ∷ 26 ∷ 27 ∷ 28 ∷ 29 ∷ 30 ∷ 31 ∷ 32 ∷ 33 ∷ 34 ∷ 35 ∷ 36 ∷ 37 ∷ 38 ∷ 39 ∷ 40 ∷ 41 ∷ 42 ∷ 43 ∷ 44 ∷ 45 ∷ 46 ∷ 1 ∷ 47 ∷ 48 ∷ 6 ∷ 5 ∷ 2 ∷ []) $
-        cleared known₂ r (is′ .1) (us .1 .1 .0) (us .1 .1 .1 .0) (us .1 .1 .1 .1 .1 .0) e2 e3 e5 (said (flatWords z4) (sym (length-words z4)))))))))))
+        land ! (from ! (stop !)) (init ! 30 refl (uint-lawful 𝓤 H A W w32 .typed r _ is′ .0)) $
+        rewrite ! 30 (λ (u : Val). ‵ (fat fullShare word l9 0 u)) (ap only (uint-tells w32 r (w ∷ []) is′)) refl $
+        forget ! 32 refl $
+        forget ! 28 refl $
+        forget ! 26 refl $
+        forget ! 24 refl $
+        forget ! 22 refl $
+        forget ! 20 refl $
+        forget ! 18 refl $
+        forget ! 16 refl $
+        keep ! (10 ∷ 11 ∷ 12 ∷ 13 ∷ 14 ∷ 15 ∷ 16 ∷ 17 ∷ 18 ∷ 19 ∷ 20 ∷ 21 ∷ 22 ∷ 23 ∷ 24 ∷ 25 ∷ 26 ∷ 27 ∷ 28 ∷ 29 ∷ 30 ∷ 31 ∷ 32 ∷ 33 ∷ 34 ∷ 35 ∷ 36 ∷ 37 ∷ 38 ∷ 39 ∷ 40 ∷ 41 ∷ 42 ∷ 43 ∷ 44 ∷ 45 ∷ 46 ∷ 47 ∷ 48 ∷ 49 ∷ 1 ∷ 50 ∷ 51 ∷ 6 ∷ 5 ∷ 2 ∷ []) $
+        cleared known₂ r (is′ .1) (us .1 .1 .1 .0) (us .1 .1 .1 .1 .0) (us .1 .1 .1 .1 .1 .1 .0) e2 e3 e5 (said (flatWords z4) (sym (length-words z4)))))))))))
 
   walk : (C : Calls 𝓤 H) (Λ : Loops 𝓤 H) → FmC 𝓤 H (W .laws) C → Triple 𝓤 (C #engine·core·fresh) (Areas 𝓤 H A mem run) → Triple 𝓤 (C #records·clear) (Clear 𝓤 H A mem run)
-      → ent 𝓤 (onEntry 𝓤 H A fresh.signature (κ0, (κ1, (κ2, (κ3, (κ4, (κ5, tt)))))) (q0, (q1, (q2, (q3, (q4, (q5, tt)))))) (x0, (x1, (x2, (x3, (x4, (x5, tt)))))) at) (WpFn 𝓤 H C Λ code.function (v0 ∷ v1 ∷ v2 ∷ v3 ∷ v4 ∷ v5 ∷ []) Post)
+      → ent 𝓤 (onEntry 𝓤 H A fresh.signature (κ0, (κ1, (κ2, (κ3, (κ4, (κ5, tt)))))) (q0, (q1, (q2, (q3, (q4, (q5, tt)))))) (x0, (route, (x1, (x2, (x3, (x4, (x5, tt))))))) at) (WpFn 𝓤 H C Λ code.function (v0 ∷ vint w32 route ∷ v1 ∷ v2 ∷ v3 ∷ v4 ∷ v5 ∷ []) Post)
   walk C Λ fm known₁ known₂ =
-      qed W ((‵ (flft κ0 q0) ⊛ ‵ (flft κ1 q1) ⊛ ‵ (flft κ2 q2) ⊛ ‵ (flft κ3 q3) ⊛ ‵ (flft κ4 q4) ⊛ ‵ (flft κ5 q5) ⊛ ‵ ftrue) ∷ ‵ (owns (ShrSlice (named 0) κ0 u8 ∷ ShrSlice (named 1) κ1 u32 ∷ MutSlice (named 2) κ2 u32 ∷ MutSlice (named 3) κ3 u32 ∷ MutSlice (named 4) κ4 R ∷ MutSlice (named 5) κ5 u8 ∷ []) (x0, (x1, (x2, (x3, (x4, (x5, tt)))))) at) ∷ []) ∵ enter ! C Λ code.function (v0 ∷ v1 ∷ v2 ∷ v3 ∷ v4 ∷ v5 ∷ []) _ $
-      alloc1 ! (λ l0. alloc1 ! (λ l1. alloc1 ! (λ l2. alloc1 ! (λ l3. alloc1 ! (λ l4. alloc1 ! (λ l5. alloc1 ! (λ l6. alloc1 ! (λ l7. alloc1 ! (λ l8. alloc1 ! (λ l9. alloc1 ! (λ l10. alloc1 ! (λ l11. alloc1 ! (λ l12. alloc1 ! (λ l13. alloc1 ! (λ l14. alloc1 ! (λ l15. alloc1 ! (λ l16. alloc1 ! (λ l17. alloc1 ! (λ l18. alloc0 ! $ params1 ! $
-      pass1 ! (init ! 34 refl (tt, (tt, (record { fits = g0 .0 }, tt)))) $
+      qed W ((‵ (flft κ0 q0) ⊛ ‵ (flft κ1 q1) ⊛ ‵ (flft κ2 q2) ⊛ ‵ (flft κ3 q3) ⊛ ‵ (flft κ4 q4) ⊛ ‵ (flft κ5 q5) ⊛ ‵ ftrue) ∷ ‵ (owns (ShrSlice (named 0) κ0 u8 ∷ u32 ∷ ShrSlice (named 1) κ1 u32 ∷ MutSlice (named 2) κ2 u32 ∷ MutSlice (named 3) κ3 u32 ∷ MutSlice (named 4) κ4 R ∷ MutSlice (named 5) κ5 u8 ∷ []) (x0, (route, (x1, (x2, (x3, (x4, (x5, tt))))))) at) ∷ []) ∵ enter ! C Λ code.function (v0 ∷ vint w32 route ∷ v1 ∷ v2 ∷ v3 ∷ v4 ∷ v5 ∷ []) _ $
+      alloc1 ! (λ l0. alloc1 ! (λ l1. alloc1 ! (λ l2. alloc1 ! (λ l3. alloc1 ! (λ l4. alloc1 ! (λ l5. alloc1 ! (λ l6. alloc1 ! (λ l7. alloc1 ! (λ l8. alloc1 ! (λ l9. alloc1 ! (λ l10. alloc1 ! (λ l11. alloc1 ! (λ l12. alloc1 ! (λ l13. alloc1 ! (λ l14. alloc1 ! (λ l15. alloc1 ! (λ l16. alloc1 ! (λ l17. alloc1 ! (λ l18. alloc1 ! (λ l19. alloc0 ! $ params1 ! $
+      pass1 ! (init ! 36 refl (tt, (tt, (record { fits = g0 .0 }, tt)))) $
+      pass1 ! (init ! 34 refl (tt, record { fits = gr })) $
       pass1 ! (init ! 32 refl (tt, (tt, (record { fits = g1 .0 }, tt)))) $
       pass1 ! (init ! 30 refl (tt, (tt, (record { fits = g2 .0 }, tt)))) $
       pass1 ! (init ! 28 refl (tt, (tt, (record { fits = g3 .0 }, tt)))) $
       pass1 ! (init ! 26 refl (tt, (tt, (record { fits = g4 .0 }, tt)))) $
       pass1 ! (init ! 24 refl (tt, (tt, (record { fits = g5 .0 }, tt)))) $
       pass0 ! $
-      move ! (39 ∷ []) $
+      move ! (41 ∷ []) $
       fsplit ! $
       move ! (1 ∷ []) $
       fsplit ! $
@@ -402,7 +411,9 @@ module _ {M : Type 1} (𝓤 : URA M) (H : Heap 𝓤) (A : Atoms 𝓤) (W : Given
       fsplit ! $
       move ! (1 ∷ []) $
       fsplit ! $
-      move ! (45 ∷ []) $
+      move ! (1 ∷ []) $
+      fsplit ! $
+      move ! (48 ∷ []) $
       split ! $
       move ! (1 ∷ []) $
       split ! $
@@ -414,25 +425,25 @@ module _ {M : Type 1} (𝓤 : URA M) (H : Heap 𝓤) (A : Atoms 𝓤) (W : Given
       split ! $
       move ! (1 ∷ []) $
       split ! $
-      keep ! (14 ∷ 15 ∷ 16 ∷ 17 ∷ 18 ∷ 19 ∷ 20 ∷ 21 ∷ 22 ∷ 23 ∷ 24 ∷ 25 ∷ 26 ∷ 27 ∷ 28 ∷ 29 ∷ 30 ∷ 31 ∷ 32 ∷ 33 ∷ 34 ∷ 35 ∷ 36 ∷ 37 ∷ 38 ∷ 39 ∷ 40 ∷ 41 ∷ 42 ∷ 43 ∷ 44 ∷ 45 ∷ 46 ∷ 47 ∷ 48 ∷ 49 ∷ 50 ∷ 51 ∷ 6 ∷ 5 ∷ 4 ∷ 3 ∷ 2 ∷ 0 ∷ 13 ∷ 12 ∷ 11 ∷ 10 ∷ 9 ∷ 7 ∷ []) $
-      begun C Λ fm l0 l1 l2 l3 l4 l5 l6 l7 l8 l9 l10 l11 l12 l13 l14 l15 l16 l17 l18 known₁ known₂)))))))))))))))))))
+      keep ! (15 ∷ 16 ∷ 17 ∷ 18 ∷ 19 ∷ 20 ∷ 21 ∷ 22 ∷ 23 ∷ 24 ∷ 25 ∷ 26 ∷ 27 ∷ 28 ∷ 29 ∷ 30 ∷ 31 ∷ 32 ∷ 33 ∷ 34 ∷ 35 ∷ 36 ∷ 37 ∷ 38 ∷ 39 ∷ 40 ∷ 41 ∷ 42 ∷ 43 ∷ 44 ∷ 45 ∷ 46 ∷ 47 ∷ 48 ∷ 49 ∷ 50 ∷ 51 ∷ 52 ∷ 53 ∷ 54 ∷ 6 ∷ 5 ∷ 4 ∷ 3 ∷ 2 ∷ 0 ∷ 14 ∷ 12 ∷ 11 ∷ 10 ∷ 9 ∷ 7 ∷ []) $
+      begun C Λ fm l0 l1 l2 l3 l4 l5 l6 l7 l8 l9 l10 l11 l12 l13 l14 l15 l16 l17 l18 l19 known₁ known₂))))))))))))))))))))
 
 module _ {M : Type 1} (𝓤 : URA M) (H : Heap 𝓤) (A : Atoms 𝓤) (W : Given 𝓤 H A) (mem : Memory → SProp 𝓤) (run : Routine → Fun 𝓤) where
   fresh-walks : (C : Calls 𝓤 H) (Λ : Loops 𝓤 H) → FmC 𝓤 H (W .laws) C → Triple 𝓤 (C #engine·core·fresh) (Areas 𝓤 H A mem run) → Triple 𝓤 (C #records·clear) (Clear 𝓤 H A mem run)
       → Walks 𝓤 H A fresh.ended stayed (WpFn 𝓤 H C Λ code.function) (fresh.clauses 𝓤 H A mem run)
   fresh-walks C Λ fm known₁ known₂ =
       walked 𝓤 H A fresh.ended stayed (fresh.clauses 𝓤 H A mem run) (WpFn 𝓤 H C Λ code.function)
-      (λ κs. (slice-vals, (slice-vals, (slice-vals, (slice-vals, (slice-vals, (slice-vals, tt)))))))
-      (λ κs. (shr-slice-tells (named 0) (κs .0) u8, (shr-slice-tells (named 1) (κs .1 .0) u32, (mut-slice-tells (named 2) (κs .1 .1 .0) u32, (mut-slice-tells (named 3) (κs .1 .1 .1 .0) u32, (mut-slice-tells (named 4) (κs .1 .1 .1 .1 .0) R, (mut-slice-tells (named 5) (κs .1 .1 .1 .1 .1 .0) u8, tt)))))))
+      (λ κs. (slice-vals, (uint-vals w32, (slice-vals, (slice-vals, (slice-vals, (slice-vals, (slice-vals, tt))))))))
+      (λ κs. (shr-slice-tells (named 0) (κs .0) u8, (uint-tells w32, (shr-slice-tells (named 1) (κs .1 .0) u32, (mut-slice-tells (named 2) (κs .1 .1 .0) u32, (mut-slice-tells (named 3) (κs .1 .1 .1 .0) u32, (mut-slice-tells (named 4) (κs .1 .1 .1 .1 .0) R, (mut-slice-tells (named 5) (κs .1 .1 .1 .1 .1 .0) u8, tt))))))))
       (λ κs qs bounds a g are. via 𝓤 _ (fst∗ 𝓤 _ (emp 𝓤))
-      (walk 𝓤 H A W mem run (κs .0) (qs .0) (a .0 .ptr .0) (a .0 .ptr .1) (a .0 .name) (a .0 .now) (are .0 .0 .1) (κs .1 .0) (qs .1 .0) (a .1 .0 .ptr .0) (a .1 .0 .ptr .1) (a .1 .0 .name) (a .1 .0 .now) (are .1 .0 .0 .1) (κs .1 .1 .0) (qs .1 .1 .0) (a .1 .1 .0 .ptr .0) (a .1 .1 .0 .ptr .1) (a .1 .1 .0 .name) (a .1 .1 .0 .now) (are .1 .1 .0 .0 .1) (κs .1 .1 .1 .0) (qs .1 .1 .1 .0) (a .1 .1 .1 .0 .ptr .0) (a .1 .1 .1 .0 .ptr .1) (a .1 .1 .1 .0 .name) (a .1 .1 .1 .0 .now) (are .1 .1 .1 .0 .0 .1) (κs .1 .1 .1 .1 .0) (qs .1 .1 .1 .1 .0) (a .1 .1 .1 .1 .0 .ptr .0) (a .1 .1 .1 .1 .0 .ptr .1) (a .1 .1 .1 .1 .0 .name) (a .1 .1 .1 .1 .0 .now) (are .1 .1 .1 .1 .0 .0 .1) (κs .1 .1 .1 .1 .1 .0) (qs .1 .1 .1 .1 .1 .0) (a .1 .1 .1 .1 .1 .0 .ptr .0) (a .1 .1 .1 .1 .1 .0 .ptr .1) (a .1 .1 .1 .1 .1 .0 .name) (a .1 .1 .1 .1 .1 .0 .now) (are .1 .1 .1 .1 .1 .0 .0 .1) bounds C Λ fm known₁ known₂))
+      (walk 𝓤 H A W mem run (κs .0) (qs .0) (a .0 .ptr .0) (a .0 .ptr .1) (a .0 .name) (a .0 .now) (are .0 .0 .1) (a .1 .0) (are .1 .0 .1) (κs .1 .0) (qs .1 .0) (a .1 .1 .0 .ptr .0) (a .1 .1 .0 .ptr .1) (a .1 .1 .0 .name) (a .1 .1 .0 .now) (are .1 .1 .0 .0 .1) (κs .1 .1 .0) (qs .1 .1 .0) (a .1 .1 .1 .0 .ptr .0) (a .1 .1 .1 .0 .ptr .1) (a .1 .1 .1 .0 .name) (a .1 .1 .1 .0 .now) (are .1 .1 .1 .0 .0 .1) (κs .1 .1 .1 .0) (qs .1 .1 .1 .0) (a .1 .1 .1 .1 .0 .ptr .0) (a .1 .1 .1 .1 .0 .ptr .1) (a .1 .1 .1 .1 .0 .name) (a .1 .1 .1 .1 .0 .now) (are .1 .1 .1 .1 .0 .0 .1) (κs .1 .1 .1 .1 .0) (qs .1 .1 .1 .1 .0) (a .1 .1 .1 .1 .1 .0 .ptr .0) (a .1 .1 .1 .1 .1 .0 .ptr .1) (a .1 .1 .1 .1 .1 .0 .name) (a .1 .1 .1 .1 .1 .0 .now) (are .1 .1 .1 .1 .1 .0 .0 .1) (κs .1 .1 .1 .1 .1 .0) (qs .1 .1 .1 .1 .1 .0) (a .1 .1 .1 .1 .1 .1 .0 .ptr .0) (a .1 .1 .1 .1 .1 .1 .0 .ptr .1) (a .1 .1 .1 .1 .1 .1 .0 .name) (a .1 .1 .1 .1 .1 .1 .0 .now) (are .1 .1 .1 .1 .1 .1 .0 .0 .1) bounds C Λ fm known₁ known₂))
 
 fresh-meets : {M : Type 1} (𝓤 : URA M) (H : Heap 𝓤) (A : Atoms 𝓤) (W : Given 𝓤 H A) (mem : Memory → SProp 𝓤) (run : Routine → Fun 𝓤) (𝓣 : Tables 𝓤 H)
     → Triple 𝓤 (𝓣 .C #engine·core·fresh) (Areas 𝓤 H A mem run) → Triple 𝓤 (𝓣 .C #records·clear) (Clear 𝓤 H A mem run)
     → Meets 𝓤 H A fresh.signature (WpFn 𝓤 H (𝓣 .C) (𝓣 .Λ) code.function) (fresh.spec 𝓤 H A mem run)
 fresh-meets 𝓤 H A W mem run 𝓣 known₁ known₂ =
     walk-meets 𝓤 H A fresh.ended stayed W
-    (goes-dropped 𝓤 H A W 6 (shrSliceOf (0 ∷ []) tt (plain (λ _. u8))) yes (λ κs x f. refl), (goes-dropped 𝓤 H A W 6 (shrSliceOf (1 ∷ []) tt (plain (λ _. u32))) yes (λ κs x f. refl), (goes-gave-slice 𝓤 H A W 6 2 tt (plain (λ _. u32)), (goes-gave-slice 𝓤 H A W 6 3 tt (plain (λ _. u32)), (goes-gave-slice 𝓤 H A W 6 4 tt (plain (λ _. R)), (goes-gave-slice 𝓤 H A W 6 5 tt (plain (λ _. u8)), tt))))))
+    (goes-dropped 𝓤 H A W 6 (shrSliceOf (0 ∷ []) tt (plain (λ _. u8))) yes (λ κs x f. refl), (goes-dropped 𝓤 H A W 6 (plain (λ _. u32)) yes (λ κs x f. refl), (goes-dropped 𝓤 H A W 6 (shrSliceOf (1 ∷ []) tt (plain (λ _. u32))) yes (λ κs x f. refl), (goes-gave-slice 𝓤 H A W 6 2 tt (plain (λ _. u32)), (goes-gave-slice 𝓤 H A W 6 3 tt (plain (λ _. u32)), (goes-gave-slice 𝓤 H A W 6 4 tt (plain (λ _. R)), (goes-gave-slice 𝓤 H A W 6 5 tt (plain (λ _. u8)), tt)))))))
     (fresh.clauses 𝓤 H A mem run) (WpFn 𝓤 H (𝓣 .C) (𝓣 .Λ) code.function) (WpFn-mono 𝓤 H (W .laws) 𝓣 code.function)
     (fresh-walks 𝓤 H A W mem run (𝓣 .C) (𝓣 .Λ) (fmOf 𝓤 H (W .laws) 𝓣) known₁ known₂)
 

@@ -116,7 +116,7 @@ abbrev records : Lifetime → Mutability → Ty
 records ℓ m = sliceTy (ref ℓ m)
 
 abbrev stayed : Stays (turn.ended .signature .params) (turn.ended .kept)
-stayed = (stay-dropped (shrSliceOf (0 ∷ []) tt (plain (λ _. u8))) yes, (stay-dropped (shrSliceOf (1 ∷ []) tt (plain (λ _. u32))) yes, (gave-slice (2 ∷ []) tt (plain (λ _. u32)), (gave-slice (3 ∷ []) tt (plain (λ _. u32)), (gave-slice (4 ∷ []) tt (plain (λ _. R)), (gave-slice (5 ∷ []) tt (plain (λ _. u8)), (stay-dropped (plain (λ _. u32)) yes, tt)))))))
+stayed = (stay-dropped (shrSliceOf (0 ∷ []) tt (plain (λ _. u8))) yes, (stay-dropped (plain (λ _. u32)) yes, (stay-dropped (shrSliceOf (1 ∷ []) tt (plain (λ _. u32))) yes, (gave-slice (2 ∷ []) tt (plain (λ _. u32)), (gave-slice (3 ∷ []) tt (plain (λ _. u32)), (gave-slice (4 ∷ []) tt (plain (λ _. R)), (gave-slice (5 ∷ []) tt (plain (λ _. u8)), (stay-dropped (plain (λ _. u32)) yes, tt))))))))
 
 -- the contracts that the proof cites, and what is heard of the first
 module _ {M : Type 1} (𝓤 : URA M) (H : Heap 𝓤) (A : Atoms 𝓤) (mem : Memory → SProp 𝓤) (run : Routine → Fun 𝓤) where
@@ -134,6 +134,7 @@ module _ {M : Type 1} (𝓤 : URA M) (H : Heap 𝓤) (A : Atoms 𝓤) (mem : Mem
 
 module _ {M : Type 1} (𝓤 : URA M) (H : Heap 𝓤) (A : Atoms 𝓤) (W : Given 𝓤 H A) (mem : Memory → SProp 𝓤) (run : Routine → Fun 𝓤)
     (κ0 : Lft) (q0 : Share) (b0 o0 : ℕ) (γ0 : GName) (z0 : List ℕ) (g0 : Room u8 (length z0))
+    (route : ℕ) (gr : route < 2 ^ 32)
     (κ1 : Lft) (q1 : Share) (b1 o1 : ℕ) (γ1 : GName) (z1 : List ℕ) (g1 : Room u32 (length z1))
     (κ2 : Lft) (q2 : Share) (b2 o2 : ℕ) (γ2 : GName) (z2 : List ℕ) (g2 : Room u32 (length z2))
     (κ3 : Lft) (q3 : Share) (b3 o3 : ℕ) (γ3 : GName) (z3 : List ℕ) (g3 : Room u32 (length z3))
@@ -178,10 +179,10 @@ module _ {M : Type 1} (𝓤 : URA M) (H : Heap 𝓤) (A : Atoms 𝓤) (W : Given
   v5 = sliceVal (b5, o5) (length z5)
 
   abbrev at : Vals turn.signature (κ0, (κ1, (κ2, (κ3, (κ4, (κ5, tt))))))
-  at = (v0 ∷ [], (v1 ∷ [], (v2 ∷ [], (v3 ∷ [], (v4 ∷ [], (v5 ∷ [], (vint w32 n6 ∷ [], tt)))))))
+  at = (v0 ∷ [], (vint w32 route ∷ [], (v1 ∷ [], (v2 ∷ [], (v3 ∷ [], (v4 ∷ [], (v5 ∷ [], (vint w32 n6 ∷ [], tt))))))))
 
   abbrev Post : Val → SProp 𝓤
-  Post = walkOf 𝓤 H A turn.ended stayed (turn.clauses 𝓤 H A mem run) .post (((κ0, (κ1, (κ2, (κ3, (κ4, (κ5, tt)))))), (q0, (q1, (q2, (q3, (q4, (q5, tt)))))), bounds, (x0, (x1, (x2, (x3, (x4, (x5, (n6, tt))))))), at), tt)
+  Post = walkOf 𝓤 H A turn.ended stayed (turn.clauses 𝓤 H A mem run) .post (((κ0, (κ1, (κ2, (κ3, (κ4, (κ5, tt)))))), (q0, (q1, (q2, (q3, (q4, (q5, tt)))))), bounds, (x0, (route, (x1, (x2, (x3, (x4, (x5, (n6, tt)))))))), at), tt)
 
   -- what the call over words is lent: lifetimes, and the arguments for the records' words f
   abbrev Lives : Item 𝓤
@@ -190,17 +191,17 @@ module _ {M : Type 1} (𝓤 : URA M) (H : Heap 𝓤) (A : Atoms 𝓤) (W : Given
   abbrev κw : Lft × (Lft × (Lft × (Lft × (Lft × Unit {0}))))
   κw = (κ0, (κ1, (κ2, (κ3, (κ5, tt)))))
 
-  abbrev xw : Flat → RefT (List ℕ) × (RefT (List ℕ) × (RefT (List ℕ) × (RefT (List ℕ) × (Flat × (RefT (List ℕ) × (ℕ × Unit {0}))))))
-  xw f = (x0, (x1, (x2, (x3, (f, (x5, (n6, tt)))))))
+  abbrev xw : Flat → RefT (List ℕ) × (ℕ × (RefT (List ℕ) × (RefT (List ℕ) × (RefT (List ℕ) × (Flat × (RefT (List ℕ) × (ℕ × Unit {0})))))))
+  xw f = (x0, (route, (x1, (x2, (x3, (f, (x5, (n6, tt))))))))
 
-  abbrev vw : Flat → List Val × (List Val × (List Val × (List Val × (List Val × (List Val × (List Val × Unit {0}))))))
-  vw f = (v0 ∷ [], (v1 ∷ [], (v2 ∷ [], (v3 ∷ [], (low f ∷ [], (v5 ∷ [], (vint w32 n6 ∷ [], tt)))))))
+  abbrev vw : Flat → List Val × (List Val × (List Val × (List Val × (List Val × (List Val × (List Val × (List Val × Unit {0})))))))
+  vw f = (v0 ∷ [], (vint w32 route ∷ [], (v1 ∷ [], (v2 ∷ [], (v3 ∷ [], (low f ∷ [], (v5 ∷ [], (vint w32 n6 ∷ [], tt))))))))
 
-  exits : (r : ℕ) (w2 w3 : List ℕ) (w4 : List Progress) (w5 : List ℕ) → r < 2 ^ 32 → length w2 ≡ length z2 → length w3 ≡ length z3 → length w4 ≡ length z4 → length w5 ≡ length z5 → answer r (stateOf w2 w3 (flatWords w4) w5) ≡ turnCall z0 z1 (stateOf z2 z3 (flatWords z4) z5) n6
+  exits : (r : ℕ) (w2 w3 : List ℕ) (w4 : List Progress) (w5 : List ℕ) → r < 2 ^ 32 → length w2 ≡ length z2 → length w3 ≡ length z3 → length w4 ≡ length z4 → length w5 ≡ length z5 → answer r (stateOf w2 w3 (flatWords w4) w5) ≡ turnCall z0 route z1 (stateOf z2 z3 (flatWords z4) z5) n6
       → ent 𝓤 (⋆ 𝓤 H A (Lives ∷ ‵ (flft κ4 q4) ∷ ‵ (finally u32 γ2 w2) ∷ ‵ (finally u32 γ3 w3) ∷ ‵ (finally R γ4 w4) ∷ ‵ (finally u8 γ5 w5) ∷ [])) (Post (vint w32 r))
   exits r w2 w3 w4 w5 fits e2 e3 e4 e5 said =
       qed W (Lives ∷ ‵ (flft κ4 q4) ∷ ‵ (finally u32 γ2 w2) ∷ ‵ (finally u32 γ3 w3) ∷ ‵ (finally R γ4 w4) ∷ ‵ (finally u8 γ5 w5) ∷ []) ∵
-      suffices ! _ (ends-at 𝓤 H A turn.ended stayed (turn.clauses 𝓤 H A mem run) W (((κ0, (κ1, (κ2, (κ3, (κ4, (κ5, tt)))))), (q0, (q1, (q2, (q3, (q4, (q5, tt)))))), bounds, (x0, (x1, (x2, (x3, (x4, (x5, (n6, tt))))))), at), tt) (vint w32 r) r (tt, (tt, (w2, (w3, (w4, (w5, (tt, tt))))))) (tt, (tt, (e2, (e3, (e4, (e5, (tt, tt)))))))) $ says ! said $
+      suffices ! _ (ends-at 𝓤 H A turn.ended stayed (turn.clauses 𝓤 H A mem run) W (((κ0, (κ1, (κ2, (κ3, (κ4, (κ5, tt)))))), (q0, (q1, (q2, (q3, (q4, (q5, tt)))))), bounds, (x0, (route, (x1, (x2, (x3, (x4, (x5, (n6, tt)))))))), at), tt) (vint w32 r) r (tt, (tt, (tt, (w2, (w3, (w4, (w5, (tt, tt)))))))) (tt, (tt, (tt, (e2, (e3, (e4, (e5, (tt, tt))))))))) $ says ! said $
       split ! $
       move ! (1 ∷ []) $
       split ! $
@@ -239,6 +240,8 @@ module _ {M : Type 1} (𝓤 : URA M) (H : Heap 𝓤) (A : Atoms 𝓤) (W : Given
       fjoin ! $
       nothing ! $
       fjoin ! $
+      nothing ! $
+      fjoin ! $
       owned ! u32 (Is u32) (uint-makes 𝓤 H A W w32) r _ (refl, fits) $
       keep ! (1 ∷ 0 ∷ []) $
       done !
@@ -258,8 +261,8 @@ module _ {M : Type 1} (𝓤 : URA M) (H : Heap 𝓤) (A : Atoms 𝓤) (W : Given
   abbrev to-words : Flat → Words 𝓤 H A mem run .Ghost
   to-words f = ((κw, (q0, (q1, (q2, (q3, (q5, tt))))), tt, (xw f), (vw f)), tt)
 
-  goes-words : (f : Flat) → length (f .words) ≡ 192 → ent 𝓤 (⋆ 𝓤 H A (Lives ∷ ‵ (owns (ShrSlice (named 0) κ0 u8 ∷ ShrSlice (named 1) κ1 u32 ∷ MutSlice (named 2) κ2 u32 ∷ MutSlice (named 3) κ3 u32 ∷ F ∷ MutSlice (named 5) κ5 u8 ∷ u32 ∷ []) (xw f) (vw f)) ∷ [])) (Words 𝓤 H A mem run .pre (to-words f))
-  goes-words f w = qed W (Lives ∷ ‵ (owns (ShrSlice (named 0) κ0 u8 ∷ ShrSlice (named 1) κ1 u32 ∷ MutSlice (named 2) κ2 u32 ∷ MutSlice (named 3) κ3 u32 ∷ F ∷ MutSlice (named 5) κ5 u8 ∷ u32 ∷ []) (xw f) (vw f)) ∷ []) ∵ says ! w $ done !
+  goes-words : (f : Flat) → length (f .words) ≡ 192 → ent 𝓤 (⋆ 𝓤 H A (Lives ∷ ‵ (owns (ShrSlice (named 0) κ0 u8 ∷ u32 ∷ ShrSlice (named 1) κ1 u32 ∷ MutSlice (named 2) κ2 u32 ∷ MutSlice (named 3) κ3 u32 ∷ F ∷ MutSlice (named 5) κ5 u8 ∷ u32 ∷ []) (xw f) (vw f)) ∷ [])) (Words 𝓤 H A mem run .pre (to-words f))
+  goes-words f w = qed W (Lives ∷ ‵ (owns (ShrSlice (named 0) κ0 u8 ∷ u32 ∷ ShrSlice (named 1) κ1 u32 ∷ MutSlice (named 2) κ2 u32 ∷ MutSlice (named 3) κ3 u32 ∷ F ∷ MutSlice (named 5) κ5 u8 ∷ u32 ∷ []) (xw f) (vw f)) ∷ []) ∵ says ! w $ done !
 
   abbrev to-put : Turned → Put 𝓤 H A mem run .Ghost
   to-put r = (((κ4, tt), (q4, tt), tt, (x4, (r .number, (n6, (r .progress, tt)))), (v4 ∷ [], (vint w32 (r .number) ∷ [], (vint w32 n6 ∷ [], (one (r .progress) ∷ [], tt))))), tt)
@@ -270,31 +273,31 @@ module _ {M : Type 1} (𝓤 : URA M) (H : Heap 𝓤) (A : Atoms 𝓤) (W : Given
 
   -- what the call over words says, for these words of records
   abbrev Said : Turned → List ℕ → List ℕ → List ℕ → List ℕ → Type 0
-  Said r w2 w3 w5 l = answer (r .number) (stateOf w2 w3 (recordsAfter l n6 r) w5) ≡ turnCall z0 z1 (stateOf z2 z3 l z5) n6
+  Said r w2 w3 w5 l = answer (r .number) (stateOf w2 w3 (recordsAfter l n6 r) w5) ≡ turnCall z0 route z1 (stateOf z2 z3 l z5) n6
 
-  module _ (C : Calls 𝓤 H) (Λ : Loops 𝓤 H) (fm : FmC 𝓤 H (W .laws) C) (l0 l1 l2 l3 l4 l5 l6 l7 l8 l9 l10 l11 l12 l13 l14 l15 l16 l17 l18 l19 l20 : ℕ) where
+  module _ (C : Calls 𝓤 H) (Λ : Loops 𝓤 H) (fm : FmC 𝓤 H (W .laws) C) (l0 l1 l2 l3 l4 l5 l6 l7 l8 l9 l10 l11 l12 l13 l14 l15 l16 l17 l18 l19 l20 l21 : ℕ) where
     abbrev En : Env 𝓤 H
     En =
-        (word, l0) ∷ (bytes (named 0) imm, l1) ∷ (words32 (named 1) imm, l2) ∷ (words32 (named 2) mut, l3) ∷ (words32 (named 3) mut, l4) ∷ (records (named 4) mut, l5) ∷ (bytes (named 5) mut, l6) ∷ (word, l7)
-        ∷ (S′.mir, l8) ∷ (U′.mir, l9) ∷ (ref erased imm, l10) ∷ (records erased imm, l11) ∷ (tyRef erased mut word, l12) ∷ (words32 erased mut, l13) ∷ (tyRef erased mut word, l14)
-        ∷ (words32 erased mut, l15) ∷ (tyRef erased mut (tyInt w8), l16) ∷ (bytes erased mut, l17) ∷ (tyUnit, l18) ∷ (ref erased mut, l19) ∷ (records erased mut, l20) ∷ []
+        (word, l0) ∷ (bytes (named 0) imm, l1) ∷ (word, l2) ∷ (words32 (named 1) imm, l3) ∷ (words32 (named 2) mut, l4) ∷ (words32 (named 3) mut, l5) ∷ (records (named 4) mut, l6) ∷ (bytes (named 5) mut, l7) ∷ (word, l8)
+        ∷ (S′.mir, l9) ∷ (U′.mir, l10) ∷ (ref erased imm, l11) ∷ (records erased imm, l12) ∷ (tyRef erased mut word, l13) ∷ (words32 erased mut, l14) ∷ (tyRef erased mut word, l15)
+        ∷ (words32 erased mut, l16) ∷ (tyRef erased mut (tyInt w8), l17) ∷ (bytes erased mut, l18) ∷ (tyUnit, l19) ∷ (ref erased mut, l20) ∷ (records erased mut, l21) ∷ []
 
     -- the locals, the records' words being t and what the turn made u
     abbrev At : Item 𝓤 → Item 𝓤 → List (Item 𝓤) → List (Item 𝓤)
     At t u more =
-        rooms 𝓤 ((records erased mut, l20) ∷ (ref erased mut, l19) ∷ (tyUnit, l18) ∷ (bytes erased mut, l17) ∷ (tyRef erased mut (tyInt w8), l16)
-        ∷ (words32 erased mut, l15) ∷ (tyRef erased mut word, l14) ∷ (words32 erased mut, l13) ∷ (tyRef erased mut word, l12)
-        ∷ (records erased imm, l11) ∷ (ref erased imm, l10) ∷ [])
-        (u ∷ ‵ (fdies U′.mir l9) ∷ t ∷ ‵ (fdies S′.mir l8)
-        ∷ holds 𝓤 (((word, l7), vint w32 n6) ∷ ((bytes (named 5) mut, l6), v5) ∷ ((records (named 4) mut, l5), v4) ∷ ((words32 (named 3) mut, l4), v3)
-        ∷ ((words32 (named 2) mut, l3), v2) ∷ ((words32 (named 1) imm, l2), v1) ∷ ((bytes (named 0) imm, l1), v0) ∷ [])
+        rooms 𝓤 ((records erased mut, l21) ∷ (ref erased mut, l20) ∷ (tyUnit, l19) ∷ (bytes erased mut, l18) ∷ (tyRef erased mut (tyInt w8), l17)
+        ∷ (words32 erased mut, l16) ∷ (tyRef erased mut word, l15) ∷ (words32 erased mut, l14) ∷ (tyRef erased mut word, l13)
+        ∷ (records erased imm, l12) ∷ (ref erased imm, l11) ∷ [])
+        (u ∷ ‵ (fdies U′.mir l10) ∷ t ∷ ‵ (fdies S′.mir l9)
+        ∷ holds 𝓤 (((word, l8), vint w32 n6) ∷ ((bytes (named 5) mut, l7), v5) ∷ ((records (named 4) mut, l6), v4) ∷ ((words32 (named 3) mut, l5), v3)
+        ∷ ((words32 (named 2) mut, l4), v2) ∷ ((words32 (named 1) imm, l3), v1) ∷ ((word, l2), vint w32 route) ∷ ((bytes (named 0) imm, l1), v0) ∷ [])
         (rooms 𝓤 ((word, l0) ∷ []) more))
 
     -- from the words after the call on
     stored-part : Triple 𝓤 (C #records·put) (Put 𝓤 H A mem run) → (r : Turned) → Is E r (high r ∷ []) → (w2 w3 w5 : List ℕ)
         → length w2 ≡ length z2 → length w3 ≡ length z3 → length w5 ≡ length z5
         → Said r w2 w3 w5 (flatWords z4)
-        → Sq W (At (‵ (froom S′.mir l8 0)) (‵ (fat fullShare U′.mir l9 0 (high r))) (Lives ∷ ‵ (flft κ4 q4) ∷ ‵ (MutSlice (named 4) κ4 R .own x4 (v4 ∷ [])) ∷ ‵ (finally u32 γ2 w2) ∷ ‵ (finally u32 γ3 w3) ∷ ‵ (finally u8 γ5 w5) ∷ [])) (runs C Λ En mir′.t-11 (atRet En Post))
+        → Sq W (At (‵ (froom S′.mir l9 0)) (‵ (fat fullShare U′.mir l10 0 (high r))) (Lives ∷ ‵ (flft κ4 q4) ∷ ‵ (MutSlice (named 4) κ4 R .own x4 (v4 ∷ [])) ∷ ‵ (finally u32 γ2 w2) ∷ ‵ (finally u32 γ3 w3) ∷ ‵ (finally u8 γ5 w5) ∷ [])) (runs C Λ En mir′.t-11 (atRet En Post))
     stored-part known₂ r is w2 w3 w5 e2 e3 e5 said =
         assigns ! (addr ! (from ! (fld ! refl (hop ! (look-in ! 30 (sub ! 0 refl (whole !))) (stop !))))) (from ! (stop !)) (init ! 2 refl (tt, tt)) $
         assigns ! (agg ! (and-then ! (load ! (from ! (stop !)) (look ! 2 refl)) (and-then ! (load ! (from ! (fld ! refl (stop !))) (look-in ! 30 (sub ! 1 refl (whole !)))) (no-more !)))) (from ! (stop !)) (init ! 0 refl (tt, (tt, (record { fits = g4 .0 }, tt)))) $
@@ -305,12 +308,12 @@ module _ {M : Type 1} (𝓤 : URA M) (H : Heap 𝓤) (A : Atoms 𝓤) (W : Given
         fjoin ! $
         owned ! u32 (Is u32) (uint-makes 𝓤 H A W w32) (r .number) _ (refl, number-fits r is) $
         fjoin ! $
-        move ! (45 ∷ 0 ∷ []) $
+        move ! (47 ∷ 0 ∷ []) $
         fjoin ! $
         nothing ! $
-        move ! (45 ∷ 0 ∷ []) $
+        move ! (47 ∷ 0 ∷ []) $
         join ! $
-        use2 W (raw (Put 𝓤 H A mem run .pre (to-put r))) (goes-put r (record-there z0 z1 z2 z3 z5 z4 n6 (r .number) _ said)) $
+        use2 W (raw (Put 𝓤 H A mem run .pre (to-put r))) (goes-put r (record-there z0 route z1 z2 z3 z5 z4 n6 (r .number) _ said)) $
         calls-at ! fm (Put 𝓤 H A mem run) known₂ (to-put r) (and-then ! (load ! (from ! (stop !)) (look ! 1 refl)) (and-then ! (load ! (from ! (fld ! refl (stop !))) (look-in ! 23 (sub ! 0 refl (whole !)))) (and-then ! (load ! (from ! (stop !)) (look ! 27 refl)) (and-then ! (load ! (from ! (fld ! refl (stop !))) (look-in ! 23 (sub ! 1 refl (whole !)))) (no-more !))))) (λ w.
         use1 W (later (some (λ (u : Unit {0}). ((‵ (flft κ4 q4) ⊛ ‵ ftrue) ⊛ ‵ (Nothing .own u (w ∷ []))) ⊛ raw (ensured 𝓤 H A puts.ended (puts.clauses 𝓤 H A mem run) (κ4, tt) (x4, (r .number, (n6, (r .progress, tt)))) tt u)))) (id⊢ 𝓤 _) $
         await ! tt $
@@ -331,9 +334,10 @@ module _ {M : Type 1} (𝓤 : URA M) (H : Heap 𝓤) (A : Atoms 𝓤) (W : Given
         move ! (1 ∷ []) $
         feqL ! (λ unit.
         land ! (from ! (stop !)) (init ! 7 refl (subst (λ (y : Val). Holds (hasTy tyUnit y) × WT y) (sym (ap only unit)) (tt, tt))) $
-        assigns ! (of-opd ! (load ! (from ! (fld ! refl (stop !))) (look-in ! 25 (sub ! 0 refl (whole !))))) (from ! (stop !)) (init ! 43 refl (tt, record { fits = number-fits r is })) $
+        assigns ! (of-opd ! (load ! (from ! (fld ! refl (stop !))) (look-in ! 25 (sub ! 0 refl (whole !))))) (from ! (stop !)) (init ! 45 refl (tt, record { fits = number-fits r is })) $
         split ! $
-        returns ! (look ! 44 refl) $
+        returns ! (look ! 46 refl) $
+        forget ! 46 refl $
         forget ! 44 refl $
         forget ! 42 refl $
         forget ! 40 refl $
@@ -346,13 +350,13 @@ module _ {M : Type 1} (𝓤 : URA M) (H : Heap 𝓤) (A : Atoms 𝓤) (W : Given
         forget ! 8 refl $
         forget ! 6 refl $
         forget ! 4 refl $
-        keep ! (44 ∷ 45 ∷ 42 ∷ 43 ∷ 40 ∷ 41 ∷ 38 ∷ 39 ∷ 36 ∷ 37 ∷ 34 ∷ 35 ∷ 32 ∷ 33 ∷ 30 ∷ 31 ∷ 28 ∷ 29 ∷ 26 ∷ 27 ∷ 24 ∷ 25 ∷ 22 ∷ 23 ∷ 20 ∷ 21 ∷ 18 ∷ 19 ∷ 16 ∷ 17 ∷ 14 ∷ 15 ∷ 12 ∷ 13 ∷ 10 ∷ 11 ∷ 8 ∷ 9 ∷ 6 ∷ 7 ∷ 4 ∷ 5 ∷ 46 ∷ 0 ∷ 47 ∷ 48 ∷ 2 ∷ 49 ∷ []) $
+        keep ! (46 ∷ 47 ∷ 44 ∷ 45 ∷ 42 ∷ 43 ∷ 40 ∷ 41 ∷ 38 ∷ 39 ∷ 36 ∷ 37 ∷ 34 ∷ 35 ∷ 32 ∷ 33 ∷ 30 ∷ 31 ∷ 28 ∷ 29 ∷ 26 ∷ 27 ∷ 24 ∷ 25 ∷ 22 ∷ 23 ∷ 20 ∷ 21 ∷ 18 ∷ 19 ∷ 16 ∷ 17 ∷ 14 ∷ 15 ∷ 12 ∷ 13 ∷ 10 ∷ 11 ∷ 8 ∷ 9 ∷ 6 ∷ 7 ∷ 4 ∷ 5 ∷ 48 ∷ 0 ∷ 49 ∷ 50 ∷ 2 ∷ 51 ∷ []) $
         free-all ! _ $
         by ! (exits (r .number) w2 w3 (us .0) w5 (number-fits r is) e2 e3 e4 e5 (ap (λ (l : List Progress). answer (r .number) (stateOf w2 w3 (flatWords l) w5)) put ∙ ap (λ (k : List ℕ). answer (r .number) (stateOf w2 w3 k w5)) (stored-after z4 n6 r) ∙ said))))))))
 
     -- from the records' words on
     worded : Triple 𝓤 (C #engine·core·turn) (Words 𝓤 H A mem run) → Triple 𝓤 (C #records·put) (Put 𝓤 H A mem run) → (f : Flat) → Is F f (low f ∷ []) → Carries f (flatWords z4)
-        → Sq W (At (‵ (fat fullShare S′.mir l8 0 (low f))) (‵ (froom U′.mir l9 0)) (‵ (flft κ0 q0) ∷ ‵ (flft κ1 q1) ∷ ‵ (flft κ2 q2) ∷ ‵ (flft κ3 q3) ∷ ‵ (flft κ4 q4) ∷ ‵ (flft κ5 q5) ∷ ‵ (ShrSlice (named 0) κ0 u8 .own x0 (v0 ∷ [])) ∷ ‵ (ShrSlice (named 1) κ1 u32 .own x1 (v1 ∷ [])) ∷ ‵ (MutSlice (named 2) κ2 u32 .own x2 (v2 ∷ [])) ∷ ‵ (MutSlice (named 3) κ3 u32 .own x3 (v3 ∷ [])) ∷ ‵ (MutSlice (named 4) κ4 R .own x4 (v4 ∷ [])) ∷ ‵ (MutSlice (named 5) κ5 u8 .own x5 (v5 ∷ [])) ∷ [])) (runs C Λ En mir′.t-4 (atRet En Post))
+        → Sq W (At (‵ (fat fullShare S′.mir l9 0 (low f))) (‵ (froom U′.mir l10 0)) (‵ (flft κ0 q0) ∷ ‵ (flft κ1 q1) ∷ ‵ (flft κ2 q2) ∷ ‵ (flft κ3 q3) ∷ ‵ (flft κ4 q4) ∷ ‵ (flft κ5 q5) ∷ ‵ (ShrSlice (named 0) κ0 u8 .own x0 (v0 ∷ [])) ∷ ‵ (ShrSlice (named 1) κ1 u32 .own x1 (v1 ∷ [])) ∷ ‵ (MutSlice (named 2) κ2 u32 .own x2 (v2 ∷ [])) ∷ ‵ (MutSlice (named 3) κ3 u32 .own x3 (v3 ∷ [])) ∷ ‵ (MutSlice (named 4) κ4 R .own x4 (v4 ∷ [])) ∷ ‵ (MutSlice (named 5) κ5 u8 .own x5 (v5 ∷ [])) ∷ [])) (runs C Λ En mir′.t-4 (atRet En Post))
     worded known₁ known₂ f is e =
         assigns ! (addr ! (from ! (fld ! refl (hop ! (look-in ! 34 (sub ! 0 refl (whole !))) (stop !))))) (from ! (stop !)) (init ! 16 refl (tt, tt)) $
         assigns ! (agg ! (and-then ! (load ! (from ! (stop !)) (look ! 16 refl)) (and-then ! (load ! (from ! (fld ! refl (stop !))) (look-in ! 34 (sub ! 1 refl (whole !)))) (no-more !)))) (from ! (stop !)) (init ! 14 refl (tt, (tt, (record { fits = g2 .0 }, tt)))) $
@@ -363,41 +367,45 @@ module _ {M : Type 1} (𝓤 : URA M) (H : Heap 𝓤) (A : Atoms 𝓤) (W : Given
         nothing ! $
         owned ! u32 (Is u32) (uint-makes 𝓤 H A W w32) n6 _ (refl, g6) $
         fjoin ! $
-        move ! (54 ∷ 0 ∷ []) $
+        move ! (56 ∷ 0 ∷ []) $
         fjoin ! $
         owned ! F (Is F) (LL.makes S.the-type S′.the-plain 𝓤 H A) f _ is $
         fjoin ! $
+        move ! (54 ∷ 0 ∷ []) $
+        fjoin ! $
+        move ! (53 ∷ 0 ∷ []) $
+        fjoin ! $
         move ! (52 ∷ 0 ∷ []) $
+        fjoin ! $
+        owned ! u32 (Is u32) (uint-makes 𝓤 H A W w32) route _ (refl, gr) $
         fjoin ! $
         move ! (51 ∷ 0 ∷ []) $
         fjoin ! $
-        move ! (50 ∷ 0 ∷ []) $
-        fjoin ! $
-        move ! (49 ∷ 0 ∷ []) $
-        fjoin ! $
         nothing ! $
+        move ! (51 ∷ 0 ∷ []) $
+        join ! $
         move ! (49 ∷ 0 ∷ []) $
+        join ! $
+        move ! (48 ∷ 0 ∷ []) $
         join ! $
         move ! (47 ∷ 0 ∷ []) $
         join ! $
         move ! (46 ∷ 0 ∷ []) $
         join ! $
-        move ! (45 ∷ 0 ∷ []) $
-        join ! $
-        move ! (44 ∷ 0 ∷ []) $
-        join ! $
         use2 W (raw (Words 𝓤 H A mem run .pre (to-words f))) (goes-words f (e .room)) $
-        calls-at ! fm (Words 𝓤 H A mem run) known₁ (to-words f) (and-then ! (load ! (from ! (stop !)) (look ! 39 refl)) (and-then ! (load ! (from ! (stop !)) (look ! 37 refl)) (and-then ! (load ! (from ! (stop !)) (look ! 15 refl)) (and-then ! (load ! (from ! (stop !)) (look ! 11 refl)) (and-then ! (load ! (from ! (stop !)) (look ! 25 refl)) (and-then ! (load ! (from ! (stop !)) (look ! 7 refl)) (and-then ! (load ! (from ! (stop !)) (look ! 27 refl)) (no-more !)))))))) (λ w.
+        calls-at ! fm (Words 𝓤 H A mem run) known₁ (to-words f) (and-then ! (load ! (from ! (stop !)) (look ! 41 refl)) (and-then ! (load ! (from ! (stop !)) (look ! 39 refl)) (and-then ! (load ! (from ! (stop !)) (look ! 37 refl)) (and-then ! (load ! (from ! (stop !)) (look ! 15 refl)) (and-then ! (load ! (from ! (stop !)) (look ! 11 refl)) (and-then ! (load ! (from ! (stop !)) (look ! 25 refl)) (and-then ! (load ! (from ! (stop !)) (look ! 7 refl)) (and-then ! (load ! (from ! (stop !)) (look ! 27 refl)) (no-more !))))))))) (λ w.
         use1 W (later (some (λ (r : Turned). (Lives ⊛ ‵ (E .own r (w ∷ []))) ⊛ raw (ensured 𝓤 H A words.ended (words.clauses 𝓤 H A mem run) κw (xw f) tt r)))) (id⊢ 𝓤 _) $
         await ! tt $
         pick ! (λ r.
         split ! $
         move ! (1 ∷ []) $
-        use1 W (some (λ (us : Unit {0} × (Unit {0} × (List ℕ × (List ℕ × (Unit {0} × (List ℕ × (Unit {0} × Unit {0}))))))). ‵ (lasts words.ended κw (xw f) us) ⊛ raw (fact 𝓤 ((l : List ℕ) → Carries f l → Said r (us .1 .1 .0) (us .1 .1 .1 .0) (us .1 .1 .1 .1 .1 .0) l)))) (id⊢ 𝓤 _) $
+        use1 W (some (λ (us : Unit {0} × (Unit {0} × (Unit {0} × (List ℕ × (List ℕ × (Unit {0} × (List ℕ × (Unit {0} × Unit {0})))))))). ‵ (lasts words.ended κw (xw f) us) ⊛ raw (fact 𝓤 ((l : List ℕ) → Carries f l → Said r (us .1 .1 .1 .0) (us .1 .1 .1 .1 .0) (us .1 .1 .1 .1 .1 .1 .0) l)))) (id⊢ 𝓤 _) $
         pick ! (λ us.
         split ! $
         move ! (1 ∷ []) $
-        heard ! ((l : List ℕ) → Carries f l → Said r (us .1 .1 .0) (us .1 .1 .1 .0) (us .1 .1 .1 .1 .1 .0) l) (λ said.
+        heard ! ((l : List ℕ) → Carries f l → Said r (us .1 .1 .1 .0) (us .1 .1 .1 .1 .0) (us .1 .1 .1 .1 .1 .1 .0) l) (λ said.
+        fsplit ! $
+        move ! (1 ∷ []) $
         fsplit ! $
         move ! (1 ∷ []) $
         fsplit ! $
@@ -418,30 +426,30 @@ module _ {M : Type 1} (𝓤 : URA M) (H : Heap 𝓤) (A : Atoms 𝓤) (W : Given
         fsplit ! $
         move ! (1 ∷ []) $
         feqL ! (λ e5.
-        move ! (7 ∷ []) $
+        move ! (8 ∷ []) $
         split ! $
         move ! (1 ∷ []) $
         peeks ! E (Is E) (shows 𝓤 H A E) r (w ∷ []) (λ is′.
-        land ! (from ! (stop !)) (init ! 31 refl (LL.lawful U.the-type U′.the-laws 𝓤 H A W .typed r _ is′ .0)) $
-        rewrite ! 31 (λ (u : Val). ‵ (fat fullShare U′.mir l9 0 u)) (ap only (LL.tells U.the-type U′.the-laws r (w ∷ []) is′)) refl $
-        forget ! 33 refl $
-        forget ! 25 refl $
-        forget ! 23 refl $
-        forget ! 21 refl $
-        forget ! 19 refl $
-        forget ! 17 refl $
-        forget ! 15 refl $
-        keep ! (9 ∷ 10 ∷ 11 ∷ 12 ∷ 13 ∷ 14 ∷ 15 ∷ 16 ∷ 17 ∷ 18 ∷ 19 ∷ 20 ∷ 21 ∷ 22 ∷ 23 ∷ 24 ∷ 25 ∷ 26 ∷ 27 ∷ 28 ∷ 29 ∷ 30 ∷ 31 ∷ 32 ∷ 33 ∷ 34 ∷ 35 ∷ 36 ∷ 37 ∷ 38 ∷ 39 ∷ 40 ∷ 41 ∷ 42 ∷ 43 ∷ 44 ∷ 45 ∷ 46 ∷ 47 ∷ 48 ∷ 49 ∷ 50 ∷ 1 ∷ 51 ∷ 52 ∷ 6 ∷ 5 ∷ 2 ∷ []) $
-        stored-part known₂ r (subst (λ (us : List Val). Is E r us) (LL.tells U.the-type U′.the-laws r (w ∷ []) is′) is′) (us .1 .1 .0) (us .1 .1 .1 .0) (us .1 .1 .1 .1 .1 .0) e2 e3 e5 (said (flatWords z4) e)))))))))
+        land ! (from ! (stop !)) (init ! 32 refl (LL.lawful U.the-type U′.the-laws 𝓤 H A W .typed r _ is′ .0)) $
+        rewrite ! 32 (λ (u : Val). ‵ (fat fullShare U′.mir l10 0 u)) (ap only (LL.tells U.the-type U′.the-laws r (w ∷ []) is′)) refl $
+        forget ! 34 refl $
+        forget ! 26 refl $
+        forget ! 24 refl $
+        forget ! 22 refl $
+        forget ! 20 refl $
+        forget ! 18 refl $
+        forget ! 16 refl $
+        keep ! (10 ∷ 11 ∷ 12 ∷ 13 ∷ 14 ∷ 15 ∷ 16 ∷ 17 ∷ 18 ∷ 19 ∷ 20 ∷ 21 ∷ 22 ∷ 23 ∷ 24 ∷ 25 ∷ 26 ∷ 27 ∷ 28 ∷ 29 ∷ 30 ∷ 31 ∷ 32 ∷ 33 ∷ 34 ∷ 35 ∷ 36 ∷ 37 ∷ 38 ∷ 39 ∷ 40 ∷ 41 ∷ 42 ∷ 43 ∷ 44 ∷ 45 ∷ 46 ∷ 47 ∷ 48 ∷ 49 ∷ 50 ∷ 51 ∷ 52 ∷ 53 ∷ 1 ∷ 54 ∷ 55 ∷ 6 ∷ 5 ∷ 2 ∷ []) $
+        stored-part known₂ r (subst (λ (us : List Val). Is E r us) (LL.tells U.the-type U′.the-laws r (w ∷ []) is′) is′) (us .1 .1 .1 .0) (us .1 .1 .1 .1 .0) (us .1 .1 .1 .1 .1 .1 .0) e2 e3 e5 (said (flatWords z4) e)))))))))
 
     -- the whole body
     begun : Triple 𝓤 (C #records·flatten) (Flatten 𝓤 H A mem run) → Triple 𝓤 (C #engine·core·turn) (Words 𝓤 H A mem run) → Triple 𝓤 (C #records·put) (Put 𝓤 H A mem run)
-        → Sq W (At (‵ (froom S′.mir l8 0)) (‵ (froom U′.mir l9 0)) (‵ (flft κ0 q0) ∷ ‵ (flft κ1 q1) ∷ ‵ (flft κ2 q2) ∷ ‵ (flft κ3 q3) ∷ ‵ (flft κ4 q4) ∷ ‵ (flft κ5 q5) ∷ ‵ (ShrSlice (named 0) κ0 u8 .own x0 (v0 ∷ [])) ∷ ‵ (ShrSlice (named 1) κ1 u32 .own x1 (v1 ∷ [])) ∷ ‵ (MutSlice (named 2) κ2 u32 .own x2 (v2 ∷ [])) ∷ ‵ (MutSlice (named 3) κ3 u32 .own x3 (v3 ∷ [])) ∷ ‵ (MutSlice (named 4) κ4 R .own x4 (v4 ∷ [])) ∷ ‵ (MutSlice (named 5) κ5 u8 .own x5 (v5 ∷ [])) ∷ [])) (runs C Λ En mir′.t-1 (atRet En Post))
+        → Sq W (At (‵ (froom S′.mir l9 0)) (‵ (froom U′.mir l10 0)) (‵ (flft κ0 q0) ∷ ‵ (flft κ1 q1) ∷ ‵ (flft κ2 q2) ∷ ‵ (flft κ3 q3) ∷ ‵ (flft κ4 q4) ∷ ‵ (flft κ5 q5) ∷ ‵ (ShrSlice (named 0) κ0 u8 .own x0 (v0 ∷ [])) ∷ ‵ (ShrSlice (named 1) κ1 u32 .own x1 (v1 ∷ [])) ∷ ‵ (MutSlice (named 2) κ2 u32 .own x2 (v2 ∷ [])) ∷ ‵ (MutSlice (named 3) κ3 u32 .own x3 (v3 ∷ [])) ∷ ‵ (MutSlice (named 4) κ4 R .own x4 (v4 ∷ [])) ∷ ‵ (MutSlice (named 5) κ5 u8 .own x5 (v5 ∷ [])) ∷ [])) (runs C Λ En mir′.t-1 (atRet En Post))
     begun known₀ known₁ known₂ =
         assigns ! (addr ! (from ! (fld ! refl (hop ! (look-in ! 30 (sub ! 0 refl (whole !))) (stop !))))) (from ! (stop !)) (init ! 20 refl (tt, tt)) $
         assigns ! (agg ! (and-then ! (load ! (from ! (stop !)) (look ! 20 refl)) (and-then ! (load ! (from ! (fld ! refl (stop !))) (look-in ! 30 (sub ! 1 refl (whole !)))) (no-more !)))) (from ! (stop !)) (init ! 18 refl (tt, (tt, (record { fits = g4 .0 }, tt)))) $
         lft-new ! tt (λ ν.
-        move ! (53 ∷ 47 ∷ []) $
+        move ! (55 ∷ 49 ∷ []) $
         use2 W (later (some (λ (δ : GName). ‵ (ShrSlice (named 0) (ν ∷ []) R .own (y4 δ) (v4 ∷ [])) ⊛ ‵ (LentShared R κ4 (ν ∷ []) q4 γ4 b4 o4 z4)))) (lends-shared R κ4 (ν ∷ []) q4 γ4 b4 o4 𝓤 H A W (named 4) (named 0) z4) $
         await ! tt $
         pick ! (λ δ.
@@ -460,7 +468,7 @@ module _ {M : Type 1} (𝓤 : URA M) (H : Heap 𝓤) (A : Atoms 𝓤) (W : Given
         move ! (1 ∷ []) $
         peeks ! F (Is F) (shows 𝓤 H A F) f (w ∷ []) (λ is.
         land ! (from ! (stop !)) (init ! 27 refl (LL.lawful S.the-type S′.the-laws 𝓤 H A W .typed f _ is .0)) $
-        rewrite ! 27 (λ (u : Val). ‵ (fat fullShare S′.mir l8 0 u)) (ap only (LL.tells S.the-type S′.the-laws f (w ∷ []) is)) refl $
+        rewrite ! 27 (λ (u : Val). ‵ (fat fullShare S′.mir l9 0 u)) (ap only (LL.tells S.the-type S′.the-laws f (w ∷ []) is)) refl $
         move ! (1 ∷ []) $
         split ! $
         lft-end ! tt $
@@ -470,15 +478,16 @@ module _ {M : Type 1} (𝓤 : URA M) (H : Heap 𝓤) (A : Atoms 𝓤) (W : Given
         split ! $
         forget ! 24 refl $
         forget ! 22 refl $
-        keep ! (4 ∷ 5 ∷ 6 ∷ 7 ∷ 8 ∷ 9 ∷ 10 ∷ 11 ∷ 12 ∷ 13 ∷ 14 ∷ 15 ∷ 16 ∷ 17 ∷ 18 ∷ 19 ∷ 20 ∷ 21 ∷ 22 ∷ 23 ∷ 24 ∷ 25 ∷ 26 ∷ 27 ∷ 28 ∷ 29 ∷ 30 ∷ 31 ∷ 32 ∷ 33 ∷ 34 ∷ 35 ∷ 36 ∷ 37 ∷ 38 ∷ 39 ∷ 40 ∷ 41 ∷ 42 ∷ 43 ∷ 44 ∷ 45 ∷ 46 ∷ 47 ∷ 48 ∷ 49 ∷ 1 ∷ 50 ∷ 51 ∷ 52 ∷ 53 ∷ 54 ∷ 0 ∷ 55 ∷ []) $
+        keep ! (4 ∷ 5 ∷ 6 ∷ 7 ∷ 8 ∷ 9 ∷ 10 ∷ 11 ∷ 12 ∷ 13 ∷ 14 ∷ 15 ∷ 16 ∷ 17 ∷ 18 ∷ 19 ∷ 20 ∷ 21 ∷ 22 ∷ 23 ∷ 24 ∷ 25 ∷ 26 ∷ 27 ∷ 28 ∷ 29 ∷ 30 ∷ 31 ∷ 32 ∷ 33 ∷ 34 ∷ 35 ∷ 36 ∷ 37 ∷ 38 ∷ 39 ∷ 40 ∷ 41 ∷ 42 ∷ 43 ∷ 44 ∷ 45 ∷ 46 ∷ 47 ∷ 48 ∷ 49 ∷ 50 ∷ 51 ∷ 1 ∷ 52 ∷ 53 ∷ 54 ∷ 55 ∷ 56 ∷ 0 ∷ 57 ∷ []) $
         worded known₁ known₂ f (subst (λ (us : List Val). Is F f us) (LL.tells S.the-type S′.the-laws f (w ∷ []) is) is) e))))))
 
   walk : (C : Calls 𝓤 H) (Λ : Loops 𝓤 H) → FmC 𝓤 H (W .laws) C → Triple 𝓤 (C #records·flatten) (Flatten 𝓤 H A mem run) → Triple 𝓤 (C #engine·core·turn) (Words 𝓤 H A mem run) → Triple 𝓤 (C #records·put) (Put 𝓤 H A mem run)
-      → ent 𝓤 (onEntry 𝓤 H A turn.signature (κ0, (κ1, (κ2, (κ3, (κ4, (κ5, tt)))))) (q0, (q1, (q2, (q3, (q4, (q5, tt)))))) (x0, (x1, (x2, (x3, (x4, (x5, (n6, tt))))))) at) (WpFn 𝓤 H C Λ code.function (v0 ∷ v1 ∷ v2 ∷ v3 ∷ v4 ∷ v5 ∷ vint w32 n6 ∷ []) Post)
+      → ent 𝓤 (onEntry 𝓤 H A turn.signature (κ0, (κ1, (κ2, (κ3, (κ4, (κ5, tt)))))) (q0, (q1, (q2, (q3, (q4, (q5, tt)))))) (x0, (route, (x1, (x2, (x3, (x4, (x5, (n6, tt)))))))) at) (WpFn 𝓤 H C Λ code.function (v0 ∷ vint w32 route ∷ v1 ∷ v2 ∷ v3 ∷ v4 ∷ v5 ∷ vint w32 n6 ∷ []) Post)
   walk C Λ fm known₀ known₁ known₂ =
-      qed W ((‵ (flft κ0 q0) ⊛ ‵ (flft κ1 q1) ⊛ ‵ (flft κ2 q2) ⊛ ‵ (flft κ3 q3) ⊛ ‵ (flft κ4 q4) ⊛ ‵ (flft κ5 q5) ⊛ ‵ ftrue) ∷ ‵ (owns (ShrSlice (named 0) κ0 u8 ∷ ShrSlice (named 1) κ1 u32 ∷ MutSlice (named 2) κ2 u32 ∷ MutSlice (named 3) κ3 u32 ∷ MutSlice (named 4) κ4 R ∷ MutSlice (named 5) κ5 u8 ∷ u32 ∷ []) (x0, (x1, (x2, (x3, (x4, (x5, (n6, tt))))))) at) ∷ []) ∵ enter ! C Λ code.function (v0 ∷ v1 ∷ v2 ∷ v3 ∷ v4 ∷ v5 ∷ vint w32 n6 ∷ []) _ $
-      alloc1 ! (λ l0. alloc1 ! (λ l1. alloc1 ! (λ l2. alloc1 ! (λ l3. alloc1 ! (λ l4. alloc1 ! (λ l5. alloc1 ! (λ l6. alloc1 ! (λ l7. alloc1 ! (λ l8. alloc1 ! (λ l9. alloc1 ! (λ l10. alloc1 ! (λ l11. alloc1 ! (λ l12. alloc1 ! (λ l13. alloc1 ! (λ l14. alloc1 ! (λ l15. alloc1 ! (λ l16. alloc1 ! (λ l17. alloc1 ! (λ l18. alloc1 ! (λ l19. alloc1 ! (λ l20. alloc0 ! $ params1 ! $
-      pass1 ! (init ! 38 refl (tt, (tt, (record { fits = g0 .0 }, tt)))) $
+      qed W ((‵ (flft κ0 q0) ⊛ ‵ (flft κ1 q1) ⊛ ‵ (flft κ2 q2) ⊛ ‵ (flft κ3 q3) ⊛ ‵ (flft κ4 q4) ⊛ ‵ (flft κ5 q5) ⊛ ‵ ftrue) ∷ ‵ (owns (ShrSlice (named 0) κ0 u8 ∷ u32 ∷ ShrSlice (named 1) κ1 u32 ∷ MutSlice (named 2) κ2 u32 ∷ MutSlice (named 3) κ3 u32 ∷ MutSlice (named 4) κ4 R ∷ MutSlice (named 5) κ5 u8 ∷ u32 ∷ []) (x0, (route, (x1, (x2, (x3, (x4, (x5, (n6, tt)))))))) at) ∷ []) ∵ enter ! C Λ code.function (v0 ∷ vint w32 route ∷ v1 ∷ v2 ∷ v3 ∷ v4 ∷ v5 ∷ vint w32 n6 ∷ []) _ $
+      alloc1 ! (λ l0. alloc1 ! (λ l1. alloc1 ! (λ l2. alloc1 ! (λ l3. alloc1 ! (λ l4. alloc1 ! (λ l5. alloc1 ! (λ l6. alloc1 ! (λ l7. alloc1 ! (λ l8. alloc1 ! (λ l9. alloc1 ! (λ l10. alloc1 ! (λ l11. alloc1 ! (λ l12. alloc1 ! (λ l13. alloc1 ! (λ l14. alloc1 ! (λ l15. alloc1 ! (λ l16. alloc1 ! (λ l17. alloc1 ! (λ l18. alloc1 ! (λ l19. alloc1 ! (λ l20. alloc1 ! (λ l21. alloc0 ! $ params1 ! $
+      pass1 ! (init ! 40 refl (tt, (tt, (record { fits = g0 .0 }, tt)))) $
+      pass1 ! (init ! 38 refl (tt, record { fits = gr })) $
       pass1 ! (init ! 36 refl (tt, (tt, (record { fits = g1 .0 }, tt)))) $
       pass1 ! (init ! 34 refl (tt, (tt, (record { fits = g2 .0 }, tt)))) $
       pass1 ! (init ! 32 refl (tt, (tt, (record { fits = g3 .0 }, tt)))) $
@@ -486,7 +495,7 @@ module _ {M : Type 1} (𝓤 : URA M) (H : Heap 𝓤) (A : Atoms 𝓤) (W : Given
       pass1 ! (init ! 28 refl (tt, (tt, (record { fits = g5 .0 }, tt)))) $
       pass1 ! (init ! 26 refl (tt, record { fits = g6 })) $
       pass0 ! $
-      move ! (43 ∷ []) $
+      move ! (45 ∷ []) $
       fsplit ! $
       move ! (1 ∷ []) $
       fsplit ! $
@@ -500,7 +509,9 @@ module _ {M : Type 1} (𝓤 : URA M) (H : Heap 𝓤) (A : Atoms 𝓤) (W : Given
       fsplit ! $
       move ! (1 ∷ []) $
       fsplit ! $
-      move ! (50 ∷ []) $
+      move ! (1 ∷ []) $
+      fsplit ! $
+      move ! (53 ∷ []) $
       split ! $
       move ! (1 ∷ []) $
       split ! $
@@ -512,25 +523,25 @@ module _ {M : Type 1} (𝓤 : URA M) (H : Heap 𝓤) (A : Atoms 𝓤) (W : Given
       split ! $
       move ! (1 ∷ []) $
       split ! $
-      keep ! (15 ∷ 16 ∷ 17 ∷ 18 ∷ 19 ∷ 20 ∷ 21 ∷ 22 ∷ 23 ∷ 24 ∷ 25 ∷ 26 ∷ 27 ∷ 28 ∷ 29 ∷ 30 ∷ 31 ∷ 32 ∷ 33 ∷ 34 ∷ 35 ∷ 36 ∷ 37 ∷ 38 ∷ 39 ∷ 40 ∷ 41 ∷ 42 ∷ 43 ∷ 44 ∷ 45 ∷ 46 ∷ 47 ∷ 48 ∷ 49 ∷ 50 ∷ 51 ∷ 52 ∷ 53 ∷ 54 ∷ 55 ∷ 56 ∷ 6 ∷ 5 ∷ 4 ∷ 3 ∷ 2 ∷ 0 ∷ 14 ∷ 13 ∷ 12 ∷ 11 ∷ 10 ∷ 9 ∷ []) $
-      begun C Λ fm l0 l1 l2 l3 l4 l5 l6 l7 l8 l9 l10 l11 l12 l13 l14 l15 l16 l17 l18 l19 l20 known₀ known₁ known₂)))))))))))))))))))))
+      keep ! (16 ∷ 17 ∷ 18 ∷ 19 ∷ 20 ∷ 21 ∷ 22 ∷ 23 ∷ 24 ∷ 25 ∷ 26 ∷ 27 ∷ 28 ∷ 29 ∷ 30 ∷ 31 ∷ 32 ∷ 33 ∷ 34 ∷ 35 ∷ 36 ∷ 37 ∷ 38 ∷ 39 ∷ 40 ∷ 41 ∷ 42 ∷ 43 ∷ 44 ∷ 45 ∷ 46 ∷ 47 ∷ 48 ∷ 49 ∷ 50 ∷ 51 ∷ 52 ∷ 53 ∷ 54 ∷ 55 ∷ 56 ∷ 57 ∷ 58 ∷ 59 ∷ 6 ∷ 5 ∷ 4 ∷ 3 ∷ 2 ∷ 0 ∷ 15 ∷ 13 ∷ 12 ∷ 11 ∷ 10 ∷ 9 ∷ []) $
+      begun C Λ fm l0 l1 l2 l3 l4 l5 l6 l7 l8 l9 l10 l11 l12 l13 l14 l15 l16 l17 l18 l19 l20 l21 known₀ known₁ known₂))))))))))))))))))))))
 
 module _ {M : Type 1} (𝓤 : URA M) (H : Heap 𝓤) (A : Atoms 𝓤) (W : Given 𝓤 H A) (mem : Memory → SProp 𝓤) (run : Routine → Fun 𝓤) where
   turn-walks : (C : Calls 𝓤 H) (Λ : Loops 𝓤 H) → FmC 𝓤 H (W .laws) C → Triple 𝓤 (C #records·flatten) (Flatten 𝓤 H A mem run) → Triple 𝓤 (C #engine·core·turn) (Words 𝓤 H A mem run) → Triple 𝓤 (C #records·put) (Put 𝓤 H A mem run)
       → Walks 𝓤 H A turn.ended stayed (WpFn 𝓤 H C Λ code.function) (turn.clauses 𝓤 H A mem run)
   turn-walks C Λ fm known₀ known₁ known₂ =
       walked 𝓤 H A turn.ended stayed (turn.clauses 𝓤 H A mem run) (WpFn 𝓤 H C Λ code.function)
-      (λ κs. (slice-vals, (slice-vals, (slice-vals, (slice-vals, (slice-vals, (slice-vals, (uint-vals w32, tt))))))))
-      (λ κs. (shr-slice-tells (named 0) (κs .0) u8, (shr-slice-tells (named 1) (κs .1 .0) u32, (mut-slice-tells (named 2) (κs .1 .1 .0) u32, (mut-slice-tells (named 3) (κs .1 .1 .1 .0) u32, (mut-slice-tells (named 4) (κs .1 .1 .1 .1 .0) R, (mut-slice-tells (named 5) (κs .1 .1 .1 .1 .1 .0) u8, (uint-tells w32, tt))))))))
+      (λ κs. (slice-vals, (uint-vals w32, (slice-vals, (slice-vals, (slice-vals, (slice-vals, (slice-vals, (uint-vals w32, tt)))))))))
+      (λ κs. (shr-slice-tells (named 0) (κs .0) u8, (uint-tells w32, (shr-slice-tells (named 1) (κs .1 .0) u32, (mut-slice-tells (named 2) (κs .1 .1 .0) u32, (mut-slice-tells (named 3) (κs .1 .1 .1 .0) u32, (mut-slice-tells (named 4) (κs .1 .1 .1 .1 .0) R, (mut-slice-tells (named 5) (κs .1 .1 .1 .1 .1 .0) u8, (uint-tells w32, tt)))))))))
       (λ κs qs bounds a g are. via 𝓤 _ (fst∗ 𝓤 _ (emp 𝓤))
-      (walk 𝓤 H A W mem run (κs .0) (qs .0) (a .0 .ptr .0) (a .0 .ptr .1) (a .0 .name) (a .0 .now) (are .0 .0 .1) (κs .1 .0) (qs .1 .0) (a .1 .0 .ptr .0) (a .1 .0 .ptr .1) (a .1 .0 .name) (a .1 .0 .now) (are .1 .0 .0 .1) (κs .1 .1 .0) (qs .1 .1 .0) (a .1 .1 .0 .ptr .0) (a .1 .1 .0 .ptr .1) (a .1 .1 .0 .name) (a .1 .1 .0 .now) (are .1 .1 .0 .0 .1) (κs .1 .1 .1 .0) (qs .1 .1 .1 .0) (a .1 .1 .1 .0 .ptr .0) (a .1 .1 .1 .0 .ptr .1) (a .1 .1 .1 .0 .name) (a .1 .1 .1 .0 .now) (are .1 .1 .1 .0 .0 .1) (κs .1 .1 .1 .1 .0) (qs .1 .1 .1 .1 .0) (a .1 .1 .1 .1 .0 .ptr .0) (a .1 .1 .1 .1 .0 .ptr .1) (a .1 .1 .1 .1 .0 .name) (a .1 .1 .1 .1 .0 .now) (are .1 .1 .1 .1 .0 .0 .1) (κs .1 .1 .1 .1 .1 .0) (qs .1 .1 .1 .1 .1 .0) (a .1 .1 .1 .1 .1 .0 .ptr .0) (a .1 .1 .1 .1 .1 .0 .ptr .1) (a .1 .1 .1 .1 .1 .0 .name) (a .1 .1 .1 .1 .1 .0 .now) (are .1 .1 .1 .1 .1 .0 .0 .1) (a .1 .1 .1 .1 .1 .1 .0) (are .1 .1 .1 .1 .1 .1 .0 .1) bounds C Λ fm known₀ known₁ known₂))
+      (walk 𝓤 H A W mem run (κs .0) (qs .0) (a .0 .ptr .0) (a .0 .ptr .1) (a .0 .name) (a .0 .now) (are .0 .0 .1) (a .1 .0) (are .1 .0 .1) (κs .1 .0) (qs .1 .0) (a .1 .1 .0 .ptr .0) (a .1 .1 .0 .ptr .1) (a .1 .1 .0 .name) (a .1 .1 .0 .now) (are .1 .1 .0 .0 .1) (κs .1 .1 .0) (qs .1 .1 .0) (a .1 .1 .1 .0 .ptr .0) (a .1 .1 .1 .0 .ptr .1) (a .1 .1 .1 .0 .name) (a .1 .1 .1 .0 .now) (are .1 .1 .1 .0 .0 .1) (κs .1 .1 .1 .0) (qs .1 .1 .1 .0) (a .1 .1 .1 .1 .0 .ptr .0) (a .1 .1 .1 .1 .0 .ptr .1) (a .1 .1 .1 .1 .0 .name) (a .1 .1 .1 .1 .0 .now) (are .1 .1 .1 .1 .0 .0 .1) (κs .1 .1 .1 .1 .0) (qs .1 .1 .1 .1 .0) (a .1 .1 .1 .1 .1 .0 .ptr .0) (a .1 .1 .1 .1 .1 .0 .ptr .1) (a .1 .1 .1 .1 .1 .0 .name) (a .1 .1 .1 .1 .1 .0 .now) (are .1 .1 .1 .1 .1 .0 .0 .1) (κs .1 .1 .1 .1 .1 .0) (qs .1 .1 .1 .1 .1 .0) (a .1 .1 .1 .1 .1 .1 .0 .ptr .0) (a .1 .1 .1 .1 .1 .1 .0 .ptr .1) (a .1 .1 .1 .1 .1 .1 .0 .name) (a .1 .1 .1 .1 .1 .1 .0 .now) (are .1 .1 .1 .1 .1 .1 .0 .0 .1) (a .1 .1 .1 .1 .1 .1 .1 .0) (are .1 .1 .1 .1 .1 .1 .1 .0 .1) bounds C Λ fm known₀ known₁ known₂))
 
 turn-meets : {M : Type 1} (𝓤 : URA M) (H : Heap 𝓤) (A : Atoms 𝓤) (W : Given 𝓤 H A) (mem : Memory → SProp 𝓤) (run : Routine → Fun 𝓤) (𝓣 : Tables 𝓤 H)
     → Triple 𝓤 (𝓣 .C #records·flatten) (Flatten 𝓤 H A mem run) → Triple 𝓤 (𝓣 .C #engine·core·turn) (Words 𝓤 H A mem run) → Triple 𝓤 (𝓣 .C #records·put) (Put 𝓤 H A mem run)
     → Meets 𝓤 H A turn.signature (WpFn 𝓤 H (𝓣 .C) (𝓣 .Λ) code.function) (turn.spec 𝓤 H A mem run)
 turn-meets 𝓤 H A W mem run 𝓣 known₀ known₁ known₂ =
     walk-meets 𝓤 H A turn.ended stayed W
-    (goes-dropped 𝓤 H A W 6 (shrSliceOf (0 ∷ []) tt (plain (λ _. u8))) yes (λ κs x f. refl), (goes-dropped 𝓤 H A W 6 (shrSliceOf (1 ∷ []) tt (plain (λ _. u32))) yes (λ κs x f. refl), (goes-gave-slice 𝓤 H A W 6 2 tt (plain (λ _. u32)), (goes-gave-slice 𝓤 H A W 6 3 tt (plain (λ _. u32)), (goes-gave-slice 𝓤 H A W 6 4 tt (plain (λ _. R)), (goes-gave-slice 𝓤 H A W 6 5 tt (plain (λ _. u8)), (goes-dropped 𝓤 H A W 6 (plain (λ _. u32)) yes (λ κs x f. refl), tt)))))))
+    (goes-dropped 𝓤 H A W 6 (shrSliceOf (0 ∷ []) tt (plain (λ _. u8))) yes (λ κs x f. refl), (goes-dropped 𝓤 H A W 6 (plain (λ _. u32)) yes (λ κs x f. refl), (goes-dropped 𝓤 H A W 6 (shrSliceOf (1 ∷ []) tt (plain (λ _. u32))) yes (λ κs x f. refl), (goes-gave-slice 𝓤 H A W 6 2 tt (plain (λ _. u32)), (goes-gave-slice 𝓤 H A W 6 3 tt (plain (λ _. u32)), (goes-gave-slice 𝓤 H A W 6 4 tt (plain (λ _. R)), (goes-gave-slice 𝓤 H A W 6 5 tt (plain (λ _. u8)), (goes-dropped 𝓤 H A W 6 (plain (λ _. u32)) yes (λ κs x f. refl), tt))))))))
     (turn.clauses 𝓤 H A mem run) (WpFn 𝓤 H (𝓣 .C) (𝓣 .Λ) code.function) (WpFn-mono 𝓤 H (W .laws) 𝓣 code.function)
     (turn-walks 𝓤 H A W mem run (𝓣 .C) (𝓣 .Λ) (fmOf 𝓤 H (W .laws) 𝓣) known₀ known₁ known₂)
 

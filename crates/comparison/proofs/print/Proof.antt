@@ -45,16 +45,16 @@ summary-requires : tie.Need-summary-requires
 summary-requires c κs = search needs
 
 print-verdict-requires : tie.Need-print-verdict-requires
-print-verdict-requires c κs = let A = c .before .before .before .before .before .before .before .before .before .before .before .args in laws.in-limits (A .encoded .now) (c .before .before .before .before .before .before .before .before .read .result) (c .before .before .before .before .before .sizes-of .result) (c .summary .result) (c .before .before .before .before .narrow .result) (c .before .before .before .narrow2 .result) (c .before .before .before .before .before .before .before .before .read .ensures .0) (c .before .before .before .before .before .before .before .if2 .left) (c .before .before .before .before .before .sizes-of .ensures) (c .before .before .before .before .narrow .ensures) (c .before .before .before .narrow2 .ensures) (laws.not-beyond (c .before .before .before .before .narrow .result) (c .before .before .before .narrow2 .result) (c .before .before .is-beyond .result) (c .before .before .is-beyond .ensures) (c .before .if3 .left)) (c .summary .ensures)
+print-verdict-requires c κs = let A = c .before .before .before .before .before .before .before .before .before .before .before .args in laws.in-limits (A .encoded .now) (c .before .before .before .before .before .before .before .before .read .result) (c .before .before .before .before .before .sizes-of .result) (c .summary .result) (c .before .before .before .before .narrow .result) (c .before .before .before .narrow2 .result) (c .before .before .before .before .before .before .before .before .read .ensures .0) (c .before .before .before .before .before .before .before .if2 .left) (c .before .before .before .before .before .sizes-of .ensures .0) (c .before .before .before .before .narrow .ensures) (c .before .before .before .narrow2 .ensures) (laws.not-beyond (c .before .before .before .before .narrow .result) (c .before .before .before .narrow2 .result) (c .before .before .is-beyond .result) (c .before .before .is-beyond .ensures) (c .before .if3 .left)) (c .summary .ensures)
 
 print-verdict-requires-2 : tie.Need-print-verdict-requires-2
-print-verdict-requires-2 c κs = let A = c .before .before .before .before .before .before .before .before .before .before .before .before .args in laws.in-limits (A .encoded .now) (c .before .before .before .before .before .before .before .before .before .read .result) (c .before .before .before .before .before .before .sizes-of .result) (c .before .summary .result) (c .before .before .before .before .before .narrow .result) (c .before .before .before .before .narrow2 .result) (c .before .before .before .before .before .before .before .before .before .read .ensures .0) (c .before .before .before .before .before .before .before .before .if2 .left) (c .before .before .before .before .before .before .sizes-of .ensures) (c .before .before .before .before .before .narrow .ensures) (c .before .before .before .before .narrow2 .ensures) (laws.not-beyond (c .before .before .before .before .before .narrow .result) (c .before .before .before .before .narrow2 .result) (c .before .before .before .is-beyond .result) (c .before .before .before .is-beyond .ensures) (c .before .before .if3 .left)) (c .before .summary .ensures)
+print-verdict-requires-2 c κs = let A = c .before .before .before .before .before .before .before .before .before .before .before .before .args in laws.in-limits (A .encoded .now) (c .before .before .before .before .before .before .before .before .before .read .result) (c .before .before .before .before .before .before .sizes-of .result) (c .before .summary .result) (c .before .before .before .before .before .narrow .result) (c .before .before .before .before .narrow2 .result) (c .before .before .before .before .before .before .before .before .before .read .ensures .0) (c .before .before .before .before .before .before .before .before .if2 .left) (c .before .before .before .before .before .before .sizes-of .ensures .0) (c .before .before .before .before .before .narrow .ensures) (c .before .before .before .before .narrow2 .ensures) (laws.not-beyond (c .before .before .before .before .before .narrow .result) (c .before .before .before .before .narrow2 .result) (c .before .before .before .is-beyond .result) (c .before .before .before .is-beyond .ensures) (c .before .before .if3 .left)) (c .before .summary .ensures)
 
 print-verdict-requires-3 : tie.Need-print-verdict-requires-3
-print-verdict-requires-3 c κs = let A = c .before .before .before .before .before .before .before .before .before .before .before .before .before .args in laws.in-limits (A .encoded .now) (c .before .before .before .before .before .before .before .before .before .before .read .result) (c .before .before .before .before .before .before .before .sizes-of .result) (c .before .before .summary .result) (c .before .before .before .before .before .before .narrow .result) (c .before .before .before .before .before .narrow2 .result) (c .before .before .before .before .before .before .before .before .before .before .read .ensures .0) (c .before .before .before .before .before .before .before .before .before .if2 .left) (c .before .before .before .before .before .before .before .sizes-of .ensures) (c .before .before .before .before .before .before .narrow .ensures) (c .before .before .before .before .before .narrow2 .ensures) (laws.not-beyond (c .before .before .before .before .before .before .narrow .result) (c .before .before .before .before .before .narrow2 .result) (c .before .before .before .before .is-beyond .result) (c .before .before .before .before .is-beyond .ensures) (c .before .before .before .if3 .left)) (c .before .before .summary .ensures)
+print-verdict-requires-3 c κs = let A = c .before .before .before .before .before .before .before .before .before .before .before .before .before .args in laws.in-limits (A .encoded .now) (c .before .before .before .before .before .before .before .before .before .before .read .result) (c .before .before .before .before .before .before .before .sizes-of .result) (c .before .before .summary .result) (c .before .before .before .before .before .before .narrow .result) (c .before .before .before .before .before .narrow2 .result) (c .before .before .before .before .before .before .before .before .before .before .read .ensures .0) (c .before .before .before .before .before .before .before .before .before .if2 .left) (c .before .before .before .before .before .before .before .sizes-of .ensures .0) (c .before .before .before .before .before .before .narrow .ensures) (c .before .before .before .before .before .narrow2 .ensures) (laws.not-beyond (c .before .before .before .before .before .before .narrow .result) (c .before .before .before .before .before .narrow2 .result) (c .before .before .before .before .is-beyond .result) (c .before .before .before .before .is-beyond .ensures) (c .before .before .before .if3 .left)) (c .before .before .summary .ensures)
 
 print-verdict-requires-4 : tie.Need-print-verdict-requires-4
-print-verdict-requires-4 c κs = let A = c .before .before .before .before .before .before .before .before .before .before .before .before .before .before .args in laws.in-limits (A .encoded .now) (c .before .before .before .before .before .before .before .before .before .before .before .read .result) (c .before .before .before .before .before .before .before .before .sizes-of .result) (c .before .before .before .summary .result) (c .before .before .before .before .before .before .before .narrow .result) (c .before .before .before .before .before .before .narrow2 .result) (c .before .before .before .before .before .before .before .before .before .before .before .read .ensures .0) (c .before .before .before .before .before .before .before .before .before .before .if2 .left) (c .before .before .before .before .before .before .before .before .sizes-of .ensures) (c .before .before .before .before .before .before .before .narrow .ensures) (c .before .before .before .before .before .before .narrow2 .ensures) (laws.not-beyond (c .before .before .before .before .before .before .before .narrow .result) (c .before .before .before .before .before .before .narrow2 .result) (c .before .before .before .before .before .is-beyond .result) (c .before .before .before .before .before .is-beyond .ensures) (c .before .before .before .before .if3 .left)) (c .before .before .before .summary .ensures)
+print-verdict-requires-4 c κs = let A = c .before .before .before .before .before .before .before .before .before .before .before .before .before .before .args in laws.in-limits (A .encoded .now) (c .before .before .before .before .before .before .before .before .before .before .before .read .result) (c .before .before .before .before .before .before .before .before .sizes-of .result) (c .before .before .before .summary .result) (c .before .before .before .before .before .before .before .narrow .result) (c .before .before .before .before .before .before .narrow2 .result) (c .before .before .before .before .before .before .before .before .before .before .before .read .ensures .0) (c .before .before .before .before .before .before .before .before .before .before .if2 .left) (c .before .before .before .before .before .before .before .before .sizes-of .ensures .0) (c .before .before .before .before .before .before .before .narrow .ensures) (c .before .before .before .before .before .before .narrow2 .ensures) (laws.not-beyond (c .before .before .before .before .before .before .before .narrow .result) (c .before .before .before .before .before .before .narrow2 .result) (c .before .before .before .before .before .is-beyond .result) (c .before .before .before .before .before .is-beyond .ensures) (c .before .before .before .before .if3 .left)) (c .before .before .before .summary .ensures)
 
 returns-4 : tie.Need-returns-4
 returns-4 c = search needs

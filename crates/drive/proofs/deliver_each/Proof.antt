@@ -13,7 +13,7 @@ use Rattle.drive.proofs.deliver_each.Tie as tie
 
 abbrev Inv-loop : tie.InvT-loop
 Inv-loop encoded source memories buffer progress status₀ messages delivered₀ message₀ status delivered message =
-    (length status ≡ length status₀) × ((message ≤ messages) × Tried (calls encoded source) (stateOf memories buffer progress status₀) (deliveriesTo message) delivered (stateOf memories buffer progress status))
+    (length status ≡ length status₀) × ((message ≤ messages) × Tried (calls encoded 0 source) (stateOf memories buffer progress status₀) (deliveriesTo message) delivered (stateOf memories buffer progress status))
 
 abbrev μ-loop : tie.MeasureT-loop
 μ-loop encoded source memories buffer progress status₀ messages delivered₀ message₀ status delivered message =

@@ -13,7 +13,7 @@ use Rattle.drive.proofs.turn_each.Tie as tie
 
 abbrev Inv-loop : tie.InvT-loop
 Inv-loop encoded source memories₀ buffer₀ progress₀ status₀ processors falling taken₀ place₀ memories buffer progress status taken place =
-    ((length memories ≡ length memories₀) × (length buffer ≡ length buffer₀) × (length progress ≡ length progress₀) × (length status ≡ length status₀)) × ((place ≤ processors) × Tried (calls encoded source) (stateOf memories₀ buffer₀ progress₀ status₀) (turnsTo processors falling place) taken (stateOf memories buffer progress status))
+    ((length memories ≡ length memories₀) × (length buffer ≡ length buffer₀) × (length progress ≡ length progress₀) × (length status ≡ length status₀)) × ((place ≤ processors) × Tried (calls encoded 0 source) (stateOf memories₀ buffer₀ progress₀ status₀) (turnsTo processors falling place) taken (stateOf memories buffer progress status))
 
 abbrev μ-loop : tie.MeasureT-loop
 μ-loop encoded source memories₀ buffer₀ progress₀ status₀ processors falling taken₀ place₀ memories buffer progress status taken place =

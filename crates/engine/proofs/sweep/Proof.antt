@@ -1,7 +1,10 @@
 -- Each return is the call by the line that counts.
-use mathlib.Core.Path.{sym, _∙_}
+use mathlib.Core.Path.{refl, sym, _∙_}
 use borrow.Author.Needs.{needs}
 use Rattle.nest.proofs.Answers.{accepted-read}
+use Rattle.plan.specs.declared.Route.the-variants.{Direct}
+use Rattle.plan.specs.Messages.{planOf}
+use Rattle.layout.proofs.Steps.{route-direct}
 use Rattle.engine.proofs.Lines as lines
 use Rattle.engine.proofs.sweep.Statement.{statement}
 use Rattle.engine.proofs.sweep.Tie as tie
@@ -16,10 +19,22 @@ sizes-of-requires : tie.Need-sizes-of-requires
 sizes-of-requires c κs = accepted-read _ _ (c .before .before .read .ensures .0) (c .before .if1 .left) (c .before .before .read .ensures .1 (c .before .if1 .left))
 
 returns-2 : tie.Need-returns-2
-returns-2 c = let A = c .before .before .before .before .before .before .before .before .before .args in lines.sweep-source (A .encoded .now) (A .source .now) (A .grid .now) (c .before .before .before .before .before .read .result .nest) (lines.opened (A .encoded .now) (c .before .before .before .before .before .read .result) (c .before .before .before .before .before .read .ensures .0) (c .before .before .before .before .if1 .left)) (λ q. c .if2 .taken (q ∙ sym (c .before .before .sizes-of .ensures .cells)))
+returns-2 c =
+    let read = c .before .before .before .before .before .read in
+    let if1 = c .before .before .before .before .if1 in
+    let sizes-of = c .before .before .sizes-of in
+    let if2 = c .if2 in
+    let A = c .before .before .before .before .before .before .before .before .before .args in
+    lines.sweep-source (A .encoded .now) (A .source .now) (A .grid .now) (planOf Direct (read .result .nest)) (lines.opened (A .encoded .now) (read .result) (read .ensures .0) (if1 .left) (route-direct 0 refl)) (λ q. if2 .taken (q ∙ sym (sizes-of .ensures .0 .cells)))
 
 returns-3 : tie.Need-returns-3
-returns-3 c = let A = c .before .before .before .before .before .before .before .before .before .before .before .args in lines.sweep-grid (A .encoded .now) (A .source .now) (A .grid .now) (c .before .before .before .before .before .before .before .read .result .nest) (lines.opened (A .encoded .now) (c .before .before .before .before .before .before .before .read .result) (c .before .before .before .before .before .before .before .read .ensures .0) (c .before .before .before .before .before .before .if1 .left)) (λ q. c .if3 .taken (q ∙ sym (c .before .before .before .before .sizes-of .ensures .cells)))
+returns-3 c =
+    let read = c .before .before .before .before .before .before .before .read in
+    let if1 = c .before .before .before .before .before .before .if1 in
+    let sizes-of = c .before .before .before .before .sizes-of in
+    let if3 = c .if3 in
+    let A = c .before .before .before .before .before .before .before .before .before .before .before .args in
+    lines.sweep-grid (A .encoded .now) (A .source .now) (A .grid .now) (planOf Direct (read .result .nest)) (lines.opened (A .encoded .now) (read .result) (read .ensures .0) (if1 .left) (route-direct 0 refl)) (λ q. if3 .taken (q ∙ sym (sizes-of .ensures .0 .cells)))
 
 sweep-requires : tie.Need-sweep-requires
 sweep-requires c κs = search needs
@@ -28,7 +43,15 @@ same-length : tie.Need-same-length
 same-length c = search needs
 
 returns-4 : tie.Need-returns-4
-returns-4 c = let A = c .before .before .before .before .before .before .before .before .before .before .before .before .before .before .before .args in lines.sweep-done (A .encoded .now) (A .source .now) (A .grid .now) (c .before .before .before .before .before .before .before .before .before .before .before .read .result .nest) (lines.opened (A .encoded .now) (c .before .before .before .before .before .before .before .before .before .before .before .read .result) (c .before .before .before .before .before .before .before .before .before .before .before .read .ensures .0) (c .before .before .before .before .before .before .before .before .before .before .if1 .left)) (c .before .before .sweep .last .1 .1 .1 .0) (c .before .before .before .before .before .before .if2 .left ∙ c .before .before .before .before .before .before .before .before .sizes-of .ensures .cells) (c .before .before .before .before .if3 .left ∙ c .before .before .before .before .before .before .before .before .sizes-of .ensures .cells) (c .before .before .sweep .ensures)
+returns-4 c =
+    let read = c .before .before .before .before .before .before .before .before .before .before .before .read in
+    let if1 = c .before .before .before .before .before .before .before .before .before .before .if1 in
+    let sizes-of = c .before .before .before .before .before .before .before .before .sizes-of in
+    let if2 = c .before .before .before .before .before .before .if2 in
+    let if3 = c .before .before .before .before .if3 in
+    let sweep = c .before .before .sweep in
+    let A = c .before .before .before .before .before .before .before .before .before .before .before .before .before .before .before .args in
+    lines.sweep-done (A .encoded .now) (A .source .now) (A .grid .now) (planOf Direct (read .result .nest)) (lines.opened (A .encoded .now) (read .result) (read .ensures .0) (if1 .left) (route-direct 0 refl)) (sweep .last .1 .1 .1 .0) (if2 .left ∙ sizes-of .ensures .0 .cells) (if3 .left ∙ sizes-of .ensures .0 .cells) (sweep .ensures)
 
 pub sweep-spec : {M : Type 1} → statement M
 sweep-spec =

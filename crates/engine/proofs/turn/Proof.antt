@@ -37,7 +37,7 @@ store-record-requires c κs =
     let turn = c .before .before .before .before .before .before .before .before .before .turn in
     let if1 = c .before .before .if1 in
     let A = c .before .before .before .before .before .before .before .before .before .before .before .before .before .before .before .before .before .before .before .before .before .args in
-    reading.turn-inside (A .encoded .now) (A .source .now) (stateOf (A .memories .now) (A .buffer .now) (A .progress .now) (A .status .now)) (A .processor)
+    reading.turn-inside (A .encoded .now) (A .route) (A .source .now) (stateOf (A .memories .now) (A .buffer .now) (A .progress .now) (A .status .now)) (A .processor)
     (ap (λ (z : Answered State). z .number) (sym (turn .ensures (A .progress .now) (flat-of .ensures))) ∙ if1 .left)
 
 same-length-5 : tie.Need-same-length-5

@@ -1,23 +1,35 @@
 -- `layout::end_of` meets its contract.
-use borrow.Author.Needs.{needs}
-use Rattle.layout.proofs.Cells.{ways-pos, tile-ranked, bound-within, sender-is, taker-is}
+use native.Mathlib.Omega.{arith}
+use Rattle.layout.proofs.Steps.{ways-some, way-low, end-fits, sender-is, taker-is}
 use Rattle.layout.proofs.end_of.Statement.{statement}
 use Rattle.layout.proofs.end_of.Tie as tie
 
-div-result : tie.Need-div-result
-div-result c = ways-pos _ (c .before .before .pre .0 .accepted) _ (c .before .before .pre .0 .directions)
+div-sender : tie.Need-div-sender
+div-sender c = let start = c .before in ways-some _ (start .pre .0 .accepted) (start .args .sizes .route) _ (start .pre .0 .ways)
 
 returns : tie.Need-returns
-returns c = sender-is _ (c .before .before .pre .0 .accepted) _ (c .before .before .pre .0 .directions) (c .before .before .args .slot) _ (c .before .if1 .taken)
+returns c =
+    let start = c .before .before in
+    sender-is _ (start .pre .0 .accepted) (start .args .sizes .route) _ (start .pre .0 .ways) (start .args .slot) _ (c .if1 .taken)
 
-put-bound-requires : tie.Need-put-bound-requires
-put-bound-requires c κs = search needs
+rem-step-of : tie.Need-rem-step-of
+rem-step-of c = let start = c .before .before .before in ways-some _ (start .pre .0 .accepted) (start .args .sizes .route) _ (start .pre .0 .ways)
 
-rank-of-requires : tie.Need-rank-of-requires
-rank-of-requires c κs = tile-ranked _ (c .before .before .before .before .before .before .pre .0 .accepted) (c .before .before .before .before .before .before .args .sizes .across) (record { each = c .before .before .before .before .before .before .pre .0 .across }) _ _ (c .before .before .put-bound .ensures) (bound-within _ (c .before .before .before .before .before .before .pre .0 .accepted) (c .before .before .before .before .before .before .args .slot))
+step-of-requires : tie.Need-step-of-requires
+step-of-requires c κs =
+    let start = c .before .before .before in
+    (start .pre .0, way-low _ (start .pre .0 .accepted) (start .args .sizes .route) _ (start .pre .0 .ways) (start .args .slot))
+
+add-result : tie.Need-add-result
+add-result c =
+    let start = c .before .before .before .before in
+    omega (arith, c .step-of .ensures .1, end-fits _ (start .pre .0 .accepted) (start .args .sizes .route) _ (start .pre .0 .ways) (start .args .slot) (start .pre .1))
 
 returns-2 : tie.Need-returns-2
-returns-2 c = taker-is _ (c .before .before .before .before .before .before .before .pre .0 .accepted) (c .before .before .before .before .before .before .before .args .sizes .across) (record { each = c .before .before .before .before .before .before .before .pre .0 .across }) (c .before .before .before .before .before .before .before .args .slot) _ _ (c .before .before .before .before .before .before .if1 .left) (c .before .before .before .put-bound .ensures) _ (c .rank-of .ensures)
+returns-2 c =
+    let start = c .before .before .before .before in
+    taker-is _ (start .pre .0 .accepted) (start .args .sizes .route) _ (start .pre .0 .ways) (start .args .slot) _ (start .pre .1)
+    (c .before .before .if1 .left) _ (c .step-of .ensures .0)
 
 pub end-of-spec : {M : Type 1} → statement M
-end-of-spec = tie.close (tie.spec div-result returns put-bound-requires rank-of-requires returns-2)
+end-of-spec = tie.close (tie.spec div-sender returns rem-step-of step-of-requires add-result returns-2)

@@ -1,12 +1,8 @@
 -- `layout::sizes_of` meets its contract.
 use borrow.Author.Needs.{needs}
-use native.Mathlib.Omega.{arith}
-use Prim.Native.Nat.{ℕ, _-_}
-use mathlib.Core.Path.{ap, _∙_}
+use mathlib.Core.Path.{refl, _∙_}
 use Rattle.nest.specs.Nest.{cells, processors}
-use Rattle.plan.specs.Messages.{directions, two}
-use Rattle.layout.proofs.Dims.{product-pos}
-use Rattle.layout.proofs.Cells.{lengths-countable, across-countable, counts-countable, two-countable, two-product, across-product}
+use Rattle.layout.proofs.Cells.{lengths-countable, across-countable, counts-countable, across-product}
 use Rattle.layout.proofs.sizes_of.Statement.{statement}
 use Rattle.layout.proofs.sizes_of.Tie as tie
 
@@ -22,23 +18,23 @@ product-requires-2 c κs = across-countable _ (c .before .before .before .before
 product-requires-3 : tie.Need-product-requires-3
 product-requires-3 c κs = counts-countable _ (c .before .before .before .before .before .pre)
 
-product-requires-4 : tie.Need-product-requires-4
-product-requires-4 c κs = two-countable _ (omega (arith, c .before .before .before .before .before .before .pre .spread-low, c .before .before .before .before .before .before .pre .dimensions-most))
-
-sub-t10 : tie.Need-sub-t10
-sub-t10 c = omega (arith, c .product4 .ensures, two-product (c .before .before .before .before .before .before .before .args .nest .spread) (omega (arith, c .before .before .before .before .before .before .before .pre .spread-low, c .before .before .before .before .before .before .before .pre .dimensions-most)), product-pos two (c .before .before .before .before .before .before .before .args .nest .spread) (λ j h. omega arith))
+ways-of-requires : tie.Need-ways-of-requires
+ways-of-requires c κs = c .before .before .before .before .before .before .pre
 
 returns : tie.Need-returns
-unfolding cells processors directions
+unfolding cells processors
 returns c =
-    record {
-      accepted = c .before .before .before .before .before .before .before .pre;
-      cells = c .before .before .before .product .ensures;
-      tiles = c .before .before .product2 .ensures ∙ across-product _ (c .before .before .before .before .before .before .before .pre) _ (c .before .before .before .before .across-of .ensures);
-      processors = c .before .product3 .ensures;
-      directions = ap (λ (a : ℕ). a - 1) (c .product4 .ensures ∙ two-product _ (omega (arith, c .before .before .before .before .before .before .before .pre .spread-low, c .before .before .before .before .before .before .before .pre .dimensions-most)));
-      across = c .before .before .before .before .across-of .ensures .each;
-    }
+    let start = c .before .before .before .before .before .before .before in (
+      record {
+        accepted = start .pre;
+        cells = c .before .before .before .product .ensures;
+        tiles = c .before .before .product2 .ensures ∙ across-product _ (start .pre) _ (c .before .before .before .before .across-of .ensures);
+        processors = c .before .product3 .ensures;
+        ways = c .ways-of .ensures;
+        across = c .before .before .before .before .across-of .ensures .each;
+      },
+      refl,
+    )
 
 pub sizes-of-spec : {M : Type 1} → statement M
 sizes-of-spec =
@@ -48,6 +44,5 @@ sizes-of-spec =
     product-requires
     product-requires-2
     product-requires-3
-    product-requires-4
-    sub-t10
+    ways-of-requires
     returns)

@@ -10,7 +10,7 @@ use Rattle.parcels.proofs.end_in_row.Statement.{statement}
 use Rattle.parcels.proofs.end_in_row.Tie as tie
 
 abbrev Inv-loop : tie.InvT-loop
-Inv-loop components e at last low high j₀ j = Sofar (carried components low high at e) last j
+Inv-loop components e at last low high j₀ j = Sofar (carried components (record { low = low; high = high }) at e) last j
 
 abbrev μ-loop : tie.MeasureT-loop
 μ-loop components e at last low high j₀ j = last - j
@@ -55,7 +55,7 @@ carry-requires : tie.Need-carry-requires Inv-loop μ-loop
 carry-requires c κs = omega (arith, c .before .before .before .before .before .before .pre .1 .1 (c .before .before .loop .j) (omega (arith, c .before .loop-test .taken)), given-few _ (c .before .before .before .before .before .before .pre .0 .0) _ (c .before .before .before .before .before .before .pre .0 .1 .1) (c .before .before .before .before .before .before .args .e) (c .before .before .loop .j))
 
 returns : tie.Need-returns Inv-loop μ-loop
-returns c = end-stops _ (c .before .before .before .before .before .before .before .before .pre .0 .0) _ _ _ _ _ _ (c .before .before .before .before .before .before .before .before .pre .1 .0) (c .before .before .before .before .before .before .before .before .pre .0 .1 .1) (c .before .before .before .before .loop .j) (c .before .before .before .loop-test .taken) (sym (c .before .carry .ensures) ∙ not-true _ (c .if1 .taken))
+returns c = end-stops _ (c .before .before .before .before .before .before .before .before .pre .0 .0) (c .before .before .before .before .before .before .before .before .args .window) (c .before .before .before .before .before .before .before .before .args .t4) _ _ (c .before .before .before .before .before .before .before .before .pre .0 .1 .1) (c .before .before .before .before .loop .j) (c .before .before .before .loop-test .taken) (sym (c .before .carry .ensures) ∙ not-true _ (c .if1 .taken))
 
 add-j : tie.Need-add-j Inv-loop μ-loop
 add-j c = omega (arith, c .before .before .before .loop-test .taken, c .before .before .before .before .before .before .before .before .pre .0 .0 .dimensions-most)
@@ -85,7 +85,7 @@ array-read-if2 : tie.Need-array-read-if2 Inv-loop μ-loop
 array-read-if2 c = omega (arith, c .before .before .before .before .before .before .pre .0 .0 .dimensions-most, c .before .before .before .before .before .before .pre .0 .0 .dimensions-least)
 
 returns-2 : tie.Need-returns-2 Inv-loop μ-loop
-returns-2 c = end-none _ (c .before .before .before .before .before .before .before .pre .0 .0) _ _ _ _ _ _ (c .before .before .before .before .before .before .before .pre .1 .0) (c .before .before .before .before .before .before .before .pre .0 .1 .1) _ (c .before .before .before .loop .inv) (c .before .before .loop-test .left) (c .if2 .taken)
+returns-2 c = end-none _ (c .before .before .before .before .before .before .before .pre .0 .0) (c .before .before .before .before .before .before .before .args .window) (c .before .before .before .before .before .before .before .args .t4) _ _ (c .before .before .before .before .before .before .before .pre .0 .1 .1) _ (c .before .before .before .loop .inv) (c .before .before .loop-test .left) (c .if2 .taken)
 
 mul-result : tie.Need-mul-result Inv-loop μ-loop
 mul-result c = omega (arith, c .before .before .before .before .before .before .before .pre .0 .0 .dimensions-most)
@@ -97,7 +97,7 @@ sub-result : tie.Need-sub-result Inv-loop μ-loop
 sub-result c = c .if2 .left
 
 returns-3 : tie.Need-returns-3 Inv-loop μ-loop
-returns-3 c = end-some _ (c .before .before .before .before .before .before .before .pre .0 .0) _ _ _ _ _ _ (c .before .before .before .before .before .before .before .pre .1 .0) (c .before .before .before .before .before .before .before .pre .0 .1 .1) _ (c .before .before .before .loop .inv) (c .before .before .loop-test .left) (c .if2 .left)
+returns-3 c = end-some _ (c .before .before .before .before .before .before .before .pre .0 .0) (c .before .before .before .before .before .before .before .args .window) (c .before .before .before .before .before .before .before .args .t4) _ _ (c .before .before .before .before .before .before .before .pre .0 .1 .1) _ (c .before .before .before .loop .inv) (c .before .before .loop-test .left) (c .before .before .before .before .before .before .before .pre .1 .0) (c .if2 .left)
 
 pub end-in-row-spec : {M : Type 1} → statement M
 end-in-row-spec =

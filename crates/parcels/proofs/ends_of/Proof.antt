@@ -2,15 +2,17 @@
 use borrow.Author.Needs.{needs}
 use native.Mathlib.Omega.{arith}
 use Prim.Native.Nat.{_-_}
+use Rattle.layout.specs.Places.{nth}
+use Rattle.parcels.specs.Windows.{windowOf}
 use Rattle.parcels.proofs.Windows.{Ending, ending-none, ending-more, ending-end}
 use Rattle.parcels.proofs.ends_of.Statement.{statement}
 use Rattle.parcels.proofs.ends_of.Tie as tie
 
 abbrev Inv-loop : tie.InvT-loop
-Inv-loop nest components window at to ends₀ n e₀ ends e = Ending nest to at ends e
+Inv-loop nest components window at ends₀ n e₀ ends e = Ending nest (windowOf window) (nth at) ends e
 
 abbrev μ-loop : tie.MeasureT-loop
-μ-loop nest components window at to ends₀ n e₀ ends e = n - e
+μ-loop nest components window at ends₀ n e₀ ends e = n - e
 
 loop-holds : tie.Need-loop-holds Inv-loop μ-loop
 loop-holds c = ending-none _ _ _ _ (omega arith)

@@ -1,7 +1,7 @@
 -- `parcels::outside` meets its contract: none of the first j components is beyond.
 use borrow.Author.Needs.{needs}
 use native.Mathlib.Omega.{arith}
-use Prim.Native.Nat.{_-_}
+use Prim.Native.Nat.{_+_, _-_}
 use mathlib.Core.Path.{sym}
 use lib.ListN.{getD}
 use lib.Dec.{leb}
@@ -12,31 +12,40 @@ use Rattle.parcels.proofs.outside.Statement.{statement}
 use Rattle.parcels.proofs.outside.Tie as tie
 
 abbrev Inv-loop : tie.InvT-loop
-Inv-loop n across to j₀ j = Nowhere (λ i. leb (getD across i 0) (getD to i 0)) n j
+Inv-loop n across at ahead j₀ j = Nowhere (λ i. leb (getD across i 0) (getD at i 0 + getD ahead i 0)) n j
 
 abbrev μ-loop : tie.MeasureT-loop
-μ-loop n across to j₀ j = n - j
+μ-loop n across at ahead j₀ j = n - j
 
 loop-holds : tie.Need-loop-holds Inv-loop μ-loop
 loop-holds c = nowhere-none _ _
 
 mul-if1 : tie.Need-mul-if1 Inv-loop μ-loop
-mul-if1 c = omega (arith, c .loop-test .taken, c .before .before .pre)
+mul-if1 c = omega (arith, c .loop-test .taken, c .before .before .pre .0)
 
 array-read-if1 : tie.Need-array-read-if1 Inv-loop μ-loop
-array-read-if1 c = omega (arith, c .loop-test .taken, c .before .before .pre)
+array-read-if1 c = omega (arith, c .loop-test .taken, c .before .before .pre .0)
 
 mul-if1-2 : tie.Need-mul-if1-2 Inv-loop μ-loop
-mul-if1-2 c = omega (arith, c .loop-test .taken, c .before .before .pre)
+mul-if1-2 c = omega (arith, c .loop-test .taken, c .before .before .pre .0)
 
 array-read-if1-2 : tie.Need-array-read-if1-2 Inv-loop μ-loop
-array-read-if1-2 c = omega (arith, c .loop-test .taken, c .before .before .pre)
+array-read-if1-2 c = omega (arith, c .loop-test .taken, c .before .before .pre .0)
+
+add-if1 : tie.Need-add-if1 Inv-loop μ-loop
+add-if1 c = omega (arith, c .before .before .pre .1 (c .before .loop .j) (c .loop-test .taken))
+
+mul-if1-3 : tie.Need-mul-if1-3 Inv-loop μ-loop
+mul-if1-3 c = omega (arith, c .loop-test .taken, c .before .before .pre .0)
+
+array-read-if1-3 : tie.Need-array-read-if1-3 Inv-loop μ-loop
+array-read-if1-3 c = omega (arith, c .loop-test .taken, c .before .before .pre .0)
 
 returns : tie.Need-returns Inv-loop μ-loop
 returns c = sym (some-one _ _ (c .before .before .loop .j) (c .before .loop-test .taken) (le-leb _ _ (c .if1 .taken)))
 
 add-j : tie.Need-add-j Inv-loop μ-loop
-add-j c = omega (arith, c .before .loop-test .taken, c .before .before .before .pre)
+add-j c = omega (arith, c .before .loop-test .taken, c .before .before .before .pre .0)
 
 loop-less : tie.Need-loop-less Inv-loop μ-loop
 loop-less c = search needs
@@ -58,6 +67,9 @@ outside-spec =
     array-read-if1
     mul-if1-2
     array-read-if1-2
+    add-if1
+    mul-if1-3
+    array-read-if1-3
     returns
     add-j
     loop-less

@@ -1,55 +1,66 @@
--- `parcels::parcel_length` meets its contract: the parcel's cells among the first r rows of the box are counted.
+-- `parcels::parcel_length` meets its contract: the cells found in the first r rows of the box are counted.
 use native.Mathlib.Omega.{arith}
 use Prim.Native.Nat.{_-_, _*_}
-use native.Mathlib.Nat.{zero-mul}
-use mathlib.Core.Path.{refl, sym, _∙_}
-use Rattle.parcels.proofs.Walks.{Measuring, measure-none, measure-few, measured}
-use Rattle.layout.proofs.CellRows.{rows-end}
-use Rattle.parcels.proofs.Alike.{sends-walk, sends-far, sends-rows, measure-alike, outside-empty}
+use native.Mathlib.Nat.{zero-mul, mul-le-mul-right}
+use mathlib.Core.Path.{refl, sym}
+use Rattle.layout.proofs.Steps.{ways-some, way-low}
+use Rattle.parcels.proofs.Walks.{Measuring, measure-none, measure-few}
+use Rattle.parcels.proofs.Rows.{size-few, rows-few}
+use Rattle.parcels.proofs.Alike.{measure-alike}
+use Rattle.parcels.proofs.Sendings.{headed, measured}
 use Rattle.parcels.proofs.parcel_length.Statement.{statement}
 use Rattle.parcels.proofs.parcel_length.Tie as tie
 
 abbrev Inv-loop : tie.InvT-loop
-Inv-loop nest slot sending components rows count₀ r₀ count r = Measuring nest slot (sending .bounds) count (r * sending .width)
+Inv-loop nest slot sending components rows count₀ r₀ count r = Measuring nest sending count (r * sending .width)
 
 abbrev μ-loop : tie.MeasureT-loop
 μ-loop nest slot sending components rows count₀ r₀ count r = rows - r
 
-bound-for-requires : tie.Need-bound-for-requires Inv-loop μ-loop
-bound-for-requires c κs = (c .pre .0, c .pre .1)
+div-place-of-tile : tie.Need-div-place-of-tile Inv-loop μ-loop
+div-place-of-tile c = ways-some _ (c .before .pre .0 .accepted) (c .before .args .sizes .route) _ (c .before .pre .0 .ways)
 
-outside-requires : tie.Need-outside-requires Inv-loop μ-loop
-outside-requires c κs = omega (arith, c .before .before .pre .0 .accepted .spread-low, c .before .before .pre .0 .accepted .dimensions-most)
+place-of-tile-requires : tie.Need-place-of-tile-requires Inv-loop μ-loop
+place-of-tile-requires c κs = c .before .pre .0
+
+rem-along-of : tie.Need-rem-along-of Inv-loop μ-loop
+rem-along-of c = ways-some _ (c .before .before .before .pre .0 .accepted) (c .before .before .before .args .sizes .route) _ (c .before .before .before .pre .0 .ways)
+
+along-of-requires : tie.Need-along-of-requires Inv-loop μ-loop
+along-of-requires c κs = (c .before .before .before .pre .0, way-low _ (c .before .before .before .pre .0 .accepted) (c .before .before .before .args .sizes .route) _ (c .before .before .before .pre .0 .ways) (c .before .before .before .args .slot))
+
+idle-requires : tie.Need-idle-requires Inv-loop μ-loop
+idle-requires c κs = (c .before .before .before .before .pre .0, headed (c .before .before .before .before .args .sizes .route) _ _ _ _ _ (c .before .before .before .before .pre .0 .ways) (c .before .before .before .before .pre .1) (c .before .before .place-of-tile .ensures) (c .along-of .ensures))
 
 returns : tie.Need-returns Inv-loop μ-loop
-returns c = (sym (outside-empty _ (c .before .before .before .before .pre .0 .accepted) _ (c .before .before .before .before .pre .1) (c .before .before .before .before .args .sizes .across) _ (record { each = c .before .before .before .before .pre .0 .across }) (c .before .before .before .bound-for .ensures) (sym (c .before .outside .ensures) ∙ c .if1 .taken)), omega arith)
+returns c = (sym (c .before .idle .ensures .none (c .if1 .taken)), omega arith)
 
 sending-of-requires : tie.Need-sending-of-requires Inv-loop μ-loop
-sending-of-requires c κs = (c .before .before .before .before .pre .0, (c .before .before .before .before .pre .1, c .before .before .before .bound-for .ensures))
+sending-of-requires c κs = (c .before .before .before .before .before .before .pre .0, headed (c .before .before .before .before .before .before .args .sizes .route) _ _ _ _ _ (c .before .before .before .before .before .before .pre .0 .ways) (c .before .before .before .before .before .before .pre .1) (c .before .before .before .before .place-of-tile .ensures) (c .before .before .along-of .ensures))
 
 loop-holds : tie.Need-loop-holds Inv-loop μ-loop
-loop-holds c = rw (zero-mul (c .before .sending-of .result .width)) (measure-none _ _ _)
+loop-holds c = rw (zero-mul (c .before .sending-of .result .width)) (measure-none _ _)
 
 row-at-requires : tie.Need-row-at-requires Inv-loop μ-loop
-row-at-requires c κs = (c .before .before .before .before .before .before .before .before .before .pre .0 .accepted, (record { is = refl }, (c .before .before .before .before .sending-of .ensures, c .before .loop-test .taken)))
+row-at-requires c κs = (c .before .before .before .before .before .before .before .before .before .before .before .pre .0 .accepted, (record { is = refl }, (c .before .before .before .before .sending-of .ensures .shape, c .before .loop-test .taken)))
 
 mul-count : tie.Need-mul-count Inv-loop μ-loop
-mul-count c = omega (arith, measure-few _ _ _ _ _ (measure-alike _ _ _ _ _ (c .before .row-at .ensures) (sends-far _ (c .before .before .before .before .before .before .before .before .before .before .before .pre .0 .accepted) _ _ (c .before .before .before .before .before .before .sending-of .ensures)) _ (c .before .before .before .before .loop .inv)), (measure-alike _ _ _ _ _ (c .before .row-at .ensures) (sends-far _ (c .before .before .before .before .before .before .before .before .before .before .before .pre .0 .accepted) _ _ (c .before .before .before .before .before .before .sending-of .ensures)) _ (c .before .before .before .before .loop .inv)) .low, (sends-far _ (c .before .before .before .before .before .before .before .before .before .before .before .pre .0 .accepted) _ _ (c .before .before .before .before .before .before .sending-of .ensures)) .few)
+mul-count c = omega (arith, measure-few _ _ _ _ (measure-alike _ _ _ _ (c .before .row-at .ensures) _ (c .before .before .before .before .loop .inv)), size-few _ (c .before .before .before .before .before .before .before .before .before .before .before .before .before .pre .0 .accepted) _ (c .before .before .before .before .before .before .sending-of .ensures .shape))
 
 add-count : tie.Need-add-count Inv-loop μ-loop
-add-count c = omega (arith, measure-few _ _ _ _ _ (measure-alike _ _ _ _ _ (c .before .row-at .ensures) (sends-far _ (c .before .before .before .before .before .before .before .before .before .before .before .pre .0 .accepted) _ _ (c .before .before .before .before .before .before .sending-of .ensures)) _ (c .before .before .before .before .loop .inv)), (measure-alike _ _ _ _ _ (c .before .row-at .ensures) (sends-far _ (c .before .before .before .before .before .before .before .before .before .before .before .pre .0 .accepted) _ _ (c .before .before .before .before .before .before .sending-of .ensures)) _ (c .before .before .before .before .loop .inv)) .low, (sends-far _ (c .before .before .before .before .before .before .before .before .before .before .before .pre .0 .accepted) _ _ (c .before .before .before .before .before .before .sending-of .ensures)) .few)
+add-count c = omega (arith, measure-few _ _ _ _ (measure-alike _ _ _ _ (c .before .row-at .ensures) _ (c .before .before .before .before .loop .inv)), size-few _ (c .before .before .before .before .before .before .before .before .before .before .before .before .before .pre .0 .accepted) _ (c .before .before .before .before .before .before .sending-of .ensures .shape))
 
 add-r : tie.Need-add-r Inv-loop μ-loop
-add-r c = omega (arith, c .before .before .row-at .ensures .room, sends-rows _ (c .before .before .before .before .before .before .before .before .before .before .before .before .pre .0 .accepted) _ _ (c .before .before .before .before .before .before .before .sending-of .ensures))
+add-r c = omega (arith, c .before .before .row-at .ensures .room, rows-few _ (c .before .before .before .before .before .before .before .before .before .before .before .before .before .before .pre .0 .accepted) _ (c .before .before .before .before .before .before .before .sending-of .ensures .shape))
 
 loop-less : tie.Need-loop-less Inv-loop μ-loop
 loop-less c = omega (arith, c .before .before .row-at .ensures .least, c .before .before .row-at .ensures .room)
 
 loop-again : tie.Need-loop-again Inv-loop μ-loop
-loop-again c = measure-alike _ _ _ _ _ (c .before .before .row-at .ensures) (sends-far _ (c .before .before .before .before .before .before .before .before .before .before .before .before .pre .0 .accepted) _ _ (c .before .before .before .before .before .before .before .sending-of .ensures)) _ (c .before .before .before .before .before .loop .inv)
+loop-again c = measure-alike _ _ _ _ (c .before .before .row-at .ensures) _ (c .before .before .before .before .before .loop .inv)
 
 returns-2 : tie.Need-returns-2 Inv-loop μ-loop
-returns-2 c = measured _ (c .before .before .before .before .before .before .before .before .pre .0 .accepted) _ _ _ (sends-walk _ _ _ (c .before .before .before .sending-of .ensures)) _ _ (c .before .loop .inv) (rows-end _ _ _ (c .loop-test .left) ((sends-far _ (c .before .before .before .before .before .before .before .before .pre .0 .accepted) _ _ (c .before .before .before .sending-of .ensures)) .all))
+returns-2 c = measured _ _ _ _ (c .before .before .before .sending-of .ensures) (c .before .before .before .before .before .before .before .before .before .before .pre .0 .accepted) (c .before .before .before .before .before .idle .ensures .all (c .before .before .before .before .if1 .left)) _ _ (c .before .loop .inv) (mul-le-mul-right (c .before .before .before .sending-of .result .width) (c .loop-test .left))
 
 pub parcel-length-spec : {M : Type 1} → statement M
 parcel-length-spec =
@@ -57,8 +68,11 @@ parcel-length-spec =
     (tie.spec
     Inv-loop
     μ-loop
-    bound-for-requires
-    outside-requires
+    div-place-of-tile
+    place-of-tile-requires
+    rem-along-of
+    along-of-requires
+    idle-requires
     returns
     sending-of-requires
     loop-holds

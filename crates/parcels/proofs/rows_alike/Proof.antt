@@ -4,7 +4,7 @@ use native.Mathlib.Omega.{arith}
 use Prim.Native.Nat.{_-_}
 use mathlib.Core.Path.{refl}
 use Rattle.parcels.proofs.Windows.{given-few}
-use Rattle.parcels.proofs.Alike.{tile-end, Steady, steady-none, steady-more, steady-end}
+use Rattle.parcels.proofs.Alike.{Steady, steady-none, steady-more, steady-end}
 use Rattle.parcels.proofs.rows_alike.Statement.{statement}
 use Rattle.parcels.proofs.rows_alike.Tie as tie
 
@@ -15,64 +15,64 @@ abbrev μ-loop : tie.MeasureT-loop
 μ-loop components last j component low high n rows₀ e₀ rows e = n - e
 
 sub-last : tie.Need-sub-last Inv-loop μ-loop
-sub-last c = omega (arith, c .before .pre .0 .0 .dimensions-most, c .before .pre .0 .0 .dimensions-least)
+sub-last c = omega (arith, c .before .pre .0 .dimensions-most, c .before .pre .0 .dimensions-least)
 
 sub-j : tie.Need-sub-j Inv-loop μ-loop
-sub-j c = omega (arith, c .before .pre .0 .0 .dimensions-most, c .before .pre .0 .0 .dimensions-least)
+sub-j c = omega (arith, c .before .pre .0 .dimensions-most, c .before .pre .0 .dimensions-least)
 
 mul-component : tie.Need-mul-component Inv-loop μ-loop
-mul-component c = omega (arith, c .before .pre .0 .0 .dimensions-most, c .before .pre .0 .0 .dimensions-least)
+mul-component c = omega (arith, c .before .pre .0 .dimensions-most, c .before .pre .0 .dimensions-least)
 
 array-read-component : tie.Need-array-read-component Inv-loop μ-loop
-array-read-component c = omega (arith, c .before .pre .0 .0 .dimensions-most, c .before .pre .0 .0 .dimensions-least)
+array-read-component c = omega (arith, c .before .pre .0 .dimensions-most, c .before .pre .0 .dimensions-least)
 
 mul-low : tie.Need-mul-low Inv-loop μ-loop
-mul-low c = omega (arith, c .before .pre .0 .0 .dimensions-most, c .before .pre .0 .0 .dimensions-least)
+mul-low c = omega (arith, c .before .pre .0 .dimensions-most, c .before .pre .0 .dimensions-least)
 
 element-copy-out-low : tie.Need-element-copy-out-low Inv-loop μ-loop
-element-copy-out-low c = omega (arith, c .before .pre .0 .0 .dimensions-most, c .before .pre .0 .0 .dimensions-least)
+element-copy-out-low c = omega (arith, c .before .pre .0 .dimensions-most, c .before .pre .0 .dimensions-least)
 
 mul-high : tie.Need-mul-high Inv-loop μ-loop
-mul-high c = omega (arith, c .before .before .pre .0 .0 .dimensions-most, c .before .before .pre .0 .0 .dimensions-least)
+mul-high c = omega (arith, c .before .before .pre .0 .dimensions-most, c .before .before .pre .0 .dimensions-least)
 
 element-copy-out-high : tie.Need-element-copy-out-high Inv-loop μ-loop
-element-copy-out-high c = omega (arith, c .before .before .pre .0 .0 .dimensions-most, c .before .before .pre .0 .0 .dimensions-least)
+element-copy-out-high c = omega (arith, c .before .before .pre .0 .dimensions-most, c .before .before .pre .0 .dimensions-least)
 
 mul-rows : tie.Need-mul-rows Inv-loop μ-loop
-mul-rows c = omega (arith, c .before .before .before .pre .0 .0 .dimensions-most, c .before .before .before .pre .0 .0 .dimensions-least)
+mul-rows c = omega (arith, c .before .before .before .pre .0 .dimensions-most, c .before .before .before .pre .0 .dimensions-least)
 
 element-copy-out-rows : tie.Need-element-copy-out-rows Inv-loop μ-loop
-element-copy-out-rows c = omega (arith, c .before .before .before .pre .0 .0 .dimensions-most, c .before .before .before .pre .0 .0 .dimensions-least)
+element-copy-out-rows c = omega (arith, c .before .before .before .pre .0 .dimensions-most, c .before .before .before .pre .0 .dimensions-least)
 
 mul-rows-2 : tie.Need-mul-rows-2 Inv-loop μ-loop
-mul-rows-2 c = omega (arith, c .before .before .before .before .pre .0 .0 .dimensions-most, c .before .before .before .before .pre .0 .0 .dimensions-least)
+mul-rows-2 c = omega (arith, c .before .before .before .before .pre .0 .dimensions-most, c .before .before .before .before .pre .0 .dimensions-least)
 
 element-copy-out-rows-2 : tie.Need-element-copy-out-rows-2 Inv-loop μ-loop
-element-copy-out-rows-2 c = omega (arith, c .before .before .before .before .pre .0 .0 .dimensions-most, c .before .before .before .before .pre .0 .0 .dimensions-least)
+element-copy-out-rows-2 c = omega (arith, c .before .before .before .before .pre .0 .dimensions-most, c .before .before .before .before .pre .0 .dimensions-least)
 
 add-rows : tie.Need-add-rows Inv-loop μ-loop
-add-rows c = omega (arith, tile-end _ (c .before .before .before .before .before .pre .0 .0) _ (c .before .before .before .before .before .pre .0 .1 .1) (c .before .before .before .before .before .args .nest .dimensions - 1 - 1) (omega (arith, c .before .before .before .before .before .pre .0 .0 .dimensions-most, c .before .before .before .before .before .pre .0 .0 .dimensions-least)))
+add-rows c = omega (arith, c .before .before .before .before .before .pre .1 .1 .most)
 
 sub-rows : tie.Need-sub-rows Inv-loop μ-loop
-sub-rows c = omega (arith, c .before .before .before .before .before .pre .1)
+sub-rows c = omega (arith, c .before .before .before .before .before .pre .1 .1 .low)
 
 loop-holds : tie.Need-loop-holds Inv-loop μ-loop
-loop-holds c = steady-none _ _ _ _ _ _ _ (omega (arith, c .before .before .before .before .before .pre .1))
+loop-holds c = steady-none _ _ _ _ _ _ _ (omega (arith, c .before .before .before .before .before .pre .1 .1 .low))
 
 mul-unchanged : tie.Need-mul-unchanged Inv-loop μ-loop
-mul-unchanged c = omega (arith, c .loop-test .taken, c .before .before .before .before .before .before .before .pre .0 .0 .distances-most, c .before .before .before .before .before .before .before .pre .0 .0 .dimensions-most, c .before .before .before .before .before .before .before .pre .0 .0 .dimensions-least)
+mul-unchanged c = omega (arith, c .loop-test .taken, c .before .before .before .before .before .before .before .pre .0 .distances-most, c .before .before .before .before .before .before .before .pre .0 .dimensions-most, c .before .before .before .before .before .before .before .pre .0 .dimensions-least)
 
 add-unchanged : tie.Need-add-unchanged Inv-loop μ-loop
-add-unchanged c = omega (arith, c .loop-test .taken, c .before .before .before .before .before .before .before .pre .0 .0 .distances-most, c .before .before .before .before .before .before .before .pre .0 .0 .dimensions-most, c .before .before .before .before .before .before .before .pre .0 .0 .dimensions-least)
+add-unchanged c = omega (arith, c .loop-test .taken, c .before .before .before .before .before .before .before .pre .0 .distances-most, c .before .before .before .before .before .before .before .pre .0 .dimensions-most, c .before .before .before .before .before .before .before .pre .0 .dimensions-least)
 
 mul-unchanged-2 : tie.Need-mul-unchanged-2 Inv-loop μ-loop
-mul-unchanged-2 c = omega (arith, c .loop-test .taken, c .before .before .before .before .before .before .before .pre .0 .0 .distances-most, c .before .before .before .before .before .before .before .pre .0 .0 .dimensions-most, c .before .before .before .before .before .before .before .pre .0 .0 .dimensions-least)
+mul-unchanged-2 c = omega (arith, c .loop-test .taken, c .before .before .before .before .before .before .before .pre .0 .distances-most, c .before .before .before .before .before .before .before .pre .0 .dimensions-most, c .before .before .before .before .before .before .before .pre .0 .dimensions-least)
 
 element-copy-out-unchanged : tie.Need-element-copy-out-unchanged Inv-loop μ-loop
-element-copy-out-unchanged c = omega (arith, c .loop-test .taken, c .before .before .before .before .before .before .before .pre .0 .0 .distances-most, c .before .before .before .before .before .before .before .pre .0 .0 .dimensions-most, c .before .before .before .before .before .before .before .pre .0 .0 .dimensions-least)
+element-copy-out-unchanged c = omega (arith, c .loop-test .taken, c .before .before .before .before .before .before .before .pre .0 .distances-most, c .before .before .before .before .before .before .before .pre .0 .dimensions-most, c .before .before .before .before .before .before .before .pre .0 .dimensions-least)
 
 add-unchanged-2 : tie.Need-add-unchanged-2 Inv-loop μ-loop
-add-unchanged-2 c = omega (arith, given-few _ (c .before .before .before .before .before .before .before .before .pre .0 .0) _ (c .before .before .before .before .before .before .before .before .pre .0 .1 .0) (c .before .before .loop .e) (c .before .before .before .before .before .before .before .before .args .nest .dimensions - 1 - 1), c .before .before .before .before .before .before .before .before .pre .1, tile-end _ (c .before .before .before .before .before .before .before .before .pre .0 .0) _ (c .before .before .before .before .before .before .before .before .pre .0 .1 .1) (c .before .before .before .before .before .before .before .before .args .nest .dimensions - 1 - 1) (omega (arith, c .before .before .before .before .before .before .before .before .pre .0 .0 .dimensions-most, c .before .before .before .before .before .before .before .before .pre .0 .0 .dimensions-least)))
+add-unchanged-2 c = omega (arith, given-few _ (c .before .before .before .before .before .before .before .before .pre .0) _ (c .before .before .before .before .before .before .before .before .pre .1 .0) (c .before .before .loop .e) (c .before .before .before .before .before .before .before .before .args .nest .dimensions - 1 - 1), c .before .before .before .before .before .before .before .before .pre .1 .1 .low, c .before .before .before .before .before .before .before .before .pre .1 .1 .most)
 
 unchanged-requires : tie.Need-unchanged-requires Inv-loop μ-loop
 unchanged-requires c κs = search needs
@@ -81,7 +81,7 @@ least-requires : tie.Need-least-requires Inv-loop μ-loop
 least-requires c κs = search needs
 
 add-e : tie.Need-add-e Inv-loop μ-loop
-add-e c = omega (arith, c .before .before .before .loop-test .taken, c .before .before .before .before .before .before .before .before .before .before .pre .0 .0 .distances-most, c .before .before .before .before .before .before .before .before .before .before .pre .0 .0 .dimensions-most, c .before .before .before .before .before .before .before .before .before .before .pre .0 .0 .dimensions-least)
+add-e c = omega (arith, c .before .before .before .loop-test .taken, c .before .before .before .before .before .before .before .before .before .before .pre .0 .distances-most, c .before .before .before .before .before .before .before .before .before .before .pre .0 .dimensions-most, c .before .before .before .before .before .before .before .before .before .before .pre .0 .dimensions-least)
 
 loop-less : tie.Need-loop-less Inv-loop μ-loop
 loop-less c = search needs
@@ -90,7 +90,7 @@ loop-again : tie.Need-loop-again Inv-loop μ-loop
 loop-again c = steady-more _ _ _ _ _ _ _ _ _ _ _ (c .before .before .before .before .loop .inv) (c .before .before .before .loop-test .taken) (c .before .unchanged .ensures) (c .least .ensures)
 
 returns : tie.Need-returns Inv-loop μ-loop
-returns c = steady-end _ _ _ _ _ _ _ _ _ (c .before .loop .inv) (c .loop-test .left) _ _ _ _ _ (c .before .before .before .before .before .before .before .pre .0 .1 .0) refl refl refl refl refl (omega (arith, c .before .before .before .before .before .before .before .pre .1))
+returns c = steady-end _ _ _ _ _ _ _ _ _ (c .before .loop .inv) (c .loop-test .left) _ _ _ _ (c .before .before .before .before .before .before .before .pre .1 .0) refl refl refl refl refl (omega (arith, c .before .before .before .before .before .before .before .pre .1 .1 .low))
 
 pub rows-alike-spec : {M : Type 1} → statement M
 rows-alike-spec =

@@ -1,74 +1,88 @@
--- `parcels::window_of` meets its contract: the first j dimensions.
+-- `parcels::window_of` meets its contract: the first j spread dimensions.
 use borrow.Author.Needs.{needs}
 use native.Mathlib.Omega.{arith}
-use Prim.Native.Nat.{_-_}
-use Rattle.layout.proofs.Loops.{Filled, filled-none, filled-more}
-use Rattle.parcels.proofs.Windows.{lowAt, highAt, windowed, window-few}
+use Prim.Native.Nat.{_+_, _*_, _-_, min}
+use mathlib.Core.Path.{refl}
+use lib.ListN.{getD}
+use lib.Dec.{leb}
+use Rattle.base.specs.Tests.{one}
+use Rattle.layout.proofs.Loops.{Changed, changed-none, changed-more}
+use Rattle.parcels.proofs.Sendings.{tile-few, one-few, windowed}
 use Rattle.parcels.proofs.window_of.Statement.{statement}
 use Rattle.parcels.proofs.window_of.Tie as tie
 
 abbrev Inv-loop : tie.InvT-loop
-Inv-loop nest to low₀ high₀ tiling lengths n j₀ low high j = Filled (lowAt nest to) (nest .dimensions) low j × Filled (highAt nest to) (nest .dimensions) high j
+Inv-loop later lengths at ahead tiling low₀ high₀ n j₀ low high j = Changed (λ i. (getD at i 0 + getD ahead i 0) * getD tiling i 0) n low₀ low j
+    × Changed (λ i. min ((getD at i 0 + getD ahead i 0 + one (leb later i)) * getD tiling i 0 + getD tiling i 0) (getD lengths i 0)) n high₀ high j
 
 abbrev μ-loop : tie.MeasureT-loop
-μ-loop nest to low₀ high₀ tiling lengths n j₀ low high j = n - j
+μ-loop later lengths at ahead tiling low₀ high₀ n j₀ low high j = n - j
 
 loop-holds : tie.Need-loop-holds Inv-loop μ-loop
-loop-holds c = (filled-none _ _ _ (omega arith), filled-none _ _ _ (omega arith))
+loop-holds c = (changed-none _ _ _ (omega arith), changed-none _ _ _ (omega arith))
 
 mul-k : tie.Need-mul-k Inv-loop μ-loop
-mul-k c = omega (arith, c .loop-test .taken, c .before .before .before .before .pre .0 .dimensions-most)
+mul-k c = omega (arith, c .loop-test .taken, c .before .before .before .pre .0 .spread-low, c .before .before .before .pre .0 .dimensions-most)
 
 array-read-k : tie.Need-array-read-k Inv-loop μ-loop
-array-read-k c = omega (arith, c .loop-test .taken, c .before .before .before .before .pre .0 .dimensions-most)
+array-read-k c = omega (arith, c .loop-test .taken, c .before .before .before .pre .0 .spread-low, c .before .before .before .pre .0 .dimensions-most)
 
-mul-low-of : tie.Need-mul-low-of Inv-loop μ-loop
-mul-low-of c = omega (arith, c .loop-test .taken, c .before .before .before .before .pre .0 .dimensions-most)
+mul-to : tie.Need-mul-to Inv-loop μ-loop
+mul-to c = omega (arith, c .loop-test .taken, c .before .before .before .pre .0 .spread-low, c .before .before .before .pre .0 .dimensions-most)
 
-array-read-low-of : tie.Need-array-read-low-of Inv-loop μ-loop
-array-read-low-of c = omega (arith, c .loop-test .taken, c .before .before .before .before .pre .0 .dimensions-most)
+array-read-to : tie.Need-array-read-to Inv-loop μ-loop
+array-read-to c = omega (arith, c .loop-test .taken, c .before .before .before .pre .0 .spread-low, c .before .before .before .pre .0 .dimensions-most)
 
-low-of-requires : tie.Need-low-of-requires Inv-loop μ-loop
-low-of-requires c κs = window-few _ (c .before .before .before .before .before .pre .0) _ _ (c .before .before .before .before .before .pre .1 _ (c .before .loop-test .taken))
+mul-to-2 : tie.Need-mul-to-2 Inv-loop μ-loop
+mul-to-2 c = omega (arith, c .loop-test .taken, c .before .before .before .pre .0 .spread-low, c .before .before .before .pre .0 .dimensions-most)
+
+array-read-to-2 : tie.Need-array-read-to-2 Inv-loop μ-loop
+array-read-to-2 c = omega (arith, c .loop-test .taken, c .before .before .before .pre .0 .spread-low, c .before .before .before .pre .0 .dimensions-most)
+
+add-to : tie.Need-add-to Inv-loop μ-loop
+add-to c = omega (arith, c .before .before .before .pre .1 .1 (c .before .loop .j) (c .loop-test .taken))
 
 mul-low : tie.Need-mul-low Inv-loop μ-loop
-mul-low c = omega (arith, c .before .before .loop-test .taken, c .before .before .before .before .before .before .pre .0 .dimensions-most)
+mul-low c = omega (arith, tile-few _ (c .before .before .before .pre .0) (getD (c .before .before .before .args .t3) (c .before .loop .j) 0 + getD (c .before .before .before .args .t4) (c .before .loop .j) 0) (c .before .loop .j) (omega (arith, c .before .before .before .pre .1 .1 (c .before .loop .j) (c .loop-test .taken))))
+
+mul-low-2 : tie.Need-mul-low-2 Inv-loop μ-loop
+mul-low-2 c = omega (arith, c .loop-test .taken, c .before .before .before .pre .0 .spread-low, c .before .before .before .pre .0 .dimensions-most)
 
 array-write-low : tie.Need-array-write-low Inv-loop μ-loop
-array-write-low c = omega (arith, c .before .before .loop-test .taken, c .before .before .before .before .before .before .pre .0 .dimensions-most)
+array-write-low c = omega (arith, c .loop-test .taken, c .before .before .before .pre .0 .spread-low, c .before .before .before .pre .0 .dimensions-most)
 
-mul-high-of : tie.Need-mul-high-of Inv-loop μ-loop
-mul-high-of c = omega (arith, c .before .before .loop-test .taken, c .before .before .before .before .before .before .pre .0 .dimensions-most)
+one-requires : tie.Need-one-requires Inv-loop μ-loop
+one-requires c κs = search needs
 
-array-read-high-of : tie.Need-array-read-high-of Inv-loop μ-loop
-array-read-high-of c = omega (arith, c .before .before .loop-test .taken, c .before .before .before .before .before .before .pre .0 .dimensions-most)
+add-end-of : tie.Need-add-end-of Inv-loop μ-loop
+add-end-of c = omega (arith, c .before .before .before .before .pre .1 .1 (c .before .before .loop .j) (c .before .loop-test .taken), c .one .ensures, one-few (leb (c .before .before .before .before .args .later) (c .before .before .loop .j)))
 
-mul-high-of-2 : tie.Need-mul-high-of-2 Inv-loop μ-loop
-mul-high-of-2 c = omega (arith, c .before .before .loop-test .taken, c .before .before .before .before .before .before .pre .0 .dimensions-most)
+mul-end-of : tie.Need-mul-end-of Inv-loop μ-loop
+mul-end-of c = omega (arith, c .before .loop-test .taken, c .before .before .before .before .pre .0 .spread-low, c .before .before .before .before .pre .0 .dimensions-most)
 
-array-read-high-of-2 : tie.Need-array-read-high-of-2 Inv-loop μ-loop
-array-read-high-of-2 c = omega (arith, c .before .before .loop-test .taken, c .before .before .before .before .before .before .pre .0 .dimensions-most)
+array-read-end-of : tie.Need-array-read-end-of Inv-loop μ-loop
+array-read-end-of c = omega (arith, c .before .loop-test .taken, c .before .before .before .before .pre .0 .spread-low, c .before .before .before .before .pre .0 .dimensions-most)
 
-high-of-requires : tie.Need-high-of-requires Inv-loop μ-loop
-high-of-requires c κs = (window-few _ (c .before .before .before .before .before .before .before .pre .0) _ _ (c .before .before .before .before .before .before .before .pre .1 _ (c .before .before .before .loop-test .taken)), c .before .before .before .before .before .before .before .pre .0 .tile-most _)
+end-of-requires : tie.Need-end-of-requires Inv-loop μ-loop
+end-of-requires c κs = (omega (arith, c .before .before .before .before .pre .1 .1 (c .before .before .loop .j) (c .before .loop-test .taken), c .one .ensures, one-few (leb (c .before .before .before .before .args .later) (c .before .before .loop .j))), c .before .before .before .before .pre .0 .tile-most _)
 
 mul-high : tie.Need-mul-high Inv-loop μ-loop
-mul-high c = omega (arith, c .before .before .before .before .loop-test .taken, c .before .before .before .before .before .before .before .before .pre .0 .dimensions-most)
+mul-high c = omega (arith, c .before .before .loop-test .taken, c .before .before .before .before .before .pre .0 .spread-low, c .before .before .before .before .before .pre .0 .dimensions-most)
 
 array-write-high : tie.Need-array-write-high Inv-loop μ-loop
-array-write-high c = omega (arith, c .before .before .before .before .loop-test .taken, c .before .before .before .before .before .before .before .before .pre .0 .dimensions-most)
+array-write-high c = omega (arith, c .before .before .loop-test .taken, c .before .before .before .before .before .pre .0 .spread-low, c .before .before .before .before .before .pre .0 .dimensions-most)
 
 add-j : tie.Need-add-j Inv-loop μ-loop
-add-j c = omega (arith, c .before .before .before .before .loop-test .taken, c .before .before .before .before .before .before .before .before .pre .0 .dimensions-most)
+add-j c = omega (arith, c .before .before .loop-test .taken, c .before .before .before .before .before .pre .0 .spread-low, c .before .before .before .before .before .pre .0 .dimensions-most)
 
 loop-less : tie.Need-loop-less Inv-loop μ-loop
 loop-less c = search needs
 
 loop-again : tie.Need-loop-again Inv-loop μ-loop
-loop-again c = (filled-more _ _ _ _ _ (c .before .before .before .before .before .loop .inv .0) (c .before .before .before .before .loop-test .taken) (c .before .before .before .before .before .before .before .before .pre .0 .dimensions-most) (c .before .before .low-of .ensures), filled-more _ _ _ _ _ (c .before .before .before .before .before .loop .inv .1) (c .before .before .before .before .loop-test .taken) (c .before .before .before .before .before .before .before .before .pre .0 .dimensions-most) (c .high-of .ensures))
+loop-again c = (changed-more _ _ _ _ _ _ (c .before .before .before .loop .inv .0) (c .before .before .loop-test .taken) (omega (arith, c .before .before .before .before .before .pre .0 .spread-low, c .before .before .before .before .before .pre .0 .dimensions-most)) refl, changed-more _ _ _ _ _ _ (c .before .before .before .loop .inv .1) (c .before .before .loop-test .taken) (omega (arith, c .before .before .before .before .before .pre .0 .spread-low, c .before .before .before .before .before .pre .0 .dimensions-most)) (rw (c .end-of .ensures, c .before .one .ensures)))
 
 returns : tie.Need-returns Inv-loop μ-loop
-returns c = windowed _ (c .before .before .before .before .pre .0) _ _ _ _ (c .before .loop .inv .0) (c .before .loop .inv .1) (c .loop-test .left)
+returns c = windowed _ (c .before .before .before .pre .0) _ (c .before .before .before .pre .1 .0) (λ j. getD (c .before .before .before .args .t3) j 0 + getD (c .before .before .before .args .t4) j 0) _ _ _ (c .before .loop .inv .0) (c .before .loop .inv .1) (c .loop-test .left)
 
 pub window-of-spec : {M : Type 1} → statement M
 window-of-spec =
@@ -79,16 +93,19 @@ window-of-spec =
     loop-holds
     mul-k
     array-read-k
-    mul-low-of
-    array-read-low-of
-    low-of-requires
+    mul-to
+    array-read-to
+    mul-to-2
+    array-read-to-2
+    add-to
     mul-low
+    mul-low-2
     array-write-low
-    mul-high-of
-    array-read-high-of
-    mul-high-of-2
-    array-read-high-of-2
-    high-of-requires
+    one-requires
+    add-end-of
+    mul-end-of
+    array-read-end-of
+    end-of-requires
     mul-high
     array-write-high
     add-j

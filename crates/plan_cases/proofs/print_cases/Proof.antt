@@ -35,11 +35,11 @@ shared-slice-read-wide-2 c = search needs
 wide-requires-2 : tie.Need-wide-requires-2 Inv-loop μ-loop
 wide-requires-2 c κs = search needs
 
-mul-length : tie.Need-mul-length Inv-loop μ-loop
-mul-length c = search needs
+mul-head : tie.Need-mul-head Inv-loop μ-loop
+mul-head c = search needs
 
-add-length : tie.Need-add-length Inv-loop μ-loop
-add-length c = search needs
+add-head : tie.Need-add-head Inv-loop μ-loop
+add-head c = search needs
 
 add-from : tie.Need-add-from Inv-loop μ-loop
 add-from c = search needs
@@ -52,6 +52,9 @@ returns c = search needs
 
 add-to : tie.Need-add-to Inv-loop μ-loop
 add-to c = search needs
+
+cast-print-case : tie.Need-cast-print-case Inv-loop μ-loop
+cast-print-case c = search needs
 
 sub-print-case : tie.Need-sub-print-case Inv-loop μ-loop
 sub-print-case c = search needs
@@ -90,12 +93,13 @@ print-cases-spec =
     add-wide
     shared-slice-read-wide-2
     wide-requires-2
-    mul-length
-    add-length
+    mul-head
+    add-head
     add-from
     sub-if1
     returns
     add-to
+    cast-print-case
     sub-print-case
     part-print-case-start
     part-print-case-end

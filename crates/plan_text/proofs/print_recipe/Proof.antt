@@ -12,6 +12,7 @@ use Rattle.plan_text.proofs.print_figures.Reads as print-figures-reads
 use Rattle.plan_text.proofs.print_lines.Reads as print-lines-reads
 use Rattle.plan_text.proofs.print_refused.Reads as print-refused-reads
 use Rattle.nest.proofs.read.Reads as read-reads
+use Rattle.layout.proofs.route_of.Reads as route-of-reads
 use Rattle.layout.proofs.sizes_of.Reads as sizes-of-reads
 
 print-refused-requires : tie.Need-print-refused-requires
@@ -29,8 +30,14 @@ print-refused-requires-2 c κs = search needs
 returns-2 : tie.Need-returns-2
 returns-2 c = search needs
 
+route-of-requires : tie.Need-route-of-requires
+route-of-requires c κs = search needs
+
 sizes-of-requires : tie.Need-sizes-of-requires
-sizes-of-requires c κs = accepted-read _ _ (c .before .before .read .ensures .0) (c .before .if2 .left) (c .before .before .read .ensures .1 (c .before .if2 .left))
+sizes-of-requires c κs =
+    let read = c .before .before .before .read in
+    let if2 = c .before .before .if2 in
+    accepted-read _ _ (read .ensures .0) (if2 .left) (read .ensures .1 (if2 .left))
 
 fill-requires : tie.Need-fill-requires
 fill-requires c κs = search needs
@@ -42,7 +49,7 @@ print-figures-requires : tie.Need-print-figures-requires
 print-figures-requires c κs = search needs
 
 print-lines-requires : tie.Need-print-lines-requires
-print-lines-requires c κs = ((c .before .before .before .before .before .before .sizes-of .ensures, c .before .before .before .before .fill .ensures), ap (λ (x : Figures). x .messages) (c .before .before .figures-of .ensures))
+print-lines-requires c κs = ((c .before .before .before .before .before .before .sizes-of .ensures .0, c .before .before .before .before .fill .ensures), ap (λ (x : Figures). x .messages) (c .before .before .figures-of .ensures))
 
 returns-3 : tie.Need-returns-3
 returns-3 c = search needs
@@ -56,6 +63,7 @@ print-recipe-spec =
     read-requires
     print-refused-requires-2
     returns-2
+    route-of-requires
     sizes-of-requires
     fill-requires
     figures-of-requires

@@ -78,7 +78,7 @@ same-length : tie.Need-same-length Inv-loop μ-loop
 same-length c = c .before .loop .inv .stored .long
 
 returns : tie.Need-returns Inv-loop μ-loop
-returns c = let S = c .before .before .before .before .before in collecting.copied-all (c .before .loop .inv) (S .pre .1 .1) (S .pre .0 .cells) (c .loop-test .left)
+returns c = let S = c .before .before .before .before .before in collecting.copied-all (S .args .sizes .route) (c .before .loop .inv) (S .pre .1 .1) (S .pre .0 .cells) (c .loop-test .left)
 
 pub copy-cells-spec : {M : Type 1} → statement M
 copy-cells-spec =

@@ -38,7 +38,7 @@ same-length-2 : tie.Need-same-length-2
 same-length-2 c = search needs
 
 returns : tie.Need-returns
-returns c = let S = c .before .before .before .before .before .before .before .before .before .before in let A = S .args in let G = c .before .before .before .before .gather in λ l f. stages.gathered (A .nest) (stateOf (A .memories .now) (A .buffer .now) l (A .status .now)) (A .processor) (A .tile) (A .sizes .cells) (S .pre .0 .0 .cells) (G .last .1 .1 .1 .0) _ (G .last .1 .1 .1 .1 .1 .0) (parts.room (processors (A .nest)) (A .processor) (A .sizes .cells) (cells (A .nest)) _ (S .pre .0 .1 .1) (S .pre .0 .0 .cells) (S .pre .1 .0)) (G .kept .1 .1 .1 .0) (G .ensures .0) (G .ensures .1) (ap (λ (k : ℕ). setProgress l (A .processor) k 1 0) f)
+returns c = let S = c .before .before .before .before .before .before .before .before .before .before in let A = S .args in let G = c .before .before .before .before .gather in λ l f. stages.gathered (A .sizes .route) (A .nest) (stateOf (A .memories .now) (A .buffer .now) l (A .status .now)) (A .processor) (A .tile) (A .sizes .cells) (S .pre .0 .0 .cells) (G .last .1 .1 .1 .0) _ (G .last .1 .1 .1 .1 .1 .0) (parts.room (processors (A .nest)) (A .processor) (A .sizes .cells) (cells (A .nest)) _ (S .pre .0 .1 .1) (S .pre .0 .0 .cells) (S .pre .1 .0)) (G .kept .1 .1 .1 .0) (G .ensures .0) (G .ensures .1) (ap (λ (k : ℕ). setProgress l (A .processor) k 1 0) f)
 
 pub gather-stage-spec : {M : Type 1} → statement M
 gather-stage-spec =

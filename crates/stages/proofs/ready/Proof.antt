@@ -7,7 +7,7 @@ use Rattle.stages.proofs.ready.Statement.{statement}
 use Rattle.stages.proofs.ready.Tie as tie
 
 abbrev Inv-loop : tie.InvT-loop
-Inv-loop nest sizes lens status tile n j₀ j = parts.Looking nest tile status n j
+Inv-loop nest sizes lens status tile n j₀ j = parts.Looking (sizes .route) nest tile status n j
 
 abbrev μ-loop : tie.MeasureT-loop
 μ-loop nest sizes lens status tile n j₀ j = n - j
@@ -25,7 +25,7 @@ shared-slice-read-if1 : tie.Need-shared-slice-read-if1 Inv-loop μ-loop
 shared-slice-read-if1 c = let S = c .before .before .before .before .before .before in omega (arith, c .before .nth-at .ensures .number, c .before .nth-at .ensures .low, S .pre .1)
 
 returns : tie.Need-returns Inv-loop μ-loop
-returns c = let A = c .before .before .before .before .before .before .before .args in parts.look-no (A .nest) (A .tile) (A .status .now) (c .before .before .before .before .before .count-at .result) (c .before .before .before .before .loop .j) (c .before .before .before .before .loop .inv) (c .before .before .nth-at .result) (c .before .before .before .loop-test .taken) (c .before .before .nth-at .ensures) (c .if1 .taken)
+returns c = let A = c .before .before .before .before .before .before .before .args in parts.look-no (A .sizes .route) (A .nest) (A .tile) (A .status .now) (c .before .before .before .before .before .count-at .result) (c .before .before .before .before .loop .j) (c .before .before .before .before .loop .inv) (c .before .before .nth-at .result) (c .before .before .before .loop-test .taken) (c .before .before .nth-at .ensures) (c .if1 .taken)
 
 add-j : tie.Need-add-j Inv-loop μ-loop
 add-j c = omega arith
@@ -34,10 +34,10 @@ loop-less : tie.Need-loop-less Inv-loop μ-loop
 loop-less c = omega arith
 
 loop-again : tie.Need-loop-again Inv-loop μ-loop
-loop-again c = let A = c .before .before .before .before .before .before .before .args in parts.look-again (A .nest) (A .tile) (A .status .now) (c .before .before .before .before .before .count-at .result) (c .before .before .before .before .loop .j) (c .before .before .before .before .loop .inv) (c .before .before .nth-at .result) (c .before .before .before .loop-test .taken) (c .before .before .nth-at .ensures) (c .if1 .left)
+loop-again c = let A = c .before .before .before .before .before .before .before .args in parts.look-again (A .sizes .route) (A .nest) (A .tile) (A .status .now) (c .before .before .before .before .before .count-at .result) (c .before .before .before .before .loop .j) (c .before .before .before .before .loop .inv) (c .before .before .nth-at .result) (c .before .before .before .loop-test .taken) (c .before .before .nth-at .ensures) (c .if1 .left)
 
 returns-2 : tie.Need-returns-2 Inv-loop μ-loop
-returns-2 c = let A = c .before .before .before .before .args in parts.look-done (A .nest) (A .tile) (A .status .now) (c .before .before .count-at .result) (c .before .loop .j) (c .before .loop .inv) (c .loop-test .left)
+returns-2 c = let A = c .before .before .before .before .args in parts.look-done (A .sizes .route) (A .nest) (A .tile) (A .status .now) (c .before .before .count-at .result) (c .before .loop .j) (c .before .loop .inv) (c .loop-test .left)
 
 pub ready-spec : {M : Type 1} → statement M
 ready-spec =

@@ -34,7 +34,7 @@ part-put-message-end : tie.Need-part-put-message-end
 part-put-message-end c = let S = c .before .before .before .before in parts.room (processors (S .args .nest)) (S .args .processor) (S .args .sizes .cells) (cells (S .args .nest)) _ (S .pre .0 .1 .1) (S .pre .0 .0 .cells) (S .pre .1 .0 .0)
 
 put-message-requires : tie.Need-put-message-requires
-put-message-requires c κs = let S = c .before .before .before .before .before .before in let A = S .args in ((S .pre .0 .0, parts.placed-self (A .nest) _ (c .before .before .nth-at .result) (c .before .before .nth-at .ensures)), (parts.mid-length (A .memories .now) (A .processor * A .sizes .cells) (A .sizes .cells) (parts.room (processors (A .nest)) (A .processor) (A .sizes .cells) (cells (A .nest)) _ (S .pre .0 .1 .1) (S .pre .0 .0 .cells) (S .pre .1 .0 .0)) ∙ S .pre .0 .0 .cells, S .pre .1 .0 .1 .0))
+put-message-requires c κs = let S = c .before .before .before .before .before .before in let A = S .args in ((S .pre .0 .0, parts.placed-self (A .sizes .route) (A .nest) _ (c .before .before .nth-at .result) (c .before .before .nth-at .ensures)), (parts.mid-length (A .memories .now) (A .processor * A .sizes .cells) (A .sizes .cells) (parts.room (processors (A .nest)) (A .processor) (A .sizes .cells) (cells (A .nest)) _ (S .pre .0 .1 .1) (S .pre .0 .0 .cells) (S .pre .1 .0 .0)) ∙ S .pre .0 .0 .cells, S .pre .1 .0 .1 .0))
 
 slice-write-status : tie.Need-slice-write-status
 slice-write-status c = search needs
@@ -55,7 +55,7 @@ same-length-2 : tie.Need-same-length-2
 same-length-2 c = search needs
 
 returns : tie.Need-returns
-returns c = let S = c .before .before .before .before .before .before .before .before .before .before .before in let A = S .args in let n = c .before .count-at in λ l f g. stages.sent-is (A .nest) (stateOf (A .memories .now) (A .buffer .now) l (A .status .now)) (A .processor) (A .tile) (A .sizes .cells) (S .pre .0 .0 .cells) (A .sent) (n .result) (c .before .before .before .before .before .before .before .nth-at .result) (c .before .before .before .before .put-message .last .1 .1 .1 .0) _ g (S .pre .1 .1 .1) (c .before .before .before .before .before .before .before .nth-at .ensures) (n .ensures .0) (c .before .before .before .before .put-message .ensures) (c .next-record .ensures l (A .processor) ∙ ap (λ (k : ℕ). pick (ltb (A .sent + 1) (n .result)) (setProgress l (A .processor) k 2 (A .sent + 1)) (setProgress l (A .processor) (k + 1) 0 0)) f)
+returns c = let S = c .before .before .before .before .before .before .before .before .before .before .before in let A = S .args in let n = c .before .count-at in λ l f g. stages.sent-is (A .sizes .route) (A .nest) (stateOf (A .memories .now) (A .buffer .now) l (A .status .now)) (A .processor) (A .tile) (A .sizes .cells) (S .pre .0 .0 .cells) (A .sent) (n .result) (c .before .before .before .before .before .before .before .nth-at .result) (c .before .before .before .before .put-message .last .1 .1 .1 .0) _ g (S .pre .1 .1 .1) (c .before .before .before .before .before .before .before .nth-at .ensures) (n .ensures .0) (c .before .before .before .before .put-message .ensures) (c .next-record .ensures l (A .processor) ∙ ap (λ (k : ℕ). pick (ltb (A .sent + 1) (n .result)) (setProgress l (A .processor) k 2 (A .sent + 1)) (setProgress l (A .processor) (k + 1) 0 0)) f)
 
 pub send-stage-spec : {M : Type 1} → statement M
 send-stage-spec =

@@ -17,13 +17,13 @@ use Rattle.stages.proofs.tiles_left.Statement.{statement}
 use Rattle.stages.proofs.tiles_left.Tie as tie
 
 abbrev Inv-loop : tie.InvT-loop
-Inv-loop nest sizes progress n b₀ b = (b ≤ n) × (some (tilesLeft (planOf nest) (progressOnly progress)) b ≡ false)
+Inv-loop nest sizes progress n b₀ b = (b ≤ n) × (some (tilesLeft (planOf (sizes .route) nest) (progressOnly progress)) b ≡ false)
 
 abbrev μ-loop : tie.MeasureT-loop
 μ-loop nest sizes progress n b₀ b = n - b
 
 loop-holds : tie.Need-loop-holds Inv-loop μ-loop
-loop-holds c = let A = c .before .args in (omega arith, parts.some-start (tilesLeft (planOf (A .nest)) (progressOnly (A .progress .now))))
+loop-holds c = let A = c .before .args in (omega arith, parts.some-start (tilesLeft (planOf (A .sizes .route) (A .nest)) (progressOnly (A .progress .now))))
 
 mul-word-index : tie.Need-mul-word-index Inv-loop μ-loop
 mul-word-index c = let S = c .before .before .before in omega (arith, c .loop-test .taken, S .pre .0 .processors, S .pre .0 .accepted .processors-most)
@@ -42,7 +42,7 @@ tile-count-requires c κs = c .before .before .before .before .before .pre .0
 
 returns : tie.Need-returns Inv-loop μ-loop
 unfolding tilesLeft
-returns c = let S = c .before .before .before .before .before .before .before in let A = S .args in sym (some-one (tilesLeft (planOf (A .nest)) (progressOnly (A .progress .now))) (processors (A .nest)) (c .before .before .before .before .before .loop .b) (omega (arith, c .before .before .before .before .loop-test .taken, S .pre .0 .processors)) (lt-ltb (getD (A .progress .now) (3 * c .before .before .before .before .before .loop .b) 0) (length (tilesOf (planOf (A .nest)) (c .before .before .before .before .before .loop .b))) (omega (arith, c .before .before .word-index .ensures, c .before .tile-count .ensures .0, c .if1 .taken))))
+returns c = let S = c .before .before .before .before .before .before .before in let A = S .args in sym (some-one (tilesLeft (planOf (A .sizes .route) (A .nest)) (progressOnly (A .progress .now))) (processors (A .nest)) (c .before .before .before .before .before .loop .b) (omega (arith, c .before .before .before .before .loop-test .taken, S .pre .0 .processors)) (lt-ltb (getD (A .progress .now) (3 * c .before .before .before .before .before .loop .b) 0) (length (tilesOf (planOf (A .sizes .route) (A .nest)) (c .before .before .before .before .before .loop .b))) (omega (arith, c .before .before .word-index .ensures, c .before .tile-count .ensures .0, c .if1 .taken))))
 
 add-b : tie.Need-add-b Inv-loop μ-loop
 add-b c = omega arith
@@ -52,10 +52,10 @@ loop-less c = omega arith
 
 loop-again : tie.Need-loop-again Inv-loop μ-loop
 unfolding tilesLeft
-loop-again c = let S = c .before .before .before .before .before .before .before in let A = S .args in (omega (arith, c .before .before .before .before .loop-test .taken), parts.some-next (tilesLeft (planOf (A .nest)) (progressOnly (A .progress .now))) (c .before .before .before .before .before .loop .b) (c .before .before .before .before .before .loop .inv .1) (le-ltb (getD (A .progress .now) (3 * c .before .before .before .before .before .loop .b) 0) (length (tilesOf (planOf (A .nest)) (c .before .before .before .before .before .loop .b))) (omega (arith, c .before .before .word-index .ensures, c .before .tile-count .ensures .0, c .if1 .left))))
+loop-again c = let S = c .before .before .before .before .before .before .before in let A = S .args in (omega (arith, c .before .before .before .before .loop-test .taken), parts.some-next (tilesLeft (planOf (A .sizes .route) (A .nest)) (progressOnly (A .progress .now))) (c .before .before .before .before .before .loop .b) (c .before .before .before .before .before .loop .inv .1) (le-ltb (getD (A .progress .now) (3 * c .before .before .before .before .before .loop .b) 0) (length (tilesOf (planOf (A .sizes .route) (A .nest)) (c .before .before .before .before .before .loop .b))) (omega (arith, c .before .before .word-index .ensures, c .before .tile-count .ensures .0, c .if1 .left))))
 
 returns-2 : tie.Need-returns-2 Inv-loop μ-loop
-returns-2 c = let S = c .before .before .before in let A = S .args in parts.some-done (tilesLeft (planOf (A .nest)) (progressOnly (A .progress .now))) (c .before .loop .b) (processors (A .nest)) (omega (arith, c .before .loop .inv .0, S .pre .0 .processors)) (omega (arith, c .loop-test .left, S .pre .0 .processors)) (c .before .loop .inv .1)
+returns-2 c = let S = c .before .before .before in let A = S .args in parts.some-done (tilesLeft (planOf (A .sizes .route) (A .nest)) (progressOnly (A .progress .now))) (c .before .loop .b) (processors (A .nest)) (omega (arith, c .before .loop .inv .0, S .pre .0 .processors)) (omega (arith, c .loop-test .left, S .pre .0 .processors)) (c .before .loop .inv .1)
 
 pub tiles-left-spec : {M : Type 1} → statement M
 tiles-left-spec =

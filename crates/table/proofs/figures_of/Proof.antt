@@ -1,10 +1,8 @@
+-- `table::figures_of` meets its contract.
 use borrow.Author.Needs.{needs}
 use Rattle.table.proofs.Answers as L
 use Rattle.table.proofs.figures_of.Statement.{statement}
 use Rattle.table.proofs.figures_of.Tie as tie
-use Rattle.table.proofs.figures_of.Reads as reads
-use Rattle.table.proofs.figures_of.Lts as lts
-use Rattle.table.proofs.totals.Reads as totals-reads
 
 totals-requires : tie.Need-totals-requires
 totals-requires c κs = search needs
@@ -33,7 +31,9 @@ cast-t12 c = search needs
 returns : tie.Need-returns
 returns c =
     let start = c .before .before .before .before in
-    L.figures-are (start .args .nest) (start .args .sizes .tiles) (c .before .before .before .totals .result .messages) (c .before .before .before .totals .result .words) (start .pre .0 .tiles) (c .before .before .before .totals .ensures .0) (c .before .before .before .totals .ensures .1 .0)
+    L.figures-are (start .args .sizes .route) (start .args .nest) (start .args .sizes .tiles)
+    (c .before .before .before .totals .result .messages) (c .before .before .before .totals .result .words) (start .pre .0 .tiles)
+    (c .before .before .before .totals .ensures .0) (c .before .before .before .totals .ensures .1 .0)
 
 pub figures-of-spec : {M : Type 1} → statement M
 figures-of-spec =

@@ -6,19 +6,60 @@ use Rattle.table.proofs.twin_length.Statement.{statement}
 use Rattle.table.proofs.twin_length.Tie as tie
 
 mul-result : tie.Need-mul-result
-mul-result c = omega (arith, (L.twin-slot _ (c .before .pre .0 .accepted) _ (c .before .pre .0 .directions) _ (c .before .pre .1 .1 .0) _ _ (c .before .pre .1 .1 .1 .0) (c .before .pre .1 .1 .1 .1 .0)) .0, L.slot-under _ (c .before .pre .0 .accepted) _ (c .before .pre .0 .directions) _ (c .before .pre .1 .1 .0) _ (c .before .pre .1 .0), L.slots-few (c .before .args .nest) (c .before .pre .0 .accepted))
+mul-result c =
+    omega (
+      arith,
+      (L.twin-slot (c .before .args .sizes .route) _ _ (c .before .pre .0 .ways) _ (c .before .pre .1 .1 .0) _ _
+          (c .before .pre .1 .1 .1 .0) (c .before .pre .1 .1 .1 .1 .0)) .0,
+      L.slot-under (c .before .args .sizes .route) _ _
+          (c .before .pre .0 .ways) _ (c .before .pre .1 .1 .0) _ (c .before .pre .1 .0),
+      L.slots-few (c .before .args .sizes .route) _
+          (c .before .pre .0 .accepted),
+    )
 
 add-result : tie.Need-add-result
-add-result c = omega (arith, (L.twin-slot _ (c .before .pre .0 .accepted) _ (c .before .pre .0 .directions) _ (c .before .pre .1 .1 .0) _ _ (c .before .pre .1 .1 .1 .0) (c .before .pre .1 .1 .1 .1 .0)) .0, L.slot-under _ (c .before .pre .0 .accepted) _ (c .before .pre .0 .directions) _ (c .before .pre .1 .1 .0) _ (c .before .pre .1 .0), L.slots-few (c .before .args .nest) (c .before .pre .0 .accepted))
+add-result c =
+    omega (
+      arith,
+      (L.twin-slot (c .before .args .sizes .route) _ _ (c .before .pre .0 .ways) _ (c .before .pre .1 .1 .0) _ _
+          (c .before .pre .1 .1 .1 .0) (c .before .pre .1 .1 .1 .1 .0)) .0,
+      L.slot-under (c .before .args .sizes .route) _ _
+          (c .before .pre .0 .ways) _ (c .before .pre .1 .1 .0) _ (c .before .pre .1 .0),
+      L.slots-few (c .before .args .sizes .route) _
+          (c .before .pre .0 .accepted),
+    )
 
 mul-result-2 : tie.Need-mul-result-2
-mul-result-2 c = omega (arith, (L.twin-slot _ (c .before .pre .0 .accepted) _ (c .before .pre .0 .directions) _ (c .before .pre .1 .1 .0) _ _ (c .before .pre .1 .1 .1 .0) (c .before .pre .1 .1 .1 .1 .0)) .0, L.slot-under _ (c .before .pre .0 .accepted) _ (c .before .pre .0 .directions) _ (c .before .pre .1 .1 .0) _ (c .before .pre .1 .0), L.slots-few (c .before .args .nest) (c .before .pre .0 .accepted))
+mul-result-2 c =
+    omega (
+      arith,
+      (L.twin-slot (c .before .args .sizes .route) _ _ (c .before .pre .0 .ways) _ (c .before .pre .1 .1 .0) _ _
+          (c .before .pre .1 .1 .1 .0) (c .before .pre .1 .1 .1 .1 .0)) .0,
+      L.slot-under (c .before .args .sizes .route) _ _
+          (c .before .pre .0 .ways) _ (c .before .pre .1 .1 .0) _ (c .before .pre .1 .0),
+      L.slots-few (c .before .args .sizes .route) _
+          (c .before .pre .0 .accepted),
+    )
 
 element-copy-out-result : tie.Need-element-copy-out-result
-element-copy-out-result c = omega (arith, (L.twin-slot _ (c .before .pre .0 .accepted) _ (c .before .pre .0 .directions) _ (c .before .pre .1 .1 .0) _ _ (c .before .pre .1 .1 .1 .0) (c .before .pre .1 .1 .1 .1 .0)) .0, L.slot-under _ (c .before .pre .0 .accepted) _ (c .before .pre .0 .directions) _ (c .before .pre .1 .1 .0) _ (c .before .pre .1 .0), L.slots-few (c .before .args .nest) (c .before .pre .0 .accepted))
+element-copy-out-result c =
+    omega (
+      arith,
+      (L.twin-slot (c .before .args .sizes .route) _ _ (c .before .pre .0 .ways) _ (c .before .pre .1 .1 .0) _ _
+          (c .before .pre .1 .1 .1 .0) (c .before .pre .1 .1 .1 .1 .0)) .0,
+      L.slot-under (c .before .args .sizes .route) _ _
+          (c .before .pre .0 .ways) _ (c .before .pre .1 .1 .0) _ (c .before .pre .1 .0),
+      L.slots-few (c .before .args .sizes .route) _
+          (c .before .pre .0 .accepted),
+    )
 
 returns : tie.Need-returns
-returns c = c .before .before .pre .1 .1 .1 .1 .1 .each _ ((L.twin-slot _ (c .before .before .pre .0 .accepted) _ (c .before .before .pre .0 .directions) _ (c .before .before .pre .1 .1 .0) _ _ (c .before .before .pre .1 .1 .1 .0) (c .before .before .pre .1 .1 .1 .1 .0)) .0) ∙ (L.twin-slot _ (c .before .before .pre .0 .accepted) _ (c .before .before .pre .0 .directions) _ (c .before .before .pre .1 .1 .0) _ _ (c .before .before .pre .1 .1 .1 .0) (c .before .before .pre .1 .1 .1 .1 .0)) .1
+returns c =
+    let start = c .before .before in
+    start .pre .1 .1 .1 .1 .1 .each _ ((L.twin-slot (start .args .sizes .route) _ _ (start .pre .0 .ways) _ (start .pre .1 .1 .0) _ _
+    (start .pre .1 .1 .1 .0) (start .pre .1 .1 .1 .1 .0)) .0)
+    ∙ (L.twin-slot (start .args .sizes .route) _ _ (start .pre .0 .ways) _ (start .pre .1 .1 .0) _ _ (start .pre .1 .1 .1 .0)
+    (start .pre .1 .1 .1 .1 .0)) .1
 
 pub twin-length-spec : {M : Type 1} → statement M
 twin-length-spec =

@@ -7,6 +7,7 @@ use lib.ListN.{length, getD}
 use mathlib.Core.Path.{_≡_, refl, sym, _∙_}
 use mathlib.Core.List.{List}
 use Rattle.nest.specs.Nest.{cells}
+use Rattle.plan.specs.declared.Route.the-variants.{Direct}
 use Rattle.plan.proofs.Sound.{sound}
 use Rattle.layout.specs.Places.{Placed}
 use Rattle.layout.proofs.Cells.{four, zeros, lengths-countable}
@@ -127,7 +128,7 @@ loop-less c = search needs
 
 -- src/lib.rt:671:5
 loop-again : tie.Need-loop-again Inv-loop μ-loop Inv-loop2 μ-loop2
-loop-again c = (omega (arith, c .before .before .before .before .before .before .before .before .before .before .before .before .loop-test .taken), (group-next (c .before .before .before .before .before .before .before .before .before .before .before .before .before .loop .g) (λ (a : ℕ). Sweeping (c .before .before .before .before .before .before .before .before .before .before .before .before .before .before .before .before .before .before .before .before .before .before .before .before .before .before .before .before .args .nest) (c .before .before .before .before .before .before .before .before .before .before .before .before .before .before .before .before .before .before .before .before .before .before .before .before .before .before .before .before .args .source .now) (c .before .before .before .before .before .before .before .before .before .before .before .before .before .before .before .before .before .before .before .before .before .before .before .before .before .before .before .before .args .grid .now) (c .before .before .before .four-rows .last .1 .1 .0) (a * getD (c .before .before .before .before .before .before .before .before .before .before .before .before .before .before .before .before .before .before .before .before .before .before .before .before .before .before .before .before .args .nest .lengths) (c .before .before .before .before .before .before .before .before .before .before .before .before .before .before .before .before .before .before .before .before .before .before .before .before .before .before .before .before .args .nest .dimensions - 1) 0)) (sweeping-fours _ (c .before .before .before .before .before .before .before .before .before .before .before .before .before .before .before .before .before .before .before .before .before .before .before .before .before .before .before .before .pre .0 .accepted) _ _ (c .before .before .before .before .before .before .before .before .before .before .before .before .before .before .before .before .before .before .before .product .ensures) refl _ (fours-in _ _ _ (c .before .before .before .before .before .before .before .before .before .before .before .before .before .before .by-fours .ensures) (c .before .before .before .before .before .before .before .before .before .before .before .before .loop-test .taken)) _ _ _ _ (c .before .before .before .before .before .before .before .before .before .before .before .before .before .before .before .before .before .before .before .before .before .before .before .before .before .before .before .before .pre .1 .1) (c .before .before .before .before .before .before .before .before .before .before .before .before .before .loop .inv .1 .0) (sound _ (c .before .before .before .before .before .before .before .before .before .before .before .before .before .before .before .before .before .before .before .before .before .before .before .before .before .before .before .before .pre .0 .accepted)) (c .before .before .before .four-rows .ensures)), group-placed _ _ _ (c .before .before .before .before .before .before .before .before .before .before .before .before .before .loop .g) _ (c .next-place4 .ensures .next _ (c .before .before .before .before .before .before .before .before .before .next-place3 .ensures .next _ (c .before .before .before .before .before .before .before .before .before .before .next-place2 .ensures .next _ (c .before .before .before .before .before .before .before .before .before .before .before .next-place .ensures .next _ (c .before .before .before .before .before .before .before .before .before .before .before .before .before .loop .inv .1 .1)))))))
+loop-again c = (omega (arith, c .before .before .before .before .before .before .before .before .before .before .before .before .loop-test .taken), (group-next (c .before .before .before .before .before .before .before .before .before .before .before .before .before .loop .g) (λ (a : ℕ). Sweeping (c .before .before .before .before .before .before .before .before .before .before .before .before .before .before .before .before .before .before .before .before .before .before .before .before .before .before .before .before .args .nest) (c .before .before .before .before .before .before .before .before .before .before .before .before .before .before .before .before .before .before .before .before .before .before .before .before .before .before .before .before .args .source .now) (c .before .before .before .before .before .before .before .before .before .before .before .before .before .before .before .before .before .before .before .before .before .before .before .before .before .before .before .before .args .grid .now) (c .before .before .before .four-rows .last .1 .1 .0) (a * getD (c .before .before .before .before .before .before .before .before .before .before .before .before .before .before .before .before .before .before .before .before .before .before .before .before .before .before .before .before .args .nest .lengths) (c .before .before .before .before .before .before .before .before .before .before .before .before .before .before .before .before .before .before .before .before .before .before .before .before .before .before .before .before .args .nest .dimensions - 1) 0)) (sweeping-fours _ (c .before .before .before .before .before .before .before .before .before .before .before .before .before .before .before .before .before .before .before .before .before .before .before .before .before .before .before .before .pre .0 .accepted) _ _ (c .before .before .before .before .before .before .before .before .before .before .before .before .before .before .before .before .before .before .before .product .ensures) refl _ (fours-in _ _ _ (c .before .before .before .before .before .before .before .before .before .before .before .before .before .before .by-fours .ensures) (c .before .before .before .before .before .before .before .before .before .before .before .before .loop-test .taken)) _ _ _ _ (c .before .before .before .before .before .before .before .before .before .before .before .before .before .before .before .before .before .before .before .before .before .before .before .before .before .before .before .before .pre .1 .1) (c .before .before .before .before .before .before .before .before .before .before .before .before .before .loop .inv .1 .0) (sound Direct _ (c .before .before .before .before .before .before .before .before .before .before .before .before .before .before .before .before .before .before .before .before .before .before .before .before .before .before .before .before .pre .0 .accepted)) (c .before .before .before .four-rows .ensures)), group-placed _ _ _ (c .before .before .before .before .before .before .before .before .before .before .before .before .before .loop .g) _ (c .next-place4 .ensures .next _ (c .before .before .before .before .before .before .before .before .before .next-place3 .ensures .next _ (c .before .before .before .before .before .before .before .before .before .before .next-place2 .ensures .next _ (c .before .before .before .before .before .before .before .before .before .before .before .next-place .ensures .next _ (c .before .before .before .before .before .before .before .before .before .before .before .before .before .loop .inv .1 .1)))))))
 
 -- src/lib.rt:710:14
 mul-r : tie.Need-mul-r Inv-loop μ-loop Inv-loop2 μ-loop2
@@ -159,7 +160,7 @@ loop2-less c = search needs
 
 -- src/lib.rt:710:5
 loop2-again : tie.Need-loop2-again Inv-loop μ-loop Inv-loop2 μ-loop2
-loop2-again c = ((λ m l s. sweeping-turn _ (c .before .before .before .before .before .before .before .before .before .before .before .before .before .before .before .before .before .before .before .before .before .before .before .before .before .before .pre .0 .accepted) _ _ _ (c .before .before .before .before .before .before .before .before .before .before .before .before .before .before .before .before .before .product .ensures) refl _ m _ _ l (c .before .before .before .before .before .before .before .before .before .loop2 .inv .0 m l s) (c .before .before .before .before .before .before .before .before .loop2-test .taken) (sound _ (c .before .before .before .before .before .before .before .before .before .before .before .before .before .before .before .before .before .before .before .before .before .before .before .before .before .before .pre .0 .accepted)) (c .before .before .before .row .ensures)), c .next-place5 .ensures .next _ (c .before .before .before .before .before .before .before .before .before .loop2 .inv .1))
+loop2-again c = ((λ m l s. sweeping-turn _ (c .before .before .before .before .before .before .before .before .before .before .before .before .before .before .before .before .before .before .before .before .before .before .before .before .before .before .pre .0 .accepted) _ _ _ (c .before .before .before .before .before .before .before .before .before .before .before .before .before .before .before .before .before .product .ensures) refl _ m _ _ l (c .before .before .before .before .before .before .before .before .before .loop2 .inv .0 m l s) (c .before .before .before .before .before .before .before .before .loop2-test .taken) (sound Direct _ (c .before .before .before .before .before .before .before .before .before .before .before .before .before .before .before .before .before .before .before .before .before .before .before .before .before .before .pre .0 .accepted)) (c .before .before .before .row .ensures)), c .next-place5 .ensures .next _ (c .before .before .before .before .before .before .before .before .before .loop2 .inv .1))
 
 -- src/lib.rt:656:1
 same-length : tie.Need-same-length Inv-loop μ-loop Inv-loop2 μ-loop2

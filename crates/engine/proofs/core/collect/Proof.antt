@@ -20,39 +20,51 @@ returns c =
     let read = c .before .read in
     let if1 = c .if1 in
     let A = c .before .before .before .before .before .before .before .before .args in
-    λ l h. lines.collect-read (A .encoded .now) (A .source .now) (stateOf (A .memories .now) (A .buffer .now) l (A .status .now)) (A .grid .now) (read .result .number)
+    λ l h. lines.collect-read (A .encoded .now) (A .route) (A .source .now) (stateOf (A .memories .now) (A .buffer .now) l (A .status .now)) (A .grid .now) (read .result .number)
     (lines.read-number (A .encoded .now) (read .result) (read .ensures .0)) (if1 .taken)
 
+route-of-requires : tie.Need-route-of-requires
+route-of-requires c κs = search needs
+
 sizes-of-requires : tie.Need-sizes-of-requires
-sizes-of-requires c κs = accepted-read _ _ (c .before .before .read .ensures .0) (c .before .if1 .left) (c .before .before .read .ensures .1 (c .before .if1 .left))
+sizes-of-requires c κs =
+    let read = c .before .before .before .read in
+    let if1 = c .before .before .if1 in
+    accepted-read _ _ (read .ensures .0) (if1 .left) (read .ensures .1 (if1 .left))
 
 returns-2 : tie.Need-returns-2
 returns-2 c =
-    let read = c .before .before .before .before .before .read in
-    let if1 = c .before .before .before .before .if1 in
+    let read = c .before .before .before .before .before .before .read in
+    let if1 = c .before .before .before .before .before .if1 in
+    let route-of = c .before .before .before .route-of in
     let sizes-of = c .before .before .sizes-of in
     let if2 = c .if2 in
-    let A = c .before .before .before .before .before .before .before .before .before .before .before .before .args in
-    λ l h. lines.collect-grid (A .encoded .now) (A .source .now) (stateOf (A .memories .now) (A .buffer .now) l (A .status .now)) (A .grid .now) (read .result .nest)
-    (lines.opened (A .encoded .now) (read .result) (read .ensures .0) (if1 .left)) (λ q. if2 .taken (q ∙ sym (sizes-of .ensures .cells)))
+    let A = c .before .before .before .before .before .before .before .before .before .before .before .before .before .args in
+    let p = planOf (sizes-of .result .route) (read .result .nest) in
+    λ l h. lines.collect-grid (A .encoded .now) (A .route) (A .source .now) (stateOf (A .memories .now) (A .buffer .now) l (A .status .now)) (A .grid .now) p
+    (lines.opened (A .encoded .now) (read .result) (read .ensures .0) (if1 .left) (sizes-of .ensures .1 ∙ route-of .ensures)) (λ q. if2 .taken (q ∙ sym (sizes-of .ensures .0 .cells)))
 
 fill-requires : tie.Need-fill-requires
-fill-requires c κs = (c .before .before .before .sizes-of .ensures, refl)
+fill-requires c κs =
+    let sizes-of = c .before .before .before .sizes-of in
+    (sizes-of .ensures .0, refl)
 
 unfit-requires : tie.Need-unfit-requires
 unfit-requires c κs = search needs
 
 returns-3 : tie.Need-returns-3
 returns-3 c =
-    let read = c .before .before .before .before .before .before .before .before .before .before .read in
-    let if1 = c .before .before .before .before .before .before .before .before .before .if1 in
+    let read = c .before .before .before .before .before .before .before .before .before .before .before .read in
+    let if1 = c .before .before .before .before .before .before .before .before .before .before .if1 in
+    let route-of = c .before .before .before .before .before .before .before .before .route-of in
     let sizes-of = c .before .before .before .before .before .before .before .sizes-of in
     let if2 = c .before .before .before .before .before .if2 in
     let unfit = c .before .unfit in
     let if3 = c .if3 in
-    let A = c .before .before .before .before .before .before .before .before .before .before .before .before .before .before .before .before .before .args in
-    λ l h. lines.collect-unfit (A .encoded .now) (A .source .now) (stateOf (A .memories .now) (A .buffer .now) l (A .status .now)) (A .grid .now) (read .result .nest)
-    (lines.opened (A .encoded .now) (read .result) (read .ensures .0) (if1 .left)) (if2 .left ∙ sizes-of .ensures .cells)
+    let A = c .before .before .before .before .before .before .before .before .before .before .before .before .before .before .before .before .before .before .args in
+    let p = planOf (sizes-of .result .route) (read .result .nest) in
+    λ l h. lines.collect-unfit (A .encoded .now) (A .route) (A .source .now) (stateOf (A .memories .now) (A .buffer .now) l (A .status .now)) (A .grid .now) p
+    (lines.opened (A .encoded .now) (read .result) (read .ensures .0) (if1 .left) (sizes-of .ensures .1 ∙ route-of .ensures)) (if2 .left ∙ sizes-of .ensures .0 .cells)
     (unfit .result) (unfit .ensures .0 l h) (if3 .taken)
 
 sub-tiles-left : tie.Need-sub-tiles-left
@@ -63,63 +75,67 @@ part-tiles-left-start c = search needs
 
 part-tiles-left-end : tie.Need-part-tiles-left-end
 part-tiles-left-end c =
-    let S = c .before .before .before .before .before .before .before .before .before .before .before .before .before .before .before .before .before .before .before in
     let sizes-of = c .before .before .before .before .before .before .before .before .before .sizes-of in
     let unfit = c .before .before .before .unfit in
     let if3 = c .before .before .if3 in
+    let S = c .before .before .before .before .before .before .before .before .before .before .before .before .before .before .before .before .before .before .before .before in
     let A = S .args in
-    omega (arith, S .pre, reading.few-words _ _ (sizes-of .ensures) (A .progress .count) (unfit .ensures .1 (if3 .left)))
+    omega (arith, S .pre, reading.few-words _ _ (sizes-of .ensures .0) (A .progress .count) (unfit .ensures .1 (if3 .left)))
 
 tiles-left-requires : tie.Need-tiles-left-requires
 tiles-left-requires c κs =
-    let S = c .before .before .before .before .before .before .before .before .before .before .before .before .before .before .before .before .before .before .before .before in
-    let read = c .before .before .before .before .before .before .before .before .before .before .before .before .before .read in
+    let read = c .before .before .before .before .before .before .before .before .before .before .before .before .before .before .read in
     let sizes-of = c .before .before .before .before .before .before .before .before .before .before .sizes-of in
     let unfit = c .before .before .before .before .unfit in
     let if3 = c .before .before .before .if3 in
+    let S = c .before .before .before .before .before .before .before .before .before .before .before .before .before .before .before .before .before .before .before .before .before in
     let A = S .args in
-    let few = reading.few-words _ _ (sizes-of .ensures) (A .progress .count) (unfit .ensures .1 (if3 .left)) in
+    let p = planOf (sizes-of .result .route) (read .result .nest) in
+    let few = reading.few-words _ _ (sizes-of .ensures .0) (A .progress .count) (unfit .ensures .1 (if3 .left)) in
     let l = take (A .progress .count - 0) (drop 0 (A .progress .words)) in (
-      sizes-of .ensures,
-      lines.areas-are (planOf (read .result .nest)) (A .source .now) (stateOf (A .memories .now) (A .buffer .now) l (A .status .now))
-          (lines.unfit-none (planOf (read .result .nest)) (A .source .now) (stateOf (A .memories .now) (A .buffer .now) l (A .status .now)) (unfit .result)
+      sizes-of .ensures .0,
+      lines.areas-are p (A .source .now) (stateOf (A .memories .now) (A .buffer .now) l (A .status .now))
+          (lines.unfit-none p (A .source .now) (stateOf (A .memories .now) (A .buffer .now) l (A .status .now)) (unfit .result)
           (unfit .ensures .0 l (reading.part-carries (A .progress) (S .pre) few)) (if3 .left) .0) .progress,
     )
 
 returns-4 : tie.Need-returns-4
 returns-4 c =
-    let read = c .before .before .before .before .before .before .before .before .before .before .before .before .before .before .before .read in
-    let if1 = c .before .before .before .before .before .before .before .before .before .before .before .before .before .before .if1 in
+    let read = c .before .before .before .before .before .before .before .before .before .before .before .before .before .before .before .before .read in
+    let if1 = c .before .before .before .before .before .before .before .before .before .before .before .before .before .before .before .if1 in
+    let route-of = c .before .before .before .before .before .before .before .before .before .before .before .before .before .route-of in
     let sizes-of = c .before .before .before .before .before .before .before .before .before .before .before .before .sizes-of in
     let if2 = c .before .before .before .before .before .before .before .before .before .before .if2 in
     let unfit = c .before .before .before .before .before .before .unfit in
     let if3 = c .before .before .before .before .before .if3 in
     let tiles-left = c .before .tiles-left in
     let if4 = c .if4 in
-    let A = c .before .before .before .before .before .before .before .before .before .before .before .before .before .before .before .before .before .before .before .before .before .before .args in
-    let few = reading.few-words _ _ (sizes-of .ensures) (A .progress .count) (unfit .ensures .1 (if3 .left)) in
-    λ l h. lines.collect-left (A .encoded .now) (A .source .now) (stateOf (A .memories .now) (A .buffer .now) l (A .status .now)) (A .grid .now) (read .result .nest)
-    (lines.opened (A .encoded .now) (read .result) (read .ensures .0) (if1 .left)) (if2 .left ∙ sizes-of .ensures .cells)
+    let A = c .before .before .before .before .before .before .before .before .before .before .before .before .before .before .before .before .before .before .before .before .before .before .before .args in
+    let p = planOf (sizes-of .result .route) (read .result .nest) in
+    let few = reading.few-words _ _ (sizes-of .ensures .0) (A .progress .count) (unfit .ensures .1 (if3 .left)) in
+    λ l h. lines.collect-left (A .encoded .now) (A .route) (A .source .now) (stateOf (A .memories .now) (A .buffer .now) l (A .status .now)) (A .grid .now) p
+    (lines.opened (A .encoded .now) (read .result) (read .ensures .0) (if1 .left) (sizes-of .ensures .1 ∙ route-of .ensures)) (if2 .left ∙ sizes-of .ensures .0 .cells)
     (unfit .result) (unfit .ensures .0 l h) (if3 .left) (tiles-left .result)
-    (tiles-left .ensures ∙ sym (reading.left-as (read .result .nest) _ l (reading.part-is (A .progress) l few h))) (if4 .taken)
+    (tiles-left .ensures ∙ sym (reading.left-as p _ l (reading.part-is (A .progress) l few h))) (if4 .taken)
 
 copy-cells-requires : tie.Need-copy-cells-requires
 copy-cells-requires c κs =
-    let S = c .before .before .before .before .before .before .before .before .before .before .before .before .before .before .before .before .before .before .before .before .before .before .before in
-    let read = c .before .before .before .before .before .before .before .before .before .before .before .before .before .before .before .before .read in
+    let read = c .before .before .before .before .before .before .before .before .before .before .before .before .before .before .before .before .before .read in
     let sizes-of = c .before .before .before .before .before .before .before .before .before .before .before .before .before .sizes-of in
     let if2 = c .before .before .before .before .before .before .before .before .before .before .before .if2 in
     let unfit = c .before .before .before .before .before .before .before .unfit in
     let if3 = c .before .before .before .before .before .before .if3 in
+    let S = c .before .before .before .before .before .before .before .before .before .before .before .before .before .before .before .before .before .before .before .before .before .before .before .before in
     let A = S .args in
-    let few = reading.few-words _ _ (sizes-of .ensures) (A .progress .count) (unfit .ensures .1 (if3 .left)) in
+    let p = planOf (sizes-of .result .route) (read .result .nest) in
+    let few = reading.few-words _ _ (sizes-of .ensures .0) (A .progress .count) (unfit .ensures .1 (if3 .left)) in
     let l = take (A .progress .count - 0) (drop 0 (A .progress .words)) in (
-      sizes-of .ensures,
+      sizes-of .ensures .0,
       (
-        lines.areas-are (planOf (read .result .nest)) (A .source .now) (stateOf (A .memories .now) (A .buffer .now) l (A .status .now))
-            (lines.unfit-none (planOf (read .result .nest)) (A .source .now) (stateOf (A .memories .now) (A .buffer .now) l (A .status .now)) (unfit .result)
+        lines.areas-are p (A .source .now) (stateOf (A .memories .now) (A .buffer .now) l (A .status .now))
+            (lines.unfit-none p (A .source .now) (stateOf (A .memories .now) (A .buffer .now) l (A .status .now)) (unfit .result)
             (unfit .ensures .0 l (reading.part-carries (A .progress) (S .pre) few)) (if3 .left) .0) .memories,
-        if2 .left ∙ sizes-of .ensures .cells,
+        if2 .left ∙ sizes-of .ensures .0 .cells,
       ),
     )
 
@@ -128,8 +144,9 @@ same-length c = search needs
 
 returns-5 : tie.Need-returns-5
 returns-5 c =
-    let read = c .before .before .before .before .before .before .before .before .before .before .before .before .before .before .before .before .before .before .before .read in
-    let if1 = c .before .before .before .before .before .before .before .before .before .before .before .before .before .before .before .before .before .before .if1 in
+    let read = c .before .before .before .before .before .before .before .before .before .before .before .before .before .before .before .before .before .before .before .before .read in
+    let if1 = c .before .before .before .before .before .before .before .before .before .before .before .before .before .before .before .before .before .before .before .if1 in
+    let route-of = c .before .before .before .before .before .before .before .before .before .before .before .before .before .before .before .before .before .route-of in
     let sizes-of = c .before .before .before .before .before .before .before .before .before .before .before .before .before .before .before .before .sizes-of in
     let if2 = c .before .before .before .before .before .before .before .before .before .before .before .before .before .before .if2 in
     let unfit = c .before .before .before .before .before .before .before .before .before .before .unfit in
@@ -137,12 +154,13 @@ returns-5 c =
     let tiles-left = c .before .before .before .before .before .tiles-left in
     let if4 = c .before .before .before .before .if4 in
     let copy-cells = c .before .before .copy-cells in
-    let A = c .before .before .before .before .before .before .before .before .before .before .before .before .before .before .before .before .before .before .before .before .before .before .before .before .before .before .args in
-    let few = reading.few-words _ _ (sizes-of .ensures) (A .progress .count) (unfit .ensures .1 (if3 .left)) in
-    λ l h. lines.collect-done (A .encoded .now) (A .source .now) (stateOf (A .memories .now) (A .buffer .now) l (A .status .now)) (A .grid .now) (read .result .nest)
-    (lines.opened (A .encoded .now) (read .result) (read .ensures .0) (if1 .left)) (if2 .left ∙ sizes-of .ensures .cells)
+    let A = c .before .before .before .before .before .before .before .before .before .before .before .before .before .before .before .before .before .before .before .before .before .before .before .before .before .before .before .args in
+    let p = planOf (sizes-of .result .route) (read .result .nest) in
+    let few = reading.few-words _ _ (sizes-of .ensures .0) (A .progress .count) (unfit .ensures .1 (if3 .left)) in
+    λ l h. lines.collect-done (A .encoded .now) (A .route) (A .source .now) (stateOf (A .memories .now) (A .buffer .now) l (A .status .now)) (A .grid .now) p
+    (lines.opened (A .encoded .now) (read .result) (read .ensures .0) (if1 .left) (sizes-of .ensures .1 ∙ route-of .ensures)) (if2 .left ∙ sizes-of .ensures .0 .cells)
     (unfit .result) (unfit .ensures .0 l h) (if3 .left) (tiles-left .result)
-    (tiles-left .ensures ∙ sym (reading.left-as (read .result .nest) _ l (reading.part-is (A .progress) l few h))) (copy-cells .last .1 .1 .1 .0) (if4 .left) (copy-cells .ensures)
+    (tiles-left .ensures ∙ sym (reading.left-as p _ l (reading.part-is (A .progress) l few h))) (copy-cells .last .1 .1 .1 .0) (if4 .left) (copy-cells .ensures)
 
 pub collect-spec : {M : Type 1} → statement M
 collect-spec =
@@ -150,6 +168,7 @@ collect-spec =
     (tie.spec
     read-requires
     returns
+    route-of-requires
     sizes-of-requires
     returns-2
     fill-requires

@@ -1,7 +1,8 @@
 -- Each return is the call by the line that counts.
-use mathlib.Core.Path.{refl}
+use mathlib.Core.Path.{refl, _∙_}
 use Rattle.nest.proofs.Answers.{accepted-read}
 use Rattle.machine.specs.Machine.{stateOf}
+use Rattle.plan.specs.Messages.{planOf}
 use Rattle.engine.proofs.Lines as lines
 use borrow.Author.Needs.{needs}
 use Rattle.engine.proofs.core.deliver.Statement.{statement}
@@ -11,13 +12,21 @@ read-requires : tie.Need-read-requires
 read-requires c κs = search needs
 
 returns : tie.Need-returns
-returns c = let A = c .before .before .before .before .before .before .before .args in λ l h. lines.deliver-read (A .encoded .now) (A .source .now) (stateOf (A .memories .now) (A .buffer .now) l (A .status .now)) (A .message) (c .before .read .result .number) (lines.read-number (A .encoded .now) (c .before .read .result) (c .before .read .ensures .0)) (c .if1 .taken)
+returns c = let A = c .before .before .before .before .before .before .before .args in λ l h. lines.deliver-read (A .encoded .now) (A .route) (A .source .now) (stateOf (A .memories .now) (A .buffer .now) l (A .status .now)) (A .message) (c .before .read .result .number) (lines.read-number (A .encoded .now) (c .before .read .result) (c .before .read .ensures .0)) (c .if1 .taken)
+
+route-of-requires : tie.Need-route-of-requires
+route-of-requires c κs = search needs
 
 sizes-of-requires : tie.Need-sizes-of-requires
-sizes-of-requires c κs = accepted-read _ _ (c .before .before .read .ensures .0) (c .before .if1 .left) (c .before .before .read .ensures .1 (c .before .if1 .left))
+sizes-of-requires c κs =
+    let read = c .before .before .before .read in
+    let if1 = c .before .before .if1 in
+    accepted-read _ _ (read .ensures .0) (if1 .left) (read .ensures .1 (if1 .left))
 
 fill-requires : tie.Need-fill-requires
-fill-requires c κs = (c .before .sizes-of .ensures, refl)
+fill-requires c κs =
+    let sizes-of = c .before .sizes-of in
+    (sizes-of .ensures .0, refl)
 
 unfit-requires : tie.Need-unfit-requires
 unfit-requires c κs = search needs
@@ -26,13 +35,32 @@ same-length : tie.Need-same-length
 same-length c = search needs
 
 returns-2 : tie.Need-returns-2
-returns-2 c = let A = c .before .before .before .before .before .before .before .before .before .before .before .before .before .before .before .args in λ l h. lines.deliver-unfit (A .encoded .now) (A .source .now) (stateOf (A .memories .now) (A .buffer .now) l (A .status .now)) (A .message) (c .before .before .before .before .before .before .before .before .before .read .result .nest) (lines.opened (A .encoded .now) (c .before .before .before .before .before .before .before .before .before .read .result) (c .before .before .before .before .before .before .before .before .before .read .ensures .0) (c .before .before .before .before .before .before .before .before .if1 .left)) (c .before .unfit .result) (c .before .unfit .ensures .0 l h) (c .if2 .taken)
+returns-2 c =
+    let read = c .before .before .before .before .before .before .before .before .before .before .read in
+    let if1 = c .before .before .before .before .before .before .before .before .before .if1 in
+    let route-of = c .before .before .before .before .before .before .before .route-of in
+    let sizes-of = c .before .before .before .before .before .before .sizes-of in
+    let if2 = c .if2 in
+    let unfit = c .before .unfit in
+    let A = c .before .before .before .before .before .before .before .before .before .before .before .before .before .before .before .before .args in
+    let p = planOf (sizes-of .result .route) (read .result .nest) in
+    λ l h. lines.deliver-unfit (A .encoded .now) (A .route) (A .source .now) (stateOf (A .memories .now) (A .buffer .now) l (A .status .now)) (A .message) p (lines.opened (A .encoded .now) (read .result) (read .ensures .0) (if1 .left) (sizes-of .ensures .1 ∙ route-of .ensures)) (unfit .result) (unfit .ensures .0 l h) (if2 .taken)
 
 same-length-2 : tie.Need-same-length-2
 same-length-2 c = search needs
 
 returns-3 : tie.Need-returns-3
-returns-3 c = let A = c .before .before .before .before .before .before .before .before .before .before .before .before .before .before .before .before .args in λ l h. lines.deliver-beyond (A .encoded .now) (A .source .now) (stateOf (A .memories .now) (A .buffer .now) l (A .status .now)) (A .message) (c .before .before .before .before .before .before .before .before .before .before .read .result .nest) (lines.opened (A .encoded .now) (c .before .before .before .before .before .before .before .before .before .before .read .result) (c .before .before .before .before .before .before .before .before .before .before .read .ensures .0) (c .before .before .before .before .before .before .before .before .before .if1 .left)) (c .before .before .unfit .result) (c .before .before .unfit .ensures .0 l h) (c .before .if2 .left) (c .if3 .taken)
+returns-3 c =
+    let read = c .before .before .before .before .before .before .before .before .before .before .before .read in
+    let if1 = c .before .before .before .before .before .before .before .before .before .before .if1 in
+    let route-of = c .before .before .before .before .before .before .before .before .route-of in
+    let sizes-of = c .before .before .before .before .before .before .before .sizes-of in
+    let if2 = c .before .if2 in
+    let unfit = c .before .before .unfit in
+    let if3 = c .if3 in
+    let A = c .before .before .before .before .before .before .before .before .before .before .before .before .before .before .before .before .before .args in
+    let p = planOf (sizes-of .result .route) (read .result .nest) in
+    λ l h. lines.deliver-beyond (A .encoded .now) (A .route) (A .source .now) (stateOf (A .memories .now) (A .buffer .now) l (A .status .now)) (A .message) p (lines.opened (A .encoded .now) (read .result) (read .ensures .0) (if1 .left) (sizes-of .ensures .1 ∙ route-of .ensures)) (unfit .result) (unfit .ensures .0 l h) (if2 .left) (if3 .taken)
 
 slice-read-if4 : tie.Need-slice-read-if4
 slice-read-if4 c = search needs
@@ -41,7 +69,18 @@ same-length-3 : tie.Need-same-length-3
 same-length-3 c = search needs
 
 returns-4 : tie.Need-returns-4
-returns-4 c = let A = c .before .before .before .before .before .before .before .before .before .before .before .before .before .before .before .before .before .before .args in λ l h. lines.deliver-none (A .encoded .now) (A .source .now) (stateOf (A .memories .now) (A .buffer .now) l (A .status .now)) (A .message) (c .before .before .before .before .before .before .before .before .before .before .before .before .read .result .nest) (lines.opened (A .encoded .now) (c .before .before .before .before .before .before .before .before .before .before .before .before .read .result) (c .before .before .before .before .before .before .before .before .before .before .before .before .read .ensures .0) (c .before .before .before .before .before .before .before .before .before .before .before .if1 .left)) (c .before .before .before .before .unfit .result) (c .before .before .before .before .unfit .ensures .0 l h) (c .before .before .before .if2 .left) (c .before .before .if3 .left) (c .if4 .taken)
+returns-4 c =
+    let read = c .before .before .before .before .before .before .before .before .before .before .before .before .before .read in
+    let if1 = c .before .before .before .before .before .before .before .before .before .before .before .before .if1 in
+    let route-of = c .before .before .before .before .before .before .before .before .before .before .route-of in
+    let sizes-of = c .before .before .before .before .before .before .before .before .before .sizes-of in
+    let if2 = c .before .before .before .if2 in
+    let unfit = c .before .before .before .before .unfit in
+    let if3 = c .before .before .if3 in
+    let if4 = c .if4 in
+    let A = c .before .before .before .before .before .before .before .before .before .before .before .before .before .before .before .before .before .before .before .args in
+    let p = planOf (sizes-of .result .route) (read .result .nest) in
+    λ l h. lines.deliver-none (A .encoded .now) (A .route) (A .source .now) (stateOf (A .memories .now) (A .buffer .now) l (A .status .now)) (A .message) p (lines.opened (A .encoded .now) (read .result) (read .ensures .0) (if1 .left) (sizes-of .ensures .1 ∙ route-of .ensures)) (unfit .result) (unfit .ensures .0 l h) (if2 .left) (if3 .left) (if4 .taken)
 
 slice-write-status : tie.Need-slice-write-status
 slice-write-status c = search needs
@@ -50,7 +89,18 @@ same-length-4 : tie.Need-same-length-4
 same-length-4 c = search needs
 
 returns-5 : tie.Need-returns-5
-returns-5 c = let A = c .before .before .before .before .before .before .before .before .before .before .before .before .before .before .before .before .before .before .args in λ l h. lines.deliver-done (A .encoded .now) (A .source .now) (stateOf (A .memories .now) (A .buffer .now) l (A .status .now)) (A .message) (c .before .before .before .before .before .before .before .before .before .before .before .before .read .result .nest) (lines.opened (A .encoded .now) (c .before .before .before .before .before .before .before .before .before .before .before .before .read .result) (c .before .before .before .before .before .before .before .before .before .before .before .before .read .ensures .0) (c .before .before .before .before .before .before .before .before .before .before .before .if1 .left)) (c .before .before .before .before .unfit .result) (c .before .before .before .before .unfit .ensures .0 l h) (c .before .before .before .if2 .left) (c .before .before .if3 .left) (c .if4 .left)
+returns-5 c =
+    let read = c .before .before .before .before .before .before .before .before .before .before .before .before .before .read in
+    let if1 = c .before .before .before .before .before .before .before .before .before .before .before .before .if1 in
+    let route-of = c .before .before .before .before .before .before .before .before .before .before .route-of in
+    let sizes-of = c .before .before .before .before .before .before .before .before .before .sizes-of in
+    let if2 = c .before .before .before .if2 in
+    let unfit = c .before .before .before .before .unfit in
+    let if3 = c .before .before .if3 in
+    let if4 = c .if4 in
+    let A = c .before .before .before .before .before .before .before .before .before .before .before .before .before .before .before .before .before .before .before .args in
+    let p = planOf (sizes-of .result .route) (read .result .nest) in
+    λ l h. lines.deliver-done (A .encoded .now) (A .route) (A .source .now) (stateOf (A .memories .now) (A .buffer .now) l (A .status .now)) (A .message) p (lines.opened (A .encoded .now) (read .result) (read .ensures .0) (if1 .left) (sizes-of .ensures .1 ∙ route-of .ensures)) (unfit .result) (unfit .ensures .0 l h) (if2 .left) (if3 .left) (if4 .left)
 
 pub deliver-spec : {M : Type 1} → statement M
 deliver-spec =
@@ -58,6 +108,7 @@ deliver-spec =
     (tie.spec
     read-requires
     returns
+    route-of-requires
     sizes-of-requires
     fill-requires
     unfit-requires

@@ -6,6 +6,7 @@ use native.Mathlib.Omega.{arith}
 use borrow.Author.Tests.{not-true, not-false}
 use Rattle.nest.proofs.Answers.{accepted-read}
 use Rattle.machine.specs.Machine.{stateOf}
+use Rattle.plan.specs.Messages.{planOf}
 use Rattle.engine.specs.Calls.{answer}
 use Rattle.engine.proofs.Lines as lines
 use Rattle.engine.proofs.Reading as reading
@@ -17,13 +18,21 @@ read-requires : tie.Need-read-requires
 read-requires c κs = search needs
 
 returns : tie.Need-returns
-returns c = let A = c .before .before .before .before .before .before .before .args in λ l h. ap (λ (k : List ℕ). answer (c .before .read .result .number) (stateOf (A .memories .now) (A .buffer .now) k (A .status .now))) (sym (reading.zeros-after-no l _ (c .if1 .taken))) ∙ lines.fresh-read (A .encoded .now) (A .source .now) (stateOf (A .memories .now) (A .buffer .now) l (A .status .now)) (c .before .read .result .number) (lines.read-number (A .encoded .now) (c .before .read .result) (c .before .read .ensures .0)) (c .if1 .taken)
+returns c = let A = c .before .before .before .before .before .before .before .args in λ l h. ap (λ (k : List ℕ). answer (c .before .read .result .number) (stateOf (A .memories .now) (A .buffer .now) k (A .status .now))) (sym (reading.zeros-after-no l _ (c .if1 .taken))) ∙ lines.fresh-read (A .encoded .now) (A .route) (A .source .now) (stateOf (A .memories .now) (A .buffer .now) l (A .status .now)) (c .before .read .result .number) (lines.read-number (A .encoded .now) (c .before .read .result) (c .before .read .ensures .0)) (c .if1 .taken)
+
+route-of-requires : tie.Need-route-of-requires
+route-of-requires c κs = search needs
 
 sizes-of-requires : tie.Need-sizes-of-requires
-sizes-of-requires c κs = accepted-read _ _ (c .before .before .read .ensures .0) (c .before .if1 .left) (c .before .before .read .ensures .1 (c .before .if1 .left))
+sizes-of-requires c κs =
+    let read = c .before .before .before .read in
+    let if1 = c .before .before .if1 in
+    accepted-read _ _ (read .ensures .0) (if1 .left) (read .ensures .1 (if1 .left))
 
 fill-requires : tie.Need-fill-requires
-fill-requires c κs = (c .before .sizes-of .ensures, refl)
+fill-requires c κs =
+    let sizes-of = c .before .sizes-of in
+    (sizes-of .ensures .0, refl)
 
 areas-fit-requires : tie.Need-areas-fit-requires
 areas-fit-requires c κs = search needs
@@ -38,7 +47,16 @@ same-length-3 : tie.Need-same-length-3
 same-length-3 c = search needs
 
 returns-2 : tie.Need-returns-2
-returns-2 c = let A = c .before .before .before .before .before .before .before .before .before .before .before .before .before .before .before .before .before .args in λ l h. ap (λ (k : List ℕ). answer 9 (stateOf (A .memories .now) (A .buffer .now) k (A .status .now))) (sym (reading.zeros-after-no l 9 (λ q. omega arith))) ∙ lines.fresh-area (A .encoded .now) (A .source .now) (stateOf (A .memories .now) (A .buffer .now) l (A .status .now)) (c .before .before .before .before .before .before .before .before .before .before .before .read .result .nest) (lines.opened (A .encoded .now) (c .before .before .before .before .before .before .before .before .before .before .before .read .result) (c .before .before .before .before .before .before .before .before .before .before .before .read .ensures .0) (c .before .before .before .before .before .before .before .before .before .before .if1 .left)) (sym (c .before .areas-fit .ensures .0 l h) ∙ not-true _ (c .if2 .taken))
+returns-2 c =
+    let read = c .before .before .before .before .before .before .before .before .before .before .before .before .read in
+    let if1 = c .before .before .before .before .before .before .before .before .before .before .before .if1 in
+    let route-of = c .before .before .before .before .before .before .before .before .before .route-of in
+    let sizes-of = c .before .before .before .before .before .before .before .before .sizes-of in
+    let if2 = c .if2 in
+    let areas-fit = c .before .areas-fit in
+    let A = c .before .before .before .before .before .before .before .before .before .before .before .before .before .before .before .before .before .before .args in
+    let p = planOf (sizes-of .result .route) (read .result .nest) in
+    λ l h. ap (λ (k : List ℕ). answer 9 (stateOf (A .memories .now) (A .buffer .now) k (A .status .now))) (sym (reading.zeros-after-no l 9 (λ q. omega arith))) ∙ lines.fresh-area (A .encoded .now) (A .route) (A .source .now) (stateOf (A .memories .now) (A .buffer .now) l (A .status .now)) p (lines.opened (A .encoded .now) (read .result) (read .ensures .0) (if1 .left) (sizes-of .ensures .1 ∙ route-of .ensures)) (sym (areas-fit .ensures .0 l h) ∙ not-true _ (if2 .taken))
 
 zero-words-requires : tie.Need-zero-words-requires
 zero-words-requires c κs = search needs
@@ -59,7 +77,19 @@ same-length-6 : tie.Need-same-length-6
 same-length-6 c = search needs
 
 returns-3 : tie.Need-returns-3
-returns-3 c = let A = c .before .before .before .before .before .before .before .before .before .before .before .before .before .before .before .before .before .before .before .before .before .before .before .before .before .before .before .before .before .args in λ l h. lines.fresh-done (A .encoded .now) (A .source .now) (stateOf (A .memories .now) (A .buffer .now) l (A .status .now)) (c .before .before .before .before .before .before .before .before .before .before .before .before .before .before .before .before .before .before .before .before .before .before .before .read .result .nest) (lines.opened (A .encoded .now) (c .before .before .before .before .before .before .before .before .before .before .before .before .before .before .before .before .before .before .before .before .before .before .before .read .result) (c .before .before .before .before .before .before .before .before .before .before .before .before .before .before .before .before .before .before .before .before .before .before .before .read .ensures .0) (c .before .before .before .before .before .before .before .before .before .before .before .before .before .before .before .before .before .before .before .before .before .before .if1 .left)) (sym (c .before .before .before .before .before .before .before .before .before .before .before .before .before .areas-fit .ensures .0 l h) ∙ not-false _ (c .before .before .before .before .before .before .before .before .before .before .before .before .if2 .left)) _ _ _ _ (c .before .before .before .before .before .before .before .before .before .before .zero-words .ensures) (c .before .before .before .before .before .before .zero-words2 .ensures) (sym (reading.zeros-after-yes l)) (c .before .before .zero-bytes .ensures)
+returns-3 c =
+    let read = c .before .before .before .before .before .before .before .before .before .before .before .before .before .before .before .before .before .before .before .before .before .before .before .before .read in
+    let if1 = c .before .before .before .before .before .before .before .before .before .before .before .before .before .before .before .before .before .before .before .before .before .before .before .if1 in
+    let route-of = c .before .before .before .before .before .before .before .before .before .before .before .before .before .before .before .before .before .before .before .before .before .route-of in
+    let sizes-of = c .before .before .before .before .before .before .before .before .before .before .before .before .before .before .before .before .before .before .before .before .sizes-of in
+    let if2 = c .before .before .before .before .before .before .before .before .before .before .before .before .if2 in
+    let areas-fit = c .before .before .before .before .before .before .before .before .before .before .before .before .before .areas-fit in
+    let zero-words = c .before .before .before .before .before .before .before .before .before .before .zero-words in
+    let zero-words2 = c .before .before .before .before .before .before .zero-words2 in
+    let zero-bytes = c .before .before .zero-bytes in
+    let A = c .before .before .before .before .before .before .before .before .before .before .before .before .before .before .before .before .before .before .before .before .before .before .before .before .before .before .before .before .before .before .args in
+    let p = planOf (sizes-of .result .route) (read .result .nest) in
+    λ l h. lines.fresh-done (A .encoded .now) (A .route) (A .source .now) (stateOf (A .memories .now) (A .buffer .now) l (A .status .now)) p (lines.opened (A .encoded .now) (read .result) (read .ensures .0) (if1 .left) (sizes-of .ensures .1 ∙ route-of .ensures)) (sym (areas-fit .ensures .0 l h) ∙ not-false _ (if2 .left)) _ _ _ _ (zero-words .ensures) (zero-words2 .ensures) (sym (reading.zeros-after-yes l)) (zero-bytes .ensures)
 
 pub fresh-spec : {M : Type 1} → statement M
 fresh-spec =
@@ -67,6 +97,7 @@ fresh-spec =
     (tie.spec
     read-requires
     returns
+    route-of-requires
     sizes-of-requires
     fill-requires
     areas-fit-requires

@@ -1,6 +1,6 @@
 -- Each return is the call by the line that counts.
 use Prim.Native.Nat.{ℕ, _-_}
-use mathlib.Core.Path.{refl, subst, _≡_}
+use mathlib.Core.Path.{_≡_, refl, subst, _∙_}
 use mathlib.Core.List.{List}
 use native.Mathlib.Omega.{arith}
 use lib.ListN.{take, drop}
@@ -28,14 +28,22 @@ returns c =
     let refused = c .refused in
     let A = c .before .before .before .before .before .before .before .before .args in
     λ l h. reading.refuses (refused .result) (read .result .number) (refused .ensures) (if1 .taken) (stateOf (A .memories .now) (A .buffer .now) l (A .status .now)) (A .processor) _
-    (lines.turn-read (A .encoded .now) (A .source .now) (stateOf (A .memories .now) (A .buffer .now) l (A .status .now)) (A .processor) (read .result .number)
+    (lines.turn-read (A .encoded .now) (A .route) (A .source .now) (stateOf (A .memories .now) (A .buffer .now) l (A .status .now)) (A .processor) (read .result .number)
     (lines.read-number (A .encoded .now) (read .result) (read .ensures .0)) (if1 .taken))
 
+route-of-requires : tie.Need-route-of-requires
+route-of-requires c κs = search needs
+
 sizes-of-requires : tie.Need-sizes-of-requires
-sizes-of-requires c κs = accepted-read _ _ (c .before .before .read .ensures .0) (c .before .if1 .left) (c .before .before .read .ensures .1 (c .before .if1 .left))
+sizes-of-requires c κs =
+    let read = c .before .before .before .read in
+    let if1 = c .before .before .if1 in
+    accepted-read _ _ (read .ensures .0) (if1 .left) (read .ensures .1 (if1 .left))
 
 fill-requires : tie.Need-fill-requires
-fill-requires c κs = (c .before .sizes-of .ensures, refl)
+fill-requires c κs =
+    let sizes-of = c .before .sizes-of in
+    (sizes-of .ensures .0, refl)
 
 unfit-requires : tie.Need-unfit-requires
 unfit-requires c κs = search needs
@@ -54,15 +62,18 @@ same-length-3 c = search needs
 
 returns-2 : tie.Need-returns-2
 returns-2 c =
-    let read = c .before .before .before .before .before .before .before .before .before .before .before .before .read in
-    let if1 = c .before .before .before .before .before .before .before .before .before .before .before .if1 in
-    let unfit = c .before .before .unfit in
+    let read = c .before .before .before .before .before .before .before .before .before .before .before .before .before .read in
+    let if1 = c .before .before .before .before .before .before .before .before .before .before .before .before .if1 in
+    let route-of = c .before .before .before .before .before .before .before .before .before .before .route-of in
+    let sizes-of = c .before .before .before .before .before .before .before .before .before .sizes-of in
     let if2 = c .before .if2 in
+    let unfit = c .before .before .unfit in
     let refused2 = c .refused2 in
-    let A = c .before .before .before .before .before .before .before .before .before .before .before .before .before .before .before .before .before .before .args in
+    let A = c .before .before .before .before .before .before .before .before .before .before .before .before .before .before .before .before .before .before .before .args in
+    let p = planOf (sizes-of .result .route) (read .result .nest) in
     λ l h. reading.refuses (refused2 .result) (unfit .result) (refused2 .ensures) (if2 .taken) (stateOf (A .memories .now) (A .buffer .now) l (A .status .now)) (A .processor) _
-    (lines.turn-unfit (A .encoded .now) (A .source .now) (stateOf (A .memories .now) (A .buffer .now) l (A .status .now)) (A .processor) (read .result .nest)
-    (lines.opened (A .encoded .now) (read .result) (read .ensures .0) (if1 .left))
+    (lines.turn-unfit (A .encoded .now) (A .route) (A .source .now) (stateOf (A .memories .now) (A .buffer .now) l (A .status .now)) (A .processor) p
+    (lines.opened (A .encoded .now) (read .result) (read .ensures .0) (if1 .left) (sizes-of .ensures .1 ∙ route-of .ensures))
     (unfit .result) (unfit .ensures .0 l h) (if2 .taken))
 
 refused-requires-3 : tie.Need-refused-requires-3
@@ -79,18 +90,20 @@ same-length-6 c = search needs
 
 returns-3 : tie.Need-returns-3
 returns-3 c =
-    let read = c .before .before .before .before .before .before .before .before .before .before .before .before .before .before .read in
-    let if1 = c .before .before .before .before .before .before .before .before .before .before .before .before .before .if1 in
+    let read = c .before .before .before .before .before .before .before .before .before .before .before .before .before .before .before .read in
+    let if1 = c .before .before .before .before .before .before .before .before .before .before .before .before .before .before .if1 in
+    let route-of = c .before .before .before .before .before .before .before .before .before .before .before .before .route-of in
     let sizes-of = c .before .before .before .before .before .before .before .before .before .before .before .sizes-of in
-    let unfit = c .before .before .before .before .unfit in
     let if2 = c .before .before .before .if2 in
+    let unfit = c .before .before .before .before .unfit in
     let if3 = c .before .if3 in
     let refused3 = c .refused3 in
-    let A = c .before .before .before .before .before .before .before .before .before .before .before .before .before .before .before .before .before .before .before .before .args in
+    let A = c .before .before .before .before .before .before .before .before .before .before .before .before .before .before .before .before .before .before .before .before .before .args in
+    let p = planOf (sizes-of .result .route) (read .result .nest) in
     λ l h. reading.refuses (refused3 .result) 11 (refused3 .ensures) (λ q. omega arith) (stateOf (A .memories .now) (A .buffer .now) l (A .status .now)) (A .processor) _
-    (lines.turn-beyond (A .encoded .now) (A .source .now) (stateOf (A .memories .now) (A .buffer .now) l (A .status .now)) (A .processor) (read .result .nest)
-    (lines.opened (A .encoded .now) (read .result) (read .ensures .0) (if1 .left))
-    (unfit .result) (unfit .ensures .0 l h) (if2 .left) (omega (arith, sizes-of .ensures .processors, if3 .taken)))
+    (lines.turn-beyond (A .encoded .now) (A .route) (A .source .now) (stateOf (A .memories .now) (A .buffer .now) l (A .status .now)) (A .processor) p
+    (lines.opened (A .encoded .now) (read .result) (read .ensures .0) (if1 .left) (sizes-of .ensures .1 ∙ route-of .ensures))
+    (unfit .result) (unfit .ensures .0 l h) (if2 .left) (omega (arith, sizes-of .ensures .0 .processors, if3 .taken)))
 
 sub-step : tie.Need-sub-step
 sub-step c = search needs
@@ -100,29 +113,30 @@ part-step-start c = search needs
 
 part-step-end : tie.Need-part-step-end
 part-step-end c =
-    let S = c .before .before .before .before .before .before .before .before .before .before .before .before .before .before .before .before .before .before .before .before .before .before .before .before in
     let sizes-of = c .before .before .before .before .before .before .before .before .before .before .before .before .before .before .before .sizes-of in
-    let unfit = c .before .before .before .before .before .before .before .before .unfit in
     let if2 = c .before .before .before .before .before .before .before .if2 in
+    let unfit = c .before .before .before .before .before .before .before .before .unfit in
+    let S = c .before .before .before .before .before .before .before .before .before .before .before .before .before .before .before .before .before .before .before .before .before .before .before .before .before in
     let A = S .args in
-    omega (arith, S .pre, reading.few-words _ _ (sizes-of .ensures) (A .progress .count) (unfit .ensures .1 (if2 .left)))
+    omega (arith, S .pre, reading.few-words _ _ (sizes-of .ensures .0) (A .progress .count) (unfit .ensures .1 (if2 .left)))
 
 step-requires : tie.Need-step-requires
 step-requires c κs =
-    let S = c .before .before .before .before .before .before .before .before .before .before .before .before .before .before .before .before .before .before .before .before .before .before .before .before .before .before in
-    let read = c .before .before .before .before .before .before .before .before .before .before .before .before .before .before .before .before .before .before .before .before .read in
+    let read = c .before .before .before .before .before .before .before .before .before .before .before .before .before .before .before .before .before .before .before .before .before .read in
     let sizes-of = c .before .before .before .before .before .before .before .before .before .before .before .before .before .before .before .before .before .sizes-of in
+    let if2 = c .before .before .before .before .before .before .before .before .before .if2 in
     let fill = c .before .before .before .before .before .before .before .before .before .before .before .before .before .before .before .fill in
     let unfit = c .before .before .before .before .before .before .before .before .before .before .unfit in
-    let if2 = c .before .before .before .before .before .before .before .before .before .if2 in
     let if3 = c .before .before .before .before .before .before .before .if3 in
+    let S = c .before .before .before .before .before .before .before .before .before .before .before .before .before .before .before .before .before .before .before .before .before .before .before .before .before .before .before in
     let A = S .args in
-    let few = reading.few-words _ _ (sizes-of .ensures) (A .progress .count) (unfit .ensures .1 (if2 .left)) in
+    let p = planOf (sizes-of .result .route) (read .result .nest) in
+    let few = reading.few-words _ _ (sizes-of .ensures .0) (A .progress .count) (unfit .ensures .1 (if2 .left)) in
     let l = take (A .progress .count - 0) (drop 0 (A .progress .words)) in (
-      (sizes-of .ensures, fill .ensures),
-      lines.passed (planOf (read .result .nest)) (A .source .now) (stateOf (A .memories .now) (A .buffer .now) l (A .status .now)) (A .processor) (unfit .result)
+      (sizes-of .ensures .0, fill .ensures),
+      lines.passed p (A .source .now) (stateOf (A .memories .now) (A .buffer .now) l (A .status .now)) (A .processor) (unfit .result)
           (unfit .ensures .0 l (reading.part-carries (A .progress) (S .pre) few)) (if2 .left)
-          (omega (arith, sizes-of .ensures .processors, if3 .left)),
+          (omega (arith, sizes-of .ensures .0 .processors, if3 .left)),
     )
 
 same-length-7 : tie.Need-same-length-7
@@ -136,24 +150,26 @@ same-length-9 c = search needs
 
 returns-4 : tie.Need-returns-4
 returns-4 c =
+    let read = c .before .before .before .before .before .before .before .before .before .before .before .before .before .before .before .before .before .before .before .before .before .before .before .before .before .before .before .before .read in
+    let if1 = c .before .before .before .before .before .before .before .before .before .before .before .before .before .before .before .before .before .before .before .before .before .before .before .before .before .before .before .if1 in
+    let route-of = c .before .before .before .before .before .before .before .before .before .before .before .before .before .before .before .before .before .before .before .before .before .before .before .before .before .route-of in
     let sizes-of = c .before .before .before .before .before .before .before .before .before .before .before .before .before .before .before .before .before .before .before .before .before .before .before .before .sizes-of in
-    let S = c .before .before .before .before .before .before .before .before .before .before .before .before .before .before .before .before .before .before .before .before .before .before .before .before .before .before .before .before .before .before .before .before .before in
-    let read = c .before .before .before .before .before .before .before .before .before .before .before .before .before .before .before .before .before .before .before .before .before .before .before .before .before .before .before .read in
-    let if1 = c .before .before .before .before .before .before .before .before .before .before .before .before .before .before .before .before .before .before .before .before .before .before .before .before .before .before .if1 in
-    let unfit = c .before .before .before .before .before .before .before .before .before .before .before .before .before .before .before .before .before .unfit in
     let if2 = c .before .before .before .before .before .before .before .before .before .before .before .before .before .before .before .before .if2 in
+    let unfit = c .before .before .before .before .before .before .before .before .before .before .before .before .before .before .before .before .before .unfit in
     let step = c .before .before .before .before .before .before .step in
+    let S = c .before .before .before .before .before .before .before .before .before .before .before .before .before .before .before .before .before .before .before .before .before .before .before .before .before .before .before .before .before .before .before .before .before .before in
     let A = S .args in
-    let few = reading.few-words _ _ (sizes-of .ensures) (A .progress .count) (unfit .ensures .1 (if2 .left)) in
+    let p = planOf (sizes-of .result .route) (read .result .nest) in
+    let few = reading.few-words _ _ (sizes-of .ensures .0) (A .progress .count) (unfit .ensures .1 (if2 .left)) in
     let part = take (A .progress .count - 0) (drop 0 (A .progress .words)) in
     λ l h.
     subst (λ (k : List ℕ).
     answer (step .result .number)
     (stateOf (step .last .1 .1 .1 .1 .0) (step .last .1 .1 .1 .1 .1 .0) (recordsAfter k (A .processor) (step .result)) (step .last .1 .1 .1 .1 .1 .1 .1 .0))
-    ≡ turnCall (A .encoded .now) (A .source .now) (stateOf (A .memories .now) (A .buffer .now) k (A .status .now)) (A .processor))
+    ≡ turnCall (A .encoded .now) (A .route) (A .source .now) (stateOf (A .memories .now) (A .buffer .now) k (A .status .now)) (A .processor))
     (reading.part-is (A .progress) l few h)
-    (lines.turn-steps (A .encoded .now) (A .source .now) (stateOf (A .memories .now) (A .buffer .now) part (A .status .now)) (A .processor) (read .result .nest)
-    (lines.opened (A .encoded .now) (read .result) (read .ensures .0) (if1 .left))
+    (lines.turn-steps (A .encoded .now) (A .route) (A .source .now) (stateOf (A .memories .now) (A .buffer .now) part (A .status .now)) (A .processor) p
+    (lines.opened (A .encoded .now) (read .result) (read .ensures .0) (if1 .left) (sizes-of .ensures .1 ∙ route-of .ensures))
     (unfit .result) (unfit .ensures .0 _ (reading.part-carries (A .progress) (S .pre) few)) (if2 .left) _ (step .ensures))
 
 pub turn-spec : {M : Type 1} → statement M
@@ -163,6 +179,7 @@ turn-spec =
     read-requires
     refused-requires
     returns
+    route-of-requires
     sizes-of-requires
     fill-requires
     unfit-requires

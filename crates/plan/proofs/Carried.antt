@@ -1,0 +1,170 @@
+-- Each message is one tile's by one way, on either route; their numbers rise with tile and way; a cell is due at a tile at most once.
+use Prim.Native.Nat.{ℕ, _+_, _*_, _≤_, _<_}
+use mathlib.Core.Path.{_≡_, sym, ap, _∙_}
+use mathlib.Core.Logic.{_⊎_, inl, inr, _≢_, _↔_}
+use native.Mathlib.Decide.{decLt}
+use native.Mathlib.Nat.{div-add-mod', mul-le-mul-right, suc-mul}
+use native.Mathlib.Omega.{arith}
+use lib.ListN.{length}
+use borrow.Author.Tests.{eqb-false, ne-eqb}
+use Rattle.base.specs.Lists.{In}
+use Rattle.base.proofs.Select.{those-in}
+use Rattle.machine.specs.Plan.{Message, count, senderOf, takerOf, heldBy, duesOf}
+use Rattle.nest.specs.declared.Nest.{Nest}
+use Rattle.nest.specs.Accepted.{Accepted}
+use Rattle.nest.specs.Nest.{tiles}
+use Rattle.plan.specs.declared.Route.{Route}
+use Rattle.plan.specs.Geometry.{tilePlace, processorOf}
+use Rattle.plan.specs.Messages.{ways, slots, slotTile, slotTaker, atHome, slotParcel, messagesTo, planOf}
+use Rattle.plan.specs.Exact.{Way, cellsBy, takerBy, stepBy, Carries}
+use Rattle.plan.proofs.Slots.{full-in, parcel-cells, parcel-away, full-away, message-slot, number-low}
+use Rattle.plan.proofs.Parcels.{slotTile-low}
+use Rattle.plan.proofs.Sound.{slot-sent}
+use Rattle.plan.proofs.Ways.{nth, wayOf, way-of, nth-of, nth-low, nth-lt, slot-cells, slot-to, way-slot, way-tile, way-cells, way-taker, step-beyond, step-way, taker-at, one-way}
+
+module _ (x : Nest) (ok : Accepted x) (r : Route) where
+  carried : (m t w c : ℕ) → t < tiles x → Way r x w → In c (cellsBy r x t w) → senderOf (planOf r x) m ≡ t
+      → takerOf (planOf r x) m ≡ takerBy r x t w → heldBy (planOf r x) m ≡ cellsBy r x t w
+      → processorOf x t ≢ processorOf x (takerBy r x t w) → Carries r x m t w
+  carried m t w c lt h i from to is away =
+      let place : (j : ℕ) → j < x .dimensions → tilePlace x (takerOf (planOf r x) m) j ≡ tilePlace x t j + stepBy r x w j =
+      λ j l. ap (λ (u : ℕ). tilePlace x u j) to ∙ taker-at x ok r t w c lt i j l in
+      record {
+        tile = lt;
+        way = h;
+        sender = from;
+        holds = is;
+        taker-is = to;
+        ahead-of = λ j l. place j (omega (arith, ok .spread-low));
+        beside = λ j s l. omega (arith, place j l, step-beyond x r w j h s);
+        away = rw (from, to) away;
+      }
+
+  -- the slot of message m, with its number
+  slot-of : (m : ℕ) → m < count (planOf r x)
+      → (s : ℕ) × (s < slots r x) × (0 < length (slotParcel r x s)) × (length (messagesTo r x s) ≡ m)
+      × Carries r x m (slotTile r x s) (wayOf r x s)
+  unfolding atHome
+  slot-of m h =
+      let a = message-slot r x (slots r x) m h in
+      let s = a .0 in
+      let k = full-in (slotParcel r x s) (a .2) in
+      let b = parcel-cells r x s (k .0) (k .1) in (
+        s,
+        a .1,
+        a .2,
+        a .3,
+        carried m (slotTile r x s) (wayOf r x s) (k .0) (slotTile-low x r s (a .1)) (way-of x r s (a .1)) (rw (slot-cells x r s) at (b .1))
+            (ap (λ (y : Message). y .sender) (a .4))
+            (ap (λ (y : Message). y .taker) (a .4) ∙ slot-to x r s)
+            (ap (λ (y : Message). y .cells) (a .4) ∙ full-away r x s (a .2) ∙ slot-cells x r s)
+            (λ e. eqb-false _ _ (b .0) (e ∙ ap (processorOf x) (sym (slot-to x r s)))),
+      )
+
+  pub message : (m : ℕ) → m < count (planOf r x) → (t : ℕ) × ((w : ℕ) × Carries r x m t w)
+  message m h = let a = slot-of m h in (slotTile r x (a .0), (wayOf r x (a .0), a .4))
+
+  pub some-held : (m : ℕ) → m < count (planOf r x) → (c : ℕ) × In c (heldBy (planOf r x) m)
+  some-held m h =
+      let a = message-slot r x (slots r x) m h in
+      let k = full-in (slotParcel r x (a .0)) (a .2) in
+      (k .0, rw (ap (λ (y : Message). y .cells) (a .4)) (k .1))
+
+  pub messages : (t w : ℕ) → t < tiles x → Way r x w → 0 < length (cellsBy r x t w) → processorOf x t ≢ processorOf x (takerBy r x t w)
+      → (m : ℕ) × (m < count (planOf r x)) × Carries r x m t w
+  unfolding atHome
+  messages t w lt h full away =
+      let f = full-in (cellsBy r x t w) full in
+      let s : ℕ = t * ways r x + nth r w in
+      let tile : slotTile r x s ≡ t = way-tile x r t w lt h in
+      let to : slotTaker r x s ≡ takerBy r x t w = way-taker x r t w lt h in
+      let other : processorOf x (slotTile r x s) ≢ processorOf x (slotTaker r x s) = rw (tile, to) away in
+      let is : slotParcel r x s ≡ cellsBy r x t w = parcel-away r x s (ne-eqb _ _ other) ∙ way-cells x r t w lt h in
+      let m = slot-sent r x s (f .0) (way-slot x r t w lt h) (rw is (f .1)) in
+      (m .0, m .1, carried (m .0) t w (f .0) lt h (f .1) (m .2 ∙ tile) (m .3 ∙ to) (m .4 ∙ is) away)
+
+  -- the number of message (t, w): the messages of the slots before it
+  number-of : (m t w : ℕ) → m < count (planOf r x) → Carries r x m t w
+      → (s : ℕ) × (s ≡ t * ways r x + nth r w) × (0 < length (slotParcel r x s)) × (length (messagesTo r x s) ≡ m)
+  number-of m t w h c =
+      let a = slot-of m h in
+      let s = a .0 in
+      let e : slotTile r x s ≡ t = sym (a .4 .sender) ∙ c .sender in
+      let d : wayOf r x s ≡ w = step-way x r (wayOf r x s) w (a .4 .way) (c .way)
+      (λ j l. omega (arith, a .4 .ahead-of j l, c .ahead-of j l, ap (λ (y : ℕ). tilePlace x y j) e)) in (
+        s,
+        omega (arith, div-add-mod' s (ways r x), ap (λ (u : ℕ). u * ways r x) e, nth-of x r s, ap (nth r) d),
+        a .2,
+        a .3,
+      )
+
+  number-lt : (s s′ : ℕ) → 0 < length (slotParcel r x s) → s < s′ → length (messagesTo r x s) < length (messagesTo r x s′)
+  number-lt s s′ f l = number-low r x s′ s l f
+
+  ordered : (s s′ : ℕ) → 0 < length (slotParcel r x s) → 0 < length (slotParcel r x s′)
+      → length (messagesTo r x s) < length (messagesTo r x s′) → s < s′
+  ordered s s′ f g l = go (decLt s s′) (decLt s′ s)
+    where
+      go : Dec (s < s′) → Dec (s′ < s) → s < s′
+      go (yes h) d = h
+      go (no h) (yes k) = absurd (omega (arith, number-lt s′ s g k))
+      go (no h) (no k) =
+          let e : s ≡ s′ = omega arith in
+          absurd (omega (arith, ap (λ (u : ℕ). length (messagesTo r x u)) e))
+
+  module _ (m n t v u w : ℕ) (lm : m < count (planOf r x)) (ln : n < count (planOf r x)) (a : Carries r x m t v)
+      (b : Carries r x n u w) where
+    -- by the place of tile and way among the slots
+    by-slot : (m < n) ↔ (t * ways r x + nth r v < u * ways r x + nth r w)
+    by-slot =
+        let p = number-of m t v lm a in
+        let q = number-of n u w ln b in (
+          (λ h. let k : p .0 < q .0 = ordered (p .0) (q .0) (p .2) (q .2) (omega (arith, p .3, q .3)) in omega (arith, p .1, q .1)),
+          (λ h. let k : p .0 < q .0 = omega (arith, p .1, q .1) in omega (arith, number-lt (p .0) (q .0) (p .2) k, p .3, q .3)),
+        )
+
+    pub order : (m < n) ↔ ((t < u) ⊎ ((t ≡ u) × (v < w)))
+    order = ((λ h. go (by-slot .0 h) (decLt t u) (decLt u t)), (λ h. by-slot .1 (back h)))
+      where
+        more : (i k : ℕ) → i < k → i * ways r x + ways r x ≤ k * ways r x
+        more i k h = omega (arith, mul-le-mul-right (ways r x) h, suc-mul i (ways r x))
+
+        go : t * ways r x + nth r v < u * ways r x + nth r w → Dec (t < u) → Dec (u < t) → (t < u) ⊎ ((t ≡ u) × (v < w))
+        go h (yes l) d = inl l
+        go h (no l) (yes d) = absurd (omega (arith, more u t d, nth-low x r w (b .way)))
+        go h (no l) (no d) =
+            let e : t ≡ u = omega arith in
+            inr (e, nth-lt x r v w (a .way) (b .way) .0 (omega (arith, ap (λ (k : ℕ). k * ways r x) e)))
+
+        back : (t < u) ⊎ ((t ≡ u) × (v < w)) → t * ways r x + nth r v < u * ways r x + nth r w
+        back (inl l) = omega (arith, more t u l, nth-low x r v (a .way))
+        back (inr (e, l)) = omega (arith, ap (λ (k : ℕ). k * ways r x) e, nth-lt x r v w (a .way) (b .way) .1 l)
+
+  pub one : (m n t w : ℕ) → m < count (planOf r x) → n < count (planOf r x) → Carries r x m t w → Carries r x n t w → m ≡ n
+  one m n t w lm ln a b = go (decLt m n) (decLt n m)
+    where
+      go : Dec (m < n) → Dec (n < m) → m ≡ n
+      go (yes h) d = absurd (omega (arith, by-slot m n t w t w lm ln a b .0 h))
+      go (no h) (yes k) = absurd (omega (arith, by-slot n m t w t w ln lm b a .0 k))
+      go (no h) (no k) = omega arith
+
+  -- at most one message due at a tile holds a cell
+  pub once : (t m n c : ℕ) → In m (duesOf (planOf r x) t) → In n (duesOf (planOf r x) t) → In c (heldBy (planOf r x) m)
+      → In c (heldBy (planOf r x) n) → m ≡ n
+  once t m n c i k p q =
+      let d = those-in (takerOf (planOf r x)) t (count (planOf r x)) m i in
+      let f = those-in (takerOf (planOf r x)) t (count (planOf r x)) n k in
+      let a = message m (d .0) in
+      let b = message n (f .0) in
+      same (a .0) (a .1 .0) (b .0) (b .1 .0) (d .0) (f .0) (a .1 .1) (b .1 .1) (d .1 ∙ sym (f .1))
+    where
+      same : (t v u w : ℕ) → m < count (planOf r x) → n < count (planOf r x) → Carries r x m t v → Carries r x n u w
+          → takerOf (planOf r x) m ≡ takerOf (planOf r x) n → m ≡ n
+      same t v u w lm ln a b to =
+          let g : In c (cellsBy r x t v) = rw (a .holds) at p in
+          let h : In c (cellsBy r x u w) = rw (b .holds) at q in
+          let z = one-way x ok r t v u w c (a .tile) (b .tile) (a .way) (b .way) g h
+          (λ j l. sym (taker-at x ok r t v c (a .tile) g j l)
+          ∙ ap (λ (y : ℕ). tilePlace x y j) (sym (a .taker-is) ∙ to ∙ b .taker-is)
+          ∙ taker-at x ok r u w c (b .tile) h j l) in
+          one m n u w lm ln (rw (z .0, z .1) at a) b

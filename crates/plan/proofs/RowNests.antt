@@ -1,0 +1,91 @@
+-- The nests that the rows' bytes give.
+use Prim.Native.Nat.{ℕ}
+use mathlib.Core.Path.{_≡_, refl}
+use mathlib.Core.List.{List, [], _∷_}
+use lib.ListN.{replicate}
+use Rattle.base.specs.Tests.{pick, keep, those, tabulate}
+use Rattle.nest.specs.declared.Nest.{Nest}
+use Rattle.nest.specs.Nest.{ofKind, filled, nestBy, nestOf}
+use Rattle.nest.specs.Recipes.{rowA, rowB, rowC, rowD, rowE, rowF, rowG, rowLater}
+use Rattle.plan.specs.Rows.{rowWide, rowEdge, rowFull}
+
+abbrev pub nest : ℕ → ℕ → ℕ → List ℕ → List ℕ → List ℕ → List ℕ → List ℕ → Nest
+nest n m e N k P d w =
+    record { dimensions = n; spread = m; distances = e; lengths = N; tiling = k; counts = P; components = d; weights = w; shift = 0; boundary = 0 }
+
+abbrev pub nestA : Nest
+nestA = nest 2 1 3 (8 ∷ 8 ∷ 0 ∷ 0 ∷ []) (2 ∷ 2 ∷ 0 ∷ 0 ∷ []) (2 ∷ 0 ∷ 0 ∷ 0 ∷ []) (1 ∷ 0 ∷ 0 ∷ 0 ∷ 0 ∷ 1 ∷ 0 ∷ 0 ∷ 1 ∷ 1 ∷ replicate 22 0) (1 ∷ 1 ∷ 1 ∷ replicate 5 0)
+
+pub isA : nestOf rowA ≡ nestA
+unfolding ofKind filled nestBy nestOf pick keep those tabulate
+isA = refl
+
+abbrev pub nestB : Nest
+nestB = nest 2 1 1 (8 ∷ 8 ∷ 0 ∷ 0 ∷ []) (4 ∷ 4 ∷ 0 ∷ 0 ∷ []) (2 ∷ 0 ∷ 0 ∷ 0 ∷ []) (2 ∷ 1 ∷ replicate 30 0) (1 ∷ replicate 7 0)
+
+pub isB : nestOf rowB ≡ nestB
+unfolding ofKind filled nestBy nestOf pick keep those tabulate
+isB = refl
+
+abbrev pub nestC : Nest
+nestC = nest 3 2 1 (8 ∷ 8 ∷ 8 ∷ 0 ∷ []) (4 ∷ 4 ∷ 4 ∷ 0 ∷ []) (2 ∷ 2 ∷ 0 ∷ 0 ∷ []) (2 ∷ 1 ∷ replicate 30 0) (1 ∷ replicate 7 0)
+
+pub isC : nestOf rowC ≡ nestC
+unfolding ofKind filled nestBy nestOf pick keep those tabulate
+isC = refl
+
+abbrev pub nestD : Nest
+nestD = nest 2 1 1 (4 ∷ 1 ∷ 0 ∷ 0 ∷ []) (2 ∷ 1 ∷ 0 ∷ 0 ∷ []) (2 ∷ 0 ∷ 0 ∷ 0 ∷ []) (1 ∷ replicate 31 0) (1 ∷ replicate 7 0)
+
+pub isD : nestOf rowD ≡ nestD
+unfolding ofKind filled nestBy nestOf pick keep those tabulate
+isD = refl
+
+abbrev pub nestE : Nest
+nestE = nest 2 1 1 (5 ∷ 1 ∷ 0 ∷ 0 ∷ []) (2 ∷ 1 ∷ 0 ∷ 0 ∷ []) (2 ∷ 0 ∷ 0 ∷ 0 ∷ []) (1 ∷ replicate 31 0) (1 ∷ replicate 7 0)
+
+pub isE : nestOf rowE ≡ nestE
+unfolding ofKind filled nestBy nestOf pick keep those tabulate
+isE = refl
+
+abbrev pub nestF : Nest
+nestF = nest 2 1 1 (1 ∷ 2 ∷ 0 ∷ 0 ∷ []) (2 ∷ 1 ∷ 0 ∷ 0 ∷ []) (2 ∷ 0 ∷ 0 ∷ 0 ∷ []) (1 ∷ replicate 31 0) (1 ∷ replicate 7 0)
+
+pub isF : nestOf rowF ≡ nestF
+unfolding ofKind filled nestBy nestOf pick keep those tabulate
+isF = refl
+
+abbrev pub nestG : Nest
+nestG = nest 2 1 1 (4 ∷ 1 ∷ 0 ∷ 0 ∷ []) (1 ∷ 1 ∷ 0 ∷ 0 ∷ []) (2 ∷ 0 ∷ 0 ∷ 0 ∷ []) (1 ∷ replicate 31 0) (1 ∷ replicate 7 0)
+
+pub isG : nestOf rowG ≡ nestG
+unfolding ofKind filled nestBy nestOf pick keep those tabulate
+isG = refl
+
+abbrev pub nestLater : Nest
+nestLater = nest 2 1 1 (4 ∷ 4 ∷ 0 ∷ 0 ∷ []) (2 ∷ 2 ∷ 0 ∷ 0 ∷ []) (2 ∷ 0 ∷ 0 ∷ 0 ∷ []) (1 ∷ 2 ∷ replicate 30 0) (1 ∷ replicate 7 0)
+
+pub isLater : nestOf rowLater ≡ nestLater
+unfolding ofKind filled nestBy nestOf pick keep those tabulate
+isLater = refl
+
+abbrev pub nestWide : Nest
+nestWide = nest 2 1 3 (9 ∷ 1 ∷ 0 ∷ 0 ∷ []) (3 ∷ 2 ∷ 0 ∷ 0 ∷ []) (2 ∷ 0 ∷ 0 ∷ 0 ∷ []) (1 ∷ 0 ∷ 0 ∷ 0 ∷ 0 ∷ 1 ∷ 0 ∷ 0 ∷ 2 ∷ 1 ∷ replicate 22 0) (1 ∷ 1 ∷ 1 ∷ replicate 5 0)
+
+pub isWide : nestOf rowWide ≡ nestWide
+unfolding ofKind filled nestBy nestOf pick keep those tabulate
+isWide = refl
+
+abbrev pub nestEdge : Nest
+nestEdge = nest 3 2 1 (3 ∷ 4 ∷ 1 ∷ 0 ∷ []) (2 ∷ 2 ∷ 1 ∷ 0 ∷ []) (2 ∷ 2 ∷ 0 ∷ 0 ∷ []) (1 ∷ 1 ∷ replicate 30 0) (1 ∷ replicate 7 0)
+
+pub isEdge : nestOf rowEdge ≡ nestEdge
+unfolding ofKind filled nestBy nestOf pick keep those tabulate
+isEdge = refl
+
+abbrev pub nestFull : Nest
+nestFull = nest 3 2 1 (4 ∷ 4 ∷ 1 ∷ 0 ∷ []) (2 ∷ 2 ∷ 1 ∷ 0 ∷ []) (2 ∷ 2 ∷ 0 ∷ 0 ∷ []) (2 ∷ 2 ∷ replicate 30 0) (1 ∷ replicate 7 0)
+
+pub isFull : nestOf rowFull ≡ nestFull
+unfolding ofKind filled nestBy nestOf pick keep those tabulate
+isFull = refl
