@@ -1,4 +1,4 @@
-"""A plain model of document 01 and of the requests W-201, W-203 and W-204, written from their text, read as docs/DECISIONS.md says, and
+"""A plain model of document 01 and of the requests W-201 and W-203 to W-205, written from their text, read as docs/DECISIONS.md says, and
 not from the engine.
 
 Every set is made by trying all its candidates. It shares no code, no table and no closed form with
@@ -112,8 +112,8 @@ def is_last_spread(nest):
 
 
 def is_faulty_boards(nest):
-    """Line 7, as W-203 leaves it: a count of 1, or a product above 64."""
-    return 1 in nest.counts or all_product(p for p in nest.counts if p != 0) > 64
+    """Line 7, as W-205 leaves it: a product above 64."""
+    return all_product(p for p in nest.counts if p != 0) > 64
 
 
 def read(encoded):
@@ -213,8 +213,11 @@ class Plan:
             for v, cells in (direct_sets if route == DIRECT else indirect_sets)(place, m, held):
                 if cells == []:
                     continue
-                taker = tuple(place[j] + (v[j] if j < m else 0) for j in range(n))
-                self.messages.append(Message(t, tile_number[taker], v, cells, offset))
+                taker = tile_number[tuple(place[j] + (v[j] if j < m else 0) for j in range(n))]
+                # W-205: the board that has the cells already is sent no message
+                if self.board_of[taker] == self.board_of[t]:
+                    continue
+                self.messages.append(Message(t, taker, v, cells, offset))
                 offset += len(cells)
         self.words = offset
         self.sends_of = [[] for _ in range(self.tiles)]
@@ -267,13 +270,14 @@ def plan_of(encoded, route=DIRECT):
 
 
 def hops(encoded, m):
-    """W-204: the number of the call, and how many wires direct message m takes on the indirect route."""
+    """W-204: the number of the call, and how many wires direct message m takes on the indirect route. W-205: there is no wire in a
+    dimension with one board."""
     number, plan = plan_of(encoded)
     if number != 0:
         return number, 0
     if not m < len(plan.messages):
         return 11, 0
-    return 0, sum(plan.messages[m].direction)
+    return 0, len([j for j, one in enumerate(plan.messages[m].direction) if one == 1 and plan.nest.counts[j] > 1])
 
 
 # "The machine"
@@ -530,14 +534,13 @@ def expect(what, got, wanted):
 
 
 def check_paper():
-    """The rows and facts that document 01 prints, row G as W-201 has it."""
+    """The rows and facts that document 01 prints, row G as W-201 has it and row H as W-205 has it."""
     totals = {
         'A': (16, 12, 24, 56), 'B': (4, 2, 14, 12), 'C': (8, 10, 144, 36),
-        'D': (2, 1, 1, 6), 'E': (3, 2, 2, 10), 'F': (2, 0, 0, 4), 'G': (4, 3, 3, 14)}
+        'D': (2, 1, 1, 6), 'E': (3, 2, 2, 10), 'F': (2, 0, 0, 4), 'G': (4, 3, 3, 14), 'H': (2, 0, 0, 4)}
     for row, wanted in totals.items():
         expect('row ' + row, plan_text(ROWS[row]).split('\n')[0], 'tiles %d messages %d words %d steps %d' % wanted)
-    expect('row H', plan_text(ROWS['H']), 'refused 7\n')
-    for counts, number in (((0, 2), 16), ((2, 0, 2), 16), ((2, 2), 17), ((1, 0), 7), ((65, 0), 7)):
+    for counts, number in (((0, 2), 16), ((2, 0, 2), 16), ((2, 2), 17), ((1, 0), 0), ((65, 0), 7)):
         expect('counts %s' % (counts,), read(encode([4] * 3, [2] * 3, counts, [(1, 0)]))[0], number)
     # every reader of tile 0's cells is in tile 3, and tile 2 takes the message
     unread = encode([4, 4], [2, 2], [2, 0], [(2, 2)])
@@ -556,12 +559,13 @@ def check_paper():
     expect('board 1 in F', run(ROWS['F'], areas, [('turn', 1)]), [0, 13])
     expect('128,128', read(encode([128, 128], [8, 8], [2, 0], [(1, 0)]))[0], 0)
     expect('128,129', read(encode([128, 129], [8, 8], [2, 0], [(1, 0)]))[0], 4)
-    for row in 'ABCDEFG':
+    for row in ROWS:
         expect('row %s both ways' % row, compare_text(ROWS[row]), 'agree\n' * 4)
         for falling in (False, True):
             areas = areas_for(plan_of(ROWS[row])[1], [1] * plan_of(ROWS[row])[1].cells)
             expect('steps of %s driven' % row, drive(ROWS[row], areas, falling), totals[row][3])
     check_routes()
+    check_single_boards()
 
 
 def check_routes():
@@ -574,7 +578,7 @@ def check_routes():
     expect('row C, any other word', plan_text(ROWS['C'], 4294967295), plan_text(ROWS['C'], INDIRECT))
     expect('hops of C', hops_text(ROWS['C']), 'hops 1 1 2 1 1 2 1 1 1 1\n')
     expect('hops beyond the last message', [hops(ROWS['C'], m) for m in (9, 10, 4294967295)], [(0, 1), (11, 0), (11, 0)])
-    expect('hops of a refused recipe', hops(ROWS['H'], 0), (7, 0))
+    expect('hops of a refused recipe', hops(encode([4, 1], [2, 1], [65, 0], [(1, 0)]), 0), (7, 0))
     # a short edge tile, and a full one under W-201: the message is there for the forwarded cells alone
     for recipe, cells in ((encode([3, 4, 1], [2, 2, 1], [2, 2, 0], [(1, 1, 0)]), [5]),
                           (encode([4, 4, 1], [2, 2, 1], [2, 2, 0], [(2, 2, 0)]), [0, 1, 4, 5])):
@@ -582,7 +586,7 @@ def check_routes():
         alone = [message for message in plan.messages if not set(message.cells) & set(plan.cells_of[message.sender])]
         expect('forwarded alone', [(message.sender, message.taker, message.cells) for message in alone], [(2, 3, cells)])
     expect('one spread dimension', [plan_text(ROWS[row], INDIRECT) for row in 'ABDEFGH'], [plan_text(ROWS[row]) for row in 'ABDEFGH'])
-    for row in 'ABCDEFG':
+    for row in ROWS:
         plan = plan_of(ROWS[row], INDIRECT)[1]
         for falling in (False, True):
             source = [c + 1 for c in range(plan.cells)]
@@ -591,6 +595,26 @@ def check_routes():
             expect('collecting %s, indirect' % row, (collect(ROWS[row], areas, INDIRECT), areas.grid), (0, plan.swept(source)))
 
 
+def check_single_boards():
+    """W-205: one board in a spread dimension, first or second."""
+    def by_both(counts):
+        recipe = encode([4, 4, 1], [2, 2, 1], counts, [(1, 1, 0)])
+        return [plan_text(recipe, route).split('\n', 1) for route in (DIRECT, INDIRECT)] + [hops_text(recipe)]
+
+    # directions (0,1) and (1,1) both go to the other board and stay two messages; along dimension one nothing is mailed, and
+    # tile 2 passes on the corner cell of tile 0, which its board has
+    expect('counts 1,2,0', by_both([1, 2, 0]), [
+        ['tiles 4 messages 3 words 3 steps 14', '0 0 1 0 1 1\n1 0 3 0 1 1\n2 2 3 0 1 1\n'],
+        ['tiles 4 messages 2 words 3 steps 12', '0 0 1 0 1 1\n1 2 3 0 1 2\n'],
+        'hops 1 1 1\n'])
+    # here tile 0 sends the corner's cell along dimension one, and tile 3 has it from tile 2 without a message
+    expect('counts 2,1,0', by_both([2, 1, 0]), [
+        ['tiles 4 messages 3 words 3 steps 14', '0 0 2 0 1 1\n1 0 3 0 1 1\n2 1 3 0 1 1\n'],
+        ['tiles 4 messages 2 words 3 steps 12', '0 0 2 0 1 2\n1 1 3 0 1 1\n'],
+        'hops 1 1 1\n'])
+    expect('counts 1,1,0', by_both([1, 1, 0]), [['tiles 4 messages 0 words 0 steps 8', '']] * 2 + ['hops\n'])
+
+
 if __name__ == '__main__':
     check_paper()
-    print('the model gives what document 01, W-201, W-203 and W-204 print')
+    print('the model gives what document 01, W-201 and W-203 to W-205 print')

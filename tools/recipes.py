@@ -1,5 +1,5 @@
 #!/usr/bin/env python3
-"""Test recipes for the reader, with the numbers that document 01 and the requests W-201 and W-203 give them.
+"""Test recipes for the reader, with the numbers that document 01 and the requests W-201, W-203 and W-205 give them.
 
     python3 tools/recipes.py          write crates/nest_cases/data/cases and crates/nest_cases/stdout
     python3 tools/recipes.py check    compare both with a fresh generation, and every number with tools/model.py
@@ -40,7 +40,7 @@ def recipe(lengths, tiles, counts, distances, shift=0, shore=0, weights=None):
             + b"".join(distance(d, w) for d, w in zip(distances, weights)) + close(shift, shore))
 
 
-# ---- document 01, lines 1 to 8 of its table; line 6 as W-201 has it, lines 16, 17 and 7 as W-203 has them
+# ---- document 01, lines 1 to 8 of its table; line 6 as W-201 has it, lines 16, 17 and 7 as W-203 and W-205 have them
 
 def number(b):
     if len(b) == 0 or len(b) % 16 != 0:
@@ -77,7 +77,7 @@ def number(b):
         return 16
     if n - 1 in spread:
         return 17
-    if 1 in P or boards > 64:
+    if boards > 64:
         return 7
     tiles = 1
     for j in range(n):
@@ -114,7 +114,7 @@ case("row-D", D, 0)
 case("row-E", recipe([5, 1], [2, 1], [2, 0], [(1, 0)]), 0)
 case("row-F", recipe([1, 2], [2, 1], [2, 0], [(1, 0)]), 0)
 case("row-G", recipe([4, 1], [1, 1], [2, 0], [(1, 0)]), 0)
-case("row-H", recipe([4, 1], [2, 1], [1, 0], [(1, 0)]), 7)
+case("row-H", recipe([4, 1], [2, 1], [1, 0], [(1, 0)]), 0)
 case("four-dimensions", FOUR, 0)
 
 # line 1
@@ -208,14 +208,16 @@ case("tile-below-in-the-last-of-four", recipe([2, 2, 2, 8], [2, 2, 2, 3], [2, 0,
 case("tile-1-in-both-distance-1-1", recipe([8, 8], [1, 1], [2, 0], [(1, 1)]), 0)
 
 # lines 16, 17 and 7
-for counts, expected in (((0, 0), 16), ((1, 0), 7), ((0, 1), 16), ((0, 2), 16), ((1, 1), 17), ((2, 1), 17), ((2, 2), 17), ((2, 0), 0),
+for counts, expected in (((0, 0), 16), ((1, 0), 0), ((0, 1), 16), ((0, 2), 16), ((1, 1), 17), ((2, 1), 17), ((2, 2), 17), ((2, 0), 0),
                          ((64, 0), 0), ((65, 0), 7), ((256, 0), 7), ((65535, 0), 7), ((0, 65535), 16), ((65535, 65535), 17),
                          ((2, 0, 0), 0), ((2, 2, 0), 0), ((2, 2, 2), 17), ((2, 0, 2), 16), ((2, 0, 1), 16), ((0, 2, 0), 16), ((0, 0, 2), 16),
-                         ((0, 2, 2), 16), ((0, 1, 0), 16), ((2, 1, 0), 7), ((1, 2, 0), 7), ((1, 1, 0), 7), ((1, 2, 2), 17), ((1, 0, 2), 16),
+                         ((0, 2, 2), 16), ((0, 1, 0), 16), ((2, 1, 0), 0), ((1, 2, 0), 0), ((1, 1, 0), 0), ((1, 2, 2), 17), ((1, 0, 2), 16),
                          ((8, 8, 0), 0), ((32, 2, 0), 0), ((13, 5, 0), 7), ((5, 13, 0), 7), ((13, 5, 2), 17), ((65, 0, 2), 16),
                          ((4, 4, 4, 0), 0), ((4, 4, 5, 0), 7), ((2, 2, 16, 0), 0), ((2, 2, 2, 2), 17), ((2, 2, 0, 2), 16), ((2, 0, 2, 0), 16),
                          ((2, 0, 0, 2), 16), ((2, 0, 0, 0), 0), ((32768, 32768, 4, 0), 7), ((65535, 65535, 65535, 0), 7),
-                         ((65535, 65535, 65535, 65535), 17), ((65535, 65535, 0, 65535), 16), ((0, 0, 0, 0), 16)):
+                         ((65535, 65535, 65535, 65535), 17), ((65535, 65535, 0, 65535), 16), ((0, 0, 0, 0), 16),
+                         ((1, 6, 0), 0), ((6, 1, 0), 0), ((1, 64, 0), 0), ((1, 65, 0), 7), ((65, 1, 0), 7), ((64, 1, 1, 0), 0), ((1, 64, 1, 0), 0),
+                         ((1, 1, 64, 0), 0), ((1, 1, 65, 0), 7), ((1, 1, 1, 0), 0), ((2, 1, 33, 0), 7), ((1, 0, 0, 1), 16), ((1, 1, 1, 1), 17)):
     n = len(counts)
     case("counts-" + "-".join(map(str, counts)), recipe([4] * n, [2] * n, list(counts), [(1, 0)]), expected)
 
@@ -248,7 +250,7 @@ for first in ORDER:
         if 17 in faults:
             P = [2, 2, 2, 2] if 16 not in faults else [2, 0, 2, 2]
         if 7 in faults:
-            P[0] = 1
+            P[0] = 65
         b = recipe(N, k, P, V)
         if 2 in faults:
             b = splice(b, 9, 1)

@@ -37,8 +37,9 @@ class Draw:
 
 # Recipes
 
-def drawn_recipe(draw, most_cells, most_words=None, n=None, m=None, distances=None, plain=False):
-    """An accepted recipe; n, m and the count of distances are drawn unless given. Tries until the limits hold."""
+def drawn_recipe(draw, most_cells, most_words=None, n=None, m=None, distances=None, plain=False, least=2):
+    """An accepted recipe; n, m and the count of distances are drawn unless given, spread dimensions have the least count of boards and
+    two more at most. Tries until the limits hold."""
     while True:
         dims = n or draw.between(2, 4)
         spread = min(m or draw.between(1, dims - 1), dims - 1)
@@ -49,7 +50,7 @@ def drawn_recipe(draw, most_cells, most_words=None, n=None, m=None, distances=No
         if draw.below(4) == 0:
             at = draw.below(dims)
             tiling[at] = lengths[at] + draw.between(1, 5)
-        counts = [draw.between(2, 4) if j < spread else 0 for j in range(dims)]
+        counts = [draw.between(least, least + 2) if j < spread else 0 for j in range(dims)]
         wanted = distances or draw.between(1, 8)
         found = []
         for _ in range(60):
@@ -100,7 +101,7 @@ def faults():
         (6, lambda e: changed(e, 16 + 4, 1)),
         (16, lambda e: changed(e, 6, 0)),
         (17, lambda e: changed(e, 16 * 2 + 6, 2)),
-        (7, lambda e: changed(e, 16 + 6, 1)),
+        (7, lambda e: changed(e, 16 + 6, 65)),
         (8, lambda e: changed(changed(changed(changed(e, 2, 0), 3, 4), 16 + 2, 7), 16 * 2 + 2, 2)),
     ]
 
@@ -143,7 +144,7 @@ def refused_recipes():
               (16, model.encode([4, 4, 4], [2, 2, 2], [65, 0, 1], [(1, 0, 0)])), (16, model.encode([2] * 4, [2] * 4, [2, 0, 2, 0], [(1, 0, 0, 0)]))]
     found += [(17, model.encode([4, 4], [2, 2], [2, 2], [(1, 0)])), (17, model.encode([4, 4], [2, 2], [1, 1], [(1, 0)])),
               (17, model.encode([4, 4, 4], [2, 2, 2], [2, 65, 2], [(1, 0, 0)])), (17, model.encode([2] * 4, [2] * 4, [65535] * 4, [(1, 0, 0, 0)]))]
-    found += [(7, model.encode([4, 4], [2, 2], [1, 0], [(1, 0)])), (7, model.encode([4, 4, 4], [2, 2, 2], [2, 1, 0], [(1, 0, 0)])),
+    found += [(7, model.encode([4, 4], [2, 2], [65535, 0], [(1, 0)])), (7, model.encode([4, 4, 4], [2, 2, 2], [65, 1, 0], [(1, 0, 0)])),
               (7, model.encode([4, 4], [2, 2], [65, 0], [(1, 0)])), (7, model.encode([4, 4, 4], [2, 2, 2], [13, 5, 0], [(1, 0, 0)])),
               (7, model.encode([2] * 4, [2] * 4, [32768, 32768, 4, 0], [(1, 0, 0, 0)])),
               (7, model.encode([2] * 4, [2] * 4, [4096, 4096, 256, 0], [(1, 0, 0, 0)]))]
@@ -248,7 +249,7 @@ def plan_recipes():
     recipes.append(largest_recipe())
     # at the printer's limit of 512 bytes, and above it
     recipes += [model.ROWS['D'][:16] * 32, model.ROWS['D'][:16] * 33]
-    return recipes
+    return recipes + single_recipes()
 
 
 def route_recipes():
@@ -278,6 +279,29 @@ def route_recipes():
     ]
 
 
+def single_recipes():
+    """W-205: one processor in a spread dimension, the first, the middle and the last one, and in all."""
+    encode = model.encode
+    return [
+        # a port's six boards in a line, either way round
+        encode([7, 12, 2], [3, 2, 1], [1, 6, 0], [(1, 0, 0), (0, 1, 0), (2, 1, 1)]),
+        encode([12, 7, 2], [2, 3, 1], [6, 1, 0], [(1, 0, 0), (0, 1, 0), (1, 2, 1)]),
+        # corners over one board: (1,1) and (0,1) go to the same one, in two messages
+        encode([4, 4, 1], [2, 2, 1], [1, 2, 0], [(1, 1, 0)]),
+        encode([4, 4, 1], [2, 2, 1], [2, 1, 0], [(1, 1, 0)]),
+        encode([6, 6, 2], [2, 2, 1], [1, 3, 0], [(2, 2, 0), (1, 2, 1)], [3, 2], 1, 9),
+        encode([5, 4, 4, 2], [2, 2, 2, 1], [1, 2, 2, 0], [(1, 1, 1, 0), (2, 0, 1, 1), (0, 1, 0, 0)]),
+        encode([4, 5, 4, 2], [2, 2, 2, 1], [2, 1, 2, 0], [(1, 1, 1, 0), (0, 2, 1, 1), (1, 1, 0, 0)]),
+        encode([4, 4, 5, 2], [2, 2, 2, 1], [2, 2, 1, 0], [(1, 1, 1, 0), (1, 0, 2, 1), (0, 1, 1, 0)]),
+        encode([3, 3, 4, 2], [1, 2, 2, 1], [1, 1, 2, 0], [(1, 1, 1, 0), (1, 2, 2, 1)]),
+        encode([4, 3, 3, 2], [2, 1, 2, 1], [2, 1, 1, 0], [(2, 1, 2, 1), (1, 1, 1, 0)]),
+        # one board for all: no message
+        encode([5, 4], [2, 2], [1, 0], [(2, 1), (1, 0)], [65535, 2], 3, 4294967295),
+        encode([4, 4, 3], [2, 2, 2], [1, 1, 0], [(1, 1, 1), (2, 0, 0)]),
+        encode([3, 3, 3, 2], [2, 1, 2, 1], [1, 1, 1, 0], [(1, 1, 1, 0), (2, 1, 2, 1)]),
+    ]
+
+
 def indirect_recipes():
     """Those of plan_cases that are planned with indirect passing."""
     draw = Draw(6)
@@ -286,6 +310,7 @@ def indirect_recipes():
         for m in range(2, n):
             for distances in (1, 2, 3, 5, 8):
                 recipes.append(drawn_recipe(draw, 300, n=n, m=m, distances=distances))
+    recipes += single_recipes()
     refused = refused_recipes()
     for number in ORDER:
         recipes.append([encoded for encoded in refused if model.read(encoded)[0] == number][-1])
@@ -348,7 +373,7 @@ def sweep_recipes():
     for number in ORDER:
         recipes.append([encoded for encoded in refused if model.read(encoded)[0] == number][-1])
     recipes += [model.ROWS['D'][:16] * 32, model.ROWS['D'][:16] * 33]
-    return recipes
+    return recipes + single_recipes()
 
 
 # The script of run_cases
@@ -733,7 +758,7 @@ def whole_run(s, draw, encoded, source, route, grid):
         elif kind == 30 and draw.below(4) == 0:
             assert s.collect() == 15
             continue
-        elif kind == 31 and draw.below(4) == 0:
+        elif kind == 31 and draw.below(4) == 0 and plan.messages:
             number = s.deliver(draw.below(len(plan.messages)))
         else:
             continue
@@ -830,6 +855,20 @@ def runs_on_the_indirect_route(s):
         whole_run(s, draw, encoded, [(EACH, 1), (COUNT, 0), (DRAWN, draw.word())][k % 3], OTHERS[k % 5], k)
 
 
+def runs_over_single_boards(s):
+    """W-205 by both routes: whole runs, and fit states that no run reaches."""
+    draw = Draw(10)
+    for k, encoded in enumerate([model.ROWS['H']] + single_recipes()):
+        # the port's boards by one route each, for their length
+        for route in (model.DIRECT, OTHERS[k % 5]) if k not in (1, 2) else (OTHERS[k],) if k == 1 else (model.DIRECT,):
+            whole_run(s, draw, encoded, [(EACH, 1), (COUNT, 0), (DRAWN, draw.word())][k % 3], route, k)
+            if k % 3 == 0:
+                plan = s.start('a drawn fit state, single processors', encoded, (DRAWN, draw.word()), draw.below(50), route)
+                drawn_state(s, plan, draw)
+                for _ in range(12):
+                    assert drawn_call(s, plan, draw) != 10
+
+
 def run_script():
     s = Script()
     facts_of_the_paper(s)
@@ -843,6 +882,7 @@ def run_script():
     calls_by_route(s)
     states_on_the_indirect_route(s)
     runs_on_the_indirect_route(s)
+    runs_over_single_boards(s)
     low = {*ORDER, 9}
     wanted = {'fresh': {0} | low, 'turn': {0, 10, 11, 12, 13} | low, 'deliver': {0, 10, 11, 14} | low,
               'collect': {0, 10, 15} | low, 'sweep': {0} | low}

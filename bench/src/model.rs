@@ -1,7 +1,7 @@
 //! A plain model of the tiled sweep engine: it reads a recipe, lays out its whole plan as lists, and runs the machine
 //! on that plan. It is meant to be read and compared with, not to be quick. Its author had document 01, the trait of
 //! engine.rs and the list of public fields below, and nothing else of this repository; later the text of
-//! the requests W-201, W-203 and W-204.
+//! the requests W-201 and W-203 to W-205.
 
 use std::array::from_fn;
 use std::cell::RefCell;
@@ -144,14 +144,14 @@ impl Recipe {
         require(product(self.tile_box()) <= MAX_TILES, TILES)
     }
 
-    /// The lines on processor counts (W-203): a first group of dimensions is spread, not all, over two or more each.
+    /// The lines on processor counts (W-203, W-205): a first group of dimensions is spread, not all, over one or more each.
     fn check_counts(&self) -> Result<(), u32> {
         let named = &self.counts[..self.dimensions];
         let spread = named.iter().take_while(|&&count| count != 0).count();
         let follows = named[spread..].iter().any(|&count| count != 0);
         require(spread > 0 && !follows, SPREAD_ORDER)?;
         require(named[self.dimensions - 1] == 0, LAST_SPREAD)?;
-        require(!named.contains(&1) && product(self.processor_box()) <= MAX_PROCESSORS, PROCESSORS)
+        require(product(self.processor_box()) <= MAX_PROCESSORS, PROCESSORS)
     }
 
     /// Every distance is non-zero, keeps to the nest's dimensions and is new.
@@ -178,6 +178,12 @@ impl Recipe {
     /// How many processors lie along each dimension; where it isn't spread, one does all.
     fn processor_box(&self) -> Point {
         self.counts.map(|count| count.max(1))
+    }
+
+    /// The processor of a tile, both by number.
+    fn processor_of(&self, tile: usize) -> usize {
+        let (tile, processors) = (point_of(tile, self.tile_box()), self.processor_box());
+        number_of(from_fn(|j| tile[j] % processors[j]), processors)
     }
 
     fn tile_of(&self, cell: Point) -> Point {
@@ -216,21 +222,21 @@ impl Recipe {
     }
 
     /// The wires that a parcel takes on the indirect route (W-204), as tile and dimension: one dimension at a time, the
-    /// lowest first.
+    /// lowest first. Where a dimension has one processor, the parcel is there already (W-205).
     fn wires(&self, sender: usize, taker: usize) -> Vec<(usize, usize)> {
         let tiles = self.tile_box();
         let (mut at, end) = (point_of(sender, tiles), point_of(taker, tiles));
         let mut wires = Vec::new();
         for dimension in 0..MAX_DIMENSIONS {
-            if at[dimension] != end[dimension] {
+            if at[dimension] != end[dimension] && self.counts[dimension] > 1 {
                 wires.push((number_of(at, tiles), dimension));
-                at[dimension] = end[dimension];
             }
+            at[dimension] = end[dimension];
         }
         wires
     }
 
-    /// All messages by number. On the direct route each parcel is one. On the indirect route all that goes over a wire is
+    /// All messages by number. On the direct route each parcel for another processor is one. On the indirect route all that goes over a wire is
     /// one, whoever it is for; a tile's wires are in the order of their dimensions.
     fn messages(&self, route: Route) -> Vec<Message> {
         let tiles = self.tile_box();
@@ -241,7 +247,10 @@ impl Recipe {
         };
         let parcels = self.parcels();
         match route {
-            Route::Direct => numbered(parcels.into_iter().map(|((sender, taker), cells)| (sender, taker, cells))),
+            Route::Direct => {
+                let parts = parcels.into_iter().map(|((sender, taker), cells)| (sender, taker, cells));
+                numbered(parts.filter(|&(sender, taker, _)| self.processor_of(sender) != self.processor_of(taker)))
+            }
             Route::Indirect => {
                 let mut loads: BTreeMap<(usize, usize), BTreeSet<usize>> = BTreeMap::new();
                 for ((sender, taker), cells) in &parcels {
@@ -305,10 +314,7 @@ impl Plan {
         let (cell_box, tile_box, processor_box) = (recipe.lengths, recipe.tile_box(), recipe.processor_box());
         let [cells, tiles, processors] = [cell_box, tile_box, processor_box].map(|sides| product(sides) as usize);
         let tile_of = |cell| number_of(recipe.tile_of(point_of(cell, cell_box)), tile_box);
-        let processor_of = |tile| {
-            let tile = point_of(tile, tile_box);
-            number_of(from_fn(|j| tile[j] % processor_box[j]), processor_box)
-        };
+        let processor_of = |tile| recipe.processor_of(tile);
         let messages = recipe.messages(route);
         Plan {
             cells,

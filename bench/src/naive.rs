@@ -86,9 +86,21 @@ pub enum Fault {
     LastHopUncounted,
     /// the two routes are taken for one
     RouteUnread,
+    /// a single processor in a spread dimension gives 7
+    SingleRefused,
+    /// a processor sends messages to itself
+    OwnBoardKept,
+    /// hops in dimensions with a single processor are counted
+    HomeHopsCounted,
+    /// and are left out of the way: the sending tile is moved by the other dimensions only
+    HomeHopsSkipped,
+    /// cells for which no message is sent are looked for in the buffer all the same
+    HomeCellsUnpacked,
+    /// what a tile sends to one processor is one message
+    OneForEachProcessor,
 }
 
-pub const FAULTS: [Fault; 38] = [
+pub const FAULTS: [Fault; 44] = [
     Fault::UnspreadShift,
     Fault::EdgeTileFull,
     Fault::OnlyTaker,
@@ -127,6 +139,12 @@ pub const FAULTS: [Fault; 38] = [
     Fault::HighestFirst,
     Fault::LastHopUncounted,
     Fault::RouteUnread,
+    Fault::SingleRefused,
+    Fault::OwnBoardKept,
+    Fault::HomeHopsCounted,
+    Fault::HomeHopsSkipped,
+    Fault::HomeCellsUnpacked,
+    Fault::OneForEachProcessor,
 ];
 
 /// sending tile, taking tile, cells
@@ -272,7 +290,7 @@ impl<'a> View<'a> {
 
     fn bad_counts(&self) -> bool {
         let counts = (0..self.n).map(|j| self.count(j)).filter(|&count| count != 0);
-        counts.clone().any(|count| count == 1)
+        (self.has(Fault::SingleRefused) && counts.clone().any(|count| count == 1))
             || counts.fold(1u64, |product, count| (product * count).min(1 << 20)) > 64
     }
 
@@ -418,7 +436,8 @@ impl<'a> View<'a> {
         let mut stop = *here;
         for j in 0..self.spread {
             let before = if self.has(Fault::HighestFirst) { j > q } else { j < q };
-            if before && !self.has(Fault::HopFromStart) {
+            let skipped = self.has(Fault::HomeHopsSkipped) && self.count(j) == 1;
+            if before && !skipped && !self.has(Fault::HopFromStart) {
                 stop[j] = there[j];
             }
         }
@@ -464,12 +483,32 @@ impl<'a> View<'a> {
                 let passed = self.passed(&index, q);
                 let mut taker = index;
                 taker[q] += 1;
-                if !passed.is_empty() {
+                if !passed.is_empty() && !self.is_home(tile, self.tile_number(&taker)) {
                     messages.push((tile, self.tile_number(&taker), passed));
                 }
             }
         }
         Rc::new(messages)
+    }
+
+    /// are both tiles one processor's, so that no message is sent
+    fn is_home(&self, tile: u64, taker: u64) -> bool {
+        self.processor(tile) == self.processor(taker) && !self.has(Fault::OwnBoardKept)
+    }
+
+    /// the cells that a tile reads and that its own processor calculated in other tiles across a spread dimension
+    fn home_cells(&self, tile: u64) -> Vec<u64> {
+        let mut cells = vec![];
+        for direction in self.directions() {
+            let mut sender = self.tile_index(tile);
+            if (0..self.spread).all(|j| sender[j] >= direction[j]) {
+                (0..self.spread).for_each(|j| sender[j] -= direction[j]);
+                if self.is_home(self.tile_number(&sender), tile) {
+                    cells.extend(self.held(&sender, &direction));
+                }
+            }
+        }
+        cells
     }
 
     /// all messages of the direct route in order
@@ -494,7 +533,19 @@ impl<'a> View<'a> {
                 if self.has(Fault::TakenByReader) {
                     taker = readers()[0];
                 }
-                messages.push((tile, taker, held));
+                if self.is_home(tile, taker) {
+                    continue;
+                }
+                let joined =
+                    |m: &&mut (u64, u64, Vec<u64>)| m.0 == tile && self.processor(m.1) == self.processor(taker);
+                match messages.iter_mut().find(joined).filter(|_| self.has(Fault::OneForEachProcessor)) {
+                    Some(message) => {
+                        message.2.extend(held);
+                        message.2.sort();
+                        message.2.dedup();
+                    }
+                    None => messages.push((tile, taker, held)),
+                }
             }
         }
         Rc::new(messages)
@@ -612,6 +663,12 @@ impl Made<'_> {
                 }
             }
             areas.status[message] = 3;
+        }
+        if self.view.has(Fault::HomeCellsUnpacked) {
+            for (place, cell) in self.view.home_cells(self.tile(areas, processor)).into_iter().enumerate() {
+                let word = areas.buffer.get(place).copied().unwrap_or(0);
+                areas.memories[processor as usize * cells + cell as usize] = word;
+            }
         }
         areas.progress[processor as usize].stage = 1;
     }
@@ -833,7 +890,8 @@ impl Engine for Naive {
         }
         let Some((sender, taker, _)) = made.messages.get(message as usize) else { return 11 };
         let (from, to) = (made.view.tile_index(*sender), made.view.tile_index(*taker));
-        let ones = (0..made.view.spread).filter(|&j| to[j] == from[j] + 1).count() as u32;
+        let wired = |j: usize| made.view.count(j) > 1 || self.fault == Some(Fault::HomeHopsCounted);
+        let ones = (0..made.view.spread).filter(|&j| to[j] == from[j] + 1 && wired(j)).count() as u32;
         out[0] = if self.fault == Some(Fault::LastHopUncounted) { ones - 1 } else { ones };
         0
     }

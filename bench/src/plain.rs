@@ -32,6 +32,8 @@ pub struct Nest {
     processors: usize,
     /// slots of a tile: 2^m - 1, or m on the indirect route
     directions: usize,
+    /// the direction with a one wherever there is more than one processor
+    wired: usize,
 }
 
 fn half(record: &[u8], at: usize) -> usize {
@@ -73,7 +75,7 @@ fn read(encoded: &[u8]) -> Result<Nest, u32> {
     nest.processors = 1;
     for &p in &nest.counts[..nest.m] {
         nest.processors *= p;
-        if p < 2 || nest.processors > 64 {
+        if nest.processors > 64 {
             return Err(7);
         }
     }
@@ -93,6 +95,7 @@ fn read(encoded: &[u8]) -> Result<Nest, u32> {
         tiles *= nest.across[j];
     }
     nest.directions = (1 << nest.m) - 1;
+    nest.wired = nest.counts[..nest.m].iter().fold(0, |mask, &p| mask << 1 | usize::from(p > 1));
     Ok(nest)
 }
 
@@ -115,6 +118,7 @@ fn parse(encoded: &[u8]) -> Option<Nest> {
         tiles: 0,
         processors: 0,
         directions: 0,
+        wired: 0,
     };
     let last = encoded.len() / 16 - 1;
     for (place, record) in encoded.chunks_exact(16).enumerate() {
@@ -244,8 +248,8 @@ fn fill(nest: &Nest, table: &mut [u16]) {
             known[number] = true;
             count(nest, &kinds, &of, 0, 1, alive, [0; 3], &mut rows[number]);
         }
-        for (slot, words) in slots.iter_mut().zip(&rows[number][1..]) {
-            *slot = *words as u16;
+        for (direction, (slot, words)) in slots.iter_mut().zip(&rows[number][1..]).enumerate() {
+            *slot = if (direction + 1) & nest.wired != 0 { *words as u16 } else { 0 };
         }
         advance(&mut at, &nest.across, nest.n);
     }
@@ -260,7 +264,8 @@ fn fill_along(nest: &Nest, table: &mut [u16]) {
         let number = (0..nest.n).fold(0, |number, j| number * 6 + kind(nest, j, at[j]) + 3 * usize::from(at[j] == 0));
         if !known[number] {
             known[number] = true;
-            for (q, words) in rows[number][..nest.m].iter_mut().enumerate() {
+            let wired = |q: &(usize, &mut u16)| nest.counts[q.0] > 1;
+            for (q, words) in rows[number][..nest.m].iter_mut().enumerate().filter(wired) {
                 passed_rows(nest, &at, q, |_, width| *words += width as u16);
             }
         }
@@ -797,7 +802,7 @@ impl Engine for Plain {
             refused(out.len() != HOPS_WORDS, 9)?;
             let mut filled = (0..plan.table.len()).filter(|&slot| plan.table[slot] != 0);
             let slot = filled.nth(message as usize).ok_or(11u32)?;
-            out[0] = (slot % plan.nest.directions + 1).count_ones();
+            out[0] = ((slot % plan.nest.directions + 1) & plan.nest.wired).count_ones();
             Ok(())
         })
     }

@@ -71,7 +71,11 @@ pub fn random(rng: &mut Rng, limits: Limits) -> Numbers {
         // every spread dimension still to come needs a factor of 2
         let most = (room >> (spread - 1 - j)).max(2);
         let few = most.min(4);
-        let count = if rng.one_in(4) { rng.between(2, most) } else { rng.between(2, few) };
+        let count = match rng.below(8) {
+            0 | 1 => 1,
+            2 | 3 => rng.between(2, most),
+            _ => rng.between(2, few),
+        };
         dimension[2] = count as u16;
         room /= count;
     }

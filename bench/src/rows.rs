@@ -93,7 +93,7 @@ fn totals_of_the_rows() {
             ('E', Ok([3, 2, 2, 10])),
             ('F', Ok([2, 0, 0, 4])),
             ('G', Ok([4, 3, 3, 14])),
-            ('H', Err(7)),
+            ('H', Ok([2, 0, 0, 4])),
         ];
         for (letter, expected) in rows {
             assert_eq!(totals(&*engine, &row(letter)), expected, "row {letter}, {}", engine.name());
@@ -145,8 +145,8 @@ fn counts_told_exactly() {
             (&[1, 1], 17),
             (&[2, 2], 17),
             (&[65, 65], 17),
-            (&[1, 0], 7),
-            (&[2, 1, 0], 7),
+            (&[1, 0], 0),
+            (&[2, 1, 0], 0),
             (&[65, 0], 7),
             (&[13, 5, 0], 7),
             (&[8, 8, 0], 0),
@@ -176,12 +176,13 @@ fn rows_on_the_indirect_route() {
         ];
         assert_eq!(lines(&*engine, &of_c, Route::Indirect), expected, "{name}");
         assert_eq!(hops(&*engine, &of_c), [1, 1, 2, 1, 1, 2, 1, 1, 1, 1], "{name}");
-        for letter in ['A', 'B', 'D', 'E', 'F', 'G'] {
+        for letter in ['A', 'B', 'D', 'E', 'F', 'G', 'H'] {
             let both = [Route::Direct, Route::Indirect].map(|route| lines(&*engine, &row(letter), route));
             assert!(both[0] == both[1], "row {letter} has one spread dimension, {name}");
             assert!(hops(&*engine, &row(letter)).iter().all(|&hops| hops == 1), "row {letter}, {name}");
         }
-        assert_eq!(totals_by(&*engine, &row('H'), Route::Indirect), Err(7), "{name}");
+        let many = Numbers::new(&[[4, 2, 65], [1, 1, 0]], &[&[1, 0]]);
+        assert_eq!(totals_by(&*engine, &many, Route::Indirect), Err(7), "{name}");
     }
 }
 
@@ -211,7 +212,35 @@ fn hops_are_refused() {
         };
         assert_eq!([call('C', 9, 1), call('C', 10, 1), call('C', u32::MAX, 1)], [0, 11, 11], "{}", engine.name());
         assert_eq!([call('C', 10, 0), call('C', 0, 2), call('F', 0, 1)], [9, 9, 11], "{}", engine.name());
-        assert_eq!(call('H', 0, 0), 7, "{}", engine.name());
+        let many = Numbers::new(&[[4, 2, 65], [1, 1, 0]], &[&[1, 0]]);
+        assert_eq!(engine.hops(&many.bytes(), 0, &mut []), 7, "{}", engine.name());
+    }
+}
+
+#[test]
+fn one_processor_in_a_spread_dimension() {
+    for engine in engines() {
+        let name = engine.name();
+        let square = |first, second| Numbers::new(&[[4, 2, first], [4, 2, second], [1, 1, 0]], &[&[1, 1, 0]]);
+        let plan = |numbers: &Numbers| {
+            let by = |route| lines(&*engine, numbers, route);
+            (by(Route::Direct), by(Route::Indirect), hops(&*engine, numbers))
+        };
+        // tile 2 passes on the corner cell of tile 0 along dimension two: its processor has it
+        let direct = vec![[0, 1, 0, 1, 1], [0, 3, 0, 1, 1], [2, 3, 0, 1, 1]];
+        let indirect = vec![[0, 1, 0, 1, 1], [2, 3, 0, 1, 2]];
+        assert_eq!(plan(&square(1, 2)), (direct, indirect, vec![1, 1, 1]), "{name}");
+        let direct = vec![[0, 2, 0, 1, 1], [0, 3, 0, 1, 1], [1, 3, 0, 1, 1]];
+        let indirect = vec![[0, 2, 0, 1, 2], [1, 3, 0, 1, 1]];
+        assert_eq!(plan(&square(2, 1)), (direct, indirect, vec![1, 1, 1]), "{name}");
+        assert_eq!(plan(&square(1, 1)), (vec![], vec![], vec![]), "{name}");
+        // three spread dimensions, the middle one with one processor: the corner takes two hops
+        let numbers = Numbers::new(&[[2, 1, 2], [2, 1, 1], [2, 1, 2], [1, 1, 0]], &[&[1, 1, 1, 0]]);
+        assert_eq!(plan(&numbers), (vec![[0, 7, 0, 3, 1]], vec![[0, 4, 0, 2, 1], [6, 7, 2, 3, 1]], vec![2]), "{name}");
+        for numbers in [square(1, 2), square(2, 1), square(1, 1), numbers, row('H')] {
+            runs_to_the_sweep(&*engine, &numbers, Route::Direct);
+            runs_to_the_sweep(&*engine, &numbers, Route::Indirect);
+        }
     }
 }
 

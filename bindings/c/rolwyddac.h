@@ -13,7 +13,7 @@
  *    6 tile           some tile length is 0, above 1,024, or smaller than some distance there
  *   16 spread order   the first dimension is not spread, or a spread one follows one that is not
  *   17 last spread    the last dimension is spread
- *    7 boards         some processor count is 1, or their product is above 64
+ *    7 boards         more than 64 processors
  *    8 tiles          more than 1,024 tiles
  *    9 area           a lent area has not exactly its length
  *   10 unfit          progress records or status bytes not fit
@@ -115,7 +115,8 @@ uint32_t rolwyddac_summary(const uint8_t *encoded, size_t encoded_length, uint32
 uint32_t rolwyddac_message(const uint8_t *encoded, size_t encoded_length, uint32_t route, uint32_t m, uint32_t *out,
                            size_t out_length);
 
-/* Writes one word to out: the hops that message m of the direct route makes on the indirect one.
+/* Writes one word to out: the hops that message m of the direct route makes on the indirect one. There is no hop in a
+ * dimension with one processor.
  * Numbers: 1 to 8, 16, 17; 9 if out has not 1 word; 11. A refusal leaves out as it was. */
 uint32_t rolwyddac_hops(const uint8_t *encoded, size_t encoded_length, uint32_t m, uint32_t *out, size_t out_length);
 

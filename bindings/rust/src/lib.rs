@@ -181,8 +181,8 @@ calls! {
     /// Refusals: 1 to 8, 16, 17, 9 if `out` has not 5 words, 11.
     rolwyddac_message as message_words(encoded: &[u8], route: Route, m: u32, out: &mut [u32]);
 
-    /// Writes one word to `out`: the hops that message `m` of the direct route makes on the indirect one. [`hops`] is the
-    /// handier form.
+    /// Writes one word to `out`: the hops that message `m` of the direct route makes on the indirect one, where there is no
+    /// hop in a dimension with one processor. [`hops`] is the handier form.
     ///
     /// Refusals: 1 to 8, 16, 17, 9 if `out` has not 1 word, 11.
     rolwyddac_hops as hops_words(encoded: &[u8], m: u32, out: &mut [u32]);
@@ -228,7 +228,8 @@ pub fn message(encoded: &[u8], route: Route, m: u32) -> Result<Message, Refusal>
     Ok(Message { sending_tile, taking_tile, sending_processor, taking_processor, words })
 }
 
-/// How many wires message `m` of the direct route takes on the indirect one: as many as dimensions in which it crosses.
+/// How many wires message `m` of the direct route takes on the indirect one: as many as dimensions in which it crosses, those
+/// with one processor left out.
 ///
 /// Refusals: 1 to 8, 11, 16 and 17.
 pub fn hops(encoded: &[u8], m: u32) -> Result<u32, Refusal> {

@@ -72,7 +72,7 @@ refusals! {
     6 Tile "tile": "some tile length is 0, above 1,024, or smaller than some distance there";
     16 SpreadOrder "spread order": "the first dimension is not spread, or a spread one follows one that is not";
     17 LastSpread "last spread": "the last dimension is spread";
-    7 Boards "boards": "some processor count is 1, or their product is above 64";
+    7 Boards "boards": "more than 64 processors";
     8 Tiles "tiles": "more than 1,024 tiles";
     9 Area "area": "a lent area has not exactly its length";
     10 Unfit "unfit": "progress records or status bytes not fit";

@@ -50,6 +50,21 @@ fn either_route_gives_the_sweep() {
 }
 
 #[test]
+fn one_processor_sends_itself_nothing() {
+    let fields = Fields::new().dimension(8, 4, 1).dimension(8, 4, 2).dimension(8, 4, 0);
+    let (recipe, source) = (fields.distance(&[2, 1, 0], 1).close(0, 0).unwrap(), vec![1; CELLS]);
+    let mut swept = vec![0; CELLS];
+    sweep(&recipe, &source, &mut swept).unwrap();
+    for (route, messages) in [(Route::Direct, 6), (Route::Indirect, 4)] {
+        let mut run = Run::start(&recipe, route, &source).unwrap();
+        assert_eq!((run.plan().processors, run.plan().messages), (2, messages));
+        assert_eq!(run.finish(), Ok(2 * 8 + 2 * messages));
+        assert!(run.collect().unwrap() == swept);
+    }
+    assert_eq!(hops(&recipe, 1), Ok(1));
+}
+
+#[test]
 fn areas_of_one_route_are_refused_on_the_other() {
     let (recipe, source) = (row_c(), vec![1; CELLS]);
     let run = Run::start(&recipe, Route::Direct, &source).unwrap();

@@ -99,7 +99,7 @@ module _ (x : Nest) where
   pub record Spread : Type 0 where
     pub least : 1 ≤ x .spread
     pub low : x .spread < x .dimensions
-    pub shared : (j : ℕ) → j < x .spread → 2 ≤ processorCount x j
+    pub manned : (j : ℕ) → j < x .spread → 1 ≤ processorCount x j
     pub most : processors x ≤ 64
 
   -- the spread dimensions, as many as are counted, are the first ones
@@ -109,8 +109,8 @@ module _ (x : Nest) where
       record {
         least = ltb-true 0 _ (sym (front 0 (omega arith)) ∙ true-not (neither (p .spread) .0));
         low = let l = ltb-false (x .dimensions - 1) _ (sym (front (x .dimensions - 1) (omega arith)) ∙ p .last) in omega arith;
-        shared = λ j l. at-least-2 j l;
-        most = ltb-false 64 _ (neither (p .counts) .1);
+        manned = λ j l. ltb-true 0 (processorCount x j) (front j (omega (arith, few)) ∙ lt-ltb j (x .spread) l);
+        most = ltb-false 64 _ (p .counts);
       }
     where
       down : (j : ℕ) → j + 1 < x .dimensions → isSpread x j ≡ false → isSpread x (j + 1) ≡ false
@@ -121,12 +121,6 @@ module _ (x : Nest) where
 
       few : x .spread ≤ x .dimensions
       few = rw counted (keep-few (isSpread x) (x .dimensions))
-
-      at-least-2 : (j : ℕ) → j < x .spread → 2 ≤ processorCount x j
-      at-least-2 j l =
-          let some-count = ltb-true 0 (processorCount x j) (front j (omega (arith, few)) ∙ lt-ltb j (x .spread) l) in
-          let more = eqb-false (processorCount x j) 1 (none-some _ _ (neither (p .counts) .0) j (omega (arith, few))) in
-          omega arith
 
   pub size-in : tooLarge x ≡ false → cells x ≤ 16384
   unfolding tooLarge
@@ -207,7 +201,7 @@ module _ (bytes : List ℕ) (n e : ℕ) where
         length-most = λ j. small-length j (decLt j n);
         tiled = λ j l. tile-in x (p .tiling) j l .0;
         tile-most = λ j. small-tile j (decLt j n);
-        manned = λ j l. let k = s .shared j l in omega arith;
+        manned = s .manned;
         near = near-in x (p .tiling);
         component-most = λ d j. let k = component-small b (4 * d + j) in omega arith;
         moves = moves-in x (p .distances);
@@ -217,7 +211,6 @@ module _ (bytes : List ℕ) (n e : ℕ) where
         cells-most = size-in x (p .size);
         tiles-most = number-in x (p .number);
         processors-most = s .most;
-        shared = s .shared;
       }
     where
       small-length : (j : ℕ) → Dec (j < n) → lengthOf (nestBy bytes n e) j ≤ 1024

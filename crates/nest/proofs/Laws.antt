@@ -337,14 +337,9 @@ module _ (x : Nest) where
   unfolding badSpread
   spread-well h k = or-false (not-true (lt-ltb 0 (processorCount x 0) (omega arith))) k
 
-  pub single-yes : some (λ j. eqb (processorCount x j) 1) (x .dimensions) ≡ true → badProcessors x ≡ true
-  unfolding badProcessors
-  single-yes h = or-left _ h
-
-  pub single-no : (p : ℕ) → some (λ j. eqb (processorCount x j) 1) (x .dimensions) ≡ false → p ≡ product (processorCount x) (x .spread)
-      → ltb 64 p ≡ badProcessors x
+  pub more-than-64 : (p : ℕ) → p ≡ product (processorCount x) (x .spread) → ltb 64 p ≡ badProcessors x
   unfolding badProcessors processors
-  single-no p h e = ap (ltb 64) e ∙ sym (or-skip h)
+  more-than-64 p e = ap (ltb 64) e
 
   no-line : firstOf [] ≡ 0
   unfolding firstOf

@@ -25,5 +25,3 @@ pub record Accepted (x : Nest) : Type 0 where
   pub cells-most : cells x ≤ 16384
   pub tiles-most : tiles x ≤ 1024
   pub processors-most : processors x ≤ 64
-  -- document 01 asks more today; W-205 will ask only the lines above
-  pub shared : (j : ℕ) → j < x .spread → 2 ≤ processorCount x j

@@ -1,5 +1,5 @@
 -- A nest: what its fields mean; and a recipe's bytes: records and fields, the nest they give, the reader's lines, what reading answers.
--- Renders document 01, "The recipe", "Cells, tiles and boards" and "Numbers a call gives", lines 1 to 8; W-203's lines 16 and 17.
+-- Renders document 01, "The recipe", "Cells, tiles and boards" and "Numbers a call gives", lines 1 to 8; W-203's lines 16 and 17; W-205's line 7.
 use Prim.Native.Nat.{ℕ, _+_, _*_, _-_, _/_, _%_}
 use mathlib.Core.Bool.{Bool}
 use mathlib.Core.List.{List, [], _∷_}
@@ -140,9 +140,9 @@ badSpread x = not (isSpread x 0) or some (λ j. not (isSpread x j) and isSpread 
 unfoldable pub lastSpread : Nest → Bool
 lastSpread x = isSpread x (x .dimensions - 1)
 
--- a count of 1, or more than 64 processors
+-- more than 64 processors
 unfoldable pub badProcessors : Nest → Bool
-badProcessors x = some (λ j. eqb (processorCount x j) 1) (x .dimensions) or ltb 64 (processors x)
+badProcessors x = ltb 64 (processors x)
 
 unfoldable pub tooManyTiles : Nest → Bool
 tooManyTiles x = ltb 1024 (tiles x)

@@ -474,27 +474,10 @@ fn last_spread(nest: Nest) -> bool
 
 // ---- line 7
 
-// Some dimension has a count of 1.
-fn single(nest: Nest) -> bool
-    requires { ⌜ nest .dimensions ≤ 4 ⌝ }
-    ensures { λ r. ⌜ r ≡ some (λ (j : ℕ). eqb (processorCount nest j) 1) (nest .dimensions) ⌝ }
-{
-    let n = nest.dimensions;
-    for j in 0..n {
-        if nest.counts[j] == 1 {
-            return true;
-        }
-    }
-    false
-}
-
 fn bad_processors(nest: Nest) -> bool
-    requires { ⌜ (nest .dimensions ≤ 4) × ((nest .spread ≤ 4) × ((j : ℕ) → processorCount nest j < 65536)) ⌝ }
+    requires { ⌜ (nest .spread ≤ 4) × ((j : ℕ) → processorCount nest j < 65536) ⌝ }
     ensures { λ r. ⌜ r ≡ badProcessors nest ⌝ }
 {
-    if single(nest) {
-        return true;
-    }
     let counts = nest.counts;
     product_of(counts, nest.spread) > 64
 }

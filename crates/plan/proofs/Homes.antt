@@ -1,7 +1,7 @@
 -- Where the sending and the taking processor are the same; the hops of a direction; a slot's parcel by counts, as code tests it.
 use Prim.Native.Nat.{ℕ, zero, suc, _+_, _/_, _%_, _≤_, _<_}
 use mathlib.Core.Path.{_≡_, refl, sym, ap, _∙_}
-use mathlib.Core.Logic.{_⊎_, inl, inr}
+use mathlib.Core.Logic.{_⊎_, _↔_, inl, inr}
 use mathlib.Core.Bool.{Bool, true, false}
 use mathlib.Core.List.{List, [], _∷_, _++_}
 use native.Mathlib.Nat.{mod-one, div-add-mod', mul-le-mul-right, suc-mul}
@@ -109,6 +109,24 @@ module _ (x : Nest) (ok : Accepted x) where
   pub moved : (t u j : ℕ) → j < x .spread → 1 < processorCount x j → tilePlace x u j ≡ tilePlace x t j + 1
       → processorOf x t ≡ processorOf x u → ⊥
   moved t u j l h e p = next-other (processorCount x j) (tilePlace x t j) h (same-mods t u p j l ∙ ap (λ (a : ℕ). a % processorCount x j) e)
+
+  -- both, for places
+  pub same-processor : (t b : ℕ → ℕ) → ((j : ℕ) → j < x .spread → b j ≤ 1)
+      → ((j : ℕ) → j < x .spread → t j % processorCount x j ≡ (t j + b j) % processorCount x j)
+      ↔ ((j : ℕ) → j < x .spread → 1 < processorCount x j → b j ≡ 0)
+  same-processor t b low = (λ same j l h. none j l h (same j l) (ℕ-discrete (b j) 0), λ zero j l. stays j l (decLt 1 (processorCount x j)) (zero j l))
+    where
+      none : (j : ℕ) → j < x .spread → 1 < processorCount x j → t j % processorCount x j ≡ (t j + b j) % processorCount x j
+          → Dec (b j ≡ 0) → b j ≡ 0
+      none j l h e (yes z) = z
+      none j l h e (no z) =
+          let is : b j ≡ 1 = omega (arith, low j l) in
+          absurd (next-other (processorCount x j) (t j) h (e ∙ ap (λ (a : ℕ). (t j + a) % processorCount x j) is))
+
+      stays : (j : ℕ) → j < x .spread → Dec (1 < processorCount x j) → (1 < processorCount x j → b j ≡ 0)
+          → t j % processorCount x j ≡ (t j + b j) % processorCount x j
+      stays j l (yes h) z = ap (λ (a : ℕ). a % processorCount x j) (omega (arith, z h))
+      stays j l (no h) z = unit-same (processorCount x j) (t j) (t j + b j) (omega (arith, ok .manned j l))
 
   -- ---- direct: v has no one in a dimension with a count above 1
   module _ (t v c e : ℕ) (held : Held x t v c e) where

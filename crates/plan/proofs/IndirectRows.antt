@@ -1,4 +1,4 @@
--- Row C on the indirect route, and forwarded parts that find no message to join, computed.
+-- Rows C and H on the indirect route, and forwarded parts that find no message to join, computed.
 use mathlib.Core.Path.{_≡_, refl}
 use mathlib.Core.List.{[], _∷_}
 use Rattle.base.specs.Tests.{_and_, _or_, not, pick, one, every, some, keep, those, tabulate, product}
@@ -10,9 +10,9 @@ use Rattle.plan.specs.Geometry.{rank, place, cellAt, cellPlace, tileAt, 
 use Rattle.plan.specs.Messages.{directions, ahead, reaches, crosses, parcel, taker, before, hasOrigin, origin, passes, passed, neighbour, slotCells, slotTaker, atHome, slotParcel, messagesTo, planOf}
 use Rattle.plan.specs.Hops.{hopsAlong, hops}
 use Rattle.plan.specs.Rows.{rowFull, accepted, figures, figuresIf, messageLine, linesTo, ForwardedAlone}
-use Rattle.plan.proofs.RowNests.{nestC, nestEdge, nestFull, isEdge, isFull}
+use Rattle.plan.proofs.RowNests.{nestC, nestH, nestEdge, nestFull, isEdge, isFull}
 
--- ---- row C
+-- ---- rows C and H
 
 pub figuresC : figuresIf 0 (planOf Indirect nestC) ≡ accepted 8 8 160 32
 unfolding figuresIf offset _and_ _or_ pick every some keep product tileCount cells tiles rank place cellAt cellPlace tileAt tilePlace tileOf inside directions ahead reaches crosses before hasOrigin origin passes passed neighbour one slotCells slotTaker atHome slotParcel messagesTo processorOf
@@ -27,6 +27,10 @@ linesC = refl
 pub hopsC : hops nestC 1 ∷ hops nestC 2 ∷ hops nestC 3 ∷ [] ≡ 1 ∷ 1 ∷ 2 ∷ []
 unfolding hops hopsAlong _and_ pick keep place ahead
 hopsC = refl
+
+pub figuresH : figuresIf 0 (planOf Indirect nestH) ≡ accepted 2 0 0 4
+unfolding figuresIf offset _and_ _or_ pick every some keep product tileCount cells tiles rank place cellAt cellPlace tileAt tilePlace tileOf inside directions ahead reaches crosses before hasOrigin origin passes passed neighbour one slotCells slotTaker atHome slotParcel messagesTo processorOf
+figuresH = refl
 
 -- ---- forwarded parts alone
 

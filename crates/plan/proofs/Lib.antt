@@ -1,6 +1,7 @@
 pub mod AToH
 pub mod RowNests
 pub mod IndirectRows
+pub mod SingleCounts
 pub mod Rank
 pub mod Tiles
 pub mod Listed

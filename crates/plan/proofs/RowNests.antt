@@ -6,8 +6,8 @@ use lib.ListN.{replicate}
 use Rattle.base.specs.Tests.{pick, keep, those, tabulate}
 use Rattle.nest.specs.declared.Nest.{Nest}
 use Rattle.nest.specs.Nest.{ofKind, filled, nestBy, nestOf}
-use Rattle.nest.specs.Recipes.{rowA, rowB, rowC, rowD, rowE, rowF, rowG, rowLater}
-use Rattle.plan.specs.Rows.{rowWide, rowEdge, rowFull}
+use Rattle.nest.specs.Recipes.{rowA, rowB, rowC, rowD, rowE, rowF, rowG, rowH, rowLater}
+use Rattle.plan.specs.Rows.{rowWide, rowEdge, rowFull, rowSix, rowLine, rowTwice, rowMiddle}
 
 abbrev pub nest : ℕ → ℕ → ℕ → List ℕ → List ℕ → List ℕ → List ℕ → List ℕ → Nest
 nest n m e N k P d w =
@@ -62,6 +62,13 @@ pub isG : nestOf rowG ≡ nestG
 unfolding ofKind filled nestBy nestOf pick keep those tabulate
 isG = refl
 
+abbrev pub nestH : Nest
+nestH = nest 2 1 1 (4 ∷ 1 ∷ 0 ∷ 0 ∷ []) (2 ∷ 1 ∷ 0 ∷ 0 ∷ []) (1 ∷ 0 ∷ 0 ∷ 0 ∷ []) (1 ∷ replicate 31 0) (1 ∷ replicate 7 0)
+
+pub isH : nestOf rowH ≡ nestH
+unfolding ofKind filled nestBy nestOf pick keep those tabulate
+isH = refl
+
 abbrev pub nestLater : Nest
 nestLater = nest 2 1 1 (4 ∷ 4 ∷ 0 ∷ 0 ∷ []) (2 ∷ 2 ∷ 0 ∷ 0 ∷ []) (2 ∷ 0 ∷ 0 ∷ 0 ∷ []) (1 ∷ 2 ∷ replicate 30 0) (1 ∷ replicate 7 0)
 
@@ -89,3 +96,31 @@ nestFull = nest 3 2 1 (4 ∷ 4 ∷ 1 ∷ 0 ∷ []) (2 ∷ 2 ∷ 1 ∷ 0 ∷ []) 
 pub isFull : nestOf rowFull ≡ nestFull
 unfolding ofKind filled nestBy nestOf pick keep those tabulate
 isFull = refl
+
+abbrev pub nestSix : Nest
+nestSix = nest 3 2 1 (6 ∷ 6 ∷ 1 ∷ 0 ∷ []) (2 ∷ 1 ∷ 1 ∷ 0 ∷ []) (1 ∷ 6 ∷ 0 ∷ 0 ∷ []) (1 ∷ 1 ∷ replicate 30 0) (1 ∷ replicate 7 0)
+
+pub isSix : nestOf rowSix ≡ nestSix
+unfolding ofKind filled nestBy nestOf pick keep those tabulate
+isSix = refl
+
+abbrev pub nestLine : Nest
+nestLine = nest 3 2 1 (4 ∷ 4 ∷ 1 ∷ 0 ∷ []) (2 ∷ 2 ∷ 1 ∷ 0 ∷ []) (1 ∷ 2 ∷ 0 ∷ 0 ∷ []) (2 ∷ 2 ∷ replicate 30 0) (1 ∷ replicate 7 0)
+
+pub isLine : nestOf rowLine ≡ nestLine
+unfolding ofKind filled nestBy nestOf pick keep those tabulate
+isLine = refl
+
+abbrev pub nestTwice : Nest
+nestTwice = nest 3 2 2 (4 ∷ 4 ∷ 1 ∷ 0 ∷ []) (2 ∷ 2 ∷ 1 ∷ 0 ∷ []) (2 ∷ 1 ∷ 0 ∷ 0 ∷ []) (1 ∷ 0 ∷ 0 ∷ 0 ∷ 1 ∷ 1 ∷ replicate 26 0) (1 ∷ 1 ∷ replicate 6 0)
+
+pub isTwice : nestOf rowTwice ≡ nestTwice
+unfolding ofKind filled nestBy nestOf pick keep those tabulate
+isTwice = refl
+
+abbrev pub nestMiddle : Nest
+nestMiddle = nest 4 3 1 (2 ∷ 2 ∷ 2 ∷ 1 ∷ []) (1 ∷ 1 ∷ 1 ∷ 1 ∷ []) (2 ∷ 1 ∷ 2 ∷ 0 ∷ []) (1 ∷ 1 ∷ 1 ∷ replicate 29 0) (1 ∷ replicate 7 0)
+
+pub isMiddle : nestOf rowMiddle ≡ nestMiddle
+unfolding ofKind filled nestBy nestOf pick keep those tabulate
+isMiddle = refl

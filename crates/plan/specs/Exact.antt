@@ -1,5 +1,5 @@
 -- Demand 2 to the letter: which cells a message holds, which messages there are, index order, and the report's programs as loops.
--- Renders document 002, sections 2 to 4; document 01, "Cells, tiles and boards", "Messages" and "The sweep"; request W-204.
+-- Renders document 002, sections 2 to 4; document 01, "Cells, tiles and boards", "Messages" and "The sweep"; requests W-204, W-205.
 use Prim.Native.Nat.{ℕ, _+_, _*_, _-_, _/_, _^_, _%_, _≤_, _<_, min, max}
 use mathlib.Core.Path.{_≡_}
 use mathlib.Core.Logic.{_⊎_, _≢_, _↔_}
@@ -53,7 +53,7 @@ pub record Carries (r : Route) (x : Nest) (m t w : ℕ) : Type 0 where
 -- ---- what a message holds
 
 -- direct: cell c is of the sending tile, and some cell of the taker's chain reads it; the tiles of a chain have one place in the spread
--- dimensions
+-- dimensions. Where a count is 1 chains side by side are on one processor, and each has its own messages
 pub record Read (x : Nest) (m c : ℕ) : Type 0 where
   pub own : tileOf x c ≡ senderOf (planOf Direct x) m
   pub reader : ℕ
@@ -139,11 +139,11 @@ pub record Exact (x : Nest) : Type 0 where
   -- indirect: exactly those that are on their way over the sending tile, its own and others'; as sets they are W-204's
   pub passes : (m t q c : ℕ) → Carries Indirect x m t q → In c (heldBy (planOf Indirect x) m) ↔ OnItsWay x t q c
   pub forwards : (m t q c : ℕ) → Carries Indirect x m t q → In c (heldBy (planOf Indirect x) m) ↔ Forwarded x t q c
-  -- there each cell of each direct set goes its way, by as many messages as v has ones
+  -- there each cell of each direct set goes its way, by as many messages as v has ones in dimensions with a count above 1
   pub travels : (t v c : ℕ) → t < tiles x → v ≤ directions x → In c (parcel x t v) → Travels x t v c
   pub hops-are : ((j : ℕ) → j < x .spread → 2 ≤ processorCount x j) → (v : ℕ) → hops x v ≡ sum (ahead x v) (x .spread)
   -- each message is one tile's by one way; each tile and way with a cell to send to another processor has one, and only one;
-  -- with all counts above 1, as line 7 asks today, the taker always is on another
+  -- with all counts above 1 the taker always is on another
   pub message : (r : Route) (m : ℕ) → m < count (planOf r x) → (t : ℕ) × ((w : ℕ) × Carries r x m t w)
   pub messages : (r : Route) (t w : ℕ) → t < tiles x → Way r x w → 0 < length (cellsBy r x t w)
       → processorOf x t ≢ processorOf x (takerBy r x t w) → (m : ℕ) × (m < count (planOf r x)) × Carries r x m t w

@@ -1,4 +1,4 @@
--- The exact cells of each message on either route, the messages in order, and the plan of a nest. Renders document 01, "Messages"; W-204.
+-- The exact cells of each message on either route, the messages in order, and the plan of a nest. Renders document 01, "Messages"; W-204; W-205.
 -- A slot is a tile with a direction or, indirect, a spread dimension; a slot that holds a cell for another processor is a message.
 use Prim.Native.Nat.{ℕ, zero, suc, _+_, _*_, _-_, _/_, _%_}
 use mathlib.Core.Bool.{Bool}
@@ -95,8 +95,7 @@ unfoldable pub slotTaker : Route → Nest → ℕ → ℕ
 slotTaker Direct x s = taker x (slotTile Direct x s) (slotDirection x s)
 slotTaker Indirect x s = neighbour x (slotTile Indirect x s) (slotDimension x s)
 
--- the sending and the taking processor are the same: its memory already holds the cells. No accepted nest has such a slot while
--- line 7 refuses a count of 1; W-205 changes that line alone
+-- the sending and the taking processor are the same: its memory already holds the cells (W-205)
 unfoldable pub atHome : Route → Nest → ℕ → Bool
 atHome r x s = eqb (processorOf x (slotTile r x s)) (processorOf x (slotTaker r x s))
 
