@@ -27,8 +27,8 @@ pub struct Sizes {
 
 // A component's tile, and the place in it.
 pub struct Divided {
-    pub tile: usize,
-    pub rest: usize,
+    pub tile: u16,
+    pub rest: u16,
 }
 
 // A processor's share of the tiles along a dimension.
@@ -119,8 +119,9 @@ pub fn product(counts: [usize; 4], left: usize) -> usize
     product_of(&counts, left)
 }
 
-// A component's tile and its place there: the one division of a component. (The reader divides a length, to count tiles for line 8.)
-fn split(component: usize, length: usize) -> Divided
+// A component's tile and its place there: the one division of a component, in 16-bit numbers, which small processors divide in short
+// code. (The reader divides a length, to count tiles for line 8.)
+pub fn split(component: u16, length: u16) -> Divided
     requires { ⌜ (component < 1024) × (1 ≤ length) ⌝ }
     ensures { λ r. ⌜ Splits component length r ⌝ }
 {
@@ -128,6 +129,15 @@ fn split(component: usize, length: usize) -> Divided
         tile: component / length,
         rest: component % length,
     }
+}
+
+// The tile of a component along a dimension.
+fn tile_along(component: usize, length: usize) -> usize
+    requires { ⌜ (component < 1024) × ((1 ≤ length) × (length ≤ 1024)) ⌝ }
+    ensures { λ r. ⌜ r ≡ component / length ⌝ }
+{
+    let s = split(component as u16, length as u16);
+    base::half_index(s.tile)
 }
 
 // Tiles along each dimension: up to the one that holds the last cell.
@@ -138,8 +148,7 @@ fn across_of(nest: Nest) -> [usize; 4]
     let mut across = [0; 4];
     let n = nest.dimensions;
     for j in 0..n {
-        let s = split(nest.lengths[j] - 1, nest.tiling[j]);
-        across[j] = s.tile + 1;
+        across[j] = tile_along(nest.lengths[j] - 1, nest.tiling[j]) + 1;
     }
     across
 }
@@ -226,8 +235,7 @@ fn quotients(nest: Nest, at: [usize; 4]) -> [usize; 4]
     let mut tile = at;
     let n = nest.dimensions;
     for j in 0..n {
-        let s = split(at[j], nest.tiling[j]);
-        tile[j] = s.tile;
+        tile[j] = tile_along(at[j], nest.tiling[j]);
     }
     tile
 }

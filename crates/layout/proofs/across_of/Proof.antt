@@ -19,26 +19,26 @@ abbrev μ-loop : tie.MeasureT-loop
 loop-holds : tie.Need-loop-holds Inv-loop μ-loop
 loop-holds c = filled-none _ _ _ refl
 
-mul-split : tie.Need-mul-split Inv-loop μ-loop
-mul-split c = search needs
+mul-tile-along : tie.Need-mul-tile-along Inv-loop μ-loop
+mul-tile-along c = search needs
 
-element-copy-out-split : tie.Need-element-copy-out-split Inv-loop μ-loop
-element-copy-out-split c = search needs
+element-copy-out-tile-along : tie.Need-element-copy-out-tile-along Inv-loop μ-loop
+element-copy-out-tile-along c = search needs
 
-sub-split : tie.Need-sub-split Inv-loop μ-loop
-sub-split c = c .before .before .before .pre .long _ (omega arith)
+sub-tile-along : tie.Need-sub-tile-along Inv-loop μ-loop
+sub-tile-along c = c .before .before .before .pre .long _ (omega arith)
 
-mul-split-2 : tie.Need-mul-split-2 Inv-loop μ-loop
-mul-split-2 c = search needs
+mul-tile-along-2 : tie.Need-mul-tile-along-2 Inv-loop μ-loop
+mul-tile-along-2 c = search needs
 
-element-copy-out-split-2 : tie.Need-element-copy-out-split-2 Inv-loop μ-loop
-element-copy-out-split-2 c = search needs
+element-copy-out-tile-along-2 : tie.Need-element-copy-out-tile-along-2 Inv-loop μ-loop
+element-copy-out-tile-along-2 c = search needs
 
-split-requires : tie.Need-split-requires Inv-loop μ-loop
-split-requires c κs = (omega (arith, c .before .before .before .before .pre .length-most (c .before .before .before .loop .j)), c .before .before .before .before .pre .tiled _ (omega arith))
+tile-along-requires : tie.Need-tile-along-requires Inv-loop μ-loop
+tile-along-requires c κs = (omega (arith, c .before .before .before .before .pre .length-most (c .before .before .before .loop .j)), (c .before .before .before .before .pre .tiled _ (omega arith), c .before .before .before .before .pre .tile-most _))
 
 add-across : tie.Need-add-across Inv-loop μ-loop
-add-across c = omega (arith, c .before .split .ensures .tile, div-le-self (getD (c .before .before .before .before .before .before .args .t1 .lengths) (c .before .before .before .before .before .loop .j) 0 - 1) (getD (c .before .before .before .before .before .before .args .t1 .tiling) (c .before .before .before .before .before .loop .j) 0), c .before .before .before .before .before .before .pre .length-most (c .before .before .before .before .before .loop .j))
+add-across c = omega (arith, c .tile-along .ensures, div-le-self (getD (c .before .before .before .before .before .args .t1 .lengths) (c .before .before .before .before .loop .j) 0 - 1) (getD (c .before .before .before .before .before .args .t1 .tiling) (c .before .before .before .before .loop .j) 0), c .before .before .before .before .before .pre .length-most (c .before .before .before .before .loop .j))
 
 mul-across : tie.Need-mul-across Inv-loop μ-loop
 mul-across c = search needs
@@ -54,7 +54,7 @@ loop-less c = search needs
 
 loop-again : tie.Need-loop-again Inv-loop μ-loop
 unfolding tileCount
-loop-again c = filled-more _ _ _ _ _ (c .before .before .before .before .before .loop .inv) (c .before .before .before .before .loop-test .taken) (c .before .before .before .before .before .before .pre .dimensions-most) (ap (λ (a : ℕ). a + 1) (c .before .split .ensures .tile))
+loop-again c = filled-more _ _ _ _ _ (c .before .before .before .before .loop .inv) (c .before .before .before .loop-test .taken) (c .before .before .before .before .before .pre .dimensions-most) (ap (λ (a : ℕ). a + 1) (c .tile-along .ensures))
 
 returns : tie.Need-returns Inv-loop μ-loop
 returns c = filled-end _ _ _ _ (c .before .loop .inv) (omega arith)
@@ -66,12 +66,12 @@ across-of-spec =
     Inv-loop
     μ-loop
     loop-holds
-    mul-split
-    element-copy-out-split
-    sub-split
-    mul-split-2
-    element-copy-out-split-2
-    split-requires
+    mul-tile-along
+    element-copy-out-tile-along
+    sub-tile-along
+    mul-tile-along-2
+    element-copy-out-tile-along-2
+    tile-along-requires
     add-across
     mul-across
     array-write-across

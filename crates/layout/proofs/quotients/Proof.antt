@@ -17,20 +17,20 @@ abbrev μ-loop : tie.MeasureT-loop
 loop-holds : tie.Need-loop-holds Inv-loop μ-loop
 loop-holds c = filled-none _ _ _ (omega arith)
 
-mul-split : tie.Need-mul-split Inv-loop μ-loop
-mul-split c = search needs
+mul-tile-along : tie.Need-mul-tile-along Inv-loop μ-loop
+mul-tile-along c = search needs
 
-array-read-split : tie.Need-array-read-split Inv-loop μ-loop
-array-read-split c = search needs
+array-read-tile-along : tie.Need-array-read-tile-along Inv-loop μ-loop
+array-read-tile-along c = search needs
 
-mul-split-2 : tie.Need-mul-split-2 Inv-loop μ-loop
-mul-split-2 c = search needs
+mul-tile-along-2 : tie.Need-mul-tile-along-2 Inv-loop μ-loop
+mul-tile-along-2 c = search needs
 
-element-copy-out-split : tie.Need-element-copy-out-split Inv-loop μ-loop
-element-copy-out-split c = search needs
+element-copy-out-tile-along : tie.Need-element-copy-out-tile-along Inv-loop μ-loop
+element-copy-out-tile-along c = search needs
 
-split-requires : tie.Need-split-requires Inv-loop μ-loop
-split-requires c κs = (c .before .before .before .pre .1 _ (omega arith), c .before .before .before .pre .0 .tiled _ (omega arith))
+tile-along-requires : tie.Need-tile-along-requires Inv-loop μ-loop
+tile-along-requires c κs = (c .before .before .before .pre .1 _ (omega arith), (c .before .before .before .pre .0 .tiled _ (omega arith), c .before .before .before .pre .0 .tile-most _))
 
 mul-tile : tie.Need-mul-tile Inv-loop μ-loop
 mul-tile c = search needs
@@ -45,7 +45,7 @@ loop-less : tie.Need-loop-less Inv-loop μ-loop
 loop-less c = search needs
 
 loop-again : tie.Need-loop-again Inv-loop μ-loop
-loop-again c = filled-more _ _ _ _ _ (c .before .before .before .loop .inv) (c .before .before .loop-test .taken) (c .before .before .before .before .pre .0 .dimensions-most) (c .split .ensures .tile)
+loop-again c = filled-more _ _ _ _ _ (c .before .before .before .loop .inv) (c .before .before .loop-test .taken) (c .before .before .before .before .pre .0 .dimensions-most) (c .tile-along .ensures)
 
 returns : tie.Need-returns Inv-loop μ-loop
 returns c = filled-end _ _ _ _ (c .before .loop .inv) (omega arith)
@@ -57,11 +57,11 @@ quotients-spec =
     Inv-loop
     μ-loop
     loop-holds
-    mul-split
-    array-read-split
-    mul-split-2
-    element-copy-out-split
-    split-requires
+    mul-tile-along
+    array-read-tile-along
+    mul-tile-along-2
+    element-copy-out-tile-along
+    tile-along-requires
     mul-tile
     array-write-tile
     add-j
