@@ -289,6 +289,7 @@ FAULTS = [
     ('crate', 'encoded: &[u8], m: u32, out: &mut [u32]', 'encoded: &[u8], out: &mut [u32], m: u32'),
     ('crate', 'pub stage: u32', 'pub stage: u64'),
     ('crate', '#[repr(C)]\n', ''),
+    ('header', ' *   18 too wide       all', ' *   19 narrow         all'),
     ('refusals', '14 NoMail', '13 NoMail'),
     ('refusals', '7 Boards "boards"', '7 Boards "board"'),
     ('refusals', '    17 LastSpread "last spread": "the last dimension is spread";\n    7 Boards', '    7 Boards'),

@@ -1,5 +1,5 @@
-"""A plain model of document 01 and of the requests W-201 and W-203 to W-205, written from their text, read as docs/DECISIONS.md says, and
-not from the engine.
+"""A plain model of document 01 and of the requests W-201, W-203 to W-205 and W-207, written from their text, read as docs/DECISIONS.md
+says, and not from the engine.
 
 Every set is made by trying all its candidates. It shares no code, no table and no closed form with
 the engine, so that a test vector made from it tells whether the engine means what the paper says.
@@ -32,14 +32,15 @@ def records_of(encoded):
 
 def unnamed(kind):
     """The bytes of a record that carry nothing, and so are zero."""
-    named = {1: [0, 2, 3, 4, 5, 6, 7], 2: [0, 2, 3, 4, 5, 6, 7], 3: [0, 1, 4, 5, 6, 7]}[kind]
+    named = {1: [0, 2, 3, 4, 5, 6, 7], 2: [0, 2, 3, 4, 5, 6, 7], 3: [0, 1, 4, 5, 6, 7], 4: [0] + list(range(2, 12))}[kind]
     return [at for at in range(16) if at not in named]
 
 
 def is_stray(encoded):
     """Line 2: kind, order, count, unnamed byte or shift not as the paper says."""
     records = records_of(encoded)
-    kinds = [record[0] for record in records]
+    # W-207: a distance is of kind 2 or 4, eight of both together at most
+    kinds = [2 if record[0] == 4 else record[0] for record in records]
     in_order = any(
         kinds == [1] * n + [2] * distances + [3]
         for n in range(2, 5) for distances in range(1, 9))
@@ -50,18 +51,25 @@ def is_stray(encoded):
     return records[-1][1] > 31
 
 
+def components_of(record):
+    if record[0] == 2:
+        return list(record[2:6])
+    return [word16(record, at) for at in (2, 4, 6, 8)]
+
+
 class Nest:
     """What the records say, once lines 1 and 2 are false."""
 
     def __init__(self, encoded):
         records = records_of(encoded)
         dimensions = [record for record in records if record[0] == 1]
-        distances = [record for record in records if record[0] == 2]
+        distances = [record for record in records if record[0] in (2, 4)]
         self.lengths = [word16(record, 2) for record in dimensions]
         self.tiling = [word16(record, 4) for record in dimensions]
         self.counts = [word16(record, 6) for record in dimensions]
-        self.components = [list(record[2:6]) for record in distances]
-        self.weights = [word16(record, 6) for record in distances]
+        self.components = [components_of(record) for record in distances]
+        self.weights = [word16(record, 6 if record[0] == 2 else 10) for record in distances]
+        self.wide = [record[0] == 4 for record in distances]
         self.shift = records[-1][1]
         self.boundary = word32(records[-1], 4)
         self.n = len(dimensions)
@@ -76,6 +84,11 @@ def all_product(numbers):
 
 def tiles_along(length, k):
     return len(set(i // k for i in range(length)))
+
+
+def is_needlessly_wide(nest):
+    """Line 18 (W-207): all components of a kind 4 record fit a byte."""
+    return any(wide and all(x < 256 for x in d) for wide, d in zip(nest.wide, nest.components))
 
 
 def is_faulty_distance(nest):
@@ -128,6 +141,8 @@ def read(encoded):
         return 3, None
     if all_product(nest.lengths) > 16384:
         return 4, None
+    if is_needlessly_wide(nest):
+        return 18, None
     if is_faulty_distance(nest):
         return 5, None
     if is_faulty_tile(nest):
@@ -505,14 +520,23 @@ def compare_text(encoded):
 
 # Recipes as bytes
 
+def distance_record(d, weight, wide):
+    """A distance as a record of kind 4 or of kind 2."""
+    d = list(d) + [0] * (4 - len(d))
+    if wide:
+        return bytes([4, 0]) + b''.join(x.to_bytes(2, 'little') for x in d) + weight.to_bytes(2, 'little') + bytes(4)
+    return bytes([2, 0]) + bytes(d) + weight.to_bytes(2, 'little') + bytes(8)
+
+
 def encode(lengths, tiling, counts, distances, weights=None, shift=0, boundary=0):
-    """Distances are tuples of up to four components; weights are 1 unless given."""
+    """Distances are tuples of up to four components, written as kind 4 only where kind 2 can't hold them; weights are 1 unless
+    given."""
     weights = weights or [1] * len(distances)
     out = b''
     for length, k, p in zip(lengths, tiling, counts):
         out += bytes([1, 0]) + length.to_bytes(2, 'little') + k.to_bytes(2, 'little') + p.to_bytes(2, 'little') + bytes(8)
     for d, weight in zip(distances, weights):
-        out += bytes([2, 0]) + bytes(list(d) + [0] * (4 - len(d))) + weight.to_bytes(2, 'little') + bytes(8)
+        out += distance_record(d, weight, any(x > 255 for x in d))
     return out + bytes([3, shift, 0, 0]) + boundary.to_bytes(4, 'little') + bytes(8)
 
 
@@ -566,6 +590,7 @@ def check_paper():
             expect('steps of %s driven' % row, drive(ROWS[row], areas, falling), totals[row][3])
     check_routes()
     check_single_boards()
+    check_wide_distances()
 
 
 def check_routes():
@@ -615,6 +640,24 @@ def check_single_boards():
     expect('counts 1,1,0', by_both([1, 1, 0]), [['tiles 4 messages 0 words 0 steps 8', '']] * 2 + ['hops\n'])
 
 
+def check_wide_distances():
+    """W-207: kinds 2 and 4 beside each other, and where 18 stands."""
+    def number(d, wide=True, others=((1, 0),), tiling=(1024, 8)):
+        whole = encode([8, 8], tiling, [2, 0], list(others) + [(300, 0)])
+        return read(whole[:-32] + distance_record(d, 1, wide) + whole[-16:])[0]
+
+    expect('kind 4', [number((256, 0)), number((0, 256), tiling=(8, 1024)), number((1024, 0)), number((1025, 0))], [0, 0, 0, 6])
+    expect('kind 4 that fits a byte', [number((255, 0)), number((0, 0)), number((1, 0)), number((1, 0), False)], [18, 18, 18, 5])
+    expect('kind 4 beyond the last dimension', [number((1, 0, 300)), number((1, 0, 255)), number((1, 0, 300, 1))], [5, 18, 5])
+    expect('kind 4 twice', number((300, 0), others=((300, 0),)), 5)
+    expect('eight and nine of both', [number((300, 0), others=[(x, 0) for x in range(252, 252 + more)]) for more in (7, 8)], [0, 2])
+    # 100 cells reach the second tile, and nothing is lost of the component's high byte
+    channel = encode([400, 1], [300, 1], [2, 0], [(300, 0)])
+    expect('a channel', plan_text(channel), 'tiles 2 messages 1 words 100 steps 6\n0 0 1 0 1 100\n')
+    expect('its values', plan_of(channel)[1].swept([1] * 400), [1] * 300 + [2] * 100)
+    expect('a channel both ways', compare_text(channel), 'agree\n' * 4)
+
+
 if __name__ == '__main__':
     check_paper()
-    print('the model gives what document 01, W-201 and W-203 to W-205 print')
+    print('the model gives what document 01, W-201, W-203 to W-205 and W-207 print')

@@ -1,5 +1,5 @@
 #!/usr/bin/env python3
-"""Test recipes for the reader, with the numbers that document 01 and the requests W-201, W-203 and W-205 give them.
+"""Test recipes for the reader, with the numbers that document 01 and the requests W-201, W-203, W-205 and W-207 give them.
 
     python3 tools/recipes.py          write crates/nest_cases/data/cases and crates/nest_cases/stdout
     python3 tools/recipes.py check    compare both with a fresh generation, and every number with tools/model.py
@@ -30,6 +30,10 @@ def distance(components, weight=1):
     return bytes([2, 0]) + bytes((list(components) + [0, 0, 0, 0])[:4]) + two(weight) + bytes(8)
 
 
+def wide(components, weight=1):
+    return bytes([4, 0]) + b"".join(two(x) for x in (list(components) + [0, 0, 0, 0])[:4]) + two(weight) + bytes(4)
+
+
 def close(shift=0, shore=0):
     return bytes([3, shift, 0, 0]) + shore.to_bytes(4, "little") + bytes(8)
 
@@ -37,18 +41,19 @@ def close(shift=0, shore=0):
 def recipe(lengths, tiles, counts, distances, shift=0, shore=0, weights=None):
     weights = weights or [1] * len(distances)
     return (b"".join(dimension(*d) for d in zip(lengths, tiles, counts))
-            + b"".join(distance(d, w) for d, w in zip(distances, weights)) + close(shift, shore))
+            + b"".join((wide if max(d) > 255 else distance)(d, w) for d, w in zip(distances, weights)) + close(shift, shore))
 
 
-# ---- document 01, lines 1 to 8 of its table; line 6 as W-201 has it, lines 16, 17 and 7 as W-203 and W-205 have them
+# ---- document 01, lines 1 to 8 of its table; line 6 as W-201 has it, lines 16, 17 and 7 as W-203 and W-205 have them, line 18 and kind 4
+# as W-207 has them
 
 def number(b):
     if len(b) == 0 or len(b) % 16 != 0:
         return 1
     records = [b[i:i + 16] for i in range(0, len(b), 16)]
-    if not re.fullmatch(rb"\x01{2,4}\x02{1,8}\x03", bytes(r[0] for r in records)):
+    if not re.fullmatch(rb"\x01{2,4}[\x02\x04]{1,8}\x03", bytes(r[0] for r in records)):
         return 2
-    named = {1: (0, 2, 3, 4, 5, 6, 7), 2: (0, 2, 3, 4, 5, 6, 7), 3: (0, 1, 4, 5, 6, 7)}
+    named = {1: (0, 2, 3, 4, 5, 6, 7), 2: (0, 2, 3, 4, 5, 6, 7), 3: (0, 1, 4, 5, 6, 7), 4: (0, 2, 3, 4, 5, 6, 7, 8, 9, 10, 11)}
     for r in records:
         if any(r[i] != 0 for i in range(16) if i not in named[r[0]]):
             return 2
@@ -57,7 +62,7 @@ def number(b):
     ones = [r for r in records if r[0] == 1]
     field = lambda i: [r[i] + 256 * r[i + 1] for r in ones]
     n, N, k, P = len(ones), field(2), field(4), field(6)
-    D = [tuple(r[2:6]) for r in records if r[0] == 2]
+    D = [tuple(r[2:6]) if r[0] == 2 else tuple(r[i] + 256 * r[i + 1] for i in (2, 4, 6, 8)) for r in records if r[0] in (2, 4)]
     if any(not 1 <= v <= 1024 for v in N):
         return 3
     cells = 1
@@ -65,6 +70,8 @@ def number(b):
         cells *= v
     if cells > 16384:
         return 4
+    if any(r[0] == 4 and not any(r[3:10:2]) for r in records):
+        return 18
     if any(not any(d) for d in D) or len(set(D)) < len(D) or any(any(d[n:]) for d in D):
         return 5
     if any(not 1 <= k[j] <= 1024 or any(k[j] < d[j] for d in D) for j in range(n)):
@@ -130,8 +137,10 @@ case("zeros", bytes(64), 2)
 for r in range(6):
     for kind in (0, 1, 2, 3, 4, 5, 255):
         if kind != A[16 * r]:
-            # the first distance read as a third dimension has tile length 0
-            case("kind-%d-in-record-%d" % (kind, r), splice(A, 16 * r, kind), 6 if (r, kind) == (2, 1) else 2)
+            # the first distance read as a third dimension has tile length 0; read as kind 4 the weight is its third component, and in the
+            # others the second component is a high byte
+            expected = {(2, 1): 6, (2, 4): 18, (3, 4): 5, (4, 4): 5}.get((r, kind), 2)
+            case("kind-%d-in-record-%d" % (kind, r), splice(A, 16 * r, kind), expected)
 RA = [A[i:i + 16] for i in range(0, 96, 16)]
 for r, expected in enumerate((16, 2, 0, 0, 2)):
     case("records-%d-and-%d-swapped" % (r, r + 1), b"".join(RA[:r] + [RA[r + 1], RA[r]] + RA[r + 2:]), expected)
@@ -193,6 +202,37 @@ case("component-4-of-4", recipe([4, 4, 4, 4], [4, 4, 4, 4], [2, 0, 0, 0], [(0, 0
 case("weight-0", recipe([8, 8], [4, 4], [2, 0], [(1, 0)], weights=[0]), 0)
 case("weight-65535", recipe([8, 8], [4, 4], [2, 0], [(1, 0)], weights=[65535]), 0)
 
+# kind 4 and line 18
+def mixed(*records, n=2, tile=1024):
+    return b"".join(dimension(8, tile if j == 0 else 4, 2 if j == 0 else 0) for j in range(n)) + b"".join(records) + close()
+
+
+for first, expected in ((0, 18), (1, 18), (255, 18), (256, 0), (300, 0), (511, 0), (1024, 0), (1025, 6), (65535, 6)):
+    case("wide-%d" % first, mixed(wide((first, 0))), expected)
+    case("wide-1-%d" % first, recipe([8, 8], [4, 1024], [2, 0], [])[:32] + wide((1, first)) + close(), expected)
+for place in (2, 3):
+    case("wide-high-byte-in-component-%d-of-2" % place, mixed(wide([0] * place + [256])), 5)
+    case("wide-low-byte-in-component-%d-of-2" % place, mixed(wide([0] * place + [1])), 18)
+case("wide-in-the-last-of-four", recipe([2, 2, 2, 600], [2, 2, 2, 300], [2, 0, 0, 0], [(0, 0, 0, 300), (1, 1, 1, 0)]), 0)
+case("wide-as-an-earlier-distance", mixed(distance((1, 0)), wide((1, 0))), 18)
+case("wide-as-an-earlier-wide-one", mixed(wide((300, 0)), distance((1, 0)), wide((300, 0), 7)), 5)
+case("wide-and-a-distance-of-its-low-byte", mixed(wide((300, 0)), distance((44, 0))), 0)
+case("wide-between-two-distances", mixed(distance((1, 0)), wide((300, 2), 65535), distance((2, 0))), 0)
+case("narrow-behind-a-wide-one", mixed(wide((300, 0)), wide((2, 255))), 18)
+case("wide-before-the-dimensions", wide((300, 0)) + mixed(distance((1, 0))), 2)
+case("wide-behind-the-close", mixed(distance((1, 0))) + wide((300, 0)), 2)
+for wides in (0, 1, 4, 7, 8):
+    both = [wide((256 + x, 0)) for x in range(wides)] + [distance((1 + x, 0)) for x in range(8 - wides)]
+    case("wides-%d-of-eight" % wides, mixed(*both), 0)
+    case("wides-%d-of-nine" % wides, mixed(*both, distance((99, 0))), 2)
+    case("wides-%d-of-nine-and-one" % wides, mixed(wide((999, 0)), *both), 2)
+for place in (1, 12, 13, 14, 15):
+    case("wide-byte-%d" % place, splice(mixed(wide((300, 0))), 32 + place, 1), 2)
+case("narrow-and-distance-zero", mixed(distance((0, 0)), wide((2, 0))), 18)
+case("narrow-and-too-large", recipe([129, 128], [8, 8], [2, 0], [])[:32] + wide((2, 0)) + close(), 4)
+case("tile-299-distance-300", mixed(wide((300, 0)), tile=299), 6)
+case("tile-300-distance-300", mixed(wide((300, 0)), tile=300), 0)
+
 # line 6
 for tile, expected in ((0, 6), (1, 6), (2, 0), (3, 0), (1024, 0), (1025, 6), (65535, 6)):
     case("tile-%d-distance-2" % tile, recipe([8, 8], [tile, 4], [2, 0], [(2, 0)]), expected)
@@ -230,7 +270,7 @@ case("tiles-8192", recipe([128, 128], [2, 1], [2, 0], [(1, 0)]), 8)
 case("tiles-1-of-1024", recipe([1024, 16], [1024, 1024], [2, 0], [(1, 0)]), 0)
 
 # two faults at once: the first line counts, in the order in which the lines are tested
-ORDER = (1, 2, 3, 4, 5, 6, 16, 17, 7, 8)
+ORDER = (1, 2, 3, 4, 18, 5, 6, 16, 17, 7, 8)
 for first in ORDER:
     for second in ORDER[ORDER.index(first) + 1:]:
         faults = (first, second)
@@ -252,6 +292,8 @@ for first in ORDER:
         if 7 in faults:
             P[0] = 65
         b = recipe(N, k, P, V)
+        if 18 in faults:
+            b = b[:-16] + wide((0, 1)) + b[-16:]
         if 2 in faults:
             b = splice(b, 9, 1)
         if 1 in faults:

@@ -78,8 +78,16 @@ def changed(encoded, at, value):
     return bytes(out)
 
 
+def widened(encoded, record):
+    """A distance of kind 2 as one of kind 4, which is refused 18."""
+    at = 16 * record
+    assert encoded[at] == 2
+    wide = model.distance_record(encoded[at + 2:at + 6], model.word16(encoded, at + 6), True)
+    return encoded[:at] + wide + encoded[at + 16:]
+
+
 # the lines on the recipe, in the order in which they are tested
-ORDER = (1, 2, 3, 4, 5, 6, 16, 17, 7, 8)
+ORDER = (1, 2, 3, 4, 18, 5, 6, 16, 17, 7, 8)
 
 
 def faults():
@@ -97,6 +105,7 @@ def faults():
         (3, first_length(0)),
         (3, first_length(1025)),
         (4, all_lengths),
+        (18, lambda e: widened(e, 4)),
         (5, lambda e: changed(e, 16 * 3 + 5, 1)),
         (6, lambda e: changed(e, 16 + 4, 1)),
         (16, lambda e: changed(e, 6, 0)),
@@ -150,6 +159,12 @@ def refused_recipes():
               (7, model.encode([2] * 4, [2] * 4, [4096, 4096, 256, 0], [(1, 0, 0, 0)]))]
     found += [(8, model.encode([64, 34], [2, 1], [2, 0], [(1, 0)])), (8, model.encode([1024, 16], [2, 7], [2, 0], [(1, 0)])),
               (8, model.encode([41, 50], [2, 1], [2, 0], [(1, 0)])), (8, model.encode([4, 16, 16, 16], [2, 2, 2, 1], [2, 0, 0, 0], [(1, 0, 0, 0)]))]
+    line = model.encode([600, 1], [300, 1], [2, 0], [(300, 0), (1, 0), (256, 0)])
+    found += [(18, widened(line, 3)), (18, widened(d, 2)), (18, widened(model.encode([4, 4], [2, 2], [2, 0], [(1, 1), (0, 0)]), 3)),
+              (2, changed(line, 32 + 1, 1)), (2, changed(line, 32 + 12, 1)), (2, changed(line, 32 + 15, 255)),
+              (5, model.encode([600, 1], [300, 1], [2, 0], [(300, 0), (300, 0)], [1, 2])), (5, model.encode([4, 4], [512, 2], [2, 0], [(1, 0, 256)])),
+              (6, model.encode([600, 1], [299, 1], [2, 0], [(300, 0)])), (6, model.encode([4, 4], [1024, 2], [2, 0], [(1025, 0)])),
+              (2, model.encode([600, 1], [300, 1], [2, 0], [(252 + x, 0) for x in range(9)]))]
     right = model.encode([4, 6, 5], [3, 3, 2], [2, 2, 0], [(1, 0, 1), (0, 2, 0)])
     assert model.read(right)[0] == 0
     for number, fault in faults():
@@ -249,7 +264,7 @@ def plan_recipes():
     recipes.append(largest_recipe())
     # at the printer's limit of 512 bytes, and above it
     recipes += [model.ROWS['D'][:16] * 32, model.ROWS['D'][:16] * 33]
-    return recipes + single_recipes()
+    return recipes + single_recipes() + wide_recipes()
 
 
 def route_recipes():
@@ -302,6 +317,22 @@ def single_recipes():
     ]
 
 
+def wide_recipes():
+    """W-207: distances of 256 and more, kinds in any order, tiles as long as the reach and longer than their dimension."""
+    encode = model.encode
+    return [
+        encode([700, 1], [300, 1], [2, 0], [(300, 0)]),
+        encode([700, 1], [300, 1], [2, 0], [(1, 0), (300, 0), (44, 0), (256, 0)], [1, 3, 2, 65535], 4, 9),
+        encode([1024, 1], [512, 1], [2, 0], [(512, 0), (257, 0)]),
+        encode([1024, 1], [1024, 1], [3, 0], [(1023, 0), (1024, 0)]),
+        encode([2, 500], [1, 260], [2, 0], [(1, 260), (0, 256), (1, 4)]),
+        encode([330, 3, 1], [260, 2, 1], [2, 2, 0], [(256, 1, 0), (4, 1, 0)]),
+        encode([3, 3, 60], [2, 1, 1024], [2, 3, 0], [(1, 1, 300), (1, 1, 44), (1, 0, 0)], [2, 3, 1], 0, 7),
+        encode([2, 2, 2, 70], [1, 1, 1, 320], [2, 1, 2, 0], [(1, 1, 1, 320), (1, 1, 1, 64)], [5, 1], 0, 3),
+        encode([600, 1], [300, 1], [2, 0], [(252 + x, 0) for x in range(8)], list(range(8)), 2, 11),
+    ]
+
+
 def indirect_recipes():
     """Those of plan_cases that are planned with indirect passing."""
     draw = Draw(6)
@@ -310,7 +341,7 @@ def indirect_recipes():
         for m in range(2, n):
             for distances in (1, 2, 3, 5, 8):
                 recipes.append(drawn_recipe(draw, 300, n=n, m=m, distances=distances))
-    recipes += single_recipes()
+    recipes += single_recipes() + wide_recipes()[4:8]
     refused = refused_recipes()
     for number in ORDER:
         recipes.append([encoded for encoded in refused if model.read(encoded)[0] == number][-1])
@@ -373,7 +404,7 @@ def sweep_recipes():
     for number in ORDER:
         recipes.append([encoded for encoded in refused if model.read(encoded)[0] == number][-1])
     recipes += [model.ROWS['D'][:16] * 32, model.ROWS['D'][:16] * 33]
-    return recipes + single_recipes()
+    return recipes + single_recipes() + wide_recipes()
 
 
 # The script of run_cases
@@ -869,6 +900,18 @@ def runs_over_single_boards(s):
                     assert drawn_call(s, plan, draw) != 10
 
 
+def runs_over_wide_distances(s):
+    """W-207: whole runs by both routes, and a fit state that no run reaches."""
+    draw = Draw(11)
+    for k, encoded in enumerate(wide_recipes()):
+        for route in (model.DIRECT, OTHERS[k % 5]) if k in (5, 6, 7) else (model.DIRECT,):
+            whole_run(s, draw, encoded, [(EACH, 1), (COUNT, 0), (DRAWN, draw.word())][k % 3], route, k)
+        plan = s.start('a drawn fit state, wide distances', encoded, (DRAWN, draw.word()), draw.below(50))
+        drawn_state(s, plan, draw)
+        for _ in range(8):
+            assert drawn_call(s, plan, draw) != 10
+
+
 def run_script():
     s = Script()
     facts_of_the_paper(s)
@@ -883,6 +926,7 @@ def run_script():
     states_on_the_indirect_route(s)
     runs_on_the_indirect_route(s)
     runs_over_single_boards(s)
+    runs_over_wide_distances(s)
     low = {*ORDER, 9}
     wanted = {'fresh': {0} | low, 'turn': {0, 10, 11, 12, 13} | low, 'deliver': {0, 10, 11, 14} | low,
               'collect': {0, 10, 15} | low, 'sweep': {0} | low}

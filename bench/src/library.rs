@@ -53,7 +53,7 @@ impl Engine for Library {
 
     fn write(&self, numbers: &Numbers, space: &mut [u8]) -> u32 {
         let field = |at: usize| numbers.dimensions.iter().map(|dimension| dimension[at]).collect::<Vec<u16>>();
-        let components: Vec<u16> = numbers.distances.iter().flat_map(|distance| distance.0.map(u16::from)).collect();
+        let components: Vec<u16> = numbers.distances.iter().flat_map(|distance| distance.0).collect();
         let weights: Vec<u16> = numbers.distances.iter().map(|distance| distance.1).collect();
         let Numbers { shift, boundary, .. } = *numbers;
         number(rolwyddac::write(&field(0), &field(1), &field(2), &components, &weights, shift, boundary, space))

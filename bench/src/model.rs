@@ -1,7 +1,7 @@
 //! A plain model of the tiled sweep engine: it reads a recipe, lays out its whole plan as lists, and runs the machine
 //! on that plan. It is meant to be read and compared with, not to be quick. Its author had document 01, the trait of
 //! engine.rs and the list of public fields below, and nothing else of this repository; later the text of
-//! the requests W-201 and W-203 to W-205.
+//! the requests W-201, W-203 to W-205 and W-207.
 
 use std::array::from_fn;
 use std::cell::RefCell;
@@ -28,6 +28,7 @@ const NO_MAIL: u32 = 14;
 const EARLY: u32 = 15;
 const SPREAD_ORDER: u32 = 16;
 const LAST_SPREAD: u32 = 17;
+const NARROW: u32 = 18;
 
 const RECORD_BYTES: usize = 16;
 const MAX_DIMENSIONS: usize = 4;
@@ -78,6 +79,8 @@ fn product(sides: Point) -> u64 {
 struct Distance {
     components: Point,
     weight: u64,
+    /// Is it a record of kind 4?
+    wide: bool,
 }
 
 #[derive(Default)]
@@ -121,7 +124,11 @@ impl Recipe {
                 }
                 [2, 0, d1, d2, d3, d4, w0, w1, 0, 0, 0, 0, 0, 0, 0, 0] if distances < MAX_DISTANCES => {
                     let (components, weight) = ([d1, d2, d3, d4].map(usize::from), pair(w0, w1).into());
-                    recipe.distances.push(Distance { components, weight });
+                    recipe.distances.push(Distance { components, weight, wide: false });
+                }
+                [4, 0, a0, a1, b0, b1, c0, c1, d0, d1, w0, w1, 0, 0, 0, 0] if distances < MAX_DISTANCES => {
+                    let components = [pair(a0, a1), pair(b0, b1), pair(c0, c1), pair(d0, d1)].map(usize::from);
+                    recipe.distances.push(Distance { components, weight: pair(w0, w1).into(), wide: true });
                 }
                 [3, shift @ 0..=31, 0, 0, b0, b1, b2, b3, 0, 0, 0, 0, 0, 0, 0, 0] => {
                     (recipe.shift, recipe.boundary) = (shift.into(), u32::from_le_bytes([b0, b1, b2, b3]));
@@ -138,6 +145,7 @@ impl Recipe {
         let in_range = |sides: Point| sides.iter().all(|side| (1..=MAX_LENGTH).contains(side));
         require(in_range(self.lengths), LENGTH)?;
         require(product(self.lengths) <= MAX_CELLS, TOO_LARGE)?;
+        require(self.wide_ones_need_it(), NARROW)?;
         require(self.distances_fit(), DISTANCE)?;
         require(in_range(self.tile_lengths) && self.tiles_span_distances(), TILE)?;
         self.check_counts()?;
@@ -152,6 +160,12 @@ impl Recipe {
         require(spread > 0 && !follows, SPREAD_ORDER)?;
         require(named[self.dimensions - 1] == 0, LAST_SPREAD)?;
         require(product(self.processor_box()) <= MAX_PROCESSORS, PROCESSORS)
+    }
+
+    /// Every distance of kind 4 has a component that a byte can't hold (W-207).
+    fn wide_ones_need_it(&self) -> bool {
+        let fits = |distance: &Distance| distance.components.iter().all(|&d| u8::try_from(d).is_ok());
+        !self.distances.iter().any(|distance| distance.wide && fits(distance))
     }
 
     /// Every distance is non-zero, keeps to the nest's dimensions and is new.

@@ -98,9 +98,23 @@ pub enum Fault {
     HomeCellsUnpacked,
     /// what a tile sends to one processor is one message
     OneForEachProcessor,
+    /// of a component of two bytes only the low one is read
+    HighBytesLost,
+    /// its two bytes are read the other way round
+    WideBytesSwapped,
+    /// the weight of a wide distance is read where others have theirs
+    WideWeightElsewhere,
+    /// number 18 behind number 5
+    NarrowBehindDistance,
+    /// a wide distance that fits bytes is accepted
+    NarrowPasses,
+    /// eight distances of each kind are accepted
+    KindsCountedApart,
+    /// all wide distances must stand behind the others
+    WideLast,
 }
 
-pub const FAULTS: [Fault; 44] = [
+pub const FAULTS: [Fault; 51] = [
     Fault::UnspreadShift,
     Fault::EdgeTileFull,
     Fault::OnlyTaker,
@@ -145,6 +159,13 @@ pub const FAULTS: [Fault; 44] = [
     Fault::HomeHopsSkipped,
     Fault::HomeCellsUnpacked,
     Fault::OneForEachProcessor,
+    Fault::HighBytesLost,
+    Fault::WideBytesSwapped,
+    Fault::WideWeightElsewhere,
+    Fault::NarrowBehindDistance,
+    Fault::NarrowPasses,
+    Fault::KindsCountedApart,
+    Fault::WideLast,
 ];
 
 /// sending tile, taking tile, cells
@@ -167,7 +188,7 @@ struct View<'a> {
     fault: Option<Fault>,
     /// dimensions: how many records of kind 1 stand in front
     n: usize,
-    /// how many of kind 2 follow
+    /// how many of kinds 2 and 4 follow
     distances: usize,
     /// dimensions that have processors
     spread: usize,
@@ -184,7 +205,7 @@ impl<'a> View<'a> {
     fn new(bytes: &'a [u8], fault: Option<Fault>) -> View<'a> {
         let mut view = View { bytes, fault, n: 0, distances: 0, spread: 0 };
         view.n = (0..view.records()).take_while(|&r| view.kind(r) == 1).count();
-        view.distances = (view.n..view.records()).take_while(|&r| view.kind(r) == 2).count();
+        view.distances = (view.n..view.records()).take_while(|&r| [2, 4].contains(&view.kind(r))).count();
         view.spread = (0..view.n).filter(|&j| view.count(j) != 0).count();
         view
     }
@@ -218,11 +239,14 @@ impl<'a> View<'a> {
             1 => vec![0, 2, 3, 4, 5, 6, 7],
             2 => vec![0, 2, 3, 4, 5, 6, 7],
             3 => vec![0, 1, 4, 5, 6, 7],
+            4 => vec![0, 2, 3, 4, 5, 6, 7, 8, 9, 10, 11],
             _ => vec![],
         };
         let tail = !self.has(Fault::TailUnread) && self.close() + 1 != self.records();
         !(2..=4).contains(&self.n)
-            || !(1..=8).contains(&self.distances)
+            || self.distances == 0
+            || self.too_many_distances()
+            || (self.has(Fault::WideLast) && (1..self.distances).any(|d| self.is_wide(d - 1) && !self.is_wide(d)))
             || self.close() >= self.records()
             || tail
             || self.kind(self.close()) != 3
@@ -242,12 +266,41 @@ impl<'a> View<'a> {
         self.half(j, 6)
     }
 
+    fn is_wide(&self, d: usize) -> bool {
+        self.kind(self.n + d) == 4
+    }
+
+    fn too_many_distances(&self) -> bool {
+        let wide = (0..self.distances).filter(|&d| self.is_wide(d)).count();
+        if self.has(Fault::KindsCountedApart) {
+            wide.max(self.distances - wide) > 8
+        } else {
+            self.distances > 8
+        }
+    }
+
     fn component(&self, d: usize, j: usize) -> u64 {
-        self.byte(self.n + d, 2 + j)
+        let record = self.n + d;
+        if !self.is_wide(d) {
+            self.byte(record, 2 + j)
+        } else if self.has(Fault::HighBytesLost) {
+            self.byte(record, 2 + 2 * j)
+        } else if self.has(Fault::WideBytesSwapped) {
+            256 * self.byte(record, 2 + 2 * j) + self.byte(record, 3 + 2 * j)
+        } else {
+            self.half(record, 2 + 2 * j)
+        }
     }
 
     fn weight(&self, d: usize) -> u64 {
-        self.half(self.n + d, 6)
+        let wide = self.is_wide(d) && !self.has(Fault::WideWeightElsewhere);
+        self.half(self.n + d, if wide { 10 } else { 6 })
+    }
+
+    /// a wide distance all of whose components fit a byte, by its bytes
+    fn narrow(&self) -> bool {
+        let fits = |d: usize| (0..4).all(|j| self.byte(self.n + d, 3 + 2 * j) == 0);
+        !self.has(Fault::NarrowPasses) && (0..self.distances).any(|d| self.is_wide(d) && fits(d))
     }
 
     fn cells(&self) -> u64 {
@@ -308,6 +361,8 @@ impl<'a> View<'a> {
             (2, &|| self.stray()),
             (3, &|| (0..self.n).any(|j| self.length(j) == 0 || self.length(j) > 1024)),
             (4, &|| self.cells() > 16384),
+            (5, &|| self.has(Fault::NarrowBehindDistance) && self.bad_distance()),
+            (18, &|| self.narrow()),
             (5, &|| self.bad_distance()),
             (6, &|| self.bad_tile()),
             (7, &|| self.has(Fault::CountsFirst) && self.bad_counts()),

@@ -18,6 +18,8 @@ pub struct Nest {
     tile: [usize; 4],
     counts: [usize; 4],
     pub distances: usize,
+    /// some record of kind 4 needs no two bytes
+    narrow: bool,
     pub components: [[usize; 4]; 8],
     pub weights: [u64; 8],
     pub shift: u32,
@@ -52,6 +54,9 @@ fn read(encoded: &[u8]) -> Result<Nest, u32> {
     nest.cells = nest.lengths[..n].iter().product();
     if nest.cells > 16384 {
         return Err(4);
+    }
+    if nest.narrow {
+        return Err(18);
     }
     for d in 0..nest.distances {
         let c = nest.components[d];
@@ -107,6 +112,7 @@ fn parse(encoded: &[u8]) -> Option<Nest> {
         tile: [0; 4],
         counts: [0; 4],
         distances: 0,
+        narrow: false,
         components: [[0; 4]; 8],
         weights: [0; 8],
         shift: 0,
@@ -122,7 +128,8 @@ fn parse(encoded: &[u8]) -> Option<Nest> {
     };
     let last = encoded.len() / 16 - 1;
     for (place, record) in encoded.chunks_exact(16).enumerate() {
-        if record[8..] != [0; 8] {
+        let named = if record[0] == 4 { 12 } else { 8 };
+        if record[named..].iter().any(|&byte| byte != 0) {
             return None;
         }
         match record[0] {
@@ -135,6 +142,13 @@ fn parse(encoded: &[u8]) -> Option<Nest> {
             2 if record[1] == 0 && nest.distances < 8 => {
                 nest.components[nest.distances] = [2, 3, 4, 5].map(|at| usize::from(record[at]));
                 nest.weights[nest.distances] = half(record, 6) as u64;
+                nest.distances += 1;
+            }
+            4 if record[1] == 0 && nest.distances < 8 => {
+                let components = [2, 4, 6, 8].map(|at| half(record, at));
+                nest.narrow |= components.iter().all(|&component| component < 256);
+                nest.components[nest.distances] = components;
+                nest.weights[nest.distances] = half(record, 10) as u64;
                 nest.distances += 1;
             }
             3 if place == last && record[1] < 32 && record[2] == 0 && record[3] == 0 => {

@@ -8,14 +8,14 @@ pub struct Numbers {
     /// length, tile length, processors
     pub dimensions: Vec<[u16; 3]>,
     /// components, weight
-    pub distances: Vec<([u8; 4], u16)>,
+    pub distances: Vec<([u16; 4], u16)>,
     pub shift: u8,
     pub boundary: u32,
 }
 
 impl Numbers {
-    pub fn new(dimensions: &[[u16; 3]], distances: &[&[u8]]) -> Numbers {
-        let four = |components: &&[u8]| {
+    pub fn new(dimensions: &[[u16; 3]], distances: &[&[u16]]) -> Numbers {
+        let four = |components: &&[u16]| {
             let mut all = [0; 4];
             all[..components.len()].copy_from_slice(components);
             (all, 1)
@@ -36,16 +36,29 @@ impl Numbers {
             bytes.extend([0; 8]);
         }
         for (components, weight) in &self.distances {
-            bytes.extend([2, 0]);
-            bytes.extend(components);
-            bytes.extend(weight.to_le_bytes());
-            bytes.extend([0; 8]);
+            // kind 4 only where a component needs two bytes
+            let wide = components.iter().any(|&component| component > 255);
+            bytes.extend(if wide { wide_record(components, *weight) } else { record(components, *weight) });
         }
         bytes.extend([3, self.shift, 0, 0]);
         bytes.extend(self.boundary.to_le_bytes());
         bytes.extend([0; 8]);
         bytes
     }
+}
+
+fn record(components: &[u16; 4], weight: u16) -> [u8; 16] {
+    let ([low, high], d) = (weight.to_le_bytes(), components.map(|component| component as u8));
+    [2, 0, d[0], d[1], d[2], d[3], low, high, 0, 0, 0, 0, 0, 0, 0, 0]
+}
+
+fn wide_record(components: &[u16; 4], weight: u16) -> [u8; 16] {
+    let mut record = [0; 16];
+    record[0] = 4;
+    for (j, number) in components.iter().chain([&weight]).enumerate() {
+        record[2 + 2 * j..4 + 2 * j].copy_from_slice(&number.to_le_bytes());
+    }
+    record
 }
 
 /// how large random recipes may get
@@ -62,7 +75,12 @@ pub fn random(rng: &mut Rng, limits: Limits) -> Numbers {
     let n = rng.of(&[2, 3, 3, 4, 4]);
     let spread = if rng.one_in(4) { rng.between(1, n - 1) } else { n - 1 };
     let cells = if rng.one_in(3) { limits.cells } else { rng.between(1, limits.cells) };
-    let lengths = random_lengths(rng, n, cells);
+    let mut lengths = random_lengths(rng, n, cells);
+    // a channel, long enough for distances of more than a byte
+    if limits.cells > 300 && rng.one_in(10) {
+        lengths.fill(1);
+        lengths[rng.below(n)] = rng.between(257, limits.cells.min(1024));
+    }
     let tiles: Vec<usize> = lengths.iter().map(|&length| random_tile(rng, length)).collect();
     let distances = random_distances(rng, &tiles);
     let mut dimensions: Vec<[u16; 3]> = (0..n).map(|j| [lengths[j] as u16, tiles[j] as u16, 0]).collect();
@@ -119,28 +137,29 @@ fn random_tile(rng: &mut Rng, length: usize) -> usize {
         0 => rng.between(1, 1024),
         1 => rng.between(length, length + 3).min(1024),
         2 | 3 => ((length - 1) / rng.between(1, 3)).max(1),
+        4 | 5 if length > 256 => rng.between(256, length),
         _ => length.div_ceil(rng.between(2, 5)),
     }
 }
 
 /// distances no longer than the tiles, of every kind: none, short, long, as long as a tile or almost
-fn random_distances(rng: &mut Rng, tiles: &[usize]) -> Vec<([u8; 4], u16)> {
+fn random_distances(rng: &mut Rng, tiles: &[usize]) -> Vec<([u16; 4], u16)> {
     let wanted = if rng.one_in(3) { rng.between(1, 8) } else { rng.between(1, 3) };
     // all round the corner, so that some tile may have nothing of its own to send along a dimension
     let corners = rng.one_in(4);
-    let mut distances: Vec<([u8; 4], u16)> = vec![];
+    let mut distances: Vec<([u16; 4], u16)> = vec![];
     while distances.is_empty() {
         for _ in 0..wanted * 2 {
             let mut components = [0; 4];
             for (component, &tile) in components.iter_mut().zip(tiles) {
-                let most = tile.min(255);
+                let most = if rng.one_in(4) { tile.min(256) } else { tile };
                 *component = match if corners { rng.between(2, 3) } else { rng.below(6) } {
                     0 | 1 => 0,
                     2 => most,
                     3 => most - 1,
                     4 => rng.between(0, most),
                     _ => rng.between(0, most.min(2)),
-                } as u8;
+                } as u16;
             }
             if components != [0; 4] && distances.len() < wanted && distances.iter().all(|d| d.0 != components) {
                 distances.push((components, rng.of(&[0, 1, 1, 2, 3, 1000, 65535])));
@@ -197,7 +216,7 @@ fn damage_numbers(rng: &mut Rng, numbers: &mut Numbers) {
     if n == 0 || numbers.distances.is_empty() {
         return;
     }
-    match rng.below(22) {
+    match rng.below(24) {
         0 => numbers.dimensions[j][0] = rng.of(&[0, 1024, 1025, 65535]),
         1 => numbers.dimensions[j][0] = numbers.dimensions[j][0].wrapping_mul(rng.of(&[2, 16, 129])),
         // about the border of line 4
@@ -216,11 +235,11 @@ fn damage_numbers(rng: &mut Rng, numbers: &mut Numbers) {
             let copy = (numbers.distances[rng.below(numbers.distances.len())].0, rng.word() as u16);
             numbers.distances.push(copy);
         }
-        5 => numbers.distances[d].0[rng.below(4)] = rng.of(&[1, 2, 254, 255]),
+        5 => numbers.distances[d].0[rng.below(4)] = rng.of(&[1, 2, 254, 255, 256, 300, 1024, 1025, 65535]),
         6 => numbers.dimensions[j][1] = rng.of(&[0, 1, 1024, 1025, 65535]),
         // a tile as long as a distance, or just shorter
         7 => {
-            let component = u16::from(numbers.distances[d].0[j.min(3)]);
+            let component = numbers.distances[d].0[j.min(3)];
             numbers.dimensions[j][1] = component.saturating_sub(rng.below(2) as u16);
         }
         8 => numbers.dimensions[j][2] = rng.of(&[0, 1, 2, 64, 65, 32768, 65535]),
@@ -230,7 +249,7 @@ fn damage_numbers(rng: &mut Rng, numbers: &mut Numbers) {
         11 => numbers.dimensions.iter_mut().for_each(|x| x[2] = rng.of(&[2, 8, 9, 65535])),
         // small tiles: about the border of line 8
         12 => numbers.dimensions.iter_mut().enumerate().for_each(|(i, x)| {
-            x[1] = numbers.distances.iter().map(|y| u16::from(y.0[i.min(3)])).fold(1, u16::max);
+            x[1] = numbers.distances.iter().map(|y| y.0[i.min(3)]).fold(1, u16::max);
         }),
         13 => {
             numbers.dimensions = vec![[32, 1, 2], [rng.of(&[32, 33]), 1, 0]];
@@ -249,7 +268,10 @@ fn damage_numbers(rng: &mut Rng, numbers: &mut Numbers) {
         }
         18 => {
             let wanted = rng.between(8, 9);
-            for x in 1..=wanted as u8 {
+            // often of both kinds
+            let from = rng.of(&[1, 252]);
+            for x in from..from + wanted as u16 {
+                numbers.dimensions[0][1] = numbers.dimensions[0][1].max(from + 8);
                 let new = ([x, x & 1, 0, 0], 1);
                 if numbers.distances.len() < wanted && !numbers.distances.contains(&new) {
                     numbers.distances.push(new);
@@ -257,13 +279,28 @@ fn damage_numbers(rng: &mut Rng, numbers: &mut Numbers) {
             }
         }
         19 => numbers.distances[d].1 = rng.word() as u16,
-        20 => numbers.dimensions.iter_mut().for_each(|x| x[0] = rng.of(&[1024, 65535, 128])),
+        // a component of more than a byte, its tile with it
+        20 | 21 => {
+            let component = rng.of(&[256, 257, 300, 511, 512, 1024]);
+            numbers.distances[d].0[j.min(3)] = component;
+            numbers.dimensions[j][1] = component - rng.below(2) as u16;
+        }
+        22 => numbers.dimensions.iter_mut().for_each(|x| x[0] = rng.of(&[1024, 65535, 128])),
         _ => numbers.dimensions.swap(0, n - 1),
     }
 }
 
 fn damage_bytes(rng: &mut Rng, bytes: &mut Vec<u8>) {
     let records = bytes.len() / 16;
+    // distances in two bytes a component that need one
+    for record in 0..records {
+        if bytes[16 * record] == 2 && rng.one_in(3 * records) {
+            let components = [2, 3, 4, 5].map(|at| u16::from(bytes[16 * record + at]));
+            let weight = u16::from_le_bytes([bytes[16 * record + 6], bytes[16 * record + 7]]);
+            bytes[16 * record..16 * record + 16].copy_from_slice(&wide_record(&components, weight));
+            return;
+        }
+    }
     match rng.below(9) {
         0 => bytes.clear(),
         1 => bytes.truncate(rng.below(bytes.len())),

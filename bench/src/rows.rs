@@ -189,7 +189,7 @@ fn rows_on_the_indirect_route() {
 #[test]
 fn forwarded_cells_alone() {
     for engine in engines() {
-        let square = |side, reach: u8| Numbers::new(&[[side, 2, 2], [4, 2, 2], [1, 1, 0]], &[&[reach, reach, 0]]);
+        let square = |side, reach: u16| Numbers::new(&[[side, 2, 2], [4, 2, 2], [1, 1, 0]], &[&[reach, reach, 0]]);
         // a short edge tile: (1, 0, 0) sends only the corner cell of (0, 0, 0) on
         let expected = [[0, 2, 0, 2, 2], [0, 1, 0, 1, 1], [1, 3, 1, 3, 1], [2, 3, 2, 3, 1]];
         assert_eq!(lines(&*engine, &square(3, 1), Route::Indirect), expected, "{}", engine.name());
@@ -240,6 +240,36 @@ fn one_processor_in_a_spread_dimension() {
         for numbers in [square(1, 2), square(2, 1), square(1, 1), numbers, row('H')] {
             runs_to_the_sweep(&*engine, &numbers, Route::Direct);
             runs_to_the_sweep(&*engine, &numbers, Route::Indirect);
+        }
+    }
+}
+
+#[test]
+fn distances_of_two_bytes() {
+    for engine in engines() {
+        let name = engine.name();
+        // 100 cells of the first tile are read 300 further on
+        let channel = Numbers::new(&[[400, 300, 2], [1, 1, 0]], &[&[300, 0]]);
+        assert_eq!(lines(&*engine, &channel, Route::Direct), [[0, 1, 0, 1, 100]], "{name}");
+        let mut grid = [0; 400];
+        assert_eq!(engine.sweep(&channel.bytes(), &[1; 400], &mut grid), 0, "{name}");
+        assert!(grid[..300].iter().all(|&word| word == 1) && grid[300..].iter().all(|&word| word == 2), "{name}");
+        // the record's bytes, a component at a time; where all fit one byte it is 18, before 5
+        let number = |components: [u16; 4]| {
+            let mut bytes = Numbers::new(&[[8, 1024, 2], [8, 8, 0]], &[&[300, 0], &[1, 0]]).bytes();
+            for (j, component) in components.iter().enumerate() {
+                bytes[34 + 2 * j..36 + 2 * j].copy_from_slice(&component.to_le_bytes());
+            }
+            engine.summary(&bytes, Route::Direct, &mut [0; 4])
+        };
+        let numbers =
+            [[256, 0, 0, 0], [255, 0, 0, 0], [0; 4], [1, 0, 0, 0], [1, 0, 300, 0], [1025, 0, 0, 0]].map(number);
+        assert_eq!(numbers, [0, 18, 18, 18, 5, 6], "{name}");
+        for (count, expected) in [(8, 0), (9, 2)] {
+            let distances: Vec<[u16; 2]> = (0..count).map(|x| [252 + x, 0]).collect();
+            let distances: Vec<&[u16]> = distances.iter().map(|distance| &distance[..]).collect();
+            let numbers = Numbers::new(&[[8, 1024, 2], [8, 8, 0]], &distances);
+            assert_eq!(totals(&*engine, &numbers).err().unwrap_or(0), expected, "{name}");
         }
     }
 }
@@ -451,13 +481,13 @@ fn trials_meet_every_number() {
     let Ok(tally) = differ::trials(1, 6000, &PLAIN, SMALL) else { panic!("a difference") };
     let expected: [(&str, &[usize]); 8] = [
         ("fresh", &[0, 1, 2, 3, 4, 5, 6, 7, 9, 16, 17]),
-        ("turn", &[0, 1, 2, 3, 4, 5, 6, 7, 9, 10, 11, 12, 13, 16, 17]),
+        ("turn", &[0, 1, 2, 3, 4, 5, 6, 7, 9, 10, 11, 12, 13, 16, 17, 18]),
         ("deliver", &[0, 2, 3, 5, 6, 7, 9, 10, 11, 14, 16, 17]),
         ("collect", &[0, 9, 10, 15]),
-        ("sweep", &[0, 1, 2, 3, 4, 5, 6, 7, 8, 9, 16, 17]),
-        ("summary", &[0, 1, 2, 3, 4, 5, 6, 7, 8, 9, 16, 17]),
-        ("message", &[0, 1, 2, 3, 4, 5, 6, 7, 8, 9, 11, 16, 17]),
-        ("hops", &[0, 1, 2, 3, 4, 5, 6, 7, 8, 9, 11, 16, 17]),
+        ("sweep", &[0, 1, 2, 3, 4, 5, 6, 7, 8, 9, 16, 17, 18]),
+        ("summary", &[0, 1, 2, 3, 4, 5, 6, 7, 8, 9, 16, 17, 18]),
+        ("message", &[0, 1, 2, 3, 4, 5, 6, 7, 8, 9, 11, 16, 17, 18]),
+        ("hops", &[0, 1, 2, 3, 4, 5, 6, 7, 8, 9, 11, 16, 17, 18]),
     ];
     assert!(tally.forwarded > 100, "{tally}");
     for (call, numbers) in expected {

@@ -336,7 +336,7 @@ fn values(engine: &dyn Engine, rounds: usize) {
     println!();
 }
 
-const NEAR: [&[u8]; 3] = [&[1, 0], &[0, 1], &[1, 1]];
+const NEAR: [&[u16]; 3] = [&[1, 0], &[0, 1], &[1, 1]];
 
 /// the sweeps of the last table
 fn sweeps() -> Vec<(&'static str, Numbers)> {
@@ -358,7 +358,7 @@ fn sweeps() -> Vec<(&'static str, Numbers)> {
 
 fn families() -> Vec<(&'static str, Vec<(String, Numbers)>)> {
     let square = |side: u16, tile: u16| Numbers::new(&[[side, tile, 8], [side, tile, 0]], &NEAR);
-    let all: [&[u8]; 8] = [&[1, 0], &[0, 1], &[1, 1], &[2, 0], &[0, 2], &[2, 1], &[1, 2], &[2, 2]];
+    let all: [&[u16]; 8] = [&[1, 0], &[0, 1], &[1, 1], &[2, 0], &[0, 2], &[2, 1], &[1, 2], &[2, 2]];
     let two = [[64, 8, 8], [64, 8, 0]];
     let three = [[16, 4, 4], [16, 4, 2], [16, 4, 0]];
     let four = [[8, 2, 2], [8, 2, 2], [8, 4, 2], [8, 4, 0]];

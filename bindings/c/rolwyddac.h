@@ -9,6 +9,7 @@
  *    2 stray record   kind, order, count, unnamed byte or shift not as the format has them
  *    3 length         some length is 0 or above 1,024
  *    4 too large      more than 16,384 cells
+ *   18 too wide       all components of a distance of kind 4 fit a byte
  *    5 distance       components all zero, the same as an earlier record's, or non-zero beyond the last dimension
  *    6 tile           some tile length is 0, above 1,024, or smaller than some distance there
  *   16 spread order   the first dimension is not spread, or a spread one follows one that is not
@@ -70,7 +71,8 @@ enum {
   ROLWYDDAC_NO_MAIL = 14,
   ROLWYDDAC_EARLY = 15,
   ROLWYDDAC_SPREAD_ORDER = 16,
-  ROLWYDDAC_LAST_SPREAD = 17
+  ROLWYDDAC_LAST_SPREAD = 17,
+  ROLWYDDAC_TOO_WIDE = 18
 };
 
 /* How far a processor is: tiles finished, the stage of its current tile (0 gather, 1 calculate, 2 send) and how
@@ -105,28 +107,28 @@ enum {
 
 /* Writes the plan's totals on the route to out: tiles, messages, words, steps. Cells (the product of the lengths) and
  * processors (the product of the counts that are not 0) stand in the recipe itself.
- * Numbers: 1 to 8, 16, 17; 9 if out has not 4 words. A refusal leaves out as it was. */
+ * Numbers: 1 to 8, 16 to 18; 9 if out has not 4 words. A refusal leaves out as it was. */
 uint32_t rolwyddac_summary(const uint8_t *encoded, size_t encoded_length, uint32_t route, uint32_t *out,
                            size_t out_length);
 
 /* Writes the line of message m of the route to out: sending tile, taking tile, sending processor, taking processor,
  * words. On the indirect route the words are those of the sending tile's own cells and of those it passes on.
- * Numbers: 1 to 8, 16, 17; 9 if out has not 5 words; 11. A refusal leaves out as it was. */
+ * Numbers: 1 to 8, 16 to 18; 9 if out has not 5 words; 11. A refusal leaves out as it was. */
 uint32_t rolwyddac_message(const uint8_t *encoded, size_t encoded_length, uint32_t route, uint32_t m, uint32_t *out,
                            size_t out_length);
 
 /* Writes one word to out: the hops that message m of the direct route makes on the indirect one. There is no hop in a
  * dimension with one processor.
- * Numbers: 1 to 8, 16, 17; 9 if out has not 1 word; 11. A refusal leaves out as it was. */
+ * Numbers: 1 to 8, 16 to 18; 9 if out has not 1 word; 11. A refusal leaves out as it was. */
 uint32_t rolwyddac_hops(const uint8_t *encoded, size_t encoded_length, uint32_t m, uint32_t *out, size_t out_length);
 
 /* Sweeps the whole nest in index order on one processor and writes each cell's value to grid.
- * Numbers: 1 to 9, 16, 17. A refusal leaves grid as it was. */
+ * Numbers: 1 to 9, 16 to 18. A refusal leaves grid as it was. */
 uint32_t rolwyddac_sweep(const uint8_t *encoded, size_t encoded_length, const uint32_t *source, size_t source_length,
                          uint32_t *grid, size_t grid_length);
 
 /* Makes a fresh start: writes zero to memories, buffer, progress and status, whatever they held.
- * Numbers: 1 to 9, 16, 17. A refusal leaves all four as they were. */
+ * Numbers: 1 to 9, 16 to 18. A refusal leaves all four as they were. */
 uint32_t rolwyddac_fresh(const uint8_t *encoded, size_t encoded_length, uint32_t route, const uint32_t *source,
                          size_t source_length, uint32_t *memories, size_t memories_length, uint32_t *buffer,
                          size_t buffer_length, rolwyddac_progress *progress, size_t progress_length, uint8_t *status,
@@ -135,14 +137,14 @@ uint32_t rolwyddac_fresh(const uint8_t *encoded, size_t encoded_length, uint32_t
 /* Gives one processor a turn: it does the stage at which its record stands, once. Gather unpacks the messages
  * due at its tile into its memory and marks them taken; calculate gives the tile's cells their values there;
  * send packs the next message into the buffer and marks it in flight.
- * Numbers: 1 to 13, 16, 17. A refusal leaves memories, buffer, progress and status as they were. */
+ * Numbers: 1 to 13, 16 to 18. A refusal leaves memories, buffer, progress and status as they were. */
 uint32_t rolwyddac_turn(const uint8_t *encoded, size_t encoded_length, uint32_t route, const uint32_t *source,
                         size_t source_length, uint32_t *memories, size_t memories_length, uint32_t *buffer,
                         size_t buffer_length, rolwyddac_progress *progress, size_t progress_length, uint8_t *status,
                         size_t status_length, uint32_t processor);
 
 /* Delivers one message: its status goes from 1 to 2. Nothing else is written.
- * Numbers: 1 to 11, 14, 16, 17. A refusal leaves status as it was. */
+ * Numbers: 1 to 11, 14, 16 to 18. A refusal leaves status as it was. */
 uint32_t rolwyddac_deliver(const uint8_t *encoded, size_t encoded_length, uint32_t route, const uint32_t *source,
                            size_t source_length, const uint32_t *memories, size_t memories_length,
                            const uint32_t *buffer, size_t buffer_length, const rolwyddac_progress *progress,
@@ -152,7 +154,7 @@ uint32_t rolwyddac_deliver(const uint8_t *encoded, size_t encoded_length, uint32
  * 0 after a fresh start that gave 0 and then any turns and deliveries, all of these and this call given the same recipe,
  * route and source and lent the areas as the last left them, grid is what rolwyddac_sweep writes for that recipe and
  * source.
- * Numbers: 1 to 10, 15 to 17. A refusal leaves grid as it was. */
+ * Numbers: 1 to 10, 15 to 18. A refusal leaves grid as it was. */
 uint32_t rolwyddac_collect(const uint8_t *encoded, size_t encoded_length, uint32_t route, const uint32_t *source,
                            size_t source_length, const uint32_t *memories, size_t memories_length,
                            const uint32_t *buffer, size_t buffer_length, const rolwyddac_progress *progress,
@@ -162,8 +164,8 @@ uint32_t rolwyddac_collect(const uint8_t *encoded, size_t encoded_length, uint32
 /* Writes the recipe of the fields to space: lengths, tiling (tile lengths) and counts (processor counts) have one
  * number a dimension; components has four numbers a distance, zero beyond the last dimension, and weights one. The
  * recipe has 16 bytes for each dimension and each distance, and 16 more. What was written is accepted and reads back
- * to the fields given. What is refused has the number that reading it would have; lists of other lengths and
- * components above 255 stand in no recipe and are 2.
+ * to the fields given. What is refused has the number that reading it would have; lists of other lengths stand in
+ * no recipe and are 2. A distance with a component above 255 is written with kind 4, every other with kind 2.
  * Numbers: 2 to 8, 16, 17; 9 if space has not exactly the recipe's length. A refusal leaves space as it was. */
 uint32_t rolwyddac_write(const uint16_t *lengths, size_t lengths_length, const uint16_t *tiling, size_t tiling_length,
                          const uint16_t *counts, size_t counts_length, const uint16_t *components,

@@ -104,6 +104,7 @@ static void recipes_refused(void) {
   recipe[0] = 9, refused(ROLWYDDAC_STRAY_RECORD);
   recipe[2] = 0, refused(ROLWYDDAC_LENGTH);
   recipe[2] = 128, recipe[18] = 129, refused(ROLWYDDAC_TOO_LARGE);
+  recipe[32] = 4, refused(ROLWYDDAC_TOO_WIDE);
   recipe[34] = 0, refused(ROLWYDDAC_DISTANCE);
   recipe[4] = 0, refused(ROLWYDDAC_TILE);
   recipe[6] = 0, refused(ROLWYDDAC_SPREAD_ORDER);
@@ -152,7 +153,7 @@ int main(void) {
     plan();
     run();
   }
-  if (met != 0x3ffff) return printf("not every number was met: %x\n", met), 1;
+  if (met != 0x7ffff) return printf("not every number was met: %x\n", met), 1;
   puts("row D as document 01 has it, each number met");
   return 0;
 }

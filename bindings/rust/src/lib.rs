@@ -128,7 +128,7 @@ macro_rules! calls {
 calls! {
     /// Makes a fresh start: writes zero to `memories`, `buffer`, `progress` and `status`, whatever they held.
     ///
-    /// Refusals: 1 to 9, 16 and 17.
+    /// Refusals: 1 to 9 and 16 to 18.
     rolwyddac_fresh as fresh(
         encoded: &[u8], route: Route, source: &[u32], memories: &mut [u32], buffer: &mut [u32],
         progress: &mut [Progress], status: &mut [u8],
@@ -140,7 +140,7 @@ calls! {
     /// - Calculate gives the tile's cells their values there, reading only that memory and `source`.
     /// - Send packs the next message into the buffer and marks it in flight.
     ///
-    /// Refusals: 1 to 13, 16 and 17.
+    /// Refusals: 1 to 13 and 16 to 18.
     rolwyddac_turn as turn(
         encoded: &[u8], route: Route, source: &[u32], memories: &mut [u32], buffer: &mut [u32],
         progress: &mut [Progress], status: &mut [u8], processor: u32,
@@ -148,7 +148,7 @@ calls! {
 
     /// Delivers one message: its status goes from 1 to 2.
     ///
-    /// Refusals: 1 to 11, 14, 16 and 17.
+    /// Refusals: 1 to 11, 14 and 16 to 18.
     rolwyddac_deliver as deliver(
         encoded: &[u8], route: Route, source: &[u32], memories: &[u32], buffer: &[u32], progress: &[Progress],
         status: &mut [u8], message: u32,
@@ -159,7 +159,7 @@ calls! {
     /// Where it is done, and all calls since the fresh start were turns and deliveries given this recipe, route and
     /// `source` and lent the areas as the last left them, `grid` is what [`sweep`] writes.
     ///
-    /// Refusals: 1 to 10 and 15 to 17.
+    /// Refusals: 1 to 10 and 15 to 18.
     rolwyddac_collect as collect(
         encoded: &[u8], route: Route, source: &[u32], memories: &[u32], buffer: &[u32], progress: &[Progress],
         status: &[u8], grid: &mut [u32],
@@ -167,24 +167,24 @@ calls! {
 
     /// Sweeps the whole nest in index order on one processor and writes each cell's value to `grid`.
     ///
-    /// Refusals: 1 to 9, 16 and 17.
+    /// Refusals: 1 to 9 and 16 to 18.
     rolwyddac_sweep as sweep(encoded: &[u8], source: &[u32], grid: &mut [u32]);
 
     /// Writes the plan's totals on the route to `out`: tiles, messages, words, steps. [`summary`] is the handier form.
     ///
-    /// Refusals: 1 to 8, 16, 17, and 9 if `out` has not 4 words.
+    /// Refusals: 1 to 8, 16 to 18, and 9 if `out` has not 4 words.
     rolwyddac_summary as summary_words(encoded: &[u8], route: Route, out: &mut [u32]);
 
     /// Writes the line of message `m` of the route to `out`: sending tile, taking tile, sending processor, taking
     /// processor, words. [`message`] is the handier form.
     ///
-    /// Refusals: 1 to 8, 16, 17, 9 if `out` has not 5 words, 11.
+    /// Refusals: 1 to 8, 16 to 18, 9 if `out` has not 5 words, 11.
     rolwyddac_message as message_words(encoded: &[u8], route: Route, m: u32, out: &mut [u32]);
 
     /// Writes one word to `out`: the hops that message `m` of the direct route makes on the indirect one, where there is no
     /// hop in a dimension with one processor. [`hops`] is the handier form.
     ///
-    /// Refusals: 1 to 8, 16, 17, 9 if `out` has not 1 word, 11.
+    /// Refusals: 1 to 8, 16 to 18, 9 if `out` has not 1 word, 11.
     rolwyddac_hops as hops_words(encoded: &[u8], m: u32, out: &mut [u32]);
 
     /// Writes the recipe of the fields to `space`. [`Fields`] is the handier form.
@@ -194,7 +194,8 @@ calls! {
     ///
     /// The recipe has 16 bytes for each dimension and each distance, and 16 more. What was written is accepted and
     /// reads back to the fields given. What is refused has the number that reading it would have; lists of other
-    /// lengths and components above 255 stand in no recipe and are 2.
+    /// lengths stand in no recipe and are 2. A distance with a component above 255 is written with kind 4, every
+    /// other with kind 2.
     ///
     /// Refusals: 2 to 8, 16, 17, and 9 if `space` has not exactly the recipe's length.
     rolwyddac_write as write(
@@ -205,7 +206,7 @@ calls! {
 
 /// The totals of a recipe's plan on a route, which give every area its size.
 ///
-/// Refusals: 1 to 8, 16 and 17.
+/// Refusals: 1 to 8 and 16 to 18.
 pub fn summary(encoded: &[u8], route: Route) -> Result<Summary, Refusal> {
     let mut out = [0; SUMMARY_WORDS];
     summary_words(encoded, route, &mut out)?;
@@ -220,7 +221,7 @@ pub fn summary(encoded: &[u8], route: Route) -> Result<Summary, Refusal> {
 
 /// The line of message `m` of a recipe's plan on a route.
 ///
-/// Refusals: 1 to 8, 11, 16 and 17.
+/// Refusals: 1 to 8, 11 and 16 to 18.
 pub fn message(encoded: &[u8], route: Route, m: u32) -> Result<Message, Refusal> {
     let mut out = [0; MESSAGE_WORDS];
     message_words(encoded, route, m, &mut out)?;
@@ -231,7 +232,7 @@ pub fn message(encoded: &[u8], route: Route, m: u32) -> Result<Message, Refusal>
 /// How many wires message `m` of the direct route takes on the indirect one: as many as dimensions in which it crosses, those
 /// with one processor left out.
 ///
-/// Refusals: 1 to 8, 11, 16 and 17.
+/// Refusals: 1 to 8, 11 and 16 to 18.
 pub fn hops(encoded: &[u8], m: u32) -> Result<u32, Refusal> {
     let mut out = [0; HOPS_WORDS];
     hops_words(encoded, m, &mut out)?;

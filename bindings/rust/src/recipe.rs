@@ -45,7 +45,7 @@ impl Fields {
 
     /// Has the writer make the recipe, with the shift and the boundary value (document 01: shore value).
     ///
-    /// Refusals: those of the reader but 1, as reading such a recipe would be refused.
+    /// Refusals: those of the reader but 1 and 18, as reading such a recipe would be refused.
     pub fn close(&self, shift: u8, boundary: u32) -> Result<Recipe, Refusal> {
         let mut bytes = vec![0; RECORD * (self.lengths.len() + self.weights.len() + 1)];
         let Fields { lengths, tiling, counts, components, weights } = self;
@@ -87,12 +87,29 @@ mod tests {
     }
 
     #[test]
+    fn a_far_reach_is_laid_out() {
+        let recipe = Fields::new()
+            .dimension(600, 0x0304, 2)
+            .dimension(3, 4, 0)
+            .distance(&[255, 4], 1)
+            .distance(&[0x0201, 3], 0x0605)
+            .distance(&[256], 7)
+            .close(0, 0)
+            .unwrap();
+        assert_eq!(recipe[32..48], [2, 0, 255, 4, 0, 0, 1, 0, 0, 0, 0, 0, 0, 0, 0, 0]);
+        assert_eq!(recipe[48..64], [4, 0, 1, 2, 3, 0, 0, 0, 0, 0, 5, 6, 0, 0, 0, 0]);
+        assert_eq!(recipe[64..80], [4, 0, 0, 1, 0, 0, 0, 0, 0, 0, 7, 0, 0, 0, 0, 0]);
+    }
+
+    #[test]
     fn what_the_reader_refuses_is_refused() {
         let fields = Fields::new().dimension(4, 2, 2).dimension(1, 1, 0).distance(&[1, 0], 1);
         assert!(fields.close(0, 0).is_ok());
         assert_eq!(fields.close(32, 0), Err(Refusal::StrayRecord));
         assert_eq!(fields.clone().distance(&[0, 0, 0, 0, 1], 1).close(0, 0), Err(Refusal::StrayRecord));
         assert_eq!(fields.clone().distance(&[1], 2).close(0, 0), Err(Refusal::Distance));
+        assert_eq!(fields.clone().distance(&[256], 1).close(0, 0), Err(Refusal::Tile));
+        assert_eq!(fields.clone().distance(&[1, 0, 256], 1).close(0, 0), Err(Refusal::Distance));
         assert_eq!(fields.dimension(0, 1, 0).close(0, 0), Err(Refusal::Length));
     }
 }

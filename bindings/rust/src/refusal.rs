@@ -67,6 +67,7 @@ refusals! {
     2 StrayRecord "stray record": "kind, order, count, unnamed byte or shift not as the format has them";
     3 Length "length": "some length is 0 or above 1,024";
     4 TooLarge "too large": "more than 16,384 cells";
+    18 TooWide "too wide": "all components of a distance of kind 4 fit a byte";
     5 Distance "distance":
         "components all zero, the same as an earlier record's, or non-zero beyond the last dimension";
     6 Tile "tile": "some tile length is 0, above 1,024, or smaller than some distance there";
@@ -99,7 +100,7 @@ mod tests {
     fn no_number_is_missing() {
         let mut numbers: Vec<u32> = Refusal::NAMED.iter().map(|refusal| refusal.number()).collect();
         numbers.sort();
-        assert_eq!(numbers, (1..=17).collect::<Vec<u32>>());
+        assert_eq!(numbers, (1..=18).collect::<Vec<u32>>());
     }
 
     #[test]

@@ -62,6 +62,7 @@ fn recipes_refused() {
         (changed(&[(2, 0)]), Refusal::Length),
         (changed(&[(0, 3)]), Refusal::StrayRecord),
         (changed(&[(2, 128), (18, 129)]), Refusal::TooLarge),
+        (changed(&[(32, 4), (38, 0), (42, 1)]), Refusal::TooWide),
         (changed(&[(34, 0)]), Refusal::Distance),
         (changed(&[(4, 0)]), Refusal::Tile),
         (changed(&[(6, 0)]), Refusal::SpreadOrder),

@@ -82,6 +82,16 @@ fn numbers_of_two_and_four_bytes() {
 }
 
 #[test]
+fn a_reach_over_255_cells() {
+    let text = "dimension 600 tile 400 processors 2\ndimension 5 tile 2\ndistance 300 1 weight 9\nclose\n";
+    let output = write_recipe(&[], text);
+    assert_eq!(output.status.code(), Some(0));
+    assert_eq!(output.stdout[32..48], [4, 0, 44, 1, 1, 0, 0, 0, 0, 0, 9, 0, 0, 0, 0, 0]);
+    assert!(told(&text.replace("300", "401")).starts_with("refused 6, tile"));
+    assert_eq!(told("distance 65536 0\n"), "line 1: distance 65536 is above 65535");
+}
+
+#[test]
 fn a_text_that_is_no_recipe_is_told_by_line() {
     assert_eq!(told(""), "line 1: the close is missing");
     assert_eq!(told("dimension 6 tile 3\n"), "line 2: the close is missing");

@@ -1,5 +1,5 @@
 -- What holds of an accepted nest: `accepted`, for every list of bytes that reading gives 0.
-use Prim.Native.Nat.{ℕ, zero, suc, _+_, _*_, _-_, _≤_, _<_}
+use Prim.Native.Nat.{ℕ, zero, suc, _+_, _*_, _-_, _/_, _%_, _≤_, _<_}
 use mathlib.Core.Path.{_≡_, refl, sym, ap, _∙_}
 use mathlib.Core.Logic.{_≢_}
 use mathlib.Core.Bool.{Bool, true, false, true≢false}
@@ -8,18 +8,18 @@ use native.Mathlib.Omega.{arith}
 use native.Mathlib.Decide.{decLt}
 use lib.ListN.{length, getD}
 use lib.Dec.{ltb, leb}
-use borrow.Author.Tests.{ltb-true, ltb-false, leb-false, eqb-true, eqb-false, le-ltb, le-leb, lt-ltb}
+use borrow.Author.Tests.{ltb-true, ltb-false, leb-false, eqb-true, eqb-false, le-leb, lt-ltb}
 use Rattle.base.specs.Tests.{_and_, every, keep}
 use Rattle.base.specs.Numbers.{firstOf}
-use Rattle.base.proofs.Tests.{both, neither, true-not, not-false, is-false, and-true, never-both, every-at, none-some, pick-false}
+use Rattle.base.proofs.Tests.{both, neither, true-not, not-false, is-false, and-true, never-both, every-at, none-some}
 use Rattle.base.proofs.Select.{keep-same, keep-few}
 use Rattle.base.proofs.Numbers.{none-first}
 use Rattle.nest.specs.declared.Nest.{Nest}
 use Rattle.nest.specs.Accepted.{Accepted}
 use Rattle.nest.specs.Nest.{lengthOf, tileLength, processorCount, component, weight, cells, tiles, processors}
 use Rattle.base.specs.Lists.{Bytes}
-use Rattle.nest.specs.Nest.{half, kind, records, ofKind, nestBy, nestOf, ragged, fitsAt, strayRecord, outside, badLength, tooLarge, beyond, faulty, badDistance, reached, badTile, isSpread, badSpread, lastSpread, badProcessors, tooManyTiles, nestLines, readLines}
-use Rattle.nest.proofs.Laws.{Formed, formed, front-kept, filled-in, filled-out, filled-below, half-small, word-small, checked-close}
+use Rattle.nest.specs.Nest.{half, kind, records, ofKind, distancesOf, nestBy, nestOf, ragged, fitsAt, strayRecord, outside, badLength, tooLarge, beyond, faulty, badDistance, reached, badTile, isSpread, badSpread, lastSpread, badProcessors, tooManyTiles, nestLines, readLines}
+use Rattle.nest.proofs.Laws.{Formed, formed, front-kept, filled-in, filled-out, filled-below, half-small, word-small, weight-small, stands-last, checked-close}
 
 pub inside-range : (v : ℕ) → outside v ≡ false → (1 ≤ v) × (v ≤ 1024)
 unfolding outside
@@ -47,12 +47,13 @@ pub record Unrefused (x : Nest) : Type 0 where
   pub counts : badProcessors x ≡ false
   pub number : tooManyTiles x ≡ false
 
-pub unrefused : (x : Nest) → firstOf (nestLines x) ≡ 0 → Unrefused x
+pub unrefused : (needless : Bool) (x : Nest) → firstOf (nestLines needless x) ≡ 0 → Unrefused x
 unfolding nestLines
-unrefused x h =
+unrefused needless x h =
     let p3 = none-first 3 (badLength x) _ (λ e. omega arith) h in
     let p4 = none-first 4 (tooLarge x) _ (λ e. omega arith) (p3 .1) in
-    let p5 = none-first 5 (badDistance x) _ (λ e. omega arith) (p4 .1) in
+    let p18 = none-first 18 needless _ (λ e. omega arith) (p4 .1) in
+    let p5 = none-first 5 (badDistance x) _ (λ e. omega arith) (p18 .1) in
     let p6 = none-first 6 (badTile x) _ (λ e. omega arith) (p5 .1) in
     let p16 = none-first 16 (badSpread x) _ (λ e. omega arith) (p6 .1) in
     let p17 = none-first 17 (lastSpread x) _ (λ e. omega arith) (p16 .1) in
@@ -96,6 +97,13 @@ module _ (x : Nest) where
       go j (yes k) w q = (j, k, omega arith)
       go j (no k) w q = absurd (never-both (and-true (le-leb (x .dimensions) j (omega arith)) (lt-ltb 0 (component x e j) (omega arith))) q)
 
+  pub within-in : badDistance x ≡ false → (e j : ℕ) → e < x .distances → x .dimensions ≤ j → j < 4 → component x e j ≡ 0
+  unfolding badDistance faulty beyond
+  within-in h e j l d f =
+      let q = none-some _ 4 (neither (neither (none-some _ _ h e l) .1) .1) j f in
+      let z = ltb-false 0 (component x e j) (is-false (λ t. never-both (and-true (le-leb (x .dimensions) j d) t) q)) in
+      omega arith
+
   pub record Spread : Type 0 where
     pub least : 1 ≤ x .spread
     pub low : x .spread < x .dimensions
@@ -138,8 +146,7 @@ module _ (bytes : List ℕ) (n e : ℕ) where
   shift-in f =
       let r : ℕ = n + e in
       let p = both (every-at (fitsAt bytes n e) (records bytes) (f .fit) (n + e) (rw (f .total) (omega arith))) in
-      let k : kind bytes (n + e) ≡ 3 =
-      eqb-true _ _ (p .0) ∙ (pick-false (ltb (n + e) n) 1 _ (le-ltb (n + e) n (omega arith)) ∙ pick-false (ltb (n + e) (n + e)) 2 3 (le-ltb (n + e) (n + e) (omega arith))) in
+      let k : kind bytes (n + e) ≡ 3 = eqb-true _ _ (sym (stands-last n e (n + e) _ (omega arith) (omega arith)) ∙ p .0) in
       ltb-true _ _ (both (sym (checked-close bytes (n + e) (kind bytes (n + e)) k) ∙ p .1) .0)
 
   pub room : Formed bytes n e → 16 * (n + e + 1) ≤ length bytes
@@ -161,13 +168,13 @@ module _ (bytes : List ℕ) (n e : ℕ) where
   unfolding nestBy
   tile-out j h = filled-out 4 _ n j h
 
-  component-small : Bytes bytes → (k : ℕ) → getD (nestBy bytes n e .components) k 0 < 256
+  component-out : (k : ℕ) → 4 * e ≤ k → getD (nestBy bytes n e .components) k 0 ≡ 0
   unfolding nestBy
-  component-small b = filled-below 32 _ (4 * e) 256 (omega arith) (λ i. b _)
+  component-out k h = filled-out 32 _ (4 * e) k h
 
-  weight-small : Bytes bytes → (k : ℕ) → weight (nestBy bytes n e) k < 65536
+  weight-below : Bytes bytes → (k : ℕ) → weight (nestBy bytes n e) k < 65536
   unfolding nestBy
-  weight-small b = filled-below 8 _ e 65536 (omega arith) (λ i. half-small bytes b _)
+  weight-below b = filled-below 8 _ e 65536 (omega arith) (λ i. weight-small bytes (n + i) b)
 
   boundary-small : Bytes bytes → nestBy bytes n e .boundary < 4294967296
   unfolding nestBy
@@ -203,9 +210,9 @@ module _ (bytes : List ℕ) (n e : ℕ) where
         tile-most = λ j. small-tile j (decLt j n);
         manned = s .manned;
         near = near-in x (p .tiling);
-        component-most = λ d j. let k = component-small b (4 * d + j) in omega arith;
+        component-most = λ d j. small-component (4 * d + j) (decLt (4 * d + j) (4 * e));
         moves = moves-in x (p .distances);
-        weight-most = weight-small b;
+        weight-most = weight-below b;
         shift-most = rw (sizes-are .2) (shift-in f);
         boundary-most = boundary-small b;
         cells-most = size-in x (p .size);
@@ -217,13 +224,30 @@ module _ (bytes : List ℕ) (n e : ℕ) where
       small-length j (yes l) = length-in (nestBy bytes n e) (p .lengths) j (rw (sizes-are .0) l) .1
       small-length j (no l) = let z = length-out j (omega arith) in omega arith
 
+      -- a component within the dimensions is at most its tile length, one beyond them is 0
+      small-component : (k : ℕ) → Dec (k < 4 * e) → getD (nestBy bytes n e .components) k 0 ≤ 1024
+      small-component k (no l) = let z = component-out k (omega arith) in omega arith
+      small-component k (yes l) =
+          let d : k / 4 < nestBy bytes n e .distances = rw (sizes-are .1) (omega arith) in
+          let same-place : 4 * (k / 4) + k % 4 ≡ k = omega arith in
+          let most : component (nestBy bytes n e) (k / 4) (k % 4) ≤ 1024 = go (k / 4) (k % 4) d (omega arith) (decLt (k % 4) n) in
+          rw same-place at most
+        where
+          go : (d j : ℕ) → d < nestBy bytes n e .distances → j < 4 → Dec (j < n) → component (nestBy bytes n e) d j ≤ 1024
+          go d j l f (yes m) =
+              let m′ : j < nestBy bytes n e .dimensions = rw (sizes-are .0) m in
+              let k = near-in (nestBy bytes n e) (p .tiling) d j l m′ in
+              let t = tile-in (nestBy bytes n e) (p .tiling) j m′ in
+              omega arith
+          go d j l f (no m) = let z = within-in (nestBy bytes n e) (p .distances) d j l (rw (sizes-are .0) (omega arith)) f in omega arith
+
       small-tile : (j : ℕ) → Dec (j < n) → tileLength (nestBy bytes n e) j ≤ 1024
       small-tile j (yes l) = tile-in (nestBy bytes n e) (p .tiling) j (rw (sizes-are .0) l) .1
       small-tile j (no l) = let z = tile-out j (omega arith) in omega arith
 
 -- ---- the whole
 
-pub stray-no : (bytes : List ℕ) → strayRecord bytes ≡ false → Formed bytes (ofKind bytes 1) (ofKind bytes 2)
+pub stray-no : (bytes : List ℕ) → strayRecord bytes ≡ false → Formed bytes (ofKind bytes 1) (distancesOf bytes)
 unfolding strayRecord
 stray-no bytes h = formed bytes _ _ (true-not h)
 
@@ -232,4 +256,4 @@ unfolding readLines nestOf
 accepted bytes b h =
     let p1 = none-first 1 (ragged bytes) _ (λ e. omega arith) h in
     let p2 = none-first 2 (strayRecord bytes) _ (λ e. omega arith) (p1 .1) in
-    accepted-by bytes (ofKind bytes 1) (ofKind bytes 2) b (stray-no bytes (p2 .0)) (unrefused _ (p2 .1))
+    accepted-by bytes (ofKind bytes 1) (distancesOf bytes) b (stray-no bytes (p2 .0)) (unrefused _ _ (p2 .1))

@@ -14,14 +14,14 @@ use lib.Seq.{ext-getD, getD-set-same, getD-set-other}
 use lib.Dec.{eqb, ltb}
 use borrow.Author.Tests.{lt-ltb, le-ltb, le-leb, lt-leb, eq-eqb, ne-eqb, leb-true, eqb-true}
 use Rattle.base.specs.Tests.{_and_, _or_, not, pick, every, some, keep, those, product}
-use Rattle.base.proofs.Tests.{both, and-true, and-left, and-false, and-no, or-left, or-right, or-false, not-true, not-false, is-true, never-both, every-more, some-one, pick-true, pick-false, length-tabulate, tabulate-at}
+use Rattle.base.proofs.Tests.{both, and-true, and-left, and-false, and-no, or-left, or-right, or-false, not-true, not-false, is-true, never-both, every-more, every-not, some-one, pick-true, pick-false, length-tabulate, tabulate-at}
 use Rattle.base.specs.Numbers.{line, firstOf}
-use Rattle.base.proofs.Select.{those-more, those-none, keep-more, keep-none, keep-few}
+use Rattle.base.proofs.Select.{those-more, those-none, those-few, keep-more, keep-none, keep-few}
 use Rattle.base.proofs.Numbers.{first-true, first-false}
 use Rattle.nest.specs.declared.Nest.{Nest}
 use Rattle.nest.specs.Nest.{lengthOf, tileLength, processorCount, tileCount, cells, tiles, processors}
 use Rattle.base.specs.Lists.{Bytes}
-use Rattle.nest.specs.Nest.{half, word, filled, nestBy, ragged, blank, checked, fitsAt, wellFormed, kind, records, badLength, tooLarge, badDistance, badTile, isSpread, badSpread, lastSpread, badProcessors, tooManyTiles, nestLines}
+use Rattle.nest.specs.Nest.{half, word, ofKind, componentAt, weightAt, filled, nestBy, ragged, blank, checked, mayStand, fitsAt, wellFormed, kind, records, badLength, tooLarge, narrowAt, badDistance, badTile, isSpread, badSpread, lastSpread, badProcessors, tooManyTiles, nestLines}
 
 -- ---- loops
 
@@ -208,6 +208,64 @@ half-small bytes b p = omega (arith, b p, b (p + 1))
 pub word-small : (bytes : List ℕ) → Bytes bytes → (p : ℕ) → word bytes p < 4294967296
 word-small bytes b p = omega (arith, half-small bytes b p, half-small bytes b (p + 2))
 
+-- ---- the places of the kinds, and the fields that depend on the kind
+
+module _ (n e r k : ℕ) where
+  pub stands-first : r < n → mayStand n e r k ≡ eqb k 1
+  unfolding mayStand pick
+  stands-first h = rw (lt-ltb r n h)
+
+  pub stands-between : n ≤ r → r < n + e → mayStand n e r k ≡ (eqb k 2 or eqb k 4)
+  unfolding mayStand pick
+  stands-between h l = rw (le-ltb r n h, lt-ltb r (n + e) l)
+
+  pub stands-last : n ≤ r → n + e ≤ r → mayStand n e r k ≡ eqb k 3
+  unfolding mayStand pick
+  stands-last h l = rw (le-ltb r n h, le-ltb r (n + e) l)
+
+module _ (bytes : List ℕ) (r : ℕ) where
+  pub component-wide : (j : ℕ) → kind bytes r ≡ 4 → half bytes (16 * r + (2 + 2 * j)) ≡ componentAt bytes r j
+  component-wide j h = sym (pick-true _ _ _ (eq-eqb (kind bytes r) 4 h))
+
+  pub component-narrow : (j : ℕ) → kind bytes r ≢ 4 → getD bytes (16 * r + (2 + j)) 0 ≡ componentAt bytes r j
+  component-narrow j h = sym (pick-false _ _ _ (ne-eqb (kind bytes r) 4 h))
+
+  pub weight-wide : kind bytes r ≡ 4 → half bytes (16 * r + 10) ≡ weightAt bytes r
+  weight-wide h = sym (pick-true _ _ _ (eq-eqb (kind bytes r) 4 h))
+
+  pub weight-narrow : kind bytes r ≢ 4 → half bytes (16 * r + 6) ≡ weightAt bytes r
+  weight-narrow h = sym (pick-false _ _ _ (ne-eqb (kind bytes r) 4 h))
+
+  pub component-small : Bytes bytes → (j : ℕ) → componentAt bytes r j < 65536
+  unfolding pick
+  component-small b j = go (eqb (kind bytes r) 4)
+    where
+      go : (t : Bool) → pick t (half bytes (16 * r + (2 + 2 * j))) (getD bytes (16 * r + (2 + j)) 0) < 65536
+      go true = half-small bytes b (16 * r + (2 + 2 * j))
+      go false = omega (arith, b (16 * r + (2 + j)))
+
+  pub weight-small : Bytes bytes → weightAt bytes r < 65536
+  unfolding pick
+  weight-small b = go (eqb (kind bytes r) 4)
+    where
+      go : (t : Bool) → pick t (half bytes (16 * r + 10)) (half bytes (16 * r + 6)) < 65536
+      go true = half-small bytes b (16 * r + 10)
+      go false = half-small bytes b (16 * r + 6)
+
+  -- ---- line 18
+
+  pub other-kind : kind bytes r ≢ 4 → narrowAt bytes r ≡ false
+  other-kind h = and-false _ _ (ne-eqb (kind bytes r) 4 h)
+
+  pub some-wide : (j v : ℕ) → j < 4 → v ≡ componentAt bytes r j → 255 < v → narrowAt bytes r ≡ false
+  some-wide j v l e h = and-no _ _ (every-not _ 4 j l (le-ltb (componentAt bytes r j) 256 (rw e at h)))
+
+  pub all-narrow : kind bytes r ≡ 4 → every (λ j. ltb (componentAt bytes r j) 256) 4 ≡ true → narrowAt bytes r ≡ true
+  all-narrow h k = and-true (eq-eqb (kind bytes r) 4 h) k
+
+pub fits-byte : (v w : ℕ) → v ≡ w → v ≤ 255 → ltb w 256 ≡ true
+fits-byte v w e h = lt-ltb w 256 (omega arith)
+
 -- ---- lines 1 and 2
 
 pub same-not : (t : Bool) → B.not t ≡ not t
@@ -230,19 +288,26 @@ module _ (bytes : List ℕ) where
   unfolding checked pick _or_ _and_
   checked-close r k e = rw e
 
-  pub checked-none : (r k : ℕ) → (k ≡ 1 → ⊥) → (k ≡ 2 → ⊥) → (k ≡ 3 → ⊥) → checked bytes r k ≡ false
+  pub checked-wide : (r k : ℕ) → k ≡ 4 → checked bytes r k ≡ (blank bytes (16 * r + 1) 1 and blank bytes (16 * r + 12) 4)
+  unfolding checked pick _or_
+  checked-wide r k e = rw e
+
+  pub checked-none : (r k : ℕ) → (k ≡ 1 → ⊥) → (k ≡ 2 → ⊥) → (k ≡ 3 → ⊥) → (k ≡ 4 → ⊥) → checked bytes r k ≡ false
   unfolding checked pick _or_ _and_
-  checked-none r k a b d = rw (ne-eqb k 1 a, ne-eqb k 2 b, ne-eqb k 3 d)
+  checked-none r k a b d f = rw (ne-eqb k 1 a, ne-eqb k 2 b, ne-eqb k 3 d, ne-eqb k 4 f)
+
+  pub kinds-few : (k : ℕ) → ofKind bytes k ≤ records bytes
+  unfolding ofKind
+  kinds-few k = those-few (kind bytes) k (records bytes)
 
   module _ (n e : ℕ) where
-    pub fits-yes : (r d : ℕ) (o : Bool) → d ≡ pick (ltb r n) 1 (pick (ltb r (n + e)) 2 3) → kind bytes r ≡ d → o ≡ checked bytes r (kind bytes r)
-        → o ≡ fitsAt bytes n e r
+    pub fits-yes : (r : ℕ) (o : Bool) → mayStand n e r (kind bytes r) ≡ true → o ≡ checked bytes r (kind bytes r) → o ≡ fitsAt bytes n e r
     unfolding fitsAt
-    fits-yes r d o q h k = k ∙ sym (and-left _ _ (eq-eqb (kind bytes r) _ (h ∙ q)))
+    fits-yes r o h k = k ∙ sym (and-left _ _ h)
 
-    pub fits-no : (r d : ℕ) → d ≡ pick (ltb r n) 1 (pick (ltb r (n + e)) 2 3) → kind bytes r ≢ d → fitsAt bytes n e r ≡ false
+    pub fits-no : (r : ℕ) → mayStand n e r (kind bytes r) ≡ false → fitsAt bytes n e r ≡ false
     unfolding fitsAt
-    fits-no r d q h = and-false _ _ (ne-eqb (kind bytes r) _ (λ k. h (k ∙ sym q)))
+    fits-no r h = and-false _ _ h
 
     pub few-dimensions : n < 2 → wellFormed bytes n e ≡ false
     unfolding wellFormed _and_
@@ -341,57 +406,62 @@ module _ (x : Nest) where
   unfolding badProcessors processors
   more-than-64 p e = ap (ltb 64) e
 
+module _ (needless : Bool) (x : Nest) where
   no-line : firstOf [] ≡ 0
   unfolding firstOf
   no-line = refl
 
-  pub line-3 : badLength x ≡ true → firstOf (nestLines x) ≡ 3
+  pub line-3 : badLength x ≡ true → firstOf (nestLines needless x) ≡ 3
   unfolding nestLines
   line-3 h = first-true 3 (badLength x) _ h
 
   module _ (h3 : badLength x ≡ false) where
-    pub line-4 : tooLarge x ≡ true → firstOf (nestLines x) ≡ 4
+    pub line-4 : tooLarge x ≡ true → firstOf (nestLines needless x) ≡ 4
     unfolding nestLines
     line-4 h = first-false 3 (badLength x) _ h3 ∙ first-true 4 (tooLarge x) _ h
 
     module _ (h4 : tooLarge x ≡ false) where
-      pub line-5 : badDistance x ≡ true → firstOf (nestLines x) ≡ 5
+      pub line-18 : needless ≡ true → firstOf (nestLines needless x) ≡ 18
       unfolding nestLines
-      line-5 h = first-false 3 (badLength x) _ h3 ∙ (first-false 4 (tooLarge x) _ h4 ∙ first-true 5 (badDistance x) _ h)
+      line-18 h = first-false 3 (badLength x) _ h3 ∙ (first-false 4 (tooLarge x) _ h4 ∙ first-true 18 needless _ h)
 
-      module _ (h5 : badDistance x ≡ false) where
-        to-6 : firstOf (nestLines x)
+      pub line-5 : needless ≡ false → badDistance x ≡ true → firstOf (nestLines needless x) ≡ 5
+      unfolding nestLines
+      line-5 n h = first-false 3 (badLength x) _ h3 ∙ (first-false 4 (tooLarge x) _ h4 ∙ (first-false 18 needless _ n ∙ first-true 5 (badDistance x) _ h))
+
+      module _ (h18 : needless ≡ false) (h5 : badDistance x ≡ false) where
+        to-6 : firstOf (nestLines needless x)
             ≡ firstOf (line 6 (badTile x) ∷ line 16 (badSpread x) ∷ line 17 (lastSpread x) ∷ line 7 (badProcessors x) ∷ line 8 (tooManyTiles x) ∷ [])
         unfolding nestLines
-        to-6 = first-false 3 (badLength x) _ h3 ∙ (first-false 4 (tooLarge x) _ h4 ∙ first-false 5 (badDistance x) _ h5)
+        to-6 = first-false 3 (badLength x) _ h3 ∙ (first-false 4 (tooLarge x) _ h4 ∙ (first-false 18 needless _ h18 ∙ first-false 5 (badDistance x) _ h5))
 
-        pub line-6 : badTile x ≡ true → firstOf (nestLines x) ≡ 6
+        pub line-6 : badTile x ≡ true → firstOf (nestLines needless x) ≡ 6
         line-6 h = to-6 ∙ first-true 6 (badTile x) _ h
 
         module _ (h6 : badTile x ≡ false) where
-          to-16 : firstOf (nestLines x)
+          to-16 : firstOf (nestLines needless x)
               ≡ firstOf (line 16 (badSpread x) ∷ line 17 (lastSpread x) ∷ line 7 (badProcessors x) ∷ line 8 (tooManyTiles x) ∷ [])
           to-16 = to-6 ∙ first-false 6 (badTile x) _ h6
 
-          pub line-16 : badSpread x ≡ true → firstOf (nestLines x) ≡ 16
+          pub line-16 : badSpread x ≡ true → firstOf (nestLines needless x) ≡ 16
           line-16 h = to-16 ∙ first-true 16 (badSpread x) _ h
 
           module _ (h16 : badSpread x ≡ false) where
-            pub line-17 : lastSpread x ≡ true → firstOf (nestLines x) ≡ 17
+            pub line-17 : lastSpread x ≡ true → firstOf (nestLines needless x) ≡ 17
             line-17 h = to-16 ∙ (first-false 16 (badSpread x) _ h16 ∙ first-true 17 (lastSpread x) _ h)
 
             module _ (h17 : lastSpread x ≡ false) where
-              to-7 : firstOf (nestLines x) ≡ firstOf (line 7 (badProcessors x) ∷ line 8 (tooManyTiles x) ∷ [])
+              to-7 : firstOf (nestLines needless x) ≡ firstOf (line 7 (badProcessors x) ∷ line 8 (tooManyTiles x) ∷ [])
               to-7 = to-16 ∙ (first-false 16 (badSpread x) _ h16 ∙ first-false 17 (lastSpread x) _ h17)
 
-              pub line-7 : badProcessors x ≡ true → firstOf (nestLines x) ≡ 7
+              pub line-7 : badProcessors x ≡ true → firstOf (nestLines needless x) ≡ 7
               line-7 h = to-7 ∙ first-true 7 (badProcessors x) _ h
 
               module _ (h7 : badProcessors x ≡ false) where
-                pub line-8 : tooManyTiles x ≡ true → firstOf (nestLines x) ≡ 8
+                pub line-8 : tooManyTiles x ≡ true → firstOf (nestLines needless x) ≡ 8
                 line-8 h = to-7 ∙ (first-false 7 (badProcessors x) _ h7 ∙ first-true 8 (tooManyTiles x) _ h)
 
-                pub line-none : tooManyTiles x ≡ false → firstOf (nestLines x) ≡ 0
+                pub line-none : tooManyTiles x ≡ false → firstOf (nestLines needless x) ≡ 0
                 line-none h = to-7 ∙ (first-false 7 (badProcessors x) _ h7 ∙ (first-false 8 (tooManyTiles x) _ h ∙ no-line))
 
 -- ---- the nest made of its parts
@@ -401,8 +471,8 @@ pub made : (bytes : List ℕ) (n e m s b : ℕ) (l t p d w : List ℕ)
     → l ≡ filled 4 n (λ (j : ℕ). half bytes (16 * j + 2))
     → t ≡ filled 4 n (λ (j : ℕ). half bytes (16 * j + 4))
     → p ≡ filled 4 n (λ (j : ℕ). half bytes (16 * j + 6))
-    → d ≡ filled 32 (4 * e) (λ (i : ℕ). getD bytes (16 * (n + i / 4) + (2 + i % 4)) 0)
-    → w ≡ filled 8 e (λ (i : ℕ). half bytes (16 * (n + i) + 6))
+    → d ≡ filled 32 (4 * e) (λ (i : ℕ). componentAt bytes (n + i / 4) (i % 4))
+    → w ≡ filled 8 e (λ (i : ℕ). weightAt bytes (n + i))
     → s ≡ getD bytes (16 * (n + e) + 1) 0
     → b ≡ word bytes (16 * (n + e) + 4)
     → _≡_ {A = Nest}

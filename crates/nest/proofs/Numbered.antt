@@ -8,7 +8,7 @@ use Rattle.nest.specs.Nest.{nestLines, readLines}
 
 pub numbered : (bytes : List ℕ) → Numbered (readLines bytes)
 unfolding readLines nestLines
-numbered bytes = (ne, (ne, (ne, (ne, (ne, (ne, (ne, (ne, (ne, (ne, tt))))))))))
+numbered bytes = (ne, (ne, (ne, (ne, (ne, (ne, (ne, (ne, (ne, (ne, (ne, tt)))))))))))
   where
     ne : {n : ℕ} → suc n ≢ 0
     ne q = omega arith

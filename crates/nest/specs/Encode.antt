@@ -1,8 +1,11 @@
 -- A recipe's bytes from a nest's values: the records in order, each field at its place, zero elsewhere. Nest reads them back.
--- Renders document 01, "The recipe", as the recipe writer of document 02, W-202, has to spell it.
+-- Renders document 01, "The recipe", as the recipe writer of document 02, W-202, has to spell it; W-207's kind 4.
 use Prim.Native.Nat.{ℕ, zero, suc, _/_, _%_}
+use mathlib.Core.Bool.{Bool}
 use mathlib.Core.List.{List, [], _∷_, _++_}
 use lib.ListN.{replicate}
+use lib.Dec.{ltb}
+use Rattle.base.specs.Tests.{pick, every}
 use Rattle.nest.specs.declared.Nest.{Nest}
 use Rattle.nest.specs.Nest.{lengthOf, tileLength, processorCount, component, weight}
 
@@ -23,18 +26,29 @@ wordBytes v = halfBytes v ++ halfBytes (v / 65536)
 unfoldable pub dimensionRecord : ℕ → ℕ → ℕ → List ℕ
 dimensionRecord length tile count = 1 ∷ 0 ∷ halfBytes length ++ halfBytes tile ++ halfBytes count ++ replicate 8 0
 
-unfoldable pub distanceRecord : ℕ → ℕ → ℕ → ℕ → ℕ → List ℕ
-distanceRecord d1 d2 d3 d4 weight = 2 ∷ 0 ∷ low d1 ∷ low d2 ∷ low d3 ∷ low d4 ∷ halfBytes weight ++ replicate 8 0
+-- a distance of kind 2, a byte a component; of kind 4, two bytes a component
+unfoldable pub narrowRecord : ℕ → ℕ → ℕ → ℕ → ℕ → List ℕ
+narrowRecord d1 d2 d3 d4 weight = 2 ∷ 0 ∷ low d1 ∷ low d2 ∷ low d3 ∷ low d4 ∷ halfBytes weight ++ replicate 8 0
+
+unfoldable pub wideRecord : ℕ → ℕ → ℕ → ℕ → ℕ → List ℕ
+wideRecord d1 d2 d3 d4 weight = 4 ∷ 0 ∷ halfBytes d1 ++ halfBytes d2 ++ halfBytes d3 ++ halfBytes d4 ++ halfBytes weight ++ replicate 4 0
 
 unfoldable pub closeRecord : ℕ → ℕ → List ℕ
 closeRecord shift boundary = 3 ∷ low shift ∷ 0 ∷ 0 ∷ wordBytes boundary ++ replicate 8 0
 
--- of dimension j, of distance e
+-- of dimension j
 unfoldable pub dimensionOf : Nest → ℕ → List ℕ
 dimensionOf x j = dimensionRecord (lengthOf x j) (tileLength x j) (processorCount x j)
 
+-- each component of distance e fits a byte
+unfoldable pub narrow : Nest → ℕ → Bool
+narrow x e = every (λ j. ltb (component x e j) 256) 4
+
+-- of distance e: kind 4 only where kind 2 can't hold it
 unfoldable pub distanceOf : Nest → ℕ → List ℕ
-distanceOf x e = distanceRecord (component x e 0) (component x e 1) (component x e 2) (component x e 3) (weight x e)
+distanceOf x e =
+    pick (narrow x e) (narrowRecord (component x e 0) (component x e 1) (component x e 2) (component x e 3) (weight x e))
+    (wideRecord (component x e 0) (component x e 1) (component x e 2) (component x e 3) (weight x e))
 
 -- f 0, then f 1, .. , n of them
 unfoldable pub joined : (ℕ → List ℕ) → ℕ → List ℕ

@@ -1,5 +1,5 @@
 -- A nest: what its fields mean; and a recipe's bytes: records and fields, the nest they give, the reader's lines, what reading answers.
--- Renders document 01, "The recipe", "Cells, tiles and boards" and "Numbers a call gives", lines 1 to 8; W-203's lines 16 and 17; W-205's line 7.
+-- Renders document 01, "The recipe", "Cells, tiles and boards" and "Numbers a call gives", lines 1 to 8; of document 02, W-203, W-205, W-207.
 use Prim.Native.Nat.{ℕ, _+_, _*_, _-_, _/_, _%_}
 use mathlib.Core.Bool.{Bool}
 use mathlib.Core.List.{List, [], _∷_}
@@ -56,6 +56,17 @@ kind bytes r = getD bytes (16 * r) 0
 unfoldable pub ofKind : List ℕ → ℕ → ℕ
 ofKind bytes k = length (those (kind bytes) k (records bytes))
 
+-- a distance is of kind 2 or of kind 4
+abbrev pub distancesOf : List ℕ → ℕ
+distancesOf bytes = ofKind bytes 2 + ofKind bytes 4
+
+-- component j of the distance in record r, and its weight: of kind 2 a byte a component, of kind 4 two
+abbrev pub componentAt : List ℕ → ℕ → ℕ → ℕ
+componentAt bytes r j = pick (eqb (kind bytes r) 4) (half bytes (16 * r + (2 + 2 * j))) (getD bytes (16 * r + (2 + j)) 0)
+
+abbrev pub weightAt : List ℕ → ℕ → ℕ
+weightAt bytes r = pick (eqb (kind bytes r) 4) (half bytes (16 * r + 10)) (half bytes (16 * r + 6))
+
 -- f 0, f 1, .. , n of them, then 0, in a table of the given size
 unfoldable pub filled : ℕ → ℕ → (ℕ → ℕ) → List ℕ
 filled size n f = tabulate (λ i. pick (ltb i n) (f i) 0) size
@@ -70,14 +81,14 @@ nestBy bytes n e =
       lengths = filled 4 n (λ j. half bytes (16 * j + 2));
       tiling = filled 4 n (λ j. half bytes (16 * j + 4));
       counts = filled 4 n (λ j. half bytes (16 * j + 6));
-      components = filled 32 (4 * e) (λ i. getD bytes (16 * (n + i / 4) + (2 + i % 4)) 0);
-      weights = filled 8 e (λ i. half bytes (16 * (n + i) + 6));
+      components = filled 32 (4 * e) (λ i. componentAt bytes (n + i / 4) (i % 4));
+      weights = filled 8 e (λ i. weightAt bytes (n + i));
       shift = getD bytes (16 * (n + e) + 1) 0;
       boundary = word bytes (16 * (n + e) + 4);
     }
 
 unfoldable pub nestOf : List ℕ → Nest
-nestOf bytes = nestBy bytes (ofKind bytes 1) (ofKind bytes 2)
+nestOf bytes = nestBy bytes (ofKind bytes 1) (distancesOf bytes)
 
 unfoldable pub ragged : List ℕ → Bool
 ragged bytes = eqb (length bytes) 0 or not (eqb (length bytes % 16) 0)
@@ -89,17 +100,22 @@ blank bytes at count = every (λ i. eqb (getD bytes (at + i) 0) 0) count
 unfoldable pub checked : List ℕ → ℕ → ℕ → Bool
 checked bytes r k =
     pick (eqb k 1 or eqb k 2) (blank bytes (16 * r + 1) 1 and blank bytes (16 * r + 8) 8)
-    (eqb k 3 and ltb (getD bytes (16 * r + 1) 0) 32 and blank bytes (16 * r + 2) 2 and blank bytes (16 * r + 8) 8)
+    (pick (eqb k 4) (blank bytes (16 * r + 1) 1 and blank bytes (16 * r + 12) 4)
+    (eqb k 3 and ltb (getD bytes (16 * r + 1) 0) 32 and blank bytes (16 * r + 2) 2 and blank bytes (16 * r + 8) 8))
+
+-- a record of kind k may be record r of n dimensions, e distances and the close
+unfoldable pub mayStand : ℕ → ℕ → ℕ → ℕ → Bool
+mayStand n e r k = pick (ltb r n) (eqb k 1) (pick (ltb r (n + e)) (eqb k 2 or eqb k 4) (eqb k 3))
 
 unfoldable pub fitsAt : List ℕ → ℕ → ℕ → ℕ → Bool
-fitsAt bytes n e r = eqb (kind bytes r) (pick (ltb r n) 1 (pick (ltb r (n + e)) 2 3)) and checked bytes r (kind bytes r)
+fitsAt bytes n e r = mayStand n e r (kind bytes r) and checked bytes r (kind bytes r)
 
 unfoldable pub wellFormed : List ℕ → ℕ → ℕ → Bool
 wellFormed bytes n e =
     leb 2 n and leb n 4 and leb 1 e and leb e 8 and eqb (records bytes) (n + e + 1) and every (fitsAt bytes n e) (records bytes)
 
 unfoldable pub strayRecord : List ℕ → Bool
-strayRecord bytes = not (wellFormed bytes (ofKind bytes 1) (ofKind bytes 2))
+strayRecord bytes = not (wellFormed bytes (ofKind bytes 1) (distancesOf bytes))
 
 -- lines 3 to 8, of the nest that the bytes give, with 16 and 17 before 7
 unfoldable pub outside : ℕ → Bool
@@ -110,6 +126,13 @@ badLength x = some (λ j. outside (lengthOf x j)) (x .dimensions)
 
 unfoldable pub tooLarge : Nest → Bool
 tooLarge x = ltb 16384 (cells x)
+
+-- line 18, of the bytes, since a nest has no kinds: a distance of kind 4 that kind 2 could hold, each of its components fitting a byte
+abbrev pub narrowAt : List ℕ → ℕ → Bool
+narrowAt bytes r = eqb (kind bytes r) 4 and every (λ j. ltb (componentAt bytes r j) 256) 4
+
+unfoldable pub needlesslyWide : List ℕ → Bool
+needlesslyWide bytes = some (narrowAt bytes) (records bytes)
 
 unfoldable pub same : Nest → ℕ → ℕ → Bool
 same x e f = every (λ j. eqb (component x e j) (component x f j)) 4
@@ -147,13 +170,14 @@ badProcessors x = ltb 64 (processors x)
 unfoldable pub tooManyTiles : Nest → Bool
 tooManyTiles x = ltb 1024 (tiles x)
 
-unfoldable pub nestLines : Nest → List Line
-nestLines x =
-    line 3 (badLength x) ∷ line 4 (tooLarge x) ∷ line 5 (badDistance x) ∷ line 6 (badTile x)
+-- the lines behind 2 in their order: of a nest, and whether its bytes are needlessly wide
+unfoldable pub nestLines : Bool → Nest → List Line
+nestLines needless x =
+    line 3 (badLength x) ∷ line 4 (tooLarge x) ∷ line 18 needless ∷ line 5 (badDistance x) ∷ line 6 (badTile x)
     ∷ line 16 (badSpread x) ∷ line 17 (lastSpread x) ∷ line 7 (badProcessors x) ∷ line 8 (tooManyTiles x) ∷ []
 
 unfoldable pub readLines : List ℕ → List Line
-readLines bytes = line 1 (ragged bytes) ∷ line 2 (strayRecord bytes) ∷ nestLines (nestOf bytes)
+readLines bytes = line 1 (ragged bytes) ∷ line 2 (strayRecord bytes) ∷ nestLines (needlesslyWide bytes) (nestOf bytes)
 
 abbrev pub readingOf : List ℕ → Reading
 readingOf bytes =

@@ -1,16 +1,16 @@
 // The reader: a recipe's bytes to a nest by value, or the number of the first line of document 01's table that refuses it.
-// `read` takes any bytes. Lines 1 and 2 are tested on the bytes, the others on the nest made of them.
+// `read` takes any bytes. Lines 1, 2 and 18 are tested on the bytes, the others on the nest made of them.
 ghost use mathlib.Core.Path.{_≡_};
 ghost use mathlib.Core.List.{[]};
 ghost use mathlib.Core.Bool.{false};
-ghost use Prim.Native.Nat.{ℕ, _+_, _*_, _/_, _%_, _<_, _≤_};
+ghost use Prim.Native.Nat.{ℕ, _+_, _*_, _-_, _/_, _%_, _<_, _≤_};
 ghost use lib.ListN.{length, getD};
 ghost use lib.Dec.{eqb, ltb};
-ghost use Rattle.base.specs.Tests.{_and_, pick, every, some, keep, product};
+ghost use Rattle.base.specs.Tests.{_and_, every, some, keep, product};
 ghost use Rattle.base.specs.Lists.{Bytes};
 ghost use Rattle.base.specs.Numbers.{firstOf};
 ghost use Rattle.nest.specs.Nest.{lengthOf, tileLength, processorCount, component, tiles};
-ghost use Rattle.nest.specs.Nest.{half, word, kind, ofKind, filled, nestBy, ragged, blank, checked, fitsAt, wellFormed, outside, badLength, same, beyond, faulty, badDistance, reached, badTile, badSpread, lastSpread, badProcessors, nestLines, readingOf};
+ghost use Rattle.nest.specs.Nest.{half, word, kind, ofKind, distancesOf, componentAt, weightAt, filled, nestBy, ragged, blank, checked, mayStand, fitsAt, wellFormed, outside, badLength, narrowAt, needlesslyWide, same, beyond, faulty, badDistance, reached, badTile, badSpread, lastSpread, badProcessors, nestLines, readingOf};
 
 // A rectangular loop nest with constant distances, cut into tiles.
 pub struct Nest {
@@ -94,6 +94,15 @@ fn count_kind(encoded: &[u8], wanted: u8) -> usize
     n
 }
 
+// How many are distances, of either kind.
+fn count_distances(encoded: &[u8]) -> usize
+    ensures { λ r. ⌜ r ≡ distancesOf (now (encoded .entry)) ⌝ }
+{
+    let narrow = count_kind(encoded, 2);
+    let wide = count_kind(encoded, 4);
+    narrow + wide
+}
+
 // ---- line 1
 
 fn ragged(encoded: &[u8]) -> bool
@@ -120,13 +129,13 @@ fn blank(encoded: &[u8], at: usize, count: usize) -> bool
     true
 }
 
-// The bytes that neither a dimension nor a distance names.
-fn fields_fit(encoded: &[u8], at: usize) -> bool
-    requires { ⌜ at + 16 ≤ length (now encoded) ⌝ }
-    ensures { λ r. ⌜ r ≡ (blank (now (encoded .entry)) (at + 1) 1 and blank (now (encoded .entry)) (at + 8) 8) ⌝ }
+// The bytes that a dimension or a distance doesn't name: byte 1, and those from the end of its fields on.
+fn fields_fit(encoded: &[u8], at: usize, end: usize) -> bool
+    requires { ⌜ (end ≤ 16) × (at + 16 ≤ length (now encoded)) ⌝ }
+    ensures { λ r. ⌜ r ≡ (blank (now (encoded .entry)) (at + 1) 1 and blank (now (encoded .entry)) (at + end) (16 - end)) ⌝ }
 {
     if blank(encoded, at + 1, 1) {
-        return blank(encoded, at + 8, 8);
+        return blank(encoded, at + end, 16 - end);
     }
     false
 }
@@ -153,33 +162,37 @@ fn checked(encoded: &[u8], r: usize) -> bool
     let at = 16 * r;
     let kind = encoded[at];
     match kind {
-        1 => fields_fit(encoded, at),
-        2 => fields_fit(encoded, at),
+        1 => fields_fit(encoded, at, 8),
+        2 => fields_fit(encoded, at, 8),
         3 => close_fits(encoded, at),
+        4 => fields_fit(encoded, at, 12),
         _ => false,
     }
 }
 
-// The kind that record r has to have: n dimensions, e distances, the close.
-fn kind_due(n: usize, e: usize, r: usize) -> u8
+// Record r may have the kind: n dimensions, e distances, the close.
+fn may_stand(n: usize, e: usize, r: usize, kind: u8) -> bool
     requires { ⌜ n + e < 65536 ⌝ }
-    ensures { λ o. ⌜ o ≡ pick (ltb r n) 1 (pick (ltb r (n + e)) 2 3) ⌝ }
+    ensures { λ o. ⌜ o ≡ mayStand n e r kind ⌝ }
 {
     if r < n {
-        return 1;
+        return kind == 1;
     }
     if r < n + e {
-        return 2;
+        if kind == 2 {
+            return true;
+        }
+        return kind == 4;
     }
-    3
+    kind == 3
 }
 
 fn fits_at(encoded: &[u8], n: usize, e: usize, r: usize) -> bool
     requires { ⌜ (n + e < 65536) × (16 * r + 16 ≤ length (now encoded)) ⌝ }
     ensures { λ o. ⌜ o ≡ fitsAt (now (encoded .entry)) n e r ⌝ }
 {
-    let due = kind_due(n, e, r);
-    if encoded[16 * r] == due {
+    let kind = encoded[16 * r];
+    if may_stand(n, e, r, kind) {
         return checked(encoded, r);
     }
     false
@@ -248,26 +261,50 @@ fn spread_of(encoded: &[u8], n: usize) -> usize
     m
 }
 
+// Component j of the distance in record r.
+fn component_at(encoded: &[u8], r: usize, j: usize) -> usize
+    requires { ⌜ (j < 4) × (16 * r + 16 ≤ length (now encoded)) ⌝ }
+    ensures { λ o. ⌜ o ≡ componentAt (now (encoded .entry)) r j ⌝ }
+{
+    let at = 16 * r;
+    if encoded[at] == 4 {
+        return half_at(encoded, at + (2 + 2 * j));
+    }
+    base::byte_index(encoded[at + (2 + j)])
+}
+
 // The components, four a distance.
 fn components_of(encoded: &[u8], n: usize, e: usize) -> [usize; 32]
     requires { ⌜ (n ≤ 4) × ((e ≤ 8) × (16 * (n + e) ≤ length (now encoded))) ⌝ }
-    ensures { λ r. ⌜ r ≡ filled 32 (4 * e) (λ (i : ℕ). getD (now (encoded .entry)) (16 * (n + i / 4) + (2 + i % 4)) 0) ⌝ }
+    ensures { λ r. ⌜ r ≡ filled 32 (4 * e) (λ (i : ℕ). componentAt (now (encoded .entry)) (n + i / 4) (i % 4)) ⌝ }
 {
     let mut values = [0usize; 32];
     for i in 0..4 * e {
-        values[i] = base::byte_index(encoded[16 * (n + i / 4) + (2 + i % 4)]);
+        values[i] = component_at(encoded, n + i / 4, i % 4);
     }
     values
+}
+
+// The weight of the distance in record r.
+fn weight_at(encoded: &[u8], r: usize) -> usize
+    requires { ⌜ 16 * r + 16 ≤ length (now encoded) ⌝ }
+    ensures { λ o. ⌜ o ≡ weightAt (now (encoded .entry)) r ⌝ }
+{
+    let at = 16 * r;
+    if encoded[at] == 4 {
+        return half_at(encoded, at + 10);
+    }
+    half_at(encoded, at + 6)
 }
 
 // The weights, one a distance.
 fn weights_of(encoded: &[u8], n: usize, e: usize) -> [u64; 8]
     requires { ⌜ (n ≤ 4) × ((e ≤ 8) × (16 * (n + e) ≤ length (now encoded))) ⌝ }
-    ensures { λ r. ⌜ r ≡ filled 8 e (λ (i : ℕ). half (now (encoded .entry)) (16 * (n + i) + 6)) ⌝ }
+    ensures { λ r. ⌜ r ≡ filled 8 e (λ (i : ℕ). weightAt (now (encoded .entry)) (n + i)) ⌝ }
 {
     let mut values = [0u64; 8];
     for i in 0..e {
-        values[i] = wide(half_at(encoded, 16 * (n + i) + 6));
+        values[i] = wide(weight_at(encoded, n + i));
     }
     values
 }
@@ -328,6 +365,36 @@ fn product_of(values: [usize; 4], n: usize) -> usize
         total = total * values[j];
     }
     total
+}
+
+// ---- line 18
+
+// Record r is a distance of kind 4, and each of its components fits a byte.
+fn narrow_at(encoded: &[u8], r: usize) -> bool
+    requires { ⌜ 16 * r + 16 ≤ length (now encoded) ⌝ }
+    ensures { λ o. ⌜ o ≡ narrowAt (now (encoded .entry)) r ⌝ }
+{
+    if encoded[16 * r] != 4 {
+        return false;
+    }
+    for j in 0..4 {
+        if component_at(encoded, r, j) > 255 {
+            return false;
+        }
+    }
+    true
+}
+
+fn needlessly_wide(encoded: &[u8]) -> bool
+    ensures { λ o. ⌜ o ≡ needlesslyWide (now (encoded .entry)) ⌝ }
+{
+    let records = encoded.len() / 16;
+    for r in 0..records {
+        if narrow_at(encoded, r) {
+            return true;
+        }
+    }
+    false
 }
 
 // ---- line 5
@@ -499,11 +566,11 @@ fn tile_total(nest: Nest) -> usize
 
 // ---- the answer
 
-// The first of the nest's lines that refuses it, or 0.
-fn refused(nest: Nest) -> u32
+// The first of the lines behind 2 that refuses the nest, or 0; `needless`: its bytes are needlessly wide, which is line 18.
+fn refused(nest: Nest, needless: bool) -> u32
     requires { ⌜ ((1 ≤ nest .dimensions) × (nest .dimensions ≤ 4)) × ((nest .spread ≤ 4) × (nest .distances ≤ 8)) ⌝ }
     requires { ⌜ ((j : ℕ) → lengthOf nest j < 65536) × ((j : ℕ) → processorCount nest j < 65536) ⌝ }
-    ensures { λ r. ⌜ r ≡ firstOf (nestLines nest) ⌝ }
+    ensures { λ r. ⌜ r ≡ firstOf (nestLines needless nest) ⌝ }
 {
     if bad_length(nest) {
         return 3;
@@ -511,6 +578,9 @@ fn refused(nest: Nest) -> u32
     let lengths = nest.lengths;
     if product_of(lengths, nest.dimensions) > 16384 {
         return 4;
+    }
+    if needless {
+        return 18;
     }
     if bad_distance(nest) {
         return 5;
@@ -551,12 +621,13 @@ pub fn read(encoded: &[u8]) -> Reading
         return refusal(1);
     }
     let n = count_kind(encoded, 1);
-    let e = count_kind(encoded, 2);
+    let e = count_distances(encoded);
     if !well_formed(encoded, n, e) {
         return refusal(2);
     }
     let nest = nest_by(encoded, n, e);
-    let number = refused(nest);
+    let needless = needlessly_wide(encoded);
+    let number = refused(nest, needless);
     if number != 0 {
         return refusal(number);
     }

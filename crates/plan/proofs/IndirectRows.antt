@@ -4,7 +4,7 @@ use mathlib.Core.List.{[], _∷_}
 use Rattle.base.specs.Tests.{_and_, _or_, not, pick, one, every, some, keep, those, tabulate, product}
 use Rattle.base.specs.Numbers.{firstOf}
 use Rattle.machine.specs.Plan.{offset, count}
-use Rattle.nest.specs.Nest.{tileCount, cells, tiles, processors, ofKind, filled, nestBy, nestOf, ragged, blank, checked, fitsAt, wellFormed, strayRecord, outside, badLength, tooLarge, same, beyond, faulty, badDistance, reached, badTile, badSpread, lastSpread, badProcessors, tooManyTiles, nestLines, readLines}
+use Rattle.nest.specs.Nest.{tileCount, cells, tiles, processors, ofKind, filled, nestBy, nestOf, ragged, blank, checked, mayStand, fitsAt, wellFormed, strayRecord, outside, badLength, tooLarge, needlesslyWide, same, beyond, faulty, badDistance, reached, badTile, badSpread, lastSpread, badProcessors, tooManyTiles, nestLines, readLines}
 use Rattle.plan.specs.declared.Route.the-variants.{Direct, Indirect}
 use Rattle.plan.specs.Geometry.{rank, place, cellAt, cellPlace, tileAt, tilePlace, tileOf, processorOf, inside}
 use Rattle.plan.specs.Messages.{directions, ahead, reaches, crosses, parcel, taker, before, hasOrigin, origin, passes, passed, neighbour, slotCells, slotTaker, atHome, slotParcel, messagesTo, planOf}
@@ -57,7 +57,7 @@ unfolding linesTo messageLine _and_ _or_ pick every some keep product tileCount 
 edge-indirect = refl
 
 numberFull : firstOf (readLines rowFull) ≡ 0
-unfolding firstOf _and_ _or_ not pick every some keep those tabulate product tileCount cells tiles processors ofKind filled nestBy nestOf ragged blank checked fitsAt wellFormed strayRecord outside badLength tooLarge same beyond faulty badDistance reached badTile badSpread lastSpread badProcessors tooManyTiles nestLines readLines
+unfolding firstOf _and_ _or_ not pick every some keep those tabulate product tileCount cells tiles processors ofKind filled nestBy nestOf ragged blank checked mayStand fitsAt wellFormed strayRecord outside badLength tooLarge needlesslyWide same beyond faulty badDistance reached badTile badSpread lastSpread badProcessors tooManyTiles nestLines readLines
 numberFull = refl
 
 figuresFull : figuresIf 0 (planOf Direct nestFull) ≡ accepted 4 1 4 10

@@ -4,7 +4,7 @@ use mathlib.Core.List.{[], _∷_}
 use Rattle.base.specs.Tests.{_and_, _or_, not, pick, one, every, some, keep, those, tabulate, product}
 use Rattle.base.specs.Numbers.{firstOf}
 use Rattle.machine.specs.Plan.{offset, count}
-use Rattle.nest.specs.Nest.{tileCount, cells, tiles, processors, ofKind, filled, nestBy, nestOf, ragged, blank, checked, fitsAt, wellFormed, strayRecord, outside, badLength, tooLarge, same, beyond, faulty, badDistance, reached, badTile, badSpread, lastSpread, badProcessors, tooManyTiles, nestLines, readLines}
+use Rattle.nest.specs.Nest.{tileCount, cells, tiles, processors, ofKind, filled, nestBy, nestOf, ragged, blank, checked, mayStand, fitsAt, wellFormed, strayRecord, outside, badLength, tooLarge, needlesslyWide, same, beyond, faulty, badDistance, reached, badTile, badSpread, lastSpread, badProcessors, tooManyTiles, nestLines, readLines}
 use Rattle.plan.specs.declared.Route.the-variants.{Direct, Indirect}
 use Rattle.plan.specs.Geometry.{rank, place, cellAt, cellPlace, tileAt, tilePlace, tileOf, processorOf, inside}
 use Rattle.plan.specs.Messages.{directions, ahead, reaches, crosses, parcel, taker, before, hasOrigin, origin, passes, passed, neighbour, slotCells, slotTaker, atHome, slotParcel, messagesTo, planOf}
@@ -15,7 +15,7 @@ use Rattle.plan.proofs.RowNests.{nestSix, nestLine, nestTwice, nestMidd
 -- ---- row Six
 
 numberSix : firstOf (readLines rowSix) ≡ 0
-unfolding firstOf _and_ _or_ not pick every some keep those tabulate product tileCount cells tiles processors ofKind filled nestBy nestOf ragged blank checked fitsAt wellFormed strayRecord outside badLength tooLarge same beyond faulty badDistance reached badTile badSpread lastSpread badProcessors tooManyTiles nestLines readLines
+unfolding firstOf _and_ _or_ not pick every some keep those tabulate product tileCount cells tiles processors ofKind filled nestBy nestOf ragged blank checked mayStand fitsAt wellFormed strayRecord outside badLength tooLarge needlesslyWide same beyond faulty badDistance reached badTile badSpread lastSpread badProcessors tooManyTiles nestLines readLines
 numberSix = refl
 
 figuresSix : figuresIf 0 (planOf Direct nestSix) ≡ accepted 18 25 25 86
@@ -37,7 +37,7 @@ six-indirect = rw (numberSix, isSix) figuresSix-indirect
 -- ---- row Line
 
 numberLine : firstOf (readLines rowLine) ≡ 0
-unfolding firstOf _and_ _or_ not pick every some keep those tabulate product tileCount cells tiles processors ofKind filled nestBy nestOf ragged blank checked fitsAt wellFormed strayRecord outside badLength tooLarge same beyond faulty badDistance reached badTile badSpread lastSpread badProcessors tooManyTiles nestLines readLines
+unfolding firstOf _and_ _or_ not pick every some keep those tabulate product tileCount cells tiles processors ofKind filled nestBy nestOf ragged blank checked mayStand fitsAt wellFormed strayRecord outside badLength tooLarge needlesslyWide same beyond faulty badDistance reached badTile badSpread lastSpread badProcessors tooManyTiles nestLines readLines
 numberLine = refl
 
 figuresLine : figuresIf 0 (planOf Direct nestLine) ≡ accepted 4 1 4 10
@@ -73,7 +73,7 @@ hopsLine = refl
 -- ---- row Twice
 
 numberTwice : firstOf (readLines rowTwice) ≡ 0
-unfolding firstOf _and_ _or_ not pick every some keep those tabulate product tileCount cells tiles processors ofKind filled nestBy nestOf ragged blank checked fitsAt wellFormed strayRecord outside badLength tooLarge same beyond faulty badDistance reached badTile badSpread lastSpread badProcessors tooManyTiles nestLines readLines
+unfolding firstOf _and_ _or_ not pick every some keep those tabulate product tileCount cells tiles processors ofKind filled nestBy nestOf ragged blank checked mayStand fitsAt wellFormed strayRecord outside badLength tooLarge needlesslyWide same beyond faulty badDistance reached badTile badSpread lastSpread badProcessors tooManyTiles nestLines readLines
 numberTwice = refl
 
 figuresTwice : figuresIf 0 (planOf Direct nestTwice) ≡ accepted 4 3 5 14
@@ -104,7 +104,7 @@ heldTwice = refl
 -- ---- row Middle
 
 numberMiddle : firstOf (readLines rowMiddle) ≡ 0
-unfolding firstOf _and_ _or_ not pick every some keep those tabulate product tileCount cells tiles processors ofKind filled nestBy nestOf ragged blank checked fitsAt wellFormed strayRecord outside badLength tooLarge same beyond faulty badDistance reached badTile badSpread lastSpread badProcessors tooManyTiles nestLines readLines
+unfolding firstOf _and_ _or_ not pick every some keep those tabulate product tileCount cells tiles processors ofKind filled nestBy nestOf ragged blank checked mayStand fitsAt wellFormed strayRecord outside badLength tooLarge needlesslyWide same beyond faulty badDistance reached badTile badSpread lastSpread badProcessors tooManyTiles nestLines readLines
 numberMiddle = refl
 
 figuresMiddle : figuresIf 0 (planOf Direct nestMiddle) ≡ accepted 8 1 1 18

@@ -15,7 +15,7 @@ use Rattle.machine.specs.Machine.{sweep, sweepTo}
 use Rattle.nest.specs.declared.Nest.{Nest}
 use Rattle.nest.specs.Nest.{tileCount, cells, tiles, processors}
 use Rattle.base.specs.Lists.{Bytes}
-use Rattle.nest.specs.Nest.{ofKind, filled, nestBy, nestOf, ragged, blank, checked, fitsAt, wellFormed, strayRecord, outside, badLength, tooLarge, same, beyond, faulty, badDistance, reached, badTile, badSpread, lastSpread, badProcessors, tooManyTiles, nestLines, readLines}
+use Rattle.nest.specs.Nest.{ofKind, filled, nestBy, nestOf, ragged, blank, checked, mayStand, fitsAt, wellFormed, strayRecord, outside, badLength, tooLarge, needlesslyWide, same, beyond, faulty, badDistance, reached, badTile, badSpread, lastSpread, badProcessors, tooManyTiles, nestLines, readLines}
 use Rattle.plan.specs.Geometry.{rank, place, cellAt, cellPlace, tileAt, tilePlace, tileOf, cellsOf, processorOf, inside, hasRead, readAt, readsOf, value}
 use Rattle.plan.specs.declared.Route.the-variants.{Direct}
 use Rattle.plan.specs.Messages.{directions, ahead, reaches, crosses, parcel, taker, slotCells, slotTaker, atHome, slotParcel, messagesTo, planOf}
@@ -24,7 +24,7 @@ use Rattle.engine.proofs.Demands.{demands}
 use Rattle.worked.specs.Harbour.{harbour, depths, Expected, Agrees}
 
 number-is : firstOf (readLines harbour) ≡ 0
-unfolding firstOf readLines nestLines nestOf nestBy ofKind filled ragged blank checked fitsAt wellFormed strayRecord outside badLength tooLarge same beyond faulty badDistance reached badTile badSpread lastSpread badProcessors tooManyTiles tileCount cells tiles processors _and_ _or_ not pick every some keep those tabulate product
+unfolding firstOf readLines nestLines nestOf nestBy ofKind filled ragged blank checked mayStand fitsAt wellFormed strayRecord outside badLength tooLarge needlesslyWide same beyond faulty badDistance reached badTile badSpread lastSpread badProcessors tooManyTiles tileCount cells tiles processors _and_ _or_ not pick every some keep those tabulate product
 number-is = refl
 
 -- the nest of the bytes, so that it is computed once

@@ -12,13 +12,13 @@ use Rattle.base.proofs.Tests.{both, and-true}
 use Rattle.machine.specs.Machine.{Answered}
 use Rattle.nest.specs.declared.Nest.{Nest}
 use Rattle.nest.specs.Nest.{nestOf, readLines, nestLines}
-use Rattle.nest.specs.Encode.{encode}
+use Rattle.nest.specs.Encode.{narrow, encode}
 use Rattle.writer.specs.Fields.{Fields, agree, nestFrom, fieldsOf, Widths}
 use Rattle.writer.specs.Writing.{written, writing, nestWritable, writable, writeNestCall, writeCall}
 use Rattle.writer.specs.Demand202.{Writes, Tables, Demand202}
 use Rattle.writer.proofs.Fitting.{Fits, writable-fits, fits-writable, read-fits}
 use Rattle.writer.proofs.Rebuilt.{rebuilt}
-use Rattle.writer.proofs.ReadBack.{read-back, read-two, read-lines}
+use Rattle.writer.proofs.ReadBack.{picks, read-back, read-two, read-lines}
 use Rattle.writer.proofs.Calls.{two, number, nine, produces, untouched, was-done}
 use Rattle.writer.proofs.FromFields.{tables, there-and-back, fields-agree, back-and-there, fields-fit}
 
@@ -89,7 +89,7 @@ module _ (v : Fields) (h : writable v ≡ true) where
   fields-hold = ap fieldsOf (read-back (nestFrom v) fitting) ∙ there-and-back v agrees
 
   told : 2 ≤ length (v .lengths) → 1 ≤ length (v .weights) → v .shift < 32
-      → firstOf (readLines (encode (nestFrom v))) ≡ firstOf (nestLines (nestFrom v))
+      → firstOf (readLines (encode (nestFrom v))) ≡ firstOf (nestLines false (nestFrom v))
   told a b c = read-lines (nestFrom v) fitting (rw (sizes-are v .0) a) (rw (sizes-are v .1) b) (rw (sizes-are v .2) c)
 
 same-recipe : (b : List ℕ) → Bytes b → firstOf (readLines b) ≡ 0 → nestFrom (fieldsOf (nestOf b)) ≡ nestOf b
@@ -130,4 +130,5 @@ stray v space h = go (writable v) refl
     go false e = two (writable v) (encode (nestFrom v)) space e
 
 pub demand202 : Demand202
-demand202 = record { from-fields = fields-writes; from-nest = nest-writes; all-held = all-held; stray = stray; told = told }
+unfolding narrow
+demand202 = record { from-fields = fields-writes; from-nest = nest-writes; all-held = all-held; stray = stray; told = told; picks = picks }

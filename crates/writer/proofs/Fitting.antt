@@ -1,5 +1,5 @@
 -- What the test `fits` says: numbers that fit their fields. What was read fits.
-use Prim.Native.Nat.{ℕ, _+_, _*_, _≤_, _<_}
+use Prim.Native.Nat.{ℕ, _+_, _*_, _/_, _%_, _≤_, _<_}
 use mathlib.Core.Path.{_≡_, sym, ap, _∙_}
 use mathlib.Core.Bool.{Bool, true, false}
 use mathlib.Core.List.{List}
@@ -15,8 +15,8 @@ use Rattle.base.proofs.Tests.{both, and-true, and-left, is-false, never-both, e
 use Rattle.base.proofs.Numbers.{none-first}
 use Rattle.base.proofs.Select.{keep-same}
 use Rattle.nest.specs.declared.Nest.{Nest}
-use Rattle.nest.specs.Nest.{processorCount, half, filled, nestBy, nestOf, ofKind, ragged, strayRecord, readLines}
-use Rattle.nest.proofs.Laws.{Formed, filled-length, filled-in, filled-out, filled-below, half-small, word-small}
+use Rattle.nest.specs.Nest.{processorCount, half, filled, nestBy, nestOf, ofKind, distancesOf, ragged, strayRecord, readLines}
+use Rattle.nest.proofs.Laws.{Formed, filled-length, filled-in, filled-out, filled-below, half-small, word-small, component-small, weight-small}
 use Rattle.nest.proofs.Facts.{stray-no}
 use Rattle.writer.specs.Writing.{fitsIn, fits, nestWritable}
 use Rattle.writer.specs.Demand202.{Tables}
@@ -33,7 +33,7 @@ pub record Fits (x : Nest) : Type 0 where
   pub lengths : Table 4 (x .dimensions) 65536 (x .lengths)
   pub tiling : Table 4 (x .dimensions) 65536 (x .tiling)
   pub counts : Table 4 (x .dimensions) 65536 (x .counts)
-  pub components : Table 32 (4 * x .distances) 256 (x .components)
+  pub components : Table 32 (4 * x .distances) 65536 (x .components)
   pub weights : Table 8 (x .distances) 65536 (x .weights)
   pub shift : x .shift < 256
   pub boundary : x .boundary < 4294967296
@@ -79,7 +79,7 @@ pub record Parts (x : Nest) : Type 0 where
   pub lengths : fitsIn (x .dimensions) 65536 (x .lengths) ≡ true
   pub tiling : fitsIn (x .dimensions) 65536 (x .tiling) ≡ true
   pub counts : fitsIn (x .dimensions) 65536 (x .counts) ≡ true
-  pub components : fitsIn (4 * x .distances) 256 (x .components) ≡ true
+  pub components : fitsIn (4 * x .distances) 65536 (x .components) ≡ true
   pub weights : fitsIn (x .distances) 65536 (x .weights) ≡ true
   pub shift : ltb (x .shift) 256 ≡ true
   pub boundary : ltb (x .boundary) 4294967296 ≡ true
@@ -102,7 +102,7 @@ unfit x t f e = sym (is-false (λ h. never-both (f (parts x h)) e))
 
 pub fit-all : (x : Nest) (m : ℕ)
     → fitsIn (x .dimensions) 65536 (x .lengths) ≡ true → fitsIn (x .dimensions) 65536 (x .tiling) ≡ true
-    → fitsIn (x .dimensions) 65536 (x .counts) ≡ true → fitsIn (4 * x .distances) 256 (x .components) ≡ true
+    → fitsIn (x .dimensions) 65536 (x .counts) ≡ true → fitsIn (4 * x .distances) 65536 (x .components) ≡ true
     → fitsIn (x .distances) 65536 (x .weights) ≡ true → x .shift < 256 → x .boundary < 4294967296
     → m ≡ length (keep (λ j. ltb 0 (processorCount x j)) (x .dimensions)) → eqb (x .spread) m ≡ fits x
 unfolding fits
@@ -153,8 +153,8 @@ module _ (b : List ℕ) (bytes : Bytes b) (n e : ℕ) (f : Formed b n e) where
         lengths = filled-table 4 n _ _ (omega arith) (λ i. half-small b bytes _);
         tiling = filled-table 4 n _ _ (omega arith) (λ i. half-small b bytes _);
         counts = filled-table 4 n _ _ (omega arith) (λ i. half-small b bytes _);
-        components = filled-table 32 (4 * e) _ _ (omega arith) (λ i. bytes _);
-        weights = filled-table 8 e _ _ (omega arith) (λ i. half-small b bytes _);
+        components = filled-table 32 (4 * e) _ _ (omega arith) (λ i. component-small b (n + i / 4) bytes (i % 4));
+        weights = filled-table 8 e _ _ (omega arith) (λ i. weight-small b (n + i) bytes);
         shift = bytes _;
         boundary = word-small b bytes _;
         spread = ap length (keep-same _ _ n (λ i h. ap (ltb 0) (sym (filled-in 4 (λ j. half b (16 * j + 6)) n i h (f .dimensions-most)))));
@@ -165,4 +165,4 @@ unfolding readLines nestOf
 read-fits b bytes h =
     let p1 = none-first 1 (ragged b) _ (λ e. omega arith) h in
     let p2 = none-first 2 (strayRecord b) _ (λ e. omega arith) (p1 .1) in
-    nest-fits b bytes (ofKind b 1) (ofKind b 2) (stray-no b (p2 .0))
+    nest-fits b bytes (ofKind b 1) (distancesOf b) (stray-no b (p2 .0))

@@ -2,13 +2,17 @@
 use Prim.Native.Nat.{ℕ, zero, suc, _+_, _*_, _<_}
 use mathlib.Core.Path.{_≡_, refl, sym, ap, _∙_}
 use mathlib.Core.Logic.{_⊎_, inl, inr}
+use mathlib.Core.Bool.{Bool, true, false}
 use mathlib.Core.List.{List, _++_}
 use native.Mathlib.Omega.{arith}
 use native.Mathlib.Nat.{eq-or-lt-of-le, le-of-suc-le-suc}
 use lib.ListN.{length, getD, length-append, List·getD-append}
 use lib.Seq.{getD-append-add}
+use Rattle.base.specs.Tests.{pick}
+use Rattle.base.proofs.Tests.{pick-true, pick-false}
 use Rattle.nest.specs.declared.Nest.{Nest}
-use Rattle.nest.specs.Encode.{dimensionRecord, distanceRecord, closeRecord, dimensionOf, distanceOf, joined, encode}
+use Rattle.nest.specs.Nest.{component, weight}
+use Rattle.nest.specs.Encode.{dimensionRecord, narrowRecord, wideRecord, closeRecord, dimensionOf, narrow, distanceOf, joined, encode}
 
 module _ (f : ℕ → List ℕ) (sixteen : (r : ℕ) → length (f r) ≡ 16) where
   pub joined-length : (n : ℕ) → length (joined f n) ≡ 16 * n
@@ -30,9 +34,28 @@ module _ (x : Nest) where
   unfolding dimensionOf dimensionRecord
   dimension-long j = refl
 
+  -- a distance's record by its width
+  abbrev narrowOf : ℕ → List ℕ
+  narrowOf e = narrowRecord (component x e 0) (component x e 1) (component x e 2) (component x e 3) (weight x e)
+
+  abbrev wideOf : ℕ → List ℕ
+  wideOf e = wideRecord (component x e 0) (component x e 1) (component x e 2) (component x e 3) (weight x e)
+
+  pub spelled-narrow : (e : ℕ) → narrow x e ≡ true → distanceOf x e ≡ narrowOf e
+  unfolding distanceOf
+  spelled-narrow e h = pick-true (narrow x e) (narrowOf e) (wideOf e) h
+
+  pub spelled-wide : (e : ℕ) → narrow x e ≡ false → distanceOf x e ≡ wideOf e
+  unfolding distanceOf
+  spelled-wide e h = pick-false (narrow x e) (narrowOf e) (wideOf e) h
+
   distance-long : (e : ℕ) → length (distanceOf x e) ≡ 16
-  unfolding distanceOf distanceRecord
-  distance-long e = refl
+  unfolding narrowRecord wideRecord
+  distance-long e = go (narrow x e) refl
+    where
+      go : (t : Bool) → narrow x e ≡ t → length (distanceOf x e) ≡ 16
+      go true h = ap length (spelled-narrow e h)
+      go false h = ap length (spelled-wide e h)
 
   close-long : length (closeRecord (x .shift) (x .boundary)) ≡ 16
   unfolding closeRecord

@@ -1,26 +1,26 @@
 -- The bytes of a nest that fits read back to it, `read-back`; of line 2 the counts and the shift are left, `stray-is`.
 use Prim.Native.Nat.{ℕ, zero, suc, _+_, _*_, _-_, _/_, _%_, _≤_, _<_}
 use mathlib.Core.Path.{_≡_, refl, sym, ap, _∙_}
-use mathlib.Core.Logic.{inl, inr}
+use mathlib.Core.Logic.{_⊎_, inl, inr, ⊎-elim}
 use mathlib.Core.Bool.{Bool, true, false}
-use mathlib.Core.List.{List, [], _∷_}
+use mathlib.Core.List.{List, [], _∷_, _++_}
 use native.Mathlib.Omega.{arith}
 use native.Mathlib.Decide.{decLt}
 use lib.ListN.{length, getD, replicate, getD-replicate}
 use lib.Seq.{ext-getD, getD-append-add}
 use lib.Dec.{eqb, ltb, leb}
-use borrow.Author.Tests.{eq-eqb, ne-eqb, lt-ltb, le-ltb, ltb-true, le-leb, leb-true}
-use Rattle.base.specs.Tests.{_and_, not, pick, every, keep, those}
+use borrow.Author.Tests.{eq-eqb, eqb-true, ne-eqb, lt-ltb, le-ltb, ltb-true, le-leb, leb-true}
+use Rattle.base.specs.Tests.{_and_, _or_, not, pick, every, keep, those}
 use Rattle.base.specs.Numbers.{firstOf}
 use Rattle.base.proofs.Numbers.{first-true, first-false}
-use Rattle.base.proofs.Tests.{both, and-left, and-true, or-false, not-true, not-false, is-false, every-all, pick-true, pick-false, tabulate-at}
+use Rattle.base.proofs.Tests.{both, and-left, and-true, and-no, or-left, or-right, or-false, not-true, not-false, is-false, never-both, every-at, every-all, some-none, pick-true, pick-false, tabulate-at}
 use Rattle.base.proofs.Select.{keep-more, keep-none, keep-same}
 use Rattle.nest.specs.declared.Nest.{Nest}
-use Rattle.nest.specs.Nest.{lengthOf, tileLength, processorCount, component, weight, records, half, word, kind, ofKind, filled, nestBy, nestOf, ragged, blank, fitsAt, wellFormed, strayRecord, nestLines, readLines}
-use Rattle.nest.proofs.Laws.{filled-length, made, checked-plain, checked-close}
-use Rattle.nest.specs.Encode.{low, high, dimensionRecord, distanceRecord, closeRecord, dimensionOf, distanceOf, encode}
+use Rattle.nest.specs.Nest.{lengthOf, tileLength, processorCount, component, weight, records, half, word, kind, ofKind, distancesOf, componentAt, weightAt, filled, nestBy, nestOf, ragged, blank, fitsAt, wellFormed, strayRecord, narrowAt, needlesslyWide, nestLines, readLines}
+use Rattle.nest.proofs.Laws.{filled-length, made, stands-first, stands-between, stands-last, component-wide, component-narrow, weight-wide, weight-narrow, other-kind, checked-plain, checked-close, checked-wide}
+use Rattle.nest.specs.Encode.{low, high, dimensionRecord, narrowRecord, wideRecord, closeRecord, dimensionOf, narrow, distanceOf, encode}
 use Rattle.writer.proofs.Fitting.{Table, Fits}
-use Rattle.writer.proofs.Places.{encode-length, at-dimension, at-distance, at-close}
+use Rattle.writer.proofs.Places.{spelled-narrow, spelled-wide, encode-length, at-dimension, at-distance, at-close}
 
 -- ---- tests that hold on one run of numbers
 
@@ -38,6 +38,20 @@ module _ (f : ℕ → Bool) (a k most : ℕ) (before : (i : ℕ) → i < a → f
 
   pub kept-run : a + k ≤ most → length (keep f most) ≡ k
   kept-run h = omega (arith, kept-so-far most (omega arith))
+
+-- two tests that never hold together
+kept-or : (f g : ℕ → Bool) (n : ℕ) → ((i : ℕ) → f i ≡ true → g i ≡ false)
+    → length (keep f n) + length (keep g n) ≡ length (keep (λ i. f i or g i) n)
+unfolding keep
+kept-or f g zero h = refl
+kept-or f g (suc n) h = go (kept-or f g n h) (f n) refl (g n) refl
+  where
+    go : length (keep f n) + length (keep g n) ≡ length (keep (λ i. f i or g i) n) → (s : Bool) → f n ≡ s → (t : Bool) → g n ≡ t
+        → length (keep f (suc n)) + length (keep g (suc n)) ≡ length (keep (λ i. f i or g i) (suc n))
+    go ih true a t c = omega (arith, keep-more f n a, ap length (keep-none g n (h n a)), keep-more (λ i. f i or g i) n (or-left (g n) a))
+    go ih false a true c = omega (arith, ap length (keep-none f n a), keep-more g n c, keep-more (λ i. f i or g i) n (or-right (f n) c))
+    go ih false a false c =
+        omega (arith, ap length (keep-none f n a), ap length (keep-none g n c), ap length (keep-none (λ i. f i or g i) n (or-false a c)))
 
 -- ---- tables and fields
 
@@ -59,9 +73,11 @@ word-back : (b : List ℕ) (p v : ℕ) → v < 4294967296 → getD b p 0 ≡ low
     → getD b (p + 2) 0 ≡ low (v / 65536) → getD b (p + 2 + 1) 0 ≡ high (v / 65536) → v ≡ word b p
 word-back b p v h e0 e1 e2 e3 = omega arith
 
+zeros-behind : (l : List ℕ) (n k : ℕ) → k < n → getD (l ++ replicate n 0) (length l + k) 0 ≡ 0
+zeros-behind l n k h = getD-append-add l (replicate n 0) k 0 ∙ getD-replicate {A = ℕ} n k 0 0 h
+
 tail-zero : (a0 a1 a2 a3 a4 a5 a6 a7 k : ℕ) → k < 8 → getD (a0 ∷ a1 ∷ a2 ∷ a3 ∷ a4 ∷ a5 ∷ a6 ∷ a7 ∷ replicate 8 0) (8 + k) 0 ≡ 0
-tail-zero a0 a1 a2 a3 a4 a5 a6 a7 k h =
-    getD-append-add (a0 ∷ a1 ∷ a2 ∷ a3 ∷ a4 ∷ a5 ∷ a6 ∷ a7 ∷ []) (replicate 8 0) k 0 ∙ getD-replicate {A = ℕ} 8 k 0 0 h
+tail-zero a0 a1 a2 a3 a4 a5 a6 a7 k h = zeros-behind (a0 ∷ a1 ∷ a2 ∷ a3 ∷ a4 ∷ a5 ∷ a6 ∷ a7 ∷ []) 8 k h
 
 and-right : (a b : Bool) → b ≡ true → (a and b) ≡ a
 unfolding _and_
@@ -87,9 +103,28 @@ module _ (x : Nest) where
   unfolding dimensionOf dimensionRecord
   kind-dimension r h = dimension-byte r 0 (16 * r) h (omega arith) (omega arith)
 
-  kind-distance : (r : ℕ) → x .dimensions ≤ r → r < x .dimensions + x .distances → kind (encode x) r ≡ 2
-  unfolding distanceOf distanceRecord
-  kind-distance r l h = distance-byte (r - x .dimensions) 0 (16 * r) (omega arith) (omega arith) (omega arith)
+  kind-narrow : (d : ℕ) → d < x .distances → narrow x d ≡ true → kind (encode x) (x .dimensions + d) ≡ 2
+  unfolding narrowRecord
+  kind-narrow d h t = distance-byte d 0 _ h (omega arith) (omega arith) ∙ ap (λ (l : List ℕ). getD l 0 0) (spelled-narrow x d t)
+
+  kind-wide : (d : ℕ) → d < x .distances → narrow x d ≡ false → kind (encode x) (x .dimensions + d) ≡ 4
+  unfolding wideRecord
+  kind-wide d h t = distance-byte d 0 _ h (omega arith) (omega arith) ∙ ap (λ (l : List ℕ). getD l 0 0) (spelled-wide x d t)
+
+  pub picks : (d : ℕ) → d < x .distances → kind (encode x) (x .dimensions + d) ≡ pick (narrow x d) 2 4
+  picks d h = go (narrow x d) refl
+    where
+      go : (t : Bool) → narrow x d ≡ t → kind (encode x) (x .dimensions + d) ≡ pick (narrow x d) 2 4
+      go true t = kind-narrow d h t ∙ sym (pick-true _ 2 4 t)
+      go false t = kind-wide d h t ∙ sym (pick-false _ 2 4 t)
+
+  kind-distance : (r : ℕ) → x .dimensions ≤ r → r < x .dimensions + x .distances → (kind (encode x) r ≡ 2) ⊎ (kind (encode x) r ≡ 4)
+  kind-distance r l h = let w : x .dimensions + (r - x .dimensions) ≡ r = omega arith in rw w at (go (narrow x (r - x .dimensions)) refl)
+    where
+      go : (t : Bool) → narrow x (r - x .dimensions) ≡ t
+          → (kind (encode x) (x .dimensions + (r - x .dimensions)) ≡ 2) ⊎ (kind (encode x) (x .dimensions + (r - x .dimensions)) ≡ 4)
+      go true t = inl (kind-narrow (r - x .dimensions) (omega arith) t)
+      go false t = inr (kind-wide (r - x .dimensions) (omega arith) t)
 
   kind-close : (r : ℕ) → r ≡ x .dimensions + x .distances → kind (encode x) r ≡ 3
   unfolding closeRecord
@@ -106,26 +141,51 @@ module _ (x : Nest) where
       (λ i l h. eq-eqb _ 1 (kind-dimension i (omega arith))) (λ i l h. after i l h (decLt i (x .dimensions + x .distances))) (omega arith))
     where
       after : (i : ℕ) → 0 + x .dimensions ≤ i → i < x .dimensions + x .distances + 1 → Dec (i < x .dimensions + x .distances) → eqb (kind (encode x) i) 1 ≡ false
-      after i l h (yes k) = not-kind i 2 1 (kind-distance i (omega arith) k) (λ e. omega arith)
+      after i l h (yes k) = ⊎-elim (λ q. not-kind i 2 1 q (λ e. omega arith)) (λ q. not-kind i 4 1 q (λ e. omega arith)) (kind-distance i (omega arith) k)
       after i l h (no k) = not-kind i 3 1 (kind-close i (omega arith)) (λ e. omega arith)
 
-  pub distances-are : ofKind (encode x) 2 ≡ x .distances
+  pub distances-are : distancesOf (encode x) ≡ x .distances
   unfolding ofKind those
   distances-are =
-      rw records-are
-      (kept-run (λ r. eqb (kind (encode x) r) 2) (x .dimensions) (x .distances) (x .dimensions + x .distances + 1)
-      (λ i h. not-kind i 1 2 (kind-dimension i h) (λ e. omega arith)) (λ i l h. eq-eqb _ 2 (kind-distance i l h))
-      (λ i l h. not-kind i 3 2 (kind-close i (omega arith)) (λ e. omega arith)) (omega arith))
+      kept-or (λ r. eqb (kind (encode x) r) 2) (λ r. eqb (kind (encode x) r) 4) (records (encode x))
+      (λ r q. not-kind r 2 4 (eqb-true _ _ q) (λ e. omega arith))
+      ∙ rw records-are
+      (kept-run (λ r. eqb (kind (encode x) r) 2 or eqb (kind (encode x) r) 4) (x .dimensions) (x .distances) (x .dimensions + x .distances + 1)
+      (λ i h. no-distance i 1 (kind-dimension i h) (λ e. omega arith) (λ e. omega arith)) (λ i l h. a-distance i (kind-distance i l h))
+      (λ i l h. no-distance i 3 (kind-close i (omega arith)) (λ e. omega arith) (λ e. omega arith)) (omega arith))
+    where
+      a-distance : (r : ℕ) → (kind (encode x) r ≡ 2) ⊎ (kind (encode x) r ≡ 4) → (eqb (kind (encode x) r) 2 or eqb (kind (encode x) r) 4) ≡ true
+      a-distance r (inl q) = or-left _ (eq-eqb _ 2 q)
+      a-distance r (inr q) = or-right _ (eq-eqb _ 4 q)
+
+      no-distance : (r k : ℕ) → kind (encode x) r ≡ k → (k ≡ 2 → ⊥) → (k ≡ 4 → ⊥) → (eqb (kind (encode x) r) 2 or eqb (kind (encode x) r) 4) ≡ false
+      no-distance r k e a c = or-false (not-kind r k 2 e a) (not-kind r k 4 e c)
 
   -- ---- fields
 
-  component-byte : (d k : ℕ) → k < 4 → getD (distanceOf x d) (2 + k) 0 ≡ low (component x d k)
-  unfolding distanceOf distanceRecord
-  component-byte d zero h = refl
-  component-byte d (suc zero) h = refl
-  component-byte d (suc (suc zero)) h = refl
-  component-byte d (suc (suc (suc zero))) h = refl
-  component-byte d (suc (suc (suc (suc k)))) h = absurd (omega arith)
+  narrow-byte : (d k : ℕ) → k < 4 → narrow x d ≡ true → getD (distanceOf x d) (2 + k) 0 ≡ low (component x d k)
+  unfolding narrowRecord
+  narrow-byte d zero h t = ap (λ (l : List ℕ). getD l 2 0) (spelled-narrow x d t)
+  narrow-byte d (suc zero) h t = ap (λ (l : List ℕ). getD l 3 0) (spelled-narrow x d t)
+  narrow-byte d (suc (suc zero)) h t = ap (λ (l : List ℕ). getD l 4 0) (spelled-narrow x d t)
+  narrow-byte d (suc (suc (suc zero))) h t = ap (λ (l : List ℕ). getD l 5 0) (spelled-narrow x d t)
+  narrow-byte d (suc (suc (suc (suc k)))) h t = absurd (omega arith)
+
+  wide-low : (d k : ℕ) → k < 4 → narrow x d ≡ false → getD (distanceOf x d) (2 + 2 * k) 0 ≡ low (component x d k)
+  unfolding wideRecord
+  wide-low d zero h t = ap (λ (l : List ℕ). getD l 2 0) (spelled-wide x d t)
+  wide-low d (suc zero) h t = ap (λ (l : List ℕ). getD l 4 0) (spelled-wide x d t)
+  wide-low d (suc (suc zero)) h t = ap (λ (l : List ℕ). getD l 6 0) (spelled-wide x d t)
+  wide-low d (suc (suc (suc zero))) h t = ap (λ (l : List ℕ). getD l 8 0) (spelled-wide x d t)
+  wide-low d (suc (suc (suc (suc k)))) h t = absurd (omega arith)
+
+  wide-high : (d k : ℕ) → k < 4 → narrow x d ≡ false → getD (distanceOf x d) (3 + 2 * k) 0 ≡ high (component x d k)
+  unfolding wideRecord
+  wide-high d zero h t = ap (λ (l : List ℕ). getD l 3 0) (spelled-wide x d t)
+  wide-high d (suc zero) h t = ap (λ (l : List ℕ). getD l 5 0) (spelled-wide x d t)
+  wide-high d (suc (suc zero)) h t = ap (λ (l : List ℕ). getD l 7 0) (spelled-wide x d t)
+  wide-high d (suc (suc (suc zero))) h t = ap (λ (l : List ℕ). getD l 9 0) (spelled-wide x d t)
+  wide-high d (suc (suc (suc (suc k)))) h t = absurd (omega arith)
 
   module _ (f : Fits x) where
     length-back : (j : ℕ) → j < x .dimensions → lengthOf x j ≡ half (encode x) (16 * j + 2)
@@ -146,19 +206,49 @@ module _ (x : Nest) where
         half-back (encode x) (16 * j + 6) _ (f .counts .fit j h) (dimension-byte j 6 _ h (omega arith) refl)
         (dimension-byte j 7 _ h (omega arith) (omega arith))
 
-    weight-back : (d : ℕ) → d < x .distances → weight x d ≡ half (encode x) (16 * (x .dimensions + d) + 6)
-    unfolding distanceOf distanceRecord
-    weight-back d h =
-        half-back (encode x) (16 * (x .dimensions + d) + 6) _ (f .weights .fit d h) (distance-byte d 6 _ h (omega arith) refl)
-        (distance-byte d 7 _ h (omega arith) (omega arith))
+    weight-back : (d : ℕ) → d < x .distances → weight x d ≡ weightAt (encode x) (x .dimensions + d)
+    unfolding narrowRecord wideRecord
+    weight-back d h = go (narrow x d) refl
+      where
+        go : (t : Bool) → narrow x d ≡ t → weight x d ≡ weightAt (encode x) (x .dimensions + d)
+        go true t =
+            half-back (encode x) (16 * (x .dimensions + d) + 6) _ (f .weights .fit d h)
+            (distance-byte d 6 _ h (omega arith) refl ∙ ap (λ (l : List ℕ). getD l 6 0) (spelled-narrow x d t))
+            (distance-byte d 7 _ h (omega arith) (omega arith) ∙ ap (λ (l : List ℕ). getD l 7 0) (spelled-narrow x d t))
+            ∙ weight-narrow (encode x) (x .dimensions + d) (λ q. omega (arith, q, kind-narrow d h t))
+        go false t =
+            half-back (encode x) (16 * (x .dimensions + d) + 10) _ (f .weights .fit d h)
+            (distance-byte d 10 _ h (omega arith) refl ∙ ap (λ (l : List ℕ). getD l 10 0) (spelled-wide x d t))
+            (distance-byte d 11 _ h (omega arith) (omega arith) ∙ ap (λ (l : List ℕ). getD l 11 0) (spelled-wide x d t))
+            ∙ weight-wide (encode x) (x .dimensions + d) (kind-wide d h t)
 
-    component-back : (i : ℕ) → i < 4 * x .distances → getD (x .components) i 0 ≡ getD (encode x) (16 * (x .dimensions + i / 4) + (2 + i % 4)) 0
+    -- a byte where each component fits one, else two
+    number-back : (d j : ℕ) → d < x .distances → j < 4 → component x d j ≡ componentAt (encode x) (x .dimensions + d) j
+    unfolding narrow
+    number-back d j h l = go (narrow x d) refl
+      where
+        go : (t : Bool) → narrow x d ≡ t → component x d j ≡ componentAt (encode x) (x .dimensions + d) j
+        go true t =
+            let w = at-distance x d (2 + j) h (omega arith) ∙ narrow-byte d j l t in
+            let s = ltb-true (component x d j) 256 (every-at (λ i. ltb (component x d i) 256) 4 t j l) in
+            let e : component x d j ≡ getD (encode x) (16 * (x .dimensions + d) + (2 + j)) 0 = omega (arith, w, s) in
+            e ∙ component-narrow (encode x) (x .dimensions + d) j (λ q. omega (arith, q, kind-narrow d h t))
+        go false t =
+            half-back (encode x) (16 * (x .dimensions + d) + (2 + 2 * j)) _ (f .components .fit (4 * d + j) (omega arith))
+            (distance-byte d (2 + 2 * j) _ h (omega arith) refl ∙ wide-low d j l t)
+            (distance-byte d (3 + 2 * j) _ h (omega arith) (omega arith) ∙ wide-high d j l t)
+            ∙ component-wide (encode x) (x .dimensions + d) j (kind-wide d h t)
+
+    not-narrow : (d : ℕ) → d < x .distances → narrow x d ≡ false → every (λ j. ltb (componentAt (encode x) (x .dimensions + d) j) 256) 4 ≡ false
+    unfolding narrow
+    not-narrow d h t =
+        is-false (λ a. never-both (every-all (λ j. ltb (component x d j) 256) 4 (λ j l. ap (λ (v : ℕ). ltb v 256) (number-back d j h l)
+        ∙ every-at (λ j. ltb (componentAt (encode x) (x .dimensions + d) j) 256) 4 a j l)) t)
+
+    component-back : (i : ℕ) → i < 4 * x .distances → getD (x .components) i 0 ≡ componentAt (encode x) (x .dimensions + i / 4) (i % 4)
     component-back i h =
         let e : 4 * (i / 4) + i % 4 ≡ i = omega arith in
-        let v : component x (i / 4) (i % 4) ≡ getD (x .components) i 0 = ap (λ (p : ℕ). getD (x .components) p 0) e in
-        let w = at-distance x (i / 4) (2 + i % 4) (omega arith) (omega arith) ∙ component-byte (i / 4) (i % 4) (omega arith) in
-        let b = f .components .fit i h in
-        omega (arith, v, w, b)
+        ap (λ (p : ℕ). getD (x .components) p 0) (sym e) ∙ number-back (i / 4) (i % 4) (omega arith) (omega arith)
 
     shift-back : x .shift ≡ getD (encode x) (16 * (x .dimensions + x .distances) + 1) 0
     unfolding closeRecord
@@ -199,28 +289,48 @@ module _ (x : Nest) where
   unfolding fitsAt dimensionOf dimensionRecord
   dimension-fits r h =
       let k = kind-dimension r h in
-      and-true (eq-eqb _ _ (k ∙ sym (pick-true (ltb r (x .dimensions)) 1 _ (lt-ltb r (x .dimensions) h))))
+      and-true (stands-first (x .dimensions) (x .distances) r _ h ∙ eq-eqb _ 1 k)
       (checked-plain (encode x) r _ (inl k)
       ∙ and-true (blank-is (16 * r + 1) 1 (λ i l. dimension-byte r 1 _ h (omega arith) (omega arith)))
       (blank-is (16 * r + 8) 8 (λ i l. dimension-byte r (8 + i) _ h (omega arith) (omega arith) ∙ tail-zero _ _ _ _ _ _ _ _ i l)))
 
-  distance-fits : (r : ℕ) → x .dimensions ≤ r → r < x .dimensions + x .distances → fitsAt (encode x) (x .dimensions) (x .distances) r ≡ true
-  unfolding fitsAt distanceOf distanceRecord
-  distance-fits r m h =
-      let k = kind-distance r m h in
-      let d : ℕ = r - x .dimensions in
-      and-true
-      (eq-eqb _ _ (k ∙ sym (pick-false (ltb r (x .dimensions)) 1 _ (le-ltb r (x .dimensions) m) ∙ pick-true (ltb r (x .dimensions + x .distances)) 2 3 (lt-ltb r _ h))))
+  narrow-fits : (d : ℕ) → d < x .distances → narrow x d ≡ true → fitsAt (encode x) (x .dimensions) (x .distances) (x .dimensions + d) ≡ true
+  unfolding fitsAt narrowRecord
+  narrow-fits d h t =
+      let k = kind-narrow d h t in
+      let e = spelled-narrow x d t in
+      let r : ℕ = x .dimensions + d in
+      and-true (stands-between (x .dimensions) (x .distances) r _ (omega arith) (omega arith) ∙ or-left _ (eq-eqb _ 2 k))
       (checked-plain (encode x) r _ (inr k)
-      ∙ and-true (blank-is (16 * r + 1) 1 (λ i l. distance-byte (r - x .dimensions) 1 _ (omega arith) (omega arith) (omega arith)))
-      (blank-is (16 * r + 8) 8 (λ i l. distance-byte (r - x .dimensions) (8 + i) _ (omega arith) (omega arith) (omega arith) ∙ tail-zero _ _ _ _ _ _ _ _ i l)))
+      ∙ and-true (blank-is (16 * r + 1) 1 (λ i l. distance-byte d 1 _ h (omega arith) (omega arith) ∙ ap (λ (z : List ℕ). getD z 1 0) e))
+      (blank-is (16 * r + 8) 8
+      (λ i l. distance-byte d (8 + i) _ h (omega arith) (omega arith) ∙ (ap (λ (z : List ℕ). getD z (8 + i) 0) e ∙ tail-zero _ _ _ _ _ _ _ _ i l))))
+
+  wide-fits : (d : ℕ) → d < x .distances → narrow x d ≡ false → fitsAt (encode x) (x .dimensions) (x .distances) (x .dimensions + d) ≡ true
+  unfolding fitsAt wideRecord
+  wide-fits d h t =
+      let k = kind-wide d h t in
+      let e = spelled-wide x d t in
+      let r : ℕ = x .dimensions + d in
+      and-true (stands-between (x .dimensions) (x .distances) r _ (omega arith) (omega arith) ∙ or-right _ (eq-eqb _ 4 k))
+      (checked-wide (encode x) r _ k
+      ∙ and-true (blank-is (16 * r + 1) 1 (λ i l. distance-byte d 1 _ h (omega arith) (omega arith) ∙ ap (λ (z : List ℕ). getD z 1 0) e))
+      (blank-is (16 * r + 12) 4
+      (λ i l. distance-byte d (12 + i) _ h (omega arith) (omega arith)
+      ∙ (ap (λ (z : List ℕ). getD z (12 + i) 0) e ∙ zeros-behind (_ ∷ _ ∷ _ ∷ _ ∷ _ ∷ _ ∷ _ ∷ _ ∷ _ ∷ _ ∷ _ ∷ _ ∷ []) 4 i l))))
+
+  distance-fits : (r : ℕ) → x .dimensions ≤ r → r < x .dimensions + x .distances → fitsAt (encode x) (x .dimensions) (x .distances) r ≡ true
+  distance-fits r m h = let w : x .dimensions + (r - x .dimensions) ≡ r = omega arith in rw w at (go (r - x .dimensions) (omega arith) (narrow x (r - x .dimensions)) refl)
+    where
+      go : (d : ℕ) → d < x .distances → (t : Bool) → narrow x d ≡ t → fitsAt (encode x) (x .dimensions) (x .distances) (x .dimensions + d) ≡ true
+      go d h true t = narrow-fits d h t
+      go d h false t = wide-fits d h t
 
   close-fits : (r : ℕ) → r ≡ x .dimensions + x .distances → fitsAt (encode x) (x .dimensions) (x .distances) r ≡ ltb (low (x .shift)) 32
   unfolding fitsAt closeRecord
   close-fits r e =
       let k = kind-close r e in
-      and-left _ _
-      (eq-eqb _ _ (k ∙ sym (pick-false (ltb r (x .dimensions)) 1 _ (le-ltb r (x .dimensions) (omega arith)) ∙ pick-false (ltb r (x .dimensions + x .distances)) 2 3 (le-ltb r _ (omega arith)))))
+      and-left _ _ (stands-last (x .dimensions) (x .distances) r _ (omega arith) (omega arith) ∙ eq-eqb _ 3 k)
       ∙ (checked-close (encode x) r _ k
       ∙ (and-right _ _
       (and-true (blank-is (16 * r + 2) 2 (λ i l. blank-two i l)) (blank-is (16 * r + 8) 8 (λ i l. close-byte (8 + i) _ (omega arith) ∙ tail-zero _ _ _ _ _ _ _ _ i l)))
@@ -260,11 +370,29 @@ module _ (x : Nest) where
       (stray-is ∙ not-false (is-false (λ t. let p1 = both t in let p2 = both (p1 .1) in let p3 = both (p2 .1) in let p4 = both (p3 .1) in
       h (leb-true _ _ (p1 .0)) (leb-true _ _ (p2 .0)) (leb-true _ _ (p3 .0)) (leb-true _ _ (p4 .0)) (ltb-true _ _ (p4 .1)))))
 
-  pub read-lines : Fits x → 2 ≤ x .dimensions → 1 ≤ x .distances → x .shift < 32 → firstOf (readLines (encode x)) ≡ firstOf (nestLines x)
+  -- line 18: kind 4 is written only where some component fits no byte
+  module _ (f : Fits x) where
+    wide-needed : (r : ℕ) → r < x .dimensions + x .distances + 1 → narrowAt (encode x) r ≡ false
+    wide-needed r h = go (decLt r (x .dimensions)) (decLt r (x .dimensions + x .distances))
+      where
+        spelled : (d : ℕ) → d < x .distances → (t : Bool) → narrow x d ≡ t → narrowAt (encode x) (x .dimensions + d) ≡ false
+        spelled d l true t = other-kind (encode x) _ (λ q. omega (arith, q, kind-narrow d l t))
+        spelled d l false t = and-no _ _ (not-narrow f d l t)
+
+        go : Dec (r < x .dimensions) → Dec (r < x .dimensions + x .distances) → narrowAt (encode x) r ≡ false
+        go (yes k) q = other-kind (encode x) r (λ e. omega (arith, e, kind-dimension r k))
+        go (no k) (yes q) = let w : x .dimensions + (r - x .dimensions) ≡ r = omega arith in rw w at (spelled (r - x .dimensions) (omega arith) (narrow x (r - x .dimensions)) refl)
+        go (no k) (no q) = other-kind (encode x) r (λ e. omega (arith, e, kind-close r (omega arith)))
+
+    needed : needlesslyWide (encode x) ≡ false
+    unfolding needlesslyWide
+    needed = some-none (narrowAt (encode x)) (records (encode x)) (λ r h. wide-needed r (rw records-are at h))
+
+  pub read-lines : Fits x → 2 ≤ x .dimensions → 1 ≤ x .distances → x .shift < 32 → firstOf (readLines (encode x)) ≡ firstOf (nestLines false x)
   unfolding readLines
   read-lines f a b h =
       let e : low (x .shift) ≡ x .shift = omega arith in
       first-false 1 (ragged (encode x)) _ even
       ∙ (first-false 2 (strayRecord (encode x)) _
       (stray-is ∙ not-true (and-true (le-leb _ _ a) (and-true (le-leb _ _ (f .dimensions)) (and-true (le-leb _ _ b) (and-true (le-leb _ _ (f .distances)) (lt-ltb (low (x .shift)) 32 (rw e h)))))))
-      ∙ ap (λ (y : Nest). firstOf (nestLines y)) (read-back f))
+      ∙ (ap (λ (t : Bool). firstOf (nestLines t (nestOf (encode x)))) (needed f) ∙ ap (λ (y : Nest). firstOf (nestLines false y)) (read-back f)))

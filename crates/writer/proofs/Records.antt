@@ -1,23 +1,36 @@
 -- The records that the code makes, over plain variables.
 use Prim.Native.Nat.{ℕ, _+_, _*_, _-_, _/_, _≤_, _<_}
 use mathlib.Core.Path.{_≡_, refl, sym, ap, _∙_}
+use mathlib.Core.Bool.{Bool, true, false}
 use mathlib.Core.List.{List}
 use native.Mathlib.Omega.{arith}
+use borrow.Author.Tests.{le-ltb}
 use lib.ListN.{getD, set, replicate}
+use lib.Dec.{ltb}
+use Rattle.base.specs.Tests.{every}
+use Rattle.base.proofs.Tests.{every-not}
 use Rattle.nest.specs.declared.Nest.{Nest}
 use Rattle.nest.specs.Nest.{lengthOf, tileLength, processorCount, component, weight}
-use Rattle.nest.specs.Encode.{low, high, dimensionRecord, distanceRecord, closeRecord, dimensionOf, distanceOf, encode}
-use Rattle.writer.proofs.Places.{at-dimension, at-distance, at-close}
+use Rattle.nest.proofs.Laws.{every-end}
+use Rattle.nest.specs.Encode.{low, high, dimensionRecord, narrowRecord, wideRecord, closeRecord, dimensionOf, narrow, distanceOf, encode}
+use Rattle.writer.proofs.Places.{spelled-narrow, spelled-wide, at-dimension, at-distance, at-close}
 
 pub dimension-made : (l t p a b c d e f : ℕ) → a ≡ low l → b ≡ high l → c ≡ low t → d ≡ high t → e ≡ low p → f ≡ high p
     → set (set (set (set (set (set (set (replicate 16 0) 0 1) 2 a) 3 b) 4 c) 5 d) 6 e) 7 f ≡ dimensionRecord l t p
 unfolding dimensionRecord
 dimension-made l t p a b c d e f e1 e2 e3 e4 e5 e6 = rw (e1, e2, e3, e4, e5, e6) refl
 
-pub distance-made : (d1 d2 d3 d4 w a b c d e f : ℕ) → a ≡ low d1 → b ≡ low d2 → c ≡ low d3 → d ≡ low d4 → e ≡ low w → f ≡ high w
-    → set (set (set (set (set (set (set (replicate 16 0) 0 2) 2 a) 3 b) 4 c) 5 d) 6 e) 7 f ≡ distanceRecord d1 d2 d3 d4 w
-unfolding distanceRecord
-distance-made d1 d2 d3 d4 w a b c d e f e1 e2 e3 e4 e5 e6 = rw (e1, e2, e3, e4, e5, e6) refl
+pub narrow-made : (d1 d2 d3 d4 w a b c d e f : ℕ) → a ≡ low d1 → b ≡ low d2 → c ≡ low d3 → d ≡ low d4 → e ≡ low w → f ≡ high w
+    → set (set (set (set (set (set (set (replicate 16 0) 0 2) 2 a) 3 b) 4 c) 5 d) 6 e) 7 f ≡ narrowRecord d1 d2 d3 d4 w
+unfolding narrowRecord
+narrow-made d1 d2 d3 d4 w a b c d e f e1 e2 e3 e4 e5 e6 = rw (e1, e2, e3, e4, e5, e6) refl
+
+pub wide-made : (d1 d2 d3 d4 w a b c d e f g h k l : ℕ) → a ≡ low d1 → b ≡ high d1 → c ≡ low d2 → d ≡ high d2 → e ≡ low d3 → f ≡ high d3
+    → g ≡ low d4 → h ≡ high d4 → k ≡ low w → l ≡ high w
+    → set (set (set (set (set (set (set (set (set (set (set (replicate 16 0) 0 4) 2 a) 3 b) 4 c) 5 d) 6 e) 7 f) 8 g) 9 h) 10 k) 11 l
+    ≡ wideRecord d1 d2 d3 d4 w
+unfolding wideRecord
+wide-made d1 d2 d3 d4 w a b c d e f g h k l e1 e2 e3 e4 e5 e6 e7 e8 e9 e10 = rw (e1, e2, e3, e4, e5, e6, e7, e8, e9, e10) refl
 
 pub close-made : (s v a b c d e : ℕ) → a ≡ low s → b ≡ low v → c ≡ high v → d ≡ low (v / 65536) → e ≡ high (v / 65536)
     → set (set (set (set (set (set (replicate 16 0) 0 3) 1 a) 4 b) 5 c) 6 d) 7 e ≡ closeRecord s v
@@ -31,12 +44,27 @@ pub dimension-is : (x : Nest) (j l t p : ℕ) (o : List ℕ) → l ≡ lengthOf 
 unfolding dimensionOf
 dimension-is x j l t p o e1 e2 e3 h = rw (e1, e2, e3) at h
 
-pub distance-is : (x : Nest) (k p q r s : ℕ) (o : List ℕ) → p ≡ getD (x .components) (4 * k) 0 → q ≡ component x k 1 → r ≡ component x k 2
-    → s ≡ component x k 3 → o ≡ distanceRecord p q r s (weight x k) → o ≡ distanceOf x k
-unfolding distanceOf
-distance-is x k p q r s o e1 e2 e3 e4 h =
-    let w : component x k 0 ≡ getD (x .components) (4 * k) 0 = let z : 4 * k + 0 ≡ 4 * k = omega arith in ap (λ (i : ℕ). getD (x .components) i 0) z in
-    rw (e1 ∙ sym w, e2, e3, e4) at h
+module _ (x : Nest) (k p q r s : ℕ) (e1 : p ≡ getD (x .components) (4 * k) 0) (e2 : q ≡ component x k 1) (e3 : r ≡ component x k 2)
+    (e4 : s ≡ component x k 3) (o : List ℕ) where
+  first : p ≡ component x k 0
+  first = let z : 4 * k + 0 ≡ 4 * k = omega arith in e1 ∙ sym (ap (λ (i : ℕ). getD (x .components) i 0) z)
+
+  pub narrow-is : (t : Bool) → t ≡ narrow x k → t ≡ true → o ≡ narrowRecord p q r s (weight x k) → o ≡ distanceOf x k
+  narrow-is t w y h = (rw (first, e2, e3, e4) at h) ∙ sym (spelled-narrow x k (sym w ∙ y))
+
+  pub wide-is : (t : Bool) → t ≡ narrow x k → t ≡ false → o ≡ wideRecord p q r s (weight x k) → o ≡ distanceOf x k
+  wide-is t w y h = (rw (first, e2, e3, e4) at h) ∙ sym (spelled-wide x k (sym w ∙ y))
+
+-- the loop of `narrow`
+
+module _ (x : Nest) (k : ℕ) where
+  pub not-narrow : (j : ℕ) → j < 4 → 255 < component x k j → false ≡ narrow x k
+  unfolding narrow
+  not-narrow j h q = sym (every-not _ 4 j h (le-ltb (component x k j) 256 q))
+
+  pub all-narrow : (j : ℕ) → j ≤ 4 → 4 ≤ j → every (λ i. ltb (component x k i) 256) j ≡ true → true ≡ narrow x k
+  unfolding narrow
+  all-narrow j a b h = sym (every-end _ 4 j a b h)
 
 -- record r
 

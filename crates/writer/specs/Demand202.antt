@@ -1,16 +1,18 @@
 -- What W-202 demands of writing, sentence by sentence, from fields and from a nest by value; and demand 1 for it.
--- Renders document 02, W-202, and document 01, "Numbers a call gives".
-use Prim.Native.Nat.{ℕ, _≤_, _<_}
+-- Renders document 02, W-202 and W-207's sentence on the writer, and document 01, "Numbers a call gives".
+use Prim.Native.Nat.{ℕ, _+_, _≤_, _<_}
 use mathlib.Core.Path.{_≡_}
 use mathlib.Core.Logic.{_≢_}
 use mathlib.Core.Bool.{Bool, true, false}
 use mathlib.Core.List.{List}
 use lib.ListN.{length}
+use lib.Dec.{ltb}
+use Rattle.base.specs.Tests.{pick, every}
 use Rattle.base.specs.Lists.{Bytes}
 use Rattle.base.specs.Numbers.{firstOf}
 use Rattle.machine.specs.Machine.{Answered}
 use Rattle.nest.specs.declared.Nest.{Nest}
-use Rattle.nest.specs.Nest.{nestOf, nestLines, readLines}
+use Rattle.nest.specs.Nest.{component, kind, nestOf, nestLines, readLines}
 use Rattle.nest.specs.Encode.{encode}
 use Rattle.writer.specs.Fields.{Fields, agree, nestFrom, fieldsOf, Widths}
 use Rattle.writer.specs.Writing.{written, nestWritable, writable, writeNestCall, writeCall}
@@ -56,6 +58,9 @@ pub record Demand202 : Type 0 where
   pub stray : (v : Fields) (space : List ℕ)
       → ((2 ≤ length (v .lengths)) × (length (v .lengths) ≤ 4) × (1 ≤ length (v .weights)) × (length (v .weights) ≤ 8) × (v .shift < 32) → ⊥)
       → writeCall v space ≡ written 2 space
-  -- else the reader's number is that of the values alone
+  -- else the reader's number is that of the values alone, and never 18
   pub told : (v : Fields) → writable v ≡ true → 2 ≤ length (v .lengths) → 1 ≤ length (v .weights) → v .shift < 32
-      → firstOf (readLines (encode (nestFrom v))) ≡ firstOf (nestLines (nestFrom v))
+      → firstOf (readLines (encode (nestFrom v))) ≡ firstOf (nestLines false (nestFrom v))
+  -- W-207: kind 4 only where kind 2 can't hold the distance
+  pub picks : (x : Nest) (e : ℕ) → e < x .distances
+      → kind (encode x) (x .dimensions + e) ≡ pick (every (λ j. ltb (component x e j) 256) 4) 2 4

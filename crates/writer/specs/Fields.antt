@@ -67,7 +67,7 @@ pub record Widths (v : Fields) : Type 0 where
   pub lengths : (i : ℕ) → getD (v .lengths) i 0 < 65536
   pub tiling : (i : ℕ) → getD (v .tiling) i 0 < 65536
   pub counts : (i : ℕ) → getD (v .counts) i 0 < 65536
-  pub components : (i : ℕ) → getD (v .components) i 0 < 256
+  pub components : (i : ℕ) → getD (v .components) i 0 < 65536
   pub weights : (i : ℕ) → getD (v .weights) i 0 < 65536
   pub shift : v .shift < 256
   pub boundary : v .boundary < 4294967296

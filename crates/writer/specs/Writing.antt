@@ -33,7 +33,7 @@ fitsIn n bound l = every (λ i. ltb (getD l i 0) (pick (ltb i n) bound 1)) (leng
 unfoldable pub fits : Nest → Bool
 fits x =
     fitsIn (x .dimensions) 65536 (x .lengths) and fitsIn (x .dimensions) 65536 (x .tiling) and fitsIn (x .dimensions) 65536 (x .counts)
-    and fitsIn (4 * x .distances) 256 (x .components) and fitsIn (x .distances) 65536 (x .weights)
+    and fitsIn (4 * x .distances) 65536 (x .components) and fitsIn (x .distances) 65536 (x .weights)
     and ltb (x .shift) 256 and ltb (x .boundary) 4294967296
     and eqb (x .spread) (length (keep (λ j. ltb 0 (processorCount x j)) (x .dimensions)))
 

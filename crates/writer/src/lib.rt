@@ -9,7 +9,7 @@ ghost use lib.Dec.{ltb};
 ghost use Rattle.base.specs.Tests.{pick, keep, tabulate};
 ghost use Rattle.base.specs.Numbers.{firstOf};
 ghost use Rattle.nest.specs.Nest.{filled, readLines};
-ghost use Rattle.nest.specs.Encode.{low, high, dimensionRecord, distanceRecord, closeRecord, dimensionOf, distanceOf, encode};
+ghost use Rattle.nest.specs.Encode.{low, high, dimensionRecord, narrowRecord, wideRecord, closeRecord, dimensionOf, narrow, distanceOf, encode};
 ghost use Rattle.writer.specs.Fields.{fields, counted, agree, nestFrom};
 ghost use Rattle.writer.specs.Writing.{written, fitsIn, fits, writeNestCall, writeCall};
 
@@ -47,8 +47,9 @@ fn dimension_record(length: u64, tile: u64, count: u64) -> [u8; 16]
     row
 }
 
-fn distance_record(d1: u64, d2: u64, d3: u64, d4: u64, weight: u64) -> [u8; 16]
-    ensures { λ r. ⌜ r ≡ distanceRecord d1 d2 d3 d4 weight ⌝ }
+// A distance of kind 2: a byte a component.
+fn narrow_record(d1: u64, d2: u64, d3: u64, d4: u64, weight: u64) -> [u8; 16]
+    ensures { λ r. ⌜ r ≡ narrowRecord d1 d2 d3 d4 weight ⌝ }
 {
     let mut row = [0u8; 16];
     row[0] = 2;
@@ -58,6 +59,25 @@ fn distance_record(d1: u64, d2: u64, d3: u64, d4: u64, weight: u64) -> [u8; 16]
     row[5] = low(d4);
     row[6] = low(weight);
     row[7] = high(weight);
+    row
+}
+
+// A distance of kind 4: two bytes a component.
+fn wide_record(d1: u64, d2: u64, d3: u64, d4: u64, weight: u64) -> [u8; 16]
+    ensures { λ r. ⌜ r ≡ wideRecord d1 d2 d3 d4 weight ⌝ }
+{
+    let mut row = [0u8; 16];
+    row[0] = 4;
+    row[2] = low(d1);
+    row[3] = high(d1);
+    row[4] = low(d2);
+    row[5] = high(d2);
+    row[6] = low(d3);
+    row[7] = high(d3);
+    row[8] = low(d4);
+    row[9] = high(d4);
+    row[10] = low(weight);
+    row[11] = high(weight);
     row
 }
 
@@ -85,6 +105,21 @@ fn dimension_of(nest: Nest, j: usize) -> [u8; 16]
     dimension_record(wide(lengths[j]), wide(tiling[j]), wide(counts[j]))
 }
 
+// Each component of distance e fits a byte.
+fn narrow(nest: Nest, e: usize) -> bool
+    requires { ⌜ e < 8 ⌝ }
+    ensures { λ r. ⌜ r ≡ narrow nest e ⌝ }
+{
+    let components = nest.components;
+    for j in 0..4 {
+        if components[4 * e + j] > 255 {
+            return false;
+        }
+    }
+    true
+}
+
+// Kind 4 only where kind 2 can't hold the distance.
 fn distance_of(nest: Nest, e: usize) -> [u8; 16]
     requires { ⌜ e < 8 ⌝ }
     ensures { λ r. ⌜ r ≡ distanceOf nest e ⌝ }
@@ -92,13 +127,14 @@ fn distance_of(nest: Nest, e: usize) -> [u8; 16]
     let d = nest.components;
     let weights = nest.weights;
     let at = 4 * e;
-    distance_record(
-        wide(d[at]),
-        wide(d[at + 1]),
-        wide(d[at + 2]),
-        wide(d[at + 3]),
-        weights[e],
-    )
+    let d1 = wide(d[at]);
+    let d2 = wide(d[at + 1]);
+    let d3 = wide(d[at + 2]);
+    let d4 = wide(d[at + 3]);
+    if narrow(nest, e) {
+        return narrow_record(d1, d2, d3, d4, weights[e]);
+    }
+    wide_record(d1, d2, d3, d4, weights[e])
 }
 
 // Record r: the dimensions, the distances, the close.
@@ -230,7 +266,7 @@ fn fits(nest: Nest) -> bool
         return false;
     }
     let components = nest.components;
-    if !fits_in(&components, 4 * e, 256) {
+    if !fits_in(&components, 4 * e, 65536) {
         return false;
     }
     let weights = nest.weights;
@@ -359,7 +395,7 @@ fn counted(lengths: usize, tiling: usize, counts: usize, components: usize, weig
 }
 
 // The recipe of the fields: of each dimension its length, tile length and processor count, of each distance its four components and
-// its weight. Lists that disagree, and a component above 255, give 2; else as `write_nest`.
+// its weight. Lists that disagree give 2; else as `write_nest`.
 pub fn write(
     lengths: &[u16],
     tiling: &[u16],

@@ -52,17 +52,32 @@ array-read-wide-4 c = search needs
 wide-requires-4 : tie.Need-wide-requires-4
 wide-requires-4 c κs = search needs
 
-mul-distance-record : tie.Need-mul-distance-record
-mul-distance-record c = search needs
+narrow-requires : tie.Need-narrow-requires
+narrow-requires c κs = search needs
 
-array-read-distance-record : tie.Need-array-read-distance-record
-array-read-distance-record c = search needs
+mul-narrow-record : tie.Need-mul-narrow-record
+mul-narrow-record c = search needs
 
-distance-record-requires : tie.Need-distance-record-requires
-distance-record-requires c κs = search needs
+array-read-narrow-record : tie.Need-array-read-narrow-record
+array-read-narrow-record c = search needs
+
+narrow-record-requires : tie.Need-narrow-record-requires
+narrow-record-requires c κs = search needs
 
 returns : tie.Need-returns
-returns c = L.distance-is (c .before .before .before .before .before .before .before .args .nest) (c .before .before .before .before .before .before .before .args .e) _ _ _ _ _ (c .before .before .before .before .wide .ensures) (c .before .before .before .wide2 .ensures) (c .before .before .wide3 .ensures) (c .before .wide4 .ensures) (c .distance-record .ensures)
+returns c = let A = c .before .before .before .before .before .before .before .before .before .args in L.narrow-is (A .nest) (A .e) _ _ _ _ (c .before .before .before .before .before .before .wide .ensures) (c .before .before .before .before .before .wide2 .ensures) (c .before .before .before .before .wide3 .ensures) (c .before .before .before .wide4 .ensures) _ _ (c .before .before .narrow .ensures) (c .before .if1 .taken) (c .narrow-record .ensures)
+
+mul-wide-record : tie.Need-mul-wide-record
+mul-wide-record c = search needs
+
+array-read-wide-record : tie.Need-array-read-wide-record
+array-read-wide-record c = search needs
+
+wide-record-requires : tie.Need-wide-record-requires
+wide-record-requires c κs = search needs
+
+returns-2 : tie.Need-returns-2
+returns-2 c = let A = c .before .before .before .before .before .before .before .before .before .args in L.wide-is (A .nest) (A .e) _ _ _ _ (c .before .before .before .before .before .before .wide .ensures) (c .before .before .before .before .before .wide2 .ensures) (c .before .before .before .before .wide3 .ensures) (c .before .before .before .wide4 .ensures) _ _ (c .before .before .narrow .ensures) (c .before .if1 .left) (c .wide-record .ensures)
 
 pub distance-of-spec : {M : Type 1} → statement M
 distance-of-spec =
@@ -84,7 +99,12 @@ distance-of-spec =
     mul-wide-4
     array-read-wide-4
     wide-requires-4
-    mul-distance-record
-    array-read-distance-record
-    distance-record-requires
-    returns)
+    narrow-requires
+    mul-narrow-record
+    array-read-narrow-record
+    narrow-record-requires
+    returns
+    mul-wide-record
+    array-read-wide-record
+    wide-record-requires
+    returns-2)

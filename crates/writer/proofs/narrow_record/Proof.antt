@@ -1,8 +1,8 @@
--- `writer::distance_record` meets its contract: one law over plain variables.
+-- `writer::narrow_record` meets its contract: one law over plain variables.
 use Rattle.writer.proofs.Records as L
 use borrow.Author.Needs.{needs}
-use Rattle.writer.proofs.distance_record.Statement.{statement}
-use Rattle.writer.proofs.distance_record.Tie as tie
+use Rattle.writer.proofs.narrow_record.Statement.{statement}
+use Rattle.writer.proofs.narrow_record.Tie as tie
 
 array-write-row : tie.Need-array-write-row
 array-write-row c = search needs
@@ -44,10 +44,10 @@ array-write-row-7 : tie.Need-array-write-row-7
 array-write-row-7 c = search needs
 
 returns : tie.Need-returns
-returns c = L.distance-made (c .before .before .before .before .before .before .args .d1) (c .before .before .before .before .before .before .args .d2) (c .before .before .before .before .before .before .args .d3) (c .before .before .before .before .before .before .args .d4) (c .before .before .before .before .before .before .args .weight) _ _ _ _ _ _ (c .before .before .before .before .before .low .ensures) (c .before .before .before .before .low2 .ensures) (c .before .before .before .low3 .ensures) (c .before .before .low4 .ensures) (c .before .low5 .ensures) (c .high .ensures)
+returns c = L.narrow-made (c .before .before .before .before .before .before .args .d1) (c .before .before .before .before .before .before .args .d2) (c .before .before .before .before .before .before .args .d3) (c .before .before .before .before .before .before .args .d4) (c .before .before .before .before .before .before .args .weight) _ _ _ _ _ _ (c .before .before .before .before .before .low .ensures) (c .before .before .before .before .low2 .ensures) (c .before .before .before .low3 .ensures) (c .before .before .low4 .ensures) (c .before .low5 .ensures) (c .high .ensures)
 
-pub distance-record-spec : {M : Type 1} → statement M
-distance-record-spec =
+pub narrow-record-spec : {M : Type 1} → statement M
+narrow-record-spec =
     tie.close
     (tie.spec
     array-write-row
