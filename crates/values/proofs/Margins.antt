@@ -21,7 +21,7 @@ use Rattle.layout.specs.CellRows.{Given, rowOf}
 use Rattle.layout.proofs.CellRows.{row-last, row-low}
 use Rattle.base.specs.Lists.{storeAll}
 use Rattle.plan.specs.Geometry.{place, cellPlace}
-use Rattle.values.specs.Waves.{four, rowsOf, Band, Banded, mostIn, mostOf, Lasts, Inner, Inners, Fours}
+use Rattle.values.specs.Waves.{four, rowsOf, Band, Banded, mostIn, mostOf, Lasts, Lent, Inner, Inners, Fours}
 use Rattle.values.specs.Reads.{firstRead, Firsts, Backs, InRow}
 use Rattle.values.proofs.Stores.{store-append}
 use Rattle.values.proofs.Words.{in-row}
@@ -93,6 +93,20 @@ lasts-are x components first g h = record { each = λ e k. h e k ∙ ap (λ (l :
 pub most-is : (x : Nest) (components : List ℕ) (j : ℕ) → Given x components → (r : ℕ) → r ≡ mostIn components j (x .distances) → r ≡ mostOf x j (x .distances)
 most-is x components j g r e = e ∙ ap (λ (l : List ℕ). mostIn l j (x .distances)) (g .is)
 
+-- ---- one row, inner or not
+
+module _ (x : Nest) (ok : Accepted x) (r : Cell) (q : Located x (r .number) r) (n : ℕ) (fits : getD (r .place) (x .dimensions - 1) 0 + n ≤ lengthOf x (x .dimensions - 1))
+    (components lasts back weights margin : List ℕ) (lent : Lent x components lasts back weights margin) where
+  pub inner-row : Inner margin (r .place) (x .dimensions - 1) → InRow x (r .number) (getD (r .place) (x .dimensions - 1) 0) n lasts back weights
+  inner-row i = in-row x ok r q lasts back weights (inner-firsts x ok margin (lent .margins) lasts (lent .firsts) (r .place) i) (lent .backs) (lent .weights-are) n fits
+
+  pub any-row : (first : List ℕ) → Firsts x (r .place) first → InRow x (r .number) (getD (r .place) (x .dimensions - 1) 0) n first back weights
+  any-row first f = in-row x ok r q first back weights f (lent .backs) (lent .weights-are) n fits
+
+pub firsts-most : (x : Nest) → Accepted x → (i first : List ℕ) → Firsts x i first → (e : ℕ) → e < x .distances → getD first e 0 ≤ 1024
+unfolding firstRead
+firsts-most x ok i first f e h = rw (f .each e h) (greater-most _ 1024 (component x e (x .dimensions - 1)) 1024 (omega arith) (ok .component-most e (x .dimensions - 1)))
+
 -- ---- four rows
 
 pub rows-four : (f : List ℕ → ℕ → ℕ) (m : List ℕ) (c : ℕ → ℕ) (w : ℕ)
@@ -156,21 +170,20 @@ module _ (x : Nest) (ok : Accepted x) (a b c d : Cell) (w : ℕ) (h : Fours x a 
           go (inl z) ih = rw z (steps k l)
           go (inr z) ih = omega (arith, ih z, steps k l)
 
-  pub fours-banded : (margin first back weights : List ℕ) → Has margin (λ j. mostOf x j (x .distances)) (x .dimensions) → Lasts x first → Backs x back → weights ≡ x .weights
-      → (from : ℕ) → (3 ≤ from) × ((getD margin (x .dimensions - 1) 0 + 3 ≤ getD (a .place) (x .dimensions - 1) 0 + from) × (from ≤ 1027))
-      → (from ≤ w) × Inners margin (a .place) (b .place) (c .place) (d .place) (x .dimensions - 1)
-      → Banded x (four (a .number) (b .number) (c .number) (d .number)) (getD (a .place) (x .dimensions - 1) 0) from w first back weights
-  fours-banded margin first back weights m l bk wt from s t =
+  pub fours-banded : (components lasts back weights margin : List ℕ) → Lent x components lasts back weights margin
+      → (from : ℕ) → (3 ≤ from) × ((getD margin (x .dimensions - 1) 0 + 3 ≤ getD (a .place) (x .dimensions - 1) 0 + from) × (from ≤ 1027)) → from ≤ w
+      → Inners margin (a .place) (b .place) (c .place) (d .place) (x .dimensions - 1)
+      → Banded x (four (a .number) (b .number) (c .number) (d .number)) (getD (a .place) (x .dimensions - 1) 0) from w lasts back weights
+  fours-banded components lasts back weights margin lent from s l t =
       record {
         rows = fours-band;
-        each = each-four (λ k. InRow x (four (a .number) (b .number) (c .number) (d .number) k) (getD (a .place) (x .dimensions - 1) 0) w first back weights)
-            (rows a (h .one) refl (t .1 .one)) (rows b (h .two) (h .same-two) (t .1 .two)) (rows c (h .three) (h .same-three) (t .1 .three)) (rows d (h .fourth) (h .same-fourth) (t .1 .fourth));
+        each = each-four (λ k. InRow x (four (a .number) (b .number) (c .number) (d .number) k) (getD (a .place) (x .dimensions - 1) 0) w lasts back weights)
+            (rows a (h .one) refl (t .one)) (rows b (h .two) (h .same-two) (t .two)) (rows c (h .three) (h .same-three) (t .three)) (rows d (h .fourth) (h .same-fourth) (t .fourth));
         three = s .0;
-        low = t .0;
-        reads = λ e k. omega (arith, first-most x ok margin m first l e k, s .1 .0);
+        low = l;
+        reads = λ e k. omega (arith, first-most x ok margin (lent .margins) lasts (lent .firsts) e k, s .1 .0);
       }
     where
       rows : (r : Cell) → Located x (r .number) r → getD (r .place) (x .dimensions - 1) 0 ≡ getD (a .place) (x .dimensions - 1) 0 → Inner margin (r .place) (x .dimensions - 1)
-          → InRow x (r .number) (getD (a .place) (x .dimensions - 1) 0) w first back weights
-      rows r q e i =
-          rw e at (in-row x ok r q first back weights (inner-firsts x ok margin m first l (r .place) i) bk wt w (omega (arith, e, h .fits)))
+          → InRow x (r .number) (getD (a .place) (x .dimensions - 1) 0) w lasts back weights
+      rows r q e i = rw e at (inner-row x ok r q w (omega (arith, e, h .fits)) components lasts back weights margin lent i)

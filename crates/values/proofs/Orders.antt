@@ -10,7 +10,6 @@ use lib.ListN.{length, getD, set, length-set}
 use lib.Seq.{getD-set-same, getD-set-other, ext-getD}
 use Rattle.base.specs.Lists.{In, Rising, storeAll}
 use Rattle.base.proofs.Lists.{AllBelow, store-length}
-use Rattle.values.specs.Waves.{Right}
 
 -- a cell that is not stored keeps its word
 pub store-other : (f : List ℕ → ℕ → ℕ) (cs m : List ℕ) (z : ℕ) → (In z cs → ⊥) → getD (storeAll f m cs) z 0 ≡ getD m z 0
@@ -43,6 +42,11 @@ module _ (f : List ℕ → ℕ → ℕ) (reads : ℕ → List ℕ) (n : ℕ) (ca
 
 -- ---- towards a target memory
 
+-- the word is the target's wherever the cell is not still to be stored
+pub record Right (fin m : List ℕ) (left : ℕ → Type 0) : Type 0 where
+  pub long : length m ≡ length fin
+  pub is : (z : ℕ) → (left z → ⊥) → getD m z 0 ≡ getD fin z 0
+
 module _ (fin m : List ℕ) (left : ℕ → Type 0) (s : Right fin m left) where
   -- a store of the target's word leaves one cell fewer
   pub right-store : (left′ : ℕ → Type 0) (c v : ℕ) → c < length fin → v ≡ getD fin c 0 → ((z : ℕ) → z ≢ c → left z → left′ z) → Right fin (set m c v) left′
@@ -54,37 +58,3 @@ module _ (fin m : List ℕ) (left : ℕ → Type 0) (s : Right fin m left) where
 
   pub right-end : ((z : ℕ) → z < length fin → left z → ⊥) → m ≡ fin
   right-end h = ext-getD 0 m fin (s .long) (λ z k. s .is z (h z (omega (arith, s .long))))
-
--- ---- the cells cs stored in the order ps
-
--- each is among cs, and reads none of those still to be stored
-abbrev pub Ready : (ℕ → List ℕ) → List ℕ → List ℕ → Type 0
-Ready reads cs [] = Unit {0}
-Ready reads cs (p ∷ ps) = (In p cs) × (((r : ℕ) → In r (reads p) → In r (p ∷ ps) → ⊥) × Ready reads cs ps)
-
-module _ (f : List ℕ → ℕ → ℕ) (reads : ℕ → List ℕ) (n : ℕ) (causal : Causal f reads n) (cs m₀ : List ℕ) (rising : Rising cs) (low : AllBelow n cs) (fits : AllBelow (length m₀) cs) where
-  pub target : List ℕ
-  target = storeAll f m₀ cs
-
-  target-long : length (storeAll f m₀ cs) ≡ length m₀
-  target-long = store-length f cs m₀
-
-  run : (ps m : List ℕ) → Ready reads cs ps → Right (storeAll f m₀ cs) m (λ z. In z ps) → Right (storeAll f m₀ cs) (storeAll f m ps) (λ z. ⊥)
-  unfolding storeAll
-  run [] m h s = s
-  run (p ∷ ps) m h s =
-      run ps (set m p (f m p)) (h .1 .1)
-      (right-store (storeAll f m₀ cs) m (λ z. In z (p ∷ ps)) s (λ z. In z ps) p (f m p) (omega (arith, target-long, fits p (h .0)))
-      (causal .local m (storeAll f m₀ cs) p (low p (h .0)) (λ r k. s .is r (h .1 .0 r k)) ∙ sym (store-fixed f reads n causal cs m₀ p rising low fits (h .0)))
-      (λ z q i. rest z q i))
-    where
-      rest : (z : ℕ) → z ≢ p → In z (p ∷ ps) → In z ps
-      rest z q (inl e) = absurd (q e)
-      rest z q (inr i) = i
-
-  -- any order of the same cells in which each reads none of those after it gives the same memory
-  pub store-order : (ps : List ℕ) → Ready reads cs ps → ((z : ℕ) → In z cs → In z ps) → storeAll f m₀ ps ≡ storeAll f m₀ cs
-  store-order ps h all =
-      right-end (storeAll f m₀ cs) (storeAll f m₀ ps) (λ z. ⊥)
-      (run ps m₀ h (record { long = sym target-long; is = λ z k. sym (store-other f cs m₀ z (λ i. k (all z i))) }))
-      (λ z l k. k)

@@ -4,8 +4,7 @@ use mathlib.Core.Path.{_≡_, refl, sym, ap, _∙_}
 use mathlib.Core.Logic.{_⊎_, inl, inr, _≢_}
 use mathlib.Core.Bool.{true}
 use mathlib.Core.List.{List, [], _∷_, _++_}
-use native.Mathlib.Nat.{add-assoc, mul-le-mul}
-use native.Mathlib.Numerals.{add-one}
+use native.Mathlib.Nat.{add-assoc}
 use native.Mathlib.Decide.{decLt, ℕ-discrete}
 use native.Mathlib.Omega.{arith}
 use lib.ListN.{length, getD, set, length-set}
@@ -25,80 +24,15 @@ use Rattle.plan.specs.Messages.{planOf}
 use Rattle.plan.proofs.Sound.{reads-at, value-local}
 use Rattle.plan.proofs.Tiles.{read-back, read-before}
 use Rattle.layout.specs.CellRows.{rowOf}
-use Rattle.values.specs.Waves.{four, rowsOf, Full, Fulls, Band, Right, Left, Front, Waved, Wave, Banded}
+use Rattle.kernels.specs.Taps.{made, inLine, waveOf, Fits, Mixes, All}
+use Rattle.kernels.proofs.Orders.{store-same}
+use Rattle.values.specs.Waves.{four, rowsOf, Band, Spaced, Banded}
 use Rattle.values.specs.Reads.{InRow}
-use Rattle.values.proofs.Orders.{store-other, Causal, store-fixed, right-store, right-end}
-use Rattle.values.proofs.Stores.{store-row}
-use Rattle.values.proofs.Words.{Adding, adding-none, adding-more}
-
--- ---- values where all distances read
-
-pub weighs : (k v : ℕ) → k < 65536 → v < 4294967296 → k * v ≤ 281470681677825
-weighs k v a b = omega (arith, mul-le-mul {n₁ = k} {m₁ = v} {n₂ = 65535} {m₂ = 4294967295} (omega arith) (omega arith))
-
--- what distance e gives at cell c
-abbrev pub backWord : List ℕ → List ℕ → ℕ → ℕ → ℕ
-backWord memory back c e = getD memory (c - getD back e 0) 0
-
-module _ (x : Nest) (ok : Accepted x) (source memory back weights : List ℕ) (c : ℕ) (full : Full x c back weights) (total e : ℕ) (s : Adding x source (backWord memory back c) c total e) where
-  pub full-fits : total ≤ 4611686018427387904
-  full-fits = omega (arith, s .few, s .low, ok .distances-most)
-
-  pub full-weight : e < x .distances → getD weights e 0 < 65536
-  full-weight h = rw (full .weights-are) (ok .weight-most e)
-
-  pub full-low : e < x .distances → getD back e 0 ≤ c
-  full-low h = omega (arith, full .backs e h)
-
-  pub full-more : (r : ℕ) → (r ≡ total + getD weights e 0 * backWord memory back c e) × (backWord memory back c e < 4294967296) → e < x .distances → Adding x source (backWord memory back c) c r (e + 1)
-  full-more r q h = rw (q .0) (adding-more x ok source (backWord memory back c) c total e s (backWord memory back c e) (getD weights e 0) refl (q .1) h (ap (λ (l : List ℕ). getD l e 0) (full .weights-are)))
-
-  pub full-end : (r : ℕ) → r ≡ total / 2 ^ x .shift % 4294967296 → x .distances ≤ e → r ≡ value x source memory c
-  unfolding value
-  full-end r q h =
-      let z : e ≡ x .distances = omega (arith, s .low) in
-      q
-      ∙ ap (λ (a : ℕ). a / 2 ^ x .shift % 4294967296)
-      (s .is
-      ∙ ap (λ (n : ℕ). getD source c 0 + sum (λ d. weight x d * backWord memory back c d) n) z
-      ∙ ap (λ (a : ℕ). getD source c 0 + a)
-      (sum-same _ _ (x .distances)
-      (λ d k. ap (λ (a : ℕ). weight x d * a)
-      (let y : c - getD back d 0 ≡ readAt x c d = omega (arith, full .backs d k) in ap (λ (i : ℕ). getD memory i 0) y ∙ sym (pick-true (hasRead x c d) _ _ (full .has d k))))))
-
--- four sums
-pub record Adds (x : Nest) (source memory back : List ℕ) (a b c d ta tb tc td e : ℕ) : Type 0 where
-  pub one : Adding x source (backWord memory back a) a ta e
-  pub two : Adding x source (backWord memory back b) b tb e
-  pub three : Adding x source (backWord memory back c) c tc e
-  pub last : Adding x source (backWord memory back d) d td e
-
--- a sum begins
-pub sum-none : (x : Nest) (ok : Accepted x) (source memory back : List ℕ) (c t : ℕ) → (t ≡ getD source c 0) × (t < 4294967296) → Adding x source (backWord memory back c) c t 0
-sum-none x ok source memory back c t q = rw (q .0) (adding-none x ok source (backWord memory back c) c (omega (arith, q .0, q .1)))
-
--- what one more word needs
-pub sum-needs : (x : Nest) (ok : Accepted x) (source memory back weights : List ℕ) (c : ℕ) → Full x c back weights → length memory ≡ cells x → (t e : ℕ) → Adding x source (backWord memory back c) c t e → e < x .distances
-    → (t ≤ 4611686018427387904) × ((getD weights e 0 < 65536) × ((getD back e 0 ≤ c) × ((c < length memory) × (length memory ≤ 16384))))
-sum-needs x ok source memory back weights c full long t e s h = (
-  full-fits x ok source memory back weights c full t e s,
-  (
-    full-weight x ok source memory back weights c full t e s h,
-    (full-low x ok source memory back weights c full t e s h, (omega (arith, full .low), omega (arith, ok .cells-most))),
-  ),
-)
+use Rattle.values.proofs.Orders.{Right, store-other, Causal, store-fixed, right-store, right-end}
+use Rattle.values.proofs.Stores.{store-append, store-row}
+use Rattle.values.proofs.Words.{in-row-of, row-mixes, row-values}
 
 -- ---- who is in a row, and in rows
-
-pub in-row-of : (c n z : ℕ) → In z (rowOf c n) → (c ≤ z) × (z < c + n)
-unfolding tabulate
-in-row-of c zero z i = absurd i
-in-row-of c (suc n) z i = go (in-append z (rowOf c n) ((c + n) ∷ []) i) (in-row-of c n z)
-  where
-    go : In z (rowOf c n) ⊎ In z ((c + n) ∷ []) → (In z (rowOf c n) → (c ≤ z) × (z < c + n)) → (c ≤ z) × (z < c + suc n)
-    go (inl k) ih = let q = ih k in (q .0, omega arith)
-    go (inr (inl e)) ih = (omega arith, omega arith)
-    go (inr (inr e)) ih = absurd e
 
 pub row-of-in : (c n z : ℕ) → c ≤ z → z < c + n → In z (rowOf c n)
 unfolding tabulate
@@ -152,7 +86,60 @@ module _ (c : ℕ → ℕ) (w : ℕ) where
       rising-append (rowsOf c w n) (rowOf (c n) w) (rows-rising n (λ j k a b. h j k a (omega arith))) (row-rising (c n) w)
       (λ y z i k. let a = rows-in n y i in let b = in-row-of (c n) w z k in let d = h (a .0) n (a .1) (omega arith) in omega (arith, a .3, b .0))
 
+-- ---- values where all distances read
+
+pub record Full (x : Nest) (c : ℕ) (back weights : List ℕ) : Type 0 where
+  pub low : c < cells x
+  pub weights-are : weights ≡ x .weights
+  pub has : (e : ℕ) → e < x .distances → hasRead x c e ≡ true
+  pub backs : (e : ℕ) → e < x .distances → getD back e 0 + readAt x c e ≡ c
+
+module _ (x : Nest) (ok : Accepted x) (back weights : List ℕ) where
+  pub made-is : (c : ℕ) → Full x c back weights → (source memory : List ℕ) → made (x .distances) back weights 0 (x .shift) source memory c ≡ value x source memory c
+  unfolding made value
+  made-is c full source memory =
+      let e : sum (λ d. getD weights d 0 * getD memory (c - getD back d 0) 0) (x .distances)
+      ≡ sum (λ d. weight x d * pick (hasRead x c d) (getD memory (readAt x c d) 0) (x .boundary)) (x .distances) =
+      sum-same _ _ (x .distances)
+      (λ d k. let y : c - getD back d 0 ≡ readAt x c d = omega (arith, full .backs d k) in
+      ap (λ (l : List ℕ). getD l d 0 * getD memory (c - getD back d 0) 0) (full .weights-are)
+      ∙ ap (λ (a : ℕ). weight x d * a) (ap (λ (i : ℕ). getD memory i 0) y ∙ sym (pick-true (hasRead x c d) _ _ (full .has d k)))) in
+      let z : 0 + getD source c 0 + sum (λ d. getD weights d 0 * getD memory (c - getD back d 0) 0) (x .distances)
+      ≡ getD source c 0 + sum (λ d. weight x d * pick (hasRead x c d) (getD memory (readAt x c d) 0) (x .boundary)) (x .distances) = omega (arith, e) in
+      ap (λ (a : ℕ). a / 2 ^ x .shift % 4294967296) z
+
+  -- from such a cell or a later one on
+  pub full-fits : (c c′ : ℕ) → c′ ≤ c → Full x c′ back weights → (span sources words : ℕ) → c + span ≤ cells x → sources ≡ cells x → words ≡ cells x → Fits (x .distances) back weights 0 (x .shift) c span sources words
+  full-fits c c′ l full span sources words h s e =
+      record {
+        few = ok .distances-most;
+        back = λ k i. omega (arith, full .backs k i);
+        light = λ k i. rw (full .weights-are) (ok .weight-most k);
+        besides = omega arith;
+        divides = omega (arith, ok .shift-most);
+        within = omega arith;
+        same = s ∙ sym e;
+        small = omega (arith, ok .cells-most);
+      }
+
+  pub full-row : (c n : ℕ) → ((y : ℕ) → y < n → Full x (c + y) back weights) → (source memory memory′ : List ℕ)
+      → memory′ ≡ storeAll (made (x .distances) back weights 0 (x .shift) source) memory (rowOf c n) → memory′ ≡ storeAll (value x source) memory (rowOf c n)
+  full-row c n full source memory memory′ e = e ∙ store-same _ _ (rowOf c n) memory (λ m z i. let q = in-row-of c n z i in
+      let y : c + (z - c) ≡ z = omega (arith, q .0) in
+      made-is z (rw y at (full (z - c) (omega (arith, q .0, q .1)))) source m)
+
 -- ---- the rows of a band, of which h k columns of row k are stored
+
+-- cell z is still to be stored, h k columns of row k being stored
+pub record Left (c : ℕ → ℕ) (w n : ℕ) (h : ℕ → ℕ) (z : ℕ) : Type 0 where
+  pub row : ℕ
+  pub below : row < n
+  pub from : c row + h row ≤ z
+  pub to : z < c row + w
+
+-- so far: the rows that storing in index order gives, but for the cells still to be stored
+abbrev pub Front : Nest → List ℕ → List ℕ → (ℕ → ℕ) → ℕ → ℕ → List ℕ → (ℕ → ℕ) → Type 0
+Front x source m₀ c w n m h = Right (storeAll (value x source) m₀ (rowsOf c w n)) m (Left c w n h)
 
 pub causal : (x : Nest) → Accepted x → (source : List ℕ) → Causal (value x source) (readsOf x) (cells x)
 causal x ok source =
@@ -287,72 +274,38 @@ stage-not : (y i j : ℕ) → i ≤ j → stage y i j ≡ y - j
 unfolding stage
 stage-not y i j h = pick-false (ltb j i) (y + 1 - j) (y - j) (le-ltb j i h)
 
-module _ (x : Nest) (ok : Accepted x) (source m₀ : List ℕ) (long : length m₀ ≡ cells x) (c : ℕ → ℕ) (w : ℕ) (band : Band x c w 4) (m : List ℕ) (y : ℕ) (deep : 3 ≤ y) (wide : y < w) (f : Front x source m₀ c w 4 m (λ k. y - k)) where
-  words : (k : ℕ) → k < 4 → value x source m (c k + (y - k)) ≡ getD (storeAll (value x source) m₀ (rowsOf c w 4)) (c k + (y - k)) 0
-  words k l = front-word x ok source m₀ long c w 4 band m (λ k. y - k) f k l (y - k) refl (omega arith) (λ j q. omega arith)
+module _ (x : Nest) (ok : Accepted x) (source m₀ : List ℕ) (long : length m₀ ≡ cells x) (c : ℕ → ℕ) (w : ℕ) (band : Band x c w 4) (f : List ℕ → ℕ → ℕ) where
+  module _ (y : ℕ) (deep : 3 ≤ y) (wide : y < w) (same : (k : ℕ) → k < 4 → (m : List ℕ) → f m (c k + (y - k)) ≡ value x source m (c k + (y - k))) where
+    next : (k : ℕ) → k < 4 → (m : List ℕ) → Front x source m₀ c w 4 m (stage y k) → Front x source m₀ c w 4 (set m (c k + (y - k)) (f m (c k + (y - k)))) (stage y (suc k))
+    next k l m g =
+        front-store x ok source m₀ long c w 4 band m (stage y k) g k l (y - k) (sym (stage-not y k k (omega arith))) (omega arith) (f m (c k + (y - k)))
+        (same k l m ∙ front-word x ok source m₀ long c w 4 band m (stage y k) g k l (y - k) (sym (stage-not y k k (omega arith))) (omega arith) (λ j q. omega (arith, stage-done y k j q)))
+        (stage y (suc k)) (omega (arith, stage-done y (suc k) k (omega arith))) (λ j q z. go j z (decLt j k))
+      where
+        go : (j : ℕ) → j ≢ k → Dec (j < k) → stage y (suc k) j ≤ stage y k j
+        go j z (yes d) = omega (arith, stage-done y (suc k) j (omega arith), stage-done y k j d)
+        go j z (no d) = omega (arith, stage-not y (suc k) j (omega arith), stage-not y k j (omega arith))
 
-  next : (k : ℕ) → k < 4 → (m′ : List ℕ) → Front x source m₀ c w 4 m′ (stage y k) → (v : ℕ) → v ≡ value x source m (c k + (y - k)) → Front x source m₀ c w 4 (set m′ (c k + (y - k)) v) (stage y (suc k))
-  next k l m′ g v e =
-      front-store x ok source m₀ long c w 4 band m′ (stage y k) g k l (y - k) (sym (stage-not y k k (omega arith))) (omega arith) v (e ∙ words k l)
-      (stage y (suc k)) (omega (arith, stage-done y (suc k) k (omega arith))) (λ j q z. go j z (decLt j k))
-    where
-      go : (j : ℕ) → j ≢ k → Dec (j < k) → stage y (suc k) j ≤ stage y k j
-      go j z (yes d) = omega (arith, stage-done y (suc k) j (omega arith), stage-done y k j d)
-      go j z (no d) = omega (arith, stage-not y (suc k) j (omega arith), stage-not y k j (omega arith))
+    column : (m : List ℕ) → Front x source m₀ c w 4 m (λ k. y - k) → (p₀ p₁ p₂ p₃ : ℕ) → p₀ ≡ c 0 + (y - 0) → p₁ ≡ c 1 + (y - 1) → p₂ ≡ c 2 + (y - 2) → p₃ ≡ c 3 + (y - 3)
+        → Front x source m₀ c w 4 (storeAll f m (p₀ ∷ p₁ ∷ p₂ ∷ p₃ ∷ [])) (λ k. y + 1 - k)
+    unfolding storeAll
+    column m s p₀ p₁ p₂ p₃ e₀ e₁ e₂ e₃ =
+        let g = front-same x ok source m₀ long c w 4 band m (λ k. y - k) s (stage y 0) (λ k l. omega (arith, stage-not y 0 k (omega arith))) in
+        let g₄ = next 3 (omega arith) _ (next 2 (omega arith) _ (next 1 (omega arith) _ (next 0 (omega arith) m g))) in
+        rw (e₀, e₁, e₂, e₃) (front-same x ok source m₀ long c w 4 band _ (stage y 4) g₄ (λ k. y + 1 - k) (λ k l. omega (arith, stage-done y 4 k l)))
 
-  pub column-stored : (va vb vc vd : ℕ) → va ≡ value x source m (c 0 + y) → vb ≡ value x source m (c 1 + (y - 1)) → vc ≡ value x source m (c 2 + (y - 2)) → vd ≡ value x source m (c 3 + (y - 3))
-      → Front x source m₀ c w 4 (set (set (set (set m (c 0 + y) va) (c 1 + (y - 1)) vb) (c 2 + (y - 2)) vc) (c 3 + (y - 3)) vd) (λ k. y + 1 - k)
-  column-stored va vb vc vd ea eb ec ed =
-      let g = front-same x ok source m₀ long c w 4 band m (λ k. y - k) f (stage y 0) (λ k l. omega (arith, stage-not y 0 k (omega arith))) in
-      let z : y - 0 ≡ y = omega arith in
-      let ea′ : va ≡ value x source m (c 0 + (y - 0)) = rw z ea in
-      let g₁ : Front x source m₀ c w 4 (set m (c 0 + y) va) (stage y 1) = rw z at (next 0 (omega arith) m g va ea′) in
-      let g₂ = next 1 (omega arith) _ g₁ vb eb in
-      let g₃ = next 2 (omega arith) _ g₂ vc ec in
-      let g₄ = next 3 (omega arith) _ g₃ vd ed in
-      front-same x ok source m₀ long c w 4 band _ (stage y 4) g₄ (λ k. y + 1 - k) (λ k l. omega (arith, stage-done y 4 k l))
-
--- ---- the wave, up to column y
-
-pub record Waving (x : Nest) (source memory₀ memory : List ℕ) (c : ℕ → ℕ) (from w y : ℕ) : Type 0 where
-  pub least : from ≤ y
-  pub most : y ≤ w
-  pub long : length memory ≡ length memory₀
-  pub on : (m₀ : List ℕ) → length m₀ ≡ cells x → Front x source m₀ c w 4 memory₀ (λ k. from - k) → Front x source m₀ c w 4 memory (λ k. y - k)
-
-module _ (x : Nest) (source memory₀ : List ℕ) (c : ℕ → ℕ) (from w : ℕ) where
-  pub waving-none : from ≤ w → Waving x source memory₀ memory₀ c from w from
-  waving-none h = record { least = omega arith; most = h; long = refl; on = λ m₀ l f. f }
-
-  module _ (memory : List ℕ) (y : ℕ) (s : Waving x source memory₀ memory c from w y) where
-    pub waving-more : Accepted x → (back weights : List ℕ) → Wave x c from w back weights → y < w → (va vb vc vd : ℕ)
-        → (va ≡ value x source memory (c 0 + y)) × ((vb ≡ value x source memory (c 1 + (y - 1))) × ((vc ≡ value x source memory (c 2 + (y - 2))) × (vd ≡ value x source memory (c 3 + (y - 3)))))
-        → Waving x source memory₀ (set (set (set (set memory (c 0 + y) va) (c 1 + (y - 1)) vb) (c 2 + (y - 2)) vc) (c 3 + (y - 3)) vd) c from w (y + 1)
-    waving-more ok back weights g h va vb vc vd e =
-        record {
-          least = omega (arith, s .least);
-          most = omega arith;
-          long = simp length-set (s .long);
-          on = λ m₀ l f. column-stored x ok source m₀ l c w (g .rows) memory y (omega (arith, g .three, s .least)) h (s .on m₀ l f) va vb vc vd (e .0) (e .1 .0) (e .1 .1 .0) (e .1 .1 .1);
-        }
-
-    pub waving-end : w ≤ y → Waved x source memory₀ memory c from w
-    waving-end h =
-        let z : y ≡ w = omega (arith, s .most) in
-        record { long = s .long; on = λ m₀ l f. rw z at (s .on m₀ l f) }
-
-module _ (x : Nest) (c : ℕ → ℕ) (from w y : ℕ) (back weights : List ℕ) (g : Wave x c from w back weights) (least : from ≤ y) (h : y < w) where
-  pub wave-low : (k : ℕ) → k < 4 → c k + (y - k) < cells x
-  wave-low k l = g .rows .low k (y - k) l (omega arith)
-
-  pub wave-full : Fulls x (c 0 + y) (c 1 + (y - 1)) (c 2 + (y - 2)) (c 3 + (y - 3)) back weights
-  wave-full =
-      record {
-        one = let z : y - 0 ≡ y = omega arith in rw z at (g .full 0 y (omega arith) least h);
-        two = g .full 1 y (omega arith) least h;
-        three = g .full 2 y (omega arith) least h;
-        last = g .full 3 y (omega arith) least h;
-      }
+  -- n columns from column `from` on
+  module _ (from : ℕ) (deep : 3 ≤ from) (spaced : Spaced (c 0) (c 1) (c 2) (c 3)) where
+    pub front-wave : (n : ℕ) → from + n ≤ w → ((k z : ℕ) → k < 4 → from ≤ z → z < w → (m : List ℕ) → f m (c k + (z - k)) ≡ value x source m (c k + (z - k)))
+        → (m : List ℕ) → Front x source m₀ c w 4 m (λ k. from - k) → Front x source m₀ c w 4 (storeAll f m (waveOf (c 0 + from) (c 1 - c 0 - 1) n)) (λ k. from + n - k)
+    unfolding waveOf storeAll
+    front-wave zero h same m s = front-same x ok source m₀ long c w 4 band m (λ k. from - k) s (λ k. from + 0 - k) (λ k l. omega arith)
+    front-wave (suc n) h same m s =
+        let a = band .apart 0 1 (omega arith) (omega arith) in
+        let z : from + suc n ≡ from + n + 1 = omega arith in
+        rw (z, store-append f m (waveOf (c 0 + from) (c 1 - c 0 - 1) n) _)
+        (column (from + n) (omega arith) (omega arith) (λ k l. same k (from + n) l (omega arith) (omega arith)) (storeAll f m (waveOf (c 0 + from) (c 1 - c 0 - 1) n))
+        (front-wave n (omega arith) same m s) _ _ _ _ (omega arith) (omega (arith, a)) (omega (arith, a, spaced .0)) (omega (arith, a, spaced .0, spaced .1)))
 
 -- ---- parts of a row
 
@@ -386,27 +339,46 @@ each-four P a b c d (suc (suc (suc zero))) h = d
 each-four P a b c d (suc (suc (suc (suc k)))) h = absurd (omega arith)
 
 module _ (x : Nest) (ok : Accepted x) (c : ℕ → ℕ) (a from w : ℕ) (first back weights : List ℕ) (g : Banded x c a from w first back weights) where
-  pub band-wave : Wave x c from w back weights
-  band-wave =
-      record {
-        rows = g .rows;
-        three = g .three;
-        low = g .low;
-        full = λ k z l h i. full k z l h i;
-      }
-    where
-      full : (k z : ℕ) → k < 4 → from ≤ z → z < w → Full x (c k + (z - k)) back weights
-      full k z l h i =
-          let s : ℕ = from - 3 in
-          let p : c k + (from - 3) + (z - k - (from - 3)) ≡ c k + (z - k) = omega (arith, g .three) in
-          rw p at
-          (row-full x (c k + (from - 3)) (a + (from - 3)) (w - (from - 3)) first back weights (row-rest x (c k) a w first back weights (g .each k l) (from - 3) (w - (from - 3)) (omega (arith, g .low)))
-          (λ e q. omega (arith, g .reads e q, g .three)) (z - k - (from - 3)) (omega (arith, g .three, g .low)))
+  -- from three columns before `from` on all distances read
+  pub band-full : (k y : ℕ) → k < 4 → from - 3 ≤ y → y < w → Full x (c k + y) back weights
+  band-full k y l h i =
+      let p : c k + (from - 3) + (y - (from - 3)) ≡ c k + y = omega arith in
+      rw p at
+      (row-full x (c k + (from - 3)) (a + (from - 3)) (w - (from - 3)) first back weights (row-rest x (c k) a w first back weights (g .each k l) (from - 3) (w - (from - 3)) (omega (arith, g .low)))
+      (λ e q. omega (arith, g .reads e q, g .three)) (y - (from - 3)) (omega (arith, g .three, g .low)))
+
+  -- the first t cells of row k
+  pub band-mixes : (k t : ℕ) → k < 4 → t ≤ w → (sources words : ℕ) → sources ≡ cells x → words ≡ cells x
+      → Mixes (x .distances) first back weights (x .boundary) (x .shift) (c k) a t sources words × All (x .distances) first (a + (from - 3))
+  band-mixes k t l h sources words s m = (
+    row-mixes x ok (c k) a t first back weights (row-front x (c k) a w first back weights (g .each k l) t h) sources words
+        (g .each k l .each 0 (omega (arith, g .three, g .low)) .weights-are) s m,
+    λ e q. omega (arith, g .reads e q, g .three),
+  )
+
+  pub band-line : (k t : ℕ) → k < 4 → t ≤ w → (source m m′ : List ℕ)
+      → m′ ≡ storeAll (inLine (x .distances) first back weights (x .boundary) (x .shift) source (c k) a) m (rowOf (c k) t) → m′ ≡ storeAll (value x source) m (rowOf (c k) t)
+  band-line k t l h source m m′ e = row-values x ok (c k) a t first back weights (row-front x (c k) a w first back weights (g .each k l) t h) source m m′ e
+
+  -- its last t cells
+  pub band-tail : (k t : ℕ) → k < 4 → t ≤ 3 → (source m m′ : List ℕ)
+      → m′ ≡ storeAll (made (x .distances) back weights 0 (x .shift) source) m (rowOf (c k + (w - t)) t) → m′ ≡ storeAll (value x source) m (rowOf (c k + (w - t)) t)
+  band-tail k t l h source m m′ e =
+      full-row x ok back weights (c k + (w - t)) t
+      (λ y i. let z : c k + (w - t) + y ≡ c k + (w - t + y) = omega arith in rw z (band-full k (w - t + y) l (omega (arith, g .low)) (omega (arith, g .three, g .low)))) source m m′ e
+
+  pub tail-fits : (k t sources words : ℕ) → k < 4 → 1 ≤ t → t ≤ 3 → sources ≡ cells x → words ≡ cells x → Fits (x .distances) back weights 0 (x .shift) (c k + (w - t)) t sources words
+  tail-fits k t sources words l i h s e =
+      full-fits x ok back weights (c k + (w - t)) (c k + (w - t)) (omega arith) (band-full k (w - t) l (omega (arith, g .low)) (omega (arith, g .three, g .low))) t sources words
+      (omega (arith, g .each k l .low, g .three, g .low)) s e
+
+  pub wave-fits : Spaced (c 0) (c 1) (c 2) (c 3) → (sources words : ℕ) → sources ≡ cells x → words ≡ cells x
+      → Fits (x .distances) back weights 0 (x .shift) (c 0 + from) (3 * (c 1 - c 0 - 1) + (w - from)) sources words
+  wave-fits spaced sources words s e =
+      full-fits x ok back weights (c 0 + from) (c 0 + (from - 3)) (omega arith) (band-full 0 (from - 3) (omega arith) (omega arith) (omega (arith, g .three, g .low))) _ sources words
+      (omega (arith, g .each 3 (omega arith) .low, g .rows .apart 0 1 (omega arith) (omega arith), g .three, g .low, spaced .0, spaced .1)) s e
 
   module _ (source m₀ : List ℕ) (long : length m₀ ≡ cells x) where
-    f : List ℕ → ℕ → ℕ
-    f = value x source
-
     module _ (m : List ℕ) (h₀ h₁ h₂ h₃ : ℕ) (s : Front x source m₀ c w 4 m (four h₀ h₁ h₂ h₃)) (p t : ℕ) where
       row-0 : p ≡ c 0 + h₀ → h₀ + t ≤ w → Front x source m₀ c w 4 (storeAll (value x source) m (rowOf p t)) (four (h₀ + t) h₁ h₂ h₃)
       row-0 e i =
@@ -431,11 +403,23 @@ module _ (x : Nest) (ok : Accepted x) (c : ℕ → ℕ) (a from w : ℕ) (first 
           (λ j q. each-four (λ j. j < 3 → h₃ + t ≤ four h₀ h₁ h₂ h₃ j) (λ q. a₀) (λ q. a₁) (λ q. a₂) (λ q. absurd (omega arith)) j (omega arith) q)
           (four h₀ h₁ h₂ (h₃ + t)) (omega arith) (each-four (λ j. j ≢ 3 → four h₀ h₁ h₂ (h₃ + t) j ≤ four h₀ h₁ h₂ h₃ j) (λ q. omega arith) (λ q. omega arith) (λ q. omega arith) (λ q. absurd (q refl)))
 
-    pub band-stored : (m₁ m₂ m₃ m₄ m₅ m₆ m₇ m₈ : List ℕ) → m₁ ≡ storeAll (value x source) m₀ (rowOf (c 0) from) → m₂ ≡ storeAll (value x source) m₁ (rowOf (c 1) (from - 1))
-        → m₃ ≡ storeAll (value x source) m₂ (rowOf (c 2) (from - 2)) → m₄ ≡ storeAll (value x source) m₃ (rowOf (c 3) (from - 3)) → Waved x source m₄ m₅ c from w
-        → m₆ ≡ storeAll (value x source) m₅ (rowOf (c 1 + (w - 1)) 1) → m₇ ≡ storeAll (value x source) m₆ (rowOf (c 2 + (w - 2)) 2) → m₈ ≡ storeAll (value x source) m₇ (rowOf (c 3 + (w - 3)) 3)
+    abbrev Lined : List ℕ → List ℕ → ℕ → ℕ → Type 0
+    Lined m m′ k t = m′ ≡ storeAll (inLine (x .distances) first back weights (x .boundary) (x .shift) source (c k) a) m (rowOf (c k) t)
+
+    abbrev Made : List ℕ → List ℕ → ℕ → ℕ → Type 0
+    Made m m′ k t = m′ ≡ storeAll (made (x .distances) back weights 0 (x .shift) source) m (rowOf (c k + (w - t)) t)
+
+    pub band-stored : Spaced (c 0) (c 1) (c 2) (c 3) → (m₁ m₂ m₃ m₄ m₅ m₆ m₇ m₈ : List ℕ) → Lined m₀ m₁ 0 from → Lined m₁ m₂ 1 (from - 1) → Lined m₂ m₃ 2 (from - 2) → Lined m₃ m₄ 3 (from - 3)
+        → m₅ ≡ storeAll (made (x .distances) back weights 0 (x .shift) source) m₄ (waveOf (c 0 + from) (c 1 - c 0 - 1) (w - from)) → Made m₅ m₆ 1 1 → Made m₆ m₇ 2 2 → Made m₇ m₈ 3 3
         → m₈ ≡ storeAll (value x source) m₀ (rowsOf c w 4)
-    band-stored m₁ m₂ m₃ m₄ m₅ m₆ m₇ m₈ e₁ e₂ e₃ e₄ wave e₆ e₇ e₈ =
+    band-stored spaced m₁ m₂ m₃ m₄ m₅ m₆ m₇ m₈ f₁ f₂ f₃ f₄ e₅ f₆ f₇ f₈ =
+        let e₁ = band-line 0 from (omega arith) (g .low) source m₀ m₁ f₁ in
+        let e₂ = band-line 1 (from - 1) (omega arith) (omega (arith, g .low)) source m₁ m₂ f₂ in
+        let e₃ = band-line 2 (from - 2) (omega arith) (omega (arith, g .low)) source m₂ m₃ f₃ in
+        let e₄ = band-line 3 (from - 3) (omega arith) (omega (arith, g .low)) source m₃ m₄ f₄ in
+        let e₆ = band-tail 1 1 (omega arith) (omega arith) source m₅ m₆ f₆ in
+        let e₇ = band-tail 2 2 (omega arith) (omega arith) source m₆ m₇ f₇ in
+        let e₈ = band-tail 3 3 (omega arith) (omega arith) source m₇ m₈ f₈ in
         let q = g .three in
         let r = g .low in
         let s₀ : Front x source m₀ c w 4 m₀ (four 0 0 0 0) = front-start x ok source m₀ long c w 4 (g .rows) (four 0 0 0 0) (each-four (λ k. four 0 0 0 0 k ≡ 0) refl refl refl refl) in
@@ -444,10 +428,14 @@ module _ (x : Nest) (ok : Accepted x) (c : ℕ → ℕ) (a from w : ℕ) (first 
         let s₃ : Front x source m₀ c w 4 m₃ (four (0 + from) (0 + (from - 1)) (0 + (from - 2)) 0) = rw e₃ (row-2 m₂ (0 + from) (0 + (from - 1)) 0 0 s₂ (c 2) (from - 2) (omega arith) (omega arith) (omega arith) (omega arith)) in
         let s₄ : Front x source m₀ c w 4 m₄ (four (0 + from) (0 + (from - 1)) (0 + (from - 2)) (0 + (from - 3))) =
         rw e₄ (row-3 m₃ (0 + from) (0 + (from - 1)) (0 + (from - 2)) 0 s₃ (c 3) (from - 3) (omega arith) (omega arith) (omega arith) (omega arith) (omega arith)) in
+        let v : from + (w - from) ≡ w = omega arith in
         let s₅ : Front x source m₀ c w 4 m₅ (λ k. w - k) =
-        wave .on m₀ long
+        rw e₅
+        (rw v at
+        (front-wave x ok source m₀ long c w (g .rows) (made (x .distances) back weights 0 (x .shift) source) from q spaced (w - from) (omega arith)
+        (λ k z l h i m. made-is x ok back weights (c k + (z - k)) (band-full k (z - k) l (omega arith) (omega arith)) source m) m₄
         (front-same x ok source m₀ long c w 4 (g .rows) m₄ _ s₄ (λ k. from - k)
-        (each-four (λ k. from - k ≤ four (0 + from) (0 + (from - 1)) (0 + (from - 2)) (0 + (from - 3)) k) (omega arith) (omega arith) (omega arith) (omega arith))) in
+        (each-four (λ k. from - k ≤ four (0 + from) (0 + (from - 1)) (0 + (from - 2)) (0 + (from - 3)) k) (omega arith) (omega arith) (omega arith) (omega arith))))) in
         let s₅′ : Front x source m₀ c w 4 m₅ (four w (w - 1) (w - 2) (w - 3)) =
         front-same x ok source m₀ long c w 4 (g .rows) m₅ (λ k. w - k) s₅ (four w (w - 1) (w - 2) (w - 3))
         (each-four (λ k. four w (w - 1) (w - 2) (w - 3) k ≤ w - k) (omega arith) (omega arith) (omega arith) (omega arith)) in

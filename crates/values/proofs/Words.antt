@@ -3,7 +3,7 @@ use Prim.Native.Nat.{ℕ, zero, suc, _+_, _*_, _-_, _/_, _%_, _^_, _≤_, _<_, m
 use mathlib.Core.Path.{_≡_, refl, sym, ap, _∙_}
 use mathlib.Core.Logic.{_⊎_, inl, inr}
 use mathlib.Core.Bool.{Bool, true, false}
-use mathlib.Core.List.{List}
+use mathlib.Core.List.{List, [], _∷_, _++_}
 use native.Mathlib.Nat.{add-mul, add-assoc, div-add-mod', div-lt-iff-lt-mul, eq-or-lt-of-le, mul-le-mul, mul-le-mul-right, suc-mul}
 use native.Mathlib.Numerals.{add-one}
 use native.Mathlib.Omega.{arith}
@@ -11,8 +11,10 @@ use lib.ListN.{length, getD, set, length-set}
 use lib.Seq.{getD-set-same, getD-set-other}
 use lib.Dec.{leb}
 use borrow.Author.Tests.{le-leb, lt-leb, leb-true}
-use Rattle.base.specs.Tests.{_and_, pick, every, sum, product}
+use Rattle.base.specs.Tests.{_and_, pick, every, sum, product, tabulate}
 use Rattle.base.proofs.Tests.{every-at, every-not, sum-same, pick-true, pick-false}
+use Rattle.base.specs.Lists.{In, storeAll}
+use Rattle.base.proofs.Select.{in-append}
 use Rattle.nest.specs.declared.Nest.{Nest}
 use Rattle.nest.specs.Accepted.{Accepted}
 use Rattle.nest.specs.Nest.{lengthOf, component, weight, cells}
@@ -21,10 +23,12 @@ use Rattle.plan.proofs.Rank.{place-last, rank-same}
 use Rattle.plan.proofs.Tiles.{cellPlace-low, cellAt-cellPlace}
 use Rattle.layout.specs.declared.Cell.{Cell}
 use Rattle.layout.specs.Places.{nth, Countable, Located}
-use Rattle.layout.specs.CellRows.{Given}
+use Rattle.layout.specs.CellRows.{Given, rowOf}
 use Rattle.layout.proofs.Dims.{rank-add, rank-most, product-prefix}
 use Rattle.layout.proofs.Loops.{every-same, Sofar, sofar-end}
 use Rattle.layout.proofs.CellRows.{row-before, row-last, row-low, every-last}
+use Rattle.kernels.specs.Taps.{mixed, inLine, Mixes}
+use Rattle.kernels.proofs.Orders.{store-same}
 use Rattle.values.specs.Reads.{firstRead, stepBack, Firsts, Backs, Reads, InRow}
 
 -- ---- how far back distance e reads: the rank of its first j components
@@ -87,61 +91,53 @@ module _ (x : Nest) (components i : List ℕ) (e : ℕ) (g : Given x components)
       let a : every (λ j. leb (component x e j) (getD i j 0)) (x .dimensions - 1) ≡ true = rw (g .is) at (sofar-end _ _ j s h) in
       ap (λ (l : List ℕ). getD l (4 * e + (x .dimensions - 1)) 0) (g .is) ∙ sym (pick-true _ _ _ a)
 
--- ---- the sum of what the first e distances give, each weighed; few enough that it fits 64 bits
+-- ---- who is in a row
 
-pub record Adding (x : Nest) (source : List ℕ) (w : ℕ → ℕ) (c total e : ℕ) : Type 0 where
-  pub low : e ≤ x .distances
-  pub few : total ≤ 4294967295 + e * 281470681677825
-  pub is : total ≡ getD source c 0 + sum (λ d. weight x d * w d) e
+pub in-row-of : (c n z : ℕ) → In z (rowOf c n) → (c ≤ z) × (z < c + n)
+unfolding tabulate
+in-row-of c zero z i = absurd i
+in-row-of c (suc n) z i = go (in-append z (rowOf c n) ((c + n) ∷ []) i) (in-row-of c n z)
+  where
+    go : In z (rowOf c n) ⊎ In z ((c + n) ∷ []) → (In z (rowOf c n) → (c ≤ z) × (z < c + n)) → (c ≤ z) × (z < c + suc n)
+    go (inl k) ih = let q = ih k in (q .0, omega arith)
+    go (inr (inl e)) ih = (omega arith, omega arith)
+    go (inr (inr e)) ih = absurd e
 
--- what distance e gives at cell c
-abbrev pub wordOf : List ℕ → List ℕ → List ℕ → ℕ → ℕ → ℕ → ℕ → ℕ
-wordOf memory first back b c a e = pick (leb (getD first e 0) a) (getD memory (c - getD back e 0) 0) b
+-- ---- the value as what the kernels make of it
 
 module _ (x : Nest) (ok : Accepted x) where
-  weighed : (e w : ℕ) → w < 4294967296 → weight x e * w ≤ 281470681677825
-  weighed e w h = omega (arith, mul-le-mul {n₁ = weight x e} {m₁ = w} {n₂ = 65535} {m₂ = 4294967295} (omega (arith, ok .weight-most e)) (omega arith))
-
-  module _ (source : List ℕ) (w : ℕ → ℕ) (c : ℕ) where
-    pub adding-none : getD source c 0 < 4294967296 → Adding x source w c (getD source c 0) 0
-    unfolding sum
-    adding-none h = record { low = omega arith; few = omega arith; is = omega arith }
-
-    module _ (total e : ℕ) (s : Adding x source w c total e) where
-      module _ (v k : ℕ) (is : v ≡ w e) (l : v < 4294967296) (h : e < x .distances) (weighs : k ≡ weight x e) where
-        pub adding-fits : total + k * v ≤ 4294967295 + (e + 1) * 281470681677825
-        adding-fits = rw weighs (omega (arith, s .few, weighed e v l))
-
-        pub adding-small : total + k * v < 18446744073709551616
-        adding-small = omega (arith, adding-fits, ok .distances-most)
-
-        pub adding-more : Adding x source w c (total + k * v) (e + 1)
-        unfolding sum
-        adding-more =
-            record {
-              low = omega arith;
-              few = adding-fits;
-              is = rw (add-one e, weighs) (ap (λ (a : ℕ). a + weight x e * v) (s .is) ∙ ap (λ (a : ℕ). getD source c 0 + sum (λ d. weight x d * w d) e + weight x e * a) is ∙ add-assoc _ _ _);
-            }
+  back-low : (first back weights : List ℕ) (c a : ℕ) → Reads x c a first back weights → (e : ℕ) → e < x .distances → getD first e 0 ≤ a → getD back e 0 ≤ c
+  back-low first back weights c a r e h l = omega (arith, r .backs e h (sym (r .firsts e h) ∙ le-leb _ _ l))
 
   module _ (source memory first back weights : List ℕ) (c a : ℕ) (r : Reads x c a first back weights) where
-    words-are : (e : ℕ) → e < x .distances → wordOf memory first back (x .boundary) c a e ≡ pick (hasRead x c e) (getD memory (readAt x c e) 0) (x .boundary)
-    words-are e h =
-        pick-same (leb (getD first e 0) a) (hasRead x c e) _ _ (x .boundary) (r .firsts e h)
-        (λ t. let z : c - getD back e 0 ≡ readAt x c e = omega (arith, r .backs e h t) in ap (λ (i : ℕ). getD memory i 0) z)
+    mixed-is : mixed (x .distances) first back weights (x .boundary) (x .shift) source a memory c ≡ value x source memory c
+    unfolding mixed value
+    mixed-is =
+        ap (λ (b : ℕ). (getD source c 0 + b) / 2 ^ x .shift % 4294967296)
+        (sum-same _ _ (x .distances) (λ e h. ap (λ (l : List ℕ). getD l e 0 * pick (leb (getD first e 0) a) (getD memory (c - getD back e 0) 0) (x .boundary)) (r .weights-are)
+        ∙ ap (λ (b : ℕ). weight x e * b) (pick-same (leb (getD first e 0) a) (hasRead x c e) _ _ (x .boundary) (r .firsts e h)
+        (λ t. let z : c - getD back e 0 ≡ readAt x c e = omega (arith, r .backs e h t) in ap (λ (i : ℕ). getD memory i 0) z))))
 
-    pub back-low : (e : ℕ) → e < x .distances → getD first e 0 ≤ a → getD back e 0 ≤ c
-    back-low e h l = omega (arith, r .backs e h (sym (r .firsts e h) ∙ le-leb _ _ l))
+  module _ (c a n : ℕ) (first back weights : List ℕ) (r : InRow x c a n first back weights) where
+    pub row-mixes : (sources words : ℕ) → weights ≡ x .weights → sources ≡ cells x → words ≡ cells x → Mixes (x .distances) first back weights (x .boundary) (x .shift) c a n sources words
+    row-mixes sources words w s m =
+        record {
+          few = ok .distances-most;
+          back = λ k y i h l. back-low first back weights (c + y) (a + y) (r .each y h) k i l;
+          light = λ k i. rw w (ok .weight-most k);
+          beyond = ok .boundary-most;
+          divides = omega (arith, ok .shift-most);
+          within = omega (arith, r .low);
+          same = s ∙ sym m;
+          small = omega (arith, ok .cells-most);
+          narrow = r .few;
+        }
 
-    pub adding-end : (total e : ℕ) → Adding x source (wordOf memory first back (x .boundary) c a) c total e → x .distances ≤ e
-        → total / 2 ^ x .shift % 4294967296 ≡ value x source memory c
-    unfolding value
-    adding-end total e s h =
-        let z : e ≡ x .distances = omega (arith, s .low) in
-        ap (λ (a : ℕ). a / 2 ^ x .shift % 4294967296)
-        (s .is
-        ∙ ap (λ (n : ℕ). getD source c 0 + sum (λ d. weight x d * wordOf memory first back (x .boundary) c a d) n) z
-        ∙ ap (λ (a : ℕ). getD source c 0 + a) (sum-same _ _ (x .distances) (λ d k. ap (λ (a : ℕ). weight x d * a) (words-are d k))))
+    pub row-values : (source memory memory′ : List ℕ) → memory′ ≡ storeAll (inLine (x .distances) first back weights (x .boundary) (x .shift) source c a) memory (rowOf c n)
+        → memory′ ≡ storeAll (value x source) memory (rowOf c n)
+    row-values source memory memory′ e = e ∙ store-same _ _ (rowOf c n) memory (λ m z i. let q = in-row-of c n z i in
+        let y : c + (z - c) ≡ z = omega (arith, q .0) in
+        rw y at (mixed-is source m first back weights (c + (z - c)) (a + (z - c)) (r .each (z - c) (omega (arith, q .0, q .1)))))
 
   -- ---- what the distances read in a row
 

@@ -4,17 +4,16 @@ use Prim.Native.Nat.{ℕ, zero, suc, _+_, _*_, _-_, _≤_, _<_}
 use mathlib.Core.Path.{_≡_}
 use mathlib.Core.Bool.{true}
 use mathlib.Core.List.{List, [], _∷_, _++_}
-use lib.ListN.{length, getD}
+use lib.ListN.{getD}
 use lib.Dec.{leb}
 use Rattle.base.specs.Tests.{pick, every}
-use Rattle.base.specs.Lists.{storeAll}
 use Rattle.nest.specs.declared.Nest.{Nest}
 use Rattle.nest.specs.Nest.{cells, component}
-use Rattle.plan.specs.Geometry.{cellPlace, hasRead, readAt, value}
+use Rattle.plan.specs.Geometry.{cellPlace}
 use Rattle.layout.specs.declared.Cell.{Cell}
-use Rattle.layout.specs.Places.{Located}
-use Rattle.layout.specs.CellRows.{rowOf}
-use Rattle.values.specs.Reads.{InRow}
+use Rattle.layout.specs.Places.{Has, Located}
+use Rattle.layout.specs.CellRows.{Given, rowOf}
+use Rattle.values.specs.Reads.{Backs, InRow}
 
 abbrev pub four : ℕ → ℕ → ℕ → ℕ → ℕ → ℕ
 four a b c d k = getD (a ∷ b ∷ c ∷ d ∷ []) k 0
@@ -24,52 +23,15 @@ unfoldable pub rowsOf : (ℕ → ℕ) → ℕ → ℕ → List ℕ
 rowsOf c w zero = []
 rowsOf c w (suc n) = rowsOf c w n ++ rowOf (c n) w
 
--- all distances read at cell c
-pub record Full (x : Nest) (c : ℕ) (back weights : List ℕ) : Type 0 where
-  pub low : c < cells x
-  pub weights-are : weights ≡ x .weights
-  pub has : (e : ℕ) → e < x .distances → hasRead x c e ≡ true
-  pub backs : (e : ℕ) → e < x .distances → getD back e 0 + readAt x c e ≡ c
-
-pub record Fulls (x : Nest) (a b c d : ℕ) (back weights : List ℕ) : Type 0 where
-  pub one : Full x a back weights
-  pub two : Full x b back weights
-  pub three : Full x c back weights
-  pub last : Full x d back weights
-
 -- n rows of the same columns, w of each, one after the other
 pub record Band (x : Nest) (c : ℕ → ℕ) (w n : ℕ) : Type 0 where
   pub low : (k y : ℕ) → k < n → y < w → c k + y < cells x
   pub apart : (j k : ℕ) → j < k → k < n → c j + w ≤ c k
   pub column : (k y : ℕ) → k < n → y < w → cellPlace x (c k + y) (x .dimensions - 1) ≡ cellPlace x (c 0) (x .dimensions - 1) + y
 
--- the word is the target's wherever the cell is not still to be stored
-pub record Right (fin m : List ℕ) (left : ℕ → Type 0) : Type 0 where
-  pub long : length m ≡ length fin
-  pub is : (z : ℕ) → (left z → ⊥) → getD m z 0 ≡ getD fin z 0
-
--- cell z is still to be stored, h k columns of row k being stored
-pub record Left (c : ℕ → ℕ) (w n : ℕ) (h : ℕ → ℕ) (z : ℕ) : Type 0 where
-  pub row : ℕ
-  pub below : row < n
-  pub from : c row + h row ≤ z
-  pub to : z < c row + w
-
--- so far: the rows that storing in index order gives, but for the cells still to be stored
-abbrev pub Front : Nest → List ℕ → List ℕ → (ℕ → ℕ) → ℕ → ℕ → List ℕ → (ℕ → ℕ) → Type 0
-Front x source m₀ c w n m h = Right (storeAll (value x source) m₀ (rowsOf c w n)) m (Left c w n h)
-
--- what the wave owes from column y to column w
-pub record Waved (x : Nest) (source m m′ : List ℕ) (c : ℕ → ℕ) (y w : ℕ) : Type 0 where
-  pub long : length m′ ≡ length m
-  pub on : (m₀ : List ℕ) → length m₀ ≡ cells x → Front x source m₀ c w 4 m (λ k. y - k) → Front x source m₀ c w 4 m′ (λ k. w - k)
-
--- what it is given
-pub record Wave (x : Nest) (c : ℕ → ℕ) (y w : ℕ) (back weights : List ℕ) : Type 0 where
-  pub rows : Band x c w 4
-  pub three : 3 ≤ y
-  pub low : y ≤ w
-  pub full : (k z : ℕ) → k < 4 → y ≤ z → z < w → Full x (c k + (z - k)) back weights
+-- each number as far from the one before it as the second from the first
+abbrev pub Spaced : ℕ → ℕ → ℕ → ℕ → Type 0
+Spaced a b c d = (c ≡ b + (b - a)) × (d ≡ c + (b - a))
 
 -- four rows from their first cells, whose last component is a; from column `from` on all distances read, also three columns before
 pub record Banded (x : Nest) (c : ℕ → ℕ) (a from w : ℕ) (first back weights : List ℕ) : Type 0 where
@@ -90,6 +52,14 @@ mostOf x j e = mostIn (x .components) j e
 -- from which last component on each distance reads in a row where it reads at all
 pub record Lasts (x : Nest) (first : List ℕ) : Type 0 where
   pub each : (e : ℕ) → e < x .distances → getD first e 0 ≡ component x e (x .dimensions - 1)
+
+-- what is made once in a call and lent to every row
+pub record Lent (x : Nest) (components lasts back weights margin : List ℕ) : Type 0 where
+  pub given : Given x components
+  pub backs : Backs x back
+  pub weights-are : weights ≡ x .weights
+  pub firsts : Lasts x lasts
+  pub margins : Has margin (λ j. mostOf x j (x .distances)) (x .dimensions)
 
 abbrev pub Inner : List ℕ → List ℕ → ℕ → Type 0
 Inner margin at last = every (λ j. leb (getD margin j 0) (getD at j 0)) last ≡ true

@@ -1,4 +1,7 @@
-// Values in code: a cell, a row, a tile, and the sequential sweep of the whole grid.
+// Values in code: rows, a tile, and the sequential sweep of the whole grid.
+//
+// The cells of a row wait for each other. So four rows go side by side, each one column behind the row before it: what a cell
+// reads has a lower number and stands in no later column, so it is stored by then, and the words are those of index order.
 ghost use mathlib.Core.Path.{_≡_};
 ghost use Prim.Native.Nat.{_+_, _*_, _-_, _/_, _%_, _^_, _≤_, _<_};
 ghost use lib.ListN.{length, getD};
@@ -15,20 +18,15 @@ ghost use Rattle.plan.specs.Messages.{planOf};
 ghost use Rattle.layout.specs.Sizes.{Sized};
 ghost use Rattle.layout.specs.Places.{Located, Has};
 ghost use Rattle.layout.specs.CellRows.{Given, rowOf};
-ghost use Rattle.values.specs.Waves.{four, rowsOf, Full, Fulls, Banded, Wave, Waved, mostOf, Lasts, Inners, Fours};
-ghost use Rattle.values.specs.Reads.{firstRead, stepBack, Firsts, Backs, Reads, InRow};
+ghost use Rattle.values.specs.Waves.{four, rowsOf, Banded, Spaced, mostOf, Lasts, Lent, Inners, Fours};
+ghost use Rattle.values.specs.Reads.{firstRead, stepBack, Firsts, Backs};
+use kernels::Rule;
+use kernels::line;
+use kernels::wave;
 use layout::Bounds;
 use layout::Cell;
 use layout::Sizes;
 use nest::Nest;
-
-// Four words.
-struct Quad {
-    a: u32,
-    b: u32,
-    c: u32,
-    d: u32,
-}
 
 // How many cells back distance e reads: a place moved by a distance moves its number so. No component counts for more than
 // its dimension's length.
@@ -85,197 +83,63 @@ fn firsts_of(nest: Nest, components: &[usize; 32], at: [usize; 4]) -> [usize; 8]
     first
 }
 
-// The word that a distance reads at a cell, or the boundary's.
-fn word_at(
-    memory: &[u32],
-    cell: usize,
-    component: usize,
-    first: usize,
-    back: usize,
-    boundary: u64,
-) -> u64
-    requires { ⌜ (cell < length (now memory)) × ((boundary < 4294967296) × ((length (now memory) ≤ 16384) × (first ≤ component → back ≤ cell))) ⌝ }
-    ensures { λ r. ⌜ (r ≡ pick (leb first component) (getD (now (memory .entry)) (cell - back) 0) boundary) × (r < 4294967296) ⌝ }
-{
-    if component < first {
-        return boundary;
-    }
-    memory[cell - back] as u64
-}
-
-// The value of a cell in a row.
-fn value_in(
-    nest: Nest,
-    source: &[u32],
-    memory: &[u32],
-    first: &[usize; 8],
-    back: &[usize; 8],
-    weights: &[u64; 8],
-    cell: usize,
-    component: usize,
-) -> u32
-    requires { ⌜ Accepted nest × (Reads nest cell component (now first) (now back) (now weights) × ((length (now source) ≡ cells nest) × (length (now memory) ≡ cells nest))) ⌝ }
-    ensures { λ r. ⌜ r ≡ value nest (now (source .entry)) (now (memory .entry)) cell ⌝ }
-{
-    let mut total = source[cell] as u64;
-    let n = nest.distances;
-    for e in 0..n {
-        let w = word_at(memory, cell, component, first[e], back[e], nest.boundary);
-        total += weights[e] * w;
-    }
-    ((total >> nest.shift) % 4294967296) as u32
-}
-
-// The values of the `width` cells of a row from a cell on.
-fn value_row(
-    nest: Nest,
-    source: &[u32],
-    memory: &mut [u32],
-    first: &[usize; 8],
-    back: &[usize; 8],
-    weights: &[u64; 8],
-    cell: usize,
-    component: usize,
-    width: usize,
-)
-    requires { ⌜ Accepted nest × (InRow nest cell component width (now first) (now back) (now weights) × ((length (now source) ≡ cells nest) × (length (now memory) ≡ cells nest))) ⌝ }
-    ensures { λ _. ⌜ now (memory .exit) ≡ storeAll (value nest (now (source .entry))) (now (memory .entry)) (rowOf cell width) ⌝ }
-{
-    for y in 0..width {
-        let v = value_in(
-            nest,
-            source,
-            memory,
-            first,
-            back,
-            weights,
-            cell + y,
-            component + y,
-        );
-        memory[cell + y] = v;
-    }
-}
-
-// The same, from where the row's first cell is.
+// The values of a row, from where its first cell is.
 fn row(
     nest: Nest,
     source: &[u32],
     memory: &mut [u32],
     components: &[usize; 32],
+    lasts: &[usize; 8],
     back: &[usize; 8],
     weights: &[u64; 8],
+    margin: [usize; 4],
     cell: Cell,
     width: usize,
 )
-    requires { ⌜ Accepted nest × (Located nest (cell .number) cell × ((length (now source) ≡ cells nest) × (length (now memory) ≡ cells nest))) ⌝ }
-    requires { ⌜ Given nest (now components) × (Backs nest (now back) × ((now weights ≡ nest .weights) × (getD (cell .place) (nest .dimensions - 1) 0 + width ≤ getD (nest .lengths) (nest .dimensions - 1) 0))) ⌝ }
+    requires { ⌜ Accepted nest × (Lent nest (now components) (now lasts) (now back) (now weights) margin × ((length (now source) ≡ cells nest) × (length (now memory) ≡ cells nest))) ⌝ }
+    requires { ⌜ Located nest (cell .number) cell × (getD (cell .place) (nest .dimensions - 1) 0 + width ≤ getD (nest .lengths) (nest .dimensions - 1) 0) ⌝ }
     ensures { λ _. ⌜ now (memory .exit) ≡ storeAll (value nest (now (source .entry))) (now (memory .entry)) (rowOf (cell .number) width) ⌝ }
 {
     let at = cell.place;
     let last = nest.dimensions - 1;
-    let first = firsts_of(nest, components, at);
-    value_row(
-        nest,
+    let component = at[last];
+    let from = margin[last];
+    let shift = nest.shift;
+    let boundary = nest.boundary;
+    let n = nest.distances;
+    let first = cell.number;
+    if inner(margin, at, last) {
+        line(
+            source,
+            memory,
+            shift,
+            boundary,
+            n,
+            lasts,
+            back,
+            weights,
+            from,
+            first,
+            component,
+            width,
+        );
+        return;
+    }
+    let firsts = firsts_of(nest, components, at);
+    line(
         source,
         memory,
-        &first,
+        shift,
+        boundary,
+        n,
+        &firsts,
         back,
         weights,
-        cell.number,
-        at[last],
+        1024,
+        first,
+        component,
         width,
     );
-}
-
-// A word of a list, wide.
-fn word_of(words: &[u32], i: usize) -> u64
-    requires { ⌜ (i < length (now words)) × (length (now words) ≤ 16384) ⌝ }
-    ensures { λ r. ⌜ (r ≡ getD (now (words .entry)) i 0) × (r < 4294967296) ⌝ }
-{
-    words[i] as u64
-}
-
-// A sum with one word more, weighed.
-fn with_word(total: u64, weight: u64, memory: &[u32], cell: usize, back: usize) -> u64
-    requires { ⌜ (total ≤ 4611686018427387904) × ((weight < 65536) × ((back ≤ cell) × ((cell < length (now memory)) × (length (now memory) ≤ 16384)))) ⌝ }
-    ensures { λ r. ⌜ (r ≡ total + weight * getD (now (memory .entry)) (cell - back) 0) × (getD (now (memory .entry)) (cell - back) 0 < 4294967296) ⌝ }
-{
-    let v = word_of(memory, cell - back);
-    total + weight * v
-}
-
-// The word that a sum closes to.
-fn closed(total: u64, shift: u64) -> u32
-    requires { ⌜ shift < 64 ⌝ }
-    ensures { λ r. ⌜ r ≡ total / 2 ^ shift % 4294967296 ⌝ }
-{
-    ((total >> shift) % 4294967296) as u32
-}
-
-// The values of four cells, at each of which all distances read.
-fn values_at(
-    nest: Nest,
-    source: &[u32],
-    memory: &[u32],
-    back: &[usize; 8],
-    weights: &[u64; 8],
-    a: usize,
-    b: usize,
-    c: usize,
-    d: usize,
-) -> Quad
-    requires { ⌜ Accepted nest × (Fulls nest a b c d (now back) (now weights) × ((length (now source) ≡ cells nest) × (length (now memory) ≡ cells nest))) ⌝ }
-    ensures { λ r. ⌜ (r .a ≡ value nest (now (source .entry)) (now (memory .entry)) a) × ((r .b ≡ value nest (now (source .entry)) (now (memory .entry)) b)
-        × ((r .c ≡ value nest (now (source .entry)) (now (memory .entry)) c) × (r .d ≡ value nest (now (source .entry)) (now (memory .entry)) d))) ⌝ }
-{
-    let mut ta = word_of(source, a);
-    let mut tb = word_of(source, b);
-    let mut tc = word_of(source, c);
-    let mut td = word_of(source, d);
-    let n = nest.distances;
-    for e in 0..n {
-        let w = weights[e];
-        let k = back[e];
-        ta = with_word(ta, w, memory, a, k);
-        tb = with_word(tb, w, memory, b, k);
-        tc = with_word(tc, w, memory, c, k);
-        td = with_word(td, w, memory, d, k);
-    }
-    Quad {
-        a: closed(ta, nest.shift),
-        b: closed(tb, nest.shift),
-        c: closed(tc, nest.shift),
-        d: closed(td, nest.shift),
-    }
-}
-
-// The columns from y on of four rows side by side, each row one column behind the row before it.
-fn wave(
-    nest: Nest,
-    source: &[u32],
-    memory: &mut [u32],
-    back: &[usize; 8],
-    weights: &[u64; 8],
-    a: usize,
-    b: usize,
-    c: usize,
-    d: usize,
-    from: usize,
-    width: usize,
-)
-    requires { ⌜ Accepted nest × (Wave nest (four a b c d) from width (now back) (now weights) × ((length (now source) ≡ cells nest) × (length (now memory) ≡ cells nest))) ⌝ }
-    ensures { λ _. ⌜ Waved nest (now (source .entry)) (now (memory .entry)) (now (memory .exit)) (four a b c d) from width ⌝ }
-{
-    for y in from..width {
-        let cb = b + (y - 1);
-        let cc = c + (y - 2);
-        let cd = d + (y - 3);
-        let v = values_at(nest, source, memory, back, weights, a + y, cb, cc, cd);
-        memory[a + y] = v.a;
-        memory[cb] = v.b;
-        memory[cc] = v.c;
-        memory[cd] = v.d;
-    }
 }
 
 // The values of four rows: the first columns row by row, then side by side, then what is left of each row.
@@ -295,93 +159,102 @@ fn band(
     width: usize,
 )
     requires { ⌜ Accepted nest × (Banded nest (four a b c d) component from width (now first) (now back) (now weights) × ((length (now source) ≡ cells nest) × (length (now memory) ≡ cells nest))) ⌝ }
+    requires { ⌜ Spaced a b c d ⌝ }
     ensures { λ _. ⌜ now (memory .exit) ≡ storeAll (value nest (now (source .entry))) (now (memory .entry)) (rowsOf (four a b c d) width 4) ⌝ }
 {
-    value_row(
-        nest,
+    let shift = nest.shift;
+    let boundary = nest.boundary;
+    let n = nest.distances;
+    let full = component + (from - 3);
+    line(
         source,
         memory,
+        shift,
+        boundary,
+        n,
         first,
         back,
         weights,
+        full,
         a,
         component,
         from,
     );
-    value_row(
-        nest,
+    line(
         source,
         memory,
+        shift,
+        boundary,
+        n,
         first,
         back,
         weights,
+        full,
         b,
         component,
         from - 1,
     );
-    value_row(
-        nest,
+    line(
         source,
         memory,
+        shift,
+        boundary,
+        n,
         first,
         back,
         weights,
+        full,
         c,
         component,
         from - 2,
     );
-    value_row(
-        nest,
+    line(
         source,
         memory,
+        shift,
+        boundary,
+        n,
         first,
         back,
         weights,
+        full,
         d,
         component,
         from - 3,
     );
-    wave(nest, source, memory, back, weights, a, b, c, d, from, width);
-    value_row(
-        nest,
-        source,
-        memory,
-        first,
-        back,
-        weights,
-        b + (width - 1),
-        component + (width - 1),
-        1,
-    );
-    value_row(
-        nest,
-        source,
-        memory,
-        first,
-        back,
-        weights,
-        c + (width - 2),
-        component + (width - 2),
-        2,
-    );
-    value_row(
-        nest,
-        source,
-        memory,
-        first,
-        back,
-        weights,
-        d + (width - 3),
-        component + (width - 3),
-        3,
-    );
+    let rule = Rule {
+        outside: 0,
+        shift: shift,
+    };
+    let lag = b - a - 1;
+    let rest = width - from;
+    wave(source, memory, rule, n, back, weights, a + from, lag, rest);
+    kernels::row(source, memory, rule, n, back, weights, b + (width - 1), 1);
+    kernels::row(source, memory, rule, n, back, weights, c + (width - 2), 2);
+    kernels::row(source, memory, rule, n, back, weights, d + (width - 3), 3);
 }
 
-// How many times four rows are taken; none in rows too short for it.
-fn by_fours(rows: usize, width: usize) -> usize
+// The shortest way back.
+fn least_of(nest: Nest, back: &[usize; 8]) -> usize
+    requires { ⌜ Accepted nest ⌝ }
+{
+    let mut least = 16384;
+    let n = nest.distances;
+    for e in 0..n {
+        least = layout::least(least, back[e]);
+    }
+    least
+}
+
+// How many times four rows are taken: none in rows too short for it, nor where no distance reads the row itself, so that no
+// cell waits for another.
+fn by_fours(rows: usize, width: usize, least: usize) -> usize
     ensures { λ r. ⌜ 4 * r ≤ rows ⌝ }
 {
     if width < 11 {
+        return 0;
+    }
+    if width <= least {
         return 0;
     }
     rows / 4
@@ -458,33 +331,51 @@ fn start_of(margin: usize, component: usize) -> usize
     margin - component + 3
 }
 
-// Whether four rows are long enough and all inner.
+// Whether each of four numbers is as far from the one before it as the second from the first.
+fn spaced(a: usize, b: usize, c: usize, d: usize) -> bool
+    requires { ⌜ (a ≤ b) × ((b ≤ c) × (c ≤ d)) ⌝ }
+    ensures { λ r. ⌜ (r ≡ true → Spaced a b c d) ⌝ }
+{
+    if c - b != b - a {
+        return false;
+    }
+    d - c == b - a
+}
+
+// Whether four rows are long enough, equally far from each other and all inner.
 fn together(
     margin: [usize; 4],
-    a: [usize; 4],
-    b: [usize; 4],
-    c: [usize; 4],
-    d: [usize; 4],
+    a: Cell,
+    b: Cell,
+    c: Cell,
+    d: Cell,
     last: usize,
     from: usize,
     width: usize,
 ) -> bool
-    requires { ⌜ (last ≤ 4) × (from ≤ 1027) ⌝ }
-    ensures { λ r. ⌜ (r ≡ true → (from ≤ width) × Inners margin a b c d last) ⌝ }
+    requires { ⌜ (last ≤ 4) × ((from ≤ 1027) × ((a .number ≤ b .number) × ((b .number ≤ c .number) × (c .number ≤ d .number)))) ⌝ }
+    ensures { λ r. ⌜ (r ≡ true → (from ≤ width) × (Inners margin (a .place) (b .place) (c .place) (d .place) last × Spaced (a .number) (b .number) (c .number) (d .number))) ⌝ }
 {
+    let pa = a.place;
+    let pb = b.place;
+    let pc = c.place;
+    let pd = d.place;
     if width < from + 8 {
         return false;
     }
-    if !inner(margin, a, last) {
+    if !inner(margin, pa, last) {
         return false;
     }
-    if !inner(margin, b, last) {
+    if !inner(margin, pb, last) {
         return false;
     }
-    if !inner(margin, c, last) {
+    if !inner(margin, pc, last) {
         return false;
     }
-    inner(margin, d, last)
+    if !inner(margin, pd, last) {
+        return false;
+    }
+    spaced(a.number, b.number, c.number, d.number)
 }
 
 // The values of four rows, one by one.
@@ -493,31 +384,7 @@ fn rows_singly(
     source: &[u32],
     memory: &mut [u32],
     components: &[usize; 32],
-    back: &[usize; 8],
-    weights: &[u64; 8],
-    a: Cell,
-    b: Cell,
-    c: Cell,
-    d: Cell,
-    width: usize,
-)
-    requires { ⌜ Accepted nest × (Fours nest a b c d width × ((length (now source) ≡ cells nest) × (length (now memory) ≡ cells nest))) ⌝ }
-    requires { ⌜ Given nest (now components) × (Backs nest (now back) × (now weights ≡ nest .weights)) ⌝ }
-    ensures { λ _. ⌜ now (memory .exit) ≡ storeAll (value nest (now (source .entry))) (now (memory .entry)) (rowsOf (four (a .number) (b .number) (c .number) (d .number)) width 4) ⌝ }
-{
-    row(nest, source, memory, components, back, weights, a, width);
-    row(nest, source, memory, components, back, weights, b, width);
-    row(nest, source, memory, components, back, weights, c, width);
-    row(nest, source, memory, components, back, weights, d, width);
-}
-
-// The values of four rows: side by side where they are inner and long enough, else one by one.
-fn four_rows(
-    nest: Nest,
-    source: &[u32],
-    memory: &mut [u32],
-    components: &[usize; 32],
-    first: &[usize; 8],
+    lasts: &[usize; 8],
     back: &[usize; 8],
     weights: &[u64; 8],
     margin: [usize; 4],
@@ -527,25 +394,94 @@ fn four_rows(
     d: Cell,
     width: usize,
 )
-    requires { ⌜ Accepted nest × (Fours nest a b c d width × ((length (now source) ≡ cells nest) × (length (now memory) ≡ cells nest))) ⌝ }
-    requires { ⌜ Given nest (now components) × (Backs nest (now back) × ((now weights ≡ nest .weights) × (Lasts nest (now first) × Has margin (λ j. mostOf nest j (nest .distances)) (nest .dimensions)))) ⌝ }
+    requires { ⌜ Accepted nest × (Lent nest (now components) (now lasts) (now back) (now weights) margin × ((length (now source) ≡ cells nest) × (length (now memory) ≡ cells nest))) ⌝ }
+    requires { ⌜ Fours nest a b c d width ⌝ }
+    ensures { λ _. ⌜ now (memory .exit) ≡ storeAll (value nest (now (source .entry))) (now (memory .entry)) (rowsOf (four (a .number) (b .number) (c .number) (d .number)) width 4) ⌝ }
+{
+    row(
+        nest,
+        source,
+        memory,
+        components,
+        lasts,
+        back,
+        weights,
+        margin,
+        a,
+        width,
+    );
+    row(
+        nest,
+        source,
+        memory,
+        components,
+        lasts,
+        back,
+        weights,
+        margin,
+        b,
+        width,
+    );
+    row(
+        nest,
+        source,
+        memory,
+        components,
+        lasts,
+        back,
+        weights,
+        margin,
+        c,
+        width,
+    );
+    row(
+        nest,
+        source,
+        memory,
+        components,
+        lasts,
+        back,
+        weights,
+        margin,
+        d,
+        width,
+    );
+}
+
+// The values of four rows: side by side where they are inner and long enough, else one by one.
+fn four_rows(
+    nest: Nest,
+    source: &[u32],
+    memory: &mut [u32],
+    components: &[usize; 32],
+    lasts: &[usize; 8],
+    back: &[usize; 8],
+    weights: &[u64; 8],
+    margin: [usize; 4],
+    a: Cell,
+    b: Cell,
+    c: Cell,
+    d: Cell,
+    width: usize,
+)
+    requires { ⌜ Accepted nest × (Lent nest (now components) (now lasts) (now back) (now weights) margin × ((length (now source) ≡ cells nest) × (length (now memory) ≡ cells nest))) ⌝ }
+    requires { ⌜ Fours nest a b c d width ⌝ }
     ensures { λ _. ⌜ now (memory .exit) ≡ storeAll (value nest (now (source .entry))) (now (memory .entry)) (rowsOf (four (a .number) (b .number) (c .number) (d .number)) width 4) ⌝ }
 {
     let last = nest.dimensions - 1;
-    let pa = a.place;
-    let pb = b.place;
-    let pc = c.place;
-    let pd = d.place;
-    let component = pa[last];
+    let place = a.place;
+    let component = place[last];
     let from = start_of(margin[last], component);
-    if !together(margin, pa, pb, pc, pd, last, from, width) {
+    if !together(margin, a, b, c, d, last, from, width) {
         rows_singly(
             nest,
             source,
             memory,
             components,
+            lasts,
             back,
             weights,
+            margin,
             a,
             b,
             c,
@@ -558,7 +494,7 @@ fn four_rows(
         nest,
         source,
         memory,
-        first,
+        lasts,
         back,
         weights,
         a.number,
@@ -588,8 +524,9 @@ pub fn calculate(nest: Nest, sizes: Sizes, source: &[u32], memory: &mut [u32], t
     let width = lengths[last];
     let mut at = corner;
     let margin = margins_of(nest, &components);
-    let first = lasts_of(nest, &components);
-    let groups = by_fours(rows, width);
+    let lasts = lasts_of(nest, &components);
+    let least = least_of(nest, &back);
+    let groups = by_fours(rows, width, least);
     for g in 0..groups {
         let pb = layout::next_place(lengths, corner, at, last);
         let pc = layout::next_place(lengths, corner, pb, last);
@@ -619,7 +556,7 @@ pub fn calculate(nest: Nest, sizes: Sizes, source: &[u32], memory: &mut [u32], t
             source,
             memory,
             &components,
-            &first,
+            &lasts,
             &back,
             &weights,
             margin,
@@ -643,8 +580,10 @@ pub fn calculate(nest: Nest, sizes: Sizes, source: &[u32], memory: &mut [u32], t
             source,
             memory,
             &components,
+            &lasts,
             &back,
             &weights,
+            margin,
             cell,
             width,
         );
@@ -667,8 +606,9 @@ pub fn sweep(nest: Nest, sizes: Sizes, source: &[u32], grid: &mut [u32])
     let width = lengths[last];
     let mut at = [0; 4];
     let margin = margins_of(nest, &components);
-    let first = lasts_of(nest, &components);
-    let groups = by_fours(rows, width);
+    let lasts = lasts_of(nest, &components);
+    let least = least_of(nest, &back);
+    let groups = by_fours(rows, width, least);
     for g in 0..groups {
         let q = 4 * g;
         let pb = layout::next_place(lengths, [0; 4], at, last);
@@ -695,7 +635,7 @@ pub fn sweep(nest: Nest, sizes: Sizes, source: &[u32], grid: &mut [u32])
             source,
             grid,
             &components,
-            &first,
+            &lasts,
             &back,
             &weights,
             margin,
@@ -718,8 +658,10 @@ pub fn sweep(nest: Nest, sizes: Sizes, source: &[u32], grid: &mut [u32])
             source,
             grid,
             &components,
+            &lasts,
             &back,
             &weights,
+            margin,
             cell,
             width,
         );

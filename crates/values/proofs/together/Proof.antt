@@ -7,45 +7,53 @@ use borrow.Author.Needs.{needs}
 use Rattle.values.proofs.together.Statement.{statement}
 use Rattle.values.proofs.together.Tie as tie
 
--- src/lib.rt:476:16
 add-if1 : tie.Need-add-if1
-add-if1 c = omega (arith, c .pre .1)
+add-if1 c = search needs
 
--- src/lib.rt:477:9
 returns : tie.Need-returns
 returns c = λ z. absurd (false≢true z)
 
--- src/lib.rt:479:9
 inner-requires : tie.Need-inner-requires
-inner-requires c κs = c .before .pre .0
+inner-requires c κs = search needs
 
--- src/lib.rt:480:9
 returns-2 : tie.Need-returns-2
 returns-2 c = λ z. absurd (false≢true z)
 
--- src/lib.rt:482:9
 inner-requires-2 : tie.Need-inner-requires-2
-inner-requires-2 c κs = c .before .before .before .pre .0
+inner-requires-2 c κs = search needs
 
--- src/lib.rt:483:9
 returns-3 : tie.Need-returns-3
 returns-3 c = λ z. absurd (false≢true z)
 
--- src/lib.rt:485:9
 inner-requires-3 : tie.Need-inner-requires-3
-inner-requires-3 c κs = c .before .before .before .before .before .pre .0
+inner-requires-3 c κs = search needs
 
--- src/lib.rt:486:9
 returns-4 : tie.Need-returns-4
 returns-4 c = λ z. absurd (false≢true z)
 
--- src/lib.rt:488:5
 inner-requires-4 : tie.Need-inner-requires-4
-inner-requires-4 c κs = c .before .before .before .before .before .before .before .pre .0
+inner-requires-4 c κs = search needs
 
--- src/lib.rt:463:1
 returns-5 : tie.Need-returns-5
-returns-5 c = λ z. (omega (arith, c .before .before .before .before .before .before .before .if1 .left), record { one = sym (c .before .before .before .before .before .before .inner .ensures) ∙ not-false _ (c .before .before .before .before .before .if2 .left); two = sym (c .before .before .before .before .inner2 .ensures) ∙ not-false _ (c .before .before .before .if3 .left); three = sym (c .before .before .inner3 .ensures) ∙ not-false _ (c .before .if4 .left); fourth = sym (c .inner4 .ensures) ∙ z })
+returns-5 c = λ z. absurd (false≢true z)
+
+spaced-requires : tie.Need-spaced-requires
+spaced-requires c κs = search needs
+
+returns-6 : tie.Need-returns-6
+returns-6 c =
+    λ z. (
+      omega (arith, c .before .before .before .before .before .before .before .before .before .if1 .left),
+      (
+        record {
+          one = sym (c .before .before .before .before .before .before .before .before .inner .ensures) ∙ not-false _ (c .before .before .before .before .before .before .before .if2 .left);
+          two = sym (c .before .before .before .before .before .before .inner2 .ensures) ∙ not-false _ (c .before .before .before .before .before .if3 .left);
+          three = sym (c .before .before .before .before .inner3 .ensures) ∙ not-false _ (c .before .before .before .if4 .left);
+          fourth = sym (c .before .before .inner4 .ensures) ∙ not-false _ (c .before .if5 .left);
+        },
+        c .spaced .ensures z,
+      ),
+    )
 
 pub together-spec : {M : Type 1} → statement M
 together-spec =
@@ -60,4 +68,6 @@ together-spec =
     inner-requires-3
     returns-4
     inner-requires-4
-    returns-5)
+    returns-5
+    spaced-requires
+    returns-6)

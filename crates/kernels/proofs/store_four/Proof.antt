@@ -1,0 +1,68 @@
+-- `kernels::store_four` meets its contract.
+use mathlib.Core.List.{[], _∷_}
+use native.Mathlib.Omega.{arith}
+use borrow.Author.Needs.{needs}
+use Rattle.base.specs.Tests.{sum}
+use Rattle.kernels.proofs.Sums.{tap-needs, closes}
+use Rattle.kernels.proofs.store_four.Statement.{statement}
+use Rattle.kernels.proofs.store_four.Tie as tie
+
+word-of-requires : tie.Need-word-of-requires
+word-of-requires c κs = search needs
+
+add-t : tie.Need-add-t
+add-t c = search needs
+
+with-tap-requires : tie.Need-with-tap-requires
+with-tap-requires c κs =
+    let s = c .before .before .before .before .before in
+    tap-needs (s .pre) 0 (omega arith) (omega arith) _ (omega arith)
+
+with-tap-requires-2 : tie.Need-with-tap-requires-2
+with-tap-requires-2 c κs =
+    let s = c .before .before .before .before .before .before .before in
+    tap-needs (s .pre) 1 (omega arith) (omega arith) _ (omega arith)
+
+with-tap-requires-3 : tie.Need-with-tap-requires-3
+with-tap-requires-3 c κs =
+    let s = c .before .before .before .before .before .before .before .before .before in
+    tap-needs (s .pre) 2 (omega arith) (omega arith) _ (omega arith)
+
+with-tap-requires-4 : tie.Need-with-tap-requires-4
+with-tap-requires-4 c κs =
+    let s = c .before .before .before .before .before .before .before .before .before .before .before in
+    tap-needs (s .pre) 3 (omega arith) (omega arith) _ (omega arith)
+
+closed-requires : tie.Need-closed-requires
+closed-requires c κs = search needs
+
+mul-memory : tie.Need-mul-memory
+mul-memory c = search needs
+
+slice-write-memory : tie.Need-slice-write-memory
+slice-write-memory c = search needs
+
+same-length : tie.Need-same-length
+same-length c = search needs
+
+returns : tie.Need-returns
+unfolding sum
+returns c =
+    let s = c .before .before .before .before .before .before .before .before .before .before .before .before .before in
+    closes 4 (s .args .p .back ∷ s .args .q .back ∷ s .args .r .back ∷ s .args .s .back ∷ []) (s .args .p .weight ∷ s .args .q .weight ∷ s .args .r .weight ∷ s .args .s .weight ∷ []) _ _ (s .args .source .now) (s .args .memory .now) _ _ _ (omega (arith, c .before .before .before .before .before .before .before .before .before .before .word-of .ensures .0)) (c .closed .ensures)
+
+pub store-four-spec : {M : Type 1} → statement M
+store-four-spec =
+    tie.close
+    (tie.spec
+    word-of-requires
+    add-t
+    with-tap-requires
+    with-tap-requires-2
+    with-tap-requires-3
+    with-tap-requires-4
+    closed-requires
+    mul-memory
+    slice-write-memory
+    same-length
+    returns)
