@@ -1,19 +1,23 @@
 -- What the loops keep: a sum of so many taps, the cells of a row or of four rows side by side stored so far.
 use Prim.Native.Nat.{ℕ, zero, suc, _+_, _*_, _-_, _/_, _%_, _^_, _≤_, _<_}
 use mathlib.Core.Path.{_≡_, refl, sym, ap, _∙_}
+use mathlib.Core.Logic.{_⊎_, inl, inr, _≢_}
+use mathlib.Core.Bool.{Bool, true, false}
 use mathlib.Core.List.{List, [], _∷_, _++_}
-use native.Mathlib.Nat.{add-zero, mul-le-mul}
+use native.Mathlib.Nat.{add-zero, zero-mul, mul-le-mul}
+use native.Mathlib.Decide.{ℕ-discrete}
 use native.Mathlib.Numerals.{add-one}
 use native.Mathlib.Omega.{arith}
 use lib.ListN.{length, getD, set, length-set}
-use lib.Dec.{leb}
-use borrow.Author.Tests.{le-leb}
+use lib.Seq.{getD-set-same, getD-set-other}
+use lib.Dec.{eqb, leb}
+use borrow.Author.Tests.{le-leb, lt-leb, eqb-true, eqb-false}
 use Rattle.base.specs.Tests.{pick, sum, tabulate}
 use Rattle.base.specs.Lists.{storeAll}
-use Rattle.base.proofs.Tests.{sum-same, pick-true}
+use Rattle.base.proofs.Tests.{sum-same, sum-add, pick-true, pick-false}
 use Rattle.base.proofs.Lists.{store-length}
 use borrow.Author.Count.{below-none, below-more}
-use Rattle.kernels.specs.Taps.{made, mixed, inLine, waveOf, Fits, Mixes, All}
+use Rattle.kernels.specs.Taps.{made, mixed, inLine, waveOf, Fits, Mixes, All, AllOrNone, Rested}
 use Rattle.kernels.proofs.Orders.{store-append, store-same}
 
 pub weighs : (k v : ℕ) → k < 65536 → v < 4294967296 → k * v ≤ 281470681677825
@@ -206,14 +210,141 @@ rows-join f g m m′ c k e (suc n) h =
     ∙ rw (rows-join f g m m′ c k e n (λ l y i. h l y (omega arith)), h (storeAll f m (tabulate (λ i. c + i) (k + n))) n (omega arith), z)
     (sym (store-append f m (tabulate (λ i. c + i) (k + n)) ((c + (k + n)) ∷ []))))
 
-module _ (n : ℕ) (firsts backs weights : List ℕ) (boundary shift : ℕ) (source : List ℕ) (c a from : ℕ) (all : All n firsts from) where
-  pub line-stored : (m m₁ m₂ : List ℕ) (k width : ℕ) → k < width → from ≤ a + k → m₁ ≡ storeAll (inLine n firsts backs weights boundary shift source c a) m (tabulate (λ i. c + i) k)
-      → m₂ ≡ storeAll (made n backs weights 0 shift source) m₁ (tabulate (λ i. c + k + i) (width - k)) → m₂ ≡ storeAll (inLine n firsts backs weights boundary shift source c a) m (tabulate (λ i. c + i) width)
-  line-stored m m₁ m₂ k width l f e₁ e₂ =
-      let z : k + (width - k) ≡ width = omega arith in
-      rw z at
-      (e₂ ∙ rows-join (inLine n firsts backs weights boundary shift source c a) (made n backs weights 0 shift source) m m₁ c k e₁ (width - k)
-      (λ l y i. made-mixed n firsts backs weights boundary shift source (a + (c + k + y - c)) from all (omega arith) l (c + k + y)))
+pub line-stored : (f g : List ℕ → ℕ → ℕ) (m m₁ m₂ : List ℕ) (c k width : ℕ) → k < width → m₁ ≡ storeAll f m (tabulate (λ i. c + i) k) → m₂ ≡ storeAll g m₁ (tabulate (λ i. c + k + i) (width - k))
+    → ((l : List ℕ) (y : ℕ) → y < width - k → g l (c + k + y) ≡ f l (c + k + y)) → m₂ ≡ storeAll f m (tabulate (λ i. c + i) width)
+line-stored f g m m₁ m₂ c k width l e₁ e₂ h =
+    let z : k + (width - k) ≡ width = omega arith in
+    rw z at (e₂ ∙ rows-join f g m m₁ c k e₁ (width - k) h)
+
+pub made-line : (n : ℕ) (firsts backs weights : List ℕ) (boundary shift : ℕ) (source : List ℕ) (c a from : ℕ) → All n firsts from → (k : ℕ) → from ≤ a + k → (l : List ℕ) (y : ℕ)
+    → made n backs weights 0 shift source l (c + k + y) ≡ inLine n firsts backs weights boundary shift source c a l (c + k + y)
+made-line n firsts backs weights boundary shift source c a from all k f l y = made-mixed n firsts backs weights boundary shift source (a + (c + k + y - c)) from all (omega arith) l (c + k + y)
+
+-- ---- the taps that are left where some read nowhere
+
+pub record Resting (n : ℕ) (firsts backs weights : List ℕ) (boundary : ℕ) (leftBacks leftWeights : List ℕ) (outside k : ℕ) : Type 0 where
+  pub low : k ≤ n
+  pub long-backs : length leftBacks ≡ 8
+  pub long-weights : length leftWeights ≡ 8
+  pub so : Rested k firsts backs weights boundary leftBacks leftWeights outside
+
+pick-most : (t : Bool) (v : ℕ) → pick t 0 v ≤ v
+unfolding pick
+pick-most true v = omega arith
+pick-most false v = omega arith
+
+-- one place more of a list is as it should be
+set-next : (g : ℕ → ℕ) (l : List ℕ) (k v : ℕ) → k < length l → v ≡ g k → ((i : ℕ) → i < k → getD l i 0 ≡ g i) → (i : ℕ) → i < k + 1 → getD (set l k v) i 0 ≡ g i
+set-next g l k v h e s i b = go (ℕ-discrete i k)
+  where
+    go : Dec (i ≡ k) → getD (set l k v) i 0 ≡ g i
+    go (yes z) = rw z (getD-set-same l k v 0 h ∙ e)
+    go (no z) = getD-set-other l k i v 0 z ∙ s i (omega arith)
+
+module _ (n : ℕ) (firsts backs weights : List ℕ) (boundary : ℕ) where
+  pub resting-none : (leftBacks leftWeights : List ℕ) → length leftBacks ≡ 8 → length leftWeights ≡ 8 → Resting n firsts backs weights boundary leftBacks leftWeights 0 0
+  unfolding sum
+  resting-none leftBacks leftWeights b w =
+      record { low = omega arith; long-backs = b; long-weights = w; so = record { back = λ k h. absurd (omega arith); weight = λ k h. absurd (omega arith); few = omega arith; is = refl } }
+
+  module _ (leftBacks leftWeights : List ℕ) (outside k : ℕ) (s : Resting n firsts backs weights boundary leftBacks leftWeights outside k) (low : n ≤ 8) (h : k < n)
+      (light : getD weights k 0 < 65536) (beyond : boundary < 4294967296) (w : ℕ) (e : w ≡ pick (eqb (getD firsts k 0) 1024) 0 (getD weights k 0)) where
+    pub resting-less : w ≤ getD weights k 0
+    resting-less = rw e (pick-most (eqb (getD firsts k 0) 1024) (getD weights k 0))
+
+    pub resting-fits : outside + (getD weights k 0 - w) * boundary ≤ (k + 1) * 281470681677825
+    resting-fits = omega (arith, s .so .few, weighs (getD weights k 0 - w) boundary (omega arith) beyond)
+
+    pub resting-more : (b : ℕ) → b ≡ pick (eqb (getD firsts k 0) 1024) 0 (getD backs k 0)
+        → Resting n firsts backs weights boundary (set leftBacks k b) (set leftWeights k w) (outside + (getD weights k 0 - w) * boundary) (k + 1)
+    unfolding sum
+    resting-more b g =
+        record {
+          low = omega arith;
+          long-backs = length-set leftBacks k b ∙ s .long-backs;
+          long-weights = length-set leftWeights k w ∙ s .long-weights;
+          so = record {
+            back = set-next (λ i. pick (eqb (getD firsts i 0) 1024) 0 (getD backs i 0)) leftBacks k b (omega (arith, s .long-backs)) g (s .so .back);
+            weight = set-next (λ i. pick (eqb (getD firsts i 0) 1024) 0 (getD weights i 0)) leftWeights k w (omega (arith, s .long-weights)) e (s .so .weight);
+            few = resting-fits;
+            is = rw (add-one k) (ap (λ (a : ℕ). outside + (getD weights k 0 - a) * boundary) e ∙ omega (arith, s .so .is));
+          };
+        }
+
+  pub resting-end : (leftBacks leftWeights : List ℕ) (outside k : ℕ) → Resting n firsts backs weights boundary leftBacks leftWeights outside k → n ≤ k → Rested n firsts backs weights boundary leftBacks leftWeights outside
+  resting-end leftBacks leftWeights outside k s h = let z : k ≡ n = omega (arith, s .low) in rw z at (s .so)
+
+-- what tap gives, in the two parts
+tap-split : (t : Bool) (f w b a boundary c : ℕ) (m : List ℕ) → eqb f 1024 ≡ t → a < 1024 → (f ≢ 1024 → f ≤ a)
+    → (w - pick t 0 w) * boundary + pick t 0 w * getD m (c - pick t 0 b) 0 ≡ w * pick (leb f a) (getD m (c - b) 0) boundary
+unfolding pick
+tap-split true f w b a boundary c m e h l =
+    let z : f ≡ 1024 = eqb-true f 1024 e in
+    let y : w - 0 ≡ w = omega arith in
+    rw (pick-false (leb f a) (getD m (c - b) 0) boundary (rw z (lt-leb 1024 a h)), y, zero-mul) (omega arith)
+tap-split false f w b a boundary c m e h l =
+    let z : f ≢ 1024 = eqb-false f 1024 e in
+    let y : w - w ≡ 0 = omega arith in
+    rw (pick-true (leb f a) (getD m (c - b) 0) boundary (le-leb f a (l z)), y, zero-mul) (omega arith)
+
+module _ (n : ℕ) (firsts backs weights : List ℕ) (boundary shift : ℕ) (source leftBacks leftWeights : List ℕ) (outside : ℕ) (r : Rested n firsts backs weights boundary leftBacks leftWeights outside)
+    (from : ℕ) (all : AllOrNone n firsts from) where
+  reads-there : (a k : ℕ) → from ≤ a → k < n → getD firsts k 0 ≢ 1024 → getD firsts k 0 ≤ a
+  reads-there a k h l ne = go (all k l)
+    where
+      go : (getD firsts k 0 ≤ from) ⊎ (getD firsts k 0 ≡ 1024) → getD firsts k 0 ≤ a
+      go (inl q) = omega arith
+      go (inr q) = absurd (ne q)
+
+  rest-mixed : (a : ℕ) → from ≤ a → a < 1024 → (m : List ℕ) (c : ℕ) → made n leftBacks leftWeights outside shift source m c ≡ mixed n firsts backs weights boundary shift source a m c
+  unfolding made mixed
+  rest-mixed a h l m c = ap (λ (b : ℕ). b / 2 ^ shift % 4294967296) total
+    where
+      left : sum (λ k. getD leftWeights k 0 * getD m (c - getD leftBacks k 0) 0) n
+          ≡ sum (λ k. pick (eqb (getD firsts k 0) 1024) 0 (getD weights k 0) * getD m (c - pick (eqb (getD firsts k 0) 1024) 0 (getD backs k 0)) 0) n
+      left = sum-same _ _ n (λ k i. ap (λ (b : ℕ). b * getD m (c - getD leftBacks k 0) 0) (r .weight k i) ∙ ap (λ (b : ℕ). pick (eqb (getD firsts k 0) 1024) 0 (getD weights k 0) * getD m (c - b) 0) (r .back k i))
+
+      each : sum (λ k. (getD weights k 0 - pick (eqb (getD firsts k 0) 1024) 0 (getD weights k 0)) * boundary
+          + pick (eqb (getD firsts k 0) 1024) 0 (getD weights k 0) * getD m (c - pick (eqb (getD firsts k 0) 1024) 0 (getD backs k 0)) 0) n
+          ≡ sum (λ k. getD weights k 0 * pick (leb (getD firsts k 0) a) (getD m (c - getD backs k 0) 0) boundary) n
+      each = sum-same _ _ n (λ k i. tap-split (eqb (getD firsts k 0) 1024) (getD firsts k 0) (getD weights k 0) (getD backs k 0) a boundary c m refl l (reads-there a k h i))
+
+      total : outside + getD source c 0 + sum (λ k. getD leftWeights k 0 * getD m (c - getD leftBacks k 0) 0) n
+          ≡ getD source c 0 + sum (λ k. getD weights k 0 * pick (leb (getD firsts k 0) a) (getD m (c - getD backs k 0) 0) boundary) n
+      total = omega (
+        arith,
+        r .is,
+        left,
+        each,
+        sum-add (λ k. (getD weights k 0 - pick (eqb (getD firsts k 0) 1024) 0 (getD weights k 0)) * boundary)
+            (λ k. pick (eqb (getD firsts k 0) 1024) 0 (getD weights k 0) * getD m (c - pick (eqb (getD firsts k 0) 1024) 0 (getD backs k 0)) 0) n,
+      )
+
+  pub rest-line : (c a width : ℕ) → a + width ≤ 1024 → (k : ℕ) → from ≤ a + k → (l : List ℕ) (y : ℕ) → y < width - k
+      → made n leftBacks leftWeights outside shift source l (c + k + y) ≡ inLine n firsts backs weights boundary shift source c a l (c + k + y)
+  rest-line c a width w k f l y i = rest-mixed (a + (c + k + y - c)) (omega arith) (omega arith) l (c + k + y)
+
+  pub rest-fits : (c a span sources words : ℕ) → Mixes n firsts backs weights boundary shift c a span sources words → (y words′ : ℕ) → y < span → from ≤ a + y → words′ ≡ words
+      → Fits n leftBacks leftWeights outside shift (c + y) (span - y) sources words′
+  rest-fits c a span sources words p y words′ h f e =
+      record {
+        few = p .few;
+        back = λ k i. rw (r .back k i) (back k i (eqb (getD firsts k 0) 1024) refl);
+        light = λ k i. rw (r .weight k i) (light k i (eqb (getD firsts k 0) 1024));
+        besides = omega (arith, r .few, p .few);
+        divides = p .divides;
+        within = omega (arith, p .within);
+        same = p .same ∙ sym e;
+        small = omega (arith, p .small);
+      }
+    where
+      back : (k : ℕ) → k < n → (t : Bool) → eqb (getD firsts k 0) 1024 ≡ t → pick t 0 (getD backs k 0) ≤ c + y
+      back k i true g = rw (pick-true true 0 (getD backs k 0) refl) (omega arith)
+      back k i false g = rw (pick-false false 0 (getD backs k 0) refl) (p .back k y i h (reads-there (a + y) k f i (eqb-false (getD firsts k 0) 1024 g)))
+
+      light : (k : ℕ) → k < n → (t : Bool) → pick t 0 (getD weights k 0) < 65536
+      light k i true = rw (pick-true true 0 (getD weights k 0) refl) (omega arith)
+      light k i false = rw (pick-false false 0 (getD weights k 0) refl) (p .light k i)
 
 -- ---- the first y cells of four rows side by side
 

@@ -2,9 +2,10 @@
 -- No sentence of document 01; crates/values ties it to Geometry.
 use Prim.Native.Nat.{ℕ, zero, suc, _+_, _*_, _-_, _/_, _%_, _^_, _≤_, _<_}
 use mathlib.Core.Path.{_≡_}
+use mathlib.Core.Logic.{_⊎_}
 use mathlib.Core.List.{List, [], _∷_, _++_}
 use lib.ListN.{length, getD}
-use lib.Dec.{leb}
+use lib.Dec.{eqb, leb}
 use Rattle.base.specs.Tests.{pick, sum}
 use Rattle.kernels.specs.declared.Tap.{Tap}
 use Rattle.kernels.specs.declared.Rule.{Rule}
@@ -54,6 +55,20 @@ pub record Mixes (n : ℕ) (firsts backs weights : List ℕ) (boundary shift c a
 -- all taps read from component `from` on
 abbrev pub All : ℕ → List ℕ → ℕ → Type 0
 All n firsts from = (k : ℕ) → k < n → getD firsts k 0 ≤ from
+
+-- or nowhere
+abbrev pub AllOrNone : ℕ → List ℕ → ℕ → Type 0
+AllOrNone n firsts from = (k : ℕ) → k < n → (getD firsts k 0 ≤ from) ⊎ (getD firsts k 0 ≡ 1024)
+
+abbrev pub Light : ℕ → List ℕ → Type 0
+Light n weights = (k : ℕ) → k < n → getD weights k 0 < 65536
+
+-- taps that read nowhere weigh nothing; what they add is besides
+pub record Rested (n : ℕ) (firsts backs weights : List ℕ) (boundary : ℕ) (leftBacks leftWeights : List ℕ) (outside : ℕ) : Type 0 where
+  pub back : (k : ℕ) → k < n → getD leftBacks k 0 ≡ pick (eqb (getD firsts k 0) 1024) 0 (getD backs k 0)
+  pub weight : (k : ℕ) → k < n → getD leftWeights k 0 ≡ pick (eqb (getD firsts k 0) 1024) 0 (getD weights k 0)
+  pub few : outside ≤ n * 281470681677825
+  pub is : outside ≡ sum (λ k. (getD weights k 0 - pick (eqb (getD firsts k 0) 1024) 0 (getD weights k 0)) * boundary) n
 
 -- the same of taps one by one
 abbrev pub backsOf : List Tap → List ℕ

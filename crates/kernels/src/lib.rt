@@ -5,10 +5,10 @@ ghost use mathlib.Core.Path.{_≡_};
 ghost use mathlib.Core.List.{[], _∷_};
 ghost use Prim.Native.Nat.{_+_, _*_, _-_, _/_, _%_, _^_, _≤_, _<_};
 ghost use lib.ListN.{length, getD, set};
-ghost use lib.Dec.{leb};
+ghost use lib.Dec.{eqb, leb};
 ghost use Rattle.base.specs.Tests.{pick, tabulate};
 ghost use Rattle.base.specs.Lists.{storeAll};
-ghost use Rattle.kernels.specs.Taps.{made, madeBy, mixed, inLine, waveOf, Fits, FitsBy, Mixes, All};
+ghost use Rattle.kernels.specs.Taps.{made, madeBy, mixed, inLine, waveOf, Fits, FitsBy, Mixes, All, AllOrNone, Light, Rested};
 
 // How far back, and its weight.
 struct Tap {
@@ -550,6 +550,106 @@ pub fn line(
         n,
         backs,
         weights,
+        cell + few,
+        width - few,
+    );
+}
+
+// What is left of the taps in a row where some read nowhere, which `first` 1024 says: those weigh nothing, and what they add is besides.
+struct Rest {
+    outside: u64,
+    backs: [usize; 8],
+    weights: [u64; 8],
+}
+
+// Nothing where a tap reads nowhere.
+fn back_if(first: usize, back: usize) -> usize
+    ensures { λ r. ⌜ r ≡ pick (eqb first 1024) 0 back ⌝ }
+{
+    if first == 1024 { 0 } else { back }
+}
+
+fn weight_if(first: usize, weight: u64) -> u64
+    ensures { λ r. ⌜ r ≡ pick (eqb first 1024) 0 weight ⌝ }
+{
+    if first == 1024 { 0 } else { weight }
+}
+
+fn rest_of(
+    boundary: u64,
+    n: usize,
+    firsts: &[usize; 8],
+    backs: &[usize; 8],
+    weights: &[u64; 8],
+) -> Rest
+    requires { ⌜ (n ≤ 8) × ((boundary < 4294967296) × Light n (now weights)) ⌝ }
+    ensures { λ r. ⌜ Rested n (now (firsts .entry)) (now (backs .entry)) (now (weights .entry)) boundary (r .backs) (r .weights) (r .outside) ⌝ }
+{
+    let mut outside = 0;
+    let mut left_backs = [0; 8];
+    let mut left_weights = [0; 8];
+    for k in 0..n {
+        let w = weight_if(firsts[k], weights[k]);
+        outside += (weights[k] - w) * boundary;
+        left_backs[k] = back_if(firsts[k], backs[k]);
+        left_weights[k] = w;
+    }
+    Rest {
+        outside: outside,
+        backs: left_backs,
+        weights: left_weights,
+    }
+}
+
+// A row whose taps all read from component `from` on, but for those that read nowhere.
+pub fn short_line(
+    source: &[u32],
+    memory: &mut [u32],
+    shift: u64,
+    boundary: u64,
+    n: usize,
+    firsts: &[usize; 8],
+    backs: &[usize; 8],
+    weights: &[u64; 8],
+    from: usize,
+    cell: usize,
+    component: usize,
+    width: usize,
+)
+    requires { ⌜ Mixes n (now firsts) (now backs) (now weights) boundary shift cell component width (length (now source)) (length (now memory)) × AllOrNone n (now firsts) from ⌝ }
+    ensures { λ _. ⌜ now (memory .exit) ≡ storeAll (inLine n (now (firsts .entry)) (now (backs .entry)) (now (weights .entry)) boundary shift (now (source .entry)) cell component) (now (memory .entry)) (tabulate (λ y. cell + y) width) ⌝ }
+{
+    let few = before(from, component, width);
+    edge(
+        source,
+        memory,
+        shift,
+        boundary,
+        n,
+        firsts,
+        backs,
+        weights,
+        cell,
+        component,
+        few,
+    );
+    if few == width {
+        return;
+    }
+    let rest = rest_of(boundary, n, firsts, backs, weights);
+    let left_backs = rest.backs;
+    let left_weights = rest.weights;
+    let rule = Rule {
+        outside: rest.outside,
+        shift: shift,
+    };
+    row(
+        source,
+        memory,
+        rule,
+        n,
+        &left_backs,
+        &left_weights,
         cell + few,
         width - few,
     );

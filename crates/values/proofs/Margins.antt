@@ -93,6 +93,19 @@ lasts-are x components first g h = record { each = λ e k. h e k ∙ ap (λ (l :
 pub most-is : (x : Nest) (components : List ℕ) (j : ℕ) → Given x components → (r : ℕ) → r ≡ mostIn components j (x .distances) → r ≡ mostOf x j (x .distances)
 most-is x components j g r e = e ∙ ap (λ (l : List ℕ). mostIn l j (x .distances)) (g .is)
 
+-- a distance that reads in a row at all reads from the margin on
+pub firsts-all : (x : Nest) (ok : Accepted x) (margin : List ℕ) → Has margin (λ j. mostOf x j (x .distances)) (x .dimensions) → (i first : List ℕ) → Firsts x i first → (e : ℕ) → e < x .distances
+    → (getD first e 0 ≤ getD margin (x .dimensions - 1) 0) ⊎ (getD first e 0 ≡ 1024)
+unfolding firstRead
+firsts-all x ok margin m i first f e h = go (every (λ j. leb (component x e j) (getD i j 0)) (x .dimensions - 1)) (f .each e h)
+  where
+    low : component x e (x .dimensions - 1) ≤ getD margin (x .dimensions - 1) 0
+    low = omega (arith, m .each (x .dimensions - 1) (omega (arith, ok .dimensions-least)), most-least (x .components) (x .dimensions - 1) (x .distances) e h)
+
+    go : (t : Bool) → getD first e 0 ≡ pick t (component x e (x .dimensions - 1)) 1024 → (getD first e 0 ≤ getD margin (x .dimensions - 1) 0) ⊎ (getD first e 0 ≡ 1024)
+    go true q = inl (omega (arith, q ∙ pick-true true (component x e (x .dimensions - 1)) 1024 refl, low))
+    go false q = inr (q ∙ pick-false false (component x e (x .dimensions - 1)) 1024 refl)
+
 -- ---- one row, inner or not
 
 module _ (x : Nest) (ok : Accepted x) (r : Cell) (q : Located x (r .number) r) (n : ℕ) (fits : getD (r .place) (x .dimensions - 1) 0 + n ≤ lengthOf x (x .dimensions - 1))
@@ -102,10 +115,6 @@ module _ (x : Nest) (ok : Accepted x) (r : Cell) (q : Located x (r .number) r) (
 
   pub any-row : (first : List ℕ) → Firsts x (r .place) first → InRow x (r .number) (getD (r .place) (x .dimensions - 1) 0) n first back weights
   any-row first f = in-row x ok r q first back weights f (lent .backs) (lent .weights-are) n fits
-
-pub firsts-most : (x : Nest) → Accepted x → (i first : List ℕ) → Firsts x i first → (e : ℕ) → e < x .distances → getD first e 0 ≤ 1024
-unfolding firstRead
-firsts-most x ok i first f e h = rw (f .each e h) (greater-most _ 1024 (component x e (x .dimensions - 1)) 1024 (omega arith) (ok .component-most e (x .dimensions - 1)))
 
 -- ---- four rows
 

@@ -22,6 +22,7 @@ ghost use Rattle.values.specs.Waves.{four, rowsOf, Banded, Spaced, mostO
 ghost use Rattle.values.specs.Reads.{firstRead, stepBack, Firsts, Backs};
 use kernels::Rule;
 use kernels::line;
+use kernels::short_line;
 use kernels::wave;
 use layout::Bounds;
 use layout::Cell;
@@ -126,7 +127,7 @@ fn row(
         return;
     }
     let firsts = firsts_of(nest, components, at);
-    line(
+    short_line(
         source,
         memory,
         shift,
@@ -135,7 +136,7 @@ fn row(
         &firsts,
         back,
         weights,
-        1024,
+        from,
         first,
         component,
         width,

@@ -3,7 +3,7 @@ use mathlib.Core.Path.{_∙_, ap}
 use native.Mathlib.Omega.{arith}
 use lib.ListN.{length}
 use Rattle.base.proofs.Lists.{store-length}
-use Rattle.kernels.proofs.Sums.{mixes-first, mixes-fits, line-stored}
+use Rattle.kernels.proofs.Sums.{mixes-first, mixes-fits, line-stored, made-line}
 use borrow.Author.Needs.{needs}
 use Rattle.kernels.proofs.line.Statement.{statement}
 use Rattle.kernels.proofs.line.Tie as tie
@@ -37,7 +37,7 @@ same-length-2 c = search needs
 returns-2 : tie.Need-returns-2
 returns-2 c =
     let s = c .before .before .before .before .before .before .before .before .before .before .before .before in
-    line-stored _ _ _ _ _ _ _ _ _ _ (s .pre .1) _ _ _ _ _ (omega (arith, c .before .before .before .before .if1 .left, c .before .before .before .before .before .before .before .before .before .before2 .ensures .0)) (c .before .before .before .before .before .before .before .before .before .before2 .ensures .1 (omega (arith, c .before .before .before .before .if1 .left, c .before .before .before .before .before .before .before .before .before .before2 .ensures .0))) (c .before .before .before .before .before .before .before .edge .ensures) (c .before .before .row .ensures)
+    line-stored _ _ _ _ _ _ _ _ (omega (arith, c .before .before .before .before .if1 .left, c .before .before .before .before .before .before .before .before .before .before2 .ensures .0)) (c .before .before .before .before .before .before .before .edge .ensures) (c .before .before .row .ensures) (λ l y i. made-line _ _ _ _ _ _ _ _ _ _ (s .pre .1) _ (c .before .before .before .before .before .before .before .before .before .before2 .ensures .1 (omega (arith, c .before .before .before .before .if1 .left, c .before .before .before .before .before .before .before .before .before .before2 .ensures .0))) l y)
 
 pub line-spec : {M : Type 1} → statement M
 line-spec =

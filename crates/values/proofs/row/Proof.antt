@@ -1,7 +1,7 @@
 -- `values::row` meets its contract: the distances read in the row as its first cell's place says.
 use mathlib.Core.Path.{_∙_, sym}
 use Rattle.values.proofs.Words.{row-mixes, row-values}
-use Rattle.values.proofs.Margins.{inner-row, any-row, first-most, firsts-most}
+use Rattle.values.proofs.Margins.{inner-row, any-row, first-most, firsts-all}
 use borrow.Author.Needs.{needs}
 use Rattle.values.proofs.row.Statement.{statement}
 use Rattle.values.proofs.row.Tie as tie
@@ -42,12 +42,12 @@ returns c =
 firsts-of-requires : tie.Need-firsts-of-requires
 firsts-of-requires c κs = search needs
 
-line-requires-2 : tie.Need-line-requires-2
-line-requires-2 c κs =
+short-line-requires : tie.Need-short-line-requires
+short-line-requires c κs =
     let s = c .before .before .before .before .before .before .before .before .before in
     let q = s .pre .0 .1 .0 in
     let f = c .before .before .firsts-of .ensures in
-    (row-mixes _ (s .pre .0 .0) _ _ _ _ _ _ (any-row _ (s .pre .0 .0) _ (s .pre .1 .0) _ (s .pre .1 .1) _ _ _ _ _ q _ f) _ _ (q .weights-are) (s .pre .0 .1 .1 .0) (s .pre .0 .1 .1 .1), firsts-most _ (s .pre .0 .0) _ _ f)
+    (row-mixes _ (s .pre .0 .0) _ _ _ _ _ _ (any-row _ (s .pre .0 .0) _ (s .pre .1 .0) _ (s .pre .1 .1) _ _ _ _ _ q _ f) _ _ (q .weights-are) (s .pre .0 .1 .1 .0) (s .pre .0 .1 .1 .1), firsts-all _ (s .pre .0 .0) _ (q .margins) _ _ f)
 
 same-length-2 : tie.Need-same-length-2
 same-length-2 c = search needs
@@ -55,7 +55,7 @@ same-length-2 c = search needs
 returns-2 : tie.Need-returns-2
 returns-2 c =
     let s = c .before .before .before .before .before .before .before .before .before .before .before .before in
-    row-values _ (s .pre .0 .0) _ _ _ _ _ _ (any-row _ (s .pre .0 .0) _ (s .pre .1 .0) _ (s .pre .1 .1) _ _ _ _ _ (s .pre .0 .1 .0) _ (c .before .before .before .before .before .firsts-of .ensures)) _ _ _ (c .before .before .line2 .ensures)
+    row-values _ (s .pre .0 .0) _ _ _ _ _ _ (any-row _ (s .pre .0 .0) _ (s .pre .1 .0) _ (s .pre .1 .1) _ _ _ _ _ (s .pre .0 .1 .0) _ (c .before .before .before .before .before .firsts-of .ensures)) _ _ _ (c .before .before .short-line .ensures)
 
 pub row-spec : {M : Type 1} → statement M
 row-spec =
@@ -71,6 +71,6 @@ row-spec =
     same-length
     returns
     firsts-of-requires
-    line-requires-2
+    short-line-requires
     same-length-2
     returns-2)
