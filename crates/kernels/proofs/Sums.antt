@@ -8,10 +8,10 @@ use native.Mathlib.Nat.{add-zero, zero-mul, mul-le-mul}
 use native.Mathlib.Decide.{ℕ-discrete}
 use native.Mathlib.Numerals.{add-one}
 use native.Mathlib.Omega.{arith}
-use lib.ListN.{length, getD, set, length-set}
+use lib.ListN.{length, getD, set, replicate, length-set}
 use lib.Seq.{getD-set-same, getD-set-other}
 use lib.Dec.{eqb, leb}
-use borrow.Author.Tests.{le-leb, lt-leb, eqb-true, eqb-false}
+use borrow.Author.Tests.{le-leb, lt-leb, eq-eqb, ne-eqb, eqb-true, eqb-false}
 use Rattle.base.specs.Tests.{pick, sum, tabulate}
 use Rattle.base.specs.Lists.{storeAll}
 use Rattle.base.proofs.Tests.{sum-same, sum-add, pick-true, pick-false}
@@ -226,48 +226,81 @@ pub record Resting (n : ℕ) (firsts backs weights : List ℕ) (boundary : ℕ) 
   pub low : k ≤ n
   pub long-backs : length leftBacks ≡ 8
   pub long-weights : length leftWeights ≡ 8
+  pub no-backs : (i : ℕ) → k ≤ i → getD leftBacks i 0 ≡ 0
+  pub no-weights : (i : ℕ) → k ≤ i → getD leftWeights i 0 ≡ 0
   pub so : Rested k firsts backs weights boundary leftBacks leftWeights outside
 
-pick-most : (t : Bool) (v : ℕ) → pick t 0 v ≤ v
-unfolding pick
-pick-most true v = omega arith
-pick-most false v = omega arith
-
 -- one place more of a list is as it should be
-set-next : (g : ℕ → ℕ) (l : List ℕ) (k v : ℕ) → k < length l → v ≡ g k → ((i : ℕ) → i < k → getD l i 0 ≡ g i) → (i : ℕ) → i < k + 1 → getD (set l k v) i 0 ≡ g i
-set-next g l k v h e s i b = go (ℕ-discrete i k)
+next-is : (g : ℕ → ℕ) (l : List ℕ) (k : ℕ) → getD l k 0 ≡ g k → ((i : ℕ) → i < k → getD l i 0 ≡ g i) → (i : ℕ) → i < k + 1 → getD l i 0 ≡ g i
+next-is g l k e s i b = go (ℕ-discrete i k)
   where
-    go : Dec (i ≡ k) → getD (set l k v) i 0 ≡ g i
-    go (yes z) = rw z (getD-set-same l k v 0 h ∙ e)
-    go (no z) = getD-set-other l k i v 0 z ∙ s i (omega arith)
+    go : Dec (i ≡ k) → getD l i 0 ≡ g i
+    go (yes z) = rw z e
+    go (no z) = s i (omega arith)
+
+zeros : (i n : ℕ) → _≡_ {A = ℕ} (getD (replicate n 0) i 0) 0
+zeros i zero = refl
+zeros zero (suc n) = refl
+zeros (suc i) (suc n) = zeros i n
 
 module _ (n : ℕ) (firsts backs weights : List ℕ) (boundary : ℕ) where
-  pub resting-none : (leftBacks leftWeights : List ℕ) → length leftBacks ≡ 8 → length leftWeights ≡ 8 → Resting n firsts backs weights boundary leftBacks leftWeights 0 0
+  pub resting-none : Resting n firsts backs weights boundary (replicate 8 0) (replicate 8 0) 0 0
   unfolding sum
-  resting-none leftBacks leftWeights b w =
-      record { low = omega arith; long-backs = b; long-weights = w; so = record { back = λ k h. absurd (omega arith); weight = λ k h. absurd (omega arith); few = omega arith; is = refl } }
+  resting-none =
+      record {
+        low = omega arith;
+        long-backs = refl;
+        long-weights = refl;
+        no-backs = λ i h. zeros i 8;
+        no-weights = λ i h. zeros i 8;
+        so = record { back = λ k h. absurd (omega arith); weight = λ k h. absurd (omega arith); few = omega arith; is = refl };
+      }
 
-  module _ (leftBacks leftWeights : List ℕ) (outside k : ℕ) (s : Resting n firsts backs weights boundary leftBacks leftWeights outside k) (low : n ≤ 8) (h : k < n)
-      (light : getD weights k 0 < 65536) (beyond : boundary < 4294967296) (w : ℕ) (e : w ≡ pick (eqb (getD firsts k 0) 1024) 0 (getD weights k 0)) where
-    pub resting-less : w ≤ getD weights k 0
-    resting-less = rw e (pick-most (eqb (getD firsts k 0) 1024) (getD weights k 0))
+  module _ (leftBacks leftWeights : List ℕ) (outside k : ℕ) (s : Resting n firsts backs weights boundary leftBacks leftWeights outside k) (low : n ≤ 8) (h : k < n) where
+    pub resting-fits : getD weights k 0 < 65536 → boundary < 4294967296 → outside + getD weights k 0 * boundary ≤ (k + 1) * 281470681677825
+    resting-fits light beyond = omega (arith, s .so .few, weighs (getD weights k 0) boundary light beyond)
 
-    pub resting-fits : outside + (getD weights k 0 - w) * boundary ≤ (k + 1) * 281470681677825
-    resting-fits = omega (arith, s .so .few, weighs (getD weights k 0 - w) boundary (omega arith) beyond)
-
-    pub resting-more : (b : ℕ) → b ≡ pick (eqb (getD firsts k 0) 1024) 0 (getD backs k 0)
-        → Resting n firsts backs weights boundary (set leftBacks k b) (set leftWeights k w) (outside + (getD weights k 0 - w) * boundary) (k + 1)
+    pub resting-skip : getD firsts k 0 ≡ 1024 → getD weights k 0 < 65536 → boundary < 4294967296
+        → Resting n firsts backs weights boundary leftBacks leftWeights (outside + getD weights k 0 * boundary) (k + 1)
     unfolding sum
-    resting-more b g =
+    resting-skip e light beyond =
+        let t = eq-eqb (getD firsts k 0) 1024 e in
+        let z : getD weights k 0 - pick (eqb (getD firsts k 0) 1024) 0 (getD weights k 0) ≡ getD weights k 0 = rw (pick-true (eqb (getD firsts k 0) 1024) 0 (getD weights k 0) t) (omega arith) in
         record {
           low = omega arith;
-          long-backs = length-set leftBacks k b ∙ s .long-backs;
-          long-weights = length-set leftWeights k w ∙ s .long-weights;
+          long-backs = s .long-backs;
+          long-weights = s .long-weights;
+          no-backs = λ i q. s .no-backs i (omega arith);
+          no-weights = λ i q. s .no-weights i (omega arith);
           so = record {
-            back = set-next (λ i. pick (eqb (getD firsts i 0) 1024) 0 (getD backs i 0)) leftBacks k b (omega (arith, s .long-backs)) g (s .so .back);
-            weight = set-next (λ i. pick (eqb (getD firsts i 0) 1024) 0 (getD weights i 0)) leftWeights k w (omega (arith, s .long-weights)) e (s .so .weight);
-            few = resting-fits;
-            is = rw (add-one k) (ap (λ (a : ℕ). outside + (getD weights k 0 - a) * boundary) e ∙ omega (arith, s .so .is));
+            back = next-is (λ i. pick (eqb (getD firsts i 0) 1024) 0 (getD backs i 0)) leftBacks k (s .no-backs k (omega arith) ∙ sym (pick-true (eqb (getD firsts k 0) 1024) 0 (getD backs k 0) t)) (s .so .back);
+            weight = next-is (λ i. pick (eqb (getD firsts i 0) 1024) 0 (getD weights i 0)) leftWeights k (s .no-weights k (omega arith) ∙ sym (pick-true (eqb (getD firsts k 0) 1024) 0 (getD weights k 0) t)) (s .so .weight);
+            few = resting-fits light beyond;
+            is = rw (add-one k) (ap (λ (a : ℕ). outside + a * boundary) (sym z) ∙ omega (arith, s .so .is));
+          };
+        }
+
+    pub resting-take : getD firsts k 0 ≢ 1024 → Resting n firsts backs weights boundary (set leftBacks k (getD backs k 0)) (set leftWeights k (getD weights k 0)) outside (k + 1)
+    unfolding sum
+    resting-take ne =
+        let t = ne-eqb (getD firsts k 0) 1024 ne in
+        let z : getD weights k 0 - pick (eqb (getD firsts k 0) 1024) 0 (getD weights k 0) ≡ 0 = rw (pick-false (eqb (getD firsts k 0) 1024) 0 (getD weights k 0) t) (omega arith) in
+        let y : (getD weights k 0 - pick (eqb (getD firsts k 0) 1024) 0 (getD weights k 0)) * boundary ≡ 0 = ap (λ (a : ℕ). a * boundary) z ∙ zero-mul boundary in
+        record {
+          low = omega arith;
+          long-backs = length-set leftBacks k (getD backs k 0) ∙ s .long-backs;
+          long-weights = length-set leftWeights k (getD weights k 0) ∙ s .long-weights;
+          no-backs = λ i q. getD-set-other leftBacks k i (getD backs k 0) 0 (λ e. omega arith) ∙ s .no-backs i (omega arith);
+          no-weights = λ i q. getD-set-other leftWeights k i (getD weights k 0) 0 (λ e. omega arith) ∙ s .no-weights i (omega arith);
+          so = record {
+            back = next-is (λ i. pick (eqb (getD firsts i 0) 1024) 0 (getD backs i 0)) (set leftBacks k (getD backs k 0)) k
+                (getD-set-same leftBacks k (getD backs k 0) 0 (omega (arith, s .long-backs)) ∙ sym (pick-false (eqb (getD firsts k 0) 1024) 0 (getD backs k 0) t))
+                (λ i q. getD-set-other leftBacks k i (getD backs k 0) 0 (λ e. omega arith) ∙ s .so .back i q);
+            weight = next-is (λ i. pick (eqb (getD firsts i 0) 1024) 0 (getD weights i 0)) (set leftWeights k (getD weights k 0)) k
+                (getD-set-same leftWeights k (getD weights k 0) 0 (omega (arith, s .long-weights)) ∙ sym (pick-false (eqb (getD firsts k 0) 1024) 0 (getD weights k 0) t))
+                (λ i q. getD-set-other leftWeights k i (getD weights k 0) 0 (λ e. omega arith) ∙ s .so .weight i q);
+            few = omega (arith, s .so .few);
+            is = rw (add-one k) (omega (arith, s .so .is, y));
           };
         }
 

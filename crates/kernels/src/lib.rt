@@ -32,7 +32,8 @@ fn word_of(words: &[u32], i: usize) -> u64
 
 // A sum with one tap more.
 fn with_tap(total: u64, tap: Tap, memory: &[u32], c: usize) -> u64
-    requires { ⌜ (total ≤ 4611686018427387904) × ((tap .weight < 65536) × ((tap .back ≤ c) × ((c < length (now memory)) × (length (now memory) ≤ 16384)))) ⌝ }
+    requires { ⌜ (total ≤ 4611686018427387904) × ((tap .weight < 65536)
+        × ((tap .back ≤ c) × ((c < length (now memory)) × (length (now memory) ≤ 16384)))) ⌝ }
     ensures { λ r. ⌜ (r ≡ total + tap .weight * getD (now (memory .entry)) (c - tap .back) 0) × (r ≤ total + 281470681677825) ⌝ }
 {
     let v = word_of(memory, c - tap.back);
@@ -50,7 +51,8 @@ fn closed(total: u64, shift: u64) -> u32
 // The word of cell c, of one tap.
 fn store_one(source: &[u32], memory: &mut [u32], rule: Rule, p: Tap, c: usize)
     requires { ⌜ FitsBy rule (p ∷ []) c 1 (now source) (now memory) ⌝ }
-    ensures { λ _. ⌜ now (memory .exit) ≡ set (now (memory .entry)) c (madeBy rule (p ∷ []) (now (source .entry)) (now (memory .entry)) c) ⌝ }
+    ensures { λ _. ⌜ now (memory .exit) ≡ set (now (memory .entry)) c
+        (madeBy rule (p ∷ []) (now (source .entry)) (now (memory .entry)) c) ⌝ }
 {
     let t = rule.outside + word_of(source, c);
     let tp = with_tap(t, p, memory, c);
@@ -60,7 +62,8 @@ fn store_one(source: &[u32], memory: &mut [u32], rule: Rule, p: Tap, c: usize)
 // The word of cell c, of two taps.
 fn store_two(source: &[u32], memory: &mut [u32], rule: Rule, p: Tap, q: Tap, c: usize)
     requires { ⌜ FitsBy rule (p ∷ q ∷ []) c 1 (now source) (now memory) ⌝ }
-    ensures { λ _. ⌜ now (memory .exit) ≡ set (now (memory .entry)) c (madeBy rule (p ∷ q ∷ []) (now (source .entry)) (now (memory .entry)) c) ⌝ }
+    ensures { λ _. ⌜ now (memory .exit) ≡ set (now (memory .entry)) c
+        (madeBy rule (p ∷ q ∷ []) (now (source .entry)) (now (memory .entry)) c) ⌝ }
 {
     let t = rule.outside + word_of(source, c);
     let tp = with_tap(t, p, memory, c);
@@ -71,7 +74,8 @@ fn store_two(source: &[u32], memory: &mut [u32], rule: Rule, p: Tap, q: Tap, c: 
 // The word of cell c, of three taps.
 fn store_three(source: &[u32], memory: &mut [u32], rule: Rule, p: Tap, q: Tap, r: Tap, c: usize)
     requires { ⌜ FitsBy rule (p ∷ q ∷ r ∷ []) c 1 (now source) (now memory) ⌝ }
-    ensures { λ _. ⌜ now (memory .exit) ≡ set (now (memory .entry)) c (madeBy rule (p ∷ q ∷ r ∷ []) (now (source .entry)) (now (memory .entry)) c) ⌝ }
+    ensures { λ _. ⌜ now (memory .exit) ≡ set (now (memory .entry)) c
+        (madeBy rule (p ∷ q ∷ r ∷ []) (now (source .entry)) (now (memory .entry)) c) ⌝ }
 {
     let t = rule.outside + word_of(source, c);
     let tp = with_tap(t, p, memory, c);
@@ -92,7 +96,8 @@ fn store_four(
     c: usize,
 )
     requires { ⌜ FitsBy rule (p ∷ q ∷ r ∷ s ∷ []) c 1 (now source) (now memory) ⌝ }
-    ensures { λ _. ⌜ now (memory .exit) ≡ set (now (memory .entry)) c (madeBy rule (p ∷ q ∷ r ∷ s ∷ []) (now (source .entry)) (now (memory .entry)) c) ⌝ }
+    ensures { λ _. ⌜ now (memory .exit) ≡ set (now (memory .entry)) c
+        (madeBy rule (p ∷ q ∷ r ∷ s ∷ []) (now (source .entry)) (now (memory .entry)) c) ⌝ }
 {
     let t = rule.outside + word_of(source, c);
     let tp = with_tap(t, p, memory, c);
@@ -113,7 +118,8 @@ fn store_many(
     c: usize,
 )
     requires { ⌜ Fits n (now backs) (now weights) (rule .outside) (rule .shift) c 1 (length (now source)) (length (now memory)) ⌝ }
-    ensures { λ _. ⌜ now (memory .exit) ≡ set (now (memory .entry)) c (made n (now (backs .entry)) (now (weights .entry)) (rule .outside) (rule .shift) (now (source .entry)) (now (memory .entry)) c) ⌝ }
+    ensures { λ _. ⌜ now (memory .exit) ≡ set (now (memory .entry)) c
+        (made n (now (backs .entry)) (now (weights .entry)) (rule .outside) (rule .shift) (now (source .entry)) (now (memory .entry)) c) ⌝ }
 {
     let mut total = rule.outside + word_of(source, c);
     for k in 0..n {
@@ -126,7 +132,8 @@ fn store_many(
 // The words of a row: `width` cells from one on.
 fn row_one(source: &[u32], memory: &mut [u32], rule: Rule, p: Tap, cell: usize, width: usize)
     requires { ⌜ FitsBy rule (p ∷ []) cell width (now source) (now memory) ⌝ }
-    ensures { λ _. ⌜ now (memory .exit) ≡ storeAll (madeBy rule (p ∷ []) (now (source .entry))) (now (memory .entry)) (tabulate (λ y. cell + y) width) ⌝ }
+    ensures { λ _. ⌜ now (memory .exit) ≡ storeAll (madeBy rule (p ∷ []) (now (source .entry))) (now (memory .entry))
+        (tabulate (λ y. cell + y) width) ⌝ }
 {
     for y in 0..width {
         store_one(source, memory, rule, p, cell + y);
@@ -143,7 +150,8 @@ fn row_two(
     width: usize,
 )
     requires { ⌜ FitsBy rule (p ∷ q ∷ []) cell width (now source) (now memory) ⌝ }
-    ensures { λ _. ⌜ now (memory .exit) ≡ storeAll (madeBy rule (p ∷ q ∷ []) (now (source .entry))) (now (memory .entry)) (tabulate (λ y. cell + y) width) ⌝ }
+    ensures { λ _. ⌜ now (memory .exit) ≡ storeAll (madeBy rule (p ∷ q ∷ []) (now (source .entry))) (now (memory .entry))
+        (tabulate (λ y. cell + y) width) ⌝ }
 {
     for y in 0..width {
         store_two(source, memory, rule, p, q, cell + y);
@@ -161,7 +169,8 @@ fn row_three(
     width: usize,
 )
     requires { ⌜ FitsBy rule (p ∷ q ∷ r ∷ []) cell width (now source) (now memory) ⌝ }
-    ensures { λ _. ⌜ now (memory .exit) ≡ storeAll (madeBy rule (p ∷ q ∷ r ∷ []) (now (source .entry))) (now (memory .entry)) (tabulate (λ y. cell + y) width) ⌝ }
+    ensures { λ _. ⌜ now (memory .exit) ≡ storeAll (madeBy rule (p ∷ q ∷ r ∷ []) (now (source .entry))) (now (memory .entry))
+        (tabulate (λ y. cell + y) width) ⌝ }
 {
     for y in 0..width {
         store_three(source, memory, rule, p, q, r, cell + y);
@@ -180,7 +189,8 @@ fn row_four(
     width: usize,
 )
     requires { ⌜ FitsBy rule (p ∷ q ∷ r ∷ s ∷ []) cell width (now source) (now memory) ⌝ }
-    ensures { λ _. ⌜ now (memory .exit) ≡ storeAll (madeBy rule (p ∷ q ∷ r ∷ s ∷ []) (now (source .entry))) (now (memory .entry)) (tabulate (λ y. cell + y) width) ⌝ }
+    ensures { λ _. ⌜ now (memory .exit) ≡ storeAll (madeBy rule (p ∷ q ∷ r ∷ s ∷ []) (now (source .entry))) (now (memory .entry))
+        (tabulate (λ y. cell + y) width) ⌝ }
 {
     for y in 0..width {
         store_four(source, memory, rule, p, q, r, s, cell + y);
@@ -198,7 +208,8 @@ fn row_many(
     width: usize,
 )
     requires { ⌜ Fits n (now backs) (now weights) (rule .outside) (rule .shift) cell width (length (now source)) (length (now memory)) ⌝ }
-    ensures { λ _. ⌜ now (memory .exit) ≡ storeAll (made n (now (backs .entry)) (now (weights .entry)) (rule .outside) (rule .shift) (now (source .entry))) (now (memory .entry)) (tabulate (λ y. cell + y) width) ⌝ }
+    ensures { λ _. ⌜ now (memory .exit) ≡ storeAll (made n (now (backs .entry)) (now (weights .entry)) (rule .outside) (rule .shift)
+        (now (source .entry))) (now (memory .entry)) (tabulate (λ y. cell + y) width) ⌝ }
 {
     for y in 0..width {
         store_many(source, memory, rule, n, backs, weights, cell + y);
@@ -240,7 +251,8 @@ fn wave_two(
     width: usize,
 )
     requires { ⌜ FitsBy rule (p ∷ q ∷ []) a (3 * t + width) (now source) (now memory) ⌝ }
-    ensures { λ _. ⌜ now (memory .exit) ≡ storeAll (madeBy rule (p ∷ q ∷ []) (now (source .entry))) (now (memory .entry)) (waveOf a t width) ⌝ }
+    ensures { λ _. ⌜ now (memory .exit) ≡ storeAll (madeBy rule (p ∷ q ∷ []) (now (source .entry))) (now (memory .entry))
+        (waveOf a t width) ⌝ }
 {
     for y in 0..width {
         let b = a + y + t;
@@ -265,7 +277,8 @@ fn wave_three(
     width: usize,
 )
     requires { ⌜ FitsBy rule (p ∷ q ∷ r ∷ []) a (3 * t + width) (now source) (now memory) ⌝ }
-    ensures { λ _. ⌜ now (memory .exit) ≡ storeAll (madeBy rule (p ∷ q ∷ r ∷ []) (now (source .entry))) (now (memory .entry)) (waveOf a t width) ⌝ }
+    ensures { λ _. ⌜ now (memory .exit) ≡ storeAll (madeBy rule (p ∷ q ∷ r ∷ []) (now (source .entry))) (now (memory .entry))
+        (waveOf a t width) ⌝ }
 {
     for y in 0..width {
         let b = a + y + t;
@@ -291,7 +304,8 @@ fn wave_four(
     width: usize,
 )
     requires { ⌜ FitsBy rule (p ∷ q ∷ r ∷ s ∷ []) a (3 * t + width) (now source) (now memory) ⌝ }
-    ensures { λ _. ⌜ now (memory .exit) ≡ storeAll (madeBy rule (p ∷ q ∷ r ∷ s ∷ []) (now (source .entry))) (now (memory .entry)) (waveOf a t width) ⌝ }
+    ensures { λ _. ⌜ now (memory .exit) ≡ storeAll (madeBy rule (p ∷ q ∷ r ∷ s ∷ []) (now (source .entry))) (now (memory .entry))
+        (waveOf a t width) ⌝ }
 {
     for y in 0..width {
         let b = a + y + t;
@@ -315,8 +329,10 @@ fn wave_many(
     t: usize,
     width: usize,
 )
-    requires { ⌜ Fits n (now backs) (now weights) (rule .outside) (rule .shift) a (3 * t + width) (length (now source)) (length (now memory)) ⌝ }
-    ensures { λ _. ⌜ now (memory .exit) ≡ storeAll (made n (now (backs .entry)) (now (weights .entry)) (rule .outside) (rule .shift) (now (source .entry))) (now (memory .entry)) (waveOf a t width) ⌝ }
+    requires { ⌜ Fits n (now backs) (now weights) (rule .outside) (rule .shift) a (3 * t + width) (length (now source))
+        (length (now memory)) ⌝ }
+    ensures { λ _. ⌜ now (memory .exit) ≡ storeAll (made n (now (backs .entry)) (now (weights .entry)) (rule .outside) (rule .shift)
+        (now (source .entry))) (now (memory .entry)) (waveOf a t width) ⌝ }
 {
     for y in 0..width {
         let b = a + y + t;
@@ -332,7 +348,8 @@ fn wave_many(
 // Tap k. A weight is below 65536; saying so here lets the compiler multiply narrow words.
 fn tap_at(backs: &[usize; 8], weights: &[u64; 8], k: usize) -> Tap
     requires { ⌜ k < 8 ⌝ }
-    ensures { λ r. ⌜ (r .back ≡ getD (now (backs .entry)) k 0) × (getD (now (weights .entry)) k 0 < 65536 → r .weight ≡ getD (now (weights .entry)) k 0) ⌝ }
+    ensures { λ r. ⌜ (r .back ≡ getD (now (backs .entry)) k 0)
+        × (getD (now (weights .entry)) k 0 < 65536 → r .weight ≡ getD (now (weights .entry)) k 0) ⌝ }
 {
     Tap {
         back: backs[k],
@@ -352,7 +369,8 @@ pub fn row(
     width: usize,
 )
     requires { ⌜ Fits n (now backs) (now weights) (rule .outside) (rule .shift) cell width (length (now source)) (length (now memory)) ⌝ }
-    ensures { λ _. ⌜ now (memory .exit) ≡ storeAll (made n (now (backs .entry)) (now (weights .entry)) (rule .outside) (rule .shift) (now (source .entry))) (now (memory .entry)) (tabulate (λ y. cell + y) width) ⌝ }
+    ensures { λ _. ⌜ now (memory .exit) ≡ storeAll (made n (now (backs .entry)) (now (weights .entry)) (rule .outside) (rule .shift)
+        (now (source .entry))) (now (memory .entry)) (tabulate (λ y. cell + y) width) ⌝ }
 {
     let p = tap_at(backs, weights, 0);
     if n == 1 {
@@ -389,8 +407,10 @@ pub fn wave(
     t: usize,
     width: usize,
 )
-    requires { ⌜ Fits n (now backs) (now weights) (rule .outside) (rule .shift) a (3 * t + width) (length (now source)) (length (now memory)) ⌝ }
-    ensures { λ _. ⌜ now (memory .exit) ≡ storeAll (made n (now (backs .entry)) (now (weights .entry)) (rule .outside) (rule .shift) (now (source .entry))) (now (memory .entry)) (waveOf a t width) ⌝ }
+    requires { ⌜ Fits n (now backs) (now weights) (rule .outside) (rule .shift) a (3 * t + width) (length (now source))
+        (length (now memory)) ⌝ }
+    ensures { λ _. ⌜ now (memory .exit) ≡ storeAll (made n (now (backs .entry)) (now (weights .entry)) (rule .outside) (rule .shift)
+        (now (source .entry))) (now (memory .entry)) (waveOf a t width) ⌝ }
 {
     let p = tap_at(backs, weights, 0);
     if n == 1 {
@@ -424,7 +444,8 @@ fn word_at(
     back: usize,
     boundary: u64,
 ) -> u64
-    requires { ⌜ (cell < length (now memory)) × ((boundary < 4294967296) × ((length (now memory) ≤ 16384) × (first ≤ component → back ≤ cell))) ⌝ }
+    requires { ⌜ (cell < length (now memory)) × ((boundary < 4294967296)
+        × ((length (now memory) ≤ 16384) × (first ≤ component → back ≤ cell))) ⌝ }
     ensures { λ r. ⌜ (r ≡ pick (leb first component) (getD (now (memory .entry)) (cell - back) 0) boundary) × (r < 4294967296) ⌝ }
 {
     if component < first {
@@ -446,8 +467,10 @@ fn mixed_at(
     cell: usize,
     component: usize,
 ) -> u32
-    requires { ⌜ Mixes n (now firsts) (now backs) (now weights) boundary shift cell component 1 (length (now source)) (length (now memory)) ⌝ }
-    ensures { λ r. ⌜ r ≡ mixed n (now (firsts .entry)) (now (backs .entry)) (now (weights .entry)) boundary shift (now (source .entry)) component (now (memory .entry)) cell ⌝ }
+    requires { ⌜ Mixes n (now firsts) (now backs) (now weights) boundary shift cell component 1 (length (now source))
+        (length (now memory)) ⌝ }
+    ensures { λ r. ⌜ r ≡ mixed n (now (firsts .entry)) (now (backs .entry)) (now (weights .entry)) boundary shift
+        (now (source .entry)) component (now (memory .entry)) cell ⌝ }
 {
     let mut total = word_of(source, cell);
     for k in 0..n {
@@ -471,8 +494,11 @@ fn edge(
     component: usize,
     width: usize,
 )
-    requires { ⌜ Mixes n (now firsts) (now backs) (now weights) boundary shift cell component width (length (now source)) (length (now memory)) ⌝ }
-    ensures { λ _. ⌜ now (memory .exit) ≡ storeAll (inLine n (now (firsts .entry)) (now (backs .entry)) (now (weights .entry)) boundary shift (now (source .entry)) cell component) (now (memory .entry)) (tabulate (λ y. cell + y) width) ⌝ }
+    requires { ⌜ Mixes n (now firsts) (now backs) (now weights) boundary shift cell component width (length (now source))
+        (length (now memory)) ⌝ }
+    ensures { λ _. ⌜ now (memory .exit) ≡ storeAll (inLine n (now (firsts .entry)) (now (backs .entry))
+        (now (weights .entry)) boundary shift (now (source .entry)) cell component) (now (memory .entry))
+        (tabulate (λ y. cell + y) width) ⌝ }
 {
     for y in 0..width {
         let v = mixed_at(
@@ -519,8 +545,11 @@ pub fn line(
     component: usize,
     width: usize,
 )
-    requires { ⌜ Mixes n (now firsts) (now backs) (now weights) boundary shift cell component width (length (now source)) (length (now memory)) × All n (now firsts) from ⌝ }
-    ensures { λ _. ⌜ now (memory .exit) ≡ storeAll (inLine n (now (firsts .entry)) (now (backs .entry)) (now (weights .entry)) boundary shift (now (source .entry)) cell component) (now (memory .entry)) (tabulate (λ y. cell + y) width) ⌝ }
+    requires { ⌜ Mixes n (now firsts) (now backs) (now weights) boundary shift cell component width (length (now source))
+        (length (now memory)) × All n (now firsts) from ⌝ }
+    ensures { λ _. ⌜ now (memory .exit) ≡ storeAll (inLine n (now (firsts .entry)) (now (backs .entry))
+        (now (weights .entry)) boundary shift (now (source .entry)) cell component) (now (memory .entry))
+        (tabulate (λ y. cell + y) width) ⌝ }
 {
     let few = before(from, component, width);
     edge(
@@ -562,19 +591,6 @@ struct Rest {
     weights: [u64; 8],
 }
 
-// Nothing where a tap reads nowhere.
-fn back_if(first: usize, back: usize) -> usize
-    ensures { λ r. ⌜ r ≡ pick (eqb first 1024) 0 back ⌝ }
-{
-    if first == 1024 { 0 } else { back }
-}
-
-fn weight_if(first: usize, weight: u64) -> u64
-    ensures { λ r. ⌜ r ≡ pick (eqb first 1024) 0 weight ⌝ }
-{
-    if first == 1024 { 0 } else { weight }
-}
-
 fn rest_of(
     boundary: u64,
     n: usize,
@@ -583,16 +599,19 @@ fn rest_of(
     weights: &[u64; 8],
 ) -> Rest
     requires { ⌜ (n ≤ 8) × ((boundary < 4294967296) × Light n (now weights)) ⌝ }
-    ensures { λ r. ⌜ Rested n (now (firsts .entry)) (now (backs .entry)) (now (weights .entry)) boundary (r .backs) (r .weights) (r .outside) ⌝ }
+    ensures { λ r. ⌜ Rested n (now (firsts .entry)) (now (backs .entry)) (now (weights .entry)) boundary (r .backs) (r .weights)
+        (r .outside) ⌝ }
 {
     let mut outside = 0;
     let mut left_backs = [0; 8];
     let mut left_weights = [0; 8];
     for k in 0..n {
-        let w = weight_if(firsts[k], weights[k]);
-        outside += (weights[k] - w) * boundary;
-        left_backs[k] = back_if(firsts[k], backs[k]);
-        left_weights[k] = w;
+        if firsts[k] == 1024 {
+            outside += weights[k] * boundary;
+            continue;
+        }
+        left_backs[k] = backs[k];
+        left_weights[k] = weights[k];
     }
     Rest {
         outside: outside,
@@ -616,8 +635,11 @@ pub fn short_line(
     component: usize,
     width: usize,
 )
-    requires { ⌜ Mixes n (now firsts) (now backs) (now weights) boundary shift cell component width (length (now source)) (length (now memory)) × AllOrNone n (now firsts) from ⌝ }
-    ensures { λ _. ⌜ now (memory .exit) ≡ storeAll (inLine n (now (firsts .entry)) (now (backs .entry)) (now (weights .entry)) boundary shift (now (source .entry)) cell component) (now (memory .entry)) (tabulate (λ y. cell + y) width) ⌝ }
+    requires { ⌜ Mixes n (now firsts) (now backs) (now weights) boundary shift cell component width (length (now source))
+        (length (now memory)) × AllOrNone n (now firsts) from ⌝ }
+    ensures { λ _. ⌜ now (memory .exit) ≡ storeAll (inLine n (now (firsts .entry)) (now (backs .entry))
+        (now (weights .entry)) boundary shift (now (source .entry)) cell component) (now (memory .entry))
+        (tabulate (λ y. cell + y) width) ⌝ }
 {
     let few = before(from, component, width);
     edge(

@@ -97,8 +97,10 @@ fn row(
     cell: Cell,
     width: usize,
 )
-    requires { ⌜ Accepted nest × (Lent nest (now components) (now lasts) (now back) (now weights) margin × ((length (now source) ≡ cells nest) × (length (now memory) ≡ cells nest))) ⌝ }
-    requires { ⌜ Located nest (cell .number) cell × (getD (cell .place) (nest .dimensions - 1) 0 + width ≤ getD (nest .lengths) (nest .dimensions - 1) 0) ⌝ }
+    requires { ⌜ Accepted nest × (Lent nest (now components) (now lasts) (now back) (now weights) margin
+        × ((length (now source) ≡ cells nest) × (length (now memory) ≡ cells nest))) ⌝ }
+    requires { ⌜ Located nest (cell .number) cell ×
+        (getD (cell .place) (nest .dimensions - 1) 0 + width ≤ getD (nest .lengths) (nest .dimensions - 1) 0) ⌝ }
     ensures { λ _. ⌜ now (memory .exit) ≡ storeAll (value nest (now (source .entry))) (now (memory .entry)) (rowOf (cell .number) width) ⌝ }
 {
     let at = cell.place;
@@ -159,9 +161,11 @@ fn band(
     from: usize,
     width: usize,
 )
-    requires { ⌜ Accepted nest × (Banded nest (four a b c d) component from width (now first) (now back) (now weights) × ((length (now source) ≡ cells nest) × (length (now memory) ≡ cells nest))) ⌝ }
+    requires { ⌜ Accepted nest × (Banded nest (four a b c d) component from width (now first) (now back) (now weights)
+        × ((length (now source) ≡ cells nest) × (length (now memory) ≡ cells nest))) ⌝ }
     requires { ⌜ Spaced a b c d ⌝ }
-    ensures { λ _. ⌜ now (memory .exit) ≡ storeAll (value nest (now (source .entry))) (now (memory .entry)) (rowsOf (four a b c d) width 4) ⌝ }
+    ensures { λ _. ⌜ now (memory .exit) ≡ storeAll (value nest (now (source .entry))) (now (memory .entry))
+        (rowsOf (four a b c d) width 4) ⌝ }
 {
     let shift = nest.shift;
     let boundary = nest.boundary;
@@ -355,7 +359,8 @@ fn together(
     width: usize,
 ) -> bool
     requires { ⌜ (last ≤ 4) × ((from ≤ 1027) × ((a .number ≤ b .number) × ((b .number ≤ c .number) × (c .number ≤ d .number)))) ⌝ }
-    ensures { λ r. ⌜ (r ≡ true → (from ≤ width) × (Inners margin (a .place) (b .place) (c .place) (d .place) last × Spaced (a .number) (b .number) (c .number) (d .number))) ⌝ }
+    ensures { λ r. ⌜ (r ≡ true → (from ≤ width) × (Inners margin (a .place) (b .place) (c .place) (d .place) last
+        × Spaced (a .number) (b .number) (c .number) (d .number))) ⌝ }
 {
     let pa = a.place;
     let pb = b.place;
@@ -395,9 +400,11 @@ fn rows_singly(
     d: Cell,
     width: usize,
 )
-    requires { ⌜ Accepted nest × (Lent nest (now components) (now lasts) (now back) (now weights) margin × ((length (now source) ≡ cells nest) × (length (now memory) ≡ cells nest))) ⌝ }
+    requires { ⌜ Accepted nest × (Lent nest (now components) (now lasts) (now back) (now weights) margin
+        × ((length (now source) ≡ cells nest) × (length (now memory) ≡ cells nest))) ⌝ }
     requires { ⌜ Fours nest a b c d width ⌝ }
-    ensures { λ _. ⌜ now (memory .exit) ≡ storeAll (value nest (now (source .entry))) (now (memory .entry)) (rowsOf (four (a .number) (b .number) (c .number) (d .number)) width 4) ⌝ }
+    ensures { λ _. ⌜ now (memory .exit) ≡ storeAll (value nest (now (source .entry))) (now (memory .entry))
+        (rowsOf (four (a .number) (b .number) (c .number) (d .number)) width 4) ⌝ }
 {
     row(
         nest,
@@ -465,9 +472,11 @@ fn four_rows(
     d: Cell,
     width: usize,
 )
-    requires { ⌜ Accepted nest × (Lent nest (now components) (now lasts) (now back) (now weights) margin × ((length (now source) ≡ cells nest) × (length (now memory) ≡ cells nest))) ⌝ }
+    requires { ⌜ Accepted nest × (Lent nest (now components) (now lasts) (now back) (now weights) margin
+        × ((length (now source) ≡ cells nest) × (length (now memory) ≡ cells nest))) ⌝ }
     requires { ⌜ Fours nest a b c d width ⌝ }
-    ensures { λ _. ⌜ now (memory .exit) ≡ storeAll (value nest (now (source .entry))) (now (memory .entry)) (rowsOf (four (a .number) (b .number) (c .number) (d .number)) width 4) ⌝ }
+    ensures { λ _. ⌜ now (memory .exit) ≡ storeAll (value nest (now (source .entry))) (now (memory .entry))
+        (rowsOf (four (a .number) (b .number) (c .number) (d .number)) width 4) ⌝ }
 {
     let last = nest.dimensions - 1;
     let place = a.place;
