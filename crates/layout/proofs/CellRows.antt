@@ -15,7 +15,7 @@ use Rattle.plan.specs.Geometry.{rank, place, cellAt, tilePlace}
 use Rattle.plan.specs.Box.{boxLength, boxPlace, boxCell}
 use Rattle.plan.proofs.Rank.{place-last, place-before, rank-same}
 use Rattle.plan.proofs.Tiles.{tile-inside, tilePlace-low}
-use Rattle.plan.proofs.Box.{boxLength-pos, boxCell-place, boxSize-few}
+use Rattle.plan.proofs.Box.{boxLength-pos, boxCell-place}
 use Rattle.layout.specs.declared.Bounds.{Bounds}
 use Rattle.layout.specs.declared.Cell.{Cell}
 use Rattle.layout.specs.Places.{nth, Countable, Located, Bounded}
@@ -149,9 +149,6 @@ pub rows-end : (rows r w : ℕ) {n : ℕ} → rows ≤ r → rows * w ≡ n → 
 rows-end rows r w h e = omega (arith, mul-le-mul-right w h)
 
 module _ (x : Nest) (ok : Accepted x) (b : Bounds) (is : Bounded x b) where
-  pub box-few : b .size ≤ 16384
-  box-few = omega (arith, is .size, boxSize-few x ok (b .tile) (is .low), ok .cells-most)
-
   pub row-count : product (nth (b .lengths)) (x .dimensions - 1) ≤ 16384
   row-count = fewer x ok (b .lengths) (box-counts x ok b is) .few
 
