@@ -1,0 +1,9 @@
+pub mod Computed
+pub mod OneCall
+pub mod SharedWords
+pub mod Engaged
+pub mod OneOffice
+pub mod Theorem208
+pub mod ByStep
+pub mod AnyCalls
+pub mod Example
