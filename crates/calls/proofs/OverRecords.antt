@@ -78,7 +78,8 @@ module _ (bytes : List ℕ) (route : ℕ) (source : List ℕ) (a : Areas) where
 
   whole-fresh : Whole (freshCall bytes route source (inWords a) .after .progress)
   unfolding freshCall machine.fresh
-  whole-fresh = whole-pick _ _ (inWords a) (recipe bytes route .processors, length-replicate {A = ℕ} (3 * recipe bytes route .processors) 0) whole
+  whole-fresh =
+      whole-pick _ _ (inWords a) (recipe bytes route .processors, length-replicate {A = ℕ} (3 * recipe bytes route .processors) 0) whole
 
   whole-call : (e : Event) → Whole (calls bytes route source (inWords a) e .after .progress)
   unfolding calls turnCall deliverCall
@@ -121,12 +122,14 @@ can-answer r w = (r .number, (areasOf (r .after), ap (λ (s : State). answer (r 
 
 module _ (bytes : List ℕ) (route : ℕ) (source : List ℕ) where
   -- an event's contract, by the calls over words
-  event-call : (a b : Areas) (e : Event) (n : ℕ) → EventGave bytes route source a e n b → answer n (inWords b) ≡ calls bytes route source (inWords a) e
+  event-call : (a b : Areas) (e : Event) (n : ℕ) → EventGave bytes route source a e n b
+      → answer n (inWords b) ≡ calls bytes route source (inWords a) e
   unfolding calls
   event-call a b (turnOf p) n h = h
   event-call a b (deliveryOf m) n h = h
 
-  call-event : (a b : Areas) (e : Event) (n : ℕ) → answer n (inWords b) ≡ calls bytes route source (inWords a) e → EventGave bytes route source a e n b
+  call-event : (a b : Areas) (e : Event) (n : ℕ) → answer n (inWords b) ≡ calls bytes route source (inWords a) e
+      → EventGave bytes route source a e n b
   unfolding calls
   call-event a b (turnOf p) n h = h
   call-event a b (deliveryOf m) n h = h
@@ -173,7 +176,8 @@ module _ (bytes : List ℕ) (route : ℕ) (source : List ℕ) where
       words-are g ∙ ap (λ (s : State). stateAfter (calls bytes route source) s es) (after-of (event-call a b e n h))
 
   joined : {a b d : Areas} {es ts : List Event} {ns ks : List ℕ}
-      → EventsGave bytes route source a es ns b → EventsGave bytes route source b ts ks d → EventsGave bytes route source a (es ++ ts) (ns ++ ks) d
+      → EventsGave bytes route source a es ns b → EventsGave bytes route source b ts ks d
+      → EventsGave bytes route source a (es ++ ts) (ns ++ ks) d
   joined EventsGave.none k = k
   joined (EventsGave.next h g) k = EventsGave.next h (joined g k)
 
@@ -220,7 +224,8 @@ module _ (bytes : List ℕ) (route : ℕ) (source : List ℕ) where
           (sym (after-of fresh)) (over .posted source (inWords a) (sym (number-of fresh)) before p m)
 
       module _ (b c d : Areas) (before then : List Event) (ns ks : List ℕ) (p m q : ℕ) (g : EventsGave bytes route source start before ns b)
-          (t : EventGave bytes route source b (turnOf p) 0 c) (n : namedNext bytes route p before ns ≡ send m) (k : EventsGave bytes route source c then ks d)
+          (t : EventGave bytes route source b (turnOf p) 0 c) (n : namedNext bytes route p before ns ≡ send m)
+          (k : EventsGave bytes route source c then ks d)
           (h : q < length (heldBy (recipe bytes route) m)) where
         all : EventsGave bytes route source start (before ++ (turnOf p ∷ then)) (ns ++ (0 ∷ ks)) d
         all = joined g (EventsGave.next t k)
@@ -262,7 +267,8 @@ module _ (bytes : List ℕ) (route : ℕ) (source : List ℕ) where
 
     demand : Demand3 (calls bytes route source) (inWords start) events (recipe bytes route) source (collectCall bytes route source)
     demand =
-        subst (λ (s : State). Demand3 (calls bytes route source) s events (recipe bytes route) source (collectCall bytes route source)) (sym (after-of fresh))
+        subst (λ (s : State). Demand3 (calls bytes route source) s events (recipe bytes route) source (collectCall bytes route source))
+        (sym (after-of fresh))
         (engine.demands .three bytes route source (inWords a) small (sym (number-of fresh)) events)
 
     -- the next call, of the areas `b`
@@ -293,4 +299,5 @@ module _ (bytes : List ℕ) (route : ℕ) (source : List ℕ) where
         }
 
 pub over-records : (bytes : List ℕ) (route : ℕ) (source : List ℕ) → OverRecords bytes route source
-over-records bytes route source = record { one = fixed-calls bytes route source; two = exact-calls bytes route source; three = fixed-run bytes route source }
+over-records bytes route source =
+    record { one = fixed-calls bytes route source; two = exact-calls bytes route source; three = fixed-run bytes route source }

@@ -110,7 +110,8 @@ pub record ExactCalls (bytes : List ℕ) (route : ℕ) (source : List ℕ) : Typ
   pub turned : (a b : Areas) (p : ℕ) → EventGave bytes route source a (turnOf p) 0 b
       → Does (recipe bytes route) source (inWords a) (inWords b) p (nextAction (recipe bytes route) (inWords a) p)
   pub unpacked : (a b : Areas) (p t : ℕ) → EventGave bytes route source a (turnOf p) 0 b
-      → nextAction (recipe bytes route) (inWords a) p ≡ gather t → (m q : ℕ) → In m (duesOf (recipe bytes route) t) → q < length (heldBy (recipe bytes route) m)
+      → nextAction (recipe bytes route) (inWords a) p ≡ gather t
+      → (m q : ℕ) → In m (duesOf (recipe bytes route) t) → q < length (heldBy (recipe bytes route) m)
       → wordAt (recipe bytes route) (inWords b) p (cellOf (recipe bytes route) m q) ≡ mailAt (recipe bytes route) (inWords a) m q
   -- in a run a turn of p, lent b, sent m: whatever was called then, the message's words are what its cells had in p's memory,
   pub stays : (a start b c d : Areas) (before then : List Event) (ns ks : List ℕ) (p m q : ℕ)

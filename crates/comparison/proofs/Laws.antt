@@ -286,7 +286,8 @@ module _ (bytes : List ℕ) (x : Extent) (falling : Bool) (a m w p s g h : List 
 
 pub in-limits : (bytes : List ℕ) (r : Reading) (z : Sizes) (f : Figures) (c p : ℕ) → r ≡ readingOf bytes → r .number ≡ 0 → Sized (r .nest) z
     → (z .cells < 4294967296 → c ≡ z .cells) → (z .processors < 4294967296 → p ≡ z .processors) → (c ≤ 1024) × (c * p ≤ 4096)
-    → f ≡ summaryOf (routeOf 0) bytes → Within bytes (record { cells = c; processors = p; messages = f .messages; words = f .words; steps = f .steps })
+    → f ≡ summaryOf (routeOf 0) bytes
+    → Within bytes (record { cells = c; processors = p; messages = f .messages; words = f .words; steps = f .steps })
 in-limits bytes r z f c p is zero-read g narrow narrow2 low e =
     let read : firstOf (readLines bytes) ≡ 0 = sym (ap (λ (x : Reading). x .number) is) ∙ zero-read in
     let nest = nest-is bytes r is zero-read in

@@ -67,7 +67,8 @@ module _ (x : Nest) (ok : Accepted x) where
   unfolding sum routeOf
   words-most =
       let a = total-sum Direct x (slots Direct x) in
-      let b = sum-most (λ q. length (slotParcel Direct x q)) (λ q. length (those (tileOf x) (slotTile Direct x q) (cells x))) (slots Direct x) (λ i l. own i) in
+      let b = sum-most (λ q. length (slotParcel Direct x q)) (λ q. length (those (tileOf x) (slotTile Direct x q) (cells x)))
+      (slots Direct x) (λ i l. own i) in
       let c = by-blocks (directions x) in
       let d = mul-le-mul-left (cells x) (ways-few x ok Direct) in
       omega (arith, a, b, c, d)

@@ -91,7 +91,8 @@ module _ (bytes source : List ℕ) (s : State) where
 
   -- ---- deliveries
 
-  pub delivered : (m r : ℕ) (t : State) → answer r t ≡ deliverCall bytes 0 source s m → Delivered (deliverCall bytes 0 source s m) (eqb r 0) t
+  pub delivered : (m r : ℕ) (t : State) → answer r t ≡ deliverCall bytes 0 source s m
+      → Delivered (deliverCall bytes 0 source s m) (eqb r 0) t
   delivered m r t is =
       record {
         state = ap (λ (a : Answered State). a .after) is;
@@ -111,7 +112,8 @@ module _ (bytes source : List ℕ) (s : State) where
   deliveries-start = begun (calls bytes 0 source) s
 
   pub deliveries-next : (n : ℕ) (done this next : Bool) (t u : State) → Tried (calls bytes 0 source) s (deliveriesTo n) done t
-      → Delivered (deliverCall bytes 0 source t n) this u → next ≡ (done or this) → Tried (calls bytes 0 source) s (deliveriesTo (n + 1)) next u
+      → Delivered (deliverCall bytes 0 source t n) this u → next ≡ (done or this)
+      → Tried (calls bytes 0 source) s (deliveriesTo (n + 1)) next u
   unfolding deliveriesTo calls
   deliveries-next n done this next t u h d k =
       rw add-one
@@ -132,7 +134,8 @@ module _ (bytes source : List ℕ) (s : State) where
       rw is (rw e at h)
 
   pub round-both : (o : Order) (r q : Bool) (t u : State) → Tried (calls bytes 0 source) s (turns o) r t → r ≡ false
-      → Tried (calls bytes 0 source) t (deliveriesTo (o .messages)) q u → Tried (calls bytes 0 source) s (roundOf (calls bytes 0 source) o s) q u
+      → Tried (calls bytes 0 source) t (deliveriesTo (o .messages)) q u
+      → Tried (calls bytes 0 source) s (roundOf (calls bytes 0 source) o s) q u
   unfolding roundOf took
   round-both o r q t u h e d =
       let is = pick-false (took (calls bytes 0 source) s (turns o)) (turns o) (turns o ++ deliveriesTo (o .messages)) (sym (h .some) ∙ e) in
@@ -175,6 +178,7 @@ module _ (bytes source : List ℕ) (s : State) where
   drive-end o n zero t l h = h
   drive-end o n (suc k) t l h = absurd (omega (arith, l))
 
-  pub drive-done : (o : Order) (n : ℕ) (t : State) → Bytes bytes → t ≡ stateAfter (calls bytes 0 source) s (roundsOf (calls bytes 0 source) o n s)
+  pub drive-done : (o : Order) (n : ℕ) (t : State) → Bytes bytes
+      → t ≡ stateAfter (calls bytes 0 source) s (roundsOf (calls bytes 0 source) o n s)
       → Driven bytes source o n s t
   drive-done o n t b h = record { state = h; whole = ended bytes source o n s b }

@@ -74,7 +74,8 @@ module _ (bytes : List ℕ) (route : ℕ) (source : List ℕ) (ok : firstOf (rea
     grid-is : (grid : List ℕ) → length grid ≡ p .cells
         → collectCall bytes route source (stateAfter (calls bytes route source) (fresh p) es) grid ≡ collect p here grid
     grid-is grid e =
-        ap (λ (s : State). collectCall bytes route source s grid) state-is ∙ collect-is bytes route source here ok (inv-areas here inv-here) grid e
+        ap (λ (s : State). collectCall bytes route source s grid) state-is
+        ∙ collect-is bytes route source here ok (inv-areas here inv-here) grid e
 
     -- the action that a turn then did
     did : (b : ℕ) (a : Action) → Did (calls bytes route source) (fresh p) p es b a → Did (act p source) (fresh p) p es b a

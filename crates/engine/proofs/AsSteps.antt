@@ -12,33 +12,38 @@ use Rattle.base.specs.Tests.{not}
 use Rattle.base.specs.Numbers.{Line, line, firstOf}
 use Rattle.base.proofs.Tests.{not-true, true-not}
 use Rattle.base.proofs.Numbers.{first-false, none-first, first-some, first-behind}
+use Rattle.machine.specs.Plan.{Plan}
 use Rattle.machine.specs.Machine.{State, stateOf, answered, carryOut, nextAction, turnLines, turn, deliverLines, deliver, collectLines, collected, collect}
 use Rattle.nest.specs.Nest.{readLines}
 use Rattle.engine.specs.Calls.{recipe, areas, areaLines, freshCall, turnCall, deliverCall, collectCall}
 use Rattle.nest.proofs.Numbered.{numbered}
 use Rattle.engine.proofs.Lines.{and-right}
 
-module _ (l : List ℕ) (route : ℕ) (source : List ℕ) (s : State) (z : firstOf (readLines l) ≡ 0) (a : areas (recipe l route) source s ≡ true) where
-  behind : (more : List Line) → firstOf (readLines l ++ (areaLines (recipe l route) source s ++ more)) ≡ firstOf more
-  behind more =
-      first-behind (readLines l) (areaLines (recipe l route) source s ++ more) (numbered l) z
-      ∙ first-false 9 (not (areas (recipe l route) source s)) more (not-true a)
+module _ (l : List ℕ) (route : ℕ) where
+  abbrev p : Plan
+  p = recipe l route
 
-  pub turn-is : (b : ℕ) → turnCall l route source s b ≡ turn (recipe l route) source s b
-  unfolding turnCall turn
-  turn-is b = ap (λ (n : ℕ). answered n (carryOut (recipe l route) source s b (nextAction (recipe l route) s b)) s) (behind (turnLines (recipe l route) s b))
+  module _ (source : List ℕ) (s : State) (z : firstOf (readLines l) ≡ 0) (a : areas p source s ≡ true) where
+    behind : (more : List Line) → firstOf (readLines l ++ (areaLines p source s ++ more)) ≡ firstOf more
+    behind more =
+        first-behind (readLines l) (areaLines p source s ++ more) (numbered l) z
+        ∙ first-false 9 (not (areas p source s)) more (not-true a)
 
-  pub deliver-is : (m : ℕ) → deliverCall l route source s m ≡ deliver (recipe l route) s m
-  unfolding deliverCall deliver
-  deliver-is m =
-      ap (λ (n : ℕ). answered n (stateOf (s .memories) (s .buffer) (s .progress) (set (s .status) m 2)) s) (behind (deliverLines (recipe l route) s m))
+    pub turn-is : (b : ℕ) → turnCall l route source s b ≡ turn p source s b
+    unfolding turnCall turn
+    turn-is b = ap (λ (n : ℕ). answered n (carryOut p source s b (nextAction p s b)) s) (behind (turnLines p s b))
 
-  pub collect-is : (grid : List ℕ) → length grid ≡ recipe l route .cells → collectCall l route source s grid ≡ collect (recipe l route) s grid
-  unfolding collectCall collect
-  collect-is grid h =
-      ap (λ (t : Bool). answered (firstOf (readLines l ++ (line 9 (not t) ∷ collectLines (recipe l route) s))) (collected (recipe l route) s) grid)
-      (and-right (areas (recipe l route) source s) (eqb (length grid) (recipe l route .cells)) (eq-eqb _ _ h))
-      ∙ ap (λ (n : ℕ). answered n (collected (recipe l route) s) grid) (behind (collectLines (recipe l route) s))
+    pub deliver-is : (m : ℕ) → deliverCall l route source s m ≡ deliver p s m
+    unfolding deliverCall deliver
+    deliver-is m =
+        ap (λ (n : ℕ). answered n (stateOf (s .memories) (s .buffer) (s .progress) (set (s .status) m 2)) s) (behind (deliverLines p s m))
+
+    pub collect-is : (grid : List ℕ) → length grid ≡ p .cells → collectCall l route source s grid ≡ collect p s grid
+    unfolding collectCall collect
+    collect-is grid h =
+        ap (λ (t : Bool). answered (firstOf (readLines l ++ (line 9 (not t) ∷ collectLines p s))) (collected p s) grid)
+        (and-right (areas p source s) (eqb (length grid) (p .cells)) (eq-eqb _ _ h))
+        ∙ ap (λ (n : ℕ). answered n (collected p s) grid) (behind (collectLines p s))
 
 pub front : (a b : List Line) → firstOf (a ++ b) ≡ 0 → firstOf a ≡ 0
 front a b e = go (ℕ-discrete (firstOf a) 0)

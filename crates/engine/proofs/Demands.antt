@@ -149,7 +149,8 @@ module _ (bytes : List ℕ) (route : ℕ) (ok : Accepted (nestOf bytes)) (z : fi
         unpacked = λ source s b t e n. written bytes route ok z source s _ b t _ (does bytes route ok z source s b e) n;
         posted = λ source s e before b m.
             rw (demand1 bytes route source s .fresh .works e)
-            (run-posted bytes route source z so (areas-are (recipe bytes route) source s (fresh-gave bytes route source s e .1) .source) before b m);
+            (run-posted bytes route source z so
+            (areas-are (recipe bytes route) source s (fresh-gave bytes route source s e .1) .source) before b m);
         nest = λ source grid array e l.
             demand1 bytes route source (machine.stateOf [] [] [] []) .sweep grid .works e
             ∙ sym (exact (nestOf bytes) ok .sweep-is (routeOf route) source array l);
@@ -158,8 +159,10 @@ module _ (bytes : List ℕ) (route : ℕ) (ok : Accepted (nestOf bytes)) (z : fi
 
 -- ---- demand 3
 
-three : (bytes : List ℕ) (route : ℕ) (source : List ℕ) (s : State) → Bytes bytes → freshCall bytes route source s .number ≡ 0 → (events : List Event)
-    → Demand3 (calls bytes route source) (freshCall bytes route source s .after) events (recipe bytes route) source (collectCall bytes route source)
+three : (bytes : List ℕ) (route : ℕ) (source : List ℕ) (s : State) → Bytes bytes → freshCall bytes route source s .number ≡ 0
+    → (events : List Event)
+    → Demand3 (calls bytes route source) (freshCall bytes route source s .after) events (recipe bytes route) source
+    (collectCall bytes route source)
 three bytes route source s b z events =
     let gave = fresh-gave bytes route source s z in
     rw (demand1 bytes route source s .fresh .works z)

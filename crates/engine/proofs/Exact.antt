@@ -26,8 +26,8 @@ use Rattle.engine.proofs.Lines.{areas-are}
 use Rattle.engine.proofs.AsSteps.{turn-is}
 
 -- a turn that gave 0 found the areas of their lengths
-turn-areas : (l : List ℕ) (route : ℕ) (source : List ℕ) (s : State) (b : ℕ) → firstOf (readLines l) ≡ 0 → turnCall l route source s b .number ≡ 0
-    → areas (recipe l route) source s ≡ true
+turn-areas : (l : List ℕ) (route : ℕ) (source : List ℕ) (s : State) (b : ℕ) → firstOf (readLines l) ≡ 0
+    → turnCall l route source s b .number ≡ 0 → areas (recipe l route) source s ≡ true
 unfolding turnCall
 turn-areas l route source s b h z =
     true-not (none-first 9 (not (areas (recipe l route) source s)) (turnLines (recipe l route) s b) (λ q. omega arith)

@@ -183,7 +183,8 @@ module _ (l : List ℕ) (route : ℕ) (source : List ℕ) (s : State) (b : ℕ) 
           let q = unfit-none p source s r e z in
           call-later l _ 11 _ s (o .none)
           (sym
-          (first-false 9 _ _ (not-true (q .0)) ∙ first-false 10 _ _ (not-true (q .1)) ∙ first-true 11 _ _ (not-false (le-ltb b (p .processors) h))))
+          (first-false 9 _ _ (not-true (q .0)) ∙ first-false 10 _ _ (not-true (q .1))
+          ∙ first-true 11 _ _ (not-false (le-ltb b (p .processors) h))))
           (λ k. omega arith)
           ∙ turn-at
 
@@ -313,7 +314,8 @@ module _ (l : List ℕ) (route : ℕ) (source : List ℕ) (s : State) (grid : Li
           unfolding firstOf
           over k = first-false 15 (some (tilesLeft p s) (p .processors)) [] (left-is ∙ k)
 
-          pub collect-done : (new : List ℕ) → t ≡ false → new ≡ collected p (stateOf (s .memories) [] [] []) → answer 0 new ≡ collectCall l route source s grid
+          pub collect-done : (new : List ℕ) → t ≡ false → new ≡ collected p (stateOf (s .memories) [] [] [])
+              → answer 0 new ≡ collectCall l route source s grid
           unfolding collected
           collect-done new k c = ap (answer 0) c ∙ call-done l _ 0 _ grid (o .none) (last-line ∙ over k) ∙ collect-at
 

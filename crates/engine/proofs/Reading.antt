@@ -11,7 +11,7 @@ use lib.Seq.{length-take-le}
 use lib.Dec.{ltb, eqb}
 use borrow.Author.Tests.{eq-eqb, ne-eqb, ltb-true}
 use Rattle.base.specs.Tests.{not, pick, every, some}
-use Rattle.base.specs.Numbers.{line, firstOf}
+use Rattle.base.specs.Numbers.{Line, line, firstOf}
 use Rattle.base.proofs.Tests.{pick-true, pick-false, true-not}
 use Rattle.base.proofs.Numbers.{none-first, first-some, first-behind}
 use Rattle.machine.specs.Plan.{Plan}
@@ -96,20 +96,28 @@ stored-after rs b r = by (eqb (r .number) 0)
     by false = refl
 
 -- a turn that gives 0 has a record there
-pub turn-inside : (l : List ℕ) (route : ℕ) (source : List ℕ) (s : State) (b : ℕ) → turnCall l route source s b .number ≡ 0 → 3 * b + 2 < length (s .progress)
-unfolding turnCall
-turn-inside l route source s b e = by (ℕ-discrete (firstOf (readLines l)) 0)
-  where
-    behind : firstOf (areaLines (recipe l route) source s ++ turnLines (recipe l route) s b) ≡ 0 → 3 * b + 2 < length (s .progress)
-    behind z =
-        let a = none-first 9 (not (areas (recipe l route) source s)) (turnLines (recipe l route) s b) (λ q. omega arith) z in
-        let f = none-first 10 (not (fit (recipe l route) s)) (line 11 (not (ltb b (recipe l route .processors))) ∷ line 12 (waiting (recipe l route) s b) ∷ line 13 (not (tilesLeft (recipe l route) s b)) ∷ []) (λ q. omega arith) (a .1) in
-        let p = none-first 11 (not (ltb b (recipe l route .processors))) (line 12 (waiting (recipe l route) s b) ∷ line 13 (not (tilesLeft (recipe l route) s b)) ∷ []) (λ q. omega arith) (f .1) in
-        omega (arith, areas-are (recipe l route) source s (true-not (a .0)) .progress, ltb-true b (recipe l route .processors) (true-not (p .0)))
+module _ (l : List ℕ) (route : ℕ) (source : List ℕ) (s : State) (b : ℕ) where
+  abbrev p : Plan
+  p = recipe l route
 
-    by : Dec (firstOf (readLines l) ≡ 0) → 3 * b + 2 < length (s .progress)
-    by (yes z) = behind (sym (first-behind (readLines l) (areaLines (recipe l route) source s ++ turnLines (recipe l route) s b) (numbered l) z) ∙ e)
-    by (no z) = absurd (z (sym (first-some (readLines l) (areaLines (recipe l route) source s ++ turnLines (recipe l route) s b) z) ∙ e))
+  -- the lines 12 and 13 of the turn
+  abbrev later : List Line
+  later = line 12 (waiting p s b) ∷ line 13 (not (tilesLeft p s b)) ∷ []
+
+  inside : firstOf (areaLines p source s ++ turnLines p s b) ≡ 0 → 3 * b + 2 < length (s .progress)
+  inside z =
+      let a = none-first 9 (not (areas p source s)) (turnLines p s b) (λ q. omega arith) z in
+      let f = none-first 10 (not (fit p s)) (line 11 (not (ltb b (p .processors))) ∷ later) (λ q. omega arith) (a .1) in
+      let t = none-first 11 (not (ltb b (p .processors))) later (λ q. omega arith) (f .1) in
+      omega (arith, areas-are p source s (true-not (a .0)) .progress, ltb-true b (p .processors) (true-not (t .0)))
+
+  pub turn-inside : turnCall l route source s b .number ≡ 0 → 3 * b + 2 < length (s .progress)
+  unfolding turnCall
+  turn-inside e = by (ℕ-discrete (firstOf (readLines l)) 0)
+    where
+      by : Dec (firstOf (readLines l) ≡ 0) → 3 * b + 2 < length (s .progress)
+      by (yes z) = inside (sym (first-behind (readLines l) (areaLines p source s ++ turnLines p s b) (numbered l) z) ∙ e)
+      by (no z) = absurd (z (sym (first-some (readLines l) (areaLines p source s ++ turnLines p s b) z) ∙ e))
 
 -- ---- what a fresh start makes
 
@@ -152,6 +160,11 @@ left-as p k l e = ap (λ (z : List ℕ). some (tilesLeft p (progressOnly z)) (p 
 
 -- ---- the records of a turn that gave 0
 
-pub record-there : (l : List ℕ) (route : ℕ) (source m u t : List ℕ) (rs : List Progress) (b n : ℕ) (x : State) → answer n x ≡ turnCall l route source (stateOf m u (flatWords rs) t) b → n ≡ 0 → b < length rs
+pub record-there : (l : List ℕ) (route : ℕ) (source m u t : List ℕ) (rs : List Progress) (b n : ℕ) (x : State)
+    → answer n x ≡ turnCall l route source (stateOf m u (flatWords rs) t) b → n ≡ 0 → b < length rs
 record-there l route source m u t rs b n x e z =
-    omega (arith, length-words rs, turn-inside l route source (stateOf m u (flatWords rs) t) b (ap (λ (y : Answered State). y .number) (sym e) ∙ z))
+    omega (
+      arith,
+      length-words rs,
+      turn-inside l route source (stateOf m u (flatWords rs) t) b (ap (λ (y : Answered State). y .number) (sym e) ∙ z),
+    )

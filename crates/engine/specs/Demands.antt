@@ -85,7 +85,8 @@ pub record Demand2 (bytes : List ℕ) (route : ℕ) : Type 0 where
   pub nest : (source grid array : List ℕ) → sweepCall bytes source grid .number ≡ 0 → length array ≡ recipe bytes route .cells
       → sweepCall bytes source grid .after ≡ runNest (nestOf bytes) source array (sequential (nestOf bytes))
   pub swept : (source : List ℕ) (c : ℕ) → c < recipe bytes route .cells
-      → getD (machine.sweep (recipe bytes route) source) c 0 ≡ recipe bytes route .value source (machine.sweep (recipe bytes route) source) c
+      → getD (machine.sweep (recipe bytes route) source) c 0
+      ≡ recipe bytes route .value source (machine.sweep (recipe bytes route) source) c
 
 pub record Demands : Type 0 where
   pub one : (bytes : List ℕ) (route : ℕ) (source : List ℕ) (s : State) → Demand1 bytes route source s

@@ -1,4 +1,4 @@
-// The calls for programs, which keep the records as words, three a processor; and the sweep.
+// The calls for programs, which keep the records as words, three a processor, each on the route that a word names; and the sweep.
 ghost use mathlib.Core.Path.{_≡_};
 ghost use Prim.Native.Nat.{_+_, _*_, _<_};
 ghost use lib.ListN.{length};

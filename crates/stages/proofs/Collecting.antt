@@ -162,7 +162,7 @@ module _ {x : Nest} {memories old new : List ℕ} {c b k : ℕ} (g : Copied x me
           begins = add-mod-right c (rowLength x) ∙ g .begins;
         }
 
-pub copied-all : (route : Route) {x : Nest} {memories old new : List ℕ} {c k : ℕ} → Copied x memories old new c → length old ≡ cells x → k ≡ cells x → k ≤ c
-    → new ≡ collected (planOf route x) (stateOf memories [] [] [])
+pub copied-all : (route : Route) {x : Nest} {memories old new : List ℕ} {c k : ℕ} → Copied x memories old new c → length old ≡ cells x
+    → k ≡ cells x → k ≤ c → new ≡ collected (planOf route x) (stateOf memories [] [] [])
 unfolding collected
 copied-all route {x} {memories} {old} {new} {c} g e z h = stored-all (cellWord x memories) old new c (cells x) (g .stored) e (omega arith)

@@ -21,8 +21,7 @@ use Rattle.machine.specs.Machine.{placeOf, unpackAll}
 use Rattle.nest.specs.declared.Nest.{Nest}
 use Rattle.nest.specs.Nest.{cells}
 use Rattle.plan.specs.declared.Route.{Route}
-use Rattle.plan.specs.Messages.{slots, slotParcel, messages, planOf}
-use Rattle.plan.proofs.Slots.{message-slot}
+use Rattle.plan.specs.Messages.{slotParcel, messages, planOf}
 use Rattle.table.specs.declared.Place.{Place}
 use Rattle.table.specs.Table.{FoundAt}
 
@@ -52,42 +51,6 @@ piece-back l ys f b c n e h k q = back l ys f (b * c) c h k q ∙ ap (λ (i : �
 
 pub room : (n b c m l : ℕ) → b < n → c ≡ m → l ≡ n * m → b * c + c ≤ l
 room n b c m l h e q = rw (q, e) (piece-fits m n b h)
-
--- ---- messages
-
-module _ (route : Route) (x : Nest) (m : ℕ) (r : Place) (q : FoundAt route x m r) where
-  pub placed-self : FoundAt route x (r .number) r
-  placed-self = subst (λ (k : ℕ). FoundAt route x k r) (sym (q .number)) q
-
-  held-is : heldBy (planOf route x) m ≡ slotParcel route x (r .slot)
-  held-is = ap (λ (z : Message). z .cells) (q .is)
-
-  place-is : (buffer : List ℕ) → placeOf (planOf route x) buffer m ≡ part buffer (r .offset) (r .words)
-  place-is buffer = rw (held-is, ← q .offset, ← q .words)
-
-  pub mid-words : (buffer : List ℕ) → length buffer ≡ words (planOf route x)
-      → length (take (r .offset + r .words - r .offset) (drop (r .offset) buffer)) ≡ length (slotParcel route x (r .slot))
-  mid-words buffer h = mid-length buffer (r .offset) (r .words) (omega (arith, q .room, h)) ∙ q .words
-
-  -- a message holds a cell
-  pub mid-some : (buffer : List ℕ) → length buffer ≡ words (planOf route x)
-      → 0 < length (take (r .offset + r .words - r .offset) (drop (r .offset) buffer))
-  mid-some buffer h =
-      let s = message-slot route x (slots route x) m (q .low) in
-      omega (arith, mid-words buffer h, ap (λ (z : Message). length (z .cells)) (sym (q .is) ∙ s .4), s .2)
-
-  pub taken-is : (memory buffer ys : List ℕ)
-      → ys ≡ unpack memory (slotParcel route x (r .slot)) (take (r .offset + r .words - r .offset) (drop (r .offset) buffer))
-      → ys ≡ unpack memory (heldBy (planOf route x) m) (placeOf (planOf route x) buffer m)
-  taken-is memory buffer ys e = rw (place-is buffer, held-is) (e ∙ rw (mid-is buffer (r .offset) (r .words)))
-
-  pub packed-is : (memory buffer ys : List ℕ) → length buffer ≡ words (planOf route x)
-      → length ys ≡ length (take (r .offset + r .words - r .offset) (drop (r .offset) buffer)) → ys ≡ pack memory (slotParcel route x (r .slot))
-      → putMid (r .offset) (r .offset + r .words - r .offset) buffer ys ≡ put buffer (offset (messages route x) m) (pack memory (heldBy (planOf route x) m))
-  packed-is memory buffer ys h k e =
-      put-is buffer ys (r .offset) (r .words) (k ∙ mid-length buffer (r .offset) (r .words) (omega (arith, q .room, h)))
-      ∙ ap (put buffer (r .offset)) (e ∙ ap (pack memory) (sym held-is))
-      ∙ ap (λ (i : ℕ). put buffer i (pack memory (heldBy (planOf route x) m))) (q .offset)
 
 -- ---- a list of messages, one after the other
 
@@ -121,67 +84,103 @@ module _ (ms : List ℕ) (j : ℕ) where
   unfolding allAt
   all-end l v h = rw (drop-of-length-le ms h)
 
--- what is left to gather gives the same
-pub record Gathering (route : Route) (x : Nest) (tile : ℕ) (buffer memory₀ status₀ memory status : List ℕ) (m j : ℕ) : Type 0 where
-  pub low : j ≤ m
-  pub all : m ≡ length (duesOf (planOf route x) tile)
-  pub long : length memory ≡ length memory₀
-  pub longStatus : length status ≡ length status₀
-  pub memories : unpackAll (planOf route x) buffer memory (drop j (duesOf (planOf route x) tile)) ≡ unpackAll (planOf route x) buffer memory₀ (duesOf (planOf route x) tile)
-  pub statuses : setAll status (drop j (duesOf (planOf route x) tile)) 3 ≡ setAll status₀ (duesOf (planOf route x) tile) 3
+-- ---- messages of a nest's plan
 
-module _ (route : Route) (x : Nest) (tile : ℕ) (buffer memory₀ status₀ : List ℕ) (m : ℕ) where
-  pub gather-start : m ≡ length (duesOf (planOf route x) tile) → Gathering route x tile buffer memory₀ status₀ memory₀ status₀ m 0
-  gather-start e = record { low = omega arith; all = e; long = refl; longStatus = refl; memories = refl; statuses = refl }
+module _ (route : Route) (x : Nest) where
+  abbrev p : Plan
+  p = planOf route x
 
-  pub gather-again : (memory memory′ status : List ℕ) (j : ℕ) (r : Place) → Gathering route x tile buffer memory₀ status₀ memory status m j → j < m
-      → FoundAt route x (getD (duesOf (planOf route x) tile) j 0) r → length memory′ ≡ length memory
-      → memory′ ≡ unpack memory (heldBy (planOf route x) (r .number)) (placeOf (planOf route x) buffer (r .number))
-      → Gathering route x tile buffer memory₀ status₀ memory′ (set status (r .number) 3) m (j + 1)
-  gather-again memory memory′ status j r g l q k e =
-      let d = duesOf (planOf route x) tile in
-      let h : j < length (duesOf (planOf route x) tile) = omega (arith, g .all) in
-      record {
-        low = omega arith;
-        all = g .all;
-        long = k ∙ g .long;
-        longStatus = length-set status (r .number) 3 ∙ g .longStatus;
-        memories =
-            ap (λ (z : List ℕ). unpackAll (planOf route x) buffer z (drop (j + 1) d))
-            (e ∙ ap (λ (i : ℕ). unpack memory (heldBy (planOf route x) i) (placeOf (planOf route x) buffer i)) (q .number))
-            ∙ gather-turn d j (planOf route x) buffer memory h ∙ g .memories;
-        statuses = ap (λ (i : ℕ). setAll (set status i 3) (drop (j + 1) d) 3) (q .number) ∙ set-turn d j status 3 h ∙ g .statuses;
-      }
+  module _ (m : ℕ) (r : Place) (q : FoundAt route x m r) where
+    pub placed-self : FoundAt route x (r .number) r
+    placed-self = subst (λ (k : ℕ). FoundAt route x k r) (sym (q .number)) q
 
-  pub gather-done : (memory status : List ℕ) (j : ℕ) → Gathering route x tile buffer memory₀ status₀ memory status m j → m ≤ j
-      → (memory ≡ unpackAll (planOf route x) buffer memory₀ (duesOf (planOf route x) tile)) × (status ≡ setAll status₀ (duesOf (planOf route x) tile) 3)
-  gather-done memory status j g l =
-      let d = duesOf (planOf route x) tile in
-      let h : length (duesOf (planOf route x) tile) ≤ j = omega (arith, g .all) in
-      (sym (gather-end d j (planOf route x) buffer memory h) ∙ g .memories, sym (set-end d j status 3 h) ∙ g .statuses)
+    held-is : heldBy p m ≡ slotParcel route x (r .slot)
+    held-is = ap (λ (z : Message). z .cells) (q .is)
 
--- what is left to look at decides
-pub record Looking (route : Route) (x : Nest) (tile : ℕ) (status : List ℕ) (m j : ℕ) : Type 0 where
-  pub low : j ≤ m
-  pub all : m ≡ length (duesOf (planOf route x) tile)
-  pub is : allAt status 2 (drop j (duesOf (planOf route x) tile)) ≡ allAt status 2 (duesOf (planOf route x) tile)
+    place-is : (buffer : List ℕ) → placeOf p buffer m ≡ part buffer (r .offset) (r .words)
+    place-is buffer = rw (held-is, ← q .offset, ← q .words)
 
-module _ (route : Route) (x : Nest) (tile : ℕ) (status : List ℕ) (m j : ℕ) (g : Looking route x tile status m j) where
-  pub look-again : (r : Place) → j < m → FoundAt route x (getD (duesOf (planOf route x) tile) j 0) r → getD status (r .number) 0 ≡ 2 → Looking route x tile status m (j + 1)
-  look-again r l q e =
-      record {
-        low = omega arith;
-        all = g .all;
-        is = all-turn (duesOf (planOf route x) tile) j status 2 (omega (arith, g .all)) (ap (λ (i : ℕ). getD status i 0) (sym (q .number)) ∙ e) ∙ g .is;
-      }
+    pub mid-words : (buffer : List ℕ) → length buffer ≡ words p
+        → (length (take (r .offset + r .words - r .offset) (drop (r .offset) buffer)) ≡ length (slotParcel route x (r .slot)))
+        × (0 < length (take (r .offset + r .words - r .offset) (drop (r .offset) buffer)))
+    mid-words buffer h =
+        let e = mid-length buffer (r .offset) (r .words) (omega (arith, q .room, h)) in
+        (e ∙ q .words, omega (arith, e, q .full))
 
-  pub look-no : (r : Place) → j < m → FoundAt route x (getD (duesOf (planOf route x) tile) j 0) r → getD status (r .number) 0 ≢ 2
-      → false ≡ allAt status 2 (duesOf (planOf route x) tile)
-  look-no r l q e =
-      sym (all-no (duesOf (planOf route x) tile) j status 2 (omega (arith, g .all)) (λ z. e (ap (λ (i : ℕ). getD status i 0) (q .number) ∙ z))) ∙ g .is
+    pub taken-is : (memory buffer ys : List ℕ)
+        → ys ≡ unpack memory (slotParcel route x (r .slot)) (take (r .offset + r .words - r .offset) (drop (r .offset) buffer))
+        → ys ≡ unpack memory (heldBy p m) (placeOf p buffer m)
+    taken-is memory buffer ys e = rw (place-is buffer, held-is) (e ∙ rw (mid-is buffer (r .offset) (r .words)))
 
-  pub look-done : m ≤ j → true ≡ allAt status 2 (duesOf (planOf route x) tile)
-  look-done l = sym (all-end (duesOf (planOf route x) tile) j status 2 (omega (arith, g .all))) ∙ g .is
+    pub packed-is : (memory buffer ys : List ℕ) → length buffer ≡ words p
+        → length ys ≡ length (take (r .offset + r .words - r .offset) (drop (r .offset) buffer)) → ys ≡ pack memory (slotParcel route x (r .slot))
+        → putMid (r .offset) (r .offset + r .words - r .offset) buffer ys ≡ put buffer (offset (messages route x) m) (pack memory (heldBy p m))
+    packed-is memory buffer ys h k e =
+        put-is buffer ys (r .offset) (r .words) (k ∙ mid-length buffer (r .offset) (r .words) (omega (arith, q .room, h)))
+        ∙ ap (put buffer (r .offset)) (e ∙ ap (pack memory) (sym held-is))
+        ∙ ap (λ (i : ℕ). put buffer i (pack memory (heldBy p m))) (q .offset)
+
+  -- what is left to gather gives the same
+  pub record Gathering (tile : ℕ) (buffer memory₀ status₀ memory status : List ℕ) (m j : ℕ) : Type 0 where
+    pub low : j ≤ m
+    pub all : m ≡ length (duesOf p tile)
+    pub long : length memory ≡ length memory₀
+    pub longStatus : length status ≡ length status₀
+    pub memories : unpackAll p buffer memory (drop j (duesOf p tile)) ≡ unpackAll p buffer memory₀ (duesOf p tile)
+    pub statuses : setAll status (drop j (duesOf p tile)) 3 ≡ setAll status₀ (duesOf p tile) 3
+
+  module _ (tile : ℕ) (buffer memory₀ status₀ : List ℕ) (m : ℕ) where
+    pub gather-start : m ≡ length (duesOf p tile) → Gathering tile buffer memory₀ status₀ memory₀ status₀ m 0
+    gather-start e = record { low = omega arith; all = e; long = refl; longStatus = refl; memories = refl; statuses = refl }
+
+    pub gather-again : (memory memory′ status : List ℕ) (j : ℕ) (r : Place) → Gathering tile buffer memory₀ status₀ memory status m j → j < m
+        → FoundAt route x (getD (duesOf p tile) j 0) r → length memory′ ≡ length memory
+        → memory′ ≡ unpack memory (heldBy p (r .number)) (placeOf p buffer (r .number))
+        → Gathering tile buffer memory₀ status₀ memory′ (set status (r .number) 3) m (j + 1)
+    gather-again memory memory′ status j r g l q k e =
+        let d = duesOf p tile in
+        let h : j < length (duesOf p tile) = omega (arith, g .all) in
+        record {
+          low = omega arith;
+          all = g .all;
+          long = k ∙ g .long;
+          longStatus = length-set status (r .number) 3 ∙ g .longStatus;
+          memories =
+              ap (λ (z : List ℕ). unpackAll p buffer z (drop (j + 1) d))
+              (e ∙ ap (λ (i : ℕ). unpack memory (heldBy p i) (placeOf p buffer i)) (q .number))
+              ∙ gather-turn d j p buffer memory h ∙ g .memories;
+          statuses = ap (λ (i : ℕ). setAll (set status i 3) (drop (j + 1) d) 3) (q .number) ∙ set-turn d j status 3 h ∙ g .statuses;
+        }
+
+    pub gather-done : (memory status : List ℕ) (j : ℕ) → Gathering tile buffer memory₀ status₀ memory status m j → m ≤ j
+        → (memory ≡ unpackAll p buffer memory₀ (duesOf p tile)) × (status ≡ setAll status₀ (duesOf p tile) 3)
+    gather-done memory status j g l =
+        let d = duesOf p tile in
+        let h : length (duesOf p tile) ≤ j = omega (arith, g .all) in
+        (sym (gather-end d j p buffer memory h) ∙ g .memories, sym (set-end d j status 3 h) ∙ g .statuses)
+
+  -- what is left to look at decides
+  pub record Looking (tile : ℕ) (status : List ℕ) (m j : ℕ) : Type 0 where
+    pub low : j ≤ m
+    pub all : m ≡ length (duesOf p tile)
+    pub is : allAt status 2 (drop j (duesOf p tile)) ≡ allAt status 2 (duesOf p tile)
+
+  module _ (tile : ℕ) (status : List ℕ) (m j : ℕ) (g : Looking tile status m j) where
+    pub look-again : (r : Place) → j < m → FoundAt route x (getD (duesOf p tile) j 0) r → getD status (r .number) 0 ≡ 2 → Looking tile status m (j + 1)
+    look-again r l q e =
+        record {
+          low = omega arith;
+          all = g .all;
+          is = all-turn (duesOf p tile) j status 2 (omega (arith, g .all)) (ap (λ (i : ℕ). getD status i 0) (sym (q .number)) ∙ e) ∙ g .is;
+        }
+
+    pub look-no : (r : Place) → j < m → FoundAt route x (getD (duesOf p tile) j 0) r → getD status (r .number) 0 ≢ 2
+        → false ≡ allAt status 2 (duesOf p tile)
+    look-no r l q e =
+        sym (all-no (duesOf p tile) j status 2 (omega (arith, g .all)) (λ z. e (ap (λ (i : ℕ). getD status i 0) (q .number) ∙ z))) ∙ g .is
+
+    pub look-done : m ≤ j → true ≡ allAt status 2 (duesOf p tile)
+    look-done l = sym (all-end (duesOf p tile) j status 2 (omega (arith, g .all))) ∙ g .is
 
 -- ---- tests over all numbers below a bound
 

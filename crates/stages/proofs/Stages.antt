@@ -26,38 +26,42 @@ use Rattle.stages.proofs.Parts.{piece-back, mid-is}
 
 -- ---- what each stage leaves; the code has the number of cells as k
 
-module _ (route : Route) (x : Nest) (s : State) (b t k : ℕ) (e : k ≡ cells x) where
-  pub gathered : (ys progress status : List ℕ) → b * k + k ≤ length (s .memories)
-      → length ys ≡ length (take (b * k + k - b * k) (drop (b * k) (s .memories)))
-      → ys ≡ unpackAll (planOf route x) (s .buffer) (take (b * k + k - b * k) (drop (b * k) (s .memories))) (duesOf (planOf route x) t)
-      → status ≡ setAll (s .status) (duesOf (planOf route x) t) 3 → progress ≡ setProgress (s .progress) b (finishedOf s b) 1 0
-      → stateOf (putMid (b * k) (b * k + k - b * k) (s .memories) ys) (s .buffer) progress status ≡ carryOut (planOf route x) [] s b (gather t)
-  unfolding carryOut
-  gathered ys progress status h l q f g =
-      rw (f, g, piece-back (s .memories) ys (λ z. unpackAll (planOf route x) (s .buffer) z (duesOf (planOf route x) t)) b k (cells x) e h l q)
+module _ (route : Route) (x : Nest) where
+  abbrev p : Plan
+  p = planOf route x
 
-  pub calculated : (source ys progress : List ℕ) (n : ℕ) → b * k + k ≤ length (s .memories)
-      → length ys ≡ length (take (b * k + k - b * k) (drop (b * k) (s .memories)))
-      → ys ≡ storeAll (value x source) (take (b * k + k - b * k) (drop (b * k) (s .memories))) (cellsOf x t)
-      → n ≡ length (sendsOf (planOf route x) t)
-      → progress ≡ pick (ltb 0 n) (setProgress (s .progress) b (finishedOf s b) 2 0) (setProgress (s .progress) b (finishedOf s b + 1) 0 0)
-      → stateOf (putMid (b * k) (b * k + k - b * k) (s .memories) ys) (s .buffer) progress (s .status) ≡ carryOut (planOf route x) source s b (calculate t)
-  unfolding carryOut afterSends
-  calculated source ys progress n h l q c g =
-      rw (g, c, piece-back (s .memories) ys (λ z. storeAll (value x source) z (cellsOf x t)) b k (cells x) e h l q)
+  module _ (s : State) (b t k : ℕ) (e : k ≡ cells x) where
+    pub gathered : (ys progress status : List ℕ) → b * k + k ≤ length (s .memories)
+        → length ys ≡ length (take (b * k + k - b * k) (drop (b * k) (s .memories)))
+        → ys ≡ unpackAll p (s .buffer) (take (b * k + k - b * k) (drop (b * k) (s .memories))) (duesOf p t)
+        → status ≡ setAll (s .status) (duesOf p t) 3 → progress ≡ setProgress (s .progress) b (finishedOf s b) 1 0
+        → stateOf (putMid (b * k) (b * k + k - b * k) (s .memories) ys) (s .buffer) progress status ≡ carryOut p [] s b (gather t)
+    unfolding carryOut
+    gathered ys progress status h l q f g =
+        rw (f, g, piece-back (s .memories) ys (λ z. unpackAll p (s .buffer) z (duesOf p t)) b k (cells x) e h l q)
 
-  pub sent-is : (sent n : ℕ) (r : Place) (ys progress : List ℕ) → sent ≡ sentOf s b → sent < length (sendsOf (planOf route x) t)
-      → FoundAt route x (getD (sendsOf (planOf route x) t) sent 0) r → n ≡ length (sendsOf (planOf route x) t)
-      → ys ≡ put (s .buffer) (offset (messages route x) (r .number))
-      (pack (take (b * k + k - b * k) (drop (b * k) (s .memories))) (heldBy (planOf route x) (r .number)))
-      → progress ≡ pick (ltb (sent + 1) n) (setProgress (s .progress) b (finishedOf s b) 2 (sent + 1)) (setProgress (s .progress) b (finishedOf s b + 1) 0 0)
-      → stateOf (s .memories) ys progress (set (s .status) (r .number) 1) ≡ carryOut (planOf route x) [] s b (send (getD (sendsOf (planOf route x) t) (sentOf s b) 0))
-  unfolding carryOut afterSends
-  sent-is sent n r ys progress a l q c y g =
-      let z : r .number ≡ getD (sendsOf (planOf route x) t) (sentOf s b) 0 = q .number ∙ ap (λ (i : ℕ). getD (sendsOf (planOf route x) t) i 0) a in
-      let v : senderOf (planOf route x) (getD (sendsOf (planOf route x) t) (sentOf s b) 0) ≡ t =
-      at-is (senderOf (planOf route x)) t (count (planOf route x)) (sentOf s b) (rw (← a) l) in
-      rw (y, g, c, a, z, v, mid-is (s .memories) (b * k) k, e)
+    pub calculated : (source ys progress : List ℕ) (n : ℕ) → b * k + k ≤ length (s .memories)
+        → length ys ≡ length (take (b * k + k - b * k) (drop (b * k) (s .memories)))
+        → ys ≡ storeAll (value x source) (take (b * k + k - b * k) (drop (b * k) (s .memories))) (cellsOf x t)
+        → n ≡ length (sendsOf p t)
+        → progress ≡ pick (ltb 0 n) (setProgress (s .progress) b (finishedOf s b) 2 0) (setProgress (s .progress) b (finishedOf s b + 1) 0 0)
+        → stateOf (putMid (b * k) (b * k + k - b * k) (s .memories) ys) (s .buffer) progress (s .status) ≡ carryOut p source s b (calculate t)
+    unfolding carryOut afterSends
+    calculated source ys progress n h l q c g =
+        rw (g, c, piece-back (s .memories) ys (λ z. storeAll (value x source) z (cellsOf x t)) b k (cells x) e h l q)
+
+    pub sent-is : (sent n : ℕ) (r : Place) (ys progress : List ℕ) → sent ≡ sentOf s b → sent < length (sendsOf p t)
+        → FoundAt route x (getD (sendsOf p t) sent 0) r → n ≡ length (sendsOf p t)
+        → ys ≡ put (s .buffer) (offset (messages route x) (r .number))
+        (pack (take (b * k + k - b * k) (drop (b * k) (s .memories))) (heldBy p (r .number)))
+        → progress ≡ pick (ltb (sent + 1) n) (setProgress (s .progress) b (finishedOf s b) 2 (sent + 1)) (setProgress (s .progress) b (finishedOf s b + 1) 0 0)
+        → stateOf (s .memories) ys progress (set (s .status) (r .number) 1) ≡ carryOut p [] s b (send (getD (sendsOf p t) (sentOf s b) 0))
+    unfolding carryOut afterSends
+    sent-is sent n r ys progress a l q c y g =
+        let z : r .number ≡ getD (sendsOf p t) (sentOf s b) 0 = q .number ∙ ap (λ (i : ℕ). getD (sendsOf p t) i 0) a in
+        let v : senderOf p (getD (sendsOf p t) (sentOf s b) 0) ≡ t =
+        at-is (senderOf p) t (count p) (sentOf s b) (rw (← a) l) in
+        rw (y, g, c, a, z, v, mid-is (s .memories) (b * k) k, e)
 
 -- ---- fit records
 

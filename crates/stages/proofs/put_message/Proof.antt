@@ -20,7 +20,7 @@ part-pack-end : tie.Need-part-pack-end
 part-pack-end c = search needs
 
 pack-requires : tie.Need-pack-requires
-pack-requires c κs = let S = c .before .before .before .before in (S .pre .0 .0, (S .pre .0 .1 .slot, (S .pre .1 .0, (parts.mid-words (S .args .sizes .route) (S .args .nest) (S .args .place .number) (S .args .place) (S .pre .0 .1) (S .args .buffer .now) (S .pre .1 .1), parts.mid-some (S .args .sizes .route) (S .args .nest) (S .args .place .number) (S .args .place) (S .pre .0 .1) (S .args .buffer .now) (S .pre .1 .1)))))
+pack-requires c κs = let S = c .before .before .before .before in (S .pre .0 .0, (S .pre .0 .1 .slot, (S .pre .1 .0, parts.mid-words (S .args .sizes .route) (S .args .nest) (S .args .place .number) (S .args .place) (S .pre .0 .1) (S .args .buffer .now) (S .pre .1 .1))))
 
 same-length : tie.Need-same-length
 same-length c = search needs

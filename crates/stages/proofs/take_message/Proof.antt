@@ -20,7 +20,7 @@ part-unpack-end : tie.Need-part-unpack-end
 part-unpack-end c = search needs
 
 unpack-requires : tie.Need-unpack-requires
-unpack-requires c κs = let S = c .before .before .before .before .before in (S .pre .0 .0, (S .pre .0 .1 .slot, (S .pre .1 .0, (parts.mid-words (S .args .sizes .route) (S .args .nest) (S .args .place .number) (S .args .place) (S .pre .0 .1) (S .args .buffer .now) (S .pre .1 .1), parts.mid-some (S .args .sizes .route) (S .args .nest) (S .args .place .number) (S .args .place) (S .pre .0 .1) (S .args .buffer .now) (S .pre .1 .1)))))
+unpack-requires c κs = let S = c .before .before .before .before .before in (S .pre .0 .0, (S .pre .0 .1 .slot, (S .pre .1 .0, parts.mid-words (S .args .sizes .route) (S .args .nest) (S .args .place .number) (S .args .place) (S .pre .0 .1) (S .args .buffer .now) (S .pre .1 .1))))
 
 same-length : tie.Need-same-length
 same-length c = search needs
