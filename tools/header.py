@@ -289,10 +289,12 @@ FAULTS = [
     ('crate', 'encoded: &[u8], m: u32, out: &mut [u32]', 'encoded: &[u8], out: &mut [u32], m: u32'),
     ('crate', 'pub stage: u32', 'pub stage: u64'),
     ('crate', '#[repr(C)]\n', ''),
-    ('header', ' *   18 too wide       all', ' *   19 narrow         all'),
+    ('header', ' *   18 too wide       all', ' *   99 narrow         all'),
     ('refusals', '14 NoMail', '13 NoMail'),
     ('refusals', '7 Boards "boards"', '7 Boards "board"'),
     ('refusals', '    17 LastSpread "last spread": "the last dimension is spread";\n    7 Boards', '    7 Boards'),
+    ('header', 'const rolwyddac_progress *other', 'rolwyddac_progress *other'),
+    ('crate', 'engaged: &mut [u32], other: &[Progress]', 'other: &[Progress], engaged: &mut [u32]'),
     ('sources', 'message: u32', 'message: u16'),
     ('sources', '#[no_mangle]\npub extern "C" fn rolwyddac_sweep', 'pub extern "C" fn rolwyddac_sweep'),
 ]

@@ -1,5 +1,5 @@
-"""A plain model of document 01 and of the requests W-201, W-203 to W-205 and W-207, written from their text, read as docs/DECISIONS.md
-says, and not from the engine.
+"""A plain model of document 01 and of the requests W-201, W-203 to W-205, W-207 and W-208, written from their text, read as
+docs/DECISIONS.md says, and not from the engine.
 
 Every set is made by trying all its candidates. It shares no code, no table and no closed form with
 the engine, so that a test vector made from it tells whether the engine means what the paper says.
@@ -317,8 +317,8 @@ def lengths_right(plan, areas):
             and len(areas.status) == len(plan.messages))
 
 
-def is_fit_record(plan, areas, b):
-    finished, stage, sent = areas.progress[3 * b:3 * b + 3]
+def is_fit_record(plan, progress, b):
+    finished, stage, sent = progress[3 * b:3 * b + 3]
     tiles = plan.tiles_of[b]
     if finished > len(tiles):
         return False
@@ -332,8 +332,37 @@ def is_fit_record(plan, areas, b):
 
 
 def is_fit(plan, areas):
-    return (all(is_fit_record(plan, areas, b) for b in range(plan.boards))
+    return (all(is_fit_record(plan, areas.progress, b) for b in range(plan.boards))
             and all(mark <= 3 for mark in areas.status))
+
+
+class Rig:
+    """W-208, what a call for an office is lent beside its own areas: a shared word a board, the other office's records; and the
+    number of the office."""
+
+    def __init__(self, engaged, other, office):
+        self.engaged = engaged
+        self.other = other
+        self.office = office
+
+
+# W-208: the shared word of a board that is engaged to no office
+FREE = 2
+
+
+def agrees(plan, areas, rig):
+    """W-208's part of line 10: the other's records are fit; no shared word is above 2; the engaged office's stage is 1 or 2, every
+    other is 0."""
+    if not all(is_fit_record(plan, rig.other, b) for b in range(plan.boards)):
+        return False
+    for b in range(plan.boards):
+        if rig.engaged[b] > FREE:
+            return False
+        for office, progress in ((rig.office, areas.progress), (1 - rig.office, rig.other)):
+            stage = progress[3 * b + 1]
+            if stage not in ((1, 2) if rig.engaged[b] == office else (0,)):
+                return False
+    return True
 
 
 def fresh(encoded, areas, route=DIRECT):
@@ -358,36 +387,56 @@ def after_sends(plan, areas, b, tile, sent):
         areas.progress[3 * b + 2] = 0
 
 
-def tested(encoded, areas, route, others_right=lambda plan: True):
-    """The lines up to 10, tested by every call on a run's state, and the plan; what else is lent counts for line 9."""
+def tested(encoded, areas, route, rig=None, others_right=lambda plan: True):
+    """The lines up to 10, tested by every call on a run's state, and the plan; what else is lent counts for line 9. For an office
+    (W-208) line 11 on its number stands between 9 and 10."""
     number, plan = plan_of(encoded, route)
     if number != 0:
         return number, plan
     if not lengths_right(plan, areas) or not others_right(plan):
         return 9, plan
+    if rig is not None:
+        if len(rig.engaged) != plan.boards or len(rig.other) != 3 * plan.boards:
+            return 9, plan
+        if rig.office > 1:
+            return 11, plan
+        if not agrees(plan, areas, rig):
+            return 10, plan
     return (0 if is_fit(plan, areas) else 10), plan
 
 
-def turn(encoded, areas, b, route=DIRECT):
-    number, plan = tested(encoded, areas, route)
+def turn_number(encoded, areas, b, route=DIRECT, rig=None):
+    """The number that a turn gives, and the plan; nothing is written."""
+    number, plan = tested(encoded, areas, route, rig)
+    if number != 0:
+        return number, plan
+    if not b < plan.boards:
+        return 11, plan
+    finished, stage, _ = areas.progress[3 * b:3 * b + 3]
+    left = finished < len(plan.tiles_of[b])
+    if rig is not None and left and rig.engaged[b] == 1 - rig.office:
+        return 19, plan
+    if left and stage == 0 and any(areas.status[m] != 2 for m in plan.due_at[plan.tiles_of[b][finished]]):
+        return 12, plan
+    return (0 if left else 13), plan
+
+
+def turn(encoded, areas, b, route=DIRECT, rig=None):
+    number, plan = turn_number(encoded, areas, b, route, rig)
     if number != 0:
         return number
-    if not b < plan.boards:
-        return 11
     finished, stage, sent = areas.progress[3 * b:3 * b + 3]
-    if finished == len(plan.tiles_of[b]):
-        return 13
     tile = plan.tiles_of[b][finished]
     base = b * plan.cells
     if stage == 0:
-        if any(areas.status[m] != 2 for m in plan.due_at[tile]):
-            return 12
         for m in plan.due_at[tile]:
             message = plan.messages[m]
             for j, c in enumerate(message.cells):
                 areas.memories[base + c] = areas.buffer[message.offset + j]
             areas.status[m] = 3
         areas.progress[3 * b + 1] = 1
+        if rig is not None:
+            rig.engaged[b] = rig.office
     elif stage == 1:
         strip = areas.memories[base:base + plan.cells]
         for c in plan.cells_of[tile]:
@@ -401,11 +450,14 @@ def turn(encoded, areas, b, route=DIRECT):
             areas.buffer[message.offset + j] = areas.memories[base + c]
         areas.status[m] = 1
         after_sends(plan, areas, b, tile, sent + 1)
+    if rig is not None and areas.progress[3 * b] > finished:
+        # the tile's last step
+        rig.engaged[b] = FREE
     return 0
 
 
-def deliver(encoded, areas, m, route=DIRECT):
-    number, plan = tested(encoded, areas, route)
+def deliver(encoded, areas, m, route=DIRECT, rig=None):
+    number, plan = tested(encoded, areas, route, rig)
     if number != 0:
         return number
     if not m < len(plan.messages):
@@ -416,8 +468,8 @@ def deliver(encoded, areas, m, route=DIRECT):
     return 0
 
 
-def collect(encoded, areas, route=DIRECT):
-    number, plan = tested(encoded, areas, route, lambda plan: len(areas.grid) == plan.cells)
+def collect(encoded, areas, route=DIRECT, rig=None):
+    number, plan = tested(encoded, areas, route, rig, lambda plan: len(areas.grid) == plan.cells)
     if number != 0:
         return number
     if any(areas.progress[3 * b] < len(plan.tiles_of[b]) for b in range(plan.boards)):
@@ -426,6 +478,33 @@ def collect(encoded, areas, route=DIRECT):
         b = plan.board_of[plan.tile_of[c]]
         areas.grid[c] = areas.memories[b * plan.cells + c]
     return 0
+
+
+def fresh_both(encoded, first, second, engaged, route=DIRECT):
+    """W-208: a fresh start of both offices together."""
+    number, plan = plan_of(encoded, route)
+    if number != 0:
+        return number
+    if not lengths_right(plan, first) or not lengths_right(plan, second) or len(engaged) != plan.boards:
+        return 9
+    for areas in (first, second):
+        assert fresh(encoded, areas, route) == 0
+    engaged[:] = [FREE] * plan.boards
+    return 0
+
+
+def look(encoded, first, second, office, b):
+    """W-208: the number, where the board's part begins in the strips of the office named, and the part itself, which is empty at any
+    refusal. It is given no route."""
+    number, plan = plan_of(encoded)
+    if number != 0:
+        return number, 0, []
+    if len(first) != plan.cells * plan.boards or len(second) != plan.cells * plan.boards:
+        return 9, 0, []
+    if office > 1 or not b < plan.boards:
+        return 11, 0, []
+    start = b * plan.cells
+    return 0, start, (first, second)[office][start:start + plan.cells]
 
 
 def sweep(encoded, source, grid):
@@ -450,6 +529,22 @@ def areas_for(plan, source):
     areas.status = [0] * len(plan.messages)
     areas.grid = [0] * plan.cells
     return areas
+
+
+class Offices:
+    """W-208: the areas of both offices and the shared words."""
+
+    def __init__(self, plan, first, second):
+        self.areas = [areas_for(plan, first), areas_for(plan, second)]
+        self.engaged = [FREE] * plan.boards
+
+    def rig(self, office):
+        return Rig(self.engaged, self.areas[1 - office].progress, office)
+
+    def call(self, encoded, office, event, route=DIRECT):
+        """An event of an office, ('turn', b) or ('deliver', m)."""
+        kind, which = event
+        return (turn if kind == 'turn' else deliver)(encoded, self.areas[office], which, route, self.rig(office))
 
 
 def run(encoded, areas, events, route=DIRECT):
@@ -591,6 +686,7 @@ def check_paper():
     check_routes()
     check_single_boards()
     check_wide_distances()
+    check_offices()
 
 
 def check_routes():
@@ -658,6 +754,70 @@ def check_wide_distances():
     expect('a channel both ways', compare_text(channel), 'agree\n' * 4)
 
 
+def check_offices():
+    """W-208: both offices on row D, whose board 0 mails board 1 one message; every line beside its neighbours."""
+    encoded = ROWS['D']
+    plan = plan_of(encoded)[1]
+    both = Offices(plan, [1] * 4, [5, 6, 7, 8])
+    both.engaged[:] = [7, 0]
+    expect('a fresh start of both', (fresh_both(encoded, *both.areas, both.engaged), both.engaged), (0, [2, 2]))
+
+    def given(office, *events):
+        return [both.call(encoded, office, event) for event in events]
+
+    board0, board1, mail = ('turn', 0), ('turn', 1), ('deliver', 0)
+    expect('a gather engages', (given(0, board0), both.engaged), ([0], [0, 2]))
+    expect('held', (given(1, board0), given(0, board0), given(1, board0)), ([19], [0], [19]))
+    expect('the last step frees', (given(0, board0), both.engaged), ([0], [2, 2]))
+    expect('then the other gathers', (given(1, board0), both.engaged), ([0], [1, 2]))
+    expect('held and finished', given(0, board0), [13])
+    expect('waiting, nobody holds', given(1, board1), [12])
+    expect('mail of an office is its own', (given(1, mail), given(0, mail, mail)), ([14], [0, 14]))
+    expect('the other board', (given(0, board1), both.engaged), ([0], [1, 0]))
+    expect('held and waiting', given(1, board1), [19])
+    expect('to the end', (given(0, board1), given(1, board0, board0, mail, board1, board1, board1, board0)),
+           ([0], [0, 0, 0, 0, 0, 13, 13]))
+    expect('free at the end', both.engaged, [2, 2])
+    for office, values in ((0, [1, 2, 3, 4]), (1, [5, 11, 18, 26])):
+        expect('collecting', (collect(encoded, both.areas[office], DIRECT, both.rig(office)), both.areas[office].grid), (0, values))
+    strips = [areas.memories for areas in both.areas]
+    expect('a look at each part', [look(encoded, *strips, office, b) for office in (0, 1) for b in (0, 1)],
+           [(0, 0, [1, 2, 0, 0]), (0, 4, [0, 2, 3, 4]), (0, 0, [5, 11, 0, 0]), (0, 4, [0, 11, 18, 26])])
+    expect('a look refused', [look(encoded, *strips, 2, 0), look(encoded, *strips, 0, 2), look(encoded, strips[0][1:], strips[1], 2, 2),
+                              look(encoded, strips[0], strips[1][1:], 2, 2), look(encoded[1:], [], [], 2, 2)],
+           [(11, 0, []), (11, 0, []), (9, 0, []), (9, 0, []), (1, 0, [])])
+    check_office_lines(encoded, plan)
+    # one board for all: the offices take it tile by tile
+    encoded = ROWS['H']
+    both = Offices(plan_of(encoded)[1], [1] * 4, [2] * 4)
+    expect('one board', [both.call(encoded, office, board0) for office in (0, 1, 0, 0, 1, 0, 1, 0, 1, 1, 0, 1, 0, 1)],
+           [0, 19, 0, 0, 19, 0, 0, 13, 0, 0, 13, 0, 13, 13])
+
+
+def check_office_lines(encoded, plan):
+    """Which number comes first: 9, 11 for the office, 10, 11, 19, 12, 13."""
+    def number(office, b=0, engaged=(2, 2), own=(0, 0, 0, 0, 0, 0), other=(0, 0, 0, 0, 0, 0), mark=0, grid=4):
+        areas = areas_for(plan, [1] * 4)
+        areas.progress, areas.status, areas.grid = list(own), [mark], [0] * grid
+        rig = Rig(list(engaged), list(other), office)
+        return [turn(encoded, areas, b, DIRECT, rig), deliver(encoded, areas, b, DIRECT, rig), collect(encoded, areas, DIRECT, rig)]
+
+    expect('9 before the office', [number(2, engaged=(2,)), number(2, other=(0,) * 5), number(2, own=(0,) * 9)], [[9] * 3] * 3)
+    expect('the grid is lent to collecting alone', number(2, grid=5), [11, 11, 9])
+    expect('the office before 10', [number(2, engaged=(3, 2)), number(4294967295, mark=4)], [[11] * 3] * 2)
+    for what, faults in (
+            ('a shared word above 2', dict(engaged=(2, 3))), ('the office at stage 1 of a free board', dict(own=(0, 1, 0, 0, 0, 0))),
+            ('the other at stage 2 of a free board', dict(other=(0, 2, 0, 0, 0, 0))), ('engaged at stage 0', dict(engaged=(0, 2))),
+            ('engaged to the other at stage 0', dict(engaged=(1, 2))), ('a record of the other unfit', dict(other=(2, 0, 0, 0, 0, 0))),
+            ('both at stage 1', dict(engaged=(0, 2), own=(0, 1, 0, 0, 0, 0), other=(0, 1, 0, 0, 0, 0))), ('own mark', dict(mark=4))):
+        expect(what, number(0, b=2, **faults), [10] * 3)
+    held = dict(engaged=(2, 1), other=(0, 0, 0, 0, 1, 0))
+    expect('held', [number(0, b=1, **held)[0], number(0, b=2, **held)[0], number(0, **held)[0]], [19, 11, 0])
+    expect('held and finished', number(0, b=1, own=(1, 0, 0, 1, 0, 0), **held)[0], 13)
+
+
 if __name__ == '__main__':
     check_paper()
-    print('the model gives what document 01, W-201, W-203 to W-205 and W-207 print')
+    import schedules
+    schedules.check()
+    print('the model gives what document 01, W-201, W-203 to W-205, W-207 and W-208 print')

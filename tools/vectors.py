@@ -2,7 +2,8 @@
 
     python3 tools/vectors.py          write every stored file anew
     python3 tools/vectors.py check    compare every stored file with a fresh generation
-    python3 tools/vectors.py explain  print the script of run_cases in words, each call with its line
+    python3 tools/vectors.py explain [NAME]
+                                      print a script in words, each call with its line: that of run_cases unless named
 
 README.md beside this file has the formats.
 """
@@ -947,6 +948,7 @@ def row_a_text():
 
 def all_files():
     """Name to content, in a fixed order."""
+    import rigs
     model.check_paper()
     plans = plan_recipes()
     indirect = indirect_recipes()
@@ -964,6 +966,7 @@ def all_files():
         'crates/run_cases/data/script': b''.join(script.records),
         'crates/run_cases/stdout': ''.join(line + '\n' for line in script.lines).encode(),
         'bindings/row_a.stdout': row_a_text().encode(),
+        **rigs.files(rigs.office_script(), 'offices'),
     }
 
 
@@ -987,13 +990,19 @@ def check_all():
     sys.exit(1 if wrong else 0)
 
 
+def scripts():
+    """Name of the program to what makes its script."""
+    import rigs
+    return {'run_cases': run_script, 'offices': rigs.office_script}
+
+
 if __name__ == '__main__':
     words = sys.argv[1:]
     if words == []:
         write_all()
     elif words == ['check']:
         check_all()
-    elif words == ['explain']:
-        print('\n'.join(run_script().words))
+    elif words[:1] == ['explain'] and len(words) < 3 and words[-1] in ['explain'] + list(scripts()):
+        print('\n'.join(scripts()['run_cases' if words[1:] == [] else words[1]]().words))
     else:
         sys.exit(__doc__)

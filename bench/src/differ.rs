@@ -1,7 +1,9 @@
 //! Random trials of an engine against the model: every answer and every lent word is compared.
 //! A trial follows from its seed alone, so a difference is found again by that seed.
 
-use crate::engine::{Areas, Engine, Progress, Route, HOPS_WORDS, MESSAGE_WORDS, SUMMARY_WORDS};
+mod offices;
+
+use crate::engine::{Areas, Engine, Progress, Request, Rig, Route, HOPS_WORDS, MESSAGE_WORDS, SUMMARY_WORDS};
 use crate::model::{Model, Plan};
 use crate::recipe::{self, Limits, Numbers};
 use crate::rng::Rng;
@@ -56,7 +58,7 @@ impl fmt::Display for Tally {
         write!(f, "{trials} trials, {forwarded} of them with a message of forwarded cells alone, {runs} whole runs, ")?;
         writeln!(f, "{} calls; by call and number:", self.calls())?;
         for (call, numbers) in &self.calls {
-            write!(f, "  {call:8}")?;
+            write!(f, "  {call:14}")?;
             for (number, count) in numbers.iter().enumerate().filter(|(_, count)| **count != 0) {
                 write!(f, "  {number}: {count}")?;
             }
@@ -77,11 +79,27 @@ struct Pair<'a> {
     route: Route,
     theirs: Areas,
     ours: Areas,
+    /// of two offices, in trials of these
+    their_rig: Rig,
+    our_rig: Rig,
 }
 
 fn first_difference<T: PartialEq + Debug>(area: &str, theirs: &[T], ours: &[T]) -> Option<String> {
     let place = (0..theirs.len().max(ours.len())).find(|&place| theirs.get(place) != ours.get(place))?;
     Some(format!("{area} at {place}: {:?}, model {:?}", theirs.get(place), ours.get(place)))
+}
+
+fn differing_areas(a: &Areas, b: &Areas) -> Option<String> {
+    first_difference("source", &a.source, &b.source)
+        .or_else(|| first_difference("memories", &a.memories, &b.memories))
+        .or_else(|| first_difference("buffer", &a.buffer, &b.buffer))
+        .or_else(|| first_difference("progress", &a.progress, &b.progress))
+        .or_else(|| first_difference("status", &a.status, &b.status))
+}
+
+fn differing_rigs(a: &Rig, b: &Rig) -> Option<String> {
+    let office = |o: usize| Some(format!("office {o}, {}", differing_areas(&a.offices[o], &b.offices[o])?));
+    office(0).or_else(|| office(1)).or_else(|| first_difference("engaged", &a.engaged, &b.engaged))
 }
 
 impl Pair<'_> {
@@ -100,12 +118,8 @@ impl Pair<'_> {
         if theirs != ours {
             return Err((name(), format!("gave {theirs}, model {ours}")));
         }
-        let (a, b) = (&self.theirs, &self.ours);
-        let found = first_difference("source", &a.source, &b.source)
-            .or_else(|| first_difference("memories", &a.memories, &b.memories))
-            .or_else(|| first_difference("buffer", &a.buffer, &b.buffer))
-            .or_else(|| first_difference("progress", &a.progress, &b.progress))
-            .or_else(|| first_difference("status", &a.status, &b.status))
+        let found = differing_areas(&self.theirs, &self.ours)
+            .or_else(|| differing_rigs(&self.their_rig, &self.our_rig))
             .or_else(|| first_difference("words", out.0, out.1));
         match found {
             Some(detail) => Err((name(), format!("gave {ours}, {detail}"))),
@@ -357,6 +371,10 @@ fn damaged(pair: &mut Pair, rng: &mut Rng, numbers: Numbers) -> Outcome<()> {
     if let Some(plan) = pair.plan() {
         let areas = any_state(rng, &plan);
         pair.lend(areas);
+        if pair.engine.has(Request::Offices) {
+            let rig = offices::any_rig(rng, &plan);
+            pair.lend_rig(rig);
+        }
     }
     writing(pair, rng, &numbers)?;
     let faulty = recipe::faulty(rng, numbers);
@@ -366,6 +384,9 @@ fn damaged(pair: &mut Pair, rng: &mut Rng, numbers: Numbers) -> Outcome<()> {
     reading(pair, rng)?;
     for _ in 0..3 {
         pair.any_call(rng)?;
+    }
+    if pair.engine.has(Request::Offices) {
+        offices::one_call(pair, rng)?;
     }
     // what is still accepted lies near a limit
     match pair.plan() {
@@ -536,6 +557,26 @@ fn large(pair: &mut Pair, rng: &mut Rng, plan: &Plan) -> Outcome<()> {
     Ok(())
 }
 
+/// what is tried on a recipe that is not large
+#[derive(Clone, Copy)]
+enum Kind {
+    Damaged,
+    Reading,
+    Run,
+    States,
+    Lengths,
+    Offices,
+}
+
+/// one of the kinds for which the engine has the calls, some more often than others
+fn some_kind(rng: &mut Rng, engine: &dyn Engine) -> Kind {
+    let always = [(3, Kind::Damaged), (1, Kind::Reading), (2, Kind::Run), (3, Kind::States), (1, Kind::Lengths)];
+    let asked = [(4, Request::Offices, Kind::Offices)];
+    let asked = asked.iter().filter(|&&(_, request, _)| engine.has(request)).map(|&(times, _, kind)| (times, kind));
+    let kinds: Vec<Kind> = always.into_iter().chain(asked).flat_map(|(times, kind)| vec![kind; times]).collect();
+    rng.of(&kinds)
+}
+
 /// one trial, by its seed
 pub fn trial(
     seed: u64, engine: &dyn Engine, model: &Model, limits: Limits, tally: &mut Tally,
@@ -546,19 +587,20 @@ pub fn trial(
     let limits = if is_large { Limits { cells: 16384, words: 1 << 18 } } else { limits };
     let numbers = if is_large && rng.one_in(2) { recipe::extreme(&mut rng) } else { recipe::random(&mut rng, limits) };
     let (encoded, route) = (numbers.bytes(), some_route(&mut rng));
-    let (theirs, ours) = Default::default();
-    let mut pair = Pair { engine, model, tally, encoded, route, theirs, ours };
+    let (theirs, ours, their_rig, our_rig) = Default::default();
+    let mut pair = Pair { engine, model, tally, encoded, route, theirs, ours, their_rig, our_rig };
     let plan = pair.plan();
     pair.tally.forwarded += u64::from(plan.as_ref().is_some_and(|plan| plan.passes_on_alone()));
     let outcome = match plan {
         None => reading(&mut pair, &mut rng),
         Some(plan) if is_large => large(&mut pair, &mut rng, &plan),
-        Some(plan) => match rng.below(10) {
-            0..=2 => damaged(&mut pair, &mut rng, numbers),
-            3 => reading(&mut pair, &mut rng),
-            4..=5 => run(&mut pair, &mut rng, &plan),
-            6..=8 => states(&mut pair, &mut rng, &plan),
-            _ => lengths(&mut pair, &mut rng, &plan),
+        Some(plan) => match some_kind(&mut rng, engine) {
+            Kind::Damaged => damaged(&mut pair, &mut rng, numbers),
+            Kind::Reading => reading(&mut pair, &mut rng),
+            Kind::Run => run(&mut pair, &mut rng, &plan),
+            Kind::States => states(&mut pair, &mut rng, &plan),
+            Kind::Lengths => lengths(&mut pair, &mut rng, &plan),
+            Kind::Offices => offices::any(&mut pair, &mut rng, &plan),
         },
     };
     let encoded = pair.encoded;

@@ -38,9 +38,31 @@ pub struct Areas {
     pub status: Vec<u8>,
 }
 
+/// two offices' areas, and for each processor the office that it is engaged to, 2 for none (W-208)
+#[derive(Clone, Debug, Default, PartialEq, Eq)]
+pub struct Rig {
+    pub offices: [Areas; 2],
+    pub engaged: Vec<u32>,
+}
+
+/// words of a look: where the processor's part begins, and its length
+pub const LOOK_WORDS: usize = 2;
+
+/// the requests that an engine may lack as yet; only an engine that has one is tried on it
+#[derive(Clone, Copy, Debug, PartialEq, Eq)]
+pub enum Request {
+    /// W-208
+    Offices,
+}
+
 /// Each call gives its number; at any but 0 no lent word changes.
 pub trait Engine {
     fn name(&self) -> String;
+
+    fn has(&self, _request: Request) -> bool {
+        false
+    }
+
     fn fresh(&self, encoded: &[u8], route: Route, areas: &mut Areas) -> u32;
     fn turn(&self, encoded: &[u8], route: Route, areas: &mut Areas, processor: u32) -> u32;
     fn deliver(&self, encoded: &[u8], route: Route, areas: &mut Areas, message: u32) -> u32;
@@ -50,6 +72,37 @@ pub trait Engine {
     fn message(&self, encoded: &[u8], route: Route, message: u32, out: &mut [u32]) -> u32;
     /// the hops of a direct message on the indirect route
     fn hops(&self, encoded: &[u8], message: u32, out: &mut [u32]) -> u32;
+
+    fn fresh_both(&self, _encoded: &[u8], _route: Route, _rig: &mut Rig) -> u32 {
+        unimplemented!("W-208")
+    }
+
+    /// a turn for an office, which is lent the other's records
+    fn office_turn(
+        &self, _encoded: &[u8], _route: Route, _areas: &mut Areas, _engaged: &mut [u32], _other: &[Progress],
+        _office: u32, _processor: u32,
+    ) -> u32 {
+        unimplemented!("W-208")
+    }
+
+    fn office_deliver(
+        &self, _encoded: &[u8], _route: Route, _areas: &mut Areas, _engaged: &[u32], _other: &[Progress], _office: u32,
+        _message: u32,
+    ) -> u32 {
+        unimplemented!("W-208")
+    }
+
+    fn office_collect(
+        &self, _encoded: &[u8], _route: Route, _areas: &mut Areas, _engaged: &[u32], _other: &[Progress], _office: u32,
+        _grid: &mut [u32],
+    ) -> u32 {
+        unimplemented!("W-208")
+    }
+
+    /// which part of the office's memories is the processor's
+    fn look(&self, _encoded: &[u8], _memories: [&[u32]; 2], _office: u32, _processor: u32, _out: &mut [u32]) -> u32 {
+        unimplemented!("W-208")
+    }
 
     /// The numbers' recipe. Unless an engine has a writer of its own: what reading the bytes gives, then the length.
     fn write(&self, numbers: &Numbers, space: &mut [u8]) -> u32 {

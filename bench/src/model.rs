@@ -1,14 +1,16 @@
 //! A plain model of the tiled sweep engine: it reads a recipe, lays out its whole plan as lists, and runs the machine
 //! on that plan. It is meant to be read and compared with, not to be quick. Its author had document 01, the trait of
 //! engine.rs and the list of public fields below, and nothing else of this repository; later the text of
-//! the requests W-201, W-203 to W-205 and W-207.
+//! the requests W-201, W-203 to W-205 and W-207, and then that of those from W-208 on.
 
 use std::array::from_fn;
 use std::cell::RefCell;
 use std::collections::{BTreeMap, BTreeSet};
 use std::rc::Rc;
 
-use crate::engine::{Areas, Engine, Progress, Route, HOPS_WORDS, MESSAGE_WORDS, SUMMARY_WORDS};
+use crate::engine::{
+    Areas, Engine, Progress, Request, Rig, Route, HOPS_WORDS, LOOK_WORDS, MESSAGE_WORDS, SUMMARY_WORDS,
+};
 
 // the numbers of refused calls
 const RAGGED: u32 = 1;
@@ -29,6 +31,7 @@ const EARLY: u32 = 15;
 const SPREAD_ORDER: u32 = 16;
 const LAST_SPREAD: u32 = 17;
 const NARROW: u32 = 18;
+const ENGAGED: u32 = 19;
 
 const RECORD_BYTES: usize = 16;
 const MAX_DIMENSIONS: usize = 4;
@@ -47,6 +50,10 @@ const UNSENT: u8 = 0;
 const IN_FLIGHT: u8 = 1;
 const DELIVERED: u8 = 2;
 const TAKEN: u8 = 3;
+
+// the office that a processor is engaged to
+const OFFICES: u32 = 2;
+const NO_OFFICE: u32 = 2;
 
 /// `Err(number)` unless the condition holds.
 fn require(condition: bool, number: u32) -> Result<(), u32> {
@@ -380,9 +387,75 @@ impl Plan {
     /// The test of all areas, records and marks.
     fn check_state(&self, areas: &Areas) -> Result<(), u32> {
         self.check_areas(areas)?;
-        let mut records = areas.progress.iter().zip(&self.tiles_of_processor);
-        let records_fit = records.all(|(progress, tiles)| self.is_fit(progress, tiles));
-        require(records_fit && areas.status.iter().all(|&mark| mark <= TAKEN), UNFIT)
+        require(self.are_fit(&areas.progress) && areas.status.iter().all(|&mark| mark <= TAKEN), UNFIT)
+    }
+
+    /// The same for an office (W-208), which is lent the words that both share and the other's records too; its own
+    /// number is tested between lengths and fitness.
+    fn check_office(&self, areas: &Areas, engaged: &[u32], other: &[Progress], office: u32) -> Result<(), u32> {
+        self.check_areas(areas)?;
+        require(engaged.len() == self.processors && other.len() == self.processors, AREA)?;
+        require(office < OFFICES, NO_SUCH)?;
+        self.check_state(areas)?;
+        let busy = |records: &[Progress], processor: usize| records[processor].stage != GATHER;
+        let agrees = |processor| match (busy(&areas.progress, processor), busy(other, processor)) {
+            (false, false) => engaged[processor] == NO_OFFICE,
+            (true, false) => engaged[processor] == office,
+            (false, true) => engaged[processor] == OFFICES - 1 - office,
+            (true, true) => false,
+        };
+        require(self.are_fit(other) && (0..self.processors).all(agrees), UNFIT)
+    }
+
+    /// Is there a record for each processor, fit for its tiles?
+    fn are_fit(&self, records: &[Progress]) -> bool {
+        let mut records = records.iter().zip(&self.tiles_of_processor);
+        records.all(|(progress, tiles)| self.is_fit(progress, tiles))
+    }
+
+    fn has_tiles_left(&self, records: &[Progress], processor: usize) -> bool {
+        (records[processor].finished as usize) < self.tiles_of_processor[processor].len()
+    }
+
+    /// Writes zero to all areas but the source.
+    fn start(areas: &mut Areas) {
+        areas.memories.fill(0);
+        areas.buffer.fill(0);
+        for progress in &mut areas.progress {
+            (progress.finished, progress.stage, progress.sent) = (0, GATHER, 0);
+        }
+        areas.status.fill(UNSENT);
+    }
+
+    /// The processor's next stage, in a fit state.
+    fn step(&self, areas: &mut Areas, processor: usize) -> Result<(), u32> {
+        let (tiles, progress) = (&self.tiles_of_processor[processor], &areas.progress[processor]);
+        let &tile = tiles.get(progress.finished as usize).ok_or(FINISHED)?;
+        match progress.stage {
+            GATHER => self.gather(areas, processor, tile)?,
+            CALCULATE => self.calculate(areas, processor, tile),
+            _ => self.send(areas, processor, tile),
+        }
+        Ok(())
+    }
+
+    /// The delivery of a message, in a fit state.
+    fn hand_over(&self, areas: &mut Areas, message: u32) -> Result<(), u32> {
+        let mark = &mut areas.status[index(message, self.messages.len())?];
+        require(*mark == IN_FLIGHT, NO_MAIL)?;
+        *mark = DELIVERED;
+        Ok(())
+    }
+
+    /// The grid, in a fit state.
+    fn copy_out(&self, areas: &mut Areas, grid: &mut [u32]) -> Result<(), u32> {
+        let left = |processor| self.has_tiles_left(&areas.progress, processor);
+        require(!(0..self.processors).any(left), EARLY)?;
+        for (cells, &processor) in self.cells_of_tile.iter().zip(&self.processor_of_tile) {
+            let memory = self.memory(&mut areas.memories, processor);
+            cells.iter().for_each(|&cell| grid[cell] = memory[cell]);
+        }
+        Ok(())
     }
 
     /// Is a record fit for a processor with these tiles?
@@ -488,15 +561,14 @@ impl Engine for Model {
         "model".to_string()
     }
 
+    fn has(&self, _request: Request) -> bool {
+        true
+    }
+
     fn fresh(&self, encoded: &[u8], route: Route, areas: &mut Areas) -> u32 {
         answer(|| {
             self.plan(encoded, route)?.check_areas(areas)?;
-            areas.memories.fill(0);
-            areas.buffer.fill(0);
-            for progress in &mut areas.progress {
-                (progress.finished, progress.stage, progress.sent) = (0, GATHER, 0);
-            }
-            areas.status.fill(UNSENT);
+            Plan::start(areas);
             Ok(())
         })
     }
@@ -505,15 +577,7 @@ impl Engine for Model {
         answer(|| {
             let plan = self.plan(encoded, route)?;
             plan.check_state(areas)?;
-            let processor = index(processor, plan.processors)?;
-            let (tiles, progress) = (&plan.tiles_of_processor[processor], &areas.progress[processor]);
-            let &tile = tiles.get(progress.finished as usize).ok_or(FINISHED)?;
-            match progress.stage {
-                GATHER => plan.gather(areas, processor, tile)?,
-                CALCULATE => plan.calculate(areas, processor, tile),
-                _ => plan.send(areas, processor, tile),
-            }
-            Ok(())
+            plan.step(areas, index(processor, plan.processors)?)
         })
     }
 
@@ -521,10 +585,7 @@ impl Engine for Model {
         answer(|| {
             let plan = self.plan(encoded, route)?;
             plan.check_state(areas)?;
-            let mark = &mut areas.status[index(message, plan.messages.len())?];
-            require(*mark == IN_FLIGHT, NO_MAIL)?;
-            *mark = DELIVERED;
-            Ok(())
+            plan.hand_over(areas, message)
         })
     }
 
@@ -533,13 +594,7 @@ impl Engine for Model {
             let plan = self.plan(encoded, route)?;
             require(grid.len() == plan.cells, AREA)?;
             plan.check_state(areas)?;
-            let mut records = areas.progress.iter().zip(&plan.tiles_of_processor);
-            require(records.all(|(at, tiles)| at.finished as usize == tiles.len()), EARLY)?;
-            for (cells, &processor) in plan.cells_of_tile.iter().zip(&plan.processor_of_tile) {
-                let memory = plan.memory(&mut areas.memories, processor);
-                cells.iter().for_each(|&cell| grid[cell] = memory[cell]);
-            }
-            Ok(())
+            plan.copy_out(areas, grid)
         })
     }
 
@@ -581,6 +636,70 @@ impl Engine for Model {
             require(out.len() == HOPS_WORDS, AREA)?;
             let message = &plan.messages[index(message, plan.messages.len())?];
             out[0] = plan.recipe.wires(message.sender, message.taker).len() as u32;
+            Ok(())
+        })
+    }
+
+    fn fresh_both(&self, encoded: &[u8], route: Route, rig: &mut Rig) -> u32 {
+        answer(|| {
+            let plan = self.plan(encoded, route)?;
+            rig.offices.iter().try_for_each(|areas| plan.check_areas(areas))?;
+            require(rig.engaged.len() == plan.processors, AREA)?;
+            rig.offices.iter_mut().for_each(Plan::start);
+            rig.engaged.fill(NO_OFFICE);
+            Ok(())
+        })
+    }
+
+    fn office_turn(
+        &self, encoded: &[u8], route: Route, areas: &mut Areas, engaged: &mut [u32], other: &[Progress], office: u32,
+        processor: u32,
+    ) -> u32 {
+        answer(|| {
+            let plan = self.plan(encoded, route)?;
+            plan.check_office(areas, engaged, other, office)?;
+            let processor = index(processor, plan.processors)?;
+            let held = engaged[processor] != NO_OFFICE && engaged[processor] != office;
+            require(!(held && plan.has_tiles_left(&areas.progress, processor)), ENGAGED)?;
+            plan.step(areas, processor)?;
+            // between a tile's gather and its last step its record is beyond stage 0
+            let busy = areas.progress[processor].stage != GATHER;
+            engaged[processor] = if busy { office } else { NO_OFFICE };
+            Ok(())
+        })
+    }
+
+    fn office_deliver(
+        &self, encoded: &[u8], route: Route, areas: &mut Areas, engaged: &[u32], other: &[Progress], office: u32,
+        message: u32,
+    ) -> u32 {
+        answer(|| {
+            let plan = self.plan(encoded, route)?;
+            plan.check_office(areas, engaged, other, office)?;
+            plan.hand_over(areas, message)
+        })
+    }
+
+    fn office_collect(
+        &self, encoded: &[u8], route: Route, areas: &mut Areas, engaged: &[u32], other: &[Progress], office: u32,
+        grid: &mut [u32],
+    ) -> u32 {
+        answer(|| {
+            let plan = self.plan(encoded, route)?;
+            require(grid.len() == plan.cells, AREA)?;
+            plan.check_office(areas, engaged, other, office)?;
+            plan.copy_out(areas, grid)
+        })
+    }
+
+    fn look(&self, encoded: &[u8], memories: [&[u32]; 2], office: u32, processor: u32, out: &mut [u32]) -> u32 {
+        answer(|| {
+            let plan = self.plan(encoded, Route::Direct)?;
+            let sized = memories.iter().all(|memories| memories.len() == plan.cells * plan.processors);
+            require(sized && out.len() == LOOK_WORDS, AREA)?;
+            require(office < OFFICES, NO_SUCH)?;
+            let processor = index(processor, plan.processors)?;
+            out.copy_from_slice(&[processor * plan.cells, plan.cells].map(|number| number as u32));
             Ok(())
         })
     }

@@ -2,7 +2,9 @@
 //! trying all cells for each.
 //! It can carry one fault, so that the comparison itself can be tested: each fault must be found.
 
-use crate::engine::{Areas, Engine, Progress, Route, HOPS_WORDS, MESSAGE_WORDS, SUMMARY_WORDS};
+use crate::engine::{
+    Areas, Engine, Progress, Request, Rig, Route, HOPS_WORDS, LOOK_WORDS, MESSAGE_WORDS, SUMMARY_WORDS,
+};
 use crate::recipe::Numbers;
 use std::cell::RefCell;
 use std::rc::Rc;
@@ -112,9 +114,21 @@ pub enum Fault {
     KindsCountedApart,
     /// all wide distances must stand behind the others
     WideLast,
+    /// number 11 for an office behind number 10
+    OfficeBehindUnfit,
+    /// number 19 behind number 12
+    EngagedBehindWaiting,
+    /// number 19 where this office has no tiles left
+    EngagedThoughFinished,
+    /// a tile's last send leaves the processor engaged
+    SendKeepsEngaged,
+    /// the other office's records are not tested
+    OtherUntested,
+    /// only the memories that are looked at must have their length
+    LookAtOneLength,
 }
 
-pub const FAULTS: [Fault; 51] = [
+pub const FAULTS: [Fault; 57] = [
     Fault::UnspreadShift,
     Fault::EdgeTileFull,
     Fault::OnlyTaker,
@@ -166,6 +180,12 @@ pub const FAULTS: [Fault; 51] = [
     Fault::NarrowPasses,
     Fault::KindsCountedApart,
     Fault::WideLast,
+    Fault::OfficeBehindUnfit,
+    Fault::EngagedBehindWaiting,
+    Fault::EngagedThoughFinished,
+    Fault::SendKeepsEngaged,
+    Fault::OtherUntested,
+    Fault::LookAtOneLength,
 ];
 
 /// sending tile, taking tile, cells
@@ -668,17 +688,35 @@ impl Made<'_> {
         (0..self.messages.len()).filter(|&m| self.messages[m].1 == tile).collect()
     }
 
+    fn unfit_record(&self, p: usize, record: Progress) -> bool {
+        let Progress { finished, stage, sent } = record;
+        let tiles = self.view.tiles_of(p as u64);
+        let sends = || self.sends(tiles[finished as usize]).len() as u32;
+        finished as usize > tiles.len()
+            || (finished as usize == tiles.len() && (stage, sent) != (0, 0))
+            || stage > 2
+            || (stage < 2 && sent != 0)
+            || (stage == 2 && sent >= sends() && !(self.view.has(Fault::SendNothing) && sent == 0))
+    }
+
+    /// a shared word above 2, or one that disagrees with the stages; the other office's records are not fit
+    fn unfit_offices(&self, areas: &Areas, engaged: &[u32], other: &[Progress], office: u32) -> bool {
+        (0..engaged.len()).any(|p| {
+            let stages = if office == 0 {
+                [areas.progress[p].stage, other[p].stage]
+            } else {
+                [other[p].stage, areas.progress[p].stage]
+            };
+            let wrong = |o: usize| (stages[o] != 0) != (engaged[p] as usize == o);
+            engaged[p] > 2
+                || (!self.view.has(Fault::OtherUntested) && self.unfit_record(p, other[p]))
+                || wrong(0)
+                || wrong(1)
+        })
+    }
+
     fn unfit(&self, areas: &Areas, own: Option<u32>) -> bool {
-        let record = |p: usize| {
-            let Progress { finished, stage, sent } = areas.progress[p];
-            let tiles = self.view.tiles_of(p as u64);
-            let sends = || self.sends(tiles[finished as usize]).len() as u32;
-            finished as usize > tiles.len()
-                || (finished as usize == tiles.len() && (stage, sent) != (0, 0))
-                || stage > 2
-                || (stage < 2 && sent != 0)
-                || (stage == 2 && sent >= sends() && !(self.view.has(Fault::SendNothing) && sent == 0))
-        };
+        let record = |p: usize| self.unfit_record(p, areas.progress[p]);
         let own = own.filter(|&p| self.view.has(Fault::OwnRecordOnly) && (p as usize) < areas.progress.len());
         let records = match own {
             Some(p) => record(p as usize),
@@ -691,6 +729,40 @@ impl Made<'_> {
         let tiles = self.view.tiles_of(u64::from(processor)).len() as u32;
         let tiles = if self.view.has(Fault::NeverLast) { tiles + 1 } else { tiles };
         areas.progress[processor as usize].finished < tiles
+    }
+
+    /// the lines 9, 11 for an office, 10
+    fn office_lines(&self, areas: &Areas, engaged: &[u32], other: &[Progress], office: u32) -> u32 {
+        let processors = self.view.processors() as usize;
+        let unfit = || self.unfit(areas, None) || self.unfit_offices(areas, engaged, other, office);
+        first(&[
+            (9, &|| self.area(areas) || engaged.len() != processors || other.len() != processors),
+            (10, &|| self.view.has(Fault::OfficeBehindUnfit) && unfit()),
+            (11, &|| office > 1),
+            (10, &unfit),
+        ])
+    }
+
+    /// the processor's stage
+    fn act(&self, areas: &mut Areas, processor: u32) {
+        match areas.progress[processor as usize].stage {
+            0 => self.gather(areas, processor),
+            1 => self.calculate(areas, processor),
+            _ => self.send(areas, processor),
+        }
+    }
+
+    /// every cell from the memory of its tile's processor
+    fn copy(&self, areas: &Areas, grid: &mut [u32]) {
+        for (cell, word) in grid.iter_mut().enumerate() {
+            let tile = self.view.tile_number(&self.view.tile_at(&self.view.cell(cell as u64)));
+            let processor = if self.view.has(Fault::CollectFirst) { 0 } else { self.view.processor(tile) };
+            *word = areas.memories[processor as usize * self.view.cells() as usize + cell];
+        }
+    }
+
+    fn early(&self, areas: &Areas) -> bool {
+        !self.view.has(Fault::CollectEarly) && (0..self.view.processors()).any(|p| self.left(areas, p as u32))
     }
 
     fn tile(&self, areas: &Areas, processor: u32) -> u64 {
@@ -807,6 +879,10 @@ impl Engine for Naive {
         }
     }
 
+    fn has(&self, _request: Request) -> bool {
+        true
+    }
+
     fn fresh(&self, encoded: &[u8], route: Route, areas: &mut Areas) -> u32 {
         let made = match self.made(encoded, route) {
             Ok(made) => made,
@@ -839,11 +915,7 @@ impl Engine for Naive {
             (13, &|| !made.left(areas, processor)),
         ]);
         if number == 0 {
-            match areas.progress[processor as usize].stage {
-                0 => made.gather(areas, processor),
-                1 => made.calculate(areas, processor),
-                _ => made.send(areas, processor),
-            }
+            made.act(areas, processor);
         } else if self.fault == Some(Fault::RefusalWrites) && number == 12 {
             areas.memories[0] = areas.memories[0].wrapping_add(1);
         }
@@ -873,18 +945,13 @@ impl Engine for Naive {
             Ok(made) => made,
             Err(number) => return number,
         };
-        let early = self.fault == Some(Fault::CollectEarly);
         let number = first(&[
             (9, &|| made.area(areas) || grid.len() as u64 != made.view.cells()),
             (10, &|| made.unfit(areas, None)),
-            (15, &|| !early && (0..made.view.processors()).any(|p| made.left(areas, p as u32))),
+            (15, &|| made.early(areas)),
         ]);
         if number == 0 {
-            for (cell, word) in grid.iter_mut().enumerate() {
-                let tile = made.view.tile_number(&made.view.tile_at(&made.view.cell(cell as u64)));
-                let processor = if self.fault == Some(Fault::CollectFirst) { 0 } else { made.view.processor(tile) };
-                *word = areas.memories[processor as usize * made.view.cells() as usize + cell];
-            }
+            made.copy(areas, grid);
         }
         number
     }
@@ -949,6 +1016,104 @@ impl Engine for Naive {
         let ones = (0..made.view.spread).filter(|&j| to[j] == from[j] + 1 && wired(j)).count() as u32;
         out[0] = if self.fault == Some(Fault::LastHopUncounted) { ones - 1 } else { ones };
         0
+    }
+
+    fn fresh_both(&self, encoded: &[u8], route: Route, rig: &mut Rig) -> u32 {
+        let made = match self.made(encoded, route) {
+            Ok(made) => made,
+            Err(number) => return number,
+        };
+        if rig.offices.iter().any(|areas| made.area(areas)) || rig.engaged.len() as u64 != made.view.processors() {
+            return 9;
+        }
+        rig.offices.iter_mut().for_each(|areas| assert_eq!(self.fresh(encoded, route, areas), 0));
+        rig.engaged.fill(2);
+        0
+    }
+
+    fn office_turn(
+        &self, encoded: &[u8], route: Route, areas: &mut Areas, engaged: &mut [u32], other: &[Progress], office: u32,
+        processor: u32,
+    ) -> u32 {
+        let made = match self.made(encoded, route) {
+            Ok(made) => made,
+            Err(number) => return number,
+        };
+        let lines = made.office_lines(areas, engaged, other, office);
+        if lines != 0 {
+            return lines;
+        }
+        let p = processor as usize;
+        let left = || made.left(areas, processor) || self.fault == Some(Fault::EngagedThoughFinished);
+        let number = first(&[
+            (11, &|| u64::from(processor) >= made.view.processors()),
+            (12, &|| self.fault == Some(Fault::EngagedBehindWaiting) && made.waiting(areas, processor)),
+            (19, &|| left() && engaged[p] == 1 - office),
+            (12, &|| made.waiting(areas, processor)),
+            (13, &|| !made.left(areas, processor)),
+        ]);
+        if number == 0 {
+            let stage = areas.progress[p].stage;
+            made.act(areas, processor);
+            if stage == 0 {
+                engaged[p] = office;
+            } else if areas.progress[p].stage == 0 && !(stage == 2 && self.fault == Some(Fault::SendKeepsEngaged)) {
+                engaged[p] = 2;
+            }
+        }
+        number
+    }
+
+    fn office_deliver(
+        &self, encoded: &[u8], route: Route, areas: &mut Areas, engaged: &[u32], other: &[Progress], office: u32,
+        message: u32,
+    ) -> u32 {
+        let made = match self.made(encoded, route) {
+            Ok(made) => made,
+            Err(number) => return number,
+        };
+        match made.office_lines(areas, engaged, other, office) {
+            0 => self.deliver(encoded, route, areas, message),
+            number => number,
+        }
+    }
+
+    fn office_collect(
+        &self, encoded: &[u8], route: Route, areas: &mut Areas, engaged: &[u32], other: &[Progress], office: u32,
+        grid: &mut [u32],
+    ) -> u32 {
+        let made = match self.made(encoded, route) {
+            Ok(made) => made,
+            Err(number) => return number,
+        };
+        let number = first(&[
+            (9, &|| grid.len() as u64 != made.view.cells()),
+            (made.office_lines(areas, engaged, other, office), &|| true),
+        ]);
+        match number {
+            0 => self.collect(encoded, route, areas, grid),
+            number => number,
+        }
+    }
+
+    fn look(&self, encoded: &[u8], memories: [&[u32]; 2], office: u32, processor: u32, out: &mut [u32]) -> u32 {
+        let view = self.view(encoded);
+        match view.read() {
+            0 => {}
+            number => return number,
+        }
+        let one = self.fault == Some(Fault::LookAtOneLength) && office < 2;
+        let lent = if one { &memories[office as usize..][..1] } else { &memories[..] };
+        let number = first(&[
+            (9, &|| lent.iter().any(|m| m.len() as u64 != view.cells() * view.processors())),
+            (9, &|| out.len() != LOOK_WORDS),
+            (11, &|| office > 1 || u64::from(processor) >= view.processors()),
+        ]);
+        if number == 0 {
+            out[0] = processor * view.cells() as u32;
+            out[1] = view.cells() as u32;
+        }
+        number
     }
 
     /// reading alone: the messages of a large recipe would take long

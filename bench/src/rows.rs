@@ -1,7 +1,7 @@
 //! The models held to what document 01 prints: rows A to H, the printer's lines, the values of D.
 
 use crate::differ;
-use crate::engine::{Areas, Engine, Progress, Route};
+use crate::engine::{Areas, Engine, Progress, Request, Rig, Route};
 use crate::model::Model;
 use crate::naive::{Naive, FAULTS};
 use crate::plain::{PLAIN, WAVEFRONT};
@@ -450,6 +450,67 @@ fn stored_recipes() {
     }
 }
 
+/// those engines that have what a request asks for
+fn engines_with(request: Request) -> impl Iterator<Item = Box<dyn Engine>> {
+    engines().into_iter().filter(move |engine| engine.has(request))
+}
+
+#[test]
+fn two_offices_on_row_d() {
+    for engine in engines_with(Request::Offices) {
+        let name = engine.name();
+        let numbers = row('D');
+        let encoded = numbers.bytes();
+        let own = areas(&numbers, totals(&*engine, &numbers).unwrap());
+        let mut rig = Rig { offices: [own.clone(), own], engaged: vec![9; 2] };
+        rig.offices[1].source = vec![5, 0, 0, 1];
+        let turn = |rig: &mut Rig, office: u32, processor| {
+            let [first, second] = &mut rig.offices;
+            let (own, other) = if office == 1 { (second, first) } else { (first, second) };
+            let (engaged, other) = (&mut rig.engaged, &other.progress);
+            engine.office_turn(&encoded, Route::Direct, own, engaged, other, office, processor)
+        };
+        let deliver = |rig: &mut Rig, office: usize, message| {
+            let [first, second] = &mut rig.offices;
+            let (own, other) = if office == 1 { (second, first) } else { (first, second) };
+            let (engaged, other) = (&rig.engaged, &other.progress);
+            engine.office_deliver(&encoded, Route::Direct, own, engaged, other, office as u32, message)
+        };
+        assert_eq!([turn(&mut rig, 0, 0), turn(&mut rig, 2, 0)], [10, 11], "{name}");
+        assert_eq!(engine.fresh_both(&encoded, Route::Direct, &mut rig), 0, "{name}");
+        assert_eq!(rig.engaged, [2, 2], "{name}");
+        // the first office gathers, and holds processor 0 until its tile's message is sent
+        assert_eq!([turn(&mut rig, 0, 0), turn(&mut rig, 1, 0), turn(&mut rig, 1, 1)], [0, 19, 12], "{name}");
+        assert_eq!(rig.engaged, [0, 2], "{name}");
+        assert_eq!([turn(&mut rig, 0, 0), turn(&mut rig, 1, 0), turn(&mut rig, 0, 0)], [0, 19, 0], "{name}");
+        assert_eq!(rig.engaged, [2, 2], "{name}");
+        // finished for this office, and held by the other: 13
+        assert_eq!([turn(&mut rig, 1, 0), turn(&mut rig, 0, 0), turn(&mut rig, 1, 2)], [0, 13, 11], "{name}");
+        assert_eq!(rig.engaged, [1, 2], "{name}");
+        assert_eq!([deliver(&mut rig, 0, 0), deliver(&mut rig, 1, 0), turn(&mut rig, 0, 1)], [0, 14, 0], "{name}");
+        // held and waiting: 19
+        assert_eq!([turn(&mut rig, 1, 1), turn(&mut rig, 0, 1), turn(&mut rig, 1, 1)], [19, 0, 12], "{name}");
+        assert_eq!([turn(&mut rig, 1, 0), turn(&mut rig, 1, 0), deliver(&mut rig, 1, 0)], [0; 3], "{name}");
+        assert_eq!([turn(&mut rig, 1, 1), turn(&mut rig, 1, 1)], [0; 2], "{name}");
+        assert_eq!(rig.engaged, [2, 2], "{name}");
+        for (office, expected) in [(0, [1, 2, 3, 4]), (1, [5, 5, 5, 6])] {
+            let mut grid = [0; 4];
+            let [first, second] = &mut rig.offices;
+            let (own, other) = if office == 1 { (second, first) } else { (first, second) };
+            let (engaged, other) = (&rig.engaged, &other.progress);
+            assert_eq!(engine.office_collect(&encoded, Route::Direct, own, engaged, other, office, &mut grid), 0);
+            assert_eq!(grid, expected, "{name}");
+        }
+        let look = |office, processor, memories: &[u32]| {
+            let mut out = [7; 2];
+            let number = engine.look(&encoded, [&[0; 8], memories], office, processor, &mut out);
+            (number, out)
+        };
+        assert_eq!(look(1, 1, &[0; 8]), (0, [4, 4]), "{name}");
+        assert_eq!([look(2, 1, &[0; 8]), look(0, 2, &[0; 8]), look(0, 2, &[0; 7])].map(|x| x.0), [11, 11, 9], "{name}");
+    }
+}
+
 const SMALL: Limits = Limits { cells: 30, words: 300 };
 
 #[test]
@@ -473,6 +534,24 @@ fn planted_faults_are_found() {
     for fault in FAULTS {
         let naive = Naive::with(fault);
         assert!(differ::trials(1, crate::FAULT_TRIALS, &naive, SMALL).is_err(), "{fault:?} was not found");
+    }
+}
+
+/// those that the plain calls do not have, the model's own by the model
+#[test]
+fn trials_meet_every_number_of_the_requests() {
+    let Ok(tally) = differ::trials(1, 6000, &Model::default(), SMALL) else { panic!("a difference") };
+    let expected: [(&str, &[usize]); 5] = [
+        ("fresh_both", &[0, 2, 5, 6, 9]),
+        ("office_turn", &[0, 2, 5, 6, 9, 10, 11, 12, 13, 16, 17, 19]),
+        ("office_deliver", &[0, 9, 10, 11, 14]),
+        ("office_collect", &[0, 9, 10, 11, 15]),
+        ("look", &[0, 2, 9, 11]),
+    ];
+    for (call, numbers) in expected {
+        for &number in numbers {
+            assert!(tally.count(call, number) > 0, "{call} never gave {number}\n{tally}");
+        }
     }
 }
 

@@ -1,7 +1,7 @@
 //! Timing, as ratios within one run. The functions compared take turns, a sample of each in a round, so that what
 //! else the machine does meets all of them; a ratio is the median over the rounds, a time the best one.
 
-use crate::engine::{Areas, Engine, Progress, Route, SUMMARY_WORDS};
+use crate::engine::{Areas, Engine, Progress, Request, Route, SUMMARY_WORDS};
 use crate::model::{Model, Plan};
 use crate::plain::{PLAIN, WAVEFRONT};
 use crate::recipe::Numbers;
@@ -52,6 +52,9 @@ impl Rounds {
     }
 }
 
+/// a processor's shared word where it is engaged to no office
+const NO_OFFICE: u32 = 2;
+
 /// a recipe with its route, plan, source and areas
 struct Case {
     encoded: Vec<u8>,
@@ -59,6 +62,9 @@ struct Case {
     plan: Rc<Plan>,
     areas: Areas,
     grid: Vec<u32>,
+    /// where the areas are those of the first of two offices: what it is lent beside them
+    engaged: Vec<u32>,
+    other: Vec<Progress>,
 }
 
 impl Case {
@@ -78,7 +84,8 @@ impl Case {
             status: vec![0; plan.messages.len()],
         };
         let grid = vec![0; plan.cells];
-        Case { encoded, route, plan, areas, grid }
+        let (engaged, other) = (vec![NO_OFFICE; plan.processors], areas.progress.clone());
+        Case { encoded, route, plan, areas, grid, engaged, other }
     }
 
     fn sweep(&mut self, engine: &dyn Engine) {
@@ -145,6 +152,19 @@ impl Case {
             _ => 0,
         };
         assert_eq!(number, expected, "{:?}", setting.call);
+    }
+}
+
+impl Case {
+    /// the same turn for the first of two offices, its shared word being set too
+    fn office_turn(&mut self, engine: &dyn Engine, setting: &Setting) {
+        let Setting { processor, record, .. } = *setting;
+        self.areas.progress[processor as usize] = record;
+        setting.marks.iter().for_each(|&(message, mark)| self.areas.status[message] = mark);
+        self.engaged[processor as usize] = if record.stage == 0 { NO_OFFICE } else { 0 };
+        let encoded = black_box(&self.encoded);
+        let (areas, engaged) = (&mut self.areas, &mut self.engaged);
+        assert_eq!(engine.office_turn(encoded, self.route, areas, engaged, &self.other, 0, processor), 0);
     }
 }
 
@@ -305,6 +325,29 @@ fn routes(engine: &dyn Engine, rounds: usize) {
     println!();
 }
 
+/// the turns of an office against those of a rig with one office (W-208)
+fn offices(engine: &dyn Engine, rounds: usize) {
+    if !engine.has(Request::Offices) {
+        return;
+    }
+    println!("Offices: a turn for one of two against a turn where there is one; aim 1.3\n");
+    println!("| recipe | turn | two offices µs | one µs | ratio |");
+    println!("|---|---|---|---|---|");
+    let small = Numbers::new(&[[128, 4, 8], [128, 4, 0]], &NEAR);
+    for (label, numbers) in [("N 128,128, k 16,16, P 8,0", reference()), ("the same with k 4,4", small)] {
+        for call in [Call::Gather, Call::Calculate, Call::Send] {
+            let (mut two, mut one) = (Case::new(&numbers), Case::new(&numbers));
+            let setting = one.setting(call).expect("a tile with messages");
+            let functions: &mut [&mut dyn FnMut()] =
+                &mut [&mut || two.office_turn(engine, &setting), &mut || one.call(engine, &setting)];
+            let found = Rounds::new(functions, rounds);
+            let times = [0, 1].map(|at| found.time(at) / 1e3);
+            println!("| {label} | {call:?} | {:.2} | {:.2} | {:.2} |", times[0], times[1], found.ratio(0, 1));
+        }
+    }
+    println!();
+}
+
 /// recipes whose mail goes round corners
 fn corners() -> Vec<(&'static str, Numbers)> {
     let three = Numbers::new(&[[16, 4, 4], [16, 4, 2], [16, 4, 0]], &[&[1, 1, 0], &[2, 1, 1], &[0, 0, 1]]);
@@ -391,6 +434,7 @@ pub fn report(engine: &dyn Engine, quick: bool) {
     }
     routes(engine, rounds / 3);
     values(engine, rounds);
+    offices(engine, rounds);
 }
 
 #[cfg(test)]
@@ -424,6 +468,12 @@ mod tests {
             let setting = case.setting(call).unwrap();
             case.call(&PLAIN, &setting);
             case.call(&PLAIN, &setting);
+            if matches!(call, Call::Gather | Call::Calculate | Call::Send) {
+                case.office_turn(&Model::default(), &setting);
+            }
+            // both offices' other records are at their start
+            case.areas.progress[setting.processor as usize] = Progress::default();
+            case.engaged.fill(NO_OFFICE);
         }
     }
 }

@@ -17,8 +17,9 @@
  *    7 boards         more than 64 processors
  *    8 tiles          more than 1,024 tiles
  *    9 area           a lent area has not exactly its length
- *   10 unfit          progress records or status bytes not fit
- *   11 no such        processor or message number too high
+ *   10 unfit          progress records, status bytes or engaged words not fit
+ *   11 no such        office, processor or message number too high
+ *   19 engaged        the processor has tiles left for this office and is held by the other
  *   12 waiting        the processor is to gather and a message due at its tile is not delivered
  *   13 finished       the processor has no tiles left
  *   14 no mail        delivery of a message that is not in flight
@@ -33,11 +34,18 @@
  *    progress   one record a processor
  *    status     one byte a message: 0 unsent, 1 in flight, 2 delivered, 3 taken
  *    grid       one word a cell
+ *    engaged    one word a processor: the office that holds it, 0 or 1, or 2 for none
+ *    other      the other office's progress records
  *
  * Calls that work on messages are told the route by which these travel, a word: 0 is direct passing, each message straight
  * to the processor of its taking tile; any other is indirect passing, between neighbours only, one spread dimension at
  * a time and the lowest first. The routes have messages of their own, and so other lengths of buffer and status. All
  * calls of a run are given the same route.
+ *
+ * Two offices with the same recipe and route can share the processors. Each has a source and areas of its own; the words
+ * engaged are lent to both. The calls for an office are told its number, 0 or 1, and are lent the other's records only to
+ * read. A number above 1 is 11, in these calls before 10, which is tested over all of this: an engaged word is at most 2, the
+ * stage of the office that holds the processor is 1 or 2, every other is 0.
  *
  * What C must see to, for no call can test it: each pointer is aligned and not null, even where the length
  * is 0; it points to at least as many elements as the length says; areas do not overlap. Two calls at the same
@@ -72,7 +80,8 @@ enum {
   ROLWYDDAC_EARLY = 15,
   ROLWYDDAC_SPREAD_ORDER = 16,
   ROLWYDDAC_LAST_SPREAD = 17,
-  ROLWYDDAC_TOO_WIDE = 18
+  ROLWYDDAC_TOO_WIDE = 18,
+  ROLWYDDAC_ENGAGED = 19
 };
 
 /* How far a processor is: tiles finished, the stage of its current tile (0 gather, 1 calculate, 2 send) and how
@@ -94,6 +103,12 @@ enum {
   ROLWYDDAC_SUMMARY_STEPS = 3,
   ROLWYDDAC_SUMMARY_LENGTH = 4
 };
+
+/* Places in what rolwyddac_look writes, and their number. */
+enum { ROLWYDDAC_LOOK_START = 0, ROLWYDDAC_LOOK_WORDS = 1, ROLWYDDAC_LOOK_LENGTH = 2 };
+
+/* An engaged word of a processor that no office holds. */
+enum { ROLWYDDAC_FREE = 2 };
 
 /* Places in what rolwyddac_message writes, and their number. */
 enum {
@@ -160,6 +175,58 @@ uint32_t rolwyddac_collect(const uint8_t *encoded, size_t encoded_length, uint32
                            const uint32_t *buffer, size_t buffer_length, const rolwyddac_progress *progress,
                            size_t progress_length, const uint8_t *status, size_t status_length, uint32_t *grid,
                            size_t grid_length);
+
+/* Makes a fresh start of both offices together: writes zero to the memories, buffer, progress and status of each, and 2 to
+ * every word of engaged, whatever they held.
+ * Numbers: 1 to 9, 16 to 18. A refusal leaves all nine as they were. */
+uint32_t rolwyddac_fresh_both(const uint8_t *encoded, size_t encoded_length, uint32_t route,
+                              const uint32_t *first_source, size_t first_source_length, uint32_t *first_memories,
+                              size_t first_memories_length, uint32_t *first_buffer, size_t first_buffer_length,
+                              rolwyddac_progress *first_progress, size_t first_progress_length, uint8_t *first_status,
+                              size_t first_status_length, const uint32_t *second_source, size_t second_source_length,
+                              uint32_t *second_memories, size_t second_memories_length, uint32_t *second_buffer,
+                              size_t second_buffer_length, rolwyddac_progress *second_progress,
+                              size_t second_progress_length, uint8_t *second_status, size_t second_status_length,
+                              uint32_t *engaged, size_t engaged_length);
+
+/* Gives one processor a turn for an office, as rolwyddac_turn does on its areas. A gather engages the processor to the
+ * office, the last step of that tile frees it.
+ * Numbers: 1 to 13, 16 to 19. A refusal leaves memories, buffer, progress, status and engaged as they were. */
+uint32_t rolwyddac_office_turn(const uint8_t *encoded, size_t encoded_length, uint32_t route, const uint32_t *source,
+                               size_t source_length, uint32_t *memories, size_t memories_length, uint32_t *buffer,
+                               size_t buffer_length, rolwyddac_progress *progress, size_t progress_length,
+                               uint8_t *status, size_t status_length, uint32_t *engaged, size_t engaged_length,
+                               const rolwyddac_progress *other, size_t other_length, uint32_t office,
+                               uint32_t processor);
+
+/* Delivers one message of an office: its status goes from 1 to 2. Nothing else is written.
+ * Numbers: 1 to 11, 14, 16 to 18. A refusal leaves status as it was. */
+uint32_t rolwyddac_office_deliver(const uint8_t *encoded, size_t encoded_length, uint32_t route, const uint32_t *source,
+                                  size_t source_length, const uint32_t *memories, size_t memories_length,
+                                  const uint32_t *buffer, size_t buffer_length, const rolwyddac_progress *progress,
+                                  size_t progress_length, uint8_t *status, size_t status_length,
+                                  const uint32_t *engaged, size_t engaged_length, const rolwyddac_progress *other,
+                                  size_t other_length, uint32_t office, uint32_t message);
+
+/* Copies each cell to grid from the office's memory of its tile's processor, once all processors have finished for it.
+ * Where it gives 0 after a fresh start of both offices that gave 0 and then any turns and deliveries of both, all given the
+ * same recipe and route and each its office's source, and lent the areas as the last left them, grid is what
+ * rolwyddac_sweep writes for that recipe and the office's source.
+ * Numbers: 1 to 11, 15 to 18. A refusal leaves grid as it was. */
+uint32_t rolwyddac_office_collect(const uint8_t *encoded, size_t encoded_length, uint32_t route, const uint32_t *source,
+                                  size_t source_length, const uint32_t *memories, size_t memories_length,
+                                  const uint32_t *buffer, size_t buffer_length, const rolwyddac_progress *progress,
+                                  size_t progress_length, const uint8_t *status, size_t status_length,
+                                  const uint32_t *engaged, size_t engaged_length, const rolwyddac_progress *other,
+                                  size_t other_length, uint32_t office, uint32_t *grid, size_t grid_length);
+
+/* A look at a processor's memory, lent the memories of both offices: writes two words to out, where the processor's part
+ * begins in the named office's memories and how many words it has. The same on either route.
+ * Numbers: 1 to 8, 16 to 18; 9 if memories have not their length or out has not 2 words; 11. A refusal leaves out as it was:
+ * there is no part then. */
+uint32_t rolwyddac_look(const uint8_t *encoded, size_t encoded_length, const uint32_t *first, size_t first_length,
+                        const uint32_t *second, size_t second_length, uint32_t office, uint32_t processor,
+                        uint32_t *out, size_t out_length);
 
 /* Writes the recipe of the fields to space: lengths, tiling (tile lengths) and counts (processor counts) have one
  * number a dimension; components has four numbers a distance, zero beyond the last dimension, and weights one. The

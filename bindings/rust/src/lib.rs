@@ -20,15 +20,19 @@
 //! # Ok(())
 //! # }
 //! ```
+//!
+//! [`Rig`] owns the areas of two offices that share the processors.
 
 #![warn(missing_docs)]
 
 mod recipe;
 mod refusal;
+mod rig;
 mod run;
 
 pub use recipe::{Fields, Recipe};
 pub use refusal::Refusal;
+pub use rig::Rig;
 pub use run::{Areas, Run};
 
 /// How messages travel. The routes have messages of their own, and so other sizes of buffer and status; all calls of a
@@ -88,10 +92,11 @@ pub struct Message {
     pub words: u32,
 }
 
-/// Words that the summary, a message's line and its hops take.
+/// Words that the summary, a message's line, its hops and a look take.
 const SUMMARY_WORDS: usize = 4;
 const MESSAGE_WORDS: usize = 5;
 const HOPS_WORDS: usize = 1;
+const LOOK_WORDS: usize = 2;
 
 /// Declares each exported call and makes its safe form. A slice goes over as its pointer and its length; a number
 /// as it is, and so does a route, which is laid out as a word.
@@ -187,6 +192,56 @@ calls! {
     /// Refusals: 1 to 8, 16 to 18, 9 if `out` has not 1 word, 11.
     rolwyddac_hops as hops_words(encoded: &[u8], m: u32, out: &mut [u32]);
 
+    /// Makes a fresh start of both offices together: writes zero to the memories, buffer, progress and status of each, and 2
+    /// to every word of `engaged`, whatever they held. [`Rig`] is the handier form.
+    ///
+    /// Refusals: 1 to 9 and 16 to 18.
+    rolwyddac_fresh_both as fresh_both(
+        encoded: &[u8], route: Route, first_source: &[u32], first_memories: &mut [u32], first_buffer: &mut [u32],
+        first_progress: &mut [Progress], first_status: &mut [u8], second_source: &[u32], second_memories: &mut [u32],
+        second_buffer: &mut [u32], second_progress: &mut [Progress], second_status: &mut [u8], engaged: &mut [u32],
+    );
+
+    /// Gives one processor a turn for an office, as [`turn`] does on its areas. A gather engages the processor to the office,
+    /// the last step of that tile frees it.
+    ///
+    /// `other` are the other office's records. An office number above 1 is 11, here and in the next two before 10.
+    ///
+    /// Refusals: 1 to 13 and 16 to 19.
+    rolwyddac_office_turn as office_turn(
+        encoded: &[u8], route: Route, source: &[u32], memories: &mut [u32], buffer: &mut [u32],
+        progress: &mut [Progress], status: &mut [u8], engaged: &mut [u32], other: &[Progress], office: u32,
+        processor: u32,
+    );
+
+    /// Delivers one message of an office: its status goes from 1 to 2.
+    ///
+    /// Refusals: 1 to 11, 14 and 16 to 18.
+    rolwyddac_office_deliver as office_deliver(
+        encoded: &[u8], route: Route, source: &[u32], memories: &[u32], buffer: &[u32], progress: &[Progress],
+        status: &mut [u8], engaged: &[u32], other: &[Progress], office: u32, message: u32,
+    );
+
+    /// Copies each cell to `grid` from the office's memory of its tile's processor, once all processors have finished for it.
+    ///
+    /// Where it is done, and all calls since the fresh start of both offices were turns and deliveries given this recipe,
+    /// route and each its office's source and lent the areas as the last left them, `grid` is what [`sweep`] writes for
+    /// `source`.
+    ///
+    /// Refusals: 1 to 11 and 15 to 18.
+    rolwyddac_office_collect as office_collect(
+        encoded: &[u8], route: Route, source: &[u32], memories: &[u32], buffer: &[u32], progress: &[Progress],
+        status: &[u8], engaged: &[u32], other: &[Progress], office: u32, grid: &mut [u32],
+    );
+
+    /// A look at a processor's memory, lent the memories of both offices: writes two words to `out`, where the processor's part
+    /// begins in the named office's memories and how many words it has. [`look`] is the handier form.
+    ///
+    /// Refusals: 1 to 8, 16 to 18, 9 if memories have not their length or `out` has not 2 words, 11.
+    rolwyddac_look as look_words(
+        encoded: &[u8], first: &[u32], second: &[u32], office: u32, processor: u32, out: &mut [u32],
+    );
+
     /// Writes the recipe of the fields to `space`. [`Fields`] is the handier form.
     ///
     /// - `lengths`, `tiling` and `counts` have one number a dimension: its length, tile length and processor count.
@@ -237,4 +292,16 @@ pub fn hops(encoded: &[u8], m: u32) -> Result<u32, Refusal> {
     let mut out = [0; HOPS_WORDS];
     hops_words(encoded, m, &mut out)?;
     Ok(out[0])
+}
+
+/// The part of the named office's memories that is the processor's.
+///
+/// Refusals: 1 to 9, 11 and 16 to 18.
+pub fn look<'a>(
+    encoded: &[u8], first: &'a [u32], second: &'a [u32], office: u32, processor: u32,
+) -> Result<&'a [u32], Refusal> {
+    let mut out = [0; LOOK_WORDS];
+    look_words(encoded, first, second, office, processor, &mut out)?;
+    let [start, words] = out.map(|word| word as usize);
+    Ok(&(if office == 0 { first } else { second })[start..start + words])
 }

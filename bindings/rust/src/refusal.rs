@@ -76,8 +76,9 @@ refusals! {
     7 Boards "boards": "more than 64 processors";
     8 Tiles "tiles": "more than 1,024 tiles";
     9 Area "area": "a lent area has not exactly its length";
-    10 Unfit "unfit": "progress records or status bytes not fit";
-    11 NoSuch "no such": "processor or message number too high";
+    10 Unfit "unfit": "progress records, status bytes or engaged words not fit";
+    11 NoSuch "no such": "office, processor or message number too high";
+    19 Engaged "engaged": "the processor has tiles left for this office and is held by the other";
     12 Waiting "waiting": "the processor is to gather and a message due at its tile is not delivered";
     13 Finished "finished": "the processor has no tiles left";
     14 NoMail "no mail": "delivery of a message that is not in flight";
@@ -100,7 +101,7 @@ mod tests {
     fn no_number_is_missing() {
         let mut numbers: Vec<u32> = Refusal::NAMED.iter().map(|refusal| refusal.number()).collect();
         numbers.sort();
-        assert_eq!(numbers, (1..=18).collect::<Vec<u32>>());
+        assert_eq!(numbers, (1..=19).collect::<Vec<u32>>());
     }
 
     #[test]

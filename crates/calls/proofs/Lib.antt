@@ -1,3 +1,6 @@
 pub mod Shared
+pub mod Walking
 pub mod OverRecords
 pub mod PlanCalls
+pub mod OfficeCalls
+pub mod OverRig

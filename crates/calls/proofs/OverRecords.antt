@@ -1,10 +1,11 @@
 -- The demands hold of the calls as exported, board records as structs.
 use Prim.Native.Nat.{ℕ, _+_, _*_, _<_}
 use mathlib.Core.Path.{_≡_, refl, sym, ap, subst, _∙_}
+use mathlib.Core.Logic.{_≢_}
 use mathlib.Core.Bool.{Bool, true, false}
 use mathlib.Core.List.{List, [], _∷_, _++_}
 use native.Mathlib.Omega.{arith}
-use lib.ListN.{length, set, replicate, length-set, length-replicate}
+use lib.ListN.{length, set, length-set, length-replicate}
 use lib.Dec.{eqb}
 use borrow.Author.Tests.{eqb-true}
 use Rattle.base.specs.Tests.{_and_, not, pick}
@@ -28,21 +29,44 @@ use Rattle.records.specs.declared.Progress.{Progress}
 use Rattle.records.specs.Records.{flatWords}
 use Rattle.records.proofs.Words.{length-words, unflat, words-unflat, injective}
 use Rattle.calls.specs.PlanCalls.{summaryCall, messageCall, hopsCall}
-use Rattle.calls.specs.OverRecords.{Areas, inWords, FreshGave, EventGave, CollectGave, EventsGave, namedNext, FixedAreas, FixedCalls, ExactCalls, FixedRun, OverRecords}
+use Rattle.calls.specs.OverRecords.{Areas, inWords, FreshGave, EventGave, CollectGave, Gave, EventsGave, namedNext, FixedAreas, FixedCalls, ExactCalls, FixedRun, OverRecords}
+
+-- ---- a run of calls over records is one over words
+
+module _ {A E S : Type 0} (Step : A → E → ℕ → A → Type 0) (words : A → S) (acts : S → E → Answered S)
+    (is : (a : A) (e : E) (n : ℕ) (b : A) → Step a e n b → answer n (words b) ≡ acts (words a) e) where
+  pub run-numbers : {a b : A} {es : List E} {ns : List ℕ} → Gave Step a es ns b → ns ≡ answersTo acts (words a) es
+  unfolding answersTo
+  run-numbers Gave.none = refl
+  run-numbers (Gave.next {a = a} {b = b} {e = e} {es = es} {n = n} h g) =
+      let c = is a e n b h in
+      ap (λ (l : List ℕ). n ∷ l) (run-numbers g ∙ ap (λ (s : S). answersTo acts s es) (after-of c))
+      ∙ ap (λ (k : ℕ). k ∷ answersTo acts (acts (words a) e .after) es) (number-of c)
+
+  pub run-words : {a b : A} {es : List E} {ns : List ℕ} → Gave Step a es ns b → words b ≡ stateAfter acts (words a) es
+  unfolding stateAfter
+  run-words Gave.none = refl
+  run-words (Gave.next {a = a} {b = b} {e = e} {es = es} {n = n} h g) =
+      run-words g ∙ ap (λ (s : S). stateAfter acts s es) (after-of (is a e n b h))
+
+joined : {A E : Type 0} {Step : A → E → ℕ → A → Type 0} {a b d : A} {es ts : List E} {ns ks : List ℕ}
+    → Gave Step a es ns b → Gave Step b ts ks d → Gave Step a (es ++ ts) (ns ++ ks) d
+joined Gave.none k = k
+joined (Gave.next h g) k = Gave.next h (joined g k)
 
 -- ---- the words after a call are records' words
 
 -- words of whole records
-abbrev Whole : List ℕ → Type 0
+abbrev pub Whole : List ℕ → Type 0
 Whole l = (n : ℕ) × (length l ≡ 3 * n)
 
-areasOf : State → Areas
+pub areasOf : State → Areas
 areasOf s = record { memories = s .memories; buffer = s .buffer; progress = unflat (s .progress); status = s .status }
 
 back : (l : List ℕ) → Whole l → flatWords (unflat l) ≡ l
 back l (n, e) = words-unflat n l e
 
-in-words : (s : State) → Whole (s .progress) → inWords (areasOf s) ≡ s
+pub in-words : (s : State) → Whole (s .progress) → inWords (areasOf s) ≡ s
 unfolding areasOf
 in-words s w = ap (λ (l : List ℕ). stateOf (s .memories) (s .buffer) l (s .status)) (back (s .progress) w)
 
@@ -60,7 +84,7 @@ length-sends : (p : Plan) (s : State) (b t n : ℕ) → length (afterSends p s b
 unfolding afterSends
 length-sends p s b t n = picked _ _ _ (s .progress) (length-progress (s .progress) b _ _ _) (length-progress (s .progress) b _ _ _)
 
-length-carry : (p : Plan) (source : List ℕ) (s : State) (b : ℕ) (a : Action)
+pub length-carry : (p : Plan) (source : List ℕ) (s : State) (b : ℕ) (a : Action)
     → length (carryOut p source s b a .progress) ≡ length (s .progress)
 unfolding carryOut
 length-carry p source s b (gather t) = length-progress (s .progress) b _ _ _
@@ -90,7 +114,7 @@ module _ (bytes : List ℕ) (route : ℕ) (source : List ℕ) (a : Areas) where
 
 -- ---- demand 1
 
-areas-fixed : (a b : Areas) → inWords a ≡ inWords b → a ≡ b
+pub areas-fixed : (a b : Areas) → inWords a ≡ inWords b → a ≡ b
 areas-fixed a b e =
     ap (λ (l : List ℕ). at l (a .buffer) (a .progress) (a .status)) (ap (λ (s : State). s .memories) e)
     ∙ ap (λ (l : List ℕ). at (b .memories) l (a .progress) (a .status)) (ap (λ (s : State). s .buffer) e)
@@ -102,31 +126,36 @@ areas-fixed a b e =
     at m b p s = record { memories = m; buffer = b; progress = p; status = s }
 
 module _ {A : Type 0} {ls : List Line} {done before : A} where
-  fixed-as : {x y : Answered A} → x ≡ y → Fixed y ls done before → Fixed x ls done before
+  pub fixed-as : {x y : Answered A} → x ≡ y → Fixed y ls done before → Fixed x ls done before
   fixed-as e f = subst (λ (z : Answered A). Fixed z ls done before) (sym e) f
+
+-- one answer over words, one over records
+module _ {A S : Type 0} (words : A → S) (fixed : (a b : A) → words a ≡ words b → a ≡ b) where
+  pub one-answer : (b c : A) (n k : ℕ) {r : Answered S} → answer n (words b) ≡ r → answer k (words c) ≡ r → (n ≡ k) × (b ≡ c)
+  one-answer b c n k d e = (number-of (d ∙ sym e), fixed b c (after-of (d ∙ sym e)))
+
+  pub as-before : {ls : List Line} {done : S} {call : Answered S} (a b : A) (n : ℕ) → answer n (words b) ≡ call → Fixed call ls done (words a)
+      → n ≢ 0 → b ≡ a
+  as-before a b n e f h = fixed b a (after-of e ∙ f .refuses (λ z. h (number-of e ∙ z)))
 
 module _ {ls : List Line} {done : State} {a b : Areas} {n : ℕ} {call : Answered State} where
   fixed-areas : answer n (inWords b) ≡ call → Fixed call ls done (inWords a) → FixedAreas ls done a n b
   fixed-areas e f =
       record {
         fixed = fixed-as e f;
-        as-before = λ h. areas-fixed b a (after-of e ∙ f .refuses (λ z. h (number-of e ∙ z)));
+        as-before = as-before inWords areas-fixed a b n e f;
       }
-
--- one answer over words, one over records
-one-answer : (b c : Areas) (n k : ℕ) {r : Answered State} → answer n (inWords b) ≡ r → answer k (inWords c) ≡ r → (n ≡ k) × (b ≡ c)
-one-answer b c n k d e = (number-of (d ∙ sym e), areas-fixed b c (after-of (d ∙ sym e)))
 
 can-answer : (r : Answered State) → Whole (r .after .progress) → (n : ℕ) × ((b : Areas) × (answer n (inWords b) ≡ r))
 can-answer r w = (r .number, (areasOf (r .after), ap (λ (s : State). answer (r .number) s) (in-words (r .after) w)))
 
 module _ (bytes : List ℕ) (route : ℕ) (source : List ℕ) where
   -- an event's contract, by the calls over words
-  event-call : (a b : Areas) (e : Event) (n : ℕ) → EventGave bytes route source a e n b
+  event-call : (a : Areas) (e : Event) (n : ℕ) (b : Areas) → EventGave bytes route source a e n b
       → answer n (inWords b) ≡ calls bytes route source (inWords a) e
   unfolding calls
-  event-call a b (turnOf p) n h = h
-  event-call a b (deliveryOf m) n h = h
+  event-call a (turnOf p) n b h = h
+  event-call a (deliveryOf m) n b h = h
 
   call-event : (a b : Areas) (e : Event) (n : ℕ) → answer n (inWords b) ≡ calls bytes route source (inWords a) e
       → EventGave bytes route source a e n b
@@ -153,33 +182,19 @@ module _ (bytes : List ℕ) (route : ℕ) (source : List ℕ) where
         hops = λ m old out n e. fixed-as e (engine.fixed _ _ old);
         can-fresh = λ a. can-answer (freshCall bytes route source (inWords a)) (whole-fresh bytes route source a);
         can-event = can-event;
-        one-fresh = λ a b c n k. one-answer b c n k;
-        one-event = λ a b c e n k h g. one-answer b c n k (event-call a b e n h) (event-call a c e k g);
+        one-fresh = λ a b c n k. one-answer inWords areas-fixed b c n k;
+        one-event = λ a b c e n k h g. one-answer inWords areas-fixed b c n k (event-call a e n b h) (event-call a e k c g);
       }
 
   -- ---- a run over records is a run over words
 
   numbers-are : {a b : Areas} {es : List Event} {ns : List ℕ} → EventsGave bytes route source a es ns b
       → ns ≡ answersTo (calls bytes route source) (inWords a) es
-  unfolding answersTo
-  numbers-are EventsGave.none = refl
-  numbers-are (EventsGave.next {a = a} {b = b} {e = e} {es = es} {n = n} h g) =
-      let c = event-call a b e n h in
-      ap (λ (l : List ℕ). n ∷ l) (numbers-are g ∙ ap (λ (s : State). answersTo (calls bytes route source) s es) (after-of c))
-      ∙ ap (λ (k : ℕ). k ∷ answersTo (calls bytes route source) (calls bytes route source (inWords a) e .after) es) (number-of c)
+  numbers-are g = run-numbers _ inWords (calls bytes route source) event-call g
 
   words-are : {a b : Areas} {es : List Event} {ns : List ℕ} → EventsGave bytes route source a es ns b
       → inWords b ≡ stateAfter (calls bytes route source) (inWords a) es
-  unfolding stateAfter
-  words-are EventsGave.none = refl
-  words-are (EventsGave.next {a = a} {b = b} {e = e} {es = es} {n = n} h g) =
-      words-are g ∙ ap (λ (s : State). stateAfter (calls bytes route source) s es) (after-of (event-call a b e n h))
-
-  joined : {a b d : Areas} {es ts : List Event} {ns ks : List ℕ}
-      → EventsGave bytes route source a es ns b → EventsGave bytes route source b ts ks d
-      → EventsGave bytes route source a (es ++ ts) (ns ++ ks) d
-  joined EventsGave.none k = k
-  joined (EventsGave.next h g) k = EventsGave.next h (joined g k)
+  words-are g = run-words _ inWords (calls bytes route source) event-call g
 
   -- collecting that gave 0 was lent a grid of the right length
   collect-length : (s : State) (old : List ℕ) → collectCall bytes route source s old .number ≡ 0 → length old ≡ recipe bytes route .cells
@@ -212,7 +227,7 @@ module _ (bytes : List ℕ) (route : ℕ) (source : List ℕ) where
           record {
             gave =
                 ap (λ (s : State). calls bytes route source s (turnOf p) .number) (sym (words-are g))
-                ∙ sym (number-of (event-call b c (turnOf p) 0 t));
+                ∙ sym (number-of (event-call b (turnOf p) 0 c t));
             named = rw (numbers-are g) at n;
           }
 
@@ -228,7 +243,7 @@ module _ (bytes : List ℕ) (route : ℕ) (source : List ℕ) where
           (k : EventsGave bytes route source c then ks d)
           (h : q < length (heldBy (recipe bytes route) m)) where
         all : EventsGave bytes route source start (before ++ (turnOf p ∷ then)) (ns ++ (0 ∷ ks)) d
-        all = joined g (EventsGave.next t k)
+        all = joined g (Gave.next t k)
 
         stays : mailAt (recipe bytes route) (inWords d) m q ≡ wordAt (recipe bytes route) (inWords b) p (cellOf (recipe bytes route) m q)
         stays = rw (words-are all, words-are g) (posted before p m (did c p (send m) g t n) .stays then q h)
@@ -239,7 +254,7 @@ module _ (bytes : List ℕ) (route : ℕ) (source : List ℕ) where
             ≡ wordAt (recipe bytes route) (inWords b) p (cellOf (recipe bytes route) m q)
         arrives e r u o =
             ap (λ (s : State). wordAt (recipe bytes route) s r (cellOf (recipe bytes route) m q))
-            (after-of (event-call d e (turnOf r) 0 u) ∙ ap (λ (s : State). calls bytes route source s (turnOf r) .after) (words-are all))
+            (after-of (event-call d (turnOf r) 0 e u) ∙ ap (λ (s : State). calls bytes route source s (turnOf r) .after) (words-are all))
             ∙ posted before p m (did c p (send m) g t n) .arrives then r q h (did e r (gather (takerOf (recipe bytes route) m)) all u o)
             ∙ ap (λ (s : State). wordAt (recipe bytes route) s p (cellOf (recipe bytes route) m q)) (sym (words-are g))
 
@@ -274,7 +289,7 @@ module _ (bytes : List ℕ) (route : ℕ) (source : List ℕ) where
     -- the next call, of the areas `b`
     next-number : (e : Event) (n : ℕ) (c : Areas) → EventGave bytes route source b e n c
         → n ≡ calls bytes route source (stateAfter (calls bytes route source) (inWords start) events) e .number
-    next-number e n c h = number-of (event-call b c e n h) ∙ ap (λ (s : State). calls bytes route source s e .number) ws
+    next-number e n c h = number-of (event-call b e n c h) ∙ ap (λ (s : State). calls bytes route source s e .number) ws
 
     collect-is : (old grid : List ℕ) (n : ℕ) → CollectGave bytes route source b old n grid
         → answer n grid ≡ collectCall bytes route source (stateAfter (calls bytes route source) (inWords start) events) old

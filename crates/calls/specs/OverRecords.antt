@@ -33,6 +33,11 @@ pub record Areas : Type 0 where
 abbrev pub inWords : Areas → State
 inWords a = stateOf (a .memories) (a .buffer) (flatWords (a .progress)) (a .status)
 
+-- calls in a row, `Step a e n b` saying that the call e, lent a, gave n and left b: areas before, calls, their numbers, areas after
+pub data Gave {A E : Type 0} (Step : A → E → ℕ → A → Type 0) : A → List E → List ℕ → A → Type 0 where
+  none : {a : A} → Gave Step a [] [] a
+  next : {a b c : A} {e : E} {es : List E} {n : ℕ} {ns : List ℕ} → Step a e n b → Gave Step b es ns c → Gave Step a (e ∷ es) (n ∷ ns) c
+
 -- ---- the contracts of src/lib.rt: lent `a`, the call gave n and left `b`; what is lent for reading alone is left as it was
 
 module _ (bytes : List ℕ) (route : ℕ) (source : List ℕ) where
@@ -47,11 +52,9 @@ module _ (bytes : List ℕ) (route : ℕ) (source : List ℕ) where
   abbrev pub CollectGave : Areas → List ℕ → ℕ → List ℕ → Type 0
   CollectGave a old n grid = answer n grid ≡ collectCall bytes route source (inWords a) old
 
-  -- events, each given this route and lent the areas as the last left them: areas before, events, their numbers, areas after
-  pub data EventsGave : Areas → List Event → List ℕ → Areas → Type 0 where
-    none : {a : Areas} → EventsGave a [] [] a
-    next : {a b c : Areas} {e : Event} {es : List Event} {n : ℕ} {ns : List ℕ}
-        → EventGave a e n b → EventsGave b es ns c → EventsGave a (e ∷ es) (n ∷ ns) c
+  -- events, each given this route and lent the areas as the last left them
+  abbrev pub EventsGave : Areas → List Event → List ℕ → Areas → Type 0
+  EventsGave = Gave EventGave
 
 abbrev pub SweepGave : List ℕ → List ℕ → List ℕ → ℕ → List ℕ → Type 0
 SweepGave bytes source old n grid = answer n grid ≡ sweepCall bytes source old

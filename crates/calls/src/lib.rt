@@ -10,6 +10,8 @@ ghost use Rattle.writer.specs.Writing.{writeCall};
 ghost use Rattle.calls.specs.PlanCalls.{summaryCall, messageCall, hopsCall};
 use records::Progress;
 
+pub mod office; // office.rt: the calls for an office
+
 // One turn of a processor.
 #[no_mangle]
 pub extern "C" fn rolwyddac_turn(

@@ -26,7 +26,7 @@ use Rattle.nest.specs.declared.Reading.{Reading}
 use Rattle.nest.specs.Nest.{readLines, nestOf, readingOf}
 use Rattle.nest.proofs.Numbered.{numbered}
 use Rattle.stages.specs.Progress.{progressOnly}
-use Rattle.engine.specs.Given.{AreaLengths, MayTurn, unfitLines}
+use Rattle.engine.specs.Given.{AreaLengths, MayTurn, unfitLines, handedOver}
 use Rattle.engine.specs.Calls.{answer, recipe, areas, areaLines, freshCall, turnCall, deliverCall, collectCall, sweepCall}
 use Rattle.engine.proofs.Turns.{answered-no, answered-yes}
 
@@ -199,6 +199,49 @@ module _ (l : List ℕ) (route : ℕ) (source : List ℕ) (s : State) (b : ℕ) 
           ∙ first-false 9 (not (areas p source s)) (turnLines p s b) (not-true (q .0))))
           ∙ turn-at
 
+-- ---- a delivery, past the lines before it
+
+module _ (status : List ℕ) (m : ℕ) where
+  number : ℕ
+  number = firstOf (line 11 (not (ltb m (length status))) ∷ line 14 (not (eqb (getD status m 0) 1)) ∷ [])
+
+  refusal : (n : ℕ) → n ≢ 0 → n ≡ number → answer n status ≡ handedOver status m
+  unfolding number
+  refusal n h e = answered-no n (set status m 2) status h ∙ ap (λ (k : ℕ). answered k (set status m 2) status) e
+
+  pub over-beyond : length status ≤ m → answer 11 status ≡ handedOver status m
+  unfolding number
+  over-beyond h = refusal 11 (λ k. omega arith) (sym (first-true 11 _ _ (not-false (le-ltb m (length status) h))))
+
+  module _ (low : m < length status) where
+    behind : number ≡ firstOf (line 14 (not (eqb (getD status m 0) 1)) ∷ [])
+    unfolding number
+    behind = first-false 11 _ _ (not-true (lt-ltb m (length status) low))
+
+    pub over-none : getD status m 0 ≢ 1 → answer 14 status ≡ handedOver status m
+    over-none k = refusal 14 (λ q. omega arith) (sym (behind ∙ first-true 14 _ _ (not-false (ne-eqb _ _ k))))
+
+    in-flight : getD status m 0 ≡ 1 → number ≡ 0
+    unfolding firstOf
+    in-flight k = behind ∙ first-false 14 (not (eqb (getD status m 0) 1)) [] (not-true (eq-eqb _ _ k))
+
+    pub over-done : getD status m 0 ≡ 1 → answer 0 (set status m 2) ≡ handedOver status m
+    unfolding number
+    over-done k = answered-yes _ (set status m 2) status (in-flight k)
+
+either : {A : Type 0} (f : List ℕ → A) (t : Bool) (a b : List ℕ) → f (pick t a b) ≡ pick t (f a) (f b)
+unfolding pick
+either f true a b = refl
+either f false a b = refl
+
+-- what is made of the marks, as an answer about all that they are part of
+pub handed : {A : Type 0} (f : List ℕ → A) (n m : ℕ) (status old : List ℕ) → answer n status ≡ handedOver old m → (k : ℕ)
+    → firstOf (line 11 (not (ltb m (length old))) ∷ line 14 (not (eqb (getD old m 0) 1)) ∷ []) ≡ k
+    → answer n (f status) ≡ answered k (f (set old m 2)) (f old)
+handed {A} f n m status old e k q =
+    ap (λ (x : Answered (List ℕ)). answer (x .number) (f (x .after))) e
+    ∙ ap (λ (j : ℕ). answer j (f (pick (eqb j 0) (set old m 2) old))) q ∙ ap (answer k) (either f (eqb k 0) (set old m 2) old)
+
 -- ---- the delivery
 
 module _ (l : List ℕ) (route : ℕ) (source : List ℕ) (s : State) (m : ℕ) where
@@ -225,36 +268,21 @@ module _ (l : List ℕ) (route : ℕ) (source : List ℕ) (s : State) (m : ℕ) 
           (e ∙ sym (first-some (unfitLines p source s) _ (λ q. h (e ∙ q)))) h
           ∙ deliver-at
 
-      module _ (z : r ≡ 0) where
-        behind : firstOf (areaLines p source s ++ deliverLines p s m)
-            ≡ firstOf (line 11 (not (ltb m (count p))) ∷ line 14 (not (eqb (getD (s .status) m 0) 1)) ∷ [])
-        behind = let q = unfit-none p source s r e z in first-false 9 _ _ (not-true (q .0)) ∙ first-false 10 _ _ (not-true (q .1))
+      -- the marks handed over
+      pub deliver-over : r ≡ 0 → (n : ℕ) (status : List ℕ) → answer n status ≡ handedOver (s .status) m
+          → answer n (stateOf (s .memories) (s .buffer) (s .progress) status) ≡ deliverCall l route source s m
+      deliver-over z n status a = handed (λ t. stateOf (s .memories) (s .buffer) (s .progress) t) n m status (s .status) a _ same ∙ deliver-at
+        where
+          rest : ℕ → List Line
+          rest k = line 11 (not (ltb m k)) ∷ line 14 (not (eqb (getD (s .status) m 0) 1)) ∷ []
 
-        long : length (s .status) ≡ count p
-        long = areas-are p source s (unfit-none p source s r e z .0) .status
-
-        pub deliver-beyond : length (s .status) ≤ m → answer 11 s ≡ deliverCall l route source s m
-        deliver-beyond h =
-            call-later l _ 11 _ s (o .none)
-            (sym (behind ∙ first-true 11 _ _ (not-false (le-ltb m (count p) (omega (arith, long)))))) (λ k. omega arith)
-            ∙ deliver-at
-
-        module _ (h : m < length (s .status)) where
-          known : firstOf (areaLines p source s ++ deliverLines p s m)
-              ≡ firstOf (line 14 (not (eqb (getD (s .status) m 0) 1)) ∷ [])
-          known = behind ∙ first-false 11 _ _ (not-true (lt-ltb m (count p) (omega (arith, long))))
-
-          pub deliver-none : getD (s .status) m 0 ≢ 1 → answer 14 s ≡ deliverCall l route source s m
-          deliver-none k =
-              call-later l _ 14 _ s (o .none) (sym (known ∙ first-true 14 _ _ (not-false (ne-eqb _ _ k)))) (λ q. omega arith) ∙ deliver-at
-
-          empty : getD (s .status) m 0 ≡ 1 → firstOf (line 14 (not (eqb (getD (s .status) m 0) 1)) ∷ []) ≡ 0
-          unfolding firstOf
-          empty k = first-false 14 (not (eqb (getD (s .status) m 0) 1)) [] (not-true (eq-eqb _ _ k))
-
-          pub deliver-done : getD (s .status) m 0 ≡ 1
-              → answer 0 (stateOf (s .memories) (s .buffer) (s .progress) (set (s .status) m 2)) ≡ deliverCall l route source s m
-          deliver-done k = call-done l _ 0 _ s (o .none) (known ∙ empty k) ∙ deliver-at
+          same : firstOf (rest (length (s .status))) ≡ firstOf (readLines l ++ (areaLines p source s ++ deliverLines p s m))
+          same =
+              let q = unfit-none p source s r e z in
+              ap (λ (k : ℕ). firstOf (rest k)) (areas-are p source s (q .0) .status)
+              ∙ sym
+              (first-behind (readLines l) (areaLines p source s ++ deliverLines p s m) (numbered l) (o .none)
+              ∙ first-false 9 _ _ (not-true (q .0)) ∙ first-false 10 _ _ (not-true (q .1)))
 
 -- ---- collecting
 

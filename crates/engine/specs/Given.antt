@@ -4,12 +4,12 @@ use Prim.Native.Nat.{ℕ, _*_, _<_}
 use mathlib.Core.Path.{_≡_}
 use mathlib.Core.Bool.{true}
 use mathlib.Core.List.{List, [], _∷_, _++_}
-use lib.ListN.{length, replicate}
-use lib.Dec.{eqb}
+use lib.ListN.{length, getD, set, replicate}
+use lib.Dec.{ltb, eqb}
 use Rattle.base.specs.Tests.{not, pick}
-use Rattle.base.specs.Numbers.{Line, line}
+use Rattle.base.specs.Numbers.{Line, line, firstOf}
 use Rattle.machine.specs.Plan.{Plan, count, words}
-use Rattle.machine.specs.Machine.{State, fit}
+use Rattle.machine.specs.Machine.{State, fit, Answered, answered}
 use Rattle.stages.specs.Progress.{setRecord}
 use Rattle.engine.specs.Calls.{areaLines}
 use Rattle.engine.specs.declared.core.Turned.{Turned}
@@ -31,6 +31,11 @@ pub record MayTurn (p : Plan) (source : List ℕ) (s : State) (b : ℕ) : Type 0
 -- lines 9 and 10, which a turn, a delivery and collecting share
 abbrev pub unfitLines : Plan → List ℕ → State → List Line
 unfitLines p source s = areaLines p source s ++ (line 10 (not (fit p s)) ∷ [])
+
+-- the marks and the number of a delivery, past the lines before it
+abbrev pub handedOver : List ℕ → ℕ → Answered (List ℕ)
+handedOver status m =
+    answered (firstOf (line 11 (not (ltb m (length status))) ∷ line 14 (not (eqb (getD status m 0) 1)) ∷ [])) (set status m 2) status
 
 -- the records' words after a turn of processor b that gave r
 unfoldable pub recordsAfter : List ℕ → ℕ → Turned → List ℕ

@@ -13,7 +13,7 @@ ghost use Rattle.layout.specs.Sizes.{Sized};
 ghost use Rattle.nest.specs.Nest.{processors};
 ghost use Rattle.table.specs.Table.{Table};
 ghost use Rattle.records.specs.Records.{Carries};
-ghost use Rattle.engine.specs.Given.{MayTurn, unfitLines, recordsAfter, zerosAfter};
+ghost use Rattle.engine.specs.Given.{MayTurn, unfitLines, handedOver, recordsAfter, zerosAfter};
 ghost use Rattle.engine.specs.Calls.{answer, areas, freshCall, turnCall, deliverCall, collectCall};
 use base::word_index;
 use layout::Sizes;
@@ -39,7 +39,7 @@ use table::tile_count;
 use table::totals;
 
 // Each area has its length; `words` is how many words the records have.
-fn areas_fit(
+pub fn areas_fit(
     nest: Nest,
     sizes: Sizes,
     lens: &[u16; 7168],
@@ -109,7 +109,7 @@ pub struct Turned {
     pub progress: Progress,
 }
 
-fn refused(number: u32) -> Turned
+pub fn refused(number: u32) -> Turned
     ensures { λ r. ⌜ r .number ≡ number ⌝ }
 {
     let none = Progress {
@@ -133,7 +133,7 @@ fn done(progress: Progress) -> Turned
 }
 
 // The stage at which processor b stands.
-fn step(
+pub fn step(
     nest: Nest,
     sizes: Sizes,
     lens: &[u16; 7168],
@@ -241,6 +241,21 @@ pub fn turn(
     )
 }
 
+// The delivery of a message, past the lines before it: line 11, line 14, and the mark.
+pub fn hand_over(status: &mut [u8], message: u32) -> u32
+    ensures { λ r. ⌜ answer r (now (status .exit)) ≡ handedOver (now (status .entry)) message ⌝ }
+{
+    let m = message as usize;
+    if m >= status.len() {
+        return 11;
+    }
+    if status[m] != 1 {
+        return 14;
+    }
+    status[m] = 2;
+    0
+}
+
 // The delivery of a message.
 pub fn deliver(
     encoded: &[u8],
@@ -264,7 +279,6 @@ pub fn deliver(
     }
     let nest = reading.nest;
     let sizes = sizes_of(nest, route_of(route));
-    let m = message as usize;
     let mut lens = [0u16; 7168];
     fill(nest, sizes, &mut lens);
     let n = unfit(
@@ -280,14 +294,7 @@ pub fn deliver(
     if n != 0 {
         return n;
     }
-    if m >= status.len() {
-        return 11;
-    }
-    if status[m] != 1 {
-        return 14;
-    }
-    status[m] = 2;
-    0
+    hand_over(status, message)
 }
 
 // The grid, once all processors have finished.

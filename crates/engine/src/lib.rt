@@ -45,7 +45,7 @@ pub fn fresh(
 }
 
 // The words of a processor's record written.
-fn store_record(progress: &mut [u32], processor: usize, p: Progress)
+pub fn store_record(progress: &mut [u32], processor: usize, p: Progress)
     requires { ⌜ 3 * processor + 2 < length (now progress) ⌝ }
     ensures { λ _. ⌜ now (progress .exit) ≡ setRecord (now (progress .entry)) processor p ⌝ }
 {

@@ -33,7 +33,7 @@ pub record RigInv (p : Plan) (sources : Sources) (r : Rig) : Type 0 where
 
 -- a rig with the invariant is fit for either office
 module _ (p : Plan) (sources : Sources) (r : Rig) (inv : RigInv p sources r) (o : ℕ) (h : o ≤ 1) where
-  other-is : otherOf r o ≡ ownOf r (otherThan o)
+  pub other-is : otherOf r o ≡ ownOf r (otherThan o)
   other-is = office-other o (otherThan o) (r .second) (r .first) h (omega arith) (λ e. omega arith)
 
   word-fits : (b : ℕ) → b < p .processors → fitWord o (lentTo r o) (otherOf r o .progress) b ≡ true

@@ -15,9 +15,9 @@ use Rattle.base.proofs.Numbers.{first-false, first-cons, none-first}
 use Rattle.machine.specs.Plan.{Plan}
 use Rattle.machine.specs.Machine.{State, fit, answered, nextAction, collected, turnLines, turn, deliverLines, deliver, collect}
 use Rattle.machine.specs.Runs.{Event, turnOf, deliveryOf, act}
-use Rattle.offices.specs.Offices.{Lent, fitFor, heldByOther, turnLinesFor, carryOutFor, turnFor, deliverLinesFor, deliveredFor, deliverFor}
-use Rattle.offices.specs.Offices.{collectFor, actFor}
-use Rattle.offices.specs.Offices.{ofOffice, Rig, Sources, sourceFor, ownOf, otherOf, lentTo, returned, Call, actOn}
+use Rattle.offices.specs.Offices.{Lent, fitFor, heldByOther, turnLinesFor, carryOutFor, turnFor}
+use Rattle.offices.specs.Offices.{deliverLinesFor, deliveredFor, deliverFor, collectFor, actFor}
+use Rattle.offices.specs.Offices.{ofOffice, Rig, rigOf, Sources, sourceFor, ownOf, otherOf, lentTo, returned, Call, actOn}
 
 -- ---- what an answer leaves, by part
 own-after : (n k : ℕ) (x y : Lent) → n ≡ k → pick (eqb n 0) x y .own ≡ pick (eqb k 0) (x .own) (y .own)
@@ -48,7 +48,7 @@ module _ (p : Plan) (o : ℕ) (l : Lent) (theirs : List ℕ) where
       let b = none-first 10 _ _ (λ k. omega arith) (a .1) in
       (record { office = true-not (a .0); fits = true-not (b .0) }, b .1)
 
-  own-fits : fitFor p o l theirs ≡ true → fit p (l .own) ≡ true
+  pub own-fits : fitFor p o l theirs ≡ true → fit p (l .own) ≡ true
   unfolding fitFor
   own-fits e = both e .0
 
@@ -194,7 +194,7 @@ module _ (r : Rig) (o : ℕ) where
       own : Bool → State
       own t = pick t (r .first) (r .second)
 
-      go : (t : Bool) → record { first = pick t (own t) (r .first); second = pick t (r .second) (own t); engaged = r .engaged } ≡ r
+      go : (t : Bool) → rigOf (pick t (own t) (r .first)) (pick t (r .second) (own t)) (r .engaged) ≡ r
       go true = refl
       go false = refl
 

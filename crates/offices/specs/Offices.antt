@@ -113,10 +113,16 @@ pub record Rig : Type 0 where
   pub second : State  -- office 1's areas
   pub engaged : List ℕ
 
+abbrev pub rigOf : State → State → List ℕ → Rig
+rigOf first second engaged = record { first = first; second = second; engaged = engaged }
+
 -- the two offices' sources
 pub record Sources : Type 0 where
   pub first : List ℕ
   pub second : List ℕ
+
+abbrev pub sourcesOf : List ℕ → List ℕ → Sources
+sourcesOf first second = record { first = first; second = second }
 
 abbrev pub sourceFor : Sources → ℕ → List ℕ
 sourceFor sources o = ofOffice o (sources .first) (sources .second)
@@ -132,11 +138,11 @@ lentTo r o = lentOf (ownOf r o) (r .engaged)
 
 -- the rig with what a call of office o left of what it was lent
 unfoldable pub returned : Rig → ℕ → Lent → Rig
-returned r o l = record { first = ofOffice o (l .own) (r .first); second = ofOffice o (r .second) (l .own); engaged = l .engaged }
+returned r o l = rigOf (ofOffice o (l .own) (r .first)) (ofOffice o (r .second) (l .own)) (l .engaged)
 
 -- a fresh start of both offices together
 unfoldable pub freshRig : Plan → Rig
-freshRig p = record { first = machine.fresh p; second = machine.fresh p; engaged = replicate (p .processors) 2 }
+freshRig p = rigOf (machine.fresh p) (machine.fresh p) (replicate (p .processors) 2)
 
 -- ---- the calls of a run
 

@@ -46,61 +46,24 @@ returns-2 c =
     let p = planOf (sizes-of .result .route) (read .result .nest) in
     λ l h. lines.deliver-unfit (A .encoded .now) (A .route) (A .source .now) (stateOf (A .memories .now) (A .buffer .now) l (A .status .now)) (A .message) p (lines.opened (A .encoded .now) (read .result) (read .ensures .0) (if1 .left) (sizes-of .ensures .1 ∙ route-of .ensures)) (unfit .result) (unfit .ensures .0 l h) (if2 .taken)
 
+hand-over-requires : tie.Need-hand-over-requires
+hand-over-requires c κs = search needs
+
 same-length-2 : tie.Need-same-length-2
 same-length-2 c = search needs
 
 returns-3 : tie.Need-returns-3
 returns-3 c =
-    let read = c .before .before .before .before .before .before .before .before .before .before .before .read in
-    let if1 = c .before .before .before .before .before .before .before .before .before .before .if1 in
-    let route-of = c .before .before .before .before .before .before .before .before .route-of in
-    let sizes-of = c .before .before .before .before .before .before .before .sizes-of in
-    let if2 = c .before .if2 in
-    let unfit = c .before .before .unfit in
-    let if3 = c .if3 in
-    let A = c .before .before .before .before .before .before .before .before .before .before .before .before .before .before .before .before .before .args in
+    let read = c .before .before .before .before .before .before .before .before .before .before .before .before .before .before .read in
+    let if1 = c .before .before .before .before .before .before .before .before .before .before .before .before .before .if1 in
+    let route-of = c .before .before .before .before .before .before .before .before .before .before .before .route-of in
+    let sizes-of = c .before .before .before .before .before .before .before .before .before .before .sizes-of in
+    let if2 = c .before .before .before .before .if2 in
+    let unfit = c .before .before .before .before .before .unfit in
+    let hand-over = c .before .before .hand-over in
+    let A = c .before .before .before .before .before .before .before .before .before .before .before .before .before .before .before .before .before .before .before .before .args in
     let p = planOf (sizes-of .result .route) (read .result .nest) in
-    λ l h. lines.deliver-beyond (A .encoded .now) (A .route) (A .source .now) (stateOf (A .memories .now) (A .buffer .now) l (A .status .now)) (A .message) p (lines.opened (A .encoded .now) (read .result) (read .ensures .0) (if1 .left) (sizes-of .ensures .1 ∙ route-of .ensures)) (unfit .result) (unfit .ensures .0 l h) (if2 .left) (if3 .taken)
-
-slice-read-if4 : tie.Need-slice-read-if4
-slice-read-if4 c = search needs
-
-same-length-3 : tie.Need-same-length-3
-same-length-3 c = search needs
-
-returns-4 : tie.Need-returns-4
-returns-4 c =
-    let read = c .before .before .before .before .before .before .before .before .before .before .before .before .before .read in
-    let if1 = c .before .before .before .before .before .before .before .before .before .before .before .before .if1 in
-    let route-of = c .before .before .before .before .before .before .before .before .before .before .route-of in
-    let sizes-of = c .before .before .before .before .before .before .before .before .before .sizes-of in
-    let if2 = c .before .before .before .if2 in
-    let unfit = c .before .before .before .before .unfit in
-    let if3 = c .before .before .if3 in
-    let if4 = c .if4 in
-    let A = c .before .before .before .before .before .before .before .before .before .before .before .before .before .before .before .before .before .before .before .args in
-    let p = planOf (sizes-of .result .route) (read .result .nest) in
-    λ l h. lines.deliver-none (A .encoded .now) (A .route) (A .source .now) (stateOf (A .memories .now) (A .buffer .now) l (A .status .now)) (A .message) p (lines.opened (A .encoded .now) (read .result) (read .ensures .0) (if1 .left) (sizes-of .ensures .1 ∙ route-of .ensures)) (unfit .result) (unfit .ensures .0 l h) (if2 .left) (if3 .left) (if4 .taken)
-
-slice-write-status : tie.Need-slice-write-status
-slice-write-status c = search needs
-
-same-length-4 : tie.Need-same-length-4
-same-length-4 c = search needs
-
-returns-5 : tie.Need-returns-5
-returns-5 c =
-    let read = c .before .before .before .before .before .before .before .before .before .before .before .before .before .read in
-    let if1 = c .before .before .before .before .before .before .before .before .before .before .before .before .if1 in
-    let route-of = c .before .before .before .before .before .before .before .before .before .before .route-of in
-    let sizes-of = c .before .before .before .before .before .before .before .before .before .sizes-of in
-    let if2 = c .before .before .before .if2 in
-    let unfit = c .before .before .before .before .unfit in
-    let if3 = c .before .before .if3 in
-    let if4 = c .if4 in
-    let A = c .before .before .before .before .before .before .before .before .before .before .before .before .before .before .before .before .before .before .before .args in
-    let p = planOf (sizes-of .result .route) (read .result .nest) in
-    λ l h. lines.deliver-done (A .encoded .now) (A .route) (A .source .now) (stateOf (A .memories .now) (A .buffer .now) l (A .status .now)) (A .message) p (lines.opened (A .encoded .now) (read .result) (read .ensures .0) (if1 .left) (sizes-of .ensures .1 ∙ route-of .ensures)) (unfit .result) (unfit .ensures .0 l h) (if2 .left) (if3 .left) (if4 .left)
+    λ l h. lines.deliver-over (A .encoded .now) (A .route) (A .source .now) (stateOf (A .memories .now) (A .buffer .now) l (A .status .now)) (A .message) p (lines.opened (A .encoded .now) (read .result) (read .ensures .0) (if1 .left) (sizes-of .ensures .1 ∙ route-of .ensures)) (unfit .result) (unfit .ensures .0 l h) (if2 .left) (hand-over .result) (hand-over .last .0) (hand-over .ensures)
 
 pub deliver-spec : {M : Type 1} → statement M
 deliver-spec =
@@ -114,11 +77,6 @@ deliver-spec =
     unfit-requires
     same-length
     returns-2
+    hand-over-requires
     same-length-2
-    returns-3
-    slice-read-if4
-    same-length-3
-    returns-4
-    slice-write-status
-    same-length-4
-    returns-5)
+    returns-3)

@@ -1,0 +1,199 @@
+// The calls for an office with C linkage, over progress records as structs: a fresh start of both offices together; a turn, a delivery
+// and collecting for one of them, to which the other's records are lent only to read; and the look at a processor's memory.
+ghost use mathlib.Core.Path.{_≡_};
+ghost use Rattle.machine.specs.Machine.{stateOf};
+ghost use Rattle.engine.specs.Calls.{answer};
+ghost use Rattle.records.specs.Records.{flatWords};
+ghost use Rattle.offices.specs.Offices.{lentOf, rigOf, sourcesOf};
+ghost use Rattle.rig.specs.Calls.{turnCallFor, deliverCallFor, collectCallFor, freshRigCall};
+ghost use Rattle.calls.specs.OfficeCalls.{lookCall};
+use records::Progress;
+
+// One turn of a processor for an office.
+#[no_mangle]
+pub extern "C" fn rolwyddac_office_turn(
+    encoded: &[u8],
+    route: u32,
+    source: &[u32],
+    memories: &mut [u32],
+    buffer: &mut [u32],
+    progress: &mut [Progress],
+    status: &mut [u8],
+    engaged: &mut [u32],
+    other: &[Progress],
+    office: u32,
+    processor: u32,
+) -> u32
+    ensures { λ r. ⌜ answer r (lentOf (stateOf (now (memories .exit)) (now (buffer .exit)) (flatWords (now (progress .exit))) (now (status .exit))) (now (engaged .exit)))
+        ≡ turnCallFor (now (encoded .entry)) route (now (source .entry)) office
+        (lentOf (stateOf (now (memories .entry)) (now (buffer .entry)) (flatWords (now (progress .entry))) (now (status .entry))) (now (engaged .entry)))
+        (flatWords (now (other .entry))) processor ⌝ }
+{
+    let own = records::flatten(progress);
+    let theirs = records::flatten(other);
+    let after = rig::core::turn(
+        encoded,
+        route,
+        source,
+        memories,
+        buffer,
+        own,
+        status,
+        engaged,
+        theirs,
+        office,
+        processor,
+    );
+    records::put(progress, after.number, processor, after.progress);
+    after.number
+}
+
+// The delivery of a message for an office.
+#[no_mangle]
+pub extern "C" fn rolwyddac_office_deliver(
+    encoded: &[u8],
+    route: u32,
+    source: &[u32],
+    memories: &[u32],
+    buffer: &[u32],
+    progress: &[Progress],
+    status: &mut [u8],
+    engaged: &[u32],
+    other: &[Progress],
+    office: u32,
+    message: u32,
+) -> u32
+    ensures { λ r. ⌜ answer r (lentOf (stateOf (now (memories .entry)) (now (buffer .entry)) (flatWords (now (progress .entry))) (now (status .exit))) (now (engaged .entry)))
+        ≡ deliverCallFor (now (encoded .entry)) route (now (source .entry)) office
+        (lentOf (stateOf (now (memories .entry)) (now (buffer .entry)) (flatWords (now (progress .entry))) (now (status .entry))) (now (engaged .entry)))
+        (flatWords (now (other .entry))) message ⌝ }
+{
+    let own = records::flatten(progress);
+    let theirs = records::flatten(other);
+    rig::core::deliver(
+        encoded,
+        route,
+        source,
+        memories,
+        buffer,
+        own,
+        status,
+        engaged,
+        theirs,
+        office,
+        message,
+    )
+}
+
+// An office's grid, once all processors have finished for it.
+#[no_mangle]
+pub extern "C" fn rolwyddac_office_collect(
+    encoded: &[u8],
+    route: u32,
+    source: &[u32],
+    memories: &[u32],
+    buffer: &[u32],
+    progress: &[Progress],
+    status: &[u8],
+    engaged: &[u32],
+    other: &[Progress],
+    office: u32,
+    grid: &mut [u32],
+) -> u32
+    ensures { λ r. ⌜ answer r (now (grid .exit))
+        ≡ collectCallFor (now (encoded .entry)) route (now (source .entry)) office
+        (lentOf (stateOf (now (memories .entry)) (now (buffer .entry)) (flatWords (now (progress .entry))) (now (status .entry))) (now (engaged .entry)))
+        (flatWords (now (other .entry))) (now (grid .entry)) ⌝ }
+{
+    let own = records::flatten(progress);
+    let theirs = records::flatten(other);
+    rig::core::collect(
+        encoded,
+        route,
+        source,
+        memories,
+        buffer,
+        own,
+        status,
+        engaged,
+        theirs,
+        office,
+        grid,
+    )
+}
+
+// A fresh start of both offices together.
+#[no_mangle]
+pub extern "C" fn rolwyddac_fresh_both(
+    encoded: &[u8],
+    route: u32,
+    first_source: &[u32],
+    first_memories: &mut [u32],
+    first_buffer: &mut [u32],
+    first_progress: &mut [Progress],
+    first_status: &mut [u8],
+    second_source: &[u32],
+    second_memories: &mut [u32],
+    second_buffer: &mut [u32],
+    second_progress: &mut [Progress],
+    second_status: &mut [u8],
+    engaged: &mut [u32],
+) -> u32
+    ensures { λ n. ⌜ answer n (rigOf (stateOf (now («first_memories» .exit)) (now («first_buffer» .exit)) (flatWords (now («first_progress» .exit))) (now («first_status» .exit)))
+        (stateOf (now («second_memories» .exit)) (now («second_buffer» .exit)) (flatWords (now («second_progress» .exit))) (now («second_status» .exit))) (now (engaged .exit)))
+        ≡ freshRigCall (now (encoded .entry)) route (sourcesOf (now («first_source» .entry)) (now («second_source» .entry)))
+        (rigOf (stateOf (now («first_memories» .entry)) (now («first_buffer» .entry)) (flatWords (now («first_progress» .entry))) (now («first_status» .entry)))
+        (stateOf (now («second_memories» .entry)) (now («second_buffer» .entry)) (flatWords (now («second_progress» .entry))) (now («second_status» .entry))) (now (engaged .entry))) ⌝ }
+{
+    let first_words = 3 * first_progress.len();
+    let second_words = 3 * second_progress.len();
+    let number = rig::core::fresh(
+        encoded,
+        route,
+        first_source,
+        first_memories,
+        first_buffer,
+        first_words,
+        first_status,
+        second_source,
+        second_memories,
+        second_buffer,
+        second_words,
+        second_status,
+        engaged,
+    );
+    records::clear(first_progress, number);
+    records::clear(second_progress, number);
+    number
+}
+
+// A look at a processor's memory: where its part begins in the named office's memories, and how many words it has.
+#[no_mangle]
+pub extern "C" fn rolwyddac_look(
+    encoded: &[u8],
+    first: &[u32],
+    second: &[u32],
+    office: u32,
+    processor: u32,
+    out: &mut [u32],
+) -> u32
+    ensures { λ r. ⌜ answer r (now (out .exit))
+        ≡ lookCall (now (encoded .entry)) (now (first .entry)) (now (second .entry)) office processor (now (out .entry)) ⌝ }
+{
+    let reading = nest::read(encoded);
+    let read = reading.number;
+    if read != 0 {
+        return read;
+    }
+    if out.len() != 2 {
+        return 9;
+    }
+    let seen = rig::core::look_at(encoded, first.len(), second.len(), office, processor);
+    let number = seen.number;
+    if number != 0 {
+        return number;
+    }
+    out[0] = seen.start as u32;
+    out[1] = seen.words as u32;
+    0
+}

@@ -1,0 +1,27 @@
+use borrow.Author.Needs.{needs}
+use Rattle.rig.proofs.deliver.Statement.{statement}
+use Rattle.rig.proofs.deliver.Tie as tie
+
+flat-of-requires : tie.Need-flat-of-requires
+flat-of-requires c κs = search needs
+
+flat-of-requires-2 : tie.Need-flat-of-requires-2
+flat-of-requires-2 c κs = search needs
+
+deliver-requires : tie.Need-deliver-requires
+deliver-requires c κs = search needs
+
+same-length : tie.Need-same-length
+same-length c = search needs
+
+returns : tie.Need-returns
+returns c =
+    let flat-of = c .before .before .before .before .before .flat-of in
+    let flat-of2 = c .before .before .before .flat-of2 in
+    let deliver = c .before .before .deliver in
+    let A = c .before .before .before .before .before .before .before .before .before .before .before .before .before .before .args in
+    deliver .ensures (A .progress .now) (A .theirs .now) (flat-of .ensures) (flat-of2 .ensures)
+
+pub deliver-spec : {M : Type 1} → statement M
+deliver-spec =
+    tie.close (tie.spec flat-of-requires flat-of-requires-2 deliver-requires same-length returns)

@@ -1,0 +1,221 @@
+"""Holds runs of the model under drawn schedules to what documents 01 and 02 say of every list of events; `python3 tools/model.py`
+runs it.
+
+    python3 tools/schedules.py [RECIPES]    the count of drawn recipes of each check, 12 unless given
+
+What an office must have after a run is made a second time from its own steps alone (`replayed`): by the stages that document 01 names
+for them in "Runs", without records, engaged boards or refused calls.
+"""
+
+import sys
+
+import model
+import vectors
+
+
+def program(plan, b):
+    """The stages of a board in the order of document 01's "Runs"."""
+    stages = []
+    for tile in plan.tiles_of[b]:
+        stages += [('gather', tile), ('calculate', tile)] + [('send', m) for m in plan.sends_of[tile]]
+    return stages
+
+
+def replayed(plan, source, steps):
+    """The areas after the steps of one office, ('turn', b) or ('deliver', m), each a call that gave 0."""
+    areas = model.areas_for(plan, source)
+    strips = [[0] * plan.cells for _ in range(plan.boards)]
+    words = [[0] * len(message.cells) for message in plan.messages]
+    taken = [0] * plan.boards
+    for kind, which in steps:
+        if kind == 'deliver':
+            areas.status[which] = 2
+            continue
+        stage, what = program(plan, which)[taken[which]]
+        strip = strips[which]
+        if stage == 'gather':
+            for m in plan.due_at[what]:
+                areas.status[m] = 3
+                for c, word in zip(plan.messages[m].cells, words[m]):
+                    strip[c] = word
+        elif stage == 'calculate':
+            for c in plan.cells_of[what]:
+                strip[c] = plan.value(source, strip, c)
+        else:
+            areas.status[what] = 1
+            words[what] = [strip[c] for c in plan.messages[what].cells]
+        taken[which] += 1
+    areas.memories = [word for strip in strips for word in strip]
+    areas.buffer = [word for part in words for word in part]
+    for b in range(plan.boards):
+        done = program(plan, b)[:taken[b]]
+        begun = len([1 for stage, _ in done if stage == 'gather'])
+        rest = program(plan, b)[taken[b]:taken[b] + 1]
+        if rest == [] or rest[0][0] == 'gather':
+            areas.progress[3 * b] = begun
+        elif rest[0][0] == 'calculate':
+            areas.progress[3 * b:3 * b + 3] = begun - 1, 1, 0
+        else:
+            sends = plan.sends_of[plan.messages[rest[0][1]].sender]
+            areas.progress[3 * b:3 * b + 3] = begun - 1, 2, sends.index(rest[0][1])
+    return areas
+
+
+OWN = ('memories', 'buffer', 'status', 'progress')
+
+
+def same(first, second, names=OWN):
+    return all(getattr(first, name) == getattr(second, name) for name in names)
+
+
+def drawn_recipes(seed, count, most_cells=40):
+    """Rows, recipes of every count of spread dimensions, and single boards; small ones."""
+    draw = vectors.Draw(seed)
+    recipes = [model.ROWS[row] for row in 'ADEFGH'] + [vectors.single_recipes()[at] for at in (2, 3, 10)]
+    for k in range(count):
+        n, m = [(2, 1), (3, 2), (3, 1), (4, 2), (4, 3)][k % 5]
+        recipes.append(vectors.drawn_recipe(draw, most_cells, most_words=250, n=n, m=m, distances=draw.between(1, 4), least=1 + k % 2))
+    return recipes, draw
+
+
+# W-208
+
+def events_of(plan):
+    return [('turn', b) for b in range(plan.boards)] + [('deliver', m) for m in range(len(plan.messages))]
+
+
+def able(encoded, both, plan, route, office):
+    """The events of an office that would give 0."""
+    areas, rig = both.areas[office], both.rig(office)
+    found = [('turn', b) for b in range(plan.boards) if model.turn_number(encoded, areas, b, route, rig)[0] == 0]
+    return found + [('deliver', m) for m in range(len(plan.messages)) if areas.status[m] == 1]
+
+
+def drawn_log(encoded, both, plan, route, draw):
+    """A run of both offices to the end, as (office, event, number): drawn events, every fourth one that can be taken."""
+    log, steps = [], [0, 0]
+    favoured = draw.below(2)
+    while steps != [plan.steps] * 2:
+        free = [(office, event) for office in (0, 1) for event in able(encoded, both, plan, route, office)]
+        # some turn or delivery would give 0 exactly while either has fewer than its number
+        assert free != []
+        kind = draw.below(4)
+        if kind == 0:
+            office, event = draw.pick(free)
+        else:
+            office = favoured if kind == 1 else draw.below(2)
+            event = draw.pick(events_of(plan))
+        number = both.call(encoded, office, event, route)
+        assert (number == 0) == ((office, event) in free)
+        log.append((office, event, number))
+        steps[office] += number == 0
+        if draw.below(16) == 0:
+            favoured = 1 - favoured
+            whose = draw.below(2)
+            done = both.areas[whose].progress[::3] == [len(tiles) for tiles in plan.tiles_of]
+            number = model.collect(encoded, both.areas[whose], route, both.rig(whose))
+            assert number == (0 if steps[whose] == plan.steps else 15) and done == (steps[whose] == plan.steps), number
+    assert able(encoded, both, plan, route, 0) == able(encoded, both, plan, route, 1) == []
+    return log
+
+
+def check_both(encoded, route, draw):
+    """Both grids end equal to their own sweeps; each office's words are those of its own steps, anywhere on the way."""
+    plan = model.plan_of(encoded, route)[1]
+    sources = [[draw.word() for _ in range(plan.cells)] for _ in range(2)]
+    both = model.Offices(plan, *sources)
+    assert model.fresh_both(encoded, *both.areas, both.engaged, route) == 0
+    log = drawn_log(encoded, both, plan, route, draw)
+    for office in (0, 1):
+        steps = [event for whose, event, number in log if whose == office and number == 0]
+        assert len(steps) == plan.steps
+        assert same(both.areas[office], replayed(plan, sources[office], steps))
+        assert model.collect(encoded, both.areas[office], route, both.rig(office)) == 0
+        assert both.areas[office].grid == plan.swept(sources[office])
+        assert both.areas[office].source == sources[office]
+    assert both.engaged == [model.FREE] * plan.boards
+    # again up to a drawn place: the words there too, and the engaged boards by the steps alone
+    part = log[:draw.below(len(log))]
+    both = model.Offices(plan, *sources)
+    assert model.fresh_both(encoded, *both.areas, both.engaged, route) == 0
+    assert [both.call(encoded, office, event, route) for office, event, _ in part] == [number for _, _, number in part]
+    engaged = [model.FREE] * plan.boards
+    for office in (0, 1):
+        steps = [event for whose, event, number in part if whose == office and number == 0]
+        own = replayed(plan, sources[office], steps)
+        assert same(both.areas[office], own)
+        engaged = [office if own.progress[3 * b + 1] != 0 else word for b, word in enumerate(engaged)]
+    assert both.engaged == engaged
+    return log, sources
+
+
+def other_run(encoded, plan, route, wanted, source, draw):
+    """A run in which office 0 has its wanted events with their numbers, and office 1 others than before: (log, the places in wanted of
+    refusals 19 that could not be had)."""
+    both = model.Offices(plan, source, [draw.word() for _ in range(plan.cells)])
+    assert model.fresh_both(encoded, *both.areas, both.engaged, route) == 0
+    log, dropped = [], []
+
+    def take(office, event):
+        log.append((office, event, both.call(encoded, office, event, route)))
+        return log[-1][2]
+
+    for at, (event, number) in enumerate(wanted):
+        for _ in range(draw.below(4)):
+            take(1, draw.pick(events_of(plan)))
+        b = event[1]
+        if number == 19:
+            if both.engaged[b] != 1 and take(1, event) != 0:
+                dropped.append(at)
+                continue
+        elif event[0] == 'turn' and b < plan.boards:
+            while both.engaged[b] == 1:
+                # the holder never waits
+                assert take(1, event) == 0
+        assert take(0, event) == number
+    return both, log, dropped
+
+
+def check_isolated(encoded, route, log, sources, draw):
+    """Two runs that agree on office 0's bed, events and numbers, and not on the other's, leave the same words in its areas."""
+    plan = model.plan_of(encoded, route)[1]
+    # up to a drawn place
+    log = log[:draw.between(len(log) // 2, len(log))]
+    wanted = [(event, number) for office, event, number in log if office == 0]
+    second, other, dropped = other_run(encoded, plan, route, wanted, sources[0], draw)
+    # a refused call writes nothing, so it can be left out of the first run
+    first = model.Offices(plan, *sources)
+    assert model.fresh_both(encoded, *first.areas, first.engaged, route) == 0
+    seen, kept = 0, []
+    for office, event, number in log:
+        if office == 0:
+            seen += 1
+            if seen - 1 in dropped:
+                continue
+            kept.append((event, number))
+        assert first.call(encoded, office, event, route) == number
+    assert kept == [(event, number) for office, event, number in other if office == 0]
+    assert same(first.areas[0], second.areas[0])
+    return [event for office, event, _ in log if office == 1] != [event for office, event, _ in other if office == 1]
+
+
+def check_offices(count):
+    recipes, draw = drawn_recipes(21, count)
+    seen, apart = set(), 0
+    for k, encoded in enumerate(recipes):
+        for route in (model.DIRECT, model.INDIRECT):
+            log, sources = check_both(encoded, route, draw)
+            seen |= set(number for _, _, number in log)
+            apart += check_isolated(encoded, route, log, sources, draw)
+    assert seen == {0, 12, 13, 14, 19}, seen
+    assert apart >= len(recipes)
+    return '%d recipes by both routes: two offices end in both sweeps, neither tells of the other' % len(recipes)
+
+
+def check(count=12):
+    for text in (check_offices(count),):
+        print(text)
+
+
+if __name__ == '__main__':
+    check(*[int(word) for word in sys.argv[1:]])
