@@ -279,6 +279,7 @@ FAULTS = [
     ('header', 'ROLWYDDAC_NO_MAIL = 14', 'ROLWYDDAC_NO_MAIL = 13'),
     ('header', 'more than 16,384 cells', 'more than 16,383 cells'),
     ('header', 'Numbers: 1 to 10, 15', 'Numbers: 1 to 11, 15'),
+    ('header', 'Numbers: 1 to 9, 16 to 18, 22', 'Numbers: 1 to 9, 16 to 18'),
     ('header', ' *   17 last spread    the last dimension is spread\n', ''),
     ('crate', 'rolwyddac_turn as turn(\n        encoded: &[u8], route: Route, source: &[u32], memories: &mut [u32]',
      'rolwyddac_turn as turn(\n        encoded: &[u8], route: Route, source: &[u32], memories: &[u32]'),

@@ -1,4 +1,4 @@
-"""A plain model of document 01 and of the requests W-201, W-203 to W-205, W-207 and W-208, written from their text, read as
+"""A plain model of document 01 and of the requests W-201, W-203 to W-205, W-207, W-208 and W-210, written from their text, read as
 docs/DECISIONS.md says, and not from the engine.
 
 Every set is made by trying all its candidates. It shares no code, no table and no closed form with
@@ -518,6 +518,36 @@ def sweep(encoded, source, grid):
     return 0
 
 
+# W-210: beds from soundings
+
+def is_ragged(content):
+    return len(content) % 16 != 0
+
+
+def soundings_of(content):
+    """The records of a file: cell number, survey day, survey number, depth."""
+    return [tuple(word32(record, at) for at in (0, 4, 8, 12)) for record in records_of(content)]
+
+
+def soundings(encoded, content, value, source):
+    """Fills the source from a file of soundings; a ragged file is line 1's, before the recipe's other lines, and may be empty."""
+    if is_ragged(content):
+        return 1
+    number, nest = read(encoded)
+    if number != 0:
+        return number
+    if len(source) != all_product(nest.lengths):
+        return 9
+    records = soundings_of(content)
+    if any(not cell < len(source) for cell, _, _, _ in records):
+        return 22
+    for c in range(len(source)):
+        # the greatest day, then the greatest survey number, then the latest in the file
+        named = [(day, survey, at, depth) for at, (cell, day, survey, depth) in enumerate(records) if cell == c]
+        source[c] = max(named)[3] if named else value
+    return 0
+
+
 # Whole runs and the two programs
 
 def areas_for(plan, source):
@@ -635,6 +665,11 @@ def encode(lengths, tiling, counts, distances, weights=None, shift=0, boundary=0
     return out + bytes([3, shift, 0, 0]) + boundary.to_bytes(4, 'little') + bytes(8)
 
 
+def sounding_records(*records):
+    """A file of soundings as bytes."""
+    return b''.join(word.to_bytes(4, 'little') for record in records for word in record)
+
+
 ROWS = {
     'A': encode([8, 8], [2, 2], [2, 0], [(1, 0), (0, 1), (1, 1)]),
     'B': encode([8, 8], [4, 4], [2, 0], [(2, 1)]),
@@ -687,6 +722,7 @@ def check_paper():
     check_single_boards()
     check_wide_distances()
     check_offices()
+    check_soundings()
 
 
 def check_routes():
@@ -816,8 +852,30 @@ def check_office_lines(encoded, plan):
     expect('held and finished', number(0, b=1, own=(1, 0, 0, 1, 0, 0), **held)[0], 13)
 
 
+def check_soundings():
+    """W-210 on the four cells of row D: which record counts, and each line beside its neighbours."""
+    def filled(*records, value=77, encoded=ROWS['D'], content=None, lent=4):
+        source = [5] * lent
+        number = soundings(encoded, sounding_records(*records) if content is None else content, value, source)
+        expect('nothing is written at a refusal', number == 0 or source == [5] * lent, True)
+        return source if number == 0 else number
+
+    high = 4294967295
+    expect('no record', filled(), [77] * 4)
+    expect('both ends', filled((0, 1, 1, 10), (3, 1, 1, 13)), [10, 77, 77, 13])
+    expect('the greatest day', filled((1, 2, 1, 10), (1, 1, 9, 11)), [77, 10, 77, 77])
+    expect('then the greatest survey', filled((1, 2, 8, 10), (1, 2, 7, 11)), [77, 10, 77, 77])
+    expect('then the latest', filled((1, 2, 8, 10), (1, 2, 8, 9), (2, 2, 8, 4)), [77, 9, 4, 77])
+    expect('without a sign', filled((0, high, 0, 1), (0, 5, 9, 2), (1, 3, high, 3), (1, 3, 2 ** 31 - 1, 4)), [1, 3, 77, 77])
+    expect('a depth of 0 is a record', filled((0, 0, 0, 0)), [0, 77, 77, 77])
+    expect('outside the box', [filled((4, 1, 1, 1)), filled((high, 0, 0, 0), (0, 1, 1, 1)), filled((4, 0, 0, 0), lent=3)], [22, 22, 9])
+    expect('ragged files', [filled(content=bytes(count)) for count in (1, 15, 17)], [1] * 3)
+    expect('a ragged file and a stray record', [filled(content=bytes(1), encoded=ROWS['D'][16:]), filled(encoded=ROWS['D'][16:]),
+                                               filled(encoded=b''), filled((4, 0, 0, 0), encoded=ROWS['D'][16:])], [1, 2, 1, 2])
+
+
 if __name__ == '__main__':
     check_paper()
     import schedules
     schedules.check()
-    print('the model gives what document 01, W-201, W-203 to W-205, W-207 and W-208 print')
+    print('the model gives what document 01, W-201, W-203 to W-205, W-207, W-208 and W-210 print')

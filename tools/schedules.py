@@ -212,9 +212,43 @@ def check_offices(count):
     return '%d recipes by both routes: two offices end in both sweeps, neither tells of the other' % len(recipes)
 
 
+# W-210
+
+def folded(content, value, cells):
+    """The bed a second time: the file once through, a record taking the place of one that it is not behind."""
+    best = [None] * cells
+    for cell, day, survey, depth in model.soundings_of(content):
+        if best[cell] is None or (day, survey) >= best[cell][:2]:
+            best[cell] = (day, survey, depth)
+    return [value if found is None else found[2] for found in best]
+
+
+def drawn_soundings(draw, cells, count):
+    """Records with many ties; days and survey numbers at both ends of a word."""
+    few = [0, 1, 2, 2147483647, 2147483648, 4294967295]
+    return [(draw.below(cells), draw.pick(few), draw.pick(few), draw.word()) for _ in range(count)]
+
+
+def check_soundings(count):
+    draw = vectors.Draw(23)
+    recipes = [model.ROWS['D'], model.ROWS['A'], model.ROWS['C']]
+    for k in range(5 * count):
+        encoded = recipes[k % 3]
+        source = [9] * model.plan_of(encoded)[1].cells
+        records = drawn_soundings(draw, len(source), draw.below(6 * len(source)))
+        content, value = model.sounding_records(*records), draw.word()
+        assert model.soundings(encoded, content, value, source) == 0 and source == folded(content, value, len(source))
+        # every word has its ground
+        for c, word in enumerate(source):
+            named = [(day, survey, at) for at, (cell, day, survey, _) in enumerate(records) if cell == c]
+            grounds = [at for day, survey, at in named if all((day, survey, at) >= other for other in named)]
+            assert (word == value) if named == [] else [records[at][3] for at in grounds] == [word]
+    return '%d files of soundings: the same by one pass over the file, and each word has its ground' % (5 * count)
+
+
 def check(count=12):
-    for text in (check_offices(count),):
-        print(text)
+    for part in (check_offices, check_soundings):
+        print(part(count))
 
 
 if __name__ == '__main__':

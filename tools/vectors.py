@@ -948,6 +948,7 @@ def row_a_text():
 
 def all_files():
     """Name to content, in a fixed order."""
+    import desk
     import rigs
     model.check_paper()
     plans = plan_recipes()
@@ -967,6 +968,7 @@ def all_files():
         'crates/run_cases/stdout': ''.join(line + '\n' for line in script.lines).encode(),
         'bindings/row_a.stdout': row_a_text().encode(),
         **rigs.files(rigs.office_script(), 'offices'),
+        **desk.soundings_files(),
     }
 
 

@@ -1,7 +1,12 @@
 //! Random trials of an engine against the model: every answer and every lent word is compared.
 //! A trial follows from its seed alone, so a difference is found again by that seed.
 
+mod desk;
+mod events;
+mod hours;
 mod offices;
+mod rounds;
+mod swaps;
 
 use crate::engine::{Areas, Engine, Progress, Request, Rig, Route, HOPS_WORDS, MESSAGE_WORDS, SUMMARY_WORDS};
 use crate::model::{Model, Plan};
@@ -37,6 +42,11 @@ pub struct Tally {
     pub runs: u64,
     /// trials of a plan with a message of forwarded cells alone
     pub forwarded: u64,
+    /// of a shape, and of one in which some message is taken by a later tile than that in its direction
+    pub shaped: u64,
+    pub shifted: u64,
+    /// pairs of events that were tried both ways round
+    pub swaps: u64,
     calls: BTreeMap<&'static str, [u64; 32]>,
 }
 
@@ -54,8 +64,13 @@ impl Tally {
 
 impl fmt::Display for Tally {
     fn fmt(&self, f: &mut fmt::Formatter<'_>) -> fmt::Result {
-        let Tally { trials, runs, forwarded, .. } = self;
-        write!(f, "{trials} trials, {forwarded} of them with a message of forwarded cells alone, {runs} whole runs, ")?;
+        let Tally { trials, runs, forwarded, shaped, shifted, swaps, .. } = self;
+        write!(
+            f,
+            "{trials} trials, {forwarded} of them with a message of forwarded cells alone, {shaped} of a shape, "
+        )?;
+        write!(f, "{shifted} with a message that passes over an empty tile, {runs} whole runs, ")?;
+        write!(f, "{swaps} pairs of events swapped, ")?;
         writeln!(f, "{} calls; by call and number:", self.calls())?;
         for (call, numbers) in &self.calls {
             write!(f, "  {call:14}")?;
@@ -82,6 +97,8 @@ struct Pair<'a> {
     /// of two offices, in trials of these
     their_rig: Rig,
     our_rig: Rig,
+    /// of the processors, empty where turns have no minute
+    hours: Vec<u32>,
 }
 
 fn first_difference<T: PartialEq + Debug>(area: &str, theirs: &[T], ours: &[T]) -> Option<String> {
@@ -339,7 +356,9 @@ fn reading(pair: &mut Pair, rng: &mut Rng) -> Outcome<()> {
     if pair.route != route {
         lines(pair, rng)?;
     }
-    let cells = pair.plan().map_or(rng.below(5), |plan| plan.cells);
+    // the sweep knows no route
+    let plan = pair.model.plan(&pair.encoded, Route::Direct).ok();
+    let cells = plan.map_or(rng.below(5), |plan| plan.cells);
     let source = words(rng, cells);
     pair.sweep(&source, &mut words(rng, cells))?;
     if rng.one_in(4) {
@@ -377,16 +396,31 @@ fn damaged(pair: &mut Pair, rng: &mut Rng, numbers: Numbers) -> Outcome<()> {
         }
     }
     writing(pair, rng, &numbers)?;
-    let faulty = recipe::faulty(rng, numbers);
+    let shapes = pair.engine.has(Request::Shapes);
+    let faulty = recipe::faulty(rng, numbers, shapes);
     pair.encoded = faulty.bytes();
     writing(pair, rng, &faulty)?;
-    pair.encoded = recipe::damaged(rng, &faulty);
+    pair.encoded = recipe::damaged(rng, &faulty, shapes);
     reading(pair, rng)?;
     for _ in 0..3 {
         pair.any_call(rng)?;
     }
     if pair.engine.has(Request::Offices) {
         offices::one_call(pair, rng)?;
+    }
+    let plan = pair.model.plan(&pair.encoded, Route::Direct).ok();
+    let cells = plan.map_or(1, |plan| plan.cells);
+    if pair.engine.has(Request::Soundings) {
+        desk::soundings(pair, rng, cells)?;
+    }
+    if pair.engine.has(Request::Chart) {
+        desk::chart(pair, rng, cells)?;
+    }
+    if pair.engine.has(Request::Hours) {
+        hours::damaged(pair, rng)?;
+    }
+    if pair.engine.has(Request::Rounds) {
+        rounds::damaged(pair, rng)?;
     }
     // what is still accepted lies near a limit
     match pair.plan() {
@@ -554,6 +588,34 @@ fn large(pair: &mut Pair, rng: &mut Rng, plan: &Plan) -> Outcome<()> {
     if plan.steps() * plan.cells * plan.processors < 40_000_000 {
         run(pair, rng, plan)?;
     }
+    large_requests(pair, rng, plan)
+}
+
+/// the same by what the engine has of the requests
+fn large_requests(pair: &mut Pair, rng: &mut Rng, plan: &Plan) -> Outcome<()> {
+    let has = |request| pair.engine.has(request);
+    let [offices, soundings, chart] = [Request::Offices, Request::Soundings, Request::Chart].map(has);
+    let [hours, rounds] = [Request::Hours, Request::Rounds].map(has);
+    if offices {
+        let rig = offices::any_rig(rng, plan);
+        pair.lend_rig(rig);
+        for _ in 0..5 {
+            offices::one_call(pair, rng)?;
+        }
+        pair.lend_rig(Rig::default());
+    }
+    if soundings {
+        desk::soundings(pair, rng, plan.cells)?;
+    }
+    if chart {
+        desk::chart(pair, rng, plan.cells)?;
+    }
+    if hours {
+        hours::damaged(pair, rng)?;
+    }
+    if rounds && pair.route == Route::Direct {
+        rounds::any(pair, rng, plan)?;
+    }
     Ok(())
 }
 
@@ -565,13 +627,31 @@ enum Kind {
     Run,
     States,
     Lengths,
+    Swaps,
     Offices,
+    Soundings,
+    Chart,
+    Hours,
+    Rounds,
 }
 
 /// one of the kinds for which the engine has the calls, some more often than others
 fn some_kind(rng: &mut Rng, engine: &dyn Engine) -> Kind {
-    let always = [(3, Kind::Damaged), (1, Kind::Reading), (2, Kind::Run), (3, Kind::States), (1, Kind::Lengths)];
-    let asked = [(4, Request::Offices, Kind::Offices)];
+    let always = [
+        (3, Kind::Damaged),
+        (1, Kind::Reading),
+        (2, Kind::Run),
+        (3, Kind::States),
+        (1, Kind::Lengths),
+        (1, Kind::Swaps),
+    ];
+    let asked = [
+        (4, Request::Offices, Kind::Offices),
+        (1, Request::Soundings, Kind::Soundings),
+        (2, Request::Chart, Kind::Chart),
+        (2, Request::Hours, Kind::Hours),
+        (1, Request::Rounds, Kind::Rounds),
+    ];
     let asked = asked.iter().filter(|&&(_, request, _)| engine.has(request)).map(|&(times, _, kind)| (times, kind));
     let kinds: Vec<Kind> = always.into_iter().chain(asked).flat_map(|(times, kind)| vec![kind; times]).collect();
     rng.of(&kinds)
@@ -585,12 +665,22 @@ pub fn trial(
     let mut rng = Rng::new(seed);
     let is_large = limits.cells >= 400 && rng.one_in(60);
     let limits = if is_large { Limits { cells: 16384, words: 1 << 18 } } else { limits };
-    let numbers = if is_large && rng.one_in(2) { recipe::extreme(&mut rng) } else { recipe::random(&mut rng, limits) };
-    let (encoded, route) = (numbers.bytes(), some_route(&mut rng));
+    let shaped = engine.has(Request::Shapes) && rng.one_in(3);
+    let numbers = match (is_large && rng.one_in(2), shaped) {
+        (true, _) => recipe::extreme(&mut rng, shaped),
+        (false, true) => recipe::shape(&mut rng, limits),
+        (false, false) => recipe::random(&mut rng, limits),
+    };
+    // shapes are for the direct route
+    let route = if shaped && !rng.one_in(8) { Route::Direct } else { some_route(&mut rng) };
+    let encoded = numbers.bytes();
     let (theirs, ours, their_rig, our_rig) = Default::default();
-    let mut pair = Pair { engine, model, tally, encoded, route, theirs, ours, their_rig, our_rig };
+    let mut pair = Pair { engine, model, tally, encoded, route, theirs, ours, their_rig, our_rig, hours: vec![] };
     let plan = pair.plan();
-    pair.tally.forwarded += u64::from(plan.as_ref().is_some_and(|plan| plan.passes_on_alone()));
+    let counted = |test: &dyn Fn(&Plan) -> bool| u64::from(plan.as_ref().is_some_and(|plan| test(plan)));
+    pair.tally.forwarded += counted(&|plan| plan.passes_on_alone());
+    pair.tally.shaped += counted(&|_| !numbers.bounds.is_empty());
+    pair.tally.shifted += counted(&|plan| plan.messages.iter().any(|message| message.shifted));
     let outcome = match plan {
         None => reading(&mut pair, &mut rng),
         Some(plan) if is_large => large(&mut pair, &mut rng, &plan),
@@ -601,6 +691,24 @@ pub fn trial(
             Kind::States => states(&mut pair, &mut rng, &plan),
             Kind::Lengths => lengths(&mut pair, &mut rng, &plan),
             Kind::Offices => offices::any(&mut pair, &mut rng, &plan),
+            Kind::Hours => hours::any(&mut pair, &mut rng, &plan),
+            // driven on the direct route
+            Kind::Rounds => match model.plan(&pair.encoded, Route::Direct) {
+                Ok(plan) => {
+                    pair.route = Route::Direct;
+                    rounds::any(&mut pair, &mut rng, &plan)
+                }
+                Err(_) => Ok(()),
+            },
+            Kind::Swaps => swaps::any(&mut pair, &mut rng, &plan),
+            Kind::Soundings => desk::soundings(&mut pair, &mut rng, plan.cells),
+            Kind::Chart => {
+                if !rng.one_in(4) {
+                    pair.encoded = recipe::flat(&mut rng, limits, shaped).bytes();
+                }
+                let plan = model.plan(&pair.encoded, Route::Direct).ok();
+                desk::chart(&mut pair, &mut rng, plan.map_or(1, |plan| plan.cells))
+            }
         },
     };
     let encoded = pair.encoded;

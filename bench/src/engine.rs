@@ -48,11 +48,32 @@ pub struct Rig {
 /// words of a look: where the processor's part begins, and its length
 pub const LOOK_WORDS: usize = 2;
 
+/// and of a text's length
+pub const CHART_WORDS: usize = 1;
+
+/// the words of a table of hours for each processor: 14 windows, open and close (W-212)
+pub const HOURS_WORDS: usize = 28;
+/// and of the answer when it opens: whether it ever does, and in how many minutes
+pub const OPENS_WORDS: usize = 2;
+
+/// and of the rounds that a driver took
+pub const ROUNDS_WORDS: usize = 1;
+
 /// the requests that an engine may lack as yet; only an engine that has one is tried on it
 #[derive(Clone, Copy, Debug, PartialEq, Eq)]
 pub enum Request {
     /// W-208
     Offices,
+    /// W-209: recipes with bounds, no call of its own
+    Shapes,
+    /// W-210
+    Soundings,
+    /// W-211
+    Chart,
+    /// W-212
+    Hours,
+    /// W-213
+    Rounds,
 }
 
 /// Each call gives its number; at any but 0 no lent word changes.
@@ -102,6 +123,54 @@ pub trait Engine {
     /// which part of the office's memories is the processor's
     fn look(&self, _encoded: &[u8], _memories: [&[u32]; 2], _office: u32, _processor: u32, _out: &mut [u32]) -> u32 {
         unimplemented!("W-208")
+    }
+
+    /// the source from a file of surveyed depths, `value` where there is none
+    fn soundings(&self, _encoded: &[u8], _file: &[u8], _value: u32, _source: &mut [u32]) -> u32 {
+        unimplemented!("W-210")
+    }
+
+    /// the grid as text for the charting desk, with the corners and the cell size; `out` is told its length
+    fn chart(
+        &self, _encoded: &[u8], _grid: &[u32], _corners: [i32; 2], _cell_size: u32, _space: &mut [u8], _out: &mut [u32],
+    ) -> u32 {
+        unimplemented!("W-211")
+    }
+
+    /// the text's length alone
+    fn chart_length(
+        &self, _encoded: &[u8], _grid: &[u32], _corners: [i32; 2], _cell_size: u32, _out: &mut [u32],
+    ) -> u32 {
+        unimplemented!("W-211")
+    }
+
+    /// a turn at a minute of the week
+    fn turn_at(
+        &self, _encoded: &[u8], _route: Route, _areas: &mut Areas, _hours: &[u32], _minute: u32, _processor: u32,
+    ) -> u32 {
+        unimplemented!("W-212")
+    }
+
+    fn office_turn_at(
+        &self, _encoded: &[u8], _route: Route, _areas: &mut Areas, _engaged: &mut [u32], _other: &[Progress],
+        _hours: &[u32], _minute: u32, _office: u32, _processor: u32,
+    ) -> u32 {
+        unimplemented!("W-212")
+    }
+
+    /// the minutes until the processor opens
+    fn opens(&self, _encoded: &[u8], _hours: &[u32], _minute: u32, _processor: u32, _out: &mut [u32]) -> u32 {
+        unimplemented!("W-212")
+    }
+
+    /// drives the whole run by rounds, on the direct route; `out` is told how many
+    fn rounds(&self, _encoded: &[u8], _areas: &mut Areas, _out: &mut [u32]) -> u32 {
+        unimplemented!("W-213")
+    }
+
+    /// the round of each tile
+    fn rounds_of(&self, _encoded: &[u8], _rounds: &mut [u32]) -> u32 {
+        unimplemented!("W-213")
     }
 
     /// The numbers' recipe. Unless an engine has a writer of its own: what reading the bytes gives, then the length.

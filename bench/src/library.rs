@@ -1,8 +1,8 @@
 //! The engine's library, through the safe crate over it.
 
-use crate::engine::{Areas, Engine, Request, Route};
-#[cfg(all(feature = "offices", not(test)))]
-use crate::engine::{Progress, Rig};
+use crate::engine::{Areas, Engine, Progress, Request, Rig, Route};
+#[cfg(all(feature = "shapes", not(test)))]
+use crate::recipe::Bound;
 use crate::recipe::Numbers;
 use rolwyddac::Refusal;
 
@@ -21,8 +21,7 @@ macro_rules! request {
     )*};
 }
 
-/// Makes an exported call that the safe crate lacks: a slice goes over as its pointer and its length, a number as it is.
-#[allow(unused_macros)]
+/// Makes an exported call that the safe crate lacks. A slice goes over as its pointer and its length, a number as it is.
 macro_rules! exported {
     ($name:ident($($parameters:tt)*)) => { exported!(@ $name [] [] $($parameters)*) };
     (@ $name:ident [$($declared:tt)*] [$($given:tt)*] $area:expr => &mut [$element:ty] $(, $($rest:tt)*)?) => {
@@ -52,7 +51,12 @@ impl Engine for Library {
 
     fn has(&self, request: Request) -> bool {
         match request {
-            Request::Offices => cfg!(all(feature = "offices", not(test))),
+            Request::Offices => true,
+            Request::Shapes => cfg!(all(feature = "shapes", not(test))),
+            Request::Soundings => true,
+            Request::Chart => cfg!(all(feature = "chart", not(test))),
+            Request::Hours => cfg!(all(feature = "hours", not(test))),
+            Request::Rounds => cfg!(all(feature = "rounds", not(test))),
         }
     }
 
@@ -92,6 +96,7 @@ impl Engine for Library {
         number(rolwyddac::hops_words(encoded, message, out))
     }
 
+    #[cfg(not(all(feature = "shapes", not(test))))]
     fn write(&self, numbers: &Numbers, space: &mut [u8]) -> u32 {
         let field = |at: usize| numbers.dimensions.iter().map(|dimension| dimension[at]).collect::<Vec<u16>>();
         let components: Vec<u16> = numbers.distances.iter().flat_map(|distance| distance.0).collect();
@@ -100,59 +105,141 @@ impl Engine for Library {
         number(rolwyddac::write(&field(0), &field(1), &field(2), &components, &weights, shift, boundary, space))
     }
 
-    request! { "offices":
-        fn fresh_both(&self, encoded: &[u8], route: Route, rig: &mut Rig) -> u32 {
-            let [first, second] = &mut rig.offices;
-            exported!(rolwyddac_fresh_both(
-                encoded => &[u8], route => Route,
-                first.source => &[u32], first.memories => &mut [u32], first.buffer => &mut [u32],
-                first.progress => &mut [Progress], first.status => &mut [u8],
-                second.source => &[u32], second.memories => &mut [u32], second.buffer => &mut [u32],
-                second.progress => &mut [Progress], second.status => &mut [u8],
-                rig.engaged => &mut [u32]
+    fn fresh_both(&self, encoded: &[u8], route: Route, rig: &mut Rig) -> u32 {
+        let [first, second] = &mut rig.offices;
+        exported!(rolwyddac_fresh_both(
+            encoded => &[u8], route => Route,
+            first.source => &[u32], first.memories => &mut [u32], first.buffer => &mut [u32],
+            first.progress => &mut [Progress], first.status => &mut [u8],
+            second.source => &[u32], second.memories => &mut [u32], second.buffer => &mut [u32],
+            second.progress => &mut [Progress], second.status => &mut [u8],
+            rig.engaged => &mut [u32]
+        ))
+    }
+
+    fn office_turn(
+        &self, encoded: &[u8], route: Route, areas: &mut Areas, engaged: &mut [u32], other: &[Progress], office: u32,
+        processor: u32,
+    ) -> u32 {
+        exported!(rolwyddac_office_turn(
+            encoded => &[u8], route => Route, areas.source => &[u32], areas.memories => &mut [u32],
+            areas.buffer => &mut [u32], areas.progress => &mut [Progress], areas.status => &mut [u8],
+            engaged => &mut [u32], other => &[Progress], office => u32, processor => u32
+        ))
+    }
+
+    fn office_deliver(
+        &self, encoded: &[u8], route: Route, areas: &mut Areas, engaged: &[u32], other: &[Progress], office: u32,
+        message: u32,
+    ) -> u32 {
+        exported!(rolwyddac_office_deliver(
+            encoded => &[u8], route => Route, areas.source => &[u32], areas.memories => &[u32],
+            areas.buffer => &[u32], areas.progress => &[Progress], areas.status => &mut [u8],
+            engaged => &[u32], other => &[Progress], office => u32, message => u32
+        ))
+    }
+
+    fn office_collect(
+        &self, encoded: &[u8], route: Route, areas: &mut Areas, engaged: &[u32], other: &[Progress], office: u32,
+        grid: &mut [u32],
+    ) -> u32 {
+        exported!(rolwyddac_office_collect(
+            encoded => &[u8], route => Route, areas.source => &[u32], areas.memories => &[u32],
+            areas.buffer => &[u32], areas.progress => &[Progress], areas.status => &[u8],
+            engaged => &[u32], other => &[Progress], office => u32, grid => &mut [u32]
+        ))
+    }
+
+    fn look(&self, encoded: &[u8], memories: [&[u32]; 2], office: u32, processor: u32, out: &mut [u32]) -> u32 {
+        exported!(rolwyddac_look(
+            encoded => &[u8], memories[0] => &[u32], memories[1] => &[u32], office => u32, processor => u32,
+            out => &mut [u32]
+        ))
+    }
+
+    request! { "shapes":
+        fn write(&self, numbers: &Numbers, space: &mut [u8]) -> u32 {
+            let field = |at: usize| numbers.dimensions.iter().map(|dimension| dimension[at]).collect::<Vec<u16>>();
+            let [lengths, tiling, counts] = [0, 1, 2].map(field);
+            let components: Vec<u16> = numbers.distances.iter().flat_map(|distance| distance.0).collect();
+            let weights: Vec<u16> = numbers.distances.iter().map(|distance| distance.1).collect();
+            let of_bounds = |field: fn(&Bound) -> u8| numbers.bounds.iter().map(field).collect::<Vec<u8>>();
+            let [sides, dimensions, earlier] =
+                [of_bounds(|bound| bound.side), of_bounds(|bound| bound.dimension), of_bounds(|bound| bound.earlier)];
+            let slopes: Vec<i8> = numbers.bounds.iter().map(|bound| bound.slope).collect();
+            let offsets: Vec<i16> = numbers.bounds.iter().map(|bound| bound.offset).collect();
+            exported!(rolwyddac_write(
+                lengths => &[u16], tiling => &[u16], counts => &[u16], components => &[u16], weights => &[u16],
+                sides => &[u8], dimensions => &[u8], earlier => &[u8], slopes => &[i8], offsets => &[i16],
+                numbers.shift => u8, numbers.boundary => u32, space => &mut [u8]
+            ))
+        }
+    }
+
+    fn soundings(&self, encoded: &[u8], file: &[u8], value: u32, source: &mut [u32]) -> u32 {
+        exported!(rolwyddac_soundings(encoded => &[u8], file => &[u8], value => u32, source => &mut [u32]))
+    }
+
+    request! { "chart":
+        fn chart(
+            &self, encoded: &[u8], grid: &[u32], corners: [i32; 2], cell_size: u32, space: &mut [u8], out: &mut [u32],
+        ) -> u32 {
+            exported!(rolwyddac_chart(
+                encoded => &[u8], grid => &[u32], corners[0] => i32, corners[1] => i32, cell_size => u32,
+                space => &mut [u8], out => &mut [u32]
             ))
         }
 
-        fn office_turn(
-            &self, encoded: &[u8], route: Route, areas: &mut Areas, engaged: &mut [u32], other: &[Progress],
-            office: u32, processor: u32,
+        fn chart_length(
+            &self, encoded: &[u8], grid: &[u32], corners: [i32; 2], cell_size: u32, out: &mut [u32],
         ) -> u32 {
-            exported!(rolwyddac_office_turn(
-                encoded => &[u8], route => Route, areas.source => &[u32], areas.memories => &mut [u32],
-                areas.buffer => &mut [u32], areas.progress => &mut [Progress], areas.status => &mut [u8],
-                engaged => &mut [u32], other => &[Progress], office => u32, processor => u32
-            ))
-        }
-
-        fn office_deliver(
-            &self, encoded: &[u8], route: Route, areas: &mut Areas, engaged: &[u32], other: &[Progress], office: u32,
-            message: u32,
-        ) -> u32 {
-            exported!(rolwyddac_office_deliver(
-                encoded => &[u8], route => Route, areas.source => &[u32], areas.memories => &[u32],
-                areas.buffer => &[u32], areas.progress => &[Progress], areas.status => &mut [u8],
-                engaged => &[u32], other => &[Progress], office => u32, message => u32
-            ))
-        }
-
-        fn office_collect(
-            &self, encoded: &[u8], route: Route, areas: &mut Areas, engaged: &[u32], other: &[Progress], office: u32,
-            grid: &mut [u32],
-        ) -> u32 {
-            exported!(rolwyddac_office_collect(
-                encoded => &[u8], route => Route, areas.source => &[u32], areas.memories => &[u32],
-                areas.buffer => &[u32], areas.progress => &[Progress], areas.status => &[u8],
-                engaged => &[u32], other => &[Progress], office => u32, grid => &mut [u32]
-            ))
-        }
-
-        fn look(
-            &self, encoded: &[u8], memories: [&[u32]; 2], office: u32, processor: u32, out: &mut [u32],
-        ) -> u32 {
-            exported!(rolwyddac_look(
-                encoded => &[u8], memories[0] => &[u32], memories[1] => &[u32], office => u32, processor => u32,
+            exported!(rolwyddac_chart_length(
+                encoded => &[u8], grid => &[u32], corners[0] => i32, corners[1] => i32, cell_size => u32,
                 out => &mut [u32]
             ))
+        }
+    }
+
+    request! { "hours":
+        fn turn_at(
+            &self, encoded: &[u8], route: Route, areas: &mut Areas, hours: &[u32], minute: u32, processor: u32,
+        ) -> u32 {
+            exported!(rolwyddac_turn_at(
+                encoded => &[u8], route => Route, areas.source => &[u32], areas.memories => &mut [u32],
+                areas.buffer => &mut [u32], areas.progress => &mut [Progress], areas.status => &mut [u8],
+                hours => &[u32], minute => u32, processor => u32
+            ))
+        }
+
+        fn office_turn_at(
+            &self, encoded: &[u8], route: Route, areas: &mut Areas, engaged: &mut [u32], other: &[Progress],
+            hours: &[u32], minute: u32, office: u32, processor: u32,
+        ) -> u32 {
+            exported!(rolwyddac_office_turn_at(
+                encoded => &[u8], route => Route, areas.source => &[u32], areas.memories => &mut [u32],
+                areas.buffer => &mut [u32], areas.progress => &mut [Progress], areas.status => &mut [u8],
+                engaged => &mut [u32], other => &[Progress], hours => &[u32], minute => u32, office => u32,
+                processor => u32
+            ))
+        }
+
+        fn opens(&self, encoded: &[u8], hours: &[u32], minute: u32, processor: u32, out: &mut [u32]) -> u32 {
+            exported!(rolwyddac_opens(
+                encoded => &[u8], hours => &[u32], minute => u32, processor => u32, out => &mut [u32]
+            ))
+        }
+    }
+
+    request! { "rounds":
+        fn rounds(&self, encoded: &[u8], areas: &mut Areas, out: &mut [u32]) -> u32 {
+            exported!(rolwyddac_rounds(
+                encoded => &[u8], areas.source => &[u32], areas.memories => &mut [u32], areas.buffer => &mut [u32],
+                areas.progress => &mut [Progress], areas.status => &mut [u8], out => &mut [u32]
+            ))
+        }
+
+        fn rounds_of(&self, encoded: &[u8], rounds: &mut [u32]) -> u32 {
+            exported!(rolwyddac_rounds_of(encoded => &[u8], rounds => &mut [u32]))
         }
     }
 }

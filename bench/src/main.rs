@@ -30,7 +30,7 @@ const LIMITS: Limits = Limits { cells: 400, words: 4096 };
 /// the naive model tries all cells for all messages in every call
 const NAIVE_LIMITS: Limits = Limits { cells: 30, words: 300 };
 /// trials within which each planted fault must be found
-const FAULT_TRIALS: u64 = 3000;
+const FAULT_TRIALS: u64 = 6000;
 
 struct Words {
     seed: u64,

@@ -1,7 +1,8 @@
 //! A plain model of the tiled sweep engine: it reads a recipe, lays out its whole plan as lists, and runs the machine
 //! on that plan. It is meant to be read and compared with, not to be quick. Its author had document 01, the trait of
 //! engine.rs and the list of public fields below, and nothing else of this repository; later the text of
-//! the requests W-201, W-203 to W-205 and W-207, and then that of those from W-208 on.
+//! the requests W-201, W-203 to W-205 and W-207, then that of those from W-208 on with the names of their calls and the
+//! readings that docs/DECISIONS.md settles.
 
 use std::array::from_fn;
 use std::cell::RefCell;
@@ -9,7 +10,8 @@ use std::collections::{BTreeMap, BTreeSet};
 use std::rc::Rc;
 
 use crate::engine::{
-    Areas, Engine, Progress, Request, Rig, Route, HOPS_WORDS, LOOK_WORDS, MESSAGE_WORDS, SUMMARY_WORDS,
+    Areas, Engine, Progress, Request, Rig, Route, CHART_WORDS, HOPS_WORDS, HOURS_WORDS, LOOK_WORDS, MESSAGE_WORDS,
+    OPENS_WORDS, ROUNDS_WORDS, SUMMARY_WORDS,
 };
 
 // the numbers of refused calls
@@ -32,10 +34,17 @@ const SPREAD_ORDER: u32 = 16;
 const LAST_SPREAD: u32 = 17;
 const NARROW: u32 = 18;
 const ENGAGED: u32 = 19;
+const EMPTY: u32 = 20;
+const SHAPE_INDIRECT: u32 = 21;
+const STRAY_SOUNDING: u32 = 22;
+const NO_CHART: u32 = 23;
+const CLOSED: u32 = 24;
+const FAULTY_HOURS: u32 = 25;
 
 const RECORD_BYTES: usize = 16;
 const MAX_DIMENSIONS: usize = 4;
 const MAX_DISTANCES: usize = 8;
+const MAX_BOUNDS: usize = 4;
 const MAX_LENGTH: usize = 1024;
 const MAX_CELLS: u64 = 16_384;
 const MAX_TILES: u64 = 1024;
@@ -55,9 +64,57 @@ const TAKEN: u8 = 3;
 const OFFICES: u32 = 2;
 const NO_OFFICE: u32 = 2;
 
+/// Minutes of a week.
+const WEEK: u32 = 10_080;
+
+/// The table of hours and the minute at which a turn is tried (W-212).
+#[derive(Clone, Copy)]
+struct Hours<'a> {
+    table: &'a [u32],
+    minute: u32,
+}
+
+impl Hours<'_> {
+    /// No window is faulty, of whatever processor, nor is the minute.
+    fn are_sound(&self) -> bool {
+        let sound = |window: &[u32]| match *window {
+            [0, 0] => true,
+            [open, close] => open < close && close <= WEEK,
+            _ => false,
+        };
+        self.table.chunks(2).all(sound) && self.minute < WEEK
+    }
+
+    /// Is a processor open at the minute?
+    fn are_open(&self, processor: usize) -> bool {
+        let windows = self.table[processor * HOURS_WORDS..][..HOURS_WORDS].chunks(2);
+        windows.into_iter().any(|window| (window[0]..window[1]).contains(&self.minute))
+    }
+}
+
 /// `Err(number)` unless the condition holds.
 fn require(condition: bool, number: u32) -> Result<(), u32> {
     condition.then_some(()).ok_or(number)
+}
+
+/// Are bytes whole records?
+fn is_whole(bytes: &[u8]) -> bool {
+    bytes.len().is_multiple_of(RECORD_BYTES)
+}
+
+/// A survey's record (W-210): its cell, and what counts for it.
+struct Sounding {
+    cell: u32,
+    day: u32,
+    survey: u32,
+    depth: u32,
+}
+
+fn soundings(file: &[u8]) -> impl Iterator<Item = Sounding> + '_ {
+    file.chunks_exact(RECORD_BYTES).map(|record| {
+        let word = |j: usize| u32::from_le_bytes(from_fn(|at| record[4 * j + at]));
+        Sounding { cell: word(0), day: word(1), survey: word(2), depth: word(3) }
+    })
 }
 
 /// A point, or the side lengths of a box of points. Dimensions that a recipe lacks have length 1 and component 0.
@@ -90,6 +147,27 @@ struct Distance {
     wide: bool,
 }
 
+/// A sloping bound (W-209): the component of a dimension is held against slope × an earlier one + offset.
+struct Bound {
+    upper: bool,
+    dimension: usize,
+    earlier: usize,
+    slope: i64,
+    offset: i64,
+}
+
+impl Bound {
+    fn admits(&self, point: Point) -> bool {
+        let [component, earlier] = [self.dimension, self.earlier].map(|j| point[j] as i64);
+        let line = self.slope * earlier + self.offset;
+        if self.upper {
+            component <= line
+        } else {
+            component >= line
+        }
+    }
+}
+
 #[derive(Default)]
 struct Recipe {
     /// How many dimensions the recipe has.
@@ -98,6 +176,7 @@ struct Recipe {
     tile_lengths: Point,
     /// Processor counts, 0 in dimensions that aren't spread.
     counts: Point,
+    bounds: Vec<Bound>,
     distances: Vec<Distance>,
     shift: u32,
     boundary: u32,
@@ -106,8 +185,7 @@ struct Recipe {
 impl Recipe {
     /// An accepted recipe, or the number of the first line that refuses it.
     fn read(encoded: &[u8]) -> Result<Recipe, u32> {
-        let whole = !encoded.is_empty() && encoded.len().is_multiple_of(RECORD_BYTES);
-        require(whole, RAGGED)?;
+        require(!encoded.is_empty() && is_whole(encoded), RAGGED)?;
         let recipe = Recipe::from_records(encoded).ok_or(STRAY_RECORD)?;
         recipe.check()?;
         Ok(recipe)
@@ -123,11 +201,23 @@ impl Recipe {
             let (at, distances) = (recipe.dimensions, recipe.distances.len());
             match *record {
                 _ if closed => return None,
-                [1, 0, n0, n1, k0, k1, p0, p1, 0, 0, 0, 0, 0, 0, 0, 0] if at < MAX_DIMENSIONS && distances == 0 => {
+                [1, 0, n0, n1, k0, k1, p0, p1, 0, 0, 0, 0, 0, 0, 0, 0]
+                    if at < MAX_DIMENSIONS && recipe.bounds.is_empty() && distances == 0 =>
+                {
                     recipe.lengths[at] = pair(n0, n1).into();
                     recipe.tile_lengths[at] = pair(k0, k1).into();
                     recipe.counts[at] = pair(p0, p1).into();
                     recipe.dimensions += 1;
+                }
+                [5, side @ 0..=1, dimension, earlier, slope @ (0 | 1 | 255), 0, o0, o1, 0, 0, 0, 0, 0, 0, 0, 0]
+                    if recipe.bounds.len() < MAX_BOUNDS && distances == 0 =>
+                {
+                    let [dimension, earlier] = [dimension, earlier].map(usize::from);
+                    if dimension >= at || earlier >= dimension {
+                        return None;
+                    }
+                    let (slope, offset) = (i64::from(slope as i8), i64::from(i16::from_le_bytes([o0, o1])));
+                    recipe.bounds.push(Bound { upper: side == 1, dimension, earlier, slope, offset });
                 }
                 [2, 0, d1, d2, d3, d4, w0, w1, 0, 0, 0, 0, 0, 0, 0, 0] if distances < MAX_DISTANCES => {
                     let (components, weight) = ([d1, d2, d3, d4].map(usize::from), pair(w0, w1).into());
@@ -153,10 +243,34 @@ impl Recipe {
         require(in_range(self.lengths), LENGTH)?;
         require(product(self.lengths) <= MAX_CELLS, TOO_LARGE)?;
         require(self.wide_ones_need_it(), NARROW)?;
+        require(self.cells().any(|cell| self.holds(point_of(cell, self.lengths))), EMPTY)?;
         require(self.distances_fit(), DISTANCE)?;
         require(in_range(self.tile_lengths) && self.tiles_span_distances(), TILE)?;
         self.check_counts()?;
-        require(product(self.tile_box()) <= MAX_TILES, TILES)
+        require(self.tiles().len() as u64 <= MAX_TILES, TILES)
+    }
+
+    /// The numbers of the box's cells.
+    fn cells(&self) -> std::ops::Range<usize> {
+        0..product(self.lengths) as usize
+    }
+
+    /// Does the shape hold a point? It is the box, but for what the bounds cut off.
+    fn holds(&self, point: Point) -> bool {
+        (0..MAX_DIMENSIONS).all(|j| point[j] < self.lengths[j]) && self.bounds.iter().all(|bound| bound.admits(point))
+    }
+
+    /// The tiles that hold a cell of the shape, by their places in the box of tiles, rising.
+    fn tiles(&self) -> Vec<usize> {
+        let points = self.cells().map(|cell| point_of(cell, self.lengths)).filter(|&point| self.holds(point));
+        let tiles: BTreeSet<usize> = points.map(|point| number_of(self.tile_of(point), self.tile_box())).collect();
+        tiles.into_iter().collect()
+    }
+
+    /// Do two tiles agree in the spread dimensions?
+    fn same_column(&self, one: usize, other: usize) -> bool {
+        let (one, other) = (point_of(one, self.tile_box()), point_of(other, self.tile_box()));
+        (0..MAX_DIMENSIONS).all(|j| self.counts[j] == 0 || one[j] == other[j])
     }
 
     /// The lines on processor counts (W-203, W-205): a first group of dimensions is spread, not all, over one or more each.
@@ -211,17 +325,19 @@ impl Recipe {
         from_fn(|j| cell[j] / self.tile_lengths[j])
     }
 
-    /// The cell that lies a distance before `cell`, `None` on the boundary.
+    /// The cell that lies a distance before `cell`, `None` where the boundary value is read.
     fn read_by(&self, cell: Point, distance: &Distance) -> Option<usize> {
         let inside = (0..MAX_DIMENSIONS).all(|j| distance.components[j] <= cell[j]);
-        inside.then(|| number_of(from_fn(|j| cell[j] - distance.components[j]), self.lengths))
+        let point = inside.then(|| from_fn(|j| cell[j] - distance.components[j]));
+        point.filter(|&point| self.holds(point)).map(|point| number_of(point, self.lengths))
     }
 
     /// The tile to be sent `cell` for its reader at a distance: it stands with the reader's tile in the spread
-    /// dimensions and with the cell's in the others. `None` if the reader lies outside the nest.
+    /// dimensions and with the cell's in the others, and may hold no cell itself. `None` if the reader lies outside
+    /// the shape.
     fn taker(&self, cell: Point, distance: &Distance) -> Option<usize> {
         let reader: Point = from_fn(|j| cell[j] + distance.components[j]);
-        let inside = (0..MAX_DIMENSIONS).all(|j| reader[j] < self.lengths[j]);
+        let inside = self.holds(reader);
         let (own, other) = (self.tile_of(cell), self.tile_of(reader));
         let taker = from_fn(|j| if self.counts[j] != 0 { other[j] } else { own[j] });
         inside.then(|| number_of(taker, self.tile_box()))
@@ -231,7 +347,7 @@ impl Recipe {
     /// neighbours t + v, and their rising order is the lexicographic order of the directions v.
     fn parcels(&self) -> BTreeMap<(usize, usize), BTreeSet<usize>> {
         let mut sets: BTreeMap<(usize, usize), BTreeSet<usize>> = BTreeMap::new();
-        for cell in 0..product(self.lengths) as usize {
+        for cell in self.cells().filter(|&cell| self.holds(point_of(cell, self.lengths))) {
             let point = point_of(cell, self.lengths);
             let sender = number_of(self.tile_of(point), self.tile_box());
             let takers = self.distances.iter().filter_map(|d| self.taker(point, d));
@@ -259,18 +375,18 @@ impl Recipe {
 
     /// All messages by number. On the direct route each parcel for another processor is one. On the indirect route all that goes over a wire is
     /// one, whoever it is for; a tile's wires are in the order of their dimensions.
-    fn messages(&self, route: Route) -> Vec<Message> {
-        let tiles = self.tile_box();
+    fn messages(&self, route: Route, tiles: &[usize]) -> Vec<Message> {
         let next = |tile, dimension| {
-            let mut point = point_of(tile, tiles);
+            let mut point = point_of(tile, self.tile_box());
             point[dimension] += 1;
-            number_of(point, tiles)
+            number_of(point, self.tile_box())
         };
         let parcels = self.parcels();
         match route {
             Route::Direct => {
                 let parts = parcels.into_iter().map(|((sender, taker), cells)| (sender, taker, cells));
-                numbered(parts.filter(|&(sender, taker, _)| self.processor_of(sender) != self.processor_of(taker)))
+                let away = |sender, taker| self.processor_of(sender) != self.processor_of(taker);
+                self.numbered(tiles, parts.filter(|&(sender, taker, _)| away(sender, taker)))
             }
             Route::Indirect => {
                 let mut loads: BTreeMap<(usize, usize), BTreeSet<usize>> = BTreeMap::new();
@@ -279,21 +395,28 @@ impl Recipe {
                         loads.entry(wire).or_default().extend(cells);
                     }
                 }
-                numbered(loads.into_iter().map(|((tile, dimension), cells)| (tile, next(tile, dimension), cells)))
+                let wired = |((tile, dimension), cells)| (tile, next(tile, dimension), cells);
+                self.numbered(tiles, loads.into_iter().map(wired))
             }
         }
     }
-}
 
-/// Senders, takers and cells as messages, one behind the other in the buffer.
-fn numbered(parts: impl Iterator<Item = (usize, usize, BTreeSet<usize>)>) -> Vec<Message> {
-    let mut offset = 0;
-    let message = |(sender, taker, cells): (usize, usize, BTreeSet<usize>)| {
-        let message = Message { sender, taker, cells: cells.into_iter().collect(), offset };
-        offset += message.cells.len();
-        message
-    };
-    parts.map(message).collect()
+    /// Senders, takers and cells as messages, one behind the other in the buffer. The tiles of the parts are places in
+    /// the box; those of the messages are numbers of tiles that hold a cell. Where the taker holds none, the next one
+    /// of its column takes the message.
+    fn numbered(&self, tiles: &[usize], parts: impl Iterator<Item = (usize, usize, BTreeSet<usize>)>) -> Vec<Message> {
+        let mut offset = 0;
+        let message = |(sender, aim, cells): (usize, usize, BTreeSet<usize>)| {
+            let sender = tiles.binary_search(&sender).expect("it holds the cells");
+            let takes = |&tile: &usize| tile >= aim && self.same_column(tile, aim);
+            let taker = tiles.iter().position(takes).expect("at the latest the tile of a reader");
+            let shifted = tiles[taker] != aim;
+            let message = Message { sender, taker, cells: cells.into_iter().collect(), offset, shifted };
+            offset += message.cells.len();
+            message
+        };
+        parts.map(message).collect()
+    }
 }
 
 /// A message's ends, the cells whose values it carries (rising), and the words of the buffer that lie before it.
@@ -303,12 +426,16 @@ pub struct Message {
     pub taker: usize,
     pub cells: Vec<usize>,
     pub offset: usize,
+    /// Does the tile in its direction hold no cell, so that a later one takes it?
+    pub shifted: bool,
 }
 
 /// Everything that follows from an accepted recipe and a route. All lists of numbers are rising.
 pub struct Plan {
     pub cells: usize,
     pub processors: usize,
+    /// The places of the tiles in the box of tiles; those that hold no cell are left out and have no number.
+    pub places: Vec<usize>,
     pub cells_of_tile: Vec<Vec<usize>>,
     pub processor_of_tile: Vec<usize>,
     pub tiles_of_processor: Vec<Vec<usize>>,
@@ -332,19 +459,27 @@ fn grouped(count: usize, groups: impl Iterator<Item = usize>) -> Vec<Vec<usize>>
 
 impl Plan {
     fn new(recipe: Recipe, route: Route) -> Plan {
-        let (cell_box, tile_box, processor_box) = (recipe.lengths, recipe.tile_box(), recipe.processor_box());
-        let [cells, tiles, processors] = [cell_box, tile_box, processor_box].map(|sides| product(sides) as usize);
-        let tile_of = |cell| number_of(recipe.tile_of(point_of(cell, cell_box)), tile_box);
-        let processor_of = |tile| recipe.processor_of(tile);
-        let messages = recipe.messages(route);
+        let (cells, processors) = (recipe.cells(), product(recipe.processor_box()) as usize);
+        let places = recipe.tiles();
+        let mut cells_of_tile = vec![Vec::new(); places.len()];
+        for cell in cells.clone() {
+            let point = point_of(cell, recipe.lengths);
+            if recipe.holds(point) {
+                let place = number_of(recipe.tile_of(point), recipe.tile_box());
+                cells_of_tile[places.binary_search(&place).expect("it holds this cell")].push(cell);
+            }
+        }
+        let processor_of_tile: Vec<usize> = places.iter().map(|&place| recipe.processor_of(place)).collect();
+        let messages = recipe.messages(route, &places);
         Plan {
-            cells,
+            cells: cells.len(),
             processors,
-            cells_of_tile: grouped(tiles, (0..cells).map(tile_of)),
-            processor_of_tile: (0..tiles).map(processor_of).collect(),
-            tiles_of_processor: grouped(processors, (0..tiles).map(processor_of)),
-            sends: grouped(tiles, messages.iter().map(|message| message.sender)),
-            dues: grouped(tiles, messages.iter().map(|message| message.taker)),
+            tiles_of_processor: grouped(processors, processor_of_tile.iter().copied()),
+            sends: grouped(places.len(), messages.iter().map(|message| message.sender)),
+            dues: grouped(places.len(), messages.iter().map(|message| message.taker)),
+            places,
+            cells_of_tile,
+            processor_of_tile,
             words: messages.iter().map(|message| message.cells.len()).sum(),
             messages,
             recipe,
@@ -364,7 +499,12 @@ impl Plan {
         self.messages.iter().any(|message| !own(message))
     }
 
-    /// The value of one cell over the values so far; eight products of 16 by 32 bits leave room in 64 for the source.
+    /// Does the shape hold a cell?
+    pub fn holds(&self, cell: usize) -> bool {
+        self.recipe.holds(point_of(cell, self.recipe.lengths))
+    }
+
+    /// The value of one cell of the shape over the values so far; eight products of 16 by 32 bits leave room in 64 for the source.
     fn value(&self, cell: usize, source: &[u32], values: &[u32]) -> u32 {
         let point = point_of(cell, self.recipe.lengths);
         let mut sum = u64::from(source[cell]);
@@ -373,6 +513,25 @@ impl Plan {
             sum += distance.weight * u64::from(read.map_or(self.recipe.boundary, |from| values[from]));
         }
         (sum >> self.recipe.shift) as u32
+    }
+
+    /// The grid as text (W-211), or the number of the line that refuses it.
+    fn chart(&self, grid: &[u32], corners: [i32; 2], cell_size: u32) -> Result<String, u32> {
+        require(self.recipe.dimensions == 2 && (1..=65_535).contains(&cell_size), NO_CHART)?;
+        require(grid.len() == self.cells, AREA)?;
+        let ([rows, columns, ..], [x, y]) = (self.recipe.lengths, corners);
+        let mut lines = vec![
+            format!("ncols {columns}"),
+            format!("nrows {rows}"),
+            format!("xllcorner {x}"),
+            format!("yllcorner {y}"),
+            format!("cellsize {cell_size}"),
+            "NODATA_value -9999".to_string(),
+        ];
+        let word = |cell: usize| if self.holds(cell) { grid[cell].to_string() } else { "-9999".to_string() };
+        let row = |row: usize| (row * columns..(row + 1) * columns).map(word).collect::<Vec<String>>().join(" ");
+        lines.extend((0..rows).map(row));
+        Ok(lines.iter().flat_map(|line| [line, "\n"]).collect())
     }
 
     fn check_areas(&self, areas: &Areas) -> Result<(), u32> {
@@ -388,6 +547,10 @@ impl Plan {
     fn check_state(&self, areas: &Areas) -> Result<(), u32> {
         self.check_areas(areas)?;
         require(self.are_fit(&areas.progress) && areas.status.iter().all(|&mark| mark <= TAKEN), UNFIT)
+    }
+
+    fn check_table(&self, table: &[u32]) -> Result<(), u32> {
+        require(table.len() == self.processors * HOURS_WORDS, AREA)
     }
 
     /// The same for an office (W-208), which is lent the words that both share and the other's records too; its own
@@ -439,6 +602,56 @@ impl Plan {
         Ok(())
     }
 
+    /// A turn for an office, with hours or without.
+    fn office_turn(
+        &self, areas: &mut Areas, engaged: &mut [u32], other: &[Progress], hours: Option<Hours>, office: u32,
+        processor: u32,
+    ) -> Result<(), u32> {
+        hours.map_or(Ok(()), |hours| self.check_table(hours.table))?;
+        self.check_office(areas, engaged, other, office)?;
+        require(hours.is_none_or(|hours| hours.are_sound()), FAULTY_HOURS)?;
+        let processor = index(processor, self.processors)?;
+        require(hours.is_none_or(|hours| hours.are_open(processor)), CLOSED)?;
+        let held = engaged[processor] != NO_OFFICE && engaged[processor] != office;
+        require(!(held && self.has_tiles_left(&areas.progress, processor)), ENGAGED)?;
+        self.step(areas, processor)?;
+        // between a tile's gather and its last step its record is beyond stage 0
+        let busy = areas.progress[processor].stage != GATHER;
+        engaged[processor] = if busy { office } else { NO_OFFICE };
+        Ok(())
+    }
+
+    /// One round (W-213): every processor that can gather as it begins does its whole tile, then all mail in flight is
+    /// delivered. Gives how many tiles were done.
+    fn round(&self, areas: &mut Areas) -> usize {
+        let can_gather = |areas: &Areas, processor: usize| {
+            let tile = self.tiles_of_processor[processor].get(areas.progress[processor].finished as usize);
+            tile.is_some_and(|&tile| self.dues[tile].iter().all(|&message| areas.status[message] == DELIVERED))
+        };
+        let ready: Vec<usize> = (0..self.processors).filter(|&processor| can_gather(areas, processor)).collect();
+        for &processor in &ready {
+            let before = areas.progress[processor].finished;
+            while areas.progress[processor].finished == before {
+                self.step(areas, processor).expect("it can gather, and then nothing stops it");
+            }
+        }
+        areas.status.iter_mut().filter(|mark| **mark == IN_FLIGHT).for_each(|mark| *mark = DELIVERED);
+        ready.len()
+    }
+
+    /// The round of each tile: one behind that of its processor's tile before it and those of the tiles that mail to it.
+    fn rounds(&self) -> Vec<u32> {
+        let mut rounds: Vec<u32> = Vec::new();
+        for tile in 0..self.places.len() {
+            let own = &self.tiles_of_processor[self.processor_of_tile[tile]];
+            let before = own.iter().copied().take_while(|&earlier| earlier < tile).last();
+            let senders = self.dues[tile].iter().map(|&message| self.messages[message].sender);
+            let latest = senders.chain(before).map(|earlier| rounds[earlier]).max();
+            rounds.push(latest.unwrap_or(0) + 1);
+        }
+        rounds
+    }
+
     /// The delivery of a message, in a fit state.
     fn hand_over(&self, areas: &mut Areas, message: u32) -> Result<(), u32> {
         let mark = &mut areas.status[index(message, self.messages.len())?];
@@ -451,6 +664,7 @@ impl Plan {
     fn copy_out(&self, areas: &mut Areas, grid: &mut [u32]) -> Result<(), u32> {
         let left = |processor| self.has_tiles_left(&areas.progress, processor);
         require(!(0..self.processors).any(left), EARLY)?;
+        grid.fill(self.recipe.boundary);
         for (cells, &processor) in self.cells_of_tile.iter().zip(&self.processor_of_tile) {
             let memory = self.memory(&mut areas.memories, processor);
             cells.iter().for_each(|&cell| grid[cell] = memory[cell]);
@@ -540,7 +754,9 @@ impl Model {
                 return Ok(Rc::clone(plan));
             }
         }
-        let plan = Rc::new(Plan::new(Recipe::read(encoded)?, route));
+        let recipe = Recipe::read(encoded)?;
+        require(route == Route::Direct || recipe.bounds.is_empty(), SHAPE_INDIRECT)?;
+        let plan = Rc::new(Plan::new(recipe, route));
         *kept = Some((encoded.to_vec(), Rc::clone(&plan)));
         Ok(plan)
     }
@@ -602,7 +818,9 @@ impl Engine for Model {
         answer(|| {
             let plan = self.plan(encoded, Route::Direct)?;
             require(source.len() == plan.cells && grid.len() == plan.cells, AREA)?;
-            (0..plan.cells).for_each(|cell| grid[cell] = plan.value(cell, source, grid));
+            for cell in 0..plan.cells {
+                grid[cell] = if plan.holds(cell) { plan.value(cell, source, grid) } else { plan.recipe.boundary };
+            }
             Ok(())
         })
     }
@@ -635,7 +853,8 @@ impl Engine for Model {
             let plan = self.plan(encoded, Route::Direct)?;
             require(out.len() == HOPS_WORDS, AREA)?;
             let message = &plan.messages[index(message, plan.messages.len())?];
-            out[0] = plan.recipe.wires(message.sender, message.taker).len() as u32;
+            let [sender, taker] = [message.sender, message.taker].map(|tile| plan.places[tile]);
+            out[0] = plan.recipe.wires(sender, taker).len() as u32;
             Ok(())
         })
     }
@@ -655,18 +874,7 @@ impl Engine for Model {
         &self, encoded: &[u8], route: Route, areas: &mut Areas, engaged: &mut [u32], other: &[Progress], office: u32,
         processor: u32,
     ) -> u32 {
-        answer(|| {
-            let plan = self.plan(encoded, route)?;
-            plan.check_office(areas, engaged, other, office)?;
-            let processor = index(processor, plan.processors)?;
-            let held = engaged[processor] != NO_OFFICE && engaged[processor] != office;
-            require(!(held && plan.has_tiles_left(&areas.progress, processor)), ENGAGED)?;
-            plan.step(areas, processor)?;
-            // between a tile's gather and its last step its record is beyond stage 0
-            let busy = areas.progress[processor].stage != GATHER;
-            engaged[processor] = if busy { office } else { NO_OFFICE };
-            Ok(())
-        })
+        answer(|| self.plan(encoded, route)?.office_turn(areas, engaged, other, None, office, processor))
     }
 
     fn office_deliver(
@@ -700,6 +908,105 @@ impl Engine for Model {
             require(office < OFFICES, NO_SUCH)?;
             let processor = index(processor, plan.processors)?;
             out.copy_from_slice(&[processor * plan.cells, plan.cells].map(|number| number as u32));
+            Ok(())
+        })
+    }
+
+    fn soundings(&self, encoded: &[u8], file: &[u8], value: u32, source: &mut [u32]) -> u32 {
+        answer(|| {
+            // a ragged file is in the same line as a ragged recipe
+            require(is_whole(file), RAGGED)?;
+            let plan = self.plan(encoded, Route::Direct)?;
+            require(source.len() == plan.cells, AREA)?;
+            require(soundings(file).all(|sounding| (sounding.cell as usize) < plan.cells), STRAY_SOUNDING)?;
+            source.fill(value);
+            // of each cell's records the greatest comes last
+            let mut ranked: Vec<(usize, Sounding)> = soundings(file).enumerate().collect();
+            ranked.sort_by_key(|(place, sounding)| (sounding.day, sounding.survey, *place));
+            ranked.iter().for_each(|(_, sounding)| source[sounding.cell as usize] = sounding.depth);
+            Ok(())
+        })
+    }
+
+    fn chart(
+        &self, encoded: &[u8], grid: &[u32], corners: [i32; 2], cell_size: u32, space: &mut [u8], out: &mut [u32],
+    ) -> u32 {
+        answer(|| {
+            let text = self.plan(encoded, Route::Direct)?.chart(grid, corners, cell_size)?;
+            require(out.len() == CHART_WORDS && space.len() >= text.len(), AREA)?;
+            space[..text.len()].copy_from_slice(text.as_bytes());
+            out[0] = text.len() as u32;
+            Ok(())
+        })
+    }
+
+    fn chart_length(&self, encoded: &[u8], grid: &[u32], corners: [i32; 2], cell_size: u32, out: &mut [u32]) -> u32 {
+        answer(|| {
+            let text = self.plan(encoded, Route::Direct)?.chart(grid, corners, cell_size)?;
+            require(out.len() == CHART_WORDS, AREA)?;
+            out[0] = text.len() as u32;
+            Ok(())
+        })
+    }
+
+    fn turn_at(
+        &self, encoded: &[u8], route: Route, areas: &mut Areas, hours: &[u32], minute: u32, processor: u32,
+    ) -> u32 {
+        answer(|| {
+            let plan = self.plan(encoded, route)?;
+            let hours = Hours { table: hours, minute };
+            plan.check_table(hours.table)?;
+            plan.check_state(areas)?;
+            require(hours.are_sound(), FAULTY_HOURS)?;
+            let processor = index(processor, plan.processors)?;
+            require(hours.are_open(processor), CLOSED)?;
+            plan.step(areas, processor)
+        })
+    }
+
+    fn office_turn_at(
+        &self, encoded: &[u8], route: Route, areas: &mut Areas, engaged: &mut [u32], other: &[Progress], hours: &[u32],
+        minute: u32, office: u32, processor: u32,
+    ) -> u32 {
+        let hours = Some(Hours { table: hours, minute });
+        answer(|| self.plan(encoded, route)?.office_turn(areas, engaged, other, hours, office, processor))
+    }
+
+    fn opens(&self, encoded: &[u8], hours: &[u32], minute: u32, processor: u32, out: &mut [u32]) -> u32 {
+        answer(|| {
+            let plan = self.plan(encoded, Route::Direct)?;
+            let hours = Hours { table: hours, minute };
+            plan.check_table(hours.table)?;
+            require(out.len() == OPENS_WORDS, AREA)?;
+            require(hours.are_sound(), FAULTY_HOURS)?;
+            let processor = index(processor, plan.processors)?;
+            // minute by minute, through one week
+            let open_after = |wait: &u32| Hours { minute: (minute + wait) % WEEK, ..hours }.are_open(processor);
+            let wait = (0..WEEK).find(open_after);
+            out.copy_from_slice(&[u32::from(wait.is_some()), wait.unwrap_or(0)]);
+            Ok(())
+        })
+    }
+
+    fn rounds(&self, encoded: &[u8], areas: &mut Areas, out: &mut [u32]) -> u32 {
+        answer(|| {
+            let plan = self.plan(encoded, Route::Direct)?;
+            plan.check_areas(areas)?;
+            require(out.len() == ROUNDS_WORDS, AREA)?;
+            Plan::start(areas);
+            out[0] = 0;
+            while plan.round(areas) > 0 {
+                out[0] += 1;
+            }
+            Ok(())
+        })
+    }
+
+    fn rounds_of(&self, encoded: &[u8], rounds: &mut [u32]) -> u32 {
+        answer(|| {
+            let plan = self.plan(encoded, Route::Direct)?;
+            require(rounds.len() == plan.places.len(), AREA)?;
+            rounds.copy_from_slice(&plan.rounds());
             Ok(())
         })
     }

@@ -3,10 +3,12 @@
 //! It can carry one fault, so that the comparison itself can be tested: each fault must be found.
 
 use crate::engine::{
-    Areas, Engine, Progress, Request, Rig, Route, HOPS_WORDS, LOOK_WORDS, MESSAGE_WORDS, SUMMARY_WORDS,
+    Areas, Engine, Progress, Request, Rig, Route, CHART_WORDS, HOPS_WORDS, HOURS_WORDS, LOOK_WORDS, MESSAGE_WORDS,
+    OPENS_WORDS, ROUNDS_WORDS, SUMMARY_WORDS,
 };
 use crate::recipe::Numbers;
 use std::cell::RefCell;
+use std::collections::BTreeSet;
 use std::rc::Rc;
 
 /// faults a careful author could make
@@ -126,9 +128,71 @@ pub enum Fault {
     OtherUntested,
     /// only the memories that are looked at must have their length
     LookAtOneLength,
+    /// a message is left out where tile t + v holds no cell
+    EmptyTakerDropped,
+    /// tiles keep the numbers that they have in the box
+    TilesNumberedInBox,
+    /// a cell is mailed for a reader outside the shape
+    OutsideMailed,
+    /// number 8 counts the tiles of the box
+    BoxTilesCounted,
+    /// number 20 behind number 5
+    EmptyBehindDistance,
+    /// bounds that cut nothing are allowed on the indirect route
+    UncutIndirect,
+    /// of equal soundings the earliest in the file counts
+    EarliestCounts,
+    /// survey days are compared as signed numbers
+    DaysSigned,
+    /// the survey's number is looked at before the day
+    SurveyBeforeDay,
+    /// a ragged file of soundings is tested behind the recipe
+    RaggedFileLate,
+    /// a sounding outside the shape is refused
+    SoundingOutsideShape,
+    /// a cell without a sounding keeps its word
+    UnsoundedKept,
+    /// the columns of the chart are counted by the first dimension
+    ColumnsRowsSwapped,
+    /// its last row stands first
+    LastRowFirst,
+    /// its cells outside the shape show their words
+    OutsideShown,
+    /// number 23 behind number 9
+    ChartBehindArea,
+    /// the space behind the text is cleared
+    TailCleared,
+    /// corners are written without their sign
+    CornersUnsigned,
+    /// number 24 behind number 13
+    ClosedBehindFinished,
+    /// number 19 before number 24
+    EngagedBeforeClosed,
+    /// a processor is still open at its close minute
+    CloseIncluded,
+    /// only the windows of the processor that takes the turn are tested
+    OwnWindowsOnly,
+    /// the week ends, and what opens earlier in it never opens again
+    WeekEnds,
+    /// a window that opens at minute 0 is no window
+    OpenAtZeroNone,
+    /// mail is delivered within a round, and what comes later in it can gather
+    MailWithinRound,
+    /// a tile's round does not wait for the tile before it on its processor
+    TileBeforeForgotten,
+    /// a tile's round counts only the first message due at it
+    FirstSenderOnly,
+    /// a round in which nothing is done is counted at the end
+    EmptyRoundCounted,
+    /// messages lie in the buffer in the order in which they are sent
+    MailInSendingOrder,
+    /// a delivery hands over what is in flight before it too
+    EarlierDeliveredToo,
+    /// a gather marks all that is delivered to its processor
+    GatherTakesAll,
 }
 
-pub const FAULTS: [Fault; 57] = [
+pub const FAULTS: [Fault; 88] = [
     Fault::UnspreadShift,
     Fault::EdgeTileFull,
     Fault::OnlyTaker,
@@ -186,6 +250,37 @@ pub const FAULTS: [Fault; 57] = [
     Fault::SendKeepsEngaged,
     Fault::OtherUntested,
     Fault::LookAtOneLength,
+    Fault::EmptyTakerDropped,
+    Fault::TilesNumberedInBox,
+    Fault::OutsideMailed,
+    Fault::BoxTilesCounted,
+    Fault::EmptyBehindDistance,
+    Fault::UncutIndirect,
+    Fault::EarliestCounts,
+    Fault::DaysSigned,
+    Fault::SurveyBeforeDay,
+    Fault::RaggedFileLate,
+    Fault::SoundingOutsideShape,
+    Fault::UnsoundedKept,
+    Fault::ColumnsRowsSwapped,
+    Fault::LastRowFirst,
+    Fault::OutsideShown,
+    Fault::ChartBehindArea,
+    Fault::TailCleared,
+    Fault::CornersUnsigned,
+    Fault::ClosedBehindFinished,
+    Fault::EngagedBeforeClosed,
+    Fault::CloseIncluded,
+    Fault::OwnWindowsOnly,
+    Fault::WeekEnds,
+    Fault::OpenAtZeroNone,
+    Fault::MailWithinRound,
+    Fault::TileBeforeForgotten,
+    Fault::FirstSenderOnly,
+    Fault::EmptyRoundCounted,
+    Fault::MailInSendingOrder,
+    Fault::EarlierDeliveredToo,
+    Fault::GatherTakesAll,
 ];
 
 /// sending tile, taking tile, cells
@@ -208,7 +303,8 @@ struct View<'a> {
     fault: Option<Fault>,
     /// dimensions: how many records of kind 1 stand in front
     n: usize,
-    /// how many of kinds 2 and 4 follow
+    /// how many of kind 5 follow, and how many of kinds 2 and 4 then
+    bounds: usize,
     distances: usize,
     /// dimensions that have processors
     spread: usize,
@@ -223,9 +319,11 @@ fn first(lines: &[(u32, &dyn Fn() -> bool)]) -> u32 {
 
 impl<'a> View<'a> {
     fn new(bytes: &'a [u8], fault: Option<Fault>) -> View<'a> {
-        let mut view = View { bytes, fault, n: 0, distances: 0, spread: 0 };
+        let mut view = View { bytes, fault, n: 0, bounds: 0, distances: 0, spread: 0 };
         view.n = (0..view.records()).take_while(|&r| view.kind(r) == 1).count();
-        view.distances = (view.n..view.records()).take_while(|&r| [2, 4].contains(&view.kind(r))).count();
+        view.bounds = (view.n..view.records()).take_while(|&r| view.kind(r) == 5).count();
+        let first = view.n + view.bounds;
+        view.distances = (first..view.records()).take_while(|&r| [2, 4].contains(&view.kind(r))).count();
         view.spread = (0..view.n).filter(|&j| view.count(j) != 0).count();
         view
     }
@@ -251,7 +349,18 @@ impl<'a> View<'a> {
     }
 
     fn close(&self) -> usize {
-        self.n + self.distances
+        self.n + self.bounds + self.distances
+    }
+
+    /// the record of distance d
+    fn at(&self, d: usize) -> usize {
+        self.n + self.bounds + d
+    }
+
+    /// a record of kind 5 that is not as the format has it
+    fn bad_bound(&self, record: usize) -> bool {
+        let [side, dimension, earlier, slope] = [1, 2, 3, 4].map(|at| self.byte(record, at));
+        side > 1 || dimension >= self.n as u64 || earlier >= dimension || ![0, 1, 255].contains(&slope)
     }
 
     fn stray(&self) -> bool {
@@ -260,10 +369,13 @@ impl<'a> View<'a> {
             2 => vec![0, 2, 3, 4, 5, 6, 7],
             3 => vec![0, 1, 4, 5, 6, 7],
             4 => vec![0, 2, 3, 4, 5, 6, 7, 8, 9, 10, 11],
+            5 => vec![0, 1, 2, 3, 4, 6, 7],
             _ => vec![],
         };
         let tail = !self.has(Fault::TailUnread) && self.close() + 1 != self.records();
         !(2..=4).contains(&self.n)
+            || self.bounds > 4
+            || (self.n..self.n + self.bounds).any(|r| self.bad_bound(r))
             || self.distances == 0
             || self.too_many_distances()
             || (self.has(Fault::WideLast) && (1..self.distances).any(|d| self.is_wide(d - 1) && !self.is_wide(d)))
@@ -287,7 +399,7 @@ impl<'a> View<'a> {
     }
 
     fn is_wide(&self, d: usize) -> bool {
-        self.kind(self.n + d) == 4
+        self.kind(self.at(d)) == 4
     }
 
     fn too_many_distances(&self) -> bool {
@@ -300,7 +412,7 @@ impl<'a> View<'a> {
     }
 
     fn component(&self, d: usize, j: usize) -> u64 {
-        let record = self.n + d;
+        let record = self.at(d);
         if !self.is_wide(d) {
             self.byte(record, 2 + j)
         } else if self.has(Fault::HighBytesLost) {
@@ -314,12 +426,12 @@ impl<'a> View<'a> {
 
     fn weight(&self, d: usize) -> u64 {
         let wide = self.is_wide(d) && !self.has(Fault::WideWeightElsewhere);
-        self.half(self.n + d, if wide { 10 } else { 6 })
+        self.half(self.at(d), if wide { 10 } else { 6 })
     }
 
     /// a wide distance all of whose components fit a byte, by its bytes
     fn narrow(&self) -> bool {
-        let fits = |d: usize| (0..4).all(|j| self.byte(self.n + d, 3 + 2 * j) == 0);
+        let fits = |d: usize| (0..4).all(|j| self.byte(self.at(d), 3 + 2 * j) == 0);
         !self.has(Fault::NarrowPasses) && (0..self.distances).any(|d| self.is_wide(d) && fits(d))
     }
 
@@ -371,8 +483,41 @@ impl<'a> View<'a> {
         self.length(j).div_ceil(self.tile(j))
     }
 
+    /// the tiles that hold a cell, by their numbers in the box of tiles
+    fn existing(&self) -> Vec<u64> {
+        let cells = (0..self.cells()).map(|number| self.cell(number)).filter(|cell| self.inside(cell));
+        let tiles: BTreeSet<u64> = cells.map(|cell| self.tile_number(&self.tile_at(&cell))).collect();
+        tiles.into_iter().collect()
+    }
+
     fn tiles(&self) -> u64 {
-        (0..self.n).map(|j| self.across(j)).product()
+        self.existing().len() as u64
+    }
+
+    /// the number of a tile among those that hold a cell
+    fn dense(&self, tile: u64) -> u64 {
+        let before = self.existing().iter().filter(|&&other| other < tile).count() as u64;
+        if self.has(Fault::TilesNumberedInBox) {
+            tile
+        } else {
+            before
+        }
+    }
+
+    fn too_many_tiles(&self) -> bool {
+        let in_box = (0..self.n).map(|j| self.across(j)).product::<u64>();
+        (if self.has(Fault::BoxTilesCounted) { in_box } else { self.tiles() }) > 1024
+    }
+
+    /// no cell of the box is in the shape
+    fn empty(&self) -> bool {
+        (0..self.cells()).all(|number| !self.within(&self.cell(number)))
+    }
+
+    /// where the indirect route is wanted for a shape
+    fn no_way(&self, route: Route) -> bool {
+        let uncut = || (0..self.cells()).all(|number| self.within(&self.cell(number)));
+        route == Route::Indirect && self.bounds != 0 && !(self.has(Fault::UncutIndirect) && uncut())
     }
 
     fn read(&self) -> u32 {
@@ -383,6 +528,8 @@ impl<'a> View<'a> {
             (4, &|| self.cells() > 16384),
             (5, &|| self.has(Fault::NarrowBehindDistance) && self.bad_distance()),
             (18, &|| self.narrow()),
+            (5, &|| self.has(Fault::EmptyBehindDistance) && self.bad_distance()),
+            (20, &|| self.empty()),
             (5, &|| self.bad_distance()),
             (6, &|| self.bad_tile()),
             (7, &|| self.has(Fault::CountsFirst) && self.bad_counts()),
@@ -390,7 +537,7 @@ impl<'a> View<'a> {
             (16, &|| self.bad_order()),
             (17, &|| self.last_spread()),
             (7, &|| self.bad_counts()),
-            (8, &|| self.tiles() > 1024),
+            (8, &|| self.too_many_tiles()),
         ])
     }
 
@@ -441,12 +588,30 @@ impl<'a> View<'a> {
     }
 
     fn tiles_of(&self, processor: u64) -> Vec<u64> {
-        (0..self.tiles()).filter(|&tile| self.processor(tile) == processor).collect()
+        self.existing().into_iter().filter(|&tile| self.processor(tile) == processor).collect()
     }
 
     fn inside(&self, cell: &Index) -> bool {
         let side = |j| if self.has(Fault::EdgeTileFull) { self.across(j) * self.tile(j) } else { self.length(j) };
-        (0..self.n).all(|j| cell[j] < side(j))
+        (0..self.n).all(|j| cell[j] < side(j)) && self.within(cell)
+    }
+
+    /// do the bounds admit a cell
+    fn within(&self, cell: &Index) -> bool {
+        (self.n..self.n + self.bounds).all(|r| {
+            let [component, earlier] = [2, 3].map(|at| i64::from(cell[self.byte(r, at) as usize] as u32));
+            let slope = match self.byte(r, 4) {
+                255 => -1,
+                slope => slope as i64,
+            };
+            let offset = self.half(r, 6) as i64 - if self.byte(r, 7) >= 128 { 65536 } else { 0 };
+            let above = component - (slope * earlier + offset);
+            if self.byte(r, 1) == 0 {
+                above >= 0
+            } else {
+                above <= 0
+            }
+        })
     }
 
     fn ahead(&self, cell: &Index, d: usize) -> Index {
@@ -462,7 +627,9 @@ impl<'a> View<'a> {
         let reader = self.ahead(cell, d);
         let (here, there) = (self.tile_at(cell), self.tile_at(&reader));
         let unspread = self.spread..self.n;
-        self.inside(&reader)
+        let outside_too = self.has(Fault::OutsideMailed) && (0..self.n).all(|j| reader[j] < self.length(j));
+        (self.inside(&reader) || outside_too)
+            && self.inside(cell)
             && (0..self.spread).all(|j| here[j] == tile[j] && there[j] == tile[j] + direction[j])
             && if self.has(Fault::UnspreadShift) {
                 unspread.clone().all(|j| there[j] == tile[j])
@@ -551,7 +718,7 @@ impl<'a> View<'a> {
     /// all messages of the indirect route in order
     fn indirect(&self) -> Messages {
         let mut messages = vec![];
-        for tile in 0..self.tiles() {
+        for tile in self.existing() {
             let index = self.tile_index(tile);
             for place in 0..self.spread {
                 let q = if self.has(Fault::DimensionsFalling) { self.spread - 1 - place } else { place };
@@ -589,7 +756,8 @@ impl<'a> View<'a> {
     /// all messages of the direct route in order
     fn direct(&self) -> Messages {
         let mut messages = vec![];
-        for tile in 0..self.tiles() {
+        let existing = self.existing();
+        for &tile in &existing {
             let index = self.tile_index(tile);
             for direction in self.directions() {
                 let held = self.held(&index, &direction);
@@ -600,7 +768,15 @@ impl<'a> View<'a> {
                 for j in 0..self.spread {
                     taker[j] += direction[j];
                 }
-                let mut taker = self.tile_number(&taker);
+                // the first tile at or behind t + v that exists and has its spread components
+                let column = |other: &&u64| (0..self.spread).all(|j| self.tile_index(**other)[j] == taker[j]);
+                let aim = self.tile_number(&taker);
+                let found = existing.iter().filter(|&&other| other >= aim).find(column).copied();
+                if self.has(Fault::EmptyTakerDropped) && found != Some(aim) {
+                    continue;
+                }
+                // there is none only if cells are mailed that nobody reads
+                let Some(mut taker) = found else { continue };
                 let readers = || self.reading_tiles(&index, &direction, &held);
                 if self.has(Fault::UnreadLeftOut) && !readers().contains(&taker) {
                     continue;
@@ -626,11 +802,17 @@ impl<'a> View<'a> {
         Rc::new(messages)
     }
 
+    fn boundary(&self) -> u64 {
+        self.half(self.close(), 4) + 65536 * self.half(self.close(), 6)
+    }
+
     fn value(&self, source: &[u32], values: &[u32], number: u64) -> u32 {
         let cell = self.cell(number);
         let close = self.close();
-        let boundary =
-            if self.has(Fault::BoundaryZero) { 0 } else { self.half(close, 4) + 65536 * self.half(close, 6) };
+        let boundary = if self.has(Fault::BoundaryZero) { 0 } else { self.boundary() };
+        if !self.within(&cell) {
+            return self.boundary() as u32;
+        }
         let mut sum = u128::from(source[number as usize]);
         for d in 0..self.distances {
             let mut from = Some(cell);
@@ -640,7 +822,7 @@ impl<'a> View<'a> {
                     Some(index)
                 });
             }
-            let word = match from {
+            let word = match from.filter(|index| self.within(index)) {
                 Some(index) => u64::from(values[self.join(&index, &|j| self.length(j), self.n) as usize]),
                 None => boundary,
             };
@@ -650,6 +832,84 @@ impl<'a> View<'a> {
             sum %= 1 << 32;
         }
         (sum / (1 << self.byte(close, 1)) % (1 << 32)) as u32
+    }
+}
+
+/// a signed number in decimal, digit by digit
+fn decimal(number: i64) -> Vec<u8> {
+    let mut digits = vec![];
+    let mut rest = number.unsigned_abs();
+    while digits.is_empty() || rest != 0 {
+        digits.push(b'0' + (rest % 10) as u8);
+        rest /= 10;
+    }
+    if number < 0 {
+        digits.push(b'-');
+    }
+    digits.reverse();
+    digits
+}
+
+impl View<'_> {
+    /// the chart's bytes, one after the other
+    fn chart(&self, grid: &[u32], corners: [i32; 2], cell_size: u32) -> Vec<u8> {
+        let sign = |corner: i32| {
+            if self.has(Fault::CornersUnsigned) {
+                i64::from(corner as u32)
+            } else {
+                i64::from(corner)
+            }
+        };
+        let (mut rows, mut columns) = (self.length(0), self.length(1));
+        if self.has(Fault::ColumnsRowsSwapped) {
+            (rows, columns) = (columns, rows);
+        }
+        let heads: [(&[u8], i64); 6] = [
+            (b"ncols", columns as i64),
+            (b"nrows", rows as i64),
+            (b"xllcorner", sign(corners[0])),
+            (b"yllcorner", sign(corners[1])),
+            (b"cellsize", i64::from(cell_size)),
+            (b"NODATA_value", -9999),
+        ];
+        let mut bytes = vec![];
+        for (name, number) in heads {
+            bytes.extend(name);
+            bytes.push(b' ');
+            bytes.extend(decimal(number));
+            bytes.push(b'\n');
+        }
+        for row in 0..self.length(0) {
+            let row = if self.has(Fault::LastRowFirst) { self.length(0) - 1 - row } else { row };
+            for column in 0..self.length(1) {
+                if column != 0 {
+                    bytes.push(b' ');
+                }
+                let shown = self.within(&[row, column, 0, 0]) || self.has(Fault::OutsideShown);
+                let word = i64::from(grid[(row * self.length(1) + column) as usize]);
+                bytes.extend(decimal(if shown { word } else { -9999 }));
+            }
+            bytes.push(b'\n');
+        }
+        bytes
+    }
+
+    /// the chart, after the lines up to the length of the grid
+    fn charted(&self, grid: &[u32], corners: [i32; 2], cell_size: u32, out: &[u32]) -> Result<Vec<u8>, u32> {
+        let area = || grid.len() as u64 != self.cells() || out.len() != CHART_WORDS;
+        let number = match self.read() {
+            0 => first(&[
+                (9, &|| self.has(Fault::ChartBehindArea) && area()),
+                (23, &|| self.n != 2 || cell_size == 0 || cell_size > 65535),
+                (9, &area),
+            ]),
+            number => number,
+        };
+        if number == 0 {
+            Ok(self.chart(grid, corners, cell_size))
+        } else {
+            Err(number)
+        }
     }
 }
 
@@ -755,7 +1015,12 @@ impl Made<'_> {
     /// every cell from the memory of its tile's processor
     fn copy(&self, areas: &Areas, grid: &mut [u32]) {
         for (cell, word) in grid.iter_mut().enumerate() {
-            let tile = self.view.tile_number(&self.view.tile_at(&self.view.cell(cell as u64)));
+            let index = self.view.cell(cell as u64);
+            if !self.view.within(&index) {
+                *word = self.view.boundary() as u32;
+                continue;
+            }
+            let tile = self.view.tile_number(&self.view.tile_at(&index));
             let processor = if self.view.has(Fault::CollectFirst) { 0 } else { self.view.processor(tile) };
             *word = areas.memories[processor as usize * self.view.cells() as usize + cell];
         }
@@ -791,6 +1056,13 @@ impl Made<'_> {
             }
             areas.status[message] = 3;
         }
+        if self.view.has(Fault::GatherTakesAll) {
+            for (m, message) in self.messages.iter().enumerate() {
+                if areas.status[m] == 2 && self.view.processor(message.1) == u64::from(processor) {
+                    areas.status[m] = 3;
+                }
+            }
+        }
         if self.view.has(Fault::HomeCellsUnpacked) {
             for (place, cell) in self.view.home_cells(self.tile(areas, processor)).into_iter().enumerate() {
                 let word = areas.buffer.get(place).copied().unwrap_or(0);
@@ -805,7 +1077,8 @@ impl Made<'_> {
         let tile = self.tile(areas, processor);
         let mut memory = areas.memories[processor as usize * cells..][..cells].to_vec();
         for cell in 0..self.view.cells() {
-            if self.view.tile_number(&self.view.tile_at(&self.view.cell(cell))) == tile {
+            let index = self.view.cell(cell);
+            if self.view.tile_number(&self.view.tile_at(&index)) == tile && self.view.within(&index) {
                 memory[cell as usize] = self.view.value(&areas.source, &memory, cell);
             }
         }
@@ -818,8 +1091,14 @@ impl Made<'_> {
         let tile = self.tile(areas, processor);
         let sent = areas.progress[processor as usize].sent;
         let Some(&message) = self.sends(tile).get(sent as usize) else { return };
+        let mut offset = self.offset(message);
+        if self.view.has(Fault::MailInSendingOrder) {
+            let under_way = (0..self.messages.len()).filter(|&m| areas.status[m] != 0);
+            offset = under_way.map(|m| self.messages[m].2.len()).sum();
+            offset = offset.min(areas.buffer.len() - self.messages[message].2.len());
+        }
         for (place, &cell) in self.messages[message].2.iter().enumerate() {
-            areas.buffer[self.offset(message) + place] = areas.memories[processor as usize * cells + cell as usize];
+            areas.buffer[offset + place] = areas.memories[processor as usize * cells + cell as usize];
         }
         if !(self.view.has(Fault::SendKeepsTaken) && areas.status[message] == 3) {
             areas.status[message] = 1;
@@ -833,6 +1112,168 @@ impl Made<'_> {
             *record = Progress { stage: 2, sent, ..*record };
         } else {
             *record = Progress { finished: record.finished + 1, stage: 0, sent: 0 };
+        }
+    }
+}
+
+/// a lent table of hours and a minute
+#[derive(Clone, Copy)]
+struct Hours<'a> {
+    table: &'a [u32],
+    minute: u32,
+    fault: Option<Fault>,
+}
+
+impl Hours<'_> {
+    /// the windows of a processor, those of no use left out
+    fn windows(&self, processor: u32) -> Vec<(u32, u32)> {
+        let none = |open: u32| open == 0 && self.fault == Some(Fault::OpenAtZeroNone);
+        let from = processor as usize * HOURS_WORDS;
+        let pairs = (from..from + HOURS_WORDS).step_by(2).map(|at| (self.table[at], self.table[at + 1]));
+        pairs.filter(|&(open, close)| (open, close) != (0, 0) && !none(open)).collect()
+    }
+
+    fn faulty(&self, processor: u32) -> bool {
+        let own = self.fault == Some(Fault::OwnWindowsOnly) && (processor as usize) < self.table.len() / HOURS_WORDS;
+        let processors = if own { processor..processor + 1 } else { 0..(self.table.len() / HOURS_WORDS) as u32 };
+        let bad = |&(open, close): &(u32, u32)| open > 10079 || close > 10080 || open >= close;
+        processors.into_iter().any(|p| self.windows(p).iter().any(bad)) || self.minute > 10079
+    }
+
+    fn shut(&self, processor: u32) -> bool {
+        self.wait(processor) != Some(0)
+    }
+
+    /// the minutes until the first window that is open or opens
+    fn wait(&self, processor: u32) -> Option<u32> {
+        let until = |(open, close): (u32, u32)| {
+            let close = if self.fault == Some(Fault::CloseIncluded) { close + 1 } else { close };
+            if open <= self.minute && self.minute < close {
+                Some(0)
+            } else if self.minute < open {
+                Some(open - self.minute)
+            } else if self.fault == Some(Fault::WeekEnds) {
+                None
+            } else {
+                Some(10080 - self.minute + open)
+            }
+        };
+        self.windows(processor).into_iter().filter_map(until).min()
+    }
+}
+
+impl Made<'_> {
+    /// the lines of a turn behind 10: on hours and office, where it has them
+    fn turn_lines(&self, areas: &Areas, hours: Option<Hours>, held: bool, processor: u32) -> u32 {
+        let has = |fault| self.view.has(fault);
+        let left = || self.left(areas, processor);
+        let engaged = || held && (left() || has(Fault::EngagedThoughFinished));
+        let shut = || hours.is_some_and(|hours| hours.shut(processor));
+        first(&[
+            (25, &|| hours.is_some_and(|hours| hours.faulty(processor))),
+            (11, &|| u64::from(processor) >= self.view.processors()),
+            (19, &|| has(Fault::EngagedBeforeClosed) && engaged()),
+            (13, &|| has(Fault::ClosedBehindFinished) && !left()),
+            (24, &shut),
+            (12, &|| has(Fault::EngagedBehindWaiting) && self.waiting(areas, processor)),
+            (19, &engaged),
+            (12, &|| self.waiting(areas, processor)),
+            (13, &|| !left()),
+        ])
+    }
+
+    fn bad_table(&self, hours: Option<Hours>) -> bool {
+        hours.is_some_and(|hours| hours.table.len() as u64 != self.view.processors() * HOURS_WORDS as u64)
+    }
+
+    /// a turn for an office, with hours or without
+    fn office_turn(
+        &self, areas: &mut Areas, engaged: &mut [u32], other: &[Progress], hours: Option<Hours>, office: u32,
+        processor: u32,
+    ) -> u32 {
+        if self.bad_table(hours) {
+            return 9;
+        }
+        let lines = self.office_lines(areas, engaged, other, office);
+        if lines != 0 {
+            return lines;
+        }
+        let p = processor as usize;
+        let held = engaged.get(p) == Some(&(1 - office));
+        let number = self.turn_lines(areas, hours, held, processor);
+        if number == 0 {
+            let stage = areas.progress[p].stage;
+            self.act(areas, processor);
+            if stage == 0 {
+                engaged[p] = office;
+            } else if areas.progress[p].stage == 0 && !(stage == 2 && self.view.has(Fault::SendKeepsEngaged)) {
+                engaged[p] = 2;
+            }
+        }
+        number
+    }
+}
+
+impl Made<'_> {
+    /// the tiles that a tile waits for: those that mail to it, and the one before it on its processor
+    fn waits_for(&self, tile: u64) -> Vec<u64> {
+        let has = |fault| self.view.has(fault);
+        let own = self.view.tiles_of(self.view.processor(tile));
+        let before = own.into_iter().rfind(|&earlier| earlier < tile).filter(|_| !has(Fault::TileBeforeForgotten));
+        let mut senders: Vec<u64> = self.dues(tile).into_iter().map(|message| self.messages[message].0).collect();
+        if has(Fault::FirstSenderOnly) {
+            senders.truncate(1);
+        }
+        senders.into_iter().chain(before).collect()
+    }
+
+    /// every tile's round: all are 1, and are raised until none stands before or beside what it waits for
+    fn tile_rounds(&self) -> Vec<u32> {
+        let tiles = self.view.existing();
+        let place = |tile: u64| tiles.iter().position(|&other| other == tile).expect("it exists");
+        let waits: Vec<Vec<usize>> =
+            tiles.iter().map(|&tile| self.waits_for(tile).into_iter().map(place).collect()).collect();
+        let mut rounds = vec![1; tiles.len()];
+        let mut settled = false;
+        while !settled {
+            settled = true;
+            for tile in (0..tiles.len()).rev() {
+                for &earlier in &waits[tile] {
+                    if rounds[tile] <= rounds[earlier] {
+                        rounds[tile] = rounds[earlier] + 1;
+                        settled = false;
+                    }
+                }
+            }
+        }
+        rounds
+    }
+
+    /// the rounds of a run; each processor that is ready does its tile to the end
+    fn drive(&self, areas: &mut Areas) -> u32 {
+        let mut rounds = 0;
+        let deliver = |areas: &mut Areas| areas.status.iter_mut().filter(|s| **s == 1).for_each(|s| *s = 2);
+        loop {
+            let processors = 0..self.view.processors() as u32;
+            let ready = |areas: &Areas, p: u32| self.left(areas, p) && !self.waiting(areas, p);
+            let at_start: Vec<bool> = processors.clone().map(|p| ready(areas, p)).collect();
+            if !at_start.contains(&true) {
+                return rounds + u32::from(self.view.has(Fault::EmptyRoundCounted));
+            }
+            rounds += 1;
+            for p in processors {
+                let within = self.view.has(Fault::MailWithinRound);
+                if if within { ready(areas, p) } else { at_start[p as usize] } {
+                    self.act(areas, p);
+                    while areas.progress[p as usize].stage != 0 {
+                        self.act(areas, p);
+                    }
+                }
+                if within {
+                    deliver(areas);
+                }
+            }
+            deliver(areas);
         }
     }
 }
@@ -865,6 +1306,7 @@ impl Naive {
     /// refused recipes answered, the rest made
     fn made<'a>(&self, bytes: &'a [u8], route: Route) -> Result<Made<'a>, u32> {
         match self.view(bytes).read() {
+            0 if self.view(bytes).no_way(route) => Err(21),
             0 => Ok(Made { view: self.view(bytes), messages: self.messages(bytes, route) }),
             number => Err(number),
         }
@@ -936,6 +1378,9 @@ impl Engine for Naive {
         ]);
         if number == 0 {
             areas.status[message as usize] = 2;
+            if self.fault == Some(Fault::EarlierDeliveredToo) {
+                areas.status[..message as usize].iter_mut().filter(|s| **s == 1).for_each(|s| *s = 2);
+            }
         }
         number
     }
@@ -994,8 +1439,8 @@ impl Engine for Naive {
             return 9;
         }
         let Some((sender, taker, held)) = made.messages.get(message as usize) else { return 11 };
-        out[0] = *sender as u32;
-        out[1] = *taker as u32;
+        out[0] = made.view.dense(*sender) as u32;
+        out[1] = made.view.dense(*taker) as u32;
         out[2] = made.view.processor(*sender) as u32;
         out[3] = made.view.processor(*taker) as u32;
         out[4] = held.len() as u32;
@@ -1039,29 +1484,7 @@ impl Engine for Naive {
             Ok(made) => made,
             Err(number) => return number,
         };
-        let lines = made.office_lines(areas, engaged, other, office);
-        if lines != 0 {
-            return lines;
-        }
-        let p = processor as usize;
-        let left = || made.left(areas, processor) || self.fault == Some(Fault::EngagedThoughFinished);
-        let number = first(&[
-            (11, &|| u64::from(processor) >= made.view.processors()),
-            (12, &|| self.fault == Some(Fault::EngagedBehindWaiting) && made.waiting(areas, processor)),
-            (19, &|| left() && engaged[p] == 1 - office),
-            (12, &|| made.waiting(areas, processor)),
-            (13, &|| !made.left(areas, processor)),
-        ]);
-        if number == 0 {
-            let stage = areas.progress[p].stage;
-            made.act(areas, processor);
-            if stage == 0 {
-                engaged[p] = office;
-            } else if areas.progress[p].stage == 0 && !(stage == 2 && self.fault == Some(Fault::SendKeepsEngaged)) {
-                engaged[p] = 2;
-            }
-        }
-        number
+        made.office_turn(areas, engaged, other, None, office, processor)
     }
 
     fn office_deliver(
@@ -1114,6 +1537,162 @@ impl Engine for Naive {
             out[1] = view.cells() as u32;
         }
         number
+    }
+
+    fn soundings(&self, encoded: &[u8], file: &[u8], value: u32, source: &mut [u32]) -> u32 {
+        let has = |fault| self.fault == Some(fault);
+        let view = self.view(encoded);
+        let ragged = file.len() % 16 != 0;
+        let field = |record: usize, j: usize| {
+            let at = 16 * record + 4 * j;
+            (0..4).fold(0, |word, byte| word + (i64::from(file[at + byte]) << (8 * byte)))
+        };
+        let records = file.len() / 16;
+        let stray = |record: usize| {
+            let cell = field(record, 0);
+            cell >= view.cells() as i64 || (has(Fault::SoundingOutsideShape) && !view.within(&view.cell(cell as u64)))
+        };
+        let number = first(&[(1, &|| ragged && !has(Fault::RaggedFileLate)), (view.read(), &|| true)]);
+        let number = match number {
+            0 => first(&[
+                (1, &|| ragged),
+                (9, &|| source.len() as u64 != view.cells()),
+                (22, &|| (0..records).any(stray)),
+            ]),
+            number => number,
+        };
+        if number != 0 {
+            return number;
+        }
+        let key = |record: usize| {
+            let (mut day, survey) = (field(record, 1), field(record, 2));
+            if has(Fault::DaysSigned) && day >= 1 << 31 {
+                day -= 1 << 32;
+            }
+            if has(Fault::SurveyBeforeDay) {
+                [survey, day]
+            } else {
+                [day, survey]
+            }
+        };
+        for (cell, word) in source.iter_mut().enumerate() {
+            let mut best: Option<usize> = None;
+            for record in (0..records).filter(|&record| field(record, 0) == cell as i64) {
+                let better = |old| key(record) > key(old) || (key(record) == key(old) && !has(Fault::EarliestCounts));
+                if best.is_none_or(better) {
+                    best = Some(record);
+                }
+            }
+            match best {
+                Some(record) => *word = field(record, 3) as u32,
+                None if has(Fault::UnsoundedKept) => {}
+                None => *word = value,
+            }
+        }
+        0
+    }
+
+    fn chart(
+        &self, encoded: &[u8], grid: &[u32], corners: [i32; 2], cell_size: u32, space: &mut [u8], out: &mut [u32],
+    ) -> u32 {
+        match self.view(encoded).charted(grid, corners, cell_size, out) {
+            Err(number) => number,
+            Ok(text) if text.len() > space.len() => 9,
+            Ok(text) => {
+                for (at, byte) in space.iter_mut().enumerate() {
+                    match text.get(at) {
+                        Some(&letter) => *byte = letter,
+                        None if self.fault == Some(Fault::TailCleared) => *byte = 0,
+                        None => {}
+                    }
+                }
+                out[0] = text.len() as u32;
+                0
+            }
+        }
+    }
+
+    fn chart_length(&self, encoded: &[u8], grid: &[u32], corners: [i32; 2], cell_size: u32, out: &mut [u32]) -> u32 {
+        match self.view(encoded).charted(grid, corners, cell_size, out) {
+            Err(number) => number,
+            Ok(text) => {
+                out[0] = text.len() as u32;
+                0
+            }
+        }
+    }
+
+    fn turn_at(
+        &self, encoded: &[u8], route: Route, areas: &mut Areas, hours: &[u32], minute: u32, processor: u32,
+    ) -> u32 {
+        let made = match self.made(encoded, route) {
+            Ok(made) => made,
+            Err(number) => return number,
+        };
+        let hours = Some(Hours { table: hours, minute, fault: self.fault });
+        let number = first(&[(9, &|| made.area(areas) || made.bad_table(hours)), (10, &|| made.unfit(areas, None))]);
+        let number = if number == 0 { made.turn_lines(areas, hours, false, processor) } else { number };
+        if number == 0 {
+            made.act(areas, processor);
+        }
+        number
+    }
+
+    fn office_turn_at(
+        &self, encoded: &[u8], route: Route, areas: &mut Areas, engaged: &mut [u32], other: &[Progress], hours: &[u32],
+        minute: u32, office: u32, processor: u32,
+    ) -> u32 {
+        let made = match self.made(encoded, route) {
+            Ok(made) => made,
+            Err(number) => return number,
+        };
+        let hours = Some(Hours { table: hours, minute, fault: self.fault });
+        made.office_turn(areas, engaged, other, hours, office, processor)
+    }
+
+    fn opens(&self, encoded: &[u8], hours: &[u32], minute: u32, processor: u32, out: &mut [u32]) -> u32 {
+        let view = self.view(encoded);
+        match view.read() {
+            0 => {}
+            number => return number,
+        }
+        let hours = Hours { table: hours, minute, fault: self.fault };
+        let number = first(&[
+            (9, &|| hours.table.len() as u64 != view.processors() * HOURS_WORDS as u64 || out.len() != OPENS_WORDS),
+            (25, &|| hours.faulty(processor)),
+            (11, &|| u64::from(processor) >= view.processors()),
+        ]);
+        if number == 0 {
+            let wait = hours.wait(processor);
+            out[0] = u32::from(wait.is_some());
+            out[1] = wait.unwrap_or(0);
+        }
+        number
+    }
+
+    fn rounds(&self, encoded: &[u8], areas: &mut Areas, out: &mut [u32]) -> u32 {
+        let made = match self.made(encoded, Route::Direct) {
+            Ok(made) => made,
+            Err(number) => return number,
+        };
+        if made.area(areas) || out.len() != ROUNDS_WORDS {
+            return 9;
+        }
+        assert_eq!(self.fresh(encoded, Route::Direct, areas), 0);
+        out[0] = made.drive(areas);
+        0
+    }
+
+    fn rounds_of(&self, encoded: &[u8], rounds: &mut [u32]) -> u32 {
+        let made = match self.made(encoded, Route::Direct) {
+            Ok(made) => made,
+            Err(number) => return number,
+        };
+        if rounds.len() as u64 != made.view.tiles() {
+            return 9;
+        }
+        rounds.copy_from_slice(&made.tile_rounds());
+        0
     }
 
     /// reading alone: the messages of a large recipe would take long

@@ -4,7 +4,7 @@
 //! the tile is to the end of each dimension, and there to its beginning, so one row is counted for each kind of tile
 //! and copied.
 
-use crate::engine::{Areas, Engine, Progress, Route, HOPS_WORDS, MESSAGE_WORDS, SUMMARY_WORDS};
+use crate::engine::{Areas, Engine, Progress, Request, Route, HOPS_WORDS, MESSAGE_WORDS, SUMMARY_WORDS};
 use crate::wavefront::Wavefront;
 use std::cmp::Ordering;
 
@@ -683,6 +683,28 @@ impl<'a> Plan<'a> {
     }
 }
 
+const CELLS: usize = 16384;
+
+/// the source from a file of soundings: one pass, the greatest day and survey of each cell kept beside its depth
+fn soundings(file: &[u8], value: u32, source: &mut [u32]) -> Result<(), u32> {
+    let mut keys = [0u64; CELLS];
+    let mut depths = [value; CELLS];
+    for record in file.chunks_exact(16) {
+        let word = |at: usize| u32::from_le_bytes([record[at], record[at + 1], record[at + 2], record[at + 3]]);
+        let cell = word(0) as usize;
+        if cell >= source.len() {
+            return Err(22);
+        }
+        let key = u64::from(word(4)) << 32 | u64::from(word(8));
+        if key >= keys[cell] {
+            keys[cell] = key;
+            depths[cell] = word(12);
+        }
+    }
+    source.copy_from_slice(&depths[..source.len()]);
+    Ok(())
+}
+
 /// `Err(number)` where the line is true
 fn refused(line: bool, number: u32) -> Result<(), u32> {
     if line {
@@ -710,6 +732,10 @@ impl Engine for Plain {
             Rows::Single => "plain Rust".into(),
             Rows::Wavefront => "wavefront".into(),
         }
+    }
+
+    fn has(&self, request: Request) -> bool {
+        request == Request::Soundings
     }
 
     fn fresh(&self, encoded: &[u8], route: Route, areas: &mut Areas) -> u32 {
@@ -819,5 +845,14 @@ impl Engine for Plain {
             out[0] = ((slot % plan.nest.directions + 1) & plan.nest.wired).count_ones();
             Ok(())
         })
+    }
+
+    fn soundings(&self, encoded: &[u8], file: &[u8], value: u32, source: &mut [u32]) -> u32 {
+        let filled = refused(file.len() % 16 != 0, 1).and_then(|()| {
+            let nest = read(encoded)?;
+            refused(source.len() != nest.cells, 9)?;
+            soundings(file, value, source)
+        });
+        filled.err().unwrap_or(0)
     }
 }

@@ -2,11 +2,22 @@
 
 use crate::rng::Rng;
 
+/// a bound of one dimension by an earlier one (W-209): lower where the side is 0, upper where it is 1
+#[derive(Clone, Copy, Debug, PartialEq, Eq)]
+pub struct Bound {
+    pub side: u8,
+    pub dimension: u8,
+    pub earlier: u8,
+    pub slope: i8,
+    pub offset: i16,
+}
+
 /// the numbers of a recipe, before they become bytes
 #[derive(Clone, Debug, PartialEq, Eq)]
 pub struct Numbers {
     /// length, tile length, processors
     pub dimensions: Vec<[u16; 3]>,
+    pub bounds: Vec<Bound>,
     /// components, weight
     pub distances: Vec<([u16; 4], u16)>,
     pub shift: u8,
@@ -22,10 +33,17 @@ impl Numbers {
         };
         Numbers {
             dimensions: dimensions.to_vec(),
+            bounds: vec![],
             distances: distances.iter().map(four).collect(),
             shift: 0,
             boundary: 0,
         }
+    }
+
+    /// the same with bounds: side, dimension, earlier dimension, slope, offset
+    pub fn within(self, bounds: &[(u8, u8, u8, i8, i16)]) -> Numbers {
+        let bound = |&(side, dimension, earlier, slope, offset): &_| Bound { side, dimension, earlier, slope, offset };
+        Numbers { bounds: bounds.iter().map(bound).collect(), ..self }
     }
 
     pub fn bytes(&self) -> Vec<u8> {
@@ -33,6 +51,11 @@ impl Numbers {
         for dimension in &self.dimensions {
             bytes.extend([1, 0]);
             dimension.iter().for_each(|number| bytes.extend(number.to_le_bytes()));
+            bytes.extend([0; 8]);
+        }
+        for Bound { side, dimension, earlier, slope, offset } in &self.bounds {
+            bytes.extend([5, *side, *dimension, *earlier, *slope as u8, 0]);
+            bytes.extend(offset.to_le_bytes());
             bytes.extend([0; 8]);
         }
         for (components, weight) in &self.distances {
@@ -73,6 +96,35 @@ pub struct Limits {
 pub fn random(rng: &mut Rng, limits: Limits) -> Numbers {
     // mostly two or three spread dimensions, so that mail goes round corners
     let n = rng.of(&[2, 3, 3, 4, 4]);
+    random_of(rng, limits, n, &random_tile)
+}
+
+/// one of two dimensions
+pub fn flat(rng: &mut Rng, limits: Limits, shaped: bool) -> Numbers {
+    let mut numbers = random_of(rng, limits, 2, &random_tile);
+    if shaped {
+        bound(rng, &mut numbers);
+    }
+    numbers
+}
+
+/// a recipe with bounds, and often with tiles so small that whole ones are cut off
+pub fn shape(rng: &mut Rng, limits: Limits) -> Numbers {
+    let small = limits.cells <= 1024 && !rng.one_in(3);
+    let n = rng.of(&[2, 2, 3]);
+    let mut numbers = if small { random_of(rng, limits, n, &|rng, _| rng.between(1, 2)) } else { random(rng, limits) };
+    if rng.one_in(3) {
+        // a staircase: the further on in a spread dimension, the more of the first tiles is cut off
+        let (first, last) = (numbers.dimensions[0][0], numbers.dimensions.len() as u8 - 1);
+        let offset = -(rng.below(usize::from(first).min(3)) as i16);
+        numbers.bounds.push(Bound { side: 0, dimension: last, earlier: 0, slope: 1, offset });
+    } else {
+        bound(rng, &mut numbers);
+    }
+    numbers
+}
+
+fn random_of(rng: &mut Rng, limits: Limits, n: usize, tile: &dyn Fn(&mut Rng, usize) -> usize) -> Numbers {
     let spread = if rng.one_in(4) { rng.between(1, n - 1) } else { n - 1 };
     let cells = if rng.one_in(3) { limits.cells } else { rng.between(1, limits.cells) };
     let mut lengths = random_lengths(rng, n, cells);
@@ -81,7 +133,7 @@ pub fn random(rng: &mut Rng, limits: Limits) -> Numbers {
         lengths.fill(1);
         lengths[rng.below(n)] = rng.between(257, limits.cells.min(1024));
     }
-    let tiles: Vec<usize> = lengths.iter().map(|&length| random_tile(rng, length)).collect();
+    let tiles: Vec<usize> = lengths.iter().map(|&length| tile(rng, length)).collect();
     let distances = random_distances(rng, &tiles);
     let mut dimensions: Vec<[u16; 3]> = (0..n).map(|j| [lengths[j] as u16, tiles[j] as u16, 0]).collect();
     let mut room = (limits.words / lengths.iter().product::<usize>()).clamp(1, 64);
@@ -97,7 +149,38 @@ pub fn random(rng: &mut Rng, limits: Limits) -> Numbers {
         dimension[2] = count as u16;
         room /= count;
     }
-    Numbers { dimensions, distances, shift: random_shift(rng), boundary: rng.any_word() }
+    Numbers { dimensions, bounds: vec![], distances, shift: random_shift(rng), boundary: rng.any_word() }
+}
+
+/// bounds, one to four, which leave a cell: slopes up, down and none, often of both sides, near that cell or far from it
+fn bound(rng: &mut Rng, numbers: &mut Numbers) {
+    let n = numbers.dimensions.len();
+    let kept: Vec<i32> = numbers.dimensions.iter().map(|d| rng.below(usize::from(d[0])) as i32).collect();
+    // bounds that cut nothing, that leave little, or a bit of each
+    let usual = rng.of(&[0, 1, 2, 3]);
+    let count = rng.of(&[1, 1, 2, 2, 3, 4]);
+    let mut last = None;
+    while numbers.bounds.len() < count {
+        let dimension = if rng.one_in(2) { n - 1 } else { rng.between(1, n - 1) };
+        let (mut dimension, mut earlier) = (dimension as u8, rng.below(dimension) as u8);
+        let (mut side, mut slope) = (rng.below(2) as u8, rng.of(&[-1, 0, 1, 1]));
+        // often the other side of a band
+        if let Some(Bound { side: s, dimension: d, earlier: e, slope: a, .. }) = last.filter(|_| rng.one_in(2)) {
+            (side, dimension, earlier, slope) = (1 - s, d, e, a);
+        }
+        let length = usize::from(numbers.dimensions[usize::from(dimension)][0]);
+        let room = match if rng.one_in(4) { rng.below(4) } else { usual } {
+            0 => 0,
+            1 => rng.below(length.min(3)),
+            2 => rng.below(length),
+            _ => rng.of(&[length, 1024, 2047, 30000]),
+        } as i32;
+        let line = kept[usize::from(dimension)] - i32::from(slope) * kept[usize::from(earlier)];
+        let offset = if side == 0 { line - room } else { line + room };
+        let bound = Bound { side, dimension, earlier, slope, offset: offset.clamp(-32768, 32767) as i16 };
+        last = Some(bound);
+        numbers.bounds.push(bound);
+    }
 }
 
 fn random_shift(rng: &mut Rng) -> u8 {
@@ -170,7 +253,7 @@ fn random_distances(rng: &mut Rng, tiles: &[usize]) -> Vec<([u16; 4], u16)> {
 }
 
 /// a recipe at the limits of the format: most cells, tiles, processors, distances, the longest of each
-pub fn extreme(rng: &mut Rng) -> Numbers {
+pub fn extreme(rng: &mut Rng, shaped: bool) -> Numbers {
     let shapes: [&[[u16; 3]]; 12] = [
         &[[128, 16, 8], [128, 16, 0]],
         &[[1024, 1, 64], [16, 16, 0]],
@@ -188,25 +271,83 @@ pub fn extreme(rng: &mut Rng) -> Numbers {
     let dimensions = rng.of(&shapes).to_vec();
     let tiles: Vec<usize> = dimensions.iter().map(|d| usize::from(d[1])).collect();
     let distances = random_distances(rng, &tiles);
-    Numbers { dimensions, distances, shift: random_shift(rng), boundary: rng.any_word() }
+    let (shift, boundary) = (random_shift(rng), rng.any_word());
+    let mut numbers = Numbers { dimensions, bounds: vec![], distances, shift, boundary };
+    if shaped {
+        bound(rng, &mut numbers);
+    }
+    numbers
 }
 
-/// one fault of lines 2 to 8 of the table, or several
-pub fn faulty(rng: &mut Rng, mut numbers: Numbers) -> Numbers {
+/// one fault of lines 2 to 8 of the table, or several; of bounds too where there may be shapes
+pub fn faulty(rng: &mut Rng, mut numbers: Numbers, shapes: bool) -> Numbers {
     let faults = rng.of(&[1, 1, 1, 2, 2, 3]);
     for _ in 0..faults {
-        damage_numbers(rng, &mut numbers);
+        if shapes && rng.one_in(3) {
+            damage_bounds(rng, &mut numbers);
+        } else {
+            damage_numbers(rng, &mut numbers);
+        }
     }
     numbers
 }
 
 /// their bytes, sometimes damaged too: a fault of any line of the table
-pub fn damaged(rng: &mut Rng, faulty: &Numbers) -> Vec<u8> {
+pub fn damaged(rng: &mut Rng, faulty: &Numbers, shapes: bool) -> Vec<u8> {
     let mut bytes = faulty.bytes();
     if rng.one_in(3) {
         damage_bytes(rng, &mut bytes);
     }
+    if !shapes {
+        // no bound by chance
+        bytes.iter_mut().step_by(16).filter(|kind| **kind == 5).for_each(|kind| *kind = 255);
+    }
     bytes
+}
+
+fn damage_bounds(rng: &mut Rng, numbers: &mut Numbers) {
+    let n = numbers.dimensions.len();
+    if n < 2 || numbers.dimensions.iter().any(|d| d[0] == 0 || d[0] > 1024) {
+        return;
+    }
+    if numbers.bounds.is_empty() {
+        bound(rng, numbers);
+    }
+    let count = numbers.bounds.len();
+    let b = rng.below(count);
+    let side = numbers.bounds[b].side;
+    let chosen = &mut numbers.bounds[b];
+    match rng.below(12) {
+        0 => chosen.side = rng.of(&[2, 3, 255]),
+        1 => chosen.dimension = rng.of(&[0, n as u8 - 1, n as u8, 4, 255]),
+        2 => chosen.earlier = rng.of(&[chosen.dimension, chosen.dimension.wrapping_add(1), 3, 255]),
+        3 => chosen.slope = rng.of(&[2, -2, 127, -128, 0]),
+        // a count about the limit
+        4 | 5 => {
+            let (copy, count) = (*chosen, rng.of(&[4, 5]));
+            numbers.bounds.resize(count, copy);
+        }
+        // no cell is left, or few
+        6 | 7 => chosen.offset = if side == 0 { rng.of(&[32767, 1024, 5]) } else { rng.of(&[-32768, -1, 0]) },
+        8 => chosen.offset = rng.of(&[32767, -32768, -1, 0, 1, 255, 256]),
+        // a bound of the other side just beyond this one
+        9 if count < 4 => {
+            let offset = chosen.offset.saturating_add(if side == 0 { -1 } else { 1 });
+            let other = Bound { side: side ^ 1, offset, ..*chosen };
+            numbers.bounds.push(other);
+        }
+        // more tiles in the box than are allowed: about the border of line 8 for the shape
+        _ => {
+            numbers.dimensions = vec![[32, 1, 2], [rng.of(&[33, 34, 64]), 1, 0]];
+            numbers.distances = vec![([1, rng.below(2) as u16, 0, 0], 1)];
+            let side = rng.below(2) as u8;
+            let offset = match side {
+                0 => numbers.dimensions[1][0] as i16 - 32 - rng.below(2) as i16,
+                _ => 31 + rng.below(2) as i16,
+            };
+            numbers.bounds = vec![Bound { side, dimension: 1, earlier: 0, slope: 0, offset }];
+        }
+    }
 }
 
 fn damage_numbers(rng: &mut Rng, numbers: &mut Numbers) {
@@ -304,7 +445,7 @@ fn damage_bytes(rng: &mut Rng, bytes: &mut Vec<u8>) {
     match rng.below(9) {
         0 => bytes.clear(),
         1 => bytes.truncate(rng.below(bytes.len())),
-        2 => bytes.extend(vec![0; rng.between(1, 16)]),
+        2 => bytes.extend(vec![0; rng.of(&[1, 15, 16, 16, 32])]),
         // a kind that is another's, or nobody's
         3 => bytes[16 * rng.below(records)] = rng.of(&[0, 1, 2, 3, 4, 5, 255]),
         4 => {

@@ -416,43 +416,276 @@ fn printed(engine: &dyn Engine, encoded: &[u8], route: Route) -> String {
     text
 }
 
+/// Do the stored outputs know bounds? They do once W-209 has landed.
+const STORED_WITH_SHAPES: bool = false;
+
+/// Is a case for an engine? One with a record of kind 5 is so where both it and the stored outputs know shapes, or
+/// neither does.
+fn is_for(engine: &dyn Engine, encoded: &[u8]) -> bool {
+    engine.has(Request::Shapes) == STORED_WITH_SHAPES || encoded.chunks(16).all(|record| record[0] != 5)
+}
+
 /// The stored cases come from the models in tools/, which share nothing with those here.
 #[test]
 fn stored_plans() {
     let (cases, expected) = (stored("plan_cases/data/cases"), stored("plan_cases/stdout"));
+    let expected = String::from_utf8(expected).expect("text");
     for engine in quick_engines() {
-        let (mut rest, mut text, mut number) = (&cases[..], String::new(), 0);
+        let (mut rest, mut wanted, mut number) = (&cases[..], &expected[..], 0);
         while let [low, high, tail @ ..] = rest {
             // the highest bit of the length is the route
             let (encoded, tail) = tail.split_at(usize::from(*low) + 256 * usize::from(*high & 127));
             let route = if *high < 128 { Route::Direct } else { Route::Indirect };
-            text += &format!("case {number}\n{}", printed(&*engine, encoded, route));
-            (rest, number) = (tail, number + 1);
+            let end = wanted.find(&format!("case {}\n", number + 1)).unwrap_or(wanted.len());
+            if is_for(&*engine, encoded) {
+                let text = format!("case {number}\n{}", printed(&*engine, encoded, route));
+                assert!(text == wanted[..end], "case {number}, {}", engine.name());
+            }
+            (rest, wanted, number) = (tail, &wanted[end..], number + 1);
         }
-        assert!(text.as_bytes() == expected, "{}", engine.name());
+        assert!(wanted.is_empty(), "{}", engine.name());
     }
 }
 
 #[test]
 fn stored_recipes() {
     let (cases, expected) = (stored("nest_cases/data/cases"), stored("nest_cases/stdout"));
+    let expected = String::from_utf8(expected).expect("text");
     for engine in quick_engines() {
-        let (mut rest, mut text) = (&cases[..], String::new());
+        let (mut rest, mut wanted) = (&cases[..], expected.lines());
         while let [label, tail @ ..] = rest {
             let (label, tail) = tail.split_at(usize::from(*label));
             let (encoded, tail) = tail[2..].split_at(usize::from(tail[0]) + 256 * usize::from(tail[1]));
             // a length that fits no recipe: an accepted one gives 9
             let number = engine.summary(encoded, Route::Direct, &mut []);
-            text += &format!("{} {}\n", String::from_utf8_lossy(label), if number == 9 { 0 } else { number });
+            let line = format!("{} {}", String::from_utf8_lossy(label), if number == 9 { 0 } else { number });
+            let wanted = wanted.next().unwrap_or("");
+            assert!(line == wanted || !is_for(&*engine, encoded), "{line}, {}", engine.name());
             rest = tail;
         }
-        assert!(text.as_bytes() == expected, "{}", engine.name());
+        assert!(wanted.next().is_none(), "{}", engine.name());
     }
 }
 
 /// those engines that have what a request asks for
 fn engines_with(request: Request) -> impl Iterator<Item = Box<dyn Engine>> {
     engines().into_iter().filter(move |engine| engine.has(request))
+}
+
+#[test]
+fn shapes_in_their_box() {
+    for engine in engines_with(Request::Shapes) {
+        let name = engine.name();
+        // a triangle: the last component at most the first
+        let triangle = Numbers::new(&[[3, 1, 2], [3, 1, 0]], &[&[1, 0]]).within(&[(1, 1, 0, 1, 0)]);
+        let triangle = Numbers { boundary: 7, ..triangle };
+        assert_eq!(totals(&*engine, &triangle), Ok([6, 3, 3, 18]), "{name}");
+        let expected = [[0, 1, 0, 1, 1], [1, 3, 1, 0, 1], [2, 4, 1, 0, 1]];
+        assert_eq!(lines(&*engine, &triangle, Route::Direct), expected, "{name}");
+        let mut grid = [0; 9];
+        assert_eq!(engine.sweep(&triangle.bytes(), &[1; 9], &mut grid), 0, "{name}");
+        assert_eq!(grid, [8, 7, 7, 9, 8, 7, 10, 9, 8], "{name}");
+        // tile (1, 0) holds no cell: the next one of its column takes the message
+        let cut = Numbers::new(&[[2, 1, 2], [3, 1, 0]], &[&[1, 1]]).within(&[(0, 1, 0, 1, 0)]);
+        assert_eq!(lines(&*engine, &cut, Route::Direct), [[0, 3, 0, 1, 1], [1, 3, 0, 1, 1]], "{name}");
+        assert_eq!(hops(&*engine, &cut), [1, 1], "{name}");
+        // one cell is left, and one processor has no tile
+        let one = row('D').within(&[(0, 1, 0, 1, 0), (1, 1, 0, -1, 0)]);
+        assert_eq!(totals(&*engine, &one), Ok([1, 0, 0, 2]), "{name}");
+        for numbers in [triangle, cut, one] {
+            runs_to_the_sweep(&*engine, &numbers, Route::Direct);
+        }
+    }
+}
+
+#[test]
+fn shapes_are_refused() {
+    for engine in engines_with(Request::Shapes) {
+        let number = |bounds: &[(u8, u8, u8, i8, i16)], route| {
+            totals_by(&*engine, &row('A').within(bounds), route).err().unwrap_or(0)
+        };
+        let direct = |bounds: &[(u8, u8, u8, i8, i16)]| number(bounds, Route::Direct);
+        let nothing = (0, 1, 0, 0, -32768);
+        assert_eq!(direct(&[nothing; 4]), 0, "{}", engine.name());
+        assert_eq!(direct(&[nothing; 5]), 2, "{}", engine.name());
+        assert_eq!(number(&[nothing], Route::Indirect), 21, "{}", engine.name());
+        let faulty = [(2, 1, 0, 0, 0), (0, 0, 0, 0, 0), (0, 2, 0, 0, 0), (0, 1, 1, 0, 0), (0, 1, 0, 2, 0)];
+        for bound in faulty {
+            assert_eq!(direct(&[bound]), 2, "{bound:?}, {}", engine.name());
+        }
+        let gone = [[(0, 1, 0, 0, 8)], [(1, 1, 0, 1, -8)], [(1, 1, 0, -1, -1)]];
+        assert_eq!(gone.map(|bounds| direct(&bounds)), [20; 3], "{}", engine.name());
+        // 20 before 5, and before 21
+        let none = Numbers { distances: vec![([0; 4], 1)], ..row('A') }.within(&[(0, 1, 0, 0, 8)]);
+        assert_eq!(totals_by(&*engine, &none, Route::Indirect), Err(20), "{}", engine.name());
+        // bytes that a bound does not name, and its place behind the dimensions
+        let bytes = row('A').within(&[nothing]).bytes();
+        for at in [5, 8, 15] {
+            let mut bytes = bytes.clone();
+            bytes[32 + at] = 1;
+            assert_eq!(engine.summary(&bytes, Route::Direct, &mut [0; 4]), 2, "{}", engine.name());
+        }
+        let mut late = bytes.clone();
+        (0..16).for_each(|at| late.swap(32 + at, 48 + at));
+        assert_eq!(engine.summary(&late, Route::Direct, &mut [0; 4]), 2, "{}", engine.name());
+    }
+}
+
+/// any number of messages may be due at one tile
+#[test]
+fn many_due_at_one_tile() {
+    let sides = [[2, 1, 2], [2, 1, 0], [11, 1, 0], [31, 1, 0]];
+    let numbers = Numbers::new(&sides, &[&[1, 1, 0, 0]]).within(&[(0, 1, 0, 1, 0)]);
+    for engine in quick_engines().filter(|engine| engine.has(Request::Shapes)) {
+        assert_eq!(totals(&*engine, &numbers), Ok([1023, 341, 341, 2728]), "{}", engine.name());
+        let lines = lines(&*engine, &numbers, Route::Direct);
+        assert!(lines.iter().all(|line| line[1] == lines[0][1]), "{}", engine.name());
+        runs_to_the_sweep(&*engine, &numbers, Route::Direct);
+    }
+    // the box has more tiles than are allowed, the shape has not
+    for (offset, expected) in [(1, Ok([1024, 992, 992, 4032])), (0, Err(8))] {
+        let numbers = Numbers::new(&[[32, 1, 2], [33, 1, 0]], &[&[1, 0]]).within(&[(0, 1, 0, 0, offset)]);
+        for engine in quick_engines().filter(|engine| engine.has(Request::Shapes)) {
+            assert_eq!(totals(&*engine, &numbers), expected, "{}", engine.name());
+        }
+    }
+}
+
+#[test]
+fn soundings_fill_the_source() {
+    for engine in engines_with(Request::Soundings) {
+        let name = engine.name();
+        let fill = |records: &[[u32; 4]], tail: usize, length: usize| {
+            let mut file: Vec<u8> = records.iter().flatten().flat_map(|word| word.to_le_bytes()).collect();
+            file.extend(vec![0; tail]);
+            let mut source = vec![9; length];
+            let number = engine.soundings(&row('D').bytes(), &file, 5, &mut source);
+            (number, source)
+        };
+        assert_eq!(fill(&[], 0, 4), (0, vec![5; 4]), "{name}");
+        // the greatest day, then the greatest survey, then the latest in the file
+        let records = [[0, 2, 1, 10], [0, 1, 9, 11], [1, 3, 4, 12], [1, 3, 5, 13], [2, 6, 6, 14], [2, 6, 6, 15]];
+        assert_eq!(fill(&records, 0, 4), (0, vec![10, 13, 15, 5]), "{name}");
+        let late = [[3, 1 << 31, 0, 16], [3, (1 << 31) - 1, 7, 17], [0, 0, u32::MAX, 18], [0, 0, 1, 19]];
+        assert_eq!(fill(&late, 0, 4), (0, vec![18, 5, 5, 16]), "{name}");
+        assert_eq!(fill(&records, 3, 4), (1, vec![9; 4]), "{name}");
+        assert_eq!(fill(&[[0, 1, 1, 1], [4, 0, 0, 0]], 0, 4), (22, vec![9; 4]), "{name}");
+        assert_eq!(fill(&[[4, 0, 0, 0]], 0, 5), (9, vec![9; 5]), "{name}");
+        // a ragged file in the line of a ragged recipe
+        let refused = |tail| engine.soundings(&row('D').bytes()[..16], &vec![0; tail], 5, &mut [0; 4]);
+        assert_eq!([refused(1), refused(16)], [1, 2], "{name}");
+    }
+}
+
+#[test]
+fn grid_for_the_charting_desk() {
+    for engine in engines_with(Request::Chart) {
+        let name = engine.name();
+        let numbers = Numbers::new(&[[2, 1, 2], [3, 1, 0]], &[&[1, 0]]);
+        let chart = |numbers: &Numbers, grid: &[u32], size: u32, length: usize| {
+            let (mut space, mut told) = (vec![b'#'; length], [7]);
+            let number = engine.chart(&numbers.bytes(), grid, [-5, i32::MAX], size, &mut space, &mut told);
+            let mut alone = [7];
+            let other = engine.chart_length(&numbers.bytes(), grid, [-5, i32::MAX], size, &mut alone);
+            assert!(number != 0 || (other, alone) == (0, told), "{name}");
+            (number, told[0], String::from_utf8(space).unwrap())
+        };
+        let head = "ncols 3\nnrows 2\nxllcorner -5\nyllcorner 2147483647\ncellsize 10\nNODATA_value -9999\n";
+        let grid = [0, 10, u32::MAX, 7, 8, 9];
+        let text = format!("{head}0 10 4294967295\n7 8 9\n");
+        let length = text.len();
+        assert_eq!(chart(&numbers, &grid, 10, length), (0, length as u32, text.clone()), "{name}");
+        assert_eq!(chart(&numbers, &grid, 10, length + 2), (0, length as u32, text + "##"), "{name}");
+        assert_eq!(chart(&numbers, &grid, 10, length - 1), (9, 7, "#".repeat(length - 1)), "{name}");
+        assert_eq!(chart(&numbers, &grid[1..], 10, 900).0, 9, "{name}");
+        // 23 before 9
+        let cube = Numbers::new(&[[2, 1, 2], [3, 1, 0], [1, 1, 0]], &[&[1, 0, 0]]);
+        assert_eq!([0, 65536].map(|size| chart(&numbers, &grid, size, 0).0), [23; 2], "{name}");
+        assert_eq!([chart(&cube, &grid, 1, 0).0, chart(&numbers, &grid, 65535, 900).0], [23, 0], "{name}");
+        if engine.has(Request::Shapes) {
+            // outside the shape no word is shown, whatever it is
+            let text = format!("{head}-9999 10 4294967295\n-9999 -9999 9\n");
+            let cut = numbers.within(&[(0, 1, 0, 1, 1)]);
+            assert_eq!(chart(&cut, &grid, 10, text.len()).2, text, "{name}");
+        }
+    }
+}
+
+#[test]
+fn hours_on_row_d() {
+    for engine in engines_with(Request::Hours) {
+        let name = engine.name();
+        let numbers = row('D');
+        let encoded = numbers.bytes();
+        let mut areas = areas(&numbers, totals(&*engine, &numbers).unwrap());
+        assert_eq!(engine.fresh(&encoded, Route::Direct, &mut areas), 0, "{name}");
+        // processor 0 from 60 to below 120 and in the last hour of the week, processor 1 never
+        let mut hours = [0; 56];
+        hours[..2].copy_from_slice(&[60, 120]);
+        hours[6..8].copy_from_slice(&[10_020, 10_080]);
+        let opens = |hours: &[u32], minute, processor| {
+            let mut out = [7; 2];
+            (engine.opens(&encoded, hours, minute, processor, &mut out), out)
+        };
+        let waits = [0, 59, 60, 119, 120, 10_019, 10_020, 10_079].map(|minute| opens(&hours, minute, 0));
+        assert_eq!(waits, [60, 1, 0, 0, 9900, 1, 0, 0].map(|wait| (0, [1, wait])), "{name}");
+        assert_eq!(opens(&hours, 5, 1), (0, [0, 0]), "{name}");
+        let mut early = hours;
+        early[6..8].fill(0);
+        assert_eq!(opens(&early, 130, 0), (0, [1, 10_010]), "{name}");
+        assert_eq!([opens(&hours, 10_080, 0).0, opens(&hours, 0, 2).0, opens(&hours[1..], 0, 0).0], [25, 11, 9]);
+        let mut turn = |hours: &[u32], minute, processor| {
+            engine.turn_at(&encoded, Route::Direct, &mut areas, hours, minute, processor)
+        };
+        assert_eq!([turn(&hours, 59, 0), turn(&hours, 60, 0), turn(&hours, 120, 0)], [24, 0, 24], "{name}");
+        // closed and waiting: 24; no such processor: 11, though the minute is closed
+        assert_eq!([turn(&hours, 60, 1), turn(&hours, 0, 2), turn(&hours, 10_080, 2)], [24, 11, 25], "{name}");
+        assert_eq!([turn(&hours, 119, 0), turn(&hours, 10_079, 0)], [0, 0], "{name}");
+        // finished: 13 where it is open, 24 where it is closed
+        assert_eq!([turn(&hours, 60, 0), turn(&hours, 0, 0)], [13, 24], "{name}");
+        for window in [[1, 0], [5, 5], [6, 5], [0, 10_081], [10_080, 10_081], [10_080, 0]] {
+            let mut faulty = hours;
+            faulty[54..].copy_from_slice(&window);
+            assert_eq!([turn(&faulty, 60, 0), turn(&faulty, 60, 2)], [25; 2], "{window:?}, {name}");
+        }
+        for (window, expected) in [([0, 1], 12), ([0, 10_080], 12), ([1, 10_080], 24)] {
+            let mut sound = hours;
+            sound[54..].copy_from_slice(&window);
+            assert_eq!(turn(&sound, 0, 1), expected, "{window:?}, {name}");
+        }
+    }
+}
+
+#[test]
+fn rows_by_rounds() {
+    for engine in engines_with(Request::Rounds) {
+        let name = engine.name();
+        let driven = |letter| {
+            let numbers = row(letter);
+            let totals = totals(&*engine, &numbers).unwrap();
+            let (mut areas, mut out) = (areas(&numbers, totals), [7]);
+            let mut rounds = vec![7; totals[0] as usize];
+            assert_eq!(engine.rounds(&numbers.bytes(), &mut areas, &mut out), 0, "{name}");
+            assert_eq!(engine.rounds_of(&numbers.bytes(), &mut rounds), 0, "{name}");
+            let (mut grid, mut swept) = (vec![0; cells(&numbers)], vec![0; cells(&numbers)]);
+            assert_eq!(engine.collect(&numbers.bytes(), Route::Direct, &mut areas, &mut grid), 0, "{name}");
+            assert_eq!(engine.sweep(&numbers.bytes(), &areas.source, &mut swept), 0, "{name}");
+            assert!(grid == swept && areas.status.iter().all(|&mark| mark == 3), "{name}");
+            (out[0], rounds)
+        };
+        assert_eq!(driven('A'), (9, vec![1, 2, 3, 4, 2, 3, 4, 5, 5, 6, 7, 8, 6, 7, 8, 9]), "{name}");
+        assert_eq!(driven('B'), (3, vec![1, 2, 2, 3]), "{name}");
+        assert_eq!(driven('D'), (2, vec![1, 2]), "{name}");
+        assert_eq!(driven('E'), (3, vec![1, 2, 3]), "{name}");
+        assert_eq!(driven('F'), (2, vec![1, 2]), "{name}");
+        assert_eq!(driven('H'), (2, vec![1, 2]), "{name}");
+        let mut areas = areas(&row('D'), [2, 1, 1, 6]);
+        areas.source.push(1);
+        let before = areas.clone();
+        assert_eq!(engine.rounds(&row('D').bytes(), &mut areas, &mut [0]), 9, "{name}");
+        assert!(areas == before, "{name}");
+        assert_eq!(engine.rounds_of(&row('D').bytes(), &mut [0; 3]), 9, "{name}");
+    }
 }
 
 #[test]
@@ -516,7 +749,7 @@ const SMALL: Limits = Limits { cells: 30, words: 300 };
 #[test]
 fn naive_and_plain_agree_with_the_model() {
     let engines: [(&dyn Engine, u64, Limits); 4] = [
-        (&Naive::default(), 300, SMALL),
+        (&Naive::default(), 600, SMALL),
         (&PLAIN, 3000, SMALL),
         (&WAVEFRONT, 3000, SMALL),
         // rows long enough for four at a time, and large recipes
@@ -540,14 +773,31 @@ fn planted_faults_are_found() {
 /// those that the plain calls do not have, the model's own by the model
 #[test]
 fn trials_meet_every_number_of_the_requests() {
+    // large recipes too, whatever the number
+    assert!(differ::trials(1, 600, &Model::default(), crate::LIMITS).is_ok());
     let Ok(tally) = differ::trials(1, 6000, &Model::default(), SMALL) else { panic!("a difference") };
-    let expected: [(&str, &[usize]); 5] = [
+    let expected: [(&str, &[usize]); 19] = [
         ("fresh_both", &[0, 2, 5, 6, 9]),
         ("office_turn", &[0, 2, 5, 6, 9, 10, 11, 12, 13, 16, 17, 19]),
         ("office_deliver", &[0, 9, 10, 11, 14]),
         ("office_collect", &[0, 9, 10, 11, 15]),
         ("look", &[0, 2, 9, 11]),
+        ("soundings", &[0, 1, 2, 3, 5, 6, 8, 9, 16, 17, 20, 22]),
+        ("chart", &[0, 2, 5, 6, 9, 23]),
+        ("chart_length", &[0, 2, 5, 6, 9, 20, 23]),
+        ("turn_at", &[0, 2, 9, 10, 11, 12, 13, 24, 25]),
+        ("office_turn_at", &[0, 9, 10, 11, 12, 13, 19, 24, 25]),
+        ("opens", &[0, 2, 5, 6, 9, 11, 20, 25]),
+        ("rounds", &[0, 2, 5, 6, 9]),
+        ("rounds_of", &[0, 2, 5, 6, 9, 20]),
+        ("fresh", &[0, 20, 21]),
+        ("turn", &[0, 20, 21]),
+        ("summary", &[0, 8, 20, 21]),
+        ("hops", &[0, 20]),
+        ("sweep", &[0, 20]),
+        ("write", &[0, 2, 8, 9, 20]),
     ];
+    assert!(tally.shifted > 50 && tally.swaps > 1000, "{tally}");
     for (call, numbers) in expected {
         for &number in numbers {
             assert!(tally.count(call, number) > 0, "{call} never gave {number}\n{tally}");

@@ -348,6 +348,109 @@ fn offices(engine: &dyn Engine, rounds: usize) {
     println!();
 }
 
+/// sources from a million soundings against a loop in plain Rust (W-210)
+fn soundings(engine: &dyn Engine, rounds: usize) {
+    if !engine.has(Request::Soundings) {
+        return;
+    }
+    let name = engine.name();
+    println!("Soundings: a million records into N 128,128; aim 1.5\n");
+    println!("| records | {name} µs | plain Rust µs | ratio |");
+    println!("|---|---|---|---|");
+    let encoded = reference().bytes();
+    let cells = 128 * 128;
+    let mut rng = Rng::new(1);
+    let mut file = |cell: &dyn Fn(&mut Rng, usize) -> usize| {
+        let record = |place: usize| [cell(&mut rng, place) as u32, rng.word() % 4000, rng.word() % 100, rng.word()];
+        (0..1_000_000).flat_map(record).flat_map(u32::to_le_bytes).collect::<Vec<u8>>()
+    };
+    let files = [
+        ("cells at random", file(&|rng, _| rng.below(cells))),
+        ("track by track", file(&|_, place| place % cells)),
+        ("all in one cell", file(&|_, _| 7)),
+    ];
+    for (label, file) in files {
+        let (mut ours, mut theirs) = (vec![0; cells], vec![0; cells]);
+        let fill = |engine: &dyn Engine, source: &mut [u32]| {
+            assert_eq!(engine.soundings(black_box(&encoded), black_box(&file), 1, source), 0);
+        };
+        let functions: &mut [&mut dyn FnMut()] =
+            &mut [&mut || fill(engine, &mut ours), &mut || fill(&PLAIN, &mut theirs)];
+        let found = Rounds::new(functions, rounds);
+        let times = [0, 1].map(|at| found.time(at) / 1e3);
+        println!("| {label} | {:.0} | {:.0} | {:.2} |", times[0], times[1], found.ratio(0, 1));
+    }
+    println!();
+}
+
+/// whole runs by rounds, in plain sweeps (W-213)
+fn rounds(engine: &dyn Engine, times: usize) {
+    if !engine.has(Request::Rounds) {
+        return;
+    }
+    let name = engine.name();
+    println!("Rounds: the driver of {name} against a sweep in plain Rust, N 128,128, P 8,0, three distances\n");
+    println!("| k | rounds | driver µs | plain sweep µs | ratio | aim |");
+    println!("|---|---|---|---|---|---|");
+    for (tile, aim) in [(16, 2), (4, 10)] {
+        let numbers = Numbers::new(&[[128, tile, 8], [128, tile, 0]], &NEAR);
+        let (mut one, mut other, mut told) = (Case::new(&numbers), Case::new(&numbers), [0]);
+        let mut drive = || assert_eq!(engine.rounds(black_box(&one.encoded), &mut one.areas, &mut told), 0);
+        let functions: &mut [&mut dyn FnMut()] = &mut [&mut drive, &mut || other.sweep(&PLAIN)];
+        let found = Rounds::new(functions, times);
+        let (ours, plain) = (found.time(0) / 1e3, found.time(1) / 1e3);
+        println!("| {tile},{tile} | {} | {ours:.1} | {plain:.1} | {:.2} | {aim} |", told[0], found.ratio(0, 1));
+    }
+    println!();
+}
+
+/// recipes with bounds against their boxes (W-209)
+fn shapes(engine: &dyn Engine, rounds: usize) {
+    if !engine.has(Request::Shapes) {
+        return;
+    }
+    println!("Shapes: a recipe with bounds against its box, N 128,128, P 8,0, three distances; aim 10\n");
+    println!("| shape | what | cells | shaped µs | box µs | ratio |");
+    println!("|---|---|---|---|---|---|");
+    for (label, shaped) in shaped() {
+        let boxed = Numbers { bounds: vec![], ..shaped.clone() };
+        let cells: usize = Case::new(&shaped).plan.cells_of_tile.iter().map(Vec::len).sum();
+        let line = |what: &str, each: &dyn Fn(&mut Case, Option<&Setting>), call: Option<Call>| {
+            let (mut one, mut other) = (Case::new(&shaped), Case::new(&boxed));
+            let setting = |case: &Case| call.map(|call| case.setting(call).expect("a tile with messages"));
+            let settings = [setting(&one), setting(&other)];
+            let functions: &mut [&mut dyn FnMut()] =
+                &mut [&mut || each(&mut one, settings[0].as_ref()), &mut || each(&mut other, settings[1].as_ref())];
+            let found = Rounds::new(functions, rounds);
+            let (ours, theirs) = (found.time(0) / 1e3, found.time(1) / 1e3);
+            println!("| {label} | {what} | {cells} | {ours:.2} | {theirs:.2} | {:.2} |", found.ratio(0, 1));
+        };
+        let summary = |case: &mut Case, _: Option<&Setting>| {
+            assert_eq!(engine.summary(black_box(&case.encoded), case.route, &mut case.grid[..SUMMARY_WORDS]), 0);
+        };
+        line("summary", &summary, None);
+        line("sweep", &|case, _| case.sweep(engine), None);
+        line("whole run", &|case, _| case.whole_run(engine), None);
+        for call in [Call::Gather, Call::Calculate, Call::Send, Call::Deliver] {
+            line(&format!("{call:?}"), &|case, setting| case.call(engine, setting.expect("of this call")), Some(call));
+        }
+    }
+    println!();
+}
+
+/// the shapes that are timed: nothing cut off, a triangle, a band
+fn shaped() -> Vec<(String, Numbers)> {
+    let mut all = vec![];
+    for tile in [16, 4] {
+        let numbers = Numbers::new(&[[128, tile, 8], [128, tile, 0]], &NEAR);
+        all.push((format!("k {tile},{tile}, the whole box"), numbers.clone().within(&[(1, 1, 0, 0, 127)])));
+        all.push((format!("k {tile},{tile}, a triangle"), numbers.clone().within(&[(1, 1, 0, 1, 0)])));
+        let band = [(0, 1, 0, 1, -16), (1, 1, 0, 1, 16)];
+        all.push((format!("k {tile},{tile}, a band"), numbers.within(&band)));
+    }
+    all
+}
+
 /// recipes whose mail goes round corners
 fn corners() -> Vec<(&'static str, Numbers)> {
     let three = Numbers::new(&[[16, 4, 4], [16, 4, 2], [16, 4, 0]], &[&[1, 1, 0], &[2, 1, 1], &[0, 0, 1]]);
@@ -435,6 +538,9 @@ pub fn report(engine: &dyn Engine, quick: bool) {
     routes(engine, rounds / 3);
     values(engine, rounds);
     offices(engine, rounds);
+    shapes(engine, rounds / 3);
+    soundings(engine, rounds / 3);
+    self::rounds(engine, rounds);
 }
 
 #[cfg(test)]
@@ -457,6 +563,25 @@ mod tests {
                 case.grid.fill(0);
                 case.sweep(engine);
                 assert!(case.grid == expected);
+            }
+        }
+    }
+
+    #[test]
+    fn every_shape_runs() {
+        let model = Model::default();
+        for (label, numbers) in shaped() {
+            let mut case = Case::new(&numbers);
+            for call in [Call::Gather, Call::Calculate, Call::Send, Call::Deliver] {
+                let setting = case.setting(call).expect("a tile with messages");
+                case.call(&model, &setting);
+                case.areas.progress[setting.processor as usize] = Progress::default();
+            }
+            if label.starts_with("k 16") {
+                case.whole_run(&model);
+                let grid = case.grid.clone();
+                case.sweep(&model);
+                assert!(case.grid == grid, "{label}");
             }
         }
     }

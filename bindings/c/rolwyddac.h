@@ -5,7 +5,7 @@
  * Every call returns its number. 0 means done. Any other number is a refusal: the first true line of the
  * table below, in table order, and no lent word has changed.
  *
- *    1 ragged         recipe empty or not a multiple of 16 bytes
+ *    1 ragged         recipe empty, or it or the file of soundings not a multiple of 16 bytes
  *    2 stray record   kind, order, count, unnamed byte or shift not as the format has them
  *    3 length         some length is 0 or above 1,024
  *    4 too large      more than 16,384 cells
@@ -17,6 +17,7 @@
  *    7 boards         more than 64 processors
  *    8 tiles          more than 1,024 tiles
  *    9 area           a lent area has not exactly its length
+ *   22 off the box    a sounding, whether it counts or not, names a cell that the recipe's box does not have
  *   10 unfit          progress records, status bytes or engaged words not fit
  *   11 no such        office, processor or message number too high
  *   19 engaged        the processor has tiles left for this office and is held by the other
@@ -81,7 +82,8 @@ enum {
   ROLWYDDAC_SPREAD_ORDER = 16,
   ROLWYDDAC_LAST_SPREAD = 17,
   ROLWYDDAC_TOO_WIDE = 18,
-  ROLWYDDAC_ENGAGED = 19
+  ROLWYDDAC_ENGAGED = 19,
+  ROLWYDDAC_OFF_THE_BOX = 22
 };
 
 /* How far a processor is: tiles finished, the stage of its current tile (0 gather, 1 calculate, 2 send) and how
@@ -227,6 +229,14 @@ uint32_t rolwyddac_office_collect(const uint8_t *encoded, size_t encoded_length,
 uint32_t rolwyddac_look(const uint8_t *encoded, size_t encoded_length, const uint32_t *first, size_t first_length,
                         const uint32_t *second, size_t second_length, uint32_t office, uint32_t processor,
                         uint32_t *out, size_t out_length);
+
+/* Fills source from a file of soundings, records of 16 bytes: cell number, survey day, survey number and depth, each a
+ * word, least byte first. A cell gets the depth of its record with the greatest day; of these, with the greatest survey
+ * number; of these, the latest in the file. A cell that no record names gets value. An empty file is allowed. Days and
+ * survey numbers are compared without a sign. The call has some 200 kilobytes of its own on the stack.
+ * Numbers: 1 to 9, 16 to 18, 22. A refusal leaves source as it was. */
+uint32_t rolwyddac_soundings(const uint8_t *encoded, size_t encoded_length, const uint8_t *file, size_t file_length,
+                             uint32_t value, uint32_t *source, size_t source_length);
 
 /* Writes the recipe of the fields to space: lengths, tiling (tile lengths) and counts (processor counts) have one
  * number a dimension; components has four numbers a distance, zero beyond the last dimension, and weights one. The

@@ -83,6 +83,16 @@ static void hops(uint32_t number, size_t length, uint32_t wanted) {
   expect("hops", rolwyddac_hops(recipe, recipe_length, number, at.out, length), wanted);
 }
 
+/* two soundings of one cell, of the same day and survey, then one of a cell that row D does not have */
+static const uint8_t file[3 * 16] = {
+    [0] = 2, [4] = 1, [12] = 40, [16] = 2, [20] = 1, [28] = 30, [32] = CELLS,
+};
+
+static void soundings(size_t file_length, uint32_t wanted) {
+  before = at;
+  expect("soundings", rolwyddac_soundings(recipe, recipe_length, file, file_length, 7, at.source, source_length), wanted);
+}
+
 static void same(const char *what, const uint32_t *words, const uint32_t *wanted, size_t length) {
   if (memcmp(words, wanted, length * sizeof *words) == 0) return;
   printf("%s are not as document 01 has them\n", what);
@@ -93,7 +103,7 @@ static void same(const char *what, const uint32_t *words, const uint32_t *wanted
 static void refused(uint32_t wanted) {
   fresh(wanted), turn(0, wanted), deliver(0, wanted), collect(wanted), sweep(wanted);
   summary(ROLWYDDAC_SUMMARY_LENGTH, wanted), message(0, ROLWYDDAC_MESSAGE_LENGTH, wanted);
-  hops(0, 1, wanted);
+  hops(0, 1, wanted), soundings(0, wanted);
   memcpy(recipe, row_d, RECIPE);
   recipe_length = RECIPE;
 }
@@ -125,6 +135,15 @@ static void plan(void) {
   same("the message's hops", at.out, (const uint32_t[]){1}, 1);
 }
 
+static void filled(void) {
+  soundings(15, ROLWYDDAC_RAGGED), soundings(3 * 16, ROLWYDDAC_OFF_THE_BOX);
+  source_length = CELLS - 1, soundings(3 * 16, ROLWYDDAC_AREA), source_length = CELLS;
+  soundings(2 * 16, ROLWYDDAC_DONE);
+  same("the words filled", at.source, (const uint32_t[]){7, 7, 30, 7}, CELLS);
+  soundings(0, ROLWYDDAC_DONE);
+  same("the words of no file", at.source, (const uint32_t[]){7, 7, 7, 7}, CELLS);
+}
+
 static void run(void) {
   source_length = CELLS - 1, fresh(ROLWYDDAC_AREA), turn(9, ROLWYDDAC_AREA), deliver(9, ROLWYDDAC_AREA);
   collect(ROLWYDDAC_AREA), sweep(ROLWYDDAC_AREA), source_length = CELLS;
@@ -148,12 +167,13 @@ int main(void) {
   for (size_t r = 0; r < sizeof routes / sizeof *routes; r++) {
     route = routes[r];
     memset(&at, 9, sizeof at);
-    for (size_t c = 0; c < CELLS; c++) at.source[c] = 1;
     recipes_refused();
     plan();
+    filled();
+    for (size_t c = 0; c < CELLS; c++) at.source[c] = 1;
     run();
   }
-  if (met != 0x7ffff) return printf("not every number was met: %x\n", met), 1;
+  if (met != (0x7ffff | 1 << ROLWYDDAC_OFF_THE_BOX)) return printf("not every number was met: %x\n", met), 1;
   puts("row D as document 01 has it, each number met");
   return 0;
 }

@@ -1,6 +1,7 @@
 //! Trials of two offices on one rig (W-208): any states of both, runs of both mixed, and pairs of runs between which only
 //! the other office differs.
 
+use super::events::{some_event, turn_event, Event, Given};
 use super::{any_state, make_unfit, other_length, some_number, some_route, words, wrong_lengths, Outcome, Pair};
 use crate::engine::{Areas, Engine, Progress, Rig, LOOK_WORDS};
 use crate::model::Plan;
@@ -16,21 +17,15 @@ fn lent(rig: &mut Rig, own: usize) -> (&mut Areas, &mut [u32], &[Progress]) {
     (own, &mut rig.engaged, &other.progress)
 }
 
-/// a turn or a delivery for an office
-#[derive(Clone, Copy, Debug, PartialEq, Eq)]
-pub enum Event {
-    Turn(u32),
-    Deliver(u32),
-}
-
 /// the event for the office `office`, which is lent the areas of office `own`
-pub fn take(
-    engine: &dyn Engine, pair: (&[u8], crate::engine::Route), rig: &mut Rig, own: usize, office: u32, event: Event,
-) -> u32 {
-    let (encoded, route) = pair;
+pub fn take(engine: &dyn Engine, given: Given, rig: &mut Rig, own: usize, office: u32, event: Event) -> u32 {
+    let Given { encoded, route, hours } = given;
     let (areas, engaged, other) = lent(rig, own);
     match event {
-        Event::Turn(processor) => engine.office_turn(encoded, route, areas, engaged, other, office, processor),
+        Event::Turn(p) => engine.office_turn(encoded, route, areas, engaged, other, office, p),
+        Event::TurnAt(p, minute) => {
+            engine.office_turn_at(encoded, route, areas, engaged, other, hours, minute, office, p)
+        }
         Event::Deliver(message) => engine.office_deliver(encoded, route, areas, engaged, other, office, message),
     }
 }
@@ -41,7 +36,7 @@ impl Pair<'_> {
         self.our_rig = rig;
     }
 
-    fn fresh_both(&mut self) -> Outcome<u32> {
+    pub fn fresh_both(&mut self) -> Outcome<u32> {
         let theirs = self.engine.fresh_both(&self.encoded, self.route, &mut self.their_rig);
         let ours = self.model.fresh_both(&self.encoded, self.route, &mut self.our_rig);
         let route = self.route;
@@ -49,11 +44,15 @@ impl Pair<'_> {
     }
 
     /// an event of an office that is lent the areas of office `own`
-    fn office_event(&mut self, own: usize, office: u32, event: Event) -> Outcome<u32> {
-        let given = (&self.encoded[..], self.route);
+    pub fn office_event(&mut self, own: usize, office: u32, event: Event) -> Outcome<u32> {
+        let given = Given { encoded: &self.encoded, route: self.route, hours: &self.hours };
         let theirs = take(self.engine, given, &mut self.their_rig, own, office, event);
         let ours = take(self.model, given, &mut self.our_rig, own, office, event);
-        let name = if matches!(event, Event::Turn(_)) { "office_turn" } else { "office_deliver" };
+        let name = match event {
+            Event::Turn(_) => "office_turn",
+            Event::TurnAt(..) => "office_turn_at",
+            Event::Deliver(_) => "office_deliver",
+        };
         let route = self.route;
         self.compare(name, &|| format!("{route:?} {event:?} of office {office}"), (theirs, ours), (&[], &[]))
     }
@@ -103,7 +102,10 @@ pub fn one_call(pair: &mut Pair, rng: &mut Rng) -> Outcome<u32> {
             let length = if rng.one_in(8) { other_length(rng, LOOK_WORDS) } else { LOOK_WORDS };
             pair.look(office, processor, &mut words(rng, length))
         }
-        _ => pair.office_event(own, office, Event::Turn(processor)),
+        _ => {
+            let event = turn_event(rng, &pair.hours, processor);
+            pair.office_event(own, office, event)
+        }
     };
     pair.route = route;
     called
@@ -147,7 +149,7 @@ fn make_rig_unfit(rng: &mut Rng, plan: &Plan, rig: &mut Rig) {
 }
 
 /// a state of both offices that is mostly fit, with lengths that are mostly right
-fn some_rig(rng: &mut Rng, plan: &Plan) -> Rig {
+pub fn some_rig(rng: &mut Rng, plan: &Plan) -> Rig {
     let mut rig = any_rig(rng, plan);
     // finished records, so that collecting is tried
     if rng.one_in(5) {
@@ -202,27 +204,15 @@ fn start(pair: &mut Pair, rng: &mut Rng, plan: &Plan) -> Outcome<()> {
     pair.fresh_both().map(|_| ())
 }
 
-/// a turn or a delivery of an office that is mostly not refused
-pub fn some_event(rng: &mut Rng, plan: &Plan, areas: &Areas) -> Event {
-    let flying: Vec<usize> = (0..areas.status.len()).filter(|&message| areas.status[message] == 1).collect();
-    if !flying.is_empty() && rng.one_in(2) {
-        Event::Deliver(rng.of(&flying) as u32)
-    } else if rng.one_in(12) {
-        Event::Deliver(some_number(rng, plan.messages.len()))
-    } else {
-        Event::Turn(some_number(rng, plan.processors))
-    }
-}
-
 /// both offices' runs, mixed at random, to their ends; each grid is its own sweep's
-fn run(pair: &mut Pair, rng: &mut Rng, plan: &Plan) -> Outcome<()> {
+pub fn run(pair: &mut Pair, rng: &mut Rng, plan: &Plan) -> Outcome<()> {
     start(pair, rng, plan)?;
     // one office is seldom far ahead, or comes second altogether
     let first = rng.of(&[1, 5, 9, 10]);
     let mut steps = [0; 2];
     while steps != [plan.steps(); 2] {
         let own = usize::from(rng.below(10) >= first || steps[0] == plan.steps());
-        let event = some_event(rng, plan, &pair.our_rig.offices[own]);
+        let event = some_event(rng, plan, &pair.our_rig.offices[own], &pair.hours);
         steps[own] += usize::from(pair.office_event(own, own as u32, event)? == 0);
         if steps[own] > plan.steps() {
             return Err(("run of two offices".into(), format!("office {own} went on after its last step")));
@@ -251,7 +241,9 @@ fn one_refused(pair: &mut Pair, rng: &mut Rng, plan: &Plan) -> Outcome<()> {
     let (processor, message) = (some_number(rng, plan.processors), some_number(rng, plan.messages.len()));
     pair.look(office, processor, &mut words(rng, LOOK_WORDS))?;
     if office > 1 {
-        pair.office_event(own, office, rng.of(&[Event::Turn(processor), Event::Deliver(message)]))?;
+        let turn = turn_event(rng, &pair.hours, processor);
+        let event = if rng.one_in(2) { turn } else { Event::Deliver(message) };
+        pair.office_event(own, office, event)?;
     } else {
         pair.office_collect(office as usize, office, &mut words(rng, plan.cells))?;
     }
@@ -267,7 +259,7 @@ fn apart(pair: &mut Pair, rng: &mut Rng, plan: &Plan) -> Outcome<()> {
     let mut events: Vec<(Event, u32, Areas)> = vec![];
     for _ in 0..rng.between(1, 60) {
         let office = if rng.one_in(3) { 1 - own } else { own };
-        let event = some_event(rng, plan, &pair.our_rig.offices[office]);
+        let event = some_event(rng, plan, &pair.our_rig.offices[office], &pair.hours);
         let number = pair.office_event(office, office as u32, event)?;
         if office == own {
             events.push((event, number, pair.their_rig.offices[own].clone()));
@@ -280,7 +272,7 @@ fn apart(pair: &mut Pair, rng: &mut Rng, plan: &Plan) -> Outcome<()> {
     let mut tries = 0;
     let mut rest = &events[..];
     while let [(event, number, areas), tail @ ..] = rest {
-        let given = (&pair.encoded[..], pair.route);
+        let given = Given { encoded: &pair.encoded, route: pair.route, hours: &pair.hours };
         let would = take(pair.model, given, &mut pair.our_rig.clone(), own, own as u32, *event);
         if would == *number && !rng.one_in(3) {
             pair.office_event(own, own as u32, *event)?;
@@ -290,7 +282,7 @@ fn apart(pair: &mut Pair, rng: &mut Rng, plan: &Plan) -> Outcome<()> {
             rest = tail;
         } else {
             // the other office goes on, and may free the processor or hold it
-            let event = some_event(rng, plan, &pair.our_rig.offices[1 - own]);
+            let event = some_event(rng, plan, &pair.our_rig.offices[1 - own], &pair.hours);
             pair.office_event(1 - own, 1 - own as u32, event)?;
             tries += 1;
             if tries > 200 {

@@ -92,6 +92,29 @@ pub struct Message {
     pub words: u32,
 }
 
+/// One record of a file of soundings, for [`soundings`].
+#[derive(Clone, Copy, Debug, PartialEq, Eq)]
+pub struct Sounding {
+    /// The cell's number.
+    pub cell: u32,
+    /// The day of the survey; a later day counts before an earlier one.
+    pub day: u32,
+    /// The survey's number; of one day the greater counts.
+    pub survey: u32,
+    /// The depth in millimetres.
+    pub depth: u32,
+}
+
+impl Sounding {
+    /// The record's 16 bytes; a file is one record after the other.
+    pub fn bytes(self) -> [u8; 16] {
+        let mut bytes = [0; 16];
+        let words = [self.cell, self.day, self.survey, self.depth];
+        bytes.chunks_exact_mut(4).zip(words).for_each(|(place, word)| place.copy_from_slice(&word.to_le_bytes()));
+        bytes
+    }
+}
+
 /// Words that the summary, a message's line, its hops and a look take.
 const SUMMARY_WORDS: usize = 4;
 const MESSAGE_WORDS: usize = 5;
@@ -241,6 +264,17 @@ calls! {
     rolwyddac_look as look_words(
         encoded: &[u8], first: &[u32], second: &[u32], office: u32, processor: u32, out: &mut [u32],
     );
+
+    /// Fills `source` from a file of soundings: of each cell the depth of the record that counts, or `value` where there is
+    /// none.
+    ///
+    /// A record has 16 bytes: cell number, survey day, survey number and depth, each a word, least byte first. Of a
+    /// cell's records the one with the greatest day counts; of these, with the greatest survey number; of these, the
+    /// latest in the file ([`Sounding`] makes them). An empty file is allowed. The call has some 200 kilobytes of its own
+    /// on the stack.
+    ///
+    /// Refusals: 1 to 9, 16 to 18, 22.
+    rolwyddac_soundings as soundings(encoded: &[u8], file: &[u8], value: u32, source: &mut [u32]);
 
     /// Writes the recipe of the fields to `space`. [`Fields`] is the handier form.
     ///

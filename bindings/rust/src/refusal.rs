@@ -63,7 +63,7 @@ macro_rules! refusals {
 }
 
 refusals! {
-    1 Ragged "ragged": "recipe empty or not a multiple of 16 bytes";
+    1 Ragged "ragged": "recipe empty, or it or the file of soundings not a multiple of 16 bytes";
     2 StrayRecord "stray record": "kind, order, count, unnamed byte or shift not as the format has them";
     3 Length "length": "some length is 0 or above 1,024";
     4 TooLarge "too large": "more than 16,384 cells";
@@ -76,6 +76,8 @@ refusals! {
     7 Boards "boards": "more than 64 processors";
     8 Tiles "tiles": "more than 1,024 tiles";
     9 Area "area": "a lent area has not exactly its length";
+    22 OffTheBox "off the box":
+        "a sounding, whether it counts or not, names a cell that the recipe's box does not have";
     10 Unfit "unfit": "progress records, status bytes or engaged words not fit";
     11 NoSuch "no such": "office, processor or message number too high";
     19 Engaged "engaged": "the processor has tiles left for this office and is held by the other";
@@ -101,7 +103,7 @@ mod tests {
     fn no_number_is_missing() {
         let mut numbers: Vec<u32> = Refusal::NAMED.iter().map(|refusal| refusal.number()).collect();
         numbers.sort();
-        assert_eq!(numbers, (1..=19).collect::<Vec<u32>>());
+        assert_eq!(numbers, (1..=19).chain([22]).collect::<Vec<u32>>());
     }
 
     #[test]

@@ -4,3 +4,4 @@ pub mod OverRecords
 pub mod PlanCalls
 pub mod OfficeCalls
 pub mod OverRig
+pub mod Demand210

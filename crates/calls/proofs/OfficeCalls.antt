@@ -44,7 +44,8 @@ module _ (bytes : List ℕ) (route : ℕ) (source : List ℕ) (o : ℕ) (l : Len
       let r = front (readLines bytes) (line 9 (not (areasFor p source l theirs)) ∷ turnLinesFor p o l theirs b) z in
       let a = none-first 9 (not (areasFor p source l theirs)) (turnLinesFor p o l theirs b) (λ q. omega arith)
       (sym (first-behind (readLines bytes) _ (numbered bytes) r) ∙ z) in
-      let u = none-first 11 (not (leb o 1)) (line 10 (not (fitFor p o l theirs)) ∷ line 11 (not (ltb b (p .processors))) ∷ later) (λ q. omega arith) (a .1) in
+      let u = none-first 11 (not (leb o 1)) (line 10 (not (fitFor p o l theirs)) ∷ line 11 (not (ltb b (p .processors))) ∷ later)
+      (λ q. omega arith) (a .1) in
       let f = none-first 10 (not (fitFor p o l theirs)) (line 11 (not (ltb b (p .processors))) ∷ later) (λ q. omega arith) (u .1) in
       let t = none-first 11 (not (ltb b (p .processors))) later (λ q. omega arith) (f .1) in
       omega (
@@ -53,7 +54,8 @@ module _ (bytes : List ℕ) (route : ℕ) (source : List ℕ) (o : ℕ) (l : Len
         ltb-true b (p .processors) (true-not (t .0)),
       )
 
-pub record-there-for : (bytes : List ℕ) (route : ℕ) (source : List ℕ) (o : ℕ) (m u t e : List ℕ) (rs ss : List Progress) (b n : ℕ) (x : Lent)
+pub record-there-for : (bytes : List ℕ) (route : ℕ) (source : List ℕ) (o : ℕ) (m u t e : List ℕ) (rs ss : List Progress) (b n : ℕ)
+    (x : Lent)
     → answer n x ≡ turnCallFor bytes route source o (lentOf (stateOf m u (flatWords rs) t) e) (flatWords ss) b → n ≡ 0 → b < length rs
 record-there-for bytes route source o m u t e rs ss b n x is z =
     omega (

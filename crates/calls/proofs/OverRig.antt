@@ -27,14 +27,16 @@ use Rattle.records.proofs.Words.{length-words}
 use Rattle.engine.specs.Calls.{answer, recipe}
 use Rattle.engine.proofs.AsSteps.{front}
 use Rattle.engine.proofs.Demands as engine
-use Rattle.rig.specs.Calls.{areasFor, turnCallFor, deliverCallFor, collectCallFor, freshRigLines, freshRigCall, lookPart, callFor, rigCalls, rigCollects}
+use Rattle.rig.specs.Calls.{areasFor, turnCallFor, deliverCallFor, collectCallFor, freshRigLines, freshRigCall, lookPart, callFor}
+use Rattle.rig.specs.Calls.{rigCalls, rigCollects}
 use Rattle.rig.proofs.Demands.{rig-demands}
 use Rattle.calls.specs.OfficeCalls.{lookCall}
 use Rattle.calls.specs.OverRecords.{Areas, inWords}
 use Rattle.calls.specs.OverRig.{LentAreas, lentWords, RigAreas, rigWords, ownAreas, otherAreas, lentAreas}
 use Rattle.calls.specs.OverRig.{OfficeGave, FreshBothGave, CallGave, CallsGave, CollectGaveFor, FixedOffice, RigRun, OverRig}
 use Rattle.calls.proofs.OfficeCalls.{look-number}
-use Rattle.calls.proofs.OverRecords.{run-numbers, run-words, Whole, areasOf, in-words, length-carry, areas-fixed, fixed-as, one-answer, as-before}
+use Rattle.calls.proofs.OverRecords.{run-numbers, run-words, Whole, areasOf, in-words, length-carry, areas-fixed, fixed-as}
+use Rattle.calls.proofs.OverRecords.{one-answer, as-before}
 
 -- ---- words fix the areas
 
@@ -100,7 +102,8 @@ module _ (bytes : List ℕ) (route : ℕ) where
     office-call a (deliveryOf m) n b h = h
 
     call-office : (a : LentAreas) (e : Event) (n : ℕ) (b : LentAreas)
-        → answer n (lentWords b) ≡ callFor bytes route source o (lentWords a) (flatWords theirs) e → OfficeGave bytes route source o theirs a e n b
+        → answer n (lentWords b) ≡ callFor bytes route source o (lentWords a) (flatWords theirs) e
+        → OfficeGave bytes route source o theirs a e n b
     unfolding callFor
     call-office a (turnOf p) n b h = h
     call-office a (deliveryOf m) n b h = h
@@ -115,8 +118,14 @@ module _ (bytes : List ℕ) (route : ℕ) where
         whole-lent _ _ (lentWords a) w w
 
     can-office : (a : LentAreas) (e : Event) → (n : ℕ) × ((b : LentAreas) × OfficeGave bytes route source o theirs a e n b)
-    can-office a e =
-        (r .number, (b, call-office a e (r .number) b (ap (λ (s : State). answer (r .number) (lentOf s (r .after .engaged))) (in-words (r .after .own) (whole-call a e)))))
+    can-office a e = (
+      r .number,
+      (
+        b,
+        call-office a e (r .number) b (ap (λ (s : State). answer (r .number) (lentOf s (r .after .engaged)))
+            (in-words (r .after .own) (whole-call a e))),
+      ),
+    )
       where
         r : Answered Lent
         r = callFor bytes route source o (lentWords a) (flatWords theirs) e
@@ -134,9 +143,11 @@ module _ (bytes : List ℕ) (route : ℕ) where
         ∙ ap (putBack (rigWords a) (c .office))
         (office-call (sourceFor sources (c .office)) (c .office) (otherAreas a (c .office) .progress) (lentAreas a (c .office)) (c .event) n
         (lentAreas b (c .office)) (h .gave)
-        ∙ ap (λ (l : Lent). callFor bytes route (sourceFor sources (c .office)) (c .office) l (flatWords (otherAreas a (c .office) .progress)) (c .event))
+        ∙ ap (λ (l : Lent). callFor bytes route (sourceFor sources (c .office)) (c .office) l
+        (flatWords (otherAreas a (c .office) .progress)) (c .event))
         (lent-words a (c .office))
-        ∙ ap (λ (l : List ℕ). callFor bytes route (sourceFor sources (c .office)) (c .office) (lentTo (rigWords a) (c .office)) l (c .event))
+        ∙ ap (λ (l : List ℕ). callFor bytes route (sourceFor sources (c .office)) (c .office) (lentTo (rigWords a) (c .office)) l
+        (c .event))
         (other-words a (c .office)))
 
     -- the areas b of office o among those of a
@@ -150,7 +161,11 @@ module _ (bytes : List ℕ) (route : ℕ) where
       among-own = go (eqb o 0)
         where
           go : (t : Bool)
-              → _≡_ {A = LentAreas} (record { own = pick t (pick t (b .own) (a .first)) (pick t (a .second) (b .own)); engaged = b .engaged }) b
+              → _≡_ {A = LentAreas} (record {
+                own = pick t (pick t (b .own) (a .first))
+                    (pick t (a .second) (b .own));
+                engaged = b .engaged;
+              }) b
           go true = refl
           go false = refl
 
@@ -179,7 +194,8 @@ module _ (bytes : List ℕ) (route : ℕ) where
         o : ℕ
         o = c .office
 
-        r : (n : ℕ) × ((b : LentAreas) × OfficeGave bytes route (sourceFor sources o) o (otherAreas a o .progress) (lentAreas a o) (c .event) n b)
+        r : (n : ℕ) × ((b : LentAreas) × OfficeGave bytes route (sourceFor sources o) o (otherAreas a o .progress) (lentAreas a o)
+            (c .event) n b)
         r = can-office (sourceFor sources o) o (otherAreas a o .progress) (lentAreas a o) (c .event)
 
     can-fresh : (a : RigAreas) → (n : ℕ) × ((b : RigAreas) × FreshBothGave bytes route sources a n b)
@@ -204,10 +220,13 @@ module _ (bytes : List ℕ) (route : ℕ) where
             → Whole (pick t (freshRig (recipe bytes route)) (rigWords a) .first .progress)
             × Whole (pick t (freshRig (recipe bytes route)) (rigWords a) .second .progress)
         whole true =
-            let w : Whole (replicate (3 * recipe bytes route .processors) 0) = (recipe bytes route .processors, length-replicate {A = ℕ} (3 * recipe bytes route .processors) 0) in
+            let w : Whole (replicate (3 * recipe bytes route .processors) 0) =
+            (recipe bytes route .processors, length-replicate {A = ℕ} (3 * recipe bytes route .processors) 0) in
             (w, w)
-        whole false =
-            ((length (a .first .progress), length-words (a .first .progress)), (length (a .second .progress), length-words (a .second .progress)))
+        whole false = (
+          (length (a .first .progress), length-words (a .first .progress)),
+          (length (a .second .progress), length-words (a .second .progress)),
+        )
 
   -- ---- demand 1
 
@@ -237,7 +256,8 @@ module _ (bytes : List ℕ) (route : ℕ) where
         can-fresh = can-fresh;
         can-call = can-call;
         one-fresh = λ sources a b c n k. one-answer rigWords rig-fixed b c n k;
-        one-call = λ sources a b d c n k h g. one-answer rigWords rig-fixed b d n k (rig-call sources a c n b h) (rig-call sources a c k d g);
+        one-call = λ sources a b d c n k h g. one-answer rigWords rig-fixed b d n k (rig-call sources a c n b h)
+            (rig-call sources a c k d g);
       }
 
   -- ---- demand 3
@@ -255,7 +275,8 @@ module _ (bytes : List ℕ) (route : ℕ) where
       nine : Bool
       nine = not (areasFor (recipe bytes route) source l theirs and eqb (length old) (recipe bytes route .cells))
 
-  module _ (sources : Sources) (a start b : RigAreas) (calls : List Call) (numbers : List ℕ) (fresh : FreshBothGave bytes route sources a 0 start)
+  module _ (sources : Sources) (a start b : RigAreas) (calls : List Call) (numbers : List ℕ)
+      (fresh : FreshBothGave bytes route sources a 0 start)
       (gave : CallsGave bytes route sources start calls numbers b) where
     ns : numbers ≡ answersTo (rigCalls bytes route sources) (rigWords start) calls
     ns = run-numbers _ rigWords (rigCalls bytes route sources) (rig-call sources) gave
@@ -264,9 +285,11 @@ module _ (bytes : List ℕ) (route : ℕ) where
     ws = run-words _ rigWords (rigCalls bytes route sources) (rig-call sources) gave
 
     module _ (small : Bytes bytes) where
-      demand : Demand208 (rigCalls bytes route sources) (rigWords start) calls (recipe bytes route) sources (rigCollects bytes route sources)
+      demand : Demand208 (rigCalls bytes route sources) (rigWords start) calls (recipe bytes route) sources
+          (rigCollects bytes route sources)
       demand =
-          subst (λ (r : Rig). Demand208 (rigCalls bytes route sources) r calls (recipe bytes route) sources (rigCollects bytes route sources))
+          subst (λ (r : Rig). Demand208 (rigCalls bytes route sources) r calls (recipe bytes route) sources
+          (rigCollects bytes route sources))
           (sym (after-of fresh)) (rig-demands .runs bytes route sources (rigWords a) small (sym (number-of fresh)) calls)
 
       -- the next call, on the areas `b`
@@ -279,7 +302,8 @@ module _ (bytes : List ℕ) (route : ℕ) where
           → answer n grid ≡ rigCollects bytes route sources (rigWords b) o old
       unfolding rigCollects
       collect-words o old grid n h =
-          h ∙ ap (λ (l : Lent). collectCallFor bytes route (sourceFor sources o) o l (flatWords (otherAreas b o .progress)) old) (lent-words b o)
+          h ∙ ap (λ (l : Lent). collectCallFor bytes route (sourceFor sources o) o l (flatWords (otherAreas b o .progress)) old)
+          (lent-words b o)
           ∙ ap (λ (l : List ℕ). collectCallFor bytes route (sourceFor sources o) o (lentTo (rigWords b) o) l old) (other-words b o)
 
       collect-is : (o : ℕ) (old grid : List ℕ) (n : ℕ) → CollectGaveFor bytes route sources b o old n grid
@@ -306,14 +330,16 @@ module _ (bytes : List ℕ) (route : ℕ) where
 
   -- ---- two runs apart
 
-  module _ (small : Bytes bytes) (sources sources′ : Sources) (a start b a′ start′ b′ : RigAreas) (calls calls′ : List Call) (ks ks′ : List ℕ)
+  module _ (small : Bytes bytes) (sources sources′ : Sources) (a start b a′ start′ b′ : RigAreas) (calls calls′ : List Call)
+      (ks ks′ : List ℕ)
       (fresh : FreshBothGave bytes route sources a 0 start) (gave : CallsGave bytes route sources start calls ks b)
       (fresh′ : FreshBothGave bytes route sources′ a′ 0 start′) (gave′ : CallsGave bytes route sources′ start′ calls′ ks′ b′)
       (o : ℕ) (low : o ≤ 1) (same : sourceFor sources o ≡ sourceFor sources′ o) where
     isolated : Isolated o (rigCalls bytes route sources) (rigCalls bytes route sources′) (rigWords start) (rigWords start′)
     isolated =
         rw (after-of fresh, after-of fresh′)
-        (rig-demands .apart bytes route sources sources′ (rigWords a) (rigWords a′) small (sym (number-of fresh)) (sym (number-of fresh′)) o low same)
+        (rig-demands .apart bytes route sources sources′ (rigWords a) (rigWords a′) small (sym (number-of fresh))
+        (sym (number-of fresh′)) o low same)
 
     apart : eventsOf o calls ≡ eventsOf o calls′ → answersOf o calls ks ≡ answersOf o calls′ ks′ → ownAreas b o ≡ ownAreas b′ o
     apart e n =
@@ -322,7 +348,8 @@ module _ (bytes : List ℕ) (route : ℕ) where
         ∙ isolated .same-words calls calls′ e
         (ap (answersOf o calls) (sym (ns sources a start b calls ks fresh gave)) ∙ n
         ∙ ap (answersOf o calls′) (ns sources′ a′ start′ b′ calls′ ks′ fresh′ gave′))
-        ∙ ap (λ (r : Rig). ownOf r o) (sym (ws sources′ a′ start′ b′ calls′ ks′ fresh′ gave′)) ∙ sym (office-words o (b′ .first) (b′ .second)))
+        ∙ ap (λ (r : Rig). ownOf r o) (sym (ws sources′ a′ start′ b′ calls′ ks′ fresh′ gave′))
+        ∙ sym (office-words o (b′ .first) (b′ .second)))
 
 pub over-rig : (bytes : List ℕ) (route : ℕ) → OverRig bytes route
 over-rig bytes route =

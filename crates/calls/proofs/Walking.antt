@@ -1,9 +1,9 @@
 -- What the walks of the calls over records share. It says nothing of one call. Assumes `Given`.
 --     R, F, E          the rows of a record, of records' words, and of what a turn makes; one, low, high are their machine values
 --     bytes, words32, records    the types of the lent slices.        slice      a slice's machine value
---     splits, joins, fsplits, fjoins    `split`, `join`, `fsplit` and `fjoin` for a list, which lies in the context from its last entry to its first
---     flattens         a call of `flatten` on a `&[Progress]`.        flattens-lent     the same on a `&mut [Progress]`, which is lent for the call and comes back
---     puts, clears     a call of `put` and of `clear`, to which a `&mut [Progress]` is given up
+--     splits, joins, fsplits, fjoins    `split`, `join`, `fsplit`, `fjoin` for a list, which lies in the context from its last entry on
+--     flattens         a call of `flatten` on a `&[Progress]`.        flattens-lent     the same on a `&mut [Progress]`, which comes back
+--     puts-at, clears-at     a call of `put` and of `clear`, to which a `&mut [Progress]` is given up
 use mathlib.Core.Path.{_≡_, refl, ap, subst}
 use Prim.Native.Nat.{ℕ, _<_, _^_}
 use mathlib.Core.List.{List, [], _∷_}
@@ -19,7 +19,8 @@ use prog.Routine.{Routine}
 use prog.Wp.{Heap, Env, Calls, Loops}
 use ghost.Atoms.{Atoms, sem}
 use contract.Monad.{Fun, fact}
-use types.Kit.{Given, Item, ‵, raw, some, later, Goal, Post, runs, lands, Step, step, Seq, _⊛_, ⋆, _$_, _∵_, !, qed, move, drop, use1, use2, split, join, pick, fsplit, fjoin, feqL, regoal, frame, await, done}
+use types.Kit.{Given, Item, ‵, raw, some, later, Goal, Post, runs, lands, Step, step, Seq, _⊛_, ⋆, _$_, _∵_, !, qed, move, drop, use1}
+use types.Kit.{use2, split, join, pick, fsplit, fjoin, feqL, regoal, frame, await, done}
 use types.Run.{Opds}
 use types.Tokens.{lft-new, lft-end}
 use sound.WpLaws.{FmC}
@@ -172,19 +173,23 @@ module _ {M : Type 1} (𝓤 : URA M) (H : Heap 𝓤) (A : Atoms 𝓤) (mem : Mem
         → ent 𝓤 (sep 𝓤 (A .lft κ q) (sem 𝓤 H A (ShrSlice ℓ κ R .own x (slice x ∷ [])))) (Flatten .pre to-flatten)
     goes-flatten W ℓ =
         qed W (‵ (flft κ q) ∷ ‵ (ShrSlice ℓ κ R .own x (slice x ∷ [])) ∷ []) ∵
-        nothing ! $ move ! (1 ∷ 0 ∷ []) $ join ! $ nothing ! $ move ! (2 ∷ 0 ∷ []) $ fjoin ! $ move ! (1 ∷ 0 ∷ []) $ join ! $ frame ! $ done !
+        nothing ! $ move ! (1 ∷ 0 ∷ []) $ join ! $ nothing ! $ move ! (2 ∷ 0 ∷ []) $ fjoin ! $
+        move ! (1 ∷ 0 ∷ []) $ join ! $ frame ! $ done !
 
     goes-put : (W : Given 𝓤 H A) (ℓ : Lifetime) (n i : ℕ) (p : Progress) → (n ≡ 0 → i < length (now x))
         → ent 𝓤 (⋆ 𝓤 H A ((‵ (flft κ q) ⊛ ‵ ftrue)
-        ∷ ‵ (fsepAll (MutSlice ℓ κ R .own x (slice x ∷ []) ∷ u32 .own n (vint w32 n ∷ []) ∷ u32 .own i (vint w32 i ∷ []) ∷ R .own p (one p ∷ []) ∷ [])) ∷ []))
+        ∷ ‵ (fsepAll (MutSlice ℓ κ R .own x (slice x ∷ []) ∷ u32 .own n (vint w32 n ∷ []) ∷ u32 .own i (vint w32 i ∷ [])
+        ∷ R .own p (one p ∷ []) ∷ [])) ∷ []))
         (Put .pre (to-put n i p))
     goes-put W ℓ n i p c =
         qed W ((‵ (flft κ q) ⊛ ‵ ftrue)
-        ∷ ‵ (fsepAll (MutSlice ℓ κ R .own x (slice x ∷ []) ∷ u32 .own n (vint w32 n ∷ []) ∷ u32 .own i (vint w32 i ∷ []) ∷ R .own p (one p ∷ []) ∷ [])) ∷ []) ∵
+        ∷ ‵ (fsepAll (MutSlice ℓ κ R .own x (slice x ∷ []) ∷ u32 .own n (vint w32 n ∷ []) ∷ u32 .own i (vint w32 i ∷ [])
+        ∷ R .own p (one p ∷ []) ∷ [])) ∷ []) ∵
         says ! c $ done !
 
     goes-clear : (W : Given 𝓤 H A) (ℓ : Lifetime) (n : ℕ)
-        → ent 𝓤 (⋆ 𝓤 H A ((‵ (flft κ q) ⊛ ‵ ftrue) ∷ ‵ (fsepAll (MutSlice ℓ κ R .own x (slice x ∷ []) ∷ u32 .own n (vint w32 n ∷ []) ∷ [])) ∷ []))
+        → ent 𝓤 (⋆ 𝓤 H A ((‵ (flft κ q) ⊛ ‵ ftrue) ∷ ‵ (fsepAll (MutSlice ℓ κ R .own x (slice x ∷ []) ∷ u32 .own n (vint w32 n ∷ []) ∷ []))
+        ∷ []))
         (Clear .pre (to-clear n))
     goes-clear W ℓ n =
         qed W ((‵ (flft κ q) ⊛ ‵ ftrue) ∷ ‵ (fsepAll (MutSlice ℓ κ R .own x (slice x ∷ []) ∷ u32 .own n (vint w32 n ∷ []) ∷ [])) ∷ []) ∵
@@ -200,7 +205,8 @@ module _ {M : Type 1} {𝓤 : URA M} {H : Heap 𝓤} {A : Atoms 𝓤} {K : Type 
   flattens t fm known ℓ os k =
       use2 W (raw (Flatten 𝓤 H A mem run .pre (to-flatten 𝓤 H A mem run κ q x))) (goes-flatten 𝓤 H A mem run κ q x W ℓ) $
       calls-at t fm (Flatten 𝓤 H A mem run) known (to-flatten 𝓤 H A mem run κ q x) os (λ w.
-      use1 W (later (some (λ (f : Flat). ((‵ (flft κ q) ⊛ ‵ ftrue) ⊛ ‵ (F .own f (w ∷ []))) ⊛ raw (ensured 𝓤 H A flatten.ended (flatten.clauses 𝓤 H A mem run) (κ, tt) (x, tt) tt f)))) (id⊢ 𝓤 _) $
+      use1 W (later (some (λ (f : Flat). ((‵ (flft κ q) ⊛ ‵ ftrue) ⊛ ‵ (F .own f (w ∷ [])))
+      ⊛ raw (ensured 𝓤 H A flatten.ended (flatten.clauses 𝓤 H A mem run) (κ, tt) (x, tt) tt f)))) (id⊢ 𝓤 _) $
       await t tt $ pick t (λ f. split t $ move t (1 ∷ []) $
       use1 W (raw (fact 𝓤 (Carries f (flatWords (now x))))) (flatten-of 𝓤 H A mem run κ q x f) $
       heard t (Carries f (flatWords (now x))) (λ e. split t $ move t (1 ∷ []) $
@@ -212,9 +218,11 @@ module _ {M : Type 1} {𝓤 : URA M} {H : Heap 𝓤} {A : Atoms 𝓤} {K : Type 
     {En : Env 𝓤 H} {C : Calls 𝓤 H} {Λ : Loops 𝓤 H} {d : Place} {rest : Body} {p : Post 𝓤 H}
     (κ : Lft) (q : Share) (x : RefT (List Progress)) {Γ : List (Item 𝓤)} where
   -- lent as `&` under a name of the call's own
-  pub flattens-lent : {xs : List Operand} → K → FmC 𝓤 H (W .laws) C → Triple 𝓤 (C #records·flatten) (Flatten 𝓤 H A mem run) → (ℓ : Lifetime) → Room R (length (now x))
+  pub flattens-lent : {xs : List Operand} → K → FmC 𝓤 H (W .laws) C → Triple 𝓤 (C #records·flatten) (Flatten 𝓤 H A mem run)
+      → (ℓ : Lifetime) → Room R (length (now x))
       → ((ν : ℕ) (δ : GName)
-      → Opds K W (raw (Flatten 𝓤 H A mem run .pre (to-flatten 𝓤 H A mem run (ν ∷ []) fullShare (renamed δ x))) ∷ ‵ (LentShared R κ (ν ∷ []) q (x .name) (x .ptr .0) (x .ptr .1) (now x)) ∷ Γ)
+      → Opds K W (raw (Flatten 𝓤 H A mem run .pre (to-flatten 𝓤 H A mem run (ν ∷ []) fullShare (renamed δ x)))
+      ∷ ‵ (LentShared R κ (ν ∷ []) q (x .name) (x .ptr .0) (x .ptr .1) (now x)) ∷ Γ)
       En xs (slice x ∷ []))
       → ((f : Flat) → Is F f (low f ∷ []) → Carries f (flatWords (now x))
       → Seq K W (‵ (MutSlice ℓ κ R .own x (slice x ∷ [])) ∷ ‵ (flft κ q) ∷ Γ) (lands C Λ En d (low f) rest p))
@@ -222,7 +230,8 @@ module _ {M : Type 1} {𝓤 : URA M} {H : Heap 𝓤} {A : Atoms 𝓤} {K : Type 
       (runs C Λ En (seq (call #records·flatten xs d) rest) p)
   flattens-lent t fm known ℓ room os k =
       lft-new t tt (λ ν. move t (1 ∷ 2 ∷ []) $
-      use2 W (later (some (λ (δ : GName). ‵ (ShrSlice (named 0) (ν ∷ []) R .own (renamed δ x) (slice x ∷ [])) ⊛ ‵ (LentShared R κ (ν ∷ []) q (x .name) (x .ptr .0) (x .ptr .1) (now x)))))
+      use2 W (later (some (λ (δ : GName). ‵ (ShrSlice (named 0) (ν ∷ []) R .own (renamed δ x) (slice x ∷ []))
+      ⊛ ‵ (LentShared R κ (ν ∷ []) q (x .name) (x .ptr .0) (x .ptr .1) (now x)))))
       (lends-shared R κ (ν ∷ []) q (x .name) (x .ptr .0) (x .ptr .1) 𝓤 H A W ℓ (named 0) (now x)) $
       await t tt $ pick t (λ δ. split t $ move t (2 ∷ 0 ∷ []) $
       flattens mem run (ν ∷ []) fullShare (renamed δ x) t fm known (named 0) (os ν δ) (λ f is e.
@@ -232,7 +241,8 @@ module _ {M : Type 1} {𝓤 : URA M} {H : Heap 𝓤} {A : Atoms 𝓤} {K : Type 
       await t tt $ split t $ k f is e)))
 
   -- what a call to which the slice was given up leaves
-  given-up : K → (w : Val) (more : Fml) (ws : List Progress) → (length ws ≡ length (now x) → Seq K W (‵ (flft κ q) ∷ ‵ (finally R (x .name) ws) ∷ Γ) (lands C Λ En d vunit rest p))
+  given-up : K → (w : Val) (more : Fml) (ws : List Progress)
+      → (length ws ≡ length (now x) → Seq K W (‵ (flft κ q) ∷ ‵ (finally R (x .name) ws) ∷ Γ) (lands C Λ En d vunit rest p))
       → Seq K W (‵ (fsep (fsep (finally R (x .name) ws) (feq ℕ (length ws) (length (now x)))) more)
       ∷ ((‵ (flft κ q) ⊛ ‵ ftrue) ⊛ ‵ (Nothing .own tt (w ∷ []))) ∷ Γ) (lands C Λ En d w rest p)
   given-up t w more ws k =
@@ -240,11 +250,13 @@ module _ {M : Type 1} {𝓤 : URA M} {H : Heap 𝓤} {A : Atoms 𝓤} {K : Type 
       split t $ move t (1 ∷ []) $ drop t $ move t (2 ∷ []) $ drop t $
       regoal t (λ (v : Val). lands C Λ En d v rest p) (ap only unit) refl $ k long))
 
-  pub puts-at : {xs : List Operand} → K → FmC 𝓤 H (W .laws) C → Triple 𝓤 (C #records·put) (Put 𝓤 H A mem run) → (ℓ : Lifetime) (n i : ℕ) (r : Progress)
+  pub puts-at : {xs : List Operand} → K → FmC 𝓤 H (W .laws) C → Triple 𝓤 (C #records·put) (Put 𝓤 H A mem run)
+      → (ℓ : Lifetime) (n i : ℕ) (r : Progress)
       → n < 2 ^ 32 → i < 2 ^ 32 → Is R r (one r ∷ []) → (n ≡ 0 → i < length (now x))
       → Opds K W (raw (Put 𝓤 H A mem run .pre (to-put 𝓤 H A mem run κ q x n i r)) ∷ Γ) En xs
       (slice x ∷ vint w32 n ∷ vint w32 i ∷ one r ∷ [])
-      → ((ws : List Progress) → length ws ≡ length (now x) → ws ≡ putAt n i r (now x) → Seq K W (‵ (flft κ q) ∷ ‵ (finally R (x .name) ws) ∷ Γ) (lands C Λ En d vunit rest p))
+      → ((ws : List Progress) → length ws ≡ length (now x) → ws ≡ putAt n i r (now x)
+      → Seq K W (‵ (flft κ q) ∷ ‵ (finally R (x .name) ws) ∷ Γ) (lands C Λ En d vunit rest p))
       → Seq K W (‵ (flft κ q) ∷ ‵ (MutSlice ℓ κ R .own x (slice x ∷ [])) ∷ Γ)
       (runs C Λ En (seq (call #records·put xs d) rest) p)
   puts-at t fm known ℓ n i r n-fits i-fits is there os k =
@@ -264,10 +276,12 @@ module _ {M : Type 1} {𝓤 : URA M} {H : Heap 𝓤} {A : Atoms 𝓤} {K : Type 
       pick t (λ us. split t $ move t (1 ∷ []) $ heard t (us .0 ≡ putAt n i r (now x)) (λ put.
       given-up t w _ (us .0) (λ long. k (us .0) long put)))))
 
-  pub clears-at : {xs : List Operand} → K → FmC 𝓤 H (W .laws) C → Triple 𝓤 (C #records·clear) (Clear 𝓤 H A mem run) → (ℓ : Lifetime) (n : ℕ) → n < 2 ^ 32
+  pub clears-at : {xs : List Operand} → K → FmC 𝓤 H (W .laws) C → Triple 𝓤 (C #records·clear) (Clear 𝓤 H A mem run) → (ℓ : Lifetime)
+      (n : ℕ) → n < 2 ^ 32
       → Opds K W (raw (Clear 𝓤 H A mem run .pre (to-clear 𝓤 H A mem run κ q x n)) ∷ Γ) En xs
       (slice x ∷ vint w32 n ∷ [])
-      → ((ws : List Progress) → length ws ≡ length (now x) → ws ≡ clearAll n (now x) → Seq K W (‵ (flft κ q) ∷ ‵ (finally R (x .name) ws) ∷ Γ) (lands C Λ En d vunit rest p))
+      → ((ws : List Progress) → length ws ≡ length (now x) → ws ≡ clearAll n (now x)
+      → Seq K W (‵ (flft κ q) ∷ ‵ (finally R (x .name) ws) ∷ Γ) (lands C Λ En d vunit rest p))
       → Seq K W (‵ (flft κ q) ∷ ‵ (MutSlice ℓ κ R .own x (slice x ∷ [])) ∷ Γ)
       (runs C Λ En (seq (call #records·clear xs d) rest) p)
   clears-at t fm known ℓ n n-fits os k =

@@ -65,8 +65,8 @@ module _ (bytes : List ℕ) (route : ℕ) where
 
   -- a call on the rig: the office that it names is lent its own areas and the shared words, and the other's areas stay as they were
   pub record CallGave (sources : Sources) (a : RigAreas) (c : Call) (n : ℕ) (b : RigAreas) : Type 0 where
-    pub gave : OfficeGave (sourceFor sources (c .office)) (c .office) (otherAreas a (c .office) .progress) (lentAreas a (c .office)) (c .event) n
-        (lentAreas b (c .office))
+    pub gave : OfficeGave (sourceFor sources (c .office)) (c .office) (otherAreas a (c .office) .progress)
+        (lentAreas a (c .office)) (c .event) n (lentAreas b (c .office))
     pub others : otherAreas b (c .office) ≡ otherAreas a (c .office)
 
   -- calls of both offices in any order, each lent the areas as the last left them
@@ -91,7 +91,8 @@ pub record FixedRig (lines : List Line) (done : Rig) (a : RigAreas) (n : ℕ) (b
   pub as-before : n ≢ 0 → b ≡ a
 
 pub record FixedOffice (bytes : List ℕ) (route : ℕ) : Type 0 where
-  pub turn : (source : List ℕ) (o : ℕ) (theirs : List Progress) (a b : LentAreas) (p n : ℕ) → OfficeGave bytes route source o theirs a (turnOf p) n b
+  pub turn : (source : List ℕ) (o : ℕ) (theirs : List Progress) (a b : LentAreas) (p n : ℕ)
+      → OfficeGave bytes route source o theirs a (turnOf p) n b
       → FixedLent (turnCallLinesFor bytes route source o (lentWords a) (flatWords theirs) p)
       (carryOutFor (recipe bytes route) source o (lentWords a) p (nextAction (recipe bytes route) (lentWords a .own) p)) a n b
   pub deliver : (source : List ℕ) (o : ℕ) (theirs : List Progress) (a b : LentAreas) (m n : ℕ)
@@ -127,7 +128,8 @@ module _ (bytes : List ℕ) (route : ℕ) (sources : Sources) (start : RigAreas)
     -- number by number and word by word the run over words, which has what the request asks
     pub numbers-are : numbers ≡ answers (rigCalls bytes route sources) (rigWords start) calls
     pub words-are : rigWords b ≡ last (rigCalls bytes route sources) (rigWords start) calls
-    pub demand : Demand208 (rigCalls bytes route sources) (rigWords start) calls (recipe bytes route) sources (rigCollects bytes route sources)
+    pub demand : Demand208 (rigCalls bytes route sources) (rigWords start) calls (recipe bytes route) sources
+        (rigCollects bytes route sources)
     -- what it says of a further call: some call of one of the two gives 0 exactly while either has fewer steps
     pub goes-on : (stepsOf 0 < total (recipe bytes route)) ⊎ (stepsOf 1 < total (recipe bytes route))
         → (c : Call) × ((n : ℕ) (d : RigAreas) → CallGave bytes route sources b c n d → n ≡ 0)

@@ -1,12 +1,13 @@
 // The offered calls with C linkage: over progress records as structs a fresh start, a turn, a delivery, collecting;
-// over words the sweep, a plan's figures, a message's line and its hops; over bytes the recipe writer. The word `route` is 0 for direct
-// passing, any other for indirect.
+// over words the sweep, a plan's figures, a message's line and its hops, a source from soundings; over bytes the recipe writer. The word
+// `route` is 0 for direct passing, any other for indirect.
 ghost use mathlib.Core.Path.{_≡_};
 ghost use Rattle.machine.specs.Machine.{stateOf};
 ghost use Rattle.engine.specs.Calls.{answer, freshCall, turnCall, deliverCall, collectCall, sweepCall};
 ghost use Rattle.records.specs.Records.{flatWords};
 ghost use Rattle.writer.specs.Fields.{fields};
 ghost use Rattle.writer.specs.Writing.{writeCall};
+ghost use Rattle.soundings.specs.Soundings.{fillCall};
 ghost use Rattle.calls.specs.PlanCalls.{summaryCall, messageCall, hopsCall};
 use records::Progress;
 
@@ -212,4 +213,17 @@ pub extern "C" fn rolwyddac_write(
         boundary,
         space,
     )
+}
+
+// The source filled from a file of soundings: for each cell the depth of the record that counts, or the value.
+#[no_mangle]
+pub extern "C" fn rolwyddac_soundings(
+    encoded: &[u8],
+    file: &[u8],
+    value: u32,
+    source: &mut [u32],
+) -> u32
+    ensures { λ r. ⌜ answer r (now (source .exit)) ≡ fillCall (now (encoded .entry)) (now (file .entry)) value (now (source .entry)) ⌝ }
+{
+    soundings::fill(encoded, file, value, source)
 }

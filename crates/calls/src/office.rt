@@ -24,9 +24,11 @@ pub extern "C" fn rolwyddac_office_turn(
     office: u32,
     processor: u32,
 ) -> u32
-    ensures { λ r. ⌜ answer r (lentOf (stateOf (now (memories .exit)) (now (buffer .exit)) (flatWords (now (progress .exit))) (now (status .exit))) (now (engaged .exit)))
+    ensures { λ r. ⌜ answer r (lentOf (stateOf (now (memories .exit)) (now (buffer .exit)) (flatWords (now (progress .exit)))
+        (now (status .exit))) (now (engaged .exit)))
         ≡ turnCallFor (now (encoded .entry)) route (now (source .entry)) office
-        (lentOf (stateOf (now (memories .entry)) (now (buffer .entry)) (flatWords (now (progress .entry))) (now (status .entry))) (now (engaged .entry)))
+        (lentOf (stateOf (now (memories .entry)) (now (buffer .entry)) (flatWords (now (progress .entry))) (now (status .entry)))
+        (now (engaged .entry)))
         (flatWords (now (other .entry))) processor ⌝ }
 {
     let own = records::flatten(progress);
@@ -63,9 +65,11 @@ pub extern "C" fn rolwyddac_office_deliver(
     office: u32,
     message: u32,
 ) -> u32
-    ensures { λ r. ⌜ answer r (lentOf (stateOf (now (memories .entry)) (now (buffer .entry)) (flatWords (now (progress .entry))) (now (status .exit))) (now (engaged .entry)))
+    ensures { λ r. ⌜ answer r (lentOf (stateOf (now (memories .entry)) (now (buffer .entry)) (flatWords (now (progress .entry)))
+        (now (status .exit))) (now (engaged .entry)))
         ≡ deliverCallFor (now (encoded .entry)) route (now (source .entry)) office
-        (lentOf (stateOf (now (memories .entry)) (now (buffer .entry)) (flatWords (now (progress .entry))) (now (status .entry))) (now (engaged .entry)))
+        (lentOf (stateOf (now (memories .entry)) (now (buffer .entry)) (flatWords (now (progress .entry))) (now (status .entry)))
+        (now (engaged .entry)))
         (flatWords (now (other .entry))) message ⌝ }
 {
     let own = records::flatten(progress);
@@ -102,7 +106,8 @@ pub extern "C" fn rolwyddac_office_collect(
 ) -> u32
     ensures { λ r. ⌜ answer r (now (grid .exit))
         ≡ collectCallFor (now (encoded .entry)) route (now (source .entry)) office
-        (lentOf (stateOf (now (memories .entry)) (now (buffer .entry)) (flatWords (now (progress .entry))) (now (status .entry))) (now (engaged .entry)))
+        (lentOf (stateOf (now (memories .entry)) (now (buffer .entry)) (flatWords (now (progress .entry))) (now (status .entry)))
+        (now (engaged .entry)))
         (flatWords (now (other .entry))) (now (grid .entry)) ⌝ }
 {
     let own = records::flatten(progress);
@@ -139,11 +144,15 @@ pub extern "C" fn rolwyddac_fresh_both(
     second_status: &mut [u8],
     engaged: &mut [u32],
 ) -> u32
-    ensures { λ n. ⌜ answer n (rigOf (stateOf (now («first_memories» .exit)) (now («first_buffer» .exit)) (flatWords (now («first_progress» .exit))) (now («first_status» .exit)))
-        (stateOf (now («second_memories» .exit)) (now («second_buffer» .exit)) (flatWords (now («second_progress» .exit))) (now («second_status» .exit))) (now (engaged .exit)))
+    ensures { λ n. ⌜ answer n (rigOf (stateOf (now («first_memories» .exit)) (now («first_buffer» .exit))
+        (flatWords (now («first_progress» .exit))) (now («first_status» .exit)))
+        (stateOf (now («second_memories» .exit)) (now («second_buffer» .exit)) (flatWords (now («second_progress» .exit)))
+        (now («second_status» .exit))) (now (engaged .exit)))
         ≡ freshRigCall (now (encoded .entry)) route (sourcesOf (now («first_source» .entry)) (now («second_source» .entry)))
-        (rigOf (stateOf (now («first_memories» .entry)) (now («first_buffer» .entry)) (flatWords (now («first_progress» .entry))) (now («first_status» .entry)))
-        (stateOf (now («second_memories» .entry)) (now («second_buffer» .entry)) (flatWords (now («second_progress» .entry))) (now («second_status» .entry))) (now (engaged .entry))) ⌝ }
+        (rigOf (stateOf (now («first_memories» .entry)) (now («first_buffer» .entry)) (flatWords (now («first_progress» .entry)))
+        (now («first_status» .entry)))
+        (stateOf (now («second_memories» .entry)) (now («second_buffer» .entry)) (flatWords (now («second_progress» .entry)))
+        (now («second_status» .entry))) (now (engaged .entry))) ⌝ }
 {
     let first_words = 3 * first_progress.len();
     let second_words = 3 * second_progress.len();

@@ -1,0 +1,4 @@
+pub mod Best
+pub mod Sifting
+pub mod Returns
+pub mod Computed

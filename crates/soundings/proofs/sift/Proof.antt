@@ -1,0 +1,67 @@
+-- `soundings::sift` meets its contract: the records passed name cells of the box, and are noted.
+use Prim.Native.Nat.{_-_}
+use mathlib.Core.Path.{_≡_}
+use mathlib.Core.Bool.{true≢false}
+use native.Mathlib.Omega.{arith}
+use Rattle.nest.specs.Nest.{records}
+use Rattle.soundings.specs.Sifting.{depthIn}
+use Rattle.soundings.proofs.Sifting as S
+use borrow.Author.Needs.{needs}
+use Rattle.soundings.proofs.sift.Statement.{statement}
+use Rattle.soundings.proofs.sift.Tie as tie
+
+abbrev Inv-loop : tie.InvT-loop
+Inv-loop file size best₀ n r₀ best r = S.Sifting size file (depthIn best₀) best r
+
+abbrev μ-loop : tie.MeasureT-loop
+μ-loop file size best₀ n r₀ best r = n - r
+
+loop-holds : tie.Need-loop-holds Inv-loop μ-loop
+loop-holds c = record { few = omega arith; in-box = S.off-none _ _; sifted = c .before .pre .1 }
+
+cell-of-requires : tie.Need-cell-of-requires Inv-loop μ-loop
+cell-of-requires c κs = search needs
+
+returns : tie.Need-returns Inv-loop μ-loop
+returns c = (S.off-yes _ _ (c .before .before .before .loop .r) _ (c .before .before .loop-test .taken) (c .before .cell-of .ensures) (c .if1 .taken), λ e. absurd (true≢false e))
+
+note-requires : tie.Need-note-requires Inv-loop μ-loop
+note-requires c κs = (c .before .before .before .loop-test .taken, (omega (arith, c .before .before .before .before .before .before .pre .0), c .before .before .before .before .loop .inv .sifted .long))
+
+add-r : tie.Need-add-r Inv-loop μ-loop
+add-r c = search needs
+
+loop-less : tie.Need-loop-less Inv-loop μ-loop
+loop-less c = search needs
+
+loop-again : tie.Need-loop-again Inv-loop μ-loop
+loop-again c =
+    let x = c .before .before .before .before .before .loop .inv in
+    record {
+      few = omega arith;
+      in-box = S.off-more _ _ _ _ (x .in-box) (c .before .before .before .cell-of .ensures) (c .before .before .if1 .left);
+      sifted =
+          S.sifted-more _ (λ i. omega (arith, c .before .before .before .before .before .before .shared-slice-known .given i)) _ _ _ _ _ (x .sifted) (c .before .before .before .cell-of .ensures)
+          (c .before .before .if1 .left) (c .before .before .before .before .before .before .before .pre .0) _ (c .note .ensures);
+    }
+
+returns-2 : tie.Need-returns-2 Inv-loop μ-loop
+returns-2 c =
+    let x = c .before .loop .inv in
+    let e : c .before .loop .r ≡ records (c .before .before .before .args .file .now) = omega (arith, x .few, c .loop-test .left) in
+    (S.off-end _ _ _ e (x .in-box), λ z. rw e at (x .sifted))
+
+pub sift-spec : {M : Type 1} → statement M
+sift-spec =
+    tie.close
+    (tie.spec
+    Inv-loop
+    μ-loop
+    loop-holds
+    cell-of-requires
+    returns
+    note-requires
+    add-r
+    loop-less
+    loop-again
+    returns-2)

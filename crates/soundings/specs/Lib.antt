@@ -1,0 +1,3 @@
+pub mod Soundings
+pub mod Ground
+pub mod Sifting
