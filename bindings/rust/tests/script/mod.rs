@@ -76,7 +76,11 @@ fn filled(rule: u8, a: u32) -> impl FnMut() -> u32 {
             1 => x.wrapping_add(1),
             _ => drawn(x),
         };
-        if rule == 3 { x >> 30 } else { x }
+        if rule == 3 {
+            x >> 30
+        } else {
+            x
+        }
     }
 }
 
