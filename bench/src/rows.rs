@@ -416,8 +416,8 @@ fn printed(engine: &dyn Engine, encoded: &[u8], route: Route) -> String {
     text
 }
 
-/// Do the stored outputs know bounds? They do once W-209 has landed.
-const STORED_WITH_SHAPES: bool = false;
+/// The stored outputs know bounds.
+const STORED_WITH_SHAPES: bool = true;
 
 /// Is a case for an engine? One with a record of kind 5 is so where both it and the stored outputs know shapes, or
 /// neither does.

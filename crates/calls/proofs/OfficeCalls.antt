@@ -16,14 +16,16 @@ use Rattle.machine.specs.Plan.{Plan}
 use Rattle.machine.specs.Machine.{stateOf, Answered, waiting, tilesLeft}
 use Rattle.offices.specs.Offices.{Lent, lentOf, fitFor, heldByOther, turnLinesFor}
 use Rattle.nest.specs.declared.Reading.{Reading}
-use Rattle.nest.specs.Nest.{readLines, readingOf}
+use Rattle.nest.specs.Reader.{readLines, readingOf}
 use Rattle.nest.proofs.Numbered.{numbered}
 use Rattle.records.specs.declared.Progress.{Progress}
 use Rattle.records.specs.Records.{flatWords}
 use Rattle.records.proofs.Words.{length-words}
 use Rattle.engine.specs.Calls.{answer, recipe}
 use Rattle.engine.proofs.Lines.{and-right, call-read, call-later, call-done}
-use Rattle.engine.proofs.AsSteps.{front}
+use Rattle.layout.specs.Sizes.{routeOf}
+use Rattle.routes.specs.Routes.{linesFor}
+use Rattle.routes.proofs.Laws.{front, numbered-for}
 use Rattle.rig.specs.Calls.{areasFor, turnCallFor, memoriesLong, lookNumber}
 use Rattle.rig.proofs.Lines.{lengths-are}
 use Rattle.calls.specs.OfficeCalls.{lookWords, lookCall}
@@ -41,9 +43,9 @@ module _ (bytes : List ℕ) (route : ℕ) (source : List ℕ) (o : ℕ) (l : Len
   turn-inside : turnCallFor bytes route source o l theirs b .number ≡ 0 → 3 * b + 2 < length (l .own .progress)
   unfolding turnCallFor
   turn-inside z =
-      let r = front (readLines bytes) (line 9 (not (areasFor p source l theirs)) ∷ turnLinesFor p o l theirs b) z in
+      let r = front (linesFor (routeOf route) bytes) (line 9 (not (areasFor p source l theirs)) ∷ turnLinesFor p o l theirs b) z in
       let a = none-first 9 (not (areasFor p source l theirs)) (turnLinesFor p o l theirs b) (λ q. omega arith)
-      (sym (first-behind (readLines bytes) _ (numbered bytes) r) ∙ z) in
+      (sym (first-behind (linesFor (routeOf route) bytes) _ (numbered-for (routeOf route) bytes) r) ∙ z) in
       let u = none-first 11 (not (leb o 1)) (line 10 (not (fitFor p o l theirs)) ∷ line 11 (not (ltb b (p .processors))) ∷ later)
       (λ q. omega arith) (a .1) in
       let f = none-first 10 (not (fitFor p o l theirs)) (line 11 (not (ltb b (p .processors))) ∷ later) (λ q. omega arith) (u .1) in

@@ -20,7 +20,7 @@ use Rattle.machine.specs.Runs.{Event, steps, total}
 use Rattle.nest.specs.declared.Reading.{Reading}
 use Rattle.nest.specs.Nest.{cells, processors}
 use Rattle.base.specs.Lists.{Bytes}
-use Rattle.nest.specs.Nest.{readLines, nestOf, readingOf}
+use Rattle.nest.specs.Reader.{readLines, nestOf, readingOf}
 use Rattle.nest.proofs.Facts.{accepted}
 use Rattle.layout.specs.declared.Sizes.{Sizes}
 use Rattle.layout.specs.Sizes.{Sized, routeOf}
@@ -33,6 +33,8 @@ use Rattle.engine.proofs.Demands.{demands}
 use Rattle.drive.specs.Drive.{roundsOf, Driven}
 use Rattle.drive.specs.declared.Order.{Order}
 use Rattle.nest.proofs.Numbered.{numbered}
+use Rattle.routes.specs.Routes.{linesFor}
+use Rattle.routes.proofs.Laws.{numbered-for, open-direct}
 use Rattle.drive.proofs.Whole.{behind-none, ended}
 use Rattle.comparison.specs.declared.Extent.{Extent}
 use Rattle.comparison.specs.Agreement.{isBeyond, sourceOf, sameWords, driven, ran, Outcome, outcome, agreeing, compared, ranAndCompared, orderOf, fronts, Within, Roomy, Agreed}
@@ -45,7 +47,7 @@ module _ (bytes source : List ℕ) (s : State) where
   fresh-says : freshCall bytes 0 source s .number ≡ 0 → length source ≡ recipe bytes 0 .cells
   unfolding freshCall areas
   fresh-says z =
-      let a = none-first 9 _ [] (λ e. omega arith) (behind-none (readLines bytes) _ (numbered bytes) z) in
+      let a = none-first 9 _ [] (λ e. omega arith) (behind-none (linesFor (routeOf 0) bytes) _ (numbered-for (routeOf 0) bytes) z) in
       eqb-true _ _ (both (true-not (a .0)) .0)
 
   -- it gives 0 where the recipe is accepted and the areas have their lengths
@@ -55,7 +57,7 @@ module _ (bytes source : List ℕ) (s : State) where
       → freshCall bytes 0 source s .number ≡ 0
   unfolding freshCall areas firstOf
   fresh-goes z a b c d e =
-      first-behind (readLines bytes) _ (numbered bytes) z
+      first-behind (linesFor (routeOf 0) bytes) _ (numbered-for (routeOf 0) bytes) (open-direct bytes z)
       ∙ first-false 9 _ [] (not-true (and-true (eq-eqb _ _ a) (and-true (eq-eqb _ _ b) (and-true (eq-eqb _ _ c) (and-true (eq-eqb _ _ d) (eq-eqb _ _ e))))))
 
   sweep-goes : (grid : List ℕ) → firstOf (readLines bytes) ≡ 0 → length source ≡ recipe bytes 0 .cells → length grid ≡ recipe bytes 0 .cells

@@ -18,8 +18,9 @@ use Rattle.machine.specs.Plan.{count}
 use Rattle.machine.specs.Machine.{State, Answered}
 use Rattle.machine.specs.Runs.{Event, turnOf, deliveryOf, stateAfter, answersTo, total, steps, Demand3}
 use Rattle.base.specs.Lists.{Bytes}
-use Rattle.nest.specs.Nest.{readLines}
-use Rattle.nest.proofs.Numbered.{numbered}
+use Rattle.layout.specs.Sizes.{routeOf}
+use Rattle.routes.specs.Routes.{linesFor}
+use Rattle.routes.proofs.Laws.{numbered-for}
 use Rattle.engine.specs.Calls.{recipe, freshCall, turnCall, deliverCall, collectCall}
 use Rattle.engine.specs.Demands.{calls}
 use Rattle.engine.proofs.Demands.{demands}
@@ -49,7 +50,7 @@ module _ (bytes source : List ℕ) (s : State) where
   pub turn-low : (b : ℕ) → turnCall bytes 0 source s b .number ≡ 0 → b < recipe bytes 0 .processors
   unfolding turnCall
   turn-low b z =
-      let x = behind-none (readLines bytes) _ (numbered bytes) z in
+      let x = behind-none (linesFor (routeOf 0) bytes) _ (numbered-for (routeOf 0) bytes) z in
       let y = none-first 9 _ _ (λ e. omega arith) x in
       let w = none-first 10 _ _ (λ e. omega arith) (y .1) in
       let v = none-first 11 _ _ (λ e. omega arith) (w .1) in
@@ -58,7 +59,7 @@ module _ (bytes source : List ℕ) (s : State) where
   pub delivery-low : (m : ℕ) → deliverCall bytes 0 source s m .number ≡ 0 → (m < count (recipe bytes 0)) × (getD (s .status) m 0 ≡ 1)
   unfolding deliverCall
   delivery-low m z =
-      let x = behind-none (readLines bytes) _ (numbered bytes) z in
+      let x = behind-none (linesFor (routeOf 0) bytes) _ (numbered-for (routeOf 0) bytes) z in
       let y = none-first 9 _ _ (λ e. omega arith) x in
       let w = none-first 10 _ _ (λ e. omega arith) (y .1) in
       let v = none-first 11 _ _ (λ e. omega arith) (w .1) in

@@ -157,6 +157,10 @@ pub fn sweep(encoded: &[u8], source: &[u32], grid: &mut [u32]) -> u32
     if grid.len() != sizes.cells {
         return 9;
     }
-    values::sweep(nest, sizes, source, grid);
+    if nest.bounds == 0 {
+        values::sweep(nest, sizes, source, grid);
+        return 0;
+    }
+    shaped_values::sweep(nest, sizes, source, grid);
     0
 }

@@ -3,7 +3,7 @@ use Prim.Native.Nat.{_-_}
 use mathlib.Core.Path.{_≡_}
 use mathlib.Core.Bool.{true≢false}
 use native.Mathlib.Omega.{arith}
-use Rattle.nest.specs.Nest.{records}
+use Rattle.nest.specs.Reader.{records}
 use Rattle.soundings.specs.Sifting.{depthIn}
 use Rattle.soundings.proofs.Sifting as S
 use borrow.Author.Needs.{needs}

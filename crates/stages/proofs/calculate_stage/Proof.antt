@@ -43,7 +43,7 @@ same-length : tie.Need-same-length
 same-length c = search needs
 
 returns : tie.Need-returns
-returns c = let S = c .before .before .before .before .before .before .before .before in let A = S .args in let G = c .before .before .before .before .calculate in let n = c .before .count-at in λ buffer l status f. stages.calculated (A .sizes .route) (A .nest) (stateOf (A .memories .now) buffer l status) (A .processor) (A .tile) (A .sizes .cells) (S .pre .0 .0 .cells) (A .source .now) (G .last .1 .1 .1 .0) _ (n .result) (parts.room (processors (A .nest)) (A .processor) (A .sizes .cells) (cells (A .nest)) _ (S .pre .0 .1 .1 .0) (S .pre .0 .0 .cells) (S .pre .1 .1 .0)) (G .kept .1 .1 .1 .0) (G .ensures) (n .ensures .0) (c .next-record .ensures l (A .processor) ∙ ap (λ (k : ℕ). pick (ltb 0 (n .result)) (setProgress l (A .processor) k 2 0) (setProgress l (A .processor) (k + 1) 0 0)) f)
+returns c = let S = c .before .before .before .before .before .before .before .before in let A = S .args in let G = c .before .before .before .before .calculate in let n = c .before .count-at in λ buffer l status f. stages.calculated (A .sizes .route) (A .nest) (stateOf (A .memories .now) buffer l status) (A .processor) (A .tile) (A .sizes .cells) (S .pre .0 .0 .cells) (A .source .now) (G .last .1 .1 .1 .1 .0) _ (n .result) (parts.room (processors (A .nest)) (A .processor) (A .sizes .cells) (cells (A .nest)) _ (S .pre .0 .1 .1 .0) (S .pre .0 .0 .cells) (S .pre .1 .1 .0)) (G .kept .1 .1 .1 .1 .0) (G .ensures) (n .ensures .0) (c .next-record .ensures l (A .processor) ∙ ap (λ (k : ℕ). pick (ltb 0 (n .result)) (setProgress l (A .processor) k 2 0) (setProgress l (A .processor) (k + 1) 0 0)) f)
 
 pub calculate-stage-spec : {M : Type 1} → statement M
 calculate-stage-spec =

@@ -5,7 +5,7 @@ use borrow.Author.Needs.{needs}
 use borrow.Author.Tests.{eq-eqb, ne-eqb}
 use lib.ListN.{getD}
 use Rattle.base.proofs.Tests.{and-false, and-no, and-left}
-use Rattle.plan.specs.Messages.{planOf}
+use Rattle.plan.specs.Shaped.{planOf}
 use Rattle.stages.proofs.Stages as stages
 use Rattle.stages.proofs.fit_record.Statement.{statement}
 use Rattle.stages.proofs.fit_record.Tie as tie
@@ -53,7 +53,7 @@ tile-count-requires : tie.Need-tile-count-requires
 tile-count-requires c κs = search needs
 
 tile-at-requires : tie.Need-tile-at-requires
-tile-at-requires c κs = (c .before .before .before .before .before .before .before .before .before .pre .0, omega (arith, c .before .before .tile-count .ensures .0, c .before .if1 .taken))
+tile-at-requires c κs = let S = c .before .before .before .before .before .before .before .before .before in (S .pre .0, (S .pre .1 .0, omega (arith, c .before .before .tile-count .ensures .0, c .before .if1 .taken)))
 
 count-at-requires : tie.Need-count-at-requires
 count-at-requires c κs = search needs

@@ -8,7 +8,7 @@ use Rattle.base.specs.Tests.{every}
 use Rattle.base.proofs.Tests.{every-not}
 use Rattle.machine.specs.Machine.{fitRecord}
 use Rattle.nest.specs.Nest.{processors}
-use Rattle.plan.specs.Messages.{planOf}
+use Rattle.plan.specs.Shaped.{planOf}
 use Rattle.stages.specs.Progress.{progressOnly}
 use Rattle.stages.proofs.Parts as parts
 use Rattle.stages.proofs.fit_records.Statement.{statement}

@@ -13,13 +13,13 @@ abbrev μ-loop : tie.MeasureT-loop
 μ-loop nest sizes lens status tile n j₀ j = n - j
 
 count-at-requires : tie.Need-count-at-requires Inv-loop μ-loop
-count-at-requires c κs = let S = c .before in (S .pre .0 .0, S .pre .0 .1)
+count-at-requires c κs = c .before .pre .0
 
 loop-holds : tie.Need-loop-holds Inv-loop μ-loop
 loop-holds c = record { low = omega arith; all = c .count-at .ensures .0; is = refl }
 
 nth-at-requires : tie.Need-nth-at-requires Inv-loop μ-loop
-nth-at-requires c κs = let S = c .before .before .before .before in ((S .pre .0 .0, S .pre .0 .1), omega (arith, c .before .before .count-at .ensures .0, c .loop-test .taken))
+nth-at-requires c κs = let S = c .before .before .before .before in (S .pre .0, omega (arith, c .before .before .count-at .ensures .0, c .loop-test .taken))
 
 shared-slice-read-if1 : tie.Need-shared-slice-read-if1 Inv-loop μ-loop
 shared-slice-read-if1 c = let S = c .before .before .before .before .before .before in omega (arith, c .before .nth-at .ensures .number, c .before .nth-at .ensures .low, S .pre .1)

@@ -10,17 +10,17 @@ use Rattle.base.proofs.Tests.{some-one}
 use Rattle.machine.specs.Plan.{tilesOf}
 use Rattle.machine.specs.Machine.{tilesLeft}
 use Rattle.nest.specs.Nest.{processors}
-use Rattle.plan.specs.Messages.{planOf}
+use Rattle.plan.specs.Shaped.{planOf}
 use Rattle.stages.specs.Progress.{progressOnly}
 use Rattle.stages.proofs.Parts as parts
 use Rattle.stages.proofs.tiles_left.Statement.{statement}
 use Rattle.stages.proofs.tiles_left.Tie as tie
 
 abbrev Inv-loop : tie.InvT-loop
-Inv-loop nest sizes progress n b₀ b = (b ≤ n) × (some (tilesLeft (planOf (sizes .route) nest) (progressOnly progress)) b ≡ false)
+Inv-loop nest sizes lens progress n b₀ b = (b ≤ n) × (some (tilesLeft (planOf (sizes .route) nest) (progressOnly progress)) b ≡ false)
 
 abbrev μ-loop : tie.MeasureT-loop
-μ-loop nest sizes progress n b₀ b = n - b
+μ-loop nest sizes lens progress n b₀ b = n - b
 
 loop-holds : tie.Need-loop-holds Inv-loop μ-loop
 loop-holds c = let A = c .before .args in (omega arith, parts.some-start (tilesLeft (planOf (A .sizes .route) (A .nest)) (progressOnly (A .progress .now))))
@@ -32,13 +32,13 @@ mul-word-index-2 : tie.Need-mul-word-index-2 Inv-loop μ-loop
 mul-word-index-2 c = let S = c .before .before .before in omega (arith, c .loop-test .taken, S .pre .0 .processors, S .pre .0 .accepted .processors-most)
 
 shared-slice-read-word-index : tie.Need-shared-slice-read-word-index Inv-loop μ-loop
-shared-slice-read-word-index c = let S = c .before .before .before .before in omega (arith, c .before .loop-test .taken, S .pre .0 .processors, S .pre .1)
+shared-slice-read-word-index c = let S = c .before .before .before .before in omega (arith, c .before .loop-test .taken, S .pre .0 .processors, S .pre .1 .1)
 
 word-index-requires : tie.Need-word-index-requires Inv-loop μ-loop
 word-index-requires c κs = tt
 
 tile-count-requires : tie.Need-tile-count-requires Inv-loop μ-loop
-tile-count-requires c κs = c .before .before .before .before .before .pre .0
+tile-count-requires c κs = let S = c .before .before .before .before .before in (S .pre .0, S .pre .1 .0)
 
 returns : tie.Need-returns Inv-loop μ-loop
 unfolding tilesLeft

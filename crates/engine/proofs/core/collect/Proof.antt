@@ -3,38 +3,38 @@ use Prim.Native.Nat.{_-_}
 use mathlib.Core.Path.{refl, sym, _∙_}
 use native.Mathlib.Omega.{arith}
 use lib.ListN.{take, drop}
-use Rattle.nest.proofs.Answers.{accepted-read}
+use Rattle.routes.proofs.Laws.{accepted-for}
 use Rattle.machine.specs.Machine.{stateOf}
-use Rattle.plan.specs.Messages.{planOf}
+use Rattle.plan.specs.Shaped.{planOf}
 use Rattle.engine.proofs.Lines as lines
 use Rattle.engine.proofs.Reading as reading
 use borrow.Author.Needs.{needs}
 use Rattle.engine.proofs.core.collect.Statement.{statement}
 use Rattle.engine.proofs.core.collect.Tie as tie
 
-read-requires : tie.Need-read-requires
-read-requires c κs = search needs
+read-for-requires : tie.Need-read-for-requires
+read-for-requires c κs = search needs
 
 returns : tie.Need-returns
 returns c =
-    let read = c .before .read in
+    let read = c .before .read-for in
     let if1 = c .if1 in
     let A = c .before .before .before .before .before .before .before .before .args in
     λ l h. lines.collect-read (A .encoded .now) (A .route) (A .source .now) (stateOf (A .memories .now) (A .buffer .now) l (A .status .now)) (A .grid .now) (read .result .number)
-    (lines.read-number (A .encoded .now) (read .result) (read .ensures .0)) (if1 .taken)
+    (read .ensures .number) (if1 .taken)
 
 route-of-requires : tie.Need-route-of-requires
 route-of-requires c κs = search needs
 
 sizes-of-requires : tie.Need-sizes-of-requires
 sizes-of-requires c κs =
-    let read = c .before .before .before .read in
+    let read = c .before .before .before .read-for in
     let if1 = c .before .before .if1 in
-    accepted-read _ _ (read .ensures .0) (if1 .left) (read .ensures .1 (if1 .left))
+    accepted-for _ _ _ (read .ensures) (if1 .left)
 
 returns-2 : tie.Need-returns-2
 returns-2 c =
-    let read = c .before .before .before .before .before .before .read in
+    let read = c .before .before .before .before .before .before .read-for in
     let if1 = c .before .before .before .before .before .if1 in
     let route-of = c .before .before .before .route-of in
     let sizes-of = c .before .before .sizes-of in
@@ -42,19 +42,22 @@ returns-2 c =
     let A = c .before .before .before .before .before .before .before .before .before .before .before .before .before .args in
     let p = planOf (sizes-of .result .route) (read .result .nest) in
     λ l h. lines.collect-grid (A .encoded .now) (A .route) (A .source .now) (stateOf (A .memories .now) (A .buffer .now) l (A .status .now)) (A .grid .now) p
-    (lines.opened (A .encoded .now) (read .result) (read .ensures .0) (if1 .left) (sizes-of .ensures .1 ∙ route-of .ensures)) (λ q. if2 .taken (q ∙ sym (sizes-of .ensures .0 .cells)))
+    (lines.opened (A .encoded .now) (read .result) (read .ensures) (if1 .left) (sizes-of .ensures .1 ∙ route-of .ensures)) (λ q. if2 .taken (q ∙ sym (sizes-of .ensures .0 .cells)))
 
 fill-requires : tie.Need-fill-requires
 fill-requires c κs =
+    let read = c .before .before .before .before .before .before .before .read-for in
+    let if1 = c .before .before .before .before .before .before .if1 in
+    let route-of = c .before .before .before .before .route-of in
     let sizes-of = c .before .before .before .sizes-of in
-    (sizes-of .ensures .0, refl)
+    (sizes-of .ensures .0, (lines.routed _ (read .result) (read .ensures) (if1 .left) (sizes-of .ensures .1 ∙ route-of .ensures), refl))
 
 unfit-requires : tie.Need-unfit-requires
 unfit-requires c κs = search needs
 
 returns-3 : tie.Need-returns-3
 returns-3 c =
-    let read = c .before .before .before .before .before .before .before .before .before .before .before .read in
+    let read = c .before .before .before .before .before .before .before .before .before .before .before .read-for in
     let if1 = c .before .before .before .before .before .before .before .before .before .before .if1 in
     let route-of = c .before .before .before .before .before .before .before .before .route-of in
     let sizes-of = c .before .before .before .before .before .before .before .sizes-of in
@@ -64,7 +67,7 @@ returns-3 c =
     let A = c .before .before .before .before .before .before .before .before .before .before .before .before .before .before .before .before .before .before .args in
     let p = planOf (sizes-of .result .route) (read .result .nest) in
     λ l h. lines.collect-unfit (A .encoded .now) (A .route) (A .source .now) (stateOf (A .memories .now) (A .buffer .now) l (A .status .now)) (A .grid .now) p
-    (lines.opened (A .encoded .now) (read .result) (read .ensures .0) (if1 .left) (sizes-of .ensures .1 ∙ route-of .ensures)) (if2 .left ∙ sizes-of .ensures .0 .cells)
+    (lines.opened (A .encoded .now) (read .result) (read .ensures) (if1 .left) (sizes-of .ensures .1 ∙ route-of .ensures)) (if2 .left ∙ sizes-of .ensures .0 .cells)
     (unfit .result) (unfit .ensures .0 l h) (if3 .taken)
 
 sub-tiles-left : tie.Need-sub-tiles-left
@@ -84,7 +87,7 @@ part-tiles-left-end c =
 
 tiles-left-requires : tie.Need-tiles-left-requires
 tiles-left-requires c κs =
-    let read = c .before .before .before .before .before .before .before .before .before .before .before .before .before .before .read in
+    let read = c .before .before .before .before .before .before .before .before .before .before .before .before .before .before .read-for in
     let sizes-of = c .before .before .before .before .before .before .before .before .before .before .sizes-of in
     let unfit = c .before .before .before .before .unfit in
     let if3 = c .before .before .before .if3 in
@@ -101,7 +104,7 @@ tiles-left-requires c κs =
 
 returns-4 : tie.Need-returns-4
 returns-4 c =
-    let read = c .before .before .before .before .before .before .before .before .before .before .before .before .before .before .before .before .read in
+    let read = c .before .before .before .before .before .before .before .before .before .before .before .before .before .before .before .before .read-for in
     let if1 = c .before .before .before .before .before .before .before .before .before .before .before .before .before .before .before .if1 in
     let route-of = c .before .before .before .before .before .before .before .before .before .before .before .before .before .route-of in
     let sizes-of = c .before .before .before .before .before .before .before .before .before .before .before .before .sizes-of in
@@ -114,13 +117,13 @@ returns-4 c =
     let p = planOf (sizes-of .result .route) (read .result .nest) in
     let few = reading.few-words _ _ (sizes-of .ensures .0) (A .progress .count) (unfit .ensures .1 (if3 .left)) in
     λ l h. lines.collect-left (A .encoded .now) (A .route) (A .source .now) (stateOf (A .memories .now) (A .buffer .now) l (A .status .now)) (A .grid .now) p
-    (lines.opened (A .encoded .now) (read .result) (read .ensures .0) (if1 .left) (sizes-of .ensures .1 ∙ route-of .ensures)) (if2 .left ∙ sizes-of .ensures .0 .cells)
+    (lines.opened (A .encoded .now) (read .result) (read .ensures) (if1 .left) (sizes-of .ensures .1 ∙ route-of .ensures)) (if2 .left ∙ sizes-of .ensures .0 .cells)
     (unfit .result) (unfit .ensures .0 l h) (if3 .left) (tiles-left .result)
     (tiles-left .ensures ∙ sym (reading.left-as p _ l (reading.part-is (A .progress) l few h))) (if4 .taken)
 
 copy-cells-requires : tie.Need-copy-cells-requires
 copy-cells-requires c κs =
-    let read = c .before .before .before .before .before .before .before .before .before .before .before .before .before .before .before .before .before .read in
+    let read = c .before .before .before .before .before .before .before .before .before .before .before .before .before .before .before .before .before .read-for in
     let sizes-of = c .before .before .before .before .before .before .before .before .before .before .before .before .before .sizes-of in
     let if2 = c .before .before .before .before .before .before .before .before .before .before .before .if2 in
     let unfit = c .before .before .before .before .before .before .before .unfit in
@@ -144,7 +147,7 @@ same-length c = search needs
 
 returns-5 : tie.Need-returns-5
 returns-5 c =
-    let read = c .before .before .before .before .before .before .before .before .before .before .before .before .before .before .before .before .before .before .before .before .read in
+    let read = c .before .before .before .before .before .before .before .before .before .before .before .before .before .before .before .before .before .before .before .before .read-for in
     let if1 = c .before .before .before .before .before .before .before .before .before .before .before .before .before .before .before .before .before .before .before .if1 in
     let route-of = c .before .before .before .before .before .before .before .before .before .before .before .before .before .before .before .before .before .route-of in
     let sizes-of = c .before .before .before .before .before .before .before .before .before .before .before .before .before .before .before .before .sizes-of in
@@ -158,7 +161,7 @@ returns-5 c =
     let p = planOf (sizes-of .result .route) (read .result .nest) in
     let few = reading.few-words _ _ (sizes-of .ensures .0) (A .progress .count) (unfit .ensures .1 (if3 .left)) in
     λ l h. lines.collect-done (A .encoded .now) (A .route) (A .source .now) (stateOf (A .memories .now) (A .buffer .now) l (A .status .now)) (A .grid .now) p
-    (lines.opened (A .encoded .now) (read .result) (read .ensures .0) (if1 .left) (sizes-of .ensures .1 ∙ route-of .ensures)) (if2 .left ∙ sizes-of .ensures .0 .cells)
+    (lines.opened (A .encoded .now) (read .result) (read .ensures) (if1 .left) (sizes-of .ensures .1 ∙ route-of .ensures)) (if2 .left ∙ sizes-of .ensures .0 .cells)
     (unfit .result) (unfit .ensures .0 l h) (if3 .left) (tiles-left .result)
     (tiles-left .ensures ∙ sym (reading.left-as p _ l (reading.part-is (A .progress) l few h))) (copy-cells .last .1 .1 .1 .0) (if4 .left) (copy-cells .ensures)
 
@@ -166,7 +169,7 @@ pub collect-spec : {M : Type 1} → statement M
 collect-spec =
     tie.close
     (tie.spec
-    read-requires
+    read-for-requires
     returns
     route-of-requires
     sizes-of-requires

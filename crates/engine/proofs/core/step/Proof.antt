@@ -6,7 +6,7 @@ use borrow.Author.Tests.{not-true, not-false}
 use lib.ListN.{length, getD}
 use Rattle.machine.specs.Plan.{tilesOf}
 use Rattle.machine.specs.Machine.{stateOf}
-use Rattle.plan.specs.Messages.{planOf}
+use Rattle.plan.specs.Shaped.{planOf}
 use Rattle.stages.specs.Progress.{setRecord}
 use Rattle.engine.proofs.Turns as turns
 use Rattle.engine.proofs.Reading as reading

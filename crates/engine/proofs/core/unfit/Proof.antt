@@ -4,7 +4,7 @@ use native.Mathlib.Omega.{arith}
 use lib.ListN.{take, drop}
 use borrow.Author.Tests.{not-true, not-false}
 use Rattle.machine.specs.Machine.{stateOf}
-use Rattle.plan.specs.Messages.{planOf}
+use Rattle.plan.specs.Shaped.{planOf}
 use Rattle.engine.proofs.Lines as lines
 use Rattle.engine.proofs.Reading as reading
 use borrow.Author.Needs.{needs}

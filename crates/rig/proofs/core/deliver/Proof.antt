@@ -1,6 +1,6 @@
 -- Each return is the call by the line that counts.
 use Rattle.machine.specs.Machine.{stateOf}
-use Rattle.plan.specs.Messages.{planOf}
+use Rattle.plan.specs.Shaped.{planOf}
 use Rattle.offices.specs.Offices.{lentOf}
 use Rattle.engine.proofs.Reading as reading
 use Rattle.rig.proofs.Lines as lines

@@ -3,7 +3,7 @@ use mathlib.Core.Path.{sym, _∙_}
 use native.Mathlib.Omega.{arith}
 use borrow.Author.Tests.{not-true, not-false}
 use Rattle.machine.specs.Machine.{stateOf}
-use Rattle.plan.specs.Messages.{planOf}
+use Rattle.plan.specs.Shaped.{planOf}
 use Rattle.offices.specs.Offices.{rigOf, sourcesOf}
 use Rattle.engine.proofs.Lines.{Opened}
 use Rattle.rig.proofs.Starts as starts

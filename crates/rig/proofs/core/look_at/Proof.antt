@@ -3,7 +3,7 @@ use mathlib.Core.Path.{refl, sym, _∙_}
 use native.Mathlib.Omega.{arith}
 use borrow.Author.Tests.{lt-leb}
 use Rattle.nest.proofs.Answers.{accepted-read}
-use Rattle.plan.specs.Messages.{planOf}
+use Rattle.plan.specs.Shaped.{planOf}
 use Rattle.engine.proofs.Lines as lines
 use Rattle.engine.proofs.Lines.{Opened}
 use Rattle.engine.specs.Calls.{recipe}
@@ -50,7 +50,7 @@ returns-2 c =
     let sizes-of = c .before .before .before .sizes-of in
     let sized = sizes-of .ensures .0 in
     let p = planOf (sizes-of .result .route) (read .result .nest) in
-    let op : Opened (A .encoded .now) 0 p = lines.opened (A .encoded .now) (read .result) (read .ensures .0) (if1 .left) (sizes-of .ensures .1 ∙ sym seeing.directly) in
+    let op : Opened (A .encoded .now) 0 p = lines.opened-direct (A .encoded .now) (read .result) (read .ensures .0) (if1 .left) (sizes-of .ensures .1) in
     let long = lines.area-is (read .result .nest) (sizes-of .result) sized in
     let unseen = c .unseen2 in
     seeing.not-seen (A .encoded .now) (A .office) (A .processor) (A .first) (A .second) (unseen .result) 9 (unseen .ensures) (λ z. omega arith)
@@ -67,7 +67,7 @@ returns-3 c =
     let sizes-of = c .before .before .before .before .sizes-of in
     let sized = sizes-of .ensures .0 in
     let p = planOf (sizes-of .result .route) (read .result .nest) in
-    let op : Opened (A .encoded .now) 0 p = lines.opened (A .encoded .now) (read .result) (read .ensures .0) (if1 .left) (sizes-of .ensures .1 ∙ sym seeing.directly) in
+    let op : Opened (A .encoded .now) 0 p = lines.opened-direct (A .encoded .now) (read .result) (read .ensures .0) (if1 .left) (sizes-of .ensures .1) in
     let long = lines.area-is (read .result .nest) (sizes-of .result) sized in
     let unseen = c .unseen3 in
     seeing.not-seen (A .encoded .now) (A .office) (A .processor) (A .first) (A .second) (unseen .result) 9 (unseen .ensures) (λ z. omega arith)
@@ -84,7 +84,7 @@ returns-4 c =
     let sizes-of = c .before .before .before .before .before .sizes-of in
     let sized = sizes-of .ensures .0 in
     let p = planOf (sizes-of .result .route) (read .result .nest) in
-    let op : Opened (A .encoded .now) 0 p = lines.opened (A .encoded .now) (read .result) (read .ensures .0) (if1 .left) (sizes-of .ensures .1 ∙ sym seeing.directly) in
+    let op : Opened (A .encoded .now) 0 p = lines.opened-direct (A .encoded .now) (read .result) (read .ensures .0) (if1 .left) (sizes-of .ensures .1) in
     let long = lines.area-is (read .result .nest) (sizes-of .result) sized in
     let unseen = c .unseen4 in
     seeing.not-seen (A .encoded .now) (A .office) (A .processor) (A .first) (A .second) (unseen .result) 11 (unseen .ensures) (λ z. omega arith)
@@ -101,7 +101,7 @@ returns-5 c =
     let sizes-of = c .before .before .before .before .before .before .before .sizes-of in
     let sized = sizes-of .ensures .0 in
     let p = planOf (sizes-of .result .route) (read .result .nest) in
-    let op : Opened (A .encoded .now) 0 p = lines.opened (A .encoded .now) (read .result) (read .ensures .0) (if1 .left) (sizes-of .ensures .1 ∙ sym seeing.directly) in
+    let op : Opened (A .encoded .now) 0 p = lines.opened-direct (A .encoded .now) (read .result) (read .ensures .0) (if1 .left) (sizes-of .ensures .1) in
     let long = lines.area-is (read .result .nest) (sizes-of .result) sized in
     let unseen = c .unseen5 in
     seeing.not-seen (A .encoded .now) (A .office) (A .processor) (A .first) (A .second) (unseen .result) 11 (unseen .ensures) (λ z. omega arith)
@@ -126,7 +126,7 @@ returns-6 c =
     let sizes-of = c .before .before .before .before .before .before .sizes-of in
     let sized = sizes-of .ensures .0 in
     let p = planOf (sizes-of .result .route) (read .result .nest) in
-    let op : Opened (A .encoded .now) 0 p = lines.opened (A .encoded .now) (read .result) (read .ensures .0) (if1 .left) (sizes-of .ensures .1 ∙ sym seeing.directly) in
+    let op : Opened (A .encoded .now) 0 p = lines.opened-direct (A .encoded .now) (read .result) (read .ensures .0) (if1 .left) (sizes-of .ensures .1) in
     let long = lines.area-is (read .result .nest) (sizes-of .result) sized in
     let low = lines.area-low (read .result .nest) (sizes-of .result) sized in (
       λ a d h k. seeing.look-found (A .encoded .now) a d (A .office) (A .processor) p op (sym h ∙ c .before .before .before .before .if2 .left ∙ long) (sym k ∙ c .before .before .before .if3 .left ∙ long) (omega (arith, c .before .before .if4 .left)) (omega (arith, c .if5 .left, sized .processors)),

@@ -5,7 +5,7 @@ use native.Mathlib.Omega.{arith}
 use lib.ListN.{take, drop}
 use borrow.Author.Tests.{leb-true}
 use Rattle.machine.specs.Machine.{stateOf}
-use Rattle.plan.specs.Messages.{planOf}
+use Rattle.plan.specs.Shaped.{planOf}
 use Rattle.offices.specs.Offices.{lentOf}
 use Rattle.offices.proofs.OneCall.{own-fits}
 use Rattle.engine.proofs.Reading as reading

@@ -5,7 +5,7 @@ use native.Mathlib.Omega.{arith}
 use lib.ListN.{take, drop}
 use borrow.Author.Tests.{not-true, not-false, le-leb, lt-leb}
 use Rattle.machine.specs.Machine.{stateOf}
-use Rattle.plan.specs.Messages.{planOf}
+use Rattle.plan.specs.Shaped.{planOf}
 use Rattle.offices.specs.Offices.{lentOf}
 use Rattle.engine.proofs.Lines as areas
 use Rattle.engine.proofs.Reading as reading

@@ -1,0 +1,29 @@
+-- `writer::bounds` meets its contract: one law for each return.
+use Rattle.writer.proofs.Loops as S
+use Rattle.writer.proofs.bounds.Statement.{statement}
+use Rattle.writer.proofs.bounds.Tie as tie
+
+returns : tie.Need-returns
+returns c = S.many-bounds (c .before .args .sides) (c .before .args .bounded) (c .before .args .earlier) (c .before .args .slopes) (c .before .args .offsets) (c .if1 .taken)
+
+returns-2 : tie.Need-returns-2
+returns-2 c = S.other-bounded (c .before .before .args .sides) (c .before .before .args .bounded) (c .before .before .args .earlier) (c .before .before .args .slopes) (c .before .before .args .offsets) (c .if2 .taken)
+
+returns-3 : tie.Need-returns-3
+returns-3 c = S.other-earlier (c .before .before .before .args .sides) (c .before .before .before .args .bounded) (c .before .before .before .args .earlier) (c .before .before .before .args .slopes) (c .before .before .before .args .offsets) (c .if3 .taken)
+
+returns-4 : tie.Need-returns-4
+returns-4 c = S.other-slopes (c .before .before .before .before .args .sides) (c .before .before .before .before .args .bounded) (c .before .before .before .before .args .earlier) (c .before .before .before .before .args .slopes) (c .before .before .before .before .args .offsets) (c .if4 .taken)
+
+returns-5 : tie.Need-returns-5
+returns-5 c = S.by-offsets (c .before .before .before .before .args .sides) (c .before .before .before .before .args .bounded) (c .before .before .before .before .args .earlier) (c .before .before .before .before .args .slopes) (c .before .before .before .before .args .offsets) (c .before .before .before .if1 .left) (c .before .before .if2 .left) (c .before .if3 .left) (c .if4 .left)
+
+pub bounds-spec : {M : Type 1} → statement M
+bounds-spec =
+    tie.close
+    (tie.spec
+    returns
+    returns-2
+    returns-3
+    returns-4
+    returns-5)

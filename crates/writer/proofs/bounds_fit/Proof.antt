@@ -1,0 +1,68 @@
+-- `writer::bounds_fit` meets its contract: each return is one part of the test.
+use mathlib.Core.Path.{sym, _∙_}
+use borrow.Author.Tests.{not-true, not-false}
+use Rattle.writer.proofs.Fitting as S
+use borrow.Author.Needs.{needs}
+use Rattle.writer.proofs.bounds_fit.Statement.{statement}
+use Rattle.writer.proofs.bounds_fit.Tie as tie
+
+slice-aggregate-fits-in : tie.Need-slice-aggregate-fits-in
+slice-aggregate-fits-in c = search needs
+
+fits-in-requires : tie.Need-fits-in-requires
+fits-in-requires c κs = search needs
+
+returns : tie.Need-returns
+returns c = S.unfit-bounds (c .before .before .before .before .args .nest) _ (λ q. q .sides) (sym (c .before .fits-in .ensures) ∙ not-true _ (c .if1 .taken))
+
+slice-aggregate-fits-in-2 : tie.Need-slice-aggregate-fits-in-2
+slice-aggregate-fits-in-2 c = search needs
+
+fits-in-requires-2 : tie.Need-fits-in-requires-2
+fits-in-requires-2 c κs = search needs
+
+returns-2 : tie.Need-returns-2
+returns-2 c = S.unfit-bounds (c .before .before .before .before .before .before .before .before .args .nest) _ (λ q. q .bounded) (sym (c .before .fits-in2 .ensures) ∙ not-true _ (c .if2 .taken))
+
+slice-aggregate-fits-in-3 : tie.Need-slice-aggregate-fits-in-3
+slice-aggregate-fits-in-3 c = search needs
+
+fits-in-requires-3 : tie.Need-fits-in-requires-3
+fits-in-requires-3 c κs = search needs
+
+returns-3 : tie.Need-returns-3
+returns-3 c = S.unfit-bounds (c .before .before .before .before .before .before .before .before .before .before .before .before .args .nest) _ (λ q. q .earlier) (sym (c .before .fits-in3 .ensures) ∙ not-true _ (c .if3 .taken))
+
+slice-aggregate-fits-in-4 : tie.Need-slice-aggregate-fits-in-4
+slice-aggregate-fits-in-4 c = search needs
+
+fits-in-requires-4 : tie.Need-fits-in-requires-4
+fits-in-requires-4 c κs = search needs
+
+returns-4 : tie.Need-returns-4
+returns-4 c = S.unfit-bounds (c .before .before .before .before .before .before .before .before .before .before .before .before .before .before .before .before .args .nest) _ (λ q. q .slopes) (sym (c .before .fits-in4 .ensures) ∙ not-true _ (c .if4 .taken))
+
+offsets-fit-requires : tie.Need-offsets-fit-requires
+offsets-fit-requires c κs = search needs
+
+returns-5 : tie.Need-returns-5
+returns-5 c = c .offsets-fit .ensures ∙ S.fit-bounds (c .before .before .before .before .before .before .before .before .before .before .before .before .before .before .before .before .before .args .nest) (sym (c .before .before .before .before .before .before .before .before .before .before .before .before .before .before .fits-in .ensures) ∙ not-false _ (c .before .before .before .before .before .before .before .before .before .before .before .before .before .if1 .left)) (sym (c .before .before .before .before .before .before .before .before .before .before .fits-in2 .ensures) ∙ not-false _ (c .before .before .before .before .before .before .before .before .before .if2 .left)) (sym (c .before .before .before .before .before .before .fits-in3 .ensures) ∙ not-false _ (c .before .before .before .before .before .if3 .left)) (sym (c .before .before .fits-in4 .ensures) ∙ not-false _ (c .before .if4 .left))
+
+pub bounds-fit-spec : {M : Type 1} → statement M
+bounds-fit-spec =
+    tie.close
+    (tie.spec
+    slice-aggregate-fits-in
+    fits-in-requires
+    returns
+    slice-aggregate-fits-in-2
+    fits-in-requires-2
+    returns-2
+    slice-aggregate-fits-in-3
+    fits-in-requires-3
+    returns-3
+    slice-aggregate-fits-in-4
+    fits-in-requires-4
+    returns-4
+    offsets-fit-requires
+    returns-5)
