@@ -9,6 +9,7 @@ ghost use Rattle.writer.specs.Fields.{fields};
 ghost use Rattle.writer.specs.Writing.{writeCall};
 ghost use Rattle.soundings.specs.Soundings.{fillCall};
 ghost use Rattle.calls.specs.PlanCalls.{summaryCall, messageCall, hopsCall};
+ghost use Rattle.calls.specs.ChartCalls.{lent, chartCall, chartLengthCall};
 use records::Progress;
 
 pub mod office; // office.rt: the calls for an office
@@ -183,6 +184,61 @@ pub extern "C" fn rolwyddac_hops(encoded: &[u8], m: u32, out: &mut [u32]) -> u32
         return number;
     }
     out[0] = told.hops;
+    0
+}
+
+// The grid's text for the charting desk at the front of the space, and its length in bytes.
+#[no_mangle]
+pub extern "C" fn rolwyddac_chart(
+    encoded: &[u8],
+    grid: &[u32],
+    x: i32,
+    y: i32,
+    cell_size: u32,
+    space: &mut [u8],
+    out: &mut [u32],
+) -> u32
+    ensures { λ r. ⌜ answer r (lent (now (space .exit)) (now (out .exit)))
+        ≡ chartCall (now (encoded .entry)) (now (grid .entry)) x y «cell_size» (lent (now (space .entry)) (now (out .entry))) ⌝ }
+{
+    if out.len() != 1 {
+        let told = chart::length_of(encoded, grid, x, y, cell_size);
+        let number = told.number;
+        if number != 0 {
+            return number;
+        }
+        return 9;
+    }
+    let told = chart::write(encoded, grid, x, y, cell_size, space);
+    let number = told.number;
+    if number != 0 {
+        return number;
+    }
+    out[0] = told.length;
+    0
+}
+
+// The length in bytes of that text.
+#[no_mangle]
+pub extern "C" fn rolwyddac_chart_length(
+    encoded: &[u8],
+    grid: &[u32],
+    x: i32,
+    y: i32,
+    cell_size: u32,
+    out: &mut [u32],
+) -> u32
+    ensures { λ r. ⌜ answer r (now (out .exit)) ≡ chartLengthCall (now (encoded .entry)) (now (grid .entry)) x y «cell_size» (now (out .entry)) ⌝ }
+{
+    let told = chart::length_of(encoded, grid, x, y, cell_size);
+    let number = told.number;
+    if number != 0 {
+        return number;
+    }
+    if out.len() != 1 {
+        return 9;
+    }
+    out[0] = told.length;
     0
 }
 

@@ -1,0 +1,5 @@
+pub mod Drawn
+pub mod Text
+pub mod Call
+pub mod Apart
+pub mod Longest
