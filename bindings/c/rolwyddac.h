@@ -238,6 +238,32 @@ uint32_t rolwyddac_look(const uint8_t *encoded, size_t encoded_length, const uin
 uint32_t rolwyddac_soundings(const uint8_t *encoded, size_t encoded_length, const uint8_t *file, size_t file_length,
                              uint32_t value, uint32_t *source, size_t source_length);
 
+/* Gives one processor a turn at a minute of the week, as rolwyddac_turn does, if it is open then. hours has 28 words a
+ * processor: 14 pairs of open and close, in minutes of the week, open below close and close at most 10,080; a pair of zeros
+ * is no window, and a faulty pair of any processor is 25.
+ * Numbers: 1 to 13, 16 to 18, 24, 25. A refusal leaves memories, buffer, progress and status as they were. */
+uint32_t rolwyddac_turn_at(const uint8_t *encoded, size_t encoded_length, uint32_t route, const uint32_t *source,
+                           size_t source_length, uint32_t *memories, size_t memories_length, uint32_t *buffer,
+                           size_t buffer_length, rolwyddac_progress *progress, size_t progress_length,
+                           uint8_t *status, size_t status_length, const uint32_t *hours, size_t hours_length,
+                           uint32_t minute, uint32_t processor);
+
+/* Gives one processor a turn for an office at a minute of the week, as rolwyddac_office_turn does, if it is open then.
+ * Numbers: 1 to 13, 16 to 19, 24, 25. A refusal leaves memories, buffer, progress, status and engaged as they were. */
+uint32_t rolwyddac_office_turn_at(const uint8_t *encoded, size_t encoded_length, uint32_t route,
+                                  const uint32_t *source, size_t source_length, uint32_t *memories,
+                                  size_t memories_length, uint32_t *buffer, size_t buffer_length,
+                                  rolwyddac_progress *progress, size_t progress_length, uint8_t *status,
+                                  size_t status_length, uint32_t *engaged, size_t engaged_length,
+                                  const rolwyddac_progress *other, size_t other_length, const uint32_t *hours,
+                                  size_t hours_length, uint32_t minute, uint32_t office, uint32_t processor);
+
+/* When a processor next opens, lent only the table of hours: writes two words to out, 1 and the minutes until then, 0 while it
+ * is open and going past the end of the week to the same table; or 0 and 0 where it never opens.
+ * Numbers: 1 to 8, 16 to 18; 9 if hours has not its length or out has not 2 words; 25; 11. A refusal leaves out as it was. */
+uint32_t rolwyddac_opens(const uint8_t *encoded, size_t encoded_length, const uint32_t *hours, size_t hours_length,
+                         uint32_t minute, uint32_t processor, uint32_t *out, size_t out_length);
+
 /* Writes the recipe of the fields to space: lengths, tiling (tile lengths) and counts (processor counts) have one
  * number a dimension; components has four numbers a distance, zero beyond the last dimension, and weights one. The
  * recipe has 16 bytes for each dimension and each distance, and 16 more. What was written is accepted and reads back

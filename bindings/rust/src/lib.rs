@@ -115,11 +115,21 @@ impl Sounding {
     }
 }
 
-/// Words that the summary, a message's line, its hops and a look take.
+/// When a processor next opens.
+#[derive(Clone, Copy, Debug, PartialEq, Eq)]
+pub enum Opening {
+    /// In so many minutes, going past the end of the week to the same table; 0 while it is open.
+    OpensIn(u32),
+    /// At no minute of the week.
+    Never,
+}
+
+/// Words that the summary, a message's line, its hops, a look and an opening take.
 const SUMMARY_WORDS: usize = 4;
 const MESSAGE_WORDS: usize = 5;
 const HOPS_WORDS: usize = 1;
 const LOOK_WORDS: usize = 2;
+const OPENS_WORDS: usize = 2;
 
 /// Declares each exported call and makes its safe form. A slice goes over as its pointer and its length; a number
 /// as it is, and so does a route, which is laid out as a word.
@@ -276,6 +286,32 @@ calls! {
     /// Refusals: 1 to 9, 16 to 18, 22.
     rolwyddac_soundings as soundings(encoded: &[u8], file: &[u8], value: u32, source: &mut [u32]);
 
+    /// Gives one processor a turn at a minute of the week, as [`turn`] does, if it is open then.
+    ///
+    /// `hours` has 28 words a processor: 14 pairs of open and close, in minutes of the week, open below close and close at most
+    /// 10,080; a pair of zeros is no window. A faulty pair of any processor is 25.
+    ///
+    /// Refusals: 1 to 13, 16 to 18, 24 and 25.
+    rolwyddac_turn_at as turn_at(
+        encoded: &[u8], route: Route, source: &[u32], memories: &mut [u32], buffer: &mut [u32],
+        progress: &mut [Progress], status: &mut [u8], hours: &[u32], minute: u32, processor: u32,
+    );
+
+    /// Gives one processor a turn for an office at a minute of the week, as [`office_turn`] does, if it is open then.
+    ///
+    /// Refusals: 1 to 13, 16 to 19, 24 and 25.
+    rolwyddac_office_turn_at as office_turn_at(
+        encoded: &[u8], route: Route, source: &[u32], memories: &mut [u32], buffer: &mut [u32],
+        progress: &mut [Progress], status: &mut [u8], engaged: &mut [u32], other: &[Progress], hours: &[u32],
+        minute: u32, office: u32, processor: u32,
+    );
+
+    /// When a processor next opens, lent only the table of hours: writes two words to `out`, 1 and the minutes until then, or 0
+    /// and 0 where it never opens. [`opens`] is the handier form.
+    ///
+    /// Refusals: 1 to 8, 16 to 18, 9 if `hours` has not its length or `out` has not 2 words, 25, 11.
+    rolwyddac_opens as opens_words(encoded: &[u8], hours: &[u32], minute: u32, processor: u32, out: &mut [u32]);
+
     /// Writes the recipe of the fields to `space`. [`Fields`] is the handier form.
     ///
     /// - `lengths`, `tiling` and `counts` have one number a dimension: its length, tile length and processor count.
@@ -338,4 +374,14 @@ pub fn look<'a>(
     look_words(encoded, first, second, office, processor, &mut out)?;
     let [start, words] = out.map(|word| word as usize);
     Ok(&(if office == 0 { first } else { second })[start..start + words])
+}
+
+/// When a processor next opens, from a minute of the week on.
+///
+/// Refusals: 1 to 9, 11, 16 to 18 and 25.
+pub fn opens(encoded: &[u8], hours: &[u32], minute: u32, processor: u32) -> Result<Opening, Refusal> {
+    let mut out = [0; OPENS_WORDS];
+    opens_words(encoded, hours, minute, processor, &mut out)?;
+    let [opens, minutes] = out;
+    Ok(if opens == 1 { Opening::OpensIn(minutes) } else { Opening::Never })
 }

@@ -3,5 +3,7 @@ pub mod Walking
 pub mod OverRecords
 pub mod PlanCalls
 pub mod OfficeCalls
+pub mod HourCalls
 pub mod OverRig
 pub mod Demand210
+pub mod OverHours

@@ -40,7 +40,7 @@ use Rattle.calls.proofs.OverRecords.{one-answer, as-before}
 
 -- ---- words fix the areas
 
-lent-fixed : (a b : LentAreas) → lentWords a ≡ lentWords b → a ≡ b
+pub lent-fixed : (a b : LentAreas) → lentWords a ≡ lentWords b → a ≡ b
 lent-fixed a b e =
     ap (λ (x : Areas). at x (a .engaged)) (areas-fixed (a .own) (b .own) (ap (λ (l : Lent). l .own) e))
     ∙ ap (λ (l : List ℕ). at (b .own) l) (ap (λ (l : Lent). l .engaged) e)
@@ -48,7 +48,7 @@ lent-fixed a b e =
     at : Areas → List ℕ → LentAreas
     at x l = record { own = x; engaged = l }
 
-rig-fixed : (a b : RigAreas) → rigWords a ≡ rigWords b → a ≡ b
+pub rig-fixed : (a b : RigAreas) → rigWords a ≡ rigWords b → a ≡ b
 rig-fixed a b e =
     ap (λ (x : Areas). at x (a .second) (a .engaged)) (areas-fixed (a .first) (b .first) (ap (λ (r : Rig). r .first) e))
     ∙ ap (λ (x : Areas). at (b .first) x (a .engaged)) (areas-fixed (a .second) (b .second) (ap (λ (r : Rig). r .second) e))
@@ -67,14 +67,14 @@ office-words o a b = go (eqb o 0)
     go true = refl
     go false = refl
 
-lent-words : (a : RigAreas) (o : ℕ) → lentWords (lentAreas a o) ≡ lentTo (rigWords a) o
+pub lent-words : (a : RigAreas) (o : ℕ) → lentWords (lentAreas a o) ≡ lentTo (rigWords a) o
 lent-words a o = ap (λ (s : State). lentOf s (a .engaged)) (office-words o (a .first) (a .second))
 
-other-words : (a : RigAreas) (o : ℕ) → flatWords (otherAreas a o .progress) ≡ otherOf (rigWords a) o .progress
+pub other-words : (a : RigAreas) (o : ℕ) → flatWords (otherAreas a o .progress) ≡ otherOf (rigWords a) o .progress
 other-words a o = ap (λ (s : State). s .progress) (office-words o (a .second) (a .first))
 
 -- what a call left of its office's areas, put back among both
-returned-is : (a b : RigAreas) (o : ℕ) → otherAreas b o ≡ otherAreas a o → returned (rigWords a) o (lentWords (lentAreas b o)) ≡ rigWords b
+pub returned-is : (a b : RigAreas) (o : ℕ) → otherAreas b o ≡ otherAreas a o → returned (rigWords a) o (lentWords (lentAreas b o)) ≡ rigWords b
 unfolding returned ofOffice pick
 returned-is a b o = go (eqb o 0)
   where

@@ -17,11 +17,11 @@ use Rattle.engine.specs.Calls.{recipe}
 use Rattle.engine.specs.Given.{AreaLengths}
 use Rattle.engine.specs.declared.core.Turned.{Turned}
 use Rattle.rig.specs.Calls.{areaLinesFor}
-use Rattle.rig.specs.declared.core.Opening.{Opening}
+use Rattle.rig.specs.declared.core.Recipe.{Recipe}
 use Rattle.rig.specs.declared.core.Seen.{Seen}
 
 -- a recipe read, with the table of its messages' lengths
-pub record Opens (bytes : List ℕ) (route : ℕ) (r : Opening) (lens : List ℕ) : Type 0 where
+pub record Opens (bytes : List ℕ) (route : ℕ) (r : Recipe) (lens : List ℕ) : Type 0 where
   pub none : firstOf (readLines bytes) ≡ 0
   pub sized : Sized (r .nest) (r .sizes)
   pub table : Table (r .sizes .route) (r .nest) lens

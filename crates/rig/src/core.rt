@@ -42,14 +42,14 @@ use table::fill;
 use table::tile_count;
 
 // What a call makes of a recipe: the reader's number and, where that is 0, the nest and its counts on the route.
-pub struct Opening {
+pub struct Recipe {
     pub number: u32,
     pub nest: Nest,
     pub sizes: Sizes,
 }
 
 // The recipe read, and the table of its messages' lengths filled.
-fn open_recipe(encoded: &[u8], route: u32, lens: &mut [u16; 7168]) -> Opening
+pub fn open_recipe(encoded: &[u8], route: u32, lens: &mut [u16; 7168]) -> Recipe
     requires { ⌜ length (now lens) ≡ 7168 ⌝ }
     ensures { λ r. ⌜ (r .number ≡ firstOf (readLines (now (encoded .entry))))
         × (r .number ≡ 0 → Opens (now (encoded .entry)) route r (now (lens .exit))) ⌝ }
@@ -66,7 +66,7 @@ fn open_recipe(encoded: &[u8], route: u32, lens: &mut [u16; 7168]) -> Opening
             ways: 0,
             across: [0; 4],
         };
-        return Opening {
+        return Recipe {
             number: number,
             nest: nest,
             sizes: none,
@@ -74,7 +74,7 @@ fn open_recipe(encoded: &[u8], route: u32, lens: &mut [u16; 7168]) -> Opening
     }
     let sizes = sizes_of(nest, route_of(route));
     fill(nest, sizes, lens);
-    Opening {
+    Recipe {
         number: 0,
         nest: nest,
         sizes: sizes,
@@ -148,7 +148,7 @@ fn fit_rig(
 }
 
 // Lines 9, 11 for the office, and 10.
-fn unfit(
+pub fn unfit(
     nest: Nest,
     sizes: Sizes,
     lens: &[u16; 7168],
@@ -200,7 +200,14 @@ fn unfit(
 }
 
 // Line 19: the office has tiles left on processor b, and the other holds it.
-fn held(nest: Nest, sizes: Sizes, progress: &[u32], engaged: &[u32], office: u32, b: usize) -> bool
+pub fn held(
+    nest: Nest,
+    sizes: Sizes,
+    progress: &[u32],
+    engaged: &[u32],
+    office: u32,
+    b: usize,
+) -> bool
     requires { ⌜ Sized nest sizes × ((length (now progress) ≡ 3 * processors nest) × (length (now engaged) ≡ processors nest)) ⌝ }
     requires { ⌜ (b < processors nest) × (office ≤ 1) ⌝ }
     ensures { λ r. ⌜ r ≡ heldByOther (planOf (sizes .route) nest) office
@@ -225,7 +232,7 @@ fn word_for(office: u32, stage: u32) -> u32
 }
 
 // The shared word of processor b after its turn: the office's from the gather on, free once the tile is done.
-fn engage(engaged: &mut [u32], office: u32, b: usize, after: Turned)
+pub fn engage(engaged: &mut [u32], office: u32, b: usize, after: Turned)
     requires { ⌜ b < length (now engaged) ⌝ }
     ensures { λ _. ⌜ now (engaged .exit) ≡ wordsAfter (now (engaged .entry)) office b after ⌝ }
 {

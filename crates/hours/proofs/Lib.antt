@@ -1,0 +1,14 @@
+pub mod Loops
+pub mod Windows
+pub mod Search
+pub mod Telling
+pub mod Allowed
+pub mod OneOffice
+pub mod TwoOffices
+pub mod OfficeTurns
+pub mod Words
+pub mod Rigs
+pub mod Swaps
+pub mod Computed
+pub mod Example
+pub mod ForCalls

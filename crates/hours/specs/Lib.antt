@@ -1,0 +1,4 @@
+pub mod Hours
+pub mod Demands212
+pub mod Swaps214
+pub mod Waits
