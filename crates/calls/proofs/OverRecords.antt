@@ -151,7 +151,7 @@ can-answer r w = (r .number, (areasOf (r .after), ap (λ (s : State). answer (r 
 
 module _ (bytes : List ℕ) (route : ℕ) (source : List ℕ) where
   -- an event's contract, by the calls over words
-  event-call : (a : Areas) (e : Event) (n : ℕ) (b : Areas) → EventGave bytes route source a e n b
+  pub event-call : (a : Areas) (e : Event) (n : ℕ) (b : Areas) → EventGave bytes route source a e n b
       → answer n (inWords b) ≡ calls bytes route source (inWords a) e
   unfolding calls
   event-call a (turnOf p) n b h = h

@@ -135,7 +135,7 @@ module _ (bytes : List ℕ) (route : ℕ) where
 
   module _ (sources : Sources) where
     -- a call on the rig is one over words
-    rig-call : (a : RigAreas) (c : Call) (n : ℕ) (b : RigAreas) → CallGave bytes route sources a c n b
+    pub rig-call : (a : RigAreas) (c : Call) (n : ℕ) (b : RigAreas) → CallGave bytes route sources a c n b
         → answer n (rigWords b) ≡ rigCalls bytes route sources (rigWords a) c
     unfolding rigCalls
     rig-call a c n b h =

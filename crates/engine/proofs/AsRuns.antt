@@ -35,23 +35,24 @@ module _ (bytes : List ℕ) (route : ℕ) (source : List ℕ) (ok : firstOf (rea
       (and-true (eq-eqb _ _ (inv .shape .memories))
       (and-true (eq-eqb _ _ (inv .shape .buffer)) (and-true (eq-eqb _ _ (inv .shape .progress)) (eq-eqb _ _ (inv .shape .status)))))
 
-  same : (s : State) → Inv p source s → (e : Event) → calls bytes route source s e ≡ act p source s e
+  -- in every state with the invariant
+  pub alike : (s : State) → Inv p source s → (e : Event) → calls bytes route source s e ≡ act p source s e
   unfolding calls act
-  same s inv (turnOf b) = turn-is bytes route source s ok (inv-areas s inv) b
-  same s inv (deliveryOf m) = deliver-is bytes route source s ok (inv-areas s inv) m
+  alike s inv (turnOf b) = turn-is bytes route source s ok (inv-areas s inv) b
+  alike s inv (deliveryOf m) = deliver-is bytes route source s ok (inv-areas s inv) m
 
   same-state : (es : List Event) (s : State) → Inv p source s → stateAfter (calls bytes route source) s es ≡ stateAfter (act p source) s es
   unfolding stateAfter
   same-state [] s inv = refl
   same-state (e ∷ es) s inv =
-      ap (λ (a : Answered State). stateAfter (calls bytes route source) (a .after) es) (same s inv e)
+      ap (λ (a : Answered State). stateAfter (calls bytes route source) (a .after) es) (alike s inv e)
       ∙ same-state es _ (next-inv p so source s inv e)
 
   same-answers : (es : List Event) (s : State) → Inv p source s → answersTo (calls bytes route source) s es ≡ answersTo (act p source) s es
   unfolding answersTo
   same-answers [] s inv = refl
   same-answers (e ∷ es) s inv =
-      ap (λ (a : Answered State). a .number ∷ answersTo (calls bytes route source) (a .after) es) (same s inv e)
+      ap (λ (a : Answered State). a .number ∷ answersTo (calls bytes route source) (a .after) es) (alike s inv e)
       ∙ ap (λ (l : List ℕ). act p source s e .number ∷ l) (same-answers es _ (next-inv p so source s inv e))
 
   -- after the events `es` from the fresh start
@@ -69,7 +70,7 @@ module _ (bytes : List ℕ) (route : ℕ) (source : List ℕ) (ok : firstOf (rea
     answers-are = same-answers es (fresh p) (inv-fresh p source)
 
     next-is : (e : Event) → calls bytes route source (stateAfter (calls bytes route source) (fresh p) es) e ≡ act p source here e
-    next-is e = ap (λ (s : State). calls bytes route source s e) state-is ∙ same here inv-here e
+    next-is e = ap (λ (s : State). calls bytes route source s e) state-is ∙ alike here inv-here e
 
     grid-is : (grid : List ℕ) → length grid ≡ p .cells
         → collectCall bytes route source (stateAfter (calls bytes route source) (fresh p) es) grid ≡ collect p here grid
@@ -111,7 +112,7 @@ module _ (bytes : List ℕ) (route : ℕ) (source : List ℕ) (ok : firstOf (rea
               let x = carried d before after b e z in
               record {
                 named = rw answers-are (x .named);
-                by-rule = rw (answers-are, state-is) (after-of (same (here before) (inv-here before) (turnOf b)) ∙ x .by-rule);
+                by-rule = rw (answers-are, state-is) (after-of (alike (here before) (inv-here before) (turnOf b)) ∙ x .by-rule);
               };
           no-more = λ b. rw answers-are (d .no-more b);
           grid = λ h old l. after-of (grid-is events old l) ∙ d .grid (rw answers-are at h) old l;

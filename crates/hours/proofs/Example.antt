@@ -11,23 +11,23 @@ use Rattle.base.specs.Tests.{_and_, _or_, not, every, some}
 use Rattle.base.proofs.Tests.{and-no, never-both, not-false, some-none, every-at}
 use Rattle.machine.specs.Plan.{Plan}
 use Rattle.machine.specs.Machine.{collect, fresh}
-use Rattle.machine.specs.Runs.{total, stateAfter, steps}
+use Rattle.machine.specs.Runs.{total, steps}
 use Rattle.machine.proofs.Fresh.{status-fresh}
 use Rattle.machine.proofs.Turns.{Delivered, delivered}
 use Rattle.machine.proofs.Fresh.{inv-fresh}
 use Rattle.machine.proofs.ComputedRun.{rows}
 use Rattle.machine.proofs.Example.{sound}
 use Rattle.offices.specs.Offices.{Sources, freshRig, collectOn}
-use Rattle.swaps.specs.Guarded.{SwapsGuarded}
+use Rattle.swaps.specs.OneOffice.{Demand214}
 use Rattle.hours.specs.declared.Opening.the-variants.{Never}
 use Rattle.hours.specs.Hours.{closesAt, isWindow, isFaulty, faultyBoard, faultyTable, faultyWindow, covers, inWindow, openAt, closed, hoursOf, Timed, turnAt, mailOf, eventOf, actAt, TimedCall, callOf, actAtOn, untilOpen}
 use Rattle.hours.specs.Demands212.{Faultless, SomeStep, Demand212, Demand212For}
-use Rattle.hours.specs.Swaps214.{SwapsFor}
+use Rattle.swaps.specs.TwoOffices.{Demand214For}
 use Rattle.hours.proofs.Telling.{tells}
 use Rattle.hours.proofs.Allowed.{guards}
 use Rattle.hours.proofs.OneOffice.{theorem212}
 use Rattle.hours.proofs.TwoOffices.{theorem212-for}
-use Rattle.hours.proofs.Swaps.{swaps214, rig-timed-swaps214}
+use Rattle.hours.proofs.Swaps.{timed-demand214, rig-timed-demand214}
 
 -- the 16-tile plan of the machine's example
 one-office : (source : List ℕ) (events : List Timed) → Demand212 (actAt rows source) (fresh rows) events rows source (collect rows)
@@ -36,11 +36,11 @@ one-office = theorem212 rows sound
 two-offices : (sources : Sources) (calls : List TimedCall) → Demand212For (actAtOn rows sources) (freshRig rows) calls rows sources (collectOn rows)
 two-offices = theorem212-for rows sound
 
-one-swaps : (source : List ℕ) (events : List Timed) → SwapsGuarded eventOf (actAt rows source) (fresh rows) events
-one-swaps = swaps214 rows sound
+one-swaps : (source : List ℕ) → Demand214 eventOf (actAt rows source) (fresh rows)
+one-swaps = timed-demand214 rows sound
 
-two-swap : (sources : Sources) (calls : List TimedCall) → SwapsFor callOf (actAtOn rows sources) rows (stateAfter (actAtOn rows sources) (freshRig rows) calls)
-two-swap = rig-timed-swaps214 rows sound
+two-swap : (sources : Sources) → Demand214For callOf rows (actAtOn rows sources) (freshRig rows)
+two-swap = rig-timed-demand214 rows sound
 
 -- each processor is open for one minute of the week, processor b in the b-th
 unfoldable short : List ℕ

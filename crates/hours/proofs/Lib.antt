@@ -5,9 +5,6 @@ pub mod Telling
 pub mod Allowed
 pub mod OneOffice
 pub mod TwoOffices
-pub mod OfficeTurns
-pub mod Words
-pub mod Rigs
 pub mod Swaps
 pub mod Computed
 pub mod Example

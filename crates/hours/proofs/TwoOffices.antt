@@ -21,7 +21,7 @@ use Rattle.offices.specs.Offices.{Rig, Sources, sourceFor, ownOf, otherOf, lent
 use Rattle.offices.specs.Demand208.{eventsOf, answersOf, CarriedOutFor, stepsFor as callSteps, OfficeDemand, Demand208}
 use Rattle.offices.proofs.OneCall.{call-away, call-office}
 use Rattle.offices.proofs.Engaged.{RigInv, inv-start, inv-next}
-use Rattle.hours.proofs.OfficeTurns.{turn-open}
+use Rattle.swaps.proofs.OfficeTurns.{turn-open}
 use Rattle.offices.proofs.OneOffice.{step-number, step-own}
 use Rattle.offices.proofs.Theorem208.{theorem208}
 use Rattle.hours.specs.Hours.{week, openAt, Hours, hoursOf, eventOf, TimedCall, callOf, actAtOn}

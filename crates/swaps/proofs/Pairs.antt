@@ -23,14 +23,16 @@ use Rattle.swaps.proofs.Views.{SeesSame, gives-too, writes-too, status-
 
 -- ---- two changes of different processors
 
-record-set : (l : List ℕ) (b f g n i v : ℕ) → i ≢ 3 * b → i ≢ 3 * b + 1 → i ≢ 3 * b + 2 → setProgress (set l i v) b f g n ≡ set (setProgress l b f g n) i v
+record-set : (l : List ℕ) (b f g n i v : ℕ) → i ≢ 3 * b → i ≢ 3 * b + 1 → i ≢ 3 * b + 2
+    → setProgress (set l i v) b f g n ≡ set (setProgress l b f g n) i v
 unfolding setProgress
 record-set l b f g n i v a a1 a2 =
     ap (λ (x : List ℕ). set (set x (3 * b + 1) g) (3 * b + 2) n) (set-comm l i (3 * b) v f a)
     ∙ ap (λ (x : List ℕ). set x (3 * b + 2) n) (set-comm (set l (3 * b) f) i (3 * b + 1) v g a1)
     ∙ set-comm (set (set l (3 * b) f) (3 * b + 1) g) i (3 * b + 2) v n a2
 
-record-record : (l : List ℕ) (b f g n c h k j : ℕ) → c ≢ b → setProgress (setProgress l c h k j) b f g n ≡ setProgress (setProgress l b f g n) c h k j
+record-record : (l : List ℕ) (b f g n c h k j : ℕ) → c ≢ b
+    → setProgress (setProgress l c h k j) b f g n ≡ setProgress (setProgress l b f g n) c h k j
 unfolding setProgress
 record-record l b f g n c h k j ne =
     record-set (set (set l (3 * c) h) (3 * c + 1) k) b f g n (3 * c + 2) j (λ e. omega arith) (λ e. omega arith) (λ e. omega arith)
@@ -39,10 +41,13 @@ record-record l b f g n c h k j ne =
     ∙ ap (λ (x : List ℕ). set x (3 * c + 1) k) (record-set l b f g n (3 * c) h (λ e. omega arith) (λ e. omega arith) (λ e. omega arith)))
 
 module _ (p : Plan) (s : State) (sh : Shape p s) (b c : ℕ) (ne : b ≢ c) (x y : Change) (px : Proper p s b x) (py : Proper p s c y) where
-  memories-swap : put (put (s .memories) (b * p .cells) (x .memory)) (c * p .cells) (y .memory) ≡ put (put (s .memories) (c * p .cells) (y .memory)) (b * p .cells) (x .memory)
+  memories-swap : put (put (s .memories) (b * p .cells) (x .memory)) (c * p .cells) (y .memory)
+      ≡ put (put (s .memories) (c * p .cells) (y .memory)) (b * p .cells) (x .memory)
   memories-swap = go (decLt b c)
     where
-      go : Dec (b < c) → put (put (s .memories) (b * p .cells) (x .memory)) (c * p .cells) (y .memory) ≡ put (put (s .memories) (c * p .cells) (y .memory)) (b * p .cells) (x .memory)
+      go : Dec (b < c)
+          → put (put (s .memories) (b * p .cells) (x .memory)) (c * p .cells) (y .memory)
+          ≡ put (put (s .memories) (c * p .cells) (y .memory)) (b * p .cells) (x .memory)
       go (yes q) =
           put-put (s .memories) (x .memory) (y .memory) _ _ (rw (px .whole) (piece-fits (p .cells) c b q))
           (rw (py .whole, sh .memories) (piece-fits (p .cells) (p .processors) c (py .low)))
@@ -51,9 +56,11 @@ module _ (p : Plan) (s : State) (sh : Shape p s) (b c : ℕ) (ne : b ≢ c) (x y
           (rw (px .whole, sh .memories) (piece-fits (p .cells) (p .processors) b (px .low))))
 
   buffer-swap : Stores p s b (x .place) (x .words) → Stores p s c (y .place) (y .words)
-      → put (put (s .buffer) (x .place) (x .words)) (y .place) (y .words) ≡ put (put (s .buffer) (y .place) (y .words)) (x .place) (x .words)
+      → put (put (s .buffer) (x .place) (x .words)) (y .place) (y .words)
+      ≡ put (put (s .buffer) (y .place) (y .words)) (x .place) (x .words)
   buffer-swap (none e) w = rw (e, put-none (s .buffer) (x .place), put-none (put (s .buffer) (y .place) (y .words)) (x .place))
-  buffer-swap (sends m lo z by at len) (none e) = rw (e, put-none (s .buffer) (y .place), put-none (put (s .buffer) (x .place) (x .words)) (y .place))
+  buffer-swap (sends m lo z by at len) (none e) =
+      rw (e, put-none (s .buffer) (y .place), put-none (put (s .buffer) (x .place) (x .words)) (y .place))
   buffer-swap (sends m lo z by at len) (sends k lo′ z′ by′ at′ len′) = go (decLt m k)
     where
       apart : m ≢ k
@@ -65,9 +72,13 @@ module _ (p : Plan) (s : State) (sh : Shape p s) (b c : ℕ) (ne : b ≢ c) (x y
       fits-y : y .place + length (y .words) ≤ length (s .buffer)
       fits-y = rw (at′, len′, sh .buffer) (offset-apart (p .messages) k (count p) lo′ lo′)
 
-      go : Dec (m < k) → put (put (s .buffer) (x .place) (x .words)) (y .place) (y .words) ≡ put (put (s .buffer) (y .place) (y .words)) (x .place) (x .words)
+      go : Dec (m < k)
+          → put (put (s .buffer) (x .place) (x .words)) (y .place) (y .words)
+          ≡ put (put (s .buffer) (y .place) (y .words)) (x .place) (x .words)
       go (yes q) = put-put (s .buffer) (x .words) (y .words) _ _ (rw (at, at′, len) (offset-apart (p .messages) m k q lo)) fits-y
-      go (no q) = sym (put-put (s .buffer) (y .words) (x .words) _ _ (rw (at, at′, len′) (offset-apart (p .messages) k m (omega (arith, apart)) lo′)) fits-x)
+      go (no q) =
+          sym (put-put (s .buffer) (y .words) (x .words) _ _
+          (rw (at, at′, len′) (offset-apart (p .messages) k m (omega (arith, apart)) lo′)) fits-x)
 
   -- no message is marked by both: the statuses differ, or the processors do
   none-twice : (m : ℕ) → Marks p s b m → Marks p s c m → ⊥
@@ -89,7 +100,8 @@ module _ (p : Plan) (s : State) (sh : Shape p s) (b c : ℕ) (ne : b ≢ c) (x y
 -- ---- a delivery that gives 0
 
 -- it commutes with a change that does not mark its message
-change-delivery : (p : Plan) (s : State) (b : ℕ) (x : Change) (m : ℕ) → (In m (x .marked) → ⊥) → brought (changed p b x s) m ≡ changed p b x (brought s m)
+change-delivery : (p : Plan) (s : State) (b : ℕ) (x : Change) (m : ℕ) → (In m (x .marked) → ⊥)
+    → brought (changed p b x s) m ≡ changed p b x (brought s m)
 unfolding changed
 change-delivery p s b x m n = rw (setAll-set (x .marked) (s .status) (x .mark) m 2 n)
 
@@ -126,27 +138,36 @@ module _ (p : Plan) (so : Sound p) (source : List ℕ) (s : State) (inv : Inv p 
         → (turn p source (turn p source s b .after) c .number ≡ 0)
         × (turn p source (turn p source s b .after) c .after ≡ changed p c (changeOf p source s c) (changed p b (changeOf p source s b) s))
     then-turn c ne y =
-        let sees : SeesSame p s (turn p source s b .after) c = rw after-b (sees-turn p s (inv .shape) b (changeOf p source s b) proper-b c ne) in
-        (gives-too p source s _ c (inv-turn b) sees y, writes-too p source s _ c (inv-turn b) sees y ∙ ap (changed p c (changeOf p source s c)) after-b)
+        let sees : SeesSame p s (turn p source s b .after) c =
+        rw after-b (sees-turn p s (inv .shape) b (changeOf p source s b) proper-b c ne) in (
+          gives-too p source s _ c (inv-turn b) sees y,
+          writes-too p source s _ c (inv-turn b) sees y ∙ ap (changed p c (changeOf p source s c)) after-b,
+        )
 
     -- a delivery, then
     then-delivery : (m : ℕ) → deliver p s m .number ≡ 0
-        → (deliver p (turn p source s b .after) m .number ≡ 0) × (deliver p (turn p source s b .after) m .after ≡ brought (changed p b (changeOf p source s b) s) m)
+        → (deliver p (turn p source s b .after) m .number ≡ 0)
+        × (deliver p (turn p source s b .after) m .after ≡ brought (changed p b (changeOf p source s b) s) m)
     then-delivery m y =
         let fl = flew p s m y in
         let one : statusOf (turn p source s b .after) m ≡ 1 =
-        rw after-b (status-kept p s (inv .shape) b (changeOf p source s b) proper-b m (in-flight p s (inv .shape) b (changeOf p source s b) proper-b m (fl .1)) ∙ fl .1) in
+        rw after-b
+        (status-kept p s (inv .shape) b (changeOf p source s b) proper-b m
+        (in-flight p s (inv .shape) b (changeOf p source s b) proper-b m (fl .1)) ∙ fl .1) in
         let now = can-deliver p (turn p source s b .after) m (inv-fit p source _ (inv-turn b)) (fl .0) one in
         (now, flew p (turn p source s b .after) m now .2 ∙ ap (λ (x : State). brought x m) after-b)
 
   module _ (m : ℕ) (z : deliver p s m .number ≡ 0) where
     -- a turn after a delivery
     turn-then : (b : ℕ) → turn p source s b .number ≡ 0
-        → (turn p source (deliver p s m .after) b .number ≡ 0) × (turn p source (deliver p s m .after) b .after ≡ changed p b (changeOf p source s b) (brought s m))
+        → (turn p source (deliver p s m .after) b .number ≡ 0)
+        × (turn p source (deliver p s m .after) b .after ≡ changed p b (changeOf p source s b) (brought s m))
     turn-then b y =
         let fl = flew p s m z in
-        let sees : SeesSame p s (deliver p s m .after) b = rw (fl .2) (sees-delivery p s m b (fl .1)) in
-        (gives-too p source s _ b (inv-deliver m) sees y, writes-too p source s _ b (inv-deliver m) sees y ∙ ap (changed p b (changeOf p source s b)) (fl .2))
+        let sees : SeesSame p s (deliver p s m .after) b = rw (fl .2) (sees-delivery p s m b (fl .1)) in (
+          gives-too p source s _ b (inv-deliver m) sees y,
+          writes-too p source s _ b (inv-deliver m) sees y ∙ ap (changed p b (changeOf p source s b)) (fl .2),
+        )
 
     -- another delivery after a delivery
     delivery-then : (k : ℕ) → k ≢ m → deliver p s k .number ≡ 0
@@ -158,7 +179,8 @@ module _ (p : Plan) (so : Sound p) (source : List ℕ) (s : State) (inv : Inv p 
         let now = can-deliver p (deliver p s m .after) k (inv-fit p source _ (inv-deliver m)) (fk .0) one in
         (now, flew p (deliver p s m .after) k now .2 ∙ ap (λ (x : State). brought x k) (fl .2))
 
-  pub two-turns : (b c : ℕ) → b ≢ c → turn p source s b .number ≡ 0 → turn p source s c .number ≡ 0 → EitherWay (act p source) s (turnOf b) (turnOf c)
+  pub two-turns : (b c : ℕ) → b ≢ c → turn p source s b .number ≡ 0 → turn p source s c .number ≡ 0
+      → EitherWay (act p source) s (turnOf b) (turnOf c)
   unfolding act
   two-turns b c ne zb zc =
       let x = then-turn b zb c (λ e. ne (sym e)) zc in
@@ -169,7 +191,8 @@ module _ (p : Plan) (so : Sound p) (source : List ℕ) (s : State) (inv : Inv p 
         same-words = x .1 ∙ changes-swap p s (inv .shape) b c ne _ _ (proper-b b zb) (proper-b c zc) ∙ sym (y .1);
       }
 
-  pub turn-delivery : (b m : ℕ) → turn p source s b .number ≡ 0 → deliver p s m .number ≡ 0 → EitherWay (act p source) s (turnOf b) (deliveryOf m)
+  pub turn-delivery : (b m : ℕ) → turn p source s b .number ≡ 0 → deliver p s m .number ≡ 0
+      → EitherWay (act p source) s (turnOf b) (deliveryOf m)
   unfolding act
   turn-delivery b m zb zm =
       let x = then-delivery b zb m zm in
@@ -183,7 +206,8 @@ module _ (p : Plan) (so : Sound p) (source : List ℕ) (s : State) (inv : Inv p 
       untouched : Marks p s b m → ⊥
       untouched = in-flight p s (inv .shape) b (changeOf p source s b) (proper-b b zb) m (flew p s m zm .1)
 
-  pub two-deliveries : (m k : ℕ) → m ≢ k → deliver p s m .number ≡ 0 → deliver p s k .number ≡ 0 → EitherWay (act p source) s (deliveryOf m) (deliveryOf k)
+  pub two-deliveries : (m k : ℕ) → m ≢ k → deliver p s m .number ≡ 0 → deliver p s k .number ≡ 0
+      → EitherWay (act p source) s (deliveryOf m) (deliveryOf k)
   unfolding act
   two-deliveries m k ne zm zk =
       let x = delivery-then m zm k (λ e. ne (sym e)) zk in

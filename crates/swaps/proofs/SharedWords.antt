@@ -13,7 +13,8 @@ use Rattle.machine.specs.Machine.{State, finishedOf, stageOf, sentOf, actionAt}
 use Rattle.machine.specs.Runs.{Event, turnOf, deliveryOf, act}
 use Rattle.machine.proofs.Records.{SameRecord}
 use Rattle.machine.proofs.Deeds.{turn-away, delivery-away}
-use Rattle.offices.specs.Offices.{Lent, holderOf, freedAfter, engagedAfter, carryOutFor, Rig, Sources, sourceFor, ownOf, otherOf, lentTo, returned, actFor, actOn}
+use Rattle.offices.specs.Offices.{Lent, holderOf, freedAfter, engagedAfter, carryOutFor, Rig, Sources, sourceFor, ownOf, otherOf, lentTo}
+use Rattle.offices.specs.Offices.{returned, actFor, actOn}
 use Rattle.offices.proofs.OneCall.{turn-done, deliver-words}
 
 -- by the office, the processor, and the office's record there: tiles finished, stage, messages sent
@@ -26,13 +27,15 @@ unfoldable pub wordsBy : Plan → ℕ → State → Event → List ℕ → List 
 wordsBy p o s (turnOf b) l = touchAt p o b (finishedOf s b) (stageOf s b) (sentOf s b) l
 wordsBy p o s (deliveryOf m) l = l
 
-is-touch : (p : Plan) (o : ℕ) (l : Lent) (b f g : ℕ) → engagedAfter p o l b (actionAt p g (getD (tilesOf p b) f 0) (sentOf (l .own) b)) ≡ touchAt p o b f g (sentOf (l .own) b) (l .engaged)
+is-touch : (p : Plan) (o : ℕ) (l : Lent) (b f g : ℕ)
+    → engagedAfter p o l b (actionAt p g (getD (tilesOf p b) f 0) (sentOf (l .own) b)) ≡ touchAt p o b f g (sentOf (l .own) b) (l .engaged)
 unfolding engagedAfter actionAt touchAt
 is-touch p o l b f zero = refl
 is-touch p o l b f (suc zero) = refl
 is-touch p o l b f (suc (suc g)) = refl
 
-pub words-after : (p : Plan) (sources : Sources) (r : Rig) (o : ℕ) (e : Event) → actOn p sources r (record { office = o; event = e }) .number ≡ 0
+pub words-after : (p : Plan) (sources : Sources) (r : Rig) (o : ℕ) (e : Event)
+    → actOn p sources r (record { office = o; event = e }) .number ≡ 0
     → actOn p sources r (record { office = o; event = e }) .after .engaged ≡ wordsBy p o (ownOf r o) e (r .engaged)
 unfolding actOn actFor returned carryOutFor wordsBy
 words-after p sources r o (turnOf b) z =
@@ -60,7 +63,8 @@ touch-away p o b f zero n l c ne = getD-set-other l b c o 0 ne
 touch-away p o b f (suc zero) n l c ne = freed-away p l b _ _ c ne
 touch-away p o b f (suc (suc g)) n l c ne = freed-away p l b _ _ c ne
 
-pub words-away : (p : Plan) (o : ℕ) (s : State) (e : Event) (l : List ℕ) (c : ℕ) → e ≢ turnOf c → holderOf (wordsBy p o s e l) c ≡ holderOf l c
+pub words-away : (p : Plan) (o : ℕ) (s : State) (e : Event) (l : List ℕ) (c : ℕ) → e ≢ turnOf c
+    → holderOf (wordsBy p o s e l) c ≡ holderOf l c
 unfolding wordsBy
 words-away p o s (turnOf b) l c ne = touch-away p o b _ _ _ l c (λ q. ne (ap turnOf (sym q)))
 words-away p o s (deliveryOf m) l c ne = refl
@@ -80,7 +84,8 @@ touch-set p o b f zero n l c v ne = set-comm l c b v o ne
 touch-set p o b f (suc zero) n l c v ne = freed-set p l b _ _ c v ne
 touch-set p o b f (suc (suc g)) n l c v ne = freed-set p l b _ _ c v ne
 
-touch-freed : (p : Plan) (o b f g n : ℕ) (l : List ℕ) (c t k : ℕ) → c ≢ b → touchAt p o b f g n (freedAfter p l c t k) ≡ freedAfter p (touchAt p o b f g n l) c t k
+touch-freed : (p : Plan) (o b f g n : ℕ) (l : List ℕ) (c t k : ℕ) → c ≢ b
+    → touchAt p o b f g n (freedAfter p l c t k) ≡ freedAfter p (touchAt p o b f g n l) c t k
 unfolding freedAfter pick
 touch-freed p o b f g n l c t k ne = go (ltb k (length (sendsOf p t)))
   where
@@ -88,7 +93,8 @@ touch-freed p o b f g n l c t k ne = go (ltb k (length (sendsOf p t)))
     go true = refl
     go false = touch-set p o b f g n l c 2 ne
 
-touch-touch : (p : Plan) (o b f g n q c i j k : ℕ) (l : List ℕ) → c ≢ b → touchAt p o b f g n (touchAt p q c i j k l) ≡ touchAt p q c i j k (touchAt p o b f g n l)
+touch-touch : (p : Plan) (o b f g n q c i j k : ℕ) (l : List ℕ) → c ≢ b
+    → touchAt p o b f g n (touchAt p q c i j k l) ≡ touchAt p q c i j k (touchAt p o b f g n l)
 unfolding touchAt
 touch-touch p o b f g n q c i zero k l ne = touch-set p o b f g n l c q ne
 touch-touch p o b f g n q c i (suc zero) k l ne = touch-freed p o b f g n l c _ _ ne
@@ -102,13 +108,15 @@ words-swap p o q s t (turnOf b) (deliveryOf m) l n = refl
 words-swap p o q s t (deliveryOf m) f l n = refl
 
 -- ---- who has the same record does the same to the words
-pub words-same : (p : Plan) (o : ℕ) (s s′ : State) (e : Event) (l : List ℕ) → ((b : ℕ) → e ≡ turnOf b → SameRecord b (s′ .progress) (s .progress)) → wordsBy p o s′ e l ≡ wordsBy p o s e l
+pub words-same : (p : Plan) (o : ℕ) (s s′ : State) (e : Event) (l : List ℕ)
+    → ((b : ℕ) → e ≡ turnOf b → SameRecord b (s′ .progress) (s .progress)) → wordsBy p o s′ e l ≡ wordsBy p o s e l
 unfolding wordsBy
 words-same p o s s′ (turnOf b) l h = let r = h b refl in rw (r .finished, r .stage, r .sent)
 words-same p o s s′ (deliveryOf m) l h = refl
 
 -- an event of the single office leaves the record of every processor but the one it turns
-pub record-kept : (p : Plan) (source : List ℕ) (s : State) (e : Event) (b : ℕ) → e ≢ turnOf b → SameRecord b (act p source s e .after .progress) (s .progress)
+pub record-kept : (p : Plan) (source : List ℕ) (s : State) (e : Event) (b : ℕ) → e ≢ turnOf b
+    → SameRecord b (act p source s e .after .progress) (s .progress)
 unfolding act
 record-kept p source s (turnOf c) b ne = turn-away p s c source b (λ q. ne (ap turnOf (sym q)))
 record-kept p source s (deliveryOf m) b ne = delivery-away p s m b

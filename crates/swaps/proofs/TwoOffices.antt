@@ -1,4 +1,4 @@
--- Request W-214 for the rig of two offices without hours, in every rig with the invariant.
+-- Request W-214 for a rig of two offices: in every rig with the invariant, and for any calls that are guarded.
 use Prim.Native.Nat.{ℕ, _≤_, _<_}
 use mathlib.Core.Path.{_≡_, refl, sym, ap, _∙_}
 use mathlib.Core.Logic.{_≢_}
@@ -10,23 +10,28 @@ use lib.Seq.{getD-set-same}
 use lib.Dec.{ltb}
 use borrow.Author.Tests.{eq-eqb, ne-eqb, le-leb, ltb-true}
 use Rattle.base.specs.Tests.{pick}
-use Rattle.base.proofs.Tests.{and-true, and-no, never-both, not-true}
+use Rattle.base.proofs.Tests.{and-true, and-no, never-both, not-true, pick-false}
 use Rattle.base.proofs.Numbers.{first-false, first-true}
 use Rattle.machine.specs.Plan.{Plan, Sound}
-use Rattle.machine.specs.Machine.{State, stageOf, tilesLeft, currentTile, actionAt}
-use Rattle.machine.specs.Runs.{Event, turnOf, deliveryOf, act}
+use Rattle.machine.specs.Machine.{State, Answered, stageOf, tilesLeft, currentTile, actionAt}
+use Rattle.machine.specs.Runs.{Event, turnOf, deliveryOf, act, stateAfter}
 use Rattle.machine.proofs.Turns.{turn-lines}
 use Rattle.machine.proofs.Records.{SameRecord}
-use Rattle.offices.specs.Offices.{holderOf, otherThan, heldByOther, ofOffice, Rig, Sources, sourceFor, ownOf, otherOf, lentTo, turnFor, Call, actFor, actOn}
-use Rattle.offices.proofs.OneCall.{call-office, call-number, call-away}
-use Rattle.offices.proofs.Engaged.{RigInv, rig-fit, inv-next}
+use Rattle.machine.proofs.RunLaws.{number-of}
+use Rattle.machine.proofs.Guards.{Guards, good-end}
+use Rattle.offices.specs.Offices.{Lent, holderOf, otherThan, heldByOther, turnFor, deliverFor, actFor, Call, actOn}
+use Rattle.offices.specs.Offices.{ofOffice, Rig, Sources, sourceFor, ownOf, otherOf, lentTo, returned, freshRig}
+use Rattle.offices.proofs.OneCall.{call-office, call-number, call-away, returned-same}
+use Rattle.offices.proofs.Engaged.{RigInv, rig-fit, inv-start, inv-next}
 use Rattle.offices.proofs.SharedWords.{free-zero}
-use Rattle.hours.proofs.OfficeTurns.{OpenTurn, turn-open, open-turn, open-mail}
+use Rattle.swaps.proofs.OfficeTurns.{OpenTurn, turn-open, open-turn, open-mail}
 use Rattle.offices.proofs.OneOffice.{step-own}
+use Rattle.offices.proofs.AnyCalls.{Alike}
 use Rattle.swaps.specs.Swaps.{CanTake, EitherWay}
-use Rattle.swaps.proofs.Swaps.{either-event}
-use Rattle.hours.specs.Swaps214.{Gathers, TwoGathers, SwapsFor}
-use Rattle.hours.proofs.Words.{wordsBy, words-after, words-away, words-swap, words-gather, words-same, record-kept}
+use Rattle.swaps.specs.TwoOffices.{Gathers, TwoGathers, DifferentFor, SwapsFor, Demand214For, wholly}
+use Rattle.swaps.proofs.OneOffice.{either-event}
+use Rattle.swaps.proofs.Carried.{alike-guards, plain-taken, follows, carried, rewinds}
+use Rattle.swaps.proofs.SharedWords.{wordsBy, words-after, words-away, words-swap, words-gather, words-same, record-kept}
 
 abbrev call : ℕ → Event → Call
 call o e = record { office = o; event = e }
@@ -70,7 +75,8 @@ module _ (p : Plan) (sources : Sources) (r : Rig) where
         ready = q .1;
         left = q .2;
       })
-  takes-when inv o low (deliveryOf m) z free = open-mail p o (lentTo r o) (otherOf r o .progress) m (le-leb _ _ low) (rig-fit p sources r inv o low) z
+  takes-when inv o low (deliveryOf m) z free =
+      open-mail p o (lentTo r o) (otherOf r o .progress) m (le-leb _ _ low) (rig-fit p sources r inv o low) z
 
   turn-is-open : (o b : ℕ) → actOn p sources r (call o (turnOf b)) .number ≡ 0 → OpenTurn p o (lentTo r o) (otherOf r o .progress) b
   unfolding actOn actFor
@@ -82,11 +88,13 @@ module _ (p : Plan) (sources : Sources) (r : Rig) where
   taken-free o (deliveryOf m) z = tt
 
   -- a turn of a processor that is held, after all that comes before in the table
-  held-off : RigInv p sources r → (o b : ℕ) → o ≤ 1 → ltb b (p .processors) ≡ true → tilesLeft p (ownOf r o) b ≡ true → holderOf (r .engaged) b ≡ otherThan o
+  held-off : RigInv p sources r → (o b : ℕ) → o ≤ 1 → ltb b (p .processors) ≡ true → tilesLeft p (ownOf r o) b ≡ true
+      → holderOf (r .engaged) b ≡ otherThan o
       → actOn p sources r (call o (turnOf b)) .number ≡ 19
   unfolding actOn actFor turnFor heldByOther
   held-off inv o b low k left w =
-      first-false 11 _ _ (not-true (le-leb _ _ low)) ∙ first-false 10 _ _ (not-true (rig-fit p sources r inv o low)) ∙ first-false 11 _ _ (not-true k)
+      first-false 11 _ _ (not-true (le-leb _ _ low)) ∙ first-false 10 _ _ (not-true (rig-fit p sources r inv o low))
+      ∙ first-false 11 _ _ (not-true k)
       ∙ first-true 19 _ _ (and-true left (eq-eqb _ _ w))
 
 -- ---- two calls that can both be taken
@@ -127,7 +135,8 @@ module _ (p : Plan) (so : Sound p) (sources : Sources) (r : Rig) (inv : RigInv p
         number (no n) = rw (own-away q (low-office q f zd) n) (single-zero q f zd)
 
         free : (g : Event) → f ≡ g → Free (after o e) q g
-        free (turnOf b) k = λ w. (taken-free p sources r q (turnOf b) (ap (λ (g : Event). actOn p sources r (call q g) .number) (sym k) ∙ zd))
+        free (turnOf b) k =
+            λ w. (taken-free p sources r q (turnOf b) (ap (λ (g : Event). actOn p sources r (call q g) .number) (sym k) ∙ zd))
             (sym (ap (λ (l : List ℕ). holderOf l b) (words-after p sources r o e zc) ∙ words-away p o (ownOf r o) e (r .engaged) b (λ h. apart b h k)) ∙ w)
         free (deliveryOf m) k = tt
 
@@ -141,24 +150,30 @@ module _ (p : Plan) (so : Sound p) (sources : Sources) (r : Rig) (inv : RigInv p
             (record-kept p (sourceFor sources q) (ownOf r q) e b (λ g. apart b g k))
         go (no n) = rw (own-away q (low-office q f zd) n) (record { finished = refl; stage = refl; sent = refl })
 
-    pub shared-then : actOn p sources (after o e) (call q f) .after .engaged ≡ wordsBy p q (ownOf r q) f (wordsBy p o (ownOf r o) e (r .engaged))
+    pub shared-then : actOn p sources (after o e) (call q f) .after .engaged
+        ≡ wordsBy p q (ownOf r q) f (wordsBy p o (ownOf r o) e (r .engaged))
     shared-then =
         words-after p sources (after o e) q f still-takes
         ∙ words-same p q (ownOf r q) (ownOf (after o e) q) f (after o e .engaged) record-stays
         ∙ ap (wordsBy p q (ownOf r q) f) (words-after p sources r o e zc)
 
     -- either office's areas after both
-    own-both : (x : ℕ) → o ≡ x → q ≡ x → ownOf (actOn p sources (after o e) (call q f) .after) x ≡ act p (sourceFor sources x) (act p (sourceFor sources x) (ownOf r x) e .after) f .after
+    own-both : (x : ℕ) → o ≡ x → q ≡ x
+        → ownOf (actOn p sources (after o e) (call q f) .after) x
+        ≡ act p (sourceFor sources x) (act p (sourceFor sources x) (ownOf r x) e .after) f .after
     own-both x h k =
         step-own p sources x (rw k at (low-office q f zd)) (after o e) (call q f) k still-takes
         ∙ ap (λ (s : State). act p (sourceFor sources x) s f .after) (own-step x h)
 
-    own-first : (x : ℕ) → x ≤ 1 → o ≡ x → q ≢ x → ownOf (actOn p sources (after o e) (call q f) .after) x ≡ act p (sourceFor sources x) (ownOf r x) e .after
+    own-first : (x : ℕ) → x ≤ 1 → o ≡ x → q ≢ x
+        → ownOf (actOn p sources (after o e) (call q f) .after) x ≡ act p (sourceFor sources x) (ownOf r x) e .after
     own-first x low h n = call-away p sources (after o e) (call q f) x low (λ k. n (sym k)) ∙ own-step x h
 
-    own-second : (x : ℕ) → x ≤ 1 → o ≢ x → q ≡ x → ownOf (actOn p sources (after o e) (call q f) .after) x ≡ act p (sourceFor sources x) (ownOf r x) f .after
+    own-second : (x : ℕ) → x ≤ 1 → o ≢ x → q ≡ x
+        → ownOf (actOn p sources (after o e) (call q f) .after) x ≡ act p (sourceFor sources x) (ownOf r x) f .after
     own-second x low n k =
-        step-own p sources x low (after o e) (call q f) k still-takes ∙ ap (λ (s : State). act p (sourceFor sources x) s f .after) (own-away x low n)
+        step-own p sources x low (after o e) (call q f) k still-takes
+        ∙ ap (λ (s : State). act p (sourceFor sources x) s f .after) (own-away x low n)
 
     own-none : (x : ℕ) → x ≤ 1 → o ≢ x → q ≢ x → ownOf (actOn p sources (after o e) (call q f) .after) x ≡ ownOf r x
     own-none x low n k = call-away p sources (after o e) (call q f) x low (λ h. k (sym h)) ∙ own-away x low n
@@ -171,11 +186,15 @@ module _ (p : Plan) (so : Sound p) (sources : Sources) (r : Rig) (inv : RigInv p
     other′ : q ≡ o → f ≢ e
     other′ h k = other (sym h) (sym k)
 
-    own-same : (x : ℕ) → x ≤ 1 → ownOf (actOn p sources (after o e) (call q f) .after) x ≡ ownOf (actOn p sources (after q f) (call o e) .after) x
+    own-same : (x : ℕ) → x ≤ 1
+        → ownOf (actOn p sources (after o e) (call q f) .after) x ≡ ownOf (actOn p sources (after q f) (call o e) .after) x
     own-same x low = go (ℕ-discrete o x) (ℕ-discrete q x)
       where
-        go : Dec (o ≡ x) → Dec (q ≡ x) → ownOf (actOn p sources (after o e) (call q f) .after) x ≡ ownOf (actOn p sources (after q f) (call o e) .after) x
-        go (yes h) (yes k) = own-both o q e f zc zd apart other x h k ∙ single-way o q e f zc zd apart other x low h k .same-words ∙ sym (own-both q o f e zd zc apart′ other′ x k h)
+        go : Dec (o ≡ x) → Dec (q ≡ x)
+            → ownOf (actOn p sources (after o e) (call q f) .after) x ≡ ownOf (actOn p sources (after q f) (call o e) .after) x
+        go (yes h) (yes k) =
+            own-both o q e f zc zd apart other x h k ∙ single-way o q e f zc zd apart other x low h k .same-words
+            ∙ sym (own-both q o f e zd zc apart′ other′ x k h)
         go (yes h) (no n) = own-first o q e f zc zd apart other x low h n ∙ sym (own-second q o f e zd zc apart′ other′ x low n h)
         go (no n) (yes k) = own-second o q e f zc zd apart other x low n k ∙ sym (own-first q o f e zd zc apart′ other′ x low k n)
         go (no n) (no m) = own-none o q e f zc zd apart other x low n m ∙ sym (own-none q o f e zd zc apart′ other′ x low m n)
@@ -192,7 +211,8 @@ module _ (p : Plan) (so : Sound p) (sources : Sources) (r : Rig) (inv : RigInv p
         }
 
   -- ---- two turns of one processor by two offices
-  module _ (o q b : ℕ) (ne : o ≢ q) (zc : actOn p sources r (call o (turnOf b)) .number ≡ 0) (zd : actOn p sources r (call q (turnOf b)) .number ≡ 0) where
+  module _ (o q b : ℕ) (ne : o ≢ q) (zc : actOn p sources r (call o (turnOf b)) .number ≡ 0)
+      (zd : actOn p sources r (call q (turnOf b)) .number ≡ 0) where
     lows : (o ≤ 1) × (q ≤ 1)
     lows = (low-office o (turnOf b) zc, low-office q (turnOf b) zd)
 
@@ -218,13 +238,16 @@ module _ (p : Plan) (so : Sound p) (sources : Sources) (r : Rig) (inv : RigInv p
       where
         word-is : holderOf (after o (turnOf b) .engaged) b ≡ o
         word-is =
-            ap (λ (l : List ℕ). holderOf l b) (words-after p sources r o (turnOf b) zc ∙ words-gather p o (ownOf r o) b (r .engaged) at-start)
-            ∙ getD-set-same (r .engaged) b o 0 (let k : b < p .processors = ltb-true _ _ (turn-is-open p sources r o b zc .low) in omega (arith, inv .wide))
+            ap (λ (l : List ℕ). holderOf l b)
+            (words-after p sources r o (turnOf b) zc ∙ words-gather p o (ownOf r o) b (r .engaged) at-start)
+            ∙ getD-set-same (r .engaged) b o 0
+            (let k : b < p .processors = ltb-true _ _ (turn-is-open p sources r o b zc .low) in omega (arith, inv .wide))
 
 -- ---- the claim, in a rig with the invariant
 module _ (p : Plan) (so : Sound p) (sources : Sources) (r : Rig) (inv : RigInv p sources r) where
   -- the calls as an office and an event each
-  both-gather : (c d : Call) (b : ℕ) → c .office ≢ d .office → c .event ≡ turnOf b → d .event ≡ turnOf b → CanTake (actOn p sources) r c → CanTake (actOn p sources) r d
+  both-gather : (c d : Call) (b : ℕ) → c .office ≢ d .office → c .event ≡ turnOf b → d .event ≡ turnOf b → CanTake (actOn p sources) r c
+      → CanTake (actOn p sources) r d
       → TwoGathers p r c d
   both-gather c d b ne h k zc zd =
       record {
@@ -240,18 +263,22 @@ module _ (p : Plan) (so : Sound p) (sources : Sources) (r : Rig) (inv : RigInv p
       → actOn p sources (actOn p sources r c .after) d .number ≡ 19
   only-one c d zc zd t =
       rw (as-turn c (t .first-turn), as-turn d (t .second-turn))
-      (then-held p so sources r inv (c .office) (d .office) (t .processor) (t .two-offices) (rw (as-turn c (t .first-turn)) at zc) (rw (as-turn d (t .second-turn)) at zd))
+      (then-held p so sources r inv (c .office) (d .office) (t .processor) (t .two-offices) (rw (as-turn c (t .first-turn)) at zc)
+      (rw (as-turn d (t .second-turn)) at zd))
     where
       as-turn : (x : Call) → x .event ≡ turnOf (t .processor) → x ≡ call (x .office) (turnOf (t .processor))
       as-turn x h = call-same x (call (x .office) (turnOf (t .processor))) refl h
 
-  pub swaps-on : SwapsFor (λ (c : Call). c) (actOn p sources) p r
+  pub swaps-on : SwapsFor wholly p (actOn p sources) r
   swaps-on =
       record {
-        either-way = λ c d ne zc zd none.
-            way p so sources r inv (c .office) (d .office) (c .event) (d .event) zc zd
-            (λ b h k. not-one c d ne zc zd none b h k (ℕ-discrete (c .office) (d .office)))
-            (λ h k. ne (call-same c d h k));
+        swaps =
+            record {
+              either-way = λ c d apart zc zd.
+                  way p so sources r inv (c .office) (d .office) (c .event) (d .event) zc zd
+                  (λ b h k. not-one c d (apart .different) zc zd (apart .not-gathers) b h k (ℕ-discrete (c .office) (d .office)))
+                  (λ h k. apart .different (call-same c d h k));
+            };
         both-gather = both-gather;
         only-one = λ c d zc zd t. (only-one c d zc zd t, only-one d c zd zc (turned t));
       }
@@ -271,3 +298,60 @@ module _ (p : Plan) (so : Sound p) (sources : Sources) (r : Rig) (inv : RigInv p
           → (b : ℕ) → c .event ≡ turnOf b → d .event ≡ turnOf b → Dec (c .office ≡ d .office) → ⊥
       not-one c d ne zc zd none b h k (yes e) = ne (call-same c d e (h ∙ sym k))
       not-one c d ne zc zd none b h k (no n) = none (both-gather c d b n h k zc zd)
+
+-- ---- any calls that are guarded, as a turn at its minute
+module _ (p : Plan) (so : Sound p) (sources : Sources) {C : Type 0} (callOf : C → Call) (calls : Rig → C → Answered Rig)
+    (allowed : C → Type 0) (gd : Guards (RigInv p sources) (actOn p sources) calls callOf allowed) where
+  module _ (r : Rig) (inv : RigInv p sources r) where
+    taken : (c : C) → CanTake calls r c → CanTake (actOn p sources) r (callOf c)
+    taken = plain-taken (RigInv p sources) (actOn p sources) calls callOf allowed gd (inv-next p so sources) r inv
+
+    after-it : (c d : C) → CanTake calls r c → CanTake calls r d
+        → calls (calls r c .after) d ≡ actOn p sources (actOn p sources r (callOf c) .after) (callOf d)
+    after-it = follows (RigInv p sources) (actOn p sources) calls callOf allowed gd (inv-next p so sources) r inv
+
+    guarded-at : SwapsFor callOf p calls r
+    guarded-at =
+        record {
+          swaps =
+              record {
+                either-way = λ c d apart zc zd.
+                    carried (RigInv p sources) (actOn p sources) calls callOf allowed gd (inv-next p so sources) r inv c d zc zd
+                    (here .swaps .either-way (callOf c) (callOf d)
+                    (record { different = apart .different; not-gathers = apart .not-gathers }) (taken c zc) (taken d zd));
+              };
+          both-gather = λ c d b ne h k zc zd. here .both-gather (callOf c) (callOf d) b ne h k (taken c zc) (taken d zd);
+          only-one = λ c d zc zd t.
+              let w = here .only-one (callOf c) (callOf d) (taken c zc) (taken d zd) t in
+              (number-of (after-it c d zc zd) ∙ w .0, number-of (after-it d c zd zc) ∙ w .1);
+        }
+      where
+        here : SwapsFor wholly p (actOn p sources) r
+        here = swaps-on p so sources r inv
+
+  swaps-run : (cs : List C) → SwapsFor callOf p calls (stateAfter calls (freshRig p) cs)
+  swaps-run cs =
+      guarded-at _
+      (good-end (RigInv p sources) (actOn p sources) calls callOf allowed gd (inv-next p so sources) cs (freshRig p) (inv-start p sources))
+
+  pub demand214-for : Demand214For callOf p calls (freshRig p)
+  demand214-for =
+      record { swaps = swaps-run; rewinds = rewinds (DifferentFor callOf p) calls (freshRig p) (λ cs. swaps-run cs .swaps) }
+
+-- ---- calls that answer as the rig does wherever its invariant holds
+
+office-refuses : (p : Plan) (source : List ℕ) (o : ℕ) (l : Lent) (theirs : List ℕ) (e : Event)
+    → actFor p source o l theirs e .number ≢ 0 → actFor p source o l theirs e .after ≡ l
+unfolding actFor turnFor deliverFor
+office-refuses p source o l theirs (turnOf b) n = pick-false _ _ _ (ne-eqb _ 0 n)
+office-refuses p source o l theirs (deliveryOf m) n = pick-false _ _ _ (ne-eqb _ 0 n)
+
+rig-refuses : (p : Plan) (sources : Sources) (r : Rig) (c : Call) → actOn p sources r c .number ≢ 0 → actOn p sources r c .after ≡ r
+unfolding actOn
+rig-refuses p sources r c n =
+    ap (returned r (c .office)) (office-refuses p _ (c .office) (lentTo r (c .office)) (otherOf r (c .office) .progress) (c .event) n)
+    ∙ returned-same r (c .office)
+
+pub likewise : (p : Plan) (sources : Sources) (calls : Rig → Call → Answered Rig) → Alike p sources calls
+    → Guards (RigInv p sources) (actOn p sources) calls wholly (λ c. Unit {0})
+likewise p sources calls alike = alike-guards (RigInv p sources) (actOn p sources) calls alike (rig-refuses p sources)
