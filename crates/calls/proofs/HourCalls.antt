@@ -56,13 +56,13 @@ record-there-at-for bytes route source o table minute m u t e rs ss b n x is z =
 -- ---- the two words
 
 module _ (out : List ℕ) (two : length out ≡ 2) where
-  pub stored-in : (n : ℕ) → set (set out 0 1) 1 n ≡ openingWords (OpensIn n)
+  pub stored-in : (n : ℕ) (x : Opening) → x ≡ OpensIn n → set (set out 0 1) 1 n ≡ openingWords x
   unfolding openingWords
-  stored-in n = two-set out 1 n two
+  stored-in n x e = two-set out 1 n two ∙ sym (ap openingWords e)
 
-  pub stored-never : set (set out 0 0) 1 0 ≡ openingWords Never
+  pub stored-never : (x : Opening) → x ≡ Never → set (set out 0 0) 1 0 ≡ openingWords x
   unfolding openingWords
-  stored-never = two-set out 0 0 two
+  stored-never x e = two-set out 0 0 two ∙ sym (ap openingWords e)
 
 -- ---- the question
 

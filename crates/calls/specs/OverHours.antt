@@ -1,4 +1,4 @@
--- Request W-212 for the calls as exported, board records as structs: what the contracts of src/hours.rt say of the areas lent, the number given
+-- Request W-212 for the calls as exported, board records as structs: what the contracts of src/hour.rt say of the areas lent, the number given
 -- and the areas left; runs with hours, of one office and of both on one rig. Document 01, "Numbers a call gives", "Runs"; W-212.
 use Prim.Native.Nat.{ℕ}
 use mathlib.Core.Path.{_≡_}
@@ -19,7 +19,7 @@ use Rattle.calls.specs.HourCalls.{opensWordsLines, opensWordsCall}
 use Rattle.calls.specs.OverRecords.{Areas, inWords, Gave, FreshGave, FixedAreas}
 use Rattle.calls.specs.OverRig.{LentAreas, lentWords, RigAreas, rigWords, otherAreas, lentAreas, FreshBothGave, FixedLent}
 
--- ---- the contracts of src/hours.rt: lent `a`, the call gave n and left `b`; what is lent for reading alone is left as it was
+-- ---- the contracts of src/hour.rt: lent `a`, the call gave n and left `b`; what is lent for reading alone is left as it was
 
 module _ (bytes : List ℕ) (route : ℕ) where
   -- mail has no hours: its contract is that of src/lib.rt

@@ -12,7 +12,7 @@ ghost use Rattle.calls.specs.PlanCalls.{summaryCall, messageCall, hopsCa
 use records::Progress;
 
 pub mod office; // office.rt: the calls for an office
-pub mod hours; // hours.rt: the calls with hours
+pub mod hour; // hour.rt: the calls with hours
 
 // One turn of a processor.
 #[no_mangle]

@@ -67,11 +67,11 @@ use Rattle.timed.specs.Calls.{turnCallAtFor}
 use Rattle.calls.proofs.HourCalls.{record-there-at-for}
 use Rattle.calls.proofs.Walking.{R, F, E, low, high, progress-is, number-fits, word, ref, bytes, words32, records, slice}
 use Rattle.calls.proofs.Walking.{sepAll, fsepAll, splits, joins, fsplits, fjoins, Flatten, Put, flattens, flattens-lent, puts-at}
-use Rattle.calls.proofs.hours.rolwyddac_office_turn_at.Key.{name as #calls·turn}
-use Rattle.calls.proofs.hours.rolwyddac_office_turn_at as turn
-use Rattle.calls.proofs.hours.rolwyddac_office_turn_at.Statement as stated
-use Rattle.calls.proofs.hours.rolwyddac_office_turn_at.Code as code
-use Rattle.calls.proofs.hours.rolwyddac_office_turn_at.Code.Mir as mir′
+use Rattle.calls.proofs.hour.rolwyddac_office_turn_at.Key.{name as #calls·turn}
+use Rattle.calls.proofs.hour.rolwyddac_office_turn_at as turn
+use Rattle.calls.proofs.hour.rolwyddac_office_turn_at.Statement as stated
+use Rattle.calls.proofs.hour.rolwyddac_office_turn_at.Code as code
+use Rattle.calls.proofs.hour.rolwyddac_office_turn_at.Code.Mir as mir′
 
 abbrev stayed : Stays (turn.ended .signature .params) (turn.ended .kept)
 stayed =
@@ -350,5 +350,5 @@ rolwyddac-office-turn-at-spec 𝓤 H 𝓜 𝓖 𝓡 =
     (tables 𝓤 H 𝓜 𝓡 code.env .C) (tables 𝓤 H 𝓜 𝓡 code.env .Λ) #calls·turn code.function (code.unfolded 𝓤 H 𝓜 𝓡)
     (turn-meets 𝓤 H (𝓖 .A) (givenOf 𝓤 H 𝓜 𝓖) (𝓜 .mem) (𝓡 .run) (tablesOf 𝓤 H 𝓜 (tables 𝓤 H 𝓜 𝓡 code.env))
     (cited 𝓤 H (Flatten 𝓤 H (𝓖 .A) (𝓜 .mem) (𝓡 .run)) 𝓜 𝓡 code.env #records·flatten flatten-def.routine code.calls-records·flatten (flatten-thm.met 𝓤 H 𝓜 𝓖 𝓡))
-    (cited 𝓤 H (Words 𝓤 H (𝓖 .A) (𝓜 .mem) (𝓡 .run)) 𝓜 𝓡 code.env #timed·core·turn_for words-def.routine code.calls-timed·core·turn_for (words-thm.met 𝓤 H 𝓜 𝓖 𝓡))
+    (cited 𝓤 H (Words 𝓤 H (𝓖 .A) (𝓜 .mem) (𝓡 .run)) 𝓜 𝓡 code.env #timed·core·turn_for words-def.routine code.calls-timed·core·turn-for (words-thm.met 𝓤 H 𝓜 𝓖 𝓡))
     (cited 𝓤 H (Put 𝓤 H (𝓖 .A) (𝓜 .mem) (𝓡 .run)) 𝓜 𝓡 code.env #records·put put-def.routine code.calls-records·put (put-thm.met 𝓤 H 𝓜 𝓖 𝓡)))

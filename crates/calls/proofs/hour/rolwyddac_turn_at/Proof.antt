@@ -66,11 +66,11 @@ use Rattle.timed.specs.Calls.{turnCallAt}
 use Rattle.calls.proofs.HourCalls.{record-there-at}
 use Rattle.calls.proofs.Walking.{R, F, E, low, high, progress-is, number-fits, word, ref, bytes, words32, records, slice}
 use Rattle.calls.proofs.Walking.{sepAll, fsepAll, splits, joins, fsplits, fjoins, Flatten, Put, flattens-lent, puts-at}
-use Rattle.calls.proofs.hours.rolwyddac_turn_at.Key.{name as #calls·turn}
-use Rattle.calls.proofs.hours.rolwyddac_turn_at as turn
-use Rattle.calls.proofs.hours.rolwyddac_turn_at.Statement as stated
-use Rattle.calls.proofs.hours.rolwyddac_turn_at.Code as code
-use Rattle.calls.proofs.hours.rolwyddac_turn_at.Code.Mir as mir′
+use Rattle.calls.proofs.hour.rolwyddac_turn_at.Key.{name as #calls·turn}
+use Rattle.calls.proofs.hour.rolwyddac_turn_at as turn
+use Rattle.calls.proofs.hour.rolwyddac_turn_at.Statement as stated
+use Rattle.calls.proofs.hour.rolwyddac_turn_at.Code as code
+use Rattle.calls.proofs.hour.rolwyddac_turn_at.Code.Mir as mir′
 
 abbrev stayed : Stays (turn.ended .signature .params) (turn.ended .kept)
 stayed =
