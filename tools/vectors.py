@@ -2,7 +2,11 @@
 
     python3 tools/vectors.py          write every stored file anew
     python3 tools/vectors.py check    compare every stored file with a fresh generation
-    python3 tools/vectors.py explain  print the script of run_cases in words, each call with its line
+    python3 tools/vectors.py explain [NAME]
+                                      print a script in words, each call with its line: that of run_cases unless named
+
+    apart FOLDER, behind the first two: the files of crates that crates.txt does not list yet are FOLDER/NAME/..; without it they are
+    left out
 
 README.md beside this file has the formats.
 """
@@ -72,6 +76,35 @@ def drawn_recipe(draw, most_cells, most_words=None, n=None, m=None, distances=No
                 return encoded
 
 
+def drawn_shape(draw, most_cells, most_words=None, n=None, m=None, distances=None, least=1):
+    """A drawn recipe with one to four bounds, of which some cell, two tiles and a message are left, and not all cells."""
+    while True:
+        box = drawn_recipe(draw, most_cells, most_words, n, m, distances, least=least)
+        nest = model.read(box)[1]
+        for _ in range(12):
+            found = []
+            for _ in range(draw.pick([1, 1, 2, 2, 3, 4])):
+                j = draw.between(1, nest.n - 1)
+                earlier = draw.below(j)
+                side, slope = draw.below(2), draw.pick([-1, 0, 1, 1])
+                most = max(nest.lengths[j], nest.lengths[earlier])
+                # an offset near the box, or one that is far off
+                offset = draw.between(0, most) if slope < 0 else draw.between(0, 2 * most) - most
+                if draw.below(12) == 0:
+                    offset = -32768 if side == 0 else 32767
+                found.append((side, j, earlier, slope, offset))
+            encoded = with_bounds(box, found)
+            number, plan = model.plan_of(encoded)
+            if number == 0 and plan.tiles >= 2 and len(plan.messages) >= 1 and not all(plan.inside):
+                return encoded
+
+
+def with_bounds(encoded, bounds):
+    """The recipe with records of kind 5 behind its dimensions."""
+    at = 16 * len([record for record in model.records_of(encoded) if record[0] == 1])
+    return encoded[:at] + b''.join(model.bound_record(*bound) for bound in bounds) + encoded[at:]
+
+
 def changed(encoded, at, value):
     out = bytearray(encoded)
     out[at] = value
@@ -87,7 +120,7 @@ def widened(encoded, record):
 
 
 # the lines on the recipe, in the order in which they are tested
-ORDER = (1, 2, 3, 4, 18, 5, 6, 16, 17, 7, 8)
+ORDER = (1, 2, 3, 4, 18, 20, 5, 6, 16, 17, 7, 8)
 
 
 def faults():
@@ -106,6 +139,7 @@ def faults():
         (3, first_length(1025)),
         (4, all_lengths),
         (18, lambda e: widened(e, 4)),
+        (20, lambda e: with_bounds(e, [(model.UPPER, 2, 1, 0, -1)])),
         (5, lambda e: changed(e, 16 * 3 + 5, 1)),
         (6, lambda e: changed(e, 16 + 4, 1)),
         (16, lambda e: changed(e, 6, 0)),
@@ -165,6 +199,7 @@ def refused_recipes():
               (5, model.encode([600, 1], [300, 1], [2, 0], [(300, 0), (300, 0)], [1, 2])), (5, model.encode([4, 4], [512, 2], [2, 0], [(1, 0, 256)])),
               (6, model.encode([600, 1], [299, 1], [2, 0], [(300, 0)])), (6, model.encode([4, 4], [1024, 2], [2, 0], [(1025, 0)])),
               (2, model.encode([600, 1], [300, 1], [2, 0], [(252 + x, 0) for x in range(9)]))]
+    found += [(number, with_bounds(e, bounds)) for number, e, bounds in faulty_shapes()]
     right = model.encode([4, 6, 5], [3, 3, 2], [2, 2, 0], [(1, 0, 1), (0, 2, 0)])
     assert model.read(right)[0] == 0
     for number, fault in faults():
@@ -175,6 +210,64 @@ def refused_recipes():
         assert model.read(encoded)[0] == number != 0, (number, encoded)
     assert set(number for number, _ in found) == set(ORDER)
     return [encoded for _, encoded in found]
+
+
+def faulty_shapes():
+    """W-209: a number, a recipe and the bounds that give it this number."""
+    plane = model.encode([4, 4], [2, 2], [2, 0], [(1, 0)])
+    space = model.encode([3, 3, 3], [2, 2, 2], [2, 0, 0], [(1, 0, 0)])
+    many = model.encode([128, 128], [4, 2], [2, 0], [(1, 0)])
+    triangle, empty = model.TRIANGLE, (model.LOWER, 1, 0, 0, 4)
+    return [
+        (2, plane, [(2, 1, 0, 0, 0)]), (2, plane, [(0, 2, 0, 0, 0)]), (2, plane, [(0, 1, 1, 0, 0)]), (2, plane, [(0, 0, 0, 0, 0)]),
+        (2, plane, [(0, 1, 0, 2, 0)]), (2, plane, [(1, 1, 0, -2, 0)]), (2, plane, [triangle] * 5), (2, space, [triangle, (0, 3, 0, 0, 0)]),
+        (2, space, [(0, 1, 2, 0, 0)]), (20, plane, [empty]), (20, plane, [triangle, (0, 1, 0, 1, 1)]), (20, plane, [(1, 1, 0, 1, -4)]),
+        (20, plane, [(0, 1, 0, 0, 32767)]), (20, plane, [(1, 1, 0, -1, -32768)]),
+        (20, space, [(0, 2, 1, 1, 1), (0, 2, 0, 0, 2), (1, 1, 0, 0, 0), (1, 2, 1, -1, 1)]),
+        (8, many, [(0, 1, 0, 0, 0)]), (8, many, [triangle]), (8, many, [(1, 1, 0, 0, 64)]),
+    ]
+
+
+def shape_recipes():
+    """W-209: accepted shapes at the places where a reader goes wrong."""
+    encode, lower, upper = model.encode, model.LOWER, model.UPPER
+    three = [(1, 0), (0, 1), (1, 1)]
+    return [
+        # triangles by either side, either way round
+        encode([8, 8], [2, 2], [2, 0], three, bounds=[(upper, 1, 0, 1, 0)]),
+        encode([8, 8], [2, 2], [2, 0], three, [3, 2, 65535], 1, 9, [(lower, 1, 0, 1, 0)]),
+        encode([8, 8], [2, 2], [3, 0], three, [1, 2, 3], 0, 4294967295, [(upper, 1, 0, -1, 7)]),
+        encode([7, 9], [3, 2], [2, 0], [(2, 1), (0, 2)], boundary=6, bounds=[(lower, 1, 0, -1, 8)]),
+        # bands, and one bound twice
+        encode([9, 9], [2, 3], [2, 0], three, boundary=1, bounds=[(lower, 1, 0, 1, -2), (upper, 1, 0, 1, 2)]),
+        encode([9, 9], [2, 2], [4, 0], [(2, 2), (1, 0)], bounds=[(lower, 1, 0, -1, 6), (upper, 1, 0, -1, 10), (lower, 1, 0, -1, 6)]),
+        # t + v is empty; all for the corner; the first tile of the column reads nothing of it
+        encode([4, 4], [2, 2], [2, 0], [(1, 1)], boundary=9, bounds=[(lower, 1, 0, 1, 0)]),
+        encode([4, 8], [2, 2], [2, 0], [(2, 2)], bounds=[(lower, 1, 0, 1, 0)]),
+        encode([6, 12], [2, 2], [2, 0], [(2, 2), (1, 0)], bounds=[(lower, 1, 0, 1, 1), (upper, 1, 0, 1, 6)]),
+        # bounds that cut nothing, at the ends of an offset too
+        encode([8, 8], [2, 2], [2, 0], three, bounds=[(lower, 1, 0, 0, 0)]),
+        encode([5, 1], [2, 1], [2, 0], [(1, 0)], bounds=[(lower, 1, 0, 1, -32768), (upper, 1, 0, -1, 32767), (upper, 1, 0, 0, 0)]),
+        # one cell; a row; a cell in each of two tiles that nothing joins
+        encode([4, 4], [2, 2], [2, 0], [(1, 0), (0, 1)], boundary=5, bounds=[(lower, 1, 0, 1, 3), (lower, 1, 0, -1, 3)]),
+        encode([6, 6], [2, 2], [2, 0], three, bounds=[(lower, 1, 0, 0, 5)]),
+        encode([4, 4], [2, 2], [2, 0], [(1, 1)], bounds=[(lower, 1, 0, -1, 3), (upper, 1, 0, -1, 3)]),
+        # whole chains and processors without a tile
+        encode([8, 6, 4], [2, 2, 2], [2, 3, 0], [(1, 1, 0), (0, 1, 1), (1, 0, 0)], bounds=[(upper, 1, 0, 0, 1)]),
+        encode([6, 6, 3], [2, 2, 1], [3, 3, 0], [(1, 1, 1), (2, 0, 0)], [2, 5], 1, 3, [(upper, 1, 0, 1, 0), (lower, 2, 1, 0, 1)]),
+        encode([4, 4, 9], [1, 2, 3], [2, 2, 0], [(1, 1, 0), (0, 2, 3)], bounds=[(lower, 2, 0, 1, 2), (upper, 2, 1, 1, 5)]),
+        encode([5, 5, 5], [2, 2, 2], [2, 2, 0], [(1, 1, 1), (2, 0, 2)], boundary=8, bounds=[(lower, 2, 1, 1, 0), (upper, 1, 0, 1, 0)]),
+        # four dimensions, four bounds, each dimension bounded by each earlier one
+        encode([3, 4, 4, 3], [2, 2, 2, 2], [2, 2, 2, 0], [(1, 1, 1, 0), (0, 1, 0, 1), (2, 0, 1, 1)], boundary=2,
+               bounds=[(lower, 3, 0, 1, -1), (upper, 2, 1, 1, 0), (lower, 1, 0, -1, 1), (upper, 3, 2, 0, 2)]),
+        encode([2, 2, 5, 6], [1, 1, 1, 1], [2, 0, 0, 0], [(1, 1, 0, 0)], bounds=[(lower, 1, 0, 1, 0)]),
+        # single processors, and distances of 256 and more
+        encode([5, 6, 2], [2, 2, 1], [1, 3, 0], [(1, 1, 0), (2, 0, 1)], bounds=[(upper, 1, 0, 1, 1)]),
+        encode([5, 6, 2], [2, 2, 1], [2, 1, 0], [(1, 1, 0), (2, 2, 1)], bounds=[(lower, 1, 0, 1, -1)]),
+        encode([5, 5], [2, 2], [1, 0], three, boundary=4, bounds=[(lower, 1, 0, 1, 1)]),
+        encode([400, 2], [300, 2], [2, 0], [(300, 1), (257, 0), (1, 0)], boundary=7, bounds=[(lower, 1, 0, -1, 40)]),
+        encode([2, 500], [1, 260], [2, 0], [(1, 260), (0, 256), (1, 4)], bounds=[(lower, 1, 0, 1, 200), (upper, 1, 0, -1, 480)]),
+    ]
 
 
 def chosen_recipes():
@@ -248,7 +341,10 @@ def cases_text(recipes, text_of):
 def plans_text(recipes, indirect):
     """The plans of both routes; behind those of the indirect one the hops of the direct messages."""
     texts = [model.plan_text(encoded) for encoded in recipes]
-    texts += [model.plan_text(encoded, model.INDIRECT) + model.hops_text(encoded) for encoded in indirect]
+    for encoded in indirect:
+        # a shape is refused there, and no hops are told
+        refused = model.plan_of(encoded, model.INDIRECT)[0] != 0
+        texts.append(model.plan_text(encoded, model.INDIRECT) + ('' if refused else model.hops_text(encoded)))
     return ''.join('case %d\n' % k + text for k, text in enumerate(texts)).encode()
 
 
@@ -264,7 +360,14 @@ def plan_recipes():
     recipes.append(largest_recipe())
     # at the printer's limit of 512 bytes, and above it
     recipes += [model.ROWS['D'][:16] * 32, model.ROWS['D'][:16] * 33]
-    return recipes + single_recipes() + wide_recipes()
+    recipes += single_recipes() + wide_recipes() + shape_recipes()
+    for n in (2, 3, 4):
+        for m in range(1, n):
+            recipes += [drawn_shape(draw, 300, n=n, m=m, distances=distances) for distances in (1, 3, 6)]
+    # as many tiles as there can be, of a box that has twice as many; any number of messages due at one tile
+    recipes.append(model.encode([128, 128], [4, 2], [2, 0], [(1, 0)], bounds=[(model.UPPER, 1, 0, 0, 63)]))
+    recipes.append(model.encode([2, 2, 5, 13], [1] * 4, [2, 0, 0, 0], [(1, 1, 0, 0)], bounds=[(model.LOWER, 1, 0, 1, 0)]))
+    return recipes
 
 
 def route_recipes():
@@ -346,7 +449,8 @@ def indirect_recipes():
     for number in ORDER:
         recipes.append([encoded for encoded in refused if model.read(encoded)[0] == number][-1])
     recipes.append(model.encode([16, 16, 8, 8], [4, 4, 4, 4], [4, 4, 4, 0], [(1, 0, 2, 1), (3, 4, 0, 0), (0, 1, 4, 4), (4, 4, 4, 4)]))
-    return recipes
+    # 21: a shape, one that cuts nothing; 20 and 8 before it
+    return recipes + [shape_recipes()[0], shape_recipes()[9]] + [with_bounds(*faulty_shapes()[at][1:]) for at in (9, 15, 16)]
 
 
 def sweep_recipes():
@@ -404,14 +508,20 @@ def sweep_recipes():
     for number in ORDER:
         recipes.append([encoded for encoded in refused if model.read(encoded)[0] == number][-1])
     recipes += [model.ROWS['D'][:16] * 32, model.ROWS['D'][:16] * 33]
-    return recipes + single_recipes() + wide_recipes()
+    recipes += single_recipes() + wide_recipes() + shape_recipes()
+    # `beyond` goes by the box
+    recipes += [encode([33, 32], [8, 16], [2, 0], [(1, 0)], bounds=[(model.UPPER, 1, 0, 0, 0)]),
+                encode([32, 32], [8, 16], [5, 0], [(1, 0)], bounds=[(model.UPPER, 1, 0, 0, 0)]),
+                encode([32, 32], [8, 16], [4, 0], [(1, 0), (8, 16)], bounds=[(model.UPPER, 1, 0, 1, 0)])]
+    return recipes + [drawn_shape(draw, 100, most_words=800, n=n, m=m) for n in (2, 3, 4) for m in range(1, n)]
 
 
 # The script of run_cases
 
-AREAS = ['', 'source', 'memories', 'buffer', 'progress', 'status', 'grid']
-ROOM = {'source': 1024, 'memories': 4096, 'buffer': 7168, 'progress': 192, 'status': 7168, 'grid': 1024}
-CASE, RECIPE, LEND, FILL, POKE, FRESH, TURN, DELIVER, COLLECT, SWEEP, SHOW, ROUTE = range(1, 13)
+# the last one is there for rounds_cases alone, and no part of the checksum
+AREAS = ['', 'source', 'memories', 'buffer', 'progress', 'status', 'grid', 'rounds']
+ROOM = {'source': 1024, 'memories': 4096, 'buffer': 7168, 'progress': 192, 'status': 7168, 'grid': 1024, 'rounds': 1024}
+CASE, RECIPE, LEND, FILL, POKE, FRESH, TURN, DELIVER, COLLECT, SWEEP, SHOW, ROUTE, ROUNDS, ROUNDS_OF = range(1, 15)
 EACH, COUNT, DRAWN, DRAWN_FEW = range(4)
 
 
@@ -489,22 +599,23 @@ class Script:
 
     def checksum(self):
         h = 2166136261
-        for name in AREAS[1:]:
+        for name in AREAS[1:7]:
             for x in [self.lent[name]] + self.arrays[name][:self.lent[name]]:
                 h = (h * 16777619 + x) % model.WORD
         return h
 
     def call(self, op, name, a, answer):
         areas = self.areas()
-        before = self.checksum()
-        number = answer(areas)
+        before = self.checksum(), self.arrays['rounds'][:]
+        got = answer(areas)
+        number, told = got if isinstance(got, tuple) else (got, None)
         for area in ROOM:
             words = getattr(areas, area)
             assert len(words) == self.lent[area]
             self.arrays[area][:len(words)] = words
-        assert number == 0 or self.checksum() == before
+        assert number == 0 or (self.checksum(), self.arrays['rounds']) == before
         self.record(op, a=a)
-        line = '%d %08x' % (number, self.checksum())
+        line = ('%d ' % number) + ('' if told is None else '%d ' % told) + '%08x' % self.checksum()
         self.lines.append(line)
         self.explain('  %s %s' % (name, a), line)
         self.numbers.setdefault(name, set()).add(number)
@@ -524,6 +635,12 @@ class Script:
 
     def sweep(self):
         return self.call(SWEEP, 'sweep', 0, lambda areas: model.sweep(self.encoded, areas.source, areas.grid))
+
+    def rounds(self):
+        return self.call(ROUNDS, 'rounds', 0, lambda areas: model.rounds(self.encoded, areas))
+
+    def rounds_of(self):
+        return self.call(ROUNDS_OF, 'rounds of', 0, lambda areas: model.rounds_of(self.encoded, areas.rounds))
 
     def show(self, area):
         self.record(SHOW, area)
@@ -593,7 +710,7 @@ def refused_by_reading(s):
             continue
         s.case('a recipe refused %d' % number)
         s.recipe(encoded)
-        for at, area in enumerate(AREAS[1:]):
+        for at, area in enumerate(AREAS[1:7]):
             s.lend(area, 3 * at)
             s.fill(area, DRAWN, number + at)
         assert [s.fresh(), s.turn(0), s.deliver(0), s.collect(), s.sweep()] == [number] * 5
@@ -912,6 +1029,36 @@ def runs_over_wide_distances(s):
             assert drawn_call(s, plan, draw) != 10
 
 
+def runs_over_shapes(s):
+    """W-209: 21 by each call that is given a route, whole runs, and fit states that no run reaches."""
+    draw = Draw(12)
+    for at in (0, 9):
+        plan = s.start('a shape by the indirect route', shape_recipes()[at])
+        for route in OTHERS[:2]:
+            s.by(route)
+            assert s.fresh() == 21 and s.calls(plan) == [21] * 7 and s.sweep() == 0
+        s.lend('source', 1)
+        assert s.fresh() == 21 and s.sweep() == 9
+    for at in (9, 16):
+        number, encoded, bounds = faulty_shapes()[at]
+        s.case('a recipe refused %d before 21' % number)
+        s.recipe(with_bounds(encoded, bounds))
+        s.by(1)
+        assert [s.fresh(), s.turn(0), s.deliver(0), s.collect(), s.sweep()] == [number] * 5
+    for k, encoded in enumerate(shape_recipes()):
+        if k in (1, 3, 5, 6, 7, 8, 11, 13, 14, 18, 20, 21, 22, 23):
+            whole_run(s, draw, encoded, [(EACH, 1), (COUNT, 0), (DRAWN, draw.word())][k % 3], model.DIRECT, k)
+        if k in (0, 2, 4, 10, 15, 16, 17, 19, 24):
+            plan = s.start('a drawn fit state of a shape', encoded, (DRAWN, draw.word()), draw.below(50))
+            drawn_state(s, plan, draw)
+            for _ in range(10):
+                assert drawn_call(s, plan, draw) != 10
+            # collected from any words of the memories: outside the shape they are the boundary
+            for b in range(plan.boards):
+                set_record(s, b, len(plan.tiles_of[b]), 0, 0)
+            assert s.collect() == 0
+
+
 def run_script():
     s = Script()
     facts_of_the_paper(s)
@@ -927,10 +1074,79 @@ def run_script():
     runs_on_the_indirect_route(s)
     runs_over_single_boards(s)
     runs_over_wide_distances(s)
+    runs_over_shapes(s)
     low = {*ORDER, 9}
-    wanted = {'fresh': {0} | low, 'turn': {0, 10, 11, 12, 13} | low, 'deliver': {0, 10, 11, 14} | low,
-              'collect': {0, 10, 15} | low, 'sweep': {0} | low}
+    wanted = {'fresh': {0, 21} | low, 'turn': {0, 10, 11, 12, 13, 21} | low, 'deliver': {0, 10, 11, 14, 21} | low,
+              'collect': {0, 10, 15, 21} | low, 'sweep': {0} | low}
     assert s.numbers == wanted, s.numbers
+    # the room of the program that reads it whole
+    assert 16 * len(s.records) <= 262144, len(s.records)
+    return s
+
+
+# The script of rounds_cases
+
+def by_rounds(s, what, encoded, draw, route=model.DIRECT):
+    """The driver from areas of any words, collected and held to the sweep; each tile's round."""
+    plan = s.start(what, encoded, (DRAWN, draw.word()), draw.below(50))
+    s.by(route)
+    s.fill('progress', EACH, 77)
+    s.fill('status', EACH, 200)
+    assert s.rounds() == 0
+    s.by(model.DIRECT)
+    assert s.collect() == 0
+    collected = s.arrays['grid'][:plan.cells]
+    s.fill('grid', DRAWN, draw.word())
+    assert s.sweep() == 0 and s.arrays['grid'][:plan.cells] == collected
+    s.lend('rounds', plan.tiles)
+    s.fill('rounds', EACH, 9)
+    assert s.rounds_of() == 0
+    s.show('rounds')
+    return plan
+
+
+def rounds_script():
+    s = Script()
+    draw = Draw(13)
+    for row in 'ABCDEFGH':
+        plan = by_rounds(s, 'row %s by rounds' % row, model.ROWS[row], draw)
+        assert row != 'A' or s.arrays['rounds'][:16] == [1, 2, 3, 4, 2, 3, 4, 5, 5, 6, 7, 8, 6, 7, 8, 9]
+        s.show('progress')
+        s.show('status')
+        assert [s.turn(b) for b in range(plan.boards)] == [13] * plan.boards
+    # a route is no part of it
+    by_rounds(s, 'row C by rounds, another route before', model.ROWS['C'], draw, 1)
+    one = model.encode([4, 4], [2, 2], [2, 0], [(1, 0)], bounds=[(model.LOWER, 1, 0, 1, 3)])
+    recipes = [one] + chosen_recipes()[:12] + single_recipes()
+    recipes += [shape_recipes()[at] for at in (0, 1, 4, 6, 7, 8, 11, 12, 13, 14, 15, 16, 18, 19, 20, 23)]
+    for n in (2, 3, 4):
+        recipes += [drawn_recipe(draw, 120, most_words=1200, n=n, m=m) for m in range(1, n)]
+        recipes += [drawn_shape(draw, 120, most_words=1200, n=n, m=m) for m in range(1, n)]
+    for encoded in recipes:
+        by_rounds(s, 'a recipe by rounds', encoded, draw)
+    refused = refused_recipes()
+    for number in ORDER:
+        s.case('a recipe refused %d' % number)
+        s.recipe([encoded for encoded in refused if model.read(encoded)[0] == number][-1])
+        for area in AREAS[1:]:
+            s.lend(area, 2)
+            s.fill(area, DRAWN, number)
+        assert [s.rounds(), s.rounds_of()] == [number] * 2
+        s.show('rounds')
+    plan = s.start('row D, areas of wrong lengths', model.ROWS['D'])
+    s.lend('rounds', plan.tiles)
+    for area, length in s.lengths(plan).items():
+        for wrong in (length - 1, length + 1):
+            s.lend(area, wrong)
+            assert (s.rounds() == 9) == (area != 'grid')
+            s.lend(area, length)
+    for wrong in (0, plan.tiles - 1, plan.tiles + 1):
+        s.lend('rounds', wrong)
+        s.fill('rounds', EACH, 9)
+        assert s.rounds_of() == 9
+        s.show('rounds')
+    low = {*ORDER, 9}
+    assert s.numbers['rounds'] == s.numbers['rounds of'] == {0} | low, s.numbers
     return s
 
 
@@ -947,6 +1163,8 @@ def row_a_text():
 
 def all_files():
     """Name to content, in a fixed order."""
+    import desk
+    import rigs
     model.check_paper()
     plans = plan_recipes()
     indirect = indirect_recipes()
@@ -964,22 +1182,38 @@ def all_files():
         'crates/run_cases/data/script': b''.join(script.records),
         'crates/run_cases/stdout': ''.join(line + '\n' for line in script.lines).encode(),
         'bindings/row_a.stdout': row_a_text().encode(),
+        **rigs.files(rigs.office_script(), 'office_cases'),
+        **rigs.files(rigs.hours_script(), 'hours_cases'),
+        **rigs.files(rounds_script(), 'rounds_cases'),
+        **desk.soundings_files(),
+        **desk.chart_files(),
     }
 
 
-def write_all():
+def places(apart):
+    """Each file's name, where it stands, and its content."""
+    listed = [line.split(':')[0] for line in open(os.path.join(ROOT, 'crates.txt')) if ':' in line and line[0] != '#']
     for name, content in all_files().items():
-        path = os.path.join(ROOT, name)
+        parts = name.split('/')
+        if parts[0] != 'crates' or parts[1] in listed:
+            yield name, os.path.join(ROOT, name), content
+        elif apart is not None:
+            yield name, os.path.join(apart, *parts[1:]), content
+        else:
+            print('left out %s, no crate yet' % name)
+
+
+def write_all(apart=None):
+    for name, path, content in places(apart):
         os.makedirs(os.path.dirname(path), exist_ok=True)
         with open(path, 'wb') as out:
             out.write(content)
         print('wrote %s, %d bytes' % (name, len(content)))
 
 
-def check_all():
+def check_all(apart=None):
     wrong = 0
-    for name, content in all_files().items():
-        path = os.path.join(ROOT, name)
+    for name, path, content in places(apart):
         stored = open(path, 'rb').read() if os.path.exists(path) else None
         same = stored == content
         wrong += not same
@@ -987,13 +1221,22 @@ def check_all():
     sys.exit(1 if wrong else 0)
 
 
+def scripts():
+    """Name of the program to what makes its script."""
+    import rigs
+    return {'run_cases': run_script, 'office_cases': rigs.office_script, 'hours_cases': rigs.hours_script,
+            'rounds_cases': rounds_script}
+
+
 if __name__ == '__main__':
     words = sys.argv[1:]
+    apart = words[-1] if words[-2:-1] == ['apart'] else None
+    words = words[:-2] if apart else words
     if words == []:
-        write_all()
+        write_all(apart)
     elif words == ['check']:
-        check_all()
-    elif words == ['explain']:
-        print('\n'.join(run_script().words))
+        check_all(apart)
+    elif words[:1] == ['explain'] and len(words) < 3 and words[-1] in ['explain'] + list(scripts()):
+        print('\n'.join(scripts()['run_cases' if words[1:] == [] else words[1]]().words))
     else:
         sys.exit(__doc__)
