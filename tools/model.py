@@ -1,4 +1,4 @@
-"""A plain model of document 01 and of the requests W-201, W-203 to W-205, W-207, W-208 and W-210, written from their text, read as
+"""A plain model of document 01 and of the requests W-201 to W-205 and W-207 to W-210, written from their text, read as
 docs/DECISIONS.md says, and not from the engine.
 
 Every set is made by trying all its candidates. It shares no code, no table and no closed form with
@@ -32,7 +32,8 @@ def records_of(encoded):
 
 def unnamed(kind):
     """The bytes of a record that carry nothing, and so are zero."""
-    named = {1: [0, 2, 3, 4, 5, 6, 7], 2: [0, 2, 3, 4, 5, 6, 7], 3: [0, 1, 4, 5, 6, 7], 4: [0] + list(range(2, 12))}[kind]
+    named = {1: [0, 2, 3, 4, 5, 6, 7], 2: [0, 2, 3, 4, 5, 6, 7], 3: [0, 1, 4, 5, 6, 7], 4: [0] + list(range(2, 12)),
+             5: [0, 1, 2, 3, 4, 6, 7]}[kind]
     return [at for at in range(16) if at not in named]
 
 
@@ -41,14 +42,42 @@ def is_stray(encoded):
     records = records_of(encoded)
     # W-207: a distance is of kind 2 or 4, eight of both together at most
     kinds = [2 if record[0] == 4 else record[0] for record in records]
+    # W-209: up to four bounds follow the dimensions
     in_order = any(
-        kinds == [1] * n + [2] * distances + [3]
-        for n in range(2, 5) for distances in range(1, 9))
+        kinds == [1] * n + [5] * bounds + [2] * distances + [3]
+        for n in range(2, 5) for bounds in range(5) for distances in range(1, 9))
     if not in_order:
         return True
     if any(record[at] != 0 for record in records for at in unnamed(record[0])):
         return True
+    if any(record[0] == 5 and is_faulty_bound(Bound(record), kinds.count(1)) for record in records):
+        return True
     return records[-1][1] > 31
+
+
+def signed(number, bits):
+    return number - 2 ** bits if number >= 2 ** (bits - 1) else number
+
+
+class Bound:
+    """W-209: a record of kind 5."""
+
+    def __init__(self, record):
+        self.side, self.dimension, self.earlier = record[1], record[2], record[3]
+        self.slope = signed(record[4], 8)
+        self.offset = signed(word16(record, 6), 16)
+
+    def is_met(self, place):
+        """The component is at least, or at most, slope x the earlier component + offset."""
+        limit = self.slope * place[self.earlier] + self.offset
+        return place[self.dimension] >= limit if self.side == 0 else place[self.dimension] <= limit
+
+    def values(self):
+        return self.side, self.dimension, self.earlier, self.slope, self.offset
+
+
+def is_faulty_bound(bound, n):
+    return bound.side > 1 or bound.dimension >= n or bound.earlier >= bound.dimension or bound.slope not in (-1, 0, 1)
 
 
 def components_of(record):
@@ -64,6 +93,7 @@ class Nest:
         records = records_of(encoded)
         dimensions = [record for record in records if record[0] == 1]
         distances = [record for record in records if record[0] in (2, 4)]
+        self.bounds = [Bound(record) for record in records if record[0] == 5]
         self.lengths = [word16(record, 2) for record in dimensions]
         self.tiling = [word16(record, 4) for record in dimensions]
         self.counts = [word16(record, 6) for record in dimensions]
@@ -74,6 +104,14 @@ class Nest:
         self.boundary = word32(records[-1], 4)
         self.n = len(dimensions)
 
+    def is_inside(self, place):
+        """W-209: is a cell of the box in the shape?"""
+        return all(bound.is_met(place) for bound in self.bounds)
+
+    def shape(self):
+        """The places of the shape's cells, in index order."""
+        return [place for place in product(*[range(length) for length in self.lengths]) if self.is_inside(place)]
+
 
 def all_product(numbers):
     result = 1
@@ -82,8 +120,11 @@ def all_product(numbers):
     return result
 
 
-def tiles_along(length, k):
-    return len(set(i // k for i in range(length)))
+def tile_count(nest):
+    """The tiles that hold a cell; without bounds, those of each dimension by themselves."""
+    if nest.bounds:
+        return len(set(tuple(i // k for i, k in zip(place, nest.tiling)) for place in nest.shape()))
+    return all_product(len(set(i // k for i in range(length))) for length, k in zip(nest.lengths, nest.tiling))
 
 
 def is_needlessly_wide(nest):
@@ -143,6 +184,8 @@ def read(encoded):
         return 4, None
     if is_needlessly_wide(nest):
         return 18, None
+    if nest.bounds and nest.shape() == []:
+        return 20, None
     if is_faulty_distance(nest):
         return 5, None
     if is_faulty_tile(nest):
@@ -153,7 +196,7 @@ def read(encoded):
         return 17, None
     if is_faulty_boards(nest):
         return 7, None
-    if all_product(tiles_along(length, k) for length, k in zip(nest.lengths, nest.tiling)) > 1024:
+    if tile_count(nest) > 1024:
         return 8, None
     return 0, nest
 
@@ -202,15 +245,18 @@ class Plan:
         self.places = places
         self.cell_number = {place: c for c, place in enumerate(places)}
         self.cells = len(places)
+        # W-209: cell numbers are the box's; only cells of the shape are in a tile
+        self.inside = [nest.is_inside(place) for place in places]
         # the tiles that hold a cell, in index order
         tile_place_of = [tuple(i // k for i, k in zip(place, nest.tiling)) for place in places]
-        tile_places = sorted(set(tile_place_of))
+        tile_places = sorted(set(tile_place_of[c] for c in range(self.cells) if self.inside[c]))
         tile_number = {place: t for t, place in enumerate(tile_places)}
         self.tiles = len(tile_places)
-        self.tile_of = [tile_number[place] for place in tile_place_of]
+        self.tile_of = [tile_number[place] if inside else None for place, inside in zip(tile_place_of, self.inside)]
         self.cells_of = [[] for _ in range(self.tiles)]
         for c in range(self.cells):
-            self.cells_of[self.tile_of[c]].append(c)
+            if self.inside[c]:
+                self.cells_of[self.tile_of[c]].append(c)
         # boards, numbered in index order
         board_places = list(product(*[range(p) for p in nest.counts[:m]]))
         self.boards = len(board_places)
@@ -228,7 +274,11 @@ class Plan:
             for v, cells in (direct_sets if route == DIRECT else indirect_sets)(place, m, held):
                 if cells == []:
                     continue
-                taker = tile_number[tuple(place[j] + (v[j] if j < m else 0) for j in range(n))]
+                target = tuple(place[j] + (v[j] if j < m else 0) for j in range(n))
+                # W-209: the first tile that exists at or after t + v in its column
+                taker = tile_number.get(target)
+                if taker is None:
+                    taker = min(t for t, other in enumerate(tile_places) if other[:m] == target[:m] and other >= target)
                 # W-205: the board that has the cells already is sent no message
                 if self.board_of[taker] == self.board_of[t]:
                     continue
@@ -243,10 +293,11 @@ class Plan:
         self.steps = 2 * self.tiles + 2 * len(self.messages)
 
     def is_read_in(self, c, place, v, m, tile_place_of):
-        """Some distance puts the cell inside the nest, in a tile that differs by exactly v in the spread dimensions."""
+        """Some distance puts the cell inside the nest, which is the shape, in a tile that differs by exactly v in the spread
+        dimensions."""
         for d in self.nest.components:
             reader = tuple(i + x for i, x in zip(self.places[c], d))
-            if reader not in self.cell_number:
+            if reader not in self.cell_number or not self.inside[self.cell_number[reader]]:
                 continue
             tile = tile_place_of[self.cell_number[reader]]
             if all(tile[j] - place[j] == v[j] for j in range(m)):
@@ -258,7 +309,7 @@ class Plan:
         total = source[c]
         for d, weight in zip(self.nest.components, self.nest.weights):
             place = tuple(i - x for i, x in zip(self.places[c], d))
-            if any(i < 0 for i in place):
+            if any(i < 0 for i in place) or not self.inside[self.cell_number[place]]:
                 total += weight * self.nest.boundary
             else:
                 total += weight * memory[self.cell_number[place]]
@@ -268,7 +319,7 @@ class Plan:
     def swept(self, source):
         values = [None] * self.cells
         for c in range(self.cells):
-            values[c] = self.value(source, values, c)
+            values[c] = self.value(source, values, c) if self.inside[c] else self.nest.boundary
         return values
 
 
@@ -276,10 +327,13 @@ PLANS = {}
 
 
 def plan_of(encoded, route=DIRECT):
-    """The number of the lines on the recipe and the plan; kept, since every call is given the same bytes again."""
+    """The number of the lines on the recipe and the plan; kept, since every call is given the same bytes again. Line 21 (W-209) is last:
+    indirect passing is wanted for a recipe with kind 5 records."""
     key = bytes(encoded), DIRECT if route == DIRECT else INDIRECT
     if key not in PLANS:
         number, nest = read(key[0])
+        if number == 0 and nest.bounds and key[1] != DIRECT:
+            number = 21
         PLANS[key] = (number, Plan(nest, key[1]) if number == 0 else None)
     return PLANS[key]
 
@@ -475,8 +529,11 @@ def collect(encoded, areas, route=DIRECT, rig=None):
     if any(areas.progress[3 * b] < len(plan.tiles_of[b]) for b in range(plan.boards)):
         return 15
     for c in range(plan.cells):
-        b = plan.board_of[plan.tile_of[c]]
-        areas.grid[c] = areas.memories[b * plan.cells + c]
+        if plan.inside[c]:
+            b = plan.board_of[plan.tile_of[c]]
+            areas.grid[c] = areas.memories[b * plan.cells + c]
+        else:
+            areas.grid[c] = plan.nest.boundary
     return 0
 
 
@@ -653,16 +710,43 @@ def distance_record(d, weight, wide):
     return bytes([2, 0]) + bytes(d) + weight.to_bytes(2, 'little') + bytes(8)
 
 
-def encode(lengths, tiling, counts, distances, weights=None, shift=0, boundary=0):
+def bound_record(side, dimension, earlier, slope, offset):
+    return bytes([5, side, dimension, earlier, slope % 256, 0]) + (offset % 65536).to_bytes(2, 'little') + bytes(8)
+
+
+LOWER, UPPER = 0, 1
+
+
+def encode(lengths, tiling, counts, distances, weights=None, shift=0, boundary=0, bounds=()):
     """Distances are tuples of up to four components, written as kind 4 only where kind 2 can't hold them; weights are 1 unless
-    given."""
+    given. A bound is a side, the dimension bounded, an earlier one, a slope and an offset."""
     weights = weights or [1] * len(distances)
     out = b''
     for length, k, p in zip(lengths, tiling, counts):
         out += bytes([1, 0]) + length.to_bytes(2, 'little') + k.to_bytes(2, 'little') + p.to_bytes(2, 'little') + bytes(8)
+    out += b''.join(bound_record(*bound) for bound in bounds)
     for d, weight in zip(distances, weights):
         out += distance_record(d, weight, any(x > 255 for x in d))
     return out + bytes([3, shift, 0, 0]) + boundary.to_bytes(4, 'little') + bytes(8)
+
+
+def values_of(nest):
+    """What a recipe says, as the writer is given it."""
+    bounds = [bound.values() for bound in nest.bounds]
+    return nest.lengths, nest.tiling, nest.counts, nest.components, nest.weights, nest.shift, nest.boundary, bounds
+
+
+def write(space, lengths, tiling, counts, components, weights, shift, boundary, bounds):
+    """W-202's writer, with kind 4 (W-207) and kind 5 (W-209): the number that the reader would give, then 9; the recipe in the lent
+    space. Values are as wide as their fields."""
+    encoded = encode(lengths, tiling, counts, components, weights, shift, boundary, bounds)
+    number = read(encoded)[0]
+    if number != 0:
+        return number
+    if len(space) != len(encoded):
+        return 9
+    space[:] = encoded
+    return 0
 
 
 def sounding_records(*records):
@@ -722,6 +806,7 @@ def check_paper():
     check_single_boards()
     check_wide_distances()
     check_offices()
+    check_shapes()
     check_soundings()
 
 
@@ -852,6 +937,73 @@ def check_office_lines(encoded, plan):
     expect('held and finished', number(0, b=1, own=(1, 0, 0, 1, 0, 0), **held)[0], 13)
 
 
+TRIANGLE = (UPPER, 1, 0, 1, 0)
+
+
+def check_shapes():
+    """W-209: what a bound is, the tiles and the takers of small shapes by hand, and the writer."""
+    def number(*bounds, lengths=(4, 4), tiling=(2, 2), distances=((1, 0),), route=DIRECT):
+        counts = [2] + [0] * (len(lengths) - 1)
+        return plan_of(encode(lengths, tiling, counts, list(distances), bounds=bounds), route)[0]
+
+    # cells (0,0) (1,0) (1,1) (2,0) .. (3,3): tile (0,1) is empty, and tile 1 is what was tile 2
+    triangle = encode([4, 4], [2, 2], [2, 0], [(1, 0)], bounds=[TRIANGLE])
+    expect('a triangle', plan_text(triangle), 'tiles 3 messages 1 words 2 steps 8\n0 0 1 0 1 2\n')
+    expect('its cells', [c for c in range(16) if plan_of(triangle)[1].inside[c]], [0, 4, 5, 8, 9, 10, 12, 13, 14, 15])
+    # the other half: t + v of tile 0 is empty, and the next tile of that column takes the message
+    other = encode([4, 4], [2, 2], [2, 0], [(1, 1)], shift=0, boundary=9, bounds=[(LOWER, 1, 0, 1, 0)])
+    expect('t + v is empty', plan_text(other), 'tiles 3 messages 2 words 2 steps 10\n0 0 2 0 1 1\n1 1 2 0 1 1\n')
+    expect('its sweep', plan_of(other)[1].swept([1] * 16), [10, 10, 10, 10, 9, 11, 11, 11, 9, 9, 12, 12, 9, 9, 9, 13])
+    # tile (1,2) alone reads what tile (0,1) mails, and tile (1,1) takes it: not the first that reads
+    band = encode([4, 6], [2, 2], [2, 0], [(2, 2)], bounds=[(LOWER, 1, 0, 0, 2)])
+    expect('not the first that reads', plan_text(band), 'tiles 4 messages 1 words 4 steps 10\n0 0 2 0 1 4\n')
+    expect('what cuts nothing', [plan_text(encode([8, 8], [2, 2], [2, 0], [(1, 0), (0, 1), (1, 1)], bounds=[bound])) for bound in (
+        (LOWER, 1, 0, 0, 0), (UPPER, 1, 0, 1, 7), (LOWER, 1, 0, -1, 0), (LOWER, 1, 0, 1, -32768), (UPPER, 1, 0, -1, 32767))],
+           [plan_text(ROWS['A'])] * 5)
+    expect('341 due at one tile', [(plan.tiles, len(plan.messages), max(len(due) for due in plan.due_at)) for plan in [plan_of(encode(
+        [2, 2, 11, 31], [1] * 4, [2, 0, 0, 0], [(1, 1, 0, 0)], bounds=[(LOWER, 1, 0, 1, 0)]))[1]]], [(1023, 341, 341)])
+    one = encode([4, 4], [2, 2], [2, 0], [(1, 0), (0, 1)], boundary=5, bounds=[(LOWER, 1, 0, 1, 3), (LOWER, 1, 0, -1, 3)])
+    expect('one cell', (plan_text(one), plan_of(one)[1].swept([2] * 16)),
+           ('tiles 1 messages 0 words 0 steps 2\n', [5, 5, 5, 12] + [5] * 12))
+    for encoded in (triangle, other, band, one):
+        expect('a shape both ways', compare_text(encoded), 'agree\n' * 4)
+    # a bound's own fields; 20 stands behind 18 and before 5; 8 counts the tiles that are left; 21 is the last
+    expect('faulty bounds', [number(bound) for bound in (
+        (2, 1, 0, 0, 0), (0, 2, 0, 0, 0), (0, 1, 1, 0, 0), (0, 0, 0, 0, 0), (0, 1, 0, 2, 0), (0, 1, 0, -2, 0), (0, 1, 0, -128, 0),
+        (0, 1, 255, 0, 0), (1, 1, 0, -1, 0), (0, 1, 0, 1, -32768))], [2] * 8 + [0] * 2)
+    expect('how many', [number(*[TRIANGLE] * count) for count in range(6)], [0] * 5 + [2])
+    expect('no cell', [number((0, 1, 0, 0, 4)), number((0, 1, 0, 0, 3)), number((1, 1, 0, 0, -1)), number((1, 1, 0, -1, 0)),
+                       number(TRIANGLE, (0, 1, 0, 1, 1)), number((0, 1, 0, 0, 32767)), number((1, 1, 0, 1, -32768))],
+           [20, 0, 20, 0, 20, 20, 20])
+    empty = (0, 1, 0, 0, 4)
+    expect('no cell and a zero distance', [number(empty, distances=[(0, 0)]), number(empty, tiling=(0, 0)), number(empty, lengths=(4, 5))],
+           [20, 20, 0])
+    many = dict(lengths=(128, 128), tiling=(4, 2))
+    expect('tiles that are left', [number(**many), number(TRIANGLE, **many), number((1, 1, 0, 0, 63), **many),
+                                   number((1, 1, 0, 0, 64), **many)], [8, 8, 0, 8])
+    expect('indirect passing', [number(TRIANGLE, route=1), number((0, 1, 0, 0, 0), route=7), number(empty, route=1),
+                                number(TRIANGLE, route=1, **many)], [21, 21, 20, 8])
+    check_writer()
+
+
+def check_writer():
+    """Both round trips of W-202, with every kind; the reader's number, and 9 behind it."""
+    wide = encode([400, 3], [300, 3], [2, 0], [(300, 1), (1, 0)], [7, 0], 31, 4294967295, [TRIANGLE, (0, 1, 0, -1, -32768)])
+    plain = encode([4, 4], [2, 2], [2, 0], [(1, 0)], bounds=[(1, 1, 0, -1, 32767)] * 4)
+    for encoded in list(ROWS.values()) + [wide, plain]:
+        values = values_of(read(encoded)[1])
+        space = [0] * len(encoded)
+        expect('rebuilt', (write(space, *values), bytes(space)), (0, encoded))
+        expect('read back', values_of(read(bytes(space))[1]), values)
+        for wrong in (len(encoded) - 1, len(encoded) + 1, 0):
+            space = [7] * wrong
+            expect('no room', (write(space, *values), space), (9, [7] * wrong))
+    lengths, tiling, counts, components, weights, shift, boundary, bounds = values_of(read(plain)[1])
+    rest = components, weights, shift, boundary
+    expect('written faults', [write([], lengths, tiling, counts, *rest, faulty) for faulty in (
+        bounds + bounds[:1], [(2, 1, 0, 0, 0)], [(0, 1, 1, 0, 0)], [(0, 1, 0, 3, 0)], [(0, 1, 0, 0, 9)])], [2, 2, 2, 2, 20])
+
+
 def check_soundings():
     """W-210 on the four cells of row D: which record counts, and each line beside its neighbours."""
     def filled(*records, value=77, encoded=ROWS['D'], content=None, lent=4):
@@ -872,10 +1024,13 @@ def check_soundings():
     expect('ragged files', [filled(content=bytes(count)) for count in (1, 15, 17)], [1] * 3)
     expect('a ragged file and a stray record', [filled(content=bytes(1), encoded=ROWS['D'][16:]), filled(encoded=ROWS['D'][16:]),
                                                filled(encoded=b''), filled((4, 0, 0, 0), encoded=ROWS['D'][16:])], [1, 2, 1, 2])
+    shape = encode([4, 4], [2, 2], [2, 0], [(1, 0)], bounds=[TRIANGLE])
+    expect('the box of a shape', filled((15, 0, 0, 2), (3, 0, 0, 1), encoded=shape, lent=16), [77] * 3 + [1] + [77] * 11 + [2])
+    expect('behind it', filled((16, 0, 0, 2), encoded=shape, lent=16), 22)
 
 
 if __name__ == '__main__':
     check_paper()
     import schedules
     schedules.check()
-    print('the model gives what document 01, W-201, W-203 to W-205, W-207, W-208 and W-210 print')
+    print('the model gives what document 01, W-201 to W-205 and W-207 to W-210 print')

@@ -1,5 +1,5 @@
 #!/usr/bin/env python3
-"""Test recipes for the reader, with the numbers that document 01 and the requests W-201, W-203, W-205 and W-207 give them.
+"""Test recipes for the reader, with the numbers that document 01 and the requests W-201, W-203, W-205, W-207 and W-209 give them.
 
     python3 tools/recipes.py          write crates/nest_cases/data/cases and crates/nest_cases/stdout
     python3 tools/recipes.py check    compare both with a fresh generation, and every number with tools/model.py
@@ -34,30 +34,60 @@ def wide(components, weight=1):
     return bytes([4, 0]) + b"".join(two(x) for x in (list(components) + [0, 0, 0, 0])[:4]) + two(weight) + bytes(4)
 
 
+def bound(side, dimension, earlier, slope, offset):
+    return bytes([5, side, dimension, earlier, slope % 256, 0]) + two(offset % 65536) + bytes(8)
+
+
 def close(shift=0, shore=0):
     return bytes([3, shift, 0, 0]) + shore.to_bytes(4, "little") + bytes(8)
 
 
-def recipe(lengths, tiles, counts, distances, shift=0, shore=0, weights=None):
+def recipe(lengths, tiles, counts, distances, shift=0, shore=0, weights=None, bounds=()):
     weights = weights or [1] * len(distances)
-    return (b"".join(dimension(*d) for d in zip(lengths, tiles, counts))
+    return (b"".join(dimension(*d) for d in zip(lengths, tiles, counts)) + b"".join(bound(*b) for b in bounds)
             + b"".join((wide if max(d) > 255 else distance)(d, w) for d, w in zip(distances, weights)) + close(shift, shore))
 
 
 # ---- document 01, lines 1 to 8 of its table; line 6 as W-201 has it, lines 16, 17 and 7 as W-203 and W-205 have them, line 18 and kind 4
-# as W-207 has them
+# as W-207 has them, line 20 and kind 5 as W-209 has them
+
+def signed(v, bits):
+    return v - 2 ** bits if v >= 2 ** (bits - 1) else v
+
+
+def rows_left(N, bounds):
+    """The rows of the shape along the last dimension: for each place before it the first and the last component that are left, where
+    some are. A bound of an earlier dimension keeps a row or drops it, one of the last dimension moves an end."""
+    starts = [()]
+    for length in N[:-1]:
+        starts = [s + (i,) for s in starts for i in range(length)]
+    for s in starts:
+        first, last = 0, N[-1] - 1
+        for side, j, e, slope, offset in bounds:
+            limit = offset + (s[e] if slope == 1 else -s[e] if slope == -1 else 0)
+            if j == len(N) - 1:
+                first, last = (max(first, limit), last) if side == 0 else (first, min(last, limit))
+            elif (s[j] < limit) if side == 0 else (s[j] > limit):
+                last = -1
+        if first <= last:
+            yield s, first, last
+
 
 def number(b):
     if len(b) == 0 or len(b) % 16 != 0:
         return 1
     records = [b[i:i + 16] for i in range(0, len(b), 16)]
-    if not re.fullmatch(rb"\x01{2,4}[\x02\x04]{1,8}\x03", bytes(r[0] for r in records)):
+    if not re.fullmatch(rb"\x01{2,4}\x05{0,4}[\x02\x04]{1,8}\x03", bytes(r[0] for r in records)):
         return 2
-    named = {1: (0, 2, 3, 4, 5, 6, 7), 2: (0, 2, 3, 4, 5, 6, 7), 3: (0, 1, 4, 5, 6, 7), 4: (0, 2, 3, 4, 5, 6, 7, 8, 9, 10, 11)}
+    named = {1: (0, 2, 3, 4, 5, 6, 7), 2: (0, 2, 3, 4, 5, 6, 7), 3: (0, 1, 4, 5, 6, 7), 4: (0, 2, 3, 4, 5, 6, 7, 8, 9, 10, 11),
+             5: (0, 1, 2, 3, 4, 6, 7)}
     for r in records:
         if any(r[i] != 0 for i in range(16) if i not in named[r[0]]):
             return 2
     if records[-1][1] > 31:
+        return 2
+    B = [(r[1], r[2], r[3], signed(r[4], 8), signed(r[6] + 256 * r[7], 16)) for r in records if r[0] == 5]
+    if any(side > 1 or not e < j < sum(r[0] == 1 for r in records) or abs(slope) > 1 for side, j, e, slope, _ in B):
         return 2
     ones = [r for r in records if r[0] == 1]
     field = lambda i: [r[i] + 256 * r[i + 1] for r in ones]
@@ -72,6 +102,8 @@ def number(b):
         return 4
     if any(r[0] == 4 and not any(r[3:10:2]) for r in records):
         return 18
+    if B and next(rows_left(N, B), None) is None:
+        return 20
     if any(not any(d) for d in D) or len(set(D)) < len(D) or any(any(d[n:]) for d in D):
         return 5
     if any(not 1 <= k[j] <= 1024 or any(k[j] < d[j] for d in D) for j in range(n)):
@@ -89,6 +121,11 @@ def number(b):
     tiles = 1
     for j in range(n):
         tiles *= len({i // k[j] for i in range(N[j])})
+    if B:
+        before = {}
+        for s, first, last in rows_left(N, B):
+            before.setdefault(tuple(i // q for i, q in zip(s, k)), set()).update(range(first // k[-1], last // k[-1] + 1))
+        tiles = sum(len(q) for q in before.values())
     return 8 if tiles > 1024 else 0
 
 
@@ -138,8 +175,8 @@ for r in range(6):
     for kind in (0, 1, 2, 3, 4, 5, 255):
         if kind != A[16 * r]:
             # the first distance read as a third dimension has tile length 0; read as kind 4 the weight is its third component, and in the
-            # others the second component is a high byte
-            expected = {(2, 1): 6, (2, 4): 18, (3, 4): 5, (4, 4): 5}.get((r, kind), 2)
+            # others the second component is a high byte; read as kind 5 it says that the second component is at least 1
+            expected = {(2, 1): 6, (2, 4): 18, (2, 5): 0, (3, 4): 5, (4, 4): 5}.get((r, kind), 2)
             case("kind-%d-in-record-%d" % (kind, r), splice(A, 16 * r, kind), expected)
 RA = [A[i:i + 16] for i in range(0, 96, 16)]
 for r, expected in enumerate((16, 2, 0, 0, 2)):
@@ -233,6 +270,76 @@ case("narrow-and-too-large", recipe([129, 128], [8, 8], [2, 0], [])[:32] + wide(
 case("tile-299-distance-300", mixed(wide((300, 0)), tile=299), 6)
 case("tile-300-distance-300", mixed(wide((300, 0)), tile=300), 0)
 
+# kind 5 and line 20
+def shape(*bounds, N=(8, 8), k=(4, 4), P=(2, 0), V=((1, 0),)):
+    return recipe(N, k, P, list(V), bounds=bounds)
+
+
+BAND = (0, 1, 0, 1, -2)
+for side, expected in ((0, 0), (1, 0), (2, 2), (3, 2), (128, 2), (255, 2)):
+    case("bound-side-%d" % side, shape((side, 1, 0, 0, 3)), expected)
+for j, e, expected in ((0, 0, 2), (1, 0, 0), (1, 1, 2), (1, 2, 2), (2, 0, 2), (2, 1, 2), (0, 1, 2), (1, 255, 2), (255, 0, 2), (255, 254, 2)):
+    case("bound-of-%d-by-%d-of-2" % (j, e), shape((1, j, e, 0, 3)), expected)
+for j, e, expected in ((0, 0, 2), (1, 0, 0), (2, 0, 0), (2, 1, 0), (3, 0, 0), (3, 1, 0), (3, 2, 0), (3, 3, 2), (2, 3, 2), (4, 0, 2)):
+    case("bound-of-%d-by-%d-of-4" % (j, e), shape((0, j, e, 0, 1), N=(4,) * 4, k=(4,) * 4, P=(2, 0, 0, 0)), expected)
+for j, e, expected in ((1, 0, 0), (2, 0, 0), (2, 1, 0), (3, 0, 2), (2, 2, 2)):
+    case("bound-of-%d-by-%d-of-3" % (j, e), shape((0, j, e, 1, 0), N=(4,) * 3, k=(4,) * 3, P=(2, 2, 0)), expected)
+for slope, expected in ((0, 0), (1, 0), (-1, 0), (2, 2), (-2, 2), (127, 2), (-128, 2), (-127, 2)):
+    case("bound-slope-%d" % slope, shape((1, 1, 0, slope, 3)), expected)
+for place in (5, 8, 9, 10, 11, 12, 13, 14, 15):
+    case("bound-byte-%d" % place, splice(shape(BAND), 32 + place, 1), 2)
+for count in range(7):
+    case("bounds-%d" % count, shape(*[BAND] * count), 0 if count < 5 else 2)
+case("bounds-4-distances-8-of-four", recipe([2] * 4, [3, 3, 3, 1], [2, 0, 0, 0], EIGHT, bounds=[(0, 3, 2, 1, 0)] * 4), 0)
+case("bounds-4-distances-9", recipe([8, 8], [4, 4], [2, 0], EIGHT + [(3, 3)], bounds=[BAND] * 4), 2)
+case("bound-before-the-dimensions", bound(*BAND) + shape(), 2)
+case("bound-between-the-dimensions", shape()[:16] + bound(*BAND) + shape()[16:], 2)
+case("bound-behind-a-distance", shape()[:-16] + bound(*BAND) + close(), 2)
+case("bound-between-distances", shape(V=EIGHT)[:-32] + bound(*BAND) + shape(V=EIGHT)[-32:], 2)
+case("bound-behind-the-close", shape() + bound(*BAND), 2)
+case("bound-in-the-distances-place", shape()[:32] + bound(*BAND) + close(), 2)
+case("bound-of-one-dimension", recipe([8], [4], [2], [(1,)], bounds=[(0, 1, 0, 0, 0)]), 2)
+case("bound-fourth-faulty", shape(BAND, BAND, BAND, (0, 1, 0, 2, 0)), 2)
+case("bound-and-a-wide-distance", shape(BAND, k=(300, 4), V=((300, 0), (1, 0))), 0)
+# the last offset with a cell, and the first without one: by each side and slope
+for side, slope, offset in ((0, 0, 7), (0, 1, 7), (0, -1, 14), (1, 0, 0), (1, 1, -7), (1, -1, 0)):
+    worse = offset + 1 if side == 0 else offset - 1
+    case("shape-%d-slope-%d-%d" % (side, slope, offset), shape((side, 1, 0, slope, offset)), 0)
+    case("shape-%d-slope-%d-%d" % (side, slope, worse), shape((side, 1, 0, slope, worse)), 20)
+for offset in (-32768, -1024, -256, -8, 8, 255, 256, 1024, 32767):
+    for side in (0, 1):
+        case("shape-%d-offset-%d" % (side, offset), shape((side, 1, 0, 0, offset)), 20 if (offset > 0) == (side == 0) else 0)
+for slope in (1, -1):
+    for side, offset in ((0, -32768), (0, 32767), (1, -32768), (1, 32767)):
+        expected = 20 if (offset > 0) == (side == 0) else 0
+        case("shape-1024-long-%d-slope-%d-offset-%d" % (side, slope, offset),
+             shape((side, 1, 0, slope, offset), N=(1024, 16), k=(64, 16)), expected)
+case("shape-between-two-bounds", shape((0, 1, 0, 1, 2), (1, 1, 0, 1, 2)), 0)
+case("shape-between-no-bounds", shape((0, 1, 0, 1, 2), (1, 1, 0, 1, 1)), 20)
+case("shape-crossed", shape((0, 1, 0, 1, 0), (1, 1, 0, -1, 0)), 0)
+case("shape-of-the-last-cell", shape((0, 1, 0, 0, 7), (0, 1, 0, -1, 14)), 0)
+case("shape-of-no-cell-by-three", shape((0, 1, 0, 0, 7), (0, 1, 0, -1, 14), (1, 1, 0, 1, -1)), 20)
+case("shape-of-cell-63-by-three", shape((0, 1, 0, 0, 7), (0, 1, 0, -1, 14), (1, 1, 0, 1, 0)), 0)
+case("shape-through-an-unbounded-middle", shape((0, 2, 0, 1, 0), (1, 2, 1, -1, 0), N=(4,) * 3, k=(4,) * 3, P=(2, 0, 0)), 0)
+case("shape-of-no-cell-in-the-middle", shape((0, 1, 0, 1, 0), (1, 1, 0, 0, -1), N=(4,) * 3, k=(4,) * 3, P=(2, 0, 0)), 20)
+case("shape-of-16384-cells", shape((0, 1, 0, -1, 254), N=(128, 128), k=(16, 16)), 0)
+case("shape-of-no-cell-of-16384", shape((0, 1, 0, -1, 255), N=(128, 128), k=(16, 16)), 20)
+# line 8 counts the tiles that hold a cell
+for offset, expected in ((62, 0), (63, 0), (64, 8), (65, 8)):
+    case("shape-tiles-upto-%d" % offset, shape((1, 1, 0, 0, offset), N=(128, 128), k=(4, 2)), expected)
+for bounds, expected in ((((1, 1, 0, 1, 0),), 8), (((1, 1, 0, 1, -5),), 0), (((1, 1, 0, 1, -1),), 8), (((0, 1, 0, 1, 0), (1, 1, 0, 1, 30)), 0)):
+    case("shape-tiles-sloping-" + "-".join(str(b[4]) for b in bounds), shape(*bounds, N=(128, 128), k=(4, 2)), expected)
+case("shape-tiles-1024-of-2048", recipe([64, 32, 4], [2, 1, 2], [2, 0, 0], [(1, 0, 0)], bounds=[(0, 2, 0, 0, 2)]), 0)
+case("shape-tiles-1056-of-2112", recipe([64, 33, 4], [2, 1, 2], [2, 0, 0], [(1, 0, 0)], bounds=[(0, 2, 0, 0, 2)]), 8)
+case("shape-tiles-1023-of-1364", recipe([2, 2, 11, 31], [1] * 4, [2, 0, 0, 0], [(1, 1, 0, 0)], bounds=[(0, 1, 0, 1, 0)]), 0)
+case("shape-of-one-tile-of-16384", shape((0, 1, 0, -1, 254), N=(128, 128), k=(1, 1), V=((1, 1),)), 0)
+# a record of kind 5 with each byte damaged in turn
+SLOPED = shape((1, 1, 0, -1, 259), N=(200, 64), k=(8, 16))
+case("sloped", SLOPED, 0)
+for at in range(32, 48):
+    case("sloped-byte-%d-one-more" % at, splice(SLOPED, at, (SLOPED[at] + 1) % 256))
+    case("sloped-byte-%d-high-bit" % at, splice(SLOPED, at, SLOPED[at] ^ 128))
+
 # line 6
 for tile, expected in ((0, 6), (1, 6), (2, 0), (3, 0), (1024, 0), (1025, 6), (65535, 6)):
     case("tile-%d-distance-2" % tile, recipe([8, 8], [tile, 4], [2, 0], [(2, 0)]), expected)
@@ -270,35 +377,53 @@ case("tiles-8192", recipe([128, 128], [2, 1], [2, 0], [(1, 0)]), 8)
 case("tiles-1-of-1024", recipe([1024, 16], [1024, 1024], [2, 0], [(1, 0)]), 0)
 
 # two faults at once: the first line counts, in the order in which the lines are tested
-ORDER = (1, 2, 3, 4, 18, 5, 6, 16, 17, 7, 8)
+ORDER = (1, 2, 3, 4, 18, 20, 5, 6, 16, 17, 7, 8)
+
+
+def with_faults(faults, bounds=b""):
+    """A recipe of four dimensions with these lines true, and with these records behind its dimensions."""
+    N, k, P, V = [4, 4, 1, 1], [2, 2, 2, 2], [2, 0, 0, 0], [(1, 0)]
+    if 8 in faults:
+        N, k = [64, 33, 1, 1], [2, 1, 2, 2]
+    if 4 in faults:
+        N = [1024, 1024, 1, 1]
+    if 3 in faults:
+        N[3] = 1025
+    if 5 in faults:
+        V = [(1, 0), (0, 0)]
+    if 6 in faults:
+        k[2] = 1025
+    if 16 in faults:
+        P = [2, 0, 2, 0]
+    if 17 in faults:
+        P = [2, 2, 2, 2] if 16 not in faults else [2, 0, 2, 2]
+    if 7 in faults:
+        P[0] = 65
+    b = recipe(N, k, P, V)
+    if 18 in faults:
+        b = b[:-16] + wide((0, 1)) + b[-16:]
+    if 20 in faults:
+        bounds += bound(1, 1, 0, 0, -1)
+    b = b[:64] + bounds + b[64:]
+    if 2 in faults:
+        b = splice(b, 9, 1)
+    if 1 in faults:
+        b = b + b"\0"
+    return b
+
+
 for first in ORDER:
     for second in ORDER[ORDER.index(first) + 1:]:
-        faults = (first, second)
-        N, k, P, V = [4, 4, 1, 1], [2, 2, 2, 2], [2, 0, 0, 0], [(1, 0)]
-        if 8 in faults:
-            N, k = [64, 33, 1, 1], [2, 1, 2, 2]
-        if 4 in faults:
-            N = [1024, 1024, 1, 1]
-        if 3 in faults:
-            N[3] = 1025
-        if 5 in faults:
-            V = [(1, 0), (0, 0)]
-        if 6 in faults:
-            k[2] = 1025
-        if 16 in faults:
-            P = [2, 0, 2, 0]
-        if 17 in faults:
-            P = [2, 2, 2, 2] if 16 not in faults else [2, 0, 2, 2]
-        if 7 in faults:
-            P[0] = 65
-        b = recipe(N, k, P, V)
-        if 18 in faults:
-            b = b[:-16] + wide((0, 1)) + b[-16:]
-        if 2 in faults:
-            b = splice(b, 9, 1)
-        if 1 in faults:
-            b = b + b"\0"
-        case("faults-%d-and-%d" % faults, b, first)
+        case("faults-%d-and-%d" % (first, second), with_faults((first, second)), first)
+
+# line 2 by a bound, and line 8 by the tiles of a shape that cuts cells off, each with every other line
+for other in ORDER:
+    if other != 2:
+        case("faults-bound-and-%d" % other, with_faults((other,), bound(2, 1, 0, 0, 0)), 1 if other == 1 else 2)
+    if other not in (4, 8):
+        case("faults-shape-and-%d" % other, with_faults((other, 8), bound(0, 1, 0, 1, -58)), other)
+case("shape-tiles-1050-of-1056", with_faults((8,), bound(0, 1, 0, 1, -58)), 8)
+case("shape-tiles-924-of-1056", with_faults((8,), bound(0, 1, 0, 1, -40)), 0)
 
 # an accepted recipe of 96 bytes with each byte damaged in turn
 WHOLE = recipe([8, 9, 7], [4, 3, 2], [2, 3, 0], [(1, 2, 1), (3, 0, 0)], 5, 67305985, [513, 7])
@@ -312,7 +437,8 @@ for at in range(len(WHOLE)):
 
 def files():
     data = b"".join(bytes([len(l)]) + l.encode() + two(len(b)) + b for l, b, _ in CASES)
-    assert len(data) <= 65536, len(data)
+    # the room of the program that reads it whole
+    assert len(data) <= 120000, len(data)
     assert len({l for l, _, _ in CASES}) == len(CASES)
     return {"data/cases": data, "stdout": "".join("%s %d\n" % (l, n) for l, _, n in CASES).encode()}
 

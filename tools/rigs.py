@@ -240,6 +240,12 @@ def office_refusals(s):
             s.lend(office, name, 3)
             s.fill(office, name, DRAWN, number)
         assert [s.fresh_both()] + s.all_calls(number % 2, 2) + [s.look(2, 9)] == [number] * 5
+    # 21 in calls that are given a route, before 9; the look has none
+    shape = vectors.shape_recipes()[0]
+    s.start('a shape by the indirect route', shape)
+    s.by(1)
+    s.lend(0, 'engaged', 1)
+    assert [s.fresh_both()] + s.all_calls(0) + s.all_calls(1, 2) + [s.look(1, 0)] == [21] * 7 + [0]
     encoded = model.ROWS['D']
     plan = s.start('row D, areas of wrong lengths', encoded)
     for (office, name), length in s.lengths(plan).items():
@@ -390,12 +396,12 @@ def office_script():
     for encoded, routes in ((model.ROWS['A'], (0,)), (model.ROWS['B'], (0,)), (model.ROWS['G'], (0,)), (model.ROWS['F'], (0,)),
                             (model.ROWS['H'], (0,)), (vectors.single_recipes()[2], (0, 5)), (vectors.single_recipes()[11], (0,)),
                             (vectors.route_recipes()[1], (0, HIGH)), (vectors.route_recipes()[5], (1,)),
-                            (vectors.route_recipes()[10], (0,))):
+                            (vectors.route_recipes()[10], (0,)), (vectors.shape_recipes()[6], (0,)), (vectors.shape_recipes()[15], (0,))):
         for route in routes:
             office_run(s, encoded, route, draw)
     low = {*vectors.ORDER, 9}
-    wanted = {'fresh both': {0} | low, 'turn': {0, 10, 11, 12, 13, 19} | low, 'deliver': {0, 10, 11, 14} | low,
-              'collect': {0, 10, 11, 15} | low, 'look': {0, 11} | low, 'sweep': {0}}
+    wanted = {'fresh both': {0, 21} | low, 'turn': {0, 10, 11, 12, 13, 19, 21} | low, 'deliver': {0, 10, 11, 14, 21} | low,
+              'collect': {0, 10, 11, 15, 21} | low, 'look': {0, 11} | low, 'sweep': {0}}
     assert s.numbers == wanted, s.numbers
     return s
 

@@ -212,6 +212,94 @@ def check_offices(count):
     return '%d recipes by both routes: two offices end in both sweeps, neither tells of the other' % len(recipes)
 
 
+# W-209
+
+def drawn_run(encoded, areas, plan, draw):
+    """A run of one office to the end, as (event, number)."""
+    assert model.fresh(encoded, areas) == 0
+    log, steps = [], 0
+    while steps < plan.steps:
+        event = draw.pick(events_of(plan))
+        number = (model.turn if event[0] == 'turn' else model.deliver)(encoded, areas, event[1])
+        log.append((event, number))
+        steps += number == 0
+    return log
+
+
+def read_sets(plan):
+    """The messages a second time, from the cells that read: (sender's place, direction) to the set of cells."""
+    nest = plan.nest
+    m = len([p for p in nest.counts if p != 0])
+
+    def tile(place):
+        return tuple(i // k for i, k in zip(place, nest.tiling))
+
+    found = {}
+    for reader in nest.shape():
+        for d in nest.components:
+            place = tuple(i - x for i, x in zip(reader, d))
+            if min(place) >= 0 and nest.is_inside(place):
+                v = tuple(tile(reader)[j] - tile(place)[j] for j in range(m))
+                # on the other board: some count above 1 is crossed
+                if any(one and nest.counts[j] > 1 for j, one in enumerate(v)):
+                    found.setdefault((tile(place), v), set()).add(plan.cell_number[place])
+    return found
+
+
+def check_shape(encoded, draw):
+    """One shape on the direct route: its sets, takers and numbers a second way, and a drawn run. Gives what it has of rare things."""
+    plan = model.plan_of(encoded)[1]
+    nest = plan.nest
+    tiles = sorted(set(tuple(i // k for i, k in zip(place, nest.tiling)) for place in nest.shape()))
+    sets = read_sets(plan)
+    assert [(tiles[message.sender], message.direction, message.cells) for message in plan.messages] == [
+        (tile, v, sorted(cells)) for (tile, v), cells in sorted(sets.items())]
+    seen = set()
+    for message in plan.messages:
+        m = len(message.direction)
+        sender = tiles[message.sender]
+        target = tuple(x + message.direction[j] if j < m else x for j, x in enumerate(sender))
+        # tiles of a column stand one behind the other, so the taker is the first tile of all at or after t + v
+        assert tiles[message.taker] == min(tile for tile in tiles if tile >= target) and tiles[message.taker][:m] == target[:m]
+        readers = [tile for tile in tiles if tile[:m] == target[:m] and any(
+            tuple(i + x for i, x in zip(plan.places[c], d)) in plan.cell_number and plan.tile_of[plan.cell_number[tuple(
+                i + x for i, x in zip(plan.places[c], d))]] == tiles.index(tile) for c in message.cells for d in nest.components)]
+        assert readers and tiles[message.taker] <= readers[0]
+        seen |= {'t + v empty'} if tiles[message.taker] != target else set()
+        seen |= {'not the first that reads'} if tiles[message.taker] != readers[0] else set()
+    seen |= {'a board without tiles'} if [] in plan.tiles_of else set()
+    seen |= {'more than seven due'} if max(len(due) for due in plan.due_at) > 7 else set()
+    source = [draw.word() for _ in range(plan.cells)]
+    areas = model.areas_for(plan, source)
+    log = drawn_run(encoded, areas, plan, draw)
+    assert same(areas, replayed(plan, source, [event for event, number in log if number == 0]))
+    # the words of cells outside come from no strip
+    for b in range(plan.boards):
+        for c in range(plan.cells):
+            if not plan.inside[c]:
+                assert areas.memories[b * plan.cells + c] == 0
+                areas.memories[b * plan.cells + c] = draw.word()
+    assert model.collect(encoded, areas) == 0 and areas.grid == plan.swept(source)
+    assert all(word == nest.boundary for word, inside in zip(areas.grid, plan.inside) if not inside)
+    space = [0] * len(encoded)
+    assert model.write(space, *model.values_of(nest)) == 0 and bytes(space) == encoded
+    return seen
+
+
+def check_shapes(count):
+    draw = vectors.Draw(22)
+    recipes = vectors.shape_recipes()
+    for k in range(3 * count):
+        n, m = [(2, 1), (3, 2), (3, 1), (4, 2), (4, 3)][k % 5]
+        recipes.append(vectors.drawn_shape(draw, 70, 600, n=n, m=m, distances=draw.between(1, 4), least=1 + k % 2))
+    seen = set()
+    for encoded in recipes:
+        if model.plan_of(encoded)[1].cells <= 400:
+            seen |= check_shape(encoded, draw)
+    assert len(seen) == 4, seen
+    return '%d shapes: sets and takers as found from the cells that read; runs end in the sweep' % len(recipes)
+
+
 # W-210
 
 def folded(content, value, cells):
@@ -231,7 +319,7 @@ def drawn_soundings(draw, cells, count):
 
 def check_soundings(count):
     draw = vectors.Draw(23)
-    recipes = [model.ROWS['D'], model.ROWS['A'], model.ROWS['C']]
+    recipes = [model.ROWS['D'], model.ROWS['A'], vectors.shape_recipes()[0]]
     for k in range(5 * count):
         encoded = recipes[k % 3]
         source = [9] * model.plan_of(encoded)[1].cells
@@ -247,7 +335,7 @@ def check_soundings(count):
 
 
 def check(count=12):
-    for part in (check_offices, check_soundings):
+    for part in (check_offices, check_shapes, check_soundings):
         print(part(count))
 
 

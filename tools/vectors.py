@@ -73,6 +73,35 @@ def drawn_recipe(draw, most_cells, most_words=None, n=None, m=None, distances=No
                 return encoded
 
 
+def drawn_shape(draw, most_cells, most_words=None, n=None, m=None, distances=None, least=1):
+    """A drawn recipe with one to four bounds, of which some cell, two tiles and a message are left, and not all cells."""
+    while True:
+        box = drawn_recipe(draw, most_cells, most_words, n, m, distances, least=least)
+        nest = model.read(box)[1]
+        for _ in range(12):
+            found = []
+            for _ in range(draw.pick([1, 1, 2, 2, 3, 4])):
+                j = draw.between(1, nest.n - 1)
+                earlier = draw.below(j)
+                side, slope = draw.below(2), draw.pick([-1, 0, 1, 1])
+                most = max(nest.lengths[j], nest.lengths[earlier])
+                # an offset near the box, or one that is far off
+                offset = draw.between(0, most) if slope < 0 else draw.between(0, 2 * most) - most
+                if draw.below(12) == 0:
+                    offset = -32768 if side == 0 else 32767
+                found.append((side, j, earlier, slope, offset))
+            encoded = with_bounds(box, found)
+            number, plan = model.plan_of(encoded)
+            if number == 0 and plan.tiles >= 2 and len(plan.messages) >= 1 and not all(plan.inside):
+                return encoded
+
+
+def with_bounds(encoded, bounds):
+    """The recipe with records of kind 5 behind its dimensions."""
+    at = 16 * len([record for record in model.records_of(encoded) if record[0] == 1])
+    return encoded[:at] + b''.join(model.bound_record(*bound) for bound in bounds) + encoded[at:]
+
+
 def changed(encoded, at, value):
     out = bytearray(encoded)
     out[at] = value
@@ -88,7 +117,7 @@ def widened(encoded, record):
 
 
 # the lines on the recipe, in the order in which they are tested
-ORDER = (1, 2, 3, 4, 18, 5, 6, 16, 17, 7, 8)
+ORDER = (1, 2, 3, 4, 18, 20, 5, 6, 16, 17, 7, 8)
 
 
 def faults():
@@ -107,6 +136,7 @@ def faults():
         (3, first_length(1025)),
         (4, all_lengths),
         (18, lambda e: widened(e, 4)),
+        (20, lambda e: with_bounds(e, [(model.UPPER, 2, 1, 0, -1)])),
         (5, lambda e: changed(e, 16 * 3 + 5, 1)),
         (6, lambda e: changed(e, 16 + 4, 1)),
         (16, lambda e: changed(e, 6, 0)),
@@ -166,6 +196,7 @@ def refused_recipes():
               (5, model.encode([600, 1], [300, 1], [2, 0], [(300, 0), (300, 0)], [1, 2])), (5, model.encode([4, 4], [512, 2], [2, 0], [(1, 0, 256)])),
               (6, model.encode([600, 1], [299, 1], [2, 0], [(300, 0)])), (6, model.encode([4, 4], [1024, 2], [2, 0], [(1025, 0)])),
               (2, model.encode([600, 1], [300, 1], [2, 0], [(252 + x, 0) for x in range(9)]))]
+    found += [(number, with_bounds(e, bounds)) for number, e, bounds in faulty_shapes()]
     right = model.encode([4, 6, 5], [3, 3, 2], [2, 2, 0], [(1, 0, 1), (0, 2, 0)])
     assert model.read(right)[0] == 0
     for number, fault in faults():
@@ -176,6 +207,64 @@ def refused_recipes():
         assert model.read(encoded)[0] == number != 0, (number, encoded)
     assert set(number for number, _ in found) == set(ORDER)
     return [encoded for _, encoded in found]
+
+
+def faulty_shapes():
+    """W-209: a number, a recipe and the bounds that give it this number."""
+    plane = model.encode([4, 4], [2, 2], [2, 0], [(1, 0)])
+    space = model.encode([3, 3, 3], [2, 2, 2], [2, 0, 0], [(1, 0, 0)])
+    many = model.encode([128, 128], [4, 2], [2, 0], [(1, 0)])
+    triangle, empty = model.TRIANGLE, (model.LOWER, 1, 0, 0, 4)
+    return [
+        (2, plane, [(2, 1, 0, 0, 0)]), (2, plane, [(0, 2, 0, 0, 0)]), (2, plane, [(0, 1, 1, 0, 0)]), (2, plane, [(0, 0, 0, 0, 0)]),
+        (2, plane, [(0, 1, 0, 2, 0)]), (2, plane, [(1, 1, 0, -2, 0)]), (2, plane, [triangle] * 5), (2, space, [triangle, (0, 3, 0, 0, 0)]),
+        (2, space, [(0, 1, 2, 0, 0)]), (20, plane, [empty]), (20, plane, [triangle, (0, 1, 0, 1, 1)]), (20, plane, [(1, 1, 0, 1, -4)]),
+        (20, plane, [(0, 1, 0, 0, 32767)]), (20, plane, [(1, 1, 0, -1, -32768)]),
+        (20, space, [(0, 2, 1, 1, 1), (0, 2, 0, 0, 2), (1, 1, 0, 0, 0), (1, 2, 1, -1, 1)]),
+        (8, many, [(0, 1, 0, 0, 0)]), (8, many, [triangle]), (8, many, [(1, 1, 0, 0, 64)]),
+    ]
+
+
+def shape_recipes():
+    """W-209: accepted shapes at the places where a reader goes wrong."""
+    encode, lower, upper = model.encode, model.LOWER, model.UPPER
+    three = [(1, 0), (0, 1), (1, 1)]
+    return [
+        # triangles by either side, either way round
+        encode([8, 8], [2, 2], [2, 0], three, bounds=[(upper, 1, 0, 1, 0)]),
+        encode([8, 8], [2, 2], [2, 0], three, [3, 2, 65535], 1, 9, [(lower, 1, 0, 1, 0)]),
+        encode([8, 8], [2, 2], [3, 0], three, [1, 2, 3], 0, 4294967295, [(upper, 1, 0, -1, 7)]),
+        encode([7, 9], [3, 2], [2, 0], [(2, 1), (0, 2)], boundary=6, bounds=[(lower, 1, 0, -1, 8)]),
+        # bands, and one bound twice
+        encode([9, 9], [2, 3], [2, 0], three, boundary=1, bounds=[(lower, 1, 0, 1, -2), (upper, 1, 0, 1, 2)]),
+        encode([9, 9], [2, 2], [4, 0], [(2, 2), (1, 0)], bounds=[(lower, 1, 0, -1, 6), (upper, 1, 0, -1, 10), (lower, 1, 0, -1, 6)]),
+        # t + v is empty; all for the corner; the first tile of the column reads nothing of it
+        encode([4, 4], [2, 2], [2, 0], [(1, 1)], boundary=9, bounds=[(lower, 1, 0, 1, 0)]),
+        encode([4, 8], [2, 2], [2, 0], [(2, 2)], bounds=[(lower, 1, 0, 1, 0)]),
+        encode([6, 12], [2, 2], [2, 0], [(2, 2), (1, 0)], bounds=[(lower, 1, 0, 1, 1), (upper, 1, 0, 1, 6)]),
+        # bounds that cut nothing, at the ends of an offset too
+        encode([8, 8], [2, 2], [2, 0], three, bounds=[(lower, 1, 0, 0, 0)]),
+        encode([5, 1], [2, 1], [2, 0], [(1, 0)], bounds=[(lower, 1, 0, 1, -32768), (upper, 1, 0, -1, 32767), (upper, 1, 0, 0, 0)]),
+        # one cell; a row; a cell in each of two tiles that nothing joins
+        encode([4, 4], [2, 2], [2, 0], [(1, 0), (0, 1)], boundary=5, bounds=[(lower, 1, 0, 1, 3), (lower, 1, 0, -1, 3)]),
+        encode([6, 6], [2, 2], [2, 0], three, bounds=[(lower, 1, 0, 0, 5)]),
+        encode([4, 4], [2, 2], [2, 0], [(1, 1)], bounds=[(lower, 1, 0, -1, 3), (upper, 1, 0, -1, 3)]),
+        # whole chains and processors without a tile
+        encode([8, 6, 4], [2, 2, 2], [2, 3, 0], [(1, 1, 0), (0, 1, 1), (1, 0, 0)], bounds=[(upper, 1, 0, 0, 1)]),
+        encode([6, 6, 3], [2, 2, 1], [3, 3, 0], [(1, 1, 1), (2, 0, 0)], [2, 5], 1, 3, [(upper, 1, 0, 1, 0), (lower, 2, 1, 0, 1)]),
+        encode([4, 4, 9], [1, 2, 3], [2, 2, 0], [(1, 1, 0), (0, 2, 3)], bounds=[(lower, 2, 0, 1, 2), (upper, 2, 1, 1, 5)]),
+        encode([5, 5, 5], [2, 2, 2], [2, 2, 0], [(1, 1, 1), (2, 0, 2)], boundary=8, bounds=[(lower, 2, 1, 1, 0), (upper, 1, 0, 1, 0)]),
+        # four dimensions, four bounds, each dimension bounded by each earlier one
+        encode([3, 4, 4, 3], [2, 2, 2, 2], [2, 2, 2, 0], [(1, 1, 1, 0), (0, 1, 0, 1), (2, 0, 1, 1)], boundary=2,
+               bounds=[(lower, 3, 0, 1, -1), (upper, 2, 1, 1, 0), (lower, 1, 0, -1, 1), (upper, 3, 2, 0, 2)]),
+        encode([2, 2, 5, 6], [1, 1, 1, 1], [2, 0, 0, 0], [(1, 1, 0, 0)], bounds=[(lower, 1, 0, 1, 0)]),
+        # single processors, and distances of 256 and more
+        encode([5, 6, 2], [2, 2, 1], [1, 3, 0], [(1, 1, 0), (2, 0, 1)], bounds=[(upper, 1, 0, 1, 1)]),
+        encode([5, 6, 2], [2, 2, 1], [2, 1, 0], [(1, 1, 0), (2, 2, 1)], bounds=[(lower, 1, 0, 1, -1)]),
+        encode([5, 5], [2, 2], [1, 0], three, boundary=4, bounds=[(lower, 1, 0, 1, 1)]),
+        encode([400, 2], [300, 2], [2, 0], [(300, 1), (257, 0), (1, 0)], boundary=7, bounds=[(lower, 1, 0, -1, 40)]),
+        encode([2, 500], [1, 260], [2, 0], [(1, 260), (0, 256), (1, 4)], bounds=[(lower, 1, 0, 1, 200), (upper, 1, 0, -1, 480)]),
+    ]
 
 
 def chosen_recipes():
@@ -249,6 +338,7 @@ def cases_text(recipes, text_of):
 def plans_text(recipes, indirect):
     """The plans of both routes; behind those of the indirect one the hops of the direct messages."""
     texts = [model.plan_text(encoded) for encoded in recipes]
+    # of a shape, whose plan is refused there, the hops are told all the same: that call is given no route
     texts += [model.plan_text(encoded, model.INDIRECT) + model.hops_text(encoded) for encoded in indirect]
     return ''.join('case %d\n' % k + text for k, text in enumerate(texts)).encode()
 
@@ -265,7 +355,14 @@ def plan_recipes():
     recipes.append(largest_recipe())
     # at the printer's limit of 512 bytes, and above it
     recipes += [model.ROWS['D'][:16] * 32, model.ROWS['D'][:16] * 33]
-    return recipes + single_recipes() + wide_recipes()
+    recipes += single_recipes() + wide_recipes() + shape_recipes()
+    for n in (2, 3, 4):
+        for m in range(1, n):
+            recipes += [drawn_shape(draw, 300, n=n, m=m, distances=distances) for distances in (1, 3, 6)]
+    # as many tiles as there can be, of a box that has twice as many; any number of messages due at one tile
+    recipes.append(model.encode([128, 128], [4, 2], [2, 0], [(1, 0)], bounds=[(model.UPPER, 1, 0, 0, 63)]))
+    recipes.append(model.encode([2, 2, 5, 13], [1] * 4, [2, 0, 0, 0], [(1, 1, 0, 0)], bounds=[(model.LOWER, 1, 0, 1, 0)]))
+    return recipes
 
 
 def route_recipes():
@@ -347,7 +444,8 @@ def indirect_recipes():
     for number in ORDER:
         recipes.append([encoded for encoded in refused if model.read(encoded)[0] == number][-1])
     recipes.append(model.encode([16, 16, 8, 8], [4, 4, 4, 4], [4, 4, 4, 0], [(1, 0, 2, 1), (3, 4, 0, 0), (0, 1, 4, 4), (4, 4, 4, 4)]))
-    return recipes
+    # 21: a shape, one that cuts nothing; 20 and 8 before it
+    return recipes + [shape_recipes()[0], shape_recipes()[9]] + [with_bounds(*faulty_shapes()[at][1:]) for at in (9, 15, 16)]
 
 
 def sweep_recipes():
@@ -405,7 +503,12 @@ def sweep_recipes():
     for number in ORDER:
         recipes.append([encoded for encoded in refused if model.read(encoded)[0] == number][-1])
     recipes += [model.ROWS['D'][:16] * 32, model.ROWS['D'][:16] * 33]
-    return recipes + single_recipes() + wide_recipes()
+    recipes += single_recipes() + wide_recipes() + shape_recipes()
+    # `beyond` goes by the box
+    recipes += [encode([33, 32], [8, 16], [2, 0], [(1, 0)], bounds=[(model.UPPER, 1, 0, 0, 0)]),
+                encode([32, 32], [8, 16], [5, 0], [(1, 0)], bounds=[(model.UPPER, 1, 0, 0, 0)]),
+                encode([32, 32], [8, 16], [4, 0], [(1, 0), (8, 16)], bounds=[(model.UPPER, 1, 0, 1, 0)])]
+    return recipes + [drawn_shape(draw, 100, most_words=800, n=n, m=m) for n in (2, 3, 4) for m in range(1, n)]
 
 
 # The script of run_cases
@@ -913,6 +1016,36 @@ def runs_over_wide_distances(s):
             assert drawn_call(s, plan, draw) != 10
 
 
+def runs_over_shapes(s):
+    """W-209: 21 by each call that is given a route, whole runs, and fit states that no run reaches."""
+    draw = Draw(12)
+    for at in (0, 9):
+        plan = s.start('a shape by the indirect route', shape_recipes()[at])
+        for route in OTHERS[:2]:
+            s.by(route)
+            assert s.fresh() == 21 and s.calls(plan) == [21] * 7 and s.sweep() == 0
+        s.lend('source', 1)
+        assert s.fresh() == 21 and s.sweep() == 9
+    for at in (9, 16):
+        number, encoded, bounds = faulty_shapes()[at]
+        s.case('a recipe refused %d before 21' % number)
+        s.recipe(with_bounds(encoded, bounds))
+        s.by(1)
+        assert [s.fresh(), s.turn(0), s.deliver(0), s.collect(), s.sweep()] == [number] * 5
+    for k, encoded in enumerate(shape_recipes()):
+        if k in (1, 3, 5, 6, 7, 8, 11, 13, 14, 18, 20, 21, 22, 23):
+            whole_run(s, draw, encoded, [(EACH, 1), (COUNT, 0), (DRAWN, draw.word())][k % 3], model.DIRECT, k)
+        if k in (0, 2, 4, 10, 15, 16, 17, 19, 24):
+            plan = s.start('a drawn fit state of a shape', encoded, (DRAWN, draw.word()), draw.below(50))
+            drawn_state(s, plan, draw)
+            for _ in range(10):
+                assert drawn_call(s, plan, draw) != 10
+            # collected from any words of the memories: outside the shape they are the boundary
+            for b in range(plan.boards):
+                set_record(s, b, len(plan.tiles_of[b]), 0, 0)
+            assert s.collect() == 0
+
+
 def run_script():
     s = Script()
     facts_of_the_paper(s)
@@ -928,10 +1061,13 @@ def run_script():
     runs_on_the_indirect_route(s)
     runs_over_single_boards(s)
     runs_over_wide_distances(s)
+    runs_over_shapes(s)
     low = {*ORDER, 9}
-    wanted = {'fresh': {0} | low, 'turn': {0, 10, 11, 12, 13} | low, 'deliver': {0, 10, 11, 14} | low,
-              'collect': {0, 10, 15} | low, 'sweep': {0} | low}
+    wanted = {'fresh': {0, 21} | low, 'turn': {0, 10, 11, 12, 13, 21} | low, 'deliver': {0, 10, 11, 14, 21} | low,
+              'collect': {0, 10, 15, 21} | low, 'sweep': {0} | low}
     assert s.numbers == wanted, s.numbers
+    # the room of the program that reads it whole
+    assert 16 * len(s.records) <= 262144, len(s.records)
     return s
 
 

@@ -1,9 +1,7 @@
 //! The engine's library, through the safe crate over it.
 
 use crate::engine::{Areas, Engine, Progress, Request, Rig, Route};
-#[cfg(all(feature = "shapes", not(test)))]
-use crate::recipe::Bound;
-use crate::recipe::Numbers;
+use crate::recipe::{Bound, Numbers};
 use rolwyddac::Refusal;
 
 pub struct Library;
@@ -52,7 +50,7 @@ impl Engine for Library {
     fn has(&self, request: Request) -> bool {
         match request {
             Request::Offices => true,
-            Request::Shapes => cfg!(all(feature = "shapes", not(test))),
+            Request::Shapes => true,
             Request::Soundings => true,
             Request::Chart => cfg!(all(feature = "chart", not(test))),
             Request::Hours => cfg!(all(feature = "hours", not(test))),
@@ -96,13 +94,31 @@ impl Engine for Library {
         number(rolwyddac::hops_words(encoded, message, out))
     }
 
-    #[cfg(not(all(feature = "shapes", not(test))))]
     fn write(&self, numbers: &Numbers, space: &mut [u8]) -> u32 {
         let field = |at: usize| numbers.dimensions.iter().map(|dimension| dimension[at]).collect::<Vec<u16>>();
+        let [lengths, tiling, counts] = [0, 1, 2].map(field);
         let components: Vec<u16> = numbers.distances.iter().flat_map(|distance| distance.0).collect();
         let weights: Vec<u16> = numbers.distances.iter().map(|distance| distance.1).collect();
-        let Numbers { shift, boundary, .. } = *numbers;
-        number(rolwyddac::write(&field(0), &field(1), &field(2), &components, &weights, shift, boundary, space))
+        let of_bounds = |field: fn(&Bound) -> u8| numbers.bounds.iter().map(field).collect::<Vec<u8>>();
+        let [sides, dimensions, earlier] =
+            [of_bounds(|bound| bound.side), of_bounds(|bound| bound.dimension), of_bounds(|bound| bound.earlier)];
+        let slopes: Vec<i8> = numbers.bounds.iter().map(|bound| bound.slope).collect();
+        let offsets: Vec<i16> = numbers.bounds.iter().map(|bound| bound.offset).collect();
+        number(rolwyddac::write(
+            &lengths,
+            &tiling,
+            &counts,
+            &components,
+            &weights,
+            &sides,
+            &dimensions,
+            &earlier,
+            &slopes,
+            &offsets,
+            numbers.shift,
+            numbers.boundary,
+            space,
+        ))
     }
 
     fn fresh_both(&self, encoded: &[u8], route: Route, rig: &mut Rig) -> u32 {
@@ -155,25 +171,6 @@ impl Engine for Library {
             encoded => &[u8], memories[0] => &[u32], memories[1] => &[u32], office => u32, processor => u32,
             out => &mut [u32]
         ))
-    }
-
-    request! { "shapes":
-        fn write(&self, numbers: &Numbers, space: &mut [u8]) -> u32 {
-            let field = |at: usize| numbers.dimensions.iter().map(|dimension| dimension[at]).collect::<Vec<u16>>();
-            let [lengths, tiling, counts] = [0, 1, 2].map(field);
-            let components: Vec<u16> = numbers.distances.iter().flat_map(|distance| distance.0).collect();
-            let weights: Vec<u16> = numbers.distances.iter().map(|distance| distance.1).collect();
-            let of_bounds = |field: fn(&Bound) -> u8| numbers.bounds.iter().map(field).collect::<Vec<u8>>();
-            let [sides, dimensions, earlier] =
-                [of_bounds(|bound| bound.side), of_bounds(|bound| bound.dimension), of_bounds(|bound| bound.earlier)];
-            let slopes: Vec<i8> = numbers.bounds.iter().map(|bound| bound.slope).collect();
-            let offsets: Vec<i16> = numbers.bounds.iter().map(|bound| bound.offset).collect();
-            exported!(rolwyddac_write(
-                lengths => &[u16], tiling => &[u16], counts => &[u16], components => &[u16], weights => &[u16],
-                sides => &[u8], dimensions => &[u8], earlier => &[u8], slopes => &[i8], offsets => &[i16],
-                numbers.shift => u8, numbers.boundary => u32, space => &mut [u8]
-            ))
-        }
     }
 
     fn soundings(&self, encoded: &[u8], file: &[u8], value: u32, source: &mut [u32]) -> u32 {

@@ -393,18 +393,18 @@ fn quick_engines() -> impl Iterator<Item = Box<dyn Engine>> {
 /// what the plan printer writes for a recipe; on the indirect route its figures and lines, and the hops
 fn printed(engine: &dyn Engine, encoded: &[u8], route: Route) -> String {
     let mut out = [0; 4];
-    match if encoded.len() > 512 { 1 } else { engine.summary(encoded, route, &mut out) } {
-        0 => {}
-        number => return format!("refused {number}\n"),
-    }
-    let mut text = format!("tiles {} messages {} words {} steps {}\n", out[0], out[1], out[2], out[3]);
+    let number = |route, out: &mut [u32; 4]| if encoded.len() > 512 { 1 } else { engine.summary(encoded, route, out) };
+    let mut text = match number(route, &mut out) {
+        0 => format!("tiles {} messages {} words {} steps {}\n", out[0], out[1], out[2], out[3]),
+        number => format!("refused {number}\n"),
+    };
     for message in 0..out[1] {
         let mut line = [0; 5];
         assert_eq!(engine.message(encoded, route, message, &mut line), 0);
         text += &format!("{message} {}\n", line.map(|number| number.to_string()).join(" "));
     }
-    if route == Route::Indirect {
-        assert_eq!(engine.summary(encoded, Route::Direct, &mut out), 0);
+    // the hops are the direct plan's, and of a shape they are told though its indirect plan is refused
+    if route == Route::Indirect && number(Route::Direct, &mut out) == 0 {
         text += "hops";
         for message in 0..out[1] {
             let mut hops = [0];
@@ -416,13 +416,9 @@ fn printed(engine: &dyn Engine, encoded: &[u8], route: Route) -> String {
     text
 }
 
-/// Do the stored outputs know bounds? They do once W-209 has landed.
-const STORED_WITH_SHAPES: bool = false;
-
-/// Is a case for an engine? One with a record of kind 5 is so where both it and the stored outputs know shapes, or
-/// neither does.
+/// Is a case for an engine? One with a record of kind 5 is for those that know shapes.
 fn is_for(engine: &dyn Engine, encoded: &[u8]) -> bool {
-    engine.has(Request::Shapes) == STORED_WITH_SHAPES || encoded.chunks(16).all(|record| record[0] != 5)
+    engine.has(Request::Shapes) || encoded.chunks(16).all(|record| record[0] != 5)
 }
 
 /// The stored cases come from the models in tools/, which share nothing with those here.

@@ -6,16 +6,18 @@
  * table below, in table order, and no lent word has changed.
  *
  *    1 ragged         recipe empty, or it or the file of soundings not a multiple of 16 bytes
- *    2 stray record   kind, order, count, unnamed byte or shift not as the format has them
+ *    2 stray record   kind, order, count, unnamed byte, shift or bound not as the format has them
  *    3 length         some length is 0 or above 1,024
  *    4 too large      more than 16,384 cells
  *   18 too wide       all components of a distance of kind 4 fit a byte
+ *   20 empty          no cell of the box meets all bounds
  *    5 distance       components all zero, the same as an earlier record's, or non-zero beyond the last dimension
  *    6 tile           some tile length is 0, above 1,024, or smaller than some distance there
  *   16 spread order   the first dimension is not spread, or a spread one follows one that is not
  *   17 last spread    the last dimension is spread
  *    7 boards         more than 64 processors
- *    8 tiles          more than 1,024 tiles
+ *    8 tiles          more than 1,024 tiles that hold a cell
+ *   21 direct only    indirect passing asked for and the recipe has a bound
  *    9 area           a lent area has not exactly its length
  *   22 off the box    a sounding, whether it counts or not, names a cell that the recipe's box does not have
  *   10 unfit          progress records, status bytes or engaged words not fit
@@ -41,7 +43,12 @@
  * Calls that work on messages are told the route by which these travel, a word: 0 is direct passing, each message straight
  * to the processor of its taking tile; any other is indirect passing, between neighbours only, one spread dimension at
  * a time and the lowest first. The routes have messages of their own, and so other lengths of buffer and status. All
- * calls of a run are given the same route.
+ * calls of a run are given the same route. A recipe with bounds has direct passing alone (21).
+ *
+ * Bounds cut a shape out of the box. Cells have the box's numbers, and source, memories and grid the box's lengths; a cell
+ * outside the shape reads as the boundary value, is never calculated or sent, and has that value in every grid. Only tiles
+ * that hold a cell of the shape are numbered, in the order of their places. A message is taken by the first of them at or
+ * after the tile one step ahead in its direction, in that tile's chain (the tiles with its spread components).
  *
  * Two offices with the same recipe and route can share the processors. Each has a source and areas of its own; the words
  * engaged are lent to both. The calls for an office are told its number, 0 or 1, and are lent the other's records only to
@@ -83,6 +90,8 @@ enum {
   ROLWYDDAC_LAST_SPREAD = 17,
   ROLWYDDAC_TOO_WIDE = 18,
   ROLWYDDAC_ENGAGED = 19,
+  ROLWYDDAC_EMPTY = 20,
+  ROLWYDDAC_DIRECT_ONLY = 21,
   ROLWYDDAC_OFF_THE_BOX = 22
 };
 
@@ -124,28 +133,29 @@ enum {
 
 /* Writes the plan's totals on the route to out: tiles, messages, words, steps. Cells (the product of the lengths) and
  * processors (the product of the counts that are not 0) stand in the recipe itself.
- * Numbers: 1 to 8, 16 to 18; 9 if out has not 4 words. A refusal leaves out as it was. */
+ * Numbers: 1 to 8, 16 to 18, 20, 21; 9 if out has not 4 words. A refusal leaves out as it was. */
 uint32_t rolwyddac_summary(const uint8_t *encoded, size_t encoded_length, uint32_t route, uint32_t *out,
                            size_t out_length);
 
 /* Writes the line of message m of the route to out: sending tile, taking tile, sending processor, taking processor,
  * words. On the indirect route the words are those of the sending tile's own cells and of those it passes on.
- * Numbers: 1 to 8, 16 to 18; 9 if out has not 5 words; 11. A refusal leaves out as it was. */
+ * Numbers: 1 to 8, 16 to 18, 20, 21; 9 if out has not 5 words; 11. A refusal leaves out as it was. */
 uint32_t rolwyddac_message(const uint8_t *encoded, size_t encoded_length, uint32_t route, uint32_t m, uint32_t *out,
                            size_t out_length);
 
 /* Writes one word to out: the hops that message m of the direct route makes on the indirect one. There is no hop in a
- * dimension with one processor.
- * Numbers: 1 to 8, 16 to 18; 9 if out has not 1 word; 11. A refusal leaves out as it was. */
+ * dimension with one processor. With bounds they are told too, by the message's direction.
+ * Numbers: 1 to 8, 16 to 18, 20; 9 if out has not 1 word; 11. A refusal leaves out as it was. */
 uint32_t rolwyddac_hops(const uint8_t *encoded, size_t encoded_length, uint32_t m, uint32_t *out, size_t out_length);
 
-/* Sweeps the whole nest in index order on one processor and writes each cell's value to grid.
- * Numbers: 1 to 9, 16 to 18. A refusal leaves grid as it was. */
+/* Sweeps the whole nest in index order on one processor and writes each cell's value to grid, outside the shape the
+ * boundary value.
+ * Numbers: 1 to 9, 16 to 18, 20. A refusal leaves grid as it was. */
 uint32_t rolwyddac_sweep(const uint8_t *encoded, size_t encoded_length, const uint32_t *source, size_t source_length,
                          uint32_t *grid, size_t grid_length);
 
 /* Makes a fresh start: writes zero to memories, buffer, progress and status, whatever they held.
- * Numbers: 1 to 9, 16 to 18. A refusal leaves all four as they were. */
+ * Numbers: 1 to 9, 16 to 18, 20, 21. A refusal leaves all four as they were. */
 uint32_t rolwyddac_fresh(const uint8_t *encoded, size_t encoded_length, uint32_t route, const uint32_t *source,
                          size_t source_length, uint32_t *memories, size_t memories_length, uint32_t *buffer,
                          size_t buffer_length, rolwyddac_progress *progress, size_t progress_length, uint8_t *status,
@@ -154,24 +164,24 @@ uint32_t rolwyddac_fresh(const uint8_t *encoded, size_t encoded_length, uint32_t
 /* Gives one processor a turn: it does the stage at which its record stands, once. Gather unpacks the messages
  * due at its tile into its memory and marks them taken; calculate gives the tile's cells their values there;
  * send packs the next message into the buffer and marks it in flight.
- * Numbers: 1 to 13, 16 to 18. A refusal leaves memories, buffer, progress and status as they were. */
+ * Numbers: 1 to 13, 16 to 18, 20, 21. A refusal leaves memories, buffer, progress and status as they were. */
 uint32_t rolwyddac_turn(const uint8_t *encoded, size_t encoded_length, uint32_t route, const uint32_t *source,
                         size_t source_length, uint32_t *memories, size_t memories_length, uint32_t *buffer,
                         size_t buffer_length, rolwyddac_progress *progress, size_t progress_length, uint8_t *status,
                         size_t status_length, uint32_t processor);
 
 /* Delivers one message: its status goes from 1 to 2. Nothing else is written.
- * Numbers: 1 to 11, 14, 16 to 18. A refusal leaves status as it was. */
+ * Numbers: 1 to 11, 14, 16 to 18, 20, 21. A refusal leaves status as it was. */
 uint32_t rolwyddac_deliver(const uint8_t *encoded, size_t encoded_length, uint32_t route, const uint32_t *source,
                            size_t source_length, const uint32_t *memories, size_t memories_length,
                            const uint32_t *buffer, size_t buffer_length, const rolwyddac_progress *progress,
                            size_t progress_length, uint8_t *status, size_t status_length, uint32_t message);
 
-/* Copies each cell to grid from the memory of its tile's processor, once all processors have finished. Where it gives
- * 0 after a fresh start that gave 0 and then any turns and deliveries, all of these and this call given the same recipe,
- * route and source and lent the areas as the last left them, grid is what rolwyddac_sweep writes for that recipe and
- * source.
- * Numbers: 1 to 10, 15 to 18. A refusal leaves grid as it was. */
+/* Copies each cell to grid from the memory of its tile's processor, once all processors have finished; a cell outside the
+ * shape gets the boundary value. Where it gives 0 after a fresh start that gave 0 and then any turns and deliveries, all of
+ * these and this call given the same recipe, route and source and lent the areas as the last left them, grid is what
+ * rolwyddac_sweep writes for that recipe and source.
+ * Numbers: 1 to 10, 15 to 18, 20, 21. A refusal leaves grid as it was. */
 uint32_t rolwyddac_collect(const uint8_t *encoded, size_t encoded_length, uint32_t route, const uint32_t *source,
                            size_t source_length, const uint32_t *memories, size_t memories_length,
                            const uint32_t *buffer, size_t buffer_length, const rolwyddac_progress *progress,
@@ -180,7 +190,7 @@ uint32_t rolwyddac_collect(const uint8_t *encoded, size_t encoded_length, uint32
 
 /* Makes a fresh start of both offices together: writes zero to the memories, buffer, progress and status of each, and 2 to
  * every word of engaged, whatever they held.
- * Numbers: 1 to 9, 16 to 18. A refusal leaves all nine as they were. */
+ * Numbers: 1 to 9, 16 to 18, 20, 21. A refusal leaves all nine as they were. */
 uint32_t rolwyddac_fresh_both(const uint8_t *encoded, size_t encoded_length, uint32_t route,
                               const uint32_t *first_source, size_t first_source_length, uint32_t *first_memories,
                               size_t first_memories_length, uint32_t *first_buffer, size_t first_buffer_length,
@@ -193,7 +203,7 @@ uint32_t rolwyddac_fresh_both(const uint8_t *encoded, size_t encoded_length, uin
 
 /* Gives one processor a turn for an office, as rolwyddac_turn does on its areas. A gather engages the processor to the
  * office, the last step of that tile frees it.
- * Numbers: 1 to 13, 16 to 19. A refusal leaves memories, buffer, progress, status and engaged as they were. */
+ * Numbers: 1 to 13, 16 to 21. A refusal leaves memories, buffer, progress, status and engaged as they were. */
 uint32_t rolwyddac_office_turn(const uint8_t *encoded, size_t encoded_length, uint32_t route, const uint32_t *source,
                                size_t source_length, uint32_t *memories, size_t memories_length, uint32_t *buffer,
                                size_t buffer_length, rolwyddac_progress *progress, size_t progress_length,
@@ -202,7 +212,7 @@ uint32_t rolwyddac_office_turn(const uint8_t *encoded, size_t encoded_length, ui
                                uint32_t processor);
 
 /* Delivers one message of an office: its status goes from 1 to 2. Nothing else is written.
- * Numbers: 1 to 11, 14, 16 to 18. A refusal leaves status as it was. */
+ * Numbers: 1 to 11, 14, 16 to 18, 20, 21. A refusal leaves status as it was. */
 uint32_t rolwyddac_office_deliver(const uint8_t *encoded, size_t encoded_length, uint32_t route, const uint32_t *source,
                                   size_t source_length, const uint32_t *memories, size_t memories_length,
                                   const uint32_t *buffer, size_t buffer_length, const rolwyddac_progress *progress,
@@ -214,7 +224,7 @@ uint32_t rolwyddac_office_deliver(const uint8_t *encoded, size_t encoded_length,
  * Where it gives 0 after a fresh start of both offices that gave 0 and then any turns and deliveries of both, all given the
  * same recipe and route and each its office's source, and lent the areas as the last left them, grid is what
  * rolwyddac_sweep writes for that recipe and the office's source.
- * Numbers: 1 to 11, 15 to 18. A refusal leaves grid as it was. */
+ * Numbers: 1 to 11, 15 to 18, 20, 21. A refusal leaves grid as it was. */
 uint32_t rolwyddac_office_collect(const uint8_t *encoded, size_t encoded_length, uint32_t route, const uint32_t *source,
                                   size_t source_length, const uint32_t *memories, size_t memories_length,
                                   const uint32_t *buffer, size_t buffer_length, const rolwyddac_progress *progress,
@@ -224,7 +234,7 @@ uint32_t rolwyddac_office_collect(const uint8_t *encoded, size_t encoded_length,
 
 /* A look at a processor's memory, lent the memories of both offices: writes two words to out, where the processor's part
  * begins in the named office's memories and how many words it has. The same on either route.
- * Numbers: 1 to 8, 16 to 18; 9 if memories have not their length or out has not 2 words; 11. A refusal leaves out as it was:
+ * Numbers: 1 to 8, 16 to 18, 20; 9 if memories have not their length or out has not 2 words; 11. A refusal leaves out as it was:
  * there is no part then. */
 uint32_t rolwyddac_look(const uint8_t *encoded, size_t encoded_length, const uint32_t *first, size_t first_length,
                         const uint32_t *second, size_t second_length, uint32_t office, uint32_t processor,
@@ -234,20 +244,25 @@ uint32_t rolwyddac_look(const uint8_t *encoded, size_t encoded_length, const uin
  * word, least byte first. A cell gets the depth of its record with the greatest day; of these, with the greatest survey
  * number; of these, the latest in the file. A cell that no record names gets value. An empty file is allowed. Days and
  * survey numbers are compared without a sign. The call has some 200 kilobytes of its own on the stack.
- * Numbers: 1 to 9, 16 to 18, 22. A refusal leaves source as it was. */
+ * Numbers: 1 to 9, 16 to 18, 20, 22. A refusal leaves source as it was. */
 uint32_t rolwyddac_soundings(const uint8_t *encoded, size_t encoded_length, const uint8_t *file, size_t file_length,
                              uint32_t value, uint32_t *source, size_t source_length);
 
 /* Writes the recipe of the fields to space: lengths, tiling (tile lengths) and counts (processor counts) have one
  * number a dimension; components has four numbers a distance, zero beyond the last dimension, and weights one. The
- * recipe has 16 bytes for each dimension and each distance, and 16 more. What was written is accepted and reads back
- * to the fields given. What is refused has the number that reading it would have; lists of other lengths stand in
- * no recipe and are 2. A distance with a component above 255 is written with kind 4, every other with kind 2.
- * Numbers: 2 to 8, 16, 17; 9 if space has not exactly the recipe's length. A refusal leaves space as it was. */
+ * bounds' five lists have one number a bound, none where there is none: 0 for lower or 1 for upper, the dimension
+ * bounded, counted from 0, an earlier dimension, the slope (-1, 0 or 1) and the offset.
+ * The recipe has 16 bytes for each dimension, bound and distance, and 16 more. What was written is accepted and reads
+ * back to the fields given. What is refused has the number that reading it would have; lists of other lengths stand
+ * in no recipe and are 2. A distance with a component above 255 is written with kind 4, every other with kind 2.
+ * Numbers: 2 to 8, 16, 17, 20; 9 if space has not exactly the recipe's length. A refusal leaves space as it was. */
 uint32_t rolwyddac_write(const uint16_t *lengths, size_t lengths_length, const uint16_t *tiling, size_t tiling_length,
                          const uint16_t *counts, size_t counts_length, const uint16_t *components,
-                         size_t components_length, const uint16_t *weights, size_t weights_length, uint8_t shift,
-                         uint32_t boundary, uint8_t *space, size_t space_length);
+                         size_t components_length, const uint16_t *weights, size_t weights_length,
+                         const uint8_t *sides, size_t sides_length, const uint8_t *bounded, size_t bounded_length,
+                         const uint8_t *earlier, size_t earlier_length, const int8_t *slopes, size_t slopes_length,
+                         const int16_t *offsets, size_t offsets_length, uint8_t shift, uint32_t boundary,
+                         uint8_t *space, size_t space_length);
 
 #ifdef __cplusplus
 }

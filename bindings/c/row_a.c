@@ -49,9 +49,15 @@ static size_t deliver_all(void) {
   return delivered;
 }
 
+/* row A has no bounds; the pointers are not null */
+static const uint8_t no_bytes[1];
+static const int8_t no_slopes[1];
+static const int16_t no_offsets[1];
+
 int main(void) {
   must_be_done("write", rolwyddac_write(lengths, DIMENSIONS, tiling, DIMENSIONS, counts, DIMENSIONS, components,
-                                        4 * DISTANCES, weights, DISTANCES, 0, 0, recipe, sizeof recipe));
+                                        4 * DISTANCES, weights, DISTANCES, no_bytes, 0, no_bytes, 0, no_bytes, 0, no_slopes, 0,
+                                        no_offsets, 0, 0, 0, recipe, sizeof recipe));
   uint32_t plan[ROLWYDDAC_SUMMARY_LENGTH];
   must_be_done("summary", rolwyddac_summary(recipe, sizeof recipe, ROLWYDDAC_DIRECT, plan, ROLWYDDAC_SUMMARY_LENGTH));
   words = plan[ROLWYDDAC_SUMMARY_WORDS];

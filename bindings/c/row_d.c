@@ -8,7 +8,7 @@
 
 #include "rolwyddac.h"
 
-enum { CELLS = 4, PROCESSORS = 2, MESSAGES = 1, WORDS = 1, RECIPE = 4 * 16 };
+enum { CELLS = 4, PROCESSORS = 2, MESSAGES = 1, WORDS = 1, RECIPE = 4 * 16, RECORD = 16 };
 
 static const uint8_t row_d[RECIPE] = {
     [0] = 1, [2] = 4, [4] = 2, [6] = PROCESSORS, [16] = 1, [18] = 1, [20] = 1, [32] = 2, [34] = 1, [38] = 1, [48] = 3,
@@ -22,7 +22,7 @@ typedef struct {
 } lent;
 
 static lent at, before;
-static uint8_t recipe[RECIPE];
+static uint8_t recipe[RECIPE + RECORD];
 static size_t recipe_length = RECIPE, source_length = CELLS;
 static uint32_t route;
 static unsigned met;
@@ -108,13 +108,23 @@ static void refused(uint32_t wanted) {
   recipe_length = RECIPE;
 }
 
+/* a bound behind row D's dimensions: the second component is at most the offset; no cell has one but 0 */
+static void bound(uint8_t earlier, int16_t offset) {
+  const uint8_t record[RECORD] = {5, 1, 1, earlier, 0, 0, (uint8_t)(offset & 255), (uint8_t)(offset >> 8 & 255)};
+  memcpy(recipe + 2 * RECORD, record, RECORD);
+  memcpy(recipe + 3 * RECORD, row_d + 2 * RECORD, 2 * RECORD);
+  recipe_length = RECIPE + RECORD;
+}
+
 static void recipes_refused(void) {
   recipe_length = RECIPE - 1, refused(ROLWYDDAC_RAGGED);
   recipe_length = 0, refused(ROLWYDDAC_RAGGED);
   recipe[0] = 9, refused(ROLWYDDAC_STRAY_RECORD);
   recipe[2] = 0, refused(ROLWYDDAC_LENGTH);
   recipe[2] = 128, recipe[18] = 129, refused(ROLWYDDAC_TOO_LARGE);
+  bound(1, 0), refused(ROLWYDDAC_STRAY_RECORD);
   recipe[32] = 4, refused(ROLWYDDAC_TOO_WIDE);
+  bound(0, -1), refused(ROLWYDDAC_EMPTY);
   recipe[34] = 0, refused(ROLWYDDAC_DISTANCE);
   recipe[4] = 0, refused(ROLWYDDAC_TILE);
   recipe[6] = 0, refused(ROLWYDDAC_SPREAD_ORDER);
@@ -161,6 +171,20 @@ static void run(void) {
   same("the swept values", at.grid, (const uint32_t[]){1, 2, 3, 4}, CELLS);
 }
 
+/* a bound that cuts nothing leaves row D as it is, but for the route */
+static void with_a_bound(void) {
+  const uint32_t wanted = ROLWYDDAC_DIRECT_ONLY;
+  bound(0, 0);
+  memset(at.progress, 9, sizeof at.progress);
+  if (route == ROLWYDDAC_DIRECT) {
+    plan(), run();
+  } else {
+    fresh(wanted), turn(9, wanted), deliver(9, wanted), collect(wanted), summary(0, wanted), message(9, 0, wanted);
+  }
+  hops(0, 1, ROLWYDDAC_DONE), sweep(ROLWYDDAC_DONE), soundings(0, ROLWYDDAC_DONE);
+  memcpy(recipe, row_d, RECIPE), recipe_length = RECIPE;
+}
+
 int main(void) {
   const uint32_t routes[] = {ROLWYDDAC_DIRECT, ROLWYDDAC_INDIRECT, UINT32_MAX};
   memcpy(recipe, row_d, RECIPE);
@@ -172,8 +196,9 @@ int main(void) {
     filled();
     for (size_t c = 0; c < CELLS; c++) at.source[c] = 1;
     run();
+    with_a_bound();
   }
-  if (met != (0x7ffff | 1 << ROLWYDDAC_OFF_THE_BOX)) return printf("not every number was met: %x\n", met), 1;
+  if (met != (0x7ffff | 1 << ROLWYDDAC_EMPTY | 1 << ROLWYDDAC_DIRECT_ONLY | 1 << ROLWYDDAC_OFF_THE_BOX)) return printf("not every number was met: %x\n", met), 1;
   puts("row D as document 01 has it, each number met");
   return 0;
 }

@@ -44,7 +44,7 @@ pub enum Route {
     #[default]
     Direct = 0,
     /// Messages go between neighbours only, one spread dimension at a time and the lowest first; what a tile passes on goes
-    /// with its own cells.
+    /// with its own cells. A recipe with bounds has no such route: [`Refusal::DirectOnly`].
     Indirect = 1,
 }
 
@@ -63,11 +63,11 @@ pub struct Progress {
 /// The totals of a plan.
 #[derive(Clone, Copy, Debug, PartialEq, Eq)]
 pub struct Summary {
-    /// Cells of the nest: words of source and grid, and of each processor's memory.
+    /// Cells of the box, those outside the shape too: words of source and grid, and of each processor's memory.
     pub cells: usize,
     /// Processors: records of progress.
     pub processors: usize,
-    /// Tiles.
+    /// Tiles that hold a cell.
     pub tiles: u32,
     /// Messages: bytes of status.
     pub messages: u32,
@@ -82,7 +82,8 @@ pub struct Summary {
 pub struct Message {
     /// The tile that sends it.
     pub sending_tile: u32,
-    /// The tile that takes it.
+    /// The tile that takes it: the first that holds a cell, at or after the one ahead in the message's direction, in that
+    /// one's chain. Without bounds that is the one ahead itself.
     pub taking_tile: u32,
     /// The processor of the sending tile.
     pub sending_processor: u32,
@@ -156,7 +157,7 @@ macro_rules! calls {
 calls! {
     /// Makes a fresh start: writes zero to `memories`, `buffer`, `progress` and `status`, whatever they held.
     ///
-    /// Refusals: 1 to 9 and 16 to 18.
+    /// Refusals: 1 to 9, 16 to 18, 20 and 21.
     rolwyddac_fresh as fresh(
         encoded: &[u8], route: Route, source: &[u32], memories: &mut [u32], buffer: &mut [u32],
         progress: &mut [Progress], status: &mut [u8],
@@ -168,7 +169,7 @@ calls! {
     /// - Calculate gives the tile's cells their values there, reading only that memory and `source`.
     /// - Send packs the next message into the buffer and marks it in flight.
     ///
-    /// Refusals: 1 to 13 and 16 to 18.
+    /// Refusals: 1 to 13, 16 to 18, 20 and 21.
     rolwyddac_turn as turn(
         encoded: &[u8], route: Route, source: &[u32], memories: &mut [u32], buffer: &mut [u32],
         progress: &mut [Progress], status: &mut [u8], processor: u32,
@@ -176,49 +177,51 @@ calls! {
 
     /// Delivers one message: its status goes from 1 to 2.
     ///
-    /// Refusals: 1 to 11, 14 and 16 to 18.
+    /// Refusals: 1 to 11, 14, 16 to 18, 20 and 21.
     rolwyddac_deliver as deliver(
         encoded: &[u8], route: Route, source: &[u32], memories: &[u32], buffer: &[u32], progress: &[Progress],
         status: &mut [u8], message: u32,
     );
 
-    /// Copies each cell to `grid` from the memory of its tile's processor, once all processors have finished.
+    /// Copies each cell to `grid` from the memory of its tile's processor, once all processors have finished; a cell outside
+    /// the shape gets the boundary value.
     ///
     /// Where it is done, and all calls since the fresh start were turns and deliveries given this recipe, route and
     /// `source` and lent the areas as the last left them, `grid` is what [`sweep`] writes.
     ///
-    /// Refusals: 1 to 10 and 15 to 18.
+    /// Refusals: 1 to 10, 15 to 18, 20 and 21.
     rolwyddac_collect as collect(
         encoded: &[u8], route: Route, source: &[u32], memories: &[u32], buffer: &[u32], progress: &[Progress],
         status: &[u8], grid: &mut [u32],
     );
 
-    /// Sweeps the whole nest in index order on one processor and writes each cell's value to `grid`.
+    /// Sweeps the whole nest in index order on one processor and writes each cell's value to `grid`, outside the shape the
+    /// boundary value.
     ///
-    /// Refusals: 1 to 9 and 16 to 18.
+    /// Refusals: 1 to 9, 16 to 18 and 20.
     rolwyddac_sweep as sweep(encoded: &[u8], source: &[u32], grid: &mut [u32]);
 
     /// Writes the plan's totals on the route to `out`: tiles, messages, words, steps. [`summary`] is the handier form.
     ///
-    /// Refusals: 1 to 8, 16 to 18, and 9 if `out` has not 4 words.
+    /// Refusals: 1 to 8, 16 to 18, 20, 21, and 9 if `out` has not 4 words.
     rolwyddac_summary as summary_words(encoded: &[u8], route: Route, out: &mut [u32]);
 
     /// Writes the line of message `m` of the route to `out`: sending tile, taking tile, sending processor, taking
     /// processor, words. [`message`] is the handier form.
     ///
-    /// Refusals: 1 to 8, 16 to 18, 9 if `out` has not 5 words, 11.
+    /// Refusals: 1 to 8, 16 to 18, 20, 21, 9 if `out` has not 5 words, 11.
     rolwyddac_message as message_words(encoded: &[u8], route: Route, m: u32, out: &mut [u32]);
 
     /// Writes one word to `out`: the hops that message `m` of the direct route makes on the indirect one, where there is no
     /// hop in a dimension with one processor. [`hops`] is the handier form.
     ///
-    /// Refusals: 1 to 8, 16 to 18, 9 if `out` has not 1 word, 11.
+    /// Refusals: 1 to 8, 16 to 18, 20, 9 if `out` has not 1 word, 11.
     rolwyddac_hops as hops_words(encoded: &[u8], m: u32, out: &mut [u32]);
 
     /// Makes a fresh start of both offices together: writes zero to the memories, buffer, progress and status of each, and 2
     /// to every word of `engaged`, whatever they held. [`Rig`] is the handier form.
     ///
-    /// Refusals: 1 to 9 and 16 to 18.
+    /// Refusals: 1 to 9, 16 to 18, 20 and 21.
     rolwyddac_fresh_both as fresh_both(
         encoded: &[u8], route: Route, first_source: &[u32], first_memories: &mut [u32], first_buffer: &mut [u32],
         first_progress: &mut [Progress], first_status: &mut [u8], second_source: &[u32], second_memories: &mut [u32],
@@ -230,7 +233,7 @@ calls! {
     ///
     /// `other` are the other office's records. An office number above 1 is 11, here and in the next two before 10.
     ///
-    /// Refusals: 1 to 13 and 16 to 19.
+    /// Refusals: 1 to 13 and 16 to 21.
     rolwyddac_office_turn as office_turn(
         encoded: &[u8], route: Route, source: &[u32], memories: &mut [u32], buffer: &mut [u32],
         progress: &mut [Progress], status: &mut [u8], engaged: &mut [u32], other: &[Progress], office: u32,
@@ -239,7 +242,7 @@ calls! {
 
     /// Delivers one message of an office: its status goes from 1 to 2.
     ///
-    /// Refusals: 1 to 11, 14 and 16 to 18.
+    /// Refusals: 1 to 11, 14, 16 to 18, 20 and 21.
     rolwyddac_office_deliver as office_deliver(
         encoded: &[u8], route: Route, source: &[u32], memories: &[u32], buffer: &[u32], progress: &[Progress],
         status: &mut [u8], engaged: &[u32], other: &[Progress], office: u32, message: u32,
@@ -251,7 +254,7 @@ calls! {
     /// route and each its office's source and lent the areas as the last left them, `grid` is what [`sweep`] writes for
     /// `source`.
     ///
-    /// Refusals: 1 to 11 and 15 to 18.
+    /// Refusals: 1 to 11, 15 to 18, 20 and 21.
     rolwyddac_office_collect as office_collect(
         encoded: &[u8], route: Route, source: &[u32], memories: &[u32], buffer: &[u32], progress: &[Progress],
         status: &[u8], engaged: &[u32], other: &[Progress], office: u32, grid: &mut [u32],
@@ -260,7 +263,7 @@ calls! {
     /// A look at a processor's memory, lent the memories of both offices: writes two words to `out`, where the processor's part
     /// begins in the named office's memories and how many words it has. [`look`] is the handier form.
     ///
-    /// Refusals: 1 to 8, 16 to 18, 9 if memories have not their length or `out` has not 2 words, 11.
+    /// Refusals: 1 to 8, 16 to 18, 20, 9 if memories have not their length or `out` has not 2 words, 11.
     rolwyddac_look as look_words(
         encoded: &[u8], first: &[u32], second: &[u32], office: u32, processor: u32, out: &mut [u32],
     );
@@ -273,29 +276,31 @@ calls! {
     /// latest in the file ([`Sounding`] makes them). An empty file is allowed. The call has some 200 kilobytes of its own
     /// on the stack.
     ///
-    /// Refusals: 1 to 9, 16 to 18, 22.
+    /// Refusals: 1 to 9, 16 to 18, 20, 22.
     rolwyddac_soundings as soundings(encoded: &[u8], file: &[u8], value: u32, source: &mut [u32]);
 
     /// Writes the recipe of the fields to `space`. [`Fields`] is the handier form.
     ///
     /// - `lengths`, `tiling` and `counts` have one number a dimension: its length, tile length and processor count.
     /// - `components` has four numbers a distance, zero beyond the last dimension, and `weights` one.
+    /// - `sides` to `offsets` have one number a bound: 0 for lower or 1 for upper, the dimension bounded, counted from 0,
+    ///   an earlier dimension, the slope, -1, 0 or 1, and the offset.
     ///
-    /// The recipe has 16 bytes for each dimension and each distance, and 16 more. What was written is accepted and
+    /// The recipe has 16 bytes for each dimension, bound and distance, and 16 more. What was written is accepted and
     /// reads back to the fields given. What is refused has the number that reading it would have; lists of other
     /// lengths stand in no recipe and are 2. A distance with a component above 255 is written with kind 4, every
     /// other with kind 2.
     ///
-    /// Refusals: 2 to 8, 16, 17, and 9 if `space` has not exactly the recipe's length.
+    /// Refusals: 2 to 8, 16, 17, 20, and 9 if `space` has not exactly the recipe's length.
     rolwyddac_write as write(
-        lengths: &[u16], tiling: &[u16], counts: &[u16], components: &[u16], weights: &[u16], shift: u8,
-        boundary: u32, space: &mut [u8],
+        lengths: &[u16], tiling: &[u16], counts: &[u16], components: &[u16], weights: &[u16], sides: &[u8],
+        bounded: &[u8], earlier: &[u8], slopes: &[i8], offsets: &[i16], shift: u8, boundary: u32, space: &mut [u8],
     );
 }
 
 /// The totals of a recipe's plan on a route, which give every area its size.
 ///
-/// Refusals: 1 to 8 and 16 to 18.
+/// Refusals: 1 to 8, 16 to 18, 20 and 21.
 pub fn summary(encoded: &[u8], route: Route) -> Result<Summary, Refusal> {
     let mut out = [0; SUMMARY_WORDS];
     summary_words(encoded, route, &mut out)?;
@@ -310,7 +315,7 @@ pub fn summary(encoded: &[u8], route: Route) -> Result<Summary, Refusal> {
 
 /// The line of message `m` of a recipe's plan on a route.
 ///
-/// Refusals: 1 to 8, 11 and 16 to 18.
+/// Refusals: 1 to 8, 11, 16 to 18, 20 and 21.
 pub fn message(encoded: &[u8], route: Route, m: u32) -> Result<Message, Refusal> {
     let mut out = [0; MESSAGE_WORDS];
     message_words(encoded, route, m, &mut out)?;
@@ -321,7 +326,7 @@ pub fn message(encoded: &[u8], route: Route, m: u32) -> Result<Message, Refusal>
 /// How many wires message `m` of the direct route takes on the indirect one: as many as dimensions in which it crosses, those
 /// with one processor left out.
 ///
-/// Refusals: 1 to 8, 11 and 16 to 18.
+/// Refusals: 1 to 8, 11, 16 to 18 and 20.
 pub fn hops(encoded: &[u8], m: u32) -> Result<u32, Refusal> {
     let mut out = [0; HOPS_WORDS];
     hops_words(encoded, m, &mut out)?;
@@ -330,7 +335,7 @@ pub fn hops(encoded: &[u8], m: u32) -> Result<u32, Refusal> {
 
 /// The part of the named office's memories that is the processor's.
 ///
-/// Refusals: 1 to 9, 11 and 16 to 18.
+/// Refusals: 1 to 9, 11, 16 to 18 and 20.
 pub fn look<'a>(
     encoded: &[u8], first: &'a [u32], second: &'a [u32], office: u32, processor: u32,
 ) -> Result<&'a [u32], Refusal> {

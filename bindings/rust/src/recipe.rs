@@ -10,7 +10,8 @@ const RECORD: usize = 16;
 /// Components of one distance.
 const COMPONENTS: usize = 4;
 
-/// The fields of a recipe, put together one by one: the dimensions, the distances, then [`Fields::close`].
+/// The fields of a recipe, put together one by one: the dimensions, the bounds, the distances, then
+/// [`Fields::close`].
 #[derive(Clone, Debug, Default, PartialEq, Eq)]
 pub struct Fields {
     lengths: Vec<u16>,
@@ -18,10 +19,15 @@ pub struct Fields {
     counts: Vec<u16>,
     components: Vec<u16>,
     weights: Vec<u16>,
+    sides: Vec<u8>,
+    bounded: Vec<u8>,
+    earlier: Vec<u8>,
+    slopes: Vec<i8>,
+    offsets: Vec<i16>,
 }
 
 impl Fields {
-    /// No dimension and no distance.
+    /// No dimension, no bound and no distance.
     pub fn new() -> Fields {
         Fields::default()
     }
@@ -43,13 +49,36 @@ impl Fields {
         self
     }
 
+    /// Adds a bound: the component of `dimension` is at least `slope` times that of `earlier`, an earlier dimension, plus
+    /// `offset`. Dimensions are counted from 0; a slope is -1, 0 or 1.
+    pub fn at_least(self, dimension: u8, earlier: u8, slope: i8, offset: i16) -> Fields {
+        self.bound(0, dimension, earlier, slope, offset)
+    }
+
+    /// Adds a bound: the component is at most that.
+    pub fn at_most(self, dimension: u8, earlier: u8, slope: i8, offset: i16) -> Fields {
+        self.bound(1, dimension, earlier, slope, offset)
+    }
+
+    fn bound(mut self, side: u8, dimension: u8, earlier: u8, slope: i8, offset: i16) -> Fields {
+        self.sides.push(side);
+        self.bounded.push(dimension);
+        self.earlier.push(earlier);
+        self.slopes.push(slope);
+        self.offsets.push(offset);
+        self
+    }
+
     /// Has the writer make the recipe, with the shift and the boundary value (document 01: shore value).
     ///
     /// Refusals: those of the reader but 1 and 18, as reading such a recipe would be refused.
     pub fn close(&self, shift: u8, boundary: u32) -> Result<Recipe, Refusal> {
-        let mut bytes = vec![0; RECORD * (self.lengths.len() + self.weights.len() + 1)];
-        let Fields { lengths, tiling, counts, components, weights } = self;
-        write(lengths, tiling, counts, components, weights, shift, boundary, &mut bytes)?;
+        let mut bytes = vec![0; RECORD * (self.lengths.len() + self.sides.len() + self.weights.len() + 1)];
+        let Fields { lengths, tiling, counts, components, weights, sides, bounded, earlier, slopes, offsets } = self;
+        write(
+            lengths, tiling, counts, components, weights, sides, bounded, earlier, slopes, offsets, shift, boundary,
+            &mut bytes,
+        )?;
         Ok(Recipe { bytes })
     }
 }
@@ -99,6 +128,20 @@ mod tests {
         assert_eq!(recipe[32..48], [2, 0, 255, 4, 0, 0, 1, 0, 0, 0, 0, 0, 0, 0, 0, 0]);
         assert_eq!(recipe[48..64], [4, 0, 1, 2, 3, 0, 0, 0, 0, 0, 5, 6, 0, 0, 0, 0]);
         assert_eq!(recipe[64..80], [4, 0, 0, 1, 0, 0, 0, 0, 0, 0, 7, 0, 0, 0, 0, 0]);
+    }
+
+    #[test]
+    fn a_bound_is_laid_out() {
+        let recipe = Fields::new()
+            .dimension(8, 2, 2)
+            .dimension(8, 2, 0)
+            .at_least(1, 0, -1, -2)
+            .at_most(1, 0, 1, 0x0304)
+            .distance(&[1], 1)
+            .close(0, 0)
+            .unwrap();
+        assert_eq!(recipe[32..48], [5, 0, 1, 0, 255, 0, 254, 255, 0, 0, 0, 0, 0, 0, 0, 0]);
+        assert_eq!(recipe[48..64], [5, 1, 1, 0, 1, 0, 4, 3, 0, 0, 0, 0, 0, 0, 0, 0]);
     }
 
     #[test]

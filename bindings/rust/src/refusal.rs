@@ -64,17 +64,19 @@ macro_rules! refusals {
 
 refusals! {
     1 Ragged "ragged": "recipe empty, or it or the file of soundings not a multiple of 16 bytes";
-    2 StrayRecord "stray record": "kind, order, count, unnamed byte or shift not as the format has them";
+    2 StrayRecord "stray record": "kind, order, count, unnamed byte, shift or bound not as the format has them";
     3 Length "length": "some length is 0 or above 1,024";
     4 TooLarge "too large": "more than 16,384 cells";
     18 TooWide "too wide": "all components of a distance of kind 4 fit a byte";
+    20 Empty "empty": "no cell of the box meets all bounds";
     5 Distance "distance":
         "components all zero, the same as an earlier record's, or non-zero beyond the last dimension";
     6 Tile "tile": "some tile length is 0, above 1,024, or smaller than some distance there";
     16 SpreadOrder "spread order": "the first dimension is not spread, or a spread one follows one that is not";
     17 LastSpread "last spread": "the last dimension is spread";
     7 Boards "boards": "more than 64 processors";
-    8 Tiles "tiles": "more than 1,024 tiles";
+    8 Tiles "tiles": "more than 1,024 tiles that hold a cell";
+    21 DirectOnly "direct only": "indirect passing asked for and the recipe has a bound";
     9 Area "area": "a lent area has not exactly its length";
     22 OffTheBox "off the box":
         "a sounding, whether it counts or not, names a cell that the recipe's box does not have";
@@ -103,7 +105,7 @@ mod tests {
     fn no_number_is_missing() {
         let mut numbers: Vec<u32> = Refusal::NAMED.iter().map(|refusal| refusal.number()).collect();
         numbers.sort();
-        assert_eq!(numbers, (1..=19).chain([22]).collect::<Vec<u32>>());
+        assert_eq!(numbers, (1..=22).collect::<Vec<u32>>());
     }
 
     #[test]

@@ -29,7 +29,7 @@ fn place(office: u32) -> usize {
 impl<'a> Rig<'a> {
     /// Sizes the areas and makes a fresh start of both offices.
     ///
-    /// Refusals: 1 to 9 and 16 to 18.
+    /// Refusals: 1 to 9, 16 to 18, 20 and 21.
     pub fn start(encoded: &'a [u8], route: Route, sources: [&'a [u32]; 2]) -> Result<Rig<'a>, Refusal> {
         let plan = summary(encoded, route)?;
         let mut areas = [Areas::sized(&plan), Areas::sized(&plan)];

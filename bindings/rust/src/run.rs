@@ -43,7 +43,7 @@ pub struct Run<'a> {
 impl<'a> Run<'a> {
     /// Sizes the areas and makes a fresh start.
     ///
-    /// Refusals: 1 to 9 and 16 to 18.
+    /// Refusals: 1 to 9, 16 to 18, 20 and 21.
     pub fn start(encoded: &'a [u8], route: Route, source: &'a [u32]) -> Result<Run<'a>, Refusal> {
         let plan = summary(encoded, route)?;
         let mut areas = Areas::sized(&plan);

@@ -96,7 +96,8 @@ fn fields_refused() {
         assert_eq!(fields.close(0, 0), Err(refusal));
     }
     let mut space = [7; 65];
-    let written = rolwyddac::write(&[4, 1], &[2, 1], &[2, 0], &[1, 0, 0, 0], &[1], 0, 0, &mut space);
+    let written =
+        rolwyddac::write(&[4, 1], &[2, 1], &[2, 0], &[1, 0, 0, 0], &[1], &[], &[], &[], &[], &[], 0, 0, &mut space);
     assert_eq!((written, space), (Err(Refusal::Area), [7; 65]));
 }
 

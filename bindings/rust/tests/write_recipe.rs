@@ -70,7 +70,7 @@ fn numbers_of_two_and_four_bytes() {
     let text = "dimension 300 tile 258 processors 0\n";
     assert_eq!(
         told(&format!("{text}close\n")),
-        "refused 2, stray record: kind, order, count, unnamed byte or shift not as the format has them"
+        "refused 2, stray record: kind, order, count, unnamed byte, shift or bound not as the format has them"
     );
     let text =
         "dimension 2 tile 2 processors 2\ndimension 513 tile 258\ndistance 0 1 weight 515\nclose boundary 67305985\n";
@@ -92,17 +92,39 @@ fn a_reach_over_255_cells() {
 }
 
 #[test]
+fn bounds_are_written() {
+    let shape = "bound lower 1 earlier 0 slope -1 offset -2\nbound upper 1 earlier 0 offset 772\n";
+    let text = HARBOUR.replace("distance 1 0", &format!("{shape}distance 1 0"));
+    let output = write_recipe(&[], &text);
+    assert_eq!(output.status.code(), Some(0));
+    assert_eq!(output.stdout.len(), 128);
+    assert_eq!(output.stdout[32..48], [5, 0, 1, 0, 255, 0, 254, 255, 0, 0, 0, 0, 0, 0, 0, 0]);
+    assert_eq!(output.stdout[48..64], [5, 1, 1, 0, 0, 0, 4, 3, 0, 0, 0, 0, 0, 0, 0, 0]);
+    assert!(told(&text.replace("offset 772", "offset -1")).starts_with("refused 20, empty"));
+    assert!(told(&text.replace("earlier 0 offset", "earlier 1 offset")).starts_with("refused 2, stray record"));
+    assert!(told(&text.replace("slope -1", "slope 2")).starts_with("refused 2, stray record"));
+    assert_eq!(told("bound middle 1 earlier 0\n"), "line 1: a bound is `lower` or `upper`");
+    assert_eq!(told("bound lower 1 slope 1\n"), "line 1: `earlier` is missing behind the dimension");
+    assert_eq!(told("bound lower 1 earlier 0 slope x\n"), "line 1: slope: `x` is no number");
+    assert_eq!(told("bound lower 1 earlier 0 offset 32768\n"), "line 1: offset 32768 is not from -32768 to 32767");
+    assert_eq!(told("distance 1 0\nbound lower 1 earlier 0\n"), "line 2: the bounds stand before the distances");
+}
+
+#[test]
 fn a_text_that_is_no_recipe_is_told_by_line() {
     assert_eq!(told(""), "line 1: the close is missing");
     assert_eq!(told("dimension 6 tile 3\n"), "line 2: the close is missing");
-    assert_eq!(told("\n# none\ntiles 3\n"), "line 3: `tiles` is no record: dimension, distance or close");
+    assert_eq!(told("\n# none\ntiles 3\n"), "line 3: `tiles` is no record: dimension, bound, distance or close");
     assert_eq!(told("dimension\n"), "line 1: dimension: a number is missing");
     assert_eq!(told("dimension 6 3\n"), "line 1: `tile` is missing behind the length");
     assert_eq!(told("dimension 6 tile\n"), "line 1: tile: a number is missing");
     assert_eq!(told("dimension 6 tile 3 processors two\n"), "line 1: processors: a number is missing");
     assert_eq!(told("dimension 65536 tile 3\n"), "line 1: dimension 65536 is above 65535");
     assert_eq!(told("dimension 6 tile 3 weight 1\n"), "line 1: `weight` was not expected here");
-    assert_eq!(told("distance 1 0\ndimension 6 tile 3\n"), "line 2: the dimensions stand before the distances");
+    assert_eq!(
+        told("distance 1 0\ndimension 6 tile 3\n"),
+        "line 2: the dimensions stand before the bounds and the distances"
+    );
     assert_eq!(told("distance 1 0 0 0 0\n"), "line 1: a distance has four components at most, not 5");
     assert_eq!(told("distance -1 0\n"), "line 1: distance: a number is missing");
     assert_eq!(told("close shift 256\n"), "line 1: shift 256 is above 255");

@@ -4,7 +4,8 @@ use mathlib.Core.Path.{sym, ap, subst, _∙_}
 use mathlib.Core.List.{List}
 use Rattle.base.specs.Numbers.{firstOf}
 use Rattle.machine.specs.Machine.{Answered}
-use Rattle.nest.specs.Nest.{cells, nestOf}
+use Rattle.nest.specs.Nest.{cells}
+use Rattle.nest.specs.Reader.{nestOf}
 use Rattle.soundings.specs.Soundings.{soundedSource, fillLines, fillCall}
 use Rattle.soundings.specs.Ground.{Grounded}
 use Rattle.soundings.proofs.Best.{grounded}

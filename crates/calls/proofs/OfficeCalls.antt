@@ -16,14 +16,16 @@ use Rattle.machine.specs.Plan.{Plan}
 use Rattle.machine.specs.Machine.{stateOf, Answered, waiting, tilesLeft}
 use Rattle.offices.specs.Offices.{Lent, lentOf, fitFor, heldByOther, turnLinesFor}
 use Rattle.nest.specs.declared.Reading.{Reading}
-use Rattle.nest.specs.Nest.{readLines, readingOf}
+use Rattle.nest.specs.Reader.{readLines, readingOf}
 use Rattle.nest.proofs.Numbered.{numbered}
 use Rattle.records.specs.declared.Progress.{Progress}
 use Rattle.records.specs.Records.{flatWords}
 use Rattle.records.proofs.Words.{length-words}
 use Rattle.engine.specs.Calls.{answer, recipe}
 use Rattle.engine.proofs.Lines.{and-right, call-read, call-later, call-done}
-use Rattle.engine.proofs.AsSteps.{front}
+use Rattle.layout.specs.Sizes.{routeOf}
+use Rattle.routes.specs.Routes.{linesFor}
+use Rattle.routes.proofs.Laws.{front, numbered-for}
 use Rattle.rig.specs.Calls.{areasFor, turnCallFor, memoriesLong, lookNumber}
 use Rattle.rig.proofs.Lines.{lengths-are}
 use Rattle.calls.specs.OfficeCalls.{lookWords, lookCall}
@@ -41,9 +43,9 @@ module _ (bytes : List ℕ) (route : ℕ) (source : List ℕ) (o : ℕ) (l : Len
   turn-inside : turnCallFor bytes route source o l theirs b .number ≡ 0 → 3 * b + 2 < length (l .own .progress)
   unfolding turnCallFor
   turn-inside z =
-      let r = front (readLines bytes) (line 9 (not (areasFor p source l theirs)) ∷ turnLinesFor p o l theirs b) z in
+      let r = front (linesFor (routeOf route) bytes) (line 9 (not (areasFor p source l theirs)) ∷ turnLinesFor p o l theirs b) z in
       let a = none-first 9 (not (areasFor p source l theirs)) (turnLinesFor p o l theirs b) (λ q. omega arith)
-      (sym (first-behind (readLines bytes) _ (numbered bytes) r) ∙ z) in
+      (sym (first-behind (linesFor (routeOf route) bytes) _ (numbered-for (routeOf route) bytes) r) ∙ z) in
       let u = none-first 11 (not (leb o 1)) (line 10 (not (fitFor p o l theirs)) ∷ line 11 (not (ltb b (p .processors))) ∷ later)
       (λ q. omega arith) (a .1) in
       let f = none-first 10 (not (fitFor p o l theirs)) (line 11 (not (ltb b (p .processors))) ∷ later) (λ q. omega arith) (u .1) in
@@ -91,7 +93,7 @@ module _ (bytes first second : List ℕ) (o b : ℕ) (out : List ℕ) (r : Readi
 
   pub look-read : r .number ≢ 0 → answer (r .number) out ≡ lookCall bytes first second o b out
   unfolding lookCall
-  look-read h = call-read bytes behind (r .number) (lookWords plan b) out read-is h
+  look-read h = call-read (readLines bytes) (numbered bytes) behind (r .number) (lookWords plan b) out read-is h
 
   module _ (z : r .number ≡ 0) where
     none : firstOf (readLines bytes) ≡ 0
@@ -100,7 +102,7 @@ module _ (bytes first second : List ℕ) (o b : ℕ) (out : List ℕ) (r : Readi
     pub look-out : length out ≢ 2 → answer 9 out ≡ lookCall bytes first second o b out
     unfolding lookCall
     look-out h =
-        call-later bytes behind 9 (lookWords plan b) out none
+        call-later (readLines bytes) (numbered bytes) behind 9 (lookWords plan b) out none
         (sym (first-true 9 _ eleven (not-false (and-no long _ (ne-eqb _ _ h))))) (λ q. omega arith)
 
     module _ (two : length out ≡ 2) (n : ℕ) (is : n ≡ lookNumber bytes first second o b) where
@@ -111,14 +113,14 @@ module _ (bytes first second : List ℕ) (o b : ℕ) (out : List ℕ) (r : Readi
 
       pub look-none : n ≢ 0 → answer n out ≡ lookCall bytes first second o b out
       unfolding lookCall
-      look-none h = call-later bytes behind n (lookWords plan b) out none last-is h
+      look-none h = call-later (readLines bytes) (numbered bytes) behind n (lookWords plan b) out none last-is h
 
       pub look-done : n ≡ 0 → (start words : ℕ) → start ≡ b * plan .cells → words ≡ plan .cells
           → answer 0 (set (set out 0 start) 1 words) ≡ lookCall bytes first second o b out
       unfolding lookCall
       look-done h start words s w =
           ap (answer 0) (two-set out start words two ∙ ap (λ (k : ℕ). k ∷ words ∷ []) s ∙ ap (λ (k : ℕ). b * plan .cells ∷ k ∷ []) w)
-          ∙ call-done bytes behind 0 (lookWords plan b) out none (sym last-is ∙ h)
+          ∙ call-done (readLines bytes) (numbered bytes) behind 0 (lookWords plan b) out none (sym last-is ∙ h)
 
 -- a look that gives 0 is one that the second call gives 0 for
 pub look-number : (bytes first second : List ℕ) (o b : ℕ) (out : List ℕ) → lookCall bytes first second o b out .number ≡ 0

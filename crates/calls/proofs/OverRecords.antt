@@ -19,17 +19,19 @@ use Rattle.machine.specs.Machine.{State, Answered, stateOf, setProgress, afterS
 use Rattle.machine.specs.Runs.{Event, turnOf, deliveryOf, stateAfter, answersTo, Demand3}
 use Rattle.machine.specs.Words.{wordAt, mailAt, cellOf, Does, Did, Posted}
 use Rattle.machine.proofs.RunLaws.{number-of, after-of}
-use Rattle.nest.specs.Nest.{readLines}
+use Rattle.nest.specs.Reader.{readLines}
 use Rattle.engine.specs.Calls.{answer, recipe, areas, freshCall, turnCall, deliverCall, collectCall}
 use Rattle.engine.specs.Demands.{Fixed, calls, Demand2}
-use Rattle.nest.proofs.Numbered.{numbered}
-use Rattle.engine.proofs.AsSteps.{front}
+use Rattle.layout.specs.Sizes.{routeOf}
+use Rattle.routes.specs.Routes.{linesFor}
+use Rattle.routes.proofs.Laws.{front, numbered-for}
 use Rattle.engine.proofs.Demands as engine
 use Rattle.records.specs.declared.Progress.{Progress}
 use Rattle.records.specs.Records.{flatWords}
 use Rattle.records.proofs.Words.{length-words, unflat, words-unflat, injective}
 use Rattle.calls.specs.PlanCalls.{summaryCall, messageCall, hopsCall}
-use Rattle.calls.specs.OverRecords.{Areas, inWords, FreshGave, EventGave, CollectGave, Gave, EventsGave, namedNext, FixedAreas, FixedCalls, ExactCalls, FixedRun, OverRecords}
+use Rattle.calls.specs.OverRecords.{Areas, inWords, FreshGave, EventGave, CollectGave, Gave, EventsGave, namedNext, FixedAreas, FixedCalls}
+use Rattle.calls.specs.OverRecords.{ExactCalls, FixedRun, OverRecords}
 
 -- ---- a run of calls over records is one over words
 
@@ -200,9 +202,9 @@ module _ (bytes : List ℕ) (route : ℕ) (source : List ℕ) where
   collect-length : (s : State) (old : List ℕ) → collectCall bytes route source s old .number ≡ 0 → length old ≡ recipe bytes route .cells
   unfolding collectCall
   collect-length s old z =
-      let r = front (readLines bytes) (line 9 nine ∷ collectLines (recipe bytes route) s) z in
+      let r = front (linesFor (routeOf route) bytes) (line 9 nine ∷ collectLines (recipe bytes route) s) z in
       let n = none-first 9 nine (collectLines (recipe bytes route) s) (λ q. omega arith)
-      (sym (first-behind (readLines bytes) _ (numbered bytes) r) ∙ z) in
+      (sym (first-behind (linesFor (routeOf route) bytes) _ (numbered-for (routeOf route) bytes) r) ∙ z) in
       eqb-true _ _ (both (true-not (n .0)) .1)
     where
       nine : Bool
@@ -267,7 +269,8 @@ module _ (bytes : List ℕ) (route : ℕ) (source : List ℕ) where
           stays = λ a start b c d before then ns ks p m q f g t n k h. stays a start f b c d before then ns ks p m q g t n k h;
           arrives =
               λ a start b c d e before then ns ks p r m q f g t n k h u o. arrives a start f b c d before then ns ks p m q g t n k h e r u o;
-          nest = λ old grid array h l. after-of h ∙ over .nest source old array (sym (number-of h)) l;
+          nest = λ none old grid array h l. after-of h ∙ over .nest none source old array (sym (number-of h)) l;
+          nest-shape = λ old grid array h l o. after-of h ∙ over .nest-shape source old array (sym (number-of h)) l o;
         }
 
   -- ---- demand 3

@@ -19,13 +19,13 @@ use Rattle.machine.proofs.RunLaws.{number-of, after-of}
 use Rattle.offices.specs.Offices.{Lent, lentOf, Rig, rigOf, Sources, sourceFor, ofOffice, ownOf, otherOf, lentTo, returned, putBack}
 use Rattle.offices.specs.Offices.{carryOutFor, freshRig, Call, collectLinesFor}
 use Rattle.offices.specs.Demand208.{eventsOf, answersOf, Demand208, Isolated}
-use Rattle.nest.specs.Nest.{readLines}
-use Rattle.nest.proofs.Numbered.{numbered}
 use Rattle.records.specs.declared.Progress.{Progress}
 use Rattle.records.specs.Records.{flatWords}
 use Rattle.records.proofs.Words.{length-words}
 use Rattle.engine.specs.Calls.{answer, recipe}
-use Rattle.engine.proofs.AsSteps.{front}
+use Rattle.layout.specs.Sizes.{routeOf}
+use Rattle.routes.specs.Routes.{linesFor}
+use Rattle.routes.proofs.Laws.{front, numbered-for}
 use Rattle.engine.proofs.Demands as engine
 use Rattle.rig.specs.Calls.{areasFor, turnCallFor, deliverCallFor, collectCallFor, freshRigLines, freshRigCall, lookPart, callFor}
 use Rattle.rig.specs.Calls.{rigCalls, rigCollects}
@@ -267,9 +267,9 @@ module _ (bytes : List ℕ) (route : ℕ) where
       → length old ≡ recipe bytes route .cells
   unfolding collectCallFor
   collect-length source o l theirs old z =
-      let r = front (readLines bytes) (line 9 nine ∷ collectLinesFor (recipe bytes route) o l theirs) z in
+      let r = front (linesFor (routeOf route) bytes) (line 9 nine ∷ collectLinesFor (recipe bytes route) o l theirs) z in
       let n = none-first 9 nine (collectLinesFor (recipe bytes route) o l theirs) (λ q. omega arith)
-      (sym (first-behind (readLines bytes) _ (numbered bytes) r) ∙ z) in
+      (sym (first-behind (linesFor (routeOf route) bytes) _ (numbered-for (routeOf route) bytes) r) ∙ z) in
       eqb-true _ _ (both (true-not (n .0)) .1)
     where
       nine : Bool

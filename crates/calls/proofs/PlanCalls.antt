@@ -10,23 +10,26 @@ use borrow.Author.Tests.{eq-eqb, ne-eqb}
 use Rattle.base.specs.Tests.{not}
 use Rattle.base.specs.Numbers.{Line, line, firstOf}
 use Rattle.base.proofs.Tests.{not-true, not-false}
-use Rattle.base.proofs.Numbers.{first-true, first-false, first-behind}
+use Rattle.base.proofs.Numbers.{Numbered, first-true, first-false, first-behind}
 use Rattle.machine.specs.Plan.{Plan, count}
 use Rattle.machine.specs.Machine.{Answered, answered}
 use Rattle.nest.specs.declared.Nest.{Nest}
 use Rattle.nest.specs.declared.Reading.{Reading}
-use Rattle.nest.specs.Nest.{readLines, nestOf, readingOf}
+use Rattle.nest.specs.Reader.{readLines, nestOf, readingOf}
 use Rattle.plan.specs.declared.Route.the-variants.{Direct}
-use Rattle.plan.specs.Messages.{planOf}
+use Rattle.plan.specs.Shaped.{planOf}
 use Rattle.plan.specs.Hops.{hops}
-use Rattle.plan.specs.Rows.{figures, figuresIf}
+use Rattle.plan.specs.Rows.{figuresIf}
 use Rattle.layout.specs.Sizes.{routeOf}
+use Rattle.routes.specs.Routes.{linesFor, ReadFor}
+use Rattle.routes.proofs.Laws.{numbered-for}
 use Rattle.table.specs.declared.Figures.{Figures}
 use Rattle.table.specs.declared.MessageLine.{MessageLine}
 use Rattle.table.specs.declared.HopCount.{HopCount}
-use Rattle.table.specs.Summary.{summaryOf, lineIf, messageLines, messageLineOf, directionOf, hopsIf, hopsOf}
+use Rattle.table.specs.Summary.{summaryOf, lineIf, messageLines, messageLineOf, directionOf, hopsLines, hopsIf, hopsOf}
 use Rattle.engine.specs.Calls.{answer, recipe}
 use Rattle.nest.proofs.Numbered.{numbered}
+use Rattle.nest.proofs.Answers.{number-read}
 use Rattle.engine.proofs.Lines.{call-read, call-later, call-done}
 use Rattle.calls.specs.PlanCalls.{figureWords, summaryCall, lineWords, messageCall, hopsCall}
 
@@ -63,21 +66,22 @@ figure-number zero p = refl
 figure-number (suc k) p = refl
 
 module _ (l : List ℕ) (route : ℕ) (out : List ℕ) (f : Figures) (e : f ≡ summaryOf (routeOf route) l) where
-  number-is : f .number ≡ firstOf (readLines l)
-  unfolding summaryOf figures
-  number-is = ap (λ (x : Figures). x .number) e ∙ figure-number (firstOf (readLines l)) (recipe l route)
+  number-is : f .number ≡ firstOf (linesFor (routeOf route) l)
+  unfolding summaryOf
+  number-is = ap (λ (x : Figures). x .number) e ∙ figure-number (firstOf (linesFor (routeOf route) l)) (recipe l route)
 
   pub summary-read : f .number ≢ 0 → answer (f .number) out ≡ summaryCall l route out
   unfolding summaryCall
-  summary-read h = call-read l _ (f .number) _ out number-is h
+  summary-read h = call-read (linesFor (routeOf route) l) (numbered-for (routeOf route) l) _ (f .number) _ out number-is h
 
   pub summary-out : f .number ≡ 0 → length out ≢ 4 → answer 9 out ≡ summaryCall l route out
   unfolding summaryCall
   summary-out z h =
-      call-later l _ 9 _ out (sym number-is ∙ z) (sym (first-true 9 _ [] (not-false (ne-eqb _ _ h)))) (λ q. omega arith)
+      call-later (linesFor (routeOf route) l) (numbered-for (routeOf route) l) _ 9 _ out (sym number-is ∙ z)
+      (sym (first-true 9 _ [] (not-false (ne-eqb _ _ h)))) (λ q. omega arith)
 
   words-are : f .number ≡ 0 → f .tiles ∷ f .messages ∷ f .words ∷ f .steps ∷ [] ≡ figureWords (recipe l route)
-  unfolding summaryOf figures figuresIf figureWords
+  unfolding summaryOf figuresIf figureWords
   words-are z =
       ap (λ (x : Figures). x .tiles ∷ x .messages ∷ x .words ∷ x .steps ∷ []) e
       ∙ rw (sym number-is ∙ z) refl
@@ -87,11 +91,13 @@ module _ (l : List ℕ) (route : ℕ) (out : List ℕ) (f : Figures) (e : f ≡ 
   unfolding summaryCall firstOf
   summary-done z h =
       ap (answer 0) (four-set out (f .tiles) (f .messages) (f .words) (f .steps) h ∙ words-are z)
-      ∙ call-done l _ 0 _ out (sym number-is ∙ z) (first-false 9 (not (eqb (length out) 4)) [] (not-true (eq-eqb _ _ h)))
+      ∙ call-done (linesFor (routeOf route) l) (numbered-for (routeOf route) l) _ 0 _ out (sym number-is ∙ z)
+      (first-false 9 (not (eqb (length out) 4)) [] (not-true (eq-eqb _ _ h)))
 
--- ---- a call that tells n words of message m, there being c: the reader's lines, 9 where not n words are lent, 11
+-- ---- a call that tells n words of message m, there being c: first lines, of which none has the number 0, then 9 where not n words are
+-- lent, then 11
 
-module _ (l : List ℕ) (n m c : ℕ) (words out : List ℕ) (r : Reading) (e : r ≡ readingOf l) where
+module _ (front : List Line) (named : Numbered front) (n m c : ℕ) (words out : List ℕ) (r : ℕ) (read-is : r ≡ firstOf front) where
   abbrev eleven : List Line
   eleven = line 11 (not (ltb m c)) ∷ []
 
@@ -99,33 +105,30 @@ module _ (l : List ℕ) (n m c : ℕ) (words out : List ℕ) (r : Reading) (e : 
   behind = line 9 (not (eqb (length out) n)) ∷ eleven
 
   abbrev told : Answered (List ℕ)
-  told = answered (firstOf (readLines l ++ behind)) words out
+  told = answered (firstOf (front ++ behind)) words out
 
-  read-is : r .number ≡ firstOf (readLines l)
-  read-is = ap (λ (x : Reading). x .number) e
+  told-read : r ≢ 0 → answer r out ≡ told
+  told-read h = call-read front named behind r words out read-is h
 
-  told-read : r .number ≢ 0 → answer (r .number) out ≡ told
-  told-read h = call-read l behind (r .number) words out read-is h
-
-  module _ (z : r .number ≡ 0) where
-    none : firstOf (readLines l) ≡ 0
+  module _ (z : r ≡ 0) where
+    none : firstOf front ≡ 0
     none = sym read-is ∙ z
 
     told-out : length out ≢ n → answer 9 out ≡ told
-    told-out h = call-later l behind 9 words out none (sym (first-true 9 _ eleven (not-false (ne-eqb _ _ h)))) (λ q. omega arith)
+    told-out h = call-later front named behind 9 words out none (sym (first-true 9 _ eleven (not-false (ne-eqb _ _ h)))) (λ q. omega arith)
 
-    -- what another call told of the message, its number by the reader's lines and 11
-    module _ (long : length out ≡ n) (k : ℕ) (is : k ≡ firstOf (readLines l ++ eleven)) where
+    -- what another call told of the message, its number by the first lines and 11
+    module _ (long : length out ≡ n) (k : ℕ) (is : k ≡ firstOf (front ++ eleven)) where
       last-is : k ≡ firstOf behind
       last-is =
-          is ∙ first-behind (readLines l) eleven (numbered l) none
+          is ∙ first-behind front eleven named none
           ∙ sym (first-false 9 (not (eqb (length out) n)) eleven (not-true (eq-eqb _ _ long)))
 
       told-none : k ≢ 0 → answer k out ≡ told
-      told-none h = call-later l behind k words out none last-is h
+      told-none h = call-later front named behind k words out none last-is h
 
       told-done : k ≡ 0 → (new : List ℕ) → new ≡ words → answer 0 new ≡ told
-      told-done h new w = ap (answer 0) w ∙ call-done l behind 0 words out none (sym last-is ∙ h)
+      told-done h new w = ap (answer 0) w ∙ call-done front named behind 0 words out none (sym last-is ∙ h)
 
 -- ---- the line of a message
 
@@ -134,24 +137,25 @@ unfolding lineIf
 line-number zero p m = refl
 line-number (suc k) p m = refl
 
-module _ (l : List ℕ) (route m : ℕ) (out : List ℕ) (r : Reading) (e : r ≡ readingOf l) where
+module _ (l : List ℕ) (route m : ℕ) (out : List ℕ) (r : Reading) (e : ReadFor (routeOf route) l r) where
   pub message-read : r .number ≢ 0 → answer (r .number) out ≡ messageCall l route m out
   unfolding messageCall
-  message-read h = told-read l 5 m (count (recipe l route)) _ out r e h
+  message-read h = told-read (linesFor (routeOf route) l) (numbered-for (routeOf route) l) 5 m (count (recipe l route)) _ out (r .number) (e .number) h
 
   module _ (z : r .number ≡ 0) where
     pub message-out : length out ≢ 5 → answer 9 out ≡ messageCall l route m out
     unfolding messageCall
-    message-out h = told-out l 5 m (count (recipe l route)) _ out r e z h
+    message-out h = told-out (linesFor (routeOf route) l) (numbered-for (routeOf route) l) 5 m (count (recipe l route)) _ out (r .number) (e .number) z h
 
     module _ (five : length out ≡ 5) (f : MessageLine) (g : f ≡ messageLineOf (routeOf route) l m) where
-      line-is : f .number ≡ firstOf (readLines l ++ (line 11 (not (ltb m (count (recipe l route)))) ∷ []))
+      line-is : f .number ≡ firstOf (linesFor (routeOf route) l ++ (line 11 (not (ltb m (count (recipe l route)))) ∷ []))
       unfolding messageLineOf messageLines
       line-is = ap (λ (x : MessageLine). x .number) g ∙ line-number _ (recipe l route) m
 
       pub message-none : f .number ≢ 0 → answer (f .number) out ≡ messageCall l route m out
       unfolding messageCall
-      message-none h = told-none l 5 m (count (recipe l route)) _ out r e z five (f .number) line-is h
+      message-none h = told-none (linesFor (routeOf route) l) (numbered-for (routeOf route) l) 5 m (count (recipe l route)) _ out (r .number)
+          (e .number) z five (f .number) line-is h
 
       line-words : f .number ≡ 0 → f .sender ∷ f .taker ∷ f .from ∷ f .to ∷ f .words ∷ [] ≡ lineWords (recipe l route) m
       unfolding messageLineOf messageLines lineIf lineWords
@@ -164,7 +168,8 @@ module _ (l : List ℕ) (route m : ℕ) (out : List ℕ) (r : Reading) (e : r �
           ≡ messageCall l route m out
       unfolding messageCall
       message-done h =
-          told-done l 5 m (count (recipe l route)) _ out r e z five (f .number) line-is h _
+          told-done (linesFor (routeOf route) l) (numbered-for (routeOf route) l) 5 m (count (recipe l route)) _ out (r .number) (e .number) z five
+          (f .number) line-is h _
           (five-set out (f .sender) (f .taker) (f .from) (f .to) (f .words) five ∙ line-words h)
 
 -- ---- the hops of a message
@@ -180,26 +185,27 @@ module _ (l : List ℕ) (m : ℕ) (out : List ℕ) (r : Reading) (e : r ≡ read
 
   pub hops-read : r .number ≢ 0 → answer (r .number) out ≡ hopsCall l m out
   unfolding hopsCall
-  hops-read h = told-read l 1 m among _ out r e h
+  hops-read h = told-read (readLines l) (numbered l) 1 m among _ out (r .number) (number-read l r e) h
 
   module _ (z : r .number ≡ 0) where
     pub hops-out : length out ≢ 1 → answer 9 out ≡ hopsCall l m out
     unfolding hopsCall
-    hops-out h = told-out l 1 m among _ out r e z h
+    hops-out h = told-out (readLines l) (numbered l) 1 m among _ out (r .number) (number-read l r e) z h
 
     module _ (single : length out ≡ 1) (f : HopCount) (g : f ≡ hopsOf l m) where
       hops-is : f .number ≡ firstOf (readLines l ++ (line 11 (not (ltb m among)) ∷ []))
-      unfolding hopsOf messageLines
+      unfolding hopsOf hopsLines
       hops-is = ap (λ (x : HopCount). x .number) g ∙ hops-number _ (nestOf l) m
 
       pub hops-none : f .number ≢ 0 → answer (f .number) out ≡ hopsCall l m out
       unfolding hopsCall
-      hops-none h = told-none l 1 m among _ out r e z single (f .number) hops-is h
+      hops-none h = told-none (readLines l) (numbered l) 1 m among _ out (r .number) (number-read l r e) z single (f .number) hops-is h
 
       hops-word : f .number ≡ 0 → f .hops ∷ [] ≡ hops (nestOf l) (directionOf (nestOf l) m) ∷ []
-      unfolding hopsOf messageLines hopsIf
+      unfolding hopsOf hopsLines hopsIf
       hops-word h = ap (λ (x : HopCount). x .hops ∷ []) g ∙ rw (sym hops-is ∙ h) refl
 
       pub hops-done : f .number ≡ 0 → answer 0 (set out 0 (f .hops)) ≡ hopsCall l m out
       unfolding hopsCall
-      hops-done h = told-done l 1 m among _ out r e z single (f .number) hops-is h _ (one-set out (f .hops) single ∙ hops-word h)
+      hops-done h = told-done (readLines l) (numbered l) 1 m among _ out (r .number) (number-read l r e) z single (f .number) hops-is h _
+          (one-set out (f .hops) single ∙ hops-word h)

@@ -5,7 +5,8 @@ use mathlib.Core.Path.{_≡_}
 use mathlib.Core.Bool.{true, false}
 use mathlib.Core.List.{List, _++_}
 use Rattle.base.specs.Numbers.{firstOf}
-use Rattle.nest.specs.Nest.{records, cells, nestOf, readLines}
+use Rattle.nest.specs.Nest.{cells}
+use Rattle.nest.specs.Reader.{records, nestOf, readLines}
 use Rattle.soundings.specs.Soundings.{cellOf, soundedSource, raggedFile, sourceLines, fillLines, fillCall}
 use Rattle.soundings.specs.Ground.{Grounded}
 use Rattle.engine.specs.Calls.{answer}

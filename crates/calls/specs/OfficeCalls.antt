@@ -8,7 +8,7 @@ use Rattle.base.specs.Tests.{_and_, not}
 use Rattle.base.specs.Numbers.{Line, line, firstOf}
 use Rattle.machine.specs.Plan.{Plan}
 use Rattle.machine.specs.Machine.{Answered, answered}
-use Rattle.nest.specs.Nest.{readLines}
+use Rattle.nest.specs.Reader.{readLines}
 use Rattle.engine.specs.Calls.{recipe}
 use Rattle.rig.specs.Calls.{memoriesLong}
 

@@ -3,6 +3,7 @@
 use Prim.Native.Nat.{ℕ, _<_}
 use mathlib.Core.Path.{_≡_}
 use mathlib.Core.Logic.{_≢_, _↔_}
+use mathlib.Core.Bool.{false}
 use mathlib.Core.List.{List, [], _∷_, _++_}
 use lib.ListN.{length, getD, set}
 use lib.Dec.{eqb}
@@ -13,13 +14,17 @@ use Rattle.machine.specs.Machine as machine
 use Rattle.machine.specs.Machine.{State, Action, gather, send, stateOf, carryOut, nextAction, collected}
 use Rattle.machine.specs.Runs.{Event, turnOf, deliveryOf, last, answers, total, program, turnsOf, Demand3}
 use Rattle.machine.specs.Words.{wordAt, mailAt, cellOf, Does}
-use Rattle.nest.specs.Nest.{nestOf, readLines}
+use Rattle.nest.specs.Nest.{cells}
+use Rattle.nest.specs.Shape.{inShape}
+use Rattle.nest.specs.Reader.{nestOf, readLines}
 use Rattle.plan.specs.Hops.{hops}
 use Rattle.plan.specs.Exact.{sequential, runNest}
+use Rattle.plan.specs.ExactShape.{shapeOf}
 use Rattle.table.specs.Summary.{directionOf}
 use Rattle.records.specs.declared.Progress.{Progress}
 use Rattle.records.specs.Records.{flatWords}
-use Rattle.engine.specs.Calls.{answer, recipe, freshCallLines, freshCall, turnCallLines, turnCall, deliverCallLines, deliverCall, collectCallLines, collectCall, sweepCallLines, sweepCall}
+use Rattle.engine.specs.Calls.{answer, recipe, freshCallLines, freshCall, turnCallLines, turnCall, deliverCallLines, deliverCall, collectCallLines}
+use Rattle.engine.specs.Calls.{collectCall, sweepCallLines, sweepCall}
 use Rattle.engine.specs.Demands.{Fixed, calls, Demand2}
 use Rattle.calls.specs.PlanCalls.{figureWords, summaryCallLines, summaryCall, lineWords, messageCallLines, messageCall, hopsCallLines, hopsCall}
 
@@ -91,9 +96,9 @@ pub record FixedCalls (bytes : List ℕ) (route : ℕ) (source : List ℕ) : Typ
   pub collect : (a : Areas) (old grid : List ℕ) (n : ℕ) → CollectGave bytes route source a old n grid
       → Fixed (answer n grid) (collectCallLines bytes route source (inWords a) old) (collected (recipe bytes route) (inWords a)) old
   pub sweep : (old grid : List ℕ) (n : ℕ) → SweepGave bytes source old n grid
-      → Fixed (answer n grid) (sweepCallLines bytes source old) (machine.sweep (recipe bytes route) source) old
+      → Fixed (answer n grid) (sweepCallLines bytes source old) (machine.sweep (recipe bytes 0) source) old
   pub summary : (old out : List ℕ) (n : ℕ) → SummaryGave bytes route old n out
-      → Fixed (answer n out) (summaryCallLines bytes old) (figureWords (recipe bytes route)) old
+      → Fixed (answer n out) (summaryCallLines bytes route old) (figureWords (recipe bytes route)) old
   pub message : (m : ℕ) (old out : List ℕ) (n : ℕ) → MessageGave bytes route m old n out
       → Fixed (answer n out) (messageCallLines bytes route m old) (lineWords (recipe bytes route) m) old
   pub hops : (m : ℕ) (old out : List ℕ) (n : ℕ) → HopsGave bytes m old n out
@@ -131,9 +136,14 @@ pub record ExactCalls (bytes : List ℕ) (route : ℕ) (source : List ℕ) : Typ
       → namedNext bytes route r (before ++ (turnOf p ∷ then)) (ns ++ (0 ∷ ks)) ≡ gather (takerOf (recipe bytes route) m)
       → wordAt (recipe bytes route) (inWords e) r (cellOf (recipe bytes route) m q)
       ≡ wordAt (recipe bytes route) (inWords b) p (cellOf (recipe bytes route) m q)
-  -- the sweep call leaves what the sequential nest leaves, from an array of any content
-  pub nest : (old grid array : List ℕ) → SweepGave bytes source old 0 grid → length array ≡ recipe bytes route .cells
+  -- the sweep call leaves what the sequential nest leaves, from an array of any content; with bounds, at the shape's indices, from an array
+  -- that is the boundary outside
+  pub nest : nestOf bytes .bounds ≡ 0
+      → (old grid array : List ℕ) → SweepGave bytes source old 0 grid → length array ≡ cells (nestOf bytes)
       → grid ≡ runNest (nestOf bytes) source array (sequential (nestOf bytes))
+  pub nest-shape : (old grid array : List ℕ) → SweepGave bytes source old 0 grid → length array ≡ cells (nestOf bytes)
+      → ((c : ℕ) → c < cells (nestOf bytes) → inShape (nestOf bytes) c ≡ false → getD array c 0 ≡ nestOf bytes .boundary)
+      → grid ≡ runNest (nestOf bytes) source array (shapeOf (nestOf bytes) (sequential (nestOf bytes)))
 
 -- ---- demand 3: events from the areas `start` that a fresh start left, with their numbers; `b` are the areas after them
 

@@ -143,7 +143,7 @@ pub extern "C" fn rolwyddac_summary(encoded: &[u8], route: u32, out: &mut [u32])
 pub extern "C" fn rolwyddac_message(encoded: &[u8], route: u32, m: u32, out: &mut [u32]) -> u32
     ensures { λ r. ⌜ answer r (now (out .exit)) ≡ messageCall (now (encoded .entry)) route m (now (out .entry)) ⌝ }
 {
-    let reading = nest::read(encoded);
+    let reading = routes::read_for(encoded, route);
     let read = reading.number;
     if read != 0 {
         return read;
@@ -187,7 +187,8 @@ pub extern "C" fn rolwyddac_hops(encoded: &[u8], m: u32, out: &mut [u32]) -> u32
 }
 
 // The recipe of the fields: of each dimension its length, tile length and processor count, of each distance its four components and
-// its weight, the shift, the boundary.
+// its weight, of each bound its side, dimension, earlier dimension, slope and offset, these two as the recipe's signed bytes have them;
+// the shift, the boundary.
 #[no_mangle]
 pub extern "C" fn rolwyddac_write(
     lengths: &[u16],
@@ -195,13 +196,19 @@ pub extern "C" fn rolwyddac_write(
     counts: &[u16],
     components: &[u16],
     weights: &[u16],
+    sides: &[u8],
+    bounded: &[u8],
+    earlier: &[u8],
+    slopes: &[u8],
+    offsets: &[u16],
     shift: u8,
     boundary: u32,
     space: &mut [u8],
 ) -> u32
     ensures { λ r. ⌜ answer r (now (space .exit))
         ≡ writeCall (fields (now (lengths .entry)) (now (tiling .entry)) (now (counts .entry)) (now (components .entry))
-        (now (weights .entry)) shift boundary) (now (space .entry)) ⌝ }
+        (now (weights .entry)) (now (sides .entry)) (now (bounded .entry)) (now (earlier .entry)) (now (slopes .entry))
+        (now (offsets .entry)) shift boundary) (now (space .entry)) ⌝ }
 {
     writer::write(
         lengths,
@@ -209,6 +216,11 @@ pub extern "C" fn rolwyddac_write(
         counts,
         components,
         weights,
+        sides,
+        bounded,
+        earlier,
+        slopes,
+        offsets,
         shift,
         boundary,
         space,

@@ -12,7 +12,8 @@ use lib.Seq.{ext-getD, length-take-le, take-at, getD-set-same, getD-set-other}
 use borrow.Author.Tests.{eqb-true, eq-eqb, ne-eqb, lt-ltb, le-ltb, ltb-false}
 use Rattle.base.specs.Tests.{_and_, _or_, pick}
 use Rattle.base.specs.Numbers.{firstOf}
-use Rattle.base.proofs.Tests.{both, and-true, and-left, and-false, and-no, or-left, neither, not-true, true-not, every-all, every-not, length-tabulate, tabulate-at}
+use Rattle.base.proofs.Tests.{both, and-true, and-left, and-false, and-no, or-left, neither, not-true, true-not, every-all, every-not}
+use Rattle.base.proofs.Tests.{length-tabulate, tabulate-at}
 use Rattle.base.proofs.Numbers.{first-false, first-behind, none-first}
 use Rattle.machine.specs.Plan.{count, words}
 use Rattle.machine.specs.Machine.{State, Answered, stateOf, sweep}
@@ -20,22 +21,26 @@ use Rattle.machine.specs.Runs.{Event, steps, total}
 use Rattle.nest.specs.declared.Reading.{Reading}
 use Rattle.nest.specs.Nest.{cells, processors}
 use Rattle.base.specs.Lists.{Bytes}
-use Rattle.nest.specs.Nest.{readLines, nestOf, readingOf}
+use Rattle.nest.specs.Reader.{readLines, nestOf, readingOf}
 use Rattle.nest.proofs.Facts.{accepted}
+use Rattle.nest.proofs.Answers.{nest-read}
 use Rattle.layout.specs.declared.Sizes.{Sizes}
 use Rattle.layout.specs.Sizes.{Sized, routeOf}
 use Rattle.table.specs.declared.Figures.{Figures}
 use Rattle.table.specs.Summary.{figuresOf, summaryOf}
-use Rattle.table.proofs.Answers.{nest-is, summary-is}
+use Rattle.table.proofs.Answers.{summary-is}
 use Rattle.engine.specs.Calls.{answer, recipe, areas, freshCall, collectCall, sweepCall}
 use Rattle.engine.specs.Demands.{calls}
 use Rattle.engine.proofs.Demands.{demands}
 use Rattle.drive.specs.Drive.{roundsOf, Driven}
 use Rattle.drive.specs.declared.Order.{Order}
 use Rattle.nest.proofs.Numbered.{numbered}
+use Rattle.routes.specs.Routes.{linesFor}
+use Rattle.routes.proofs.Laws.{numbered-for, open-direct}
 use Rattle.drive.proofs.Whole.{behind-none, ended}
 use Rattle.comparison.specs.declared.Extent.{Extent}
-use Rattle.comparison.specs.Agreement.{isBeyond, sourceOf, sameWords, driven, ran, Outcome, outcome, agreeing, compared, ranAndCompared, orderOf, fronts, Within, Roomy, Agreed}
+use Rattle.comparison.specs.Agreement.{isBeyond, sourceOf, sameWords, driven, ran, Outcome, outcome, agreeing, compared, ranAndCompared}
+use Rattle.comparison.specs.Agreement.{orderOf, fronts, Within, Roomy, Agreed}
 use Rattle.comparison.proofs.Most.{messages-most, words-most}
 
 -- ---- a fresh start
@@ -45,7 +50,7 @@ module _ (bytes source : List ℕ) (s : State) where
   fresh-says : freshCall bytes 0 source s .number ≡ 0 → length source ≡ recipe bytes 0 .cells
   unfolding freshCall areas
   fresh-says z =
-      let a = none-first 9 _ [] (λ e. omega arith) (behind-none (readLines bytes) _ (numbered bytes) z) in
+      let a = none-first 9 _ [] (λ e. omega arith) (behind-none (linesFor (routeOf 0) bytes) _ (numbered-for (routeOf 0) bytes) z) in
       eqb-true _ _ (both (true-not (a .0)) .0)
 
   -- it gives 0 where the recipe is accepted and the areas have their lengths
@@ -55,7 +60,7 @@ module _ (bytes source : List ℕ) (s : State) where
       → freshCall bytes 0 source s .number ≡ 0
   unfolding freshCall areas firstOf
   fresh-goes z a b c d e =
-      first-behind (readLines bytes) _ (numbered bytes) z
+      first-behind (linesFor (routeOf 0) bytes) _ (numbered-for (routeOf 0) bytes) (open-direct bytes z)
       ∙ first-false 9 _ [] (not-true (and-true (eq-eqb _ _ a) (and-true (eq-eqb _ _ b) (and-true (eq-eqb _ _ c) (and-true (eq-eqb _ _ d) (eq-eqb _ _ e))))))
 
   sweep-goes : (grid : List ℕ) → firstOf (readLines bytes) ≡ 0 → length source ≡ recipe bytes 0 .cells → length grid ≡ recipe bytes 0 .cells
@@ -234,7 +239,8 @@ module _ (bytes : List ℕ) (x : Extent) (b : Bytes bytes) (w : Within bytes x) 
   starts source m v p s e1 e2 e3 e4 e5 =
       let q = w .measured in
       fresh-goes bytes source (stateOf m v p s) (w .read) (e1 ∙ q .cells)
-      (e2 ∙ mul-comm (x .cells) (x .processors) ∙ rw (q .cells, q .processors) refl) (e3 ∙ q .words) (e4 ∙ ap (λ (k : ℕ). 3 * k) (q .processors)) (e5 ∙ q .messages)
+      (e2 ∙ mul-comm (x .cells) (x .processors) ∙ rw (q .cells, q .processors) refl) (e3 ∙ q .words) (e4 ∙ ap (λ (k : ℕ). 3 * k) (q .processors))
+      (e5 ∙ q .messages)
 
 -- ---- the first words of an area
 
@@ -255,21 +261,31 @@ module _ (bytes : List ℕ) (x : Extent) (falling : Bool) (a m w p s g h : List 
       → length p′ ≡ length (take kp p) → length s′ ≡ length (take ks s) → length g′ ≡ length (take kc g) → length h′ ≡ length (take kc h)
       → outcome (stateOf m′ w′ p′ s′) g′ h′ b
       ≡ ranAndCompared bytes (take kc a) (orderOf x falling) (x .steps) (stateOf (take km m) (take kw w) (take kp p) (take ks s)) (take kc g) (take kc h)
-      → outcome (fronts x (m′ ++ drop km m) (w′ ++ drop kw w) (p′ ++ drop kp p) (s′ ++ drop ks s)) (take (x .cells) (g′ ++ drop kc g)) (take (x .cells) (h′ ++ drop kc h)) b
+      → outcome (fronts x (m′ ++ drop km m) (w′ ++ drop kw w) (p′ ++ drop kp p) (s′ ++ drop ks s)) (take (x .cells) (g′ ++ drop kc g))
+      (take (x .cells) (h′ ++ drop kc h)) b
       ≡ ranAndCompared bytes (take (x .cells) a) (orderOf x falling) (x .steps) (fronts x m w p s) (take (x .cells) g) (take (x .cells) h)
   on-fronts kc km kw kp ks m′ w′ p′ s′ g′ h′ b ec em ew ep es lm lw lp ls lg lh is =
-      rw (front-back km (x .cells * x .processors) m m′ em (room .memories) lm, front-back kw (x .words) w w′ ew (room .buffer) lw, front-back kp (3 * x .processors) p p′ ep (room .progress) lp, front-back ks (x .messages) s s′ es (room .status) ls, front-back kc (x .cells) g g′ ec (room .grid) lg, front-back kc (x .cells) h h′ ec (room .swept) lh)
+      rw (
+        front-back km (x .cells * x .processors) m m′ em (room .memories) lm,
+        front-back kw (x .words) w w′ ew (room .buffer) lw,
+        front-back kp (3 * x .processors) p p′ ep (room .progress) lp,
+        front-back ks (x .messages) s s′ es (room .status) ls,
+        front-back kc (x .cells) g g′ ec (room .grid) lg,
+        front-back kc (x .cells) h h′ ec (room .swept) lh,
+      )
       (rw (ec, em, ew, ep, es) at is)
 
   module _ (kc : ℕ) (e : kc ≡ x .cells) (filled : List ℕ) (l : length filled ≡ length (take kc a)) where
     pub agreed : (counting : Bool) (o : Outcome) → Bytes bytes → Within bytes x → filled ≡ sourceOf counting (length (take kc a))
-        → o ≡ ranAndCompared bytes (take (x .cells) (filled ++ drop kc a)) (orderOf x falling) (x .steps) (fronts x m w p s) (take (x .cells) g) (take (x .cells) h)
+        → o ≡ ranAndCompared bytes (take (x .cells) (filled ++ drop kc a)) (orderOf x falling) (x .steps) (fronts x m w p s) (take (x .cells) g)
+        (take (x .cells) h)
         → Agreed bytes x counting falling (fronts x m w p s) (take (x .cells) g) (take (x .cells) h) (take (x .cells) (filled ++ drop kc a)) o
     agreed counting o b i f is =
         let long : length (take kc a) ≡ x .cells = front kc (x .cells) a e (room .source) in
         let source : take (x .cells) (filled ++ drop kc a) ≡ sourceOf counting (x .cells) =
         front-back kc (x .cells) a filled e (room .source) l ∙ f ∙ ap (sourceOf counting) long in
-        let same : o ≡ ranAndCompared bytes (sourceOf counting (x .cells)) (orderOf x falling) (x .steps) (fronts x m w p s) (take (x .cells) g) (take (x .cells) h) =
+        let same : o ≡ ranAndCompared bytes (sourceOf counting (x .cells)) (orderOf x falling) (x .steps) (fronts x m w p s) (take (x .cells) g)
+        (take (x .cells) h) =
         rw source at is in
         record {
           source = source;
@@ -277,9 +293,12 @@ module _ (bytes : List ℕ) (x : Extent) (falling : Bool) (a m w p s g h : List 
           always =
               ap (λ (o : Outcome). o .agree) same
               ∙ never-differs bytes (sourceOf counting (x .cells)) x falling (fronts x m w p s) i b
-              (starts bytes x b i (sourceOf counting (x .cells)) (take (x .cells * x .processors) m) (take (x .words) w) (take (3 * x .processors) p) (take (x .messages) s) (source-long counting (x .cells))
-              (length-take-le _ m (room .memories)) (length-take-le _ w (room .buffer)) (length-take-le _ p (room .progress)) (length-take-le _ s (room .status)))
-              (take (x .cells) g) (take (x .cells) h) (length-take-le _ g (room .grid) ∙ i .measured .cells) (length-take-le _ h (room .swept) ∙ i .measured .cells);
+              (starts bytes x b i (sourceOf counting (x .cells)) (take (x .cells * x .processors) m) (take (x .words) w) (take (3 * x .processors) p)
+              (take (x .messages) s) (source-long counting (x .cells))
+              (length-take-le _ m (room .memories)) (length-take-le _ w (room .buffer)) (length-take-le _ p (room .progress))
+              (length-take-le _ s (room .status)))
+              (take (x .cells) g) (take (x .cells) h) (length-take-le _ g (room .grid) ∙ i .measured .cells)
+              (length-take-le _ h (room .swept) ∙ i .measured .cells);
         }
 
 -- ---- the figures that the program gives
@@ -290,8 +309,8 @@ pub in-limits : (bytes : List ℕ) (r : Reading) (z : Sizes) (f : Figures) (c p 
     → Within bytes (record { cells = c; processors = p; messages = f .messages; words = f .words; steps = f .steps })
 in-limits bytes r z f c p is zero-read g narrow narrow2 low e =
     let read : firstOf (readLines bytes) ≡ 0 = sym (ap (λ (x : Reading). x .number) is) ∙ zero-read in
-    let nest = nest-is bytes r is zero-read in
-    let figures : f ≡ figuresOf (recipe bytes 0) = e ∙ sym (summary-is (routeOf 0) bytes (nestOf bytes) read refl (routeOf 0) refl) in
+    let nest = nest-read bytes r is zero-read in
+    let figures : f ≡ figuresOf (recipe bytes 0) = e ∙ sym (summary-is (routeOf 0) bytes (nestOf bytes) (open-direct bytes read) refl (routeOf 0) refl) in
     record {
       read = read;
       measured =

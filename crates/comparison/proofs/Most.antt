@@ -1,26 +1,30 @@
--- How many messages and words a direct plan has at the most: each tile sends at most 7, and a cell is at most once in each of them.
+-- How many messages and words a plan has at the most on the direct route: each tile sends at most 7, and a cell is at most once in each.
 use Prim.Native.Nat.{ℕ, zero, suc, _+_, _*_, _/_, _≤_, _<_}
 use mathlib.Core.Path.{_≡_, refl, sym, ap, _∙_}
 use mathlib.Core.Bool.{Bool, true, false}
 use mathlib.Core.List.{[], _++_}
-use native.Mathlib.Nat.{mul-le-mul-left, suc-mul, zero-mul, mul-zero, mul-comm, add-mul, add-zero, add-suc, mul-add-div-right, div-eq-of-lt}
+use native.Mathlib.Nat.{mul-le-mul-left, mul-le-mul-right, suc-mul, zero-mul, mul-zero, mul-comm, add-mul, add-zero, add-suc, mul-add-div-right, div-eq-of-lt}
 use native.Mathlib.Omega.{arith}
 use lib.ListN.{length, length-append}
+use lib.Dec.{eqb}
+use borrow.Author.Tests.{eq-eqb, eqb-true}
 use Rattle.base.specs.Tests.{_and_, pick, keep, keepIf, those, sum}
-use Rattle.base.proofs.Tests.{both, never-both, sum-most, sum-same, sum-const}
+use Rattle.base.proofs.Tests.{both, never-both, pick-true, sum-most, sum-same, sum-const}
 use Rattle.base.proofs.Select.{sum-those}
 use Rattle.machine.specs.Plan.{count, words}
 use Rattle.nest.specs.declared.Nest.{Nest}
 use Rattle.nest.specs.Accepted.{Accepted}
-use Rattle.nest.specs.Nest.{cells, tiles}
-use Rattle.plan.specs.Geometry.{tileOf}
+use Rattle.nest.specs.Nest.{cells}
+use Rattle.nest.specs.Shape.{inShape, tiles}
+use Rattle.nest.specs.Places.{boxTileOf}
 use Rattle.plan.specs.declared.Route.the-variants.{Direct}
-use Rattle.plan.specs.Messages.{crosses, parcel, slots, slotTile, slotCells, atHome, slotParcel, directions, planOf}
-use Rattle.plan.proofs.Slots.{few, total-sum}
-use Rattle.plan.proofs.Tiles.{tileOf-low}
+use Rattle.plan.specs.Messages.{directions, slotTile, slotDirection}
+use Rattle.plan.specs.Shaped.{tileOf, shapedParcel, slotBox, shapedHome, shapedSlotParcel, shapedMessage, shapedSlots, planOf}
+use Rattle.plan.proofs.Listed.{few, total-sum}
+use Rattle.plan.proofs.ShapedTiles.{tileOf-low, tileOf-is}
+use Rattle.plan.proofs.ShapedSlots.{shapedTile-low}
 use Rattle.layout.specs.Sizes.{routeOf}
 use Rattle.layout.proofs.Steps.{ways-few}
-use Rattle.table.proofs.Scans.{slots-few}
 
 -- a sum over blocks of d, each of one value
 sum-split : (f : ℕ → ℕ) (a b : ℕ) → sum f (a + b) ≡ sum f a + sum (λ i. f (a + i)) b
@@ -53,28 +57,53 @@ keep-fewer f g (suc n) h = go (f n) (g n) (h n) (keep-fewer f g n h)
 
 module _ (x : Nest) (ok : Accepted x) where
   pub messages-most : count (planOf (routeOf 0) x) ≤ 7168
-  messages-most = omega (arith, few (routeOf 0) x (slots (routeOf 0) x), slots-few (routeOf 0) x ok)
+  unfolding routeOf
+  messages-most =
+      let a = few (shapedMessage x) (shapedSlots x) in
+      let b : tiles x * directions x ≤ 1024 * directions x = mul-le-mul-right (directions x) (ok .tiles-most) in
+      omega (arith, a, b, ways-few x ok Direct)
 
-  own : (s : ℕ) → length (slotParcel Direct x s) ≤ length (those (tileOf x) (slotTile Direct x s) (cells x))
-  unfolding slotParcel slotCells parcel crosses those pick
-  own s = go (atHome Direct x s)
+  -- the tile of a cell of the shape, and one number more for all others
+  home : ℕ → ℕ
+  home c = pick (inShape x c) (tileOf x c) (tiles x)
+
+  home-low : (c : ℕ) → c < cells x → home c < suc (tiles x)
+  unfolding home pick
+  home-low c h = go (inShape x c) refl
     where
-      go : (t : Bool) → length (pick t [] (slotCells Direct x s)) ≤ length (those (tileOf x) (slotTile Direct x s) (cells x))
+      go : (t : Bool) → inShape x c ≡ t → pick t (tileOf x c) (tiles x) < suc (tiles x)
+      go true e = let l : tileOf x c < tiles x = tileOf-low x ok c h e in omega (arith, l)
+      go false e = omega arith
+
+  homes-most : sum (λ t. length (those home t (cells x))) (tiles x) ≤ cells x
+  unfolding sum
+  homes-most =
+      let a = sum-those home (suc (tiles x)) (cells x) home-low in
+      omega (arith, a)
+
+  -- what a slot holds is of its tile
+  own : (q : ℕ) → q < shapedSlots x → length (shapedSlotParcel x q) ≤ length (those home (slotTile Direct x q) (cells x))
+  unfolding shapedSlotParcel shapedParcel those home pick
+  own q l = go (shapedHome x q)
+    where
+      at-home : (c : ℕ) → inShape x c ≡ true → boxTileOf x c ≡ slotBox x q → eqb (home c) (slotTile Direct x q) ≡ true
+      at-home c i e = eq-eqb _ _ (pick-true (inShape x c) _ _ i ∙ tileOf-is x (slotTile Direct x q) c (shapedTile-low x q l) e)
+
+      go : (b : Bool) → length (pick b [] (shapedParcel x (slotBox x q) (slotDirection x q))) ≤ length (those home (slotTile Direct x q) (cells x))
       go true = omega arith
-      go false = keep-fewer _ _ (cells x) (λ i e. both e .0)
+      go false = keep-fewer _ _ (cells x) (λ c e. at-home c (both e .0) (eqb-true _ _ (both (both e .1) .0)))
 
   pub words-most : words (planOf (routeOf 0) x) ≤ cells x * 7
   unfolding sum routeOf
   words-most =
-      let a = total-sum Direct x (slots Direct x) in
-      let b = sum-most (λ q. length (slotParcel Direct x q)) (λ q. length (those (tileOf x) (slotTile Direct x q) (cells x)))
-      (slots Direct x) (λ i l. own i) in
+      let a = total-sum (shapedMessage x) (shapedSlots x) in
+      let b = sum-most (λ q. length (shapedSlotParcel x q)) (λ q. length (those home (slotTile Direct x q) (cells x))) (shapedSlots x) own in
       let c = by-blocks (directions x) in
       let d = mul-le-mul-left (cells x) (ways-few x ok Direct) in
       omega (arith, a, b, c, d)
     where
-      by-blocks : (d : ℕ) → sum (λ q. length (those (tileOf x) (q / d) (cells x))) (tiles x * d) ≡ cells x * d
-      by-blocks zero = rw (mul-zero (tiles x), mul-zero (cells x))
+      by-blocks : (d : ℕ) → sum (λ q. length (those home (q / d) (cells x))) (tiles x * d) ≤ cells x * d
+      by-blocks zero = rw (mul-zero (tiles x), mul-zero (cells x)) (omega arith)
       by-blocks (suc d) =
-          sum-blocks (λ t. length (those (tileOf x) t (cells x))) (suc d) (tiles x) (omega arith)
-          ∙ ap (λ (k : ℕ). k * suc d) (sum-those (tileOf x) (tiles x) (cells x) (λ i l. tileOf-low x ok i))
+          let a = sum-blocks (λ t. length (those home t (cells x))) (suc d) (tiles x) (omega arith) in
+          omega (arith, a, mul-le-mul-right (suc d) homes-most)

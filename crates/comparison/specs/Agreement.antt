@@ -11,7 +11,7 @@ use Rattle.base.specs.Numbers.{firstOf}
 use Rattle.machine.specs.Plan.{count, words}
 use Rattle.machine.specs.Machine.{State, Answered, stateOf}
 use Rattle.machine.specs.Runs.{stateAfter, total}
-use Rattle.nest.specs.Nest.{readLines}
+use Rattle.nest.specs.Reader.{readLines}
 use Rattle.engine.specs.Calls.{recipe, freshCall, collectCall, sweepCall}
 use Rattle.engine.specs.Demands.{calls}
 use Rattle.drive.specs.declared.Order.{Order}

@@ -18,8 +18,9 @@ use Rattle.machine.specs.Plan.{count}
 use Rattle.machine.specs.Machine.{State, Answered}
 use Rattle.machine.specs.Runs.{Event, turnOf, deliveryOf, stateAfter, answersTo, total, steps, Demand3}
 use Rattle.base.specs.Lists.{Bytes}
-use Rattle.nest.specs.Nest.{readLines}
-use Rattle.nest.proofs.Numbered.{numbered}
+use Rattle.layout.specs.Sizes.{routeOf}
+use Rattle.routes.specs.Routes.{linesFor}
+use Rattle.routes.proofs.Laws.{numbered-for}
 use Rattle.engine.specs.Calls.{recipe, freshCall, turnCall, deliverCall, collectCall}
 use Rattle.engine.specs.Demands.{calls}
 use Rattle.engine.proofs.Demands.{demands}
@@ -49,7 +50,7 @@ module _ (bytes source : List ℕ) (s : State) where
   pub turn-low : (b : ℕ) → turnCall bytes 0 source s b .number ≡ 0 → b < recipe bytes 0 .processors
   unfolding turnCall
   turn-low b z =
-      let x = behind-none (readLines bytes) _ (numbered bytes) z in
+      let x = behind-none (linesFor (routeOf 0) bytes) _ (numbered-for (routeOf 0) bytes) z in
       let y = none-first 9 _ _ (λ e. omega arith) x in
       let w = none-first 10 _ _ (λ e. omega arith) (y .1) in
       let v = none-first 11 _ _ (λ e. omega arith) (w .1) in
@@ -58,7 +59,7 @@ module _ (bytes source : List ℕ) (s : State) where
   pub delivery-low : (m : ℕ) → deliverCall bytes 0 source s m .number ≡ 0 → (m < count (recipe bytes 0)) × (getD (s .status) m 0 ≡ 1)
   unfolding deliverCall
   delivery-low m z =
-      let x = behind-none (readLines bytes) _ (numbered bytes) z in
+      let x = behind-none (linesFor (routeOf 0) bytes) _ (numbered-for (routeOf 0) bytes) z in
       let y = none-first 9 _ _ (λ e. omega arith) x in
       let w = none-first 10 _ _ (λ e. omega arith) (y .1) in
       let v = none-first 11 _ _ (λ e. omega arith) (w .1) in
@@ -118,7 +119,8 @@ module _ (bytes source : List ℕ) where
           omega (arith, steps-append acts start es [], h)
       all-taken (suc n) es h =
           one-more es (took acts (here es) (next es)) (roundsOf acts o n (stateAfter acts (here es) (next es))) refl
-          (λ e. rw (after-append acts start es (next es)) at (all-taken n (es ++ next es) (omega (arith, steps-append acts start es (next es), took-some acts (here es) (next es) e, h))))
+          (λ e. rw (after-append acts start es (next es)) at (all-taken n (es ++ next es)
+          (omega (arith, steps-append acts start es (next es), took-some acts (here es) (next es) e, h))))
 
 pub ended : (bytes source : List ℕ) (o : Order) (n : ℕ) (s : State) → Bytes bytes → Started bytes source o n s
     → steps (calls bytes 0 source) s (roundsOf (calls bytes 0 source) o n s) ≡ total (recipe bytes 0)

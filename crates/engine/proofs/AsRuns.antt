@@ -18,12 +18,13 @@ use Rattle.machine.proofs.Along.{run-inv, next-inv}
 use Rattle.machine.proofs.RunLaws.{number-of, after-of}
 use Rattle.machine.proofs.Theorem.{theorem}
 use Rattle.machine.proofs.Posted.{posted}
-use Rattle.nest.specs.Nest.{readLines}
+use Rattle.layout.specs.Sizes.{routeOf}
+use Rattle.routes.specs.Routes.{linesFor}
 use Rattle.engine.specs.Calls.{recipe, areas, collectCall}
 use Rattle.engine.specs.Demands.{calls}
 use Rattle.engine.proofs.AsSteps.{turn-is, deliver-is, collect-is}
 
-module _ (bytes : List ℕ) (route : ℕ) (source : List ℕ) (ok : firstOf (readLines bytes) ≡ 0)
+module _ (bytes : List ℕ) (route : ℕ) (source : List ℕ) (ok : firstOf (linesFor (routeOf route) bytes) ≡ 0)
     (so : Sound (recipe bytes route)) (long : length source ≡ recipe bytes route .cells) where
   abbrev p : Plan
   p = recipe bytes route
@@ -100,10 +101,11 @@ module _ (bytes : List ℕ) (route : ℕ) (source : List ℕ) (ok : firstOf (rea
           can-collect = λ h grid l. number-of (grid-is events grid l) ∙ d .can-collect (rw answers-are at h) grid l;
           then-all = λ grid l z. rw answers-are (d .then-all grid l (sym (number-of (grid-is events grid l)) ∙ z));
           calculated = λ c l. rw answers-are (d .calculated c l);
+          not-calculated = λ c l o. rw answers-are (d .not-calculated c l o);
           sent = λ m l. rw answers-are (d .sent m l);
           delivered = λ m l. rw answers-are (d .delivered m l);
           taken = λ m l. rw answers-are (d .taken m l);
-          all-calculated = λ h c l. rw answers-are (d .all-calculated (rw answers-are at h) c l);
+          all-calculated = λ h c l i. rw answers-are (d .all-calculated (rw answers-are at h) c l i);
           all-sent = λ h m l. rw answers-are (d .all-sent (rw answers-are at h) m l);
           all-delivered = λ h m l. rw answers-are (d .all-delivered (rw answers-are at h) m l);
           all-taken = λ h m l. rw answers-are (d .all-taken (rw answers-are at h) m l);

@@ -3,7 +3,6 @@ use Prim.Native.Nat.{ℕ}
 use mathlib.Core.Path.{_≡_, sym, ap, _∙_}
 use mathlib.Core.Bool.{Bool, true}
 use mathlib.Core.List.{List, [], _∷_, _++_}
-use native.Mathlib.Decide.{ℕ-discrete}
 use native.Mathlib.Omega.{arith}
 use lib.ListN.{length, set}
 use lib.Dec.{eqb}
@@ -11,22 +10,23 @@ use borrow.Author.Tests.{eq-eqb}
 use Rattle.base.specs.Tests.{not}
 use Rattle.base.specs.Numbers.{Line, line, firstOf}
 use Rattle.base.proofs.Tests.{not-true, true-not}
-use Rattle.base.proofs.Numbers.{first-false, none-first, first-some, first-behind}
+use Rattle.base.proofs.Numbers.{first-false, none-first, first-behind}
 use Rattle.machine.specs.Plan.{Plan}
 use Rattle.machine.specs.Machine.{State, stateOf, answered, carryOut, nextAction, turnLines, turn, deliverLines, deliver, collectLines, collected, collect}
-use Rattle.nest.specs.Nest.{readLines}
+use Rattle.layout.specs.Sizes.{routeOf}
+use Rattle.routes.specs.Routes.{linesFor}
+use Rattle.routes.proofs.Laws.{front, numbered-for}
 use Rattle.engine.specs.Calls.{recipe, areas, areaLines, freshCall, turnCall, deliverCall, collectCall}
-use Rattle.nest.proofs.Numbered.{numbered}
 use Rattle.engine.proofs.Lines.{and-right}
 
 module _ (l : List ℕ) (route : ℕ) where
   abbrev p : Plan
   p = recipe l route
 
-  module _ (source : List ℕ) (s : State) (z : firstOf (readLines l) ≡ 0) (a : areas p source s ≡ true) where
-    behind : (more : List Line) → firstOf (readLines l ++ (areaLines p source s ++ more)) ≡ firstOf more
+  module _ (source : List ℕ) (s : State) (z : firstOf (linesFor (routeOf route) l) ≡ 0) (a : areas p source s ≡ true) where
+    behind : (more : List Line) → firstOf (linesFor (routeOf route) l ++ (areaLines p source s ++ more)) ≡ firstOf more
     behind more =
-        first-behind (readLines l) (areaLines p source s ++ more) (numbered l) z
+        first-behind (linesFor (routeOf route) l) (areaLines p source s ++ more) (numbered-for (routeOf route) l) z
         ∙ first-false 9 (not (areas p source s)) more (not-true a)
 
     pub turn-is : (b : ℕ) → turnCall l route source s b ≡ turn p source s b
@@ -41,25 +41,18 @@ module _ (l : List ℕ) (route : ℕ) where
     pub collect-is : (grid : List ℕ) → length grid ≡ p .cells → collectCall l route source s grid ≡ collect p s grid
     unfolding collectCall collect
     collect-is grid h =
-        ap (λ (t : Bool). answered (firstOf (readLines l ++ (line 9 (not t) ∷ collectLines p s))) (collected p s) grid)
+        ap (λ (t : Bool). answered (firstOf (linesFor (routeOf route) l ++ (line 9 (not t) ∷ collectLines p s))) (collected p s) grid)
         (and-right (areas p source s) (eqb (length grid) (p .cells)) (eq-eqb _ _ h))
         ∙ ap (λ (n : ℕ). answered n (collected p s) grid) (behind (collectLines p s))
 
-pub front : (a b : List Line) → firstOf (a ++ b) ≡ 0 → firstOf a ≡ 0
-front a b e = go (ℕ-discrete (firstOf a) 0)
-  where
-    go : Dec (firstOf a ≡ 0) → firstOf a ≡ 0
-    go (yes q) = q
-    go (no q) = absurd (q (sym (first-some a b q) ∙ e))
-
 -- a fresh start that gave 0
 pub fresh-gave : (l : List ℕ) (route : ℕ) (source : List ℕ) (s : State) → freshCall l route source s .number ≡ 0
-    → (firstOf (readLines l) ≡ 0) × (areas (recipe l route) source s ≡ true)
+    → (firstOf (linesFor (routeOf route) l) ≡ 0) × (areas (recipe l route) source s ≡ true)
 unfolding freshCall
 fresh-gave l route source s e = (y, true-not (none-first 9 (not (areas (recipe l route) source s)) [] (λ q. omega arith) (x y) .0))
   where
-    y : firstOf (readLines l) ≡ 0
-    y = front (readLines l) (areaLines (recipe l route) source s) e
+    y : firstOf (linesFor (routeOf route) l) ≡ 0
+    y = front (linesFor (routeOf route) l) (areaLines (recipe l route) source s) e
 
-    x : firstOf (readLines l) ≡ 0 → firstOf (areaLines (recipe l route) source s) ≡ 0
-    x h = sym (first-behind (readLines l) (areaLines (recipe l route) source s) (numbered l) h) ∙ e
+    x : firstOf (linesFor (routeOf route) l) ≡ 0 → firstOf (areaLines (recipe l route) source s) ≡ 0
+    x h = sym (first-behind (linesFor (routeOf route) l) (areaLines (recipe l route) source s) (numbered-for (routeOf route) l) h) ∙ e

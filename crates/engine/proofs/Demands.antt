@@ -1,36 +1,41 @@
 -- The three demands hold: of the calls' definitions, and of every run of them.
-use Prim.Native.Nat.{ℕ, zero, suc, _<_}
-use mathlib.Core.Path.{_≡_, refl, sym, ap, subst, _∙_}
+use Prim.Native.Nat.{ℕ, zero, suc}
+use mathlib.Core.Path.{_≡_, refl, sym, ap, _∙_}
 use mathlib.Core.Logic.{_≢_}
-use mathlib.Core.Bool.{true}
-use mathlib.Core.List.{List, [], _∷_, _++_}
-use lib.ListN.{length}
+use mathlib.Core.List.{List, []}
+use lib.ListN.{replicate, length-replicate}
 use borrow.Author.Tests.{eq-eqb, ne-eqb}
 use Rattle.base.specs.Numbers.{Line, firstOf}
 use Rattle.base.specs.Lists.{Bytes}
 use Rattle.base.proofs.Tests.{pick-true, pick-false}
 use Rattle.base.proofs.Numbers.{first-own}
-use Rattle.machine.specs.Plan.{Message, Sound, count, heldBy}
+use Rattle.machine.specs.Plan.{Plan, Sound}
 use Rattle.machine.specs.Machine as machine
 use Rattle.machine.specs.Machine.{State, answered}
 use Rattle.machine.specs.Runs.{Event, Demand3}
-use Rattle.machine.proofs.Values.{sweep-fixed}
+use Rattle.machine.proofs.Values.{sweep-fixed, sweep-outside}
 use Rattle.nest.specs.declared.Nest.{Nest}
-use Rattle.nest.specs.Nest.{cells, nestOf, readLines}
+use Rattle.nest.specs.Nest.{cells}
+use Rattle.nest.specs.Reader.{nestOf}
 use Rattle.nest.specs.Accepted.{Accepted}
 use Rattle.nest.proofs.Facts.{accepted}
 use Rattle.plan.specs.declared.Route.{Route}
-use Rattle.plan.specs.declared.Route.the-variants.{Direct}
-use Rattle.plan.specs.Geometry.{value}
-use Rattle.plan.specs.Messages.{slots, planOf}
+use Rattle.plan.specs.declared.Route.the-variants.{Direct, Indirect}
+use Rattle.plan.specs.Shaped.{planOf}
 use Rattle.plan.specs.Hops.{hops}
-use Rattle.plan.specs.Rows.{figures, figuresIf}
-use Rattle.plan.proofs.Slots.{message-slot}
-use Rattle.plan.proofs.Sound.{sound}
+use Rattle.plan.specs.Rows.{figuresIf}
+use Rattle.plan.specs.Exact.{sequential, runNest}
+use Rattle.plan.proofs.Plans.{not-empty}
+use Rattle.plan.proofs.ShapedBox.{planOf-box}
+use Rattle.plan.proofs.ShapedExact.{exact-shape}
+use Rattle.plan.proofs.ShapedSound.{sound}
 use Rattle.plan.proofs.Report.{report-agrees}
 use Rattle.plan.proofs.Exact.{exact}
 use Rattle.layout.specs.Sizes.{routeOf}
-use Rattle.table.specs.Summary.{asFigures, figuresOf, noFigures, summaryOf, lineOf, noLine, messageLines, lineIf, messageLineOf, directionOf, noHops, hopsIf, hopsOf}
+use Rattle.routes.specs.Routes.{linesFor}
+use Rattle.routes.proofs.Laws.{reads-for, indirect-box}
+use Rattle.table.specs.Summary.{asFigures, figuresOf, noFigures, summaryOf, lineOf, noLine, messageLines, lineIf, messageLineOf, directionOf, hopsLines}
+use Rattle.table.specs.Summary.{noHops, hopsIf, hopsOf}
 use Rattle.table.proofs.Answers.{directed}
 use Rattle.engine.specs.Calls.{answer, recipe, freshCall, turnCall, deliverCall, collectCall, sweepCallLines, sweepCall}
 use Rattle.engine.specs.Demands.{Fixed, Demand1, Demand2, calls, Demands}
@@ -68,11 +73,11 @@ module _ {A : Type 0} (ls : List Line) (number : A → ℕ) (tells : ℕ → A) 
       go (suc n) h = no-told n
 
 module _ (bytes : List ℕ) (route : ℕ) where
-  summary : Fixed (answer (summaryOf (routeOf route) bytes .number) (summaryOf (routeOf route) bytes)) (readLines bytes)
+  summary : Fixed (answer (summaryOf (routeOf route) bytes .number) (summaryOf (routeOf route) bytes)) (linesFor (routeOf route) bytes)
       (figuresOf (recipe bytes route)) (noFigures (summaryOf (routeOf route) bytes .number))
-  unfolding summaryOf figures figuresIf
+  unfolding summaryOf figuresIf
   summary =
-      told (readLines bytes) (λ f. f .number) (λ n. asFigures (figuresIf n (recipe bytes route))) _ noFigures (λ n. is n) refl (λ n. refl)
+      told (linesFor (routeOf route) bytes) (λ f. f .number) (λ n. asFigures (figuresIf n (recipe bytes route))) _ noFigures (λ n. is n) refl (λ n. refl)
     where
       is : (n : ℕ) → figuresIf n (recipe bytes route) .number ≡ n
       is zero = refl
@@ -91,28 +96,15 @@ module _ (bytes : List ℕ) (route : ℕ) where
       is (suc n) = refl
 
 hops-told : (bytes : List ℕ) (m : ℕ)
-    → Fixed (answer (hopsOf bytes m .number) (hopsOf bytes m)) (messageLines Direct bytes m)
+    → Fixed (answer (hopsOf bytes m .number) (hopsOf bytes m)) (hopsLines bytes m)
     (record { number = 0; hops = hops (nestOf bytes) (directionOf (nestOf bytes) m) }) (noHops (hopsOf bytes m .number))
 unfolding hopsOf hopsIf
 hops-told bytes m =
-    told (messageLines Direct bytes m) (λ f. f .number) (λ n. hopsIf n (nestOf bytes) m) _ noHops (λ n. is n) refl (λ n. refl)
+    told (hopsLines bytes m) (λ f. f .number) (λ n. hopsIf n (nestOf bytes) m) _ noHops (λ n. is n) refl (λ n. refl)
   where
     is : (n : ℕ) → hopsIf n (nestOf bytes) m .number ≡ n
     is zero = refl
     is (suc n) = refl
-
--- the sweep's words are the same on every route
-sweeps : (r q : Route) (x : Nest) (source : List ℕ) (n : ℕ) → machine.sweepTo (planOf r x) source n ≡ machine.sweepTo (planOf q x) source n
-unfolding machine.sweepTo
-sweeps r q x source zero = refl
-sweeps r q x source (suc n) = ap (λ (l : List ℕ). l ++ (value x source l n ∷ [])) (sweeps r q x source n)
-
-sweep : (bytes : List ℕ) (route : ℕ) (source grid : List ℕ)
-    → Fixed (sweepCall bytes source grid) (sweepCallLines bytes source grid) (machine.sweep (recipe bytes route) source) grid
-unfolding sweepCall
-sweep bytes route source grid =
-    subst (λ (l : List ℕ). Fixed (sweepCall bytes source grid) (sweepCallLines bytes source grid) l grid)
-    (sweeps (routeOf 0) (routeOf route) (nestOf bytes) source (cells (nestOf bytes))) (fixed _ _ grid)
 
 demand1 : (bytes : List ℕ) (route : ℕ) (source : List ℕ) (s : State) → Demand1 bytes route source s
 unfolding freshCall turnCall deliverCall collectCall sweepCall
@@ -122,7 +114,7 @@ demand1 bytes route source s =
       turn = λ b. fixed _ _ s;
       deliver = λ m. fixed _ _ s;
       collect = λ grid. fixed _ _ grid;
-      sweep = sweep bytes route source;
+      sweep = λ grid. fixed _ _ grid;
       summary = summary bytes route;
       message = message bytes route;
       hops = hops-told bytes;
@@ -130,31 +122,60 @@ demand1 bytes route source s =
 
 -- ---- demand 2
 
-not-empty : (r : Route) (x : Nest) (m : ℕ) → m < count (planOf r x) → 0 < length (heldBy (planOf r x) m)
-not-empty r x m l = let s = message-slot r x (slots r x) m l in rw (ap (λ (y : Message). y .cells) (s .4)) (s .2)
+-- the sweep is the same on every route that the recipe is open to
+module _ (x : Nest) (ok : Accepted x) (none : x .bounds ≡ 0) (source : List ℕ) where
+  array : List ℕ
+  array = replicate (cells x) 0
 
-module _ (bytes : List ℕ) (route : ℕ) (ok : Accepted (nestOf bytes)) (z : firstOf (readLines bytes) ≡ 0) where
+  box-sweep : (r : Route) → machine.sweep (planOf r x) source ≡ runNest x source array (sequential x)
+  unfolding array
+  box-sweep r =
+      ap (λ (p : Plan). machine.sweep p source) (planOf-box r x ok none)
+      ∙ sym (exact x ok .sweep-is r source array (length-replicate (cells x) 0))
+
+open-sweep : (bytes : List ℕ) → Accepted (nestOf bytes) → (r : Route) → firstOf (linesFor r bytes) ≡ 0 → (source : List ℕ)
+    → machine.sweep (planOf r (nestOf bytes)) source ≡ machine.sweep (planOf Direct (nestOf bytes)) source
+open-sweep bytes ok Direct z source = refl
+open-sweep bytes ok Indirect z source =
+    box-sweep (nestOf bytes) ok (indirect-box bytes z) source Indirect ∙ sym (box-sweep (nestOf bytes) ok (indirect-box bytes z) source Direct)
+
+module _ (bytes : List ℕ) (route : ℕ) (ok : Accepted (nestOf bytes)) where
   abbrev so : Sound (recipe bytes route)
   so = sound (routeOf route) (nestOf bytes) ok
 
+  abbrev straight : Sound (recipe bytes 0)
+  straight = sound (routeOf 0) (nestOf bytes) ok
+
+  -- what a sweep call that gave 0 left
+  left : (source grid : List ℕ) → sweepCall bytes source grid .number ≡ 0
+      → sweepCall bytes source grid .after ≡ machine.sweep (planOf Direct (nestOf bytes)) source
+  unfolding routeOf
+  left source grid e = demand1 bytes 0 source (machine.stateOf [] [] [] []) .sweep grid .works e
+
   demand2 : Demand2 bytes route
+  unfolding routeOf
   demand2 =
       record {
-        report = report-agrees (nestOf bytes) ok;
-        exact = exact (nestOf bytes) ok;
+        box = planOf-box (routeOf route) (nestOf bytes) ok;
+        report = λ none. report-agrees (nestOf bytes) ok;
+        exact = λ none. exact (nestOf bytes) ok;
+        shape = exact-shape (nestOf bytes) ok;
         directed = directed (nestOf bytes);
         in-order = so .held-rising;
-        not-empty = not-empty (routeOf route) (nestOf bytes);
-        turned = does bytes route ok z;
-        unpacked = λ source s b t e n. written bytes route ok z source s _ b t _ (does bytes route ok z source s b e) n;
+        not-empty = not-empty (nestOf bytes) ok (routeOf route);
+        turned = does bytes route ok;
+        unpacked = λ source s b t e n. written bytes route ok source s _ b t _ (does bytes route ok source s b e) n;
         posted = λ source s e before b m.
+            let gave = fresh-gave bytes route source s e in
             rw (demand1 bytes route source s .fresh .works e)
-            (run-posted bytes route source z so
-            (areas-are (recipe bytes route) source s (fresh-gave bytes route source s e .1) .source) before b m);
-        nest = λ source grid array e l.
-            demand1 bytes route source (machine.stateOf [] [] [] []) .sweep grid .works e
-            ∙ sym (exact (nestOf bytes) ok .sweep-is (routeOf route) source array l);
-        swept = λ source c l. sym (sweep-fixed (recipe bytes route) source (so .local source) (so .earlier) c l);
+            (run-posted bytes route source (gave .0) so (areas-are (recipe bytes route) source s (gave .1) .source) before b m);
+        nest = λ none source grid array e l.
+            left source grid e ∙ ap (λ (p : Plan). machine.sweep p source) (planOf-box Direct (nestOf bytes) ok none)
+            ∙ sym (exact (nestOf bytes) ok .sweep-is Direct source array l);
+        nest-shape = λ source grid array e l h. left source grid e ∙ sym (exact-shape (nestOf bytes) ok .sweep-is source array l h);
+        swept = λ source c l i. sym (sweep-fixed (recipe bytes 0) source (straight .local source) (straight .earlier) c l i);
+        unswept = λ source c l o. sweep-outside (recipe bytes 0) source (straight .local source) (straight .earlier) c l o;
+        same-sweep = open-sweep bytes ok (routeOf route);
       }
 
 -- ---- demand 3
@@ -166,13 +187,13 @@ three : (bytes : List ℕ) (route : ℕ) (source : List ℕ) (s : State) → Byt
 three bytes route source s b z events =
     let gave = fresh-gave bytes route source s z in
     rw (demand1 bytes route source s .fresh .works z)
-    (run-demand3 bytes route source (gave .0) (sound (routeOf route) (nestOf bytes) (accepted bytes b (gave .0)))
+    (run-demand3 bytes route source (gave .0) (sound (routeOf route) (nestOf bytes) (accepted bytes b (reads-for (routeOf route) bytes (gave .0))))
     (areas-are (recipe bytes route) source s (gave .1) .source) events)
 
 pub demands : Demands
 demands =
     record {
       one = demand1;
-      two = λ bytes route b z. demand2 bytes route (accepted bytes b z) z;
+      two = λ bytes route b z. demand2 bytes route (accepted bytes b z);
       three = three;
     }

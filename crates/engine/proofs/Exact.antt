@@ -15,31 +15,39 @@ use Rattle.machine.specs.Machine.{State, Action, gather, nextAction, turnLines}
 use Rattle.machine.specs.Words.{wordAt, mailAt, cellOf, Unpacks, Does}
 use Rattle.base.proofs.Entries.{at-in}
 use Rattle.machine.proofs.Words.{turn-does}
-use Rattle.nest.specs.Nest.{nestOf, readLines}
+use Rattle.nest.specs.Reader.{nestOf}
 use Rattle.nest.specs.Accepted.{Accepted}
-use Rattle.plan.proofs.Sound.{sound}
-use Rattle.plan.proofs.Exact.{exact}
-use Rattle.nest.proofs.Numbered.{numbered}
+use Rattle.plan.proofs.ShapedSound.{sound}
+use Rattle.plan.proofs.Plans.{once}
 use Rattle.layout.specs.Sizes.{routeOf}
+use Rattle.routes.specs.Routes.{linesFor}
+use Rattle.routes.proofs.Laws.{front, numbered-for}
 use Rattle.engine.specs.Calls.{recipe, areas, areaLines, turnCall}
 use Rattle.engine.proofs.Lines.{areas-are}
 use Rattle.engine.proofs.AsSteps.{turn-is}
 
--- a turn that gave 0 found the areas of their lengths
-turn-areas : (l : List ℕ) (route : ℕ) (source : List ℕ) (s : State) (b : ℕ) → firstOf (readLines l) ≡ 0
-    → turnCall l route source s b .number ≡ 0 → areas (recipe l route) source s ≡ true
+-- a turn that gave 0 found none of the first lines true, and the areas of their lengths
+turn-open : (l : List ℕ) (route : ℕ) (source : List ℕ) (s : State) (b : ℕ) → turnCall l route source s b .number ≡ 0
+    → firstOf (linesFor (routeOf route) l) ≡ 0
 unfolding turnCall
-turn-areas l route source s b h z =
-    true-not (none-first 9 (not (areas (recipe l route) source s)) (turnLines (recipe l route) s b) (λ q. omega arith)
-    (sym (first-behind (readLines l) (areaLines (recipe l route) source s ++ turnLines (recipe l route) s b) (numbered l) h) ∙ z) .0)
+turn-open l route source s b z =
+    front (linesFor (routeOf route) l) (areaLines (recipe l route) source s ++ turnLines (recipe l route) s b) z
 
-module _ (bytes : List ℕ) (route : ℕ) (ok : Accepted (nestOf bytes)) (z : firstOf (readLines bytes) ≡ 0) where
+turn-areas : (l : List ℕ) (route : ℕ) (source : List ℕ) (s : State) (b : ℕ) → turnCall l route source s b .number ≡ 0
+    → areas (recipe l route) source s ≡ true
+unfolding turnCall
+turn-areas l route source s b z =
+    true-not (none-first 9 (not (areas (recipe l route) source s)) (turnLines (recipe l route) s b) (λ q. omega arith)
+    (sym (first-behind (linesFor (routeOf route) l) (areaLines (recipe l route) source s ++ turnLines (recipe l route) s b)
+    (numbered-for (routeOf route) l) (turn-open l route source s b z)) ∙ z) .0)
+
+module _ (bytes : List ℕ) (route : ℕ) (ok : Accepted (nestOf bytes)) where
   pub does : (source : List ℕ) (s : State) (b : ℕ) → turnCall bytes route source s b .number ≡ 0
       → Does (recipe bytes route) source s (turnCall bytes route source s b .after) b (nextAction (recipe bytes route) s b)
   does source s b e =
-      let a = turn-areas bytes route source s b z e in
+      let a = turn-areas bytes route source s b e in
       let k = areas-are (recipe bytes route) source s a in
-      let i = turn-is bytes route source s z a b in
+      let i = turn-is bytes route source s (turn-open bytes route source s b e) a b in
       rw i (turn-does (recipe bytes route) (sound (routeOf route) (nestOf bytes) ok) source s b (k .memories) (k .buffer) (rw i at e))
 
   pub written : (source : List ℕ) (s after : State) (b t : ℕ) (a : Action) → Does (recipe bytes route) source s after b a → a ≡ gather t
@@ -47,5 +55,5 @@ module _ (bytes : List ℕ) (route : ℕ) (ok : Accepted (nestOf bytes)) (z : fi
       → wordAt (recipe bytes route) after b (cellOf (recipe bytes route) m q) ≡ mailAt (recipe bytes route) s m q
   written source s after b t a d e m q i h =
       let u : Unpacks (recipe bytes route) s after b t = rw e at d in
-      u .written m q i h (λ n k g. exact (nestOf bytes) ok .once (routeOf route) t n m (cellOf (recipe bytes route) m q) k i g
+      u .written m q i h (λ n k g. once (nestOf bytes) ok (routeOf route) t n m (cellOf (recipe bytes route) m q) k i g
       (at-in (heldBy (recipe bytes route) m) q h))

@@ -12,19 +12,26 @@ use borrow.Author.Tests.{eqb-true, eq-eqb, ne-eqb, lt-ltb, le-ltb}
 use Rattle.base.specs.Tests.{_and_, not, pick, every, some}
 use Rattle.base.specs.Numbers.{Line, line, firstOf}
 use Rattle.base.proofs.Tests.{both, and-true, and-left, and-false, and-no, not-true, not-false, true-not, pick-true}
-use Rattle.base.proofs.Numbers.{first-true, first-false, none-first, first-some, first-behind}
+use Rattle.base.proofs.Numbers.{Numbered, first-true, first-false, none-first, first-some, first-behind}
 use Rattle.machine.specs.Plan.{Plan, count, words}
 use Rattle.machine.specs.Machine as machine
-use Rattle.machine.specs.Machine.{State, stateOf, fitRecord, fit, tilesLeft, carryOut, nextAction, Answered, answered, turnLines, turn, deliverLines, collectLines, collected}
+use Rattle.machine.specs.Machine.{State, stateOf, fitRecord, fit, tilesLeft, carryOut, nextAction, Answered, answered, turnLines, turn, deliverLines}
+use Rattle.machine.specs.Machine.{collectLines, collected}
 use Rattle.nest.specs.declared.Nest.{Nest}
 use Rattle.nest.specs.Nest.{cells, processors}
+use Rattle.nest.specs.Accepted.{Accepted}
 use Rattle.plan.specs.declared.Route.{Route}
-use Rattle.plan.specs.Messages.{planOf}
+use Rattle.plan.specs.declared.Route.the-variants.{Direct}
+use Rattle.plan.specs.Messages.{boxPlan}
+use Rattle.plan.specs.Shaped.{planOf}
+use Rattle.plan.proofs.ShapedBox.{planOf-box}
 use Rattle.layout.specs.declared.Sizes.{Sizes}
 use Rattle.layout.specs.Sizes.{Sized, routeOf}
 use Rattle.nest.specs.declared.Reading.{Reading}
-use Rattle.nest.specs.Nest.{readLines, nestOf, readingOf}
+use Rattle.nest.specs.Reader.{readLines, nestOf, readingOf}
 use Rattle.nest.proofs.Numbered.{numbered}
+use Rattle.routes.specs.Routes.{linesFor, ReadFor}
+use Rattle.routes.proofs.Laws.{numbered-for, reads-for, passed-for, direct-open, routed-for}
 use Rattle.stages.specs.Progress.{progressOnly}
 use Rattle.engine.specs.Given.{AreaLengths, MayTurn, unfitLines, handedOver}
 use Rattle.engine.specs.Calls.{answer, recipe, areas, areaLines, freshCall, turnCall, deliverCall, collectCall, sweepCall}
@@ -124,64 +131,83 @@ module _ (p : Plan) (source : List ℕ) (s : State) where
 
 -- p is the plan of the recipe l on the route that a word names
 pub record Opened (l : List ℕ) (word : ℕ) (p : Plan) : Type 0 where
-  pub none : firstOf (readLines l) ≡ 0
+  pub none : firstOf (linesFor (routeOf word) l) ≡ 0
   pub is : p ≡ recipe l word
 
-module _ (l : List ℕ) (r : Reading) (e : r ≡ readingOf l) where
-  pub read-number : r .number ≡ firstOf (readLines l)
-  read-number = ap (λ (z : Reading). z .number) e
+module _ (l : List ℕ) (r : Reading) where
+  pub opened : {word : ℕ} → ReadFor (routeOf word) l r → r .number ≡ 0 → {route : Route} → route ≡ routeOf word
+      → Opened l word (planOf route (r .nest))
+  opened {word} e h {route} k =
+      record {
+        none = sym (e .number) ∙ h;
+        is = ap (λ (z : Route). planOf z (r .nest)) k ∙ ap (planOf (routeOf word)) (e .nest h);
+      }
 
-  pub opened : r .number ≡ 0 → {word : ℕ} {route : Route} → route ≡ routeOf word → Opened l word (planOf route (r .nest))
-  opened h {word} {route} k =
-      let n : firstOf (readLines l) ≡ 0 = sym read-number ∙ h in
-      let i : r .nest ≡ nestOf l = ap (λ (z : Reading). z .nest) e ∙ pick-true _ _ _ (eq-eqb _ _ n) in
-      record { none = n; is = ap (λ (z : Route). planOf z (r .nest)) k ∙ ap (planOf (routeOf word)) i }
+  pub routed : {q : Route} → ReadFor q l r → r .number ≡ 0 → {route : Route} → route ≡ q → r .nest .bounds ≢ 0 → route ≡ Direct
+  routed {q} e h k n = k ∙ routed-for q l r e h n
 
-module _ {A : Type 0} (l : List ℕ) (more : List Line) (r : ℕ) (new old : A) where
-  -- the number is one of the reader's
-  pub call-read : r ≡ firstOf (readLines l) → r ≢ 0 → answer r old ≡ answered (firstOf (readLines l ++ more)) new old
+  -- a recipe read for no route is open to the direct one
+  module _ (e : r ≡ readingOf l) where
+    pub read-number : r .number ≡ firstOf (readLines l)
+    read-number = ap (λ (z : Reading). z .number) e
+
+    pub opened-direct : r .number ≡ 0 → {route : Route} → route ≡ Direct → Opened l 0 (planOf route (r .nest))
+    unfolding routeOf
+    opened-direct h {route} k =
+        let n : firstOf (readLines l) ≡ 0 = sym read-number ∙ h in
+        record {
+          none = passed-for Direct l n (direct-open (nestOf l));
+          is =
+              ap (λ (z : Route). planOf z (r .nest)) k
+              ∙ ap (planOf Direct) (ap (λ (z : Reading). z .nest) e ∙ pick-true _ _ _ (eq-eqb _ _ n));
+        }
+
+-- behind lines of which none has the number 0
+module _ {A : Type 0} (front : List Line) (named : Numbered front) (more : List Line) (r : ℕ) (new old : A) where
+  -- the number is one of theirs
+  pub call-read : r ≡ firstOf front → r ≢ 0 → answer r old ≡ answered (firstOf (front ++ more)) new old
   call-read e h =
-      answered-no r new old h ∙ ap (λ (n : ℕ). answered n new old) (e ∙ sym (first-some (readLines l) more (λ q. h (e ∙ q))))
+      answered-no r new old h ∙ ap (λ (n : ℕ). answered n new old) (e ∙ sym (first-some front more (λ q. h (e ∙ q))))
 
   -- one of those behind them
-  pub call-later : firstOf (readLines l) ≡ 0 → r ≡ firstOf more → r ≢ 0 → answer r old ≡ answered (firstOf (readLines l ++ more)) new old
+  pub call-later : firstOf front ≡ 0 → r ≡ firstOf more → r ≢ 0 → answer r old ≡ answered (firstOf (front ++ more)) new old
   call-later z e h =
-      answered-no r new old h ∙ ap (λ (n : ℕ). answered n new old) (e ∙ sym (first-behind (readLines l) more (numbered l) z))
+      answered-no r new old h ∙ ap (λ (n : ℕ). answered n new old) (e ∙ sym (first-behind front more named z))
 
   -- none of them
-  pub call-done : firstOf (readLines l) ≡ 0 → firstOf more ≡ 0 → answer 0 new ≡ answered (firstOf (readLines l ++ more)) new old
-  call-done z e = answered-yes _ new old (first-behind (readLines l) more (numbered l) z ∙ e)
+  pub call-done : firstOf front ≡ 0 → firstOf more ≡ 0 → answer 0 new ≡ answered (firstOf (front ++ more)) new old
+  call-done z e = answered-yes _ new old (first-behind front more named z ∙ e)
 
 -- ---- the turn
 
 module _ (l : List ℕ) (route : ℕ) (source : List ℕ) (s : State) (b : ℕ) where
-  pub turn-read : (r : ℕ) → r ≡ firstOf (readLines l) → r ≢ 0 → answer r s ≡ turnCall l route source s b
+  pub turn-read : (r : ℕ) → r ≡ firstOf (linesFor (routeOf route) l) → r ≢ 0 → answer r s ≡ turnCall l route source s b
   unfolding turnCall
-  turn-read r e h = call-read l _ r _ s e h
+  turn-read r e h = call-read (linesFor (routeOf route) l) (numbered-for (routeOf route) l) _ r _ s e h
 
   module _ (p : Plan) (o : Opened l route p) where
-    turn-at : answered (firstOf (readLines l ++ (areaLines p source s ++ turnLines p s b)))
+    turn-at : answered (firstOf (linesFor (routeOf route) l ++ (areaLines p source s ++ turnLines p s b)))
         (carryOut p source s b (nextAction p s b)) s
         ≡ turnCall l route source s b
     unfolding turnCall
     turn-at =
         ap
         (λ (q : Plan).
-        answered (firstOf (readLines l ++ (areaLines q source s ++ turnLines q s b)))
+        answered (firstOf (linesFor (routeOf route) l ++ (areaLines q source s ++ turnLines q s b)))
         (carryOut q source s b (nextAction q s b)) s)
         (o .is)
 
     module _ (r : ℕ) (e : r ≡ firstOf (unfitLines p source s)) where
       pub turn-unfit : r ≢ 0 → answer r s ≡ turnCall l route source s b
       turn-unfit h =
-          call-later l _ r _ s (o .none)
+          call-later (linesFor (routeOf route) l) (numbered-for (routeOf route) l) _ r _ s (o .none)
           (e ∙ sym (first-some (unfitLines p source s) _ (λ q. h (e ∙ q)))) h
           ∙ turn-at
 
       pub turn-beyond : r ≡ 0 → p .processors ≤ b → answer 11 s ≡ turnCall l route source s b
       turn-beyond z h =
           let q = unfit-none p source s r e z in
-          call-later l _ 11 _ s (o .none)
+          call-later (linesFor (routeOf route) l) (numbered-for (routeOf route) l) _ 11 _ s (o .none)
           (sym
           (first-false 9 _ _ (not-true (q .0)) ∙ first-false 10 _ _ (not-true (q .1))
           ∙ first-true 11 _ _ (not-false (le-ltb b (p .processors) h))))
@@ -195,7 +221,7 @@ module _ (l : List ℕ) (route : ℕ) (source : List ℕ) (s : State) (b : ℕ) 
           t
           ∙ ap (λ (n : ℕ). answered n (carryOut p source s b (nextAction p s b)) s)
           (sym
-          (first-behind (readLines l) (areaLines p source s ++ turnLines p s b) (numbered l) (o .none)
+          (first-behind (linesFor (routeOf route) l) (areaLines p source s ++ turnLines p s b) (numbered-for (routeOf route) l) (o .none)
           ∙ first-false 9 (not (areas p source s)) (turnLines p s b) (not-true (q .0))))
           ∙ turn-at
 
@@ -245,26 +271,26 @@ handed {A} f n m status old e k q =
 -- ---- the delivery
 
 module _ (l : List ℕ) (route : ℕ) (source : List ℕ) (s : State) (m : ℕ) where
-  pub deliver-read : (r : ℕ) → r ≡ firstOf (readLines l) → r ≢ 0 → answer r s ≡ deliverCall l route source s m
+  pub deliver-read : (r : ℕ) → r ≡ firstOf (linesFor (routeOf route) l) → r ≢ 0 → answer r s ≡ deliverCall l route source s m
   unfolding deliverCall
-  deliver-read r e h = call-read l _ r _ s e h
+  deliver-read r e h = call-read (linesFor (routeOf route) l) (numbered-for (routeOf route) l) _ r _ s e h
 
   module _ (p : Plan) (o : Opened l route p) where
-    deliver-at : answered (firstOf (readLines l ++ (areaLines p source s ++ deliverLines p s m)))
+    deliver-at : answered (firstOf (linesFor (routeOf route) l ++ (areaLines p source s ++ deliverLines p s m)))
         (stateOf (s .memories) (s .buffer) (s .progress) (set (s .status) m 2)) s
         ≡ deliverCall l route source s m
     unfolding deliverCall
     deliver-at =
         ap
         (λ (q : Plan).
-        answered (firstOf (readLines l ++ (areaLines q source s ++ deliverLines q s m)))
+        answered (firstOf (linesFor (routeOf route) l ++ (areaLines q source s ++ deliverLines q s m)))
         (stateOf (s .memories) (s .buffer) (s .progress) (set (s .status) m 2)) s)
         (o .is)
 
     module _ (r : ℕ) (e : r ≡ firstOf (unfitLines p source s)) where
       pub deliver-unfit : r ≢ 0 → answer r s ≡ deliverCall l route source s m
       deliver-unfit h =
-          call-later l _ r _ s (o .none)
+          call-later (linesFor (routeOf route) l) (numbered-for (routeOf route) l) _ r _ s (o .none)
           (e ∙ sym (first-some (unfitLines p source s) _ (λ q. h (e ∙ q)))) h
           ∙ deliver-at
 
@@ -276,12 +302,12 @@ module _ (l : List ℕ) (route : ℕ) (source : List ℕ) (s : State) (m : ℕ) 
           rest : ℕ → List Line
           rest k = line 11 (not (ltb m k)) ∷ line 14 (not (eqb (getD (s .status) m 0) 1)) ∷ []
 
-          same : firstOf (rest (length (s .status))) ≡ firstOf (readLines l ++ (areaLines p source s ++ deliverLines p s m))
+          same : firstOf (rest (length (s .status))) ≡ firstOf (linesFor (routeOf route) l ++ (areaLines p source s ++ deliverLines p s m))
           same =
               let q = unfit-none p source s r e z in
               ap (λ (k : ℕ). firstOf (rest k)) (areas-are p source s (q .0) .status)
               ∙ sym
-              (first-behind (readLines l) (areaLines p source s ++ deliverLines p s m) (numbered l) (o .none)
+              (first-behind (linesFor (routeOf route) l) (areaLines p source s ++ deliverLines p s m) (numbered-for (routeOf route) l) (o .none)
               ∙ first-false 9 _ _ (not-true (q .0)) ∙ first-false 10 _ _ (not-true (q .1)))
 
 -- ---- collecting
@@ -295,19 +321,20 @@ abbrev gridLines : Plan → List ℕ → State → List ℕ → List Line
 gridLines p source s grid = line 9 (not (areas p source s and eqb (length grid) (p .cells))) ∷ collectLines p s
 
 module _ (l : List ℕ) (route : ℕ) (source : List ℕ) (s : State) (grid : List ℕ) where
-  pub collect-read : (r : ℕ) → r ≡ firstOf (readLines l) → r ≢ 0 → answer r grid ≡ collectCall l route source s grid
+  pub collect-read : (r : ℕ) → r ≡ firstOf (linesFor (routeOf route) l) → r ≢ 0 → answer r grid ≡ collectCall l route source s grid
   unfolding collectCall
-  collect-read r e h = call-read l _ r _ grid e h
+  collect-read r e h = call-read (linesFor (routeOf route) l) (numbered-for (routeOf route) l) _ r _ grid e h
 
   module _ (p : Plan) (o : Opened l route p) where
-    collect-at : answered (firstOf (readLines l ++ gridLines p source s grid)) (collected p s) grid ≡ collectCall l route source s grid
+    collect-at : answered (firstOf (linesFor (routeOf route) l ++ gridLines p source s grid)) (collected p s) grid ≡ collectCall l route source s grid
     unfolding collectCall
     collect-at =
-        ap (λ (q : Plan). answered (firstOf (readLines l ++ gridLines q source s grid)) (collected q s) grid) (o .is)
+        ap (λ (q : Plan). answered (firstOf (linesFor (routeOf route) l ++ gridLines q source s grid)) (collected q s) grid) (o .is)
 
     pub collect-grid : length grid ≢ p .cells → answer 9 grid ≡ collectCall l route source s grid
     collect-grid h =
-        call-later l _ 9 _ grid (o .none) (sym (first-true 9 _ _ (not-false (and-no _ _ (ne-eqb _ _ h))))) (λ q. omega arith) ∙ collect-at
+        call-later (linesFor (routeOf route) l) (numbered-for (routeOf route) l) _ 9 _ grid (o .none)
+        (sym (first-true 9 _ _ (not-false (and-no _ _ (ne-eqb _ _ h))))) (λ q. omega arith) ∙ collect-at
 
     module _ (g : length grid ≡ p .cells) (r : ℕ) (e : r ≡ firstOf (unfitLines p source s)) where
       long-grid : (areas p source s and eqb (length grid) (p .cells)) ≡ areas p source s
@@ -319,7 +346,7 @@ module _ (l : List ℕ) (route : ℕ) (source : List ℕ) (s : State) (grid : Li
 
       pub collect-unfit : r ≢ 0 → answer r grid ≡ collectCall l route source s grid
       collect-unfit h =
-          call-later l _ r _ grid (o .none)
+          call-later (linesFor (routeOf route) l) (numbered-for (routeOf route) l) _ r _ grid (o .none)
           (e ∙ sym (same-lines ∙ first-some (unfitLines p source s) _ (λ q. h (e ∙ q)))) h
           ∙ collect-at
 
@@ -336,7 +363,8 @@ module _ (l : List ℕ) (route : ℕ) (source : List ℕ) (s : State) (grid : Li
 
           pub collect-left : t ≡ true → answer 15 grid ≡ collectCall l route source s grid
           collect-left k =
-              call-later l _ 15 _ grid (o .none) (sym (last-line ∙ first-true 15 _ _ (left-is ∙ k))) (λ y. omega arith) ∙ collect-at
+              call-later (linesFor (routeOf route) l) (numbered-for (routeOf route) l) _ 15 _ grid (o .none)
+              (sym (last-line ∙ first-true 15 _ _ (left-is ∙ k))) (λ y. omega arith) ∙ collect-at
 
           over : t ≡ false → firstOf (line 15 (some (tilesLeft p s) (p .processors)) ∷ []) ≡ 0
           unfolding firstOf
@@ -345,22 +373,25 @@ module _ (l : List ℕ) (route : ℕ) (source : List ℕ) (s : State) (grid : Li
           pub collect-done : (new : List ℕ) → t ≡ false → new ≡ collected p (stateOf (s .memories) [] [] [])
               → answer 0 new ≡ collectCall l route source s grid
           unfolding collected
-          collect-done new k c = ap (answer 0) c ∙ call-done l _ 0 _ grid (o .none) (last-line ∙ over k) ∙ collect-at
+          collect-done new k c =
+              ap (answer 0) c ∙ call-done (linesFor (routeOf route) l) (numbered-for (routeOf route) l) _ 0 _ grid (o .none) (last-line ∙ over k) ∙ collect-at
 
 -- ---- the fresh start
 
 module _ (l : List ℕ) (route : ℕ) (source : List ℕ) (s : State) where
-  pub fresh-read : (r : ℕ) → r ≡ firstOf (readLines l) → r ≢ 0 → answer r s ≡ freshCall l route source s
+  pub fresh-read : (r : ℕ) → r ≡ firstOf (linesFor (routeOf route) l) → r ≢ 0 → answer r s ≡ freshCall l route source s
   unfolding freshCall
-  fresh-read r e h = call-read l _ r _ s e h
+  fresh-read r e h = call-read (linesFor (routeOf route) l) (numbered-for (routeOf route) l) _ r _ s e h
 
   module _ (p : Plan) (o : Opened l route p) where
-    fresh-at : answered (firstOf (readLines l ++ areaLines p source s)) (machine.fresh p) s ≡ freshCall l route source s
+    fresh-at : answered (firstOf (linesFor (routeOf route) l ++ areaLines p source s)) (machine.fresh p) s ≡ freshCall l route source s
     unfolding freshCall
-    fresh-at = ap (λ (q : Plan). answered (firstOf (readLines l ++ areaLines q source s)) (machine.fresh q) s) (o .is)
+    fresh-at = ap (λ (q : Plan). answered (firstOf (linesFor (routeOf route) l ++ areaLines q source s)) (machine.fresh q) s) (o .is)
 
     pub fresh-area : areas p source s ≡ false → answer 9 s ≡ freshCall l route source s
-    fresh-area h = call-later l _ 9 _ s (o .none) (sym (first-true 9 _ _ (not-false h))) (λ q. omega arith) ∙ fresh-at
+    fresh-area h =
+        call-later (linesFor (routeOf route) l) (numbered-for (routeOf route) l) _ 9 _ s (o .none) (sym (first-true 9 _ _ (not-false h)))
+        (λ q. omega arith) ∙ fresh-at
 
     nothing : areas p source s ≡ true → firstOf (areaLines p source s) ≡ 0
     unfolding firstOf
@@ -373,7 +404,7 @@ module _ (l : List ℕ) (route : ℕ) (source : List ℕ) (s : State) where
     fresh-done h memories buffer progress status a b c d =
         let k = areas-are p source s h in
         ap (answer 0) (rw (a, b, c, d, k .memories, k .buffer, k .progress, k .status))
-        ∙ call-done l (areaLines p source s) 0 (machine.fresh p) s (o .none) (nothing h) ∙ fresh-at
+        ∙ call-done (linesFor (routeOf route) l) (numbered-for (routeOf route) l) (areaLines p source s) 0 (machine.fresh p) s (o .none) (nothing h) ∙ fresh-at
 
 -- ---- the sweep
 
@@ -383,7 +414,7 @@ sweepLines p source grid = line 9 (not (eqb (length source) (p .cells) and eqb (
 module _ (l source grid : List ℕ) where
   pub sweep-read : (r : ℕ) → r ≡ firstOf (readLines l) → r ≢ 0 → answer r grid ≡ sweepCall l source grid
   unfolding sweepCall
-  sweep-read r e h = call-read l _ r _ grid e h
+  sweep-read r e h = call-read (readLines l) (numbered l) _ r _ grid e h
 
   module _ (p : Plan) (o : Opened l 0 p) where
     sweep-at : answered (firstOf (readLines l ++ sweepLines p source grid)) (machine.sweep p source) grid ≡ sweepCall l source grid
@@ -392,11 +423,13 @@ module _ (l source grid : List ℕ) where
 
     pub sweep-source : length source ≢ p .cells → answer 9 grid ≡ sweepCall l source grid
     sweep-source h =
-        call-later l _ 9 _ grid (o .none) (sym (first-true 9 _ _ (not-false (and-false _ _ (ne-eqb _ _ h))))) (λ q. omega arith) ∙ sweep-at
+        call-later (readLines l) (numbered l) _ 9 _ grid (reads-for (routeOf 0) l (o .none))
+        (sym (first-true 9 _ _ (not-false (and-false _ _ (ne-eqb _ _ h))))) (λ q. omega arith) ∙ sweep-at
 
     pub sweep-grid : length grid ≢ p .cells → answer 9 grid ≡ sweepCall l source grid
     sweep-grid h =
-        call-later l _ 9 _ grid (o .none) (sym (first-true 9 _ _ (not-false (and-no _ _ (ne-eqb _ _ h))))) (λ q. omega arith) ∙ sweep-at
+        call-later (readLines l) (numbered l) _ 9 _ grid (reads-for (routeOf 0) l (o .none))
+        (sym (first-true 9 _ _ (not-false (and-no _ _ (ne-eqb _ _ h))))) (λ q. omega arith) ∙ sweep-at
 
     right : length source ≡ p .cells → length grid ≡ p .cells → firstOf (sweepLines p source grid) ≡ 0
     unfolding firstOf
@@ -406,4 +439,9 @@ module _ (l source grid : List ℕ) where
 
     pub sweep-done : (new : List ℕ) → length source ≡ p .cells → length grid ≡ p .cells → new ≡ machine.sweep p source
         → answer 0 new ≡ sweepCall l source grid
-    sweep-done new a b c = ap (answer 0) c ∙ call-done l _ 0 _ grid (o .none) (right a b) ∙ sweep-at
+    sweep-done new a b c = ap (answer 0) c ∙ call-done (readLines l) (numbered l) _ 0 _ grid (reads-for (routeOf 0) l (o .none)) (right a b) ∙ sweep-at
+
+-- without bounds the box's sweep is the nest's
+pub box-swept : (x : Nest) → Accepted x → x .bounds ≡ 0 → (source new : List ℕ) → new ≡ machine.sweep (boxPlan Direct x) source
+    → new ≡ machine.sweep (planOf Direct x) source
+box-swept x ok none source new e = e ∙ ap (λ (p : Plan). machine.sweep p source) (sym (planOf-box Direct x ok none))

@@ -17,9 +17,11 @@ use Rattle.base.proofs.Numbers.{none-first, first-some, first-behind}
 use Rattle.machine.specs.Plan.{Plan}
 use Rattle.machine.specs.Machine.{State, stateOf, Answered, setProgress, fitRecord, fit, waiting, tilesLeft, turnLines}
 use Rattle.nest.specs.declared.Nest.{Nest}
-use Rattle.nest.specs.Nest.{processors, readLines}
+use Rattle.nest.specs.Nest.{processors}
+use Rattle.routes.specs.Routes.{linesFor}
+use Rattle.routes.proofs.Laws.{numbered-for}
 use Rattle.layout.specs.declared.Sizes.{Sizes}
-use Rattle.layout.specs.Sizes.{Sized}
+use Rattle.layout.specs.Sizes.{Sized, routeOf}
 use Rattle.records.specs.declared.Progress.{Progress}
 use Rattle.records.specs.declared.Flat.{Flat}
 use Rattle.records.specs.Records.{flatWords, Carries, putAt, zeros, clearAll}
@@ -28,7 +30,6 @@ use Rattle.stages.specs.Progress.{progressOnly, setRecord}
 use Rattle.engine.specs.Given.{recordsAfter, zerosAfter}
 use Rattle.engine.specs.Calls.{answer, recipe, areas, areaLines, turnCall}
 use Rattle.engine.specs.declared.core.Turned.{Turned}
-use Rattle.nest.proofs.Numbered.{numbered}
 use Rattle.engine.proofs.Lines.{areas-are}
 
 -- ---- what is read
@@ -113,11 +114,11 @@ module _ (l : List ℕ) (route : ℕ) (source : List ℕ) (s : State) (b : ℕ) 
 
   pub turn-inside : turnCall l route source s b .number ≡ 0 → 3 * b + 2 < length (s .progress)
   unfolding turnCall
-  turn-inside e = by (ℕ-discrete (firstOf (readLines l)) 0)
+  turn-inside e = by (ℕ-discrete (firstOf (linesFor (routeOf route) l)) 0)
     where
-      by : Dec (firstOf (readLines l) ≡ 0) → 3 * b + 2 < length (s .progress)
-      by (yes z) = inside (sym (first-behind (readLines l) (areaLines p source s ++ turnLines p s b) (numbered l) z) ∙ e)
-      by (no z) = absurd (z (sym (first-some (readLines l) (areaLines p source s ++ turnLines p s b) z) ∙ e))
+      by : Dec (firstOf (linesFor (routeOf route) l) ≡ 0) → 3 * b + 2 < length (s .progress)
+      by (yes z) = inside (sym (first-behind (linesFor (routeOf route) l) (areaLines p source s ++ turnLines p s b) (numbered-for (routeOf route) l) z) ∙ e)
+      by (no z) = absurd (z (sym (first-some (linesFor (routeOf route) l) (areaLines p source s ++ turnLines p s b) z) ∙ e))
 
 -- ---- what a fresh start makes
 

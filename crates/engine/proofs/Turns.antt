@@ -15,7 +15,8 @@ use Rattle.base.specs.Numbers.{line, firstOf}
 use Rattle.base.proofs.Tests.{both, and-true, and-false, and-no, not-true, not-false, pick-true, pick-false, every-at}
 use Rattle.base.proofs.Numbers.{first-true, first-false}
 use Rattle.machine.specs.Plan.{Plan, tilesOf, sendsOf, duesOf}
-use Rattle.machine.specs.Machine.{State, stateOf, finishedOf, stageOf, sentOf, tilesLeft, currentTile, fitRecord, fit, gather, calculate, send, carryOut, actionAt, nextAction, answered, waiting, turnLines, turn}
+use Rattle.machine.specs.Machine.{State, stateOf, finishedOf, stageOf, sentOf, tilesLeft, currentTile, fitRecord, fit, gather, calculate, send, carryOut}
+use Rattle.machine.specs.Machine.{actionAt, nextAction, answered, waiting, turnLines, turn}
 use Rattle.engine.specs.Calls.{answer}
 
 -- ---- fit records
@@ -31,7 +32,8 @@ module _ (p : Plan) (s : State) (b : ℕ) (e : fit p s ≡ true) (l : b < p .pro
       sends : Bool
       sends = ltb (sentOf s b) (length (sendsOf p (currentTile p s b)))
 
-      go : Dec (stageOf s b ≡ 2) → pick (eqb (stageOf s b) 2) sends (ltb (stageOf s b) 2 and eqb (sentOf s b) 0) ≡ true → sentOf s b < length (sendsOf p (currentTile p s b))
+      go : Dec (stageOf s b ≡ 2) → pick (eqb (stageOf s b) 2) sends (ltb (stageOf s b) 2 and eqb (sentOf s b) 0) ≡ true → sentOf s b < length
+          (sendsOf p (currentTile p s b))
       go (yes q) r = ltb-true _ _ (sym (pick-true _ _ _ (eq-eqb _ _ q)) ∙ r)
       go (no q) r = absurd (low (ltb-true _ _ (both (sym (pick-false _ _ _ (ne-eqb _ _ q)) ∙ r) .0)))
         where

@@ -1,8 +1,9 @@
 -- The three demands, for a recipe's bytes and a route, made of the definitions in Calls; each call's contract equates the call with them.
--- Renders the customer's demands 1, 2 and 3, document 01's "Conditions of acceptance" and W-204; any word may name the route.
+-- Renders the customer's demands 1, 2 and 3, document 01's "Conditions of acceptance", W-204 and W-209; any word may name the route.
 use Prim.Native.Nat.{ℕ, _<_}
 use mathlib.Core.Path.{_≡_}
 use mathlib.Core.Logic.{_⊎_, _≢_}
+use mathlib.Core.Bool.{true, false}
 use mathlib.Core.List.{List}
 use lib.ListN.{length, getD, set}
 use Rattle.base.specs.Lists.{In, Rising, Bytes}
@@ -12,14 +13,19 @@ use Rattle.machine.specs.Machine as machine
 use Rattle.machine.specs.Machine.{State, Answered, stateOf, gather, send, carryOut, nextAction, collected}
 use Rattle.machine.specs.Words.{wordAt, mailAt, cellOf, Does, Did, Posted}
 use Rattle.machine.specs.Runs.{Event, turnOf, deliveryOf, Demand3}
-use Rattle.nest.specs.Nest.{nestOf, readLines}
-use Rattle.plan.specs.declared.Route.the-variants.{Direct}
+use Rattle.nest.specs.Nest.{cells}
+use Rattle.nest.specs.Shape.{inShape}
+use Rattle.nest.specs.Reader.{nestOf, readLines}
+use Rattle.plan.specs.Messages.{boxPlan}
 use Rattle.plan.specs.Hops.{hops}
 use Rattle.plan.specs.Report.{ReportAgrees}
 use Rattle.plan.specs.Exact.{Exact, sequential, runNest}
+use Rattle.plan.specs.ExactShape.{ExactShape, shapeOf}
 use Rattle.layout.specs.Sizes.{routeOf}
-use Rattle.table.specs.Summary.{figuresOf, noFigures, summaryOf, lineOf, noLine, messageLines, messageLineOf, directionOf, Directed, noHops, hopsOf}
-use Rattle.engine.specs.Calls.{answer, recipe, freshCallLines, freshCall, turnCallLines, turnCall, deliverCallLines, deliverCall, collectCallLines, collectCall, sweepCallLines, sweepCall}
+use Rattle.routes.specs.Routes.{linesFor}
+use Rattle.table.specs.Summary.{figuresOf, noFigures, summaryOf, lineOf, noLine, messageLines, messageLineOf, directionOf, Directed, hopsLines, noHops, hopsOf}
+use Rattle.engine.specs.Calls.{answer, recipe, freshCallLines, freshCall, turnCallLines, turnCall, deliverCallLines, deliverCall, collectCallLines}
+use Rattle.engine.specs.Calls.{collectCall, sweepCallLines, sweepCall}
 
 -- a call gives the number of its first true line, one of its own; it does its work, or leaves every lent word as before
 pub record Fixed {A : Type 0} (call : Answered A) (lines : List Line) (done before : A) : Type 0 where
@@ -42,15 +48,15 @@ pub record Demand1 (bytes : List ℕ) (route : ℕ) (source : List ℕ) (s : Sta
   pub collect : (grid : List ℕ)
       → Fixed (collectCall bytes route source s grid) (collectCallLines bytes route source s grid) (collected (recipe bytes route) s) grid
   pub sweep : (grid : List ℕ)
-      → Fixed (sweepCall bytes source grid) (sweepCallLines bytes source grid) (machine.sweep (recipe bytes route) source) grid
+      → Fixed (sweepCall bytes source grid) (sweepCallLines bytes source grid) (machine.sweep (recipe bytes 0) source) grid
   -- these three are lent nothing to write: what they tell beside the number is 0 at a refusal; the hops are a direct message's
-  pub summary : Fixed (answer (summaryOf (routeOf route) bytes .number) (summaryOf (routeOf route) bytes)) (readLines bytes)
+  pub summary : Fixed (answer (summaryOf (routeOf route) bytes .number) (summaryOf (routeOf route) bytes)) (linesFor (routeOf route) bytes)
       (figuresOf (recipe bytes route)) (noFigures (summaryOf (routeOf route) bytes .number))
   pub message : (m : ℕ)
       → Fixed (answer (messageLineOf (routeOf route) bytes m .number) (messageLineOf (routeOf route) bytes m))
       (messageLines (routeOf route) bytes m) (lineOf (recipe bytes route) m) (noLine (messageLineOf (routeOf route) bytes m .number))
   pub hops : (m : ℕ)
-      → Fixed (answer (hopsOf bytes m .number) (hopsOf bytes m)) (messageLines Direct bytes m)
+      → Fixed (answer (hopsOf bytes m .number) (hopsOf bytes m)) (hopsLines bytes m)
       (record { number = 0; hops = hops (nestOf bytes) (directionOf (nestOf bytes) m) }) (noHops (hopsOf bytes m .number))
 
 -- the events of a run, each a call, all given one route
@@ -58,11 +64,16 @@ unfoldable pub calls : List ℕ → ℕ → List ℕ → State → Event → Ans
 calls bytes route source s (turnOf b) = turnCall bytes route source s b
 calls bytes route source s (deliveryOf m) = deliverCall bytes route source s m
 
--- demand 2: schedule, message cell sets and sequential sweep are the report's, and packing and unpacking move exactly these
+-- demand 2: schedule, message cell sets and sequential sweep are the report's, and packing and unpacking move exactly these; with bounds,
+-- on the direct route, those of the shape
 pub record Demand2 (bytes : List ℕ) (route : ℕ) : Type 0 where
-  pub report : ReportAgrees (nestOf bytes)
+  -- without bounds the plan is the box's, of which the report speaks
+  pub box : nestOf bytes .bounds ≡ 0 → recipe bytes route ≡ boxPlan (routeOf route) (nestOf bytes)
+  pub report : nestOf bytes .bounds ≡ 0 → ReportAgrees (nestOf bytes)
   -- which cells a message holds, which messages there are, index order, the report's loops and its sequential nest
-  pub exact : Exact (nestOf bytes)
+  pub exact : nestOf bytes .bounds ≡ 0 → Exact (nestOf bytes)
+  -- with bounds or without, on the direct route: the shape's tiles, cell sets, messages, takers and sweep
+  pub shape : ExactShape (nestOf bytes)
   -- the direction by which the hops call counts is that of the message
   pub directed : Directed (nestOf bytes)
   -- a message's cells stand in index order, each once, and there is one
@@ -81,12 +92,22 @@ pub record Demand2 (bytes : List ℕ) (route : ℕ) : Type 0 where
   pub posted : (source : List ℕ) (s : State) → freshCall bytes route source s .number ≡ 0 → (before : List Event) (b m : ℕ)
       → Did (calls bytes route source) (freshCall bytes route source s .after) (recipe bytes route) before b (send m)
       → Posted (calls bytes route source) (freshCall bytes route source s .after) (recipe bytes route) before b m
-  -- the sweep call leaves what the sequential nest leaves, from an array of any content; each word is the value of what the sweep has
-  pub nest : (source grid array : List ℕ) → sweepCall bytes source grid .number ≡ 0 → length array ≡ recipe bytes route .cells
+  -- the sweep call leaves what the sequential nest leaves, from an array of any content; with bounds, at the shape's indices, from an array
+  -- that is the boundary outside
+  pub nest : nestOf bytes .bounds ≡ 0
+      → (source grid array : List ℕ) → sweepCall bytes source grid .number ≡ 0 → length array ≡ cells (nestOf bytes)
       → sweepCall bytes source grid .after ≡ runNest (nestOf bytes) source array (sequential (nestOf bytes))
-  pub swept : (source : List ℕ) (c : ℕ) → c < recipe bytes route .cells
-      → getD (machine.sweep (recipe bytes route) source) c 0
-      ≡ recipe bytes route .value source (machine.sweep (recipe bytes route) source) c
+  pub nest-shape : (source grid array : List ℕ) → sweepCall bytes source grid .number ≡ 0 → length array ≡ cells (nestOf bytes)
+      → ((c : ℕ) → c < cells (nestOf bytes) → inShape (nestOf bytes) c ≡ false → getD array c 0 ≡ nestOf bytes .boundary)
+      → sweepCall bytes source grid .after ≡ runNest (nestOf bytes) source array (shapeOf (nestOf bytes) (sequential (nestOf bytes)))
+  -- each word of it is the value of what the sweep has, or the boundary outside
+  pub swept : (source : List ℕ) (c : ℕ) → c < recipe bytes 0 .cells → recipe bytes 0 .inside c ≡ true
+      → getD (machine.sweep (recipe bytes 0) source) c 0 ≡ recipe bytes 0 .value source (machine.sweep (recipe bytes 0) source) c
+  pub unswept : (source : List ℕ) (c : ℕ) → c < recipe bytes 0 .cells → recipe bytes 0 .inside c ≡ false
+      → getD (machine.sweep (recipe bytes 0) source) c 0 ≡ recipe bytes 0 .boundary
+  -- and the sweep of the route, where the recipe is open to it, is the same
+  pub same-sweep : firstOf (linesFor (routeOf route) bytes) ≡ 0 → (source : List ℕ)
+      → machine.sweep (recipe bytes route) source ≡ machine.sweep (recipe bytes 0) source
 
 pub record Demands : Type 0 where
   pub one : (bytes : List ℕ) (route : ℕ) (source : List ℕ) (s : State) → Demand1 bytes route source s

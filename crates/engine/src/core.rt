@@ -8,10 +8,10 @@ ghost use Prim.Native.Nat.{ℕ, _*_};
 ghost use lib.ListN.{length};
 ghost use Rattle.base.specs.Numbers.{firstOf};
 ghost use Rattle.machine.specs.Machine.{stateOf, turn};
-ghost use Rattle.plan.specs.Messages.{planOf};
+ghost use Rattle.plan.specs.Shaped.{planOf};
 ghost use Rattle.layout.specs.Sizes.{Sized};
 ghost use Rattle.nest.specs.Nest.{processors};
-ghost use Rattle.table.specs.Table.{Table};
+ghost use Rattle.tables.specs.Tables.{Tabled};
 ghost use Rattle.records.specs.Records.{Carries};
 ghost use Rattle.engine.specs.Given.{MayTurn, unfitLines, handedOver, recordsAfter, zerosAfter};
 ghost use Rattle.engine.specs.Calls.{answer, areas, freshCall, turnCall, deliverCall, collectCall};
@@ -20,9 +20,9 @@ use layout::Sizes;
 use layout::route_of;
 use layout::sizes_of;
 use nest::Nest;
-use nest::read;
 use records::Flat;
 use records::Progress;
+use routes::read_for;
 use stages::calculate_stage;
 use stages::copy_cells;
 use stages::fit_records;
@@ -33,23 +33,23 @@ use stages::send_stage;
 use stages::tiles_left;
 use stages::zero_bytes;
 use stages::zero_words;
-use table::fill;
-use table::tile_at;
-use table::tile_count;
-use table::totals;
+use tables::fill;
+use tables::tile_at;
+use tables::tile_count;
+use tables::totals;
 
 // Each area has its length; `words` is how many words the records have.
 pub fn areas_fit(
     nest: Nest,
     sizes: Sizes,
-    lens: &[u16; 7168],
+    lens: &[u16; 9217],
     source: &[u32],
     memories: &[u32],
     buffer: &[u32],
     words: usize,
     status: &[u8],
 ) -> bool
-    requires { ⌜ Sized nest sizes × Table (sizes .route) nest (now lens) ⌝ }
+    requires { ⌜ Sized nest sizes × Tabled nest sizes (now lens) ⌝ }
     ensures { λ r. ⌜ ((records : List ℕ) → words ≡ length records
         → r ≡ areas (planOf (sizes .route) nest) (now (source .entry)) (stateOf (now (memories .entry)) (now (buffer .entry)) records (now (status .entry))))
         × (r ≡ true → words ≡ 3 * processors nest) ⌝ }
@@ -76,17 +76,18 @@ pub fn areas_fit(
 fn unfit(
     nest: Nest,
     sizes: Sizes,
-    lens: &[u16; 7168],
+    lens: &[u16; 9217],
     source: &[u32],
     memories: &[u32],
     buffer: &[u32],
     progress: Flat,
     status: &[u8],
 ) -> u32
-    requires { ⌜ Sized nest sizes × Table (sizes .route) nest (now lens) ⌝ }
+    requires { ⌜ Sized nest sizes × Tabled nest sizes (now lens) ⌝ }
     requires { ⌜ length (progress .words) ≡ 192 ⌝ }
     ensures { λ r. ⌜ ((records : List ℕ) → Carries progress records
-        → r ≡ firstOf (unfitLines (planOf (sizes .route) nest) (now (source .entry)) (stateOf (now (memories .entry)) (now (buffer .entry)) records (now (status .entry)))))
+        → r ≡ firstOf (unfitLines (planOf (sizes .route) nest) (now (source .entry))
+        (stateOf (now (memories .entry)) (now (buffer .entry)) records (now (status .entry)))))
         × (r ≡ 0 → progress .count ≡ 3 * processors nest) ⌝ }
 {
     let words = progress.words;
@@ -136,7 +137,7 @@ fn done(progress: Progress) -> Turned
 pub fn step(
     nest: Nest,
     sizes: Sizes,
-    lens: &[u16; 7168],
+    lens: &[u16; 9217],
     source: &[u32],
     memories: &mut [u32],
     buffer: &mut [u32],
@@ -144,20 +145,21 @@ pub fn step(
     status: &mut [u8],
     b: usize,
 ) -> Turned
-    requires { ⌜ Sized nest sizes × Table (sizes .route) nest (now lens) ⌝ }
+    requires { ⌜ Sized nest sizes × Tabled nest sizes (now lens) ⌝ }
     requires { ⌜ MayTurn (planOf (sizes .route) nest) (now source) (stateOf (now memories) (now buffer) (now progress) (now status)) b ⌝ }
     ensures { λ r. ⌜ answer (r .number) (stateOf (now (memories .exit)) (now (buffer .exit)) (recordsAfter (now (progress .entry)) b r) (now (status .exit)))
-        ≡ turn (planOf (sizes .route) nest) (now (source .entry)) (stateOf (now (memories .entry)) (now (buffer .entry)) (now (progress .entry)) (now (status .entry))) b ⌝ }
+        ≡ turn (planOf (sizes .route) nest) (now (source .entry))
+        (stateOf (now (memories .entry)) (now (buffer .entry)) (now (progress .entry)) (now (status .entry))) b ⌝ }
 {
     let finished = progress[3 * b];
     let stage = progress[3 * b + 1];
     let sent = word_index(progress[3 * b + 2]);
     let i = word_index(finished);
-    let n = tile_count(nest, sizes, b);
+    let n = tile_count(nest, sizes, lens, b);
     if i >= n {
         return refused(13);
     }
-    let t = tile_at(nest, sizes, b, i);
+    let t = tile_at(nest, sizes, lens, b, i);
     if stage == 0 {
         if !ready(nest, sizes, lens, status, t) {
             return refused(12);
@@ -198,9 +200,10 @@ pub fn turn(
     requires { ⌜ length (progress .words) ≡ 192 ⌝ }
     ensures { λ r. ⌜ ((records : List ℕ) → Carries progress records
         → answer (r .number) (stateOf (now (memories .exit)) (now (buffer .exit)) (recordsAfter records processor r) (now (status .exit)))
-        ≡ turnCall (now (encoded .entry)) route (now (source .entry)) (stateOf (now (memories .entry)) (now (buffer .entry)) records (now (status .entry))) processor) ⌝ }
+        ≡ turnCall (now (encoded .entry)) route (now (source .entry))
+        (stateOf (now (memories .entry)) (now (buffer .entry)) records (now (status .entry))) processor) ⌝ }
 {
-    let reading = read(encoded);
+    let reading = read_for(encoded, route);
     let number = reading.number;
     if number != 0 {
         return refused(number);
@@ -208,7 +211,7 @@ pub fn turn(
     let nest = reading.nest;
     let sizes = sizes_of(nest, route_of(route));
     let b = processor as usize;
-    let mut lens = [0u16; 7168];
+    let mut lens = [0u16; 9217];
     fill(nest, sizes, &mut lens);
     let n = unfit(
         nest,
@@ -270,16 +273,17 @@ pub fn deliver(
     requires { ⌜ length (progress .words) ≡ 192 ⌝ }
     ensures { λ r. ⌜ ((records : List ℕ) → Carries progress records
         → answer r (stateOf (now (memories .entry)) (now (buffer .entry)) records (now (status .exit)))
-        ≡ deliverCall (now (encoded .entry)) route (now (source .entry)) (stateOf (now (memories .entry)) (now (buffer .entry)) records (now (status .entry))) message) ⌝ }
+        ≡ deliverCall (now (encoded .entry)) route (now (source .entry))
+        (stateOf (now (memories .entry)) (now (buffer .entry)) records (now (status .entry))) message) ⌝ }
 {
-    let reading = read(encoded);
+    let reading = read_for(encoded, route);
     let number = reading.number;
     if number != 0 {
         return number;
     }
     let nest = reading.nest;
     let sizes = sizes_of(nest, route_of(route));
-    let mut lens = [0u16; 7168];
+    let mut lens = [0u16; 9217];
     fill(nest, sizes, &mut lens);
     let n = unfit(
         nest,
@@ -311,9 +315,10 @@ pub fn collect(
     requires { ⌜ length (progress .words) ≡ 192 ⌝ }
     ensures { λ r. ⌜ ((records : List ℕ) → Carries progress records
         → answer r (now (grid .exit))
-        ≡ collectCall (now (encoded .entry)) route (now (source .entry)) (stateOf (now (memories .entry)) (now (buffer .entry)) records (now (status .entry))) (now (grid .entry))) ⌝ }
+        ≡ collectCall (now (encoded .entry)) route (now (source .entry))
+        (stateOf (now (memories .entry)) (now (buffer .entry)) records (now (status .entry))) (now (grid .entry))) ⌝ }
 {
-    let reading = read(encoded);
+    let reading = read_for(encoded, route);
     let number = reading.number;
     if number != 0 {
         return number;
@@ -323,7 +328,7 @@ pub fn collect(
     if grid.len() != sizes.cells {
         return 9;
     }
-    let mut lens = [0u16; 7168];
+    let mut lens = [0u16; 9217];
     fill(nest, sizes, &mut lens);
     let n = unfit(
         nest,
@@ -340,7 +345,7 @@ pub fn collect(
     }
     let words = progress.words;
     let count = progress.count;
-    if tiles_left(nest, sizes, &words[0..count]) {
+    if tiles_left(nest, sizes, &lens, &words[0..count]) {
         return 15;
     }
     copy_cells(nest, sizes, memories, grid);
@@ -359,16 +364,17 @@ pub fn fresh(
 ) -> u32
     ensures { λ r. ⌜ ((records : List ℕ) → words ≡ length records
         → answer r (stateOf (now (memories .exit)) (now (buffer .exit)) (zerosAfter records r) (now (status .exit)))
-        ≡ freshCall (now (encoded .entry)) route (now (source .entry)) (stateOf (now (memories .entry)) (now (buffer .entry)) records (now (status .entry)))) ⌝ }
+        ≡ freshCall (now (encoded .entry)) route (now (source .entry))
+        (stateOf (now (memories .entry)) (now (buffer .entry)) records (now (status .entry)))) ⌝ }
 {
-    let reading = read(encoded);
+    let reading = read_for(encoded, route);
     let number = reading.number;
     if number != 0 {
         return number;
     }
     let nest = reading.nest;
     let sizes = sizes_of(nest, route_of(route));
-    let mut lens = [0u16; 7168];
+    let mut lens = [0u16; 9217];
     fill(nest, sizes, &mut lens);
     if !areas_fit(nest, sizes, &lens, source, memories, buffer, words, status) {
         return 9;

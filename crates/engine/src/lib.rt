@@ -26,7 +26,8 @@ pub fn fresh(
     status: &mut [u8],
 ) -> u32
     ensures { λ r. ⌜ answer r (stateOf (now (memories .exit)) (now (buffer .exit)) (now (progress .exit)) (now (status .exit)))
-        ≡ freshCall (now (encoded .entry)) route (now (source .entry)) (stateOf (now (memories .entry)) (now (buffer .entry)) (now (progress .entry)) (now (status .entry))) ⌝ }
+        ≡ freshCall (now (encoded .entry)) route (now (source .entry))
+        (stateOf (now (memories .entry)) (now (buffer .entry)) (now (progress .entry)) (now (status .entry))) ⌝ }
 {
     let number = core::fresh(
         encoded,
@@ -67,7 +68,8 @@ pub fn turn(
     processor: u32,
 ) -> u32
     ensures { λ r. ⌜ answer r (stateOf (now (memories .exit)) (now (buffer .exit)) (now (progress .exit)) (now (status .exit)))
-        ≡ turnCall (now (encoded .entry)) route (now (source .entry)) (stateOf (now (memories .entry)) (now (buffer .entry)) (now (progress .entry)) (now (status .entry))) processor ⌝ }
+        ≡ turnCall (now (encoded .entry)) route (now (source .entry))
+        (stateOf (now (memories .entry)) (now (buffer .entry)) (now (progress .entry)) (now (status .entry))) processor ⌝ }
 {
     let after = core::turn(
         encoded,
@@ -100,7 +102,8 @@ pub fn deliver(
     message: u32,
 ) -> u32
     ensures { λ r. ⌜ answer r (stateOf (now (memories .entry)) (now (buffer .entry)) (now (progress .entry)) (now (status .exit)))
-        ≡ deliverCall (now (encoded .entry)) route (now (source .entry)) (stateOf (now (memories .entry)) (now (buffer .entry)) (now (progress .entry)) (now (status .entry))) message ⌝ }
+        ≡ deliverCall (now (encoded .entry)) route (now (source .entry))
+        (stateOf (now (memories .entry)) (now (buffer .entry)) (now (progress .entry)) (now (status .entry))) message ⌝ }
 {
     core::deliver(
         encoded,
@@ -126,7 +129,8 @@ pub fn collect(
     grid: &mut [u32],
 ) -> u32
     ensures { λ r. ⌜ answer r (now (grid .exit))
-        ≡ collectCall (now (encoded .entry)) route (now (source .entry)) (stateOf (now (memories .entry)) (now (buffer .entry)) (now (progress .entry)) (now (status .entry))) (now (grid .entry)) ⌝ }
+        ≡ collectCall (now (encoded .entry)) route (now (source .entry))
+        (stateOf (now (memories .entry)) (now (buffer .entry)) (now (progress .entry)) (now (status .entry))) (now (grid .entry)) ⌝ }
 {
     core::collect(
         encoded,
@@ -157,6 +161,10 @@ pub fn sweep(encoded: &[u8], source: &[u32], grid: &mut [u32]) -> u32
     if grid.len() != sizes.cells {
         return 9;
     }
-    values::sweep(nest, sizes, source, grid);
+    if nest.bounds == 0 {
+        values::sweep(nest, sizes, source, grid);
+        return 0;
+    }
+    shaped_values::sweep(nest, sizes, source, grid);
     0
 }

@@ -12,9 +12,9 @@ use lib.Dec.{eqb}
 use Rattle.base.specs.Tests.{pick}
 use Rattle.nest.specs.declared.Nest.{Nest}
 use Rattle.nest.specs.Accepted.{Accepted}
-use Rattle.plan.specs.Geometry.{rank, place}
+use Rattle.nest.specs.Places.{rank, place}
 use Rattle.plan.specs.Box.{boxCell}
-use Rattle.plan.proofs.Rank.{place-last, place-before, place-low}
+use Rattle.nest.proofs.Rank.{place-last, place-before, place-low}
 use Rattle.layout.specs.declared.Bounds.{Bounds}
 use Rattle.layout.specs.Places.{nth, Ranked, Places, Placed, Inside, Follows, Located, Bounded}
 use Rattle.layout.proofs.Cells.{box-places, box-ranked, located}

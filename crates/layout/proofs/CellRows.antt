@@ -11,9 +11,9 @@ use Rattle.base.specs.Tests.{_and_, every, product}
 use Rattle.nest.specs.declared.Nest.{Nest}
 use Rattle.nest.specs.Accepted.{Accepted}
 use Rattle.nest.specs.Nest.{lengthOf, tileLength}
-use Rattle.plan.specs.Geometry.{rank, place, cellAt, tilePlace}
+use Rattle.nest.specs.Places.{rank, place, cellAt, tilePlace}
 use Rattle.plan.specs.Box.{boxLength, boxPlace, boxCell}
-use Rattle.plan.proofs.Rank.{place-last, place-before, rank-same}
+use Rattle.nest.proofs.Rank.{place-last, place-before, rank-same}
 use Rattle.plan.proofs.Tiles.{tile-inside, tilePlace-low}
 use Rattle.plan.proofs.Box.{boxLength-pos, boxCell-place}
 use Rattle.layout.specs.declared.Bounds.{Bounds}

@@ -8,11 +8,13 @@ use lib.ListN.{length, getD, set, replicate}
 use Rattle.base.specs.Tests.{product}
 use Rattle.nest.specs.declared.Nest.{Nest}
 use Rattle.nest.specs.Accepted.{Accepted}
-use Rattle.nest.specs.Nest.{lengthOf, tileLength, processorCount, tileCount, cells, tiles, processors}
-use Rattle.plan.specs.Geometry.{rank, place, cellAt, cellPlace, tileAt, tilePlace, processorOf}
+use Rattle.nest.specs.Nest.{lengthOf, tileLength, processorCount, tileCount, cells, processors, boxTiles}
+use Rattle.nest.specs.Places.{rank, place, cellAt, cellPlace, tileAt, tilePlace}
+use Rattle.plan.specs.Geometry.{processorOf}
 use Rattle.plan.specs.Messages.{two}
 use Rattle.plan.specs.Box.{boxLength, boxSize, boxPlace, boxCell}
-use Rattle.plan.proofs.Rank.{rank-same}
+use Rattle.nest.proofs.Rank.{rank-same}
+use Rattle.nest.proofs.Shapes.{box-tiles-most}
 use Rattle.plan.proofs.Tiles.{cellPlace-low, tileCount-pos, tilePlace-low, quotient-low, tile-inside}
 use Rattle.plan.proofs.Box.{boxLength-pos, boxCell-low, boxCell-place, boxPlace-low, boxSize-few}
 use Rattle.layout.specs.declared.Bounds.{Bounds}
@@ -91,9 +93,13 @@ module _ (x : Nest) (ok : Accepted x) where
   unfolding tileCount
   count-most j h = omega (arith, div-le-self (lengthOf x j - 1) (tileLength x j), ok .long j h, ok .length-most j)
 
+  -- no more tiles than cells
+  pub box-few : boxTiles x ≤ 16384
+  box-few = box-tiles-most x ok
+
   module _ (across : List ℕ) (has : Has across (tileCount x) (x .dimensions)) where
-    pub across-product : product (nth across) (x .dimensions) ≡ tiles x
-    unfolding tiles
+    pub across-product : product (nth across) (x .dimensions) ≡ boxTiles x
+    unfolding boxTiles
     across-product = product-same (nth across) (tileCount x) (x .dimensions) (has .each)
 
     pub across-countable : Countable across (x .dimensions)
@@ -101,7 +107,7 @@ module _ (x : Nest) (ok : Accepted x) where
         record {
           low = ok .dimensions-most;
           positive = λ j h. omega (arith, has .each j h, tileCount-pos x ok j h);
-          few = omega (arith, across-product, ok .tiles-most);
+          few = omega (arith, across-product, box-few);
         }
 
     pub across-places : Places across (four 0) (x .dimensions)
@@ -189,7 +195,7 @@ module _ (x : Nest) (ok : Accepted x) where
           }
 
   -- what the code that makes the box has
-  pub box-countable : (t : ℕ) (l : List ℕ) → t < tiles x → Has l (boxLength x t) (x .dimensions) → (product (nth l) (x .dimensions) ≡ boxSize x t) × Countable l (x .dimensions)
+  pub box-countable : (t : ℕ) (l : List ℕ) → t < boxTiles x → Has l (boxLength x t) (x .dimensions) → (product (nth l) (x .dimensions) ≡ boxSize x t) × Countable l (x .dimensions)
   unfolding boxSize
   box-countable t l h e =
       let s : product (nth l) (x .dimensions) ≡ product (boxLength x t) (x .dimensions) = product-same (nth l) (boxLength x t) (x .dimensions) (e .each) in (
@@ -223,7 +229,7 @@ module _ (x : Nest) (ok : Accepted x) where
           at : getD corner j 0 ≡ tilePlace x t j
           at = s .rest j (omega arith) h
 
-    module _ (corner lengths : List ℕ) (j : ℕ) (s : Boxing x t corner lengths j) (h : x .dimensions ≤ j) (l : t < tiles x) where
+    module _ (corner lengths : List ℕ) (j : ℕ) (s : Boxing x t corner lengths j) (h : x .dimensions ≤ j) (l : t < boxTiles x) where
       boxed : Has lengths (boxLength x t) (x .dimensions)
       boxed = filled-end _ _ lengths j (s .second) h
 

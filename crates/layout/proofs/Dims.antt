@@ -9,9 +9,9 @@ use native.Mathlib.Omega.{arith}
 use lib.ListN.{length, getD, set}
 use lib.Seq.{getD-set-same, getD-set-other}
 use Rattle.base.specs.Tests.{product}
-use Rattle.plan.specs.Geometry.{rank, place}
-use Rattle.plan.proofs.Rank.{Positive, place-last, place-before}
-pub use Rattle.plan.proofs.Rank.{product-same, place-lengths}
+use Rattle.nest.specs.Places.{rank, place}
+use Rattle.nest.proofs.Rank.{Positive, place-last, place-before}
+pub use Rattle.nest.proofs.Rank.{product-same, place-lengths}
 use Rattle.layout.specs.Places.{nth, Countable, Ranked, Places, Placed}
 
 -- ---- equal lengths give the same

@@ -11,9 +11,9 @@ use borrow.Author.Tests.{ne-eqb, eq-eqb}
 use Rattle.base.specs.Tests.{product}
 use Rattle.base.proofs.Tests.{pick-true, pick-false}
 use Rattle.nest.specs.declared.Nest.{Nest}
-use Rattle.plan.specs.Geometry.{place}
+use Rattle.nest.specs.Places.{place}
 use Rattle.plan.specs.Report.{values, doLoop, tileLoop, forEach, extend, loops}
-use Rattle.plan.proofs.Rank.{place-last, place-before}
+use Rattle.nest.proofs.Rank.{place-last, place-before}
 
 -- ---- loops over lists
 

@@ -15,19 +15,20 @@ use Rattle.base.proofs.Tests.{pick-true, pick-false}
 use Rattle.machine.specs.Plan.{tilesOf}
 use Rattle.nest.specs.declared.Nest.{Nest}
 use Rattle.nest.specs.Accepted.{Accepted}
-use Rattle.nest.specs.Nest.{lengthOf, tileLength, processorCount, tileCount, tiles, processors}
-use Rattle.plan.specs.Geometry.{rank, place, tileAt, processorOf}
+use Rattle.nest.specs.Nest.{lengthOf, tileLength, processorCount, tileCount, processors, boxTiles}
+use Rattle.nest.specs.Places.{rank, place, tileAt}
+use Rattle.plan.specs.Geometry.{processorOf}
 use Rattle.plan.specs.declared.Route.{Route}
-use Rattle.plan.specs.Messages.{planOf}
+use Rattle.plan.specs.Messages.{boxPlan}
 use Rattle.plan.specs.Report.{values, tileLoop, loops}
-use Rattle.plan.proofs.Rank.{Positive, place-last, place-before, place-low, rank-same, div-le}
+use Rattle.nest.proofs.Rank.{Positive, place-last, place-before, place-low, rank-same, div-le}
 use Rattle.plan.proofs.Tiles.{processorOf-low}
 use Rattle.plan.proofs.Grid.{keep-nothing}
 use Rattle.plan.proofs.Loops.{loops-are-tiles}
 use Rattle.layout.specs.declared.Share.{Share}
 use Rattle.layout.specs.Places.{nth, Has, Shared}
 use Rattle.layout.proofs.Dims.{product-pos, place-lengths, rank-lengths}
-use Rattle.layout.proofs.Cells.{across-product, across-countable, count-most}
+use Rattle.layout.proofs.Cells.{across-product, across-countable, count-most, box-few}
 use Rattle.layout.proofs.Nested.{loop-same, map-at, pos-left, pos-right, loops-length, loops-at}
 
 -- ---- dimension by dimension, from the last on: the first j components of c over N are those of r
@@ -140,12 +141,12 @@ module _ (counts across : List ℕ) (spread m p : ℕ) where
     pub some : 0 < r .tiles
     pub in-range : r .first + left % r .tiles * r .stride < getD across l 0
     pub room : tile + (r .first + left % r .tiles * r .stride) * weight < weight * getD across l 0
-    pub wide : weight * getD across l 0 ≤ 1024
+    pub wide : weight * getD across l 0 ≤ 16384
     pub next : Finding f l (r .rest) (left / r .tiles) (weight * getD across l 0) (tile + (r .first + left % r .tiles * r .stride) * weight)
 
-pub no-tiles : (r : Route) (x : Nest) → Accepted x → (p : ℕ) → processors x ≤ p → length (tilesOf (planOf r x) p) ≡ 0
+pub no-tiles : (r : Route) (x : Nest) → Accepted x → (p : ℕ) → processors x ≤ p → length (tilesOf (boxPlan r x) p) ≡ 0
 unfolding those
-no-tiles r x ok p h = ap length (keep-nothing (λ t. eqb (processorOf x t) p) (tiles x) (λ t l. ne-eqb (processorOf x t) p (λ e. omega (arith, processorOf-low x ok t))))
+no-tiles r x ok p h = ap length (keep-nothing (λ t. eqb (processorOf x t) p) (boxTiles x) (λ t l. ne-eqb (processorOf x t) p (λ e. omega (arith, processorOf-low x ok t))))
 
 module _ (route : Route) (x : Nest) (ok : Accepted x) (across : List ℕ) (a : Has across (tileCount x) (x .dimensions)) (p : ℕ) where
   abbrev N : ℕ → ℕ
@@ -219,13 +220,13 @@ module _ (route : Route) (x : Nest) (ok : Accepted x) (across : List ℕ) (a : H
 
   -- ---- its tiles
 
-  pub count-is : p < processors x → product M (x .dimensions) ≡ length (tilesOf (planOf route x) p)
+  pub count-is : p < processors x → product M (x .dimensions) ≡ length (tilesOf (boxPlan route x) p)
   count-is low =
       sym (loops-length x at F S M (x .dimensions) loop-is (x .dimensions) (omega arith))
       ∙ sym (length-map (loops x at (x .dimensions)) (tileAt x))
       ∙ ap length (loops-are-tiles x ok p route low)
 
-  pub tile-is : p < processors x → (f : ℕ) → f < product M (x .dimensions) → rank N (after (x .counts) across (x .spread) (x .dimensions) p f) (x .dimensions) ≡ getD (tilesOf (planOf route x) p) f 0
+  pub tile-is : p < processors x → (f : ℕ) → f < product M (x .dimensions) → rank N (after (x .counts) across (x .spread) (x .dimensions) p f) (x .dimensions) ≡ getD (tilesOf (boxPlan route x) p) f 0
   unfolding tileAt
   tile-is low f h =
       rank-lengths N (tileCount x) _ (x .dimensions) (a .each)
@@ -238,8 +239,8 @@ module _ (route : Route) (x : Nest) (ok : Accepted x) (across : List ℕ) (a : H
   across-pos : Positive N (x .dimensions)
   across-pos = across-countable x ok across a .positive
 
-  across-few : product N (x .dimensions) ≤ 1024
-  across-few = omega (arith, across-product x ok across a, ok .tiles-most)
+  across-few : product N (x .dimensions) ≤ 16384
+  across-few = omega (arith, across-product x ok across a, box-few x ok)
 
   pub share-asks : (j : ℕ) → 0 < j → j ≤ x .dimensions
       → (1 ≤ getD across (j - 1) 0) × ((getD across (j - 1) 0 ≤ 1024) × (ltb (j - 1) (x .spread) ≡ true → (1 ≤ getD (x .counts) (j - 1) 0) × (getD (x .counts) (j - 1) 0 ≤ 4096)))
@@ -279,11 +280,11 @@ module _ (route : Route) (x : Nest) (ok : Accepted x) (across : List ℕ) (a : H
   counting-more zero rest n r h c e = absurd (omega arith)
   counting-more (suc l) rest n r h c e = let z : suc l - 1 ≡ l = omega arith in rw z (counting-step l rest n r c (rw z at e))
 
-  pub counting-few : (j rest n : ℕ) → C j rest n → n ≤ 1024
+  pub counting-few : (j rest n : ℕ) → C j rest n → n ≤ 16384
   counting-few j rest n c =
       omega (arith, c .few, across-few, weight-most (product N j) n (product N j * n) (product-pos N j (λ i h. across-pos i (omega (arith, c .low)))) refl, mul-comm n (product N j))
 
-  pub counting-end : p < processors x → (j rest n : ℕ) → C j rest n → j ≡ 0 → n ≡ length (tilesOf (planOf route x) p)
+  pub counting-end : p < processors x → (j rest n : ℕ) → C j rest n → j ≡ 0 → n ≡ length (tilesOf (boxPlan route x) p)
   unfolding product
   counting-end low j rest n c e =
       let q : n * 1 ≡ product M (x .dimensions) = rw e at (c .is) in
@@ -291,7 +292,7 @@ module _ (route : Route) (x : Nest) (ok : Accepted x) (across : List ℕ) (a : H
 
   -- ---- finding one
 
-  module _ (f : ℕ) (held : f < length (tilesOf (planOf route x) p)) where
+  module _ (f : ℕ) (held : f < length (tilesOf (boxPlan route x) p)) where
     abbrev U : ℕ → ℕ
     U = after (x .counts) across (x .spread) (x .dimensions) p f
 
@@ -328,7 +329,7 @@ module _ (route : Route) (x : Nest) (ok : Accepted x) (across : List ℕ) (a : H
           under = omega arith;
         }
 
-    pub finding-end : (j rest left weight tile : ℕ) → D j rest left weight tile → j ≡ 0 → (tile ≡ getD (tilesOf (planOf route x) p) f 0) × (tile < tiles x)
+    pub finding-end : (j rest left weight tile : ℕ) → D j rest left weight tile → j ≡ 0 → (tile ≡ getD (tilesOf (boxPlan route x) p) f 0) × (tile < boxTiles x)
     unfolding product rank
     finding-end zero rest left weight tile c e =
         (omega (arith, zero-mul weight, c .is, tile-is low f few), omega (arith, c .few, one-mul weight, c .under, across-product x ok across a))

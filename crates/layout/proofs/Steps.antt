@@ -13,17 +13,17 @@ use Rattle.base.specs.Tests.{one, product}
 use Rattle.base.proofs.Tests.{one-true, one-false}
 use Rattle.nest.specs.declared.Nest.{Nest}
 use Rattle.nest.specs.Accepted.{Accepted}
-use Rattle.nest.specs.Nest.{tileCount, tiles}
+use Rattle.nest.specs.Nest.{tileCount, boxTiles}
 use Rattle.plan.specs.declared.Route.{Route}
 use Rattle.plan.specs.declared.Route.the-variants.{Direct, Indirect}
-use Rattle.plan.specs.Geometry.{place, tileAt, tilePlace}
+use Rattle.nest.specs.Places.{place, tileAt, tilePlace}
 use Rattle.plan.specs.Messages.{two, directions, ahead, taker, neighbour, ways, slots, slotTile, slotTaker}
 use Rattle.plan.proofs.Tiles.{tileCount-pos, tileAt-tilePlace}
 use Rattle.plan.proofs.Parcels.{ahead-beyond, ahead-low, slotTile-low}
 use Rattle.layout.specs.Sizes.{routeOf, along, endAt, Stepped}
 use Rattle.layout.specs.Places.{nth, Has, Places, Placed}
 use Rattle.layout.proofs.Dims.{product-pos, place-lengths, rank-add, rank-most}
-use Rattle.layout.proofs.Cells.{four, zeros, twos, two-few, two-product}
+use Rattle.layout.proofs.Cells.{four, zeros, twos, two-few, two-product, box-few}
 use Rattle.layout.proofs.Loops.{Eight, eight-end}
 
 pub route-direct : (word : ℕ) → word ≡ 0 → Direct ≡ routeOf word
@@ -109,10 +109,10 @@ module _ (x : Nest) (ok : Accepted x) where
       go (yes e) = omega (arith, one-true (eq-eqb j w e), tileCount-pos x ok j h)
       go (no e) = omega (arith, one-false (ne-eqb j w e))
 
-  pub step-few : (r : Route) (w : ℕ) → tileAt x (along r x w) ≤ 4096
-  unfolding tileAt tiles
+  pub step-few : (r : Route) (w : ℕ) → tileAt x (along r x w) ≤ 65536
+  unfolding tileAt boxTiles
   step-few r w =
-      omega (arith, rank-most (tileCount x) (along r x w) (x .dimensions) (tileCount-pos x ok) (along-within r w), mul-le-mul-right (product (tileCount x) (x .dimensions)) (ok .dimensions-most), ok .tiles-most)
+      omega (arith, rank-most (tileCount x) (along r x w) (x .dimensions) (tileCount-pos x ok) (along-within r w), mul-le-mul-right (product (tileCount x) (x .dimensions)) (ok .dimensions-most), box-few x ok)
 
   -- ---- the taker is the sender and the step
 
@@ -140,8 +140,8 @@ module _ (x : Nest) (ok : Accepted x) where
     pub way-low : (s : ℕ) → s % n < ways r x
     way-low s = omega (arith, mod-lt s ways-some)
 
-    pub end-fits : (s : ℕ) → s < slots r x → s / n ≤ 1024
-    end-fits s h = let e : s / n ≡ slotTile r x s = ap (λ (a : ℕ). s / a) is in omega (arith, slotTile-low x r s h, ok .tiles-most)
+    pub end-fits : (s : ℕ) → s < slots r x → s / n ≤ 16384
+    end-fits s h = let e : s / n ≡ slotTile r x s = ap (λ (a : ℕ). s / a) is in omega (arith, slotTile-low x r s h, box-few x ok)
 
     pub sender-is : (s i : ℕ) → i ≡ 0 → s / n ≡ endAt r x i s
     unfolding endAt

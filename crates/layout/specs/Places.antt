@@ -6,8 +6,8 @@ use mathlib.Core.List.{List}
 use lib.ListN.{getD}
 use Rattle.base.specs.Tests.{product}
 use Rattle.nest.specs.declared.Nest.{Nest}
-use Rattle.nest.specs.Nest.{tileLength, cells, tiles}
-use Rattle.plan.specs.Geometry.{place, cellPlace, tilePlace}
+use Rattle.nest.specs.Nest.{tileLength, cells, boxTiles}
+use Rattle.nest.specs.Places.{place, cellPlace, tilePlace}
 use Rattle.plan.specs.Box.{boxLength, boxSize}
 use Rattle.layout.specs.declared.Cell.{Cell}
 use Rattle.layout.specs.declared.Bounds.{Bounds}
@@ -69,7 +69,7 @@ pub record Located (x : Nest) (c : ℕ) (r : Cell) : Type 0 where
 
 -- the box of a tile's cells
 pub record Bounded (x : Nest) (b : Bounds) : Type 0 where
-  pub low : b .tile < tiles x
+  pub low : b .tile < boxTiles x
   pub corner : Has (b .corner) (λ j. tilePlace x (b .tile) j * tileLength x j) (x .dimensions)
   pub lengths : Has (b .lengths) (boxLength x (b .tile)) (x .dimensions)
   pub size : b .size ≡ boxSize x (b .tile)

@@ -8,7 +8,7 @@ use lib.Dec.{eqb}
 use Rattle.base.specs.Tests.{one}
 use Rattle.nest.specs.declared.Nest.{Nest}
 use Rattle.nest.specs.Accepted.{Accepted}
-use Rattle.nest.specs.Nest.{tileCount, cells, tiles, processors}
+use Rattle.nest.specs.Nest.{tileCount, cells, processors, boxTiles}
 use Rattle.plan.specs.declared.Route.{Route}
 use Rattle.plan.specs.declared.Route.the-variants.{Direct, Indirect}
 use Rattle.plan.specs.Messages.{ahead, ways, slots, slotTile, slotTaker}
@@ -22,7 +22,7 @@ routeOf (suc word) = Indirect
 pub record Sized (x : Nest) (z : Sizes) : Type 0 where
   pub accepted : Accepted x
   pub cells : z .cells ≡ cells x
-  pub tiles : z .tiles ≡ tiles x
+  pub tiles : z .tiles ≡ boxTiles x
   pub processors : z .processors ≡ processors x
   pub ways : z .ways ≡ ways (z .route) x
   pub across : (j : ℕ) → j < x .dimensions → getD (z .across) j 0 ≡ tileCount x j

@@ -6,9 +6,10 @@ ghost use Rattle.base.specs.Tests.{pick, product};
 ghost use mathlib.Core.Bool.{true};
 ghost use Rattle.machine.specs.Plan.{tilesOf};
 ghost use Rattle.nest.specs.Accepted.{Accepted};
-ghost use Rattle.nest.specs.Nest.{tileCount, tileLength, cells, tiles, processors};
-ghost use Rattle.plan.specs.Geometry.{rank, tileAt, tileOf, processorOf, tilePlace};
-ghost use Rattle.plan.specs.Messages.{ways, slots, planOf};
+ghost use Rattle.nest.specs.Nest.{tileCount, tileLength, cells, processors, boxTiles};
+ghost use Rattle.nest.specs.Places.{rank, tileAt, boxTileOf, tilePlace};
+ghost use Rattle.plan.specs.Geometry.{processorOf};
+ghost use Rattle.plan.specs.Messages.{ways, slots, boxPlan};
 ghost use Rattle.plan.specs.Box.{boxCell};
 ghost use Rattle.layout.specs.Sizes.{routeOf, Sized, along, endAt, Stepped};
 ghost use Rattle.layout.specs.Places.{nth, Has, Countable, Ranked, Places, Placed, Inside, Follows, Splits, Shared, Located, Bounded};
@@ -242,7 +243,7 @@ fn quotients(nest: Nest, at: [usize; 4]) -> [usize; 4]
 
 pub fn tile_of(nest: Nest, sizes: Sizes, cell: usize) -> usize
     requires { ⌜ Sized nest sizes × (cell < cells nest) ⌝ }
-    ensures { λ r. ⌜ (r ≡ tileOf nest cell) × (r < tiles nest) ⌝ }
+    ensures { λ r. ⌜ (r ≡ boxTileOf nest cell) × (r < boxTiles nest) ⌝ }
 {
     let c = cell_of(nest, cell);
     let at = c.place;
@@ -264,7 +265,7 @@ fn remainders(nest: Nest, at: &mut [usize; 4])
 }
 
 pub fn processor_of(nest: Nest, sizes: Sizes, tile: usize) -> usize
-    requires { ⌜ Sized nest sizes × (tile < tiles nest) ⌝ }
+    requires { ⌜ Sized nest sizes × (tile < boxTiles nest) ⌝ }
     ensures { λ r. ⌜ (r ≡ processorOf nest tile) × (r < processors nest) ⌝ }
 {
     let mut at = [0; 4];
@@ -306,7 +307,7 @@ fn share_of(across: usize, count: usize, processor: usize, spread: bool) -> Shar
 // How many tiles a processor has: the product of its shares.
 pub fn tile_count(nest: Nest, sizes: Sizes, processor: usize) -> usize
     requires { ⌜ Sized nest sizes ⌝ }
-    ensures { λ r. ⌜ (r ≡ length (tilesOf (planOf (sizes .route) nest) processor)) × (r ≤ 1024) ⌝ }
+    ensures { λ r. ⌜ (r ≡ length (tilesOf (boxPlan (sizes .route) nest) processor)) × (r ≤ 16384) ⌝ }
 {
     if processor >= sizes.processors {
         return 0;
@@ -329,8 +330,8 @@ pub fn tile_count(nest: Nest, sizes: Sizes, processor: usize) -> usize
 
 // Its tile after so many finished ones: in each dimension the place among its share, from the last dimension on.
 pub fn tile_at(nest: Nest, sizes: Sizes, processor: usize, finished: usize) -> usize
-    requires { ⌜ Sized nest sizes × (finished < length (tilesOf (planOf (sizes .route) nest) processor)) ⌝ }
-    ensures { λ r. ⌜ (r ≡ getD (tilesOf (planOf (sizes .route) nest) processor) finished 0) × (r < tiles nest) ⌝ }
+    requires { ⌜ Sized nest sizes × (finished < length (tilesOf (boxPlan (sizes .route) nest) processor)) ⌝ }
+    ensures { λ r. ⌜ (r ≡ getD (tilesOf (boxPlan (sizes .route) nest) processor) finished 0) × (r < boxTiles nest) ⌝ }
 {
     let counts = nest.counts;
     let across = sizes.across;
@@ -354,7 +355,7 @@ pub fn tile_at(nest: Nest, sizes: Sizes, processor: usize, finished: usize) -> u
 
 // The box of a tile's cells; an edge tile ends where the nest does.
 pub fn bounds_of(nest: Nest, sizes: Sizes, tile: usize) -> Bounds
-    requires { ⌜ Sized nest sizes × (tile < tiles nest) ⌝ }
+    requires { ⌜ Sized nest sizes × (tile < boxTiles nest) ⌝ }
     ensures { λ r. ⌜ Bounded nest r × (r .tile ≡ tile) ⌝ }
 {
     let ends = nest.lengths;
@@ -432,7 +433,7 @@ pub fn along_of(nest: Nest, sizes: Sizes, way: usize) -> [usize; 4]
 // How far the taker is from the sender along a way: the same from every tile.
 fn step_of(nest: Nest, sizes: Sizes, way: usize) -> usize
     requires { ⌜ Sized nest sizes × (way < ways (sizes .route) nest) ⌝ }
-    ensures { λ r. ⌜ (r ≡ tileAt nest (along (sizes .route) nest way)) × (r ≤ 4096) ⌝ }
+    ensures { λ r. ⌜ (r ≡ tileAt nest (along (sizes .route) nest way)) × (r ≤ 65536) ⌝ }
 {
     let at = along_of(nest, sizes, way);
     let across = sizes.across;

@@ -1,7 +1,7 @@
 -- The customer's demand 3, for every sound plan, every source and every list of events.
 use Prim.Native.Nat.{ℕ, _+_, _-_, _≤_, _<_}
-use mathlib.Core.Path.{_≡_, sym, ap, _∙_}
-use mathlib.Core.Bool.{Bool}
+use mathlib.Core.Path.{_≡_, refl, sym, ap, _∙_}
+use mathlib.Core.Bool.{Bool, true, false}
 use mathlib.Core.List.{List, [], _∷_}
 use native.Mathlib.Omega.{arith}
 use native.Mathlib.Decide.{decLt}
@@ -20,7 +20,7 @@ use Rattle.machine.proofs.Kept.{Inv, leftOf, statusOf}
 use Rattle.machine.proofs.Fresh.{inv-fresh, left-fresh, status-fresh}
 use Rattle.machine.proofs.Going.{progress, going, all-delivered, all-finished, can-end, ends-right, none-more}
 use Rattle.machine.proofs.Deeds.{restOf, rest-fresh, rest-end, turn-takes}
-use Rattle.machine.proofs.Counts.{count-take, calculated-once, sent-once, taken-once}
+use Rattle.machine.proofs.Counts.{count-take, calculated-once, calculated-never, sent-once, taken-once}
 use Rattle.machine.proofs.Along.{run-inv, run-steps, run-takes, run-brings}
 
 -- the first of what is left after k deeds is the k-th
@@ -68,19 +68,19 @@ module _ (p : Plan) (so : Sound p) (source : List ℕ) (events : List Event) whe
   counted : steps (act p source) (fresh p) events + leftOf p (last (act p source) (fresh p) events) ≡ total p
   counted = run-steps p so source events (fresh p) (inv-fresh p source) ∙ left-fresh p (λ m lo. omega (arith, so .forward m lo, so .taker-low m lo))
 
-  -- deeds of a kind that the programs name once
-  module _ (f : Action → Bool) (once : sum (λ b. countIf f (program p b)) (p .processors) ≡ 1) where
-    at-most : timesOf p events (answers (act p source) (fresh p) events) f ≤ 1
+  -- deeds of a kind that the programs name k times, once or never
+  module _ (f : Action → Bool) (k : ℕ) (named : sum (λ b. countIf f (program p b)) (p .processors) ≡ k) where
+    at-most : timesOf p events (answers (act p source) (fresh p) events) f ≤ k
     at-most =
         let a = sum-most (λ b. countIf f (take (turnsOf b events (answers (act p source) (fresh p) events)) (program p b))) (λ b. countIf f (program p b)) (p .processors)
         (λ b h. count-take f (turnsOf b events (answers (act p source) (fresh p) events)) (program p b)) in
         omega arith
 
-    exactly : leftOf p (last (act p source) (fresh p) events) ≡ 0 → timesOf p events (answers (act p source) (fresh p) events) f ≡ 1
+    exactly : leftOf p (last (act p source) (fresh p) events) ≡ 0 → timesOf p events (answers (act p source) (fresh p) events) f ≡ k
     exactly z =
         sum-same (λ b. countIf f (take (turnsOf b events (answers (act p source) (fresh p) events)) (program p b))) (λ b. countIf f (program p b)) (p .processors)
         (λ b h. ap (countIf f) (take-all (turnsOf b events (answers (act p source) (fresh p) events)) (program p b) (none-after (program p b) _ (sym (rest-es p so source events b) ∙ empty b h))))
-        ∙ once
+        ∙ named
       where
         empty : (b : ℕ) → b < p .processors → restOf p (last (act p source) (fresh p) events) b ≡ []
         empty b h =
@@ -93,6 +93,14 @@ module _ (p : Plan) (so : Sound p) (source : List ℕ) (events : List Event) whe
   none : steps (act p source) (fresh p) events ≡ total p → leftOf p (last (act p source) (fresh p) events) ≡ 0
   none e = omega (arith, counted)
 
+  never : (c : ℕ) → p .inside c ≡ false → timesOf p events (answers (act p source) (fresh p) events) (calculates p c) ≡ 0
+  never c o = let k = at-most (calculates p c) 0 (calculated-never p so c o) in omega arith
+
+  calculated : (c : ℕ) → c < p .cells → (t : Bool) → p .inside c ≡ t
+      → timesOf p events (answers (act p source) (fresh p) events) (calculates p c) ≤ 1
+  calculated c h true i = at-most (calculates p c) 1 (calculated-once p so c h i)
+  calculated c h false o = omega (arith, never c o)
+
   demand3 : Demand3 (act p source) (fresh p) events p source (collect p)
   demand3 =
       record {
@@ -101,14 +109,15 @@ module _ (p : Plan) (so : Sound p) (source : List ℕ) (events : List Event) whe
         then-fewer = λ e z. let k = going p so source (last (act p source) (fresh p) events) inv e z in omega (arith, counted);
         can-collect = λ e grid len. can-end p so source (last (act p source) (fresh p) events) inv (none e) grid;
         then-all = λ grid len z. let k = none-more p so source (last (act p source) (fresh p) events) inv grid z in omega (arith, counted);
-        calculated = λ c h. at-most (calculates p c) (calculated-once p so c h);
-        sent = λ m h. at-most (sends m) (sent-once p so m h);
+        calculated = λ c h. calculated c h (p .inside c) refl;
+        not-calculated = λ c h o. never c o;
+        sent = λ m h. at-most (sends m) 1 (sent-once p so m h);
         delivered = λ m h. omega (arith, brought m h);
-        taken = λ m h. at-most (takes p m) (taken-once p so m h);
-        all-calculated = λ e c h. exactly (calculates p c) (calculated-once p so c h) (none e);
-        all-sent = λ e m h. exactly (sends m) (sent-once p so m h) (none e);
+        taken = λ m h. at-most (takes p m) 1 (taken-once p so m h);
+        all-calculated = λ e c h i. exactly (calculates p c) 1 (calculated-once p so c h i) (none e);
+        all-sent = λ e m h. exactly (sends m) 1 (sent-once p so m h) (none e);
         all-delivered = λ e m h. let k = all-delivered p so source (last (act p source) (fresh p) events) inv (none e) m h in omega (arith, brought m h);
-        all-taken = λ e m h. exactly (takes p m) (taken-once p so m h) (none e);
+        all-taken = λ e m h. exactly (takes p m) 1 (taken-once p so m h) (none e);
         carried-out = λ before after b e z. carried p so source before b z;
         no-more = λ b. within-es p so source events b;
         grid = λ e old len. ends-right p so source (last (act p source) (fresh p) events) inv (none e) old;

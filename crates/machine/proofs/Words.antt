@@ -10,7 +10,7 @@ use lib.ListN.{length, getD, set, length-set}
 use lib.Seq.{getD-set-same, getD-set-other}
 use Rattle.base.specs.Lists.{In, Rising, part, put, unpack, pack, storeAll}
 use Rattle.base.specs.Tests.{every}
-use Rattle.base.proofs.Tests.{both, true-not, every-at}
+use Rattle.base.proofs.Tests.{both, never-both, true-not, every-at}
 use Rattle.base.proofs.Numbers.{none-first}
 use Rattle.base.proofs.Select.{those-in, at-low, at-is}
 use Rattle.base.proofs.Entries.{part-at, put-same, put-rest, pack-at, at-in, unpack-other, unpack-at, store-other}
@@ -124,6 +124,7 @@ module _ (p : Plan) (so : Sound p) (source : List ℕ) (s : State) (b : ℕ) whe
         record {
           message = low;
           own = own;
+          inside = λ q h. so .held-inside m (cellOf p m q) low (at-in (heldBy p m) q h);
           packed = λ q h.
               put-same (s .buffer) (offset (p .messages) m) packed place-fits q (rw packed-length h)
               ∙ pack-at (heldBy p m) (memoryOf p s b) q h
@@ -168,6 +169,13 @@ module _ (p : Plan) (so : Sound p) (source : List ℕ) (s : State) (b : ℕ) whe
       mail-length m h =
           part-length (s .buffer) (offset (p .messages) m) (length (heldBy p m)) (rw mail (offset-apart (p .messages) m (count p) h h))
 
+      not-due : (c : ℕ) → c < p .cells → ((m : ℕ) → In m (duesOf p t) → In c (heldBy p m) → ⊥)
+          → getD (put (s .memories) (b * p .cells) gathered) (b * p .cells + c) 0 ≡ getD (s .memories) (b * p .cells + c) 0
+      not-due c h none =
+          new-at gathered gathered-long c h
+          ∙ all-other p (s .buffer) (duesOf p t) (memoryOf p s b) c none
+          ∙ part-at (s .memories) (b * p .cells) (p .cells) c h
+
       pub unpacks : Unpacks p s (carryOut p source s b (gather t)) b t
       unfolding carryOut
       unpacks =
@@ -179,10 +187,8 @@ module _ (p : Plan) (so : Sound p) (source : List ℕ) (s : State) (b : ℕ) whe
                 ∙ all-at p (s .buffer) m q h (so .held-rising m lm) (mail-length m lm) (duesOf p t) (memoryOf p s b)
                 (λ c k. rw memory-length (so .held-low m c lm k)) i only
                 ∙ part-at (s .buffer) (offset (p .messages) m) (length (heldBy p m)) q h;
-            kept = λ c h none.
-                new-at gathered gathered-long c h
-                ∙ all-other p (s .buffer) (duesOf p t) (memoryOf p s b) c none
-                ∙ part-at (s .memories) (b * p .cells) (p .cells) c h;
+            kept = not-due;
+            outside = λ c h o. not-due c h (λ m i k. never-both (so .held-inside m c (due-low m i) k) o);
             memories-rest = new-rest gathered gathered-long;
             memories-length = memories-length gathered gathered-long;
             buffer = refl;
@@ -195,6 +201,13 @@ module _ (p : Plan) (so : Sound p) (source : List ℕ) (s : State) (b : ℕ) whe
       computed-long : length computed ≡ p .cells
       computed-long = store-length (p .value source) (p .cellsOf t) (memoryOf p s b) ∙ memory-length
 
+      not-own : (c : ℕ) → c < p .cells → (In c (p .cellsOf t) → ⊥)
+          → getD (put (s .memories) (b * p .cells) computed) (b * p .cells + c) 0 ≡ getD (s .memories) (b * p .cells + c) 0
+      not-own c h other =
+          new-at computed computed-long c h
+          ∙ store-other (p .value source) (p .cellsOf t) (memoryOf p s b) c other
+          ∙ part-at (s .memories) (b * p .cells) (p .cells) c h
+
       pub stores : Stores p source s (carryOut p source s b (calculate t)) b t
       unfolding carryOut
       stores =
@@ -204,10 +217,8 @@ module _ (p : Plan) (so : Sound p) (source : List ℕ) (s : State) (b : ℕ) whe
                 new-at computed computed-long c (so .cell-low t c lt i)
                 ∙ store-at p source so (p .cellsOf t) (memoryOf p s b) (so .rising t lt) (λ y k. so .cell-low t y lt k) memory-length c i
                 ∙ ap (λ (l : List ℕ). p .value source l c) (sym (new-is computed computed-long));
-            kept = λ c h no.
-                new-at computed computed-long c h
-                ∙ store-other (p .value source) (p .cellsOf t) (memoryOf p s b) c no
-                ∙ part-at (s .memories) (b * p .cells) (p .cells) c h;
+            kept = not-own;
+            outside = λ c h o. not-own c h (λ i. never-both (so .cell-inside t c lt i) o);
             memories-rest = new-rest computed computed-long;
             memories-length = memories-length computed computed-long;
             buffer = refl;

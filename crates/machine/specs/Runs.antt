@@ -2,7 +2,7 @@
 -- Renders document 01, "Runs", and the customer's demand 3.
 use Prim.Native.Nat.{ℕ, _+_, _*_, _≤_, _<_}
 use mathlib.Core.Path.{_≡_}
-use mathlib.Core.Bool.{Bool, false}
+use mathlib.Core.Bool.{Bool, true, false}
 use mathlib.Core.List.{List, [], _∷_, _++_, map}
 use lib.ListN.{length, getD, take}
 use lib.Dec.{eqb}
@@ -106,13 +106,14 @@ module _ (acts : State → Event → Answered State) (start : State) (events : L
         → collects (last acts start events) grid .number ≡ 0
     pub then-all : (grid : List ℕ) → length grid ≡ p .cells → collects (last acts start events) grid .number ≡ 0
         → steps acts start events ≡ total p
-    -- no cell is calculated twice, no message sent, delivered or taken twice
+    -- no cell is calculated twice, one that is not in the nest never; no message sent, delivered or taken twice
     pub calculated : (c : ℕ) → c < p .cells → timesOf p events (answers acts start events) (calculates p c) ≤ 1
+    pub not-calculated : (c : ℕ) → c < p .cells → p .inside c ≡ false → timesOf p events (answers acts start events) (calculates p c) ≡ 0
     pub sent : (m : ℕ) → m < count p → timesOf p events (answers acts start events) (sends m) ≤ 1
     pub delivered : (m : ℕ) → m < count p → deliveriesOf m events (answers acts start events) ≤ 1
     pub taken : (m : ℕ) → m < count p → timesOf p events (answers acts start events) (takes p m) ≤ 1
-    -- when they are that many, each exactly once
-    pub all-calculated : steps acts start events ≡ total p → (c : ℕ) → c < p .cells
+    -- when they are that many, each message exactly once, and each cell in the nest
+    pub all-calculated : steps acts start events ≡ total p → (c : ℕ) → c < p .cells → p .inside c ≡ true
         → timesOf p events (answers acts start events) (calculates p c) ≡ 1
     pub all-sent : steps acts start events ≡ total p → (m : ℕ) → m < count p → timesOf p events (answers acts start events) (sends m) ≡ 1
     pub all-delivered : steps acts start events ≡ total p → (m : ℕ) → m < count p → deliveriesOf m events (answers acts start events) ≡ 1

@@ -3,6 +3,7 @@
 use Prim.Native.Nat.{ℕ, _+_, _*_, _≤_, _<_}
 use mathlib.Core.Path.{_≡_}
 use mathlib.Core.Logic.{_⊎_}
+use mathlib.Core.Bool.{true, false}
 use mathlib.Core.List.{List, _∷_, _++_}
 use lib.ListN.{length, getD}
 use Rattle.base.specs.Lists.{In}
@@ -30,7 +31,8 @@ Outside a n i = (i < a) ⊎ (a + n ≤ i)
 pub record Packs (p : Plan) (s after : State) (b m : ℕ) : Type 0 where
   pub message : m < count p
   pub own : p .processorOf (senderOf p m) ≡ b
-  -- the message's q-th word is the word of its q-th cell in the sender's memory
+  -- its cells are in the nest, and its q-th word is the word of its q-th cell in the sender's memory
+  pub inside : (q : ℕ) → q < length (heldBy p m) → p .inside (cellOf p m q) ≡ true
   pub packed : (q : ℕ) → q < length (heldBy p m) → mailAt p after m q ≡ wordAt p s b (cellOf p m q)
   -- every word of the buffer outside the message's place is as before, and so is every memory
   pub buffer-rest : (i : ℕ) → Outside (offset (p .messages) m) (length (heldBy p m)) i → getD (after .buffer) i 0 ≡ getD (s .buffer) i 0
@@ -46,6 +48,7 @@ pub record Unpacks (p : Plan) (s after : State) (b t : ℕ) : Type 0 where
       → wordAt p after b (cellOf p m q) ≡ mailAt p s m q
   -- a cell that no due message holds has its word as before
   pub kept : (c : ℕ) → c < p .cells → ((m : ℕ) → In m (duesOf p t) → In c (heldBy p m) → ⊥) → wordAt p after b c ≡ wordAt p s b c
+  pub outside : (c : ℕ) → c < p .cells → p .inside c ≡ false → wordAt p after b c ≡ wordAt p s b c  -- so every cell outside the nest
   -- and so has every word outside the processor's memory, and the buffer
   pub memories-rest : (i : ℕ) → Outside (b * p .cells) (p .cells) i → getD (after .memories) i 0 ≡ getD (s .memories) i 0
   pub memories-length : length (after .memories) ≡ length (s .memories)
@@ -58,6 +61,7 @@ pub record Stores (p : Plan) (source : List ℕ) (s after : State) (b t : ℕ) :
   pub stored : (c : ℕ) → In c (p .cellsOf t) → wordAt p after b c ≡ p .value source (memoryOf p after b) c
   -- every other cell has its word as before, and so has every word outside the processor's memory, and the buffer
   pub kept : (c : ℕ) → c < p .cells → (In c (p .cellsOf t) → ⊥) → wordAt p after b c ≡ wordAt p s b c
+  pub outside : (c : ℕ) → c < p .cells → p .inside c ≡ false → wordAt p after b c ≡ wordAt p s b c
   pub memories-rest : (i : ℕ) → Outside (b * p .cells) (p .cells) i → getD (after .memories) i 0 ≡ getD (s .memories) i 0
   pub memories-length : length (after .memories) ≡ length (s .memories)
   pub buffer : after .buffer ≡ s .buffer

@@ -19,9 +19,11 @@ use Rattle.base.specs.Numbers.{line, firstOf}
 use Rattle.base.proofs.Select.{those-more, those-none, those-few, keep-more, keep-none, keep-few}
 use Rattle.base.proofs.Numbers.{first-true, first-false}
 use Rattle.nest.specs.declared.Nest.{Nest}
-use Rattle.nest.specs.Nest.{lengthOf, tileLength, processorCount, tileCount, cells, tiles, processors}
+use Rattle.nest.specs.Nest.{lengthOf, tileLength, processorCount, tileCount, cells, processors}
 use Rattle.base.specs.Lists.{Bytes}
-use Rattle.nest.specs.Nest.{half, word, ofKind, componentAt, weightAt, filled, nestBy, ragged, blank, checked, mayStand, fitsAt, wellFormed, kind, records, badLength, tooLarge, narrowAt, badDistance, badTile, isSpread, badSpread, lastSpread, badProcessors, tooManyTiles, nestLines}
+use Rattle.nest.specs.Reader.{half, word, ofKind, componentAt, weightAt, slopeAt, offsetAt, filled, nestBy, ragged, blank, boundFits, checked, mayStand}
+use Rattle.nest.specs.Reader.{fitsAt, wellFormed, kind, records, badLength, tooLarge, narrowAt, noCell, badDistance, badTile, isSpread, badSpread}
+use Rattle.nest.specs.Reader.{lastSpread, badProcessors, tooManyTiles, nestLines}
 
 -- ---- loops
 
@@ -105,25 +107,25 @@ module _ (size : ℕ) (f : ℕ → ℕ) where
   unfolding filled
   filled-length n = length-tabulate _ size
 
-  at : (n j : ℕ) → j < size → getD (filled size n f) j 0 ≡ pick (ltb j n) (f j) 0
+  pub filled-at : (n j : ℕ) → j < size → getD (filled size n f) j 0 ≡ pick (ltb j n) (f j) 0
   unfolding filled
-  at n j h = tabulate-at (λ i. pick (ltb i n) (f i) 0) size j h
+  filled-at n j h = tabulate-at (λ i. pick (ltb i n) (f i) 0) size j h
 
   pub filled-in : (n j : ℕ) → j < n → n ≤ size → getD (filled size n f) j 0 ≡ f j
-  filled-in n j h l = at n j (omega arith) ∙ pick-true (ltb j n) (f j) 0 (lt-ltb j n h)
+  filled-in n j h l = filled-at n j (omega arith) ∙ pick-true (ltb j n) (f j) 0 (lt-ltb j n h)
 
   pub filled-out : (n j : ℕ) → n ≤ j → getD (filled size n f) j 0 ≡ 0
   filled-out n j h = go (decLt j size)
     where
       go : Dec (j < size) → getD (filled size n f) j 0 ≡ 0
-      go (yes l) = at n j l ∙ pick-false (ltb j n) (f j) 0 (le-ltb j n h)
+      go (yes l) = filled-at n j l ∙ pick-false (ltb j n) (f j) 0 (le-ltb j n h)
       go (no l) = List·getD-eq-default (filled size n f) 0 (rw (filled-length n) (omega arith))
 
   pub filled-below : (n b : ℕ) → 0 < b → ((i : ℕ) → f i < b) → (j : ℕ) → getD (filled size n f) j 0 < b
   filled-below n b z h j = go (decLt j n) (decLt j size)
     where
       go : Dec (j < n) → Dec (j < size) → getD (filled size n f) j 0 < b
-      go (yes l) (yes s) = rw (at n j s, pick-true (ltb j n) (f j) 0 (lt-ltb j n l)) (h j)
+      go (yes l) (yes s) = rw (filled-at n j s, pick-true (ltb j n) (f j) 0 (lt-ltb j n l)) (h j)
       go (yes l) (no s) = rw (List·getD-eq-default (filled size n f) 0 {n = j} (rw (filled-length n) (omega arith))) z
       go (no l) s = rw (filled-out n j (omega arith)) z
 
@@ -195,10 +197,10 @@ unfolding tileCount
 tile-small x j h l = omega (arith, div-le-self (lengthOf x j - 1) (tileLength x j))
 
 pub tile-next : (x : Nest) (j p : ℕ) → x .dimensions ≤ 4 → j < x .dimensions → ((i : ℕ) → lengthOf x i < 65536)
-    → ((i : ℕ) → i < x .dimensions → (1 ≤ lengthOf x i) × (1 ≤ tileLength x i)) → p ≡ product (tileCount x) j
+    → ((i : ℕ) → i < x .dimensions → 1 ≤ lengthOf x i) → p ≡ product (tileCount x) j
     → p * ((lengthOf x j - 1) / tileLength x j + 1) < 18446744073709551616
 unfolding tileCount
-tile-next x j p h l w m e = product-next (tileCount x) (x .dimensions) j p h l (λ i k. tile-small x i (w i) (m i k .0)) e
+tile-next x j p h l w m e = product-next (tileCount x) (x .dimensions) j p h l (λ i k. tile-small x i (w i) (m i k)) e
 
 -- ---- fields
 
@@ -210,18 +212,22 @@ word-small bytes b p = omega (arith, half-small bytes b p, half-small bytes b (p
 
 -- ---- the places of the kinds, and the fields that depend on the kind
 
-module _ (n e r k : ℕ) where
-  pub stands-first : r < n → mayStand n e r k ≡ eqb k 1
+module _ (n b e r k : ℕ) where
+  pub stands-first : r < n → mayStand n b e r k ≡ eqb k 1
   unfolding mayStand pick
   stands-first h = rw (lt-ltb r n h)
 
-  pub stands-between : n ≤ r → r < n + e → mayStand n e r k ≡ (eqb k 2 or eqb k 4)
+  pub stands-bound : n ≤ r → r < n + b → mayStand n b e r k ≡ eqb k 5
   unfolding mayStand pick
-  stands-between h l = rw (le-ltb r n h, lt-ltb r (n + e) l)
+  stands-bound h l = rw (le-ltb r n h, lt-ltb r (n + b) l)
 
-  pub stands-last : n ≤ r → n + e ≤ r → mayStand n e r k ≡ eqb k 3
+  pub stands-between : n ≤ r → n + b ≤ r → r < n + b + e → mayStand n b e r k ≡ (eqb k 2 or eqb k 4)
   unfolding mayStand pick
-  stands-last h l = rw (le-ltb r n h, le-ltb r (n + e) l)
+  stands-between h m l = rw (le-ltb r n h, le-ltb r (n + b) m, lt-ltb r (n + b + e) l)
+
+  pub stands-last : n ≤ r → n + b ≤ r → n + b + e ≤ r → mayStand n b e r k ≡ eqb k 3
+  unfolding mayStand pick
+  stands-last h m l = rw (le-ltb r n h, le-ltb r (n + b) m, le-ltb r (n + b + e) l)
 
 module _ (bytes : List ℕ) (r : ℕ) where
   pub component-wide : (j : ℕ) → kind bytes r ≡ 4 → half bytes (16 * r + (2 + 2 * j)) ≡ componentAt bytes r j
@@ -278,87 +284,132 @@ module _ (bytes : List ℕ) where
   unfolding ragged _or_
   even-length h = rw (ne-eqb (length bytes) 0 h) (same-not (eqb (length bytes % 16) 0))
 
-  pub checked-plain : (r k : ℕ) → (k ≡ 1) ⊎ (k ≡ 2) → checked bytes r k ≡ (blank bytes (16 * r + 1) 1 and blank bytes (16 * r + 8) 8)
-  unfolding checked pick _or_
-  checked-plain r k (inl e) = rw e
-  checked-plain r k (inr e) = rw e
+  module _ (n r k : ℕ) where
+    pub checked-plain : (k ≡ 1) ⊎ (k ≡ 2) → checked bytes n r k ≡ (blank bytes (16 * r + 1) 1 and blank bytes (16 * r + 8) 8)
+    unfolding checked pick _or_
+    checked-plain (inl e) = rw e
+    checked-plain (inr e) = rw e
 
-  pub checked-close : (r k : ℕ) → k ≡ 3
-      → checked bytes r k ≡ (ltb (getD bytes (16 * r + 1) 0) 32 and blank bytes (16 * r + 2) 2 and blank bytes (16 * r + 8) 8)
-  unfolding checked pick _or_ _and_
-  checked-close r k e = rw e
+    pub checked-close : k ≡ 3 → checked bytes n r k ≡ (ltb (getD bytes (16 * r + 1) 0) 32 and blank bytes (16 * r + 2) 2 and blank bytes (16 * r + 8) 8)
+    unfolding checked pick _or_ _and_
+    checked-close e = rw e
 
-  pub checked-wide : (r k : ℕ) → k ≡ 4 → checked bytes r k ≡ (blank bytes (16 * r + 1) 1 and blank bytes (16 * r + 12) 4)
-  unfolding checked pick _or_
-  checked-wide r k e = rw e
+    pub checked-wide : k ≡ 4 → checked bytes n r k ≡ (blank bytes (16 * r + 1) 1 and blank bytes (16 * r + 12) 4)
+    unfolding checked pick _or_
+    checked-wide e = rw e
 
-  pub checked-none : (r k : ℕ) → (k ≡ 1 → ⊥) → (k ≡ 2 → ⊥) → (k ≡ 3 → ⊥) → (k ≡ 4 → ⊥) → checked bytes r k ≡ false
-  unfolding checked pick _or_ _and_
-  checked-none r k a b d f = rw (ne-eqb k 1 a, ne-eqb k 2 b, ne-eqb k 3 d, ne-eqb k 4 f)
+    pub checked-bound : k ≡ 5 → checked bytes n r k ≡ boundFits bytes n r
+    unfolding checked pick _or_
+    checked-bound e = rw e
+
+    pub checked-none : (k ≡ 1 → ⊥) → (k ≡ 2 → ⊥) → (k ≡ 3 → ⊥) → (k ≡ 4 → ⊥) → (k ≡ 5 → ⊥) → checked bytes n r k ≡ false
+    unfolding checked pick _or_ _and_
+    checked-none a b d f g = rw (ne-eqb k 1 a, ne-eqb k 2 b, ne-eqb k 3 d, ne-eqb k 4 f, ne-eqb k 5 g)
+
+  -- ---- a bound's checks, one after the other
+  module _ (n r : ℕ) where
+    pub bad-side : 2 ≤ getD bytes (16 * r + 1) 0 → boundFits bytes n r ≡ false
+    unfolding boundFits
+    bad-side h = and-false _ _ (le-ltb (getD bytes (16 * r + 1) 0) 2 h)
+
+    pub bad-bounded : n ≤ getD bytes (16 * r + 2) 0 → boundFits bytes n r ≡ false
+    unfolding boundFits
+    bad-bounded h = and-no _ _ (and-false _ _ (le-ltb (getD bytes (16 * r + 2) 0) n h))
+
+    pub bad-earlier : getD bytes (16 * r + 2) 0 ≤ getD bytes (16 * r + 3) 0 → boundFits bytes n r ≡ false
+    unfolding boundFits
+    bad-earlier h = and-no _ _ (and-no _ _ (and-false _ _ (le-ltb (getD bytes (16 * r + 3) 0) (getD bytes (16 * r + 2) 0) h)))
+
+    pub bad-slope : 3 ≤ slopeAt bytes r → boundFits bytes n r ≡ false
+    unfolding boundFits
+    bad-slope h = and-no _ _ (and-no _ _ (and-no _ _ (and-false _ _ (le-ltb (slopeAt bytes r) 3 h))))
+
+    pub bad-blank : blank bytes (16 * r + 5) 1 ≡ false → boundFits bytes n r ≡ false
+    unfolding boundFits
+    bad-blank h = and-no _ _ (and-no _ _ (and-no _ _ (and-no _ _ (and-false _ _ h))))
+
+    pub bound-left : getD bytes (16 * r + 1) 0 < 2 → getD bytes (16 * r + 2) 0 < n → getD bytes (16 * r + 3) 0 < getD bytes (16 * r + 2) 0
+        → slopeAt bytes r < 3 → blank bytes (16 * r + 5) 1 ≡ true → boundFits bytes n r ≡ blank bytes (16 * r + 8) 8
+    unfolding boundFits
+    bound-left a d f g h =
+        and-left _ _ (lt-ltb (getD bytes (16 * r + 1) 0) 2 a)
+        ∙ (and-left _ _ (lt-ltb (getD bytes (16 * r + 2) 0) n d)
+        ∙ (and-left _ _ (lt-ltb (getD bytes (16 * r + 3) 0) (getD bytes (16 * r + 2) 0) f)
+        ∙ (and-left _ _ (lt-ltb (slopeAt bytes r) 3 g) ∙ and-left _ _ h)))
 
   pub kinds-few : (k : ℕ) → ofKind bytes k ≤ records bytes
   unfolding ofKind
   kinds-few k = those-few (kind bytes) k (records bytes)
 
-  module _ (n e : ℕ) where
-    pub fits-yes : (r : ℕ) (o : Bool) → mayStand n e r (kind bytes r) ≡ true → o ≡ checked bytes r (kind bytes r) → o ≡ fitsAt bytes n e r
+  module _ (n b e : ℕ) where
+    pub fits-yes : (r : ℕ) (o : Bool) → mayStand n b e r (kind bytes r) ≡ true → o ≡ checked bytes n r (kind bytes r) → o ≡ fitsAt bytes n b e r
     unfolding fitsAt
     fits-yes r o h k = k ∙ sym (and-left _ _ h)
 
-    pub fits-no : (r : ℕ) → mayStand n e r (kind bytes r) ≡ false → fitsAt bytes n e r ≡ false
+    pub fits-no : (r : ℕ) → mayStand n b e r (kind bytes r) ≡ false → fitsAt bytes n b e r ≡ false
     unfolding fitsAt
     fits-no r h = and-false _ _ h
 
-    pub few-dimensions : n < 2 → wellFormed bytes n e ≡ false
+    pub few-dimensions : n < 2 → wellFormed bytes n b e ≡ false
     unfolding wellFormed _and_
     few-dimensions h = rw (lt-leb 2 n h)
 
-    pub many-dimensions : 2 ≤ n → 4 < n → wellFormed bytes n e ≡ false
+    pub many-dimensions : 2 ≤ n → 4 < n → wellFormed bytes n b e ≡ false
     unfolding wellFormed _and_
     many-dimensions a h = rw (le-leb 2 n a, lt-leb n 4 h)
 
-    pub few-distances : 2 ≤ n → n ≤ 4 → e < 1 → wellFormed bytes n e ≡ false
+    pub many-bounds : 2 ≤ n → n ≤ 4 → 4 < b → wellFormed bytes n b e ≡ false
     unfolding wellFormed _and_
-    few-distances a b h = rw (le-leb 2 n a, le-leb n 4 b, lt-leb 1 e h)
+    many-bounds a c h = rw (le-leb 2 n a, le-leb n 4 c, lt-leb b 4 h)
 
-    pub many-distances : 2 ≤ n → n ≤ 4 → 1 ≤ e → 8 < e → wellFormed bytes n e ≡ false
+    pub few-distances : 2 ≤ n → n ≤ 4 → b ≤ 4 → e < 1 → wellFormed bytes n b e ≡ false
     unfolding wellFormed _and_
-    many-distances a b d h = rw (le-leb 2 n a, le-leb n 4 b, le-leb 1 e d, lt-leb e 8 h)
+    few-distances a c g h = rw (le-leb 2 n a, le-leb n 4 c, le-leb b 4 g, lt-leb 1 e h)
 
-    pub records-wrong : 2 ≤ n → n ≤ 4 → 1 ≤ e → e ≤ 8 → records bytes ≢ n + e + 1 → wellFormed bytes n e ≡ false
+    pub many-distances : 2 ≤ n → n ≤ 4 → b ≤ 4 → 1 ≤ e → 8 < e → wellFormed bytes n b e ≡ false
     unfolding wellFormed _and_
-    records-wrong a b d f h = rw (le-leb 2 n a, le-leb n 4 b, le-leb 1 e d, le-leb e 8 f, ne-eqb (records bytes) (n + e + 1) h)
+    many-distances a c g d h = rw (le-leb 2 n a, le-leb n 4 c, le-leb b 4 g, le-leb 1 e d, lt-leb e 8 h)
 
-    pub records-fit : 2 ≤ n → n ≤ 4 → 1 ≤ e → e ≤ 8 → records bytes ≡ n + e + 1 → every (fitsAt bytes n e) (records bytes) ≡ wellFormed bytes n e
+    pub records-wrong : 2 ≤ n → n ≤ 4 → b ≤ 4 → 1 ≤ e → e ≤ 8 → records bytes ≢ n + b + e + 1 → wellFormed bytes n b e ≡ false
+    unfolding wellFormed _and_
+    records-wrong a c g d f h = rw (le-leb 2 n a, le-leb n 4 c, le-leb b 4 g, le-leb 1 e d, le-leb e 8 f, ne-eqb (records bytes) (n + b + e + 1) h)
+
+    pub records-fit : 2 ≤ n → n ≤ 4 → b ≤ 4 → 1 ≤ e → e ≤ 8 → records bytes ≡ n + b + e + 1
+        → every (fitsAt bytes n b e) (records bytes) ≡ wellFormed bytes n b e
     unfolding wellFormed
-    records-fit a b d f h =
+    records-fit a c g d f h =
         sym (and-left _ _ (le-leb 2 n a)
-        ∙ (and-left _ _ (le-leb n 4 b) ∙ (and-left _ _ (le-leb 1 e d) ∙ (and-left _ _ (le-leb e 8 f) ∙ and-left _ _ (eq-eqb (records bytes) (n + e + 1) h)))))
+        ∙ (and-left _ _ (le-leb n 4 c)
+        ∙ (and-left _ _ (le-leb b 4 g)
+        ∙ (and-left _ _ (le-leb 1 e d) ∙ (and-left _ _ (le-leb e 8 f) ∙ and-left _ _ (eq-eqb (records bytes) (n + b + e + 1) h))))))
 
 -- what a recipe has that passes line 2
-pub record Formed (bytes : List ℕ) (n e : ℕ) : Type 0 where
+pub record Formed (bytes : List ℕ) (n b e : ℕ) : Type 0 where
   pub dimensions-least : 2 ≤ n
   pub dimensions-most : n ≤ 4
+  pub bounds-most : b ≤ 4
   pub distances-least : 1 ≤ e
   pub distances-most : e ≤ 8
-  pub total : records bytes ≡ n + e + 1
-  pub fit : every (fitsAt bytes n e) (records bytes) ≡ true
+  pub total : records bytes ≡ n + b + e + 1
+  pub fit : every (fitsAt bytes n b e) (records bytes) ≡ true
 
-pub formed : (bytes : List ℕ) (n e : ℕ) → wellFormed bytes n e ≡ true → Formed bytes n e
+pub formed : (bytes : List ℕ) (n b e : ℕ) → wellFormed bytes n b e ≡ true → Formed bytes n b e
 unfolding wellFormed
-formed bytes n e h =
+formed bytes n b e h =
     let p1 = both h in
     let p2 = both (p1 .1) in
     let p3 = both (p2 .1) in
     let p4 = both (p3 .1) in
     let p5 = both (p4 .1) in
+    let p6 = both (p5 .1) in
     record {
       dimensions-least = leb-true 2 n (p1 .0);
       dimensions-most = leb-true n 4 (p2 .0);
-      distances-least = leb-true 1 e (p3 .0);
-      distances-most = leb-true e 8 (p4 .0);
-      total = eqb-true (records bytes) (n + e + 1) (p5 .0);
-      fit = p5 .1;
+      bounds-most = leb-true b 4 (p3 .0);
+      distances-least = leb-true 1 e (p4 .0);
+      distances-most = leb-true e 8 (p5 .0);
+      total = eqb-true (records bytes) (n + b + e + 1) (p6 .0);
+      fit = p6 .1;
     }
 
 -- ---- the lines of the nest
@@ -371,14 +422,6 @@ module _ (x : Nest) where
   pub large-no : (p : ℕ) → p ≡ product (lengthOf x) (x .dimensions) → p ≤ 16384 → tooLarge x ≡ false
   unfolding tooLarge cells
   large-no p e h = le-ltb 16384 _ (rw e at h)
-
-  pub many-yes : (p : ℕ) → p ≡ tiles x → 1024 < p → tooManyTiles x ≡ true
-  unfolding tooManyTiles
-  many-yes p e h = lt-ltb 1024 _ (rw e at h)
-
-  pub many-no : (p : ℕ) → p ≡ tiles x → p ≤ 1024 → tooManyTiles x ≡ false
-  unfolding tooManyTiles
-  many-no p e h = le-ltb 1024 _ (rw e at h)
 
   -- a spread dimension after the unspread dimension j
   abbrev pub spreadAfter : ℕ → Bool
@@ -425,58 +468,89 @@ module _ (needless : Bool) (x : Nest) where
       unfolding nestLines
       line-18 h = first-false 3 (badLength x) _ h3 ∙ (first-false 4 (tooLarge x) _ h4 ∙ first-true 18 needless _ h)
 
-      pub line-5 : needless ≡ false → badDistance x ≡ true → firstOf (nestLines needless x) ≡ 5
-      unfolding nestLines
-      line-5 n h = first-false 3 (badLength x) _ h3 ∙ (first-false 4 (tooLarge x) _ h4 ∙ (first-false 18 needless _ n ∙ first-true 5 (badDistance x) _ h))
-
-      module _ (h18 : needless ≡ false) (h5 : badDistance x ≡ false) where
-        to-6 : firstOf (nestLines needless x)
-            ≡ firstOf (line 6 (badTile x) ∷ line 16 (badSpread x) ∷ line 17 (lastSpread x) ∷ line 7 (badProcessors x) ∷ line 8 (tooManyTiles x) ∷ [])
+      module _ (h18 : needless ≡ false) where
+        pub line-20 : noCell x ≡ true → firstOf (nestLines needless x) ≡ 20
         unfolding nestLines
-        to-6 = first-false 3 (badLength x) _ h3 ∙ (first-false 4 (tooLarge x) _ h4 ∙ (first-false 18 needless _ h18 ∙ first-false 5 (badDistance x) _ h5))
+        line-20 h = first-false 3 (badLength x) _ h3 ∙ (first-false 4 (tooLarge x) _ h4 ∙ (first-false 18 needless _ h18 ∙ first-true 20 (noCell x) _ h))
 
-        pub line-6 : badTile x ≡ true → firstOf (nestLines needless x) ≡ 6
-        line-6 h = to-6 ∙ first-true 6 (badTile x) _ h
+        module _ (h20 : noCell x ≡ false) where
+          to-5 : firstOf (nestLines needless x)
+              ≡ firstOf (line 5 (badDistance x) ∷ line 6 (badTile x) ∷ line 16 (badSpread x) ∷ line 17 (lastSpread x) ∷ line 7 (badProcessors x) ∷ line 8 (tooManyTiles x) ∷ [])
+          unfolding nestLines
+          to-5 = first-false 3 (badLength x) _ h3 ∙ (first-false 4 (tooLarge x) _ h4 ∙ (first-false 18 needless _ h18 ∙ first-false 20 (noCell x) _ h20))
 
-        module _ (h6 : badTile x ≡ false) where
-          to-16 : firstOf (nestLines needless x)
-              ≡ firstOf (line 16 (badSpread x) ∷ line 17 (lastSpread x) ∷ line 7 (badProcessors x) ∷ line 8 (tooManyTiles x) ∷ [])
-          to-16 = to-6 ∙ first-false 6 (badTile x) _ h6
+          pub line-5 : badDistance x ≡ true → firstOf (nestLines needless x) ≡ 5
+          line-5 h = to-5 ∙ first-true 5 (badDistance x) _ h
 
-          pub line-16 : badSpread x ≡ true → firstOf (nestLines needless x) ≡ 16
-          line-16 h = to-16 ∙ first-true 16 (badSpread x) _ h
+          module _ (h5 : badDistance x ≡ false) where
+            to-6 : firstOf (nestLines needless x)
+                ≡ firstOf (line 6 (badTile x) ∷ line 16 (badSpread x) ∷ line 17 (lastSpread x) ∷ line 7 (badProcessors x) ∷ line 8 (tooManyTiles x) ∷ [])
+            to-6 = to-5 ∙ first-false 5 (badDistance x) _ h5
 
-          module _ (h16 : badSpread x ≡ false) where
-            pub line-17 : lastSpread x ≡ true → firstOf (nestLines needless x) ≡ 17
-            line-17 h = to-16 ∙ (first-false 16 (badSpread x) _ h16 ∙ first-true 17 (lastSpread x) _ h)
+            pub line-6 : badTile x ≡ true → firstOf (nestLines needless x) ≡ 6
+            line-6 h = to-6 ∙ first-true 6 (badTile x) _ h
 
-            module _ (h17 : lastSpread x ≡ false) where
-              to-7 : firstOf (nestLines needless x) ≡ firstOf (line 7 (badProcessors x) ∷ line 8 (tooManyTiles x) ∷ [])
-              to-7 = to-16 ∙ (first-false 16 (badSpread x) _ h16 ∙ first-false 17 (lastSpread x) _ h17)
+            module _ (h6 : badTile x ≡ false) where
+              to-16 : firstOf (nestLines needless x)
+                  ≡ firstOf (line 16 (badSpread x) ∷ line 17 (lastSpread x) ∷ line 7 (badProcessors x) ∷ line 8 (tooManyTiles x) ∷ [])
+              to-16 = to-6 ∙ first-false 6 (badTile x) _ h6
 
-              pub line-7 : badProcessors x ≡ true → firstOf (nestLines needless x) ≡ 7
-              line-7 h = to-7 ∙ first-true 7 (badProcessors x) _ h
+              pub line-16 : badSpread x ≡ true → firstOf (nestLines needless x) ≡ 16
+              line-16 h = to-16 ∙ first-true 16 (badSpread x) _ h
 
-              module _ (h7 : badProcessors x ≡ false) where
-                pub line-8 : tooManyTiles x ≡ true → firstOf (nestLines needless x) ≡ 8
-                line-8 h = to-7 ∙ (first-false 7 (badProcessors x) _ h7 ∙ first-true 8 (tooManyTiles x) _ h)
+              module _ (h16 : badSpread x ≡ false) where
+                pub line-17 : lastSpread x ≡ true → firstOf (nestLines needless x) ≡ 17
+                line-17 h = to-16 ∙ (first-false 16 (badSpread x) _ h16 ∙ first-true 17 (lastSpread x) _ h)
 
-                pub line-none : tooManyTiles x ≡ false → firstOf (nestLines needless x) ≡ 0
-                line-none h = to-7 ∙ (first-false 7 (badProcessors x) _ h7 ∙ (first-false 8 (tooManyTiles x) _ h ∙ no-line))
+                module _ (h17 : lastSpread x ≡ false) where
+                  to-7 : firstOf (nestLines needless x) ≡ firstOf (line 7 (badProcessors x) ∷ line 8 (tooManyTiles x) ∷ [])
+                  to-7 = to-16 ∙ (first-false 16 (badSpread x) _ h16 ∙ first-false 17 (lastSpread x) _ h17)
+
+                  pub line-7 : badProcessors x ≡ true → firstOf (nestLines needless x) ≡ 7
+                  line-7 h = to-7 ∙ first-true 7 (badProcessors x) _ h
+
+                  module _ (h7 : badProcessors x ≡ false) where
+                    pub line-8 : tooManyTiles x ≡ true → firstOf (nestLines needless x) ≡ 8
+                    line-8 h = to-7 ∙ (first-false 7 (badProcessors x) _ h7 ∙ first-true 8 (tooManyTiles x) _ h)
+
+                    pub line-none : tooManyTiles x ≡ false → firstOf (nestLines needless x) ≡ 0
+                    line-none h = to-7 ∙ (first-false 7 (badProcessors x) _ h7 ∙ (first-false 8 (tooManyTiles x) _ h ∙ no-line))
 
 -- ---- the nest made of its parts
 
-pub made : (bytes : List ℕ) (n e m s b : ℕ) (l t p d w : List ℕ)
+pub made : (bytes : List ℕ) (n b e m s o : ℕ) (l t p d w sd bd er sl of : List ℕ)
     → m ≡ length (keep (λ (j : ℕ). ltb 0 (half bytes (16 * j + 6))) n)
     → l ≡ filled 4 n (λ (j : ℕ). half bytes (16 * j + 2))
     → t ≡ filled 4 n (λ (j : ℕ). half bytes (16 * j + 4))
     → p ≡ filled 4 n (λ (j : ℕ). half bytes (16 * j + 6))
-    → d ≡ filled 32 (4 * e) (λ (i : ℕ). componentAt bytes (n + i / 4) (i % 4))
-    → w ≡ filled 8 e (λ (i : ℕ). weightAt bytes (n + i))
-    → s ≡ getD bytes (16 * (n + e) + 1) 0
-    → b ≡ word bytes (16 * (n + e) + 4)
+    → d ≡ filled 32 (4 * e) (λ (i : ℕ). componentAt bytes (n + b + i / 4) (i % 4))
+    → w ≡ filled 8 e (λ (i : ℕ). weightAt bytes (n + b + i))
+    → sd ≡ filled 4 b (λ (k : ℕ). getD bytes (16 * (n + k) + 1) 0)
+    → bd ≡ filled 4 b (λ (k : ℕ). getD bytes (16 * (n + k) + 2) 0)
+    → er ≡ filled 4 b (λ (k : ℕ). getD bytes (16 * (n + k) + 3) 0)
+    → sl ≡ filled 4 b (λ (k : ℕ). slopeAt bytes (n + k))
+    → of ≡ filled 4 b (λ (k : ℕ). offsetAt bytes (n + k))
+    → s ≡ getD bytes (16 * (n + b + e) + 1) 0
+    → o ≡ word bytes (16 * (n + b + e) + 4)
     → _≡_ {A = Nest}
-    (record { dimensions = n; spread = m; distances = e; lengths = l; tiling = t; counts = p; components = d; weights = w; shift = s; boundary = b })
-    (nestBy bytes n e)
+    (record {
+      dimensions = n;
+      spread = m;
+      distances = e;
+      bounds = b;
+      lengths = l;
+      tiling = t;
+      counts = p;
+      components = d;
+      weights = w;
+      sides = sd;
+      bounded = bd;
+      earlier = er;
+      slopes = sl;
+      offsets = of;
+      shift = s;
+      boundary = o;
+    })
+    (nestBy bytes n b e)
 unfolding nestBy
-made bytes n e m s b l t p d w e1 e2 e3 e4 e5 e6 e7 e8 = rw (e1, e2, e3, e4, e5, e6, e7, e8)
+made bytes n b e m s o l t p d w sd bd er sl of hm hl ht hp hd hw h1 h2 h3 h4 h5 hs ho = rw (hm, hl, ht, hp, hd, hw, h1, h2, h3, h4, h5, hs, ho)

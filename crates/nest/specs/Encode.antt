@@ -1,13 +1,13 @@
--- A recipe's bytes from a nest's values: the records in order, each field at its place, zero elsewhere. Nest reads them back.
--- Renders document 01, "The recipe", as the recipe writer of document 02, W-202, has to spell it; W-207's kind 4.
-use Prim.Native.Nat.{ℕ, zero, suc, _/_, _%_}
+-- A recipe's bytes from a nest's values: the records in order, each field at its place, zero elsewhere. Reader reads them back.
+-- Renders document 01, "The recipe", as the recipe writer of document 02, W-202, has to spell it; W-207's kind 4, W-209's kind 5.
+use Prim.Native.Nat.{ℕ, zero, suc, _+_, _/_, _%_}
 use mathlib.Core.Bool.{Bool}
 use mathlib.Core.List.{List, [], _∷_, _++_}
 use lib.ListN.{replicate}
 use lib.Dec.{ltb}
 use Rattle.base.specs.Tests.{pick, every}
 use Rattle.nest.specs.declared.Nest.{Nest}
-use Rattle.nest.specs.Nest.{lengthOf, tileLength, processorCount, component, weight}
+use Rattle.nest.specs.Nest.{lengthOf, tileLength, processorCount, component, weight, side, bounded, earlier, slope, offset}
 
 -- numbers of one, two and four bytes, little-endian; of a wider number only these are written
 abbrev pub low : ℕ → ℕ
@@ -33,12 +33,21 @@ narrowRecord d1 d2 d3 d4 weight = 2 ∷ 0 ∷ low d1 ∷ low d2 ∷ low d3 ∷ l
 unfoldable pub wideRecord : ℕ → ℕ → ℕ → ℕ → ℕ → List ℕ
 wideRecord d1 d2 d3 d4 weight = 4 ∷ 0 ∷ halfBytes d1 ++ halfBytes d2 ++ halfBytes d3 ++ halfBytes d4 ++ halfBytes weight ++ replicate 4 0
 
+-- a bound; slope and offset are given as slope + 1 and offset + 32,768
+unfoldable pub boundRecord : ℕ → ℕ → ℕ → ℕ → ℕ → List ℕ
+boundRecord side dimension earlier slope offset =
+    5 ∷ low side ∷ low dimension ∷ low earlier ∷ low (slope + 255) ∷ 0 ∷ halfBytes (offset + 32768) ++ replicate 8 0
+
 unfoldable pub closeRecord : ℕ → ℕ → List ℕ
 closeRecord shift boundary = 3 ∷ low shift ∷ 0 ∷ 0 ∷ wordBytes boundary ++ replicate 8 0
 
 -- of dimension j
 unfoldable pub dimensionOf : Nest → ℕ → List ℕ
 dimensionOf x j = dimensionRecord (lengthOf x j) (tileLength x j) (processorCount x j)
+
+-- of bound k
+unfoldable pub boundOf : Nest → ℕ → List ℕ
+boundOf x k = boundRecord (side x k) (bounded x k) (earlier x k) (slope x k) (offset x k)
 
 -- each component of distance e fits a byte
 unfoldable pub narrow : Nest → ℕ → Bool
@@ -55,6 +64,8 @@ unfoldable pub joined : (ℕ → List ℕ) → ℕ → List ℕ
 joined f zero = []
 joined f (suc n) = joined f n ++ f n
 
--- the dimensions, the distances, the close
+-- the dimensions, the bounds, the distances, the close
 unfoldable pub encode : Nest → List ℕ
-encode x = joined (dimensionOf x) (x .dimensions) ++ (joined (distanceOf x) (x .distances) ++ closeRecord (x .shift) (x .boundary))
+encode x =
+    joined (dimensionOf x) (x .dimensions)
+    ++ (joined (boundOf x) (x .bounds) ++ (joined (distanceOf x) (x .distances) ++ closeRecord (x .shift) (x .boundary)))

@@ -8,6 +8,10 @@ use lib.ListN.{replicate}
 abbrev pub dimension : ℕ → ℕ → ℕ → List ℕ
 dimension length tile count = 1 ∷ 0 ∷ length ∷ 0 ∷ tile ∷ 0 ∷ count ∷ replicate 9 0
 
+-- a bound: its side, the dimension bounded, an earlier one, the slope's byte, the offset's bytes
+abbrev pub bound : ℕ → ℕ → ℕ → ℕ → ℕ → ℕ → List ℕ
+bound side dimension earlier slope low high = 5 ∷ side ∷ dimension ∷ earlier ∷ slope ∷ 0 ∷ low ∷ high ∷ replicate 8 0
+
 abbrev pub distance : ℕ → ℕ → ℕ → List ℕ
 distance d1 d2 d3 = 2 ∷ 0 ∷ d1 ∷ d2 ∷ d3 ∷ 0 ∷ 1 ∷ replicate 9 0
 

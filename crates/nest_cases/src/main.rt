@@ -48,7 +48,7 @@ fn main() {
         os::fail(b"cases");
         return;
     }
-    let mut space = io::large_buffer();
+    let mut space = [0u8; 131072];
     let n = io::read_full(fd, &mut space);
     show_all(&space[..n]);
     libc::close(fd);

@@ -49,10 +49,11 @@ module _ (p : Plan) (so : Sound p) (sources : Sources) (acts : Rig → Call → 
           can-collect = λ e grid len. number-of (grid-is o grid len) ∙ D .can-collect (rw (answers-are cs) at e) grid len;
           then-all = λ grid len z. rw (answers-are cs) (D .then-all grid len (sym (number-of (grid-is o grid len)) ∙ z));
           calculated = λ c h. rw (answers-are cs) (D .calculated c h);
+          not-calculated = λ c h i. rw (answers-are cs) (D .not-calculated c h i);
           sent = λ m h. rw (answers-are cs) (D .sent m h);
           delivered = λ m h. rw (answers-are cs) (D .delivered m h);
           taken = λ m h. rw (answers-are cs) (D .taken m h);
-          all-calculated = λ e c h. rw (answers-are cs) (D .all-calculated (rw (answers-are cs) at e) c h);
+          all-calculated = λ e c h i. rw (answers-are cs) (D .all-calculated (rw (answers-are cs) at e) c h i);
           all-sent = λ e m h. rw (answers-are cs) (D .all-sent (rw (answers-are cs) at e) m h);
           all-delivered = λ e m h. rw (answers-are cs) (D .all-delivered (rw (answers-are cs) at e) m h);
           all-taken = λ e m h. rw (answers-are cs) (D .all-taken (rw (answers-are cs) at e) m h);

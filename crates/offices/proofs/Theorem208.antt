@@ -209,10 +209,11 @@ module _ (p : Plan) (so : Sound p) (sources : Sources) (cs : List Call) where
         can-collect = λ e grid len. number-of (grids grid) ∙ D .can-collect (same ∙ e) grid len;
         then-all = λ grid len z. sym same ∙ D .then-all grid len (sym (number-of (grids grid)) ∙ z);
         calculated = λ c h. rw (times (calculates p c)) (D .calculated c h);
+        not-calculated = λ c h i. times (calculates p c) ∙ D .not-calculated c h i;
         sent = λ m h. rw (times (sends m)) (D .sent m h);
         delivered = λ m h. rw (deliveries m) (D .delivered m h);
         taken = λ m h. rw (times (takes p m)) (D .taken m h);
-        all-calculated = λ e c h. times (calculates p c) ∙ D .all-calculated (same ∙ e) c h;
+        all-calculated = λ e c h i. times (calculates p c) ∙ D .all-calculated (same ∙ e) c h i;
         all-sent = λ e m h. times (sends m) ∙ D .all-sent (same ∙ e) m h;
         all-delivered = λ e m h. deliveries m ∙ D .all-delivered (same ∙ e) m h;
         all-taken = λ e m h. times (takes p m) ∙ D .all-taken (same ∙ e) m h;

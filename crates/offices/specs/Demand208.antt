@@ -3,6 +3,7 @@
 use Prim.Native.Nat.{ℕ, _≤_, _<_}
 use mathlib.Core.Path.{_≡_}
 use mathlib.Core.Logic.{_⊎_}
+use mathlib.Core.Bool.{true, false}
 use mathlib.Core.List.{List, [], _∷_, _++_}
 use lib.ListN.{length, getD}
 use lib.Dec.{eqb}
@@ -50,13 +51,15 @@ module _ (acts : Rig → Call → Answered Rig) (start : Rig) (calls : List Call
         → collects (last acts start calls) o grid .number ≡ 0
     pub then-all : (grid : List ℕ) → length grid ≡ p .cells → collects (last acts start calls) o grid .number ≡ 0
         → stepsFor o ≡ total p
-    -- no cell is calculated twice, no message sent, delivered or taken twice
+    -- no cell is calculated twice, one that is not in the nest never; no message sent, delivered or taken twice
     pub calculated : (c : ℕ) → c < p .cells → timesOf p (eventsOf o calls) (answersFor o) (calculates p c) ≤ 1
+    pub not-calculated : (c : ℕ) → c < p .cells → p .inside c ≡ false
+        → timesOf p (eventsOf o calls) (answersFor o) (calculates p c) ≡ 0
     pub sent : (m : ℕ) → m < count p → timesOf p (eventsOf o calls) (answersFor o) (sends m) ≤ 1
     pub delivered : (m : ℕ) → m < count p → deliveriesOf m (eventsOf o calls) (answersFor o) ≤ 1
     pub taken : (m : ℕ) → m < count p → timesOf p (eventsOf o calls) (answersFor o) (takes p m) ≤ 1
-    -- when its steps are that many, each exactly once
-    pub all-calculated : stepsFor o ≡ total p → (c : ℕ) → c < p .cells
+    -- when its steps are that many, each message exactly once, and each cell in the nest
+    pub all-calculated : stepsFor o ≡ total p → (c : ℕ) → c < p .cells → p .inside c ≡ true
         → timesOf p (eventsOf o calls) (answersFor o) (calculates p c) ≡ 1
     pub all-sent : stepsFor o ≡ total p → (m : ℕ) → m < count p → timesOf p (eventsOf o calls) (answersFor o) (sends m) ≡ 1
     pub all-delivered : stepsFor o ≡ total p → (m : ℕ) → m < count p → deliveriesOf m (eventsOf o calls) (answersFor o) ≡ 1

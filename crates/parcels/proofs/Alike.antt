@@ -16,7 +16,7 @@ use Rattle.base.proofs.Tests.{pick-true, pick-false, and-true, and-false, and-n
 use Rattle.nest.specs.declared.Nest.{Nest}
 use Rattle.nest.specs.Accepted.{Accepted}
 use Rattle.nest.specs.Nest.{component}
-use Rattle.plan.specs.Geometry.{rank}
+use Rattle.nest.specs.Places.{rank}
 use Rattle.plan.specs.Regions.{Region, among}
 use Rattle.layout.specs.Places.{nth, Placed}
 use Rattle.layout.specs.CellRows.{rowOf, Given}
@@ -172,6 +172,7 @@ module _ (x : Nest) (ok : Accepted x) (z : Sending) (p : Shaped x z) (r : ℕ) (
   row-found ends d run v =
       record {
         place = row-has x ok z p r at g;
+        limits = d;
         run = v;
         least = f .least;
         room = alike-room;

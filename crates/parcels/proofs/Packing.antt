@@ -220,7 +220,7 @@ packed-end x z memory words count q p h =
     sym (take-length words) ∙ ap (λ (m : ℕ). take m words) (sym k) ∙ p .is ∙ ap (λ (m : ℕ). pack memory (found x z m)) e
 
 module _ (x : Nest) (z : Sending) (first c a w : ℕ) (ends : List ℕ) (f : RowEnds x z first c a w ends) where
-  row-meets : (y : ℕ) → y < w → isRead ends (x .distances) (a + y) ≡ meets x z (first + y)
+  pub row-meets : (y : ℕ) → y < w → isRead ends (x .distances) (a + y) ≡ meets x z (first + y)
   unfolding comesInto
   row-meets y k = some-same _ _ (x .distances) (λ e i. f .tests y e k i)
 

@@ -2,7 +2,6 @@
 use Prim.Native.Nat.{ℕ, zero, suc, _+_, _*_, _-_, _≤_, _<_}
 use mathlib.Core.Path.{_≡_, sym, ap, _∙_}
 use mathlib.Core.List.{List}
-use native.Mathlib.Nat.{mul-le-mul}
 use native.Mathlib.Decide.{decLt}
 use native.Mathlib.Omega.{arith}
 use lib.ListN.{getD}
@@ -11,13 +10,14 @@ use Rattle.base.specs.Tests.{product}
 use Rattle.nest.specs.declared.Nest.{Nest}
 use Rattle.nest.specs.Accepted.{Accepted}
 use Rattle.nest.specs.Nest.{lengthOf, cells}
-use Rattle.plan.specs.Geometry.{rank, place, cellAt}
+use Rattle.nest.specs.Places.{rank, place, cellAt}
 use Rattle.plan.specs.Regions.{side, regionPlace, regionCell}
-use Rattle.plan.proofs.Rank.{Within, place-low, place-before, rank-same}
+use Rattle.nest.proofs.Rank.{Within, place-low, place-before, rank-same}
 use Rattle.plan.proofs.Tiles.{cellAt-low}
 use Rattle.plan.proofs.Box.{quotient-is}
 use Rattle.layout.specs.Places.{nth, Has, Countable, Ranked, Places, Placed}
 use Rattle.layout.proofs.Dims.{place-lengths}
+use Rattle.nest.proofs.Shapes.{product-most}
 use Rattle.layout.proofs.Cells.{lengths-countable}
 use Rattle.layout.proofs.CellRows.{row-before, row-last, row-low, row-start, row-in, product-last, rank-last, fewer}
 use Rattle.parcels.specs.declared.Block.{Block}
@@ -35,11 +35,6 @@ place-row N (suc l) r p h j k =
     let i : j < l = omega arith in
     let m : 1 ≤ N l = rw z at h in
     rw z (place-before N l (r * N l) j i ∙ ap (λ (a : ℕ). place N l a j) (quotient-is (N l) r (r * N l) (omega arith) (omega arith)))
-
-product-most : (N M : ℕ → ℕ) (d : ℕ) → ((j : ℕ) → j < d → N j ≤ M j) → product N d ≤ product M d
-unfolding product
-product-most N M zero h = omega arith
-product-most N M (suc d) h = mul-le-mul (product-most N M d (λ j k. h j (omega arith))) (h d (omega arith))
 
 -- the q-th place of the box, by its arrays
 pub region-at : (x : Nest) (b : Block) (q j : ℕ)
@@ -81,7 +76,7 @@ module _ (x : Nest) (ok : Accepted x) (z : Sending) (p : Shaped x z) where
         small = λ j h. omega (arith, p .inside j (omega arith), ok .length-most j);
       }
 
-  box-within : (q : ℕ) → Within (lengthOf x) (placeIn x z q) (x .dimensions)
+  pub box-within : (q : ℕ) → Within (lengthOf x) (placeIn x z q) (x .dimensions)
   box-within q j h = omega (
     arith,
     region-at x (z .block) q j,
@@ -117,7 +112,7 @@ module _ (x : Nest) (ok : Accepted x) (z : Sending) (p : Shaped x z) where
       moved : place (nth (z .block .lengths)) (x .dimensions) (r * z .width) (last x) + y < nth (z .block .lengths) (last x)
       moved = omega (arith, starts, p .width)
 
-      cell-before : (j : ℕ) → j < last x → placeIn x z (r * z .width + y) j ≡ placeIn x z (r * z .width) j
+      pub cell-before : (j : ℕ) → j < last x → placeIn x z (r * z .width + y) j ≡ placeIn x z (r * z .width) j
       cell-before j h =
           omega (
             arith,
@@ -126,7 +121,7 @@ module _ (x : Nest) (ok : Accepted x) (z : Sending) (p : Shaped x z) where
             row-before (nth (z .block .lengths)) (x .dimensions) (r * z .width) y (omega (arith, deep)) moved j h,
           )
 
-      cell-last : placeIn x z (r * z .width + y) (last x) ≡ getD (z .block .corner) (last x) 0 + y
+      pub cell-last : placeIn x z (r * z .width + y) (last x) ≡ getD (z .block .corner) (last x) 0 + y
       cell-last =
           omega (
             arith,
@@ -135,7 +130,7 @@ module _ (x : Nest) (ok : Accepted x) (z : Sending) (p : Shaped x z) where
             starts,
           )
 
-      cell-number : cellIn x z (r * z .width) + y ≡ cellIn x z (r * z .width + y)
+      pub cell-number : cellIn x z (r * z .width) + y ≡ cellIn x z (r * z .width + y)
       unfolding regionCell cellAt
       cell-number =
           let e = rank-same (lengthOf x) (placeIn x z (r * z .width + y)) (placeIn x z (r * z .width)) (last x) cell-before in

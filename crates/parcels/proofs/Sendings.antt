@@ -17,11 +17,11 @@ use Rattle.nest.specs.Accepted.{Accepted}
 use Rattle.nest.specs.Nest.{lengthOf, tileLength, processorCount, component, tileCount}
 use Rattle.plan.specs.declared.Route.{Route}
 use Rattle.plan.specs.declared.Route.the-variants.{Direct, Indirect}
-use Rattle.plan.specs.Geometry.{place, cellAt, tilePlace}
+use Rattle.nest.specs.Places.{place, cellAt, tilePlace}
 use Rattle.plan.specs.Messages.{ways, slots, slotTile, slotDirection, slotDimension, slotCells, slotParcel}
 use Rattle.plan.specs.Hops.{hops, alone}
 use Rattle.plan.specs.Regions.{Region, among, side, regionSize, regionPlace, regionCell, slotBox, slotWindow, comesInto}
-use Rattle.plan.proofs.Rank.{rank-same}
+use Rattle.nest.proofs.Rank.{rank-same}
 use Rattle.plan.proofs.Tiles.{quotient-low, tile-inside, tilePlace-low}
 use Rattle.plan.proofs.Box.{quotient-is}
 use Rattle.plan.proofs.Grid.{keep-nothing}
@@ -45,12 +45,12 @@ use Rattle.parcels.proofs.Rows.{block-countable, size-few}
 
 -- ---- the arrays' box and window stand for the regions that they have
 
-map-same : (f g : ℕ → ℕ) → ((n : ℕ) → f n ≡ g n) → (l : List ℕ) → map f l ≡ map g l
+pub map-same : (f g : ℕ → ℕ) → ((n : ℕ) → f n ≡ g n) → (l : List ℕ) → map f l ≡ map g l
 map-same f g h [] = refl
 map-same f g h (n ∷ l) = rw (h n, map-same f g h l)
 
 module _ (x : Nest) (g h : Region) (z : Sending) (b : Boxed x g (z .block)) (w : Windowed x h (z .window)) where
-  place-is : (n j : ℕ) → j < x .dimensions → regionPlace x g n j ≡ placeIn x z n j
+  pub place-is : (n j : ℕ) → j < x .dimensions → regionPlace x g n j ≡ placeIn x z n j
   unfolding regionPlace
   place-is n j l =
       omega (
@@ -59,7 +59,7 @@ module _ (x : Nest) (g h : Region) (z : Sending) (b : Boxed x g (z .block)) (w :
         place-lengths (side g) (side (boxOf (z .block))) (x .dimensions) n j (λ i k. omega (arith, b .lengths .each i k)),
       )
 
-  cell-is : (n : ℕ) → regionCell x g n ≡ cellIn x z n
+  pub cell-is : (n : ℕ) → regionCell x g n ≡ cellIn x z n
   unfolding regionCell cellAt
   cell-is n = rank-same (lengthOf x) (regionPlace x g n) (placeIn x z n) (x .dimensions) (place-is n)
 
@@ -74,7 +74,7 @@ module _ (x : Nest) (g h : Region) (z : Sending) (b : Boxed x g (z .block)) (w :
       map-same (regionCell x g) (cellIn x z) cell-is (keep (λ n. comesInto x h (regionPlace x g n)) (regionSize x g))
       ∙ ap (map (cellIn x z)) (keep-same _ _ (regionSize x g) (λ n k. comes-is n))
 
-  size-is : 1 ≤ x .dimensions → z .rows ≡ product (nth (z .block .lengths)) (last x) → z .width ≡ getD (z .block .lengths) (last x) 0
+  pub size-is : 1 ≤ x .dimensions → z .rows ≡ product (nth (z .block .lengths)) (last x) → z .width ≡ getD (z .block .lengths) (last x) 0
       → regionSize x g ≡ z .rows * z .width
   unfolding regionSize
   size-is d e k =
@@ -249,6 +249,8 @@ module _ (x : Nest) (ok : Accepted x) (r : Route) (s : ℕ) (at steps : List ℕ
           rows = e;
           width = w;
         };
+        box = b;
+        window = v;
         cells = slot-region x ok r s (h .low)
             ∙ regions-found x (slotBox r x s) (slotWindow r x s) z b v
             ∙ ap (found x z) (size-is x (slotBox r x s) (slotWindow r x s) z b v (omega (arith, ok .dimensions-least)) e w);
@@ -326,10 +328,10 @@ module _ (x : Nest) (ok : Accepted x) (r : Route) (s : ℕ) (at steps : List ℕ
 
 module _ (x : Nest) (s : ℕ) where
   -- the way's step along j comes to another processor
-  abbrev hop : Route → ℕ → Bool
+  abbrev pub hop : Route → ℕ → Bool
   hop r j = eqb (along r x (s % ways r x) j) 1 and ltb 1 (processorCount x j)
 
-  alone-no : (r : Route) → some (hop r) (x .spread) ≡ true → alone r x s ≡ false
+  pub alone-no : (r : Route) → some (hop r) (x .spread) ≡ true → alone r x s ≡ false
   unfolding along
   alone-no Direct t =
       let y = some-at (hop Direct) (x .spread) t in
@@ -349,7 +351,7 @@ module _ (x : Nest) (s : ℕ) where
       same j k e (yes q) = lt-leb (processorCount x (slotDimension x s)) 1 (rw q at k)
       same j k e (no q) = absurd (omega (arith, one-false (ne-eqb j (slotDimension x s) q)))
 
-  alone-yes : (r : Route) → s < slots r x → some (hop r) (x .spread) ≡ false → alone r x s ≡ true
+  pub alone-yes : (r : Route) → s < slots r x → some (hop r) (x .spread) ≡ false → alone r x s ≡ true
   unfolding along
   alone-yes Direct l t = go (ℕ-discrete (hops x (slotDirection x s)) 0)
     where

@@ -14,17 +14,17 @@ use Rattle.base.specs.Tests.{_and_, one, product}
 use Rattle.base.proofs.Tests.{both, one-true}
 use Rattle.nest.specs.declared.Nest.{Nest}
 use Rattle.nest.specs.Accepted.{Accepted}
-use Rattle.nest.specs.Nest.{lengthOf, tileLength, tileCount, tiles}
+use Rattle.nest.specs.Nest.{lengthOf, tileLength, tileCount, boxTiles}
 use Rattle.plan.specs.declared.Route.{Route}
 use Rattle.plan.specs.declared.Route.the-variants.{Indirect}
-use Rattle.plan.specs.Geometry.{place, tilePlace}
-use Rattle.plan.proofs.Rank.{Positive, place-last, place-before}
+use Rattle.nest.specs.Places.{place, tilePlace}
+use Rattle.nest.proofs.Rank.{Positive, place-last, place-before}
 use Rattle.plan.proofs.Tiles.{tileCount-pos}
 use Rattle.plan.proofs.Box.{quotient-is}
 use Rattle.plan.proofs.Twins.{twin}
 use Rattle.layout.specs.Places.{nth, Has}
 use Rattle.layout.proofs.Dims.{product-pos, place-lengths}
-use Rattle.layout.proofs.Cells.{across-product}
+use Rattle.layout.proofs.Cells.{across-product, box-few}
 use Rattle.parcels.specs.Twins.{twoBefore, Twin}
 
 -- tile u is one before tile t along dimension l, t's place there is p
@@ -160,7 +160,7 @@ peeled-back N n t (suc l) q s f h pos a =
     let b : 1 ≤ q % N l = rw z at a in
     rw z (back-low N n t l q s f p b, back-one N n t l q s f p b)
 
-module _ (r : Route) (x : Nest) (ok : Accepted x) (t : ℕ) (low : t < tiles x) where
+module _ (r : Route) (x : Nest) (ok : Accepted x) (t : ℕ) (low : t < boxTiles x) where
   pub twin-self : Twin r x t t
   twin-self = record { low = omega arith; same = λ w l. refl }
 
@@ -169,13 +169,13 @@ module _ (r : Route) (x : Nest) (ok : Accepted x) (t : ℕ) (low : t < tiles x) 
     unfolding tilePlace
     counts c j = place-lengths (nth across) (tileCount x) (x .dimensions) c j (b .each)
 
-    pub twin-stride : (left q s : ℕ) → Peeled (nth across) (x .dimensions) t left q s → s ≤ 1024
+    pub twin-stride : (left q s : ℕ) → Peeled (nth across) (x .dimensions) t left q s → s ≤ 16384
     twin-stride left q s f =
         omega (
           arith,
           peeled-few (nth across) (x .dimensions) t left q s f (λ j h. omega (arith, b .each j h, tileCount-pos x ok j h)),
           across-product x ok across b,
-          ok .tiles-most,
+          box-few x ok,
         )
 
     -- the dimension allows it: there is a tile before it, or two, and a whole one after it

@@ -11,6 +11,7 @@ use Rattle.base.specs.Tests.{keep}
 use Rattle.base.specs.Lists.{pack, unpack}
 use Rattle.base.proofs.Select.{keep-hit, keep-none, keep-few, keep-mono}
 use Rattle.base.proofs.Lists.{unpack-length}
+pub use Rattle.base.proofs.Lists.{pack-append, unpack-append}
 use Rattle.nest.specs.declared.Nest.{Nest}
 use Rattle.plan.specs.Regions.{comesInto}
 use Rattle.plan.proofs.Grid.{map-append}
@@ -60,20 +61,6 @@ module _ (x : Nest) (z : Sending) where
 
   pub measure-all : (count q : ℕ) → Measuring x z count q → z .rows * z .width ≤ q → count ≡ length (found x z (z .rows * z .width))
   measure-all count q m h = let e : q ≡ z .rows * z .width = omega (arith, m .low) in m .is ∙ ap (λ (k : ℕ). length (found x z k)) e
-
--- ---- lists that grow at their end
-
-pub pack-append : (l a b : List ℕ) → pack l (a ++ b) ≡ pack l a ++ pack l b
-unfolding pack
-pack-append l [] b = refl
-pack-append l (p ∷ a) b = ap (λ (z : List ℕ). getD l p 0 ∷ z) (pack-append l a b)
-
-pub unpack-append : (l a b ws us : List ℕ) → length ws ≡ length a → unpack l (a ++ b) (ws ++ us) ≡ unpack (unpack l a ws) b us
-unfolding unpack
-unpack-append l [] b [] us e = refl
-unpack-append l [] b (w ∷ ws) us e = absurd (omega arith)
-unpack-append l (p ∷ a) b [] us e = absurd (omega arith)
-unpack-append l (p ∷ a) b (w ∷ ws) us e = unpack-append (set l p w) a b ws us (omega arith)
 
 -- ---- unpacking
 

@@ -11,16 +11,16 @@ use Rattle.nest.specs.declared.Nest.{Nest}
 use Rattle.nest.specs.Nest.{lengthOf, component, cells}
 use Rattle.plan.specs.declared.Route.{Route}
 use Rattle.plan.specs.declared.Route.the-variants.{Direct, Indirect}
-use Rattle.plan.specs.Geometry.{tilePlace}
+use Rattle.nest.specs.Places.{tilePlace}
 use Rattle.plan.specs.Messages.{ways, slots, slotTile, slotCells, slotParcel}
-use Rattle.plan.specs.Regions.{Region, among, side, regionPlace, regionCell, tilesBox, tilesWindow, comesInto}
+use Rattle.plan.specs.Regions.{Region, among, side, regionPlace, regionCell, tilesBox, tilesWindow, slotBox, slotWindow, comesInto}
 use Rattle.layout.specs.Sizes.{along}
 use Rattle.layout.specs.Places.{nth, Has}
 use Rattle.parcels.specs.declared.Block.{Block}
 use Rattle.parcels.specs.declared.Window.{Window}
 use Rattle.parcels.specs.declared.Sending.{Sending}
 use Rattle.parcels.specs.declared.Row.{Row}
-use Rattle.parcels.specs.Windows.{last, windowOf, Leading}
+use Rattle.parcels.specs.Windows.{last, windowOf, DistanceEnds, Leading}
 
 -- ---- box and window of a slot
 
@@ -85,9 +85,11 @@ pub record Shaped (x : Nest) (z : Sending) : Type 0 where
 unfoldable pub found : Nest → Sending → ℕ → List ℕ
 found x z n = map (cellIn x z) (keep (λ q. comesInto x (windowOf (z .window)) (placeIn x z q)) n)
 
--- they are slot s's
+-- they are slot s's, whose box and window it has
 pub record Sends (r : Route) (x : Nest) (s : ℕ) (z : Sending) : Type 0 where
   pub shape : Shaped x z
+  pub box : Boxed x (slotBox r x s) (z .block)
+  pub window : Windowed x (slotWindow r x s) (z .window)
   pub cells : slotCells r x s ≡ found x z (z .rows * z .width)
 
 -- ---- what is found of a row
@@ -104,6 +106,7 @@ pub record RowEnds (x : Nest) (z : Sending) (first c a w : ℕ) (ends : List ℕ
 -- row r of the box: its place, the ends in it, how many of its cells are in the parcel, and the rows from it on that have the same ends
 pub record RowAt (x : Nest) (z : Sending) (r : ℕ) (q : Row) : Type 0 where
   pub place : Has (q .place) (placeIn x z (r * z .width)) (x .dimensions)
+  pub limits : DistanceEnds x (windowOf (z .window)) (nth (q .place)) (q .ends)
   pub run : Leading (q .ends) (x .distances) (q .component) (z .width) (q .run)
   pub least : 1 ≤ q .alike
   pub room : r + q .alike ≤ z .rows

@@ -6,7 +6,7 @@ ghost use lib.Dec.{eqb, leb, ltb};
 ghost use Rattle.base.specs.Tests.{_and_, one, some};
 ghost use Rattle.base.specs.Lists.{part, pack, unpack};
 ghost use Rattle.nest.specs.Accepted.{Accepted};
-ghost use Rattle.nest.specs.Nest.{tileCount, cells, tiles};
+ghost use Rattle.nest.specs.Nest.{tileCount, cells, boxTiles};
 ghost use Rattle.plan.specs.Messages.{slots, slotParcel};
 ghost use Rattle.layout.specs.Sizes.{Sized};
 ghost use Rattle.layout.specs.Places.{nth};
@@ -19,33 +19,33 @@ use nest::Nest;
 use plan::Route;
 
 // A box of places, from its first one with its lengths.
-struct Block {
-    corner: [usize; 4],
-    lengths: [usize; 4],
+pub struct Block {
+    pub corner: [usize; 4],
+    pub lengths: [usize; 4],
 }
 
 // The window: a cell of the box is the slot's if some distance puts it from `low` on, below `high`, in each dimension.
-struct Window {
-    low: [usize; 4],
-    high: [usize; 4],
+pub struct Window {
+    pub low: [usize; 4],
+    pub high: [usize; 4],
 }
 
 // What a slot's cells are found by: the box by rows, and the window.
-struct Sending {
-    block: Block,
-    window: Window,
-    rows: usize,
-    width: usize,
+pub struct Sending {
+    pub block: Block,
+    pub window: Window,
+    pub rows: usize,
+    pub width: usize,
 }
 
 // A row of the box: the place of its first cell, the last component there, the ends in it, how many of its cells are in
 // the parcel, and how many rows from it on are like it.
-struct Row {
-    place: [usize; 4],
-    component: usize,
-    ends: [usize; 8],
-    run: usize,
-    alike: usize,
+pub struct Row {
+    pub place: [usize; 4],
+    pub component: usize,
+    pub ends: [usize; 8],
+    pub run: usize,
+    pub alike: usize,
 }
 
 // The carry test: whether `component` + `distance` lies from `low` on, below `high`.
@@ -104,7 +104,7 @@ fn two_before(nest: Nest, route: Route) -> usize
 // A tile before this one whose parcels have the lengths that this one's have, or the tile itself: only at the ends of a
 // dimension do they change, so that one tile back along the last dimension that allows it will do.
 pub fn twin_of(nest: Nest, sizes: Sizes, tile: usize) -> usize
-    requires { ⌜ Sized nest sizes × (tile < tiles nest) ⌝ }
+    requires { ⌜ Sized nest sizes × (tile < boxTiles nest) ⌝ }
     ensures { λ r. ⌜ Twin (sizes .route) nest tile r ⌝ }
 {
     let across = sizes.across;
@@ -263,7 +263,7 @@ fn run_of(ends: &[usize; 8], n: usize, component: usize, width: usize) -> usize
 }
 
 // For how many components, `from` and those after it, the carry test stays as it is.
-fn unchanged(from: usize, low: usize, high: usize) -> usize
+pub fn unchanged(from: usize, low: usize, high: usize) -> usize
     ensures { λ r. ⌜ Unchanged from low high r ⌝ }
 {
     if from < low {
@@ -327,7 +327,7 @@ fn hops(ahead: usize, count: usize) -> bool
 }
 
 // Whether a way does.
-fn leaves(counts: [usize; 4], ahead: [usize; 4], n: usize) -> bool
+pub fn leaves(counts: [usize; 4], ahead: [usize; 4], n: usize) -> bool
     requires { ⌜ n ≤ 4 ⌝ }
     ensures { λ r. ⌜ r ≡ some (λ j. eqb (getD ahead j 0) 1 and ltb 1 (getD counts j 0)) n ⌝ }
 {
@@ -353,7 +353,13 @@ fn idle(nest: Nest, sizes: Sizes, slot: usize, at: [usize; 4], ahead: [usize; 4]
 }
 
 // What is found once for all rows of a slot's box.
-fn sending_of(nest: Nest, sizes: Sizes, slot: usize, at: [usize; 4], ahead: [usize; 4]) -> Sending
+pub fn sending_of(
+    nest: Nest,
+    sizes: Sizes,
+    slot: usize,
+    at: [usize; 4],
+    ahead: [usize; 4],
+) -> Sending
     requires { ⌜ Sized nest sizes × Headed (sizes .route) nest slot at ahead ⌝ }
     ensures { λ r. ⌜ Sends (sizes .route) nest slot r ⌝ }
 {
@@ -374,7 +380,7 @@ fn sending_of(nest: Nest, sizes: Sizes, slot: usize, at: [usize; 4], ahead: [usi
 }
 
 // Row r of the box.
-fn row_at(nest: Nest, components: &[usize; 32], sending: Sending, r: usize) -> Row
+pub fn row_at(nest: Nest, components: &[usize; 32], sending: Sending, r: usize) -> Row
     requires { ⌜ Accepted nest × (Given nest (now components) × (Shaped nest sending × (r < sending .rows))) ⌝ }
     ensures { λ q. ⌜ RowAt nest sending r q ⌝ }
 {

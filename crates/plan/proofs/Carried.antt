@@ -3,7 +3,7 @@ use Prim.Native.Nat.{ℕ, _+_, _*_, _≤_, _<_}
 use mathlib.Core.Path.{_≡_, sym, ap, _∙_}
 use mathlib.Core.Logic.{_⊎_, inl, inr, _≢_, _↔_}
 use native.Mathlib.Decide.{decLt}
-use native.Mathlib.Nat.{div-add-mod', mul-le-mul-right, suc-mul}
+use native.Mathlib.Nat.{div-add-mod'}
 use native.Mathlib.Omega.{arith}
 use lib.ListN.{length}
 use borrow.Author.Tests.{eqb-false, ne-eqb}
@@ -12,22 +12,24 @@ use Rattle.base.proofs.Select.{those-in}
 use Rattle.machine.specs.Plan.{Message, count, senderOf, takerOf, heldBy, duesOf}
 use Rattle.nest.specs.declared.Nest.{Nest}
 use Rattle.nest.specs.Accepted.{Accepted}
-use Rattle.nest.specs.Nest.{tiles}
+use Rattle.nest.specs.Nest.{boxTiles}
 use Rattle.plan.specs.declared.Route.{Route}
-use Rattle.plan.specs.Geometry.{tilePlace, processorOf}
-use Rattle.plan.specs.Messages.{ways, slots, slotTile, slotTaker, atHome, slotParcel, messagesTo, planOf}
+use Rattle.nest.specs.Places.{tilePlace}
+use Rattle.plan.specs.Geometry.{processorOf}
+use Rattle.plan.specs.Messages.{ways, slots, slotTile, slotTaker, atHome, slotParcel, slotMessage, messagesTo, boxPlan}
 use Rattle.plan.specs.Exact.{Way, cellsBy, takerBy, stepBy, Carries}
-use Rattle.plan.proofs.Slots.{full-in, parcel-cells, parcel-away, full-away, message-slot, number-low}
+use Rattle.plan.proofs.Listed.{number-order, slot-order}
+use Rattle.plan.proofs.Slots.{full-in, parcel-cells, parcel-away, full-away, message-slot}
 use Rattle.plan.proofs.Parcels.{slotTile-low}
 use Rattle.plan.proofs.Sound.{slot-sent}
 use Rattle.plan.proofs.Ways.{nth, wayOf, way-of, nth-of, nth-low, nth-lt, slot-cells, slot-to, way-slot, way-tile, way-cells, way-taker, step-beyond, step-way, taker-at, one-way}
 
 module _ (x : Nest) (ok : Accepted x) (r : Route) where
-  carried : (m t w c : ℕ) → t < tiles x → Way r x w → In c (cellsBy r x t w) → senderOf (planOf r x) m ≡ t
-      → takerOf (planOf r x) m ≡ takerBy r x t w → heldBy (planOf r x) m ≡ cellsBy r x t w
+  carried : (m t w c : ℕ) → t < boxTiles x → Way r x w → In c (cellsBy r x t w) → senderOf (boxPlan r x) m ≡ t
+      → takerOf (boxPlan r x) m ≡ takerBy r x t w → heldBy (boxPlan r x) m ≡ cellsBy r x t w
       → processorOf x t ≢ processorOf x (takerBy r x t w) → Carries r x m t w
   carried m t w c lt h i from to is away =
-      let place : (j : ℕ) → j < x .dimensions → tilePlace x (takerOf (planOf r x) m) j ≡ tilePlace x t j + stepBy r x w j =
+      let place : (j : ℕ) → j < x .dimensions → tilePlace x (takerOf (boxPlan r x) m) j ≡ tilePlace x t j + stepBy r x w j =
       λ j l. ap (λ (u : ℕ). tilePlace x u j) to ∙ taker-at x ok r t w c lt i j l in
       record {
         tile = lt;
@@ -41,7 +43,7 @@ module _ (x : Nest) (ok : Accepted x) (r : Route) where
       }
 
   -- the slot of message m, with its number
-  slot-of : (m : ℕ) → m < count (planOf r x)
+  slot-of : (m : ℕ) → m < count (boxPlan r x)
       → (s : ℕ) × (s < slots r x) × (0 < length (slotParcel r x s)) × (length (messagesTo r x s) ≡ m)
       × Carries r x m (slotTile r x s) (wayOf r x s)
   unfolding atHome
@@ -61,17 +63,17 @@ module _ (x : Nest) (ok : Accepted x) (r : Route) where
             (λ e. eqb-false _ _ (b .0) (e ∙ ap (processorOf x) (sym (slot-to x r s)))),
       )
 
-  pub message : (m : ℕ) → m < count (planOf r x) → (t : ℕ) × ((w : ℕ) × Carries r x m t w)
+  pub message : (m : ℕ) → m < count (boxPlan r x) → (t : ℕ) × ((w : ℕ) × Carries r x m t w)
   message m h = let a = slot-of m h in (slotTile r x (a .0), (wayOf r x (a .0), a .4))
 
-  pub some-held : (m : ℕ) → m < count (planOf r x) → (c : ℕ) × In c (heldBy (planOf r x) m)
+  pub some-held : (m : ℕ) → m < count (boxPlan r x) → (c : ℕ) × In c (heldBy (boxPlan r x) m)
   some-held m h =
       let a = message-slot r x (slots r x) m h in
       let k = full-in (slotParcel r x (a .0)) (a .2) in
       (k .0, rw (ap (λ (y : Message). y .cells) (a .4)) (k .1))
 
-  pub messages : (t w : ℕ) → t < tiles x → Way r x w → 0 < length (cellsBy r x t w) → processorOf x t ≢ processorOf x (takerBy r x t w)
-      → (m : ℕ) × (m < count (planOf r x)) × Carries r x m t w
+  pub messages : (t w : ℕ) → t < boxTiles x → Way r x w → 0 < length (cellsBy r x t w) → processorOf x t ≢ processorOf x (takerBy r x t w)
+      → (m : ℕ) × (m < count (boxPlan r x)) × Carries r x m t w
   unfolding atHome
   messages t w lt h full away =
       let f = full-in (cellsBy r x t w) full in
@@ -84,7 +86,7 @@ module _ (x : Nest) (ok : Accepted x) (r : Route) where
       (m .0, m .1, carried (m .0) t w (f .0) lt h (f .1) (m .2 ∙ tile) (m .3 ∙ to) (m .4 ∙ is) away)
 
   -- the number of message (t, w): the messages of the slots before it
-  number-of : (m t w : ℕ) → m < count (planOf r x) → Carries r x m t w
+  number-of : (m t w : ℕ) → m < count (boxPlan r x) → Carries r x m t w
       → (s : ℕ) × (s ≡ t * ways r x + nth r w) × (0 < length (slotParcel r x s)) × (length (messagesTo r x s) ≡ m)
   number-of m t w h c =
       let a = slot-of m h in
@@ -98,49 +100,34 @@ module _ (x : Nest) (ok : Accepted x) (r : Route) where
         a .3,
       )
 
-  number-lt : (s s′ : ℕ) → 0 < length (slotParcel r x s) → s < s′ → length (messagesTo r x s) < length (messagesTo r x s′)
-  number-lt s s′ f l = number-low r x s′ s l f
-
-  ordered : (s s′ : ℕ) → 0 < length (slotParcel r x s) → 0 < length (slotParcel r x s′)
-      → length (messagesTo r x s) < length (messagesTo r x s′) → s < s′
-  ordered s s′ f g l = go (decLt s s′) (decLt s′ s)
-    where
-      go : Dec (s < s′) → Dec (s′ < s) → s < s′
-      go (yes h) d = h
-      go (no h) (yes k) = absurd (omega (arith, number-lt s′ s g k))
-      go (no h) (no k) =
-          let e : s ≡ s′ = omega arith in
-          absurd (omega (arith, ap (λ (u : ℕ). length (messagesTo r x u)) e))
-
-  module _ (m n t v u w : ℕ) (lm : m < count (planOf r x)) (ln : n < count (planOf r x)) (a : Carries r x m t v)
+  module _ (m n t v u w : ℕ) (lm : m < count (boxPlan r x)) (ln : n < count (boxPlan r x)) (a : Carries r x m t v)
       (b : Carries r x n u w) where
     -- by the place of tile and way among the slots
     by-slot : (m < n) ↔ (t * ways r x + nth r v < u * ways r x + nth r w)
+    unfolding messagesTo
     by-slot =
         let p = number-of m t v lm a in
-        let q = number-of n u w ln b in (
-          (λ h. let k : p .0 < q .0 = ordered (p .0) (q .0) (p .2) (q .2) (omega (arith, p .3, q .3)) in omega (arith, p .1, q .1)),
-          (λ h. let k : p .0 < q .0 = omega (arith, p .1, q .1) in omega (arith, number-lt (p .0) (q .0) (p .2) k, p .3, q .3)),
+        let q = number-of n u w ln b in
+        let o = number-order (slotMessage r x) (p .0) (q .0) (p .2) (q .2) in (
+          (λ h. let k = o .0 (omega (arith, p .3, q .3)) in omega (arith, p .1, q .1)),
+          (λ h. let k = o .1 (omega (arith, p .1, q .1)) in omega (arith, p .3, q .3)),
         )
 
     pub order : (m < n) ↔ ((t < u) ⊎ ((t ≡ u) × (v < w)))
-    order = ((λ h. go (by-slot .0 h) (decLt t u) (decLt u t)), (λ h. by-slot .1 (back h)))
+    order = ((λ h. on (s .0 (by-slot .0 h))), (λ h. by-slot .1 (s .1 (back h))))
       where
-        more : (i k : ℕ) → i < k → i * ways r x + ways r x ≤ k * ways r x
-        more i k h = omega (arith, mul-le-mul-right (ways r x) h, suc-mul i (ways r x))
+        s : (t * ways r x + nth r v < u * ways r x + nth r w) ↔ ((t < u) ⊎ ((t ≡ u) × (nth r v < nth r w)))
+        s = slot-order (ways r x) t (nth r v) u (nth r w) (nth-low x r v (a .way)) (nth-low x r w (b .way))
 
-        go : t * ways r x + nth r v < u * ways r x + nth r w → Dec (t < u) → Dec (u < t) → (t < u) ⊎ ((t ≡ u) × (v < w))
-        go h (yes l) d = inl l
-        go h (no l) (yes d) = absurd (omega (arith, more u t d, nth-low x r w (b .way)))
-        go h (no l) (no d) =
-            let e : t ≡ u = omega arith in
-            inr (e, nth-lt x r v w (a .way) (b .way) .0 (omega (arith, ap (λ (k : ℕ). k * ways r x) e)))
+        on : (t < u) ⊎ ((t ≡ u) × (nth r v < nth r w)) → (t < u) ⊎ ((t ≡ u) × (v < w))
+        on (inl l) = inl l
+        on (inr (e, l)) = inr (e, nth-lt x r v w (a .way) (b .way) .0 l)
 
-        back : (t < u) ⊎ ((t ≡ u) × (v < w)) → t * ways r x + nth r v < u * ways r x + nth r w
-        back (inl l) = omega (arith, more t u l, nth-low x r v (a .way))
-        back (inr (e, l)) = omega (arith, ap (λ (k : ℕ). k * ways r x) e, nth-lt x r v w (a .way) (b .way) .1 l)
+        back : (t < u) ⊎ ((t ≡ u) × (v < w)) → (t < u) ⊎ ((t ≡ u) × (nth r v < nth r w))
+        back (inl l) = inl l
+        back (inr (e, l)) = inr (e, nth-lt x r v w (a .way) (b .way) .1 l)
 
-  pub one : (m n t w : ℕ) → m < count (planOf r x) → n < count (planOf r x) → Carries r x m t w → Carries r x n t w → m ≡ n
+  pub one : (m n t w : ℕ) → m < count (boxPlan r x) → n < count (boxPlan r x) → Carries r x m t w → Carries r x n t w → m ≡ n
   one m n t w lm ln a b = go (decLt m n) (decLt n m)
     where
       go : Dec (m < n) → Dec (n < m) → m ≡ n
@@ -149,17 +136,17 @@ module _ (x : Nest) (ok : Accepted x) (r : Route) where
       go (no h) (no k) = omega arith
 
   -- at most one message due at a tile holds a cell
-  pub once : (t m n c : ℕ) → In m (duesOf (planOf r x) t) → In n (duesOf (planOf r x) t) → In c (heldBy (planOf r x) m)
-      → In c (heldBy (planOf r x) n) → m ≡ n
+  pub once : (t m n c : ℕ) → In m (duesOf (boxPlan r x) t) → In n (duesOf (boxPlan r x) t) → In c (heldBy (boxPlan r x) m)
+      → In c (heldBy (boxPlan r x) n) → m ≡ n
   once t m n c i k p q =
-      let d = those-in (takerOf (planOf r x)) t (count (planOf r x)) m i in
-      let f = those-in (takerOf (planOf r x)) t (count (planOf r x)) n k in
+      let d = those-in (takerOf (boxPlan r x)) t (count (boxPlan r x)) m i in
+      let f = those-in (takerOf (boxPlan r x)) t (count (boxPlan r x)) n k in
       let a = message m (d .0) in
       let b = message n (f .0) in
       same (a .0) (a .1 .0) (b .0) (b .1 .0) (d .0) (f .0) (a .1 .1) (b .1 .1) (d .1 ∙ sym (f .1))
     where
-      same : (t v u w : ℕ) → m < count (planOf r x) → n < count (planOf r x) → Carries r x m t v → Carries r x n u w
-          → takerOf (planOf r x) m ≡ takerOf (planOf r x) n → m ≡ n
+      same : (t v u w : ℕ) → m < count (boxPlan r x) → n < count (boxPlan r x) → Carries r x m t v → Carries r x n u w
+          → takerOf (boxPlan r x) m ≡ takerOf (boxPlan r x) n → m ≡ n
       same t v u w lm ln a b to =
           let g : In c (cellsBy r x t v) = rw (a .holds) at p in
           let h : In c (cellsBy r x u w) = rw (b .holds) at q in

@@ -6,7 +6,7 @@ use Rattle.machine.specs.Plan.{count, heldBy}
 use Rattle.nest.specs.declared.Nest.{Nest}
 use Rattle.nest.specs.Accepted.{Accepted}
 use Rattle.plan.specs.declared.Route.the-variants.{Direct, Indirect}
-use Rattle.plan.specs.Messages.{passed, planOf}
+use Rattle.plan.specs.Messages.{passed, boxPlan}
 use Rattle.plan.specs.Exact.{cellsBy, Carries, Read, Exact}
 use Rattle.plan.proofs.Slots.{full-in}
 use Rattle.plan.proofs.Homes.{hops-all}
@@ -21,10 +21,10 @@ use Rattle.plan.proofs.Tiled.{tiled-is}
 -- ---- what a message holds
 
 module _ (x : Nest) (ok : Accepted x) where
-  pub reads : (m c : ℕ) → m < count (planOf Direct x) → In c (heldBy (planOf Direct x) m) ↔ Read x m c
+  pub reads : (m c : ℕ) → m < count (boxPlan Direct x) → In c (heldBy (boxPlan Direct x) m) ↔ Read x m c
   reads m c h = let a = message x ok Direct m h in read-as x ok m (a .0) (a .1 .0) c (a .1 .1)
 
-  held-on : (m t q c : ℕ) → Carries Indirect x m t q → {P : Type 0} → In c (passed x t q) ↔ P → In c (heldBy (planOf Indirect x) m) ↔ P
+  held-on : (m t q c : ℕ) → Carries Indirect x m t q → {P : Type 0} → In c (passed x t q) ↔ P → In c (heldBy (boxPlan Indirect x) m) ↔ P
   held-on m t q c k p = rw (k .holds) p
 
 -- ---- all of it

@@ -16,13 +16,14 @@ use Rattle.base.proofs.Tests.{both, and-true, same-test, one-true, one-false, s
 use Rattle.base.proofs.Select.{keep-in, in-keep}
 use Rattle.nest.specs.declared.Nest.{Nest}
 use Rattle.nest.specs.Accepted.{Accepted}
-use Rattle.nest.specs.Nest.{processorCount, tiles}
+use Rattle.nest.specs.Nest.{processorCount, boxTiles}
 use Rattle.plan.specs.declared.Route.{Route}
 use Rattle.plan.specs.declared.Route.the-variants.{Direct, Indirect}
-use Rattle.plan.specs.Geometry.{place, tilePlace, processorOf}
+use Rattle.nest.specs.Places.{place, tilePlace}
+use Rattle.plan.specs.Geometry.{processorOf}
 use Rattle.plan.specs.Messages.{directions, ahead, taker, neighbour, slots, slotDirection, slotDimension, slotCells, slotTaker, atHome, slotParcel}
 use Rattle.plan.specs.Hops.{hopsAlong, hops, alone}
-use Rattle.plan.proofs.Rank.{rank-same}
+use Rattle.nest.proofs.Rank.{rank-same}
 use Rattle.plan.proofs.Loops.{allocated}
 use Rattle.plan.proofs.Slots.{in-full, full-in}
 use Rattle.plan.proofs.Parcels.{Held, parcel-held, ahead-low, ahead-some, Passed, passed-in, slotTile-low, slotDimension-low, taker-place, neighbour-place}
@@ -88,6 +89,16 @@ module _ (x : Nest) (v : ℕ) where
 
 -- ---- processors
 
+-- two tests that agree where a list has an entry leave the same of it
+pub unless-same : (t u : Bool) (cs : List ℕ) → ((c : ℕ) → In c cs → t ≡ u) → pick t [] cs ≡ pick u [] cs
+unfolding pick
+unless-same t u [] h = none t ∙ sym (none u)
+  where
+    none : (b : Bool) → pick {A = List ℕ} b [] [] ≡ []
+    none true = refl
+    none false = refl
+unless-same t u (y ∷ cs) h = ap (λ (b : Bool). pick b [] (y ∷ cs)) (h y (inl refl))
+
 module _ (x : Nest) (ok : Accepted x) where
   pub same-mods : (t u : ℕ) → processorOf x t ≡ processorOf x u → (j : ℕ) → j < x .spread
       → tilePlace x t j % processorCount x j ≡ tilePlace x u j % processorCount x j
@@ -147,7 +158,7 @@ module _ (x : Nest) (ok : Accepted x) where
         go j l (no a) (no d) = inr (omega (arith, ok .manned j l))
 
   -- ---- indirect: q has a count of 1
-  module _ (t q c v e : ℕ) (low : t < tiles x) (along : q < x .spread) (p : Passed x t q c v e) where
+  module _ (t q c v e : ℕ) (low : t < boxTiles x) (along : q < x .spread) (p : Passed x t q c v e) where
     pub indirect-away : 1 < processorCount x q → processorOf x t ≡ processorOf x (neighbour x t q) → ⊥
     indirect-away h =
         moved t (neighbour x t q) q along h
@@ -167,14 +178,11 @@ module _ (x : Nest) (ok : Accepted x) where
 
   -- ---- a slot's parcel by counts
 
-  home-is : (r : Route) (s c : ℕ) → s < slots r x → In c (slotCells r x s) → atHome r x s ≡ alone r x s
-  unfolding atHome slotTaker slotCells
-  home-is Direct s c l i =
-      let g = parcel-held x _ _ c i in
-      same-test
-      (λ h. zero-of (hops x (slotDirection x s))
-      (λ (k : 1 ≤ hops x (slotDirection x s)). direct-away _ _ c (g .0) (g .1) k (eqb-true _ _ h)))
-      (λ h. eq-eqb _ _ (direct-home _ _ c (g .0) (g .1) (eqb-true _ _ h)))
+  -- by counts, for tile t and direction v
+  pub home-direct : (t v c e : ℕ) → Held x t v c e → eqb (processorOf x t) (processorOf x (taker x t v)) ≡ eqb (hops x v) 0
+  home-direct t v c e held =
+      same-test (λ h. zero-of (hops x v) (λ (k : 1 ≤ hops x v). direct-away t v c e held k (eqb-true _ _ h)))
+      (λ h. eq-eqb _ _ (direct-home t v c e held (eqb-true _ _ h)))
     where
       zero-of : (n : ℕ) → (1 ≤ n → ⊥) → eqb n 0 ≡ true
       zero-of n f = go (ℕ-discrete n 0)
@@ -182,6 +190,10 @@ module _ (x : Nest) (ok : Accepted x) where
           go : Dec (n ≡ 0) → eqb n 0 ≡ true
           go (yes e) = eq-eqb n 0 e
           go (no e) = absurd (f (omega arith))
+
+  home-is : (r : Route) (s c : ℕ) → s < slots r x → In c (slotCells r x s) → atHome r x s ≡ alone r x s
+  unfolding atHome slotTaker slotCells
+  home-is Direct s c l i = let g = parcel-held x _ _ c i in home-direct _ _ c (g .0) (g .1)
   home-is Indirect s c l i =
       let g = passed-in x _ _ c i in
       let lt = slotTile-low x Indirect s l in
@@ -199,13 +211,5 @@ module _ (x : Nest) (ok : Accepted x) where
           go (no e) = le-leb n 1 (omega arith)
 
   pub slotParcel-is : (r : Route) (s : ℕ) → s < slots r x → slotParcel r x s ≡ pick (alone r x s) [] (slotCells r x s)
-  unfolding slotParcel pick
-  slotParcel-is r s l = go (slotCells r x s) (λ c i. home-is r s c l i)
-    where
-      go : (cs : List ℕ) → ((c : ℕ) → In c cs → atHome r x s ≡ alone r x s) → pick (atHome r x s) [] cs ≡ pick (alone r x s) [] cs
-      go [] h = none (atHome r x s) ∙ sym (none (alone r x s))
-        where
-          none : (t : Bool) → pick {A = List ℕ} t [] [] ≡ []
-          none true = refl
-          none false = refl
-      go (y ∷ cs) h = ap (λ (t : Bool). pick t [] (y ∷ cs)) (h y (inl refl))
+  unfolding slotParcel
+  slotParcel-is r s l = unless-same (atHome r x s) (alone r x s) (slotCells r x s) (λ c i. home-is r s c l i)

@@ -9,10 +9,11 @@ use Rattle.base.specs.Lists.{In}
 use Rattle.machine.specs.Plan.{count, senderOf, takerOf, heldBy}
 use Rattle.nest.specs.declared.Nest.{Nest}
 use Rattle.nest.specs.Accepted.{Accepted}
-use Rattle.nest.specs.Nest.{processorCount, tiles}
+use Rattle.nest.specs.Nest.{processorCount, boxTiles}
 use Rattle.plan.specs.declared.Route.the-variants.{Indirect}
-use Rattle.plan.specs.Geometry.{tilePlace, processorOf}
-use Rattle.plan.specs.Messages.{directions, ahead, parcel, taker, before, origin, passes, passed, planOf}
+use Rattle.nest.specs.Places.{tilePlace}
+use Rattle.plan.specs.Geometry.{processorOf}
+use Rattle.plan.specs.Messages.{directions, ahead, parcel, taker, before, origin, passes, passed, boxPlan}
 use Rattle.plan.specs.Hops.{hopsAlong, stop, Travels}
 use Rattle.plan.proofs.Tiles.{tileAt-le, tileAt-tilePlace}
 use Rattle.plan.proofs.Slots.{in-full}
@@ -20,24 +21,24 @@ use Rattle.plan.proofs.Parcels.{Held, parcel-held, ahead-low, ahead-bey
 use Rattle.plan.proofs.Homes.{hop-in, in-hop, unmoved, indirect-away}
 use Rattle.plan.proofs.Carried.{messages}
 
-module _ (x : Nest) (ok : Accepted x) (t v c e : ℕ) (lt : t < tiles x) (most : v ≤ directions x) (held : Held x t v c e) where
+module _ (x : Nest) (ok : Accepted x) (t v c e : ℕ) (lt : t < boxTiles x) (most : v ≤ directions x) (held : Held x t v c e) where
   low : (j : ℕ) → j < x .spread → j < x .dimensions
   low j h = omega (arith, ok .spread-low)
 
   carried : (q : ℕ) → In q (hopsAlong x v)
-      → (m : ℕ) × (m < count (planOf Indirect x)) × (senderOf (planOf Indirect x) m ≡ stop x t v q)
-      × (takerOf (planOf Indirect x) m ≡ stop x t v (suc q)) × In c (heldBy (planOf Indirect x) m)
+      → (m : ℕ) × (m < count (boxPlan Indirect x)) × (senderOf (boxPlan Indirect x) m ≡ stop x t v q)
+      × (takerOf (boxPlan Indirect x) m ≡ stop x t v (suc q)) × In c (heldBy (boxPlan Indirect x) m)
   carried q h =
       let a = in-hop x v q h in
       let u : ℕ = stop x t v q in
-      let lu : u < tiles x = stop-low x ok t v c e held q in
+      let lu : u < boxTiles x = stop-low x ok t v c e held q in
       let p : Passed x u q c v e = stop-passed x ok t v c e held q lt most (a .1) in
       let i : In c (passed x u q) = in-passed x u q c v e p in
       let m = messages x ok Indirect u q lu (a .0) (in-full c (passed x u q) i) (indirect-away x ok u q c v e lu (a .0) p (a .2)) in
       let k = m .2 in
       (m .0, m .1, k .sender, k .taker-is ∙ stop-hop x ok t v c e held q (a .1), rw (k .holds) i)
 
-  only : (q s : ℕ) → q < x .spread → s < tiles x → passes x s q c v ≡ true → s ≡ stop x t v q
+  only : (q s : ℕ) → q < x .spread → s < boxTiles x → passes x s q c v ≡ true → s ≡ stop x t v q
   only q s lq ls h =
       let p = passes-passed x s q c v (held .cell) most h in
       let same : origin x s q v ≡ t = sym (p .1 .held .own) ∙ held .own in
@@ -111,7 +112,7 @@ module _ (x : Nest) (ok : Accepted x) (t v c e : ℕ) (lt : t < tiles x) (most :
               (λ j l. omega (arith, stop-place x ok t v c e held (suc q) j l, taker-place x ok t v c e held j l, before-le x (suc q) v j)),
         )
 
-pub travels : (x : Nest) → Accepted x → (t v c : ℕ) → t < tiles x → v ≤ directions x → In c (parcel x t v) → Travels x t v c
+pub travels : (x : Nest) → Accepted x → (t v c : ℕ) → t < boxTiles x → v ≤ directions x → In c (parcel x t v) → Travels x t v c
 travels x ok t v c lt most i =
     let h = parcel-held x t v c i in
     record {

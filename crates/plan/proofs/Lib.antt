@@ -2,7 +2,6 @@ pub mod AToH
 pub mod RowNests
 pub mod IndirectRows
 pub mod SingleCounts
-pub mod Rank
 pub mod Tiles
 pub mod Listed
 pub mod Slots
@@ -26,3 +25,14 @@ pub mod Tiled
 pub mod Readers
 pub mod Exact
 pub mod Report
+pub mod ShapedTiles
+pub mod ShapedParcels
+pub mod ShapedTaker
+pub mod ShapedSlots
+pub mod ShapedDues
+pub mod ShapedBox
+pub mod ShapedSound
+pub mod ShapedNest
+pub mod ShapedExact
+pub mod Plans
+pub mod ShapedRows

@@ -1,10 +1,10 @@
 -- Laws of the list of messages, from any slots: which slot a message comes from, its number, its offset and the room for it.
-use Prim.Native.Nat.{ℕ, zero, suc, _+_, _≤_, _<_}
+use Prim.Native.Nat.{ℕ, zero, suc, _+_, _*_, _≤_, _<_}
 use mathlib.Core.Path.{_≡_, refl, sym, ap, _∙_}
-use mathlib.Core.Logic.{_⊎_, inl, inr}
+use mathlib.Core.Logic.{_⊎_, inl, inr, _↔_}
 use mathlib.Core.Bool.{Bool, true, false}
 use mathlib.Core.List.{List, [], _∷_, _++_, append-assoc, append-nil}
-use native.Mathlib.Nat.{eq-or-lt-of-le, le-of-suc-le-suc}
+use native.Mathlib.Nat.{eq-or-lt-of-le, le-of-suc-le-suc, mul-le-mul-right, suc-mul}
 use native.Mathlib.Numerals.{add-one}
 use native.Mathlib.Decide.{decLt}
 use native.Mathlib.Omega.{arith}
@@ -106,6 +106,18 @@ module _ (slot : ℕ → Message) where
     unfolding offset
     room-is = rw (split .1, total-append (messagesOf slot s) (slot s ∷ split .0)) (omega arith)
 
+  -- messages are numbered in the order of their slots
+  pub number-order : (s s′ : ℕ) → 0 < length (slot s .cells) → 0 < length (slot s′ .cells)
+      → (length (messagesOf slot s) < length (messagesOf slot s′)) ↔ (s < s′)
+  number-order s s′ f g = ((λ h. go h (decLt s s′) (decLt s′ s)), (λ h. number-low s′ s h f))
+    where
+      go : length (messagesOf slot s) < length (messagesOf slot s′) → Dec (s < s′) → Dec (s′ < s) → s < s′
+      go l (yes h) d = h
+      go l (no h) (yes k) = absurd (omega (arith, number-low s s′ k g))
+      go l (no h) (no k) =
+          let e : s ≡ s′ = omega arith in
+          absurd (omega (arith, ap (λ (u : ℕ). length (messagesOf slot u)) e))
+
   -- each message is a slot's
   pub message-slot : (n m : ℕ) → m < length (messagesOf slot n)
       → (s : ℕ) × (s < n) × (0 < length (slot s .cells)) × (length (messagesOf slot s) ≡ m)
@@ -129,3 +141,33 @@ module _ (slot : ℕ → Message) where
           let z : m ≡ length (messagesOf slot n) = omega arith in
           (n, omega arith, ltb-true _ _ e, sym z, rw z (getD-append-seam (messagesOf slot n) (slot n) [] noMessage))
       go ih false e (no q) k = let k′ = simp length-append at k in absurd (q (omega arith))
+
+-- the same messages from slots that are the same or both empty
+pub messages-same : (f g : ℕ → Message) (n : ℕ)
+    → ((s : ℕ) → s < n → ((length (f s .cells) ≡ 0) × (length (g s .cells) ≡ 0)) ⊎ (f s ≡ g s)) → messagesOf f n ≡ messagesOf g n
+unfolding messagesOf pick
+messages-same f g zero h = refl
+messages-same f g (suc n) h = go (messages-same f g n (λ s l. h s (omega arith))) (h n (omega arith))
+  where
+    go : messagesOf f n ≡ messagesOf g n → ((length (f n .cells) ≡ 0) × (length (g n .cells) ≡ 0)) ⊎ (f n ≡ g n)
+        → messagesOf f n ++ pick (ltb 0 (length (f n .cells))) (f n ∷ []) []
+        ≡ messagesOf g n ++ pick (ltb 0 (length (g n .cells))) (g n ∷ []) []
+    go ih (inl (p, q)) =
+        rw (le-ltb 0 (length (f n .cells)) (omega arith), le-ltb 0 (length (g n .cells)) (omega arith)) (ap (λ (l : List Message). l ++ []) ih)
+    go ih (inr e) = rw ih (ap (λ (m : Message). messagesOf g n ++ pick (ltb 0 (length (m .cells))) (m ∷ []) []) e)
+
+-- slots by tile, then by way, of d ways each
+pub slot-order : (d t i u k : ℕ) → i < d → k < d → (t * d + i < u * d + k) ↔ ((t < u) ⊎ ((t ≡ u) × (i < k)))
+slot-order d t i u k li lk = ((λ h. go h (decLt t u) (decLt u t)), back)
+  where
+    more : (a b : ℕ) → a < b → a * d + d ≤ b * d
+    more a b h = omega (arith, mul-le-mul-right d h, suc-mul a d)
+
+    go : t * d + i < u * d + k → Dec (t < u) → Dec (u < t) → (t < u) ⊎ ((t ≡ u) × (i < k))
+    go h (yes l) e = inl l
+    go h (no l) (yes e) = absurd (omega (arith, more u t e))
+    go h (no l) (no e) = let z : t ≡ u = omega arith in inr (z, omega (arith, ap (λ (a : ℕ). a * d) z))
+
+    back : (t < u) ⊎ ((t ≡ u) × (i < k)) → t * d + i < u * d + k
+    back (inl l) = omega (arith, more t u l)
+    back (inr (z, l)) = omega (arith, ap (λ (a : ℕ). a * d) z)

@@ -13,12 +13,12 @@ use Rattle.base.proofs.Select.{those-in, in-those}
 use Rattle.machine.specs.Plan.{count, takerOf, heldBy, duesOf}
 use Rattle.nest.specs.declared.Nest.{Nest}
 use Rattle.nest.specs.Accepted.{Accepted}
-use Rattle.nest.specs.Nest.{processorCount, tileCount, cells, tiles}
+use Rattle.nest.specs.Nest.{processorCount, tileCount, cells, boxTiles}
 use Rattle.plan.specs.declared.Route.the-variants.{Indirect}
-use Rattle.plan.specs.Geometry.{rank, cellPlace, tileAt, tilePlace}
-use Rattle.plan.specs.Messages.{two, directions, ahead, before, origin, passed, neighbour, planOf}
+use Rattle.nest.specs.Places.{rank, cellPlace, tileAt, tilePlace}
+use Rattle.plan.specs.Messages.{two, directions, ahead, before, origin, passed, neighbour, boxPlan}
 use Rattle.plan.specs.Report.{after, MergedReceiveSet, MergedSendSet, Joined}
-use Rattle.plan.proofs.Rank.{Within, rank-low, rank-same}
+use Rattle.nest.proofs.Rank.{Within, rank-low, rank-same}
 use Rattle.plan.proofs.Tiles.{tileAt-low, tilePlace-low, tilePlace-tileAt, tileAt-tilePlace}
 use Rattle.plan.proofs.Slots.{in-full}
 use Rattle.plan.proofs.Parcels.{ahead-rank, ahead-low, ahead-beyond, Passed, passed-in, in-passed, origin-place, neighbour-place}
@@ -92,7 +92,7 @@ module _ (x : Nest) (ok : Accepted x) where
         };
       }
 
-  module _ (t q c : ℕ) (lt : t < tiles x) (lq : q < x .spread) (lc : c < cells x) where
+  module _ (t q c : ℕ) (lt : t < boxTiles x) (lq : q < x .spread) (lc : c < cells x) where
     at : ℕ → (ℕ → ℕ) → ℕ → ℕ
     at u b j = tilePlace x u j + one (eqb j q) + after b q j - b j
 
@@ -150,7 +150,7 @@ module _ (x : Nest) (ok : Accepted x) where
       back-within : Within (tileCount x) (λ j. tilePlace x t j - before x q v j) (x .dimensions)
       back-within j h = omega (arith, tilePlace-low x ok t j h)
 
-      back-low : origin x t q v < tiles x
+      back-low : origin x t q v < boxTiles x
       unfolding origin
       back-low = tileAt-low x ok _ back-within
 
@@ -190,12 +190,12 @@ module _ (x : Nest) (ok : Accepted x) where
 
   -- ---- what is due at a tile
 
-  pub dues-merged : (t m : ℕ) → t < tiles x → In m (duesOf (planOf Indirect x) t)
+  pub dues-merged : (t m : ℕ) → t < boxTiles x → In m (duesOf (boxPlan Indirect x) t)
       → (q : ℕ) × (q < x .spread) × (1 < processorCount x q)
-      × ((c : ℕ) → c < cells x → In c (heldBy (planOf Indirect x) m)
+      × ((c : ℕ) → c < cells x → In c (heldBy (boxPlan Indirect x) m)
       ↔ Joined x (λ e. MergedReceiveSet x (tilePlace x t) q e (cellPlace x c)))
   dues-merged t m lt i =
-      let d = those-in (takerOf (planOf Indirect x)) t (count (planOf Indirect x)) m i in
+      let d = those-in (takerOf (boxPlan Indirect x)) t (count (boxPlan Indirect x)) m i in
       let a = message x ok Indirect m (d .0) in
       let u = a .0 in
       let q = a .1 .0 in
@@ -226,7 +226,7 @@ module _ (x : Nest) (ok : Accepted x) where
           go (yes h) = h
           go (no h) = absurd (z (omega arith))
 
-  module _ (t q c : ℕ) (lt : t < tiles x) (lq : q < x .spread) (lc : c < cells x) (far : 1 < processorCount x q)
+  module _ (t q c : ℕ) (lt : t < boxTiles x) (lq : q < x .spread) (lc : c < cells x) (far : 1 < processorCount x q)
       (r : Joined x (λ e. MergedReceiveSet x (tilePlace x t) q e (cellPlace x c))) where
     -- the tile before t along q
     q-low : q < x .dimensions
@@ -242,7 +242,7 @@ module _ (x : Nest) (ok : Accepted x) where
     u : ℕ
     u = tileAt x prior
 
-    u-low : u < tiles x
+    u-low : u < boxTiles x
     unfolding u
     u-low = tileAt-low x ok prior prior-within
 
@@ -265,7 +265,7 @@ module _ (x : Nest) (ok : Accepted x) where
     unfolding neighbour tileAt
     u-taker = rank-same (tileCount x) _ _ (x .dimensions) u-place ∙ tileAt-tilePlace x ok t lt
 
-    pub received-merged : (m : ℕ) × In m (duesOf (planOf Indirect x) t) × In c (heldBy (planOf Indirect x) m)
+    pub received-merged : (m : ℕ) × In m (duesOf (boxPlan Indirect x) t) × In c (heldBy (boxPlan Indirect x) m)
     received-merged =
         let there = merged-same _ _ q (r .0) (cellPlace x c) (r .1) (λ j l. sym (u-place j l)) (r .2) in
         let i : In c (passed x u q) = passed-is-merged u q c u-low lq lc .1 (r .0, r .1, there) in
@@ -274,6 +274,6 @@ module _ (x : Nest) (ok : Accepted x) where
         (indirect-away x ok u q c (g .0) (g .1) u-low lq (g .2) far) in
         let k = m .2 in (
           m .0,
-          in-those (takerOf (planOf Indirect x)) t (count (planOf Indirect x)) (m .0) (m .1) (k .taker-is ∙ u-taker),
+          in-those (takerOf (boxPlan Indirect x)) t (count (boxPlan Indirect x)) (m .0) (m .1) (k .taker-is ∙ u-taker),
           rw (k .holds) i,
         )

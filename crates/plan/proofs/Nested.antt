@@ -21,19 +21,20 @@ use Rattle.machine.specs.Machine.{sweep}
 use Rattle.machine.proofs.Values.{stored-right, sweep-fits, sweep-length}
 use Rattle.nest.specs.declared.Nest.{Nest}
 use Rattle.nest.specs.Accepted.{Accepted}
-use Rattle.nest.specs.Nest.{lengthOf, tileLength, component, weight, tileCount, cells, tiles}
-use Rattle.plan.specs.Geometry.{rank, place, cellAt, cellPlace, tileAt, tilePlace, cellsOf, hasRead, readAt, value}
+use Rattle.nest.specs.Nest.{lengthOf, tileLength, component, weight, tileCount, cells, boxTiles}
+use Rattle.nest.specs.Places.{rank, place, cellAt, cellPlace, tileAt, tilePlace}
+use Rattle.plan.specs.Geometry.{cellsOf, hasRead, readAt, value}
 use Rattle.plan.specs.declared.Route.{Route}
-use Rattle.plan.specs.Messages.{planOf}
+use Rattle.plan.specs.Messages.{boxPlan}
 use Rattle.plan.specs.Box.{boxLength, boxSize, boxPlace, boxCell}
 use Rattle.plan.specs.Report.{Index, values, doLoop, forEach, extend, lastTile, nested}
 use Rattle.plan.specs.Exact.{sequential, inner, outer, readFrom, body, runNest}
-use Rattle.plan.proofs.Rank.{Within, Positive, rank-same, rank-place, place-last, place-before}
-use Rattle.plan.proofs.Tiles.{cellPlace-cellAt, tileCount-pos, tilePlace-low, tile-inside}
+use Rattle.nest.proofs.Rank.{Within, Positive, rank-same, rank-place, place-last, place-before}
+use Rattle.plan.proofs.Tiles.{cellAt-same, cellPlace-cellAt, tileCount-pos, tilePlace-low, tile-inside}
 use Rattle.plan.proofs.Grid.{keep-all, forEach-tabulate, every-same}
 use Rattle.plan.proofs.Box.{cellsOf-box}
 use Rattle.plan.proofs.Loops.{number, forEach-rank}
-use Rattle.plan.proofs.Sound.{sound}
+use Rattle.plan.proofs.Sound.{box-sound}
 
 -- ---- one loop of stride 1
 
@@ -118,11 +119,11 @@ module _ (x : Nest) (ok : Accepted x) where
       let e : lastTile x j + 1 - 0 ≡ lastTile x j + 1 = omega arith in
       loop-one 0 (lastTile x j) ∙ ap (tabulate (λ u. 0 + u)) e
 
-  pub tiles-in-order : map (tileAt x) (outer x) ≡ tabulate (λ t. t) (tiles x)
-  unfolding outer tileAt tiles
+  pub tiles-in-order : map (tileAt x) (outer x) ≡ tabulate (λ t. t) (boxTiles x)
+  unfolding outer tileAt boxTiles
   tiles-in-order = all-in-order (tileCount x) (x .dimensions) over (tileCount-pos x ok) over-range
 
-  module _ (t : ℕ) (lt : t < tiles x) where
+  module _ (t : ℕ) (lt : t < boxTiles x) where
     abbrev first : ℕ → ℕ
     first j = tilePlace x t j * tileLength x j
 
@@ -193,10 +194,6 @@ loop-most s b v i = let q = tabulate-in (λ u. s + u) (b + 1 - s) v (rw (loop-on
 -- ---- the nest's run
 
 module _ (x : Nest) (ok : Accepted x) (source : List ℕ) where
-  cellAt-same : (i k : ℕ → ℕ) → ((j : ℕ) → j < x .dimensions → i j ≡ k j) → cellAt x i ≡ cellAt x k
-  unfolding cellAt
-  cellAt-same i k h = rank-same (lengthOf x) i k (x .dimensions) h
-
   body-value : (array : List ℕ) (i : ℕ → ℕ) → Index x i → body x source array i ≡ value x source array (cellAt x i)
   unfolding body readFrom value hasRead readAt
   body-value array i w =
@@ -208,7 +205,7 @@ module _ (x : Nest) (ok : Accepted x) (source : List ℕ) where
     where
       back : (e : ℕ) → cellAt x (λ j. i j - component x e j) ≡ readAt x (cellAt x i) e
       back e =
-          cellAt-same (λ j. i j - component x e j) (λ j. cellPlace x (cellAt x i) j - component x e j)
+          cellAt-same x (λ j. i j - component x e j) (λ j. cellPlace x (cellAt x i) j - component x e j)
           (λ j h. ap (λ (a : ℕ). a - component x e j) (sym (cellPlace-cellAt x ok i w j h)))
 
   pub run-stores : (is : List (ℕ → ℕ)) (array : List ℕ) → Each (Index x) is
@@ -217,7 +214,7 @@ module _ (x : Nest) (ok : Accepted x) (source : List ℕ) where
   run-stores [] array w = refl
   run-stores (i ∷ is) array w = rw (body-value array i (w .0)) (run-stores is _ (w .1))
 
-  sequential-each : Each (Index x) (sequential x)
+  pub sequential-each : Each (Index x) (sequential x)
   unfolding sequential
   sequential-each =
       nested-each (lengthOf x) (seq x ok) (x .dimensions) (λ j v h i. omega (arith, loop-most 0 (lengthOf x j - 1) v i, ok .long j h))
@@ -228,10 +225,10 @@ module _ (x : Nest) (ok : Accepted x) (source : List ℕ) where
     all = keep (λ c. true) (cells x)
 
     abbrev p : Plan
-    p = planOf route x
+    p = boxPlan route x
 
     abbrev so : Sound p
-    so = sound route x ok
+    so = box-sound route x ok
 
     all-low : (c : ℕ) → In c all → c < cells x
     all-low c i = keep-in (λ c. true) (cells x) c i .0
@@ -242,7 +239,7 @@ module _ (x : Nest) (ok : Accepted x) (source : List ℕ) where
     stored-at : (c : ℕ) → c < cells x → getD (storeAll (value x source) array all) c 0 ≡ getD (sweep p source) c 0
     stored-at c h =
         stored-right p source (λ c. getD (sweep p source) c 0) (sweep-fits p source (so .local source) (so .earlier)) all (λ r. ⊥)
-        (λ c r i k. let q = so .earlier c r (all-low c i) k in inl (in-all r (omega (arith, all-low c i)), q)) all-low all array
+        (λ c r i k. let q = so .earlier c r (all-low c i) k in inl (in-all r (omega (arith, all-low c i)), q)) all-low (λ c i. refl) all array
         (keep-rising (λ c. true) (cells x)) (λ y i. i) len (λ y i. absurd i) (λ y i. inl i) c (inr (in-all c h))
 
     stored : storeAll (value x source) array all ≡ sweep p source
@@ -251,7 +248,7 @@ module _ (x : Nest) (ok : Accepted x) (source : List ℕ) where
         (store-length (value x source) all array ∙ len ∙ sym (sweep-length p source (so .local source) (so .earlier) (cells x)))
         (λ c k. stored-at c (rw (store-length (value x source) all array ∙ len) at k))
 
-    pub sweep-is : runNest x source array (sequential x) ≡ sweep (planOf route x) source
+    pub sweep-is : runNest x source array (sequential x) ≡ sweep (boxPlan route x) source
     sweep-is =
         run-stores (sequential x) array sequential-each
         ∙ ap (storeAll (value x source) array) (cells-in-order x ok ∙ sym (keep-all (λ c. true) (cells x) (λ c h. refl)))

@@ -16,13 +16,14 @@ use Rattle.base.proofs.Select.{keep-in}
 use Rattle.machine.specs.Plan.{tilesOf}
 use Rattle.nest.specs.declared.Nest.{Nest}
 use Rattle.nest.specs.Accepted.{Accepted}
-use Rattle.nest.specs.Nest.{lengthOf, tileLength, processorCount, tileCount, cells, tiles, processors}
-use Rattle.plan.specs.Geometry.{rank, place, cellAt, cellPlace, tileAt, tilePlace, cellsOf}
+use Rattle.nest.specs.Nest.{lengthOf, tileLength, processorCount, tileCount, cells, processors, boxTiles}
+use Rattle.nest.specs.Places.{rank, place, cellAt, cellPlace, tileAt, tilePlace}
+use Rattle.plan.specs.Geometry.{cellsOf}
 use Rattle.plan.specs.declared.Route.{Route}
-use Rattle.plan.specs.Messages.{two, directions, ahead, planOf}
+use Rattle.plan.specs.Messages.{two, directions, ahead, boxPlan}
 use Rattle.plan.specs.Report.{doLoop, tileLoop, forEach, lastTile, nested, loops}
 use Rattle.plan.specs.Exact.{inner, figure4, Before}
-use Rattle.plan.proofs.Rank.{Within, Positive, place-low, rank-low, rank-same, place-rank, rank-place}
+use Rattle.nest.proofs.Rank.{Within, Positive, place-low, rank-low, rank-same, place-rank, rank-place}
 use Rattle.plan.proofs.Tiles.{tileCount-pos, tileAt-low, tilePlace-tileAt}
 use Rattle.plan.proofs.Grid.{map-append}
 use Rattle.plan.proofs.Loops.{loop-keep, loops-are-tiles}
@@ -82,8 +83,8 @@ module _ (x : Nest) (ok : Accepted x) where
   unfolding cellPlace cells
   cell-order = place-order (lengthOf x) (x .dimensions) (ok .long)
 
-  pub tile-order : (t u : ℕ) → t < tiles x → u < tiles x → (t < u) ↔ Before (x .dimensions) (tilePlace x t) (tilePlace x u)
-  unfolding tilePlace tiles
+  pub tile-order : (t u : ℕ) → t < boxTiles x → u < boxTiles x → (t < u) ↔ Before (x .dimensions) (tilePlace x t) (tilePlace x u)
+  unfolding tilePlace boxTiles
   tile-order = place-order (tileCount x) (x .dimensions) (tileCount-pos x ok)
 
   pub processor-order : (p q : ℕ) → p < processors x → q < processors x
@@ -149,7 +150,7 @@ module _ (x : Nest) (ok : Accepted x) where
     unfolding loops
     loops-tiled = nested-each (tileCount x) (tileLoop x p) (x .dimensions) (λ j v h i. loop-low j v i)
 
-  pub program : (r : Route) (p : ℕ) → p < processors x → map (cellAt x) (figure4 x p) ≡ forEach (cellsOf x) (tilesOf (planOf r x) p)
+  pub program : (r : Route) (p : ℕ) → p < processors x → map (cellAt x) (figure4 x p) ≡ forEach (cellsOf x) (tilesOf (boxPlan r x) p)
   unfolding figure4
   program r p h =
       inner-tiles _ (loops-tiled (place (processorCount x) (x .spread) p)) ∙ ap (forEach (cellsOf x)) (loops-are-tiles x ok p r h)

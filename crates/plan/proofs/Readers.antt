@@ -12,14 +12,15 @@ use Rattle.base.proofs.Tests.{every-all}
 use Rattle.machine.specs.Plan.{heldBy}
 use Rattle.nest.specs.declared.Nest.{Nest}
 use Rattle.nest.specs.Accepted.{Accepted}
-use Rattle.nest.specs.Nest.{lengthOf, tileLength, component, cells, tiles}
+use Rattle.nest.specs.Nest.{lengthOf, tileLength, component, cells, boxTiles}
 use Rattle.plan.specs.declared.Route.the-variants.{Direct}
-use Rattle.plan.specs.Geometry.{cellAt, cellPlace, tilePlace, tileOf, hasRead, readAt, readsOf}
-use Rattle.plan.specs.Messages.{directions, ahead, before, origin, passed, planOf}
+use Rattle.nest.specs.Places.{cellAt, cellPlace, tilePlace, boxTileOf}
+use Rattle.plan.specs.Geometry.{hasRead, readAt, readsOf}
+use Rattle.plan.specs.Messages.{directions, ahead, before, origin, passed, boxPlan}
 use Rattle.plan.specs.Hops.{stop}
 use Rattle.plan.specs.Exact.{Carries, Read, OnItsWay, Forwarded}
-use Rattle.plan.proofs.Rank.{rank-same}
-use Rattle.plan.proofs.Tiles.{cellPlace-low, cellAt-low, cellPlace-cellAt, cellAt-cellPlace, tilePlace-tileOf, tileOf-low, read-low, read-back}
+use Rattle.nest.proofs.Rank.{rank-same}
+use Rattle.plan.proofs.Tiles.{cellPlace-low, cellAt-low, cellPlace-cellAt, cellAt-cellPlace, tilePlace-boxTileOf, boxTileOf-low, read-low, read-back}
 use Rattle.plan.proofs.Parcels.{Held, parcel-held, held-parcel, before-yes, before-no, passed-in, in-passed, stop-is, stop-passed, origin-low, origin-place}
 use Rattle.plan.proofs.Sound.{reads-at, at-reads, read-way}
 
@@ -57,31 +58,39 @@ module _ (x : Nest) (ok : Accepted x) where
     r-in : In c (readsOf x r)
     r-in = rw r-reads at (at-reads x r e (h .distance) r-has)
 
-    r-tile : (j : ℕ) → j < x .spread → tilePlace x (tileOf x r) j ≡ tilePlace x t j + ahead x v j
+    r-tile : (j : ℕ) → j < x .spread → tilePlace x (boxTileOf x r) j ≡ tilePlace x t j + ahead x v j
     r-tile j l =
-        tilePlace-tileOf x ok r j (low j l) ∙ ap (λ (y : ℕ). y / tileLength x j) (r-place j (low j l)) ∙ h .steps j l
+        tilePlace-boxTileOf x ok r j (low j l) ∙ ap (λ (y : ℕ). y / tileLength x j) (r-place j (low j l)) ∙ h .steps j l
+
+    -- it reads c by that distance
+    pub read-by : (hasRead x (cellAt x (λ j. cellPlace x c j + component x e j)) e ≡ true)
+        × (readAt x (cellAt x (λ j. cellPlace x c j + component x e j)) e ≡ c)
+    unfolding r ahead-place
+    read-by = (r-has, r-reads)
 
   -- ---- what cell r reads is held by the tile it is in, in the direction of r's chain
-  reader-held : (r t v c : ℕ) → In c (readsOf x r) → tileOf x c ≡ t
-      → ((j : ℕ) → j < x .spread → tilePlace x (tileOf x r) j ≡ tilePlace x t j + ahead x v j) → (e : ℕ) × Held x t v c e
-  reader-held r t v c i own chain =
-      let b = reads-at x r c i in
-      let e = b .0 in
-      let back : (j : ℕ) → j < x .dimensions → cellPlace x c j + component x e j ≡ cellPlace x r j =
-      λ j l. ap (λ (y : ℕ). cellPlace x y j + component x e j) (b .3) ∙ read-back x ok r e (b .1) (b .2) j l in (
-        e,
+  module _ (r c e : ℕ) (low-e : e < x .distances) (has : hasRead x r e ≡ true) (is : c ≡ readAt x r e) where
+    pub read-ahead : (j : ℕ) → j < x .dimensions → cellPlace x c j + component x e j ≡ cellPlace x r j
+    read-ahead j l = ap (λ (y : ℕ). cellPlace x y j + component x e j) is ∙ read-back x ok r e low-e has j l
+
+    pub held-by : (t v : ℕ) → boxTileOf x c ≡ t
+        → ((j : ℕ) → j < x .spread → tilePlace x (boxTileOf x r) j ≡ tilePlace x t j + ahead x v j) → Held x t v c e
+    held-by t v own chain =
         record {
-          cell = rw (b .3) (read-low x ok r e (b .1) (b .2));
+          cell = rw is (read-low x ok r e low-e has);
           own = own;
-          distance = b .1;
-          stays = λ j l. rw (back j l) (cellPlace-low x ok r j l);
+          distance = low-e;
+          stays = λ j l. rw (read-ahead j l) (cellPlace-low x ok r j l);
           steps = λ j l.
-              ap (λ (y : ℕ). y / tileLength x j) (back j (low j l)) ∙ sym (tilePlace-tileOf x ok r j (low j l)) ∙ chain j l;
-        },
-      )
+              ap (λ (y : ℕ). y / tileLength x j) (read-ahead j (low j l)) ∙ sym (tilePlace-boxTileOf x ok r j (low j l)) ∙ chain j l;
+        }
+
+  reader-held : (r t v c : ℕ) → In c (readsOf x r) → boxTileOf x c ≡ t
+      → ((j : ℕ) → j < x .spread → tilePlace x (boxTileOf x r) j ≡ tilePlace x t j + ahead x v j) → (e : ℕ) × Held x t v c e
+  reader-held r t v c i own chain = let b = reads-at x r c i in (b .0, held-by r c (b .0) (b .1) (b .2) (b .3) t v own chain)
 
   -- ---- direct
-  pub read-as : (m t v c : ℕ) → Carries Direct x m t v → In c (heldBy (planOf Direct x) m) ↔ Read x m c
+  pub read-as : (m t v c : ℕ) → Carries Direct x m t v → In c (heldBy (boxPlan Direct x) m) ↔ Read x m c
   read-as m t v c k = (
     (λ i. let g = parcel-held x t v c (rw (k .holds) at i) in
         record {
@@ -96,7 +105,7 @@ module _ (x : Nest) (ok : Accepted x) where
   )
 
   -- ---- indirect: tile t and dimension q
-  module _ (t q c : ℕ) (lt : t < tiles x) where
+  module _ (t q c : ℕ) (lt : t < boxTiles x) where
     -- by the sets
     passed-forwarded : In c (passed x t q) → Forwarded x t q c
     passed-forwarded i =
@@ -113,7 +122,7 @@ module _ (x : Nest) (ok : Accepted x) where
         }
 
     -- the stop before q of what tile u holds in direction v is t
-    stop-at : (u v e : ℕ) → u < tiles x → v ≤ directions x → ahead x v q ≡ 1 → Held x u v c e
+    stop-at : (u v e : ℕ) → u < boxTiles x → v ≤ directions x → ahead x v q ≡ 1 → Held x u v c e
         → ((j : ℕ) → j < x .dimensions → tilePlace x u j + before x q v j ≡ tilePlace x t j) → In c (passed x t q)
     stop-at u v e lu most turns h less =
         let at : stop x u v q ≡ t = stop-is x ok u v c e h q t lt less in
@@ -153,15 +162,15 @@ module _ (x : Nest) (ok : Accepted x) where
           let b = reads-at x (w .reader) c (w .reads) in
           let z = rw (← b .3) at (read-way x ok (w .reader) (b .0) (w .cell) (b .1) (b .2)) in
           let v = z .0 in
-          let h = reader-held (w .reader) (tileOf x c) v c (w .reads) refl (z .2) in
-          stop-at (tileOf x c) v (h .0) (tileOf-low x ok c) (z .1) (turns v (z .2)) (h .1) (λ j l. less v (z .2) j l (decLt j q))
+          let h = reader-held (w .reader) (boxTileOf x c) v c (w .reads) refl (z .2) in
+          stop-at (boxTileOf x c) v (h .0) (boxTileOf-low x ok c) (z .1) (turns v (z .2)) (h .1) (λ j l. less v (z .2) j l (decLt j q))
         where
-          turns : (v : ℕ) → ((j : ℕ) → j < x .spread → tilePlace x (tileOf x (w .reader)) j ≡ tilePlace x (tileOf x c) j + ahead x v j)
+          turns : (v : ℕ) → ((j : ℕ) → j < x .spread → tilePlace x (boxTileOf x (w .reader)) j ≡ tilePlace x (boxTileOf x c) j + ahead x v j)
               → ahead x v q ≡ 1
           turns v s = omega (arith, s q along, w .steps, w .ahead-yet q (omega arith) (low q along))
 
-          less : (v : ℕ) → ((j : ℕ) → j < x .spread → tilePlace x (tileOf x (w .reader)) j ≡ tilePlace x (tileOf x c) j + ahead x v j)
-              → (j : ℕ) → j < x .dimensions → Dec (j < q) → tilePlace x (tileOf x c) j + before x q v j ≡ tilePlace x t j
+          less : (v : ℕ) → ((j : ℕ) → j < x .spread → tilePlace x (boxTileOf x (w .reader)) j ≡ tilePlace x (boxTileOf x c) j + ahead x v j)
+              → (j : ℕ) → j < x .dimensions → Dec (j < q) → tilePlace x (boxTileOf x c) j + before x q v j ≡ tilePlace x t j
           less v s j l (yes k) = omega (arith, before-yes x q v j k, s j (omega arith), w .made j k)
           less v s j l (no k) = omega (arith, before-no x q v j (omega arith), w .ahead-yet j (omega arith) l)
 

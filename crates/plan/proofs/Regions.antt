@@ -13,16 +13,16 @@ use Rattle.base.proofs.Tests.{both, and-true, and-false, and-no, every-at, ever
 use Rattle.base.proofs.Select.{keep-same}
 use Rattle.nest.specs.declared.Nest.{Nest}
 use Rattle.nest.specs.Accepted.{Accepted}
-use Rattle.nest.specs.Nest.{lengthOf, tileLength, component, cells, tiles}
+use Rattle.nest.specs.Nest.{lengthOf, tileLength, component, cells, boxTiles}
 use Rattle.plan.specs.declared.Route.{Route}
 use Rattle.plan.specs.declared.Route.the-variants.{Direct, Indirect}
-use Rattle.plan.specs.Geometry.{rank, cellAt, cellPlace, tileAt, tilePlace, tileOf}
+use Rattle.nest.specs.Places.{rank, cellAt, cellPlace, tileAt, tilePlace, boxTileOf}
 use Rattle.plan.specs.Messages.{two, directions, ahead, crosses, parcel, before, origin, passes, passed, slots, slotTile, slotDirection, slotDimension, slotCells}
 use Rattle.plan.specs.Regions.{Region, among, side, regionSize, regionPlace, regionCell, tilesBox, tilesWindow, directBox, directWindow, indirectBox, indirectWindow, slotBox, slotWindow, comesInto}
-use Rattle.plan.proofs.Rank.{Within, place-low, rank-low, rank-same, div-step}
-use Rattle.plan.proofs.Tiles.{cellPlace-low, cellPlace-cellAt, tilePlace-low, tile-inside, tilePlace-tileOf}
+use Rattle.nest.proofs.Rank.{Within, place-low, rank-low, rank-same, div-step}
+use Rattle.plan.proofs.Tiles.{cellPlace-low, cellPlace-cellAt, tilePlace-low, tile-inside, tilePlace-boxTileOf}
 use Rattle.plan.proofs.Grid.{met, keep-run, keep-box, keep-both, every-same}
-use Rattle.plan.proofs.Box.{tileOf-is}
+use Rattle.plan.proofs.Box.{boxTileOf-is}
 use Rattle.plan.proofs.Parcels.{crosses-held, held-crosses, ahead-rank, ahead-low, before-yes, before-no, Passed, passes-passed, passed-passes, slotTile-low, slotDimension-low, origin-place}
 
 -- ---- one dimension: between which tiles a component lies
@@ -108,26 +108,26 @@ module _ (x : Nest) (ok : Accepted x) where
 
   -- ---- tiles as boxes and windows: a place lies in one just where its quotients lie between
   module _ (a b i : ℕ → ℕ) where
-    box-at : among x (tilesBox x a b) i ≡ true → (j : ℕ) → j < x .dimensions
+    pub box-at : among x (tilesBox x a b) i ≡ true → (j : ℕ) → j < x .dimensions
         → (a j ≤ i j / tileLength x j) × (i j / tileLength x j ≤ b j)
     box-at h j l =
         let p = among-at x (tilesBox x a b) i h j l in
         (floor-back _ _ _ (ok .tiled j l) (p .0), roof-back _ _ _ (ok .tiled j l) (omega (arith, p .1)))
 
-    box-all : ((j : ℕ) → j < x .dimensions → i j < lengthOf x j)
+    pub box-all : ((j : ℕ) → j < x .dimensions → i j < lengthOf x j)
         → ((j : ℕ) → j < x .dimensions → (a j ≤ i j / tileLength x j) × (i j / tileLength x j ≤ b j)) → among x (tilesBox x a b) i ≡ true
     box-all w h =
         among-all x (tilesBox x a b) i
         (λ j l. (floor _ _ _ (ok .tiled j l) (h j l .0), omega (arith, roof _ _ _ (ok .tiled j l) (h j l .1), w j l)))
 
-    window-stays : among x (tilesWindow x a b) i ≡ true → (j : ℕ) → j < x .dimensions → i j < lengthOf x j
+    pub window-stays : among x (tilesWindow x a b) i ≡ true → (j : ℕ) → j < x .dimensions → i j < lengthOf x j
     window-stays h j l = go (among-at x (tilesWindow x a b) i h j l) (decLt j (x .spread))
       where
         go : (tilesWindow x a b .low j ≤ i j) × (i j < tilesWindow x a b .high j) → Dec (j < x .spread) → i j < lengthOf x j
         go p (yes s) = omega (arith, p .1, high-is x a b j s)
         go p (no s) = omega (arith, p .1, high-rest x a b j (omega arith))
 
-    window-at : among x (tilesWindow x a b) i ≡ true → (j : ℕ) → j < x .spread → (a j ≤ i j / tileLength x j) × (i j / tileLength x j ≤ b j)
+    pub window-at : among x (tilesWindow x a b) i ≡ true → (j : ℕ) → j < x .spread → (a j ≤ i j / tileLength x j) × (i j / tileLength x j ≤ b j)
     window-at h j s =
         let l = low-spread j s in
         let p = among-at x (tilesWindow x a b) i h j l in (
@@ -135,7 +135,7 @@ module _ (x : Nest) (ok : Accepted x) where
           roof-back _ _ _ (ok .tiled j l) (omega (arith, p .1, high-is x a b j s)),
         )
 
-    window-all : ((j : ℕ) → j < x .dimensions → i j < lengthOf x j)
+    pub window-all : ((j : ℕ) → j < x .dimensions → i j < lengthOf x j)
         → ((j : ℕ) → j < x .spread → (a j ≤ i j / tileLength x j) × (i j / tileLength x j ≤ b j)) → among x (tilesWindow x a b) i ≡ true
     window-all w h = among-all x (tilesWindow x a b) i (λ j l. go j l (decLt j (x .spread)))
       where
@@ -148,7 +148,7 @@ module _ (x : Nest) (ok : Accepted x) where
 
   -- ---- the direct route
 
-  module _ (t v c : ℕ) (lt : t < tiles x) (lc : c < cells x) where
+  module _ (t v c : ℕ) (lt : t < boxTiles x) (lc : c < cells x) where
     abbrev directTest : Bool
     directTest = among x (directBox x t) (cellPlace x c) and comesInto x (directWindow x t v) (cellPlace x c)
 
@@ -157,7 +157,7 @@ module _ (x : Nest) (ok : Accepted x) where
         let k = crosses-held x t v c lc h in
         let g = k .1 in
         let own : (j : ℕ) → j < x .dimensions → cellPlace x c j / tileLength x j ≡ tilePlace x t j =
-        λ j l. sym (tilePlace-tileOf x ok c j l) ∙ ap (λ (u : ℕ). tilePlace x u j) (g .own) in
+        λ j l. sym (tilePlace-boxTileOf x ok c j l) ∙ ap (λ (u : ℕ). tilePlace x u j) (g .own) in
         and-true
         (box-all _ _ (cellPlace x c) (cellPlace-low x ok c) (λ j l. (omega (arith, own j l), omega (arith, own j l))))
         (comes-by x (directWindow x t v) _ (k .0) (g .distance)
@@ -169,7 +169,7 @@ module _ (x : Nest) (ok : Accepted x) where
         let k = comes-at x (directWindow x t v) (cellPlace x c) (b .1) in
         held-crosses x t v c (k .0) (record {
           cell = lc;
-          own = tileOf-is x ok c t lt (λ j l. let p = box-at _ _ (cellPlace x c) (b .0) j l in omega (arith, p .0, p .1));
+          own = boxTileOf-is x ok c t lt (λ j l. let p = box-at _ _ (cellPlace x c) (b .0) j l in omega (arith, p .0, p .1));
           distance = k .1;
           stays = window-stays _ _ _ (k .2);
           steps = λ j s. let p = window-at _ _ _ (k .2) j s in omega (arith, p .0, p .1);
@@ -197,7 +197,7 @@ module _ (x : Nest) (ok : Accepted x) where
       go (no l) (no e) = Where.further (omega arith) (one-false (le-ltb j q (omega arith))) (one-false (ne-eqb j q e))
           (one-true (le-leb q j (omega arith))) (before-no x q v j (omega arith))
 
-  module _ (t q c : ℕ) (lt : t < tiles x) (lq : q < x .spread) (lc : c < cells x) where
+  module _ (t q c : ℕ) (lt : t < boxTiles x) (lq : q < x .spread) (lc : c < cells x) where
     -- which tiles the box and the window span, by the tiles of the cell and of the cell moved by distance e
     record Spans (e : ℕ) : Type 0 where
       least : (j : ℕ) → j < x .dimensions → tilePlace x t j - one (ltb j q) ≤ cellPlace x c j / tileLength x j
@@ -242,7 +242,7 @@ module _ (x : Nest) (ok : Accepted x) where
         }
       where
         own : (j : ℕ) → j < x .dimensions → cellPlace x c j / tileLength x j ≡ tilePlace x t j - before x q v j
-        own j l = sym (tilePlace-tileOf x ok c j l)
+        own j l = sym (tilePlace-boxTileOf x ok c j l)
             ∙ (ap (λ (u : ℕ). tilePlace x u j) (p .held .own) ∙ origin-place x ok t q c v e lt p j l)
 
         moved : (j : ℕ) → j < x .spread → (cellPlace x c j + component x e j) / tileLength x j
@@ -297,8 +297,8 @@ module _ (x : Nest) (ok : Accepted x) where
       from j l (Where.here a b d f g) = omega (arith, s .least j l, s .most j l)
       from j l (Where.further a b d f g) = omega (arith, s .least j l, s .most j l)
 
-      origin-is : origin x t q v ≡ tileOf x c
-      unfolding origin tileOf tileAt
+      origin-is : origin x t q v ≡ boxTileOf x c
+      unfolding origin boxTileOf tileAt
       origin-is = rank-same _ _ _ (x .dimensions) (λ j l. omega (arith, from j l (where-of q v j)))
 
       turns : ahead x v q ≡ 1
@@ -326,7 +326,7 @@ module _ (x : Nest) (ok : Accepted x) where
               own = refl;
               distance = le;
               stays = s .moved;
-              steps = λ j l. sym (v-is j l) ∙ ap (λ (a : ℕ). a + ahead x v j) (sym (tilePlace-tileOf x ok c j (low-spread j l)));
+              steps = λ j l. sym (v-is j l) ∙ ap (λ (a : ℕ). a + ahead x v j) (sym (tilePlace-boxTileOf x ok c j (low-spread j l)));
             });
           }
 

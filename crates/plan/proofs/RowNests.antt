@@ -5,13 +5,30 @@ use mathlib.Core.List.{List, [], _∷_}
 use lib.ListN.{replicate}
 use Rattle.base.specs.Tests.{pick, keep, those, tabulate}
 use Rattle.nest.specs.declared.Nest.{Nest}
-use Rattle.nest.specs.Nest.{ofKind, filled, nestBy, nestOf}
+use Rattle.nest.specs.Reader.{ofKind, filled, nestBy, nestOf}
 use Rattle.nest.specs.Recipes.{rowA, rowB, rowC, rowD, rowE, rowF, rowG, rowH, rowLater}
 use Rattle.plan.specs.Rows.{rowWide, rowEdge, rowFull, rowSix, rowLine, rowTwice, rowMiddle}
 
 abbrev pub nest : ℕ → ℕ → ℕ → List ℕ → List ℕ → List ℕ → List ℕ → List ℕ → Nest
 nest n m e N k P d w =
-    record { dimensions = n; spread = m; distances = e; lengths = N; tiling = k; counts = P; components = d; weights = w; shift = 0; boundary = 0 }
+    record {
+      dimensions = n;
+      spread = m;
+      distances = e;
+      bounds = 0;
+      lengths = N;
+      tiling = k;
+      counts = P;
+      components = d;
+      weights = w;
+      sides = replicate 4 0;
+      bounded = replicate 4 0;
+      earlier = replicate 4 0;
+      slopes = replicate 4 0;
+      offsets = replicate 4 0;
+      shift = 0;
+      boundary = 0;
+    }
 
 abbrev pub nestA : Nest
 nestA = nest 2 1 3 (8 ∷ 8 ∷ 0 ∷ 0 ∷ []) (2 ∷ 2 ∷ 0 ∷ 0 ∷ []) (2 ∷ 0 ∷ 0 ∷ 0 ∷ []) (1 ∷ 0 ∷ 0 ∷ 0 ∷ 0 ∷ 1 ∷ 0 ∷ 0 ∷ 1 ∷ 1 ∷ replicate 22 0) (1 ∷ 1 ∷ 1 ∷ replicate 5 0)

@@ -16,14 +16,15 @@ use Rattle.base.proofs.Select.{in-map, map-in, keep-in, in-keep}
 use Rattle.machine.specs.Plan.{Message, count, senderOf, takerOf, heldBy, Knows, Sound}
 use Rattle.nest.specs.declared.Nest.{Nest}
 use Rattle.nest.specs.Accepted.{Accepted}
-use Rattle.nest.specs.Nest.{weight, cells, tiles}
-use Rattle.plan.specs.Geometry.{rank, tilePlace, tileOf, cellsOf, processorOf, hasRead, readAt, readsOf, value}
+use Rattle.nest.specs.Nest.{weight, cells, boxTiles}
+use Rattle.nest.specs.Places.{rank, tilePlace, boxTileOf}
+use Rattle.plan.specs.Geometry.{cellsOf, processorOf, hasRead, readAt, readsOf, value}
 use Rattle.plan.specs.declared.Route.{Route}
 use Rattle.plan.specs.declared.Route.the-variants.{Direct, Indirect}
-use Rattle.plan.specs.Messages.{two, directions, ahead, taker, slots, slotTile, slotDimension, slotCells, slotTaker, atHome, slotParcel, planOf}
+use Rattle.plan.specs.Messages.{two, directions, ahead, taker, slots, slotTile, slotDimension, slotCells, slotTaker, atHome, slotParcel, boxPlan}
 use Rattle.plan.specs.Hops.{stop}
-use Rattle.plan.proofs.Rank.{Within, rank-low}
-use Rattle.plan.proofs.Tiles.{cellPlace-low, tileAt-tilePlace, tileAt-le, tileOf-low, tilePlace-tileOf, processorOf-low, processorOf-same, read-low, read-back, read-before, read-tile}
+use Rattle.nest.proofs.Rank.{Within, rank-low}
+use Rattle.plan.proofs.Tiles.{cellPlace-low, tileAt-tilePlace, tileAt-le, boxTileOf-low, tilePlace-boxTileOf, processorOf-low, processorOf-same, read-low, read-back, read-before, read-tile}
 use Rattle.plan.proofs.Slots.{in-full, full-in, parcel-cells, parcel-away, full-away, message-slot, number-low, at-number}
 use Rattle.plan.proofs.Parcels.{cellsOf-in, in-cellsOf, cellsOf-rising, Held, parcel-held, held-parcel, ahead-rank, ahead-beyond, ahead-none, ahead-low, passed-in, in-passed, slotCells-rising, slotTile-low, slotDimension-low, slot-low, slot-tile, slot-parcel, slot-taker, slot-passed, slot-neighbour, taker-low, taker-place, stop-low, stop-first, stop-last, stop-skip, stop-hop, stop-passed, passed-stop, slotTaker-low, slotTaker-after}
 
@@ -59,12 +60,12 @@ value-local x source s s′ c h =
 pub record Sent (r : Route) (x : Nest) (m s : ℕ) : Type 0 where
   pub slot : s < slots r x
   pub full : 0 < length (slotParcel r x s)
-  pub sender : senderOf (planOf r x) m ≡ slotTile r x s
-  pub taker : takerOf (planOf r x) m ≡ slotTaker r x s
-  pub holds : heldBy (planOf r x) m ≡ slotParcel r x s
+  pub sender : senderOf (boxPlan r x) m ≡ slotTile r x s
+  pub taker : takerOf (boxPlan r x) m ≡ slotTaker r x s
+  pub holds : heldBy (boxPlan r x) m ≡ slotParcel r x s
 
 module _ (r : Route) (x : Nest) where
-  pub sent : (m : ℕ) → m < count (planOf r x) → (s : ℕ) × Sent r x m s
+  pub sent : (m : ℕ) → m < count (boxPlan r x) → (s : ℕ) × Sent r x m s
   sent m h =
       let a = message-slot r x (slots r x) m h in
       let is = a .4 in (
@@ -78,13 +79,13 @@ module _ (r : Route) (x : Nest) where
         },
       )
 
-  held-rising : (m : ℕ) → m < count (planOf r x) → Rising (heldBy (planOf r x) m)
+  held-rising : (m : ℕ) → m < count (boxPlan r x) → Rising (heldBy (boxPlan r x) m)
   held-rising m h = let a = sent m h in rw (a .1 .holds, full-away r x (a .0) (a .1 .full)) (slotCells-rising x r (a .0))
 
   -- a slot that holds a cell for another processor is a message
   pub slot-sent : (s c : ℕ) → s < slots r x → In c (slotParcel r x s)
-      → (m : ℕ) × (m < count (planOf r x)) × (senderOf (planOf r x) m ≡ slotTile r x s) × (takerOf (planOf r x) m ≡ slotTaker r x s)
-      × (heldBy (planOf r x) m ≡ slotParcel r x s)
+      → (m : ℕ) × (m < count (boxPlan r x)) × (senderOf (boxPlan r x) m ≡ slotTile r x s) × (takerOf (boxPlan r x) m ≡ slotTaker r x s)
+      × (heldBy (boxPlan r x) m ≡ slotParcel r x s)
   slot-sent s c h i =
       let full = in-full c (slotParcel r x s) i in
       let is = at-number r x (slots r x) s h full in (
@@ -98,7 +99,7 @@ module _ (r : Route) (x : Nest) where
 -- ---- what a tile's processor has of the cells, once it has gathered for the tile and calculated it
 
 abbrev pub Has : Route → Nest → ℕ → ℕ → Type 0
-Has r x t c = In c (cellsOf x t) ⊎ Knows (planOf r x) (processorOf x t) t c
+Has r x t c = In c (cellsOf x t) ⊎ Knows (boxPlan r x) (processorOf x t) t c
 
 module _ (r : Route) (x : Nest) where
   -- a later tile of the same processor has it too
@@ -127,17 +128,17 @@ module _ (r : Route) (x : Nest) where
 
 module _ (x : Nest) (ok : Accepted x) where
   -- ---- the way of cell c in direction v
-  module _ (c v e : ℕ) (most : v ≤ directions x) (held : Held x (tileOf x c) v c e) where
+  module _ (c v e : ℕ) (most : v ≤ directions x) (held : Held x (boxTileOf x c) v c e) where
     t : ℕ
-    t = tileOf x c
+    t = boxTileOf x c
 
-    low : t < tiles x
+    low : t < boxTiles x
     unfolding t
-    low = tileOf-low x ok c
+    low = boxTileOf-low x ok c
 
     at-first : (r : Route) → Has r x t c
     unfolding t
-    at-first r = inl (in-cellsOf x (tileOf x c) c (held .cell) refl)
+    at-first r = inl (in-cellsOf x (boxTileOf x c) c (held .cell) refl)
 
     straight : 1 ≤ v → Has Direct x (taker x t v) c
     unfolding t
@@ -153,7 +154,7 @@ module _ (x : Nest) (ok : Accepted x) where
     unfolding t
     along q l z has =
         let u : ℕ = stop x t v q in
-        let lu : u < tiles x = stop-low x ok t v c e held q in
+        let lu : u < boxTiles x = stop-low x ok t v c e held q in
         let s : ℕ = u * x .spread + q in
         let a = slot-low x Indirect u q lu l in
         let b : slotTile Indirect x s ≡ u = slot-tile x Indirect u q lu l in
@@ -162,23 +163,23 @@ module _ (x : Nest) (ok : Accepted x) where
         rw (slot-passed x u q lu l) (in-passed x u q c v e (stop-passed x ok t v c e held q low most z)) in
         rw d at (hop Indirect x s c a i (slotTaker-after x ok Indirect s c a i) (rw b has))
 
-    pub come : (q : ℕ) → q ≤ x .spread → Has Indirect x (stop x (tileOf x c) v q) c
+    pub come : (q : ℕ) → q ≤ x .spread → Has Indirect x (stop x (boxTileOf x c) v q) c
     unfolding t
-    come zero h = rw (stop-first x ok (tileOf x c) v c e held low) (at-first Indirect)
+    come zero h = rw (stop-first x ok (boxTileOf x c) v c e held low) (at-first Indirect)
     come (suc q) h = go (come q (omega arith)) (ℕ-discrete (ahead x v q) 0)
       where
-        go : Has Indirect x (stop x (tileOf x c) v q) c → Dec (ahead x v q ≡ 0) → Has Indirect x (stop x (tileOf x c) v (suc q)) c
-        go k (yes z) = rw (stop-skip x ok (tileOf x c) v c e held q z) k
+        go : Has Indirect x (stop x (boxTileOf x c) v q) c → Dec (ahead x v q ≡ 0) → Has Indirect x (stop x (boxTileOf x c) v (suc q)) c
+        go k (yes z) = rw (stop-skip x ok (boxTileOf x c) v c e held q z) k
         go k (no z) = along q h (omega (arith, ahead-low x v q h)) k
 
     -- the tile that takes it on the direct route has it on either
-    pub arrives : (r : Route) → Has r x (taker x (tileOf x c) v) c
+    pub arrives : (r : Route) → Has r x (taker x (boxTileOf x c) v) c
     unfolding t
-    arrives Indirect = rw (← stop-last x ok (tileOf x c) v c e held) (come (x .spread) (omega arith))
+    arrives Indirect = rw (← stop-last x ok (boxTileOf x c) v c e held) (come (x .spread) (omega arith))
     arrives Direct = go (ℕ-discrete v 0)
       where
         -- no step at all
-        none : v ≡ 0 → Has Direct x (taker x (tileOf x c) v) c
+        none : v ≡ 0 → Has Direct x (taker x (boxTileOf x c) v) c
         none z = later Direct x t (taker x t v) c (omega (arith, same)) (ap (processorOf x) same) (at-first Direct)
           where
             same : t ≡ taker x t v
@@ -188,7 +189,7 @@ module _ (x : Nest) (ok : Accepted x) where
                 zeros zero h = refl
                 zeros (suc q) h = zeros q (omega arith) ∙ sym (stop-skip x ok t v c e held q (ahead-none x v q z))
 
-        go : Dec (v ≡ 0) → Has Direct x (taker x (tileOf x c) v) c
+        go : Dec (v ≡ 0) → Has Direct x (taker x (boxTileOf x c) v) c
         go (yes z) = none z
         go (no z) = straight (omega arith)
 
@@ -198,7 +199,7 @@ module _ (x : Nest) (ok : Accepted x) where
     r = readAt x c e
 
     step : ℕ → ℕ
-    step j = tilePlace x (tileOf x c) j - tilePlace x (tileOf x r) j
+    step j = tilePlace x (boxTileOf x c) j - tilePlace x (boxTileOf x r) j
 
     step-two : Within two step (x .spread)
     unfolding step
@@ -207,33 +208,33 @@ module _ (x : Nest) (ok : Accepted x) where
     v : ℕ
     v = rank two step (x .spread)
 
-    step-v : (j : ℕ) → j < x .spread → tilePlace x (tileOf x c) j ≡ tilePlace x (tileOf x r) j + ahead x v j
+    step-v : (j : ℕ) → j < x .spread → tilePlace x (boxTileOf x c) j ≡ tilePlace x (boxTileOf x r) j + ahead x v j
     unfolding v step
     step-v j h = omega (arith, read-tile x ok c e low has j (omega (arith, ok .spread-low)), ahead-rank x step step-two j h)
 
-    pub tile-le : tileOf x r ≤ tileOf x c
+    pub tile-le : boxTileOf x r ≤ boxTileOf x c
     tile-le =
-        let a = tileAt-tilePlace x ok (tileOf x r) (tileOf-low x ok r) in
-        let b = tileAt-tilePlace x ok (tileOf x c) (tileOf-low x ok c) in
-        omega (arith, tileAt-le x ok (tilePlace x (tileOf x r)) (tilePlace x (tileOf x c)) (λ j h. read-tile x ok c e low has j h .0))
+        let a = tileAt-tilePlace x ok (boxTileOf x r) (boxTileOf-low x ok r) in
+        let b = tileAt-tilePlace x ok (boxTileOf x c) (boxTileOf-low x ok c) in
+        omega (arith, tileAt-le x ok (tilePlace x (boxTileOf x r)) (tilePlace x (boxTileOf x c)) (λ j h. read-tile x ok c e low has j h .0))
 
-    held-read : Held x (tileOf x r) v r e
+    held-read : Held x (boxTileOf x r) v r e
     held-read =
         record {
           cell = read-low x ok c e low has;
           own = refl;
           distance = low;
           stays = λ j h. rw (read-back x ok c e low has j h) (cellPlace-low x ok c j h);
-          steps = λ j h. let h′ : j < x .dimensions = omega (arith, ok .spread-low) in rw (read-back x ok c e low has j h′) (sym (tilePlace-tileOf x ok c j h′) ∙ step-v j h);
+          steps = λ j h. let h′ : j < x .dimensions = omega (arith, ok .spread-low) in rw (read-back x ok c e low has j h′) (sym (tilePlace-boxTileOf x ok c j h′) ∙ step-v j h);
         }
 
-    taker-le : taker x (tileOf x r) v ≤ tileOf x c
+    taker-le : taker x (boxTileOf x r) v ≤ boxTileOf x c
     unfolding taker
     taker-le =
-        let b = tileAt-tilePlace x ok (tileOf x c) (tileOf-low x ok c) in
-        omega (arith, tileAt-le x ok (λ j. tilePlace x (tileOf x r) j + ahead x v j) (tilePlace x (tileOf x c)) (λ j h. go j h (decLt j (x .spread))))
+        let b = tileAt-tilePlace x ok (boxTileOf x c) (boxTileOf-low x ok c) in
+        omega (arith, tileAt-le x ok (λ j. tilePlace x (boxTileOf x r) j + ahead x v j) (tilePlace x (boxTileOf x c)) (λ j h. go j h (decLt j (x .spread))))
       where
-        go : (j : ℕ) → j < x .dimensions → Dec (j < x .spread) → tilePlace x (tileOf x r) j + ahead x v j ≤ tilePlace x (tileOf x c) j
+        go : (j : ℕ) → j < x .dimensions → Dec (j < x .spread) → tilePlace x (boxTileOf x r) j + ahead x v j ≤ tilePlace x (boxTileOf x c) j
         go j h (yes l) = omega (arith, step-v j l)
         go j h (no l) = omega (arith, ahead-beyond x v j (omega arith), read-tile x ok c e low has j h)
 
@@ -241,18 +242,18 @@ module _ (x : Nest) (ok : Accepted x) where
     unfolding v directions
     v-low = omega (arith, rank-low two step (x .spread) step-two)
 
-    -- the direction from the cell that is read to the one that reads it
+    -- the direction from the cell that is read to the one that reads it, whose set holds it
     pub read-way : (w : ℕ) × (w ≤ directions x)
-        × ((j : ℕ) → j < x .spread → tilePlace x (tileOf x c) j ≡ tilePlace x (tileOf x r) j + ahead x w j)
-    read-way = (v, v-low, step-v)
+        × ((j : ℕ) → j < x .spread → tilePlace x (boxTileOf x c) j ≡ tilePlace x (boxTileOf x r) j + ahead x w j) × Held x (boxTileOf x r) w r e
+    read-way = (v, v-low, step-v, held-read)
 
-    taker-processor : processorOf x (taker x (tileOf x r) v) ≡ processorOf x (tileOf x c)
+    taker-processor : processorOf x (taker x (boxTileOf x r) v) ≡ processorOf x (boxTileOf x c)
     taker-processor =
-        processorOf-same x ok (taker x (tileOf x r) v) (tileOf x c)
-        (λ j h. taker-place x ok (tileOf x r) v r e held-read j (omega (arith, ok .spread-low)) ∙ sym (step-v j h))
+        processorOf-same x ok (taker x (boxTileOf x r) v) (boxTileOf x c)
+        (λ j h. taker-place x ok (boxTileOf x r) v r e held-read j (omega (arith, ok .spread-low)) ∙ sym (step-v j h))
 
-    pub read-known : (route : Route) → Has route x (tileOf x c) r
-    read-known route = later route x (taker x (tileOf x r) v) (tileOf x c) r taker-le taker-processor (arrives r v e v-low held-read route)
+    pub read-known : (route : Route) → Has route x (boxTileOf x c) r
+    read-known route = later route x (taker x (boxTileOf x r) v) (boxTileOf x c) r taker-le taker-processor (arrives r v e v-low held-read route)
 
   known : (route : Route) (t c r : ℕ) → In c (cellsOf x t) → In r (readsOf x c) → Has route x t r
   known route t c r i k =
@@ -274,35 +275,36 @@ module _ (x : Nest) (ok : Accepted x) where
       let q = slotDimension x s in
       let low = slotTile-low x Indirect s l in
       let own = p .held .own in
-      let h : Held x (tileOf x c) (g .0) c (g .1) = rw (← own) at (p .held) in
-      let at : stop x (tileOf x c) (g .0) q ≡ t = ap (λ (u : ℕ). stop x u (g .0) q) own ∙ passed-stop x ok t q c (g .0) (g .1) low p in
+      let h : Held x (boxTileOf x c) (g .0) c (g .1) = rw (← own) at (p .held) in
+      let at : stop x (boxTileOf x c) (g .0) q ≡ t = ap (λ (u : ℕ). stop x u (g .0) q) own ∙ passed-stop x ok t q c (g .0) (g .1) low p in
       (p .held .cell, rw at at (come c (g .0) (g .1) (p .most) h q (omega (arith, slotDimension-low x s l))))
 
-  module _ (route : Route) (m : ℕ) (h : m < count (planOf route x)) where
+  module _ (route : Route) (m : ℕ) (h : m < count (boxPlan route x)) where
     some-cell : (c : ℕ) × In c (slotCells route x (sent route x m h .0))
     some-cell = let a = sent route x m h .1 in let k = full-in (slotParcel route x (sent route x m h .0)) (a .full) in
         (k .0, parcel-cells route x _ (k .0) (k .1) .1)
 
-    pub message-has : (c : ℕ) → In c (heldBy (planOf route x) m) → (c < cells x) × Has route x (senderOf (planOf route x) m) c
+    pub message-has : (c : ℕ) → In c (heldBy (boxPlan route x) m) → (c < cells x) × Has route x (senderOf (boxPlan route x) m) c
     message-has c i =
         let a = sent route x m h in
         let k : In c (slotParcel route x (a .0)) = rw (a .1 .holds) at i in
         rw (a .1 .sender) (slot-has route (a .0) c (a .1 .slot) (parcel-cells route x _ c k .1))
 
-    pub message-forward : senderOf (planOf route x) m < takerOf (planOf route x) m
+    pub message-forward : senderOf (boxPlan route x) m < takerOf (boxPlan route x) m
     message-forward = let a = sent route x m h in
         rw (a .1 .sender, a .1 .taker) (slotTaker-after x ok route (a .0) (some-cell .0) (a .1 .slot) (some-cell .1))
 
-    pub message-taker : takerOf (planOf route x) m < tiles x
+    pub message-taker : takerOf (boxPlan route x) m < boxTiles x
     message-taker = let a = sent route x m h in
         rw (a .1 .taker) (slotTaker-low x ok route (a .0) (some-cell .0) (a .1 .slot) (some-cell .1))
 
-pub sound : (r : Route) (x : Nest) → Accepted x → Sound (planOf r x)
-sound r x ok =
+pub box-sound : (r : Route) (x : Nest) → Accepted x → Sound (boxPlan r x)
+box-sound r x ok =
     record {
-      tile-low = λ c h. tileOf-low x ok c;
-      cell-in = λ c h. in-cellsOf x (tileOf x c) c h refl;
+      tile-low = λ c h i. boxTileOf-low x ok c;
+      cell-in = λ c h i. in-cellsOf x (boxTileOf x c) c h refl;
       cell-low = λ t c h i. cellsOf-in x t c i .0;
+      cell-inside = λ t c h i. refl;
       cell-of = λ t c h i. cellsOf-in x t c i .1;
       rising = λ t h. cellsOf-rising x t;
       processor-low = λ t h. processorOf-low x ok t;
@@ -311,6 +313,7 @@ sound r x ok =
       reads-known = λ t c b h i k. known x ok r t c b i k;
       held-rising = held-rising r x;
       held-low = λ m c h i. message-has x ok r m h c i .0;
+      held-inside = λ m c h i. refl;
       held-known = λ m c h i. message-has x ok r m h c i .1;
       forward = λ m h. message-forward x ok r m h;
       taker-low = λ m h. message-taker x ok r m h;

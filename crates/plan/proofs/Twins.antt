@@ -15,14 +15,14 @@ use Rattle.base.proofs.Tests.{and-true, same-test, some-same, pick-true, pick-f
 use Rattle.base.proofs.Select.{keep-same}
 use Rattle.nest.specs.declared.Nest.{Nest}
 use Rattle.nest.specs.Accepted.{Accepted}
-use Rattle.nest.specs.Nest.{lengthOf, tileLength, processorCount, component, tiles}
+use Rattle.nest.specs.Nest.{lengthOf, tileLength, processorCount, component, boxTiles}
 use Rattle.plan.specs.declared.Route.{Route}
 use Rattle.plan.specs.declared.Route.the-variants.{Direct, Indirect}
-use Rattle.plan.specs.Geometry.{tilePlace}
+use Rattle.nest.specs.Places.{tilePlace}
 use Rattle.plan.specs.Messages.{ahead, ways, slots, slotTile, slotDirection, slotDimension, slotCells, slotParcel}
 use Rattle.plan.specs.Hops.{hops, alone}
 use Rattle.plan.specs.Regions.{Region, among, side, regionSize, regionPlace, regionCell, tilesBox, tilesWindow, slotBox, slotWindow, comesInto}
-use Rattle.plan.proofs.Rank.{place-low, product-same, place-lengths}
+use Rattle.nest.proofs.Rank.{place-low, product-same, place-lengths}
 use Rattle.plan.proofs.Grid.{every-same}
 use Rattle.plan.proofs.Parcels.{ahead-low, ahead-beyond, slotDimension-low, slot-low, slot-tile, slot-way}
 use Rattle.plan.proofs.Homes.{slotParcel-is}
@@ -184,7 +184,7 @@ module _ (x : Nest) (ok : Accepted x) (a t : ℕ) (whole : suc (suc t) * tileLen
 
 -- ---- tile t and the tile u one before it along dimension a
 
-module _ (x : Nest) (ok : Accepted x) (t u a : ℕ) (lt : t < tiles x) (lu : u < tiles x) (la : a < x .dimensions)
+module _ (x : Nest) (ok : Accepted x) (t u a : ℕ) (lt : t < boxTiles x) (lu : u < boxTiles x) (la : a < x .dimensions)
     (here : tilePlace x t a ≡ suc (tilePlace x u a))
     (elsewhere : (j : ℕ) → j < x .dimensions → (j ≡ a → ⊥) → tilePlace x t j ≡ tilePlace x u j)
     (whole : suc (suc (tilePlace x t a)) * tileLength x a ≤ lengthOf x a) where

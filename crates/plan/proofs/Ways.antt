@@ -11,13 +11,14 @@ use Rattle.base.specs.Lists.{In}
 use Rattle.base.proofs.Tests.{one-true, one-false}
 use Rattle.nest.specs.declared.Nest.{Nest}
 use Rattle.nest.specs.Accepted.{Accepted}
-use Rattle.nest.specs.Nest.{processorCount, tileCount, tiles}
+use Rattle.nest.specs.Nest.{processorCount, tileCount, boxTiles}
 use Rattle.plan.specs.declared.Route.{Route}
 use Rattle.plan.specs.declared.Route.the-variants.{Direct, Indirect}
-use Rattle.plan.specs.Geometry.{tileAt, tilePlace, tileOf, processorOf}
+use Rattle.nest.specs.Places.{tileAt, tilePlace, boxTileOf}
+use Rattle.plan.specs.Geometry.{processorOf}
 use Rattle.plan.specs.Messages.{two, directions, ahead, passed, ways, slots, slotTile, slotDirection, slotDimension, slotCells, slotTaker}
 use Rattle.plan.specs.Exact.{Way, cellsBy, takerBy, stepBy}
-use Rattle.plan.proofs.Rank.{rank-same, rank-place}
+use Rattle.nest.proofs.Rank.{rank-same, rank-place}
 use Rattle.plan.proofs.Tiles.{tileAt-tilePlace}
 use Rattle.plan.proofs.Parcels.{parcel-held, ahead-beyond, before-no, passed-in, slotDirection-pos, slotDirection-low, slotDimension-low, slot-low, slot-tile, slot-parcel, slot-taker, slot-passed, slot-neighbour, taker-place, origin-place, neighbour-place}
 use Rattle.plan.proofs.Homes.{apart, direct-away, indirect-away}
@@ -59,17 +60,17 @@ module _ (x : Nest) where
   slot-to Indirect s = refl
 
   -- the slot of tile t and way w
-  pub way-slot : (r : Route) (t w : ℕ) → t < tiles x → Way r x w → t * ways r x + nth r w < slots r x
+  pub way-slot : (r : Route) (t w : ℕ) → t < boxTiles x → Way r x w → t * ways r x + nth r w < slots r x
   way-slot r t w lt h = slot-low x r t (nth r w) lt (nth-low r w h)
 
-  pub way-tile : (r : Route) (t w : ℕ) → t < tiles x → Way r x w → slotTile r x (t * ways r x + nth r w) ≡ t
+  pub way-tile : (r : Route) (t w : ℕ) → t < boxTiles x → Way r x w → slotTile r x (t * ways r x + nth r w) ≡ t
   way-tile r t w lt h = slot-tile x r t (nth r w) lt (nth-low r w h)
 
-  pub way-cells : (r : Route) (t w : ℕ) → t < tiles x → Way r x w → slotCells r x (t * ways r x + nth r w) ≡ cellsBy r x t w
+  pub way-cells : (r : Route) (t w : ℕ) → t < boxTiles x → Way r x w → slotCells r x (t * ways r x + nth r w) ≡ cellsBy r x t w
   way-cells Direct t v lt h = slot-parcel x t v lt (h .0) (h .1)
   way-cells Indirect t q lt h = slot-passed x t q lt h
 
-  pub way-taker : (r : Route) (t w : ℕ) → t < tiles x → Way r x w → slotTaker r x (t * ways r x + nth r w) ≡ takerBy r x t w
+  pub way-taker : (r : Route) (t w : ℕ) → t < boxTiles x → Way r x w → slotTaker r x (t * ways r x + nth r w) ≡ takerBy r x t w
   way-taker Direct t v lt h = slot-taker x t v lt (h .0) (h .1)
   way-taker Indirect t q lt h = slot-neighbour x t q lt h
 
@@ -94,13 +95,13 @@ module _ (x : Nest) where
 
 module _ (x : Nest) (ok : Accepted x) where
   -- the taker's place
-  pub taker-at : (r : Route) (t w c : ℕ) → t < tiles x → In c (cellsBy r x t w) → (j : ℕ) → j < x .dimensions
+  pub taker-at : (r : Route) (t w c : ℕ) → t < boxTiles x → In c (cellsBy r x t w) → (j : ℕ) → j < x .dimensions
       → tilePlace x (takerBy r x t w) j ≡ tilePlace x t j + stepBy r x w j
   taker-at Direct t v c lt i j l = let g = parcel-held x t v c i in taker-place x ok t v c (g .0) (g .1) j l
   taker-at Indirect t q c lt i j l = let g = passed-in x t q c i in neighbour-place x ok t q c (g .0) (g .1) lt (g .2) j l
 
   -- with all counts above 1 it is on another processor
-  pub taker-apart : ((j : ℕ) → j < x .spread → 2 ≤ processorCount x j) → (r : Route) (t w c : ℕ) → t < tiles x → Way r x w
+  pub taker-apart : ((j : ℕ) → j < x .spread → 2 ≤ processorCount x j) → (r : Route) (t w c : ℕ) → t < boxTiles x → Way r x w
       → In c (cellsBy r x t w) → processorOf x t ≢ processorOf x (takerBy r x t w)
   taker-apart more Direct t v c lt h i =
       let g = parcel-held x t v c i in direct-away x ok t v c (g .0) (g .1) (apart x v more (h .0) (h .1))
@@ -110,8 +111,8 @@ module _ (x : Nest) (ok : Accepted x) where
   -- ---- a cell comes to a tile by one way
 
   -- from dimension q on the tile that passes it on stands where the cell's own tile does
-  pub from-own : (t q c j : ℕ) → t < tiles x → In c (passed x t q) → q ≤ j → j < x .dimensions
-      → tilePlace x (tileOf x c) j ≡ tilePlace x t j
+  pub from-own : (t q c j : ℕ) → t < boxTiles x → In c (passed x t q) → q ≤ j → j < x .dimensions
+      → tilePlace x (boxTileOf x c) j ≡ tilePlace x t j
   from-own t q c j lt i h l =
       let g = passed-in x t q c i in
       omega (
@@ -121,12 +122,12 @@ module _ (x : Nest) (ok : Accepted x) where
         before-no x q (g .0) j h,
       )
 
-  tile-same : (t u : ℕ) → t < tiles x → u < tiles x → ((j : ℕ) → j < x .dimensions → tilePlace x t j ≡ tilePlace x u j) → t ≡ u
+  tile-same : (t u : ℕ) → t < boxTiles x → u < boxTiles x → ((j : ℕ) → j < x .dimensions → tilePlace x t j ≡ tilePlace x u j) → t ≡ u
   unfolding tileAt
   tile-same t u lt lu h =
       sym (tileAt-tilePlace x ok t lt) ∙ rank-same (tileCount x) _ _ (x .dimensions) h ∙ tileAt-tilePlace x ok u lu
 
-  pub one-way : (r : Route) (t v u w c : ℕ) → t < tiles x → u < tiles x → Way r x v → Way r x w → In c (cellsBy r x t v)
+  pub one-way : (r : Route) (t v u w c : ℕ) → t < boxTiles x → u < boxTiles x → Way r x v → Way r x w → In c (cellsBy r x t v)
       → In c (cellsBy r x u w)
       → ((j : ℕ) → j < x .dimensions → tilePlace x t j + stepBy r x v j ≡ tilePlace x u j + stepBy r x w j) → (t ≡ u) × (v ≡ w)
   one-way Direct t v u w c lt lu a b i k h =

@@ -11,11 +11,12 @@ use Rattle.base.specs.Tests.{_and_, keep}
 use Rattle.base.specs.Lists.{In}
 use Rattle.machine.specs.Plan.{count, senderOf, takerOf, heldBy}
 use Rattle.nest.specs.declared.Nest.{Nest}
-use Rattle.nest.specs.Nest.{processorCount, tiles}
+use Rattle.nest.specs.Nest.{processorCount, boxTiles}
 use Rattle.plan.specs.declared.Route.{Route}
 use Rattle.plan.specs.declared.Route.the-variants.{Direct, Indirect}
-use Rattle.plan.specs.Geometry.{tileAt, tilePlace, processorOf}
-use Rattle.plan.specs.Messages.{ahead, taker, before, passes, slotDirection, slotDimension, planOf}
+use Rattle.nest.specs.Places.{tileAt, tilePlace}
+use Rattle.plan.specs.Geometry.{processorOf}
+use Rattle.plan.specs.Messages.{ahead, taker, before, passes, slotDirection, slotDimension, boxPlan}
 
 -- v's ones in dimensions with a count above 1, lowest first; how many they are
 unfoldable pub hopsAlong : Nest → ℕ → List ℕ
@@ -39,10 +40,10 @@ pub record Travels (x : Nest) (t v c : ℕ) : Type 0 where
   pub ends : stop x t v (x .spread) ≡ taker x t v
   -- along each dimension of its hops c is in the message of the stop before, which the stop after takes
   pub carried : (q : ℕ) → In q (hopsAlong x v)
-      → (m : ℕ) × (m < count (planOf Indirect x)) × (senderOf (planOf Indirect x) m ≡ stop x t v q)
-      × (takerOf (planOf Indirect x) m ≡ stop x t v (suc q)) × In c (heldBy (planOf Indirect x) m)
+      → (m : ℕ) × (m < count (boxPlan Indirect x)) × (senderOf (boxPlan Indirect x) m ≡ stop x t v q)
+      × (takerOf (boxPlan Indirect x) m ≡ stop x t v (suc q)) × In c (heldBy (boxPlan Indirect x) m)
   -- no other tile passes it on along that dimension by this direction
-  pub only : (q s : ℕ) → q < x .spread → s < tiles x → passes x s q c v ≡ true → s ≡ stop x t v q
+  pub only : (q s : ℕ) → q < x .spread → s < boxTiles x → passes x s q c v ≡ true → s ≡ stop x t v q
   -- along any other dimension the next stop is on the same processor
   pub stays : (q : ℕ) → q < x .spread → (In q (hopsAlong x v) → ⊥) → processorOf x (stop x t v (suc q)) ≡ processorOf x (stop x t v q)
   -- the taker of the last hop is t + v, but for later dimensions with a count of 1: there it may stand one before

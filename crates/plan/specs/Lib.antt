@@ -1,8 +1,11 @@
 pub mod Geometry
 pub mod Messages
+pub mod Shaped
 pub mod Hops
 pub mod Box
 pub mod Regions
 pub mod Report
 pub mod Exact
+pub mod ExactShape
 pub mod Rows
+pub mod ShapedRows

@@ -1,17 +1,18 @@
 -- The exact cells of each message on either route, the messages in order, and the plan of a nest. Renders document 01, "Messages"; W-204; W-205.
 -- A slot is a tile with a direction or, indirect, a spread dimension; a slot that holds a cell for another processor is a message.
 use Prim.Native.Nat.{ℕ, zero, suc, _+_, _*_, _-_, _/_, _%_}
-use mathlib.Core.Bool.{Bool}
+use mathlib.Core.Bool.{Bool, true}
 use mathlib.Core.List.{List, [], _∷_, _++_}
 use lib.ListN.{length}
 use lib.Dec.{ltb, leb, eqb}
 use Rattle.base.specs.Tests.{_and_, pick, one, every, some, keep, product}
 use Rattle.nest.specs.declared.Nest.{Nest}
-use Rattle.nest.specs.Nest.{tileLength, component, cells, tiles, processors}
+use Rattle.nest.specs.Nest.{tileLength, component, cells, processors, boxTiles}
 use Rattle.machine.specs.Plan.{Message, Plan}
 use Rattle.plan.specs.declared.Route.{Route}
 use Rattle.plan.specs.declared.Route.the-variants.{Direct, Indirect}
-use Rattle.plan.specs.Geometry.{place, cellPlace, tileAt, tilePlace, tileOf, cellsOf, processorOf, inside, readsOf, value}
+use Rattle.nest.specs.Places.{place, cellPlace, tileAt, tilePlace, boxTileOf}
+use Rattle.plan.specs.Geometry.{cellsOf, processorOf, inside, readsOf, value}
 
 abbrev pub two : ℕ → ℕ
 two j = 2
@@ -33,7 +34,7 @@ reaches x t v c e =
 
 -- c is a cell of t that some distance so puts
 unfoldable pub crosses : Nest → ℕ → ℕ → ℕ → Bool
-crosses x t v c = eqb (tileOf x c) t and some (reaches x t v c) (x .distances)
+crosses x t v c = eqb (boxTileOf x c) t and some (reaches x t v c) (x .distances)
 
 -- these cells, each once, in index order
 unfoldable pub parcel : Nest → ℕ → ℕ → List ℕ
@@ -75,7 +76,7 @@ ways Direct x = directions x
 ways Indirect x = x .spread
 
 abbrev pub slots : Route → Nest → ℕ
-slots r x = tiles x * ways r x
+slots r x = boxTiles x * ways r x
 
 abbrev pub slotTile : Route → Nest → ℕ → ℕ
 slotTile r x s = s / ways r x
@@ -119,13 +120,16 @@ messagesTo r x s = messagesOf (slotMessage r x) s
 abbrev pub messages : Route → Nest → List Message
 messages r x = messagesTo r x (slots r x)
 
-abbrev pub planOf : Route → Nest → Plan
-planOf r x =
+-- the plan of the whole box; a nest without bounds has no other
+abbrev pub boxPlan : Route → Nest → Plan
+boxPlan r x =
     record {
       cells = cells x;
-      tiles = tiles x;
+      inside = λ c. true;
+      boundary = x .boundary;
+      tiles = boxTiles x;
       processors = processors x;
-      tileOf = tileOf x;
+      tileOf = boxTileOf x;
       cellsOf = cellsOf x;
       processorOf = processorOf x;
       messages = messages r x;

@@ -8,7 +8,7 @@ use Rattle.nest.specs.declared.Nest.{Nest}
 use Rattle.nest.specs.Nest.{lengthOf, tileLength, component}
 use Rattle.plan.specs.declared.Route.{Route}
 use Rattle.plan.specs.declared.Route.the-variants.{Direct, Indirect}
-use Rattle.plan.specs.Geometry.{place, cellAt, tilePlace}
+use Rattle.nest.specs.Places.{place, cellAt, tilePlace}
 use Rattle.plan.specs.Messages.{ahead, slotTile, slotDirection, slotDimension}
 
 -- in each dimension the components from `low` on, below `high`

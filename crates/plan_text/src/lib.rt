@@ -3,9 +3,9 @@ ghost use mathlib.Core.Path.{_≡_};
 ghost use Prim.Native.Nat.{_+_, _≤_};
 ghost use lib.ListN.{length};
 ghost use Rattle.machine.specs.Plan.{count};
-ghost use Rattle.plan.specs.Messages.{planOf};
+ghost use Rattle.plan.specs.Shaped.{planOf};
 ghost use Rattle.layout.specs.Sizes.{Sized};
-ghost use Rattle.table.specs.Table.{Table};
+ghost use Rattle.tables.specs.Tables.{Tabled};
 use layout::Sizes;
 use libc::STDOUT_FILENO;
 use nest::Nest;
@@ -40,8 +40,8 @@ fn print_line(number: u32, of: MessageLine) {
 }
 
 // The messages in their order.
-fn print_lines(nest: Nest, sizes: Sizes, lens: &[u16; 7168], messages: u32)
-    requires { ⌜ Sized nest sizes × Table (sizes .route) nest (now lens) ⌝ }
+fn print_lines(nest: Nest, sizes: Sizes, lens: &[u16; 9217], messages: u32)
+    requires { ⌜ Sized nest sizes × Tabled nest sizes (now lens) ⌝ }
     requires { ⌜ messages ≡ count (planOf (sizes .route) nest) ⌝ }
 {
     let mut m = 0;
@@ -97,7 +97,7 @@ pub fn print_recipe(encoded: &[u8], route: u32) {
         print_refused(1);
         return;
     }
-    let reading = nest::read(encoded);
+    let reading = routes::read_for(encoded, route);
     let number = reading.number;
     if number != 0 {
         print_refused(number);
@@ -105,8 +105,8 @@ pub fn print_recipe(encoded: &[u8], route: u32) {
     }
     let nest = reading.nest;
     let sizes = layout::sizes_of(nest, layout::route_of(route));
-    let mut lens = [0u16; 7168];
-    table::fill(nest, sizes, &mut lens);
+    let mut lens = [0u16; 9217];
+    tables::fill(nest, sizes, &mut lens);
     let figures = table::figures_of(nest, sizes, &lens);
     print_figures(figures);
     print_lines(nest, sizes, &lens, figures.messages);

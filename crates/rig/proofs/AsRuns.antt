@@ -20,11 +20,11 @@ use Rattle.offices.specs.Offices.{otherThan, actFor, ofOffice, Rig, Sources, so
 use Rattle.offices.specs.Demand208.{Demand208}
 use Rattle.offices.proofs.Engaged.{RigInv, other-is}
 use Rattle.offices.proofs.AnyCalls.{Alike, demand208-for}
-use Rattle.nest.specs.Nest.{readLines}
-use Rattle.nest.proofs.Numbered.{numbered}
+use Rattle.layout.specs.Sizes.{routeOf}
+use Rattle.routes.specs.Routes.{linesFor}
+use Rattle.routes.proofs.Laws.{front, numbered-for}
 use Rattle.engine.specs.Calls.{recipe, areas}
 use Rattle.engine.proofs.Lines.{Opened, areas-are}
-use Rattle.engine.proofs.AsSteps.{front}
 use Rattle.rig.specs.Calls.{areasFor, rigAreas, freshRigCall, callFor, rigCalls, rigCollects}
 use Rattle.rig.proofs.Lines.{all-long, as-turn, as-delivery, as-collecting}
 
@@ -37,7 +37,7 @@ as-office o = go (ℕ-discrete o 0)
     go (yes e) = (0, omega arith, λ a b. pick-true _ a b (eq-eqb o 0 e))
     go (no n) = (1, omega arith, λ a b. pick-false _ a b (ne-eqb o 0 n))
 
-module _ (bytes : List ℕ) (route : ℕ) (sources : Sources) (ok : firstOf (readLines bytes) ≡ 0)
+module _ (bytes : List ℕ) (route : ℕ) (sources : Sources) (ok : firstOf (linesFor (routeOf route) bytes) ≡ 0)
     (long : (o : ℕ) → length (sourceFor sources o) ≡ recipe bytes route .cells) where
   abbrev p : Plan
   p = recipe bytes route
@@ -92,16 +92,17 @@ module _ (bytes : List ℕ) (route : ℕ) (sources : Sources) (ok : firstOf (rea
 
 -- ---- a fresh start that gave 0
 module _ (bytes : List ℕ) (route : ℕ) (sources : Sources) (r : Rig) (z : freshRigCall bytes route sources r .number ≡ 0) where
-  pub fresh-reads : firstOf (readLines bytes) ≡ 0
+  pub fresh-reads : firstOf (linesFor (routeOf route) bytes) ≡ 0
   unfolding freshRigCall
-  fresh-reads = front (readLines bytes) (line 9 (not (rigAreas (recipe bytes route) sources r)) ∷ []) z
+  fresh-reads = front (linesFor (routeOf route) bytes) (line 9 (not (rigAreas (recipe bytes route) sources r)) ∷ []) z
 
   fresh-areas : rigAreas (recipe bytes route) sources r ≡ true
   unfolding freshRigCall
   fresh-areas =
       true-not
       (none-first 9 (not (rigAreas (recipe bytes route) sources r)) [] (λ q. omega arith)
-      (sym (first-behind (readLines bytes) (line 9 (not (rigAreas (recipe bytes route) sources r)) ∷ []) (numbered bytes) fresh-reads) ∙ z) .0)
+      (sym (first-behind (linesFor (routeOf route) bytes) (line 9 (not (rigAreas (recipe bytes route) sources r)) ∷ [])
+      (numbered-for (routeOf route) bytes) fresh-reads) ∙ z) .0)
 
   pub fresh-sources : (o : ℕ) → length (sourceFor sources o) ≡ recipe bytes route .cells
   unfolding rigAreas ofOffice pick

@@ -11,10 +11,12 @@ use Rattle.machine.specs.Plan.{Plan, Sound}
 use Rattle.machine.specs.Machine.{memoryOf}
 use Rattle.offices.specs.Offices.{Lent, ofOffice, Rig, Sources, ownOf, freshRig}
 use Rattle.offices.proofs.AnyCalls.{isolated-for}
-use Rattle.nest.specs.Nest.{readLines, nestOf}
+use Rattle.nest.specs.Reader.{nestOf}
 use Rattle.nest.proofs.Facts.{accepted}
-use Rattle.plan.proofs.Sound.{sound}
+use Rattle.plan.proofs.ShapedSound.{sound}
 use Rattle.layout.specs.Sizes.{routeOf}
+use Rattle.routes.specs.Routes.{linesFor}
+use Rattle.routes.proofs.Laws.{reads-for}
 use Rattle.engine.specs.Calls.{recipe}
 use Rattle.engine.specs.Demands.{Fixed}
 use Rattle.engine.proofs.Demands.{fixed}
@@ -54,8 +56,8 @@ fresh-fixed : (bytes : List ℕ) (route : ℕ) (sources : Sources) (r : Rig)
 unfolding freshRigCall
 fresh-fixed bytes route sources r = fixed (freshRigLines bytes route sources r) _ r
 
-sound-plan : (bytes : List ℕ) (route : ℕ) → Bytes bytes → firstOf (readLines bytes) ≡ 0 → Sound (recipe bytes route)
-sound-plan bytes route b z = sound (routeOf route) (nestOf bytes) (accepted bytes b z)
+sound-plan : (bytes : List ℕ) (route : ℕ) → Bytes bytes → firstOf (linesFor (routeOf route) bytes) ≡ 0 → Sound (recipe bytes route)
+sound-plan bytes route b z = sound (routeOf route) (nestOf bytes) (accepted bytes b (reads-for (routeOf route) bytes z))
 
 pub rig-demands : RigDemands
 rig-demands =

@@ -19,8 +19,9 @@ use Rattle.offices.specs.Offices.{Lent, lentOf, wordFor, fitWord, fitFor, heldB
 use Rattle.offices.specs.Offices.{deliverLinesFor, deliveredFor, deliverFor, collectLinesFor, collectFor}
 use Rattle.offices.proofs.OneCall.{Admits}
 use Rattle.offices.proofs.ByStep.{turn-by}
-use Rattle.nest.specs.Nest.{readLines}
-use Rattle.nest.proofs.Numbered.{numbered}
+use Rattle.layout.specs.Sizes.{routeOf}
+use Rattle.routes.specs.Routes.{linesFor}
+use Rattle.routes.proofs.Laws.{numbered-for}
 use Rattle.stages.specs.Progress.{setRecord}
 use Rattle.engine.specs.Calls.{answer, areas}
 use Rattle.engine.specs.Given.{recordsAfter, handedOver}
@@ -139,30 +140,30 @@ words-by progress engaged o b n r len low = go (eqb (r .number) 0)
     go true = ap (λ (g : ℕ). set engaged b (wordFor o g)) (sym (stage-same progress b n len low _ _ _))
     go false = refl
 
--- ---- past the reader's lines and line 9 the office's count
-past-lengths : (bytes : List ℕ) (p : Plan) (source : List ℕ) (l : Lent) (theirs : List ℕ) → firstOf (readLines bytes) ≡ 0
+-- ---- past the reader's and the route's lines and line 9 the office's count
+past-lengths : (bytes : List ℕ) (route : ℕ) (p : Plan) (source : List ℕ) (l : Lent) (theirs : List ℕ) → firstOf (linesFor (routeOf route) bytes) ≡ 0
     → areasFor p source l theirs ≡ true → (ls : List Line)
-    → firstOf (readLines bytes ++ (areaLinesFor p source l theirs ++ ls)) ≡ firstOf ls
-past-lengths bytes p source l theirs z a ls =
-    first-behind (readLines bytes) (areaLinesFor p source l theirs ++ ls) (numbered bytes) z
+    → firstOf (linesFor (routeOf route) bytes ++ (areaLinesFor p source l theirs ++ ls)) ≡ firstOf ls
+past-lengths bytes route p source l theirs z a ls =
+    first-behind (linesFor (routeOf route) bytes) (areaLinesFor p source l theirs ++ ls) (numbered-for (routeOf route) bytes) z
     ∙ first-false 9 (not (areasFor p source l theirs)) ls (not-true a)
 
 -- ---- the turn
 
 module _ (bytes : List ℕ) (route : ℕ) (source : List ℕ) (o : ℕ) (l : Lent) (theirs : List ℕ) (b : ℕ) where
-  pub turn-read : (r : ℕ) → r ≡ firstOf (readLines bytes) → r ≢ 0 → answer r l ≡ turnCallFor bytes route source o l theirs b
+  pub turn-read : (r : ℕ) → r ≡ firstOf (linesFor (routeOf route) bytes) → r ≢ 0 → answer r l ≡ turnCallFor bytes route source o l theirs b
   unfolding turnCallFor
-  turn-read r e h = call-read bytes _ r _ l e h
+  turn-read r e h = call-read (linesFor (routeOf route) bytes) (numbered-for (routeOf route) bytes) _ r _ l e h
 
   module _ (p : Plan) (op : Opened bytes route p) where
-    turn-at : answered (firstOf (readLines bytes ++ (areaLinesFor p source l theirs ++ turnLinesFor p o l theirs b)))
+    turn-at : answered (firstOf (linesFor (routeOf route) bytes ++ (areaLinesFor p source l theirs ++ turnLinesFor p o l theirs b)))
         (carryOutFor p source o l b (nextAction p (l .own) b)) l
         ≡ turnCallFor bytes route source o l theirs b
     unfolding turnCallFor
     turn-at =
         ap
         (λ (q : Plan).
-        answered (firstOf (readLines bytes ++ (areaLinesFor q source l theirs ++ turnLinesFor q o l theirs b)))
+        answered (firstOf (linesFor (routeOf route) bytes ++ (areaLinesFor q source l theirs ++ turnLinesFor q o l theirs b)))
         (carryOutFor q source o l b (nextAction q (l .own) b)) l)
         (op .is)
 
@@ -171,13 +172,14 @@ module _ (bytes : List ℕ) (route : ℕ) (source : List ℕ) (o : ℕ) (l : Len
     unfolding turnFor
     as-turn a =
         ap (λ (n : ℕ). answered n (carryOutFor p source o l b (nextAction p (l .own) b)) l)
-        (sym (past-lengths bytes p source l theirs (op .none) a (turnLinesFor p o l theirs b)))
+        (sym (past-lengths bytes route p source l theirs (op .none) a (turnLinesFor p o l theirs b)))
         ∙ turn-at
 
     module _ (r : ℕ) (e : r ≡ firstOf (unfitLinesFor p source o l theirs)) where
       pub turn-unfit : r ≢ 0 → answer r l ≡ turnCallFor bytes route source o l theirs b
       turn-unfit h =
-          call-later bytes _ r _ l (op .none) (e ∙ sym (first-some (unfitLinesFor p source o l theirs) _ (λ q. h (e ∙ q)))) h ∙ turn-at
+          call-later (linesFor (routeOf route) bytes) (numbered-for (routeOf route) bytes) _ r _ l (op .none)
+          (e ∙ sym (first-some (unfitLinesFor p source o l theirs) _ (λ q. h (e ∙ q)))) h ∙ turn-at
 
       module _ (z : r ≡ 0) where
         long : areasFor p source l theirs ≡ true
@@ -188,15 +190,16 @@ module _ (bytes : List ℕ) (route : ℕ) (source : List ℕ) (o : ℕ) (l : Len
 
         pub turn-beyond : p .processors ≤ b → answer 11 l ≡ turnCallFor bytes route source o l theirs b
         turn-beyond h =
-            call-later bytes _ 11 _ l (op .none)
+            call-later (linesFor (routeOf route) bytes) (numbered-for (routeOf route) bytes) _ 11 _ l (op .none)
             (sym (clear-lines p source o l theirs r e z _ ∙ first-true 11 _ _ (not-false (le-ltb b (p .processors) h)))) (λ k. omega arith)
             ∙ turn-at
 
         module _ (low : b < p .processors) where
           pub turn-held : heldByOther p o l b ≡ true → answer 19 l ≡ turnCallFor bytes route source o l theirs b
           turn-held h =
-              call-later bytes _ 19 _ l (op .none)
-              (sym (clear-lines p source o l theirs r e z _ ∙ first-false 11 _ _ (not-true (lt-ltb b (p .processors) low)) ∙ first-true 19 _ _ h)) (λ k. omega arith)
+              call-later (linesFor (routeOf route) bytes) (numbered-for (routeOf route) bytes) _ 19 _ l (op .none)
+              (sym (clear-lines p source o l theirs r e z _ ∙ first-false 11 _ _ (not-true (lt-ltb b (p .processors) low)) ∙ first-true 19 _ _ h))
+              (λ k. omega arith)
               ∙ turn-at
 
           -- the machine's turn on the own areas, and the shared word by the stage that it left
@@ -231,31 +234,32 @@ turn-as bytes route source o m u t e own l other q b a c r m′ u′ t′ e′ x
 -- ---- the delivery
 
 module _ (bytes : List ℕ) (route : ℕ) (source : List ℕ) (o : ℕ) (l : Lent) (theirs : List ℕ) (m : ℕ) where
-  pub deliver-read : (r : ℕ) → r ≡ firstOf (readLines bytes) → r ≢ 0 → answer r l ≡ deliverCallFor bytes route source o l theirs m
+  pub deliver-read : (r : ℕ) → r ≡ firstOf (linesFor (routeOf route) bytes) → r ≢ 0 → answer r l ≡ deliverCallFor bytes route source o l theirs m
   unfolding deliverCallFor
-  deliver-read r e h = call-read bytes _ r _ l e h
+  deliver-read r e h = call-read (linesFor (routeOf route) bytes) (numbered-for (routeOf route) bytes) _ r _ l e h
 
   module _ (p : Plan) (op : Opened bytes route p) where
-    deliver-at : answered (firstOf (readLines bytes ++ (areaLinesFor p source l theirs ++ deliverLinesFor p o l theirs m))) (deliveredFor l m) l
+    deliver-at : answered (firstOf (linesFor (routeOf route) bytes ++ (areaLinesFor p source l theirs ++ deliverLinesFor p o l theirs m))) (deliveredFor l m) l
         ≡ deliverCallFor bytes route source o l theirs m
     unfolding deliverCallFor
     deliver-at =
         ap
         (λ (q : Plan).
-        answered (firstOf (readLines bytes ++ (areaLinesFor q source l theirs ++ deliverLinesFor q o l theirs m))) (deliveredFor l m) l)
+        answered (firstOf (linesFor (routeOf route) bytes ++ (areaLinesFor q source l theirs ++ deliverLinesFor q o l theirs m))) (deliveredFor l m) l)
         (op .is)
 
     pub as-delivery : areasFor p source l theirs ≡ true → deliverFor p o l theirs m ≡ deliverCallFor bytes route source o l theirs m
     unfolding deliverFor
     as-delivery a =
         ap (λ (n : ℕ). answered n (deliveredFor l m) l)
-        (sym (past-lengths bytes p source l theirs (op .none) a (deliverLinesFor p o l theirs m)))
+        (sym (past-lengths bytes route p source l theirs (op .none) a (deliverLinesFor p o l theirs m)))
         ∙ deliver-at
 
     module _ (r : ℕ) (e : r ≡ firstOf (unfitLinesFor p source o l theirs)) where
       pub deliver-unfit : r ≢ 0 → answer r l ≡ deliverCallFor bytes route source o l theirs m
       deliver-unfit h =
-          call-later bytes _ r _ l (op .none) (e ∙ sym (first-some (unfitLinesFor p source o l theirs) _ (λ q. h (e ∙ q)))) h ∙ deliver-at
+          call-later (linesFor (routeOf route) bytes) (numbered-for (routeOf route) bytes) _ r _ l (op .none)
+          (e ∙ sym (first-some (unfitLinesFor p source o l theirs) _ (λ q. h (e ∙ q)))) h ∙ deliver-at
 
       -- the marks handed over
       pub deliver-over : r ≡ 0 → (n : ℕ) (status : List ℕ) → answer n status ≡ handedOver (l .own .status) m
@@ -270,11 +274,12 @@ module _ (bytes : List ℕ) (route : ℕ) (source : List ℕ) (o : ℕ) (l : Len
           rest k = line 11 (not (ltb m k)) ∷ line 14 (not (eqb (getD (l .own .status) m 0) 1)) ∷ []
 
           same : firstOf (rest (length (l .own .status)))
-              ≡ firstOf (readLines bytes ++ (areaLinesFor p source l theirs ++ deliverLinesFor p o l theirs m))
+              ≡ firstOf (linesFor (routeOf route) bytes ++ (areaLinesFor p source l theirs ++ deliverLinesFor p o l theirs m))
           same =
               ap (λ (k : ℕ). firstOf (rest k)) (lengths-are p source l theirs (unfit-none p source o l theirs r e z .0) .own .status)
               ∙ sym
-              (first-behind (readLines bytes) (areaLinesFor p source l theirs ++ deliverLinesFor p o l theirs m) (numbered bytes) (op .none)
+              (first-behind (linesFor (routeOf route) bytes) (areaLinesFor p source l theirs ++ deliverLinesFor p o l theirs m)
+              (numbered-for (routeOf route) bytes) (op .none)
               ∙ clear-lines p source o l theirs r e z (rest (count p)))
 
 -- ---- collecting
@@ -284,20 +289,21 @@ gridLines p source o l theirs grid =
     line 9 (not (areasFor p source l theirs and eqb (length grid) (p .cells))) ∷ collectLinesFor p o l theirs
 
 module _ (bytes : List ℕ) (route : ℕ) (source : List ℕ) (o : ℕ) (l : Lent) (theirs grid : List ℕ) where
-  pub collect-read : (r : ℕ) → r ≡ firstOf (readLines bytes) → r ≢ 0 → answer r grid ≡ collectCallFor bytes route source o l theirs grid
+  pub collect-read : (r : ℕ) → r ≡ firstOf (linesFor (routeOf route) bytes) → r ≢ 0 → answer r grid ≡ collectCallFor bytes route source o l theirs grid
   unfolding collectCallFor
-  collect-read r e h = call-read bytes _ r _ grid e h
+  collect-read r e h = call-read (linesFor (routeOf route) bytes) (numbered-for (routeOf route) bytes) _ r _ grid e h
 
   module _ (p : Plan) (op : Opened bytes route p) where
-    collect-at : answered (firstOf (readLines bytes ++ gridLines p source o l theirs grid)) (collected p (l .own)) grid
+    collect-at : answered (firstOf (linesFor (routeOf route) bytes ++ gridLines p source o l theirs grid)) (collected p (l .own)) grid
         ≡ collectCallFor bytes route source o l theirs grid
     unfolding collectCallFor
     collect-at =
-        ap (λ (q : Plan). answered (firstOf (readLines bytes ++ gridLines q source o l theirs grid)) (collected q (l .own)) grid) (op .is)
+        ap (λ (q : Plan). answered (firstOf (linesFor (routeOf route) bytes ++ gridLines q source o l theirs grid)) (collected q (l .own)) grid) (op .is)
 
     pub collect-grid : length grid ≢ p .cells → answer 9 grid ≡ collectCallFor bytes route source o l theirs grid
     collect-grid h =
-        call-later bytes _ 9 _ grid (op .none) (sym (first-true 9 _ _ (not-false (and-no _ _ (ne-eqb _ _ h))))) (λ q. omega arith) ∙ collect-at
+        call-later (linesFor (routeOf route) bytes) (numbered-for (routeOf route) bytes) _ 9 _ grid (op .none)
+        (sym (first-true 9 _ _ (not-false (and-no _ _ (ne-eqb _ _ h))))) (λ q. omega arith) ∙ collect-at
 
     pub as-collecting : areasFor p source l theirs ≡ true → length grid ≡ p .cells
         → collectFor p o l theirs grid ≡ collectCallFor bytes route source o l theirs grid
@@ -305,8 +311,8 @@ module _ (bytes : List ℕ) (route : ℕ) (source : List ℕ) (o : ℕ) (l : Len
     as-collecting a g =
         ap (λ (n : ℕ). answered n (collected p (l .own)) grid)
         (sym
-        (ap (λ (t : Bool). firstOf (readLines bytes ++ (line 9 (not t) ∷ collectLinesFor p o l theirs))) (and-right _ _ (eq-eqb _ _ g))
-        ∙ past-lengths bytes p source l theirs (op .none) a (collectLinesFor p o l theirs)))
+        (ap (λ (t : Bool). firstOf (linesFor (routeOf route) bytes ++ (line 9 (not t) ∷ collectLinesFor p o l theirs))) (and-right _ _ (eq-eqb _ _ g))
+        ∙ past-lengths bytes route p source l theirs (op .none) a (collectLinesFor p o l theirs)))
         ∙ collect-at
 
     module _ (g : length grid ≡ p .cells) (r : ℕ) (e : r ≡ firstOf (unfitLinesFor p source o l theirs)) where
@@ -316,7 +322,7 @@ module _ (bytes : List ℕ) (route : ℕ) (source : List ℕ) (o : ℕ) (l : Len
 
       pub collect-unfit : r ≢ 0 → answer r grid ≡ collectCallFor bytes route source o l theirs grid
       collect-unfit h =
-          call-later bytes _ r _ grid (op .none)
+          call-later (linesFor (routeOf route) bytes) (numbered-for (routeOf route) bytes) _ r _ grid (op .none)
           (e ∙ sym (same-lines ∙ first-some (unfitLinesFor p source o l theirs) _ (λ q. h (e ∙ q)))) h
           ∙ collect-at
 
@@ -330,7 +336,8 @@ module _ (bytes : List ℕ) (route : ℕ) (source : List ℕ) (o : ℕ) (l : Len
 
         pub collect-left : t ≡ true → answer 15 grid ≡ collectCallFor bytes route source o l theirs grid
         collect-left k =
-            call-later bytes _ 15 _ grid (op .none) (sym (last-line ∙ first-true 15 _ _ (left-is ∙ k))) (λ y. omega arith) ∙ collect-at
+            call-later (linesFor (routeOf route) bytes) (numbered-for (routeOf route) bytes) _ 15 _ grid (op .none)
+            (sym (last-line ∙ first-true 15 _ _ (left-is ∙ k))) (λ y. omega arith) ∙ collect-at
 
         over : t ≡ false → firstOf (line 15 (some (tilesLeft p (l .own)) (p .processors)) ∷ []) ≡ 0
         unfolding firstOf
@@ -339,4 +346,7 @@ module _ (bytes : List ℕ) (route : ℕ) (source : List ℕ) (o : ℕ) (l : Len
         pub collect-done : (new : List ℕ) → t ≡ false → new ≡ collected p (stateOf (l .own .memories) [] [] [])
             → answer 0 new ≡ collectCallFor bytes route source o l theirs grid
         unfolding collected
-        collect-done new k c = ap (answer 0) c ∙ call-done bytes _ 0 _ grid (op .none) (last-line ∙ over k) ∙ collect-at
+        collect-done new k c =
+            ap (answer 0) c
+            ∙ call-done (linesFor (routeOf route) bytes) (numbered-for (routeOf route) bytes) _ 0 _ grid (op .none) (last-line ∙ over k)
+            ∙ collect-at

@@ -1,6 +1,6 @@
 -- Laws of the look at a processor's memory: its number by the line that counts, and its part.
 use Prim.Native.Nat.{ℕ, _+_, _*_, _-_, _≤_, _<_}
-use mathlib.Core.Path.{_≡_, refl, sym, ap, _∙_}
+use mathlib.Core.Path.{_≡_, sym, ap, _∙_}
 use mathlib.Core.Logic.{_≢_}
 use mathlib.Core.Bool.{false}
 use mathlib.Core.List.{List, [], _∷_}
@@ -16,10 +16,10 @@ use Rattle.base.proofs.Tests.{and-true, and-false, and-no, not-true, not-false,
 use Rattle.base.proofs.Numbers.{first-true, first-false, first-some, first-behind}
 use Rattle.machine.specs.Plan.{Plan}
 use Rattle.offices.specs.Offices.{ofOffice}
-use Rattle.nest.specs.Nest.{readLines}
+use Rattle.nest.specs.Reader.{readLines}
 use Rattle.nest.proofs.Numbered.{numbered}
-use Rattle.plan.specs.declared.Route.the-variants.{Direct}
 use Rattle.layout.specs.Sizes.{routeOf}
+use Rattle.routes.proofs.Laws.{reads-for}
 use Rattle.engine.specs.Calls.{recipe}
 use Rattle.engine.proofs.Lines.{Opened}
 use Rattle.rig.specs.Calls.{memoriesLong, lookNumber, lookPart}
@@ -36,7 +36,9 @@ module _ (bytes a c : List ℕ) (o b : ℕ) where
 
     look-at : firstOf (lines p) ≡ lookNumber bytes a c o b
     unfolding lines
-    look-at = ap (λ (q : Plan). firstOf (lines q)) (op .is) ∙ sym (first-behind (readLines bytes) (lines (recipe bytes 0)) (numbered bytes) (op .none))
+    look-at =
+        ap (λ (q : Plan). firstOf (lines q)) (op .is)
+        ∙ sym (first-behind (readLines bytes) (lines (recipe bytes 0)) (numbered bytes) (reads-for (routeOf 0) bytes (op .none)))
 
     pub look-first : length a ≢ p .processors * p .cells → 9 ≡ lookNumber bytes a c o b
     unfolding lines
@@ -95,11 +97,6 @@ pub part-inside : (n b c : ℕ) → b < n → b * c + c ≤ n * c
 part-inside n b c h = omega (arith, suc-mul b c, mul-le-mul-right c h)
 
 -- ---- what `look_at` gives, for memories of these lengths
-
--- the route does not matter: the look takes the direct one
-pub directly : routeOf 0 ≡ Direct
-unfolding routeOf
-directly = refl
 
 pub not-seen : (bytes : List ℕ) (o b first second : ℕ) (r : Seen) (n : ℕ) → r .number ≡ n → n ≢ 0
     → ((a c : List ℕ) → first ≡ length a → second ≡ length c → n ≡ lookNumber bytes a c o b)

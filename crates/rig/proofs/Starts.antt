@@ -14,15 +14,15 @@ use Rattle.base.proofs.Numbers.{first-true, first-false, none-first, first-behi
 use Rattle.machine.specs.Plan.{Plan}
 use Rattle.machine.specs.Machine.{State, stateOf, Answered, answered, fresh}
 use Rattle.offices.specs.Offices.{Lent, lentOf, Rig, rigOf, Sources, freshRig, turnLinesFor}
-use Rattle.nest.specs.Nest.{readLines}
-use Rattle.nest.proofs.Numbered.{numbered}
+use Rattle.layout.specs.Sizes.{routeOf}
+use Rattle.routes.specs.Routes.{linesFor}
+use Rattle.routes.proofs.Laws.{front, numbered-for}
 use Rattle.stages.specs.Progress.{setRecord}
 use Rattle.engine.specs.Calls.{answer, recipe, areas}
 use Rattle.engine.specs.Given.{recordsAfter, zerosAfter}
 use Rattle.engine.specs.declared.core.Turned.{Turned}
 use Rattle.engine.proofs.Lines.{Opened, areas-are, call-read, call-later, call-done}
 use Rattle.engine.proofs.Reading.{zeros-after-no, zeros-after-yes}
-use Rattle.engine.proofs.AsSteps.{front}
 use Rattle.rig.specs.Calls.{areaLinesFor, turnCallFor, rigAreas, freshRigCall}
 use Rattle.rig.proofs.Lines.{lengths-are}
 
@@ -58,18 +58,22 @@ zeros-are p source s e m u k t a b c d =
     rw (a, b, c, d, l .memories, l .buffer, l .progress, l .status)
 
 module _ (bytes : List ℕ) (route : ℕ) (sources : Sources) (r : Rig) where
-  pub fresh-read : (n : ℕ) → n ≡ firstOf (readLines bytes) → n ≢ 0 → answer n r ≡ freshRigCall bytes route sources r
+  pub fresh-read : (n : ℕ) → n ≡ firstOf (linesFor (routeOf route) bytes) → n ≢ 0 → answer n r ≡ freshRigCall bytes route sources r
   unfolding freshRigCall
-  fresh-read n e h = call-read bytes _ n _ r e h
+  fresh-read n e h = call-read (linesFor (routeOf route) bytes) (numbered-for (routeOf route) bytes) _ n _ r e h
 
   module _ (p : Plan) (op : Opened bytes route p) where
-    fresh-at : answered (firstOf (readLines bytes ++ (line 9 (not (rigAreas p sources r)) ∷ []))) (freshRig p) r ≡ freshRigCall bytes route sources r
+    fresh-at : answered (firstOf (linesFor (routeOf route) bytes ++ (line 9 (not (rigAreas p sources r)) ∷ []))) (freshRig p) r
+        ≡ freshRigCall bytes route sources r
     unfolding freshRigCall
     fresh-at =
-        ap (λ (q : Plan). answered (firstOf (readLines bytes ++ (line 9 (not (rigAreas q sources r)) ∷ []))) (freshRig q) r) (op .is)
+        ap (λ (q : Plan). answered (firstOf (linesFor (routeOf route) bytes ++ (line 9 (not (rigAreas q sources r)) ∷ []))) (freshRig q) r) (op .is)
 
     pub fresh-area : rigAreas p sources r ≡ false → answer 9 r ≡ freshRigCall bytes route sources r
-    fresh-area h = call-later bytes _ 9 _ r (op .none) (sym (first-true 9 _ _ (not-false h))) (λ q. omega arith) ∙ fresh-at
+    fresh-area h =
+        call-later (linesFor (routeOf route) bytes) (numbered-for (routeOf route) bytes) _ 9 _ r (op .none)
+        (sym (first-true 9 _ _ (not-false h))) (λ q. omega arith)
+        ∙ fresh-at
 
     nothing : rigAreas p sources r ≡ true → firstOf (line 9 (not (rigAreas p sources r)) ∷ []) ≡ 0
     unfolding firstOf
@@ -79,7 +83,8 @@ module _ (bytes : List ℕ) (route : ℕ) (sources : Sources) (r : Rig) where
         → engaged ≡ replicate (p .processors) 2 → answer 0 (rigOf first second engaged) ≡ freshRigCall bytes route sources r
     unfolding freshRig
     done h first second engaged a b c =
-        ap (answer 0) (rw (a, b, c)) ∙ call-done bytes (line 9 (not (rigAreas p sources r)) ∷ []) 0 (freshRig p) r (op .none) (nothing h) ∙ fresh-at
+        ap (answer 0) (rw (a, b, c)) ∙ call-done (linesFor (routeOf route) bytes) (numbered-for (routeOf route) bytes)
+        (line 9 (not (rigAreas p sources r)) ∷ []) 0 (freshRig p) r (op .none) (nothing h) ∙ fresh-at
 
 -- over the words of all areas, the records' zeros yet to be stored
 module _ (bytes : List ℕ) (route : ℕ) (sources : Sources) (p : Plan) (op : Opened bytes route p) (s t : State) (engaged : List ℕ)
@@ -139,9 +144,10 @@ pub turn-inside : (bytes : List ℕ) (route : ℕ) (source : List ℕ) (o : ℕ)
 unfolding turnCallFor
 turn-inside bytes route source o l theirs b z =
     let p = recipe bytes route in
-    let reads = front (readLines bytes) (areaLinesFor p source l theirs ++ turnLinesFor p o l theirs b) z in
+    let reads = front (linesFor (routeOf route) bytes) (areaLinesFor p source l theirs ++ turnLinesFor p o l theirs b) z in
     let a = none-first 9 _ _ (λ q. omega arith)
-    (sym (first-behind (readLines bytes) (areaLinesFor p source l theirs ++ turnLinesFor p o l theirs b) (numbered bytes) reads) ∙ z) in
+    (sym (first-behind (linesFor (routeOf route) bytes) (areaLinesFor p source l theirs ++ turnLinesFor p o l theirs b)
+    (numbered-for (routeOf route) bytes) reads) ∙ z) in
     let f = none-first 11 _ _ (λ q. omega arith) (a .1) in
     let g = none-first 10 _ _ (λ q. omega arith) (f .1) in
     let h = none-first 11 _ _ (λ q. omega arith) (g .1) in

@@ -1,5 +1,5 @@
 -- The calls for an office, each from the recipe's bytes, the word that names its route and what is lent: its number, and what is written.
--- Renders request W-208, all lines in table order: line 9 covers all that is lent, then the office's number, then the machine's lines.
+-- Renders request W-208, and W-209's line 21: all lines in table order: line 9 covers all that is lent, then the office's number, then the machine's lines.
 use Prim.Native.Nat.{ℕ, _*_}
 use mathlib.Core.Bool.{Bool}
 use mathlib.Core.List.{List, [], _∷_, _++_}
@@ -13,7 +13,9 @@ use Rattle.machine.specs.Machine.{Answered, answered, nextAction, collected}
 use Rattle.machine.specs.Runs.{Event, turnOf, deliveryOf}
 use Rattle.offices.specs.Offices.{Lent, turnLinesFor, carryOutFor, deliverLinesFor, deliveredFor, collectLinesFor}
 use Rattle.offices.specs.Offices.{ofOffice, Rig, Sources, sourceFor, otherOf, lentTo, putBack, freshRig, Call}
-use Rattle.nest.specs.Nest.{readLines}
+use Rattle.nest.specs.Reader.{readLines}
+use Rattle.layout.specs.Sizes.{routeOf}
+use Rattle.routes.specs.Routes.{linesFor}
 use Rattle.engine.specs.Calls.{recipe, areas}
 
 -- an office's own areas, the shared words and the other's records have exactly their lengths
@@ -21,7 +23,7 @@ unfoldable pub areasFor : Plan → List ℕ → Lent → List ℕ → Bool
 areasFor p source l theirs =
     areas p source (l .own) and (eqb (length (l .engaged)) (p .processors) and eqb (length theirs) (3 * p .processors))
 
--- the reader's lines come first, then line 9; the lines behind them are the office's
+-- the reader's lines and the route's come first, then line 9; the lines behind them are the office's
 abbrev pub areaLinesFor : Plan → List ℕ → Lent → List ℕ → List Line
 areaLinesFor p source l theirs = line 9 (not (areasFor p source l theirs)) ∷ []
 
@@ -29,7 +31,7 @@ areaLinesFor p source l theirs = line 9 (not (areasFor p source l theirs)) ∷ [
 
 abbrev pub turnCallLinesFor : List ℕ → ℕ → List ℕ → ℕ → Lent → List ℕ → ℕ → List Line
 turnCallLinesFor bytes route source o l theirs b =
-    readLines bytes ++ (areaLinesFor (recipe bytes route) source l theirs ++ turnLinesFor (recipe bytes route) o l theirs b)
+    linesFor (routeOf route) bytes ++ (areaLinesFor (recipe bytes route) source l theirs ++ turnLinesFor (recipe bytes route) o l theirs b)
 
 unfoldable pub turnCallFor : List ℕ → ℕ → List ℕ → ℕ → Lent → List ℕ → ℕ → Answered Lent
 turnCallFor bytes route source o l theirs b =
@@ -38,7 +40,7 @@ turnCallFor bytes route source o l theirs b =
 
 abbrev pub deliverCallLinesFor : List ℕ → ℕ → List ℕ → ℕ → Lent → List ℕ → ℕ → List Line
 deliverCallLinesFor bytes route source o l theirs m =
-    readLines bytes ++ (areaLinesFor (recipe bytes route) source l theirs ++ deliverLinesFor (recipe bytes route) o l theirs m)
+    linesFor (routeOf route) bytes ++ (areaLinesFor (recipe bytes route) source l theirs ++ deliverLinesFor (recipe bytes route) o l theirs m)
 
 unfoldable pub deliverCallFor : List ℕ → ℕ → List ℕ → ℕ → Lent → List ℕ → ℕ → Answered Lent
 deliverCallFor bytes route source o l theirs m =
@@ -47,7 +49,7 @@ deliverCallFor bytes route source o l theirs m =
 -- collecting is lent the grid too, one word a cell
 abbrev pub collectCallLinesFor : List ℕ → ℕ → List ℕ → ℕ → Lent → List ℕ → List ℕ → List Line
 collectCallLinesFor bytes route source o l theirs grid =
-    readLines bytes
+    linesFor (routeOf route) bytes
     ++ (line 9 (not (areasFor (recipe bytes route) source l theirs and eqb (length grid) (recipe bytes route .cells)))
     ∷ collectLinesFor (recipe bytes route) o l theirs)
 
@@ -62,7 +64,7 @@ rigAreas p sources r =
     areas p (sources .first) (r .first) and (areas p (sources .second) (r .second) and eqb (length (r .engaged)) (p .processors))
 
 abbrev pub freshRigLines : List ℕ → ℕ → Sources → Rig → List Line
-freshRigLines bytes route sources r = readLines bytes ++ (line 9 (not (rigAreas (recipe bytes route) sources r)) ∷ [])
+freshRigLines bytes route sources r = linesFor (routeOf route) bytes ++ (line 9 (not (rigAreas (recipe bytes route) sources r)) ∷ [])
 
 unfoldable pub freshRigCall : List ℕ → ℕ → Sources → Rig → Answered Rig
 freshRigCall bytes route sources r = answered (firstOf (freshRigLines bytes route sources r)) (freshRig (recipe bytes route)) r

@@ -9,10 +9,10 @@ use Rattle.base.specs.Tests.{not, pick}
 use Rattle.base.specs.Numbers.{Line, line, firstOf}
 use Rattle.machine.specs.Plan.{Plan}
 use Rattle.offices.specs.Offices.{Lent, wordFor, fitFor}
-use Rattle.nest.specs.Nest.{readLines}
-use Rattle.plan.specs.Messages.{planOf}
-use Rattle.layout.specs.Sizes.{Sized}
-use Rattle.table.specs.Table.{Table}
+use Rattle.plan.specs.Shaped.{planOf}
+use Rattle.layout.specs.Sizes.{Sized, routeOf}
+use Rattle.routes.specs.Routes.{linesFor}
+use Rattle.tables.specs.Tables.{Tabled}
 use Rattle.engine.specs.Calls.{recipe}
 use Rattle.engine.specs.Given.{AreaLengths}
 use Rattle.engine.specs.declared.core.Turned.{Turned}
@@ -20,11 +20,11 @@ use Rattle.rig.specs.Calls.{areaLinesFor}
 use Rattle.rig.specs.declared.core.Opening.{Opening}
 use Rattle.rig.specs.declared.core.Seen.{Seen}
 
--- a recipe read, with the table of its messages' lengths
+-- a recipe read for a route, with the table of its messages' lengths
 pub record Opens (bytes : List ℕ) (route : ℕ) (r : Opening) (lens : List ℕ) : Type 0 where
-  pub none : firstOf (readLines bytes) ≡ 0
+  pub none : firstOf (linesFor (routeOf route) bytes) ≡ 0
   pub sized : Sized (r .nest) (r .sizes)
-  pub table : Table (r .sizes .route) (r .nest) lens
+  pub table : Tabled (r .nest) (r .sizes) lens
   pub is : planOf (r .sizes .route) (r .nest) ≡ recipe bytes route
 
 -- all that is lent has its length

@@ -9,10 +9,11 @@ ghost use Rattle.base.specs.Tests.{every};
 ghost use Rattle.base.specs.Numbers.{firstOf};
 ghost use Rattle.machine.specs.Plan.{count};
 ghost use Rattle.machine.specs.Machine.{stateOf, progressOnly};
-ghost use Rattle.plan.specs.Messages.{planOf};
-ghost use Rattle.nest.specs.Nest.{processors, readLines};
-ghost use Rattle.layout.specs.Sizes.{Sized};
-ghost use Rattle.table.specs.Table.{Table};
+ghost use Rattle.plan.specs.Shaped.{planOf};
+ghost use Rattle.nest.specs.Nest.{processors};
+ghost use Rattle.layout.specs.Sizes.{Sized, routeOf};
+ghost use Rattle.routes.specs.Routes.{linesFor};
+ghost use Rattle.tables.specs.Tables.{Tabled};
 ghost use Rattle.records.specs.Records.{Carries};
 ghost use Rattle.engine.specs.Calls.{answer, recipe};
 ghost use Rattle.engine.specs.Given.{recordsAfter, zerosAfter};
@@ -32,16 +33,17 @@ use nest::read;
 use offices::other;
 use plan::Route;
 use records::Flat;
+use routes::read_for;
 use stages::copy_cells;
 use stages::fit_records;
 use stages::fit_status;
 use stages::tiles_left;
 use stages::zero_bytes;
 use stages::zero_words;
-use table::fill;
-use table::tile_count;
+use tables::fill;
+use tables::tile_count;
 
-// What a call makes of a recipe: the reader's number and, where that is 0, the nest and its counts on the route.
+// What a call makes of a recipe: the number of the reader's and the route's lines and, where that is 0, the nest and its counts on the route.
 pub struct Opening {
     pub number: u32,
     pub nest: Nest,
@@ -49,12 +51,12 @@ pub struct Opening {
 }
 
 // The recipe read, and the table of its messages' lengths filled.
-fn open_recipe(encoded: &[u8], route: u32, lens: &mut [u16; 7168]) -> Opening
-    requires { ⌜ length (now lens) ≡ 7168 ⌝ }
-    ensures { λ r. ⌜ (r .number ≡ firstOf (readLines (now (encoded .entry))))
+fn open_recipe(encoded: &[u8], route: u32, lens: &mut [u16; 9217]) -> Opening
+    requires { ⌜ length (now lens) ≡ 9217 ⌝ }
+    ensures { λ r. ⌜ (r .number ≡ firstOf (linesFor (routeOf route) (now (encoded .entry))))
         × (r .number ≡ 0 → Opens (now (encoded .entry)) route r (now (lens .exit))) ⌝ }
 {
-    let reading = read(encoded);
+    let reading = read_for(encoded, route);
     let number = reading.number;
     let nest = reading.nest;
     if number != 0 {
@@ -122,14 +124,14 @@ fn fit_words(engaged: &[u32], progress: &[u32], theirs: &[u32], office: u32) -> 
 fn fit_rig(
     nest: Nest,
     sizes: Sizes,
-    lens: &[u16; 7168],
+    lens: &[u16; 9217],
     progress: &[u32],
     status: &[u8],
     engaged: &[u32],
     theirs: &[u32],
     office: u32,
 ) -> bool
-    requires { ⌜ Sized nest sizes × Table (sizes .route) nest (now lens) ⌝ }
+    requires { ⌜ Sized nest sizes × Tabled nest sizes (now lens) ⌝ }
     requires { ⌜ (length (now progress) ≡ 3 * processors nest) × (length (now status) ≡ count (planOf (sizes .route) nest)) ⌝ }
     requires { ⌜ (length (now engaged) ≡ processors nest) × ((length (now theirs) ≡ 3 * processors nest) × (office ≤ 1)) ⌝ }
     ensures { λ r. ⌜ r ≡ fitFor (planOf (sizes .route) nest) office
@@ -151,7 +153,7 @@ fn fit_rig(
 fn unfit(
     nest: Nest,
     sizes: Sizes,
-    lens: &[u16; 7168],
+    lens: &[u16; 9217],
     source: &[u32],
     memories: &[u32],
     buffer: &[u32],
@@ -161,7 +163,7 @@ fn unfit(
     theirs: Flat,
     office: u32,
 ) -> u32
-    requires { ⌜ Sized nest sizes × Table (sizes .route) nest (now lens) ⌝ }
+    requires { ⌜ Sized nest sizes × Tabled nest sizes (now lens) ⌝ }
     requires { ⌜ (length (progress .words) ≡ 192) × (length (theirs .words) ≡ 192) ⌝ }
     ensures { λ r. ⌜ ((records others : List ℕ) → Carries progress records → Carries theirs others
         → r ≡ firstOf (unfitLinesFor (planOf (sizes .route) nest) (now (source .entry)) office
@@ -200,14 +202,23 @@ fn unfit(
 }
 
 // Line 19: the office has tiles left on processor b, and the other holds it.
-fn held(nest: Nest, sizes: Sizes, progress: &[u32], engaged: &[u32], office: u32, b: usize) -> bool
-    requires { ⌜ Sized nest sizes × ((length (now progress) ≡ 3 * processors nest) × (length (now engaged) ≡ processors nest)) ⌝ }
+fn held(
+    nest: Nest,
+    sizes: Sizes,
+    lens: &[u16; 9217],
+    progress: &[u32],
+    engaged: &[u32],
+    office: u32,
+    b: usize,
+) -> bool
+    requires { ⌜ Sized nest sizes × Tabled nest sizes (now lens) ⌝ }
+    requires { ⌜ (length (now progress) ≡ 3 * processors nest) × (length (now engaged) ≡ processors nest) ⌝ }
     requires { ⌜ (b < processors nest) × (office ≤ 1) ⌝ }
     ensures { λ r. ⌜ r ≡ heldByOther (planOf (sizes .route) nest) office
         (lentOf (progressOnly (now (progress .entry))) (now (engaged .entry))) b ⌝ }
 {
     let finished = base::word_index(progress[3 * b]);
-    let n = tile_count(nest, sizes, b);
+    let n = tile_count(nest, sizes, lens, b);
     if finished >= n {
         return false;
     }
@@ -258,7 +269,7 @@ pub fn turn(
         (lentOf (stateOf (now (memories .entry)) (now (buffer .entry)) records (now (status .entry)))
         (now (engaged .entry))) others processor) ⌝ }
 {
-    let mut lens = [0u16; 7168];
+    let mut lens = [0u16; 9217];
     let opening = open_recipe(encoded, route, &mut lens);
     let number = opening.number;
     if number != 0 {
@@ -288,7 +299,7 @@ pub fn turn(
     }
     let words = progress.words;
     let count = progress.count;
-    if held(nest, sizes, &words[0..count], engaged, office, b) {
+    if held(nest, sizes, &lens, &words[0..count], engaged, office, b) {
         return refused(19);
     }
     let after = step(
@@ -327,7 +338,7 @@ pub fn deliver(
         (lentOf (stateOf (now (memories .entry)) (now (buffer .entry)) records (now (status .entry)))
         (now (engaged .entry))) others message) ⌝ }
 {
-    let mut lens = [0u16; 7168];
+    let mut lens = [0u16; 9217];
     let opening = open_recipe(encoded, route, &mut lens);
     let number = opening.number;
     if number != 0 {
@@ -375,7 +386,7 @@ pub fn collect(
         (lentOf (stateOf (now (memories .entry)) (now (buffer .entry)) records (now (status .entry)))
         (now (engaged .entry))) others (now (grid .entry))) ⌝ }
 {
-    let mut lens = [0u16; 7168];
+    let mut lens = [0u16; 9217];
     let opening = open_recipe(encoded, route, &mut lens);
     let number = opening.number;
     if number != 0 {
@@ -404,7 +415,7 @@ pub fn collect(
     }
     let words = progress.words;
     let count = progress.count;
-    if tiles_left(nest, sizes, &words[0..count]) {
+    if tiles_left(nest, sizes, &lens, &words[0..count]) {
         return 15;
     }
     copy_cells(nest, sizes, memories, grid);
@@ -456,7 +467,7 @@ pub fn fresh(
         (rigOf (stateOf (now (memories0 .entry)) (now (buffer0 .entry)) records (now (status0 .entry)))
         (stateOf (now (memories1 .entry)) (now (buffer1 .entry)) others (now (status1 .entry))) (now (engaged .entry)))) ⌝ }
 {
-    let mut lens = [0u16; 7168];
+    let mut lens = [0u16; 9217];
     let opening = open_recipe(encoded, route, &mut lens);
     let number = opening.number;
     if number != 0 {

@@ -12,7 +12,7 @@ use lib.Dec.{eqb, ltb}
 use borrow.Author.Tests.{lt-ltb, ltb-true, eq-eqb, eqb-true, eqb-false}
 use Rattle.base.specs.Tests.{_and_, _or_, pick, tabulate}
 use Rattle.base.proofs.Tests.{both, and-true, either, or-left, or-right, is-false, never-both, length-tabulate, tabulate-at}
-use Rattle.nest.specs.Nest.{records}
+use Rattle.nest.specs.Reader.{records}
 use Rattle.soundings.specs.Soundings.{cellOf, dayOf, surveyOf, depthOf, beats, Best, none, its, better, bestOf, depthOr, soundedWord, soundedSource}
 use Rattle.soundings.specs.Ground.{Counts, Ground, sounded, unsounded, Grounded}
 

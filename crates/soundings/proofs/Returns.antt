@@ -16,7 +16,8 @@ use Rattle.base.proofs.Tests.{or-right, none-some, not-true, not-false, pick-tr
 use Rattle.base.proofs.Numbers.{first-nil, first-true, first-false, none-first, Numbered, first-some, first-behind}
 use Rattle.machine.specs.Machine.{Answered, answered}
 use Rattle.nest.specs.declared.Reading.{Reading}
-use Rattle.nest.specs.Nest.{records, cells, nestOf, ragged, readLines, readingOf}
+use Rattle.nest.specs.Nest.{cells}
+use Rattle.nest.specs.Reader.{records, nestOf, ragged, readLines, readingOf}
 use Rattle.nest.proofs.Answers.{nest-read, accepted-read}
 use Rattle.nest.proofs.Numbered.{numbered}
 use Rattle.layout.specs.Places.{nth}

@@ -15,8 +15,9 @@ use borrow.Author.Tests.{le-leb, lt-leb, eq-eqb, ne-eqb}
 use Rattle.base.specs.Tests.{not, some, tabulate}
 use Rattle.base.specs.Lists.{Bytes}
 use Rattle.base.proofs.Tests.{is-false, some-one, or-false, not-true, not-false, pick-true, pick-false, length-tabulate, tabulate-at, tabulate-same}
-use Rattle.nest.specs.Nest.{records, word}
-use Rattle.soundings.specs.Soundings.{cellOf, dayOf, surveyOf, depthOf, beats, Best, none, its, better, bestOf, depthOr, soundedWord, soundedSource, raggedFile, offBox}
+use Rattle.nest.specs.Reader.{records, word}
+use Rattle.soundings.specs.Soundings.{cellOf, dayOf, surveyOf, depthOf, beats, Best, none, its, better, bestOf, depthOr, soundedWord}
+use Rattle.soundings.specs.Soundings.{soundedSource, raggedFile, offBox}
 use Rattle.soundings.specs.Sifting.{keyOf, bestKey, keyIn, depthIn, Zeros, Blank, Sifted, Noted}
 use Rattle.soundings.proofs.Best.{Beats, beats-says, says-beats, Stands, stands}
 

@@ -6,7 +6,7 @@ use mathlib.Core.Logic.{_≢_}
 use mathlib.Core.Bool.{false}
 use mathlib.Core.List.{List}
 use lib.ListN.{length, getD}
-use Rattle.nest.specs.Nest.{records}
+use Rattle.nest.specs.Reader.{records}
 use Rattle.soundings.specs.Soundings.{cellOf, depthOf, beats}
 
 -- record r counts for cell c: it names the cell, and no record that names it beats r

@@ -8,7 +8,7 @@ ghost use lib.ListN.{length};
 ghost use Rattle.base.specs.Tests.{tabulate};
 ghost use Rattle.base.specs.Numbers.{line, firstOf};
 ghost use Rattle.machine.specs.Machine.{answered};
-ghost use Rattle.nest.specs.Nest.{records, half, word};
+ghost use Rattle.nest.specs.Reader.{records, half, word};
 ghost use Rattle.soundings.specs.Soundings.{cellOf, soundedSource, raggedFile, offBox, filled, fillCall};
 ghost use Rattle.soundings.specs.Sifting.{depthIn, Zeros, Blank, Sifted, Noted};
 

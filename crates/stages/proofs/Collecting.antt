@@ -8,6 +8,7 @@ use native.Mathlib.Omega.{arith}
 use lib.ListN.{length, getD, take, drop}
 use lib.Seq.{getD-take, getD-drop}
 use borrow.Rule.Slice.PartMut.{putMid}
+use Rattle.base.specs.Tests.{pick}
 use Rattle.base.specs.Lists.{part, put}
 use Rattle.base.proofs.Lists.{length-put, part-length, part-put-same, part-put-before}
 use Rattle.machine.specs.Machine.{stateOf, collected}
@@ -15,10 +16,11 @@ use Rattle.nest.specs.declared.Nest.{Nest}
 use Rattle.nest.specs.Accepted.{Accepted}
 use Rattle.nest.specs.Nest.{lengthOf, tileLength, cells, processors}
 use Rattle.plan.specs.declared.Route.{Route}
-use Rattle.plan.specs.Geometry.{place, cellPlace, tileOf, processorOf}
-use Rattle.plan.specs.Messages.{planOf}
-use Rattle.plan.proofs.Rank.{place-last}
-use Rattle.plan.proofs.Tiles.{tilePlace-tileOf, processorOf-same}
+use Rattle.nest.specs.Places.{place, cellPlace, boxTileOf}
+use Rattle.plan.specs.Geometry.{processorOf}
+use Rattle.plan.specs.Messages.{boxPlan}
+use Rattle.nest.proofs.Rank.{place-last}
+use Rattle.plan.proofs.Tiles.{tilePlace-boxTileOf, processorOf-same}
 use Rattle.layout.specs.declared.Sizes.{Sizes}
 use Rattle.layout.specs.Sizes.{Sized}
 use Rattle.layout.proofs.CellRows.{row-before, row-low}
@@ -40,15 +42,15 @@ module _ (x : Nest) (ok : Accepted x) (c : ℕ) (begins : c % rowLength x ≡ 0)
   inside y h = omega (arith, last-is (lengthOf x) (x .dimensions) c (omega (arith, ok .dimensions-least)), begins)
 
   -- the last dimension is not spread
-  row-processor : (y : ℕ) → y < rowLength x → processorOf x (tileOf x (c + y)) ≡ processorOf x (tileOf x c)
+  row-processor : (y : ℕ) → y < rowLength x → processorOf x (boxTileOf x (c + y)) ≡ processorOf x (boxTileOf x c)
   unfolding cellPlace
   row-processor y h =
-      processorOf-same x ok (tileOf x (c + y)) (tileOf x c)
+      processorOf-same x ok (boxTileOf x (c + y)) (boxTileOf x c)
       (λ j l.
-      tilePlace-tileOf x ok (c + y) j (omega (arith, ok .spread-low))
+      tilePlace-boxTileOf x ok (c + y) j (omega (arith, ok .spread-low))
       ∙ ap (λ (a : ℕ). a / tileLength x j)
       (row-before (lengthOf x) (x .dimensions) c y (omega (arith, ok .dimensions-least)) (inside y h) j (omega (arith, ok .spread-low)))
-      ∙ sym (tilePlace-tileOf x ok c j (omega (arith, ok .spread-low))))
+      ∙ sym (tilePlace-boxTileOf x ok c j (omega (arith, ok .spread-low))))
 
   row-some : 1 ≤ rowLength x
   row-some = ok .long (x .dimensions - 1) (omega (arith, ok .dimensions-least))
@@ -70,10 +72,11 @@ at-part l i n k h = getD-take n (drop i l) k 0 h ∙ getD-drop i l k 0
 
 -- the word of cell c in the memory of its tile's processor
 abbrev pub cellWord : Nest → List ℕ → ℕ → ℕ
-cellWord x memories c = getD (part memories (processorOf x (tileOf x c) * cells x) (cells x)) c 0
+cellWord x memories c = getD (part memories (processorOf x (boxTileOf x c) * cells x) (cells x)) c 0
 
-cell-word : (x : Nest) (memories : List ℕ) (c b : ℕ) → c < cells x → b ≡ processorOf x (tileOf x c) → getD memories (b * cells x + c) 0 ≡ cellWord x memories c
-cell-word x memories c b h e = rw e (sym (at-part memories (processorOf x (tileOf x c) * cells x) (cells x) c h))
+cell-word : (x : Nest) (memories : List ℕ) (c b : ℕ) → c < cells x → b ≡ processorOf x (boxTileOf x c)
+    → getD memories (b * cells x + c) 0 ≡ cellWord x memories c
+cell-word x memories c b h e = rw e (sym (at-part memories (processorOf x (boxTileOf x c) * cells x) (cells x) c h))
 
 -- words put from place c on, behind the first c words of f
 module _ (f : ℕ → ℕ) (old new s : List ℕ) (c : ℕ) (g : Stored f old new c) (fits : c + length s ≤ length new)
@@ -140,14 +143,15 @@ module _ {x : Nest} {memories old new : List ℕ} {c b k : ℕ} (g : Copied x me
   pub row-same : length (take (c + rowLength x - c) (drop c new)) ≡ length (take (b * k + c + rowLength x - (b * k + c)) (drop (b * k + c) memories))
   row-same = mid-length new c (rowLength x) (r .fits) ∙ sym (mid-length memories (b * k + c) (rowLength x) (r .room))
 
-  module _ {t : ℕ} (tile : t ≡ tileOf x c) (processor : b ≡ processorOf x t) where
+  module _ {t : ℕ} (tile : t ≡ boxTileOf x c) (processor : b ≡ processorOf x t) where
     each-word : (y : ℕ) → y < length words → getD words y 0 ≡ cellWord x memories (c + y)
     each-word y h =
         let v : y < rowLength x = omega (arith, words-long) in
         at-part memories (b * k + c) (rowLength x) y v
         ∙ ap (λ (i : ℕ). getD memories i 0) (add-assoc (b * k) c y)
         ∙ ap (λ (i : ℕ). getD memories (b * i + (c + y)) 0) (r .count)
-        ∙ cell-word x memories (c + y) b (omega (arith, r .ends, r .count)) (processor ∙ ap (processorOf x) tile ∙ sym (row-processor x (r .accepted) c (g .begins) y v))
+        ∙ cell-word x memories (c + y) b (omega (arith, r .ends, r .count))
+        (processor ∙ ap (processorOf x) tile ∙ sym (row-processor x (r .accepted) c (g .begins) y v))
 
     more : Stored (cellWord x memories) old (put new c words) (c + rowLength x)
     more =
@@ -163,6 +167,6 @@ module _ {x : Nest} {memories old new : List ℕ} {c b k : ℕ} (g : Copied x me
         }
 
 pub copied-all : (route : Route) {x : Nest} {memories old new : List ℕ} {c k : ℕ} → Copied x memories old new c → length old ≡ cells x
-    → k ≡ cells x → k ≤ c → new ≡ collected (planOf route x) (stateOf memories [] [] [])
-unfolding collected
+    → k ≡ cells x → k ≤ c → new ≡ collected (boxPlan route x) (stateOf memories [] [] [])
+unfolding collected pick
 copied-all route {x} {memories} {old} {new} {c} g e z h = stored-all (cellWord x memories) old new c (cells x) (g .stored) e (omega arith)

@@ -1,3 +1,4 @@
 pub mod Parts
 pub mod Stages
 pub mod Collecting
+pub mod Shapes

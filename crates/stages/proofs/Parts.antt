@@ -16,14 +16,14 @@ use Rattle.base.specs.Tests.{_or_, every, some, tabulate}
 use Rattle.base.specs.Lists.{part, put, setAll, allAt, unpack, pack}
 use Rattle.base.proofs.Tests.{and-left, and-false, every-more, length-tabulate, tabulate-at}
 use Rattle.base.proofs.Lists.{part-length, piece-fits}
-use Rattle.machine.specs.Plan.{Message, Plan, offset, words, heldBy, duesOf}
+use Rattle.machine.specs.Plan.{Plan, offset, words, heldBy, duesOf}
 use Rattle.machine.specs.Machine.{placeOf, unpackAll}
 use Rattle.nest.specs.declared.Nest.{Nest}
 use Rattle.nest.specs.Nest.{cells}
 use Rattle.plan.specs.declared.Route.{Route}
-use Rattle.plan.specs.Messages.{slotParcel, messages, planOf}
-use Rattle.table.specs.declared.Place.{Place}
-use Rattle.table.specs.Table.{FoundAt}
+use Rattle.plan.specs.Shaped.{planOf}
+use Rattle.scans.specs.declared.Place.{Place}
+use Rattle.tables.specs.Tables.{FoundIn}
 
 -- ---- parts
 
@@ -39,8 +39,8 @@ unfolding put
 put-is l ys a k e = let z : a + k - a ≡ length ys = omega arith in rw z
 
 -- a lent part that comes back as f of it
-pub back : (l ys : List ℕ) (f : List ℕ → List ℕ) (a k : ℕ) → a + k ≤ length l → length ys ≡ length (take (a + k - a) (drop a l)) → ys ≡ f (take (a + k - a) (drop a l))
-    → putMid a (a + k - a) l ys ≡ put l a (f (part l a k))
+pub back : (l ys : List ℕ) (f : List ℕ → List ℕ) (a k : ℕ) → a + k ≤ length l → length ys ≡ length (take (a + k - a) (drop a l))
+    → ys ≡ f (take (a + k - a) (drop a l)) → putMid a (a + k - a) l ys ≡ put l a (f (part l a k))
 back l ys f a k h n e = put-is l ys a k (n ∙ mid-length l a k h) ∙ ap (put l a) (e ∙ ap f (mid-is l a k))
 
 -- the same of piece b of pieces as long as n, which the code has as c
@@ -90,34 +90,28 @@ module _ (route : Route) (x : Nest) where
   abbrev p : Plan
   p = planOf route x
 
-  module _ (m : ℕ) (r : Place) (q : FoundAt route x m r) where
-    pub placed-self : FoundAt route x (r .number) r
-    placed-self = subst (λ (k : ℕ). FoundAt route x k r) (sym (q .number)) q
-
-    held-is : heldBy p m ≡ slotParcel route x (r .slot)
-    held-is = ap (λ (z : Message). z .cells) (q .is)
+  module _ (m : ℕ) (r : Place) (q : FoundIn route x m r) where
+    pub placed-self : FoundIn route x (r .number) r
+    placed-self = subst (λ (k : ℕ). FoundIn route x k r) (sym (q .number)) q
 
     place-is : (buffer : List ℕ) → placeOf p buffer m ≡ part buffer (r .offset) (r .words)
-    place-is buffer = rw (held-is, ← q .offset, ← q .words)
+    place-is buffer = rw (← q .offset, ← q .words)
 
     pub mid-words : (buffer : List ℕ) → length buffer ≡ words p
-        → (length (take (r .offset + r .words - r .offset) (drop (r .offset) buffer)) ≡ length (slotParcel route x (r .slot)))
-        × (0 < length (take (r .offset + r .words - r .offset) (drop (r .offset) buffer)))
-    mid-words buffer h =
-        let e = mid-length buffer (r .offset) (r .words) (omega (arith, q .room, h)) in
-        (e ∙ q .words, omega (arith, e, q .full))
+        → length (take (r .offset + r .words - r .offset) (drop (r .offset) buffer)) ≡ r .words
+    mid-words buffer h = mid-length buffer (r .offset) (r .words) (omega (arith, q .room, h))
 
     pub taken-is : (memory buffer ys : List ℕ)
-        → ys ≡ unpack memory (slotParcel route x (r .slot)) (take (r .offset + r .words - r .offset) (drop (r .offset) buffer))
+        → ys ≡ unpack memory (heldBy p m) (take (r .offset + r .words - r .offset) (drop (r .offset) buffer))
         → ys ≡ unpack memory (heldBy p m) (placeOf p buffer m)
-    taken-is memory buffer ys e = rw (place-is buffer, held-is) (e ∙ rw (mid-is buffer (r .offset) (r .words)))
+    taken-is memory buffer ys e = rw (place-is buffer) (e ∙ rw (mid-is buffer (r .offset) (r .words)))
 
     pub packed-is : (memory buffer ys : List ℕ) → length buffer ≡ words p
-        → length ys ≡ length (take (r .offset + r .words - r .offset) (drop (r .offset) buffer)) → ys ≡ pack memory (slotParcel route x (r .slot))
-        → putMid (r .offset) (r .offset + r .words - r .offset) buffer ys ≡ put buffer (offset (messages route x) m) (pack memory (heldBy p m))
+        → length ys ≡ length (take (r .offset + r .words - r .offset) (drop (r .offset) buffer)) → ys ≡ pack memory (heldBy p m)
+        → putMid (r .offset) (r .offset + r .words - r .offset) buffer ys ≡ put buffer (offset (p .messages) m) (pack memory (heldBy p m))
     packed-is memory buffer ys h k e =
         put-is buffer ys (r .offset) (r .words) (k ∙ mid-length buffer (r .offset) (r .words) (omega (arith, q .room, h)))
-        ∙ ap (put buffer (r .offset)) (e ∙ ap (pack memory) (sym held-is))
+        ∙ ap (put buffer (r .offset)) e
         ∙ ap (λ (i : ℕ). put buffer i (pack memory (heldBy p m))) (q .offset)
 
   -- what is left to gather gives the same
@@ -134,7 +128,7 @@ module _ (route : Route) (x : Nest) where
     gather-start e = record { low = omega arith; all = e; long = refl; longStatus = refl; memories = refl; statuses = refl }
 
     pub gather-again : (memory memory′ status : List ℕ) (j : ℕ) (r : Place) → Gathering tile buffer memory₀ status₀ memory status m j → j < m
-        → FoundAt route x (getD (duesOf p tile) j 0) r → length memory′ ≡ length memory
+        → FoundIn route x (getD (duesOf p tile) j 0) r → length memory′ ≡ length memory
         → memory′ ≡ unpack memory (heldBy p (r .number)) (placeOf p buffer (r .number))
         → Gathering tile buffer memory₀ status₀ memory′ (set status (r .number) 3) m (j + 1)
     gather-again memory memory′ status j r g l q k e =
@@ -166,7 +160,7 @@ module _ (route : Route) (x : Nest) where
     pub is : allAt status 2 (drop j (duesOf p tile)) ≡ allAt status 2 (duesOf p tile)
 
   module _ (tile : ℕ) (status : List ℕ) (m j : ℕ) (g : Looking tile status m j) where
-    pub look-again : (r : Place) → j < m → FoundAt route x (getD (duesOf p tile) j 0) r → getD status (r .number) 0 ≡ 2 → Looking tile status m (j + 1)
+    pub look-again : (r : Place) → j < m → FoundIn route x (getD (duesOf p tile) j 0) r → getD status (r .number) 0 ≡ 2 → Looking tile status m (j + 1)
     look-again r l q e =
         record {
           low = omega arith;
@@ -174,7 +168,7 @@ module _ (route : Route) (x : Nest) where
           is = all-turn (duesOf p tile) j status 2 (omega (arith, g .all)) (ap (λ (i : ℕ). getD status i 0) (sym (q .number)) ∙ e) ∙ g .is;
         }
 
-    pub look-no : (r : Place) → j < m → FoundAt route x (getD (duesOf p tile) j 0) r → getD status (r .number) 0 ≢ 2
+    pub look-no : (r : Place) → j < m → FoundIn route x (getD (duesOf p tile) j 0) r → getD status (r .number) 0 ≢ 2
         → false ≡ allAt status 2 (duesOf p tile)
     look-no r l q e =
         sym (all-no (duesOf p tile) j status 2 (omega (arith, g .all)) (λ z. e (ap (λ (i : ℕ). getD status i 0) (q .number) ∙ z))) ∙ g .is

@@ -13,14 +13,14 @@ use Rattle.base.specs.Tests.{_and_, pick}
 use Rattle.base.specs.Lists.{put, setAll, pack, storeAll}
 use Rattle.base.proofs.Select.{at-is}
 use Rattle.machine.specs.Plan.{Plan, count, offset, senderOf, heldBy, tilesOf, sendsOf, duesOf}
-use Rattle.machine.specs.Machine.{State, stateOf, finishedOf, sentOf, setProgress, tilesLeft, fitRecord, gather, calculate, send, unpackAll, afterSends, carryOut}
+use Rattle.machine.specs.Machine.{State, stateOf, finishedOf, sentOf, setProgress, tilesLeft, fitRecord}
+use Rattle.machine.specs.Machine.{gather, calculate, send, unpackAll, afterSends, carryOut}
 use Rattle.nest.specs.declared.Nest.{Nest}
 use Rattle.nest.specs.Nest.{cells}
 use Rattle.plan.specs.declared.Route.{Route}
-use Rattle.plan.specs.Geometry.{cellsOf, value}
-use Rattle.plan.specs.Messages.{messages, planOf}
-use Rattle.table.specs.declared.Place.{Place}
-use Rattle.table.specs.Table.{FoundAt}
+use Rattle.plan.specs.Shaped.{planOf}
+use Rattle.scans.specs.declared.Place.{Place}
+use Rattle.tables.specs.Tables.{FoundIn}
 use Rattle.stages.specs.Progress.{progressOnly}
 use Rattle.stages.proofs.Parts.{piece-back, mid-is}
 
@@ -42,17 +42,17 @@ module _ (route : Route) (x : Nest) where
 
     pub calculated : (source ys progress : List ℕ) (n : ℕ) → b * k + k ≤ length (s .memories)
         → length ys ≡ length (take (b * k + k - b * k) (drop (b * k) (s .memories)))
-        → ys ≡ storeAll (value x source) (take (b * k + k - b * k) (drop (b * k) (s .memories))) (cellsOf x t)
+        → ys ≡ storeAll (p .value source) (take (b * k + k - b * k) (drop (b * k) (s .memories))) (p .cellsOf t)
         → n ≡ length (sendsOf p t)
         → progress ≡ pick (ltb 0 n) (setProgress (s .progress) b (finishedOf s b) 2 0) (setProgress (s .progress) b (finishedOf s b + 1) 0 0)
         → stateOf (putMid (b * k) (b * k + k - b * k) (s .memories) ys) (s .buffer) progress (s .status) ≡ carryOut p source s b (calculate t)
     unfolding carryOut afterSends
     calculated source ys progress n h l q c g =
-        rw (g, c, piece-back (s .memories) ys (λ z. storeAll (value x source) z (cellsOf x t)) b k (cells x) e h l q)
+        rw (g, c, piece-back (s .memories) ys (λ z. storeAll (p .value source) z (p .cellsOf t)) b k (cells x) e h l q)
 
     pub sent-is : (sent n : ℕ) (r : Place) (ys progress : List ℕ) → sent ≡ sentOf s b → sent < length (sendsOf p t)
-        → FoundAt route x (getD (sendsOf p t) sent 0) r → n ≡ length (sendsOf p t)
-        → ys ≡ put (s .buffer) (offset (messages route x) (r .number))
+        → FoundIn route x (getD (sendsOf p t) sent 0) r → n ≡ length (sendsOf p t)
+        → ys ≡ put (s .buffer) (offset (p .messages) (r .number))
         (pack (take (b * k + k - b * k) (drop (b * k) (s .memories))) (heldBy p (r .number)))
         → progress ≡ pick (ltb (sent + 1) n) (setProgress (s .progress) b (finishedOf s b) 2 (sent + 1)) (setProgress (s .progress) b (finishedOf s b + 1) 0 0)
         → stateOf (s .memories) ys progress (set (s .status) (r .number) 1) ≡ carryOut p [] s b (send (getD (sendsOf p t) (sentOf s b) 0))

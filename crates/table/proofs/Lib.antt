@@ -1,4 +1,2 @@
-pub mod Scans
 pub mod Answers
-pub mod Ends
 pub mod Ones

@@ -16,13 +16,13 @@ use Rattle.base.specs.Tests.{_and_, one, sum}
 use Rattle.base.proofs.Tests.{one-true, one-false, sum-same}
 use Rattle.nest.specs.declared.Nest.{Nest}
 use Rattle.nest.specs.Nest.{processorCount}
-use Rattle.plan.specs.Geometry.{rank, place}
+use Rattle.nest.specs.Places.{rank, place}
 use Rattle.plan.specs.Messages.{two, ahead}
 use Rattle.plan.specs.Hops.{hops}
-use Rattle.plan.proofs.Rank.{place-last, place-before, rank-low}
+use Rattle.nest.proofs.Rank.{place-last, place-before, rank-low}
 use Rattle.plan.proofs.Homes.{hops-ones}
 use Rattle.layout.proofs.Cells.{two-few}
-use Rattle.table.specs.Table.{many}
+use Rattle.table.specs.Summary.{many}
 
 -- ---- a bit
 

@@ -1,24 +1,27 @@
 -- What the calls about a plan answer: its figures, the line of one message, its hops; all 0 beside the number at a refusal.
--- Renders document 01, "Recipes to be met": the columns of its table and the plan printer's lines; request W-204's hops.
+-- Renders document 01, "Recipes to be met": the columns of its table and the plan printer's lines; W-204's hops; W-209.
 use Prim.Native.Nat.{ℕ, zero, suc, _-_}
 use mathlib.Core.Path.{_≡_}
 use mathlib.Core.List.{List, [], _∷_, _++_}
 use lib.ListN.{length}
 use lib.Dec.{ltb}
-use Rattle.base.specs.Tests.{not}
+use Rattle.base.specs.Tests.{one, not}
 use Rattle.base.specs.Numbers.{Line, line, firstOf}
 use Rattle.machine.specs.Plan.{Plan, count, words, senderOf, takerOf, heldBy}
 use Rattle.machine.specs.Runs.{total}
 use Rattle.nest.specs.declared.Nest.{Nest}
-use Rattle.nest.specs.Nest.{readLines, nestOf}
+use Rattle.nest.specs.Reader.{readLines, nestOf}
 use Rattle.plan.specs.declared.Route.{Route}
 use Rattle.plan.specs.declared.Route.the-variants.{Direct}
-use Rattle.plan.specs.Geometry.{rank, tilePlace}
-use Rattle.plan.specs.Messages.{two, planOf}
-use Rattle.plan.specs.Exact.{Carries}
+use Rattle.nest.specs.Nest.{processorCount}
+use Rattle.nest.specs.Places.{rank}
+use Rattle.plan.specs.Messages.{two}
+use Rattle.plan.specs.Shaped.{planOf}
+use Rattle.plan.specs.ExactShape.{standsAt, CarriesShape}
 use Rattle.plan.specs.Hops.{hops}
 use Rattle.plan.specs.Rows as rows
-use Rattle.plan.specs.Rows.{accepted, refused, figures}
+use Rattle.plan.specs.Rows.{accepted, refused, figuresIf}
+use Rattle.routes.specs.Routes.{linesFor}
 use Rattle.table.specs.declared.Figures.{Figures}
 use Rattle.table.specs.declared.MessageLine.{MessageLine}
 use Rattle.table.specs.declared.HopCount.{HopCount}
@@ -34,7 +37,7 @@ abbrev pub noFigures : ℕ → Figures
 noFigures n = asFigures (refused n)
 
 unfoldable pub summaryOf : Route → List ℕ → Figures
-summaryOf r bytes = asFigures (figures r bytes)
+summaryOf r bytes = asFigures (figuresIf (firstOf (linesFor r bytes)) (planOf r (nestOf bytes)))
 
 -- sending and taking tile, sending and taking processor, words
 abbrev pub lineOf : Plan → ℕ → MessageLine
@@ -51,9 +54,9 @@ lineOf p m =
 abbrev pub noLine : ℕ → MessageLine
 noLine n = record { number = n; sender = 0; taker = 0; from = 0; to = 0; words = 0 }
 
--- the reader's lines, then 11
+-- the reader's lines and the route's, then 11
 unfoldable pub messageLines : Route → List ℕ → ℕ → List Line
-messageLines r bytes m = readLines bytes ++ (line 11 (not (ltb m (count (planOf r (nestOf bytes))))) ∷ [])
+messageLines r bytes m = linesFor r bytes ++ (line 11 (not (ltb m (count (planOf r (nestOf bytes))))) ∷ [])
 
 unfoldable pub lineIf : ℕ → Plan → ℕ → MessageLine
 lineIf zero p m = lineOf p m
@@ -65,11 +68,11 @@ messageLineOf r bytes m = lineIf (firstOf (messageLines r bytes m)) (planOf r (n
 -- the direction of a direct message: its taker's place less its sender's, in the spread dimensions
 unfoldable pub directionOf : Nest → ℕ → ℕ
 directionOf x m =
-    rank two (λ j. tilePlace x (takerOf (planOf Direct x) m) j - tilePlace x (senderOf (planOf Direct x) m) j) (x .spread)
+    rank two (λ j. standsAt x (takerOf (planOf Direct x) m) j - standsAt x (senderOf (planOf Direct x) m) j) (x .spread)
 
 -- so it is the v by which its tile sends it
 pub record Directed (x : Nest) : Type 0 where
-  pub is : (m t v : ℕ) → Carries Direct x m t v → directionOf x m ≡ v
+  pub is : (m t v : ℕ) → CarriesShape x m t v → directionOf x m ≡ v
 
 abbrev pub noHops : ℕ → HopCount
 noHops n = record { number = n; hops = 0 }
@@ -79,5 +82,13 @@ unfoldable pub hopsIf : ℕ → Nest → ℕ → HopCount
 hopsIf zero x m = record { number = 0; hops = hops x (directionOf x m) }
 hopsIf (suc n) x m = noHops (suc n)
 
+-- the reader's lines, then 11: no route is given, the message is one of the direct route's
+unfoldable pub hopsLines : List ℕ → ℕ → List Line
+hopsLines bytes m = readLines bytes ++ (line 11 (not (ltb m (count (planOf Direct (nestOf bytes))))) ∷ [])
+
 unfoldable pub hopsOf : List ℕ → ℕ → HopCount
-hopsOf bytes m = hopsIf (firstOf (messageLines Direct bytes m)) (nestOf bytes) m
+hopsOf bytes m = hopsIf (firstOf (hopsLines bytes m)) (nestOf bytes) m
+
+-- the dimensions with a count above 1, as a direction's components
+abbrev pub many : Nest → ℕ → ℕ
+many x j = one (ltb 1 (processorCount x j))

@@ -12,10 +12,11 @@ use Rattle.base.proofs.Select.{in-left, in-right}
 use Rattle.machine.specs.Plan.{Sound}
 use Rattle.nest.specs.declared.Nest.{Nest}
 use Rattle.nest.specs.Accepted.{Accepted}
-use Rattle.nest.specs.Nest.{lengthOf, cells, tiles}
-use Rattle.plan.specs.Geometry.{rank, cellsOf, value}
+use Rattle.nest.specs.Nest.{lengthOf, cells, boxTiles}
+use Rattle.nest.specs.Places.{rank}
+use Rattle.plan.specs.Geometry.{cellsOf, value}
 use Rattle.plan.specs.declared.Route.the-variants.{Direct}
-use Rattle.plan.specs.Messages.{planOf}
+use Rattle.plan.specs.Messages.{boxPlan}
 use Rattle.plan.specs.Box.{boxSize, boxCell}
 use Rattle.layout.specs.declared.Bounds.{Bounds}
 use Rattle.layout.specs.declared.Cell.{Cell}
@@ -73,7 +74,7 @@ module _ (x : Nest) (ok : Accepted x) (rows w : ℕ) (e : rows ≡ product (nth 
         then-fourth = omega (arith, rw y₂ at (row-next w (q + 2) rows));
       }
 
-  pub sweeping-fours : (source grid₀ grid grid′ : List ℕ) → length grid₀ ≡ cells x → Sweeping x source grid₀ grid (q * w) → Sound (planOf Direct x)
+  pub sweeping-fours : (source grid₀ grid grid′ : List ℕ) → length grid₀ ≡ cells x → Sweeping x source grid₀ grid (q * w) → Sound (boxPlan Direct x)
       → grid′ ≡ storeAll (value x source) grid (rowsOf (four (q * w) ((q + 1) * w) ((q + 2) * w) ((q + 3) * w)) w 4) → Sweeping x source grid₀ grid′ ((q + 4) * w)
   sweeping-fours source grid₀ grid grid′ long s sound g =
       let y₁ : q + 1 + 1 ≡ q + 2 = omega arith in

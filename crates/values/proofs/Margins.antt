@@ -20,7 +20,7 @@ use Rattle.layout.specs.Places.{Has, Located}
 use Rattle.layout.specs.CellRows.{Given, rowOf}
 use Rattle.layout.proofs.CellRows.{row-last, row-low}
 use Rattle.base.specs.Lists.{storeAll}
-use Rattle.plan.specs.Geometry.{place, cellPlace}
+use Rattle.nest.specs.Places.{place, cellPlace}
 use Rattle.values.specs.Waves.{four, rowsOf, Band, Banded, mostIn, mostOf, Lasts, Lent, Inner, Inners, Fours}
 use Rattle.values.specs.Reads.{firstRead, Firsts, Backs, InRow}
 use Rattle.values.proofs.Stores.{store-append}

@@ -7,17 +7,17 @@ use native.Mathlib.Numerals.{add-one}
 use native.Mathlib.Omega.{arith}
 use lib.ListN.{length, getD, drop, set, length-append, length-drop, List·getD-append}
 use lib.Seq.{drop-cons, drop-length, set-append-seam}
-use Rattle.base.specs.Tests.{tabulate, product}
+use Rattle.base.specs.Tests.{pick, tabulate, product}
 use Rattle.base.specs.Lists.{storeAll}
 use Rattle.base.proofs.Lists.{store-length}
 use Rattle.machine.specs.Plan.{Plan, Sound}
 use Rattle.machine.specs.Machine.{sweepTo, sweep}
 use Rattle.nest.specs.declared.Nest.{Nest}
 use Rattle.nest.specs.Accepted.{Accepted}
-use Rattle.nest.specs.Nest.{lengthOf, cells, tiles}
+use Rattle.nest.specs.Nest.{lengthOf, cells, boxTiles}
 use Rattle.plan.specs.Geometry.{cellsOf, value}
 use Rattle.plan.specs.declared.Route.the-variants.{Direct}
-use Rattle.plan.specs.Messages.{planOf}
+use Rattle.plan.specs.Messages.{boxPlan}
 use Rattle.plan.specs.Box.{boxSize, boxCell}
 use Rattle.plan.proofs.Box.{cellsOf-box}
 use Rattle.layout.specs.declared.Bounds.{Bounds}
@@ -107,7 +107,7 @@ module _ (x : Nest) (ok : Accepted x) (b : Bounds) (is : Bounded x b) (t : ℕ) 
       (calculating-row x t source memory₀ memory (r * w) c p w (omega (arith, size, box-in x ok b is r rows w e k h .0))
       (λ y i. ap (λ (a : ℕ). a + y) q ∙ rw k (box-row x ok b is r y (rw k at i)) ∙ ap (λ (a : ℕ). boxCell x a (r * w + y)) same))
 
-  pub calculated : (q : ℕ) → Calculating x t source memory₀ memory q → t < tiles x → b .size ≤ q → memory ≡ storeAll (value x source) memory₀ (cellsOf x t)
+  pub calculated : (q : ℕ) → Calculating x t source memory₀ memory q → t < boxTiles x → b .size ≤ q → memory ≡ storeAll (value x source) memory₀ (cellsOf x t)
   calculated q p l h =
       let z : q ≡ boxSize x t = omega (arith, p .low, size) in
       p .is
@@ -147,7 +147,7 @@ module _ (x : Nest) (ok : Accepted x) (r rows w : ℕ) (e : rows ≡ product (nt
 
 pub record Sweeping (x : Nest) (source grid₀ grid : List ℕ) (c : ℕ) : Type 0 where
   pub low : c ≤ cells x
-  pub is : grid ≡ sweepTo (planOf Direct x) source c ++ drop c grid₀
+  pub is : grid ≡ sweepTo (boxPlan Direct x) source c ++ drop c grid₀
 
 sweepTo-length : (p : Plan) (source : List ℕ) (c : ℕ) → length (sweepTo p source c) ≡ c
 unfolding sweepTo
@@ -160,33 +160,33 @@ module _ (x : Nest) (source grid₀ : List ℕ) where
   sweeping-none = record { low = omega arith; is = refl }
 
   module _ (long : length grid₀ ≡ cells x) (grid : List ℕ) (c : ℕ) (p : Sweeping x source grid₀ grid c) where
-    count : length (sweepTo (planOf Direct x) source c) ≡ c
-    count = sweepTo-length (planOf Direct x) source c
+    count : length (sweepTo (boxPlan Direct x) source c) ≡ c
+    count = sweepTo-length (boxPlan Direct x) source c
 
     pub sweeping-long : length grid ≡ cells x
     sweeping-long = omega (arith, simp length-append at (ap length (p .is)), count, length-drop c grid₀, p .low)
 
-    another : Sound (planOf Direct x) → c < cells x → (v : ℕ) → v ≡ value x source grid c → Sweeping x source grid₀ (set grid c v) (c + 1)
-    unfolding sweepTo
+    another : Sound (boxPlan Direct x) → c < cells x → (v : ℕ) → v ≡ value x source grid c → Sweeping x source grid₀ (set grid c v) (c + 1)
+    unfolding sweepTo pick
     another sound h v e =
-        record { low = omega arith; is = ap (λ (z : List ℕ). set z c v) (p .is) ∙ step ∙ ap (λ (a : ℕ). (sweepTo (planOf Direct x) source c ++ (a ∷ [])) ++ drop (c + 1) grid₀) same ∙ rw (add-one c) refl }
+        record { low = omega arith; is = ap (λ (z : List ℕ). set z c v) (p .is) ∙ step ∙ ap (λ (a : ℕ). (sweepTo (boxPlan Direct x) source c ++ (a ∷ [])) ++ drop (c + 1) grid₀) same ∙ rw (add-one c) refl }
       where
-        same : v ≡ value x source (sweepTo (planOf Direct x) source c) c
+        same : v ≡ value x source (sweepTo (boxPlan Direct x) source c) c
         same =
-            e ∙ sound .local source grid (sweepTo (planOf Direct x) source c) c h
+            e ∙ sound .local source grid (sweepTo (boxPlan Direct x) source c) c h
             (λ r k. ap (λ (z : List ℕ). getD z r 0) (p .is)
-            ∙ List·getD-append (sweepTo (planOf Direct x) source c) (drop c grid₀) 0 r (omega (arith, count, sound .earlier c r h k)))
+            ∙ List·getD-append (sweepTo (boxPlan Direct x) source c) (drop c grid₀) 0 r (omega (arith, count, sound .earlier c r h k)))
 
-        step : set (sweepTo (planOf Direct x) source c ++ drop c grid₀) c v ≡ (sweepTo (planOf Direct x) source c ++ (v ∷ [])) ++ drop (c + 1) grid₀
-        step = rw count at (push (sweepTo (planOf Direct x) source c) grid₀ v (omega (arith, count)))
+        step : set (sweepTo (boxPlan Direct x) source c ++ drop c grid₀) c v ≡ (sweepTo (boxPlan Direct x) source c ++ (v ∷ [])) ++ drop (c + 1) grid₀
+        step = rw count at (push (sweepTo (boxPlan Direct x) source c) grid₀ v (omega (arith, count)))
 
-    pub swept : cells x ≤ c → grid ≡ sweep (planOf Direct x) source
+    pub swept : cells x ≤ c → grid ≡ sweep (boxPlan Direct x) source
     swept h =
         let z : c ≡ cells x = omega (arith, p .low) in
         let y : c ≡ length grid₀ = omega arith in
-        p .is ∙ ap (λ (a : ℕ). sweepTo (planOf Direct x) source c ++ drop a grid₀) y ∙ ap (λ (a : List ℕ). sweepTo (planOf Direct x) source c ++ a) (drop-length grid₀) ∙ append-nil _ ∙ ap (sweepTo (planOf Direct x) source) z
+        p .is ∙ ap (λ (a : ℕ). sweepTo (boxPlan Direct x) source c ++ drop a grid₀) y ∙ ap (λ (a : List ℕ). sweepTo (boxPlan Direct x) source c ++ a) (drop-length grid₀) ∙ append-nil _ ∙ ap (sweepTo (boxPlan Direct x) source) z
 
-  sweeping-row : length grid₀ ≡ cells x → Sound (planOf Direct x) → (grid : List ℕ) (c : ℕ) → Sweeping x source grid₀ grid c → (n : ℕ) → c + n ≤ cells x
+  sweeping-row : length grid₀ ≡ cells x → Sound (boxPlan Direct x) → (grid : List ℕ) (c : ℕ) → Sweeping x source grid₀ grid c → (n : ℕ) → c + n ≤ cells x
       → Sweeping x source grid₀ (storeAll (value x source) grid (rowOf c n)) (c + n)
   unfolding tabulate storeAll
   sweeping-row long sound grid c p zero h = rw (add-zero c) p
@@ -197,7 +197,7 @@ module _ (x : Nest) (source grid₀ : List ℕ) where
 
 -- one row more
 pub sweeping-turn : (x : Nest) (ok : Accepted x) (r rows w : ℕ) → rows ≡ product (nth (x .lengths)) (x .dimensions - 1) → w ≡ lengthOf x (x .dimensions - 1)
-    → (source grid₀ grid grid′ : List ℕ) → length grid₀ ≡ cells x → Sweeping x source grid₀ grid (r * w) → r < rows → Sound (planOf Direct x)
+    → (source grid₀ grid grid′ : List ℕ) → length grid₀ ≡ cells x → Sweeping x source grid₀ grid (r * w) → r < rows → Sound (boxPlan Direct x)
     → grid′ ≡ storeAll (value x source) grid (rowOf (r * w) w) → Sweeping x source grid₀ grid′ ((r + 1) * w)
 sweeping-turn x ok r rows w e k source grid₀ grid grid′ long p h sound g =
     rw (g, row-next w r rows) (sweeping-row x source grid₀ long sound grid (r * w) p w (sweep-in x ok r rows w e k h .0))

@@ -19,8 +19,9 @@ use Rattle.machine.specs.Plan.{Sound}
 use Rattle.nest.specs.declared.Nest.{Nest}
 use Rattle.nest.specs.Accepted.{Accepted}
 use Rattle.nest.specs.Nest.{cells, weight}
-use Rattle.plan.specs.Geometry.{cellPlace, hasRead, readAt, readsOf, value}
-use Rattle.plan.specs.Messages.{planOf}
+use Rattle.nest.specs.Places.{cellPlace}
+use Rattle.plan.specs.Geometry.{hasRead, readAt, readsOf, value}
+use Rattle.plan.specs.Messages.{boxPlan}
 use Rattle.plan.proofs.Sound.{reads-at, value-local}
 use Rattle.plan.proofs.Tiles.{read-back, read-before}
 use Rattle.layout.specs.CellRows.{rowOf}

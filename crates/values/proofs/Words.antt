@@ -18,8 +18,9 @@ use Rattle.base.proofs.Select.{in-append}
 use Rattle.nest.specs.declared.Nest.{Nest}
 use Rattle.nest.specs.Accepted.{Accepted}
 use Rattle.nest.specs.Nest.{lengthOf, component, weight, cells}
-use Rattle.plan.specs.Geometry.{rank, place, cellAt, cellPlace, hasRead, readAt, value}
-use Rattle.plan.proofs.Rank.{place-last, rank-same}
+use Rattle.nest.specs.Places.{rank, place, cellAt, cellPlace}
+use Rattle.plan.specs.Geometry.{hasRead, readAt, value}
+use Rattle.nest.proofs.Rank.{place-last, rank-same}
 use Rattle.plan.proofs.Tiles.{cellPlace-low, cellAt-cellPlace}
 use Rattle.layout.specs.declared.Cell.{Cell}
 use Rattle.layout.specs.Places.{nth, Countable, Located}
@@ -141,7 +142,7 @@ module _ (x : Nest) (ok : Accepted x) where
 
   -- ---- what the distances read in a row
 
-  back-is : (c e : ℕ) → c < cells x → e < x .distances → hasRead x c e ≡ true → stepBack x e + readAt x c e ≡ c
+  pub back-is : (c e : ℕ) → c < cells x → e < x .distances → hasRead x c e ≡ true → stepBack x e + readAt x c e ≡ c
   unfolding stepBack readAt cellAt hasRead
   back-is c e l h t =
       sym (rank-add (lengthOf x) (λ j. min (component x e j) (lengthOf x j)) (λ j. cellPlace x c j - component x e j) (x .dimensions))

@@ -9,7 +9,8 @@ use lib.Dec.{leb}
 use Rattle.base.specs.Tests.{pick, every}
 use Rattle.nest.specs.declared.Nest.{Nest}
 use Rattle.nest.specs.Nest.{lengthOf, component, cells}
-use Rattle.plan.specs.Geometry.{rank, hasRead, readAt}
+use Rattle.nest.specs.Places.{rank}
+use Rattle.plan.specs.Geometry.{hasRead, readAt}
 
 -- from which last component on distance e reads a cell, in the row of a place; 1024 is above all
 unfoldable pub firstRead : Nest → List ℕ → ℕ → ℕ

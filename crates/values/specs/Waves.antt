@@ -9,7 +9,7 @@ use lib.Dec.{leb}
 use Rattle.base.specs.Tests.{pick, every}
 use Rattle.nest.specs.declared.Nest.{Nest}
 use Rattle.nest.specs.Nest.{cells, component}
-use Rattle.plan.specs.Geometry.{cellPlace}
+use Rattle.nest.specs.Places.{cellPlace}
 use Rattle.layout.specs.declared.Cell.{Cell}
 use Rattle.layout.specs.Places.{Has, Located}
 use Rattle.layout.specs.CellRows.{Given, rowOf}

@@ -11,10 +11,10 @@ ghost use Rattle.base.specs.Tests.{_and_, pick, every};
 ghost use Rattle.base.specs.Lists.{storeAll};
 ghost use Rattle.machine.specs.Machine.{sweep};
 ghost use Rattle.nest.specs.Accepted.{Accepted};
-ghost use Rattle.nest.specs.Nest.{component, cells, tiles};
+ghost use Rattle.nest.specs.Nest.{component, cells, boxTiles};
 ghost use Rattle.plan.specs.Geometry.{cellsOf, value};
 ghost use Rattle.plan.specs.declared.Route.the-variants.{Direct};
-ghost use Rattle.plan.specs.Messages.{planOf};
+ghost use Rattle.plan.specs.Messages.{boxPlan};
 ghost use Rattle.layout.specs.Sizes.{Sized};
 ghost use Rattle.layout.specs.Places.{Located, Has};
 ghost use Rattle.layout.specs.CellRows.{Given, rowOf};
@@ -46,7 +46,7 @@ fn back_of(nest: Nest, components: &[usize; 32], e: usize) -> usize
 }
 
 // The same of each distance, made once in a call.
-fn backs_of(nest: Nest, components: &[usize; 32]) -> [usize; 8]
+pub fn backs_of(nest: Nest, components: &[usize; 32]) -> [usize; 8]
     requires { ⌜ Accepted nest × Given nest (now components) ⌝ }
     ensures { λ r. ⌜ Backs nest r ⌝ }
 {
@@ -59,7 +59,7 @@ fn backs_of(nest: Nest, components: &[usize; 32]) -> [usize; 8]
 }
 
 // From which last component on distance e reads a cell, in the row of a place; 1024 if nowhere.
-fn first_of(nest: Nest, components: &[usize; 32], at: [usize; 4], e: usize) -> usize
+pub fn first_of(nest: Nest, components: &[usize; 32], at: [usize; 4], e: usize) -> usize
     requires { ⌜ Accepted nest × ((e < nest .distances) × Given nest (now components)) ⌝ }
     ensures { λ r. ⌜ r ≡ firstRead nest at e ⌝ }
 {
@@ -519,7 +519,7 @@ fn four_rows(
 
 // The values of a tile's cells, in index order, row by row.
 pub fn calculate(nest: Nest, sizes: Sizes, source: &[u32], memory: &mut [u32], tile: usize)
-    requires { ⌜ Sized nest sizes × ((tile < tiles nest) × ((length (now source) ≡ cells nest) × (length (now memory) ≡ cells nest))) ⌝ }
+    requires { ⌜ Sized nest sizes × ((tile < boxTiles nest) × ((length (now source) ≡ cells nest) × (length (now memory) ≡ cells nest))) ⌝ }
     ensures { λ _. ⌜ now (memory .exit) ≡ storeAll (value nest (now (source .entry))) (now (memory .entry)) (cellsOf nest tile) ⌝ }
 {
     let bounds = layout::bounds_of(nest, sizes, tile);
@@ -605,7 +605,7 @@ pub fn calculate(nest: Nest, sizes: Sizes, source: &[u32], memory: &mut [u32], t
 // The sequential sweep: all cells in index order, row by row.
 pub fn sweep(nest: Nest, sizes: Sizes, source: &[u32], grid: &mut [u32])
     requires { ⌜ Sized nest sizes × ((length (now source) ≡ cells nest) × (length (now grid) ≡ cells nest)) ⌝ }
-    ensures { λ _. ⌜ now (grid .exit) ≡ sweep (planOf Direct nest) (now (source .entry)) ⌝ }
+    ensures { λ _. ⌜ now (grid .exit) ≡ sweep (boxPlan Direct nest) (now (source .entry)) ⌝ }
 {
     let components = nest.components;
     let weights = nest.weights;

@@ -8,9 +8,9 @@ use Rattle.base.specs.Tests.{tabulate}
 use Rattle.machine.specs.Plan.{heldBy}
 use Rattle.machine.specs.Machine.{State, sweep}
 use Rattle.machine.specs.Runs.{Event, Demand3}
-use Rattle.nest.specs.Nest.{nestOf, readLines}
+use Rattle.nest.specs.Reader.{nestOf, readLines}
 use Rattle.plan.specs.declared.Route.the-variants.{Direct}
-use Rattle.plan.specs.Messages.{planOf}
+use Rattle.plan.specs.Shaped.{planOf}
 use Rattle.plan.specs.Rows.{accepted, figures, linesOf}
 use Rattle.engine.specs.Calls.{recipe, freshCall, collectCall}
 use Rattle.engine.specs.Demands.{calls}

@@ -16,11 +16,11 @@ use Rattle.base.proofs.Tests.{and-true, and-false, and-no, not-true, not-false,
 use Rattle.base.proofs.Numbers.{first-nil, first-true, first-false, first-some, first-behind}
 use Rattle.machine.specs.Machine.{Answered, answered}
 use Rattle.nest.specs.declared.Nest.{Nest}
-use Rattle.nest.specs.Nest.{filled, readLines}
+use Rattle.nest.specs.Reader.{filled, readLines}
 use Rattle.nest.specs.Encode.{encode}
 use Rattle.nest.proofs.Laws.{filled-length, filled-in}
 use Rattle.nest.proofs.Numbered.{numbered}
-use Rattle.writer.specs.Writing.{written, writeLines, writing, fits, nestWritable, writeNestCall}
+use Rattle.writer.specs.Writing.{written, writeLines, writing, fits, boundsFit, nestWritable, writeNestCall}
 use Rattle.writer.proofs.Places.{encode-length}
 
 -- ---- by the line that counts
@@ -96,18 +96,26 @@ module _ (x : Nest) (s : List ℕ) where
   unfolding nestWritable
   many-distances h = not-writable (and-no _ _ (and-false _ _ (lt-leb (x .distances) 8 h)))
 
+  pub many-bounds : 4 < x .bounds → written 2 s ≡ writeNestCall x s
+  unfolding nestWritable
+  many-bounds h = not-writable (and-no _ _ (and-no _ _ (and-false _ _ (lt-leb (x .bounds) 4 h))))
+
+  pub bounds-two : boundsFit x ≡ false → written 2 s ≡ writeNestCall x s
+  unfolding nestWritable
+  bounds-two h = not-writable (and-no _ _ (and-no _ _ (and-no _ _ (and-false _ _ h))))
+
   pub unfit-two : fits x ≡ false → written 2 s ≡ writeNestCall x s
   unfolding nestWritable
-  unfit-two h = not-writable (and-no _ _ (and-no _ _ h))
+  unfit-two h = not-writable (and-no _ _ (and-no _ _ (and-no _ _ (and-no _ _ h))))
 
-  module _ (n4 : x .dimensions ≤ 4) (e8 : x .distances ≤ 8) (fit : fits x ≡ true) (k : ℕ) (b : List ℕ)
-      (len : k ≡ 16 * (x .dimensions + x .distances + 1))
-      (is : b ≡ filled 208 (16 * (x .dimensions + x .distances + 1)) (λ (p : ℕ). getD (encode x) p 0)) where
+  module _ (n4 : x .dimensions ≤ 4) (e8 : x .distances ≤ 8) (b4 : x .bounds ≤ 4) (bound : boundsFit x ≡ true) (fit : fits x ≡ true) (k : ℕ) (b : List ℕ)
+      (len : k ≡ 16 * (x .dimensions + x .bounds + x .distances + 1))
+      (is : b ≡ filled 272 (16 * (x .dimensions + x .bounds + x .distances + 1)) (λ (p : ℕ). getD (encode x) p 0)) where
     can : nestWritable x ≡ true
     unfolding nestWritable
-    can = and-true (le-leb _ _ n4) (and-true (le-leb _ _ e8) fit)
+    can = and-true (le-leb _ _ n4) (and-true (le-leb _ _ e8) (and-true (le-leb _ _ b4) (and-true bound fit)))
 
-    room : k ≤ 208
+    room : k ≤ 272
     room = omega arith
 
     long : length (encode x) ≡ k
@@ -115,11 +123,11 @@ module _ (x : Nest) (s : List ℕ) where
 
     byte-is : (i : ℕ) → i < k → getD b i 0 ≡ getD (encode x) i 0
     byte-is i h =
-        rw is (filled-in 208 (λ (p : ℕ). getD (encode x) p 0) (16 * (x .dimensions + x .distances + 1)) i (omega arith) (omega arith))
+        rw is (filled-in 272 (λ (p : ℕ). getD (encode x) p 0) (16 * (x .dimensions + x .bounds + x .distances + 1)) i (omega arith) (omega arith))
 
     recipe-is : take k b ≡ encode x
     recipe-is =
-        let l : length b ≡ 208 = ap length is ∙ filled-length 208 _ _ in
+        let l : length b ≡ 272 = ap length is ∙ filled-length 272 _ _ in
         let w : length (take k b) ≡ k = length-take-le k b (rw l room) in
         ext-getD 0 (take k b) (encode x) (w ∙ sym long)
         (λ i h. let q : i < k = rw w at h in getD-take k b i 0 q ∙ byte-is i q)

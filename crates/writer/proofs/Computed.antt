@@ -7,65 +7,73 @@ use native.Mathlib.Omega.{arith}
 use lib.ListN.{length, getD, replicate}
 use Rattle.base.specs.Tests.{_and_, not, pick, every, keep, tabulate}
 use Rattle.base.specs.Numbers.{firstOf}
-use Rattle.nest.specs.Nest.{filled, readLines}
-use Rattle.nest.specs.Encode.{dimensionRecord, narrowRecord, wideRecord, closeRecord, dimensionOf, narrow, distanceOf, joined, encode}
-use Rattle.nest.specs.Recipes.{dimension, distance, close, rowA, rowD}
+use Rattle.nest.specs.Reader.{filled, readLines}
+use Rattle.nest.specs.Encode.{dimensionRecord, narrowRecord, wideRecord, boundRecord, closeRecord, dimensionOf, boundOf, narrow, distanceOf, joined, encode}
+use Rattle.nest.specs.Recipes.{dimension, bound, distance, close, rowA, rowD}
+use Rattle.nest.proofs.Quick.{told}
 use Rattle.nest.proofs.RowNumbers.{numbers, far, channel, far-told}
-use Rattle.writer.specs.Fields.{Fields, fields, counted, agree, nestFrom}
-use Rattle.writer.specs.Writing.{written, fitsIn, fits, nestWritable, writable, writeLines, writing, writeCall}
+use Rattle.nest.proofs.ShapeRows.{square, least, bounds-told}
+use Rattle.writer.specs.Fields.{Fields, fields, counted, bounds, agree, nestFrom}
+use Rattle.writer.specs.Writing.{written, fitsIn, fits, boundsFit, nestWritable, writable, writeLines, writing, writeCall}
 use Rattle.writer.proofs.Calls.{number, produces, nine}
 
 abbrev fieldsA : Fields
-fieldsA = fields (8 ∷ 8 ∷ []) (2 ∷ 2 ∷ []) (2 ∷ 0 ∷ []) (1 ∷ 0 ∷ 0 ∷ 0 ∷ 0 ∷ 1 ∷ 0 ∷ 0 ∷ 1 ∷ 1 ∷ 0 ∷ 0 ∷ []) (1 ∷ 1 ∷ 1 ∷ []) 0 0
+fieldsA = fields (8 ∷ 8 ∷ []) (2 ∷ 2 ∷ []) (2 ∷ 0 ∷ []) (1 ∷ 0 ∷ 0 ∷ 0 ∷ 0 ∷ 1 ∷ 0 ∷ 0 ∷ 1 ∷ 1 ∷ 0 ∷ 0 ∷ []) (1 ∷ 1 ∷ 1 ∷ []) [] [] [] [] [] 0 0
 
 -- row D, where d is 1
 abbrev fieldsD : ℕ → Fields
-fieldsD d = fields (4 ∷ 1 ∷ []) (2 ∷ 1 ∷ []) (2 ∷ 0 ∷ []) (d ∷ 0 ∷ 0 ∷ 0 ∷ []) (1 ∷ []) 0 0
+fieldsD d = fields (4 ∷ 1 ∷ []) (2 ∷ 1 ∷ []) (2 ∷ 0 ∷ []) (d ∷ 0 ∷ 0 ∷ 0 ∷ []) (1 ∷ []) [] [] [] [] [] 0 0
 
 -- a distance of each kind
 abbrev fieldsFar : Fields
-fieldsFar = fields (600 ∷ 1 ∷ []) (400 ∷ 2 ∷ []) (2 ∷ 0 ∷ []) (1 ∷ 0 ∷ 0 ∷ 0 ∷ 300 ∷ 1 ∷ 0 ∷ 0 ∷ []) (1 ∷ 1 ∷ []) 0 0
+fieldsFar = fields (600 ∷ 1 ∷ []) (400 ∷ 2 ∷ []) (2 ∷ 0 ∷ []) (1 ∷ 0 ∷ 0 ∷ 0 ∷ 300 ∷ 1 ∷ 0 ∷ 0 ∷ []) (1 ∷ 1 ∷ []) [] [] [] [] [] 0 0
 
 abbrev farBytes : List ℕ
 farBytes = channel (distance 1 0 0 ++ far 300 1 0)
 
 pub bytes-A : encode (nestFrom fieldsA) ≡ rowA
-unfolding _and_ pick every keep tabulate filled dimensionRecord narrowRecord wideRecord closeRecord dimensionOf narrow distanceOf joined encode nestFrom
+unfolding _and_ pick every keep tabulate filled dimensionRecord narrowRecord wideRecord boundRecord closeRecord dimensionOf boundOf narrow distanceOf
+    joined encode nestFrom
 bytes-A = refl
 
 pub bytes-D : encode (nestFrom (fieldsD 1)) ≡ rowD
-unfolding _and_ pick every keep tabulate filled dimensionRecord narrowRecord wideRecord closeRecord dimensionOf narrow distanceOf joined encode nestFrom
+unfolding _and_ pick every keep tabulate filled dimensionRecord narrowRecord wideRecord boundRecord closeRecord dimensionOf boundOf narrow distanceOf
+    joined encode nestFrom
 bytes-D = refl
 
 pub bytes-far : encode (nestFrom fieldsFar) ≡ farBytes
-unfolding _and_ pick every keep tabulate filled dimensionRecord narrowRecord wideRecord closeRecord dimensionOf narrow distanceOf joined encode nestFrom
+unfolding _and_ pick every keep tabulate filled dimensionRecord narrowRecord wideRecord boundRecord closeRecord dimensionOf boundOf narrow distanceOf
+    joined encode nestFrom
 bytes-far = refl
 
 -- row D with 257 for 1, whose low byte is 1
 pub bytes-257 : encode (nestFrom (fieldsD 257)) ≡ dimension 4 2 2 ++ dimension 1 1 0 ++ far 257 0 0 ++ close
-unfolding _and_ pick every keep tabulate filled dimensionRecord narrowRecord wideRecord closeRecord dimensionOf narrow distanceOf joined encode nestFrom
+unfolding _and_ pick every keep tabulate filled dimensionRecord narrowRecord wideRecord boundRecord closeRecord dimensionOf boundOf narrow distanceOf
+    joined encode nestFrom
 bytes-257 = refl
 
 writable-A : writable fieldsA ≡ true
-unfolding _and_ pick every keep tabulate filled fitsIn fits nestWritable counted agree nestFrom writable
+unfolding _and_ pick every keep tabulate filled fitsIn fits boundsFit nestWritable counted bounds agree nestFrom writable
 writable-A = refl
 
 writable-D : writable (fieldsD 1) ≡ true
-unfolding _and_ pick every keep tabulate filled fitsIn fits nestWritable counted agree nestFrom writable
+unfolding _and_ pick every keep tabulate filled fitsIn fits boundsFit nestWritable counted bounds agree nestFrom writable
 writable-D = refl
 
 writable-far : writable fieldsFar ≡ true
-unfolding _and_ pick every keep tabulate filled fitsIn fits nestWritable counted agree nestFrom writable
+unfolding _and_ pick every keep tabulate filled fitsIn fits boundsFit nestWritable counted bounds agree nestFrom writable
 writable-far = refl
 
 writable-257 : writable (fieldsD 257) ≡ true
-unfolding _and_ pick every keep tabulate filled fitsIn fits nestWritable counted agree nestFrom writable
+unfolding _and_ pick every keep tabulate filled fitsIn fits boundsFit nestWritable counted bounds agree nestFrom writable
 writable-257 = refl
 
 accepted-A : firstOf (readLines rowA) ≡ 0
+unfolding told
 accepted-A = ap (λ (l : List ℕ). getD l 0 1) numbers
 
 accepted-D : firstOf (readLines rowD) ≡ 0
+unfolding told
 accepted-D = ap (λ (l : List ℕ). getD l 3 1) numbers
 
 pub row-A : writeCall fieldsA (replicate 96 7) ≡ written 0 rowA
@@ -83,7 +91,7 @@ row-D =
     (ap length (sym bytes-D)) ∙ ap (written 0) bytes-D
 
 pub row-far : writeCall fieldsFar (replicate 80 7) ≡ written 0 farBytes
-unfolding writeCall
+unfolding writeCall told
 row-far =
     produces (writable fieldsFar) (encode (nestFrom fieldsFar)) (replicate 80 7) writable-far
     (ap (λ (b : List ℕ). firstOf (readLines b)) bytes-far ∙ ap (λ (l : List ℕ). getD l 1 1) far-told)
@@ -91,7 +99,7 @@ row-far =
 
 -- ruled out: row D for a component of 257; its tile of 2 is too short
 pub long-D : writeCall (fieldsD 257) (replicate 64 7) ≡ written 6 (replicate 64 7)
-unfolding writeCall
+unfolding writeCall told
 long-D =
     let six : firstOf (readLines (encode (nestFrom (fieldsD 257)))) ≡ 6 =
     ap (λ (b : List ℕ). firstOf (readLines b)) bytes-257 ∙ ap (λ (l : List ℕ). getD l 10 1) far-told in
@@ -108,7 +116,30 @@ longer-D =
 
 -- ruled out: row D for a component of 65,537, whose low bytes are row D's; and row D where a dimension's tile length is missing
 pub others : writeCall (fieldsD 65537) (replicate 64 7) .number
-    ∷ writeCall (fields (4 ∷ 1 ∷ []) (2 ∷ []) (2 ∷ 0 ∷ []) (1 ∷ 0 ∷ 0 ∷ 0 ∷ []) (1 ∷ []) 0 0) (replicate 64 7) .number ∷ []
+    ∷ writeCall (fields (4 ∷ 1 ∷ []) (2 ∷ []) (2 ∷ 0 ∷ []) (1 ∷ 0 ∷ 0 ∷ 0 ∷ []) (1 ∷ []) [] [] [] [] [] 0 0) (replicate 64 7) .number ∷ []
     ≡ 2 ∷ 2 ∷ []
-unfolding firstOf _and_ not pick every keep tabulate filled fitsIn fits nestWritable counted agree nestFrom writable writeLines writing writeCall
+unfolding firstOf _and_ not pick every keep tabulate filled fitsIn fits boundsFit nestWritable counted bounds agree nestFrom writable writeLines
+    writing writeCall
 others = refl
+
+-- ---- a bound: the triangle of four by four cells, with slope 1 and offset 0, and its mirror with slope −1 and offset −2
+
+abbrev fieldsBound : ℕ → ℕ → Fields
+fieldsBound slope offset =
+    fields (4 ∷ 4 ∷ []) (2 ∷ 2 ∷ []) (2 ∷ 0 ∷ []) (1 ∷ 0 ∷ 0 ∷ 0 ∷ []) (1 ∷ []) (0 ∷ []) (1 ∷ []) (0 ∷ []) (slope ∷ []) (offset ∷ []) 0 0
+
+pub bytes-bound : (encode (nestFrom (fieldsBound 1 0)) ≡ square least) × (encode (nestFrom (fieldsBound 255 65534)) ≡ square (bound 0 1 0 255 254 255))
+unfolding _and_ pick every keep tabulate filled dimensionRecord narrowRecord wideRecord boundRecord closeRecord dimensionOf boundOf narrow distanceOf
+    joined encode nestFrom
+bytes-bound = (refl, refl)
+
+writable-bound : writable (fieldsBound 1 0) ≡ true
+unfolding _and_ pick every keep tabulate filled fitsIn fits boundsFit nestWritable counted bounds agree nestFrom writable
+writable-bound = refl
+
+pub row-bound : writeCall (fieldsBound 1 0) (replicate 80 7) ≡ written 0 (square least)
+unfolding writeCall told
+row-bound =
+    produces (writable (fieldsBound 1 0)) (encode (nestFrom (fieldsBound 1 0))) (replicate 80 7) writable-bound
+    (ap (λ (b : List ℕ). firstOf (readLines b)) (bytes-bound .0) ∙ ap (λ (l : List ℕ). getD l 0 1) bounds-told)
+    (ap length (sym (bytes-bound .0))) ∙ ap (written 0) (bytes-bound .0)

@@ -5,6 +5,7 @@ use mathlib.Core.Bool.{Bool, true, false}
 use mathlib.Core.List.{List}
 use native.Mathlib.Omega.{arith}
 use native.Mathlib.Decide.{decLt}
+use native.Mathlib.Nat.{mod-lt}
 use lib.ListN.{length, getD, List·getD-eq-default}
 use lib.Dec.{eqb, ltb}
 use borrow.Author.Tests.{eq-eqb, eqb-true, lt-ltb, le-ltb, ltb-true, le-leb, leb-true}
@@ -15,10 +16,11 @@ use Rattle.base.proofs.Tests.{both, and-true, and-left, is-false, never-both, e
 use Rattle.base.proofs.Numbers.{none-first}
 use Rattle.base.proofs.Select.{keep-same}
 use Rattle.nest.specs.declared.Nest.{Nest}
-use Rattle.nest.specs.Nest.{processorCount, half, filled, nestBy, nestOf, ofKind, distancesOf, ragged, strayRecord, readLines}
+use Rattle.nest.specs.Nest.{processorCount}
+use Rattle.nest.specs.Reader.{half, filled, nestBy, nestOf, ofKind, distancesOf, ragged, strayRecord, readLines}
 use Rattle.nest.proofs.Laws.{Formed, filled-length, filled-in, filled-out, filled-below, half-small, word-small, component-small, weight-small}
 use Rattle.nest.proofs.Facts.{stray-no}
-use Rattle.writer.specs.Writing.{fitsIn, fits, nestWritable}
+use Rattle.writer.specs.Writing.{fitsIn, fits, boundsFit, nestWritable}
 use Rattle.writer.specs.Demand202.{Tables}
 
 -- a table of the given size whose first n numbers are below the bound; the others are 0
@@ -30,6 +32,12 @@ pub record Table (size n bound : ℕ) (l : List ℕ) : Type 0 where
 pub record Fits (x : Nest) : Type 0 where
   pub dimensions : x .dimensions ≤ 4
   pub distances : x .distances ≤ 8
+  pub bounds : x .bounds ≤ 4
+  pub sides : Table 4 (x .bounds) 256 (x .sides)
+  pub bounded : Table 4 (x .bounds) 256 (x .bounded)
+  pub earlier : Table 4 (x .bounds) 256 (x .earlier)
+  pub slopes : Table 4 (x .bounds) 256 (x .slopes)
+  pub offsets : Table 4 (x .bounds) 65536 (x .offsets)
   pub lengths : Table 4 (x .dimensions) 65536 (x .lengths)
   pub tiling : Table 4 (x .dimensions) 65536 (x .tiling)
   pub counts : Table 4 (x .dimensions) 65536 (x .counts)
@@ -67,7 +75,8 @@ fits-table size n bound l t = every-all _ (length l) (λ i h. go i (decLt i n))
   where
     go : (i : ℕ) → Dec (i < n) → ltb (getD l i 0) (pick (ltb i n) bound 1) ≡ true
     go i (yes k) = lt-ltb (getD l i 0) (pick (ltb i n) bound 1) (rw (pick-true (ltb i n) bound 1 (lt-ltb i n k)) (t .fit i k))
-    go i (no k) = lt-ltb (getD l i 0) (pick (ltb i n) bound 1) (rw (pick-false (ltb i n) bound 1 (le-ltb i n (omega arith)), t .rest i (omega arith)) (omega arith))
+    go i (no k) = lt-ltb (getD l i 0) (pick (ltb i n) bound 1) (rw (pick-false (ltb i n) bound 1 (le-ltb i n (omega arith)), t .rest i (omega arith))
+        (omega arith))
 
 pub filled-table : (size n bound : ℕ) (g : ℕ → ℕ) → 0 < bound → ((i : ℕ) → g i < bound) → Table size n bound (filled size n g)
 filled-table size n bound g z h =
@@ -108,17 +117,52 @@ pub fit-all : (x : Nest) (m : ℕ)
 unfolding fits
 fit-all x m a b c d e f g h =
     rw h
-    (sym (and-left _ _ a ∙ (and-left _ _ b ∙ (and-left _ _ c ∙ (and-left _ _ d ∙ (and-left _ _ e ∙ (and-left _ _ (lt-ltb _ _ f) ∙ and-left _ _ (lt-ltb _ _ g))))))))
+    (sym (and-left _ _ a ∙ (and-left _ _ b ∙ (and-left _ _ c ∙ (and-left _ _ d ∙
+    (and-left _ _ e ∙ (and-left _ _ (lt-ltb _ _ f) ∙ and-left _ _ (lt-ltb _ _ g))))))))
+
+pub record BoundParts (x : Nest) : Type 0 where
+  pub sides : fitsIn (x .bounds) 256 (x .sides) ≡ true
+  pub bounded : fitsIn (x .bounds) 256 (x .bounded) ≡ true
+  pub earlier : fitsIn (x .bounds) 256 (x .earlier) ≡ true
+  pub slopes : fitsIn (x .bounds) 256 (x .slopes) ≡ true
+  pub offsets : fitsIn (x .bounds) 65536 (x .offsets) ≡ true
+
+pub bound-parts : (x : Nest) → boundsFit x ≡ true → BoundParts x
+unfolding boundsFit
+bound-parts x h =
+    let p1 = both h in
+    let p2 = both (p1 .1) in
+    let p3 = both (p2 .1) in
+    let p4 = both (p3 .1) in
+    record { sides = p1 .0; bounded = p2 .0; earlier = p3 .0; slopes = p4 .0; offsets = p4 .1 }
+
+pub unfit-bounds : (x : Nest) (t : Bool) → (BoundParts x → t ≡ true) → t ≡ false → false ≡ boundsFit x
+unfit-bounds x t f e = sym (is-false (λ h. never-both (f (bound-parts x h)) e))
+
+pub fit-bounds : (x : Nest) → fitsIn (x .bounds) 256 (x .sides) ≡ true → fitsIn (x .bounds) 256 (x .bounded) ≡ true
+    → fitsIn (x .bounds) 256 (x .earlier) ≡ true → fitsIn (x .bounds) 256 (x .slopes) ≡ true
+    → fitsIn (x .bounds) 65536 (x .offsets) ≡ boundsFit x
+unfolding boundsFit
+fit-bounds x a b c d = sym (and-left _ _ a ∙ (and-left _ _ b ∙ (and-left _ _ c ∙ and-left _ _ d)))
 
 pub writable-fits : (x : Nest) → Tables x → nestWritable x ≡ true → Fits x
 unfolding nestWritable
 writable-fits x s h =
     let q = both h in
     let r = both (q .1) in
-    let p = parts x (r .1) in
+    let t = both (r .1) in
+    let u = both (t .1) in
+    let p = parts x (u .1) in
+    let d = bound-parts x (u .0) in
     record {
       dimensions = leb-true _ _ (q .0);
       distances = leb-true _ _ (r .0);
+      bounds = leb-true _ _ (t .0);
+      sides = table-fits 4 _ _ _ (omega arith) (s .sides) (d .sides);
+      bounded = table-fits 4 _ _ _ (omega arith) (s .bounded) (d .bounded);
+      earlier = table-fits 4 _ _ _ (omega arith) (s .earlier) (d .earlier);
+      slopes = table-fits 4 _ _ _ (omega arith) (s .slopes) (d .slopes);
+      offsets = table-fits 4 _ _ _ (omega arith) (s .offsets) (d .offsets);
       lengths = table-fits 4 _ _ _ (omega arith) (s .lengths) (p .lengths);
       tiling = table-fits 4 _ _ _ (omega arith) (s .tiling) (p .tiling);
       counts = table-fits 4 _ _ _ (omega arith) (s .counts) (p .counts);
@@ -130,31 +174,40 @@ writable-fits x s h =
     }
 
 pub fits-writable : (x : Nest) → Fits x → nestWritable x ≡ true
-unfolding nestWritable fits
+unfolding nestWritable fits boundsFit
 fits-writable x f =
     and-true (le-leb _ _ (f .dimensions))
     (and-true (le-leb _ _ (f .distances))
+    (and-true (le-leb _ _ (f .bounds))
+    (and-true (and-true (fits-table 4 _ _ _ (f .sides)) (and-true (fits-table 4 _ _ _ (f .bounded)) (and-true (fits-table 4 _ _ _ (f .earlier))
+    (and-true (fits-table 4 _ _ _ (f .slopes)) (fits-table 4 _ _ _ (f .offsets))))))
     (and-true (fits-table 4 _ _ _ (f .lengths))
     (and-true (fits-table 4 _ _ _ (f .tiling))
     (and-true (fits-table 4 _ _ _ (f .counts))
     (and-true (fits-table 32 _ _ _ (f .components))
     (and-true (fits-table 8 _ _ _ (f .weights))
-    (and-true (lt-ltb _ _ (f .shift)) (and-true (lt-ltb _ _ (f .boundary)) (eq-eqb _ _ (f .spread))))))))))
+    (and-true (lt-ltb _ _ (f .shift)) (and-true (lt-ltb _ _ (f .boundary)) (eq-eqb _ _ (f .spread))))))))))))
 
 -- ---- what was read fits
 
-module _ (b : List ℕ) (bytes : Bytes b) (n e : ℕ) (f : Formed b n e) where
-  nest-fits : Fits (nestBy b n e)
+module _ (b : List ℕ) (bytes : Bytes b) (n m e : ℕ) (f : Formed b n m e) where
+  nest-fits : Fits (nestBy b n m e)
   unfolding nestBy
   nest-fits =
       record {
         dimensions = f .dimensions-most;
         distances = f .distances-most;
+        bounds = f .bounds-most;
+        sides = filled-table 4 m _ _ (omega arith) (λ i. bytes _);
+        bounded = filled-table 4 m _ _ (omega arith) (λ i. bytes _);
+        earlier = filled-table 4 m _ _ (omega arith) (λ i. bytes _);
+        slopes = filled-table 4 m _ _ (omega arith) (λ i. mod-lt (getD b (16 * (n + i) + 4) 0 + 1) (omega arith));
+        offsets = filled-table 4 m _ _ (omega arith) (λ i. mod-lt (half b (16 * (n + i) + 6) + 32768) (omega arith));
         lengths = filled-table 4 n _ _ (omega arith) (λ i. half-small b bytes _);
         tiling = filled-table 4 n _ _ (omega arith) (λ i. half-small b bytes _);
         counts = filled-table 4 n _ _ (omega arith) (λ i. half-small b bytes _);
-        components = filled-table 32 (4 * e) _ _ (omega arith) (λ i. component-small b (n + i / 4) bytes (i % 4));
-        weights = filled-table 8 e _ _ (omega arith) (λ i. weight-small b (n + i) bytes);
+        components = filled-table 32 (4 * e) _ _ (omega arith) (λ i. component-small b (n + m + i / 4) bytes (i % 4));
+        weights = filled-table 8 e _ _ (omega arith) (λ i. weight-small b (n + m + i) bytes);
         shift = bytes _;
         boundary = word-small b bytes _;
         spread = ap length (keep-same _ _ n (λ i h. ap (ltb 0) (sym (filled-in 4 (λ j. half b (16 * j + 6)) n i h (f .dimensions-most)))));
@@ -165,4 +218,4 @@ unfolding readLines nestOf
 read-fits b bytes h =
     let p1 = none-first 1 (ragged b) _ (λ e. omega arith) h in
     let p2 = none-first 2 (strayRecord b) _ (λ e. omega arith) (p1 .1) in
-    nest-fits b bytes (ofKind b 1) (distancesOf b) (stray-no b (p2 .0))
+    nest-fits b bytes (ofKind b 1) (ofKind b 5) (distancesOf b) (stray-no b (p2 .0))

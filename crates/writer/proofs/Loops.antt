@@ -14,33 +14,33 @@ use Rattle.base.specs.Tests.{_and_, pick, every, tabulate}
 use Rattle.base.specs.Numbers.{firstOf}
 use Rattle.base.proofs.Tests.{and-left, and-false, and-no, every-not, pick-true, pick-false, length-tabulate, tabulate-at}
 use Rattle.nest.specs.declared.Reading.{Reading}
-use Rattle.nest.specs.Nest.{filled, readLines, readingOf}
+use Rattle.nest.specs.Reader.{filled, readLines, readingOf}
 use Rattle.nest.proofs.Laws.{filled-next, every-step, every-end}
 use Rattle.nest.proofs.Answers.{number-read}
-use Rattle.writer.specs.Fields.{counted}
+use Rattle.writer.specs.Fields.{counted, bounds}
 use Rattle.writer.specs.Writing.{fitsIn}
 
 -- ---- bytes that were right up to a place are right i further
 
 abbrev pub Laid : ℕ → List ℕ → List ℕ → ℕ → List ℕ → Type 0
-Laid at old row i l = (f : ℕ → ℕ) → old ≡ filled 208 at f → ((k : ℕ) → k < 16 → getD row k 0 ≡ f (at + k)) → l ≡ filled 208 (at + i) f
+Laid at old row i l = (f : ℕ → ℕ) → old ≡ filled 272 at f → ((k : ℕ) → k < 16 → getD row k 0 ≡ f (at + k)) → l ≡ filled 272 (at + i) f
 
 module _ (at : ℕ) (old row : List ℕ) where
   pub laid-start : Laid at old row 0 old
   laid-start f e h = let w : at + 0 ≡ at = omega arith in rw w e
 
-  pub laid-next : (i : ℕ) (l : List ℕ) → at + 16 ≤ 208 → i < 16 → Laid at old row i l → Laid at old row (i + 1) (set l (at + i) (getD row i 0))
+  pub laid-next : (i : ℕ) (l : List ℕ) → at + 16 ≤ 272 → i < 16 → Laid at old row i l → Laid at old row (i + 1) (set l (at + i) (getD row i 0))
   laid-next i l r k p f e h =
       let w : at + (i + 1) ≡ at + i + 1 = omega arith in
-      rw w (filled-next 208 f (at + i) (getD row i 0) l (p f e h) (omega arith) (h i k))
+      rw w (filled-next 272 f (at + i) (getD row i 0) l (p f e h) (omega arith) (h i k))
 
   pub laid-end : (i : ℕ) (l : List ℕ) → i ≤ 16 → 16 ≤ i → Laid at old row i l → Laid at old row 16 l
   laid-end i l a b p = let w : i ≡ 16 = omega arith in rw w at p
 
-pub record-next : (r : ℕ) (l : List ℕ) (f : ℕ → ℕ) → l ≡ filled 208 (16 * r + 16) f → l ≡ filled 208 (16 * (r + 1)) f
+pub record-next : (r : ℕ) (l : List ℕ) (f : ℕ → ℕ) → l ≡ filled 272 (16 * r + 16) f → l ≡ filled 272 (16 * (r + 1)) f
 record-next r l f e = let w : 16 * (r + 1) ≡ 16 * r + 16 = omega arith in rw w e
 
-pub records-end : (r n : ℕ) (l : List ℕ) (f : ℕ → ℕ) → r ≤ n → n ≤ r → l ≡ filled 208 (16 * r) f → l ≡ filled 208 (16 * n) f
+pub records-end : (r n : ℕ) (l : List ℕ) (f : ℕ → ℕ) → r ≤ n → n ≤ r → l ≡ filled 272 (16 * r) f → l ≡ filled 272 (16 * n) f
 records-end r n l f a b e = let w : r ≡ n = omega arith in rw w at e
 
 -- ---- a copy
@@ -116,3 +116,24 @@ module _ (l t p d w : ℕ) where
   pub by-components : l ≤ 4 → w ≤ 8 → t ≡ l → p ≡ l → eqb d (4 * w) ≡ counted l t p d w
   unfolding counted
   by-components a b c e = sym (and-left _ _ (le-leb l 4 a) ∙ (and-left _ _ (le-leb w 8 b) ∙ (and-left _ _ (eq-eqb t l c) ∙ and-left _ _ (eq-eqb p l e))))
+
+module _ (s b e l o : ℕ) where
+  pub many-bounds : 4 < s → false ≡ bounds s b e l o
+  unfolding bounds
+  many-bounds h = sym (and-false _ _ (lt-leb s 4 h))
+
+  pub other-bounded : b ≢ s → false ≡ bounds s b e l o
+  unfolding bounds
+  other-bounded h = sym (and-no _ _ (and-false _ _ (ne-eqb b s h)))
+
+  pub other-earlier : e ≢ s → false ≡ bounds s b e l o
+  unfolding bounds
+  other-earlier h = sym (and-no _ _ (and-no _ _ (and-false _ _ (ne-eqb e s h))))
+
+  pub other-slopes : l ≢ s → false ≡ bounds s b e l o
+  unfolding bounds
+  other-slopes h = sym (and-no _ _ (and-no _ _ (and-no _ _ (and-false _ _ (ne-eqb l s h)))))
+
+  pub by-offsets : s ≤ 4 → b ≡ s → e ≡ s → l ≡ s → eqb o s ≡ bounds s b e l o
+  unfolding bounds
+  by-offsets a c d f = sym (and-left _ _ (le-leb s 4 a) ∙ (and-left _ _ (eq-eqb b s c) ∙ (and-left _ _ (eq-eqb e s d) ∙ and-left _ _ (eq-eqb l s f))))

@@ -12,7 +12,7 @@ use Rattle.base.specs.Tests.{pick}
 use Rattle.base.proofs.Tests.{pick-true, pick-false}
 use Rattle.nest.specs.declared.Nest.{Nest}
 use Rattle.nest.specs.Nest.{component, weight}
-use Rattle.nest.specs.Encode.{dimensionRecord, narrowRecord, wideRecord, closeRecord, dimensionOf, narrow, distanceOf, joined, encode}
+use Rattle.nest.specs.Encode.{dimensionRecord, narrowRecord, wideRecord, boundRecord, closeRecord, dimensionOf, boundOf, narrow, distanceOf, joined, encode}
 
 module _ (f : ℕ → List ℕ) (sixteen : (r : ℕ) → length (f r) ≡ 16) where
   pub joined-length : (n : ℕ) → length (joined f n) ≡ 16 * n
@@ -33,6 +33,10 @@ module _ (x : Nest) where
   dimension-long : (j : ℕ) → length (dimensionOf x j) ≡ 16
   unfolding dimensionOf dimensionRecord
   dimension-long j = refl
+
+  bound-long : (k : ℕ) → length (boundOf x k) ≡ 16
+  unfolding boundOf boundRecord
+  bound-long k = refl
 
   -- a distance's record by its width
   abbrev narrowOf : ℕ → List ℕ
@@ -64,12 +68,15 @@ module _ (x : Nest) where
   dimensions-long : length (joined (dimensionOf x) (x .dimensions)) ≡ 16 * x .dimensions
   dimensions-long = joined-length (dimensionOf x) dimension-long (x .dimensions)
 
+  bounds-long : length (joined (boundOf x) (x .bounds)) ≡ 16 * x .bounds
+  bounds-long = joined-length (boundOf x) bound-long (x .bounds)
+
   distances-long : length (joined (distanceOf x) (x .distances)) ≡ 16 * x .distances
   distances-long = joined-length (distanceOf x) distance-long (x .distances)
 
-  pub encode-length : length (encode x) ≡ 16 * (x .dimensions + x .distances + 1)
+  pub encode-length : length (encode x) ≡ 16 * (x .dimensions + x .bounds + x .distances + 1)
   unfolding encode
-  encode-length = simp length-append (omega (arith, dimensions-long, distances-long, close-long))
+  encode-length = simp length-append (omega (arith, dimensions-long, bounds-long, distances-long, close-long))
 
   pub at-dimension : (j i : ℕ) → j < x .dimensions → i < 16 → getD (encode x) (16 * j + i) 0 ≡ getD (dimensionOf x j) i 0
   unfolding encode
@@ -77,22 +84,39 @@ module _ (x : Nest) where
       List·getD-append (joined (dimensionOf x) (x .dimensions)) _ 0 (16 * j + i) (rw dimensions-long (omega arith))
       ∙ joined-at (dimensionOf x) dimension-long (x .dimensions) j i h l
 
-  -- behind the dimensions
-  behind : (k : ℕ) → getD (encode x) (16 * x .dimensions + k) 0 ≡ getD (joined (distanceOf x) (x .distances) ++ closeRecord (x .shift) (x .boundary)) k 0
+  abbrev tail : List ℕ
+  tail = joined (distanceOf x) (x .distances) ++ closeRecord (x .shift) (x .boundary)
+
+  -- behind the dimensions, and behind the bounds
+  behind : (k : ℕ) → getD (encode x) (16 * x .dimensions + k) 0 ≡ getD (joined (boundOf x) (x .bounds) ++ tail) k 0
   unfolding encode
   behind k =
       ap (λ (p : ℕ). getD (encode x) (p + k) 0) (sym dimensions-long) ∙ getD-append-add (joined (dimensionOf x) (x .dimensions)) _ k 0
 
-  pub at-distance : (d i : ℕ) → d < x .distances → i < 16 → getD (encode x) (16 * (x .dimensions + d) + i) 0 ≡ getD (distanceOf x d) i 0
+  beyond : (k : ℕ) → getD (encode x) (16 * (x .dimensions + x .bounds) + k) 0 ≡ getD tail k 0
+  beyond k =
+      let p : 16 * (x .dimensions + x .bounds) + k ≡ 16 * x .dimensions + (16 * x .bounds + k) = omega arith in
+      ap (λ (p : ℕ). getD (encode x) p 0) p ∙ (behind (16 * x .bounds + k)
+      ∙ (ap (λ (p : ℕ). getD (joined (boundOf x) (x .bounds) ++ tail) (p + k) 0) (sym bounds-long)
+      ∙ getD-append-add (joined (boundOf x) (x .bounds)) tail k 0))
+
+  pub at-bound : (k i : ℕ) → k < x .bounds → i < 16 → getD (encode x) (16 * (x .dimensions + k) + i) 0 ≡ getD (boundOf x k) i 0
+  at-bound k i h l =
+      let p : 16 * (x .dimensions + k) + i ≡ 16 * x .dimensions + (16 * k + i) = omega arith in
+      ap (λ (p : ℕ). getD (encode x) p 0) p ∙ (behind (16 * k + i)
+      ∙ (List·getD-append (joined (boundOf x) (x .bounds)) _ 0 (16 * k + i) (rw bounds-long (omega arith))
+      ∙ joined-at (boundOf x) bound-long (x .bounds) k i h l))
+
+  pub at-distance : (d i : ℕ) → d < x .distances → i < 16 → getD (encode x) (16 * (x .dimensions + x .bounds + d) + i) 0 ≡ getD (distanceOf x d) i 0
   at-distance d i h l =
-      let p : 16 * (x .dimensions + d) + i ≡ 16 * x .dimensions + (16 * d + i) = omega arith in
-      ap (λ (p : ℕ). getD (encode x) p 0) p ∙ (behind (16 * d + i)
+      let p : 16 * (x .dimensions + x .bounds + d) + i ≡ 16 * (x .dimensions + x .bounds) + (16 * d + i) = omega arith in
+      ap (λ (p : ℕ). getD (encode x) p 0) p ∙ (beyond (16 * d + i)
       ∙ (List·getD-append (joined (distanceOf x) (x .distances)) _ 0 (16 * d + i) (rw distances-long (omega arith))
       ∙ joined-at (distanceOf x) distance-long (x .distances) d i h l))
 
-  pub at-close : (i : ℕ) → getD (encode x) (16 * (x .dimensions + x .distances) + i) 0 ≡ getD (closeRecord (x .shift) (x .boundary)) i 0
+  pub at-close : (i : ℕ) → getD (encode x) (16 * (x .dimensions + x .bounds + x .distances) + i) 0 ≡ getD (closeRecord (x .shift) (x .boundary)) i 0
   at-close i =
-      let p : 16 * (x .dimensions + x .distances) + i ≡ 16 * x .dimensions + (16 * x .distances + i) = omega arith in
-      ap (λ (p : ℕ). getD (encode x) p 0) p ∙ (behind (16 * x .distances + i)
-      ∙ (ap (λ (p : ℕ). getD (joined (distanceOf x) (x .distances) ++ closeRecord (x .shift) (x .boundary)) (p + i) 0) (sym distances-long)
+      let p : 16 * (x .dimensions + x .bounds + x .distances) + i ≡ 16 * (x .dimensions + x .bounds) + (16 * x .distances + i) = omega arith in
+      ap (λ (p : ℕ). getD (encode x) p 0) p ∙ (beyond (16 * x .distances + i)
+      ∙ (ap (λ (p : ℕ). getD tail (p + i) 0) (sym distances-long)
       ∙ getD-append-add (joined (distanceOf x) (x .distances)) (closeRecord (x .shift) (x .boundary)) i 0))

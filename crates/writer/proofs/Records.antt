@@ -1,5 +1,5 @@
 -- The records that the code makes, over plain variables.
-use Prim.Native.Nat.{ℕ, _+_, _*_, _-_, _/_, _≤_, _<_}
+use Prim.Native.Nat.{ℕ, _+_, _*_, _-_, _/_, _%_, _≤_, _<_}
 use mathlib.Core.Path.{_≡_, refl, sym, ap, _∙_}
 use mathlib.Core.Bool.{Bool, true, false}
 use mathlib.Core.List.{List}
@@ -10,10 +10,10 @@ use lib.Dec.{ltb}
 use Rattle.base.specs.Tests.{every}
 use Rattle.base.proofs.Tests.{every-not}
 use Rattle.nest.specs.declared.Nest.{Nest}
-use Rattle.nest.specs.Nest.{lengthOf, tileLength, processorCount, component, weight}
+use Rattle.nest.specs.Nest.{lengthOf, tileLength, processorCount, component, weight, side, bounded, earlier, slope, offset}
 use Rattle.nest.proofs.Laws.{every-end}
-use Rattle.nest.specs.Encode.{low, high, dimensionRecord, narrowRecord, wideRecord, closeRecord, dimensionOf, narrow, distanceOf, encode}
-use Rattle.writer.proofs.Places.{spelled-narrow, spelled-wide, at-dimension, at-distance, at-close}
+use Rattle.nest.specs.Encode.{low, high, dimensionRecord, narrowRecord, wideRecord, boundRecord, closeRecord, dimensionOf, boundOf, narrow, distanceOf, encode}
+use Rattle.writer.proofs.Places.{spelled-narrow, spelled-wide, at-dimension, at-bound, at-distance, at-close}
 
 pub dimension-made : (l t p a b c d e f : ℕ) → a ≡ low l → b ≡ high l → c ≡ low t → d ≡ high t → e ≡ low p → f ≡ high p
     → set (set (set (set (set (set (set (replicate 16 0) 0 1) 2 a) 3 b) 4 c) 5 d) 6 e) 7 f ≡ dimensionRecord l t p
@@ -37,7 +37,25 @@ pub close-made : (s v a b c d e : ℕ) → a ≡ low s → b ≡ low v → c ≡
 unfolding closeRecord
 close-made s v a b c d e e1 e2 e3 e4 e5 = rw (e1, e2, e3, e4, e5) refl
 
+wraps : (a b q : ℕ) → a ≡ 256 * q + b → b % 256 ≡ a % 256
+wraps a b q e = omega arith
+
+pub bound-made : (s d p v w a b c e f g : ℕ) → a ≡ low s → b ≡ low d → c ≡ low p → e ≡ low (v % 256 + 255) → f ≡ low (w % 65536 + 32768) → g ≡ high
+    (w % 65536 + 32768)
+    → set (set (set (set (set (set (set (replicate 16 0) 0 5) 1 a) 2 b) 3 c) 4 e) 6 f) 7 g ≡ boundRecord s d p v w
+unfolding boundRecord
+bound-made s d p v w a b c e f g e1 e2 e3 e4 e5 e6 =
+    let q1 : low (v % 256 + 255) ≡ low (v + 255) = omega arith in
+    let q2 : low (w % 65536 + 32768) ≡ low (w + 32768) = omega arith in
+    let q3 : high (w % 65536 + 32768) ≡ high (w + 32768) = wraps ((w + 32768) / 256) ((w % 65536 + 32768) / 256) (w / 65536) (omega arith) in
+    rw (e1, e2, e3, e4 ∙ q1, e5 ∙ q2, e6 ∙ q3) refl
+
 -- of a nest
+
+pub bound-is : (x : Nest) (k s d p v w : ℕ) (o : List ℕ) → s ≡ side x k → d ≡ bounded x k → p ≡ earlier x k → v ≡ slope x k → w ≡ offset x k
+    → o ≡ boundRecord s d p v w → o ≡ boundOf x k
+unfolding boundOf
+bound-is x k s d p v w o e1 e2 e3 e4 e5 h = rw (e1, e2, e3, e4, e5) at h
 
 pub dimension-is : (x : Nest) (j l t p : ℕ) (o : List ℕ) → l ≡ lengthOf x j → t ≡ tileLength x j → p ≡ processorCount x j
     → o ≡ dimensionRecord l t p → o ≡ dimensionOf x j
@@ -72,14 +90,21 @@ module _ (x : Nest) (r : ℕ) (o : List ℕ) where
   pub dimension-row : r < x .dimensions → o ≡ dimensionOf x r → (i : ℕ) → i < 16 → getD o i 0 ≡ getD (encode x) (16 * r + i) 0
   dimension-row h e i l = rw e (sym (at-dimension x r i h l))
 
-  pub distance-row : (d : ℕ) → x .dimensions ≤ r → d ≡ r - x .dimensions → d < x .distances → o ≡ distanceOf x d
+  pub bound-row : (k : ℕ) → x .dimensions ≤ r → k ≡ r - x .dimensions → k < x .bounds → o ≡ boundOf x k
       → (i : ℕ) → i < 16 → getD o i 0 ≡ getD (encode x) (16 * r + i) 0
-  distance-row d m q h e i l =
-      let w : r ≡ x .dimensions + d = omega arith in
+  bound-row k m q h e i l =
+      let w : r ≡ x .dimensions + k = omega arith in
+      rw (e, w) (sym (at-bound x k i h l))
+
+  pub distance-row : (d : ℕ) → x .dimensions ≤ r → x .bounds ≤ r - x .dimensions → d ≡ r - x .dimensions - x .bounds → d < x .distances → o ≡ distanceOf x d
+      → (i : ℕ) → i < 16 → getD o i 0 ≡ getD (encode x) (16 * r + i) 0
+  distance-row d m n q h e i l =
+      let w : r ≡ x .dimensions + x .bounds + d = omega arith in
       rw (e, w) (sym (at-distance x d i h l))
 
-  pub close-row : x .dimensions ≤ r → r ≤ x .dimensions + x .distances → x .distances ≤ r - x .dimensions → o ≡ closeRecord (x .shift) (x .boundary)
+  pub close-row : x .dimensions ≤ r → x .bounds ≤ r - x .dimensions → r ≤ x .dimensions + x .bounds + x .distances
+      → x .distances ≤ r - x .dimensions - x .bounds → o ≡ closeRecord (x .shift) (x .boundary)
       → (i : ℕ) → i < 16 → getD o i 0 ≡ getD (encode x) (16 * r + i) 0
-  close-row m h k e i l =
-      let w : r ≡ x .dimensions + x .distances = omega arith in
+  close-row m n h k e i l =
+      let w : r ≡ x .dimensions + x .bounds + x .distances = omega arith in
       rw (e, w) (sym (at-close x i))

@@ -1,5 +1,5 @@
 -- What W-202 demands of writing, sentence by sentence, from fields and from a nest by value; and demand 1 for it.
--- Renders document 02, W-202 and W-207's sentence on the writer, and document 01, "Numbers a call gives".
+-- Renders document 02, W-202 and the sentences of W-207 and W-209 on the writer, and document 01, "Numbers a call gives".
 use Prim.Native.Nat.{ℕ, _+_, _≤_, _<_}
 use mathlib.Core.Path.{_≡_}
 use mathlib.Core.Logic.{_≢_}
@@ -12,9 +12,10 @@ use Rattle.base.specs.Lists.{Bytes}
 use Rattle.base.specs.Numbers.{firstOf}
 use Rattle.machine.specs.Machine.{Answered}
 use Rattle.nest.specs.declared.Nest.{Nest}
-use Rattle.nest.specs.Nest.{component, kind, nestOf, nestLines, readLines}
+use Rattle.nest.specs.Nest.{component}
+use Rattle.nest.specs.Reader.{kind, nestOf, nestLines, readLines}
 use Rattle.nest.specs.Encode.{encode}
-use Rattle.writer.specs.Fields.{Fields, agree, nestFrom, fieldsOf, Widths}
+use Rattle.writer.specs.Fields.{Fields, agree, nestFrom, fieldsOf, Widths, BoundsWell}
 use Rattle.writer.specs.Writing.{written, nestWritable, writable, writeNestCall, writeCall}
 
 -- of values of type A: whether a recipe can hold them, the recipe that spells them, the values seen in a recipe's bytes;
@@ -48,19 +49,25 @@ pub record Tables (x : Nest) : Type 0 where
   pub counts : length (x .counts) ≡ 4
   pub components : length (x .components) ≡ 32
   pub weights : length (x .weights) ≡ 8
+  pub sides : length (x .sides) ≡ 4
+  pub bounded : length (x .bounded) ≡ 4
+  pub earlier : length (x .earlier) ≡ 4
+  pub slopes : length (x .slopes) ≡ 4
+  pub offsets : length (x .offsets) ≡ 4
 
 pub record Demand202 : Type 0 where
-  pub from-fields : Writes writeCall writable (λ v. encode (nestFrom v)) (λ b. fieldsOf (nestOf b)) (λ v. Unit {0})
+  pub from-fields : Writes writeCall writable (λ v. encode (nestFrom v)) (λ b. fieldsOf (nestOf b)) Widths
   pub from-nest : Writes writeNestCall nestWritable encode nestOf Tables
   -- a recipe can hold all fields whose lists agree and whose numbers are as wide as their fields
   pub all-held : (v : Fields) → agree v ≡ true → Widths v → writable v ≡ true
-  -- not 2 to 4 dimensions, not 1 to 8 distances, or a shift above 31: 2
+  -- not 2 to 4 dimensions, not 1 to 8 distances, more than 4 bounds, a faulty bound, or a shift above 31: 2
   pub stray : (v : Fields) (space : List ℕ)
-      → ((2 ≤ length (v .lengths)) × (length (v .lengths) ≤ 4) × (1 ≤ length (v .weights)) × (length (v .weights) ≤ 8) × (v .shift < 32) → ⊥)
+      → ((2 ≤ length (v .lengths)) × (length (v .lengths) ≤ 4) × (1 ≤ length (v .weights)) × (length (v .weights) ≤ 8)
+      × (length (v .sides) ≤ 4) × (v .shift < 32) × BoundsWell v → ⊥)
       → writeCall v space ≡ written 2 space
   -- else the reader's number is that of the values alone, and never 18
-  pub told : (v : Fields) → writable v ≡ true → 2 ≤ length (v .lengths) → 1 ≤ length (v .weights) → v .shift < 32
+  pub told : (v : Fields) → writable v ≡ true → 2 ≤ length (v .lengths) → 1 ≤ length (v .weights) → v .shift < 32 → BoundsWell v
       → firstOf (readLines (encode (nestFrom v))) ≡ firstOf (nestLines false (nestFrom v))
   -- W-207: kind 4 only where kind 2 can't hold the distance
   pub picks : (x : Nest) (e : ℕ) → e < x .distances
-      → kind (encode x) (x .dimensions + e) ≡ pick (every (λ j. ltb (component x e j) 256) 4) 2 4
+      → kind (encode x) (x .dimensions + x .bounds + e) ≡ pick (every (λ j. ltb (component x e j) 256) 4) 2 4

@@ -9,7 +9,8 @@ use Rattle.base.specs.Tests.{_and_, not, pick, every, keep}
 use Rattle.base.specs.Numbers.{Line, line, firstOf}
 use Rattle.machine.specs.Machine.{Answered, answered}
 use Rattle.nest.specs.declared.Nest.{Nest}
-use Rattle.nest.specs.Nest.{processorCount, readLines}
+use Rattle.nest.specs.Nest.{processorCount}
+use Rattle.nest.specs.Reader.{readLines}
 use Rattle.nest.specs.Encode.{encode}
 use Rattle.writer.specs.Fields.{Fields, agree, nestFrom}
 
@@ -37,9 +38,15 @@ fits x =
     and ltb (x .shift) 256 and ltb (x .boundary) 4294967296
     and eqb (x .spread) (length (keep (λ j. ltb 0 (processorCount x j)) (x .dimensions)))
 
+-- and those of its bounds
+unfoldable pub boundsFit : Nest → Bool
+boundsFit x =
+    fitsIn (x .bounds) 256 (x .sides) and fitsIn (x .bounds) 256 (x .bounded) and fitsIn (x .bounds) 256 (x .earlier)
+    and fitsIn (x .bounds) 256 (x .slopes) and fitsIn (x .bounds) 65536 (x .offsets)
+
 -- a recipe can hold the nest; can hold the fields
 unfoldable pub nestWritable : Nest → Bool
-nestWritable x = leb (x .dimensions) 4 and leb (x .distances) 8 and fits x
+nestWritable x = leb (x .dimensions) 4 and leb (x .distances) 8 and leb (x .bounds) 4 and boundsFit x and fits x
 
 unfoldable pub writable : Fields → Bool
 writable v = agree v and nestWritable (nestFrom v)

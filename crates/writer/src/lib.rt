@@ -3,19 +3,32 @@
 use nest::Nest;
 ghost use mathlib.Core.Path.{_≡_};
 ghost use mathlib.Core.Bool.{true};
-ghost use Prim.Native.Nat.{ℕ, _+_, _*_, _<_, _≤_};
+ghost use Prim.Native.Nat.{ℕ, _+_, _*_, _%_, _<_, _≤_};
 ghost use lib.ListN.{length, getD, take};
 ghost use lib.Dec.{ltb};
 ghost use Rattle.base.specs.Tests.{pick, keep, tabulate};
 ghost use Rattle.base.specs.Numbers.{firstOf};
-ghost use Rattle.nest.specs.Nest.{filled, readLines};
-ghost use Rattle.nest.specs.Encode.{low, high, dimensionRecord, narrowRecord, wideRecord, closeRecord, dimensionOf, narrow, distanceOf, encode};
-ghost use Rattle.writer.specs.Fields.{fields, counted, agree, nestFrom};
-ghost use Rattle.writer.specs.Writing.{written, fitsIn, fits, writeNestCall, writeCall};
+ghost use Rattle.nest.specs.Reader.{filled, readLines};
+ghost use Rattle.nest.specs.Encode.{low, high, dimensionRecord, narrowRecord, wideRecord, boundRecord, closeRecord};
+ghost use Rattle.nest.specs.Encode.{dimensionOf, boundOf, narrow, distanceOf, encode};
+ghost use Rattle.writer.specs.Fields.{fields, counted, bounds, agree, nestFrom};
+ghost use Rattle.writer.specs.Writing.{written, fitsIn, fits, boundsFit, writeNestCall, writeCall};
 
 // ---- records
 
 fn wide(x: usize) -> u64
+    ensures { λ r. ⌜ r ≡ x ⌝ }
+{
+    x as u64
+}
+
+fn byte_wide(x: u8) -> u64
+    ensures { λ r. ⌜ r ≡ x ⌝ }
+{
+    x as u64
+}
+
+fn half_wide(x: u16) -> u64
     ensures { λ r. ⌜ r ≡ x ⌝ }
 {
     x as u64
@@ -81,6 +94,22 @@ fn wide_record(d1: u64, d2: u64, d3: u64, d4: u64, weight: u64) -> [u8; 16]
     row
 }
 
+// A bound, of slope + 1 and offset + 32,768.
+fn bound_record(side: u64, dimension: u64, earlier: u64, slope: u64, offset: u64) -> [u8; 16]
+    ensures { λ r. ⌜ r ≡ boundRecord side dimension earlier slope offset ⌝ }
+{
+    let signed = offset % 65536 + 32768;
+    let mut row = [0u8; 16];
+    row[0] = 5;
+    row[1] = low(side);
+    row[2] = low(dimension);
+    row[3] = low(earlier);
+    row[4] = low(slope % 256 + 255);
+    row[6] = low(signed);
+    row[7] = high(signed);
+    row
+}
+
 fn close_record(shift: u64, boundary: u64) -> [u8; 16]
     ensures { λ r. ⌜ r ≡ closeRecord shift boundary ⌝ }
 {
@@ -103,6 +132,24 @@ fn dimension_of(nest: Nest, j: usize) -> [u8; 16]
     let tiling = nest.tiling;
     let counts = nest.counts;
     dimension_record(wide(lengths[j]), wide(tiling[j]), wide(counts[j]))
+}
+
+fn bound_of(nest: Nest, k: usize) -> [u8; 16]
+    requires { ⌜ k < 4 ⌝ }
+    ensures { λ r. ⌜ r ≡ boundOf nest k ⌝ }
+{
+    let sides = nest.sides;
+    let bounded = nest.bounded;
+    let earlier = nest.earlier;
+    let slopes = nest.slopes;
+    let offsets = nest.offsets;
+    bound_record(
+        byte_wide(sides[k]),
+        byte_wide(bounded[k]),
+        byte_wide(earlier[k]),
+        byte_wide(slopes[k]),
+        half_wide(offsets[k]),
+    )
 }
 
 // Each component of distance e fits a byte.
@@ -137,15 +184,20 @@ fn distance_of(nest: Nest, e: usize) -> [u8; 16]
     wide_record(d1, d2, d3, d4, weights[e])
 }
 
-// Record r: the dimensions, the distances, the close.
+// Record r: the dimensions, the bounds, the distances, the close.
 fn record_of(nest: Nest, r: usize) -> [u8; 16]
-    requires { ⌜ (nest .dimensions ≤ 4) × ((nest .distances ≤ 8) × (r ≤ nest .dimensions + nest .distances)) ⌝ }
+    requires { ⌜ ((nest .dimensions ≤ 4) × (nest .bounds ≤ 4))
+        × ((nest .distances ≤ 8) × (r ≤ nest .dimensions + nest .bounds + nest .distances)) ⌝ }
     ensures { λ o. ⌜ ((i : ℕ) → i < 16 → getD o i 0 ≡ getD (encode nest) (16 * r + i) 0) ⌝ }
 {
     if r < nest.dimensions {
         return dimension_of(nest, r);
     }
-    let e = r - nest.dimensions;
+    let k = r - nest.dimensions;
+    if k < nest.bounds {
+        return bound_of(nest, k);
+    }
+    let e = k - nest.bounds;
     if e < nest.distances {
         return distance_of(nest, e);
     }
@@ -155,10 +207,10 @@ fn record_of(nest: Nest, r: usize) -> [u8; 16]
 // ---- the recipe
 
 // Bytes that are right up to a place are right 16 bytes further, the record's.
-fn put_record(mut bytes: [u8; 208], at: usize, row: [u8; 16]) -> [u8; 208]
-    requires { ⌜ at + 16 ≤ 208 ⌝ }
-    ensures { λ o. ⌜ ((f : ℕ → ℕ) → bytes ≡ filled 208 at f → ((i : ℕ) → i < 16 → getD row i 0 ≡ f (at + i))
-        → o ≡ filled 208 (at + 16) f) ⌝ }
+fn put_record(mut bytes: [u8; 272], at: usize, row: [u8; 16]) -> [u8; 272]
+    requires { ⌜ at + 16 ≤ 272 ⌝ }
+    ensures { λ o. ⌜ ((f : ℕ → ℕ) → bytes ≡ filled 272 at f → ((i : ℕ) → i < 16 → getD row i 0 ≡ f (at + i))
+        → o ≡ filled 272 (at + 16) f) ⌝ }
 {
     for i in 0..16 {
         bytes[at + i] = row[i];
@@ -167,12 +219,12 @@ fn put_record(mut bytes: [u8; 208], at: usize, row: [u8; 16]) -> [u8; 208]
 }
 
 // The recipe, in the largest recipe's space.
-fn bytes_of(nest: Nest) -> [u8; 208]
-    requires { ⌜ (nest .dimensions ≤ 4) × (nest .distances ≤ 8) ⌝ }
-    ensures { λ o. ⌜ o ≡ filled 208 (16 * (nest .dimensions + nest .distances + 1)) (λ (p : ℕ). getD (encode nest) p 0) ⌝ }
+fn bytes_of(nest: Nest) -> [u8; 272]
+    requires { ⌜ ((nest .dimensions ≤ 4) × (nest .bounds ≤ 4)) × (nest .distances ≤ 8) ⌝ }
+    ensures { λ o. ⌜ o ≡ filled 272 (16 * (nest .dimensions + nest .bounds + nest .distances + 1)) (λ (p : ℕ). getD (encode nest) p 0) ⌝ }
 {
-    let records = nest.dimensions + nest.distances + 1;
-    let mut bytes = [0u8; 208];
+    let records = nest.dimensions + nest.bounds + nest.distances + 1;
+    let mut bytes = [0u8; 272];
     for r in 0..records {
         let row = record_of(nest, r);
         let next = put_record(bytes, 16 * r, row);
@@ -182,16 +234,16 @@ fn bytes_of(nest: Nest) -> [u8; 208]
 }
 
 // The number that the reader gives for the first bytes.
-fn number_of(bytes: [u8; 208], length: usize) -> u32
-    requires { ⌜ length ≤ 208 ⌝ }
+fn number_of(bytes: [u8; 272], length: usize) -> u32
+    requires { ⌜ length ≤ 272 ⌝ }
     ensures { λ r. ⌜ r ≡ firstOf (readLines (take length bytes)) ⌝ }
 {
     let reading = nest::read(&bytes[0..length]);
     reading.number
 }
 
-fn copy(bytes: [u8; 208], space: &mut [u8])
-    requires { ⌜ length (now space) ≤ 208 ⌝ }
+fn copy(bytes: [u8; 272], space: &mut [u8])
+    requires { ⌜ length (now space) ≤ 272 ⌝ }
     ensures { λ _. ⌜ now (space .exit) ≡ tabulate (λ (i : ℕ). getD bytes i 0) (length (now (space .entry))) ⌝ }
 {
     for i in 0..space.len() {
@@ -227,6 +279,28 @@ fn weights_fit(values: &[u64], n: usize) -> bool
 {
     for i in 0..values.len() {
         if values[i] >= wide(limit(i, n, 65536)) {
+            return false;
+        }
+    }
+    true
+}
+
+fn bytes_fit(values: &[u8], n: usize) -> bool
+    ensures { λ r. ⌜ r ≡ fitsIn n 256 (now (values .entry)) ⌝ }
+{
+    for i in 0..values.len() {
+        if values[i] as usize >= limit(i, n, 256) {
+            return false;
+        }
+    }
+    true
+}
+
+fn halves_fit(values: &[u16], n: usize) -> bool
+    ensures { λ r. ⌜ r ≡ fitsIn n 65536 (now (values .entry)) ⌝ }
+{
+    for i in 0..values.len() {
+        if values[i] as usize >= limit(i, n, 65536) {
             return false;
         }
     }
@@ -282,6 +356,37 @@ fn fits(nest: Nest) -> bool
     nest.spread == spread_of(counts, n)
 }
 
+fn offsets_fit(nest: Nest) -> bool
+    ensures { λ r. ⌜ r ≡ fitsIn (nest .bounds) 65536 (nest .offsets) ⌝ }
+{
+    let b = nest.bounds;
+    let offsets = nest.offsets;
+    halves_fit(&offsets, b)
+}
+
+fn bounds_fit(nest: Nest) -> bool
+    ensures { λ r. ⌜ r ≡ boundsFit nest ⌝ }
+{
+    let b = nest.bounds;
+    let sides = nest.sides;
+    if !bytes_fit(&sides, b) {
+        return false;
+    }
+    let bounded = nest.bounded;
+    if !bytes_fit(&bounded, b) {
+        return false;
+    }
+    let earlier = nest.earlier;
+    if !bytes_fit(&earlier, b) {
+        return false;
+    }
+    let slopes = nest.slopes;
+    if !bytes_fit(&slopes, b) {
+        return false;
+    }
+    offsets_fit(nest)
+}
+
 // ---- the calls
 
 // The nest's recipe into the space, which must have exactly its length; or the number that refuses it, and the space as it was.
@@ -295,10 +400,16 @@ pub fn write_nest(nest: Nest, space: &mut [u8]) -> u32
     if nest.distances > 8 {
         return 2;
     }
+    if nest.bounds > 4 {
+        return 2;
+    }
+    if !bounds_fit(nest) {
+        return 2;
+    }
     if !fits(nest) {
         return 2;
     }
-    let length = 16 * (nest.dimensions + nest.distances + 1);
+    let length = 16 * (nest.dimensions + nest.bounds + nest.distances + 1);
     let bytes = bytes_of(nest);
     let number = number_of(bytes, length);
     if number != 0 {
@@ -346,18 +457,60 @@ fn table_32(values: &[u16]) -> [usize; 32]
     table
 }
 
+fn table_of_bytes(values: &[u8]) -> [u8; 4]
+    requires { ⌜ length (now values) ≤ 4 ⌝ }
+    ensures { λ r. ⌜ r ≡ filled 4 (length (now (values .entry))) (λ (i : ℕ). getD (now (values .entry)) i 0) ⌝ }
+{
+    let mut table = [0u8; 4];
+    for i in 0..values.len() {
+        table[i] = values[i];
+    }
+    table
+}
+
+// Slopes plus 1.
+fn slopes_from(values: &[u8]) -> [u8; 4]
+    requires { ⌜ length (now values) ≤ 4 ⌝ }
+    ensures { λ r. ⌜ r ≡ filled 4 (length (now (values .entry))) (λ (i : ℕ). (getD (now (values .entry)) i 0 + 1) % 256) ⌝ }
+{
+    let mut table = [0u8; 4];
+    for i in 0..values.len() {
+        table[i] = ((base::byte_index(values[i]) + 1) % 256) as u8;
+    }
+    table
+}
+
+// Offsets plus 32,768.
+fn offsets_from(values: &[u16]) -> [u16; 4]
+    requires { ⌜ length (now values) ≤ 4 ⌝ }
+    ensures { λ r. ⌜ r ≡ filled 4 (length (now (values .entry))) (λ (i : ℕ). (getD (now (values .entry)) i 0 + 32768) % 65536) ⌝ }
+{
+    let mut table = [0u16; 4];
+    for i in 0..values.len() {
+        table[i] = ((base::half_index(values[i]) + 32768) % 65536) as u16;
+    }
+    table
+}
+
 fn nest_from(
     lengths: &[u16],
     tiling: &[u16],
     counts: &[u16],
     components: &[u16],
     weights: &[u16],
+    sides: &[u8],
+    bounded: &[u8],
+    earlier: &[u8],
+    slopes: &[u8],
+    offsets: &[u16],
     shift: u8,
     boundary: u32,
 ) -> Nest
-    requires { ⌜ agree (fields (now lengths) (now tiling) (now counts) (now components) (now weights) shift boundary) ≡ true ⌝ }
+    requires { ⌜ agree (fields (now lengths) (now tiling) (now counts) (now components) (now weights) (now sides) (now bounded)
+        (now earlier) (now slopes) (now offsets) shift boundary) ≡ true ⌝ }
     ensures { λ r. ⌜ r ≡ nestFrom (fields (now (lengths .entry)) (now (tiling .entry)) (now (counts .entry)) (now (components .entry))
-        (now (weights .entry)) shift boundary) ⌝ }
+        (now (weights .entry)) (now (sides .entry)) (now (bounded .entry)) (now (earlier .entry)) (now (slopes .entry))
+        (now (offsets .entry)) shift boundary) ⌝ }
 {
     let n = lengths.len();
     let spread_over = table_4(counts);
@@ -365,11 +518,17 @@ fn nest_from(
         dimensions: n,
         spread: spread_of(spread_over, n),
         distances: weights.len(),
+        bounds: sides.len(),
         lengths: table_4(lengths),
         tiling: table_4(tiling),
         counts: spread_over,
         components: table_32(components),
         weights: table_8(weights),
+        sides: table_of_bytes(sides),
+        bounded: table_of_bytes(bounded),
+        earlier: table_of_bytes(earlier),
+        slopes: slopes_from(slopes),
+        offsets: offsets_from(offsets),
         shift: wide(base::byte_index(shift)),
         boundary: base::word_wide(boundary),
     }
@@ -394,21 +553,47 @@ fn counted(lengths: usize, tiling: usize, counts: usize, components: usize, weig
     components == 4 * weights
 }
 
+// The bounds' lists of these lengths agree.
+fn bounds(sides: usize, bounded: usize, earlier: usize, slopes: usize, offsets: usize) -> bool
+    ensures { λ r. ⌜ r ≡ bounds sides bounded earlier slopes offsets ⌝ }
+{
+    if sides > 4 {
+        return false;
+    }
+    if bounded != sides {
+        return false;
+    }
+    if earlier != sides {
+        return false;
+    }
+    if slopes != sides {
+        return false;
+    }
+    offsets == sides
+}
+
 // The recipe of the fields: of each dimension its length, tile length and processor count, of each distance its four components and
-// its weight. Lists that disagree give 2; else as `write_nest`.
+// its weight, of each bound its side, dimension, earlier dimension, slope and offset, these two as the recipe's signed bytes have them.
+// Lists that disagree give 2; else as `write_nest`.
 pub fn write(
     lengths: &[u16],
     tiling: &[u16],
     counts: &[u16],
     components: &[u16],
     weights: &[u16],
+    sides: &[u8],
+    bounded: &[u8],
+    earlier: &[u8],
+    slopes: &[u8],
+    offsets: &[u16],
     shift: u8,
     boundary: u32,
     space: &mut [u8],
 ) -> u32
     ensures { λ r. ⌜ written r (now (space .exit))
         ≡ writeCall (fields (now (lengths .entry)) (now (tiling .entry)) (now (counts .entry)) (now (components .entry))
-        (now (weights .entry)) shift boundary) (now (space .entry)) ⌝ }
+        (now (weights .entry)) (now (sides .entry)) (now (bounded .entry)) (now (earlier .entry)) (now (slopes .entry))
+        (now (offsets .entry)) shift boundary) (now (space .entry)) ⌝ }
 {
     if !counted(
         lengths.len(),
@@ -419,12 +604,26 @@ pub fn write(
     ) {
         return 2;
     }
+    if !bounds(
+        sides.len(),
+        bounded.len(),
+        earlier.len(),
+        slopes.len(),
+        offsets.len(),
+    ) {
+        return 2;
+    }
     let nest = nest_from(
         lengths,
         tiling,
         counts,
         components,
         weights,
+        sides,
+        bounded,
+        earlier,
+        slopes,
+        offsets,
         shift,
         boundary,
     );

@@ -10,8 +10,15 @@
 //! close shift 2 boundary 7
 //! ```
 //!
-//! One record a line, in this order: the dimensions, the distances, the close. `processors`, `weight`, `shift` and
-//! `boundary` may be left out: 0, 1, 0 and 0. Words are set apart by blanks, and `#` starts a comment. A text that is
+//! One record a line, in this order: the dimensions, the bounds, the distances, the close. `processors`, `weight`,
+//! `shift` and `boundary` may be left out: 0, 1, 0 and 0. A bound says what a component must be, by an earlier one:
+//!
+//! ```text
+//! bound lower 1 earlier 0 slope 1 offset -3     # component 1 is at least component 0 - 3; both counted from 0
+//! bound upper 1 earlier 0 offset 4              # slope 0: at most 4
+//! ```
+//!
+//! Its `slope` and `offset` may be left out too: 0. Words are set apart by blanks, and `#` starts a comment. A text that is
 //! no recipe is told with the number of its line, a recipe that is refused with the number and its term, both on
 //! standard error; the status is then 1 and nothing is written. With `--list` the bytes are written as a list for a
 //! file of specs/.
@@ -97,6 +104,23 @@ impl<'a> Words<'a> {
         self.needed(name, most)
     }
 
+    /// The same for a number that may be negative.
+    fn signed(&mut self, name: &str, least: i32, most: i32) -> Result<i32, Fault> {
+        if self.left.last() != Some(&name) {
+            return Ok(0);
+        }
+        self.left.pop();
+        let Some(word) = self.left.pop() else { return Err(self.fault(format!("{name}: a number is missing"))) };
+        let digits = word.strip_prefix('-').unwrap_or(word);
+        if digits.is_empty() || !digits.bytes().all(|byte| byte.is_ascii_digit()) {
+            return Err(self.fault(format!("{name}: `{word}` is no number")));
+        }
+        match word.parse::<i32>() {
+            Ok(value) if (least..=most).contains(&value) => Ok(value),
+            _ => Err(self.fault(format!("{name} {word} is not from {least} to {most}"))),
+        }
+    }
+
     fn end(&self) -> Result<(), Fault> {
         match self.left.last() {
             None => Ok(()),
@@ -111,6 +135,7 @@ const HALF: u32 = u16::MAX as u32;
 /// The recipe that a text tells.
 fn recipe_of(text: &str) -> Result<Recipe, Failure> {
     let mut fields = Fields::new();
+    let mut bounds = 0;
     let mut distances = 0;
     let mut close = None;
     let mut lines = 0;
@@ -122,17 +147,24 @@ fn recipe_of(text: &str) -> Result<Recipe, Failure> {
             return Err(Failure::Text(words.fault("nothing stands behind the close")));
         }
         match kind {
-            "dimension" if distances > 0 => {
-                return Err(Failure::Text(words.fault("the dimensions stand before the distances")));
+            "dimension" if bounds + distances > 0 => {
+                return Err(Failure::Text(words.fault("the dimensions stand before the bounds and the distances")));
             }
             "dimension" => fields = dimension(fields, &mut words).map_err(Failure::Text)?,
+            "bound" if distances > 0 => {
+                return Err(Failure::Text(words.fault("the bounds stand before the distances")));
+            }
+            "bound" => {
+                fields = bound(fields, &mut words).map_err(Failure::Text)?;
+                bounds += 1;
+            }
             "distance" => {
                 fields = distance(fields, &mut words).map_err(Failure::Text)?;
                 distances += 1;
             }
             "close" => close = Some(close_of(&mut words).map_err(Failure::Text)?),
             other => {
-                let what = format!("`{other}` is no record: dimension, distance or close");
+                let what = format!("`{other}` is no record: dimension, bound, distance or close");
                 return Err(Failure::Text(words.fault(what)));
             }
         }
@@ -153,6 +185,24 @@ fn dimension(fields: Fields, words: &mut Words) -> Result<Fields, Fault> {
     let tile = words.named("tile", HALF, 0)?;
     let processors = words.named("processors", HALF, 0)?;
     Ok(fields.dimension(length as u16, tile as u16, processors as u16))
+}
+
+/// `bound lower|upper DIMENSION earlier DIMENSION [slope SLOPE] [offset OFFSET]`
+fn bound(fields: Fields, words: &mut Words) -> Result<Fields, Fault> {
+    let Some(side @ ("lower" | "upper")) = words.left.pop() else {
+        return Err(words.fault("a bound is `lower` or `upper`"));
+    };
+    let dimension = words.needed(side, BYTE)? as u8;
+    if words.left.last() != Some(&"earlier") {
+        return Err(words.fault("`earlier` is missing behind the dimension"));
+    }
+    let earlier = words.named("earlier", BYTE, 0)? as u8;
+    let slope = words.signed("slope", i8::MIN.into(), i8::MAX.into())? as i8;
+    let offset = words.signed("offset", i16::MIN.into(), i16::MAX.into())? as i16;
+    Ok(match side {
+        "lower" => fields.at_least(dimension, earlier, slope, offset),
+        _ => fields.at_most(dimension, earlier, slope, offset),
+    })
 }
 
 /// `distance D1 D2 [D3 [D4]] [weight WEIGHT]`

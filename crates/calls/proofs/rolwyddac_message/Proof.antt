@@ -7,23 +7,31 @@ use Rattle.calls.proofs.rolwyddac_message.Statement.{statement}
 use Rattle.calls.proofs.rolwyddac_message.Tie as tie
 use Rattle.calls.proofs.rolwyddac_message.Reads as reads
 use Rattle.calls.proofs.rolwyddac_message.Lts as lts
-use Rattle.nest.proofs.read.Reads as read-reads
+use Rattle.routes.proofs.read_for.Reads as read-for-reads
 use Rattle.table.proofs.message.Reads as message-reads
 
-read-requires : tie.Need-read-requires
-read-requires c κs = search needs
+read-for-requires : tie.Need-read-for-requires
+read-for-requires c κs = search needs
 
 returns : tie.Need-returns
-returns c = L.message-read (c .before .before .before .before .args .encoded .now) (c .before .before .before .before .args .route) (c .before .before .before .before .args .m) (c .before .before .before .before .args .out .now) (c .before .read .result) (c .before .read .ensures .0) (c .if1 .taken)
+returns c = L.message-read (c .before .before .before .before .args .encoded .now) (c .before .before .before .before .args .route)
+    (c .before .before .before .before .args .m) (c .before .before .before .before .args .out .now) (c .before .read-for .result)
+    (c .before .read-for .ensures) (c .if1 .taken)
 
 returns-2 : tie.Need-returns-2
-returns-2 c = L.message-out (c .before .before .before .before .before .args .encoded .now) (c .before .before .before .before .before .args .route) (c .before .before .before .before .before .args .m) (c .before .before .before .before .before .args .out .now) (c .before .before .read .result) (c .before .before .read .ensures .0) (c .before .if1 .left) (c .if2 .taken)
+returns-2 c = L.message-out (c .before .before .before .before .before .args .encoded .now) (c .before .before .before .before .before .args .route)
+    (c .before .before .before .before .before .args .m) (c .before .before .before .before .before .args .out .now)
+    (c .before .before .read-for .result) (c .before .before .read-for .ensures) (c .before .if1 .left) (c .if2 .taken)
 
 message-requires : tie.Need-message-requires
 message-requires c κs = search needs
 
 returns-3 : tie.Need-returns-3
-returns-3 c = L.message-none (c .before .before .before .before .before .before .before .args .encoded .now) (c .before .before .before .before .before .before .before .args .route) (c .before .before .before .before .before .before .before .args .m) (c .before .before .before .before .before .before .before .args .out .now) (c .before .before .before .before .read .result) (c .before .before .before .before .read .ensures .0) (c .before .before .before .if1 .left) (c .before .before .if2 .left) (c .before .message .result) (c .before .message .ensures) (c .if3 .taken)
+returns-3 c = L.message-none (c .before .before .before .before .before .before .before .args .encoded .now)
+    (c .before .before .before .before .before .before .before .args .route) (c .before .before .before .before .before .before .before .args .m)
+    (c .before .before .before .before .before .before .before .args .out .now) (c .before .before .before .before .read-for .result)
+    (c .before .before .before .before .read-for .ensures) (c .before .before .before .if1 .left) (c .before .before .if2 .left)
+    (c .before .message .result) (c .before .message .ensures) (c .if3 .taken)
 
 slice-write-out : tie.Need-slice-write-out
 slice-write-out c = search needs
@@ -44,13 +52,17 @@ same-length : tie.Need-same-length
 same-length c = search needs
 
 returns-4 : tie.Need-returns-4
-returns-4 c = L.message-done (c .before .before .before .before .before .before .before .args .encoded .now) (c .before .before .before .before .before .before .before .args .route) (c .before .before .before .before .before .before .before .args .m) (c .before .before .before .before .before .before .before .args .out .now) (c .before .before .before .before .read .result) (c .before .before .before .before .read .ensures .0) (c .before .before .before .if1 .left) (c .before .before .if2 .left) (c .before .message .result) (c .before .message .ensures) (c .if3 .left)
+returns-4 c = L.message-done (c .before .before .before .before .before .before .before .args .encoded .now)
+    (c .before .before .before .before .before .before .before .args .route) (c .before .before .before .before .before .before .before .args .m)
+    (c .before .before .before .before .before .before .before .args .out .now) (c .before .before .before .before .read-for .result)
+    (c .before .before .before .before .read-for .ensures) (c .before .before .before .if1 .left) (c .before .before .if2 .left)
+    (c .before .message .result) (c .before .message .ensures) (c .if3 .left)
 
 pub rolwyddac-message-spec : {M : Type 1} → statement M
 rolwyddac-message-spec =
     tie.close
     (tie.spec
-    read-requires
+    read-for-requires
     returns
     returns-2
     message-requires

@@ -43,7 +43,8 @@ returns-2 c =
     let fresh = c .before .before .before .before .before .before .before .before .before .before .before .fresh in
     let if1 = c .before .before .before .before .if1 in
     let zero-words = c .before .before .zero-words in
-    let A = c .before .before .before .before .before .before .before .before .before .before .before .before .before .before .before .before .before .before .before .before .before .args in
+    let A = c .before .before .before .before .before .before .before .before .before .before .before .before .before .before .before .before .before
+    .before .before .before .before .args in
     reading.all-cleared _ _ _ _ (A .progress .now) (fresh .result) (fresh .ensures (A .progress .now) refl) (if1 .left) _ (zero-words .ensures)
 
 pub fresh-spec : {M : Type 1} → statement M

@@ -3,8 +3,7 @@ use mathlib.Core.Path.{refl, sym, _∙_}
 use borrow.Author.Needs.{needs}
 use Rattle.nest.proofs.Answers.{accepted-read}
 use Rattle.plan.specs.declared.Route.the-variants.{Direct}
-use Rattle.plan.specs.Messages.{planOf}
-use Rattle.layout.proofs.Steps.{route-direct}
+use Rattle.plan.specs.Shaped.{planOf}
 use Rattle.engine.proofs.Lines as lines
 use Rattle.engine.proofs.sweep.Statement.{statement}
 use Rattle.engine.proofs.sweep.Tie as tie
@@ -13,10 +12,14 @@ read-requires : tie.Need-read-requires
 read-requires c κs = search needs
 
 returns : tie.Need-returns
-returns c = let A = c .before .before .before .before .before .args in lines.sweep-read (A .encoded .now) (A .source .now) (A .grid .now) (c .before .read .result .number) (lines.read-number (A .encoded .now) (c .before .read .result) (c .before .read .ensures .0)) (c .if1 .taken)
+returns c =
+    let A = c .before .before .before .before .before .args in
+    lines.sweep-read (A .encoded .now) (A .source .now) (A .grid .now) (c .before .read .result .number)
+    (lines.read-number (A .encoded .now) (c .before .read .result) (c .before .read .ensures .0)) (c .if1 .taken)
 
 sizes-of-requires : tie.Need-sizes-of-requires
-sizes-of-requires c κs = accepted-read _ _ (c .before .before .read .ensures .0) (c .before .if1 .left) (c .before .before .read .ensures .1 (c .before .if1 .left))
+sizes-of-requires c κs =
+    accepted-read _ _ (c .before .before .read .ensures .0) (c .before .if1 .left) (c .before .before .read .ensures .1 (c .before .if1 .left))
 
 returns-2 : tie.Need-returns-2
 returns-2 c =
@@ -25,7 +28,8 @@ returns-2 c =
     let sizes-of = c .before .before .sizes-of in
     let if2 = c .if2 in
     let A = c .before .before .before .before .before .before .before .before .before .args in
-    lines.sweep-source (A .encoded .now) (A .source .now) (A .grid .now) (planOf Direct (read .result .nest)) (lines.opened (A .encoded .now) (read .result) (read .ensures .0) (if1 .left) (route-direct 0 refl)) (λ q. if2 .taken (q ∙ sym (sizes-of .ensures .0 .cells)))
+    lines.sweep-source (A .encoded .now) (A .source .now) (A .grid .now) (planOf Direct (read .result .nest))
+    (lines.opened-direct (A .encoded .now) (read .result) (read .ensures .0) (if1 .left) refl) (λ q. if2 .taken (q ∙ sym (sizes-of .ensures .0 .cells)))
 
 returns-3 : tie.Need-returns-3
 returns-3 c =
@@ -34,7 +38,8 @@ returns-3 c =
     let sizes-of = c .before .before .before .before .sizes-of in
     let if3 = c .if3 in
     let A = c .before .before .before .before .before .before .before .before .before .before .before .args in
-    lines.sweep-grid (A .encoded .now) (A .source .now) (A .grid .now) (planOf Direct (read .result .nest)) (lines.opened (A .encoded .now) (read .result) (read .ensures .0) (if1 .left) (route-direct 0 refl)) (λ q. if3 .taken (q ∙ sym (sizes-of .ensures .0 .cells)))
+    lines.sweep-grid (A .encoded .now) (A .source .now) (A .grid .now) (planOf Direct (read .result .nest))
+    (lines.opened-direct (A .encoded .now) (read .result) (read .ensures .0) (if1 .left) refl) (λ q. if3 .taken (q ∙ sym (sizes-of .ensures .0 .cells)))
 
 sweep-requires : tie.Need-sweep-requires
 sweep-requires c κs = search needs
@@ -44,14 +49,37 @@ same-length c = search needs
 
 returns-4 : tie.Need-returns-4
 returns-4 c =
-    let read = c .before .before .before .before .before .before .before .before .before .before .before .read in
-    let if1 = c .before .before .before .before .before .before .before .before .before .before .if1 in
-    let sizes-of = c .before .before .before .before .before .before .before .before .sizes-of in
-    let if2 = c .before .before .before .before .before .before .if2 in
-    let if3 = c .before .before .before .before .if3 in
+    let read = c .before .before .before .before .before .before .before .before .before .before .before .before .before .read in
+    let if1 = c .before .before .before .before .before .before .before .before .before .before .before .before .if1 in
+    let sizes-of = c .before .before .before .before .before .before .before .before .before .before .sizes-of in
+    let if2 = c .before .before .before .before .before .before .before .before .if2 in
+    let if3 = c .before .before .before .before .before .before .if3 in
     let sweep = c .before .before .sweep in
-    let A = c .before .before .before .before .before .before .before .before .before .before .before .before .before .before .before .args in
-    lines.sweep-done (A .encoded .now) (A .source .now) (A .grid .now) (planOf Direct (read .result .nest)) (lines.opened (A .encoded .now) (read .result) (read .ensures .0) (if1 .left) (route-direct 0 refl)) (sweep .last .1 .1 .1 .0) (if2 .left ∙ sizes-of .ensures .0 .cells) (if3 .left ∙ sizes-of .ensures .0 .cells) (sweep .ensures)
+    let if4 = c .before .before .before .before .if4 in
+    let A = c .before .before .before .before .before .before .before .before .before .before .before .before .before .before .before .before .before .args in
+    lines.sweep-done (A .encoded .now) (A .source .now) (A .grid .now) (planOf Direct (read .result .nest))
+    (lines.opened-direct (A .encoded .now) (read .result) (read .ensures .0) (if1 .left) refl) (sweep .last .1 .1 .1 .0)
+    (if2 .left ∙ sizes-of .ensures .0 .cells) (if3 .left ∙ sizes-of .ensures .0 .cells)
+    (lines.box-swept (read .result .nest) (sizes-of .ensures .0 .accepted) (if4 .taken) _ _ (sweep .ensures))
+
+sweep-requires-2 : tie.Need-sweep-requires-2
+sweep-requires-2 c κs = search needs
+
+same-length-2 : tie.Need-same-length-2
+same-length-2 c = search needs
+
+returns-5 : tie.Need-returns-5
+returns-5 c =
+    let read = c .before .before .before .before .before .before .before .before .before .before .before .before .before .read in
+    let if1 = c .before .before .before .before .before .before .before .before .before .before .before .before .if1 in
+    let sizes-of = c .before .before .before .before .before .before .before .before .before .before .sizes-of in
+    let if2 = c .before .before .before .before .before .before .before .before .if2 in
+    let if3 = c .before .before .before .before .before .before .if3 in
+    let sweep2 = c .before .before .sweep2 in
+    let A = c .before .before .before .before .before .before .before .before .before .before .before .before .before .before .before .before .before .args in
+    lines.sweep-done (A .encoded .now) (A .source .now) (A .grid .now) (planOf Direct (read .result .nest))
+    (lines.opened-direct (A .encoded .now) (read .result) (read .ensures .0) (if1 .left) refl) (sweep2 .last .1 .1 .1 .0)
+    (if2 .left ∙ sizes-of .ensures .0 .cells) (if3 .left ∙ sizes-of .ensures .0 .cells) (sweep2 .ensures)
 
 pub sweep-spec : {M : Type 1} → statement M
 sweep-spec =
@@ -64,4 +92,7 @@ sweep-spec =
     returns-3
     sweep-requires
     same-length
-    returns-4)
+    returns-4
+    sweep-requires-2
+    same-length-2
+    returns-5)

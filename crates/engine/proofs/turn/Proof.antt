@@ -28,7 +28,8 @@ returns c =
     let flat-of = c .before .before .before .before .before .before .before .before .before .flat-of in
     let turn = c .before .before .before .before .before .before .before .turn in
     let if1 = c .if1 in
-    let A = c .before .before .before .before .before .before .before .before .before .before .before .before .before .before .before .before .before .before .before .args in
+    let A = c .before .before .before .before .before .before .before .before .before .before .before .before .before .before .before .before .before
+    .before .before .args in
     reading.left-out (turn .result) _ _ (A .progress .now) _ (A .processor) _ (turn .ensures (A .progress .now) (flat-of .ensures)) (if1 .taken)
 
 store-record-requires : tie.Need-store-record-requires
@@ -36,8 +37,10 @@ store-record-requires c κs =
     let flat-of = c .before .before .before .before .before .before .before .before .before .before .before .flat-of in
     let turn = c .before .before .before .before .before .before .before .before .before .turn in
     let if1 = c .before .before .if1 in
-    let A = c .before .before .before .before .before .before .before .before .before .before .before .before .before .before .before .before .before .before .before .before .before .args in
-    reading.turn-inside (A .encoded .now) (A .route) (A .source .now) (stateOf (A .memories .now) (A .buffer .now) (A .progress .now) (A .status .now)) (A .processor)
+    let A = c .before .before .before .before .before .before .before .before .before .before .before .before .before .before .before .before .before
+    .before .before .before .before .args in
+    reading.turn-inside (A .encoded .now) (A .route) (A .source .now) (stateOf (A .memories .now) (A .buffer .now) (A .progress .now) (A .status .now))
+    (A .processor)
     (ap (λ (z : Answered State). z .number) (sym (turn .ensures (A .progress .now) (flat-of .ensures))) ∙ if1 .left)
 
 same-length-5 : tie.Need-same-length-5
@@ -58,8 +61,10 @@ returns-2 c =
     let turn = c .before .before .before .before .before .before .before .before .before .before .before .before .turn in
     let if1 = c .before .before .before .before .before .if1 in
     let store-record = c .before .before .store-record in
-    let A = c .before .before .before .before .before .before .before .before .before .before .before .before .before .before .before .before .before .before .before .before .before .before .before .before .args in
-    reading.written-in (turn .result) _ _ (A .progress .now) _ (A .processor) _ (turn .ensures (A .progress .now) (flat-of .ensures)) (if1 .left) _ (store-record .ensures)
+    let A = c .before .before .before .before .before .before .before .before .before .before .before .before .before .before .before .before .before
+    .before .before .before .before .before .before .before .args in
+    reading.written-in (turn .result) _ _ (A .progress .now) _ (A .processor) _ (turn .ensures (A .progress .now) (flat-of .ensures)) (if1 .left) _
+    (store-record .ensures)
 
 pub turn-spec : {M : Type 1} → statement M
 turn-spec =

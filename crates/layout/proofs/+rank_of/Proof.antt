@@ -4,7 +4,7 @@ use native.Mathlib.Omega.{arith}
 use mathlib.Core.Path.{sym}
 use Prim.Native.Nat.{_+_, _-_, _*_, _≤_}
 use lib.ListN.{getD}
-use Rattle.plan.specs.Geometry as geometry
+use Rattle.nest.specs.Places as geometry
 use Rattle.layout.proofs.Dims.{RankTurn, rank-turn}
 use Prim.Native.Nat.{ℕ, _<_}
 use borrow.Fn.Kinds.{In}

@@ -2,7 +2,7 @@
 use borrow.Author.Needs.{needs}
 use native.Mathlib.Omega.{arith}
 use Prim.Native.Nat.{_-_}
-use Rattle.plan.specs.Geometry.{tileAt}
+use Rattle.nest.specs.Places.{tileAt}
 use Rattle.plan.specs.Messages.{ways}
 use Rattle.layout.specs.Sizes.{along}
 use Rattle.layout.proofs.Loops.{Eight, eight-none, eight-more}

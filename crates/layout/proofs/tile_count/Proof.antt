@@ -56,7 +56,7 @@ more c =
     counting-more (start .args .sizes .route) (start .args .nest) (start .pre .accepted) (start .args .sizes .across) (record { each = start .pre .across }) (start .args .processor)
     (c .before .before .loop .j) (c .before .before .loop .rest) (c .before .before .loop .n) (c .share-of .result) (c .before .loop-test .taken) (c .before .before .loop .inv) (c .share-of .ensures)
 
-few : (c : lts.After-share-of (share-of-reads.Asked, share-of-reads.Learnt) reads.Pre reads.Post Inv-loop μ-loop) → c .before .before .loop .n * c .share-of .result .tiles ≤ 1024
+few : (c : lts.After-share-of (share-of-reads.Asked, share-of-reads.Learnt) reads.Pre reads.Post Inv-loop μ-loop) → c .before .before .loop .n * c .share-of .result .tiles ≤ 16384
 few c =
     let start = c .before .before .before .before .before .before .before in
     counting-few (start .args .sizes .route) (start .args .nest) (start .pre .accepted) (start .args .sizes .across) (record { each = start .pre .across }) (start .args .processor) _ _ _ (more c)

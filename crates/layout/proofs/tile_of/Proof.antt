@@ -1,7 +1,7 @@
 -- `layout::tile_of` meets its contract.
 use mathlib.Core.Path.{_∙_}
-use Rattle.plan.specs.Geometry.{tileOf}
-use Rattle.plan.proofs.Tiles.{tileOf-low}
+use Rattle.nest.specs.Places.{boxTileOf}
+use Rattle.plan.proofs.Tiles.{boxTileOf-low}
 use Rattle.layout.proofs.Cells.{place-small, tile-ranked, tile-rank, quotients-are, quotient-within}
 use Rattle.layout.proofs.tile_of.Statement.{statement}
 use Rattle.layout.proofs.tile_of.Tie as tie
@@ -18,12 +18,12 @@ rank-requires c κs = tile-ranked _ (c .before .before .before .before .pre .0 .
     (quotient-within _ (c .before .before .before .before .pre .0 .accepted) (c .before .before .before .before .args .cell))
 
 returns : tie.Need-returns
-unfolding tileOf
+unfolding boxTileOf
 returns c =
     let e = c .rank .ensures
     ∙ tile-rank _ (c .before .before .before .before .before .pre .0 .accepted) (c .before .before .before .before .before .args .sizes .across) (record { each = c .before .before .before .before .before .pre .0 .across }) _ _
     (quotients-are _ (c .before .before .before .before .before .pre .0 .accepted) _ _ _ (c .before .before .before .before .cell-of .ensures .place) (c .before .before .quotients .ensures)) in
-    (e, rw e (tileOf-low _ (c .before .before .before .before .before .pre .0 .accepted) (c .before .before .before .before .before .args .cell)))
+    (e, rw e (boxTileOf-low _ (c .before .before .before .before .before .pre .0 .accepted) (c .before .before .before .before .before .args .cell)))
 
 pub tile-of-spec : {M : Type 1} → statement M
 tile-of-spec = tie.close (tie.spec cell-of-requires quotients-requires rank-requires returns)

@@ -1,7 +1,7 @@
 -- `nest::last_spread` meets its contract: it is the definition, computed.
 use mathlib.Core.Path.{refl}
 use borrow.Author.Needs.{needs}
-use Rattle.nest.specs.Nest.{lastSpread}
+use Rattle.nest.specs.Reader.{lastSpread}
 use Rattle.nest.proofs.last_spread.Statement.{statement}
 use Rattle.nest.proofs.last_spread.Tie as tie
 

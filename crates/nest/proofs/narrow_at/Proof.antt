@@ -6,7 +6,7 @@ use native.Mathlib.Omega.{arith}
 use borrow.Author.Needs.{needs}
 use lib.Dec.{ltb}
 use Rattle.base.specs.Tests.{every}
-use Rattle.nest.specs.Nest.{componentAt}
+use Rattle.nest.specs.Reader.{componentAt}
 use Rattle.nest.proofs.Laws as L
 use Rattle.nest.proofs.narrow_at.Statement.{statement}
 use Rattle.nest.proofs.narrow_at.Tie as tie

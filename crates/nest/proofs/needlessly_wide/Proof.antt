@@ -6,7 +6,7 @@ use native.Mathlib.Omega.{arith}
 use borrow.Author.Needs.{needs}
 use Rattle.base.specs.Tests.{some}
 use Rattle.base.proofs.Tests.{some-one}
-use Rattle.nest.specs.Nest.{narrowAt, needlesslyWide}
+use Rattle.nest.specs.Reader.{narrowAt, needlesslyWide}
 use Rattle.nest.proofs.Laws as L
 use Rattle.nest.proofs.needlessly_wide.Statement.{statement}
 use Rattle.nest.proofs.needlessly_wide.Tie as tie

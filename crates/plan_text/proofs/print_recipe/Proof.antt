@@ -1,5 +1,5 @@
-use mathlib.Core.Path.{ap}
-use Rattle.nest.proofs.Answers.{accepted-read}
+use mathlib.Core.Path.{refl, ap, _∙_}
+use Rattle.routes.proofs.Laws.{accepted-for, routed-for}
 use Rattle.table.specs.declared.Figures.{Figures}
 use borrow.Author.Needs.{needs}
 use Rattle.plan_text.proofs.print_recipe.Statement.{statement}
@@ -7,11 +7,11 @@ use Rattle.plan_text.proofs.print_recipe.Tie as tie
 use Rattle.plan_text.proofs.print_recipe.Reads as reads
 use Rattle.plan_text.proofs.print_recipe.Lts as lts
 use Rattle.table.proofs.figures_of.Reads as figures-of-reads
-use Rattle.table.proofs.fill.Reads as fill-reads
+use Rattle.tables.proofs.fill.Reads as fill-reads
 use Rattle.plan_text.proofs.print_figures.Reads as print-figures-reads
 use Rattle.plan_text.proofs.print_lines.Reads as print-lines-reads
 use Rattle.plan_text.proofs.print_refused.Reads as print-refused-reads
-use Rattle.nest.proofs.read.Reads as read-reads
+use Rattle.routes.proofs.read_for.Reads as read-for-reads
 use Rattle.layout.proofs.route_of.Reads as route-of-reads
 use Rattle.layout.proofs.sizes_of.Reads as sizes-of-reads
 
@@ -21,8 +21,8 @@ print-refused-requires c κs = search needs
 returns : tie.Need-returns
 returns c = search needs
 
-read-requires : tie.Need-read-requires
-read-requires c κs = search needs
+read-for-requires : tie.Need-read-for-requires
+read-for-requires c κs = search needs
 
 print-refused-requires-2 : tie.Need-print-refused-requires-2
 print-refused-requires-2 c κs = search needs
@@ -35,12 +35,17 @@ route-of-requires c κs = search needs
 
 sizes-of-requires : tie.Need-sizes-of-requires
 sizes-of-requires c κs =
-    let read = c .before .before .before .read in
+    let read = c .before .before .before .read-for in
     let if2 = c .before .before .if2 in
-    accepted-read _ _ (read .ensures .0) (if2 .left) (read .ensures .1 (if2 .left))
+    accepted-for _ _ _ (read .ensures) (if2 .left)
 
 fill-requires : tie.Need-fill-requires
-fill-requires c κs = search needs
+fill-requires c κs =
+    let read = c .before .before .before .before .before .read-for in
+    let if2 = c .before .before .before .before .if2 in
+    let route-of = c .before .before .route-of in
+    let sizes-of = c .before .sizes-of in
+    (sizes-of .ensures .0, (λ h. sizes-of .ensures .1 ∙ route-of .ensures ∙ routed-for _ _ _ (read .ensures) (if2 .left) h, refl))
 
 figures-of-requires : tie.Need-figures-of-requires
 figures-of-requires c κs = search needs
@@ -49,7 +54,10 @@ print-figures-requires : tie.Need-print-figures-requires
 print-figures-requires c κs = search needs
 
 print-lines-requires : tie.Need-print-lines-requires
-print-lines-requires c κs = ((c .before .before .before .before .before .before .sizes-of .ensures .0, c .before .before .before .before .fill .ensures), ap (λ (x : Figures). x .messages) (c .before .before .figures-of .ensures))
+print-lines-requires c κs = (
+  (c .before .before .before .before .before .before .sizes-of .ensures .0, c .before .before .before .before .fill .ensures),
+  ap (λ (x : Figures). x .messages) (c .before .before .figures-of .ensures),
+)
 
 returns-3 : tie.Need-returns-3
 returns-3 c = search needs
@@ -60,7 +68,7 @@ print-recipe-spec =
     (tie.spec
     print-refused-requires
     returns
-    read-requires
+    read-for-requires
     print-refused-requires-2
     returns-2
     route-of-requires

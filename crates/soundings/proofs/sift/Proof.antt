@@ -3,7 +3,7 @@ use Prim.Native.Nat.{_-_}
 use mathlib.Core.Path.{_≡_}
 use mathlib.Core.Bool.{true≢false}
 use native.Mathlib.Omega.{arith}
-use Rattle.nest.specs.Nest.{records}
+use Rattle.nest.specs.Reader.{records}
 use Rattle.soundings.specs.Sifting.{depthIn}
 use Rattle.soundings.proofs.Sifting as S
 use borrow.Author.Needs.{needs}
@@ -23,10 +23,19 @@ cell-of-requires : tie.Need-cell-of-requires Inv-loop μ-loop
 cell-of-requires c κs = search needs
 
 returns : tie.Need-returns Inv-loop μ-loop
-returns c = (S.off-yes _ _ (c .before .before .before .loop .r) _ (c .before .before .loop-test .taken) (c .before .cell-of .ensures) (c .if1 .taken), λ e. absurd (true≢false e))
+returns c = (
+  S.off-yes _ _ (c .before .before .before .loop .r) _ (c .before .before .loop-test .taken) (c .before .cell-of .ensures) (c .if1 .taken),
+  λ e. absurd (true≢false e),
+)
 
 note-requires : tie.Need-note-requires Inv-loop μ-loop
-note-requires c κs = (c .before .before .before .loop-test .taken, (omega (arith, c .before .before .before .before .before .before .pre .0), c .before .before .before .before .loop .inv .sifted .long))
+note-requires c κs = (
+  c .before .before .before .loop-test .taken,
+  (
+    omega (arith, c .before .before .before .before .before .before .pre .0),
+    c .before .before .before .before .loop .inv .sifted .long,
+  ),
+)
 
 add-r : tie.Need-add-r Inv-loop μ-loop
 add-r c = search needs
@@ -41,7 +50,8 @@ loop-again c =
       few = omega arith;
       in-box = S.off-more _ _ _ _ (x .in-box) (c .before .before .before .cell-of .ensures) (c .before .before .if1 .left);
       sifted =
-          S.sifted-more _ (λ i. omega (arith, c .before .before .before .before .before .before .shared-slice-known .given i)) _ _ _ _ _ (x .sifted) (c .before .before .before .cell-of .ensures)
+          S.sifted-more _ (λ i. omega (arith, c .before .before .before .before .before .before .shared-slice-known .given i)) _ _ _ _ _ (x .sifted)
+          (c .before .before .before .cell-of .ensures)
           (c .before .before .if1 .left) (c .before .before .before .before .before .before .before .pre .0) _ (c .note .ensures);
     }
 

@@ -35,13 +35,19 @@ loop-less : tie.Need-loop-less Inv-loop μ-loop
 loop-less c = omega (arith, c .before .before .loop .inv .long)
 
 loop-again : tie.Need-loop-again Inv-loop μ-loop
-loop-again c = let A = c .before .before .before .args in parts.store-next (λ j. getD (A .words .now) j 0) (A .row .now) (c .before .before .loop .row) (c .before .before .loop .i) _ (c .before .before .loop .inv) (omega (arith, c .before .before .loop .inv .long, c .before .loop-test .taken)) refl
+loop-again c =
+    let A = c .before .before .before .args in
+    parts.store-next (λ j. getD (A .words .now) j 0) (A .row .now) (c .before .before .loop .row) (c .before .before .loop .i) _
+    (c .before .before .loop .inv) (omega (arith, c .before .before .loop .inv .long, c .before .loop-test .taken)) refl
 
 same-length : tie.Need-same-length Inv-loop μ-loop
 same-length c = c .before .loop .inv .long
 
 returns : tie.Need-returns Inv-loop μ-loop
-returns c = let A = c .before .before .args in parts.stored-list (A .row .now) (A .words .now) (c .before .loop .row) (c .before .loop .i) (c .before .loop .inv) (c .before .before .pre) (c .loop-test .left)
+returns c =
+    let A = c .before .before .args in
+    parts.stored-list (A .row .now) (A .words .now) (c .before .loop .row) (c .before .loop .i) (c .before .loop .inv) (c .before .before .pre)
+    (c .loop-test .left)
 
 pub copy-row-spec : {M : Type 1} → statement M
 copy-row-spec =

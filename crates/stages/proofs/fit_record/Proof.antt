@@ -5,7 +5,7 @@ use borrow.Author.Needs.{needs}
 use borrow.Author.Tests.{eq-eqb, ne-eqb}
 use lib.ListN.{getD}
 use Rattle.base.proofs.Tests.{and-false, and-no, and-left}
-use Rattle.plan.specs.Messages.{planOf}
+use Rattle.plan.specs.Shaped.{planOf}
 use Rattle.stages.proofs.Stages as stages
 use Rattle.stages.proofs.fit_record.Statement.{statement}
 use Rattle.stages.proofs.fit_record.Tie as tie
@@ -53,28 +53,71 @@ tile-count-requires : tie.Need-tile-count-requires
 tile-count-requires c κs = search needs
 
 tile-at-requires : tie.Need-tile-at-requires
-tile-at-requires c κs = (c .before .before .before .before .before .before .before .before .before .pre .0, omega (arith, c .before .before .tile-count .ensures .0, c .before .if1 .taken))
+tile-at-requires c κs =
+    let S = c .before .before .before .before .before .before .before .before .before in
+    (S .pre .0, (S .pre .1 .0, omega (arith, c .before .before .tile-count .ensures .0, c .before .if1 .taken)))
 
 count-at-requires : tie.Need-count-at-requires
 count-at-requires c κs = search needs
 
 returns : tie.Need-returns
-returns c = let A = c .before .before .before .before .before .before .before .before .before .before .before .args in stages.record-sends (planOf (A .sizes .route) (A .nest)) (A .progress .now) (A .processor) (c .before .before .before .before .before .before .before .before .word-index .result) (c .before .before .before .before .tile-count .result) (getD (A .progress .now) (3 * A .processor + 1) 0) (c .before .before .before .before .before .word-index2 .result) (c .before .before .before .before .before .before .before .before .word-index .ensures) (c .before .before .before .before .tile-count .ensures .0) refl (c .before .before .before .before .before .word-index2 .ensures) (c .before .tile-at .result) (c .count-at .result) (c .before .before .before .if1 .taken) (c .before .before .if2 .taken) (c .before .tile-at .ensures .0) (c .count-at .ensures .0)
+returns c =
+    let A = c .before .before .before .before .before .before .before .before .before .before .before .args in
+    stages.record-sends (planOf (A .sizes .route) (A .nest)) (A .progress .now) (A .processor)
+    (c .before .before .before .before .before .before .before .before .word-index .result) (c .before .before .before .before .tile-count .result)
+    (getD (A .progress .now) (3 * A .processor + 1) 0) (c .before .before .before .before .before .word-index2 .result)
+    (c .before .before .before .before .before .before .before .before .word-index .ensures) (c .before .before .before .before .tile-count .ensures .0)
+    refl (c .before .before .before .before .before .word-index2 .ensures) (c .before .tile-at .result) (c .count-at .result)
+    (c .before .before .before .if1 .taken) (c .before .before .if2 .taken) (c .before .tile-at .ensures .0) (c .count-at .ensures .0)
 
 returns-2 : tie.Need-returns-2
-returns-2 c = let A = c .before .before .before .before .before .before .before .before .before .before .args in stages.record-wrong (planOf (A .sizes .route) (A .nest)) (A .progress .now) (A .processor) (c .before .before .before .before .before .before .before .word-index .result) (c .before .before .before .tile-count .result) (getD (A .progress .now) (3 * A .processor + 1) 0) (c .before .before .before .before .word-index2 .result) (c .before .before .before .before .before .before .before .word-index .ensures) (c .before .before .before .tile-count .ensures .0) refl (c .before .before .before .before .word-index2 .ensures) (c .before .before .if1 .taken) (c .if3 .taken)
+returns-2 c =
+    let A = c .before .before .before .before .before .before .before .before .before .before .args in
+    stages.record-wrong (planOf (A .sizes .route) (A .nest)) (A .progress .now) (A .processor)
+    (c .before .before .before .before .before .before .before .word-index .result) (c .before .before .before .tile-count .result)
+    (getD (A .progress .now) (3 * A .processor + 1) 0) (c .before .before .before .before .word-index2 .result)
+    (c .before .before .before .before .before .before .before .word-index .ensures) (c .before .before .before .tile-count .ensures .0) refl
+    (c .before .before .before .before .word-index2 .ensures) (c .before .before .if1 .taken) (c .if3 .taken)
 
 returns-3 : tie.Need-returns-3
-returns-3 c = let A = c .before .before .before .before .before .before .before .before .before .before .args in stages.record-begins (planOf (A .sizes .route) (A .nest)) (A .progress .now) (A .processor) (c .before .before .before .before .before .before .before .word-index .result) (c .before .before .before .tile-count .result) (getD (A .progress .now) (3 * A .processor + 1) 0) (c .before .before .before .before .word-index2 .result) (c .before .before .before .before .before .before .before .word-index .ensures) (c .before .before .before .tile-count .ensures .0) refl (c .before .before .before .before .word-index2 .ensures) (c .before .before .if1 .taken) (c .before .if2 .left) (c .if3 .left)
+returns-3 c =
+    let A = c .before .before .before .before .before .before .before .before .before .before .args in
+    stages.record-begins (planOf (A .sizes .route) (A .nest)) (A .progress .now) (A .processor)
+    (c .before .before .before .before .before .before .before .word-index .result) (c .before .before .before .tile-count .result)
+    (getD (A .progress .now) (3 * A .processor + 1) 0) (c .before .before .before .before .word-index2 .result)
+    (c .before .before .before .before .before .before .before .word-index .ensures) (c .before .before .before .tile-count .ensures .0) refl
+    (c .before .before .before .before .word-index2 .ensures) (c .before .before .if1 .taken) (c .before .if2 .left) (c .if3 .left)
 
 returns-4 : tie.Need-returns-4
-returns-4 c = let A = c .before .before .before .before .before .before .before .before .before .args in sym (stages.record-over (planOf (A .sizes .route) (A .nest)) (A .progress .now) (A .processor) (c .before .before .before .before .before .before .word-index .result) (c .before .before .tile-count .result) (getD (A .progress .now) (3 * A .processor + 1) 0) (c .before .before .before .word-index2 .result) (c .before .before .before .before .before .before .word-index .ensures) (c .before .before .tile-count .ensures .0) refl (c .before .before .before .word-index2 .ensures) (c .before .if1 .left) ∙ and-false _ _ (ne-eqb _ _ (c .if4 .taken)))
+returns-4 c =
+    let A = c .before .before .before .before .before .before .before .before .before .args in
+    sym
+    (stages.record-over (planOf (A .sizes .route) (A .nest)) (A .progress .now) (A .processor)
+    (c .before .before .before .before .before .before .word-index .result) (c .before .before .tile-count .result)
+    (getD (A .progress .now) (3 * A .processor + 1) 0) (c .before .before .before .word-index2 .result)
+    (c .before .before .before .before .before .before .word-index .ensures) (c .before .before .tile-count .ensures .0) refl
+    (c .before .before .before .word-index2 .ensures) (c .before .if1 .left) ∙ and-false _ _ (ne-eqb _ _ (c .if4 .taken)))
 
 returns-5 : tie.Need-returns-5
-returns-5 c = let A = c .before .before .before .before .before .before .before .before .before .before .args in sym (stages.record-over (planOf (A .sizes .route) (A .nest)) (A .progress .now) (A .processor) (c .before .before .before .before .before .before .before .word-index .result) (c .before .before .before .tile-count .result) (getD (A .progress .now) (3 * A .processor + 1) 0) (c .before .before .before .before .word-index2 .result) (c .before .before .before .before .before .before .before .word-index .ensures) (c .before .before .before .tile-count .ensures .0) refl (c .before .before .before .before .word-index2 .ensures) (c .before .before .if1 .left) ∙ and-no _ _ (and-false _ _ (ne-eqb _ _ (c .if5 .taken))))
+returns-5 c =
+    let A = c .before .before .before .before .before .before .before .before .before .before .args in
+    sym
+    (stages.record-over (planOf (A .sizes .route) (A .nest)) (A .progress .now) (A .processor)
+    (c .before .before .before .before .before .before .before .word-index .result) (c .before .before .before .tile-count .result)
+    (getD (A .progress .now) (3 * A .processor + 1) 0) (c .before .before .before .before .word-index2 .result)
+    (c .before .before .before .before .before .before .before .word-index .ensures) (c .before .before .before .tile-count .ensures .0) refl
+    (c .before .before .before .before .word-index2 .ensures) (c .before .before .if1 .left) ∙ and-no _ _ (and-false _ _ (ne-eqb _ _ (c .if5 .taken))))
 
 returns-6 : tie.Need-returns-6
-returns-6 c = let A = c .before .before .before .before .before .before .before .before .before .before .args in sym (stages.record-over (planOf (A .sizes .route) (A .nest)) (A .progress .now) (A .processor) (c .before .before .before .before .before .before .before .word-index .result) (c .before .before .before .tile-count .result) (getD (A .progress .now) (3 * A .processor + 1) 0) (c .before .before .before .before .word-index2 .result) (c .before .before .before .before .before .before .before .word-index .ensures) (c .before .before .before .tile-count .ensures .0) refl (c .before .before .before .before .word-index2 .ensures) (c .before .before .if1 .left) ∙ and-left _ _ (eq-eqb _ _ (c .before .if4 .left)) ∙ and-left _ _ (eq-eqb _ _ (c .if5 .left)))
+returns-6 c =
+    let A = c .before .before .before .before .before .before .before .before .before .before .args in
+    sym
+    (stages.record-over (planOf (A .sizes .route) (A .nest)) (A .progress .now) (A .processor)
+    (c .before .before .before .before .before .before .before .word-index .result) (c .before .before .before .tile-count .result)
+    (getD (A .progress .now) (3 * A .processor + 1) 0) (c .before .before .before .before .word-index2 .result)
+    (c .before .before .before .before .before .before .before .word-index .ensures) (c .before .before .before .tile-count .ensures .0) refl
+    (c .before .before .before .before .word-index2 .ensures) (c .before .before .if1 .left) ∙ and-left _ _ (eq-eqb _ _ (c .before .if4 .left)) ∙ and-left
+    _ _ (eq-eqb _ _ (c .if5 .left)))
 
 pub fit-record-spec : {M : Type 1} → statement M
 fit-record-spec =

@@ -25,7 +25,10 @@ shared-slice-read-if1 : tie.Need-shared-slice-read-if1 Inv-loop μ-loop
 shared-slice-read-if1 c = omega arith
 
 returns : tie.Need-returns Inv-loop μ-loop
-returns c = let l = c .before .before .before .before .args .status .now in sym (every-not (λ i. leb (getD l i 0) 3) (length l) (c .before .before .before .loop .m) (c .before .before .loop-test .taken) (lt-leb _ _ (c .if1 .taken)))
+returns c =
+    let l = c .before .before .before .before .args .status .now in
+    sym
+    (every-not (λ i. leb (getD l i 0) 3) (length l) (c .before .before .before .loop .m) (c .before .before .loop-test .taken) (lt-leb _ _ (c .if1 .taken)))
 
 add-m : tie.Need-add-m Inv-loop μ-loop
 add-m c = omega arith
@@ -34,10 +37,16 @@ loop-less : tie.Need-loop-less Inv-loop μ-loop
 loop-less c = omega arith
 
 loop-again : tie.Need-loop-again Inv-loop μ-loop
-loop-again c = (omega (arith, c .before .before .loop-test .taken), parts.every-next (λ i. leb (getD (c .before .before .before .before .args .status .now) i 0) 3) (c .before .before .before .loop .m) (c .before .before .before .loop .inv .1) (le-leb _ _ (c .if1 .left)))
+loop-again c = (
+  omega (arith, c .before .before .loop-test .taken),
+  parts.every-next (λ i. leb (getD (c .before .before .before .before .args .status .now) i 0) 3)
+      (c .before .before .before .loop .m) (c .before .before .before .loop .inv .1) (le-leb _ _ (c .if1 .left)),
+)
 
 returns-2 : tie.Need-returns-2 Inv-loop μ-loop
-returns-2 c = let l = c .before .before .args .status .now in parts.every-done (λ i. leb (getD l i 0) 3) (c .before .loop .m) (length l) (c .before .loop .inv .0) (c .loop-test .left) (c .before .loop .inv .1)
+returns-2 c =
+    let l = c .before .before .args .status .now in
+    parts.every-done (λ i. leb (getD l i 0) 3) (c .before .loop .m) (length l) (c .before .loop .inv .0) (c .loop-test .left) (c .before .loop .inv .1)
 
 pub fit-status-spec : {M : Type 1} → statement M
 fit-status-spec =

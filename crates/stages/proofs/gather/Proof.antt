@@ -13,19 +13,36 @@ abbrev μ-loop : tie.MeasureT-loop
 μ-loop nest sizes lens memory₀ buffer status₀ tile n j₀ memory status j = n - j
 
 count-at-requires : tie.Need-count-at-requires Inv-loop μ-loop
-count-at-requires c κs = let S = c .before .before .before in (S .pre .0 .0, S .pre .0 .1)
+count-at-requires c κs = let S = c .before .before .before in S .pre .0
 
 loop-holds : tie.Need-loop-holds Inv-loop μ-loop
-loop-holds c = let A = c .before .before .before .before .args in parts.gather-start (A .sizes .route) (A .nest) (A .tile) (A .buffer .now) (A .memory .now) (A .status .now) (c .count-at .result) (c .count-at .ensures .0)
+loop-holds c =
+    let A = c .before .before .before .before .args in
+    parts.gather-start (A .sizes .route) (A .nest) (A .tile) (A .buffer .now) (A .memory .now) (A .status .now) (c .count-at .result)
+    (c .count-at .ensures .0)
 
 nth-at-requires : tie.Need-nth-at-requires Inv-loop μ-loop
-nth-at-requires c κs = let S = c .before .before .before .before .before .before in ((S .pre .0 .0, S .pre .0 .1), omega (arith, c .before .before .count-at .ensures .0, c .loop-test .taken))
+nth-at-requires c κs =
+    let S = c .before .before .before .before .before .before in
+    (S .pre .0, omega (arith, c .before .before .count-at .ensures .0, c .loop-test .taken))
 
 take-message-requires : tie.Need-take-message-requires Inv-loop μ-loop
-take-message-requires c κs = let S = c .before .before .before .before .before .before .before .before in let x = c .before .before .before .loop .inv in ((S .pre .0 .0, parts.placed-self (S .args .sizes .route) (S .args .nest) _ (c .before .nth-at .result) (c .before .nth-at .ensures)), (x .long ∙ S .pre .1 .0, S .pre .1 .1 .0))
+take-message-requires c κs =
+    let S = c .before .before .before .before .before .before .before .before in
+    let x = c .before .before .before .loop .inv in (
+      (
+        S .pre .0 .0,
+        (S .pre .0 .1 .0, parts.placed-self (S .args .sizes .route) (S .args .nest) _ (c .before .nth-at .result) (c .before .nth-at .ensures)),
+      ),
+      (x .long ∙ S .pre .1 .0, S .pre .1 .1 .0),
+    )
 
 slice-write-status : tie.Need-slice-write-status Inv-loop μ-loop
-slice-write-status c = let S = c .before .before .before .before .before .before .before .before .before .before .before in let x = c .before .before .before .before .before .before .loop .inv in omega (arith, c .before .before .before .before .nth-at .ensures .number, c .before .before .before .before .nth-at .ensures .low, x .longStatus, S .pre .1 .1 .1)
+slice-write-status c =
+    let S = c .before .before .before .before .before .before .before .before .before .before .before in
+    let x = c .before .before .before .before .before .before .loop .inv in
+    omega
+    (arith, c .before .before .before .before .nth-at .ensures .number, c .before .before .before .before .nth-at .ensures .low, x .longStatus, S .pre .1 .1 .1)
 
 add-j : tie.Need-add-j Inv-loop μ-loop
 add-j c = omega arith
@@ -34,7 +51,13 @@ loop-less : tie.Need-loop-less Inv-loop μ-loop
 loop-less c = omega arith
 
 loop-again : tie.Need-loop-again Inv-loop μ-loop
-loop-again c = let A = c .before .before .before .before .before .before .before .before .before .before .before .args in let L = c .before .before .before .before .before .before .loop in parts.gather-again (A .sizes .route) (A .nest) (A .tile) (A .buffer .now) (A .memory .now) (A .status .now) (c .before .before .before .before .before .before .before .count-at .result) (L .memory) (c .before .before .take-message .last .1 .1 .0) (L .status) (L .j) (c .before .before .before .before .nth-at .result) (L .inv) (c .before .before .before .before .before .loop-test .taken) (c .before .before .before .before .nth-at .ensures) (c .before .before .take-message .kept .1 .1 .0) (c .before .before .take-message .ensures)
+loop-again c =
+    let A = c .before .before .before .before .before .before .before .before .before .before .before .args in
+    let L = c .before .before .before .before .before .before .loop in
+    parts.gather-again (A .sizes .route) (A .nest) (A .tile) (A .buffer .now) (A .memory .now) (A .status .now)
+    (c .before .before .before .before .before .before .before .count-at .result) (L .memory) (c .before .before .take-message .last .1 .1 .1 .0)
+    (L .status) (L .j) (c .before .before .before .before .nth-at .result) (L .inv) (c .before .before .before .before .before .loop-test .taken)
+    (c .before .before .before .before .nth-at .ensures) (c .before .before .take-message .kept .1 .1 .1 .0) (c .before .before .take-message .ensures)
 
 same-length : tie.Need-same-length Inv-loop μ-loop
 same-length c = c .before .loop .inv .long
@@ -43,7 +66,11 @@ same-length-2 : tie.Need-same-length-2 Inv-loop μ-loop
 same-length-2 c = c .before .loop .inv .longStatus
 
 returns : tie.Need-returns Inv-loop μ-loop
-returns c = let A = c .before .before .before .before .before .before .args in let L = c .before .loop in parts.gather-done (A .sizes .route) (A .nest) (A .tile) (A .buffer .now) (A .memory .now) (A .status .now) (c .before .before .count-at .result) (L .memory) (L .status) (L .j) (L .inv) (c .loop-test .left)
+returns c =
+    let A = c .before .before .before .before .before .before .args in
+    let L = c .before .loop in
+    parts.gather-done (A .sizes .route) (A .nest) (A .tile) (A .buffer .now) (A .memory .now) (A .status .now) (c .before .before .count-at .result)
+    (L .memory) (L .status) (L .j) (L .inv) (c .loop-test .left)
 
 pub gather-spec : {M : Type 1} → statement M
 gather-spec =

@@ -11,13 +11,31 @@ use Rattle.stages.proofs.gather_stage.Statement.{statement}
 use Rattle.stages.proofs.gather_stage.Tie as tie
 
 mul-base : tie.Need-mul-base
-mul-base c = let S = c .before .before .before in omega (arith, parts.room (processors (S .args .nest)) (S .args .processor) (S .args .sizes .cells) (cells (S .args .nest)) _ (S .pre .0 .1 .1) (S .pre .0 .0 .cells) (S .pre .1 .0))
+mul-base c =
+    let S = c .before .before .before in
+    omega (
+      arith,
+      parts.room (processors (S .args .nest)) (S .args .processor) (S .args .sizes .cells) (cells (S .args .nest)) _ (S .pre .0 .1 .1 .0)
+          (S .pre .0 .0 .cells) (S .pre .1 .0),
+    )
 
 add-end : tie.Need-add-end
-add-end c = let S = c .before .before .before in omega (arith, parts.room (processors (S .args .nest)) (S .args .processor) (S .args .sizes .cells) (cells (S .args .nest)) _ (S .pre .0 .1 .1) (S .pre .0 .0 .cells) (S .pre .1 .0))
+add-end c =
+    let S = c .before .before .before in
+    omega (
+      arith,
+      parts.room (processors (S .args .nest)) (S .args .processor) (S .args .sizes .cells) (cells (S .args .nest)) _ (S .pre .0 .1 .1 .0)
+          (S .pre .0 .0 .cells) (S .pre .1 .0),
+    )
 
 mul-gather : tie.Need-mul-gather
-mul-gather c = let S = c .before .before .before in omega (arith, parts.room (processors (S .args .nest)) (S .args .processor) (S .args .sizes .cells) (cells (S .args .nest)) _ (S .pre .0 .1 .1) (S .pre .0 .0 .cells) (S .pre .1 .0))
+mul-gather c =
+    let S = c .before .before .before in
+    omega (
+      arith,
+      parts.room (processors (S .args .nest)) (S .args .processor) (S .args .sizes .cells) (cells (S .args .nest)) _ (S .pre .0 .1 .1 .0)
+          (S .pre .0 .0 .cells) (S .pre .1 .0),
+    )
 
 sub-gather : tie.Need-sub-gather
 sub-gather c = search needs
@@ -26,10 +44,23 @@ part-gather-start : tie.Need-part-gather-start
 part-gather-start c = search needs
 
 part-gather-end : tie.Need-part-gather-end
-part-gather-end c = let S = c .before .before .before in parts.room (processors (S .args .nest)) (S .args .processor) (S .args .sizes .cells) (cells (S .args .nest)) _ (S .pre .0 .1 .1) (S .pre .0 .0 .cells) (S .pre .1 .0)
+part-gather-end c =
+    let S = c .before .before .before in
+    parts.room (processors (S .args .nest)) (S .args .processor) (S .args .sizes .cells) (cells (S .args .nest)) _ (S .pre .0 .1 .1 .0)
+    (S .pre .0 .0 .cells) (S .pre .1 .0)
 
 gather-requires : tie.Need-gather-requires
-gather-requires c κs = let S = c .before .before .before .before .before in let A = S .args in ((S .pre .0 .0, S .pre .0 .1 .0), (parts.mid-length (A .memories .now) (A .processor * A .sizes .cells) (A .sizes .cells) (parts.room (processors (A .nest)) (A .processor) (A .sizes .cells) (cells (A .nest)) _ (S .pre .0 .1 .1) (S .pre .0 .0 .cells) (S .pre .1 .0)) ∙ S .pre .0 .0 .cells, (S .pre .1 .1 .0, S .pre .1 .1 .1)))
+gather-requires c κs =
+    let S = c .before .before .before .before .before in
+    let A = S .args in (
+      (S .pre .0 .0, (S .pre .0 .1 .0, S .pre .0 .1 .1 .1)),
+      (
+        parts.mid-length (A .memories .now) (A .processor * A .sizes .cells) (A .sizes .cells)
+            (parts.room (processors (A .nest)) (A .processor) (A .sizes .cells) (cells (A .nest)) _ (S .pre .0 .1 .1 .0) (S .pre .0 .0 .cells) (S .pre .1 .0)) ∙
+            S .pre .0 .0 .cells,
+        (S .pre .1 .1 .0, S .pre .1 .1 .1),
+      ),
+    )
 
 same-length : tie.Need-same-length
 same-length c = search needs
@@ -38,7 +69,15 @@ same-length-2 : tie.Need-same-length-2
 same-length-2 c = search needs
 
 returns : tie.Need-returns
-returns c = let S = c .before .before .before .before .before .before .before .before .before .before in let A = S .args in let G = c .before .before .before .before .gather in λ l f. stages.gathered (A .sizes .route) (A .nest) (stateOf (A .memories .now) (A .buffer .now) l (A .status .now)) (A .processor) (A .tile) (A .sizes .cells) (S .pre .0 .0 .cells) (G .last .1 .1 .1 .0) _ (G .last .1 .1 .1 .1 .1 .0) (parts.room (processors (A .nest)) (A .processor) (A .sizes .cells) (cells (A .nest)) _ (S .pre .0 .1 .1) (S .pre .0 .0 .cells) (S .pre .1 .0)) (G .kept .1 .1 .1 .0) (G .ensures .0) (G .ensures .1) (ap (λ (k : ℕ). setProgress l (A .processor) k 1 0) f)
+returns c =
+    let S = c .before .before .before .before .before .before .before .before .before .before in
+    let A = S .args in
+    let G = c .before .before .before .before .gather in
+    λ l f.
+    stages.gathered (A .sizes .route) (A .nest) (stateOf (A .memories .now) (A .buffer .now) l (A .status .now)) (A .processor) (A .tile) (A .sizes .cells)
+    (S .pre .0 .0 .cells) (G .last .1 .1 .1 .0) _ (G .last .1 .1 .1 .1 .1 .0)
+    (parts.room (processors (A .nest)) (A .processor) (A .sizes .cells) (cells (A .nest)) _ (S .pre .0 .1 .1 .0) (S .pre .0 .0 .cells) (S .pre .1 .0))
+    (G .kept .1 .1 .1 .0) (G .ensures .0) (G .ensures .1) (ap (λ (k : ℕ). setProgress l (A .processor) k 1 0) f)
 
 pub gather-stage-spec : {M : Type 1} → statement M
 gather-stage-spec =

@@ -20,13 +20,25 @@ part-pack-end : tie.Need-part-pack-end
 part-pack-end c = search needs
 
 pack-requires : tie.Need-pack-requires
-pack-requires c κs = let S = c .before .before .before .before in (S .pre .0 .0, (S .pre .0 .1 .slot, (S .pre .1 .0, parts.mid-words (S .args .sizes .route) (S .args .nest) (S .args .place .number) (S .args .place) (S .pre .0 .1) (S .args .buffer .now) (S .pre .1 .1))))
+pack-requires c κs =
+    let S = c .before .before .before .before in (
+      S .pre .0,
+      (
+        S .pre .1 .0,
+        parts.mid-words (S .args .sizes .route) (S .args .nest) (S .args .place .number) (S .args .place) (S .pre .0 .1 .1)
+            (S .args .buffer .now) (S .pre .1 .1),
+      ),
+    )
 
 same-length : tie.Need-same-length
 same-length c = search needs
 
 returns : tie.Need-returns
-returns c = let S = c .before .before .before .before .before .before .before in let A = S .args in parts.packed-is (A .sizes .route) (A .nest) (A .place .number) (A .place) (S .pre .0 .1) (A .memory .now) (A .buffer .now) (c .before .before .pack .last .1 .1 .1 .0) (S .pre .1 .1) (c .before .before .pack .kept .1 .1 .1 .0) (c .before .before .pack .ensures)
+returns c =
+    let S = c .before .before .before .before .before .before .before in
+    let A = S .args in
+    parts.packed-is (A .sizes .route) (A .nest) (A .place .number) (A .place) (S .pre .0 .1 .1) (A .memory .now) (A .buffer .now)
+    (c .before .before .pack .last .1 .1 .1 .1 .0) (S .pre .1 .1) (c .before .before .pack .kept .1 .1 .1 .1 .0) (c .before .before .pack .ensures)
 
 pub put-message-spec : {M : Type 1} → statement M
 put-message-spec =

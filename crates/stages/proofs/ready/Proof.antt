@@ -13,19 +13,25 @@ abbrev μ-loop : tie.MeasureT-loop
 μ-loop nest sizes lens status tile n j₀ j = n - j
 
 count-at-requires : tie.Need-count-at-requires Inv-loop μ-loop
-count-at-requires c κs = let S = c .before in (S .pre .0 .0, S .pre .0 .1)
+count-at-requires c κs = c .before .pre .0
 
 loop-holds : tie.Need-loop-holds Inv-loop μ-loop
 loop-holds c = record { low = omega arith; all = c .count-at .ensures .0; is = refl }
 
 nth-at-requires : tie.Need-nth-at-requires Inv-loop μ-loop
-nth-at-requires c κs = let S = c .before .before .before .before in ((S .pre .0 .0, S .pre .0 .1), omega (arith, c .before .before .count-at .ensures .0, c .loop-test .taken))
+nth-at-requires c κs = let S = c .before .before .before .before in (S .pre .0, omega (arith, c .before .before .count-at .ensures .0, c .loop-test .taken))
 
 shared-slice-read-if1 : tie.Need-shared-slice-read-if1 Inv-loop μ-loop
-shared-slice-read-if1 c = let S = c .before .before .before .before .before .before in omega (arith, c .before .nth-at .ensures .number, c .before .nth-at .ensures .low, S .pre .1)
+shared-slice-read-if1 c =
+    let S = c .before .before .before .before .before .before in
+    omega (arith, c .before .nth-at .ensures .number, c .before .nth-at .ensures .low, S .pre .1)
 
 returns : tie.Need-returns Inv-loop μ-loop
-returns c = let A = c .before .before .before .before .before .before .before .args in parts.look-no (A .sizes .route) (A .nest) (A .tile) (A .status .now) (c .before .before .before .before .before .count-at .result) (c .before .before .before .before .loop .j) (c .before .before .before .before .loop .inv) (c .before .before .nth-at .result) (c .before .before .before .loop-test .taken) (c .before .before .nth-at .ensures) (c .if1 .taken)
+returns c =
+    let A = c .before .before .before .before .before .before .before .args in
+    parts.look-no (A .sizes .route) (A .nest) (A .tile) (A .status .now) (c .before .before .before .before .before .count-at .result)
+    (c .before .before .before .before .loop .j) (c .before .before .before .before .loop .inv) (c .before .before .nth-at .result)
+    (c .before .before .before .loop-test .taken) (c .before .before .nth-at .ensures) (c .if1 .taken)
 
 add-j : tie.Need-add-j Inv-loop μ-loop
 add-j c = omega arith
@@ -34,10 +40,17 @@ loop-less : tie.Need-loop-less Inv-loop μ-loop
 loop-less c = omega arith
 
 loop-again : tie.Need-loop-again Inv-loop μ-loop
-loop-again c = let A = c .before .before .before .before .before .before .before .args in parts.look-again (A .sizes .route) (A .nest) (A .tile) (A .status .now) (c .before .before .before .before .before .count-at .result) (c .before .before .before .before .loop .j) (c .before .before .before .before .loop .inv) (c .before .before .nth-at .result) (c .before .before .before .loop-test .taken) (c .before .before .nth-at .ensures) (c .if1 .left)
+loop-again c =
+    let A = c .before .before .before .before .before .before .before .args in
+    parts.look-again (A .sizes .route) (A .nest) (A .tile) (A .status .now) (c .before .before .before .before .before .count-at .result)
+    (c .before .before .before .before .loop .j) (c .before .before .before .before .loop .inv) (c .before .before .nth-at .result)
+    (c .before .before .before .loop-test .taken) (c .before .before .nth-at .ensures) (c .if1 .left)
 
 returns-2 : tie.Need-returns-2 Inv-loop μ-loop
-returns-2 c = let A = c .before .before .before .before .args in parts.look-done (A .sizes .route) (A .nest) (A .tile) (A .status .now) (c .before .before .count-at .result) (c .before .loop .j) (c .before .loop .inv) (c .loop-test .left)
+returns-2 c =
+    let A = c .before .before .before .before .args in
+    parts.look-done (A .sizes .route) (A .nest) (A .tile) (A .status .now) (c .before .before .count-at .result) (c .before .loop .j) (c .before .loop .inv)
+    (c .loop-test .left)
 
 pub ready-spec : {M : Type 1} → statement M
 ready-spec =

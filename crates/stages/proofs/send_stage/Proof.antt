@@ -13,16 +13,34 @@ use Rattle.stages.proofs.send_stage.Statement.{statement}
 use Rattle.stages.proofs.send_stage.Tie as tie
 
 mul-base : tie.Need-mul-base
-mul-base c = let S = c .before .before .before in omega (arith, parts.room (processors (S .args .nest)) (S .args .processor) (S .args .sizes .cells) (cells (S .args .nest)) _ (S .pre .0 .1 .1) (S .pre .0 .0 .cells) (S .pre .1 .0 .0))
+mul-base c =
+    let S = c .before .before .before in
+    omega (
+      arith,
+      parts.room (processors (S .args .nest)) (S .args .processor) (S .args .sizes .cells) (cells (S .args .nest)) _ (S .pre .0 .1 .1 .0)
+          (S .pre .0 .0 .cells) (S .pre .1 .0 .0),
+    )
 
 add-end : tie.Need-add-end
-add-end c = let S = c .before .before .before in omega (arith, parts.room (processors (S .args .nest)) (S .args .processor) (S .args .sizes .cells) (cells (S .args .nest)) _ (S .pre .0 .1 .1) (S .pre .0 .0 .cells) (S .pre .1 .0 .0))
+add-end c =
+    let S = c .before .before .before in
+    omega (
+      arith,
+      parts.room (processors (S .args .nest)) (S .args .processor) (S .args .sizes .cells) (cells (S .args .nest)) _ (S .pre .0 .1 .1 .0)
+          (S .pre .0 .0 .cells) (S .pre .1 .0 .0),
+    )
 
 nth-at-requires : tie.Need-nth-at-requires
 nth-at-requires c κs = search needs
 
 mul-put-message : tie.Need-mul-put-message
-mul-put-message c = let S = c .before .before .before .before in omega (arith, parts.room (processors (S .args .nest)) (S .args .processor) (S .args .sizes .cells) (cells (S .args .nest)) _ (S .pre .0 .1 .1) (S .pre .0 .0 .cells) (S .pre .1 .0 .0))
+mul-put-message c =
+    let S = c .before .before .before .before in
+    omega (
+      arith,
+      parts.room (processors (S .args .nest)) (S .args .processor) (S .args .sizes .cells) (cells (S .args .nest)) _ (S .pre .0 .1 .1 .0)
+          (S .pre .0 .0 .cells) (S .pre .1 .0 .0),
+    )
 
 sub-put-message : tie.Need-sub-put-message
 sub-put-message c = search needs
@@ -31,10 +49,26 @@ part-put-message-start : tie.Need-part-put-message-start
 part-put-message-start c = search needs
 
 part-put-message-end : tie.Need-part-put-message-end
-part-put-message-end c = let S = c .before .before .before .before in parts.room (processors (S .args .nest)) (S .args .processor) (S .args .sizes .cells) (cells (S .args .nest)) _ (S .pre .0 .1 .1) (S .pre .0 .0 .cells) (S .pre .1 .0 .0)
+part-put-message-end c =
+    let S = c .before .before .before .before in
+    parts.room (processors (S .args .nest)) (S .args .processor) (S .args .sizes .cells) (cells (S .args .nest)) _ (S .pre .0 .1 .1 .0)
+    (S .pre .0 .0 .cells) (S .pre .1 .0 .0)
 
 put-message-requires : tie.Need-put-message-requires
-put-message-requires c κs = let S = c .before .before .before .before .before .before in let A = S .args in ((S .pre .0 .0, parts.placed-self (A .sizes .route) (A .nest) _ (c .before .before .nth-at .result) (c .before .before .nth-at .ensures)), (parts.mid-length (A .memories .now) (A .processor * A .sizes .cells) (A .sizes .cells) (parts.room (processors (A .nest)) (A .processor) (A .sizes .cells) (cells (A .nest)) _ (S .pre .0 .1 .1) (S .pre .0 .0 .cells) (S .pre .1 .0 .0)) ∙ S .pre .0 .0 .cells, S .pre .1 .0 .1 .0))
+put-message-requires c κs =
+    let S = c .before .before .before .before .before .before in
+    let A = S .args in (
+      (
+        S .pre .0 .0,
+        (S .pre .0 .1 .0, parts.placed-self (A .sizes .route) (A .nest) _ (c .before .before .nth-at .result) (c .before .before .nth-at .ensures)),
+      ),
+      (
+        parts.mid-length (A .memories .now) (A .processor * A .sizes .cells) (A .sizes .cells)
+            (parts.room (processors (A .nest)) (A .processor) (A .sizes .cells) (cells (A .nest)) _ (S .pre .0 .1 .1 .0) (S .pre .0 .0 .cells)
+            (S .pre .1 .0 .0)) ∙ S .pre .0 .0 .cells,
+        S .pre .1 .0 .1 .0,
+      ),
+    )
 
 slice-write-status : tie.Need-slice-write-status
 slice-write-status c = search needs
@@ -55,7 +89,17 @@ same-length-2 : tie.Need-same-length-2
 same-length-2 c = search needs
 
 returns : tie.Need-returns
-returns c = let S = c .before .before .before .before .before .before .before .before .before .before .before in let A = S .args in let n = c .before .count-at in λ l f g. stages.sent-is (A .sizes .route) (A .nest) (stateOf (A .memories .now) (A .buffer .now) l (A .status .now)) (A .processor) (A .tile) (A .sizes .cells) (S .pre .0 .0 .cells) (A .sent) (n .result) (c .before .before .before .before .before .before .before .nth-at .result) (c .before .before .before .before .put-message .last .1 .1 .1 .0) _ g (S .pre .1 .1 .1) (c .before .before .before .before .before .before .before .nth-at .ensures) (n .ensures .0) (c .before .before .before .before .put-message .ensures) (c .next-record .ensures l (A .processor) ∙ ap (λ (k : ℕ). pick (ltb (A .sent + 1) (n .result)) (setProgress l (A .processor) k 2 (A .sent + 1)) (setProgress l (A .processor) (k + 1) 0 0)) f)
+returns c =
+    let S = c .before .before .before .before .before .before .before .before .before .before .before in
+    let A = S .args in
+    let n = c .before .count-at in
+    λ l f g.
+    stages.sent-is (A .sizes .route) (A .nest) (stateOf (A .memories .now) (A .buffer .now) l (A .status .now)) (A .processor) (A .tile) (A .sizes .cells)
+    (S .pre .0 .0 .cells) (A .sent) (n .result) (c .before .before .before .before .before .before .before .nth-at .result)
+    (c .before .before .before .before .put-message .last .1 .1 .1 .1 .0) _ g (S .pre .1 .1 .1)
+    (c .before .before .before .before .before .before .before .nth-at .ensures) (n .ensures .0) (c .before .before .before .before .put-message .ensures)
+    (c .next-record .ensures l (A .processor) ∙ ap
+    (λ (k : ℕ). pick (ltb (A .sent + 1) (n .result)) (setProgress l (A .processor) k 2 (A .sent + 1)) (setProgress l (A .processor) (k + 1) 0 0)) f)
 
 pub send-stage-spec : {M : Type 1} → statement M
 send-stage-spec =

@@ -1,8 +1,11 @@
 -- `table::figures_of` meets its contract.
-use borrow.Author.Needs.{needs}
 use Rattle.table.proofs.Answers as L
+use borrow.Author.Needs.{needs}
 use Rattle.table.proofs.figures_of.Statement.{statement}
 use Rattle.table.proofs.figures_of.Tie as tie
+
+tiles-of-requires : tie.Need-tiles-of-requires
+tiles-of-requires c κs = search needs
 
 totals-requires : tie.Need-totals-requires
 totals-requires c κs = search needs
@@ -30,12 +33,23 @@ cast-t12 c = search needs
 
 returns : tie.Need-returns
 returns c =
-    let start = c .before .before .before .before in
-    L.figures-are (start .args .sizes .route) (start .args .nest) (start .args .sizes .tiles)
-    (c .before .before .before .totals .result .messages) (c .before .before .before .totals .result .words) (start .pre .0 .tiles)
-    (c .before .before .before .totals .ensures .0) (c .before .before .before .totals .ensures .1 .0)
+    let start = c .before .before .before .before .before in
+    let tiles-of = c .before .before .before .before .tiles-of in
+    let totals = c .before .before .before .totals in
+    L.figures-are (start .args .sizes .route) (start .args .nest) (tiles-of .result) (totals .result .messages) (totals .result .words)
+    (tiles-of .ensures .0) (totals .ensures .0) (totals .ensures .1 .0)
 
 pub figures-of-spec : {M : Type 1} → statement M
 figures-of-spec =
     tie.close
-    (tie.spec totals-requires cast-t6 cast-t7 cast-t8 mul-t9 mul-t10 add-t11 cast-t12 returns)
+    (tie.spec
+    tiles-of-requires
+    totals-requires
+    cast-t6
+    cast-t7
+    cast-t8
+    mul-t9
+    mul-t10
+    add-t11
+    cast-t12
+    returns)

@@ -1,10 +1,9 @@
 -- `table::hops` meets its contract.
-use mathlib.Core.Path.{sym, ap, _∙_}
+use mathlib.Core.Path.{sym, _∙_}
 use native.Mathlib.Omega.{arith}
-use borrow.Author.Needs.{needs}
-use Rattle.nest.proofs.Answers.{accepted-read}
-use Rattle.nest.specs.declared.Reading.{Reading}
+use Rattle.nest.proofs.Answers.{number-read, nest-read, accepted-read}
 use Rattle.table.proofs.Answers as L
+use borrow.Author.Needs.{needs}
 use Rattle.table.proofs.hops.Statement.{statement}
 use Rattle.table.proofs.hops.Tie as tie
 
@@ -18,16 +17,19 @@ returns : tie.Need-returns
 returns c =
     let read = c .before .before .read in
     c .no-hops .ensures
-    ∙ L.hops-refused _ (c .before .before .before .before .args .m) (read .result .number)
-    (ap (λ (x : Reading). x .number) (read .ensures .0)) (c .before .if1 .taken)
+    ∙ L.hops-refused _ (c .before .before .before .before .args .m) (read .result .number) (number-read _ _ (read .ensures .0))
+    (c .before .if1 .taken)
 
 sizes-of-requires : tie.Need-sizes-of-requires
 sizes-of-requires c κs =
     let read = c .before .before .read in
-    accepted-read _ _ (read .ensures .0) (c .before .if1 .left) (read .ensures .1 (c .before .if1 .left))
+    let if1 = c .before .if1 in
+    accepted-read _ _ (read .ensures .0) (if1 .left) (read .ensures .1 (if1 .left))
 
 fill-requires : tie.Need-fill-requires
-fill-requires c κs = search needs
+fill-requires c κs =
+    let sizes-of = c .before .sizes-of in
+    (sizes-of .ensures .0, ((λ h. sizes-of .ensures .1), search needs))
 
 totals-requires : tie.Need-totals-requires
 totals-requires c κs = search needs
@@ -38,30 +40,28 @@ no-hops-requires-2 c κs = search needs
 returns-2 : tie.Need-returns-2
 returns-2 c =
     let read = c .before .before .before .before .before .before .before .before .before .before .read in
-    let free = c .before .before .before .before .before .before .before .before .before .if1 .left in
-    let sizes = c .before .before .before .before .before .before .before .sizes-of in
+    let if1 = c .before .before .before .before .before .before .before .before .before .if1 in
+    let sizes-of = c .before .before .before .before .before .before .before .sizes-of in
     c .no-hops2 .ensures
     ∙ L.hops-none _ (c .before .before .before .before .before .before .before .before .before .before .before .before .args .m) (read .result .nest)
-    (sym (ap (λ (x : Reading). x .number) (read .ensures .0)) ∙ free) (L.nest-is _ (read .result) (read .ensures .0) free)
-    (sizes .result .route) (sizes .ensures .1)
-    (omega (arith, c .before .before .before .totals .ensures .0, c .before .if2 .taken))
+    (sym (number-read _ _ (read .ensures .0)) ∙ if1 .left) (nest-read _ _ (read .ensures .0) (if1 .left)) (sizes-of .result .route)
+    (sizes-of .ensures .1) (omega (arith, c .before .before .before .totals .ensures .0, c .before .if2 .taken))
 
 hops-at-requires : tie.Need-hops-at-requires
 hops-at-requires c κs =
-    let sizes = c .before .before .before .before .before .before .before .sizes-of in (
-      (sizes .ensures .0, (c .before .before .before .before .before .fill .ensures, sizes .ensures .1)),
+    let sizes-of = c .before .before .before .before .before .before .before .sizes-of in (
+      (sizes-of .ensures .0, (c .before .before .before .before .before .fill .ensures, sizes-of .ensures .1)),
       omega (arith, c .before .before .before .totals .ensures .0, c .before .if2 .left),
     )
 
 returns-3 : tie.Need-returns-3
 returns-3 c =
     let read = c .before .before .before .before .before .before .before .before .before .before .before .read in
-    let free = c .before .before .before .before .before .before .before .before .before .before .if1 .left in
-    let sizes = c .before .before .before .before .before .before .before .before .sizes-of in
+    let if1 = c .before .before .before .before .before .before .before .before .before .before .if1 in
+    let sizes-of = c .before .before .before .before .before .before .before .before .sizes-of in
     L.hops-is _ (c .before .before .before .before .before .before .before .before .before .before .before .before .before .args .m)
-    (read .result .nest)
-    (sym (ap (λ (x : Reading). x .number) (read .ensures .0)) ∙ free) (L.nest-is _ (read .result) (read .ensures .0) free)
-    (sizes .result .route) (sizes .ensures .1)
+    (read .result .nest) (sym (number-read _ _ (read .ensures .0)) ∙ if1 .left) (nest-read _ _ (read .ensures .0) (if1 .left))
+    (sizes-of .result .route) (sizes-of .ensures .1)
     (omega (arith, c .before .before .before .before .totals .ensures .0, c .before .before .if2 .left)) _ (c .hops-at .ensures)
 
 pub hops-spec : {M : Type 1} → statement M

@@ -1,36 +1,42 @@
 -- `table::message` meets its contract.
-use mathlib.Core.Path.{sym, ap, _∙_}
+use mathlib.Core.Path.{sym, _∙_}
 use native.Mathlib.Omega.{arith}
-use borrow.Author.Needs.{needs}
-use Rattle.nest.proofs.Answers.{accepted-read}
-use Rattle.nest.specs.declared.Reading.{Reading}
+use Rattle.routes.proofs.Laws.{accepted-for, routed-for}
 use Rattle.table.proofs.Answers as L
+use borrow.Author.Needs.{needs}
 use Rattle.table.proofs.message.Statement.{statement}
 use Rattle.table.proofs.message.Tie as tie
 
-read-requires : tie.Need-read-requires
-read-requires c κs = search needs
+read-for-requires : tie.Need-read-for-requires
+read-for-requires c κs = search needs
 
 no-line-requires : tie.Need-no-line-requires
 no-line-requires c κs = search needs
 
 returns : tie.Need-returns
 returns c =
-    let read = c .before .before .read in
+    let read-for = c .before .before .read-for in
     c .no-line .ensures
-    ∙ L.message-refused _ _ (c .before .before .before .before .args .m) (read .result .number)
-    (ap (λ (x : Reading). x .number) (read .ensures .0)) (c .before .if1 .taken)
+    ∙ L.message-refused _ _ (c .before .before .before .before .args .m) (read-for .result .number) (read-for .ensures .number)
+    (c .before .if1 .taken)
 
 route-of-requires : tie.Need-route-of-requires
 route-of-requires c κs = search needs
 
 sizes-of-requires : tie.Need-sizes-of-requires
-sizes-of-requires c κs =
-    let read = c .before .before .before .read in
-    accepted-read _ _ (read .ensures .0) (c .before .before .if1 .left) (read .ensures .1 (c .before .before .if1 .left))
+sizes-of-requires c κs = accepted-for _ _ _ (c .before .before .before .read-for .ensures) (c .before .before .if1 .left)
 
 fill-requires : tie.Need-fill-requires
-fill-requires c κs = search needs
+fill-requires c κs =
+    let read-for = c .before .before .before .before .before .read-for in
+    let if1 = c .before .before .before .before .if1 in
+    let sizes-of = c .before .sizes-of in (
+      sizes-of .ensures .0,
+      (
+        λ h. sizes-of .ensures .1 ∙ c .before .before .route-of .ensures ∙ routed-for _ _ _ (read-for .ensures) (if1 .left) h,
+        search needs,
+      ),
+    )
 
 totals-requires : tie.Need-totals-requires
 totals-requires c κs = search needs
@@ -40,40 +46,37 @@ no-line-requires-2 c κs = search needs
 
 returns-2 : tie.Need-returns-2
 returns-2 c =
-    let read = c .before .before .before .before .before .before .before .before .before .before .before .read in
-    let free = c .before .before .before .before .before .before .before .before .before .before .if1 .left in
-    let sizes = c .before .before .before .before .before .before .before .sizes-of in
+    let read-for = c .before .before .before .before .before .before .before .before .before .before .before .read-for in
+    let if1 = c .before .before .before .before .before .before .before .before .before .before .if1 in
+    let sizes-of = c .before .before .before .before .before .before .before .sizes-of in
     c .no-line2 .ensures
-    ∙ L.message-none _ _ (c .before .before .before .before .before .before .before .before .before .before .before .before .before .args .m) (read .result .nest)
-    (sym (ap (λ (x : Reading). x .number) (read .ensures .0)) ∙ free) (L.nest-is _ (read .result) (read .ensures .0) free)
-    (sizes .result .route) (sizes .ensures .1 ∙ c .before .before .before .before .before .before .before .before .route-of .ensures)
+    ∙ L.message-none _ _ (c .before .before .before .before .before .before .before .before .before .before .before .before .before .args .m)
+    (read-for .result .nest) (sym (read-for .ensures .number) ∙ if1 .left) (read-for .ensures .nest (if1 .left)) (sizes-of .result .route)
+    (sizes-of .ensures .1 ∙ c .before .before .before .before .before .before .before .before .route-of .ensures)
     (omega (arith, c .before .before .before .totals .ensures .0, c .before .if2 .taken))
 
 line-of-requires : tie.Need-line-of-requires
 line-of-requires c κs = (
-  (
-    c .before .before .before .before .before .before .before .sizes-of .ensures .0,
-    c .before .before .before .before .before .fill .ensures,
-  ),
+  (c .before .before .before .before .before .before .before .sizes-of .ensures .0, c .before .before .before .before .before .fill .ensures),
   omega (arith, c .before .before .before .totals .ensures .0, c .before .if2 .left),
 )
 
 returns-3 : tie.Need-returns-3
 returns-3 c =
-    let read = c .before .before .before .before .before .before .before .before .before .before .before .before .read in
-    let free = c .before .before .before .before .before .before .before .before .before .before .before .if1 .left in
-    let sizes = c .before .before .before .before .before .before .before .before .sizes-of in
+    let read-for = c .before .before .before .before .before .before .before .before .before .before .before .before .read-for in
+    let if1 = c .before .before .before .before .before .before .before .before .before .before .before .if1 in
+    let sizes-of = c .before .before .before .before .before .before .before .before .sizes-of in
     c .line-of .ensures
-    ∙ L.message-is _ _ (c .before .before .before .before .before .before .before .before .before .before .before .before .before .before .args .m) (read .result .nest)
-    (sym (ap (λ (x : Reading). x .number) (read .ensures .0)) ∙ free) (L.nest-is _ (read .result) (read .ensures .0) free)
-    (sizes .result .route) (sizes .ensures .1 ∙ c .before .before .before .before .before .before .before .before .before .route-of .ensures)
+    ∙ L.message-is _ _ (c .before .before .before .before .before .before .before .before .before .before .before .before .before .before .args .m)
+    (read-for .result .nest) (sym (read-for .ensures .number) ∙ if1 .left) (read-for .ensures .nest (if1 .left)) (sizes-of .result .route)
+    (sizes-of .ensures .1 ∙ c .before .before .before .before .before .before .before .before .before .route-of .ensures)
     (omega (arith, c .before .before .before .before .totals .ensures .0, c .before .before .if2 .left))
 
 pub message-spec : {M : Type 1} → statement M
 message-spec =
     tie.close
     (tie.spec
-    read-requires
+    read-for-requires
     no-line-requires
     returns
     route-of-requires

@@ -8,7 +8,7 @@ use mathlib.Core.Path.{_≡_, refl, sym, _∙_}
 use mathlib.Core.List.{List}
 use Rattle.nest.specs.Nest.{cells}
 use Rattle.plan.specs.declared.Route.the-variants.{Direct}
-use Rattle.plan.proofs.Sound.{sound}
+use Rattle.plan.proofs.Sound.{box-sound}
 use Rattle.layout.specs.Places.{Placed}
 use Rattle.layout.proofs.Cells.{four, zeros, lengths-countable}
 use Rattle.layout.proofs.CellRows.{fewer, rows-end}
@@ -124,7 +124,7 @@ loop-less c = search needs
 loop-again : tie.Need-loop-again Inv-loop μ-loop Inv-loop2 μ-loop2
 loop-again c =
     let q = c .before .before .before .before .before .before .before .before .before .before .before .before .before .before .before .before .before .before .before .before .before .before .before .before .before .before .before .before .before .before in
-    (omega (arith, c .before .before .before .before .before .before .before .before .before .before .before .before .loop-test .taken), (group-next (c .before .before .before .before .before .before .before .before .before .before .before .before .before .loop .g) (λ (a : ℕ). Sweeping (q .args .nest) (q .args .source .now) (q .args .grid .now) (c .before .before .before .four-rows .last .1 .1 .0) (a * getD (q .args .nest .lengths) (q .args .nest .dimensions - 1) 0)) (sweeping-fours _ (q .pre .0 .accepted) _ _ (c .before .before .before .before .before .before .before .before .before .before .before .before .before .before .before .before .before .before .before .before .before .product .ensures) refl _ (fours-in _ _ _ (c .before .before .before .before .before .before .before .before .before .before .before .before .before .before .by-fours .ensures) (c .before .before .before .before .before .before .before .before .before .before .before .before .loop-test .taken)) _ _ _ _ (q .pre .1 .1) (c .before .before .before .before .before .before .before .before .before .before .before .before .before .loop .inv .1 .0) (sound Direct _ (q .pre .0 .accepted)) (c .before .before .before .four-rows .ensures)), group-placed _ _ _ (c .before .before .before .before .before .before .before .before .before .before .before .before .before .loop .g) _ (c .next-place4 .ensures .next _ (c .before .before .before .before .before .before .before .before .before .next-place3 .ensures .next _ (c .before .before .before .before .before .before .before .before .before .before .next-place2 .ensures .next _ (c .before .before .before .before .before .before .before .before .before .before .before .next-place .ensures .next _ (c .before .before .before .before .before .before .before .before .before .before .before .before .before .loop .inv .1 .1)))))))
+    (omega (arith, c .before .before .before .before .before .before .before .before .before .before .before .before .loop-test .taken), (group-next (c .before .before .before .before .before .before .before .before .before .before .before .before .before .loop .g) (λ (a : ℕ). Sweeping (q .args .nest) (q .args .source .now) (q .args .grid .now) (c .before .before .before .four-rows .last .1 .1 .0) (a * getD (q .args .nest .lengths) (q .args .nest .dimensions - 1) 0)) (sweeping-fours _ (q .pre .0 .accepted) _ _ (c .before .before .before .before .before .before .before .before .before .before .before .before .before .before .before .before .before .before .before .before .before .product .ensures) refl _ (fours-in _ _ _ (c .before .before .before .before .before .before .before .before .before .before .before .before .before .before .by-fours .ensures) (c .before .before .before .before .before .before .before .before .before .before .before .before .loop-test .taken)) _ _ _ _ (q .pre .1 .1) (c .before .before .before .before .before .before .before .before .before .before .before .before .before .loop .inv .1 .0) (box-sound Direct _ (q .pre .0 .accepted)) (c .before .before .before .four-rows .ensures)), group-placed _ _ _ (c .before .before .before .before .before .before .before .before .before .before .before .before .before .loop .g) _ (c .next-place4 .ensures .next _ (c .before .before .before .before .before .before .before .before .before .next-place3 .ensures .next _ (c .before .before .before .before .before .before .before .before .before .before .next-place2 .ensures .next _ (c .before .before .before .before .before .before .before .before .before .before .before .next-place .ensures .next _ (c .before .before .before .before .before .before .before .before .before .before .before .before .before .loop .inv .1 .1)))))))
 
 mul-r : tie.Need-mul-r Inv-loop μ-loop Inv-loop2 μ-loop2
 mul-r c = omega (arith, c .before .before .by-fours .ensures, sweep-few _ (c .before .before .before .before .before .before .before .before .before .before .before .before .before .before .before .before .before .before .pre .0 .accepted) _ (c .before .before .before .before .before .before .before .before .before .product .ensures))
@@ -156,7 +156,7 @@ loop2-less c = search needs
 loop2-again : tie.Need-loop2-again Inv-loop μ-loop Inv-loop2 μ-loop2
 loop2-again c =
     let q = c .before .before .before .before .before .before .before .before .before .before .before .before .before .before .before .before .before .before .before .before .before .before .before .before .before .before .before .before .before in
-    ((λ m l s. sweeping-turn _ (q .pre .0 .accepted) _ _ _ (c .before .before .before .before .before .before .before .before .before .before .before .before .before .before .before .before .before .before .before .before .product .ensures) refl _ m _ _ l (c .before .before .before .before .before .before .before .before .before .before .loop2 .inv .0 m l s) (c .before .before .before .before .before .before .before .before .before .loop2-test .taken) (sound Direct _ (q .pre .0 .accepted)) (c .before .before .before .row .ensures)), c .next-place5 .ensures .next _ (c .before .before .before .before .before .before .before .before .before .before .loop2 .inv .1))
+    ((λ m l s. sweeping-turn _ (q .pre .0 .accepted) _ _ _ (c .before .before .before .before .before .before .before .before .before .before .before .before .before .before .before .before .before .before .before .before .product .ensures) refl _ m _ _ l (c .before .before .before .before .before .before .before .before .before .before .loop2 .inv .0 m l s) (c .before .before .before .before .before .before .before .before .before .loop2-test .taken) (box-sound Direct _ (q .pre .0 .accepted)) (c .before .before .before .row .ensures)), c .next-place5 .ensures .next _ (c .before .before .before .before .before .before .before .before .before .before .loop2 .inv .1))
 
 same-length : tie.Need-same-length Inv-loop μ-loop Inv-loop2 μ-loop2
 same-length c =

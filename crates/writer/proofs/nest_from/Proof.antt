@@ -7,22 +7,56 @@ use Rattle.writer.proofs.nest_from.Statement.{statement}
 use Rattle.writer.proofs.nest_from.Tie as tie
 
 table-4-requires : tie.Need-table-4-requires
-table-4-requires c κs = omega (arith, F.agreed _ (c .before .before .before .before .before .pre) .dimensions, F.agreed _ (c .before .before .before .before .before .pre) .counts)
+table-4-requires c κs =
+    let P = c .before .before .before .before .before .before .before .before .before .before .pre in
+    omega (arith, F.agreed _ P .dimensions, F.agreed _ P .counts)
 
 spread-of-requires : tie.Need-spread-of-requires
-spread-of-requires c κs = F.agreed _ (c .before .before .before .before .before .before .pre) .dimensions
+spread-of-requires c κs = F.agreed _ (c .before .before .before .before .before .before .before .before .before .before .before .pre) .dimensions
 
 table-4-requires-2 : tie.Need-table-4-requires-2
-table-4-requires-2 c κs = F.agreed _ (c .before .before .before .before .before .before .before .pre) .dimensions
+table-4-requires-2 c κs = F.agreed _ (c .before .before .before .before .before .before .before .before .before .before .before .before .pre) .dimensions
 
 table-4-requires-3 : tie.Need-table-4-requires-3
-table-4-requires-3 c κs = omega (arith, F.agreed _ (c .before .before .before .before .before .before .before .before .pre) .dimensions, F.agreed _ (c .before .before .before .before .before .before .before .before .pre) .tiling)
+table-4-requires-3 c κs =
+    let P = c .before .before .before .before .before .before .before .before .before .before .before .before .before .pre in
+    omega (arith, F.agreed _ P .dimensions, F.agreed _ P .tiling)
 
 table-32-requires : tie.Need-table-32-requires
-table-32-requires c κs = omega (arith, F.agreed _ (c .before .before .before .before .before .before .before .before .before .pre) .distances, F.agreed _ (c .before .before .before .before .before .before .before .before .before .pre) .components)
+table-32-requires c κs =
+    let P = c .before .before .before .before .before .before .before .before .before .before .before .before .before .before .pre in
+    omega (arith, F.agreed _ P .distances, F.agreed _ P .components)
 
 table-8-requires : tie.Need-table-8-requires
-table-8-requires c κs = F.agreed _ (c .before .before .before .before .before .before .before .before .before .before .pre) .distances
+table-8-requires c κs = F.agreed _ (c .before .before .before .before .before .before .before .before .before .before .before .before .before .before
+    .before .pre) .distances
+
+table-of-bytes-requires : tie.Need-table-of-bytes-requires
+table-of-bytes-requires c κs = F.agreed _ (c .before .before .before .before .before .before .before .before .before .before .before .before .before
+    .before .before .before .pre) .sides
+
+table-of-bytes-requires-2 : tie.Need-table-of-bytes-requires-2
+table-of-bytes-requires-2 c κs =
+    let P = c .before .before .before .before .before .before .before .before .before .before .before .before .before .before .before .before .before .pre in
+    omega (arith, F.agreed _ P .sides, F.agreed _ P .bounded)
+
+table-of-bytes-requires-3 : tie.Need-table-of-bytes-requires-3
+table-of-bytes-requires-3 c κs =
+    let P = c .before .before .before .before .before .before .before .before .before .before .before .before .before .before .before .before .before
+    .before .pre in
+    omega (arith, F.agreed _ P .sides, F.agreed _ P .earlier)
+
+slopes-from-requires : tie.Need-slopes-from-requires
+slopes-from-requires c κs =
+    let P = c .before .before .before .before .before .before .before .before .before .before .before .before .before .before .before .before .before
+    .before .before .pre in
+    omega (arith, F.agreed _ P .sides, F.agreed _ P .slopes)
+
+offsets-from-requires : tie.Need-offsets-from-requires
+offsets-from-requires c κs =
+    let P = c .before .before .before .before .before .before .before .before .before .before .before .before .before .before .before .before .before
+    .before .before .before .pre in
+    omega (arith, F.agreed _ P .sides, F.agreed _ P .offsets)
 
 byte-index-requires : tie.Need-byte-index-requires
 byte-index-requires c κs = search needs
@@ -34,7 +68,23 @@ word-wide-requires : tie.Need-word-wide-requires
 word-wide-requires c κs = search needs
 
 returns : tie.Need-returns
-returns c = F.from-made (c .before .before .before .before .before .before .before .before .before .before .before .before .before .before .args .lengths .now) (c .before .before .before .before .before .before .before .before .before .before .before .before .before .before .args .tiling .now) (c .before .before .before .before .before .before .before .before .before .before .before .before .before .before .args .counts .now) (c .before .before .before .before .before .before .before .before .before .before .before .before .before .before .args .components .now) (c .before .before .before .before .before .before .before .before .before .before .before .before .before .before .args .weights .now) (c .before .before .before .before .before .before .before .before .before .before .before .before .before .before .args .shift) (c .before .before .before .before .before .before .before .before .before .before .before .before .before .before .args .boundary) (c .before .before .before .before .before .before .before .before .before .before .before .before .before .before .pre) _ _ _ _ _ _ _ _ (c .before .before .before .before .before .before .before .before .table-4 .ensures) (c .before .before .before .before .before .before .before .spread-of .ensures) (c .before .before .before .before .before .before .table-42 .ensures) (c .before .before .before .before .before .table-43 .ensures) (c .before .before .before .before .table-32 .ensures) (c .before .before .before .table-8 .ensures) (c .before .wide .ensures ∙ c .before .before .byte-index .ensures) (c .word-wide .ensures)
+returns c =
+    let A = c .before .before .before .before .before .before .before .before .before .before .before .before .before .before .before .before .before
+    .before .before .before .before .before .before .before .args in
+    F.from-made (A .lengths .now) (A .tiling .now) (A .counts .now) (A .components .now) (A .weights .now) (A .sides .now) (A .bounded .now)
+    (A .earlier .now) (A .slopes .now) (A .offsets .now) (A .shift) (A .boundary)
+    (c .before .before .before .before .before .before .before .before .before .before .before .before .before .before .before .before .before .before
+    .before .before .before .before .before .before .pre) _ _ _ _ _ _ _ _ _ _ _ _ _
+    (c .before .before .before .before .before .before .before .before .before .before .before .before .before .table-4 .ensures)
+    (c .before .before .before .before .before .before .before .before .before .before .before .before .spread-of .ensures)
+    (c .before .before .before .before .before .before .before .before .before .before .before .table-42 .ensures)
+    (c .before .before .before .before .before .before .before .before .before .before .table-43 .ensures)
+    (c .before .before .before .before .before .before .before .before .before .table-32 .ensures)
+    (c .before .before .before .before .before .before .before .before .table-8 .ensures)
+    (c .before .before .before .before .before .before .before .table-of-bytes .ensures)
+    (c .before .before .before .before .before .before .table-of-bytes2 .ensures)
+    (c .before .before .before .before .before .table-of-bytes3 .ensures) (c .before .before .before .before .slopes-from .ensures)
+    (c .before .before .before .offsets-from .ensures) (c .before .wide .ensures ∙ c .before .before .byte-index .ensures) (c .word-wide .ensures)
 
 pub nest-from-spec : {M : Type 1} → statement M
 nest-from-spec =
@@ -46,6 +96,11 @@ nest-from-spec =
     table-4-requires-3
     table-32-requires
     table-8-requires
+    table-of-bytes-requires
+    table-of-bytes-requires-2
+    table-of-bytes-requires-3
+    slopes-from-requires
+    offsets-from-requires
     byte-index-requires
     wide-requires
     word-wide-requires

@@ -1,27 +1,43 @@
 -- `writer::record_of` meets its contract: one law for each kind of record.
 use Rattle.writer.proofs.Records as L
 use mathlib.Core.Path.{refl}
+use native.Mathlib.Omega.{arith}
 use borrow.Author.Needs.{needs}
 use Rattle.writer.proofs.record_of.Statement.{statement}
 use Rattle.writer.proofs.record_of.Tie as tie
 
 dimension-of-requires : tie.Need-dimension-of-requires
-dimension-of-requires c κs = search needs
+dimension-of-requires c κs = omega (arith, c .if1 .taken, c .before .before .pre .0 .0)
 
 returns : tie.Need-returns
 returns c = L.dimension-row (c .before .before .before .args .nest) (c .before .before .before .args .r) _ (c .before .if1 .taken) (c .dimension-of .ensures)
 
-distance-of-requires : tie.Need-distance-of-requires
-distance-of-requires c κs = search needs
+bound-of-requires : tie.Need-bound-of-requires
+bound-of-requires c κs = omega (arith, c .if2 .taken, c .before .before .before .before .before .pre .0 .1)
 
 returns-2 : tie.Need-returns-2
-returns-2 c = L.distance-row (c .before .before .before .before .before .before .args .nest) (c .before .before .before .before .before .before .args .r) _ _ (c .before .before .before .before .if1 .left) refl (c .before .if2 .taken) (c .distance-of .ensures)
+returns-2 c =
+    let A = c .before .before .before .before .before .before .args in
+    L.bound-row (A .nest) (A .r) _ _ (c .before .before .before .before .if1 .left) refl (c .before .if2 .taken) (c .bound-of .ensures)
+
+distance-of-requires : tie.Need-distance-of-requires
+distance-of-requires c κs = omega (arith, c .if3 .taken, c .before .before .before .before .before .before .before .before .pre .1 .0)
+
+returns-3 : tie.Need-returns-3
+returns-3 c =
+    let A = c .before .before .before .before .before .before .before .before .before .args in
+    L.distance-row (A .nest) (A .r) _ _ (c .before .before .before .before .before .before .before .if1 .left)
+    (c .before .before .before .before .if2 .left) refl (c .before .if3 .taken) (c .distance-of .ensures)
 
 close-record-requires : tie.Need-close-record-requires
 close-record-requires c κs = search needs
 
-returns-3 : tie.Need-returns-3
-returns-3 c = L.close-row (c .before .before .before .before .before .before .args .nest) (c .before .before .before .before .before .before .args .r) _ (c .before .before .before .before .if1 .left) (c .before .before .before .before .before .before .pre .1 .1) (c .before .if2 .left) (c .close-record .ensures)
+returns-4 : tie.Need-returns-4
+returns-4 c =
+    let A = c .before .before .before .before .before .before .before .before .before .args in
+    L.close-row (A .nest) (A .r) _ (c .before .before .before .before .before .before .before .if1 .left)
+    (c .before .before .before .before .if2 .left) (c .before .before .before .before .before .before .before .before .before .pre .1 .1)
+    (c .before .if3 .left) (c .close-record .ensures)
 
 pub record-of-spec : {M : Type 1} → statement M
 record-of-spec =
@@ -29,7 +45,9 @@ record-of-spec =
     (tie.spec
     dimension-of-requires
     returns
-    distance-of-requires
+    bound-of-requires
     returns-2
+    distance-of-requires
+    returns-3
     close-record-requires
-    returns-3)
+    returns-4)

@@ -3,7 +3,7 @@ use borrow.Author.Needs.{needs}
 use Prim.Native.Nat.{ℕ, _≤_, _-_}
 use mathlib.Core.Path.{_≡_, _∙_}
 use lib.ListN.{getD}
-use Rattle.nest.specs.Nest.{filled}
+use Rattle.nest.specs.Reader.{filled}
 use Rattle.nest.proofs.Laws as N
 use native.Mathlib.Omega.{arith}
 use Rattle.writer.proofs.table_8.Statement.{statement}
@@ -43,7 +43,11 @@ loop-less : tie.Need-loop-less Inv-loop μ-loop
 loop-less c = search needs
 
 loop-again : tie.Need-loop-again Inv-loop μ-loop
-loop-again c = (omega arith, N.filled-next 8 _ _ _ _ (c .before .before .before .before .loop .inv .1) (omega arith) (c .wide .ensures ∙ c .before .half-index .ensures))
+loop-again c = (
+  omega arith,
+  N.filled-next 8 _ _ _ _ (c .before .before .before .before .loop .inv .1) (omega arith)
+      (c .wide .ensures ∙ c .before .half-index .ensures),
+)
 
 returns : tie.Need-returns Inv-loop μ-loop
 returns c = N.filled-end 8 _ _ (c .before .loop .i) _ (c .before .loop .inv .0) (c .loop-test .left) (c .before .loop .inv .1)

@@ -1,32 +1,38 @@
 -- Each return is the call by the line that counts.
 use mathlib.Core.Path.{refl, _∙_}
-use Rattle.nest.proofs.Answers.{accepted-read}
+use Rattle.routes.proofs.Laws.{accepted-for}
 use Rattle.machine.specs.Machine.{stateOf}
-use Rattle.plan.specs.Messages.{planOf}
+use Rattle.plan.specs.Shaped.{planOf}
 use Rattle.engine.proofs.Lines as lines
 use borrow.Author.Needs.{needs}
 use Rattle.engine.proofs.core.deliver.Statement.{statement}
 use Rattle.engine.proofs.core.deliver.Tie as tie
 
-read-requires : tie.Need-read-requires
-read-requires c κs = search needs
+read-for-requires : tie.Need-read-for-requires
+read-for-requires c κs = search needs
 
 returns : tie.Need-returns
-returns c = let A = c .before .before .before .before .before .before .before .args in λ l h. lines.deliver-read (A .encoded .now) (A .route) (A .source .now) (stateOf (A .memories .now) (A .buffer .now) l (A .status .now)) (A .message) (c .before .read .result .number) (lines.read-number (A .encoded .now) (c .before .read .result) (c .before .read .ensures .0)) (c .if1 .taken)
+returns c =
+    let A = c .before .before .before .before .before .before .before .args in
+    λ l h. lines.deliver-read (A .encoded .now) (A .route) (A .source .now) (stateOf (A .memories .now) (A .buffer .now) l (A .status .now)) (A .message)
+    (c .before .read-for .result .number) (c .before .read-for .ensures .number) (c .if1 .taken)
 
 route-of-requires : tie.Need-route-of-requires
 route-of-requires c κs = search needs
 
 sizes-of-requires : tie.Need-sizes-of-requires
 sizes-of-requires c κs =
-    let read = c .before .before .before .read in
+    let read = c .before .before .before .read-for in
     let if1 = c .before .before .if1 in
-    accepted-read _ _ (read .ensures .0) (if1 .left) (read .ensures .1 (if1 .left))
+    accepted-for _ _ _ (read .ensures) (if1 .left)
 
 fill-requires : tie.Need-fill-requires
 fill-requires c κs =
+    let read = c .before .before .before .before .before .read-for in
+    let if1 = c .before .before .before .before .if1 in
+    let route-of = c .before .before .route-of in
     let sizes-of = c .before .sizes-of in
-    (sizes-of .ensures .0, refl)
+    (sizes-of .ensures .0, (lines.routed _ (read .result) (read .ensures) (if1 .left) (sizes-of .ensures .1 ∙ route-of .ensures), refl))
 
 unfit-requires : tie.Need-unfit-requires
 unfit-requires c κs = search needs
@@ -36,7 +42,7 @@ same-length c = search needs
 
 returns-2 : tie.Need-returns-2
 returns-2 c =
-    let read = c .before .before .before .before .before .before .before .before .before .before .read in
+    let read = c .before .before .before .before .before .before .before .before .before .before .read-for in
     let if1 = c .before .before .before .before .before .before .before .before .before .if1 in
     let route-of = c .before .before .before .before .before .before .before .route-of in
     let sizes-of = c .before .before .before .before .before .before .sizes-of in
@@ -44,7 +50,9 @@ returns-2 c =
     let unfit = c .before .unfit in
     let A = c .before .before .before .before .before .before .before .before .before .before .before .before .before .before .before .before .args in
     let p = planOf (sizes-of .result .route) (read .result .nest) in
-    λ l h. lines.deliver-unfit (A .encoded .now) (A .route) (A .source .now) (stateOf (A .memories .now) (A .buffer .now) l (A .status .now)) (A .message) p (lines.opened (A .encoded .now) (read .result) (read .ensures .0) (if1 .left) (sizes-of .ensures .1 ∙ route-of .ensures)) (unfit .result) (unfit .ensures .0 l h) (if2 .taken)
+    λ l h. lines.deliver-unfit (A .encoded .now) (A .route) (A .source .now) (stateOf (A .memories .now) (A .buffer .now) l (A .status .now)) (A .message)
+    p (lines.opened (A .encoded .now) (read .result) (read .ensures) (if1 .left) (sizes-of .ensures .1 ∙ route-of .ensures)) (unfit .result)
+    (unfit .ensures .0 l h) (if2 .taken)
 
 hand-over-requires : tie.Need-hand-over-requires
 hand-over-requires c κs = search needs
@@ -54,22 +62,25 @@ same-length-2 c = search needs
 
 returns-3 : tie.Need-returns-3
 returns-3 c =
-    let read = c .before .before .before .before .before .before .before .before .before .before .before .before .before .before .read in
+    let read = c .before .before .before .before .before .before .before .before .before .before .before .before .before .before .read-for in
     let if1 = c .before .before .before .before .before .before .before .before .before .before .before .before .before .if1 in
     let route-of = c .before .before .before .before .before .before .before .before .before .before .before .route-of in
     let sizes-of = c .before .before .before .before .before .before .before .before .before .before .sizes-of in
     let if2 = c .before .before .before .before .if2 in
     let unfit = c .before .before .before .before .before .unfit in
     let hand-over = c .before .before .hand-over in
-    let A = c .before .before .before .before .before .before .before .before .before .before .before .before .before .before .before .before .before .before .before .before .args in
+    let A = c .before .before .before .before .before .before .before .before .before .before .before .before .before .before .before .before .before
+    .before .before .before .args in
     let p = planOf (sizes-of .result .route) (read .result .nest) in
-    λ l h. lines.deliver-over (A .encoded .now) (A .route) (A .source .now) (stateOf (A .memories .now) (A .buffer .now) l (A .status .now)) (A .message) p (lines.opened (A .encoded .now) (read .result) (read .ensures .0) (if1 .left) (sizes-of .ensures .1 ∙ route-of .ensures)) (unfit .result) (unfit .ensures .0 l h) (if2 .left) (hand-over .result) (hand-over .last .0) (hand-over .ensures)
+    λ l h. lines.deliver-over (A .encoded .now) (A .route) (A .source .now) (stateOf (A .memories .now) (A .buffer .now) l (A .status .now)) (A .message) p
+    (lines.opened (A .encoded .now) (read .result) (read .ensures) (if1 .left) (sizes-of .ensures .1 ∙ route-of .ensures)) (unfit .result)
+    (unfit .ensures .0 l h) (if2 .left) (hand-over .result) (hand-over .last .0) (hand-over .ensures)
 
 pub deliver-spec : {M : Type 1} → statement M
 deliver-spec =
     tie.close
     (tie.spec
-    read-requires
+    read-for-requires
     returns
     route-of-requires
     sizes-of-requires

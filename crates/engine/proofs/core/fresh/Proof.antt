@@ -4,9 +4,9 @@ use mathlib.Core.Path.{refl, sym, ap, _∙_}
 use mathlib.Core.List.{List}
 use native.Mathlib.Omega.{arith}
 use borrow.Author.Tests.{not-true, not-false}
-use Rattle.nest.proofs.Answers.{accepted-read}
+use Rattle.routes.proofs.Laws.{accepted-for}
 use Rattle.machine.specs.Machine.{stateOf}
-use Rattle.plan.specs.Messages.{planOf}
+use Rattle.plan.specs.Shaped.{planOf}
 use Rattle.engine.specs.Calls.{answer}
 use Rattle.engine.proofs.Lines as lines
 use Rattle.engine.proofs.Reading as reading
@@ -14,25 +14,33 @@ use borrow.Author.Needs.{needs}
 use Rattle.engine.proofs.core.fresh.Statement.{statement}
 use Rattle.engine.proofs.core.fresh.Tie as tie
 
-read-requires : tie.Need-read-requires
-read-requires c κs = search needs
+read-for-requires : tie.Need-read-for-requires
+read-for-requires c κs = search needs
 
 returns : tie.Need-returns
-returns c = let A = c .before .before .before .before .before .before .before .args in λ l h. ap (λ (k : List ℕ). answer (c .before .read .result .number) (stateOf (A .memories .now) (A .buffer .now) k (A .status .now))) (sym (reading.zeros-after-no l _ (c .if1 .taken))) ∙ lines.fresh-read (A .encoded .now) (A .route) (A .source .now) (stateOf (A .memories .now) (A .buffer .now) l (A .status .now)) (c .before .read .result .number) (lines.read-number (A .encoded .now) (c .before .read .result) (c .before .read .ensures .0)) (c .if1 .taken)
+returns c =
+    let A = c .before .before .before .before .before .before .before .args in
+    λ l h. ap (λ (k : List ℕ). answer (c .before .read-for .result .number) (stateOf (A .memories .now) (A .buffer .now) k (A .status .now)))
+    (sym (reading.zeros-after-no l _ (c .if1 .taken))) ∙ lines.fresh-read (A .encoded .now) (A .route) (A .source .now)
+    (stateOf (A .memories .now) (A .buffer .now) l (A .status .now)) (c .before .read-for .result .number) (c .before .read-for .ensures .number)
+    (c .if1 .taken)
 
 route-of-requires : tie.Need-route-of-requires
 route-of-requires c κs = search needs
 
 sizes-of-requires : tie.Need-sizes-of-requires
 sizes-of-requires c κs =
-    let read = c .before .before .before .read in
+    let read = c .before .before .before .read-for in
     let if1 = c .before .before .if1 in
-    accepted-read _ _ (read .ensures .0) (if1 .left) (read .ensures .1 (if1 .left))
+    accepted-for _ _ _ (read .ensures) (if1 .left)
 
 fill-requires : tie.Need-fill-requires
 fill-requires c κs =
+    let read = c .before .before .before .before .before .read-for in
+    let if1 = c .before .before .before .before .if1 in
+    let route-of = c .before .before .route-of in
     let sizes-of = c .before .sizes-of in
-    (sizes-of .ensures .0, refl)
+    (sizes-of .ensures .0, (lines.routed _ (read .result) (read .ensures) (if1 .left) (sizes-of .ensures .1 ∙ route-of .ensures), refl))
 
 areas-fit-requires : tie.Need-areas-fit-requires
 areas-fit-requires c κs = search needs
@@ -48,15 +56,20 @@ same-length-3 c = search needs
 
 returns-2 : tie.Need-returns-2
 returns-2 c =
-    let read = c .before .before .before .before .before .before .before .before .before .before .before .before .read in
+    let read = c .before .before .before .before .before .before .before .before .before .before .before .before .read-for in
     let if1 = c .before .before .before .before .before .before .before .before .before .before .before .if1 in
     let route-of = c .before .before .before .before .before .before .before .before .before .route-of in
     let sizes-of = c .before .before .before .before .before .before .before .before .sizes-of in
     let if2 = c .if2 in
     let areas-fit = c .before .areas-fit in
-    let A = c .before .before .before .before .before .before .before .before .before .before .before .before .before .before .before .before .before .before .args in
+    let A = c .before .before .before .before .before .before .before .before .before .before .before .before .before .before .before .before .before
+    .before .args in
     let p = planOf (sizes-of .result .route) (read .result .nest) in
-    λ l h. ap (λ (k : List ℕ). answer 9 (stateOf (A .memories .now) (A .buffer .now) k (A .status .now))) (sym (reading.zeros-after-no l 9 (λ q. omega arith))) ∙ lines.fresh-area (A .encoded .now) (A .route) (A .source .now) (stateOf (A .memories .now) (A .buffer .now) l (A .status .now)) p (lines.opened (A .encoded .now) (read .result) (read .ensures .0) (if1 .left) (sizes-of .ensures .1 ∙ route-of .ensures)) (sym (areas-fit .ensures .0 l h) ∙ not-true _ (if2 .taken))
+    λ l h. ap (λ (k : List ℕ). answer 9 (stateOf (A .memories .now) (A .buffer .now) k (A .status .now)))
+    (sym (reading.zeros-after-no l 9 (λ q. omega arith))) ∙ lines.fresh-area (A .encoded .now) (A .route) (A .source .now)
+    (stateOf (A .memories .now) (A .buffer .now) l (A .status .now)) p
+    (lines.opened (A .encoded .now) (read .result) (read .ensures) (if1 .left) (sizes-of .ensures .1 ∙ route-of .ensures))
+    (sym (areas-fit .ensures .0 l h) ∙ not-true _ (if2 .taken))
 
 zero-words-requires : tie.Need-zero-words-requires
 zero-words-requires c κs = search needs
@@ -78,24 +91,32 @@ same-length-6 c = search needs
 
 returns-3 : tie.Need-returns-3
 returns-3 c =
-    let read = c .before .before .before .before .before .before .before .before .before .before .before .before .before .before .before .before .before .before .before .before .before .before .before .before .read in
-    let if1 = c .before .before .before .before .before .before .before .before .before .before .before .before .before .before .before .before .before .before .before .before .before .before .before .if1 in
-    let route-of = c .before .before .before .before .before .before .before .before .before .before .before .before .before .before .before .before .before .before .before .before .before .route-of in
-    let sizes-of = c .before .before .before .before .before .before .before .before .before .before .before .before .before .before .before .before .before .before .before .before .sizes-of in
+    let read = c .before .before .before .before .before .before .before .before .before .before .before .before .before .before .before .before .before
+    .before .before .before .before .before .before .before .read-for in
+    let if1 = c .before .before .before .before .before .before .before .before .before .before .before .before .before .before .before .before .before
+    .before .before .before .before .before .before .if1 in
+    let route-of = c .before .before .before .before .before .before .before .before .before .before .before .before .before .before .before .before
+    .before .before .before .before .before .route-of in
+    let sizes-of = c .before .before .before .before .before .before .before .before .before .before .before .before .before .before .before .before
+    .before .before .before .before .sizes-of in
     let if2 = c .before .before .before .before .before .before .before .before .before .before .before .before .if2 in
     let areas-fit = c .before .before .before .before .before .before .before .before .before .before .before .before .before .areas-fit in
     let zero-words = c .before .before .before .before .before .before .before .before .before .before .zero-words in
     let zero-words2 = c .before .before .before .before .before .before .zero-words2 in
     let zero-bytes = c .before .before .zero-bytes in
-    let A = c .before .before .before .before .before .before .before .before .before .before .before .before .before .before .before .before .before .before .before .before .before .before .before .before .before .before .before .before .before .before .args in
+    let A = c .before .before .before .before .before .before .before .before .before .before .before .before .before .before .before .before .before
+    .before .before .before .before .before .before .before .before .before .before .before .before .before .args in
     let p = planOf (sizes-of .result .route) (read .result .nest) in
-    λ l h. lines.fresh-done (A .encoded .now) (A .route) (A .source .now) (stateOf (A .memories .now) (A .buffer .now) l (A .status .now)) p (lines.opened (A .encoded .now) (read .result) (read .ensures .0) (if1 .left) (sizes-of .ensures .1 ∙ route-of .ensures)) (sym (areas-fit .ensures .0 l h) ∙ not-false _ (if2 .left)) _ _ _ _ (zero-words .ensures) (zero-words2 .ensures) (sym (reading.zeros-after-yes l)) (zero-bytes .ensures)
+    λ l h. lines.fresh-done (A .encoded .now) (A .route) (A .source .now) (stateOf (A .memories .now) (A .buffer .now) l (A .status .now)) p
+    (lines.opened (A .encoded .now) (read .result) (read .ensures) (if1 .left) (sizes-of .ensures .1 ∙ route-of .ensures))
+    (sym (areas-fit .ensures .0 l h) ∙ not-false _ (if2 .left)) _ _ _ _ (zero-words .ensures) (zero-words2 .ensures) (sym (reading.zeros-after-yes l))
+    (zero-bytes .ensures)
 
 pub fresh-spec : {M : Type 1} → statement M
 fresh-spec =
     tie.close
     (tie.spec
-    read-requires
+    read-for-requires
     returns
     route-of-requires
     sizes-of-requires

@@ -4,9 +4,9 @@ use mathlib.Core.Path.{_≡_, refl, subst, _∙_}
 use mathlib.Core.List.{List}
 use native.Mathlib.Omega.{arith}
 use lib.ListN.{take, drop}
-use Rattle.nest.proofs.Answers.{accepted-read}
+use Rattle.routes.proofs.Laws.{accepted-for}
 use Rattle.machine.specs.Machine.{stateOf}
-use Rattle.plan.specs.Messages.{planOf}
+use Rattle.plan.specs.Shaped.{planOf}
 use Rattle.engine.specs.Calls.{answer, turnCall}
 use Rattle.engine.specs.Given.{recordsAfter}
 use Rattle.engine.proofs.Lines as lines
@@ -15,35 +15,40 @@ use borrow.Author.Needs.{needs}
 use Rattle.engine.proofs.core.turn.Statement.{statement}
 use Rattle.engine.proofs.core.turn.Tie as tie
 
-read-requires : tie.Need-read-requires
-read-requires c κs = search needs
+read-for-requires : tie.Need-read-for-requires
+read-for-requires c κs = search needs
 
 refused-requires : tie.Need-refused-requires
 refused-requires c κs = search needs
 
 returns : tie.Need-returns
 returns c =
-    let read = c .before .before .read in
+    let read = c .before .before .read-for in
     let if1 = c .before .if1 in
     let refused = c .refused in
     let A = c .before .before .before .before .before .before .before .before .args in
-    λ l h. reading.refuses (refused .result) (read .result .number) (refused .ensures) (if1 .taken) (stateOf (A .memories .now) (A .buffer .now) l (A .status .now)) (A .processor) _
-    (lines.turn-read (A .encoded .now) (A .route) (A .source .now) (stateOf (A .memories .now) (A .buffer .now) l (A .status .now)) (A .processor) (read .result .number)
-    (lines.read-number (A .encoded .now) (read .result) (read .ensures .0)) (if1 .taken))
+    λ l h. reading.refuses (refused .result) (read .result .number) (refused .ensures) (if1 .taken)
+    (stateOf (A .memories .now) (A .buffer .now) l (A .status .now)) (A .processor) _
+    (lines.turn-read (A .encoded .now) (A .route) (A .source .now) (stateOf (A .memories .now) (A .buffer .now) l (A .status .now)) (A .processor)
+    (read .result .number)
+    (read .ensures .number) (if1 .taken))
 
 route-of-requires : tie.Need-route-of-requires
 route-of-requires c κs = search needs
 
 sizes-of-requires : tie.Need-sizes-of-requires
 sizes-of-requires c κs =
-    let read = c .before .before .before .read in
+    let read = c .before .before .before .read-for in
     let if1 = c .before .before .if1 in
-    accepted-read _ _ (read .ensures .0) (if1 .left) (read .ensures .1 (if1 .left))
+    accepted-for _ _ _ (read .ensures) (if1 .left)
 
 fill-requires : tie.Need-fill-requires
 fill-requires c κs =
+    let read = c .before .before .before .before .before .read-for in
+    let if1 = c .before .before .before .before .if1 in
+    let route-of = c .before .before .route-of in
     let sizes-of = c .before .sizes-of in
-    (sizes-of .ensures .0, refl)
+    (sizes-of .ensures .0, (lines.routed _ (read .result) (read .ensures) (if1 .left) (sizes-of .ensures .1 ∙ route-of .ensures), refl))
 
 unfit-requires : tie.Need-unfit-requires
 unfit-requires c κs = search needs
@@ -62,18 +67,20 @@ same-length-3 c = search needs
 
 returns-2 : tie.Need-returns-2
 returns-2 c =
-    let read = c .before .before .before .before .before .before .before .before .before .before .before .before .before .read in
+    let read = c .before .before .before .before .before .before .before .before .before .before .before .before .before .read-for in
     let if1 = c .before .before .before .before .before .before .before .before .before .before .before .before .if1 in
     let route-of = c .before .before .before .before .before .before .before .before .before .before .route-of in
     let sizes-of = c .before .before .before .before .before .before .before .before .before .sizes-of in
     let if2 = c .before .if2 in
     let unfit = c .before .before .unfit in
     let refused2 = c .refused2 in
-    let A = c .before .before .before .before .before .before .before .before .before .before .before .before .before .before .before .before .before .before .before .args in
+    let A = c .before .before .before .before .before .before .before .before .before .before .before .before .before .before .before .before .before
+    .before .before .args in
     let p = planOf (sizes-of .result .route) (read .result .nest) in
-    λ l h. reading.refuses (refused2 .result) (unfit .result) (refused2 .ensures) (if2 .taken) (stateOf (A .memories .now) (A .buffer .now) l (A .status .now)) (A .processor) _
+    λ l h. reading.refuses (refused2 .result) (unfit .result) (refused2 .ensures) (if2 .taken)
+    (stateOf (A .memories .now) (A .buffer .now) l (A .status .now)) (A .processor) _
     (lines.turn-unfit (A .encoded .now) (A .route) (A .source .now) (stateOf (A .memories .now) (A .buffer .now) l (A .status .now)) (A .processor) p
-    (lines.opened (A .encoded .now) (read .result) (read .ensures .0) (if1 .left) (sizes-of .ensures .1 ∙ route-of .ensures))
+    (lines.opened (A .encoded .now) (read .result) (read .ensures) (if1 .left) (sizes-of .ensures .1 ∙ route-of .ensures))
     (unfit .result) (unfit .ensures .0 l h) (if2 .taken))
 
 refused-requires-3 : tie.Need-refused-requires-3
@@ -90,7 +97,7 @@ same-length-6 c = search needs
 
 returns-3 : tie.Need-returns-3
 returns-3 c =
-    let read = c .before .before .before .before .before .before .before .before .before .before .before .before .before .before .before .read in
+    let read = c .before .before .before .before .before .before .before .before .before .before .before .before .before .before .before .read-for in
     let if1 = c .before .before .before .before .before .before .before .before .before .before .before .before .before .before .if1 in
     let route-of = c .before .before .before .before .before .before .before .before .before .before .before .before .route-of in
     let sizes-of = c .before .before .before .before .before .before .before .before .before .before .before .sizes-of in
@@ -98,11 +105,13 @@ returns-3 c =
     let unfit = c .before .before .before .before .unfit in
     let if3 = c .before .if3 in
     let refused3 = c .refused3 in
-    let A = c .before .before .before .before .before .before .before .before .before .before .before .before .before .before .before .before .before .before .before .before .before .args in
+    let A = c .before .before .before .before .before .before .before .before .before .before .before .before .before .before .before .before .before
+    .before .before .before .before .args in
     let p = planOf (sizes-of .result .route) (read .result .nest) in
-    λ l h. reading.refuses (refused3 .result) 11 (refused3 .ensures) (λ q. omega arith) (stateOf (A .memories .now) (A .buffer .now) l (A .status .now)) (A .processor) _
+    λ l h. reading.refuses (refused3 .result) 11 (refused3 .ensures) (λ q. omega arith) (stateOf (A .memories .now) (A .buffer .now) l (A .status .now))
+    (A .processor) _
     (lines.turn-beyond (A .encoded .now) (A .route) (A .source .now) (stateOf (A .memories .now) (A .buffer .now) l (A .status .now)) (A .processor) p
-    (lines.opened (A .encoded .now) (read .result) (read .ensures .0) (if1 .left) (sizes-of .ensures .1 ∙ route-of .ensures))
+    (lines.opened (A .encoded .now) (read .result) (read .ensures) (if1 .left) (sizes-of .ensures .1 ∙ route-of .ensures))
     (unfit .result) (unfit .ensures .0 l h) (if2 .left) (omega (arith, sizes-of .ensures .0 .processors, if3 .taken)))
 
 sub-step : tie.Need-sub-step
@@ -116,19 +125,23 @@ part-step-end c =
     let sizes-of = c .before .before .before .before .before .before .before .before .before .before .before .before .before .before .before .sizes-of in
     let if2 = c .before .before .before .before .before .before .before .if2 in
     let unfit = c .before .before .before .before .before .before .before .before .unfit in
-    let S = c .before .before .before .before .before .before .before .before .before .before .before .before .before .before .before .before .before .before .before .before .before .before .before .before .before in
+    let S = c .before .before .before .before .before .before .before .before .before .before .before .before .before .before .before .before .before
+    .before .before .before .before .before .before .before .before in
     let A = S .args in
     omega (arith, S .pre, reading.few-words _ _ (sizes-of .ensures .0) (A .progress .count) (unfit .ensures .1 (if2 .left)))
 
 step-requires : tie.Need-step-requires
 step-requires c κs =
-    let read = c .before .before .before .before .before .before .before .before .before .before .before .before .before .before .before .before .before .before .before .before .before .read in
-    let sizes-of = c .before .before .before .before .before .before .before .before .before .before .before .before .before .before .before .before .before .sizes-of in
+    let read = c .before .before .before .before .before .before .before .before .before .before .before .before .before .before .before .before .before
+    .before .before .before .before .read-for in
+    let sizes-of = c .before .before .before .before .before .before .before .before .before .before .before .before .before .before .before .before
+    .before .sizes-of in
     let if2 = c .before .before .before .before .before .before .before .before .before .if2 in
     let fill = c .before .before .before .before .before .before .before .before .before .before .before .before .before .before .before .fill in
     let unfit = c .before .before .before .before .before .before .before .before .before .before .unfit in
     let if3 = c .before .before .before .before .before .before .before .if3 in
-    let S = c .before .before .before .before .before .before .before .before .before .before .before .before .before .before .before .before .before .before .before .before .before .before .before .before .before .before .before in
+    let S = c .before .before .before .before .before .before .before .before .before .before .before .before .before .before .before .before .before
+    .before .before .before .before .before .before .before .before .before .before in
     let A = S .args in
     let p = planOf (sizes-of .result .route) (read .result .nest) in
     let few = reading.few-words _ _ (sizes-of .ensures .0) (A .progress .count) (unfit .ensures .1 (if2 .left)) in
@@ -150,14 +163,20 @@ same-length-9 c = search needs
 
 returns-4 : tie.Need-returns-4
 returns-4 c =
-    let read = c .before .before .before .before .before .before .before .before .before .before .before .before .before .before .before .before .before .before .before .before .before .before .before .before .before .before .before .before .read in
-    let if1 = c .before .before .before .before .before .before .before .before .before .before .before .before .before .before .before .before .before .before .before .before .before .before .before .before .before .before .before .if1 in
-    let route-of = c .before .before .before .before .before .before .before .before .before .before .before .before .before .before .before .before .before .before .before .before .before .before .before .before .before .route-of in
-    let sizes-of = c .before .before .before .before .before .before .before .before .before .before .before .before .before .before .before .before .before .before .before .before .before .before .before .before .sizes-of in
+    let read = c .before .before .before .before .before .before .before .before .before .before .before .before .before .before .before .before .before
+    .before .before .before .before .before .before .before .before .before .before .before .read-for in
+    let if1 = c .before .before .before .before .before .before .before .before .before .before .before .before .before .before .before .before .before
+    .before .before .before .before .before .before .before .before .before .before .if1 in
+    let route-of = c .before .before .before .before .before .before .before .before .before .before .before .before .before .before .before .before
+    .before .before .before .before .before .before .before .before .before .route-of in
+    let sizes-of = c .before .before .before .before .before .before .before .before .before .before .before .before .before .before .before .before
+    .before .before .before .before .before .before .before .before .sizes-of in
     let if2 = c .before .before .before .before .before .before .before .before .before .before .before .before .before .before .before .before .if2 in
-    let unfit = c .before .before .before .before .before .before .before .before .before .before .before .before .before .before .before .before .before .unfit in
+    let unfit = c .before .before .before .before .before .before .before .before .before .before .before .before .before .before .before .before .before
+    .unfit in
     let step = c .before .before .before .before .before .before .step in
-    let S = c .before .before .before .before .before .before .before .before .before .before .before .before .before .before .before .before .before .before .before .before .before .before .before .before .before .before .before .before .before .before .before .before .before .before in
+    let S = c .before .before .before .before .before .before .before .before .before .before .before .before .before .before .before .before .before
+    .before .before .before .before .before .before .before .before .before .before .before .before .before .before .before .before .before in
     let A = S .args in
     let p = planOf (sizes-of .result .route) (read .result .nest) in
     let few = reading.few-words _ _ (sizes-of .ensures .0) (A .progress .count) (unfit .ensures .1 (if2 .left)) in
@@ -169,14 +188,14 @@ returns-4 c =
     ≡ turnCall (A .encoded .now) (A .route) (A .source .now) (stateOf (A .memories .now) (A .buffer .now) k (A .status .now)) (A .processor))
     (reading.part-is (A .progress) l few h)
     (lines.turn-steps (A .encoded .now) (A .route) (A .source .now) (stateOf (A .memories .now) (A .buffer .now) part (A .status .now)) (A .processor) p
-    (lines.opened (A .encoded .now) (read .result) (read .ensures .0) (if1 .left) (sizes-of .ensures .1 ∙ route-of .ensures))
+    (lines.opened (A .encoded .now) (read .result) (read .ensures) (if1 .left) (sizes-of .ensures .1 ∙ route-of .ensures))
     (unfit .result) (unfit .ensures .0 _ (reading.part-carries (A .progress) (S .pre) few)) (if2 .left) _ (step .ensures))
 
 pub turn-spec : {M : Type 1} → statement M
 turn-spec =
     tie.close
     (tie.spec
-    read-requires
+    read-for-requires
     refused-requires
     returns
     route-of-requires

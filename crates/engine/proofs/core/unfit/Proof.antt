@@ -4,7 +4,7 @@ use native.Mathlib.Omega.{arith}
 use lib.ListN.{take, drop}
 use borrow.Author.Tests.{not-true, not-false}
 use Rattle.machine.specs.Machine.{stateOf}
-use Rattle.plan.specs.Messages.{planOf}
+use Rattle.plan.specs.Shaped.{planOf}
 use Rattle.engine.proofs.Lines as lines
 use Rattle.engine.proofs.Reading as reading
 use borrow.Author.Needs.{needs}
@@ -18,8 +18,11 @@ returns : tie.Need-returns
 returns c =
     let areas-fit = c .before .areas-fit in
     let if1 = c .if1 in
-    let A = c .before .before .before .before .before .before .before .args in
-    (λ l h. lines.unfit-9 (planOf (A .sizes .route) (A .nest)) (A .source .now) (stateOf (A .memories .now) (A .buffer .now) l (A .status .now)) (sym (areas-fit .ensures .0 l (h .counted)) ∙ not-true _ (if1 .taken)), λ q. absurd (omega arith))
+    let A = c .before .before .before .before .before .before .before .args in (
+      λ l h. lines.unfit-9 (planOf (A .sizes .route) (A .nest)) (A .source .now) (stateOf (A .memories .now) (A .buffer .now) l (A .status .now))
+          (sym (areas-fit .ensures .0 l (h .counted)) ∙ not-true _ (if1 .taken)),
+      λ q. absurd (omega arith),
+    )
 
 sub-fit-records : tie.Need-sub-fit-records
 sub-fit-records c = search needs
@@ -43,8 +46,14 @@ fit-records-requires c κs =
     let A = S .args in
     let few = reading.few-words (A .nest) (A .sizes) (S .pre .0 .0) (A .progress .count) (areas-fit .ensures .1 (not-false _ (if1 .left))) in
     let l = take (A .progress .count - 0) (drop 0 (A .progress .words)) in
-    let h = reading.part-carries (A .progress) (S .pre .1) few in
-    (S .pre .0 .0, (S .pre .0 .1, lines.areas-are (planOf (A .sizes .route) (A .nest)) (A .source .now) (stateOf (A .memories .now) (A .buffer .now) l (A .status .now)) (sym (areas-fit .ensures .0 l (h .counted)) ∙ not-false _ (if1 .left)) .progress))
+    let h = reading.part-carries (A .progress) (S .pre .1) few in (
+      S .pre .0 .0,
+      (
+        S .pre .0 .1,
+        lines.areas-are (planOf (A .sizes .route) (A .nest)) (A .source .now)
+            (stateOf (A .memories .now) (A .buffer .now) l (A .status .now)) (sym (areas-fit .ensures .0 l (h .counted)) ∙ not-false _ (if1 .left)) .progress,
+      ),
+    )
 
 returns-2 : tie.Need-returns-2
 returns-2 c =
@@ -56,9 +65,11 @@ returns-2 c =
     let A = S .args in
     let few = reading.few-words (A .nest) (A .sizes) (S .pre .0 .0) (A .progress .count) (areas-fit .ensures .1 (not-false _ (if1 .left))) in (
       λ l h.
-          lines.unfit-10 (planOf (A .sizes .route) (A .nest)) (A .source .now) (stateOf (A .memories .now) (A .buffer .now) l (A .status .now)) (sym (areas-fit .ensures .0 l (h .counted)) ∙ not-false _ (if1 .left))
+          lines.unfit-10 (planOf (A .sizes .route) (A .nest)) (A .source .now) (stateOf (A .memories .now) (A .buffer .now) l (A .status .now))
+          (sym (areas-fit .ensures .0 l (h .counted)) ∙ not-false _ (if1 .left))
           (lines.unfit-record (planOf (A .sizes .route) (A .nest)) (stateOf (A .memories .now) (A .buffer .now) l (A .status .now))
-          (reading.fits-as (planOf (A .sizes .route) (A .nest)) _ l (reading.part-is (A .progress) l few h) ∙ sym (fit-records .ensures) ∙ not-true _ (if2 .taken))),
+          (reading.fits-as (planOf (A .sizes .route) (A .nest)) _ l (reading.part-is (A .progress) l few h) ∙ sym (fit-records .ensures) ∙ not-true _
+          (if2 .taken))),
       λ q. absurd (omega (arith, S .pre .1)),
     )
 
@@ -75,7 +86,8 @@ returns-3 c =
       λ l h.
           let a = sym (areas-fit .ensures .0 l (h .counted)) ∙ not-false _ (if1 .left) in
           lines.unfit-10 (planOf (A .sizes .route) (A .nest)) (A .source .now) (stateOf (A .memories .now) (A .buffer .now) l (A .status .now)) a
-          (lines.unfit-status (planOf (A .sizes .route) (A .nest)) (stateOf (A .memories .now) (A .buffer .now) l (A .status .now)) (lines.areas-are (planOf (A .sizes .route) (A .nest)) (A .source .now) (stateOf (A .memories .now) (A .buffer .now) l (A .status .now)) a .status)
+          (lines.unfit-status (planOf (A .sizes .route) (A .nest)) (stateOf (A .memories .now) (A .buffer .now) l (A .status .now))
+          (lines.areas-are (planOf (A .sizes .route) (A .nest)) (A .source .now) (stateOf (A .memories .now) (A .buffer .now) l (A .status .now)) a .status)
           (sym (fit-status .ensures) ∙ not-true _ (if3 .taken))),
       λ q. absurd (omega arith),
     )
@@ -95,8 +107,10 @@ returns-4 c =
       λ l h.
           let a = sym (areas-fit .ensures .0 l (h .counted)) ∙ not-false _ (if1 .left) in
           lines.unfit-0 (planOf (A .sizes .route) (A .nest)) (A .source .now) (stateOf (A .memories .now) (A .buffer .now) l (A .status .now)) a
-          (lines.fit-both (planOf (A .sizes .route) (A .nest)) (stateOf (A .memories .now) (A .buffer .now) l (A .status .now)) (lines.areas-are (planOf (A .sizes .route) (A .nest)) (A .source .now) (stateOf (A .memories .now) (A .buffer .now) l (A .status .now)) a .status)
-          (reading.fits-as (planOf (A .sizes .route) (A .nest)) _ l (reading.part-is (A .progress) l few h) ∙ sym (fit-records .ensures) ∙ not-false _ (if2 .left))
+          (lines.fit-both (planOf (A .sizes .route) (A .nest)) (stateOf (A .memories .now) (A .buffer .now) l (A .status .now))
+          (lines.areas-are (planOf (A .sizes .route) (A .nest)) (A .source .now) (stateOf (A .memories .now) (A .buffer .now) l (A .status .now)) a .status)
+          (reading.fits-as (planOf (A .sizes .route) (A .nest)) _ l (reading.part-is (A .progress) l few h) ∙ sym (fit-records .ensures) ∙ not-false _
+          (if2 .left))
           (sym (fit-status .ensures) ∙ not-false _ (if3 .left))),
       λ _. n,
     )

@@ -1,6 +1,6 @@
 -- Each return is the call by the line that counts.
 use Rattle.machine.specs.Machine.{stateOf}
-use Rattle.plan.specs.Messages.{planOf}
+use Rattle.plan.specs.Shaped.{planOf}
 use Rattle.offices.specs.Offices.{lentOf}
 use Rattle.engine.proofs.Reading as reading
 use Rattle.rig.proofs.Lines as lines
@@ -16,7 +16,9 @@ returns c =
     let open-recipe = c .before .open-recipe in
     let if1 = c .if1 in
     let A = c .before .before .before .before .before .before .before .before .before .args in
-    λ l q h k. lines.deliver-read (A .encoded .now) (A .route) (A .source .now) (A .office) (lentOf (stateOf (A .memories .now) (A .buffer .now) l (A .status .now)) (A .engaged .now)) q (A .message) (open-recipe .result .number) (open-recipe .ensures .0) (if1 .taken)
+    λ l q h k. lines.deliver-read (A .encoded .now) (A .route) (A .source .now) (A .office)
+    (lentOf (stateOf (A .memories .now) (A .buffer .now) l (A .status .now)) (A .engaged .now)) q (A .message) (open-recipe .result .number)
+    (open-recipe .ensures .0) (if1 .taken)
 
 unfit-requires : tie.Need-unfit-requires
 unfit-requires c κs =
@@ -39,7 +41,9 @@ returns-2 c =
     let A = c .before .before .before .before .before .before .before .before .before .before .before .before .before .before .before .args in
     let opens = open-recipe .ensures .1 (if1 .left) in
     let p = planOf (open-recipe .result .sizes .route) (open-recipe .result .nest) in
-    λ l q h k. lines.deliver-unfit (A .encoded .now) (A .route) (A .source .now) (A .office) (lentOf (stateOf (A .memories .now) (A .buffer .now) l (A .status .now)) (A .engaged .now)) q (A .message) p (record { none = opens .none; is = opens .is }) (unfit .result) (unfit .ensures .0 l q h k) (if2 .taken)
+    λ l q h k. lines.deliver-unfit (A .encoded .now) (A .route) (A .source .now) (A .office)
+    (lentOf (stateOf (A .memories .now) (A .buffer .now) l (A .status .now)) (A .engaged .now)) q (A .message) p
+    (record { none = opens .none; is = opens .is }) (unfit .result) (unfit .ensures .0 l q h k) (if2 .taken)
 
 hand-over-requires : tie.Need-hand-over-requires
 hand-over-requires c κs = search needs
@@ -54,10 +58,14 @@ returns-3 c =
     let unfit = c .before .before .before .before .before .unfit in
     let if2 = c .before .before .before .before .if2 in
     let hand-over = c .before .before .hand-over in
-    let A = c .before .before .before .before .before .before .before .before .before .before .before .before .before .before .before .before .before .before .before .args in
+    let A = c .before .before .before .before .before .before .before .before .before .before .before .before .before .before .before .before .before
+    .before .before .args in
     let opens = open-recipe .ensures .1 (if1 .left) in
     let p = planOf (open-recipe .result .sizes .route) (open-recipe .result .nest) in
-    λ l q h k. lines.deliver-over (A .encoded .now) (A .route) (A .source .now) (A .office) (lentOf (stateOf (A .memories .now) (A .buffer .now) l (A .status .now)) (A .engaged .now)) q (A .message) p (record { none = opens .none; is = opens .is }) (unfit .result) (unfit .ensures .0 l q h k) (if2 .left) (hand-over .result) (hand-over .last .0) (hand-over .ensures)
+    λ l q h k. lines.deliver-over (A .encoded .now) (A .route) (A .source .now) (A .office)
+    (lentOf (stateOf (A .memories .now) (A .buffer .now) l (A .status .now)) (A .engaged .now)) q (A .message) p
+    (record { none = opens .none; is = opens .is }) (unfit .result) (unfit .ensures .0 l q h k) (if2 .left) (hand-over .result) (hand-over .last .0)
+    (hand-over .ensures)
 
 pub deliver-spec : {M : Type 1} → statement M
 deliver-spec =

@@ -1,7 +1,7 @@
 -- Tiles left are those of the machine, the word is compared where there are any.
 use native.Mathlib.Omega.{arith}
 use borrow.Author.Needs.{needs}
-use Rattle.plan.specs.Messages.{planOf}
+use Rattle.plan.specs.Shaped.{planOf}
 use Rattle.rig.proofs.Tests as tests
 use Rattle.rig.proofs.core.held.Statement.{statement}
 use Rattle.rig.proofs.core.held.Tie as tie

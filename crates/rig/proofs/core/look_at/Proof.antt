@@ -3,7 +3,7 @@ use mathlib.Core.Path.{refl, sym, _∙_}
 use native.Mathlib.Omega.{arith}
 use borrow.Author.Tests.{lt-leb}
 use Rattle.nest.proofs.Answers.{accepted-read}
-use Rattle.plan.specs.Messages.{planOf}
+use Rattle.plan.specs.Shaped.{planOf}
 use Rattle.engine.proofs.Lines as lines
 use Rattle.engine.proofs.Lines.{Opened}
 use Rattle.engine.specs.Calls.{recipe}
@@ -25,7 +25,8 @@ returns c =
     let A = c .before .before .before .before .args in
     let unseen = c .unseen in
     seeing.not-seen (A .encoded .now) (A .office) (A .processor) (A .first) (A .second) (unseen .result) (read .result .number) (unseen .ensures) (if1 .taken)
-    (λ a d h k. seeing.look-read (A .encoded .now) a d (A .office) (A .processor) (read .result .number) (lines.read-number (A .encoded .now) (read .result) (read .ensures .0)) (if1 .taken))
+    (λ a d h k. seeing.look-read (A .encoded .now) a d (A .office) (A .processor) (read .result .number)
+    (lines.read-number (A .encoded .now) (read .result) (read .ensures .0)) (if1 .taken))
 
 sizes-of-requires : tie.Need-sizes-of-requires
 sizes-of-requires c κs =
@@ -50,7 +51,7 @@ returns-2 c =
     let sizes-of = c .before .before .before .sizes-of in
     let sized = sizes-of .ensures .0 in
     let p = planOf (sizes-of .result .route) (read .result .nest) in
-    let op : Opened (A .encoded .now) 0 p = lines.opened (A .encoded .now) (read .result) (read .ensures .0) (if1 .left) (sizes-of .ensures .1 ∙ sym seeing.directly) in
+    let op : Opened (A .encoded .now) 0 p = lines.opened-direct (A .encoded .now) (read .result) (read .ensures .0) (if1 .left) (sizes-of .ensures .1) in
     let long = lines.area-is (read .result .nest) (sizes-of .result) sized in
     let unseen = c .unseen2 in
     seeing.not-seen (A .encoded .now) (A .office) (A .processor) (A .first) (A .second) (unseen .result) 9 (unseen .ensures) (λ z. omega arith)
@@ -67,7 +68,7 @@ returns-3 c =
     let sizes-of = c .before .before .before .before .sizes-of in
     let sized = sizes-of .ensures .0 in
     let p = planOf (sizes-of .result .route) (read .result .nest) in
-    let op : Opened (A .encoded .now) 0 p = lines.opened (A .encoded .now) (read .result) (read .ensures .0) (if1 .left) (sizes-of .ensures .1 ∙ sym seeing.directly) in
+    let op : Opened (A .encoded .now) 0 p = lines.opened-direct (A .encoded .now) (read .result) (read .ensures .0) (if1 .left) (sizes-of .ensures .1) in
     let long = lines.area-is (read .result .nest) (sizes-of .result) sized in
     let unseen = c .unseen3 in
     seeing.not-seen (A .encoded .now) (A .office) (A .processor) (A .first) (A .second) (unseen .result) 9 (unseen .ensures) (λ z. omega arith)
@@ -84,11 +85,12 @@ returns-4 c =
     let sizes-of = c .before .before .before .before .before .sizes-of in
     let sized = sizes-of .ensures .0 in
     let p = planOf (sizes-of .result .route) (read .result .nest) in
-    let op : Opened (A .encoded .now) 0 p = lines.opened (A .encoded .now) (read .result) (read .ensures .0) (if1 .left) (sizes-of .ensures .1 ∙ sym seeing.directly) in
+    let op : Opened (A .encoded .now) 0 p = lines.opened-direct (A .encoded .now) (read .result) (read .ensures .0) (if1 .left) (sizes-of .ensures .1) in
     let long = lines.area-is (read .result .nest) (sizes-of .result) sized in
     let unseen = c .unseen4 in
     seeing.not-seen (A .encoded .now) (A .office) (A .processor) (A .first) (A .second) (unseen .result) 11 (unseen .ensures) (λ z. omega arith)
-    (λ a d h k. seeing.look-office (A .encoded .now) a d (A .office) (A .processor) p op (sym h ∙ c .before .before .before .if2 .left ∙ long) (sym k ∙ c .before .before .if3 .left ∙ long) (lt-leb _ _ (c .before .if4 .taken)))
+    (λ a d h k. seeing.look-office (A .encoded .now) a d (A .office) (A .processor) p op (sym h ∙ c .before .before .before .if2 .left ∙ long)
+    (sym k ∙ c .before .before .if3 .left ∙ long) (lt-leb _ _ (c .before .if4 .taken)))
 
 unseen-requires-5 : tie.Need-unseen-requires-5
 unseen-requires-5 c κs = search needs
@@ -101,11 +103,13 @@ returns-5 c =
     let sizes-of = c .before .before .before .before .before .before .before .sizes-of in
     let sized = sizes-of .ensures .0 in
     let p = planOf (sizes-of .result .route) (read .result .nest) in
-    let op : Opened (A .encoded .now) 0 p = lines.opened (A .encoded .now) (read .result) (read .ensures .0) (if1 .left) (sizes-of .ensures .1 ∙ sym seeing.directly) in
+    let op : Opened (A .encoded .now) 0 p = lines.opened-direct (A .encoded .now) (read .result) (read .ensures .0) (if1 .left) (sizes-of .ensures .1) in
     let long = lines.area-is (read .result .nest) (sizes-of .result) sized in
     let unseen = c .unseen5 in
     seeing.not-seen (A .encoded .now) (A .office) (A .processor) (A .first) (A .second) (unseen .result) 11 (unseen .ensures) (λ z. omega arith)
-    (λ a d h k. seeing.look-beyond (A .encoded .now) a d (A .office) (A .processor) p op (sym h ∙ c .before .before .before .before .before .if2 .left ∙ long) (sym k ∙ c .before .before .before .before .if3 .left ∙ long) (omega (arith, c .before .if5 .taken, sized .processors)))
+    (λ a d h k. seeing.look-beyond (A .encoded .now) a d (A .office) (A .processor) p op
+    (sym h ∙ c .before .before .before .before .before .if2 .left ∙ long) (sym k ∙ c .before .before .before .before .if3 .left ∙ long)
+    (omega (arith, c .before .if5 .taken, sized .processors)))
 
 mul-t15 : tie.Need-mul-t15
 mul-t15 c =
@@ -126,11 +130,13 @@ returns-6 c =
     let sizes-of = c .before .before .before .before .before .before .sizes-of in
     let sized = sizes-of .ensures .0 in
     let p = planOf (sizes-of .result .route) (read .result .nest) in
-    let op : Opened (A .encoded .now) 0 p = lines.opened (A .encoded .now) (read .result) (read .ensures .0) (if1 .left) (sizes-of .ensures .1 ∙ sym seeing.directly) in
+    let op : Opened (A .encoded .now) 0 p = lines.opened-direct (A .encoded .now) (read .result) (read .ensures .0) (if1 .left) (sizes-of .ensures .1) in
     let long = lines.area-is (read .result .nest) (sizes-of .result) sized in
     let low = lines.area-low (read .result .nest) (sizes-of .result) sized in (
-      λ a d h k. seeing.look-found (A .encoded .now) a d (A .office) (A .processor) p op (sym h ∙ c .before .before .before .before .if2 .left ∙ long) (sym k ∙ c .before .before .before .if3 .left ∙ long) (omega (arith, c .before .before .if4 .left)) (omega (arith, c .if5 .left, sized .processors)),
-      λ _. seeing.seen-at p (recipe (A .encoded .now) 0) (op .is) (A .first) (A .second) (A .processor) (sizes-of .result .processors) (sizes-of .result .cells) _
+      λ a d h k. seeing.look-found (A .encoded .now) a d (A .office) (A .processor) p op (sym h ∙ c .before .before .before .before .if2 .left ∙ long)
+          (sym k ∙ c .before .before .before .if3 .left ∙ long) (omega (arith, c .before .before .if4 .left)) (omega (arith, c .if5 .left, sized .processors)),
+      λ _. seeing.seen-at p (recipe (A .encoded .now) 0) (op .is) (A .first) (A .second) (A .processor) (sizes-of .result .processors)
+          (sizes-of .result .cells) _
           (c .before .before .before .before .if2 .left) (c .before .before .before .if3 .left) (sized .cells) (c .if5 .left) low refl refl,
     )
 

@@ -5,7 +5,7 @@ use native.Mathlib.Omega.{arith}
 use lib.ListN.{take, drop}
 use borrow.Author.Tests.{leb-true}
 use Rattle.machine.specs.Machine.{stateOf}
-use Rattle.plan.specs.Messages.{planOf}
+use Rattle.plan.specs.Shaped.{planOf}
 use Rattle.offices.specs.Offices.{lentOf}
 use Rattle.offices.proofs.OneCall.{own-fits}
 use Rattle.engine.proofs.Reading as reading
@@ -27,8 +27,11 @@ returns c =
     let if1 = c .before .if1 in
     let A = c .before .before .before .before .before .before .before .before .before .before .args in
     λ l q h k.
-    lines.refuses (refused .result) (open-recipe .result .number) (refused .ensures) (if1 .taken) (lentOf (stateOf (A .memories .now) (A .buffer .now) l (A .status .now)) (A .engaged .now)) (A .processor) _
-    (lines.turn-read (A .encoded .now) (A .route) (A .source .now) (A .office) (lentOf (stateOf (A .memories .now) (A .buffer .now) l (A .status .now)) (A .engaged .now)) q (A .processor) (open-recipe .result .number) (open-recipe .ensures .0) (if1 .taken))
+    lines.refuses (refused .result) (open-recipe .result .number) (refused .ensures) (if1 .taken)
+    (lentOf (stateOf (A .memories .now) (A .buffer .now) l (A .status .now)) (A .engaged .now)) (A .processor) _
+    (lines.turn-read (A .encoded .now) (A .route) (A .source .now) (A .office)
+    (lentOf (stateOf (A .memories .now) (A .buffer .now) l (A .status .now)) (A .engaged .now)) q (A .processor) (open-recipe .result .number)
+    (open-recipe .ensures .0) (if1 .taken))
 
 unfit-requires : tie.Need-unfit-requires
 unfit-requires c κs =
@@ -61,12 +64,16 @@ returns-2 c =
     let refused2 = c .refused2 in
     let unfit = c .before .before .unfit in
     let if2 = c .before .if2 in
-    let A = c .before .before .before .before .before .before .before .before .before .before .before .before .before .before .before .before .before .before .before .args in
+    let A = c .before .before .before .before .before .before .before .before .before .before .before .before .before .before .before .before .before
+    .before .before .args in
     let opens = open-recipe .ensures .1 (if1 .left) in
     let p = planOf (open-recipe .result .sizes .route) (open-recipe .result .nest) in
     λ l q h k.
-    lines.refuses (refused2 .result) (unfit .result) (refused2 .ensures) (if2 .taken) (lentOf (stateOf (A .memories .now) (A .buffer .now) l (A .status .now)) (A .engaged .now)) (A .processor) _
-    (lines.turn-unfit (A .encoded .now) (A .route) (A .source .now) (A .office) (lentOf (stateOf (A .memories .now) (A .buffer .now) l (A .status .now)) (A .engaged .now)) q (A .processor) p (record { none = opens .none; is = opens .is }) (unfit .result) (unfit .ensures .0 l q h k) (if2 .taken))
+    lines.refuses (refused2 .result) (unfit .result) (refused2 .ensures) (if2 .taken)
+    (lentOf (stateOf (A .memories .now) (A .buffer .now) l (A .status .now)) (A .engaged .now)) (A .processor) _
+    (lines.turn-unfit (A .encoded .now) (A .route) (A .source .now) (A .office)
+    (lentOf (stateOf (A .memories .now) (A .buffer .now) l (A .status .now)) (A .engaged .now)) q (A .processor) p
+    (record { none = opens .none; is = opens .is }) (unfit .result) (unfit .ensures .0 l q h k) (if2 .taken))
 
 refused-requires-3 : tie.Need-refused-requires-3
 refused-requires-3 c κs = search needs
@@ -91,12 +98,17 @@ returns-3 c =
     let unfit = c .before .before .before .before .unfit in
     let if2 = c .before .before .before .if2 in
     let if3 = c .before .if3 in
-    let A = c .before .before .before .before .before .before .before .before .before .before .before .before .before .before .before .before .before .before .before .before .before .args in
+    let A = c .before .before .before .before .before .before .before .before .before .before .before .before .before .before .before .before .before
+    .before .before .before .before .args in
     let opens = open-recipe .ensures .1 (if1 .left) in
     let p = planOf (open-recipe .result .sizes .route) (open-recipe .result .nest) in
     λ l q h k.
-    lines.refuses (refused3 .result) 11 (refused3 .ensures) (λ z. omega arith) (lentOf (stateOf (A .memories .now) (A .buffer .now) l (A .status .now)) (A .engaged .now)) (A .processor) _
-    (lines.turn-beyond (A .encoded .now) (A .route) (A .source .now) (A .office) (lentOf (stateOf (A .memories .now) (A .buffer .now) l (A .status .now)) (A .engaged .now)) q (A .processor) p (record { none = opens .none; is = opens .is }) (unfit .result) (unfit .ensures .0 l q h k) (if2 .left) (omega (arith, opens .sized .processors, if3 .taken)))
+    lines.refuses (refused3 .result) 11 (refused3 .ensures) (λ z. omega arith)
+    (lentOf (stateOf (A .memories .now) (A .buffer .now) l (A .status .now)) (A .engaged .now)) (A .processor) _
+    (lines.turn-beyond (A .encoded .now) (A .route) (A .source .now) (A .office)
+    (lentOf (stateOf (A .memories .now) (A .buffer .now) l (A .status .now)) (A .engaged .now)) q (A .processor) p
+    (record { none = opens .none; is = opens .is }) (unfit .result) (unfit .ensures .0 l q h k) (if2 .left)
+    (omega (arith, opens .sized .processors, if3 .taken)))
 
 sub-held : tie.Need-sub-held
 sub-held c = search needs
@@ -106,11 +118,12 @@ part-held-start c = search needs
 
 part-held-end : tie.Need-part-held-end
 part-held-end c =
-    let open-recipe = c .before .before .before .before .before .before .before .before .before .before .before .before .before .before .open-recipe in
-    let if1 = c .before .before .before .before .before .before .before .before .before .before .before .before .before .if1 in
-    let unfit = c .before .before .before .before .before .unfit in
-    let if2 = c .before .before .before .before .if2 in
-    let S = c .before .before .before .before .before .before .before .before .before .before .before .before .before .before .before .before .before .before .before .before .before .before in
+    let open-recipe = c .before .before .before .before .before .before .before .before .before .before .before .before .before .before .before .open-recipe in
+    let if1 = c .before .before .before .before .before .before .before .before .before .before .before .before .before .before .if1 in
+    let unfit = c .before .before .before .before .before .before .unfit in
+    let if2 = c .before .before .before .before .before .if2 in
+    let S = c .before .before .before .before .before .before .before .before .before .before .before .before .before .before .before .before .before
+    .before .before .before .before .before .before in
     let A = S .args in
     let opens = open-recipe .ensures .1 (if1 .left) in
     let p = planOf (open-recipe .result .sizes .route) (open-recipe .result .nest) in
@@ -123,12 +136,14 @@ part-held-end c =
 
 held-requires : tie.Need-held-requires
 held-requires c κs =
-    let open-recipe = c .before .before .before .before .before .before .before .before .before .before .before .before .before .before .before .before .open-recipe in
-    let if1 = c .before .before .before .before .before .before .before .before .before .before .before .before .before .before .before .if1 in
-    let unfit = c .before .before .before .before .before .before .before .unfit in
-    let if2 = c .before .before .before .before .before .before .if2 in
-    let S = c .before .before .before .before .before .before .before .before .before .before .before .before .before .before .before .before .before .before .before .before .before .before .before .before in
-    let if3 = c .before .before .before .before .if3 in
+    let open-recipe = c .before .before .before .before .before .before .before .before .before .before .before .before .before .before .before
+    .before .before .open-recipe in
+    let if1 = c .before .before .before .before .before .before .before .before .before .before .before .before .before .before .before .before .if1 in
+    let unfit = c .before .before .before .before .before .before .before .before .unfit in
+    let if2 = c .before .before .before .before .before .before .before .if2 in
+    let S = c .before .before .before .before .before .before .before .before .before .before .before .before .before .before .before .before .before
+    .before .before .before .before .before .before .before .before in
+    let if3 = c .before .before .before .before .before .if3 in
     let A = S .args in
     let opens = open-recipe .ensures .1 (if1 .left) in
     let p = planOf (open-recipe .result .sizes .route) (open-recipe .result .nest) in
@@ -137,10 +152,17 @@ held-requires c κs =
     let counts = unfit .ensures .1 (if2 .left) in
     let few = reading.few-words _ _ (opens .sized) (A .progress .count) (counts .0) in
     let few2 = reading.few-words _ _ (opens .sized) (A .theirs .count) (counts .1) in
-    let none = lines.unfit-none p (A .source .now) (A .office) (lentOf (stateOf (A .memories .now) (A .buffer .now) own (A .status .now)) (A .engaged .now)) other (unfit .result)
+    let none = lines.unfit-none p (A .source .now) (A .office) (lentOf (stateOf (A .memories .now) (A .buffer .now) own (A .status .now))
+    (A .engaged .now)) other (unfit .result)
     (unfit .ensures .0 own other (reading.part-carries (A .progress) (S .pre .0) few) (reading.part-carries (A .theirs) (S .pre .1) few2)) (if2 .left) in
-    let lengths = lines.lengths-are p (A .source .now) (lentOf (stateOf (A .memories .now) (A .buffer .now) own (A .status .now)) (A .engaged .now)) other (none .0) in
-    ((opens .sized, (lengths .own .progress, lengths .engaged)), ((omega (arith, opens .sized .processors, if3 .left)), leb-true _ _ (none .1 .office)))
+    let lengths = lines.lengths-are p (A .source .now) (lentOf (stateOf (A .memories .now) (A .buffer .now) own (A .status .now)) (A .engaged .now))
+    other (none .0) in (
+      (opens .sized, opens .table),
+      (
+        (lengths .own .progress, lengths .engaged),
+        (omega (arith, opens .sized .processors, if3 .left), leb-true _ _ (none .1 .office)),
+      ),
+    )
 
 refused-requires-4 : tie.Need-refused-requires-4
 refused-requires-4 c κs = search needs
@@ -159,15 +181,18 @@ same-length-12 c = search needs
 
 returns-4 : tie.Need-returns-4
 returns-4 c =
-    let open-recipe = c .before .before .before .before .before .before .before .before .before .before .before .before .before .before .before .before .before .before .before .open-recipe in
-    let if1 = c .before .before .before .before .before .before .before .before .before .before .before .before .before .before .before .before .before .before .if1 in
-    let unfit = c .before .before .before .before .before .before .before .before .before .before .unfit in
-    let if2 = c .before .before .before .before .before .before .before .before .before .if2 in
+    let open-recipe = c .before .before .before .before .before .before .before .before .before .before .before .before .before .before .before
+    .before .before .before .before .before .open-recipe in
+    let if1 = c .before .before .before .before .before .before .before .before .before .before .before .before .before .before .before .before
+    .before .before .before .if1 in
+    let unfit = c .before .before .before .before .before .before .before .before .before .before .before .unfit in
+    let if2 = c .before .before .before .before .before .before .before .before .before .before .if2 in
     let refused4 = c .refused4 in
-    let if3 = c .before .before .before .before .before .before .before .if3 in
+    let if3 = c .before .before .before .before .before .before .before .before .if3 in
     let held = c .before .before .held in
     let if4 = c .before .if4 in
-    let A = c .before .before .before .before .before .before .before .before .before .before .before .before .before .before .before .before .before .before .before .before .before .before .before .before .before .before .before .args in
+    let A = c .before .before .before .before .before .before .before .before .before .before .before .before .before .before .before .before .before
+    .before .before .before .before .before .before .before .before .before .before .before .args in
     let opens = open-recipe .ensures .1 (if1 .left) in
     let p = planOf (open-recipe .result .sizes .route) (open-recipe .result .nest) in
     let own = take (A .progress .count - 0) (drop 0 (A .progress .words)) in
@@ -176,9 +201,13 @@ returns-4 c =
     let few = reading.few-words _ _ (opens .sized) (A .progress .count) (counts .0) in
     let few2 = reading.few-words _ _ (opens .sized) (A .theirs .count) (counts .1) in
     λ l q h k.
-    lines.refuses (refused4 .result) 19 (refused4 .ensures) (λ z. omega arith) (lentOf (stateOf (A .memories .now) (A .buffer .now) l (A .status .now)) (A .engaged .now)) (A .processor) _
-    (lines.turn-held (A .encoded .now) (A .route) (A .source .now) (A .office) (lentOf (stateOf (A .memories .now) (A .buffer .now) l (A .status .now)) (A .engaged .now)) q (A .processor) p (record { none = opens .none; is = opens .is }) (unfit .result) (unfit .ensures .0 l q h k) (if2 .left) (omega (arith, opens .sized .processors, if3 .left))
-    (lines.held-as p (A .office) (A .memories .now) (A .buffer .now) own l (A .status .now) (A .engaged .now) (A .processor) (reading.part-is (A .progress) l few h) ∙ sym (held .ensures) ∙ if4 .taken))
+    lines.refuses (refused4 .result) 19 (refused4 .ensures) (λ z. omega arith)
+    (lentOf (stateOf (A .memories .now) (A .buffer .now) l (A .status .now)) (A .engaged .now)) (A .processor) _
+    (lines.turn-held (A .encoded .now) (A .route) (A .source .now) (A .office)
+    (lentOf (stateOf (A .memories .now) (A .buffer .now) l (A .status .now)) (A .engaged .now)) q (A .processor) p
+    (record { none = opens .none; is = opens .is }) (unfit .result) (unfit .ensures .0 l q h k) (if2 .left) (omega (arith, opens .sized .processors, if3 .left))
+    (lines.held-as p (A .office) (A .memories .now) (A .buffer .now) own l (A .status .now) (A .engaged .now) (A .processor)
+    (reading.part-is (A .progress) l few h) ∙ sym (held .ensures) ∙ if4 .taken))
 
 sub-step : tie.Need-sub-step
 sub-step c = search needs
@@ -188,11 +217,14 @@ part-step-start c = search needs
 
 part-step-end : tie.Need-part-step-end
 part-step-end c =
-    let open-recipe = c .before .before .before .before .before .before .before .before .before .before .before .before .before .before .before .before .before .before .before .before .before .before .open-recipe in
-    let if1 = c .before .before .before .before .before .before .before .before .before .before .before .before .before .before .before .before .before .before .before .before .before .if1 in
-    let unfit = c .before .before .before .before .before .before .before .before .before .before .before .before .before .unfit in
-    let if2 = c .before .before .before .before .before .before .before .before .before .before .before .before .if2 in
-    let S = c .before .before .before .before .before .before .before .before .before .before .before .before .before .before .before .before .before .before .before .before .before .before .before .before .before .before .before .before .before .before in
+    let open-recipe = c .before .before .before .before .before .before .before .before .before .before .before .before .before .before .before
+    .before .before .before .before .before .before .before .before .open-recipe in
+    let if1 = c .before .before .before .before .before .before .before .before .before .before .before .before .before .before .before .before
+    .before .before .before .before .before .before .if1 in
+    let unfit = c .before .before .before .before .before .before .before .before .before .before .before .before .before .before .unfit in
+    let if2 = c .before .before .before .before .before .before .before .before .before .before .before .before .before .if2 in
+    let S = c .before .before .before .before .before .before .before .before .before .before .before .before .before .before .before .before .before
+    .before .before .before .before .before .before .before .before .before .before .before .before .before .before in
     let A = S .args in
     let opens = open-recipe .ensures .1 (if1 .left) in
     let p = planOf (open-recipe .result .sizes .route) (open-recipe .result .nest) in
@@ -205,12 +237,15 @@ part-step-end c =
 
 step-requires : tie.Need-step-requires
 step-requires c κs =
-    let open-recipe = c .before .before .before .before .before .before .before .before .before .before .before .before .before .before .before .before .before .before .before .before .before .before .before .before .open-recipe in
-    let if1 = c .before .before .before .before .before .before .before .before .before .before .before .before .before .before .before .before .before .before .before .before .before .before .before .if1 in
-    let unfit = c .before .before .before .before .before .before .before .before .before .before .before .before .before .before .before .unfit in
-    let if2 = c .before .before .before .before .before .before .before .before .before .before .before .before .before .before .if2 in
-    let S = c .before .before .before .before .before .before .before .before .before .before .before .before .before .before .before .before .before .before .before .before .before .before .before .before .before .before .before .before .before .before .before .before in
-    let if3 = c .before .before .before .before .before .before .before .before .before .before .before .before .if3 in
+    let open-recipe = c .before .before .before .before .before .before .before .before .before .before .before .before .before .before .before
+    .before .before .before .before .before .before .before .before .before .before .open-recipe in
+    let if1 = c .before .before .before .before .before .before .before .before .before .before .before .before .before .before .before .before
+    .before .before .before .before .before .before .before .before .if1 in
+    let unfit = c .before .before .before .before .before .before .before .before .before .before .before .before .before .before .before .before .unfit in
+    let if2 = c .before .before .before .before .before .before .before .before .before .before .before .before .before .before .before .if2 in
+    let S = c .before .before .before .before .before .before .before .before .before .before .before .before .before .before .before .before .before
+    .before .before .before .before .before .before .before .before .before .before .before .before .before .before .before .before in
+    let if3 = c .before .before .before .before .before .before .before .before .before .before .before .before .before .if3 in
     let A = S .args in
     let opens = open-recipe .ensures .1 (if1 .left) in
     let p = planOf (open-recipe .result .sizes .route) (open-recipe .result .nest) in
@@ -219,19 +254,37 @@ step-requires c κs =
     let counts = unfit .ensures .1 (if2 .left) in
     let few = reading.few-words _ _ (opens .sized) (A .progress .count) (counts .0) in
     let few2 = reading.few-words _ _ (opens .sized) (A .theirs .count) (counts .1) in
-    let none = lines.unfit-none p (A .source .now) (A .office) (lentOf (stateOf (A .memories .now) (A .buffer .now) own (A .status .now)) (A .engaged .now)) other (unfit .result)
+    let none = lines.unfit-none p (A .source .now) (A .office) (lentOf (stateOf (A .memories .now) (A .buffer .now) own (A .status .now))
+    (A .engaged .now)) other (unfit .result)
     (unfit .ensures .0 own other (reading.part-carries (A .progress) (S .pre .0) few) (reading.part-carries (A .theirs) (S .pre .1) few2)) (if2 .left) in
-    let lengths = lines.lengths-are p (A .source .now) (lentOf (stateOf (A .memories .now) (A .buffer .now) own (A .status .now)) (A .engaged .now)) other (none .0) in
-    ((opens .sized, opens .table), record { areas = lengths .own; fit = own-fits p (A .office) (lentOf (stateOf (A .memories .now) (A .buffer .now) own (A .status .now)) (A .engaged .now)) other (none .1 .fits); processor = (omega (arith, opens .sized .processors, if3 .left)) })
+    let lengths = lines.lengths-are p (A .source .now) (lentOf (stateOf (A .memories .now) (A .buffer .now) own (A .status .now)) (A .engaged .now))
+    other (none .0) in (
+      (opens .sized, opens .table),
+      record {
+        areas = lengths .own;
+        fit = own-fits p (A .office)
+            (lentOf (stateOf (A .memories .now) (A .buffer .now) own (A .status .now)) (A .engaged .now)) other (none .1 .fits);
+        processor =
+            (omega (arith, opens .sized .processors, if3 .left));
+      },
+    )
 
 engage-requires : tie.Need-engage-requires
 engage-requires c κs =
-    let open-recipe = c .before .before .before .before .before .before .before .before .before .before .before .before .before .before .before .before .before .before .before .before .before .before .before .before .before .before .before .before .before .before .before .before .open-recipe in
-    let if1 = c .before .before .before .before .before .before .before .before .before .before .before .before .before .before .before .before .before .before .before .before .before .before .before .before .before .before .before .before .before .before .before .if1 in
-    let unfit = c .before .before .before .before .before .before .before .before .before .before .before .before .before .before .before .before .before .before .before .before .before .before .before .unfit in
-    let if2 = c .before .before .before .before .before .before .before .before .before .before .before .before .before .before .before .before .before .before .before .before .before .before .if2 in
-    let S = c .before .before .before .before .before .before .before .before .before .before .before .before .before .before .before .before .before .before .before .before .before .before .before .before .before .before .before .before .before .before .before .before .before .before .before .before .before .before .before .before in
-    let if3 = c .before .before .before .before .before .before .before .before .before .before .before .before .before .before .before .before .before .before .before .before .if3 in
+    let open-recipe = c .before .before .before .before .before .before .before .before .before .before .before .before .before .before .before
+    .before .before .before .before .before .before .before .before .before .before .before .before .before .before .before .before .before .before
+    .open-recipe in
+    let if1 = c .before .before .before .before .before .before .before .before .before .before .before .before .before .before .before .before
+    .before .before .before .before .before .before .before .before .before .before .before .before .before .before .before .before .if1 in
+    let unfit = c .before .before .before .before .before .before .before .before .before .before .before .before .before .before .before .before
+    .before .before .before .before .before .before .before .before .unfit in
+    let if2 = c .before .before .before .before .before .before .before .before .before .before .before .before .before .before .before .before
+    .before .before .before .before .before .before .before .if2 in
+    let S = c .before .before .before .before .before .before .before .before .before .before .before .before .before .before .before .before .before
+    .before .before .before .before .before .before .before .before .before .before .before .before .before .before .before .before .before .before
+    .before .before .before .before .before .before in
+    let if3 = c .before .before .before .before .before .before .before .before .before .before .before .before .before .before .before .before
+    .before .before .before .before .before .if3 in
     let A = S .args in
     let opens = open-recipe .ensures .1 (if1 .left) in
     let p = planOf (open-recipe .result .sizes .route) (open-recipe .result .nest) in
@@ -240,9 +293,11 @@ engage-requires c κs =
     let counts = unfit .ensures .1 (if2 .left) in
     let few = reading.few-words _ _ (opens .sized) (A .progress .count) (counts .0) in
     let few2 = reading.few-words _ _ (opens .sized) (A .theirs .count) (counts .1) in
-    let none = lines.unfit-none p (A .source .now) (A .office) (lentOf (stateOf (A .memories .now) (A .buffer .now) own (A .status .now)) (A .engaged .now)) other (unfit .result)
+    let none = lines.unfit-none p (A .source .now) (A .office) (lentOf (stateOf (A .memories .now) (A .buffer .now) own (A .status .now))
+    (A .engaged .now)) other (unfit .result)
     (unfit .ensures .0 own other (reading.part-carries (A .progress) (S .pre .0) few) (reading.part-carries (A .theirs) (S .pre .1) few2)) (if2 .left) in
-    let lengths = lines.lengths-are p (A .source .now) (lentOf (stateOf (A .memories .now) (A .buffer .now) own (A .status .now)) (A .engaged .now)) other (none .0) in
+    let lengths = lines.lengths-are p (A .source .now) (lentOf (stateOf (A .memories .now) (A .buffer .now) own (A .status .now)) (A .engaged .now))
+    other (none .0) in
     omega (arith, lengths .engaged, opens .sized .processors, if3 .left)
 
 same-length-13 : tie.Need-same-length-13
@@ -259,15 +314,25 @@ same-length-16 c = search needs
 
 returns-5 : tie.Need-returns-5
 returns-5 c =
-    let open-recipe = c .before .before .before .before .before .before .before .before .before .before .before .before .before .before .before .before .before .before .before .before .before .before .before .before .before .before .before .before .before .before .before .before .before .before .before .open-recipe in
-    let if1 = c .before .before .before .before .before .before .before .before .before .before .before .before .before .before .before .before .before .before .before .before .before .before .before .before .before .before .before .before .before .before .before .before .before .before .if1 in
-    let unfit = c .before .before .before .before .before .before .before .before .before .before .before .before .before .before .before .before .before .before .before .before .before .before .before .before .before .before .unfit in
-    let if2 = c .before .before .before .before .before .before .before .before .before .before .before .before .before .before .before .before .before .before .before .before .before .before .before .before .before .if2 in
+    let open-recipe = c .before .before .before .before .before .before .before .before .before .before .before .before .before .before .before
+    .before .before .before .before .before .before .before .before .before .before .before .before .before .before .before .before .before .before
+    .before .before .before .open-recipe in
+    let if1 = c .before .before .before .before .before .before .before .before .before .before .before .before .before .before .before .before
+    .before .before .before .before .before .before .before .before .before .before .before .before .before .before .before .before .before .before
+    .before .if1 in
+    let unfit = c .before .before .before .before .before .before .before .before .before .before .before .before .before .before .before .before
+    .before .before .before .before .before .before .before .before .before .before .before .unfit in
+    let if2 = c .before .before .before .before .before .before .before .before .before .before .before .before .before .before .before .before
+    .before .before .before .before .before .before .before .before .before .before .if2 in
     let step = c .before .before .before .before .before .before .before .before .before .before .step in
     let engage = c .before .before .engage in
-    let S = c .before .before .before .before .before .before .before .before .before .before .before .before .before .before .before .before .before .before .before .before .before .before .before .before .before .before .before .before .before .before .before .before .before .before .before .before .before .before .before .before .before .before .before in
-    let if3 = c .before .before .before .before .before .before .before .before .before .before .before .before .before .before .before .before .before .before .before .before .before .before .before .if3 in
-    let held = c .before .before .before .before .before .before .before .before .before .before .before .before .before .before .before .before .before .before .held in
+    let S = c .before .before .before .before .before .before .before .before .before .before .before .before .before .before .before .before .before
+    .before .before .before .before .before .before .before .before .before .before .before .before .before .before .before .before .before .before
+    .before .before .before .before .before .before .before .before .before in
+    let if3 = c .before .before .before .before .before .before .before .before .before .before .before .before .before .before .before .before
+    .before .before .before .before .before .before .before .before .if3 in
+    let held = c .before .before .before .before .before .before .before .before .before .before .before .before .before .before .before .before
+    .before .before .held in
     let if4 = c .before .before .before .before .before .before .before .before .before .before .before .before .before .before .before .before .before .if4 in
     let A = S .args in
     let opens = open-recipe .ensures .1 (if1 .left) in
@@ -278,11 +343,18 @@ returns-5 c =
     let few = reading.few-words _ _ (opens .sized) (A .progress .count) (counts .0) in
     let few2 = reading.few-words _ _ (opens .sized) (A .theirs .count) (counts .1) in
     λ l q h k.
-    lines.turn-as (A .encoded .now) (A .route) (A .source .now) (A .office) (A .memories .now) (A .buffer .now) (A .status .now) (A .engaged .now) own l other q (A .processor)
-    (reading.part-is (A .progress) l few h) (reading.part-is (A .theirs) q few2 k) (step .result) (step .last .1 .1 .1 .1 .0) (step .last .1 .1 .1 .1 .1 .0) (step .last .1 .1 .1 .1 .1 .1 .1 .0) (engage .last .0)
-    (lines.turn-steps (A .encoded .now) (A .route) (A .source .now) (A .office) (lentOf (stateOf (A .memories .now) (A .buffer .now) own (A .status .now)) (A .engaged .now)) other (A .processor) p (record { none = opens .none; is = opens .is }) (unfit .result)
-    (unfit .ensures .0 own other (reading.part-carries (A .progress) (S .pre .0) few) (reading.part-carries (A .theirs) (S .pre .1) few2)) (if2 .left) (omega (arith, opens .sized .processors, if3 .left))
-    (lines.held-as p (A .office) (A .memories .now) (A .buffer .now) own own (A .status .now) (A .engaged .now) (A .processor) refl ∙ sym (held .ensures) ∙ if4 .left) (step .result) (step .last .1 .1 .1 .1 .0) (step .last .1 .1 .1 .1 .1 .0) (step .last .1 .1 .1 .1 .1 .1 .1 .0) (engage .last .0) (engage .ensures) (step .ensures))
+    lines.turn-as (A .encoded .now) (A .route) (A .source .now) (A .office) (A .memories .now) (A .buffer .now) (A .status .now) (A .engaged .now) own
+    l other q (A .processor)
+    (reading.part-is (A .progress) l few h) (reading.part-is (A .theirs) q few2 k) (step .result) (step .last .1 .1 .1 .1 .0)
+    (step .last .1 .1 .1 .1 .1 .0) (step .last .1 .1 .1 .1 .1 .1 .1 .0) (engage .last .0)
+    (lines.turn-steps (A .encoded .now) (A .route) (A .source .now) (A .office)
+    (lentOf (stateOf (A .memories .now) (A .buffer .now) own (A .status .now)) (A .engaged .now)) other (A .processor) p
+    (record { none = opens .none; is = opens .is }) (unfit .result)
+    (unfit .ensures .0 own other (reading.part-carries (A .progress) (S .pre .0) few) (reading.part-carries (A .theirs) (S .pre .1) few2)) (if2 .left)
+    (omega (arith, opens .sized .processors, if3 .left))
+    (lines.held-as p (A .office) (A .memories .now) (A .buffer .now) own own (A .status .now) (A .engaged .now) (A .processor) refl ∙ sym
+    (held .ensures) ∙ if4 .left) (step .result) (step .last .1 .1 .1 .1 .0) (step .last .1 .1 .1 .1 .1 .0) (step .last .1 .1 .1 .1 .1 .1 .1 .0)
+    (engage .last .0) (engage .ensures) (step .ensures))
 
 pub turn-spec : {M : Type 1} → statement M
 turn-spec =

@@ -5,7 +5,7 @@ use native.Mathlib.Omega.{arith}
 use lib.ListN.{take, drop}
 use borrow.Author.Tests.{not-true, not-false, le-leb, lt-leb}
 use Rattle.machine.specs.Machine.{stateOf}
-use Rattle.plan.specs.Messages.{planOf}
+use Rattle.plan.specs.Shaped.{planOf}
 use Rattle.offices.specs.Offices.{lentOf}
 use Rattle.engine.proofs.Lines as areas
 use Rattle.engine.proofs.Reading as reading
@@ -24,7 +24,8 @@ returns c =
     let A = c .before .before .before .before .before .before .before .args in
     let p = planOf (A .sizes .route) (A .nest) in (
       λ l q h k. lines.unfit-9 p (A .source .now) (A .office) (lentOf (stateOf (A .memories .now) (A .buffer .now) l (A .status .now)) (A .engaged .now)) q
-          (lines.no-own p (A .source .now) (lentOf (stateOf (A .memories .now) (A .buffer .now) l (A .status .now)) (A .engaged .now)) q (sym (areas-fit .ensures .0 l (h .counted)) ∙ not-true _ (if1 .taken))),
+          (lines.no-own p (A .source .now) (lentOf (stateOf (A .memories .now) (A .buffer .now) l (A .status .now)) (A .engaged .now)) q
+          (sym (areas-fit .ensures .0 l (h .counted)) ∙ not-true _ (if1 .taken))),
       λ z. absurd (omega arith),
     )
 
@@ -35,7 +36,8 @@ returns-2 c =
     let A = S .args in
     let p = planOf (A .sizes .route) (A .nest) in (
       λ l q h k. lines.unfit-9 p (A .source .now) (A .office) (lentOf (stateOf (A .memories .now) (A .buffer .now) l (A .status .now)) (A .engaged .now)) q
-          (lines.no-words p (A .source .now) (lentOf (stateOf (A .memories .now) (A .buffer .now) l (A .status .now)) (A .engaged .now)) q (λ e. if2 .taken (e ∙ sym (S .pre .0 .0 .processors)))),
+          (lines.no-words p (A .source .now) (lentOf (stateOf (A .memories .now) (A .buffer .now) l (A .status .now)) (A .engaged .now)) q
+          (λ e. if2 .taken (e ∙ sym (S .pre .0 .0 .processors)))),
       λ z. absurd (omega arith),
     )
 
@@ -49,7 +51,8 @@ returns-3 c =
     let A = S .args in
     let p = planOf (A .sizes .route) (A .nest) in (
       λ l q h k. lines.unfit-9 p (A .source .now) (A .office) (lentOf (stateOf (A .memories .now) (A .buffer .now) l (A .status .now)) (A .engaged .now)) q
-          (lines.no-theirs p (A .source .now) (lentOf (stateOf (A .memories .now) (A .buffer .now) l (A .status .now)) (A .engaged .now)) q (λ e. if3 .taken (k .counted ∙ e ∙ sym (areas.records-are (A .nest) (A .sizes) (S .pre .0 .0))))),
+          (lines.no-theirs p (A .source .now) (lentOf (stateOf (A .memories .now) (A .buffer .now) l (A .status .now)) (A .engaged .now)) q
+          (λ e. if3 .taken (k .counted ∙ e ∙ sym (areas.records-are (A .nest) (A .sizes) (S .pre .0 .0))))),
       λ z. absurd (omega arith),
     )
 
@@ -64,7 +67,9 @@ returns-4 c =
     let A = S .args in
     let p = planOf (A .sizes .route) (A .nest) in (
       λ l q h k. lines.unfit-11 p (A .source .now) (A .office) (lentOf (stateOf (A .memories .now) (A .buffer .now) l (A .status .now)) (A .engaged .now)) q
-          (lines.all-long p (A .source .now) (lentOf (stateOf (A .memories .now) (A .buffer .now) l (A .status .now)) (A .engaged .now)) q (sym (areas-fit .ensures .0 l (h .counted)) ∙ not-false _ (if1 .left)) (if2 .left ∙ S .pre .0 .0 .processors) (sym (k .counted) ∙ if3 .left ∙ areas.records-are (A .nest) (A .sizes) (S .pre .0 .0))) (lt-leb _ _ (if4 .taken)),
+          (lines.all-long p (A .source .now) (lentOf (stateOf (A .memories .now) (A .buffer .now) l (A .status .now)) (A .engaged .now)) q
+          (sym (areas-fit .ensures .0 l (h .counted)) ∙ not-false _ (if1 .left)) (if2 .left ∙ S .pre .0 .0 .processors)
+          (sym (k .counted) ∙ if3 .left ∙ areas.records-are (A .nest) (A .sizes) (S .pre .0 .0))) (lt-leb _ _ (if4 .taken)),
       λ z. absurd (omega arith),
     )
 
@@ -108,14 +113,24 @@ fit-rig-requires c κs =
     let few2 = reading.few-words (A .nest) (A .sizes) (S .pre .0 .0) (A .theirs .count) (if3 .left ∙ areas.records-are (A .nest) (A .sizes) (S .pre .0 .0)) in
     let h = reading.part-carries (A .progress) (S .pre .1 .0) few in
     let k = reading.part-carries (A .theirs) (S .pre .1 .1) few2 in
-    let lengths = areas.areas-are p (A .source .now) (stateOf (A .memories .now) (A .buffer .now) own (A .status .now)) (sym (areas-fit .ensures .0 own (h .counted)) ∙ not-false _ (if1 .left)) in
-    (S .pre .0, ((lengths .progress, lengths .status), (if2 .left ∙ S .pre .0 .0 .processors, (sym (k .counted) ∙ if3 .left ∙ areas.records-are (A .nest) (A .sizes) (S .pre .0 .0), omega (arith, if4 .left)))))
+    let lengths = areas.areas-are p (A .source .now) (stateOf (A .memories .now) (A .buffer .now) own (A .status .now))
+    (sym (areas-fit .ensures .0 own (h .counted)) ∙ not-false _ (if1 .left)) in (
+      S .pre .0,
+      (
+        (lengths .progress, lengths .status),
+        (
+          if2 .left ∙ S .pre .0 .0 .processors,
+          (sym (k .counted) ∙ if3 .left ∙ areas.records-are (A .nest) (A .sizes) (S .pre .0 .0), omega (arith, if4 .left)),
+        ),
+      ),
+    )
 
 returns-5 : tie.Need-returns-5
 returns-5 c =
     let areas-fit = c .before .before .before .before .before .before .before .before .before .before .before .before .before .before .areas-fit in
     let if1 = c .before .before .before .before .before .before .before .before .before .before .before .before .before .if1 in
-    let S = c .before .before .before .before .before .before .before .before .before .before .before .before .before .before .before .before .before .before .before .before in
+    let S = c .before .before .before .before .before .before .before .before .before .before .before .before .before .before .before .before .before
+    .before .before .before in
     let if3 = c .before .before .before .before .before .before .before .before .before .if3 in
     let if2 = c .before .before .before .before .before .before .before .before .before .before .before .if2 in
     let if4 = c .before .before .before .before .before .before .before .before .if4 in
@@ -129,8 +144,11 @@ returns-5 c =
     let few = reading.few-words (A .nest) (A .sizes) (S .pre .0 .0) (A .progress .count) n in
     let few2 = reading.few-words (A .nest) (A .sizes) (S .pre .0 .0) (A .theirs .count) (if3 .left ∙ areas.records-are (A .nest) (A .sizes) (S .pre .0 .0)) in (
       λ l q h k. lines.unfit-10 p (A .source .now) (A .office) (lentOf (stateOf (A .memories .now) (A .buffer .now) l (A .status .now)) (A .engaged .now)) q
-          (lines.all-long p (A .source .now) (lentOf (stateOf (A .memories .now) (A .buffer .now) l (A .status .now)) (A .engaged .now)) q (sym (areas-fit .ensures .0 l (h .counted)) ∙ not-false _ (if1 .left)) (if2 .left ∙ S .pre .0 .0 .processors) (sym (k .counted) ∙ if3 .left ∙ areas.records-are (A .nest) (A .sizes) (S .pre .0 .0))) (le-leb (A .office) 1 (omega (arith, if4 .left)))
-          (sym (lines.fit-as p (A .office) (A .memories .now) (A .buffer .now) own l (A .status .now) (A .engaged .now) other q (reading.part-is (A .progress) l few h) (reading.part-is (A .theirs) q few2 k))
+          (lines.all-long p (A .source .now) (lentOf (stateOf (A .memories .now) (A .buffer .now) l (A .status .now)) (A .engaged .now)) q
+          (sym (areas-fit .ensures .0 l (h .counted)) ∙ not-false _ (if1 .left)) (if2 .left ∙ S .pre .0 .0 .processors)
+          (sym (k .counted) ∙ if3 .left ∙ areas.records-are (A .nest) (A .sizes) (S .pre .0 .0))) (le-leb (A .office) 1 (omega (arith, if4 .left)))
+          (sym (lines.fit-as p (A .office) (A .memories .now) (A .buffer .now) own l (A .status .now) (A .engaged .now) other q
+          (reading.part-is (A .progress) l few h) (reading.part-is (A .theirs) q few2 k))
           ∙ sym (fit-rig .ensures) ∙ not-true _ (if5 .taken)),
       λ z. absurd (omega arith),
     )
@@ -139,7 +157,8 @@ returns-6 : tie.Need-returns-6
 returns-6 c =
     let areas-fit = c .before .before .before .before .before .before .before .before .before .before .before .before .before .before .areas-fit in
     let if1 = c .before .before .before .before .before .before .before .before .before .before .before .before .before .if1 in
-    let S = c .before .before .before .before .before .before .before .before .before .before .before .before .before .before .before .before .before .before .before .before in
+    let S = c .before .before .before .before .before .before .before .before .before .before .before .before .before .before .before .before .before
+    .before .before .before in
     let if3 = c .before .before .before .before .before .before .before .before .before .if3 in
     let if2 = c .before .before .before .before .before .before .before .before .before .before .before .if2 in
     let if4 = c .before .before .before .before .before .before .before .before .if4 in
@@ -153,8 +172,11 @@ returns-6 c =
     let few = reading.few-words (A .nest) (A .sizes) (S .pre .0 .0) (A .progress .count) n in
     let few2 = reading.few-words (A .nest) (A .sizes) (S .pre .0 .0) (A .theirs .count) (if3 .left ∙ areas.records-are (A .nest) (A .sizes) (S .pre .0 .0)) in (
       λ l q h k. lines.unfit-0 p (A .source .now) (A .office) (lentOf (stateOf (A .memories .now) (A .buffer .now) l (A .status .now)) (A .engaged .now)) q
-          (lines.all-long p (A .source .now) (lentOf (stateOf (A .memories .now) (A .buffer .now) l (A .status .now)) (A .engaged .now)) q (sym (areas-fit .ensures .0 l (h .counted)) ∙ not-false _ (if1 .left)) (if2 .left ∙ S .pre .0 .0 .processors) (sym (k .counted) ∙ if3 .left ∙ areas.records-are (A .nest) (A .sizes) (S .pre .0 .0))) (le-leb (A .office) 1 (omega (arith, if4 .left)))
-          (sym (lines.fit-as p (A .office) (A .memories .now) (A .buffer .now) own l (A .status .now) (A .engaged .now) other q (reading.part-is (A .progress) l few h) (reading.part-is (A .theirs) q few2 k))
+          (lines.all-long p (A .source .now) (lentOf (stateOf (A .memories .now) (A .buffer .now) l (A .status .now)) (A .engaged .now)) q
+          (sym (areas-fit .ensures .0 l (h .counted)) ∙ not-false _ (if1 .left)) (if2 .left ∙ S .pre .0 .0 .processors)
+          (sym (k .counted) ∙ if3 .left ∙ areas.records-are (A .nest) (A .sizes) (S .pre .0 .0))) (le-leb (A .office) 1 (omega (arith, if4 .left)))
+          (sym (lines.fit-as p (A .office) (A .memories .now) (A .buffer .now) own l (A .status .now) (A .engaged .now) other q
+          (reading.part-is (A .progress) l few h) (reading.part-is (A .theirs) q few2 k))
           ∙ sym (fit-rig .ensures) ∙ not-false _ (if5 .left)),
       λ z. (n, if3 .left ∙ areas.records-are (A .nest) (A .sizes) (S .pre .0 .0)),
     )

@@ -1,0 +1,143 @@
+-- `nest::mark_row` meets its contract: the tiles of the row lie between those of its span's ends.
+use native.Mathlib.Omega.{arith}
+use borrow.Author.Needs.{needs}
+use Rattle.nest.proofs.Shapes as S
+use Rattle.nest.proofs.mark_row.Statement.{statement}
+use Rattle.nest.proofs.mark_row.Tie as tie
+
+row-place-requires : tie.Need-row-place-requires
+row-place-requires c κs = search needs
+
+span-requires : tie.Need-span-requires
+span-requires c κs = search needs
+
+tile-at-requires : tie.Need-tile-at-requires
+tile-at-requires c κs =
+    let start = c .before .before .before .before .before in
+    (start .pre .0, S.row-inside (start .args .nest) (start .pre .0 .0) (start .args .q) _ (c .before .before .before .row-place .ensures))
+
+sub-length : tie.Need-sub-length
+sub-length c = search needs
+
+mul-length : tie.Need-mul-length
+mul-length c = search needs
+
+array-read-length : tie.Need-array-read-length
+array-read-length c = search needs
+
+div-mark : tie.Need-div-mark
+div-mark c =
+    let start = c .before .before .before .before .before .before .before .before .before .before in
+    start .pre .0 .1 _ (omega (arith, start .pre .0 .0 .dimensions-least))
+
+add-mark : tie.Need-add-mark
+add-mark c =
+    let start = c .before .before .before .before .before .before .before .before .before .before in
+    omega (
+      arith,
+      S.row-room (start .args .nest) (start .pre .0 .0) (start .pre .0 .1) (start .args .q) _ _
+          (c .before .before .before .before .before .before .before .before .row-place .ensures)
+          (c .before .before .before .before .before .before .before .span .ensures)
+          (c .before .before .before .before .before .if1 .taken),
+      S.row-start (start .args .nest) (start .pre .0 .0) (start .pre .0 .1) (start .args .q) _ _
+          (c .before .before .before .before .before .before .before .before .row-place .ensures)
+          (c .before .before .before .before .before .before .before .span .ensures)
+          (c .before .before .before .before .before .if1 .taken),
+      S.box-room (start .args .nest) (start .pre .0 .0) (start .pre .0 .1),
+      c .before .before .before .before .tile-at .ensures,
+    )
+
+sub-mark : tie.Need-sub-mark
+sub-mark c = search needs
+
+div-mark-2 : tie.Need-div-mark-2
+div-mark-2 c =
+    let start = c .before .before .before .before .before .before .before .before .before .before .before in
+    start .pre .0 .1 _ (omega (arith, start .pre .0 .0 .dimensions-least))
+
+add-mark-2 : tie.Need-add-mark-2
+add-mark-2 c =
+    let start = c .before .before .before .before .before .before .before .before .before .before .before in
+    omega (
+      arith,
+      S.row-room (start .args .nest) (start .pre .0 .0) (start .pre .0 .1) (start .args .q) _ _
+          (c .before .before .before .before .before .before .before .before .before .row-place .ensures)
+          (c .before .before .before .before .before .before .before .before .span .ensures)
+          (c .before .before .before .before .before .before .if1 .taken),
+      S.box-room (start .args .nest) (start .pre .0 .0) (start .pre .0 .1),
+      c .before .before .before .before .before .tile-at .ensures,
+    )
+
+add-mark-3 : tie.Need-add-mark-3
+add-mark-3 c =
+    let start = c .before .before .before .before .before .before .before .before .before .before .before in
+    omega (
+      arith,
+      S.row-room (start .args .nest) (start .pre .0 .0) (start .pre .0 .1) (start .args .q) _ _
+          (c .before .before .before .before .before .before .before .before .before .row-place .ensures)
+          (c .before .before .before .before .before .before .before .before .span .ensures)
+          (c .before .before .before .before .before .before .if1 .taken),
+      S.box-room (start .args .nest) (start .pre .0 .0) (start .pre .0 .1),
+      c .before .before .before .before .before .tile-at .ensures,
+    )
+
+mark-requires : tie.Need-mark-requires
+mark-requires c κs =
+    let start = c .before .before .before .before .before .before .before .before .before .before .before in (
+      omega (
+        arith,
+        S.row-start (start .args .nest) (start .pre .0 .0) (start .pre .0 .1) (start .args .q) _ _
+            (c .before .before .before .before .before .before .before .before .before .row-place .ensures)
+            (c .before .before .before .before .before .before .before .before .span .ensures)
+            (c .before .before .before .before .before .before .if1 .taken),
+        c .before .before .before .before .before .tile-at .ensures,
+      ),
+      omega (
+        arith,
+        S.row-room (start .args .nest) (start .pre .0 .0) (start .pre .0 .1) (start .args .q) _ _
+            (c .before .before .before .before .before .before .before .before .before .row-place .ensures)
+            (c .before .before .before .before .before .before .before .before .span .ensures)
+            (c .before .before .before .before .before .before .if1 .taken),
+        c .before .before .before .before .before .tile-at .ensures,
+        start .pre .1 .1,
+      ),
+    )
+
+same-length : tie.Need-same-length
+same-length c = search needs
+
+returns : tie.Need-returns
+returns c =
+    let start = c .before .before .before .before .before .before .before .before .before .before .before .before .before .before in
+    S.marked-row-by (start .args .nest) (start .pre .0 .0) (start .pre .0 .1) (start .args .q) _ _
+    (c .before .before .before .before .before .before .before .before .before .before .before .before .row-place .ensures)
+    (c .before .before .before .before .before .before .before .before .before .before .before .span .ensures) _ _ _
+    (c .before .before .before .before .before .before .before .before .tile-at .ensures)
+    (c .before .before .before .before .before .before .before .before .before .if1 .taken) (c .before .before .mark .ensures)
+
+returns-2 : tie.Need-returns-2
+returns-2 c =
+    let start = c .before .before .before .before .before in
+    S.marked-none (start .args .nest) (start .pre .0 .0) (start .pre .0 .1) (start .args .q) _ _ (c .before .before .before .row-place .ensures)
+    (c .before .before .span .ensures) _ (c .if1 .left)
+
+pub mark-row-spec : {M : Type 1} → statement M
+mark-row-spec =
+    tie.close
+    (tie.spec
+    row-place-requires
+    span-requires
+    tile-at-requires
+    sub-length
+    mul-length
+    array-read-length
+    div-mark
+    add-mark
+    sub-mark
+    div-mark-2
+    add-mark-2
+    add-mark-3
+    mark-requires
+    same-length
+    returns
+    returns-2)

@@ -1,0 +1,73 @@
+-- `shaped_table::fill` meets its contract: the lengths of the first tiles' parcels.
+use Prim.Native.Nat.{_-_, _*_, _≤_}
+use mathlib.Core.Path.{_≡_, refl, sym, _∙_}
+use native.Mathlib.Nat.{mul-le-mul-right}
+use lib.ListN.{length}
+use Rattle.plan.specs.Messages.{directions}
+use Rattle.shaped_table.specs.Table.{Filling}
+use native.Mathlib.Omega.{arith}
+use borrow.Author.Needs.{needs}
+use Rattle.shaped_table.proofs.Laws as L
+use Rattle.shaped_table.proofs.fill.Statement.{statement}
+use Rattle.shaped_table.proofs.fill.Tie as tie
+
+abbrev Inv-loop : tie.InvT-loop
+Inv-loop nest sizes lens₀ list₀ n tile₀ lens list tile = Filling nest lens (tile * directions nest) × ((tile ≤ n) × (length list ≡ 16384))
+
+abbrev μ-loop : tie.MeasureT-loop
+μ-loop nest sizes lens₀ list₀ n tile₀ lens list tile = n - tile
+
+slice-aggregate-mark-tiles : tie.Need-slice-aggregate-mark-tiles Inv-loop μ-loop
+slice-aggregate-mark-tiles c = sym (L.zeros-long _ refl)
+
+mark-tiles-requires : tie.Need-mark-tiles-requires Inv-loop μ-loop
+mark-tiles-requires c κs = ((c .before .pre .0 .accepted), refl)
+
+slice-aggregate-list-tiles : tie.Need-slice-aggregate-list-tiles Inv-loop μ-loop
+slice-aggregate-list-tiles c = sym (c .before .before .mark-tiles .ensures .long)
+
+list-tiles-requires : tie.Need-list-tiles-requires Inv-loop μ-loop
+list-tiles-requires c κs = (c .before .before .before .before .before .pre .0, (c .before .before .before .mark-tiles .ensures, c .before .before .before .before .before .pre .1 .1))
+
+fill-owners-requires : tie.Need-fill-owners-requires Inv-loop μ-loop
+fill-owners-requires c κs = (c .before .before .before .before .before .before .before .pre .0, c .before .list-tiles .ensures)
+
+tiles-of-requires : tie.Need-tiles-of-requires Inv-loop μ-loop
+tiles-of-requires c κs = ((c .before .before .before .before .before .before .before .before .before .pre .0 .accepted), c .before .fill-owners .ensures .tiled)
+
+loop-holds : tie.Need-loop-holds Inv-loop μ-loop
+loop-holds c = (L.filling-none _ (c .before .before .before .before .before .before .before .before .before .before .pre .0 .accepted) _ (c .before .before .fill-owners .ensures), (omega arith, omega arith))
+
+fill-tile-requires : tie.Need-fill-tile-requires Inv-loop μ-loop
+fill-tile-requires c κs = ((c .before .before .before .before .before .before .before .before .before .before .before .before .before .before .pre .0, (c .before .before .before .before .before .before .before .before .before .before .before .before .before .before .pre .1 .0, c .before .before .before .loop .inv .1 .1)), (omega (arith, c .before .before .before .before .tiles-of .ensures .0, c .before .before .loop-test .taken), c .before .before .before .loop .inv .0))
+
+add-tile : tie.Need-add-tile Inv-loop μ-loop
+add-tile c = omega (arith, c .before .before .before .loop-test .taken, c .before .before .before .before .before .tiles-of .ensures .1)
+
+loop-less : tie.Need-loop-less Inv-loop μ-loop
+loop-less c = omega (arith, c .before .before .before .loop-test .taken)
+
+loop-again : tie.Need-loop-again Inv-loop μ-loop
+loop-again c = (c .fill-tile .ensures .1, (omega (arith, c .before .before .before .loop-test .taken), c .fill-tile .ensures .0))
+
+returns : tie.Need-returns Inv-loop μ-loop
+returns c = L.filling-end _ (c .before .before .before .before .before .before .before .before .before .before .before .before .pre .0 .accepted) _ _ (c .before .loop .inv .0) (mul-le-mul-right (directions (c .before .before .before .before .before .before .before .before .before .before .before .before .args .nest)) (omega (arith, c .before .before .tiles-of .ensures .0, c .loop-test .left)))
+
+pub fill-spec : {M : Type 1} → statement M
+fill-spec =
+    tie.close
+    (tie.spec
+    Inv-loop
+    μ-loop
+    slice-aggregate-mark-tiles
+    mark-tiles-requires
+    slice-aggregate-list-tiles
+    list-tiles-requires
+    fill-owners-requires
+    tiles-of-requires
+    loop-holds
+    fill-tile-requires
+    add-tile
+    loop-less
+    loop-again
+    returns)

@@ -1,0 +1,187 @@
+-- The rows passed are copied.
+use Prim.Native.Nat.{_-_}
+use native.Mathlib.Omega.{arith}
+use Rattle.stages.proofs.Collecting as collecting
+use Rattle.stages.proofs.copy_box.Statement.{statement}
+use Rattle.stages.proofs.copy_box.Tie as tie
+
+abbrev Inv-loop : tie.InvT-loop
+Inv-loop sizes memories grid₀ nest cells width c₀ grid c = collecting.Copied nest memories grid₀ grid c
+
+abbrev μ-loop : tie.MeasureT-loop
+μ-loop sizes memories grid₀ nest cells width c₀ grid c = cells - c
+
+sub-width : tie.Need-sub-width Inv-loop μ-loop
+sub-width c = let S = c .before .before in omega (arith, S .pre .0 .accepted .dimensions-least)
+
+mul-width : tie.Need-mul-width Inv-loop μ-loop
+mul-width c = let S = c .before .before in omega (arith, S .pre .0 .accepted .dimensions-most)
+
+element-copy-out-width : tie.Need-element-copy-out-width Inv-loop μ-loop
+element-copy-out-width c = let S = c .before .before in omega (arith, S .pre .0 .accepted .dimensions-least, S .pre .0 .accepted .dimensions-most)
+
+loop-holds : tie.Need-loop-holds Inv-loop μ-loop
+loop-holds c = let A = c .before .before .before .args in collecting.copied-none (A .t1) (A .memories .now) (A .grid .now)
+
+tile-of-requires : tie.Need-tile-of-requires Inv-loop μ-loop
+tile-of-requires c κs = let S = c .before .before .before .before .before in (S .pre .0, omega (arith, S .pre .0 .cells, c .loop-test .taken))
+
+processor-of-requires : tie.Need-processor-of-requires Inv-loop μ-loop
+processor-of-requires c κs = (c .before .before .before .before .before .before .pre .0, c .tile-of .ensures .1)
+
+mul-from : tie.Need-mul-from Inv-loop μ-loop
+mul-from c =
+    let S = c .before .before .before .before .before .before .before in
+    omega (
+      arith,
+      collecting.row-at (S .pre .0) (S .pre .1) (c .before .before .before .loop .inv) (c .before .before .loop-test .taken)
+          (c .processor-of .ensures .1) .room,
+    )
+
+add-from : tie.Need-add-from Inv-loop μ-loop
+add-from c =
+    let S = c .before .before .before .before .before .before .before in
+    omega (
+      arith,
+      collecting.row-at (S .pre .0) (S .pre .1) (c .before .before .before .loop .inv) (c .before .before .loop-test .taken)
+          (c .processor-of .ensures .1) .room,
+    )
+
+add-to : tie.Need-add-to Inv-loop μ-loop
+add-to c =
+    let S = c .before .before .before .before .before .before .before in
+    omega (
+      arith,
+      collecting.row-at (S .pre .0) (S .pre .1) (c .before .before .before .loop .inv) (c .before .before .loop-test .taken)
+          (c .processor-of .ensures .1) .room,
+    )
+
+add-end : tie.Need-add-end Inv-loop μ-loop
+add-end c =
+    let S = c .before .before .before .before .before .before .before in
+    omega (
+      arith,
+      collecting.row-at (S .pre .0) (S .pre .1) (c .before .before .before .loop .inv) (c .before .before .loop-test .taken)
+          (c .processor-of .ensures .1) .fits,
+    )
+
+mul-copy-row : tie.Need-mul-copy-row Inv-loop μ-loop
+mul-copy-row c =
+    let S = c .before .before .before .before .before .before .before in
+    omega (
+      arith,
+      collecting.row-at (S .pre .0) (S .pre .1) (c .before .before .before .loop .inv) (c .before .before .loop-test .taken)
+          (c .processor-of .ensures .1) .fits,
+    )
+
+sub-copy-row : tie.Need-sub-copy-row Inv-loop μ-loop
+sub-copy-row c = omega arith
+
+part-copy-row-start : tie.Need-part-copy-row-start Inv-loop μ-loop
+part-copy-row-start c =
+    let S = c .before .before .before .before .before .before .before in
+    omega (
+      arith,
+      collecting.row-at (S .pre .0) (S .pre .1) (c .before .before .before .loop .inv) (c .before .before .loop-test .taken)
+          (c .processor-of .ensures .1) .fits,
+    )
+
+part-copy-row-end : tie.Need-part-copy-row-end Inv-loop μ-loop
+part-copy-row-end c =
+    let S = c .before .before .before .before .before .before .before in
+    omega (
+      arith,
+      collecting.row-at (S .pre .0) (S .pre .1) (c .before .before .before .loop .inv) (c .before .before .loop-test .taken)
+          (c .processor-of .ensures .1) .fits,
+    )
+
+mul-copy-row-2 : tie.Need-mul-copy-row-2 Inv-loop μ-loop
+mul-copy-row-2 c =
+    let S = c .before .before .before .before .before .before .before .before in
+    omega (
+      arith,
+      collecting.row-at (S .pre .0) (S .pre .1) (c .before .before .before .before .loop .inv) (c .before .before .before .loop-test .taken)
+          (c .before .processor-of .ensures .1) .room,
+    )
+
+sub-copy-row-2 : tie.Need-sub-copy-row-2 Inv-loop μ-loop
+sub-copy-row-2 c = omega arith
+
+part-copy-row-start-2 : tie.Need-part-copy-row-start-2 Inv-loop μ-loop
+part-copy-row-start-2 c =
+    let S = c .before .before .before .before .before .before .before .before in
+    omega (
+      arith,
+      collecting.row-at (S .pre .0) (S .pre .1) (c .before .before .before .before .loop .inv) (c .before .before .before .loop-test .taken)
+          (c .before .processor-of .ensures .1) .room,
+    )
+
+part-copy-row-end-2 : tie.Need-part-copy-row-end-2 Inv-loop μ-loop
+part-copy-row-end-2 c =
+    let S = c .before .before .before .before .before .before .before .before in
+    omega (
+      arith,
+      collecting.row-at (S .pre .0) (S .pre .1) (c .before .before .before .before .loop .inv) (c .before .before .before .loop-test .taken)
+          (c .before .processor-of .ensures .1) .room,
+    )
+
+copy-row-requires : tie.Need-copy-row-requires Inv-loop μ-loop
+copy-row-requires c κs =
+    let S = c .before .before .before .before .before .before .before .before .before in
+    collecting.row-same (c .before .before .before .before .before .loop .inv)
+    (collecting.row-at (S .pre .0) (S .pre .1) (c .before .before .before .before .before .loop .inv) (c .before .before .before .before .loop-test .taken)
+    (c .before .before .processor-of .ensures .1))
+
+loop-less : tie.Need-loop-less Inv-loop μ-loop
+loop-less c =
+    let S = c .before .before .before .before .before .before .before .before .before .before .before .before in
+    let R = collecting.row-at (S .pre .0) (S .pre .1) (c .before .before .before .before .before .before .before .before .loop .inv)
+    (c .before .before .before .before .before .before .before .loop-test .taken) (c .before .before .before .before .before .processor-of .ensures .1) in
+    omega (arith, R .some, R .ends)
+
+loop-again : tie.Need-loop-again Inv-loop μ-loop
+loop-again c =
+    let S = c .before .before .before .before .before .before .before .before .before .before .before .before in
+    collecting.copied-more (c .before .before .before .before .before .before .before .before .loop .inv)
+    (collecting.row-at (S .pre .0) (S .pre .1) (c .before .before .before .before .before .before .before .before .loop .inv)
+    (c .before .before .before .before .before .before .before .loop-test .taken) (c .before .before .before .before .before .processor-of .ensures .1))
+    (c .before .before .before .before .before .before .tile-of .ensures .0) (c .before .before .before .before .before .processor-of .ensures .0)
+    (c .before .before .copy-row .ensures)
+
+same-length : tie.Need-same-length Inv-loop μ-loop
+same-length c = c .before .loop .inv .stored .long
+
+returns : tie.Need-returns Inv-loop μ-loop
+returns c =
+    let S = c .before .before .before .before .before in
+    collecting.copied-all (S .args .sizes .route) (c .before .loop .inv) (S .pre .1 .1) (S .pre .0 .cells) (c .loop-test .left)
+
+pub copy-box-spec : {M : Type 1} → statement M
+copy-box-spec =
+    tie.close
+    (tie.spec
+    Inv-loop
+    μ-loop
+    sub-width
+    mul-width
+    element-copy-out-width
+    loop-holds
+    tile-of-requires
+    processor-of-requires
+    mul-from
+    add-from
+    add-to
+    add-end
+    mul-copy-row
+    sub-copy-row
+    part-copy-row-start
+    part-copy-row-end
+    mul-copy-row-2
+    sub-copy-row-2
+    part-copy-row-start-2
+    part-copy-row-end-2
+    copy-row-requires
+    loop-less
+    loop-again
+    same-length
+    returns)
