@@ -1,4 +1,4 @@
-"""A plain model of document 01 and of the requests W-201 to W-205 and W-207 to W-210, written from their text, read as
+"""A plain model of document 01 and of the requests W-201 to W-205 and W-207 to W-211, written from their text, read as
 docs/DECISIONS.md says, and not from the engine.
 
 Every set is made by trying all its candidates. It shares no code, no table and no closed form with
@@ -605,6 +605,47 @@ def soundings(encoded, content, value, source):
     return 0
 
 
+# W-211: the grid for the charting desk
+
+NODATA = -9999
+
+
+def chart_text(nest, grid, x, y, size):
+    """An Esri ASCII grid of two dimensions; corners and cell size are whole numbers."""
+    rows, columns = nest.lengths
+    lines = ['ncols %d' % columns, 'nrows %d' % rows, 'xllcorner %d' % x, 'yllcorner %d' % y, 'cellsize %d' % size,
+             'NODATA_value %d' % NODATA]
+    for i in range(rows):
+        lines.append(' '.join(str(grid[columns * i + j] if nest.is_inside((i, j)) else NODATA) for j in range(columns)))
+    return ''.join(line + '\n' for line in lines).encode()
+
+
+def chart_number(encoded, grid, size, fits):
+    """The lines of both calls below: 23 before 9; whether the text fits is asked last."""
+    number, nest = read(encoded)
+    if number != 0:
+        return number, nest
+    if nest.n != 2 or not 1 <= size <= 65535:
+        return 23, nest
+    return (0 if len(grid) == all_product(nest.lengths) and fits(nest) else 9), nest
+
+
+def chart(encoded, grid, x, y, size, space):
+    """The number and the text's length, which is 0 at a refusal; bytes of the lent space behind the text are as before."""
+    number, nest = chart_number(encoded, grid, size, lambda nest: len(chart_text(nest, grid, x, y, size)) <= len(space))
+    if number != 0:
+        return number, 0
+    text = chart_text(nest, grid, x, y, size)
+    space[:len(text)] = text
+    return 0, len(text)
+
+
+def chart_length(encoded, grid, x, y, size):
+    """The number and the length alone, without a space."""
+    number, nest = chart_number(encoded, grid, size, lambda nest: True)
+    return number, 0 if number != 0 else len(chart_text(nest, grid, x, y, size))
+
+
 # Whole runs and the two programs
 
 def areas_for(plan, source):
@@ -808,6 +849,7 @@ def check_paper():
     check_offices()
     check_shapes()
     check_soundings()
+    check_charts()
 
 
 def check_routes():
@@ -1029,8 +1071,36 @@ def check_soundings():
     expect('behind it', filled((16, 0, 0, 2), encoded=shape, lent=16), 22)
 
 
+def check_charts():
+    """W-211: a text by hand, cells outside by the shape, and each line beside its neighbours."""
+    def written(encoded, grid, x=-3, y=20, size=50, room=200):
+        space = [35] * room
+        number, length = chart(encoded, grid, x, y, size, space)
+        expect('as before', space[length:], [35] * (room - length))
+        if room == 200:
+            expect('the length alone', chart_length(encoded, grid, x, y, size), (number, length))
+        return bytes(space[:length]).decode() if number == 0 else number
+
+    plane = encode([2, 3], [2, 2], [2, 0], [(1, 0)])
+    head = 'ncols 3\nnrows 2\nxllcorner -3\nyllcorner 20\ncellsize 50\nNODATA_value -9999\n'
+    grid = [0, 10, 4294967295, 9, 4294957297, 100]
+    expect('a text', written(plane, grid), head + '0 10 4294967295\n9 4294957297 100\n')
+    expect('the ends of a corner', written(plane, grid, -2147483648, 2147483647, 65535).split('\n')[2:5],
+           ['xllcorner -2147483648', 'yllcorner 2147483647', 'cellsize 65535'])
+    shape = encode([2, 3], [2, 2], [2, 0], [(1, 0)], boundary=8, bounds=[TRIANGLE])
+    expect('a shape', written(shape, grid), head + '0 -9999 -9999\n9 4294957297 -9999\n')
+    length = len(head) + len('0 10 4294967295\n9 4294957297 100\n')
+    expect('room', [written(plane, grid, room=length)[:7], written(plane, grid, room=length - 1), written(plane, grid, room=0)],
+           ['ncols 3', 9, 9])
+    expect('the grid', [written(plane, grid[1:]), written(plane, grid + [1]), written(plane, [])], [9] * 3)
+    expect('cell sizes', [written(plane, grid, size=size) for size in (0, 65536, 4294967295)], [23] * 3)
+    space = encode([2, 3, 1], [2, 2, 1], [2, 0, 0], [(1, 0, 0)])
+    expect('three dimensions', [written(space, grid), written(space, [], room=0), written(plane, [], size=0, room=0),
+                                written(plane[16:], [], size=0, room=0)], [23, 23, 23, 2])
+
+
 if __name__ == '__main__':
     check_paper()
     import schedules
     schedules.check()
-    print('the model gives what document 01, W-201 to W-205 and W-207 to W-210 print')
+    print('the model gives what document 01, W-201 to W-205 and W-207 to W-211 print')

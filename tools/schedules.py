@@ -334,8 +334,50 @@ def check_soundings(count):
     return '%d files of soundings: the same by one pass over the file, and each word has its ground' % (5 * count)
 
 
+# W-211
+
+def parsed(text):
+    """What a text says, read back: corners, cell size and the words of the rows; no byte is passed over."""
+    lines = text.decode().split('\n')
+    assert lines.pop() == ''
+    names = ['ncols', 'nrows', 'xllcorner', 'yllcorner', 'cellsize', 'NODATA_value']
+    found = []
+    for line, name in zip(lines, names):
+        assert line.split(' ')[0] == name
+        found.append(int(line.split(' ')[1]))
+    rows = [[int(word) for word in line.split(' ')] for line in lines[6:]]
+    assert len(rows) == found[1] and all(len(row) == found[0] for row in rows) and found[5] == -9999
+    for line in lines:
+        for word in line.split(' ')[-found[0]:]:
+            assert word in names or word == '0' or word.lstrip('-')[0] in '123456789'
+    return found, [word for row in rows for word in row]
+
+
+def check_charts(count):
+    draw = vectors.Draw(24)
+    recipes = [model.ROWS[row] for row in 'ADEF'] + [e for e in vectors.shape_recipes()[:14]]
+    texts = {}
+    for k in range(5 * count):
+        encoded = recipes[k % len(recipes)]
+        plan = model.plan_of(encoded)[1]
+        grid = [draw.word() >> draw.pick([0, 0, 16, 24, 31]) for _ in range(plan.cells)]
+        x, y = (model.signed(draw.word() if draw.below(3) else draw.below(3), 32) for _ in range(2))
+        size = draw.between(1, 65535)
+        text = model.chart_text(plan.nest, grid, x, y, size)
+        assert parsed(text) == ([*plan.nest.lengths[::-1], x, y, size, -9999], [w if i else -9999 for w, i in zip(grid, plan.inside)])
+        # one cell of the shape, one corner, the cell size changed: another text; one cell outside: the same
+        for c in range(plan.cells):
+            other = grid[:c] + [(grid[c] + 1) % model.WORD] + grid[c + 1:]
+            assert (model.chart_text(plan.nest, other, x, y, size) != text) == plan.inside[c]
+        inside = tuple(w for w, i in zip(grid, plan.inside) if i)
+        for given in ((x, y, size), (-x, y, size), (x, -y, size), (y, x, size), (x, y, size % 65535 + 1)):
+            key, made = (encoded, inside, given), model.chart_text(plan.nest, grid, *given)
+            assert texts.setdefault(made, key) == key
+    return '%d grids as texts: each read back, and no two share one' % (5 * count)
+
+
 def check(count=12):
-    for part in (check_offices, check_shapes, check_soundings):
+    for part in (check_offices, check_shapes, check_soundings, check_charts):
         print(part(count))
 
 

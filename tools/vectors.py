@@ -1105,6 +1105,7 @@ def all_files():
         'bindings/row_a.stdout': row_a_text().encode(),
         **rigs.files(rigs.office_script(), 'offices'),
         **desk.soundings_files(),
+        **desk.chart_files(),
     }
 
 

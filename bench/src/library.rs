@@ -52,7 +52,7 @@ impl Engine for Library {
             Request::Offices => true,
             Request::Shapes => true,
             Request::Soundings => true,
-            Request::Chart => cfg!(all(feature = "chart", not(test))),
+            Request::Chart => true,
             Request::Hours => cfg!(all(feature = "hours", not(test))),
             Request::Rounds => cfg!(all(feature = "rounds", not(test))),
         }
@@ -177,24 +177,22 @@ impl Engine for Library {
         exported!(rolwyddac_soundings(encoded => &[u8], file => &[u8], value => u32, source => &mut [u32]))
     }
 
-    request! { "chart":
-        fn chart(
-            &self, encoded: &[u8], grid: &[u32], corners: [i32; 2], cell_size: u32, space: &mut [u8], out: &mut [u32],
-        ) -> u32 {
-            exported!(rolwyddac_chart(
-                encoded => &[u8], grid => &[u32], corners[0] => i32, corners[1] => i32, cell_size => u32,
-                space => &mut [u8], out => &mut [u32]
-            ))
-        }
+    fn chart(
+        &self, encoded: &[u8], grid: &[u32], corners: [i32; 2], cell_size: u32, space: &mut [u8], out: &mut [u32],
+    ) -> u32 {
+        exported!(rolwyddac_chart(
+            encoded => &[u8], grid => &[u32], corners[0] => i32, corners[1] => i32, cell_size => u32,
+            space => &mut [u8], out => &mut [u32]
+        ))
+    }
 
-        fn chart_length(
-            &self, encoded: &[u8], grid: &[u32], corners: [i32; 2], cell_size: u32, out: &mut [u32],
-        ) -> u32 {
-            exported!(rolwyddac_chart_length(
-                encoded => &[u8], grid => &[u32], corners[0] => i32, corners[1] => i32, cell_size => u32,
-                out => &mut [u32]
-            ))
-        }
+    fn chart_length(
+        &self, encoded: &[u8], grid: &[u32], corners: [i32; 2], cell_size: u32, out: &mut [u32],
+    ) -> u32 {
+        exported!(rolwyddac_chart_length(
+            encoded => &[u8], grid => &[u32], corners[0] => i32, corners[1] => i32, cell_size => u32,
+            out => &mut [u32]
+        ))
     }
 
     request! { "hours":

@@ -18,6 +18,7 @@
  *    7 boards         more than 64 processors
  *    8 tiles          more than 1,024 tiles that hold a cell
  *   21 direct only    indirect passing asked for and the recipe has a bound
+ *   23 no chart       a chart of a recipe that has not two dimensions, or with a cell size that is not 1 to 65,535
  *    9 area           a lent area has not exactly its length
  *   22 off the box    a sounding, whether it counts or not, names a cell that the recipe's box does not have
  *   10 unfit          progress records, status bytes or engaged words not fit
@@ -92,8 +93,13 @@ enum {
   ROLWYDDAC_ENGAGED = 19,
   ROLWYDDAC_EMPTY = 20,
   ROLWYDDAC_DIRECT_ONLY = 21,
-  ROLWYDDAC_OFF_THE_BOX = 22
+  ROLWYDDAC_OFF_THE_BOX = 22,
+  ROLWYDDAC_NO_CHART = 23
 };
+
+/* Bytes of the longest chart: 16,384 cells of ten digits, each with a space or a line feed behind it, under a header of
+ * 98 bytes. */
+#define ROLWYDDAC_LONGEST_CHART 180322
 
 /* How far a processor is: tiles finished, the stage of its current tile (0 gather, 1 calculate, 2 send) and how
  * many messages of that tile are sent. */
@@ -247,6 +253,22 @@ uint32_t rolwyddac_look(const uint8_t *encoded, size_t encoded_length, const uin
  * Numbers: 1 to 9, 16 to 18, 20, 22. A refusal leaves source as it was. */
 uint32_t rolwyddac_soundings(const uint8_t *encoded, size_t encoded_length, const uint8_t *file, size_t file_length,
                              uint32_t value, uint32_t *source, size_t source_length);
+
+/* Writes the grid's text for the charting desk to the front of space, and one word to out: its length in bytes. The text is
+ * an Esri ASCII grid of whole numbers: ncols, nrows, xllcorner (x), yllcorner (y), cellsize and NODATA_value lines, then a
+ * line for each row, first row first; it is for recipes of two dimensions. Bytes of space behind the text stay as they
+ * were. No text is longer than ROLWYDDAC_LONGEST_CHART.
+ * A grid that has not one word a cell, a space shorter than the text, an out that has not 1 word: each is 9.
+ * Numbers: 1 to 9, 16 to 18, 20, 23. A refusal leaves space and out as they were. */
+uint32_t rolwyddac_chart(const uint8_t *encoded, size_t encoded_length, const uint32_t *grid, size_t grid_length, int32_t x,
+                         int32_t y, uint32_t cell_size, uint8_t *space, size_t space_length, uint32_t *out,
+                         size_t out_length);
+
+/* Writes one word to out: the length in bytes of the text that rolwyddac_chart writes.
+ * Numbers: 1 to 8, 16 to 18, 20, 23, and 9 if grid has not one word a cell or out has not 1 word. A refusal leaves out as it
+ * was. */
+uint32_t rolwyddac_chart_length(const uint8_t *encoded, size_t encoded_length, const uint32_t *grid, size_t grid_length,
+                                int32_t x, int32_t y, uint32_t cell_size, uint32_t *out, size_t out_length);
 
 /* Writes the recipe of the fields to space: lengths, tiling (tile lengths) and counts (processor counts) have one
  * number a dimension; components has four numbers a distance, zero beyond the last dimension, and weights one. The

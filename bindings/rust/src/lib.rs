@@ -121,6 +121,11 @@ const SUMMARY_WORDS: usize = 4;
 const MESSAGE_WORDS: usize = 5;
 const HOPS_WORDS: usize = 1;
 const LOOK_WORDS: usize = 2;
+const CHART_WORDS: usize = 1;
+
+/// Bytes of the longest chart there is: 16,384 cells of ten digits, each with a space or a line feed behind it, under a
+/// header of 98 bytes. Every chart fits a space of this length.
+pub const LONGEST_CHART: usize = 180_322;
 
 /// Declares each exported call and makes its safe form. A slice goes over as its pointer and its length; a number
 /// as it is, and so does a route, which is laid out as a word.
@@ -279,6 +284,28 @@ calls! {
     /// Refusals: 1 to 9, 16 to 18, 20, 22.
     rolwyddac_soundings as soundings(encoded: &[u8], file: &[u8], value: u32, source: &mut [u32]);
 
+    /// Writes the grid's text for the charting desk to the front of `space`, and one word to `out`: its length in bytes.
+    /// [`chart`] is the handier form.
+    ///
+    /// The text is an Esri ASCII grid of whole numbers: ncols, nrows, xllcorner (`x`), yllcorner (`y`), cellsize and
+    /// NODATA_value lines, then a line for each row, first row first. It is for recipes of two dimensions. Bytes of
+    /// `space` behind the text stay as they were. No text has more than [`LONGEST_CHART`] bytes.
+    ///
+    /// A `grid` that has not one word a cell, a `space` shorter than the text, an `out` that has not 1 word: each is 9.
+    ///
+    /// Refusals: 1 to 9, 16 to 18, 20, 23.
+    rolwyddac_chart as chart_words(
+        encoded: &[u8], grid: &[u32], x: i32, y: i32, cell_size: u32, space: &mut [u8], out: &mut [u32],
+    );
+
+    /// Writes one word to `out`: the length in bytes of the text that [`chart_words`] writes. [`chart_length`] is the
+    /// handier form.
+    ///
+    /// Refusals: 1 to 8, 16 to 18, 20, 23, and 9 if `grid` has not one word a cell or `out` has not 1 word.
+    rolwyddac_chart_length as chart_length_words(
+        encoded: &[u8], grid: &[u32], x: i32, y: i32, cell_size: u32, out: &mut [u32],
+    );
+
     /// Writes the recipe of the fields to `space`. [`Fields`] is the handier form.
     ///
     /// - `lengths`, `tiling` and `counts` have one number a dimension: its length, tile length and processor count.
@@ -343,4 +370,35 @@ pub fn look<'a>(
     look_words(encoded, first, second, office, processor, &mut out)?;
     let [start, words] = out.map(|word| word as usize);
     Ok(&(if office == 0 { first } else { second })[start..start + words])
+}
+
+/// The length in bytes of a grid's text for the charting desk: see [`chart`].
+///
+/// Refusals: 1 to 9, 16 to 18, 20, 23.
+pub fn chart_length(encoded: &[u8], grid: &[u32], x: i32, y: i32, cell_size: u32) -> Result<usize, Refusal> {
+    let mut out = [0; CHART_WORDS];
+    chart_length_words(encoded, grid, x, y, cell_size, &mut out)?;
+    Ok(out[0] as usize)
+}
+
+/// A grid's text for the charting desk: an Esri ASCII grid with the corner `x`, `y` and the cell size given.
+///
+/// Refusals: 1 to 9, 16 to 18, 20, 23.
+///
+/// ```
+/// # fn main() -> Result<(), rolwyddac::Refusal> {
+/// let recipe = rolwyddac::Fields::new().dimension(2, 1, 2).dimension(3, 3, 0).distance(&[1, 0], 1).close(0, 0)?;
+/// let text = rolwyddac::chart(&recipe, &[0, 10, 200, 3, 40, 500], -3, 20, 50)?;
+/// assert_eq!(
+///     text,
+///     "ncols 3\nnrows 2\nxllcorner -3\nyllcorner 20\ncellsize 50\nNODATA_value -9999\n0 10 200\n3 40 500\n"
+/// );
+/// # Ok(())
+/// # }
+/// ```
+pub fn chart(encoded: &[u8], grid: &[u32], x: i32, y: i32, cell_size: u32) -> Result<String, Refusal> {
+    let mut space = vec![0; chart_length(encoded, grid, x, y, cell_size)?];
+    let mut out = [0; CHART_WORDS];
+    chart_words(encoded, grid, x, y, cell_size, &mut space, &mut out)?;
+    Ok(space.into_iter().map(char::from).collect()) // digits, letters, spaces and line feeds
 }

@@ -87,13 +87,21 @@ impl<'a> Run<'a> {
     /// Goes on to the end: processors take turns in rising order, and each message in flight is delivered when no
     /// turn can be taken. Gives the number of turns and deliveries that were done.
     pub fn finish(&mut self) -> Result<u32, Refusal> {
+        self.finish_telling(|_| ())
+    }
+
+    /// The same; `tell` is given the number of turns and deliveries done so far, after each.
+    pub fn finish_telling(&mut self, mut tell: impl FnMut(u32)) -> Result<u32, Refusal> {
         let mut steps = 0;
         loop {
             let before = steps;
             for processor in 0..self.plan.processors as u32 {
                 loop {
                     match self.turn(processor) {
-                        Ok(()) => steps += 1,
+                        Ok(()) => {
+                            steps += 1;
+                            tell(steps);
+                        }
                         Err(Refusal::Waiting | Refusal::Finished) => break,
                         Err(refusal) => return Err(refusal),
                     }
@@ -102,6 +110,7 @@ impl<'a> Run<'a> {
             for message in self.in_flight() {
                 self.deliver(message)?;
                 steps += 1;
+                tell(steps);
             }
             if steps == before {
                 return Ok(steps);

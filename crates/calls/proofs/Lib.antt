@@ -5,3 +5,4 @@ pub mod PlanCalls
 pub mod OfficeCalls
 pub mod OverRig
 pub mod Demand210
+pub mod ChartCalls

@@ -12,6 +12,7 @@ ghost use Rattle.calls.specs.PlanCalls.{summaryCall, messageCall, hopsCa
 use records::Progress;
 
 pub mod office; // office.rt: the calls for an office
+pub mod desk; // desk.rt: the calls for the charting desk
 
 // One turn of a processor.
 #[no_mangle]

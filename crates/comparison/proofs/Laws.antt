@@ -182,7 +182,7 @@ source-next counting l i w low h e j k = go (eq-or-lt-of-le (omega arith))
     go (inl q) = rw q (getD-set-same l i w 0 low ∙ e)
     go (inr q) = getD-set-other l i j w 0 (λ z. omega arith) ∙ h j q
 
-source-long : (counting : Bool) (n : ℕ) → length (sourceOf counting n) ≡ n
+pub source-long : (counting : Bool) (n : ℕ) → length (sourceOf counting n) ≡ n
 unfolding sourceOf
 source-long counting n = length-tabulate (λ c. pick counting (c + 1) 1) n
 

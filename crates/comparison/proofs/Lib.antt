@@ -1,3 +1,4 @@
 pub mod Product
 pub mod Most
 pub mod Laws
+pub mod Lines

@@ -20,11 +20,12 @@ use Rattle.nest.specs.Places.{boxTileOf}
 use Rattle.plan.specs.declared.Route.the-variants.{Direct}
 use Rattle.plan.specs.Messages.{directions, slotTile, slotDirection}
 use Rattle.plan.specs.Shaped.{tileOf, shapedParcel, slotBox, shapedHome, shapedSlotParcel, shapedMessage, shapedSlots, planOf}
-use Rattle.plan.proofs.Listed.{few, total-sum}
+use Rattle.plan.proofs.Listed.{total-sum}
 use Rattle.plan.proofs.ShapedTiles.{tileOf-low, tileOf-is}
 use Rattle.plan.proofs.ShapedSlots.{shapedTile-low}
 use Rattle.layout.specs.Sizes.{routeOf}
 use Rattle.layout.proofs.Steps.{ways-few}
+use Rattle.plan_text.proofs.Laws.{messages-most as most-by-route}
 
 -- a sum over blocks of d, each of one value
 sum-split : (f : ℕ → ℕ) (a b : ℕ) → sum f (a + b) ≡ sum f a + sum (λ i. f (a + i)) b
@@ -58,10 +59,7 @@ keep-fewer f g (suc n) h = go (f n) (g n) (h n) (keep-fewer f g n h)
 module _ (x : Nest) (ok : Accepted x) where
   pub messages-most : count (planOf (routeOf 0) x) ≤ 7168
   unfolding routeOf
-  messages-most =
-      let a = few (shapedMessage x) (shapedSlots x) in
-      let b : tiles x * directions x ≤ 1024 * directions x = mul-le-mul-right (directions x) (ok .tiles-most) in
-      omega (arith, a, b, ways-few x ok Direct)
+  messages-most = most-by-route Direct x ok (λ k. refl)
 
   -- the tile of a cell of the shape, and one number more for all others
   home : ℕ → ℕ

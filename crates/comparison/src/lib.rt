@@ -1,14 +1,17 @@
 // A recipe swept both ways, over two sources and in two orders of turns, messages passed directly: what the second program of document 01
-// writes.
+// writes, made in a lent space and handed to standard output.
 use drive::Order;
 use libc::STDOUT_FILENO;
 use plan::Route;
 ghost use mathlib.Core.Path.{_≡_};
-ghost use Prim.Native.Nat.{_*_, _≤_, _<_};
+ghost use Prim.Native.Nat.{_+_, _*_, _≤_, _<_};
 ghost use lib.ListN.{length, take};
 ghost use Rattle.base.specs.Tests.{pick};
 ghost use Rattle.machine.specs.Machine.{stateOf};
-ghost use Rattle.comparison.specs.Agreement.{isBeyond, sourceOf, sameWords, ran, outcome, compared, ranAndCompared, orderOf, fronts, Within, Roomy, Agreed};
+ghost use Rattle.text.specs.Writing.{pen, write};
+ghost use Rattle.comparison.specs.Agreement.{isBeyond, sourceOf, sameWords, ran, outcome, compared};
+ghost use Rattle.comparison.specs.Agreement.{ranAndCompared, orderOf, fronts, Within, Roomy, Agreed};
+ghost use Rattle.comparison.specs.Lines.{verdictLine, agreesFor, fourLines, comparisonText};
 
 // What the areas of a run are made of.
 pub struct Extent {
@@ -74,7 +77,8 @@ fn run_whole(
     steps: u32,
 )
     ensures { λ _. ⌜ stateOf (now (memories .exit)) (now (buffer .exit)) (now (progress .exit)) (now (status .exit))
-        ≡ ran (now (encoded .entry)) (now (source .entry)) order steps (stateOf (now (memories .entry)) (now (buffer .entry)) (now (progress .entry)) (now (status .entry))) ⌝ }
+        ≡ ran (now (encoded .entry)) (now (source .entry)) order steps
+        (stateOf (now (memories .entry)) (now (buffer .entry)) (now (progress .entry)) (now (status .entry))) ⌝ }
 {
     engine::fresh(encoded, 0, source, memories, buffer, progress, status);
     drive::drive(
@@ -100,8 +104,11 @@ fn compare(
     grid: &mut [u32],
     swept: &mut [u32],
 ) -> bool
-    ensures { λ r. ⌜ outcome (stateOf (now (memories .entry)) (now (buffer .entry)) (now (progress .entry)) (now (status .entry))) (now (grid .exit)) (now (swept .exit)) r
-        ≡ compared (now (encoded .entry)) (now (source .entry)) (stateOf (now (memories .entry)) (now (buffer .entry)) (now (progress .entry)) (now (status .entry))) (now (grid .entry)) (now (swept .entry)) ⌝ }
+    ensures { λ r. ⌜ outcome (stateOf (now (memories .entry)) (now (buffer .entry)) (now (progress .entry)) (now (status .entry))) (now (grid .exit))
+        (now (swept .exit)) r
+        ≡ compared (now (encoded .entry)) (now (source .entry))
+        (stateOf (now (memories .entry)) (now (buffer .entry)) (now (progress .entry)) (now (status .entry))) (now (grid .entry))
+        (now (swept .entry)) ⌝ }
 {
     let collecting = engine::collect(encoded, 0, source, memories, buffer, progress, status, grid);
     let sweeping = engine::sweep(encoded, source, swept);
@@ -127,8 +134,11 @@ fn agrees_in(
     order: Order,
     steps: u32,
 ) -> bool
-    ensures { λ r. ⌜ outcome (stateOf (now (memories .exit)) (now (buffer .exit)) (now (progress .exit)) (now (status .exit))) (now (grid .exit)) (now (swept .exit)) r
-        ≡ ranAndCompared (now (encoded .entry)) (now (source .entry)) order steps (stateOf (now (memories .entry)) (now (buffer .entry)) (now (progress .entry)) (now (status .entry))) (now (grid .entry)) (now (swept .entry)) ⌝ }
+    ensures { λ r. ⌜ outcome (stateOf (now (memories .exit)) (now (buffer .exit)) (now (progress .exit)) (now (status .exit))) (now (grid .exit))
+        (now (swept .exit)) r
+        ≡ ranAndCompared (now (encoded .entry)) (now (source .entry)) order steps
+        (stateOf (now (memories .entry)) (now (buffer .entry)) (now (progress .entry)) (now (status .entry))) (now (grid .entry))
+        (now (swept .entry)) ⌝ }
 {
     run_whole(
         encoded,
@@ -166,8 +176,11 @@ fn agrees_on(
     falling: bool,
 ) -> bool
     requires { ⌜ Roomy extent (now source) (now memories) (now buffer) (now progress) (now status) (now grid) (now swept) ⌝ }
-    ensures { λ r. ⌜ outcome (fronts extent (now (memories .exit)) (now (buffer .exit)) (now (progress .exit)) (now (status .exit))) (take (extent .cells) (now (grid .exit))) (take (extent .cells) (now (swept .exit))) r
-        ≡ ranAndCompared (now (encoded .entry)) (take (extent .cells) (now (source .entry))) (orderOf extent falling) (extent .steps) (fronts extent (now (memories .entry)) (now (buffer .entry)) (now (progress .entry)) (now (status .entry))) (take (extent .cells) (now (grid .entry))) (take (extent .cells) (now (swept .entry))) ⌝ }
+    ensures { λ r. ⌜ outcome (fronts extent (now (memories .exit)) (now (buffer .exit)) (now (progress .exit)) (now (status .exit)))
+        (take (extent .cells) (now (grid .exit))) (take (extent .cells) (now (swept .exit))) r
+        ≡ ranAndCompared (now (encoded .entry)) (take (extent .cells) (now (source .entry))) (orderOf extent falling) (extent .steps)
+        (fronts extent (now (memories .entry)) (now (buffer .entry)) (now (progress .entry)) (now (status .entry)))
+        (take (extent .cells) (now (grid .entry))) (take (extent .cells) (now (swept .entry))) ⌝ }
 {
     let cells = extent.cells;
     let processors = extent.processors;
@@ -215,9 +228,11 @@ fn agrees(
     requires { ⌜ Within (now encoded) extent ⌝ }
     requires { ⌜ Roomy extent (now source) (now memories) (now buffer) (now progress) (now status) (now grid) (now swept) ⌝ }
     ensures { λ r. ⌜ Agreed (now (encoded .entry)) extent counting falling
-        (fronts extent (now (memories .entry)) (now (buffer .entry)) (now (progress .entry)) (now (status .entry))) (take (extent .cells) (now (grid .entry))) (take (extent .cells) (now (swept .entry)))
+        (fronts extent (now (memories .entry)) (now (buffer .entry)) (now (progress .entry)) (now (status .entry)))
+        (take (extent .cells) (now (grid .entry))) (take (extent .cells) (now (swept .entry)))
         (take (extent .cells) (now (source .exit)))
-        (outcome (fronts extent (now (memories .exit)) (now (buffer .exit)) (now (progress .exit)) (now (status .exit))) (take (extent .cells) (now (grid .exit))) (take (extent .cells) (now (swept .exit))) r) ⌝ }
+        (outcome (fronts extent (now (memories .exit)) (now (buffer .exit)) (now (progress .exit)) (now (status .exit)))
+        (take (extent .cells) (now (grid .exit))) (take (extent .cells) (now (swept .exit))) r) ⌝ }
 {
     let cells = extent.cells;
     let c = parts::wide(cells);
@@ -236,10 +251,11 @@ fn agrees(
     )
 }
 
-// The areas hold every recipe of at most 1,024 cells with at most 4,096 words of memories: a message is a tile and one of at most
-// 7 directions, and a cell is at most once in each. `differ` is never written: of such a recipe `agrees` is proved to be true.
-fn print_verdict(encoded: &[u8], extent: Extent, counting: bool, falling: bool)
+// Whether they agree, in areas of zeros. These hold every recipe of at most 1,024 cells with at most 4,096 words of memories: a message is
+// a tile and one of at most 7 directions, and a cell is at most once in each.
+fn verdict(encoded: &[u8], extent: Extent, counting: bool, falling: bool) -> bool
     requires { ⌜ Within (now encoded) extent ⌝ }
+    ensures { λ r. ⌜ r ≡ agreesFor (now (encoded .entry)) counting falling ⌝ }
 {
     let mut source = [0u32; 1024];
     let mut memories = [0u32; 4096];
@@ -248,7 +264,7 @@ fn print_verdict(encoded: &[u8], extent: Extent, counting: bool, falling: bool)
     let mut status = [0u8; 7168];
     let mut grid = [0u32; 1024];
     let mut swept = [0u32; 1024];
-    if agrees(
+    agrees(
         encoded,
         &mut source,
         &mut memories,
@@ -260,17 +276,40 @@ fn print_verdict(encoded: &[u8], extent: Extent, counting: bool, falling: bool)
         extent,
         counting,
         falling,
-    ) {
-        io::write_all(STDOUT_FILENO, b"agree\n");
-    } else {
-        io::write_all(STDOUT_FILENO, b"differ\n");
-    }
+    )
 }
 
-fn print_refused(number: u32) {
-    io::write_all(STDOUT_FILENO, b"refused ");
-    io::print_decimal(STDOUT_FILENO, number as u64);
-    io::write_all(STDOUT_FILENO, b"\n");
+// ---- the lines, put in a lent space from a place on
+
+// `differ` is never written: of a recipe within the limits `verdict` is proved to be true.
+fn put_verdict(
+    space: &mut [u8],
+    at: usize,
+    encoded: &[u8],
+    extent: Extent,
+    counting: bool,
+    falling: bool,
+) -> usize
+    requires { ⌜ (at + 7 ≤ 4294967295) × Within (now encoded) extent ⌝ }
+    ensures { λ r. ⌜ pen r (now (space .exit)) ≡ write (pen at (now (space .entry))) (verdictLine (agreesFor (now (encoded .entry)) counting falling)) ⌝ }
+    ensures { λ r. ⌜ r ≤ at + 7 ⌝ }
+{
+    if verdict(encoded, extent, counting, falling) {
+        return text::put_bytes(space, at, b"agree\n");
+    }
+    text::put_bytes(space, at, b"differ\n")
+}
+
+// The first source's two lines, then the second's.
+fn put_four(space: &mut [u8], encoded: &[u8], extent: Extent) -> usize
+    requires { ⌜ Within (now encoded) extent ⌝ }
+    ensures { λ r. ⌜ pen r (now (space .exit)) ≡ write (pen 0 (now (space .entry))) (fourLines (now (encoded .entry))) ⌝ }
+    ensures { λ r. ⌜ r ≤ 28 ⌝ }
+{
+    let a = put_verdict(space, 0, encoded, extent, false, false);
+    let b = put_verdict(space, a, encoded, extent, false, true);
+    let c = put_verdict(space, b, encoded, extent, true, false);
+    put_verdict(space, c, encoded, extent, true, true)
 }
 
 // Counts are far below the limit.
@@ -289,25 +328,25 @@ fn is_beyond(cells: u32, processors: u32) -> bool
     memory_words(cells, processors) > 4096
 }
 
-// What the second program writes for these bytes.
-pub fn print(encoded: &[u8]) {
+// The lines of a recipe: how many bytes they have, each written where the space has room.
+pub fn put_lines(space: &mut [u8], encoded: &[u8]) -> usize
+    ensures { λ r. ⌜ pen r (now (space .exit)) ≡ write (pen 0 (now (space .entry))) (comparisonText (now (encoded .entry))) ⌝ }
+    ensures { λ r. ⌜ r ≤ 28 ⌝ }
+{
     if encoded.len() > 512 {
-        print_refused(1);
-        return;
+        return plan_text::put_refused(space, 1);
     }
     let reading = nest::read(encoded);
     let number = reading.number;
     if number != 0 {
-        print_refused(number);
-        return;
+        return plan_text::put_refused(space, number);
     }
     let nest = reading.nest;
     let sizes = layout::sizes_of(nest, Route::Direct);
     let cells = narrow(sizes.cells);
     let processors = narrow(sizes.processors);
     if is_beyond(cells, processors) {
-        io::write_all(STDOUT_FILENO, b"beyond\n");
-        return;
+        return text::put_bytes(space, 0, b"beyond\n");
     }
     let figures = table::summary(encoded, 0);
     let extent = Extent {
@@ -317,8 +356,28 @@ pub fn print(encoded: &[u8]) {
         words: figures.words,
         steps: figures.steps,
     };
-    print_verdict(encoded, extent, false, false);
-    print_verdict(encoded, extent, false, true);
-    print_verdict(encoded, extent, true, false);
-    print_verdict(encoded, extent, true, true);
+    put_four(space, encoded, extent)
+}
+
+// The lines at the front of a space that has room for all of them.
+pub fn write_lines(space: &mut [u8], encoded: &[u8]) -> usize
+    requires { ⌜ length (now space) ≡ 28 ⌝ }
+    ensures { λ r. ⌜ take r (now (space .exit)) ≡ comparisonText (now (encoded .entry)) ⌝ }
+    ensures { λ r. ⌜ r ≤ 28 ⌝ }
+{
+    put_lines(space, encoded)
+}
+
+// The lines, made in the space and handed to standard output.
+fn print_by(space: &mut [u8], encoded: &[u8])
+    requires { ⌜ length (now space) ≡ 28 ⌝ }
+{
+    let length = write_lines(space, encoded);
+    io::write_all(STDOUT_FILENO, &space[..length]);
+}
+
+// What the second program writes for these bytes.
+pub fn print(encoded: &[u8]) {
+    let mut space = [0u8; 28];
+    print_by(&mut space, encoded);
 }

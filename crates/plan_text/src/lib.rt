@@ -1,66 +1,144 @@
-// The plan printer's text of one recipe on a route, and the hops of its messages, written to standard output.
+// The plan printer's text of one recipe on a route, made in a lent space and handed to standard output; and the hops of its messages.
 ghost use mathlib.Core.Path.{_≡_};
-ghost use Prim.Native.Nat.{_+_, _≤_};
-ghost use lib.ListN.{length};
+ghost use mathlib.Core.List.{[], _∷_};
+ghost use Prim.Native.Nat.{_+_, _*_, _≤_};
+ghost use lib.ListN.{length, take};
 ghost use Rattle.machine.specs.Plan.{count};
 ghost use Rattle.plan.specs.Shaped.{planOf};
-ghost use Rattle.layout.specs.Sizes.{Sized};
+ghost use Rattle.layout.specs.Sizes.{Sized, routeOf};
 ghost use Rattle.tables.specs.Tables.{Tabled};
+ghost use Rattle.text.specs.Writing.{pen, write};
+ghost use Rattle.plan_text.specs.PlanText.{numberThen, field, figuresText, spaced, linesText, refusedText, planText};
 use layout::Sizes;
 use libc::STDOUT_FILENO;
 use nest::Nest;
 use table::MessageLine;
 
-// The number's digits and a byte behind them, from a place of the line on; the place after them.
-fn put_number(line: &mut [u8; 66], at: usize, number: u32, after: u8) -> usize
-    requires { ⌜ (at + 11 ≤ 66) × (length (now line) ≡ 66) ⌝ }
-    ensures { λ r. ⌜ (r ≤ at + 11) × (length (now (line .exit)) ≡ 66) ⌝ }
+// A number of at most ten digits, and a byte behind it.
+fn put_number(space: &mut [u8], at: usize, number: u32, after: u8) -> usize
+    requires { ⌜ at + 11 ≤ 4294967295 ⌝ }
+    ensures { λ r. ⌜ pen r (now (space .exit)) ≡ write (pen at (now (space .entry))) (numberThen number after) ⌝ }
+    ensures { λ r. ⌜ r ≤ at + 11 ⌝ }
 {
-    let mut digits = [0u8; 20];
-    let n = io::decimal(number as u64, &mut digits);
-    let mut i = 0;
-    while i < n {
-        line[at + i] = digits[i];
-        i += 1;
-    }
-    line[at + n] = after;
-    at + n + 1
+    let next = text::put_decimal(space, at, number);
+    text::put(space, next, after)
+}
+
+// A word, a number and a byte behind it.
+fn put_field(space: &mut [u8], at: usize, word: &[u8], number: u32, after: u8) -> usize
+    requires { ⌜ at + length (now word) + 11 ≤ 4294967295 ⌝ }
+    ensures { λ r. ⌜ pen r (now (space .exit)) ≡ write (pen at (now (space .entry))) (field (now (word .entry)) number after) ⌝ }
+    ensures { λ r. ⌜ r ≤ at + length (now (word .entry)) + 11 ⌝ }
+{
+    let next = text::put_bytes(space, at, word);
+    put_number(space, next, number, after)
 }
 
 // Message number, sending tile, taking tile, their processors, words.
-fn print_line(number: u32, of: MessageLine) {
-    let mut line = [0u8; 66];
-    let a = put_number(&mut line, 0, number, b' ');
-    let b = put_number(&mut line, a, of.sender, b' ');
-    let c = put_number(&mut line, b, of.taker, b' ');
-    let d = put_number(&mut line, c, of.from, b' ');
-    let e = put_number(&mut line, d, of.to, b' ');
-    let end = put_number(&mut line, e, of.words, b'\n');
-    io::write_all(STDOUT_FILENO, &line[..end]);
+fn put_line(space: &mut [u8], at: usize, number: u32, of: MessageLine) -> usize
+    requires { ⌜ at + 66 ≤ 4294967295 ⌝ }
+    ensures { λ r. ⌜ pen r (now (space .exit))
+        ≡ write (pen at (now (space .entry))) (spaced (number ∷ of .sender ∷ of .taker ∷ of .from ∷ of .to ∷ of .words ∷ [])) ⌝ }
+    ensures { λ r. ⌜ r ≤ at + 66 ⌝ }
+{
+    let a = put_number(space, at, number, b' ');
+    let b = put_number(space, a, of.sender, b' ');
+    let c = put_number(space, b, of.taker, b' ');
+    let d = put_number(space, c, of.from, b' ');
+    let e = put_number(space, d, of.to, b' ');
+    put_number(space, e, of.words, b'\n')
 }
 
 // The messages in their order.
-fn print_lines(nest: Nest, sizes: Sizes, lens: &[u16; 9217], messages: u32)
-    requires { ⌜ Sized nest sizes × Tabled nest sizes (now lens) ⌝ }
+fn put_lines(
+    space: &mut [u8],
+    at: usize,
+    nest: Nest,
+    sizes: Sizes,
+    lens: &[u16; 9217],
+    messages: u32,
+) -> usize
+    requires { ⌜ (at + 66 * messages ≤ 4294967295) × (Sized nest sizes × Tabled nest sizes (now lens)) ⌝ }
     requires { ⌜ messages ≡ count (planOf (sizes .route) nest) ⌝ }
+    ensures { λ r. ⌜ pen r (now (space .exit)) ≡ write (pen at (now (space .entry))) (linesText (planOf (sizes .route) nest) messages) ⌝ }
+    ensures { λ r. ⌜ r ≤ at + 66 * messages ⌝ }
 {
+    let mut place = at;
     let mut m = 0;
     while m < messages {
-        print_line(m, table::line_of(nest, sizes, lens, m as usize));
+        place = put_line(
+            space,
+            place,
+            m,
+            table::line_of(nest, sizes, lens, m as usize),
+        );
         m += 1;
     }
+    place
 }
 
-fn print_figures(of: table::Figures) {
-    io::write_all(STDOUT_FILENO, b"tiles ");
-    io::print_decimal(STDOUT_FILENO, of.tiles as u64);
-    io::write_all(STDOUT_FILENO, b" messages ");
-    io::print_decimal(STDOUT_FILENO, of.messages as u64);
-    io::write_all(STDOUT_FILENO, b" words ");
-    io::print_decimal(STDOUT_FILENO, of.words as u64);
-    io::write_all(STDOUT_FILENO, b" steps ");
-    io::print_decimal(STDOUT_FILENO, of.steps as u64);
-    io::write_all(STDOUT_FILENO, b"\n");
+fn put_figures(space: &mut [u8], of: table::Figures) -> usize
+    ensures { λ r. ⌜ pen r (now (space .exit)) ≡ write (pen 0 (now (space .entry))) (figuresText (of .tiles) (of .messages) (of .words) (of .steps)) ⌝ }
+    ensures { λ r. ⌜ r ≤ 71 ⌝ }
+{
+    let a = put_field(space, 0, b"tiles ", of.tiles, b' ');
+    let b = put_field(space, a, b"messages ", of.messages, b' ');
+    let c = put_field(space, b, b"words ", of.words, b' ');
+    put_field(space, c, b"steps ", of.steps, b'\n')
+}
+
+pub fn put_refused(space: &mut [u8], number: u32) -> usize
+    ensures { λ r. ⌜ pen r (now (space .exit)) ≡ write (pen 0 (now (space .entry))) (refusedText number) ⌝ }
+    ensures { λ r. ⌜ r ≤ 19 ⌝ }
+{
+    put_field(space, 0, b"refused ", number, b'\n')
+}
+
+// The text of a recipe: how many bytes it has, each written where the space has room. A line has at most six numbers of ten digits, a
+// plan at most 7,168 messages.
+pub fn put_recipe(space: &mut [u8], encoded: &[u8], route: u32) -> usize
+    ensures { λ r. ⌜ pen r (now (space .exit)) ≡ write (pen 0 (now (space .entry))) (planText (routeOf route) (now (encoded .entry))) ⌝ }
+    ensures { λ r. ⌜ r ≤ 473159 ⌝ }
+{
+    if encoded.len() > 512 {
+        return put_refused(space, 1);
+    }
+    let reading = routes::read_for(encoded, route);
+    let number = reading.number;
+    if number != 0 {
+        return put_refused(space, number);
+    }
+    let nest = reading.nest;
+    let sizes = layout::sizes_of(nest, layout::route_of(route));
+    let mut lens = [0u16; 9217];
+    tables::fill(nest, sizes, &mut lens);
+    let figures = table::figures_of(nest, sizes, &lens);
+    let next = put_figures(space, figures);
+    put_lines(space, next, nest, sizes, &lens, figures.messages)
+}
+
+// The text at the front of a space that has room for every one.
+pub fn write_recipe(space: &mut [u8], encoded: &[u8], route: u32) -> usize
+    requires { ⌜ length (now space) ≡ 473159 ⌝ }
+    ensures { λ r. ⌜ take r (now (space .exit)) ≡ planText (routeOf route) (now (encoded .entry)) ⌝ }
+    ensures { λ r. ⌜ r ≤ 473159 ⌝ }
+{
+    put_recipe(space, encoded, route)
+}
+
+// The text, made in the space and handed to standard output.
+fn print_by(space: &mut [u8], encoded: &[u8], route: u32)
+    requires { ⌜ length (now space) ≡ 473159 ⌝ }
+{
+    let length = write_recipe(space, encoded, route);
+    io::write_all(STDOUT_FILENO, &space[..length]);
+}
+
+// The plan of a recipe of at most 512 bytes, or why it is refused; a longer one is refused as ragged. The route is 0 for direct passing,
+// any other for indirect.
+pub fn print_recipe(encoded: &[u8], route: u32) {
+    let mut space = [0u8; 473159];
+    print_by(&mut space, encoded, route);
 }
 
 fn print_hop(of: table::HopCount) {
@@ -82,32 +160,4 @@ pub fn print_hops(encoded: &[u8]) {
         m += 1;
     }
     io::write_all(STDOUT_FILENO, b"\n");
-}
-
-fn print_refused(number: u32) {
-    io::write_all(STDOUT_FILENO, b"refused ");
-    io::print_decimal(STDOUT_FILENO, number as u64);
-    io::write_all(STDOUT_FILENO, b"\n");
-}
-
-// The plan of a recipe of at most 512 bytes, or why it is refused; a longer one is refused as ragged. The route is 0 for direct passing,
-// any other for indirect.
-pub fn print_recipe(encoded: &[u8], route: u32) {
-    if encoded.len() > 512 {
-        print_refused(1);
-        return;
-    }
-    let reading = routes::read_for(encoded, route);
-    let number = reading.number;
-    if number != 0 {
-        print_refused(number);
-        return;
-    }
-    let nest = reading.nest;
-    let sizes = layout::sizes_of(nest, layout::route_of(route));
-    let mut lens = [0u16; 9217];
-    tables::fill(nest, sizes, &mut lens);
-    let figures = table::figures_of(nest, sizes, &lens);
-    print_figures(figures);
-    print_lines(nest, sizes, &lens, figures.messages);
 }

@@ -1,0 +1,193 @@
+//! Makes the chart of a harbour: a recipe and its depths in, the grid by a run on all processors out, as an Esri ASCII grid.
+//!
+//! ```text
+//! chart RECIPE --soundings FILE.. [--value DEPTH] [--corner X Y] [--cell SIZE] --out FILE
+//! chart RECIPE --source FILE [--corner X Y] [--cell SIZE] --out FILE
+//! ```
+//!
+//! RECIPE has the recipe's bytes, as write_recipe writes them. Soundings are records of 16 bytes: cell number, survey day,
+//! survey number and depth, in one file or several, which count as one in the order given; a cell without one has DEPTH, 0
+//! unless given. A source has one word of 4 bytes a cell, the low byte first. X and Y are the corner's whole numbers, 0
+//! unless given; SIZE is 1 to 65,535, 1 unless given.
+//!
+//! The file named by `--out` is written whole or not at all: what stood there stays until the text is complete. A run that
+//! takes longer than a second tells how far it is on standard error. What went wrong is told there with the file's name,
+//! and the status is then 1.
+
+use std::{
+    env,
+    ffi::OsString,
+    fs::{self, File},
+    io::{self, IsTerminal, Write},
+    path::{Path, PathBuf},
+    process::{self, ExitCode},
+    time::{Duration, Instant},
+};
+
+use rolwyddac::{chart, soundings, summary, Route, Run};
+
+const USAGE: &str =
+    "chart RECIPE (--soundings FILE.. [--value DEPTH] | --source FILE) [--corner X Y] [--cell SIZE] --out FILE";
+
+/// Bytes of one word of a source file.
+const WORD: usize = 4;
+
+/// Where the depths come from.
+#[derive(Debug, PartialEq, Eq)]
+enum Depths {
+    Soundings { files: Vec<PathBuf>, value: u32 },
+    Source { file: PathBuf },
+}
+
+/// What the words of the command say.
+#[derive(Debug, PartialEq, Eq)]
+struct Order {
+    recipe: PathBuf,
+    depths: Depths,
+    corner: (i32, i32),
+    cell_size: u32,
+    out: PathBuf,
+}
+
+/// The number that has to follow a word.
+fn number<T: std::str::FromStr>(name: &str, word: Option<OsString>) -> Result<T, String> {
+    let word = word.ok_or_else(|| format!("{name}: a number is missing"))?;
+    let text = word.to_str().unwrap_or_default();
+    text.parse().map_err(|_| format!("{name}: `{}` is no number that it can be", word.to_string_lossy()))
+}
+
+/// The file that has to follow a word.
+fn file(name: &str, word: Option<OsString>) -> Result<PathBuf, String> {
+    word.map(PathBuf::from).ok_or_else(|| format!("{name}: a file is missing"))
+}
+
+/// Reads the words of the command.
+fn order(words: impl Iterator<Item = OsString>) -> Result<Order, String> {
+    let mut words = words.peekable();
+    let (mut recipe, mut sounded, mut source, mut out) = (None, Vec::new(), None, None);
+    let (mut value, mut corner, mut cell_size) = (None, (0, 0), 1);
+    while let Some(word) = words.next() {
+        match word.to_str() {
+            Some("--soundings") => {
+                sounded.push(file("--soundings", words.next())?);
+                while let Some(more) = words.next_if(|word| !word.to_string_lossy().starts_with("--")) {
+                    sounded.push(PathBuf::from(more));
+                }
+            }
+            Some("--source") => source = Some(file("--source", words.next())?),
+            Some("--value") => value = Some(number("--value", words.next())?),
+            Some("--corner") => corner = (number("--corner", words.next())?, number("--corner", words.next())?),
+            Some("--cell") => cell_size = number("--cell", words.next())?,
+            Some("--out") => out = Some(file("--out", words.next())?),
+            Some(word) if word.starts_with("--") => return Err(format!("`{word}` is not known")),
+            _ if recipe.is_none() => recipe = Some(PathBuf::from(word)),
+            _ => return Err(format!("`{}` was not expected", word.to_string_lossy())),
+        }
+    }
+    let depths = match (sounded, source, value) {
+        (files, None, value) if !files.is_empty() => Depths::Soundings { files, value: value.unwrap_or(0) },
+        (files, Some(file), None) if files.is_empty() => Depths::Source { file },
+        (files, Some(_), Some(_)) if files.is_empty() => return Err("--value goes with --soundings".into()),
+        _ => return Err("one of --soundings and --source is needed".into()),
+    };
+    let recipe = recipe.ok_or("the recipe is missing")?;
+    let out = out.ok_or("--out is missing")?;
+    Ok(Order { recipe, depths, corner, cell_size, out })
+}
+
+/// A fault of a file, told with its name.
+fn of(file: &Path) -> impl Fn(&dyn std::fmt::Display) -> String + '_ {
+    move |what| format!("{}: {what}", file.display())
+}
+
+fn read(file: &Path) -> Result<Vec<u8>, String> {
+    fs::read(file).map_err(|error| of(file)(&error))
+}
+
+/// One word a cell, from the file that was named.
+fn source_of(recipe: &[u8], cells: usize, depths: &Depths) -> Result<Vec<u32>, String> {
+    match depths {
+        Depths::Soundings { files, value } => {
+            let (mut source, mut all) = (vec![0; cells], Vec::new());
+            for file in files {
+                let records = read(file)?;
+                // alone first: what is wrong with it is told with its name
+                soundings(recipe, &records, *value, &mut source).map_err(|refusal| of(file)(&refusal))?;
+                all.extend(records);
+            }
+            soundings(recipe, &all, *value, &mut source).map_err(|refusal| refusal.to_string())?;
+            Ok(source)
+        }
+        Depths::Source { file } => {
+            let bytes = read(file)?;
+            if bytes.len() != WORD * cells {
+                let what = format!("{} bytes, and {} are needed, {WORD} a cell", bytes.len(), WORD * cells);
+                return Err(of(file)(&what));
+            }
+            let words = bytes.chunks_exact(WORD).map(|word| u32::from_le_bytes(word.try_into().expect("four bytes")));
+            Ok(words.collect())
+        }
+    }
+}
+
+/// The grid by a run on all processors. A long run is told of, a line that is written over on a terminal.
+fn grid_of(recipe: &[u8], source: &[u32]) -> Result<Vec<u32>, rolwyddac::Refusal> {
+    const BETWEEN: Duration = Duration::from_secs(1);
+    let mut run = Run::start(recipe, Route::Direct, source)?;
+    let total = run.plan().steps;
+    let (terminal, mut next, mut told) = (io::stderr().is_terminal(), Instant::now() + BETWEEN, false);
+    run.finish_telling(|steps| {
+        if Instant::now() >= next {
+            next += BETWEEN;
+            told = true;
+            eprint!("{}step {steps} of {total}{}", if terminal { "\r" } else { "" }, if terminal { "" } else { "\n" });
+        }
+    })?;
+    if told && terminal {
+        eprintln!();
+    }
+    run.collect()
+}
+
+/// Writes a file whole or not at all: to a file beside it, which then takes its name.
+fn write_whole(file: &Path, text: &[u8]) -> io::Result<()> {
+    let name = file.file_name().ok_or_else(|| io::Error::other("no file's name"))?;
+    let mut beside = name.to_os_string();
+    beside.push(format!(".{}.part", process::id()));
+    let beside = file.with_file_name(beside);
+    let written = File::create_new(&beside)
+        .and_then(|mut part| part.write_all(text).and_then(|()| part.sync_all()))
+        .and_then(|()| fs::rename(&beside, file));
+    if written.is_err() {
+        let _ = fs::remove_file(&beside);
+    }
+    written
+}
+
+fn make(order: &Order) -> Result<(), String> {
+    let recipe = read(&order.recipe)?;
+    let refused = |refusal| of(&order.recipe)(&refusal);
+    let cells = summary(&recipe, Route::Direct).map_err(refused)?.cells;
+    let source = source_of(&recipe, cells, &order.depths)?;
+    let grid = grid_of(&recipe, &source).map_err(refused)?;
+    let (x, y) = order.corner;
+    let text = chart(&recipe, &grid, x, y, order.cell_size).map_err(refused)?;
+    write_whole(&order.out, text.as_bytes()).map_err(|error| of(&order.out)(&error))
+}
+
+fn main() -> ExitCode {
+    let order = match order(env::args_os().skip(1)) {
+        Ok(order) => order,
+        Err(what) => {
+            eprintln!("{what}\n{USAGE}");
+            return ExitCode::FAILURE;
+        }
+    };
+    match make(&order) {
+        Ok(()) => ExitCode::SUCCESS,
+        Err(what) => {
+            eprintln!("{what}");
+            ExitCode::FAILURE
+        }
+    }
+}
