@@ -1,5 +1,5 @@
-"""A plain model of document 01 and of the requests W-201 to W-205 and W-207 to W-211, written from their text, read as
-docs/DECISIONS.md says, and not from the engine.
+"""A plain model of document 01 and of the requests W-201 to W-205, W-207 to W-212 and W-214, written from their text,
+read as docs/DECISIONS.md says, and not from the engine.
 
 Every set is made by trying all its candidates. It shares no code, no table and no closed form with
 the engine, so that a test vector made from it tells whether the engine means what the paper says.
@@ -459,13 +459,64 @@ def tested(encoded, areas, route, rig=None, others_right=lambda plan: True):
     return (0 if is_fit(plan, areas) else 10), plan
 
 
-def turn_number(encoded, areas, b, route=DIRECT, rig=None):
+# W-212: minutes of a week, windows of a board
+WEEK = 10080
+WINDOWS = 14
+
+
+class Hours:
+    """W-212, what a turn with hours is given beside the rest: the lent table, and its minute."""
+
+    def __init__(self, table, minute):
+        self.table = table
+        self.minute = minute
+
+    def windows(self, b):
+        """The pairs of a board, open and close; a pair of zeros is no window."""
+        pairs = [tuple(self.table[2 * at:2 * at + 2]) for at in range(WINDOWS * b, WINDOWS * (b + 1))]
+        return [pair for pair in pairs if pair != (0, 0)]
+
+    def is_right_for(self, plan):
+        return len(self.table) == 2 * WINDOWS * plan.boards
+
+    def is_faulty(self, plan):
+        """Line 25: a faulty window of any board or a faulty minute."""
+        return not self.minute < WEEK or any(
+            not (opening < WEEK and close <= WEEK and opening < close) for b in range(plan.boards) for opening, close in self.windows(b))
+
+    def is_open(self, b, minute=None):
+        """The open minute is included and the close minute excluded."""
+        minute = self.minute if minute is None else minute
+        return any(opening <= minute < close for opening, close in self.windows(b))
+
+
+def opens(encoded, table, minute, b):
+    """The number; 1 where the board opens and 0 where it never does; the minutes until it is open, by trying each minute of a week."""
+    number, plan = plan_of(encoded)
+    if number != 0:
+        return number, 0, 0
+    hours = Hours(table, minute)
+    if not hours.is_right_for(plan):
+        return 9, 0, 0
+    if hours.is_faulty(plan):
+        return 25, 0, 0
+    if not b < plan.boards:
+        return 11, 0, 0
+    found = [wait for wait in range(WEEK) if hours.is_open(b, (minute + wait) % WEEK)]
+    return (0, 1, found[0]) if found else (0, 0, 0)
+
+
+def turn_number(encoded, areas, b, route=DIRECT, rig=None, hours=None):
     """The number that a turn gives, and the plan; nothing is written."""
-    number, plan = tested(encoded, areas, route, rig)
+    number, plan = tested(encoded, areas, route, rig, lambda plan: hours is None or hours.is_right_for(plan))
     if number != 0:
         return number, plan
+    if hours is not None and hours.is_faulty(plan):
+        return 25, plan
     if not b < plan.boards:
         return 11, plan
+    if hours is not None and not hours.is_open(b):
+        return 24, plan
     finished, stage, _ = areas.progress[3 * b:3 * b + 3]
     left = finished < len(plan.tiles_of[b])
     if rig is not None and left and rig.engaged[b] == 1 - rig.office:
@@ -475,8 +526,8 @@ def turn_number(encoded, areas, b, route=DIRECT, rig=None):
     return (0 if left else 13), plan
 
 
-def turn(encoded, areas, b, route=DIRECT, rig=None):
-    number, plan = turn_number(encoded, areas, b, route, rig)
+def turn(encoded, areas, b, route=DIRECT, rig=None, hours=None):
+    number, plan = turn_number(encoded, areas, b, route, rig, hours)
     if number != 0:
         return number
     finished, stage, sent = areas.progress[3 * b:3 * b + 3]
@@ -669,10 +720,12 @@ class Offices:
     def rig(self, office):
         return Rig(self.engaged, self.areas[1 - office].progress, office)
 
-    def call(self, encoded, office, event, route=DIRECT):
-        """An event of an office, ('turn', b) or ('deliver', m)."""
+    def call(self, encoded, office, event, route=DIRECT, hours=None):
+        """An event of an office, ('turn', b) or ('deliver', m); mail is delivered at any hour."""
         kind, which = event
-        return (turn if kind == 'turn' else deliver)(encoded, self.areas[office], which, route, self.rig(office))
+        if kind == 'turn':
+            return turn(encoded, self.areas[office], which, route, self.rig(office), hours)
+        return deliver(encoded, self.areas[office], which, route, self.rig(office))
 
 
 def run(encoded, areas, events, route=DIRECT):
@@ -850,6 +903,7 @@ def check_paper():
     check_shapes()
     check_soundings()
     check_charts()
+    check_hours()
 
 
 def check_routes():
@@ -1099,8 +1153,49 @@ def check_charts():
                                 written(plane[16:], [], size=0, room=0)], [23, 23, 23, 2])
 
 
+def table_of(*boards):
+    """A table of hours from each board's windows."""
+    return [word for windows in boards for pair in list(windows) + [(0, 0)] * (WINDOWS - len(windows)) for word in pair]
+
+
+def check_hours():
+    """W-212 on row D: what a window is, the minutes until a board opens, and each line beside its neighbours."""
+    encoded = ROWS['D']
+    plan = plan_of(encoded)[1]
+
+    def asked(minute, *windows, b=0, other=((5, 6),), table=None):
+        return opens(encoded, table_of(windows, other) if table is None else table, minute, b)
+
+    expect('open and close', [asked(minute, (10, 20)) for minute in (9, 10, 19, 20)], [(0, 1, 1), (0, 1, 0), (0, 1, 0), (0, 1, 10070)])
+    expect('both ends', [asked(0, (0, 1)), asked(1, (0, 1)), asked(10079, (10079, 10080)), asked(0, (10079, 10080)), asked(10079, (3, 4))],
+           [(0, 1, 0), (0, 1, 10079), (0, 1, 0), (0, 1, 10079), (0, 1, 4)])
+    expect('never', [asked(7), asked(5), asked(5, b=1), asked(6, b=1)], [(0, 0, 0), (0, 0, 0), (0, 1, 0), (0, 1, 10079)])
+    expect('the next one', asked(50, (90, 100), (60, 70), (10, 20), (65, 95)), (0, 1, 10))
+    expect('fourteen', asked(27, *[(2 * j, 2 * j + 1) for j in range(14)]), (0, 1, 10053))
+    for pair in ((1, 0), (5, 5), (6, 5), (0, 10081), (10080, 10080), (10080, 10081), (10079, 10081), (WORD - 1, 0), (0, WORD - 1)):
+        expect('a faulty window', [asked(1, pair), asked(1, (0, 9), other=[(2, 3)] * 13 + [pair]), asked(1, pair, b=2)], [(25, 0, 0)] * 3)
+    expect('a faulty minute', [asked(10080), asked(WORD - 1, b=2), asked(10079, b=2)], [(25, 0, 0), (25, 0, 0), (11, 0, 0)])
+    expect('a wrong length', [asked(10080, table=[7] * count) for count in (0, 55, 57)], [(9, 0, 0)] * 3)
+
+    def number(b, minute, own=(0, 0, 0, 0, 0, 0), rig=None, table=table_of([(10, 20)], [(10, 20)])):
+        areas = areas_for(plan, [1] * 4)
+        areas.progress = list(own)
+        return turn(encoded, areas, b, DIRECT, rig, Hours(table, minute))
+
+    held = dict(engaged=[2, 1], other=[0, 0, 0, 0, 1, 0])
+    unfit, finished, closed = (0, 3, 0, 0, 0, 0), (1, 0, 0, 1, 0, 0), 30
+    expect('open', [number(0, 10), number(1, 10), number(1, 10, finished)], [0, 12, 13])
+    expect('closed', [number(0, closed), number(1, closed), number(1, closed, finished), number(2, closed)], [24, 24, 24, 11])
+    expect('held', [number(1, minute, own, Rig(office=0, **held)) for minute, own in ((10, (0,) * 6), (closed, (0,) * 6), (10, finished))],
+           [19, 24, 13])
+    expect('faulty', [number(0, 10080), number(2, 10080), number(0, 10080, unfit), number(0, 10080, unfit, table=[1] * 55)],
+           [25, 25, 10, 9])
+    expect('an office above 1', [number(2, 10080, unfit, Rig(office=2, **held)),
+                                 number(0, 10080, unfit, Rig(office=2, **held), [1] * 55)], [11, 9])
+
+
 if __name__ == '__main__':
     check_paper()
     import schedules
     schedules.check()
-    print('the model gives what document 01, W-201 to W-205 and W-207 to W-211 print')
+    print('the model gives what document 01, W-201 to W-205, W-207 to W-212 and W-214 print')

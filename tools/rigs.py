@@ -1,5 +1,5 @@
-"""Scripts for a rig with two offices: the stored vectors of bindings/cases/offices. README.md has the format, `python3 tools/vectors.py` writes
-them."""
+"""Scripts for a rig with two offices and hours: the stored vectors of bindings/cases/offices and hours. README.md has the format,
+`python3 tools/vectors.py` writes them."""
 
 import model
 import vectors
@@ -7,11 +7,10 @@ from vectors import COUNT, DRAWN, DRAWN_FEW, EACH, Draw
 
 # the areas of each office, then those of the rig
 OFFICE_AREAS = ['source', 'memories', 'buffer', 'progress', 'status', 'grid']
-NAMES = [''] + OFFICE_AREAS + ['engaged']
-ROOM = {'source': 256, 'memories': 1024, 'buffer': 1792, 'progress': 192, 'status': 1792, 'grid': 256, 'engaged': 64}
-SET_OPS = {'case': 1, 'recipe': 2, 'lend': 3, 'fill': 4, 'poke': 5, 'sweep': 10, 'show': 11, 'route': 12}
-CALL_OPS = {'fresh both': 16, 'turn': 17, 'deliver': 18, 'collect': 19, 'look': 20}
-OPS = {**SET_OPS, **CALL_OPS}
+NAMES = [''] + OFFICE_AREAS + ['engaged', 'hours']
+ROOM = {'source': 256, 'memories': 1024, 'buffer': 1792, 'progress': 192, 'status': 1792, 'grid': 256, 'engaged': 64, 'hours': 1792}
+OPS = {'case': 1, 'recipe': 2, 'lend': 3, 'fill': 4, 'poke': 5, 'fresh': 6, 'deliver alone': 8, 'collect alone': 9, 'sweep': 10, 'show': 11,
+       'route': 12, 'fresh both': 16, 'turn': 17, 'deliver': 18, 'collect': 19, 'look': 20, 'turn alone at': 21, 'turn at': 22, 'opens': 23}
 HIGH = 4294967295
 
 
@@ -21,22 +20,33 @@ def hashed(words, h=2166136261):
     return h
 
 
+REFUSED = {}
+
+
+def refused_by(number):
+    """A recipe that a line of the reader refuses; most of them have another fault too."""
+    if REFUSED == {}:
+        REFUSED.update((model.read(encoded)[0], encoded) for encoded in vectors.refused_recipes() if len(encoded) <= 512)
+    return REFUSED[number]
+
+
 class RigScript:
     """Records for the program, and beside them what the model says that it prints. An area is named by its office and its name; the
     rig's own areas have office 0."""
 
     def __init__(self):
         self.records, self.lines, self.words = [], [], []
-        self.arrays = {key: [0] * ROOM[key[1]] for key in self.keys()}
+        self.arrays = {key: [0] * ROOM[key[1]] for key in self.keys() + [(0, 'hours')]}
         self.numbers = {}
         self.count = 0
         self.begin()
 
     def keys(self):
-        return [(office, name) for office in (0, 1) for name in OFFICE_AREAS] + [(0, name) for name in NAMES[7:]]
+        """The areas that a call may write, in the checksum's order."""
+        return [(office, name) for office in (0, 1) for name in OFFICE_AREAS] + [(0, 'engaged')]
 
     def begin(self):
-        self.lent = {key: 0 for key in self.keys()}
+        self.lent = {key: 0 for key in self.arrays}
         self.encoded = b''
         self.route = model.DIRECT
 
@@ -122,7 +132,7 @@ class RigScript:
         got = answer(both, engaged)
         number, told = got if isinstance(got, tuple) else (got, ())
         for key in self.keys():
-            words = getattr(both[key[0]], key[1]) if key[1] in OFFICE_AREAS else engaged if key[1] == 'engaged' else self.words_of(*key)
+            words = getattr(both[key[0]], key[1]) if key[1] in OFFICE_AREAS else engaged
             assert len(words) == self.lent[key]
             self.arrays[key][:len(words)] = words
         assert number == 0 or self.checksum() == before
@@ -163,6 +173,46 @@ class RigScript:
             number, start, part = model.look(self.encoded, both[0].memories, both[1].memories, named, b)
             return number, (start, len(part), '%08x' % hashed(part))
         return self.call('look', answer, a=b, b=named)
+
+    # one office alone, and hours (W-212); only what a program of hours calls
+
+    def fresh(self, office=0):
+        return self.call('fresh', lambda both, engaged: model.fresh(self.encoded, both[office], self.route), office)
+
+    def deliver_alone(self, m, office=0):
+        return self.call('deliver alone', lambda both, engaged: model.deliver(self.encoded, both[office], m, self.route), office, a=m)
+
+    def collect_alone(self, office=0):
+        return self.call('collect alone', lambda both, engaged: model.collect(self.encoded, both[office], self.route), office)
+
+    def hours(self, minute):
+        return model.Hours(self.words_of(0, 'hours'), minute)
+
+    def turn_alone_at(self, minute, b, office=0):
+        return self.call('turn alone at', lambda both, engaged: model.turn(
+            self.encoded, both[office], b, self.route, None, self.hours(minute)), office, a=b, c=minute)
+
+    def turn_at(self, minute, office, b, named=None):
+        named = office if named is None else named
+        return self.call('turn at', lambda both, engaged: model.turn(
+            self.encoded, both[office], b, self.route, self.rig(both, engaged, office, named), self.hours(minute)),
+            office, a=b, b=named, c=minute)
+
+    def opens(self, minute, b):
+        def answer(both, engaged):
+            number, flag, wait = model.opens(self.encoded, self.words_of(0, 'hours'), minute, b)
+            return number, (flag, wait)
+        return self.call('opens', answer, a=b, c=minute)
+
+    def table(self, *boards):
+        """Lends a table with these windows; most words are zero."""
+        words = model.table_of(*boards)
+        if self.lent[0, 'hours'] != len(words):
+            self.lend(0, 'hours', len(words))
+        self.fill(0, 'hours', EACH, 0)
+        for at, word in enumerate(words):
+            if word != 0:
+                self.poke(0, 'hours', at, word)
 
     def sweep(self, office):
         return self.call('sweep', lambda both, engaged: model.sweep(self.encoded, both[office].source, both[office].grid), office)
@@ -230,9 +280,8 @@ def office_facts(s):
 
 def office_refusals(s):
     """The lines on the recipe, then 9 for each lent area, each before the next line."""
-    refused = vectors.refused_recipes()
     for number in vectors.ORDER:
-        encoded = [e for e in refused if model.read(e)[0] == number and len(e) <= 512][-1]
+        encoded = refused_by(number)
         s.case('a recipe refused %d' % number)
         s.recipe(encoded)
         s.by(number % 2)
@@ -403,6 +452,171 @@ def office_script():
     wanted = {'fresh both': {0, 21} | low, 'turn': {0, 10, 11, 12, 13, 19, 21} | low, 'deliver': {0, 10, 11, 14, 21} | low,
               'collect': {0, 10, 11, 15, 21} | low, 'look': {0, 11} | low, 'sweep': {0}}
     assert s.numbers == wanted, s.numbers
+    return s
+
+
+# W-212
+
+def asked_hours(s):
+    """The minutes until a board opens: windows of every kind, faults of every kind, and each line beside its neighbours."""
+    s.start('row D, minutes until a board opens', model.ROWS['D'], both=False)
+
+    def ask(minutes, b, wanted=0):
+        for minute in minutes:
+            assert s.opens(minute, b) == wanted, (minute, b)
+
+    edges = (0, 9, 10, 19, 20, 5000, 10079)
+    s.table([(10, 20)], [])
+    ask(edges, 0)
+    ask((0, 15, 10079), 1)
+    # both ends of the week, and past it
+    s.table([(0, 10)], [(10070, 10080)])
+    ask(edges, 0)
+    ask((0, 10069, 10070, 10079), 1)
+    s.table([(0, 1)], [(10079, 10080)])
+    ask((0, 1, 10079), 0)
+    ask((0, 10078, 10079), 1)
+    s.table([(0, 10080)], [(10, 20), (10060, 10070)])
+    ask((0, 10079), 0)
+    ask((0, 20, 10059, 10070, 10079), 1)
+    # fourteen windows, overlapping and unordered ones; windows behind empty pairs
+    s.table([(100 * j + 50, 100 * j + 60) for j in range(14)], [(500, 600), (90, 100), (60, 95), (550, 700)])
+    ask((0, 60, 1350, 1360, 10079), 0)
+    ask((0, 89, 95, 99, 100, 600, 699, 700), 1)
+    s.table([(0, 0)] * 13 + [(7, 8)], [(0, 0), (3, 4)])
+    ask((6, 7, 8), 0)
+    ask((2, 4), 1)
+    # faults of any board and of the minute; 25 before a board too high, 9 before 25
+    for j, pair in enumerate(((1, 0), (5, 5), (6, 5), (0, 10081), (10080, 10080), (10080, 10081), (10079, 10081), (HIGH, 0), (0, HIGH),
+                              (HIGH, HIGH))):
+        s.table(*([[(1, 9)], [(2, 3)] * (j + 1) + [pair]] if j % 2 else [[pair], [(1, 9)]]))
+        ask((1,), 0, 25)
+        ask((1,), 1, 25)
+        ask((1,), 2, 25)
+    s.table([(1, 9)], [])
+    ask((10080, 10081, 65536, HIGH), 0, 25)
+    ask((10080,), 2, 25)
+    ask((10079, 3), 2, 11)
+    ask((3,), HIGH, 11)
+    s.fill(0, 'hours', EACH, 7)
+    for wrong in (0, 28, 55, 57):
+        s.lend(0, 'hours', wrong)
+        ask((10080,), 2, 9)
+    for number in vectors.ORDER:
+        s.recipe(refused_by(number))
+        ask((HIGH,), HIGH, number)
+    # a shape, and a route that it has not: the question has none
+    s.recipe(vectors.shape_recipes()[6])
+    s.by(1)
+    s.table([(1, 9)], [(3, 4)])
+    ask((9,), 1, 0)
+
+
+def closed_turns(s):
+    """Turns at a minute, one office: 9, 10, 25, 11, 24, 12, 13."""
+    plan = s.start('row D, turns at a minute', model.ROWS['D'], both=False)
+    s.fill(0, 'source', EACH, 1)
+    assert s.fresh() == 0
+    s.table([(10, 20)], [(15, 25), (100, 101)])
+    # closed; waiting; closed and waiting
+    for minute, b, number in ((9, 0, 24), (20, 0, 24), (9, 1, 24), (15, 1, 12), (10, 2, 11), (9, 2, 11), (10080, 2, 25), (10080, 0, 25),
+                              (HIGH, 1, 25)):
+        assert s.turn_alone_at(minute, b) == number, (minute, b)
+    assert [s.turn_alone_at(10, 0), s.turn_alone_at(9, 0), s.turn_alone_at(19, 0), s.turn_alone_at(12, 0)] == [0, 24, 0, 0]
+    # finished; closed and finished; mail is delivered at any hour
+    assert [s.turn_alone_at(12, 0), s.turn_alone_at(20, 0), s.deliver_alone(0)] == [13, 24, 0]
+    assert [s.turn_alone_at(25, 1), s.turn_alone_at(24, 1)] == [24, 0]
+    assert [s.turn_alone_at(99, 1), s.turn_alone_at(101, 1), s.turn_alone_at(100, 1), s.collect_alone()] == [24, 24, 0, 0]
+    s.show(0, 'grid')
+    assert s.lines[-1] == '1 2 3 4 '
+    # a faulty window of the other board, of either; unfit records before it, a wrong length before both
+    assert s.fresh() == 0
+    for first, second in (([(10, 20)], [(5, 5)]), ([(10, 20)], [(0, 0)] * 13 + [(3, 2)]), ([(9, 0)], []), ([(10, 20)], [(10080, 10081)])):
+        s.table(first, second)
+        assert [s.turn_alone_at(12, 0), s.turn_alone_at(12, 1), s.turn_alone_at(12, 2)] == [25] * 3
+    s.poke(0, 'progress', 1, 3)
+    assert [s.turn_alone_at(12, 0), s.turn_alone_at(10080, 2)] == [10, 10]
+    for wrong in (55, 57, 0):
+        s.lend(0, 'hours', wrong)
+        assert s.turn_alone_at(10080, 2) == 9
+    for number in (2, 20, 8):
+        s.recipe(refused_by(number))
+        assert s.turn_alone_at(HIGH, HIGH) == number
+    s.recipe(vectors.shape_recipes()[6])
+    s.by(1)
+    assert s.turn_alone_at(HIGH, HIGH) == 21
+
+
+def closed_offices(s):
+    """Turns at a minute for an office: 9, 11, 10, 25, 11, 24, 19, 12, 13."""
+    plan = s.start('row D, turns of two offices at a minute', model.ROWS['D'])
+    assert s.fresh_both() == 0
+    s.table([(10, 20)], [(15, 25)])
+    for minute, office, b, number in (
+            (12, 0, 0, 0), (12, 1, 0, 19), (9, 1, 0, 24), (20, 0, 0, 24), (13, 0, 0, 0), (14, 0, 0, 0), (15, 1, 1, 12), (26, 1, 1, 24),
+            (10080, 1, 0, 25), (10080, 1, 2, 25), (5, 1, 2, 11), (14, 1, 0, 0), (14, 0, 0, 13), (9, 0, 0, 24)):
+        assert s.turn_at(minute, office, b) == number, (minute, office, b)
+    assert [s.deliver(0, 0), s.turn_at(15, 0, 1), s.turn_at(15, 1, 1), s.turn_at(14, 1, 1)] == [0, 0, 19, 24]
+    s.show(0, 'engaged')
+    # an office above 1: behind 9, before 10 and 25
+    assert [s.turn_at(15, 0, 1, 2), s.turn_at(10080, 0, 2, HIGH)] == [11, 11]
+    s.poke(0, 'engaged', 0, 3)
+    assert [s.turn_at(10080, 0, 2, 2), s.turn_at(10080, 0, 2), s.turn_at(15, 0, 1)] == [11, 10, 10]
+    s.lend(0, 'hours', 57)
+    assert [s.turn_at(10080, 0, 2, 2), s.turn_at(15, 0, 1)] == [9, 9]
+    # the board closes in the middle of a tile and stays engaged
+    s.start('row D, a board that closes while it is engaged', model.ROWS['D'])
+    s.table([(10, 11), (30, 31)], [])
+    assert s.fresh_both() == 0
+    for minute, office, number in ((10, 1, 0), (11, 1, 24), (11, 0, 24), (30, 0, 19), (30, 1, 0), (30, 0, 19), (10, 1, 0), (10, 0, 0)):
+        assert s.turn_at(minute, office, 0) == number
+    s.show(0, 'engaged')
+
+
+def run_at_hours(s, encoded, draw, offices):
+    """A drawn run in which time goes on and boards open and close, collected and held to the sweeps."""
+    import schedules
+    plan = s.start('%d offices by the hours' % offices, encoded, draw.below(1000), both=offices == 2)
+    s.fill(0, 'hours', EACH, 0)
+    words = schedules.drawn_table(draw, plan.boards)
+    s.table(*[model.Hours(words, 0).windows(b) for b in range(plan.boards)])
+    assert (s.fresh_both() if offices == 2 else s.fresh()) == 0
+    steps, minute = [0] * offices, draw.below(10080)
+    while steps != [plan.steps] * offices:
+        office = draw.below(offices)
+        b = draw.below(plan.boards)
+        mailed = [m for m in range(len(plan.messages)) if s.arrays[office, 'status'][m] == 1]
+        if mailed and draw.below(2):
+            m = draw.pick(mailed)
+            number = s.deliver(office, m) if offices == 2 else s.deliver_alone(m)
+        else:
+            wait = schedules.until_open(s.words_of(0, 'hours'), b, minute)
+            if draw.below(6) == 0:
+                assert s.opens(minute, b) == 0
+            else:
+                minute = (minute + draw.pick([0, 1, wait, wait, wait])) % model.WEEK
+            number = s.turn_at(minute, office, b) if offices == 2 else s.turn_alone_at(minute, b)
+        steps[office] += number == 0
+    for office in range(offices):
+        assert (s.collect(office) if offices == 2 else s.collect_alone()) == 0
+        collected = s.words_of(office, 'grid')
+        s.fill(office, 'grid', DRAWN, 3)
+        assert s.sweep(office) == 0 and s.words_of(office, 'grid') == collected
+
+
+def hours_script():
+    s = RigScript()
+    asked_hours(s)
+    closed_turns(s)
+    closed_offices(s)
+    draw = Draw(33)
+    for encoded, offices in ((model.ROWS['E'], 1), (model.ROWS['E'], 2), (model.ROWS['H'], 2), (model.ROWS['B'], 1), (model.ROWS['B'], 2),
+                             (vectors.single_recipes()[2], 2), (vectors.shape_recipes()[6], 1), (vectors.shape_recipes()[6], 2)):
+        run_at_hours(s, encoded, draw, offices)
+    low = {*vectors.ORDER, 9, 25, 11}
+    wanted = {'opens': {0} | low, 'turn alone at': {0, 2, 8, 9, 10, 11, 12, 13, 20, 21, 24, 25},
+              'turn at': {0, 9, 10, 11, 12, 13, 19, 24, 25}}
+    assert {op: s.numbers[op] for op in wanted} == wanted, s.numbers
     return s
 
 

@@ -7,6 +7,7 @@ What an office must have after a run is made a second time from its own steps al
 for them in "Runs", without records, engaged boards or refused calls.
 """
 
+import copy
 import sys
 
 import model
@@ -376,8 +377,237 @@ def check_charts(count):
     return '%d grids as texts: each read back, and no two share one' % (5 * count)
 
 
+# W-212
+
+def drawn_table(draw, boards, never=()):
+    """Hours of every board: few windows or fourteen, short ones, also at both ends of the week; none for some boards."""
+    table = []
+    for b in range(boards):
+        windows = []
+        for _ in range(0 if b in never else draw.pick([1, 1, 2, 3, 14])):
+            opening = draw.pick([0, 10079, draw.below(10080), draw.below(10080)])
+            windows.append((opening, min(10080, opening + draw.pick([1, 60, 500, 4000]))))
+        # no windows between the others too
+        while len(windows) < 14:
+            windows.insert(draw.below(len(windows) + 1), (0, 0))
+        table.append(windows)
+    return model.table_of(*table)
+
+
+def until_open(table, b, minute):
+    """The minutes until a board opens a second time: over its windows, not its minutes."""
+    waits = [0 if opening <= minute < close else (opening - minute) % 10080 for opening, close in model.Hours(table, 0).windows(b)]
+    return min(waits) if waits else None
+
+
+def run_by_hours(encoded, offices, draw):
+    """A run in which every turn has a minute, of one office or of two: each number against the turn's without hours."""
+    plan = model.plan_of(encoded)[1]
+    sources = [[draw.word() for _ in range(plan.cells)] for _ in range(2)]
+    both = model.Offices(plan, *sources)
+    assert model.fresh_both(encoded, *both.areas, both.engaged) == 0
+    table = drawn_table(draw, plan.boards)
+    rigs = [both.rig(office) if offices == 2 else None for office in (0, 1)]
+    steps = [[] for _ in range(offices)]
+    seen, minute = set(), 0
+    while any(len(done) < plan.steps for done in steps):
+        office, event = draw.below(offices), draw.pick(events_of(plan))
+        areas, rig = both.areas[office], rigs[office]
+        if event[0] == 'deliver':
+            number = model.deliver(encoded, areas, event[1], model.DIRECT, rig)
+        else:
+            b = event[1]
+            minute = draw.pick([minute, draw.below(10080), draw.below(10080)])
+            if draw.below(2):
+                minute = (minute + until_open(table, b, minute)) % 10080
+            plain = model.turn_number(encoded, areas, b, model.DIRECT, rig)[0]
+            hours = model.Hours(table, minute)
+            number = model.turn(encoded, areas, b, model.DIRECT, rig, hours)
+            assert number == (plain if until_open(table, b, minute) == 0 else 24)
+            # the premise of progress: tried at a minute when it is open, a turn gives what it would without hours
+            later = model.Hours(table, (minute + until_open(table, b, minute)) % 10080)
+            plain = model.turn_number(encoded, areas, b, model.DIRECT, rig)[0]
+            assert model.turn_number(encoded, areas, b, model.DIRECT, rig, later)[0] == plain
+        seen.add(number)
+        steps[office] += [event] if number == 0 else []
+    for office in range(offices):
+        areas = both.areas[office]
+        assert same(areas, replayed(plan, sources[office], steps[office])) and len(steps[office]) == plan.steps
+        assert model.collect(encoded, areas, model.DIRECT, rigs[office]) == 0 and areas.grid == plan.swept(sources[office])
+    return seen
+
+
+def check_hours(count):
+    recipes, draw = drawn_recipes(25, count // 2)
+    recipes += vectors.shape_recipes()[4:8]
+    seen = set()
+    for encoded in recipes:
+        for offices in (1, 2):
+            seen |= run_by_hours(encoded, offices, draw)
+    assert seen == {0, 12, 13, 14, 19, 24}, seen
+    for k in range(3 * count):
+        boards = model.plan_of(model.ROWS['A'])[1].boards
+        table = drawn_table(draw, boards, never=[k % 4])
+        for b in range(boards):
+            minute = draw.pick([0, 10079, draw.below(10080)])
+            wait = until_open(table, b, minute)
+            assert model.opens(model.ROWS['A'], table, minute, b) == ((0, 0, 0) if wait is None else (0, 1, wait))
+            assert (wait is None) == (b == k % 4)
+    return '%d recipes with hours: the grid is the sweep; %d boards open when their windows say' % (len(recipes), 3 * count * boards)
+
+
+# W-214
+
+class Bench:
+    """A run of one office or two, with hours or without; an event is (office, 'turn', board, minute) or (office, 'deliver', message, 0)."""
+
+    def __init__(self, encoded, route, offices, draw, by_hours):
+        self.encoded, self.route, self.offices = encoded, route, offices
+        self.plan = model.plan_of(encoded, route)[1]
+        self.sources = [[draw.word() for _ in range(self.plan.cells)] for _ in range(2)]
+        self.table = drawn_table(draw, self.plan.boards) if by_hours else None
+        self.start()
+
+    def start(self):
+        self.both = model.Offices(self.plan, *self.sources)
+        assert model.fresh_both(self.encoded, *self.both.areas, self.both.engaged, self.route) == 0
+
+    def rig(self, both, office):
+        return both.rig(office) if self.offices == 2 else None
+
+    def hours(self, minute):
+        return None if self.table is None else model.Hours(self.table, minute)
+
+    def take(self, event, both):
+        office, kind, which, minute = event
+        if kind == 'turn':
+            return model.turn(self.encoded, both.areas[office], which, self.route, self.rig(both, office), self.hours(minute))
+        return model.deliver(self.encoded, both.areas[office], which, self.route, self.rig(both, office))
+
+    def can(self, event, both):
+        office, kind, which, minute = event
+        if kind == 'turn':
+            rig, hours = self.rig(both, office), self.hours(minute)
+            return model.turn_number(self.encoded, both.areas[office], which, self.route, rig, hours)[0] == 0
+        return both.areas[office].status[which] == 1
+
+    def able(self, draw):
+        """Every event that can be taken now; each turn at a drawn minute."""
+        found = []
+        for office in range(self.offices):
+            for b in range(self.plan.boards):
+                minute = draw.below(10080)
+                if self.table is not None:
+                    minute = (minute + until_open(self.table, b, minute)) % 10080
+                found.append((office, 'turn', b, minute))
+            found += [(office, 'deliver', m, 0) for m in range(len(self.plan.messages))]
+        return [event for event in found if self.can(event, self.both)]
+
+    def words(self, both):
+        return [getattr(areas, name) for areas in both.areas for name in OWN + ('source', 'grid')] + [both.engaged]
+
+    def gathers_on_one_board(self, first, second, both):
+        """Two turns of one board by two offices that can both be taken: both are gathers."""
+        if not (first[1] == second[1] == 'turn' and first[2] == second[2] and first[0] != second[0]):
+            return False
+        assert [both.areas[office].progress[3 * first[2] + 1] for office in (0, 1)] == [0, 0]
+        return True
+
+    def swaps(self, first, second):
+        """Both orders from this state: the other still gives 0, and every lent word is the same. Leaves out two gathers on one board."""
+        if self.gathers_on_one_board(first, second, self.both):
+            after = copy.deepcopy(self.both)
+            assert self.take(first, after) == 0 and self.take(second, after) == 19
+            return False
+        ends = []
+        for order in ((first, second), (second, first)):
+            after = copy.deepcopy(self.both)
+            assert [self.take(event, after) for event in order] == [0, 0], (self.encoded.hex(), order)
+            ends.append(self.words(after))
+        assert ends[0] == ends[1], (self.encoded.hex(), first, second)
+        return True
+
+
+def rewound(bench, log, draw):
+    """Neighbouring steps of a list swapped again and again, wherever both can be taken before either; the list then gives 0 all along
+    and ends in the same words."""
+    bench.start()
+    for event in log:
+        assert bench.take(event, bench.both) == 0
+    end, swapped = bench.words(bench.both), 0
+    # a pass of swaps from the front, each tested in the state before it
+    bench.start()
+    for at in range(len(log) - 1):
+        first, second = log[at], log[at + 1]
+        if draw.below(2) and first[:3] != second[:3] and bench.can(first, bench.both) and bench.can(second, bench.both):
+            if not bench.gathers_on_one_board(first, second, bench.both):
+                log[at], log[at + 1] = second, first
+                swapped += 1
+        assert bench.take(log[at], bench.both) == 0
+    assert bench.take(log[-1], bench.both) == 0
+    assert bench.words(bench.both) == end
+    return swapped
+
+
+def swaps_along(encoded, route, offices, draw, by_hours):
+    """A drawn run; at drawn places every two events that can both be taken; then the whole list rewound a few times."""
+    bench = Bench(encoded, route, offices, draw, by_hours)
+    log, swapped, left_out = [], 0, 0
+    while True:
+        able = bench.able(draw)
+        if able == []:
+            break
+        if draw.below(2) == 0:
+            for at, first in enumerate(able):
+                for second in able[at + 1:]:
+                    done = bench.swaps(first, second)
+                    swapped, left_out = swapped + done, left_out + (not done)
+        log.append(draw.pick(able))
+        assert bench.take(log[-1], bench.both) == 0
+    assert len(log) == offices * bench.plan.steps
+    moved = sum(rewound(bench, log, draw) for _ in range(3))
+    return swapped, left_out, moved
+
+
+def premises_of_swaps():
+    """What W-214 asks for is needed: states that no run reaches, and the same event twice."""
+    encoded = model.ROWS['D']
+    plan = model.plan_of(encoded)[1]
+
+    def both_orders(record, mark, first, second):
+        found = []
+        for order in ((first, second), (second, first)):
+            areas = model.areas_for(plan, [1] * 4)
+            areas.progress[:3], areas.status[0] = record, mark
+            numbers = [(model.turn if kind == 'turn' else model.deliver)(encoded, areas, which) for kind, which in order]
+            found.append((numbers, areas.status[0]))
+        return found
+
+    # a send of a message that is delivered already, and the gather that takes it: fit, and reached by no run
+    assert both_orders([0, 2, 0], 2, ('turn', 0), ('turn', 1)) == [([0, 12], 1), ([0, 0], 1)]
+    # a send and a delivery of the message in flight
+    assert both_orders([0, 2, 0], 1, ('turn', 0), ('deliver', 0)) == [([0, 0], 2), ([0, 0], 1)]
+    # one event twice is not two events
+    assert both_orders([1, 0, 0], 1, ('deliver', 0), ('deliver', 0)) == [([0, 14], 2)] * 2
+
+
+def check_swaps(count):
+    premises_of_swaps()
+    recipes, draw = drawn_recipes(27, count // 2)
+    cases = [(encoded, route) for encoded in recipes for route in (model.DIRECT, model.INDIRECT)]
+    cases += [(encoded, model.DIRECT) for encoded in vectors.shape_recipes()[3:9]]
+    totals = [0, 0, 0]
+    for encoded, route in cases:
+        for offices in (1, 2):
+            by_hours = draw.below(2) == 0
+            totals = [a + b for a, b in zip(totals, swaps_along(encoded, route, offices, draw, by_hours))]
+    assert min(totals) > 2 * len(cases), totals
+    return '%d recipes: %d swaps leave the same words, %d pairs of gathers on one board left out; lists rewound by %d swaps' % (
+        len(cases), *totals)
+
+
 def check(count=12):
-    for part in (check_offices, check_shapes, check_soundings, check_charts):
+    for part in (check_offices, check_shapes, check_soundings, check_charts, check_hours, check_swaps):
         print(part(count))
 
 

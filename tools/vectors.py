@@ -1104,6 +1104,7 @@ def all_files():
         'crates/run_cases/stdout': ''.join(line + '\n' for line in script.lines).encode(),
         'bindings/row_a.stdout': row_a_text().encode(),
         **rigs.files(rigs.office_script(), 'offices'),
+        **rigs.files(rigs.hours_script(), 'hours'),
         **desk.soundings_files(),
         **desk.chart_files(),
     }
@@ -1132,7 +1133,7 @@ def check_all():
 def scripts():
     """Name of the program to what makes its script."""
     import rigs
-    return {'run_cases': run_script, 'offices': rigs.office_script}
+    return {'run_cases': run_script, 'offices': rigs.office_script, 'hours': rigs.hours_script}
 
 
 if __name__ == '__main__':

@@ -53,7 +53,7 @@ impl Engine for Library {
             Request::Shapes => true,
             Request::Soundings => true,
             Request::Chart => true,
-            Request::Hours => cfg!(all(feature = "hours", not(test))),
+            Request::Hours => true,
             Request::Rounds => cfg!(all(feature = "rounds", not(test))),
         }
     }
@@ -195,34 +195,26 @@ impl Engine for Library {
         ))
     }
 
-    request! { "hours":
-        fn turn_at(
-            &self, encoded: &[u8], route: Route, areas: &mut Areas, hours: &[u32], minute: u32, processor: u32,
-        ) -> u32 {
-            exported!(rolwyddac_turn_at(
-                encoded => &[u8], route => Route, areas.source => &[u32], areas.memories => &mut [u32],
-                areas.buffer => &mut [u32], areas.progress => &mut [Progress], areas.status => &mut [u8],
-                hours => &[u32], minute => u32, processor => u32
-            ))
-        }
+    fn turn_at(
+        &self, encoded: &[u8], route: Route, areas: &mut Areas, hours: &[u32], minute: u32, processor: u32,
+    ) -> u32 {
+        let Areas { source, memories, buffer, progress, status } = areas;
+        number(rolwyddac::turn_at(encoded, route, source, memories, buffer, progress, status, hours, minute, processor))
+    }
 
-        fn office_turn_at(
-            &self, encoded: &[u8], route: Route, areas: &mut Areas, engaged: &mut [u32], other: &[Progress],
-            hours: &[u32], minute: u32, office: u32, processor: u32,
-        ) -> u32 {
-            exported!(rolwyddac_office_turn_at(
-                encoded => &[u8], route => Route, areas.source => &[u32], areas.memories => &mut [u32],
-                areas.buffer => &mut [u32], areas.progress => &mut [Progress], areas.status => &mut [u8],
-                engaged => &mut [u32], other => &[Progress], hours => &[u32], minute => u32, office => u32,
-                processor => u32
-            ))
-        }
+    fn office_turn_at(
+        &self, encoded: &[u8], route: Route, areas: &mut Areas, engaged: &mut [u32], other: &[Progress], hours: &[u32],
+        minute: u32, office: u32, processor: u32,
+    ) -> u32 {
+        let Areas { source, memories, buffer, progress, status } = areas;
+        number(rolwyddac::office_turn_at(
+            encoded, route, source, memories, buffer, progress, status, engaged, other, hours, minute, office,
+            processor,
+        ))
+    }
 
-        fn opens(&self, encoded: &[u8], hours: &[u32], minute: u32, processor: u32, out: &mut [u32]) -> u32 {
-            exported!(rolwyddac_opens(
-                encoded => &[u8], hours => &[u32], minute => u32, processor => u32, out => &mut [u32]
-            ))
-        }
+    fn opens(&self, encoded: &[u8], hours: &[u32], minute: u32, processor: u32, out: &mut [u32]) -> u32 {
+        number(rolwyddac::opens_words(encoded, hours, minute, processor, out))
     }
 
     request! { "rounds":

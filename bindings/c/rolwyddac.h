@@ -22,7 +22,9 @@
  *    9 area           a lent area has not exactly its length
  *   22 off the box    a sounding, whether it counts or not, names a cell that the recipe's box does not have
  *   10 unfit          progress records, status bytes or engaged words not fit
+ *   25 hours          a faulty window of some processor, or a minute above 10,079
  *   11 no such        office, processor or message number too high
+ *   24 closed         the processor is not open at that minute
  *   19 engaged        the processor has tiles left for this office and is held by the other
  *   12 waiting        the processor is to gather and a message due at its tile is not delivered
  *   13 finished       the processor has no tiles left
@@ -40,6 +42,7 @@
  *    grid       one word a cell
  *    engaged    one word a processor: the office that holds it, 0 or 1, or 2 for none
  *    other      the other office's progress records
+ *    hours      28 words a processor: 14 pairs of open and close, in minutes of the week
  *
  * Calls that work on messages are told the route by which these travel, a word: 0 is direct passing, each message straight
  * to the processor of its taking tile; any other is indirect passing, between neighbours only, one spread dimension at
@@ -55,6 +58,10 @@
  * engaged are lent to both. The calls for an office are told its number, 0 or 1, and are lent the other's records only to
  * read. A number above 1 is 11, in these calls before 10, which is tested over all of this: an engaged word is at most 2, the
  * stage of the office that holds the processor is 1 or 2, every other is 0.
+ *
+ * Where processors may run only at some hours, the turns with hours stand in place of the others: they are lent the table
+ * hours and carry the minute of the week, 0 to 10,079. The open minute is in the window, the close minute is not; open is
+ * below close, and close at most 10,080; a pair of zeros is no window. Mail is delivered at any hour.
  *
  * What C must see to, for no call can test it: each pointer is aligned and not null, even where the length
  * is 0; it points to at least as many elements as the length says; areas do not overlap. Two calls at the same
@@ -94,7 +101,9 @@ enum {
   ROLWYDDAC_EMPTY = 20,
   ROLWYDDAC_DIRECT_ONLY = 21,
   ROLWYDDAC_OFF_THE_BOX = 22,
-  ROLWYDDAC_NO_CHART = 23
+  ROLWYDDAC_NO_CHART = 23,
+  ROLWYDDAC_CLOSED = 24,
+  ROLWYDDAC_HOURS = 25
 };
 
 /* Bytes of the longest chart: 16,384 cells of ten digits, each with a space or a line feed behind it, under a header of
@@ -269,6 +278,31 @@ uint32_t rolwyddac_chart(const uint8_t *encoded, size_t encoded_length, const ui
  * was. */
 uint32_t rolwyddac_chart_length(const uint8_t *encoded, size_t encoded_length, const uint32_t *grid, size_t grid_length,
                                 int32_t x, int32_t y, uint32_t cell_size, uint32_t *out, size_t out_length);
+
+/* Gives one processor a turn at a minute of the week, as rolwyddac_turn does, if it is open then. A faulty pair of any
+ * processor is 25.
+ * Numbers: 1 to 13, 16 to 18, 20, 21, 24, 25. A refusal leaves memories, buffer, progress and status as they were. */
+uint32_t rolwyddac_turn_at(const uint8_t *encoded, size_t encoded_length, uint32_t route, const uint32_t *source,
+                           size_t source_length, uint32_t *memories, size_t memories_length, uint32_t *buffer,
+                           size_t buffer_length, rolwyddac_progress *progress, size_t progress_length,
+                           uint8_t *status, size_t status_length, const uint32_t *hours, size_t hours_length,
+                           uint32_t minute, uint32_t processor);
+
+/* Gives one processor a turn for an office at a minute of the week, as rolwyddac_office_turn does, if it is open then.
+ * Numbers: 1 to 13, 16 to 21, 24, 25. A refusal leaves memories, buffer, progress, status and engaged as they were. */
+uint32_t rolwyddac_office_turn_at(const uint8_t *encoded, size_t encoded_length, uint32_t route,
+                                  const uint32_t *source, size_t source_length, uint32_t *memories,
+                                  size_t memories_length, uint32_t *buffer, size_t buffer_length,
+                                  rolwyddac_progress *progress, size_t progress_length, uint8_t *status,
+                                  size_t status_length, uint32_t *engaged, size_t engaged_length,
+                                  const rolwyddac_progress *other, size_t other_length, const uint32_t *hours,
+                                  size_t hours_length, uint32_t minute, uint32_t office, uint32_t processor);
+
+/* When a processor next opens, lent only the table of hours: writes two words to out, 1 and the minutes until then, 0 while it
+ * is open and going past the end of the week to the same table; or 0 and 0 where it never opens.
+ * Numbers: 1 to 8, 16 to 18, 20; 9 if hours has not its length or out has not 2 words; 25; 11. A refusal leaves out as it was. */
+uint32_t rolwyddac_opens(const uint8_t *encoded, size_t encoded_length, const uint32_t *hours, size_t hours_length,
+                         uint32_t minute, uint32_t processor, uint32_t *out, size_t out_length);
 
 /* Writes the recipe of the fields to space: lengths, tiling (tile lengths) and counts (processor counts) have one
  * number a dimension; components has four numbers a distance, zero beyond the last dimension, and weights one. The

@@ -49,6 +49,22 @@ static void turn(uint32_t processor, uint32_t wanted) {
                                 processor), wanted);
 }
 
+/* processor 0 is open from minute 10 to 19; processor 1 in the first minute of the week and in its last */
+static uint32_t hours[28 * PROCESSORS] = {[0] = 10, [1] = 20, [28] = 0, [29] = 1, [32] = 10079, [33] = 10080};
+static size_t hours_length = 28 * PROCESSORS;
+
+static void turn_at(uint32_t minute, uint32_t processor, uint32_t wanted) {
+  before = at;
+  expect("turn_at", rolwyddac_turn_at(recipe, recipe_length, route, at.source, source_length, at.memories,
+                                      PROCESSORS * CELLS, at.buffer, WORDS, at.progress, PROCESSORS, at.status, MESSAGES,
+                                      hours, hours_length, minute, processor), wanted);
+}
+
+static void opens(uint32_t minute, uint32_t processor, size_t length, uint32_t wanted) {
+  before = at;
+  expect("opens", rolwyddac_opens(recipe, recipe_length, hours, hours_length, minute, processor, at.out, length), wanted);
+}
+
 static void deliver(uint32_t message, uint32_t wanted) {
   before = at;
   expect("deliver", rolwyddac_deliver(recipe, recipe_length, route, at.source, source_length, at.memories,
@@ -103,7 +119,7 @@ static void same(const char *what, const uint32_t *words, const uint32_t *wanted
 static void refused(uint32_t wanted) {
   fresh(wanted), turn(0, wanted), deliver(0, wanted), collect(wanted), sweep(wanted);
   summary(ROLWYDDAC_SUMMARY_LENGTH, wanted), message(0, ROLWYDDAC_MESSAGE_LENGTH, wanted);
-  hops(0, 1, wanted), soundings(0, wanted);
+  hops(0, 1, wanted), soundings(0, wanted), turn_at(10, 0, wanted), opens(10, 0, 2, wanted);
   memcpy(recipe, row_d, RECIPE);
   recipe_length = RECIPE;
 }
@@ -171,6 +187,23 @@ static void run(void) {
   same("the swept values", at.grid, (const uint32_t[]){1, 2, 3, 4}, CELLS);
 }
 
+/* the same run by the hours: closed comes before waiting and before finished, mail is delivered at any hour */
+static void run_by_hours(void) {
+  fresh(ROLWYDDAC_DONE);
+  turn_at(9, 0, ROLWYDDAC_CLOSED), turn_at(20, 0, ROLWYDDAC_CLOSED), turn_at(5, 1, ROLWYDDAC_CLOSED);
+  turn_at(10, 2, ROLWYDDAC_NO_SUCH), turn_at(10080, 2, ROLWYDDAC_HOURS), turn_at(0, 1, ROLWYDDAC_WAITING);
+  turn_at(10, 0, ROLWYDDAC_DONE), turn_at(19, 0, ROLWYDDAC_DONE), turn_at(15, 0, ROLWYDDAC_DONE);
+  turn_at(15, 0, ROLWYDDAC_FINISHED), turn_at(20, 0, ROLWYDDAC_CLOSED), deliver(0, ROLWYDDAC_DONE);
+  turn_at(10079, 1, ROLWYDDAC_DONE), turn_at(0, 1, ROLWYDDAC_DONE), collect(ROLWYDDAC_DONE);
+  same("the values by the hours", at.grid, (const uint32_t[]){1, 2, 3, 4}, CELLS);
+  opens(30, 0, 2, ROLWYDDAC_DONE), same("the minutes", at.out, (const uint32_t[]){1, 10060}, 2);
+  opens(1, 1, 2, ROLWYDDAC_DONE), same("the minutes", at.out, (const uint32_t[]){1, 10078}, 2);
+  opens(10080, 2, 3, ROLWYDDAC_AREA), opens(10080, 2, 2, ROLWYDDAC_HOURS), opens(0, 2, 2, ROLWYDDAC_NO_SUCH);
+  /* a window of processor 1 that is none: every turn is refused */
+  hours[33] = 10079, turn_at(10, 0, ROLWYDDAC_HOURS), hours[33] = 10080;
+  hours_length--, turn_at(10080, 2, ROLWYDDAC_AREA), hours_length++;
+}
+
 /* a bound that cuts nothing leaves row D as it is, but for the route */
 static void with_a_bound(void) {
   const uint32_t wanted = ROLWYDDAC_DIRECT_ONLY;
@@ -180,8 +213,10 @@ static void with_a_bound(void) {
     plan(), run();
   } else {
     fresh(wanted), turn(9, wanted), deliver(9, wanted), collect(wanted), summary(0, wanted), message(9, 0, wanted);
+    turn_at(10080, 9, wanted);
   }
   hops(0, 1, ROLWYDDAC_DONE), sweep(ROLWYDDAC_DONE), soundings(0, ROLWYDDAC_DONE);
+  opens(30, 0, 2, ROLWYDDAC_DONE);
   memcpy(recipe, row_d, RECIPE), recipe_length = RECIPE;
 }
 
@@ -196,9 +231,12 @@ int main(void) {
     filled();
     for (size_t c = 0; c < CELLS; c++) at.source[c] = 1;
     run();
+    run_by_hours();
     with_a_bound();
   }
-  if (met != (0x7ffff | 1 << ROLWYDDAC_EMPTY | 1 << ROLWYDDAC_DIRECT_ONLY | 1 << ROLWYDDAC_OFF_THE_BOX)) return printf("not every number was met: %x\n", met), 1;
+  const unsigned all = 0x7ffff | 1 << ROLWYDDAC_EMPTY | 1 << ROLWYDDAC_DIRECT_ONLY | 1 << ROLWYDDAC_OFF_THE_BOX |
+                       1 << ROLWYDDAC_CLOSED | 1 << ROLWYDDAC_HOURS;
+  if (met != all) return printf("not every number was met: %x\n", met), 1;
   puts("row D as document 01 has it, each number met");
   return 0;
 }

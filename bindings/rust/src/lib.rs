@@ -116,12 +116,22 @@ impl Sounding {
     }
 }
 
-/// Words that the summary, a message's line, its hops and a look take.
+/// When a processor next opens.
+#[derive(Clone, Copy, Debug, PartialEq, Eq)]
+pub enum Opening {
+    /// In so many minutes, going past the end of the week to the same table; 0 while it is open.
+    OpensIn(u32),
+    /// At no minute of the week.
+    Never,
+}
+
+/// Words that the summary, a message's line, its hops, a look and an opening take.
 const SUMMARY_WORDS: usize = 4;
 const MESSAGE_WORDS: usize = 5;
 const HOPS_WORDS: usize = 1;
 const LOOK_WORDS: usize = 2;
 const CHART_WORDS: usize = 1;
+const OPENS_WORDS: usize = 2;
 
 /// Bytes of the longest chart there is: 16,384 cells of ten digits, each with a space or a line feed behind it, under a
 /// header of 98 bytes. Every chart fits a space of this length.
@@ -306,6 +316,32 @@ calls! {
         encoded: &[u8], grid: &[u32], x: i32, y: i32, cell_size: u32, out: &mut [u32],
     );
 
+    /// Gives one processor a turn at a minute of the week, as [`turn`] does, if it is open then.
+    ///
+    /// `hours` has 28 words a processor: 14 pairs of open and close, in minutes of the week, open below close and close at most
+    /// 10,080; a pair of zeros is no window. A faulty pair of any processor is 25.
+    ///
+    /// Refusals: 1 to 13, 16 to 18, 20, 21, 24 and 25.
+    rolwyddac_turn_at as turn_at(
+        encoded: &[u8], route: Route, source: &[u32], memories: &mut [u32], buffer: &mut [u32],
+        progress: &mut [Progress], status: &mut [u8], hours: &[u32], minute: u32, processor: u32,
+    );
+
+    /// Gives one processor a turn for an office at a minute of the week, as [`office_turn`] does, if it is open then.
+    ///
+    /// Refusals: 1 to 13, 16 to 21, 24 and 25.
+    rolwyddac_office_turn_at as office_turn_at(
+        encoded: &[u8], route: Route, source: &[u32], memories: &mut [u32], buffer: &mut [u32],
+        progress: &mut [Progress], status: &mut [u8], engaged: &mut [u32], other: &[Progress], hours: &[u32],
+        minute: u32, office: u32, processor: u32,
+    );
+
+    /// When a processor next opens, lent only the table of hours: writes two words to `out`, 1 and the minutes until then, or 0
+    /// and 0 where it never opens. [`opens`] is the handier form.
+    ///
+    /// Refusals: 1 to 8, 16 to 18, 20, 9 if `hours` has not its length or `out` has not 2 words, 25, 11.
+    rolwyddac_opens as opens_words(encoded: &[u8], hours: &[u32], minute: u32, processor: u32, out: &mut [u32]);
+
     /// Writes the recipe of the fields to `space`. [`Fields`] is the handier form.
     ///
     /// - `lengths`, `tiling` and `counts` have one number a dimension: its length, tile length and processor count.
@@ -401,4 +437,14 @@ pub fn chart(encoded: &[u8], grid: &[u32], x: i32, y: i32, cell_size: u32) -> Re
     let mut out = [0; CHART_WORDS];
     chart_words(encoded, grid, x, y, cell_size, &mut space, &mut out)?;
     Ok(space.into_iter().map(char::from).collect()) // digits, letters, spaces and line feeds
+}
+
+/// When a processor next opens, from a minute of the week on.
+///
+/// Refusals: 1 to 9, 11, 16 to 18, 20 and 25.
+pub fn opens(encoded: &[u8], hours: &[u32], minute: u32, processor: u32) -> Result<Opening, Refusal> {
+    let mut out = [0; OPENS_WORDS];
+    opens_words(encoded, hours, minute, processor, &mut out)?;
+    let [opens, minutes] = out;
+    Ok(if opens == 1 { Opening::OpensIn(minutes) } else { Opening::Never })
 }

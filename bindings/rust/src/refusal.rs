@@ -82,7 +82,9 @@ refusals! {
     22 OffTheBox "off the box":
         "a sounding, whether it counts or not, names a cell that the recipe's box does not have";
     10 Unfit "unfit": "progress records, status bytes or engaged words not fit";
+    25 Hours "hours": "a faulty window of some processor, or a minute above 10,079";
     11 NoSuch "no such": "office, processor or message number too high";
+    24 Closed "closed": "the processor is not open at that minute";
     19 Engaged "engaged": "the processor has tiles left for this office and is held by the other";
     12 Waiting "waiting": "the processor is to gather and a message due at its tile is not delivered";
     13 Finished "finished": "the processor has no tiles left";
@@ -106,7 +108,7 @@ mod tests {
     fn no_number_is_missing() {
         let mut numbers: Vec<u32> = Refusal::NAMED.iter().map(|refusal| refusal.number()).collect();
         numbers.sort();
-        assert_eq!(numbers, (1..=23).collect::<Vec<u32>>());
+        assert_eq!(numbers, (1..=25).collect::<Vec<u32>>());
     }
 
     #[test]

@@ -1,7 +1,8 @@
 //! A rig that two offices share, with the areas of both.
 
 use crate::{
-    fresh_both, look, office_collect, office_deliver, office_turn, summary, Areas, Progress, Refusal, Route, Summary,
+    fresh_both, look, office_collect, office_deliver, office_turn, office_turn_at, opens, summary, Areas, Opening,
+    Progress, Refusal, Route, Summary,
 };
 
 /// A run of two offices with one recipe and one route, each over its own source, on the same processors: a fresh start of
@@ -82,6 +83,24 @@ impl<'a> Rig<'a> {
         let (encoded, route) = (self.encoded, self.route);
         let (source, Areas { memories, buffer, progress, status }, engaged, other) = self.lent(office);
         office_turn(encoded, route, source, memories, buffer, progress, status, engaged, other, office, processor)
+    }
+
+    /// Gives one processor a turn for an office at a minute of the week, by a table of hours.
+    ///
+    /// Refusals: 9, 11 to 13, 19, 24 and 25.
+    pub fn turn_at(&mut self, hours: &[u32], minute: u32, office: u32, processor: u32) -> Result<(), Refusal> {
+        let (e, r) = (self.encoded, self.route);
+        let (source, Areas { memories, buffer, progress, status }, engaged, other) = self.lent(office);
+        office_turn_at(
+            e, r, source, memories, buffer, progress, status, engaged, other, hours, minute, office, processor,
+        )
+    }
+
+    /// When a processor next opens, the same for either office.
+    ///
+    /// Refusals: 9, 11 and 25.
+    pub fn opens(&self, hours: &[u32], minute: u32, processor: u32) -> Result<Opening, Refusal> {
+        opens(self.encoded, hours, minute, processor)
     }
 
     /// Delivers one message of an office.

@@ -1,6 +1,6 @@
 //! The areas of a run with their right sizes, and a run that owns them.
 
-use crate::{collect, deliver, fresh, summary, turn, Progress, Refusal, Route, Summary};
+use crate::{collect, deliver, fresh, opens, summary, turn, turn_at, Opening, Progress, Refusal, Route, Summary};
 
 /// The four areas that a run changes, with the sizes a plan asks for.
 #[derive(Clone, Debug, PartialEq, Eq)]
@@ -68,6 +68,21 @@ impl<'a> Run<'a> {
     pub fn turn(&mut self, processor: u32) -> Result<(), Refusal> {
         let Areas { memories, buffer, progress, status } = &mut self.areas;
         turn(self.encoded, self.route, self.source, memories, buffer, progress, status, processor)
+    }
+
+    /// Gives one processor a turn at a minute of the week, by a table of hours.
+    ///
+    /// Refusals: 9, 11 to 13, 24 and 25.
+    pub fn turn_at(&mut self, hours: &[u32], minute: u32, processor: u32) -> Result<(), Refusal> {
+        let Areas { memories, buffer, progress, status } = &mut self.areas;
+        turn_at(self.encoded, self.route, self.source, memories, buffer, progress, status, hours, minute, processor)
+    }
+
+    /// When a processor next opens.
+    ///
+    /// Refusals: 9, 11 and 25.
+    pub fn opens(&self, hours: &[u32], minute: u32, processor: u32) -> Result<Opening, Refusal> {
+        opens(self.encoded, hours, minute, processor)
     }
 
     /// Delivers one message.

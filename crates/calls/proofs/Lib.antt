@@ -3,6 +3,8 @@ pub mod Walking
 pub mod OverRecords
 pub mod PlanCalls
 pub mod OfficeCalls
+pub mod HourCalls
 pub mod OverRig
 pub mod Demand210
 pub mod ChartCalls
+pub mod OverHours

@@ -93,7 +93,7 @@ length-carry p source s b (gather t) = length-progress (s .progress) b _ _ _
 length-carry p source s b (calculate t) = length-sends p s b t 0
 length-carry p source s b (send m) = length-sends p s b _ _
 
-whole-pick : (t : Bool) (a b : State) → Whole (a .progress) → Whole (b .progress) → Whole (pick t a b .progress)
+pub whole-pick : (t : Bool) (a b : State) → Whole (a .progress) → Whole (b .progress) → Whole (pick t a b .progress)
 unfolding pick
 whole-pick true a b v w = v
 whole-pick false a b v w = w
@@ -148,12 +148,12 @@ module _ {ls : List Line} {done : State} {a b : Areas} {n : ℕ} {call : Answere
         as-before = as-before inWords areas-fixed a b n e f;
       }
 
-can-answer : (r : Answered State) → Whole (r .after .progress) → (n : ℕ) × ((b : Areas) × (answer n (inWords b) ≡ r))
+pub can-answer : (r : Answered State) → Whole (r .after .progress) → (n : ℕ) × ((b : Areas) × (answer n (inWords b) ≡ r))
 can-answer r w = (r .number, (areasOf (r .after), ap (λ (s : State). answer (r .number) s) (in-words (r .after) w)))
 
 module _ (bytes : List ℕ) (route : ℕ) (source : List ℕ) where
   -- an event's contract, by the calls over words
-  event-call : (a : Areas) (e : Event) (n : ℕ) (b : Areas) → EventGave bytes route source a e n b
+  pub event-call : (a : Areas) (e : Event) (n : ℕ) (b : Areas) → EventGave bytes route source a e n b
       → answer n (inWords b) ≡ calls bytes route source (inWords a) e
   unfolding calls
   event-call a (turnOf p) n b h = h
@@ -199,7 +199,7 @@ module _ (bytes : List ℕ) (route : ℕ) (source : List ℕ) where
   words-are g = run-words _ inWords (calls bytes route source) event-call g
 
   -- collecting that gave 0 was lent a grid of the right length
-  collect-length : (s : State) (old : List ℕ) → collectCall bytes route source s old .number ≡ 0 → length old ≡ recipe bytes route .cells
+  pub collect-length : (s : State) (old : List ℕ) → collectCall bytes route source s old .number ≡ 0 → length old ≡ recipe bytes route .cells
   unfolding collectCall
   collect-length s old z =
       let r = front (linesFor (routeOf route) bytes) (line 9 nine ∷ collectLines (recipe bytes route) s) z in

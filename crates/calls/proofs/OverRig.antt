@@ -40,7 +40,7 @@ use Rattle.calls.proofs.OverRecords.{one-answer, as-before}
 
 -- ---- words fix the areas
 
-lent-fixed : (a b : LentAreas) → lentWords a ≡ lentWords b → a ≡ b
+pub lent-fixed : (a b : LentAreas) → lentWords a ≡ lentWords b → a ≡ b
 lent-fixed a b e =
     ap (λ (x : Areas). at x (a .engaged)) (areas-fixed (a .own) (b .own) (ap (λ (l : Lent). l .own) e))
     ∙ ap (λ (l : List ℕ). at (b .own) l) (ap (λ (l : Lent). l .engaged) e)
@@ -48,7 +48,7 @@ lent-fixed a b e =
     at : Areas → List ℕ → LentAreas
     at x l = record { own = x; engaged = l }
 
-rig-fixed : (a b : RigAreas) → rigWords a ≡ rigWords b → a ≡ b
+pub rig-fixed : (a b : RigAreas) → rigWords a ≡ rigWords b → a ≡ b
 rig-fixed a b e =
     ap (λ (x : Areas). at x (a .second) (a .engaged)) (areas-fixed (a .first) (b .first) (ap (λ (r : Rig). r .first) e))
     ∙ ap (λ (x : Areas). at (b .first) x (a .engaged)) (areas-fixed (a .second) (b .second) (ap (λ (r : Rig). r .second) e))
@@ -59,7 +59,7 @@ rig-fixed a b e =
 
 -- ---- an office's areas are those of its words
 
-office-words : (o : ℕ) (a b : Areas) → inWords (ofOffice o a b) ≡ ofOffice o (inWords a) (inWords b)
+pub office-words : (o : ℕ) (a b : Areas) → inWords (ofOffice o a b) ≡ ofOffice o (inWords a) (inWords b)
 unfolding ofOffice pick
 office-words o a b = go (eqb o 0)
   where
@@ -67,14 +67,14 @@ office-words o a b = go (eqb o 0)
     go true = refl
     go false = refl
 
-lent-words : (a : RigAreas) (o : ℕ) → lentWords (lentAreas a o) ≡ lentTo (rigWords a) o
+pub lent-words : (a : RigAreas) (o : ℕ) → lentWords (lentAreas a o) ≡ lentTo (rigWords a) o
 lent-words a o = ap (λ (s : State). lentOf s (a .engaged)) (office-words o (a .first) (a .second))
 
-other-words : (a : RigAreas) (o : ℕ) → flatWords (otherAreas a o .progress) ≡ otherOf (rigWords a) o .progress
+pub other-words : (a : RigAreas) (o : ℕ) → flatWords (otherAreas a o .progress) ≡ otherOf (rigWords a) o .progress
 other-words a o = ap (λ (s : State). s .progress) (office-words o (a .second) (a .first))
 
 -- what a call left of its office's areas, put back among both
-returned-is : (a b : RigAreas) (o : ℕ) → otherAreas b o ≡ otherAreas a o → returned (rigWords a) o (lentWords (lentAreas b o)) ≡ rigWords b
+pub returned-is : (a b : RigAreas) (o : ℕ) → otherAreas b o ≡ otherAreas a o → returned (rigWords a) o (lentWords (lentAreas b o)) ≡ rigWords b
 unfolding returned ofOffice pick
 returned-is a b o = go (eqb o 0)
   where
@@ -87,7 +87,7 @@ returned-is a b o = go (eqb o 0)
 
 -- ---- words of whole records
 
-whole-lent : (t : Bool) (a b : Lent) → Whole (a .own .progress) → Whole (b .own .progress) → Whole (pick t a b .own .progress)
+pub whole-lent : (t : Bool) (a b : Lent) → Whole (a .own .progress) → Whole (b .own .progress) → Whole (pick t a b .own .progress)
 unfolding pick
 whole-lent true a b v w = v
 whole-lent false a b v w = w
@@ -117,7 +117,7 @@ module _ (bytes : List ℕ) (route : ℕ) where
         let w : Whole (flatWords (a .own .progress)) = (length (a .own .progress), length-words (a .own .progress)) in
         whole-lent _ _ (lentWords a) w w
 
-    can-office : (a : LentAreas) (e : Event) → (n : ℕ) × ((b : LentAreas) × OfficeGave bytes route source o theirs a e n b)
+    pub can-office : (a : LentAreas) (e : Event) → (n : ℕ) × ((b : LentAreas) × OfficeGave bytes route source o theirs a e n b)
     can-office a e = (
       r .number,
       (
@@ -135,7 +135,7 @@ module _ (bytes : List ℕ) (route : ℕ) where
 
   module _ (sources : Sources) where
     -- a call on the rig is one over words
-    rig-call : (a : RigAreas) (c : Call) (n : ℕ) (b : RigAreas) → CallGave bytes route sources a c n b
+    pub rig-call : (a : RigAreas) (c : Call) (n : ℕ) (b : RigAreas) → CallGave bytes route sources a c n b
         → answer n (rigWords b) ≡ rigCalls bytes route sources (rigWords a) c
     unfolding rigCalls
     rig-call a c n b h =
@@ -152,11 +152,11 @@ module _ (bytes : List ℕ) (route : ℕ) where
 
     -- the areas b of office o among those of a
     module _ (a : RigAreas) (o : ℕ) (b : LentAreas) where
-      among : RigAreas
+      pub among : RigAreas
       among =
           record { first = ofOffice o (b .own) (a .first); second = ofOffice o (a .second) (b .own); engaged = b .engaged }
 
-      among-own : lentAreas among o ≡ b
+      pub among-own : lentAreas among o ≡ b
       unfolding among ofOffice pick
       among-own = go (eqb o 0)
         where
@@ -169,7 +169,7 @@ module _ (bytes : List ℕ) (route : ℕ) where
           go true = refl
           go false = refl
 
-      among-other : otherAreas among o ≡ otherAreas a o
+      pub among-other : otherAreas among o ≡ otherAreas a o
       unfolding among ofOffice pick
       among-other = go (eqb o 0)
         where
@@ -263,7 +263,7 @@ module _ (bytes : List ℕ) (route : ℕ) where
   -- ---- demand 3
 
   -- collecting that gave 0 was lent a grid of the right length
-  collect-length : (source : List ℕ) (o : ℕ) (l : Lent) (theirs old : List ℕ) → collectCallFor bytes route source o l theirs old .number ≡ 0
+  pub collect-length : (source : List ℕ) (o : ℕ) (l : Lent) (theirs old : List ℕ) → collectCallFor bytes route source o l theirs old .number ≡ 0
       → length old ≡ recipe bytes route .cells
   unfolding collectCallFor
   collect-length source o l theirs old z =
@@ -274,6 +274,14 @@ module _ (bytes : List ℕ) (route : ℕ) where
     where
       nine : Bool
       nine = not (areasFor (recipe bytes route) source l theirs and eqb (length old) (recipe bytes route .cells))
+
+  -- collecting over records is collecting over words
+  pub collect-words : (sources : Sources) (b : RigAreas) (o : ℕ) (old grid : List ℕ) (n : ℕ) → CollectGaveFor bytes route sources b o old n grid
+      → answer n grid ≡ rigCollects bytes route sources (rigWords b) o old
+  unfolding rigCollects
+  collect-words sources b o old grid n h =
+      h ∙ ap (λ (l : Lent). collectCallFor bytes route (sourceFor sources o) o l (flatWords (otherAreas b o .progress)) old) (lent-words b o)
+      ∙ ap (λ (l : List ℕ). collectCallFor bytes route (sourceFor sources o) o (lentTo (rigWords b) o) l old) (other-words b o)
 
   module _ (sources : Sources) (a start b : RigAreas) (calls : List Call) (numbers : List ℕ)
       (fresh : FreshBothGave bytes route sources a 0 start)
@@ -298,17 +306,9 @@ module _ (bytes : List ℕ) (route : ℕ) where
       next-number c n d h =
           number-of (rig-call sources b c n d h) ∙ ap (λ (r : Rig). rigCalls bytes route sources r c .number) ws
 
-      collect-words : (o : ℕ) (old grid : List ℕ) (n : ℕ) → CollectGaveFor bytes route sources b o old n grid
-          → answer n grid ≡ rigCollects bytes route sources (rigWords b) o old
-      unfolding rigCollects
-      collect-words o old grid n h =
-          h ∙ ap (λ (l : Lent). collectCallFor bytes route (sourceFor sources o) o l (flatWords (otherAreas b o .progress)) old)
-          (lent-words b o)
-          ∙ ap (λ (l : List ℕ). collectCallFor bytes route (sourceFor sources o) o (lentTo (rigWords b) o) l old) (other-words b o)
-
       collect-is : (o : ℕ) (old grid : List ℕ) (n : ℕ) → CollectGaveFor bytes route sources b o old n grid
           → answer n grid ≡ rigCollects bytes route sources (stateAfter (rigCalls bytes route sources) (rigWords start) calls) o old
-      collect-is o old grid n h = collect-words o old grid n h ∙ ap (λ (r : Rig). rigCollects bytes route sources r o old) ws
+      collect-is o old grid n h = collect-words sources b o old grid n h ∙ ap (λ (r : Rig). rigCollects bytes route sources r o old) ws
 
       rig-run : RigRun bytes route sources start calls numbers b
       rig-run =

@@ -36,7 +36,7 @@ module _ (bytes : List ℕ) (route : ℕ) (source : List ℕ) (ok : firstOf (lin
       (and-true (eq-eqb _ _ (inv .shape .memories))
       (and-true (eq-eqb _ _ (inv .shape .buffer)) (and-true (eq-eqb _ _ (inv .shape .progress)) (eq-eqb _ _ (inv .shape .status)))))
 
-  same : (s : State) → Inv p source s → (e : Event) → calls bytes route source s e ≡ act p source s e
+  pub same : (s : State) → Inv p source s → (e : Event) → calls bytes route source s e ≡ act p source s e
   unfolding calls act
   same s inv (turnOf b) = turn-is bytes route source s ok (inv-areas s inv) b
   same s inv (deliveryOf m) = deliver-is bytes route source s ok (inv-areas s inv) m

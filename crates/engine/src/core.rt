@@ -73,7 +73,7 @@ pub fn areas_fit(
 }
 
 // Lines 9 and 10.
-fn unfit(
+pub fn unfit(
     nest: Nest,
     sizes: Sizes,
     lens: &[u16; 9217],

@@ -1,5 +1,6 @@
 pub mod Computed
 pub mod OneCall
+pub mod OfficeTurns
 pub mod SharedWords
 pub mod Engaged
 pub mod OneOffice

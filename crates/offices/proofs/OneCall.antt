@@ -187,7 +187,7 @@ module _ (r : Rig) (o : ℕ) where
       go true = refl
       go false = refl
 
-  returned-same : returned r o (lentTo r o) ≡ r
+  pub returned-same : returned r o (lentTo r o) ≡ r
   unfolding returned ofOffice pick
   returned-same = go (eqb o 0)
     where

@@ -20,10 +20,10 @@ module _ (p : Plan) (sources : Sources) (o : ℕ) (low : o ≤ 1) where
 
   -- a call of this office that gave 0
   module _ (r : Rig) (c : Call) (e : c .office ≡ o) (z : actOn p sources r c .number ≡ 0) where
-    step-number : act p source (ownOf r o) (c .event) .number ≡ 0
+    pub step-number : act p source (ownOf r o) (c .event) .number ≡ 0
     step-number = ap (λ (q : ℕ). act p (sourceFor sources q) (ownOf r q) (c .event) .number) (sym e) ∙ call-number p sources r c z
 
-    step-own : ownOf (actOn p sources r c .after) o ≡ act p source (ownOf r o) (c .event) .after
+    pub step-own : ownOf (actOn p sources r c .after) o ≡ act p source (ownOf r o) (c .event) .after
     step-own =
         ap (ownOf (actOn p sources r c .after)) (sym e) ∙ call-own p sources r c z
         ∙ ap (λ (q : ℕ). act p (sourceFor sources q) (ownOf r q) (c .event) .after) e

@@ -56,7 +56,7 @@ fresh-fixed : (bytes : List ℕ) (route : ℕ) (sources : Sources) (r : Rig)
 unfolding freshRigCall
 fresh-fixed bytes route sources r = fixed (freshRigLines bytes route sources r) _ r
 
-sound-plan : (bytes : List ℕ) (route : ℕ) → Bytes bytes → firstOf (linesFor (routeOf route) bytes) ≡ 0 → Sound (recipe bytes route)
+pub sound-plan : (bytes : List ℕ) (route : ℕ) → Bytes bytes → firstOf (linesFor (routeOf route) bytes) ≡ 0 → Sound (recipe bytes route)
 sound-plan bytes route b z = sound (routeOf route) (nestOf bytes) (accepted bytes b (reads-for (routeOf route) bytes z))
 
 pub rig-demands : RigDemands

@@ -51,7 +51,7 @@ pub struct Opening {
 }
 
 // The recipe read, and the table of its messages' lengths filled.
-fn open_recipe(encoded: &[u8], route: u32, lens: &mut [u16; 9217]) -> Opening
+pub fn open_recipe(encoded: &[u8], route: u32, lens: &mut [u16; 9217]) -> Opening
     requires { ⌜ length (now lens) ≡ 9217 ⌝ }
     ensures { λ r. ⌜ (r .number ≡ firstOf (linesFor (routeOf route) (now (encoded .entry))))
         × (r .number ≡ 0 → Opens (now (encoded .entry)) route r (now (lens .exit))) ⌝ }
@@ -150,7 +150,7 @@ fn fit_rig(
 }
 
 // Lines 9, 11 for the office, and 10.
-fn unfit(
+pub fn unfit(
     nest: Nest,
     sizes: Sizes,
     lens: &[u16; 9217],
@@ -202,7 +202,7 @@ fn unfit(
 }
 
 // Line 19: the office has tiles left on processor b, and the other holds it.
-fn held(
+pub fn held(
     nest: Nest,
     sizes: Sizes,
     lens: &[u16; 9217],
@@ -236,7 +236,7 @@ fn word_for(office: u32, stage: u32) -> u32
 }
 
 // The shared word of processor b after its turn: the office's from the gather on, free once the tile is done.
-fn engage(engaged: &mut [u32], office: u32, b: usize, after: Turned)
+pub fn engage(engaged: &mut [u32], office: u32, b: usize, after: Turned)
     requires { ⌜ b < length (now engaged) ⌝ }
     ensures { λ _. ⌜ now (engaged .exit) ≡ wordsAfter (now (engaged .entry)) office b after ⌝ }
 {

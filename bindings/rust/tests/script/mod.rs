@@ -1,7 +1,7 @@
 //! Carries out a stored script, records of 16 bytes, on areas of its own over the library's calls, and returns what is to be
 //! printed: tools/README.md has the format. The scripts and the answers come from the models in tools/.
 
-use rolwyddac::{Progress, Refusal, Route};
+use rolwyddac::{Opening, Progress, Refusal, Route};
 use std::fmt::Write;
 
 /// The areas of one office, and how much of each is lent.
@@ -106,6 +106,8 @@ pub struct Script {
     offices: [Office; 2],
     engaged: Vec<u32>,
     engaged_lent: usize,
+    hours: Vec<u32>,
+    hours_lent: usize,
     printed: String,
 }
 
@@ -118,6 +120,8 @@ impl Script {
             offices: [Office::new(), Office::new()],
             engaged: vec![0; 64],
             engaged_lent: 0,
+            hours: vec![0; 1793],
+            hours_lent: 0,
             printed: String::new(),
         };
         let mut at = 0;
@@ -152,11 +156,13 @@ impl Script {
         self.route = Route::Direct;
         self.offices.iter_mut().for_each(|o| o.lent = [0; 7]);
         self.engaged_lent = 0;
+        self.hours_lent = 0;
     }
 
     fn lend(&mut self, record: &Record, n: usize) {
         match record.area() {
             7 => self.engaged_lent = n,
+            8 => self.hours_lent = n,
             area => self.offices[record.office()].lent[area] = n,
         }
     }
@@ -171,6 +177,7 @@ impl Script {
         } else {
             let words = match record.area() {
                 7 => &mut self.engaged[..self.engaged_lent],
+                8 => &mut self.hours[..self.hours_lent],
                 area => office.words(area),
             };
             change(words, record, &mut self.printed);
@@ -194,8 +201,10 @@ impl Script {
         let (number, told) = match record.0[0] {
             10 => (self.sweep(record), String::new()),
             16 => (self.fresh_both(), String::new()),
-            17..=19 => (self.for_office(record, a, b), String::new()),
+            6 | 8 | 9 | 21 => (self.alone(record, a), String::new()),
+            17..=19 | 22 => (self.for_office(record, a, b), String::new()),
             20 => self.look(a, b),
+            23 => self.opens(a, record.word(12)),
             other => panic!("no record of kind {other}"),
         };
         let sum = self.checksum();
@@ -241,11 +250,16 @@ impl Script {
         let (source, memories) = (&o.source[..lent[1]], &mut o.memories[..lent[2]]);
         let (buffer, status) = (&mut o.buffer[..lent[3]], &mut o.status[..lent[5]]);
         let engaged = &mut self.engaged[..self.engaged_lent];
-        let (e, r) = (&self.encoded, self.route);
+        let hours = &self.hours[..self.hours_lent];
+        let (e, r, c) = (&self.encoded, self.route, record.word(12));
         let answer = match record.0[0] {
             17 => {
                 let own = &mut records;
                 rolwyddac::office_turn(e, r, source, memories, buffer, own, status, engaged, &other, b, a)
+            }
+            22 => {
+                let own = &mut records;
+                rolwyddac::office_turn_at(e, r, source, memories, buffer, own, status, engaged, &other, hours, c, b, a)
             }
             18 => rolwyddac::office_deliver(e, r, source, memories, buffer, &records, status, engaged, &other, b, a),
             _ => {
@@ -255,6 +269,36 @@ impl Script {
         };
         o.store(&records);
         answer
+    }
+
+    /// A fresh start, a turn with hours, a delivery or collecting of one office alone.
+    fn alone(&mut self, record: &Record, a: u32) -> Result<(), Refusal> {
+        let mut records = self.offices[record.office()].records();
+        let o = &mut self.offices[record.office()];
+        let lent = o.lent;
+        let (source, memories) = (&o.source[..lent[1]], &mut o.memories[..lent[2]]);
+        let (buffer, status) = (&mut o.buffer[..lent[3]], &mut o.status[..lent[5]]);
+        let hours = &self.hours[..self.hours_lent];
+        let (e, r, c) = (&self.encoded, self.route, record.word(12));
+        let answer = match record.0[0] {
+            6 => rolwyddac::fresh(e, r, source, memories, buffer, &mut records, status),
+            8 => rolwyddac::deliver(e, r, source, memories, buffer, &records, status, a),
+            9 => rolwyddac::collect(e, r, source, memories, buffer, &records, status, &mut o.grid[..lent[6]]),
+            _ => rolwyddac::turn_at(e, r, source, memories, buffer, &mut records, status, hours, c, a),
+        };
+        o.store(&records);
+        answer
+    }
+
+    /// When a processor next opens: whether it does, and in how many minutes.
+    fn opens(&mut self, processor: u32, minute: u32) -> (Result<(), Refusal>, String) {
+        let hours = &self.hours[..self.hours_lent];
+        let answer = rolwyddac::opens(&self.encoded, hours, minute, processor);
+        let (opens, minutes) = match answer {
+            Ok(Opening::OpensIn(minutes)) => (1, minutes),
+            _ => (0, 0),
+        };
+        (answer.map(|_| ()), format!("{opens} {minutes} "))
     }
 
     /// A look: where the part begins, its length and a checksum of its words stand before that of the areas.

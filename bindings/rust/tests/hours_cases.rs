@@ -1,0 +1,14 @@
+//! The stored script of turns with hours, `bindings/cases/hours`: every call's number and every lent word, and when processors open.
+
+mod script;
+
+#[test]
+fn every_answer_is_the_models() {
+    let script = include_bytes!("../../cases/hours/script");
+    let answers = include_str!("../../cases/hours/answers");
+    let printed = script::Script::run(script);
+    for (i, (ours, theirs)) in printed.lines().zip(answers.lines()).enumerate() {
+        assert_eq!(ours, theirs, "line {}", i + 1);
+    }
+    assert_eq!(printed.len(), answers.len());
+}

@@ -1,0 +1,307 @@
+-- Request W-212 holds of the calls as exported, board records as structs.
+use Prim.Native.Nat.{ℕ, _≤_}
+use mathlib.Core.Path.{_≡_, sym, ap, subst, _∙_}
+use mathlib.Core.Bool.{true}
+use mathlib.Core.List.{List, map}
+use lib.ListN.{length}
+use Rattle.base.specs.Lists.{Bytes}
+use Rattle.machine.specs.Machine.{State, tilesLeft}
+use Rattle.machine.specs.Runs.{deliveryOf, stateAfter, answersTo}
+use Rattle.machine.proofs.RunLaws.{number-of, after-of}
+use Rattle.offices.specs.Offices.{Lent, Rig, Sources, sourceFor, lentTo, ownOf, putBack, carryOutFor}
+use Rattle.offices.specs.Demand208.{eventsOf, answersOf}
+use Rattle.hours.specs.Hours.{Hours, Timed, turnAt, mailOf, TimedCall, callOf}
+use Rattle.hours.specs.Demands212.{SomeStep, OnlyHours, SomeCall, OnlyHoursFor, Demand212, Demand212For, IsolatedAt}
+use Rattle.hours.proofs.Telling.{tells}
+use Rattle.records.specs.declared.Progress.{Progress}
+use Rattle.records.specs.Records.{flatWords}
+use Rattle.records.proofs.Words.{length-words}
+use Rattle.engine.specs.Calls.{answer, recipe, collectCall}
+use Rattle.engine.proofs.Demands as engine
+use Rattle.rig.specs.Calls.{rigCollects}
+use Rattle.timed.specs.Calls.{turnCallAt, turnCallAtFor, callsAt, callAtFor, rigCallsAt}
+use Rattle.timed.proofs.Demands.{timed-demands}
+use Rattle.calls.specs.HourCalls.{opensWordsCall}
+use Rattle.calls.specs.OverRecords.{Areas, inWords, Gave, FreshGave, CollectGave}
+use Rattle.calls.specs.OverRig.{LentAreas, lentWords, RigAreas, rigWords, ownAreas, otherAreas, lentAreas, FreshBothGave, CollectGaveFor}
+use Rattle.calls.specs.OverHours.{TimedGave, OfficeTimedGave, TimedCallGave, FixedHours, Gives, NextStep, NextOpen, TimedRun}
+use Rattle.calls.specs.OverHours.{NextCall, NextOpenFor, TimedRigRun, OverHours}
+use Rattle.calls.proofs.OverRecords as one
+use Rattle.calls.proofs.OverRecords.{run-numbers, run-words, whole-pick, can-answer, areas-fixed, fixed-as, one-answer, as-before}
+use Rattle.calls.proofs.OverRecords.{Whole, areasOf, in-words, length-carry, over-records}
+use Rattle.calls.proofs.OverRig.{lent-fixed, rig-fixed, office-words, lent-words, other-words, returned-is, whole-lent}
+use Rattle.calls.proofs.OverRig.{can-office, among, among-own, among-other, collect-length, collect-words}
+
+module _ (bytes : List ℕ) (route : ℕ) where
+  -- ---- a contract, by the calls over words
+
+  pub event-call : (source : List ℕ) (a : Areas) (x : Timed) (n : ℕ) (b : Areas) → TimedGave bytes route source a x n b
+      → answer n (inWords b) ≡ callsAt bytes route source (inWords a) x
+  unfolding callsAt
+  event-call source a (turnAt h p) n b e = e
+  event-call source a (mailOf m) n b e = e
+
+  office-call : (source : List ℕ) (o : ℕ) (theirs : List Progress) (a : LentAreas) (x : Timed) (n : ℕ) (b : LentAreas)
+      → OfficeTimedGave bytes route source o theirs a x n b
+      → answer n (lentWords b) ≡ callAtFor bytes route source o (lentWords a) (flatWords theirs) x
+  unfolding callAtFor
+  office-call source o theirs a (turnAt h p) n b e = e
+  office-call source o theirs a (mailOf m) n b e = e
+
+  pub rig-call : (sources : Sources) (a : RigAreas) (c : TimedCall) (n : ℕ) (b : RigAreas) → TimedCallGave bytes route sources a c n b
+      → answer n (rigWords b) ≡ rigCallsAt bytes route sources (rigWords a) c
+  unfolding rigCallsAt
+  rig-call sources a c n b h =
+      ap (λ (r : Rig). answer n r) (sym (returned-is a b (c .office) (h .others)))
+      ∙ ap (putBack (rigWords a) (c .office))
+      (office-call (sourceFor sources (c .office)) (c .office) (otherAreas a (c .office) .progress) (lentAreas a (c .office)) (c .event) n
+      (lentAreas b (c .office)) (h .gave)
+      ∙ ap (λ (l : Lent). callAtFor bytes route (sourceFor sources (c .office)) (c .office) l
+      (flatWords (otherAreas a (c .office) .progress)) (c .event))
+      (lent-words a (c .office))
+      ∙ ap (λ (l : List ℕ). callAtFor bytes route (sourceFor sources (c .office)) (c .office) (lentTo (rigWords a) (c .office)) l (c .event))
+      (other-words a (c .office)))
+
+  -- ---- the contracts can be kept
+
+  whole-at : (source : List ℕ) (a : Areas) (h : Hours) (p : ℕ) → Whole (turnCallAt bytes route source h (inWords a) p .after .progress)
+  unfolding turnCallAt
+  whole-at source a h p =
+      whole-pick _ _ (inWords a)
+      (length (a .progress), length-carry (recipe bytes route) source (inWords a) p _ ∙ length-words (a .progress))
+      (length (a .progress), length-words (a .progress))
+
+  can-event : (source : List ℕ) (a : Areas) (x : Timed) → (n : ℕ) × ((b : Areas) × TimedGave bytes route source a x n b)
+  can-event source a (turnAt h p) = can-answer (turnCallAt bytes route source h (inWords a) p) (whole-at source a h p)
+  can-event source a (mailOf m) = over-records bytes route source .one .can-event a (deliveryOf m)
+
+  module _ (source : List ℕ) (o : ℕ) (theirs : List Progress) (a : LentAreas) where
+    whole-turn : (h : Hours) (p : ℕ) → Whole (turnCallAtFor bytes route source o h (lentWords a) (flatWords theirs) p .after .own .progress)
+    unfolding turnCallAtFor carryOutFor
+    whole-turn h p =
+        whole-lent _ _ (lentWords a)
+        (length (a .own .progress), length-carry (recipe bytes route) source (inWords (a .own)) p _ ∙ length-words (a .own .progress))
+        (length (a .own .progress), length-words (a .own .progress))
+
+    can-office-at : (x : Timed) → (n : ℕ) × ((b : LentAreas) × OfficeTimedGave bytes route source o theirs a x n b)
+    can-office-at (turnAt h p) =
+        let r = turnCallAtFor bytes route source o h (lentWords a) (flatWords theirs) p in
+        let s = in-words (r .after .own) (whole-turn h p) in (
+          r .number,
+          (
+            record { own = areasOf (r .after .own); engaged = r .after .engaged },
+            ap (λ (s : State). answer (r .number) (record { own = s; engaged = r .after .engaged })) s,
+          ),
+        )
+    can-office-at (mailOf m) = can-office bytes route source o theirs a (deliveryOf m)
+
+  can-call : (sources : Sources) (a : RigAreas) (c : TimedCall) → (n : ℕ) × ((b : RigAreas) × TimedCallGave bytes route sources a c n b)
+  can-call sources a c = (
+    r .0,
+    (
+      among bytes route sources a o (r .1 .0),
+      record {
+        gave =
+            subst (OfficeTimedGave bytes route (sourceFor sources o) o (otherAreas a o .progress) (lentAreas a o) (c .event) (r .0))
+            (sym (among-own bytes route sources a o (r .1 .0))) (r .1 .1);
+        others = among-other bytes route sources a o (r .1 .0);
+      },
+    ),
+  )
+    where
+      o : ℕ
+      o = c .office
+
+      r : (n : ℕ) × ((b : LentAreas) × OfficeTimedGave bytes route (sourceFor sources o) o (otherAreas a o .progress) (lentAreas a o)
+          (c .event) n b)
+      r = can-office-at (sourceFor sources o) o (otherAreas a o .progress) (lentAreas a o) (c .event)
+
+  -- ---- demand 1
+
+  fixed-hours : FixedHours bytes route
+  unfolding opensWordsCall
+  fixed-hours =
+      record {
+        turn = λ source a b h p n e.
+            let f = timed-demands .calls bytes route source h p .turn (inWords a) in
+            record { fixed = fixed-as e f; as-before = as-before inWords areas-fixed a b n e f };
+        office-turn = λ source o theirs a b h p n e.
+            let f = timed-demands .calls bytes route source h p .office-turn o (lentWords a) (flatWords theirs) in
+            record { fixed = fixed-as e f; as-before = as-before lentWords lent-fixed a b n e f };
+        opens = λ h b old out n e. fixed-as e (engine.fixed _ _ old);
+        tells = λ h b old out e. (
+          after-of e ∙ engine.fixed _ _ old .works (sym (number-of e)),
+          tells (h .table) (h .minute) b,
+        );
+        can-event = can-event;
+        can-call = can-call;
+        one-event = λ source a b c x n k g h.
+            one-answer inWords areas-fixed b c n k (event-call source a x n b g) (event-call source a x k c h);
+        one-call = λ sources a b d c n k g h.
+            one-answer rigWords rig-fixed b d n k (rig-call sources a c n b g) (rig-call sources a c k d h);
+      }
+
+  -- ---- demand 3, one office
+
+  module _ (source : List ℕ) (a start b : Areas) (events : List Timed) (numbers : List ℕ) (fresh : FreshGave bytes route source a 0 start)
+      (gave : Gave (TimedGave bytes route source) start events numbers b) (small : Bytes bytes) where
+    ns : numbers ≡ answersTo (callsAt bytes route source) (inWords start) events
+    ns = run-numbers _ inWords (callsAt bytes route source) (event-call source) gave
+
+    ws : inWords b ≡ stateAfter (callsAt bytes route source) (inWords start) events
+    ws = run-words _ inWords (callsAt bytes route source) (event-call source) gave
+
+    demand : Demand212 (callsAt bytes route source) (inWords start) events (recipe bytes route) source (collectCall bytes route source)
+    demand =
+        subst (λ (s : State). Demand212 (callsAt bytes route source) s events (recipe bytes route) source (collectCall bytes route source))
+        (sym (after-of fresh)) (timed-demands .runs bytes route source (inWords a) small (sym (number-of fresh)) events)
+
+    -- the next call, on the areas `b`
+    next-number : (x : Timed) (n : ℕ) (c : Areas) → TimedGave bytes route source b x n c
+        → n ≡ callsAt bytes route source (stateAfter (callsAt bytes route source) (inWords start) events) x .number
+    next-number x n c h =
+        number-of (event-call source b x n c h) ∙ ap (λ (s : State). callsAt bytes route source s x .number) ws
+
+    gives : (x : Timed) → callsAt bytes route source (stateAfter (callsAt bytes route source) (inWords start) events) x .number ≡ 0
+        → Gives (TimedGave bytes route source) b x
+    gives x z n c h = next-number x n c h ∙ z
+
+    next-step : (table : List ℕ) → SomeStep (callsAt bytes route source) (inWords start) events table
+        → NextStep bytes route source start events numbers b table
+    next-step table (SomeStep.by-mail m z) = NextStep.by-mail m (gives (mailOf m) z)
+    next-step table (SomeStep.by-turn p minute low e z) = NextStep.by-turn p minute low e (gives _ z)
+
+    next-open : (table : List ℕ) → OnlyHours (callsAt bytes route source) (inWords start) events (recipe bytes route) table
+        → NextOpen bytes route source start events numbers b table
+    next-open table (OnlyHours.by-mail m z) = NextOpen.by-mail m (gives (mailOf m) z)
+    next-open table (OnlyHours.when-open p low left z) =
+        NextOpen.when-open p low (subst (λ (s : State). tilesLeft (recipe bytes route) s p ≡ true) (sym ws) left)
+        (λ minute in-week e. gives _ (z minute in-week e))
+
+    collect-is : (old grid : List ℕ) (n : ℕ) → CollectGave bytes route source b old n grid
+        → answer n grid ≡ collectCall bytes route source (stateAfter (callsAt bytes route source) (inWords start) events) old
+    collect-is old grid n h = h ∙ ap (λ (s : State). collectCall bytes route source s old) ws
+
+    timed-run : TimedRun bytes route source start events numbers b
+    timed-run =
+        record {
+          numbers-are = ns;
+          words-are = ws;
+          demand = demand;
+          goes-on = λ table f opens h. next-step table (demand .goes-on table f (λ p low left.
+              opens p low (subst (λ (s : State). tilesLeft (recipe bytes route) s p ≡ true) (sym ws) left)) (rw ns at h));
+          then-fewer = λ x c h. rw ns (demand .then-fewer x (sym (next-number x 0 c h)));
+          only-hours = λ table f h. next-open table (demand .only-hours table f (rw ns at h));
+          collects = λ old grid n l h. (
+            (λ z. rw ns (demand .then-all old l (sym (number-of (collect-is old grid n h)) ∙ z))),
+            (λ t. number-of (collect-is old grid n h) ∙ demand .can-collect (rw ns at t) old l),
+          );
+          grid = λ old grid h.
+              let z = sym (number-of (collect-is old grid 0 h)) in
+              let l = one.collect-length bytes route source _ old z in
+              after-of (collect-is old grid 0 h) ∙ demand .grid (demand .then-all old l z) old l;
+        }
+
+  -- ---- demand 3, two offices
+
+  module _ (sources : Sources) (a start b : RigAreas) (calls : List TimedCall) (numbers : List ℕ)
+      (fresh : FreshBothGave bytes route sources a 0 start)
+      (gave : Gave (TimedCallGave bytes route sources) start calls numbers b) where
+    rig-ns : numbers ≡ answersTo (rigCallsAt bytes route sources) (rigWords start) calls
+    rig-ns = run-numbers _ rigWords (rigCallsAt bytes route sources) (rig-call sources) gave
+
+    rig-ws : rigWords b ≡ stateAfter (rigCallsAt bytes route sources) (rigWords start) calls
+    rig-ws = run-words _ rigWords (rigCallsAt bytes route sources) (rig-call sources) gave
+
+    -- an office's areas are those of the rig after the calls
+    own-ws : (o : ℕ) → inWords (ownAreas b o) ≡ ownOf (stateAfter (rigCallsAt bytes route sources) (rigWords start) calls) o
+    own-ws o = office-words o (b .first) (b .second) ∙ ap (λ (r : Rig). ownOf r o) rig-ws
+
+    module _ (small : Bytes bytes) where
+      rig-demand : Demand212For (rigCallsAt bytes route sources) (rigWords start) calls (recipe bytes route) sources
+          (rigCollects bytes route sources)
+      rig-demand =
+          subst (λ (r : Rig). Demand212For (rigCallsAt bytes route sources) r calls (recipe bytes route) sources
+          (rigCollects bytes route sources))
+          (sym (after-of fresh)) (timed-demands .office-runs bytes route sources (rigWords a) small (sym (number-of fresh)) calls)
+
+      rig-next-number : (c : TimedCall) (n : ℕ) (d : RigAreas) → TimedCallGave bytes route sources b c n d
+          → n ≡ rigCallsAt bytes route sources (stateAfter (rigCallsAt bytes route sources) (rigWords start) calls) c .number
+      rig-next-number c n d h =
+          number-of (rig-call sources b c n d h) ∙ ap (λ (r : Rig). rigCallsAt bytes route sources r c .number) rig-ws
+
+      rig-gives : (c : TimedCall)
+          → rigCallsAt bytes route sources (stateAfter (rigCallsAt bytes route sources) (rigWords start) calls) c .number ≡ 0
+          → Gives (TimedCallGave bytes route sources) b c
+      rig-gives c z n d h = rig-next-number c n d h ∙ z
+
+      next-call : (table : List ℕ) → SomeCall (rigCallsAt bytes route sources) (rigWords start) calls table
+          → NextCall bytes route sources start calls numbers b table
+      next-call table (SomeCall.by-mail o m z) = NextCall.by-mail o m (rig-gives _ z)
+      next-call table (SomeCall.by-turn o p minute low e z) = NextCall.by-turn o p minute low e (rig-gives _ z)
+
+      next-open-for : (table : List ℕ) → OnlyHoursFor (rigCallsAt bytes route sources) (rigWords start) calls (recipe bytes route) table
+          → NextOpenFor bytes route sources start calls numbers b table
+      next-open-for table (OnlyHoursFor.by-mail o m z) = NextOpenFor.by-mail o m (rig-gives _ z)
+      next-open-for table (OnlyHoursFor.when-open o p one low left z) =
+          NextOpenFor.when-open o p one low (subst (λ (s : State). tilesLeft (recipe bytes route) s p ≡ true) (sym (own-ws o)) left)
+          (λ minute in-week e. rig-gives _ (z minute in-week e))
+
+      rig-collect-is : (o : ℕ) (old grid : List ℕ) (n : ℕ) → CollectGaveFor bytes route sources b o old n grid
+          → answer n grid ≡ rigCollects bytes route sources (stateAfter (rigCallsAt bytes route sources) (rigWords start) calls) o old
+      rig-collect-is o old grid n h =
+          collect-words bytes route sources b o old grid n h ∙ ap (λ (r : Rig). rigCollects bytes route sources r o old) rig-ws
+
+      timed-rig-run : TimedRigRun bytes route sources start calls numbers b
+      timed-rig-run =
+          record {
+            numbers-are = rig-ns;
+            words-are = rig-ws;
+            demand = rig-demand;
+            goes-on = λ table f opens h. next-call table (rig-demand .goes-on table f (λ o p one low left.
+                opens o p one low (subst (λ (s : State). tilesLeft (recipe bytes route) s p ≡ true) (sym (own-ws o)) left)) (rw rig-ns at h));
+            then-fewer = λ c d h. rw rig-ns (rig-demand .then-fewer c (sym (rig-next-number c 0 d h)));
+            only-hours = λ table f h. next-open-for table (rig-demand .only-hours table f (rw rig-ns at h));
+            collects = λ o low old grid n l h. (
+              (λ z. rw rig-ns (rig-demand .each o low .then-all old l (sym (number-of (rig-collect-is o old grid n h)) ∙ z))),
+              (λ t. number-of (rig-collect-is o old grid n h) ∙ rig-demand .each o low .can-collect (rw rig-ns at t) old l),
+            );
+            grid = λ o low old grid h.
+                let z = sym (number-of (rig-collect-is o old grid 0 h)) in
+                let l = collect-length bytes route _ o _ _ old (sym (number-of h)) in
+                after-of (rig-collect-is o old grid 0 h) ∙ rig-demand .each o low .grid (rig-demand .each o low .then-all old l z) old l;
+          }
+
+  -- ---- two runs apart
+
+  module _ (small : Bytes bytes) (sources sources′ : Sources) (a start b a′ start′ b′ : RigAreas) (calls calls′ : List TimedCall)
+      (ks ks′ : List ℕ)
+      (fresh : FreshBothGave bytes route sources a 0 start) (gave : Gave (TimedCallGave bytes route sources) start calls ks b)
+      (fresh′ : FreshBothGave bytes route sources′ a′ 0 start′) (gave′ : Gave (TimedCallGave bytes route sources′) start′ calls′ ks′ b′)
+      (o : ℕ) (low : o ≤ 1) (same : sourceFor sources o ≡ sourceFor sources′ o) where
+    isolated : IsolatedAt o (rigCallsAt bytes route sources) (rigCallsAt bytes route sources′) (rigWords start) (rigWords start′)
+    isolated =
+        rw (after-of fresh, after-of fresh′)
+        (timed-demands .apart bytes route sources sources′ (rigWords a) (rigWords a′) small (sym (number-of fresh))
+        (sym (number-of fresh′)) o low same)
+
+    apart : eventsOf o (map callOf calls) ≡ eventsOf o (map callOf calls′)
+        → answersOf o (map callOf calls) ks ≡ answersOf o (map callOf calls′) ks′ → ownAreas b o ≡ ownAreas b′ o
+    apart e n =
+        areas-fixed (ownAreas b o) (ownAreas b′ o)
+        (own-ws sources a start b calls ks fresh gave o
+        ∙ isolated .same-words calls calls′ e
+        (ap (answersOf o (map callOf calls)) (sym (rig-ns sources a start b calls ks fresh gave)) ∙ n
+        ∙ ap (answersOf o (map callOf calls′)) (rig-ns sources′ a′ start′ b′ calls′ ks′ fresh′ gave′))
+        ∙ sym (own-ws sources′ a′ start′ b′ calls′ ks′ fresh′ gave′ o))
+
+pub over-hours : (bytes : List ℕ) (route : ℕ) → OverHours bytes route
+over-hours bytes route =
+    record {
+      one = fixed-hours bytes route;
+      three = λ small source a start b events numbers fresh gave. timed-run bytes route source a start b events numbers fresh gave small;
+      office-three = λ small sources a start b calls numbers fresh gave.
+          timed-rig-run bytes route sources a start b calls numbers fresh gave small;
+      apart = λ small sources sources′ a start b a′ start′ b′ calls calls′ ks ks′ f g f′ g′ o low same.
+          apart bytes route small sources sources′ a start b a′ start′ b′ calls calls′ ks ks′ f g f′ g′ o low same;
+    }

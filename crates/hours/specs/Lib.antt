@@ -1,0 +1,3 @@
+pub mod Hours
+pub mod Demands212
+pub mod Waits

@@ -1,0 +1,165 @@
+-- From a fresh start that gave 0 the calls with hours answer, where the hours allow it, as those without, and are refused elsewhere; so what
+-- holds of the machine's runs with hours holds of theirs.
+use Prim.Native.Nat.{ℕ, _≤_}
+use mathlib.Core.Path.{_≡_, refl, sym, ap, _∙_}
+use mathlib.Core.Logic.{_≢_}
+use mathlib.Core.Bool.{true}
+use mathlib.Core.List.{List}
+use native.Mathlib.Omega.{arith}
+use native.Mathlib.Decide.{ℕ-discrete}
+use lib.ListN.{length}
+use lib.Dec.{eqb}
+use borrow.Author.Tests.{eq-eqb, ne-eqb}
+use Rattle.base.specs.Tests.{pick}
+use Rattle.base.specs.Numbers.{firstOf}
+use Rattle.base.proofs.Tests.{and-true, pick-true, pick-false}
+use Rattle.machine.specs.Plan.{Plan, Sound}
+use Rattle.machine.specs.Machine.{State, fresh}
+use Rattle.machine.specs.Runs.{act}
+use Rattle.machine.proofs.Kept.{Inv}
+use Rattle.machine.proofs.Guards.{Guards}
+use Rattle.offices.specs.Offices.{otherThan, ofOffice, Rig, Sources, sourceFor, ownOf, otherOf, lentTo, Lent, returned, putBack, freshRig, actOn, collectOn}
+use Rattle.offices.proofs.OneCall.{returned-same}
+use Rattle.offices.proofs.Engaged.{RigInv, other-is}
+use Rattle.hours.specs.Hours.{tableWords, Timed, turnAt, mailOf, eventOf, TimedCall, callOf}
+use Rattle.hours.specs.Demands212.{Demand212, Demand212For}
+use Rattle.hours.proofs.Allowed.{Allowed, open-allowed}
+use Rattle.hours.proofs.OneOffice as one
+use Rattle.hours.proofs.TwoOffices as two
+use Rattle.layout.specs.Sizes.{routeOf}
+use Rattle.routes.specs.Routes.{linesFor}
+use Rattle.engine.specs.Calls.{recipe, areas, deliverCall, collectCall}
+use Rattle.engine.proofs.Lines.{Opened}
+use Rattle.engine.proofs.AsSteps.{turn-is, deliver-is, collect-is}
+use Rattle.rig.specs.Calls.{areasFor, deliverCallFor, callFor, rigCalls, rigCollects}
+use Rattle.rig.proofs.Lines.{all-long, as-collecting}
+use Rattle.rig.proofs.AsRuns.{alike}
+use Rattle.timed.specs.Calls.{turnCallAt, turnCallAtFor, callsAt, callAtFor, rigCallsAt}
+use Rattle.timed.proofs.Lines.{as-plain, needs, as-plain-for, needs-for}
+
+-- the table has its length and the hours allow it; mail at any hour
+abbrev pub AllowedHere : Plan → Timed → Type 0
+AllowedHere p (turnAt h b) = (length (h .table) ≡ tableWords p) × Allowed p (turnAt h b)
+AllowedHere p (mailOf m) = Unit {0}
+
+areas-by : (p : Plan) (source inv-source : List ℕ) (s : State) → length source ≡ p .cells → Inv p inv-source s → areas p source s ≡ true
+unfolding areas
+areas-by p source inv-source s e inv =
+    and-true (eq-eqb _ _ e)
+    (and-true (eq-eqb _ _ (inv .shape .memories))
+    (and-true (eq-eqb _ _ (inv .shape .buffer)) (and-true (eq-eqb _ _ (inv .shape .progress)) (eq-eqb _ _ (inv .shape .status)))))
+
+-- ---- one office
+module _ (bytes : List ℕ) (route : ℕ) (source : List ℕ) (ok : firstOf (linesFor (routeOf route) bytes) ≡ 0)
+    (so : Sound (recipe bytes route)) (long : length source ≡ recipe bytes route .cells) where
+  abbrev p : Plan
+  p = recipe bytes route
+
+  module _ (s : State) (inv : Inv p source s) where
+    works : (x : Timed) → callsAt bytes route source s x .number ≡ 0 → AllowedHere p x
+    unfolding callsAt
+    works (turnAt h b) z = needs bytes route source h s b z
+    works (mailOf m) z = tt
+
+    allows : (x : Timed) → AllowedHere p x → callsAt bytes route source s x ≡ act p source s (eventOf x)
+    unfolding callsAt act eventOf
+    allows (turnAt h b) a =
+        as-plain bytes route source h s b (a .0) (a .1) ∙ turn-is bytes route source s ok (areas-by p source source s long inv) b
+    allows (mailOf m) a = deliver-is bytes route source s ok (areas-by p source source s long inv) m
+
+    refuses : (x : Timed) → callsAt bytes route source s x .number ≢ 0 → callsAt bytes route source s x .after ≡ s
+    unfolding callsAt turnCallAt deliverCall
+    refuses (turnAt h b) n = pick-false _ _ _ (ne-eqb _ 0 n)
+    refuses (mailOf m) n = pick-false _ _ _ (ne-eqb _ 0 n)
+
+  pub guards : Guards (Inv p source) (act p source) (callsAt bytes route source) eventOf (AllowedHere p)
+  guards = record { works = works; allows = allows; refuses = refuses }
+
+  pub run-demand212 : (events : List Timed) → Demand212 (callsAt bytes route source) (fresh p) events p source (collectCall bytes route source)
+  run-demand212 events =
+      one.demand212-for p so source (callsAt bytes route source) (AllowedHere p) guards (λ m. tt)
+      (λ table minute b f low e. (f .long, open-allowed p table minute b f low e)) events (collectCall bytes route source)
+      (λ s inv grid len. collect-is bytes route source s ok (areas-by p source source s long inv) grid len)
+
+-- ---- two offices
+
+-- every number that is not 0 names the second office's areas
+as-office : (o : ℕ) → (q : ℕ) × (q ≤ 1) × ((a b : State) → ofOffice o a b ≡ ofOffice q a b)
+unfolding ofOffice pick
+as-office o = go (ℕ-discrete o 0)
+  where
+    go : Dec (o ≡ 0) → (q : ℕ) × (q ≤ 1) × ((a b : State) → pick (eqb o 0) a b ≡ pick (eqb q 0) a b)
+    go (yes e) = (0, omega arith, λ a b. pick-true _ a b (eq-eqb o 0 e))
+    go (no n) = (1, omega arith, λ a b. pick-false _ a b (ne-eqb o 0 n))
+
+module _ (bytes : List ℕ) (route : ℕ) (source : List ℕ) (o : ℕ) (l : Lent) (theirs : List ℕ) where
+  works-for : (x : Timed) → callAtFor bytes route source o l theirs x .number ≡ 0 → AllowedHere (recipe bytes route) x
+  unfolding callAtFor
+  works-for (turnAt h b) z = needs-for bytes route source o h l theirs b z
+  works-for (mailOf m) z = tt
+
+  allows-for : (x : Timed) → AllowedHere (recipe bytes route) x → callAtFor bytes route source o l theirs x ≡ callFor bytes route source o l theirs (eventOf x)
+  unfolding callAtFor callFor eventOf
+  allows-for (turnAt h b) a = as-plain-for bytes route source o h l theirs b (a .0) (a .1)
+  allows-for (mailOf m) a = refl
+
+  refuses-for : (x : Timed) → callAtFor bytes route source o l theirs x .number ≢ 0 → callAtFor bytes route source o l theirs x .after ≡ l
+  unfolding callAtFor turnCallAtFor deliverCallFor
+  refuses-for (turnAt h b) n = pick-false _ _ _ (ne-eqb _ 0 n)
+  refuses-for (mailOf m) n = pick-false _ _ _ (ne-eqb _ 0 n)
+
+module _ (bytes : List ℕ) (route : ℕ) (sources : Sources) (ok : firstOf (linesFor (routeOf route) bytes) ≡ 0)
+    (long : (o : ℕ) → length (sourceFor sources o) ≡ recipe bytes route .cells) where
+  abbrev q : Plan
+  q = recipe bytes route
+
+  module _ (r : Rig) (inv : RigInv q sources r) where
+    works-on : (c : TimedCall) → rigCallsAt bytes route sources r c .number ≡ 0 → AllowedHere q (c .event)
+    unfolding rigCallsAt
+    works-on c z =
+        works-for bytes route (sourceFor sources (c .office)) (c .office) (lentTo r (c .office)) (otherOf r (c .office) .progress) (c .event) z
+
+    allows-on : (c : TimedCall) → AllowedHere q (c .event) → rigCallsAt bytes route sources r c ≡ actOn q sources r (callOf c)
+    unfolding rigCallsAt rigCalls callOf
+    allows-on c a =
+        ap (putBack r (c .office))
+        (allows-for bytes route (sourceFor sources (c .office)) (c .office) (lentTo r (c .office)) (otherOf r (c .office) .progress) (c .event) a)
+        ∙ alike bytes route sources ok long r inv (callOf c)
+
+    refuses-on : (c : TimedCall) → rigCallsAt bytes route sources r c .number ≢ 0 → rigCallsAt bytes route sources r c .after ≡ r
+    unfolding rigCallsAt
+    refuses-on c n =
+        ap (returned r (c .office))
+        (refuses-for bytes route (sourceFor sources (c .office)) (c .office) (lentTo r (c .office)) (otherOf r (c .office) .progress) (c .event) n)
+        ∙ returned-same r (c .office)
+
+    lengths : (o : ℕ) → areasFor q (sourceFor sources o) (lentTo r o) (otherOf r o .progress) ≡ true
+    lengths o =
+        all-long q (sourceFor sources o) (lentTo r o) (otherOf r o .progress)
+        (rw (same (r .first) (r .second)) (areas-by q (sourceFor sources o) (sourceFor sources i) (ownOf r i) (long o) (inv .inv i low))) (inv .wide)
+        (ap (λ (s : State). length (s .progress)) (same (r .second) (r .first) ∙ other-is q sources r inv i low)
+        ∙ inv .inv (otherThan i) (omega arith) .shape .progress)
+      where
+        i : ℕ
+        i = as-office o .0
+
+        low : i ≤ 1
+        low = as-office o .1
+
+        same : (a b : State) → ofOffice o a b ≡ ofOffice i a b
+        same a b = as-office o .2 a b
+
+    collects-is : (o : ℕ) (grid : List ℕ) → length grid ≡ q .cells → rigCollects bytes route sources r o grid ≡ collectOn q r o grid
+    unfolding rigCollects collectOn
+    collects-is o grid e =
+        sym
+        (as-collecting bytes route (sourceFor sources o) o (lentTo r o) (otherOf r o .progress) grid q (record { none = ok; is = refl }) (lengths o) e)
+
+  pub guards-for : Guards (RigInv q sources) (actOn q sources) (rigCallsAt bytes route sources) callOf (λ c. AllowedHere q (c .event))
+  guards-for = record { works = works-on; allows = allows-on; refuses = refuses-on }
+
+  pub run-demand212-for : Sound q → (calls : List TimedCall)
+      → Demand212For (rigCallsAt bytes route sources) (freshRig q) calls q sources (rigCollects bytes route sources)
+  run-demand212-for so calls =
+      two.demand212-for q so sources (rigCallsAt bytes route sources) (λ c. AllowedHere q (c .event)) guards-for (λ o m. tt)
+      (λ table minute o b f low e. (f .long, open-allowed q table minute b f low e)) calls (rigCollects bytes route sources) collects-is

@@ -1,0 +1,41 @@
+use borrow.Author.Tests.{not-true, not-false}
+use mathlib.Core.Path.{sym, _∙_}
+use Rattle.hours.specs.Hours.{hoursOf}
+use Rattle.timed.proofs.Lines as lines
+use borrow.Author.Needs.{needs}
+use Rattle.timed.proofs.core.shut.Statement.{statement}
+use Rattle.timed.proofs.core.shut.Tie as tie
+
+faulty-requires : tie.Need-faulty-requires
+faulty-requires c κs = search needs
+
+returns : tie.Need-returns
+returns c =
+    let A = c .before .before .before .args in lines.hours-25 (A .n) (hoursOf (A .table .now) (A .minute)) (A .b)
+    (sym (c .before .faulty .ensures) ∙ c .if1 .taken)
+
+returns-2 : tie.Need-returns-2
+returns-2 c =
+    let A = c .before .before .before .before .args in let fair = sym (c .before .before .faulty .ensures) ∙ c .before .if1 .left in
+    lines.hours-11 (A .n) (hoursOf (A .table .now) (A .minute)) (A .b) fair (c .if2 .taken)
+
+open-at-requires : tie.Need-open-at-requires
+open-at-requires c κs = search needs
+
+returns-3 : tie.Need-returns-3
+returns-3 c =
+    let A = c .before .before .before .before .before .before .args in
+    let fair = sym (c .before .before .before .before .faulty .ensures) ∙ c .before .before .before .if1 .left in
+    lines.hours-24 (A .n) (hoursOf (A .table .now) (A .minute)) (A .b) fair (c .before .before .if2 .left)
+    (lines.closed-when (A .table .now) (A .minute) (A .b) (sym (c .before .open-at .ensures) ∙ not-true _ (c .if3 .taken)))
+
+returns-4 : tie.Need-returns-4
+returns-4 c =
+    let A = c .before .before .before .before .before .before .args in
+    let fair = sym (c .before .before .before .before .faulty .ensures) ∙ c .before .before .before .if1 .left in
+    lines.hours-0 (A .n) (hoursOf (A .table .now) (A .minute)) (A .b) fair (c .before .before .if2 .left)
+    (lines.open-when (A .table .now) (A .minute) (A .b) (sym (c .before .open-at .ensures) ∙ not-false _ (c .if3 .left)))
+
+pub shut-spec : {M : Type 1} → statement M
+shut-spec =
+    tie.close (tie.spec faulty-requires returns returns-2 open-at-requires returns-3 returns-4)

@@ -1,0 +1,84 @@
+use mathlib.Core.Path.{sym, ap, _∙_}
+use Rattle.machine.specs.Machine.{State, stateOf, Answered}
+use Rattle.hours.specs.Hours.{hoursOf}
+use Rattle.engine.proofs.Reading as reading
+use Rattle.timed.proofs.Lines as lines
+use borrow.Author.Needs.{needs}
+use Rattle.timed.proofs.turn.Statement.{statement}
+use Rattle.timed.proofs.turn.Tie as tie
+
+flat-of-requires : tie.Need-flat-of-requires
+flat-of-requires c κs = search needs
+
+turn-requires : tie.Need-turn-requires
+turn-requires c κs = search needs
+
+same-length : tie.Need-same-length
+same-length c = search needs
+
+same-length-2 : tie.Need-same-length-2
+same-length-2 c = search needs
+
+same-length-3 : tie.Need-same-length-3
+same-length-3 c = search needs
+
+same-length-4 : tie.Need-same-length-4
+same-length-4 c = search needs
+
+returns : tie.Need-returns
+returns c =
+    let A = c .before .before .before .before .before .before .before .before .before .before .before .before .before .before .before .before .before
+    .before .before .before .args in
+    reading.left-out (c .before .before .before .before .before .before .before .turn .result) _ _ (A .progress .now) _ (A .processor) _
+    (c .before .before .before .before .before .before .before .turn .ensures (A .progress .now)
+    (c .before .before .before .before .before .before .before .before .before .flat-of .ensures)) (c .if1 .taken)
+
+store-record-requires : tie.Need-store-record-requires
+store-record-requires c κs =
+    let A = c .before .before .before .before .before .before .before .before .before .before .before .before .before .before .before .before .before
+    .before .before .before .before .before .args in
+    lines.turn-inside (A .encoded .now) (A .route) (A .source .now) (hoursOf (A .hours .now) (A .minute))
+    (stateOf (A .memories .now) (A .buffer .now) (A .progress .now) (A .status .now)) (A .processor)
+    (ap (λ (z : Answered State). z .number) (sym
+    (c .before .before .before .before .before .before .before .before .before .turn .ensures (A .progress .now)
+    (c .before .before .before .before .before .before .before .before .before .before .before .flat-of .ensures))) ∙ c .before .before .if1 .left)
+
+same-length-5 : tie.Need-same-length-5
+same-length-5 c = search needs
+
+same-length-6 : tie.Need-same-length-6
+same-length-6 c = search needs
+
+same-length-7 : tie.Need-same-length-7
+same-length-7 c = search needs
+
+same-length-8 : tie.Need-same-length-8
+same-length-8 c = search needs
+
+returns-2 : tie.Need-returns-2
+returns-2 c =
+    let A = c .before .before .before .before .before .before .before .before .before .before .before .before .before .before .before .before .before
+    .before .before .before .before .before .before .before .before .args in
+    reading.written-in (c .before .before .before .before .before .before .before .before .before .before .before .before .turn .result) _ _
+    (A .progress .now) _ (A .processor) _
+    (c .before .before .before .before .before .before .before .before .before .before .before .before .turn .ensures (A .progress .now)
+    (c .before .before .before .before .before .before .before .before .before .before .before .before .before .before .flat-of .ensures))
+    (c .before .before .before .before .before .if1 .left) _ (c .before .before .store-record .ensures)
+
+pub turn-spec : {M : Type 1} → statement M
+turn-spec =
+    tie.close
+    (tie.spec
+    flat-of-requires
+    turn-requires
+    same-length
+    same-length-2
+    same-length-3
+    same-length-4
+    returns
+    store-record-requires
+    same-length-5
+    same-length-6
+    same-length-7
+    same-length-8
+    returns-2)

@@ -1,0 +1,102 @@
+use mathlib.Core.Path.{sym, ap, _∙_}
+use Rattle.machine.specs.Machine.{stateOf, Answered}
+use Rattle.offices.specs.Offices.{Lent, lentOf}
+use Rattle.hours.specs.Hours.{hoursOf}
+use Rattle.rig.proofs.Starts as starts
+use Rattle.timed.proofs.Lines as lines
+use borrow.Author.Needs.{needs}
+use Rattle.timed.proofs.turn_for.Statement.{statement}
+use Rattle.timed.proofs.turn_for.Tie as tie
+
+flat-of-requires : tie.Need-flat-of-requires
+flat-of-requires c κs = search needs
+
+flat-of-requires-2 : tie.Need-flat-of-requires-2
+flat-of-requires-2 c κs = search needs
+
+turn-for-requires : tie.Need-turn-for-requires
+turn-for-requires c κs = search needs
+
+same-length : tie.Need-same-length
+same-length c = search needs
+
+same-length-2 : tie.Need-same-length-2
+same-length-2 c = search needs
+
+same-length-3 : tie.Need-same-length-3
+same-length-3 c = search needs
+
+same-length-4 : tie.Need-same-length-4
+same-length-4 c = search needs
+
+same-length-5 : tie.Need-same-length-5
+same-length-5 c = search needs
+
+returns : tie.Need-returns
+returns c =
+    let A = c .before .before .before .before .before .before .before .before .before .before .before .before .before .before .before .before .before
+    .before .before .before .before .before .before .before .before .before .args in
+    starts.left-out (c .before .before .before .before .before .before .before .before .before .turn-for .result) _ _ (A .progress .now) _ _
+    (A .processor) _ (c .before .before .before .before .before .before .before .before .before .turn-for .ensures (A .progress .now)
+    (A .theirs .now) (c .before .before .before .before .before .before .before .before .before .before .before .before .before .flat-of .ensures)
+    (c .before .before .before .before .before .before .before .before .before .before .flat-of2 .ensures)) (c .if1 .taken)
+
+store-record-requires : tie.Need-store-record-requires
+store-record-requires c κs =
+    let A = c .before .before .before .before .before .before .before .before .before .before .before .before .before .before .before .before .before
+    .before .before .before .before .before .before .before .before .before .before .before .args in
+    lines.turn-inside-for (A .encoded .now) (A .route) (A .source .now) (A .office) (hoursOf (A .hours .now) (A .minute))
+    (lentOf (stateOf (A .memories .now) (A .buffer .now) (A .progress .now) (A .status .now)) (A .engaged .now)) (A .theirs .now) (A .processor)
+    (ap (λ (z : Answered Lent). z .number) (sym
+    (c .before .before .before .before .before .before .before .before .before .before .before .turn-for .ensures (A .progress .now)
+    (A .theirs .now) (c .before .before .before .before .before .before .before .before .before .before .before .before .before .before .before
+    .flat-of .ensures) (c .before .before .before .before .before .before .before .before .before .before .before .before .flat-of2
+    .ensures))) ∙ c .before .before .if1 .left)
+
+same-length-6 : tie.Need-same-length-6
+same-length-6 c = search needs
+
+same-length-7 : tie.Need-same-length-7
+same-length-7 c = search needs
+
+same-length-8 : tie.Need-same-length-8
+same-length-8 c = search needs
+
+same-length-9 : tie.Need-same-length-9
+same-length-9 c = search needs
+
+same-length-10 : tie.Need-same-length-10
+same-length-10 c = search needs
+
+returns-2 : tie.Need-returns-2
+returns-2 c =
+    let A = c .before .before .before .before .before .before .before .before .before .before .before .before .before .before .before .before .before
+    .before .before .before .before .before .before .before .before .before .before .before .before .before .before .args in
+    starts.written-in (c .before .before .before .before .before .before .before .before .before .before .before .before .before .before .turn-for
+    .result) _ _ (A .progress .now) _ _ (A .processor) _
+    (c .before .before .before .before .before .before .before .before .before .before .before .before .before .before .turn-for .ensures
+    (A .progress .now) (A .theirs .now) (c .before .before .before .before .before .before .before .before .before .before .before .before .before
+    .before .before .before .before .before .flat-of .ensures)
+    (c .before .before .before .before .before .before .before .before .before .before .before .before .before .before .before .flat-of2
+    .ensures)) (c .before .before .before .before .before .if1 .left) _ (c .before .before .store-record .ensures)
+
+pub turn-for-spec : {M : Type 1} → statement M
+turn-for-spec =
+    tie.close
+    (tie.spec
+    flat-of-requires
+    flat-of-requires-2
+    turn-for-requires
+    same-length
+    same-length-2
+    same-length-3
+    same-length-4
+    same-length-5
+    returns
+    store-record-requires
+    same-length-6
+    same-length-7
+    same-length-8
+    same-length-9
+    same-length-10
+    returns-2)

@@ -1,0 +1,48 @@
+-- Request W-212 for a recipe's bytes and a route, made of the definitions in Calls; each call's contract equates the call with them.
+-- Renders its claims: every call is fixed; demand 3 of runs with hours, for one office and for two; what is told of opening.
+use Prim.Native.Nat.{ℕ, _≤_}
+use mathlib.Core.Path.{_≡_}
+use mathlib.Core.List.{List}
+use Rattle.base.specs.Lists.{Bytes}
+use Rattle.machine.specs.Machine.{State, carryOut, nextAction}
+use Rattle.offices.specs.Offices.{Lent, carryOutFor, Rig, Sources, sourceFor}
+use Rattle.hours.specs.declared.Opening.the-variants.{OpensIn}
+use Rattle.hours.specs.Hours.{Hours, Timed, TimedCall, untilOpen}
+use Rattle.hours.specs.Demands212.{TellsOpening, Demand212, Demand212For, IsolatedAt}
+use Rattle.engine.specs.Calls.{recipe, freshCall, collectCall}
+use Rattle.engine.specs.Demands.{Fixed}
+use Rattle.rig.specs.Calls.{freshRigCall, rigCollects}
+use Rattle.timed.specs.Calls.{turnCallLinesAt, turnCallAt, turnCallLinesAtFor, turnCallAtFor, opensLines, opensCall, callsAt, rigCallsAt}
+
+-- demand 1: the first true line counts; a call does its work, or leaves every lent word as before
+pub record FixedAt (bytes : List ℕ) (route : ℕ) (source : List ℕ) (h : Hours) (b : ℕ) : Type 0 where
+  pub turn : (s : State)
+      → Fixed (turnCallAt bytes route source h s b) (turnCallLinesAt bytes route source h s b)
+      (carryOut (recipe bytes route) source s b (nextAction (recipe bytes route) s b)) s
+  pub office-turn : (o : ℕ) (l : Lent) (theirs : List ℕ)
+      → Fixed (turnCallAtFor bytes route source o h l theirs b) (turnCallLinesAtFor bytes route source o h l theirs b)
+      (carryOutFor (recipe bytes route) source o l b (nextAction (recipe bytes route) (l .own) b)) l
+  -- lent nothing to write: what it tells at a refusal is 0 minutes
+  pub opens : Fixed (opensCall bytes h b) (opensLines bytes h b) (untilOpen (h .table) (h .minute) b) (OpensIn 0)
+
+pub record TimedDemands : Type 0 where
+  pub calls : (bytes : List ℕ) (route : ℕ) (source : List ℕ) (h : Hours) (b : ℕ) → FixedAt bytes route source h b
+  -- open then and at no minute before; never exactly if there is no such minute
+  pub tells : (bytes : List ℕ) (h : Hours) (b : ℕ) → opensCall bytes h b .number ≡ 0
+      → TellsOpening (opensCall bytes h b .after) (h .table) (h .minute) b
+  -- one recipe, one route, one source, one fresh start that gave 0, and every list of deliveries and of turns, each with hours of its own
+  pub runs : (bytes : List ℕ) (route : ℕ) (source : List ℕ) (s : State) → Bytes bytes → freshCall bytes route source s .number ≡ 0
+      → (events : List Timed)
+      → Demand212 (callsAt bytes route source) (freshCall bytes route source s .after) events (recipe bytes route) source
+      (collectCall bytes route source)
+  -- the same for two offices
+  pub office-runs : (bytes : List ℕ) (route : ℕ) (sources : Sources) (r : Rig) → Bytes bytes
+      → freshRigCall bytes route sources r .number ≡ 0 → (calls : List TimedCall)
+      → Demand212For (rigCallsAt bytes route sources) (freshRigCall bytes route sources r .after) calls (recipe bytes route) sources
+      (rigCollects bytes route sources)
+  -- two such runs of one recipe and one route that have one source for this office
+  pub apart : (bytes : List ℕ) (route : ℕ) (sources sources′ : Sources) (r r′ : Rig) → Bytes bytes
+      → freshRigCall bytes route sources r .number ≡ 0 → freshRigCall bytes route sources′ r′ .number ≡ 0
+      → (o : ℕ) → o ≤ 1 → sourceFor sources o ≡ sourceFor sources′ o
+      → IsolatedAt o (rigCallsAt bytes route sources) (rigCallsAt bytes route sources′)
+      (freshRigCall bytes route sources r .after) (freshRigCall bytes route sources′ r′ .after)
