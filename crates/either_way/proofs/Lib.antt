@@ -1,0 +1,3 @@
+pub mod Demands214
+pub mod Gave
+pub mod OverRecords214

@@ -1,0 +1,2 @@
+pub mod Demands214
+pub mod OverRecords214
