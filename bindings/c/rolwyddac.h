@@ -1,6 +1,7 @@
 /* Rolwyddac: a tiled sweep whose grid is, word for word, that of a single processor.
  *
- * Link with the archive that `rt staticlib calls` writes: target/staticlib/libcalls.a.
+ * Link with -lrolwyddac, or with the archive librolwyddac.a: bindings/library makes both, bindings/install installs them.
+ * Version, limits, texts of the numbers and the sizes of all areas are in rolwyddac_library.h, which this header includes.
  *
  * Every call returns its number. 0 means done. Any other number is a refusal: the first true line of the
  * table below, in table order, and no lent word has changed.
@@ -64,14 +65,17 @@
  * below close, and close at most 10,080; a pair of zeros is no window. Mail is delivered at any hour.
  *
  * What C must see to, for no call can test it: each pointer is aligned and not null, even where the length
- * is 0; it points to at least as many elements as the length says; areas do not overlap. Two calls at the same
- * time must not share an area that one of them may write. A call keeps no pointer and no memory of its own.
+ * is 0 (a call does not follow it then: allocate one element, for malloc(0) may be null); it points to at least as many
+ * elements as the length says; areas do not overlap. Two calls at the same time must not share an area that one of them
+ * may write. A call keeps no pointer and no memory of its own.
  */
 #ifndef ROLWYDDAC_H
 #define ROLWYDDAC_H
 
 #include <stddef.h>
 #include <stdint.h>
+
+#include "rolwyddac_library.h"
 
 #ifdef __cplusplus
 extern "C" {
