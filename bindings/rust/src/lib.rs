@@ -1,7 +1,7 @@
 //! Safe calls of the proved tiled sweep engine.
 //!
 //! A recipe's bytes go to every call, and the call is lent the areas it works on as slices. Each call either is
-//! done or gives the [`Refusal`] of the first true line of document 01's table, and then no lent word has changed.
+//! done or gives the [`Refusal`] of the first true line of the table of numbers (docs/RECIPE.md), and then no lent word has changed.
 //! A length that does not fit is no danger: it is [`Refusal::Area`].
 //!
 //! [`Run`] owns the areas of one run, with the right sizes, and is the short way:
@@ -48,7 +48,7 @@ pub enum Route {
     Indirect = 1,
 }
 
-/// How far a processor is (document 01: board record).
+/// How far a processor is.
 #[repr(C)]
 #[derive(Clone, Copy, Debug, Default, PartialEq, Eq)]
 pub struct Progress {

@@ -2,15 +2,14 @@
 
 use std::{error::Error, fmt};
 
-/// The table of document 01, "Numbers a call gives": of each line the number, the name here, the term and when it is
-/// true.
+/// The table of numbers (docs/RECIPE.md): of each line the number, the name here, the term and when it is true.
 macro_rules! refusals {
     ($($number:literal $name:ident $term:literal: $reason:literal;)*) => {
-        /// Why a call was refused: the table of document 01, "Numbers a call gives". No lent word has changed.
+        /// Why a call was refused: the table of numbers, docs/RECIPE.md. No lent word has changed.
         ///
         /// Later archives give more numbers. One that has no name here is [`Refusal::Other`], and more names may come:
         /// a `match` has an arm for the rest.
-        #[derive(Clone, Copy, Debug, PartialEq, Eq, Hash)]
+        #[derive(Clone, Copy, PartialEq, Eq, Hash)]
         #[non_exhaustive]
         pub enum Refusal {
             $(
@@ -98,6 +97,13 @@ impl fmt::Display for Refusal {
     }
 }
 
+/// As [`Display`](fmt::Display), so that a failed `assert_eq!`, an `unwrap` and a `main` that gives it tell it in words.
+impl fmt::Debug for Refusal {
+    fn fmt(&self, f: &mut fmt::Formatter<'_>) -> fmt::Result {
+        write!(f, "{self}")
+    }
+}
+
 impl Error for Refusal {}
 
 #[cfg(test)]
@@ -126,6 +132,7 @@ mod tests {
     fn display_has_number_and_term() {
         let text = Refusal::NoMail.to_string();
         assert_eq!(text, "refused 14, no mail: delivery of a message that is not in flight");
+        assert_eq!(format!("{:?}", Refusal::NoMail), text);
         let text = Refusal::Other(4000).to_string();
         assert_eq!(text, "refused 4000, other: a number that this crate has no name for");
     }

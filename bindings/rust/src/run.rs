@@ -5,13 +5,13 @@ use crate::{collect, deliver, fresh, opens, summary, turn, turn_at, Opening, Pro
 /// The four areas that a run changes, with the sizes a plan asks for.
 #[derive(Clone, Debug, PartialEq, Eq)]
 pub struct Areas {
-    /// One word a cell for each processor, processor after processor (document 01: strips).
+    /// One word a cell for each processor, processor after processor.
     pub memories: Vec<u32>,
-    /// One word a message word (document 01: mail).
+    /// One word a message word.
     pub buffer: Vec<u32>,
-    /// One record a processor (document 01: board records).
+    /// One record a processor.
     pub progress: Vec<Progress>,
-    /// One byte a message: 0 unsent, 1 in flight, 2 delivered, 3 taken (document 01: marks).
+    /// One byte a message: 0 unsent, 1 in flight, 2 delivered, 3 taken.
     pub status: Vec<u8>,
 }
 
@@ -50,6 +50,28 @@ impl<'a> Run<'a> {
         let Areas { memories, buffer, progress, status } = &mut areas;
         fresh(encoded, route, source, memories, buffer, progress, status)?;
         Ok(Run { encoded, route, source, plan, areas })
+    }
+
+    /// Goes on from areas that an earlier run left, as [`Run::into_areas`] gave them, with the same recipe, route and source.
+    ///
+    /// Their lengths and their fitness are tested; that a run of these left them is the caller's to know: the engine's
+    /// theorem speaks of no others.
+    ///
+    /// Refusals: 1 to 10, 16 to 18, 20 and 21.
+    pub fn resume(encoded: &'a [u8], route: Route, source: &'a [u32], areas: Areas) -> Result<Run<'a>, Refusal> {
+        let plan = summary(encoded, route)?;
+        let mut run = Run { encoded, route, source, plan, areas };
+        // A delivery tests lengths and fitness before the message's number, and no plan has as many messages as this.
+        match run.deliver(u32::MAX) {
+            Err(Refusal::NoSuch) => Ok(run),
+            Err(refusal) => Err(refusal),
+            Ok(()) => unreachable!("no plan has message {}", u32::MAX),
+        }
+    }
+
+    /// The areas as the last call left them, to be kept; [`Run::resume`] goes on from there.
+    pub fn into_areas(self) -> Areas {
+        self.areas
     }
 
     /// The plan's totals.
