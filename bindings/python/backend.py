@@ -1,0 +1,54 @@
+"""Builds the wheel for `pip install bindings/python`: the package and the shared object beside it. Nothing is fetched, and nothing but
+Python is needed; the shared object is that of bindings/library, or of the folder that ROLWYDDAC_LIB names.
+"""
+
+import base64
+import hashlib
+import os
+import re
+import sysconfig
+import zipfile
+
+HERE = os.path.dirname(os.path.abspath(__file__))
+SHARED = 'librolwyddac.so'
+
+
+def _project(key):
+    text = open(os.path.join(HERE, 'pyproject.toml'), encoding='utf-8').read()
+    return re.search(r'^%s = "(.*)"$' % key, text, flags=re.M)[1]
+
+
+def _shared():
+    folder = os.environ.get('ROLWYDDAC_LIB') or os.path.join(HERE, '../../target/library/lib')
+    path = os.path.join(os.path.abspath(folder), SHARED)
+    if not os.path.isfile(path):
+        raise SystemExit('no %s: run bindings/library first, or set ROLWYDDAC_LIB to its folder' % os.path.normpath(path))
+    return open(path, 'rb').read()
+
+
+def _summed(content):
+    return 'sha256=' + base64.urlsafe_b64encode(hashlib.sha256(content).digest()).rstrip(b'=').decode()
+
+
+def build_wheel(wheel_directory, config_settings=None, metadata_directory=None):
+    name, version = _project('name'), _project('version')
+    tag = 'py3-none-' + re.sub(r'[-.]', '_', sysconfig.get_platform())
+    info = '%s-%s.dist-info' % (name, version)
+    package = os.path.join(HERE, name)
+    files = {'%s/%s' % (name, file): open(os.path.join(package, file), 'rb').read()
+             for file in sorted(os.listdir(package)) if file.endswith('.py')}
+    files['%s/%s' % (name, SHARED)] = _shared()
+    files[info + '/METADATA'] = ('Metadata-Version: 2.1\nName: %s\nVersion: %s\nSummary: %s\nRequires-Python: %s\n' % (
+        name, version, _project('description'), _project('requires-python'))).encode()
+    files[info + '/WHEEL'] = ('Wheel-Version: 1.0\nGenerator: rolwyddac\nRoot-Is-Purelib: false\nTag: %s\n' % tag).encode()
+    record = ''.join('%s,%s,%d\n' % (path, _summed(content), len(content)) for path, content in files.items())
+    files[info + '/RECORD'] = (record + info + '/RECORD,,\n').encode()
+    wheel = '%s-%s-%s.whl' % (name, version, tag)
+    with zipfile.ZipFile(os.path.join(wheel_directory, wheel), 'w', zipfile.ZIP_DEFLATED) as archive:
+        for path, content in files.items():
+            archive.writestr(path, content)
+    return wheel
+
+
+def build_sdist(sdist_directory, config_settings=None):
+    raise SystemExit('there is no source distribution: the package is built in the repository')

@@ -1,0 +1,330 @@
+"""The package against the independent model, tools/model.py: every answer and every lent element after every call, over drawn recipes
+and schedules, with refused calls between. Run as `python3 bindings/python/tests/test_model.py`.
+"""
+
+import array
+import os
+import sys
+import unittest
+
+HERE = os.path.dirname(os.path.abspath(__file__))
+sys.path.insert(0, os.path.join(HERE, '..', '..', '..', 'tools'))
+if not os.environ.get('ROLWYDDAC_INSTALLED'):
+    sys.path.insert(0, os.path.join(HERE, '..'))
+
+import model  # noqa: E402
+import rolwyddac  # noqa: E402
+from rolwyddac import calls  # noqa: E402
+
+RECIPES = 150
+RUNS = 40
+
+
+class Draw:
+    """Numbers that look random and are the same at every run and in every version of Python."""
+
+    def __init__(self, seed):
+        self.x = seed
+
+    def below(self, bound):
+        self.x = (self.x * 6364136223846793005 + 1442695040888963407) % 2 ** 64
+        return (self.x >> 33) % bound
+
+    def word(self):
+        return self.below(2 ** 16) * 2 ** 16 + self.below(2 ** 16)
+
+
+def recipe_of(draw):
+    """The values of a small recipe, mostly one that is accepted."""
+    n = 2 + draw.below(3)
+    spread = 1 + draw.below(n - 1)
+    most = {2: 9, 3: 5, 4: 3}[n]
+    distances = []
+    for _ in range(1 + draw.below(3)):
+        d = [draw.below(3) if j < n else 0 for j in range(4)]
+        if any(d) and d not in distances:
+            distances.append(d)
+    distances = distances or [[1, 0, 0, 0]]
+    return dict(lengths=[1 + draw.below(most) for _ in range(n)],
+                tiling=[max(1 + draw.below(3), max(d[j] for d in distances)) for j in range(n)],
+                counts=[1 + draw.below(3) if j < spread else 0 for j in range(n)],
+                distances=distances, weights=[draw.below(5) for _ in distances], shift=draw.below(3), boundary=draw.below(9))
+
+
+def fields_of(values):
+    fields = rolwyddac.Fields()
+    for dimension in zip(values['lengths'], values['tiling'], values['counts']):
+        fields.dimension(*dimension)
+    for d, weight in zip(values['distances'], values['weights']):
+        fields.distance(d, weight)
+    return fields
+
+
+def number_of(call, *words):
+    """The number that a call of the package gives."""
+    try:
+        call(*words)
+    except rolwyddac.Refused as refusal:
+        return refusal.number
+    return 0
+
+
+def flat(grid):
+    """The words of a grid, whether it is an array or lists."""
+    return list(calls.flattened(grid.tolist() if hasattr(grid, 'tolist') else grid))
+
+
+def records(progress):
+    return [word for record in progress for word in (record.finished, record.stage, record.sent)]
+
+
+class Against(unittest.TestCase):
+
+    def same(self, areas, wanted, *more):
+        self.assertEqual(list(areas.memories), wanted.memories, more)
+        self.assertEqual(list(areas.buffer), wanted.buffer, more)
+        self.assertEqual(records(areas.progress), wanted.progress, more)
+        self.assertEqual(list(areas.status), wanted.status, more)
+
+    def test_recipes(self):
+        draw = Draw(26)
+        for case in range(RECIPES):
+            values = recipe_of(draw)
+            encoded = fields_of(values).close(values['shift'], values['boundary'])
+            self.assertEqual(list(encoded), list(model.encode(**values)), case)
+            source = [draw.word() for _ in range(model.plan_of(encoded)[1].cells)]
+            for route in (0, 1):
+                plan = model.plan_of(encoded, route)[1]
+                self.assertEqual(rolwyddac.summary(encoded, route),
+                                 (plan.cells, plan.boards, plan.tiles, len(plan.messages), plan.words, plan.steps))
+                for m, line in enumerate(plan.messages):
+                    self.assertEqual(rolwyddac.message(encoded, route, m), (
+                        line.sender, line.taker, plan.board_of[line.sender], plan.board_of[line.taker], len(line.cells)))
+                self.assertEqual(number_of(rolwyddac.message, encoded, route, len(plan.messages)), 11)
+                run = rolwyddac.Run(encoded, source, route)
+                self.assertEqual(run.finish(), plan.steps)
+                self.assertEqual(flat(run.collect()), plan.swept(source), case)
+            for m in range(len(model.plan_of(encoded)[1].messages)):
+                self.assertEqual(rolwyddac.hops(encoded, m), model.hops(encoded, m)[1])
+            self.assertEqual(flat(rolwyddac.sweep(encoded, source)), model.plan_of(encoded)[1].swept(source))
+
+    def test_bounds(self):
+        draw, met = Draw(31), set()
+        for case in range(RECIPES):
+            values = recipe_of(draw)
+            n = len(values['lengths'])
+            fields, bounds = fields_of(values), []
+            for _ in range(1 + draw.below(3)):
+                dimension = 1 + draw.below(n - 1)
+                bounds.append((draw.below(2), dimension, draw.below(dimension), draw.below(3) - 1, draw.below(9) - 4))
+                side, *rest = bounds[-1]
+                (fields.at_most if side else fields.at_least)(*rest)
+            encoded = model.encode(bounds=bounds, **values)
+            number, plan = model.plan_of(encoded)
+            met.add(number)
+            self.assertEqual(number_of(fields.close, values['shift'], values['boundary']), number, case)
+            if number:
+                continue
+            self.assertEqual(fields.close(values['shift'], values['boundary']), bytes(encoded))
+            source = [draw.word() for _ in range(plan.cells)]
+            run = rolwyddac.Run(encoded, source)
+            self.assertEqual(run.finish(), plan.steps)
+            self.assertEqual(flat(run.collect()), plan.swept(source), case)
+            self.assertEqual(number_of(rolwyddac.sizes, encoded, 1), 21)
+        self.assertLessEqual({0, 20}, met)
+
+    def test_damaged_recipes(self):
+        draw, met = Draw(27), set()
+        for _ in range(20 * RECIPES):
+            encoded = bytearray(model.encode(**recipe_of(draw)))
+            for _ in range(1 + draw.below(3)):
+                encoded[draw.below(len(encoded))] = (0, 1, 2, 3, 4, 5, 32, 65, 255)[draw.below(9)]
+            if draw.below(20) == 0:
+                del encoded[draw.below(len(encoded)):]
+            number = model.read(encoded)[0]
+            self.assertEqual(number_of(rolwyddac.sizes, bytes(encoded)), number, bytes(encoded).hex())
+            met.add(number)
+        self.assertLessEqual({0, 1, 2, 3, 4, 5, 6, 7, 16, 17, 18}, met)
+
+    def test_runs(self):
+        draw, met = Draw(28), set()
+        for case in range(RUNS):
+            values, route = recipe_of(draw), draw.below(2)
+            encoded = model.encode(**values)
+            plan = model.plan_of(encoded, route)[1]
+            source = [draw.word() for _ in range(plan.cells)]
+            run, wanted = rolwyddac.Run(encoded, source, route), model.areas_for(plan, source)
+            model.fresh(encoded, wanted, route)
+            for _ in range(3 * plan.steps):
+                if draw.below(3):
+                    which = draw.below(plan.boards + 1)
+                    numbers = number_of(run.turn, which), model.turn(encoded, wanted, which, route)
+                else:
+                    which = draw.below(len(plan.messages) + 1)
+                    numbers = number_of(run.deliver, which), model.deliver(encoded, wanted, which, route)
+                self.assertEqual(*numbers, case)
+                met.add(numbers[0])
+                self.same(run.areas, wanted, case)
+            numbers = number_of(run.collect), model.collect(encoded, wanted, route)
+            self.assertEqual(*numbers)
+            met.add(numbers[0])
+            # kept half way: another run goes on from these areas
+            run = rolwyddac.Run.resume(encoded, route, source, run.areas)
+            run.finish()
+            self.assertEqual(flat(run.collect()), plan.swept(source), case)
+        self.assertLessEqual({0, 11, 12, 13, 14, 15}, met)
+
+    def test_offices(self):
+        draw, met = Draw(29), set()
+        for case in range(RUNS):
+            values, route = recipe_of(draw), draw.below(2)
+            encoded = model.encode(**values)
+            plan = model.plan_of(encoded, route)[1]
+            sources = [[draw.word() for _ in range(plan.cells)] for _ in range(2)]
+            rig, wanted = rolwyddac.Rig(encoded, sources, route), model.Offices(plan, *sources)
+            for _ in range(4 * plan.steps):
+                office = draw.below(2)
+                if draw.below(3):
+                    which = draw.below(plan.boards)
+                    numbers = number_of(rig.turn, office, which), wanted.call(encoded, office, ('turn', which), route)
+                else:
+                    which = draw.below(len(plan.messages) + 1)
+                    numbers = number_of(rig.deliver, office, which), wanted.call(encoded, office, ('deliver', which), route)
+                self.assertEqual(*numbers, case)
+                met.add(numbers[0])
+                self.assertEqual(list(rig.engaged), wanted.engaged)
+                for own in (0, 1):
+                    self.same(rig.areas[own], wanted.areas[own], case)
+            rig.finish()
+            for office in (0, 1):
+                self.assertEqual(flat(rig.collect(office)), plan.swept(sources[office]), case)
+                start = plan.cells * (plan.boards - 1)
+                self.assertEqual(flat(rig.look(office, plan.boards - 1)),
+                                 list(rig.areas[office].memories)[start:start + plan.cells])
+            self.assertEqual(number_of(rig.turn, 2, 0), 11)
+        self.assertLessEqual({0, 12, 13, 14, 19}, met)
+
+    def test_hours(self):
+        draw, met = Draw(33), set()
+        for case in range(RUNS):
+            encoded = model.encode(**recipe_of(draw))
+            plan = model.plan_of(encoded)[1]
+            source = [draw.word() for _ in range(plan.cells)]
+            run, wanted = rolwyddac.Run(encoded, source), model.areas_for(plan, source)
+            table = []
+            for _ in range(14 * plan.boards):
+                opening = draw.below(10080)
+                table += [opening, opening + 1 + draw.below(10080 - opening)] if draw.below(9) == 0 else [0, 0]
+            if draw.below(8) == 0:
+                table[draw.below(len(table))] = 10081
+            for _ in range(2 * plan.steps):
+                minute, b = draw.below(10085), draw.below(plan.boards + 1)
+                number = model.turn(encoded, wanted, b, 0, hours=model.Hours(table, minute))
+                self.assertEqual(number_of(run.turn_at, b, table, minute), number, case)
+                met.add(number)
+                self.assertEqual(records(run.areas.progress), wanted.progress)
+                if draw.below(40) == 0:
+                    number, ever, minutes = model.opens(encoded, table, minute, b)
+                    self.assertEqual(number_of(rolwyddac.opens, encoded, table, minute, b), number)
+                    if number == 0:
+                        self.assertEqual(rolwyddac.opens(encoded, table, minute, b), minutes if ever else None)
+                for m in run.in_flight():
+                    run.deliver(m)
+                    model.deliver(encoded, wanted, m)
+        self.assertLessEqual({0, 11, 24, 25}, met)
+
+    def test_soundings(self):
+        draw = Draw(30)
+        for case in range(RUNS):
+            encoded = model.encode(**recipe_of(draw))
+            cells = model.plan_of(encoded)[1].cells
+            beyond = 1 if draw.below(4) == 0 else 0
+            drawn = [rolwyddac.Sounding(draw.below(cells + beyond), draw.below(3), draw.below(3), draw.word())
+                     for _ in range(draw.below(3 * cells))]
+            content = b''.join(word.to_bytes(4, 'little') for record in drawn for word in record)
+            wanted = [0] * cells
+            number = model.soundings(encoded, content, 2000, wanted)
+            self.assertEqual(number_of(rolwyddac.soundings, encoded, drawn, 2000), number, case)
+            if number == 0:
+                self.assertEqual(flat(rolwyddac.soundings(encoded, content, 2000)), wanted, case)
+
+
+class Charts(unittest.TestCase):
+
+    def test_charts(self):
+        draw, met = Draw(32), set()
+        for case in range(RUNS):
+            encoded = model.encode(**recipe_of(draw))
+            nest = model.read(encoded)[1]
+            grid = [draw.word() for _ in range(model.all_product(nest.lengths))]
+            x, y, size = draw.word() - 2 ** 31, draw.word() - 2 ** 31, draw.below(3) * draw.below(40000)
+            number, _ = model.chart_length(encoded, grid, x, y, size)
+            met.add(number)
+            self.assertEqual(number_of(rolwyddac.chart, encoded, grid, x, y, size), number, case)
+            if number == 0:
+                self.assertEqual(rolwyddac.chart(encoded, grid, x, y, size).encode(), model.chart_text(nest, grid, x, y, size))
+        self.assertEqual(met, {0, 23})
+
+
+ROW_D = model.encode([4, 1], [2, 1], [2, 0], [[1, 0, 0, 0]])
+
+
+class Forms(unittest.TestCase):
+    """What may be lent, and how a refusal is told."""
+
+    def test_refusals(self):
+        run = rolwyddac.Run(ROW_D, [1] * 4)
+        with self.assertRaises(rolwyddac.Waiting) as told:
+            run.turn(1)
+        self.assertEqual(str(told.exception), 'refused 12, waiting: '
+                         'the processor is to gather and a message due at its tile is not delivered')
+        self.assertEqual((told.exception.number, told.exception.term), (12, 'waiting'))
+        with self.assertRaises(rolwyddac.NoMail):
+            run.deliver(0)
+        with self.assertRaises(rolwyddac.Area):
+            rolwyddac.sweep(ROW_D, [1] * 5)
+        self.assertEqual(str(calls.refused(4000)), 'refused 4000, other: a number that this library has no name for')
+        self.assertEqual(calls.REFUSALS[22].__name__, 'OffTheBox')
+
+    def test_sources(self):
+        wanted = [[1], [2], [3], [4]]
+        words = array.array('I', [1] * 4)
+        forms = [[1] * 4, (1, 1, 1, 1), [[1], [1], [1], [1]], words, memoryview(words).cast('B').cast('I', (4, 1))]
+        if rolwyddac.numpy is not None:
+            forms += [rolwyddac.numpy.ones(4, dtype=kind) for kind in ('uint32', 'int64', 'uint8')]
+            forms += [rolwyddac.numpy.ones((4, 1), dtype='uint32')]
+        for source in forms:
+            grid = rolwyddac.sweep(ROW_D, source)
+            self.assertEqual(grid.tolist() if hasattr(grid, 'tolist') else grid, wanted)
+
+    def test_faults_are_told(self):
+        sweep = calls.EXPORTED['sweep']
+        grid = array.array('I', [0] * 4)
+        with self.assertRaisesRegex(ValueError, 'source: -1 is not from 0 to 4294967295'):
+            sweep(ROW_D, [1, 1, 1, -1], grid)
+        with self.assertRaisesRegex(TypeError, 'grid: list has no buffer'):
+            sweep(ROW_D, [1] * 4, [0] * 4)
+        with self.assertRaisesRegex(TypeError, 'grid: elements must be unsigned, 4 bytes each'):
+            sweep(ROW_D, [1] * 4, array.array('f', [0] * 4))
+        with self.assertRaisesRegex(TypeError, 'grid: elements must be unsigned, 4 bytes each'):
+            sweep(ROW_D, [1] * 4, array.array('Q', [0] * 2))
+        with self.assertRaisesRegex(TypeError, 'grid: the area is written, and can only be read'):
+            sweep(ROW_D, [1] * 4, memoryview(grid).toreadonly())
+        with self.assertRaisesRegex(ValueError, 'side by side'):
+            sweep(ROW_D, [1] * 4, memoryview(array.array('I', [0] * 8))[::2])
+        with self.assertRaisesRegex(ValueError, 'processor: -1'):
+            rolwyddac.Run(ROW_D, [1] * 4).turn(-1)
+        self.assertEqual(list(grid), [0] * 4)
+
+    def test_areas_without_elements(self):
+        row_f = rolwyddac.Fields().dimension(1, 2, 2).dimension(2, 1, 0).distance((1, 0)).close()
+        run = rolwyddac.Run(row_f, [5, 7])
+        self.assertEqual((len(run.areas.buffer), len(run.areas.status), run.finish()), (0, 0, 4))
+        self.assertEqual(flat(run.collect()), [5, 7])
+
+    def test_versions(self):
+        self.assertEqual(rolwyddac.version(), rolwyddac.__version__)
+
+
+if __name__ == '__main__':
+    unittest.main()
