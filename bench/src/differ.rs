@@ -664,7 +664,7 @@ pub fn trial(
     tally.trials += 1;
     let mut rng = Rng::new(seed);
     let is_large = limits.cells >= 400 && rng.one_in(60);
-    let limits = if is_large { Limits { cells: 16384, words: 1 << 18 } } else { limits };
+    let limits = if is_large { Limits { cells: 16384, words: 64 * 16384 } } else { limits };
     let shaped = engine.has(Request::Shapes) && rng.one_in(3);
     let numbers = match (is_large && rng.one_in(2), shaped) {
         (true, _) => recipe::extreme(&mut rng, shaped),

@@ -55,6 +55,9 @@ fn words(mut rest: impl Iterator<Item = String>) -> Result<Words, String> {
             _ => return Err(format!("unknown word {word}")),
         }
     }
+    if words.trials == 0 {
+        return Err("--trials needs at least 1: no trial finds nothing".into());
+    }
     Ok(words)
 }
 

@@ -279,6 +279,12 @@ pub fn extreme(rng: &mut Rng, shaped: bool) -> Numbers {
     numbers
 }
 
+/// as many cells, tiles and processors as a recipe may have, in 4 dimensions and with mail in every direction
+pub fn slowest() -> Numbers {
+    let dimensions = [[8, 2, 4], [8, 2, 4], [16, 2, 4], [16, 2, 0]];
+    Numbers::new(&dimensions, &[&[1, 0, 0, 0], &[0, 1, 0, 0], &[0, 0, 1, 0], &[0, 0, 0, 1], &[1, 1, 1, 1]])
+}
+
 /// one fault of lines 2 to 8 of the table, or several; of bounds too where there may be shapes
 pub fn faulty(rng: &mut Rng, mut numbers: Numbers, shapes: bool) -> Numbers {
     let faults = rng.of(&[1, 1, 1, 2, 2, 3]);

@@ -4,7 +4,7 @@
 use crate::engine::{Areas, Engine, Progress, Request, Route, SUMMARY_WORDS};
 use crate::model::{Model, Plan};
 use crate::plain::{PLAIN, WAVEFRONT};
-use crate::recipe::Numbers;
+use crate::recipe::{self, Numbers};
 use crate::rng::Rng;
 use std::hint::black_box;
 use std::rc::Rc;
@@ -484,6 +484,10 @@ fn values(engine: &dyn Engine, rounds: usize) {
 
 const NEAR: [&[u16]; 3] = [&[1, 0], &[0, 1], &[1, 1]];
 
+/// one step back in each dimension
+const UNITS_OF_3: [&[u16]; 3] = [&[1, 0, 0], &[0, 1, 0], &[0, 0, 1]];
+const UNITS_OF_4: [&[u16]; 4] = [&[1, 0, 0, 0], &[0, 1, 0, 0], &[0, 0, 1, 0], &[0, 0, 0, 1]];
+
 /// the sweeps of the last table
 fn sweeps() -> Vec<(&'static str, Numbers)> {
     let square = [[128, 16, 8], [128, 16, 0]];
@@ -494,11 +498,8 @@ fn sweeps() -> Vec<(&'static str, Numbers)> {
         ("N 128,128, (1,0) (0,1)", Numbers::new(&square, &NEAR[..2])),
         ("N 128,128, (1,0)", Numbers::new(&square, &[&[1, 0]])),
         ("N 128,128, (0,1)", Numbers::new(&square, &[&[0, 1]])),
-        ("N 16,32,32, (1,0,0) (0,1,0) (0,0,1)", Numbers::new(&three, &[&[1, 0, 0], &[0, 1, 0], &[0, 0, 1]])),
-        (
-            "N 8,8,16,16, (1,0,0,0) (0,1,0,0) (0,0,1,0) (0,0,0,1)",
-            Numbers::new(&four, &[&[1, 0, 0, 0], &[0, 1, 0, 0], &[0, 0, 1, 0], &[0, 0, 0, 1]]),
-        ),
+        ("N 16,32,32, (1,0,0) (0,1,0) (0,0,1)", Numbers::new(&three, &UNITS_OF_3)),
+        ("N 8,8,16,16, (1,0,0,0) (0,1,0,0) (0,0,1,0) (0,0,0,1)", Numbers::new(&four, &UNITS_OF_4)),
     ]
 }
 
@@ -523,6 +524,15 @@ fn families() -> Vec<(&'static str, Vec<(String, Numbers)>)> {
                 ("2".into(), Numbers::new(&two, &NEAR)),
                 ("3".into(), Numbers::new(&three, &NEAR)),
                 ("4".into(), Numbers::new(&four, &NEAR)),
+            ],
+        ),
+        // where a sweep is slowest beside plain Rust, and what a run costs at the limits of cells, tiles and processors
+        (
+            "short rows",
+            vec![
+                ("N 64,64,4".into(), Numbers::new(&[[64, 8, 4], [64, 8, 2], [4, 4, 0]], &UNITS_OF_3)),
+                ("N 16,16,16,4".into(), Numbers::new(&[[16, 4, 2], [16, 4, 2], [16, 4, 2], [4, 4, 0]], &UNITS_OF_4)),
+                ("at the limits".into(), recipe::slowest()),
             ],
         ),
     ]
