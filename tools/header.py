@@ -1,10 +1,11 @@
 """Holds bindings/c/rolwyddac.h and the crate in bindings/rust to the functions that crates/calls exports.
 
-    python3 tools/header.py [ARCHIVE]
+    python3 tools/header.py [ARCHIVE [SHARED]]
 
-Every function marked `#[no_mangle] pub extern "C"` is declared in both with the same parameters in the same order, and
-nothing else is declared; the progress record has the same fields, the routes are the same words; header and crate have the
-same numbers, with the same terms and reasons, and name the same ones at each call. With an ARCHIVE its symbols are held to the functions as well.
+Every function marked `#[no_mangle] pub extern "C"` is declared in both, and listed in the Python package, with the same
+parameters in the same order, and nothing else is declared; the progress record has the same fields, the routes are the same words; header and crate have the
+same numbers, with the same terms and reasons, and name the same ones at each call. With an ARCHIVE its symbols are held to the functions as well, and those
+of the SHARED object to these and to what bindings/c/rolwyddac_library.h declares.
 Then planted faults are tried, each of which must be told. Status 1 where anything is wrong.
 """
 
@@ -18,6 +19,8 @@ ROOT = os.path.join(os.path.dirname(os.path.abspath(__file__)), '..')
 HEADER = 'bindings/c/rolwyddac.h'
 CRATE = 'bindings/rust/src/lib.rs'
 REFUSALS = 'bindings/rust/src/refusal.rs'
+LIBRARY = 'bindings/c/rolwyddac_library.h'
+PACKAGE = 'bindings/python/rolwyddac/calls.py'
 
 # what the crate's route is in the exported functions
 ROUTE = 'u32'
@@ -143,6 +146,16 @@ def called(crate):
     return found
 
 
+def listed(package):
+    """The functions that the Python package lists: name to parameters."""
+    found = {}
+    for name, inside in re.findall(r'^(rolwyddac_\w+)\((.*?)\)$', package, flags=re.M | re.S):
+        if name in found:
+            raise Wrong('%s lists %s twice' % (PACKAGE, name))
+        found[name] = rust_parameters(tokens(inside))
+    return found
+
+
 # The fields of a progress record
 
 def rust_fields(text):
@@ -238,16 +251,18 @@ def same(what, got, wanted):
     return [] if got == wanted else ['%s: %s, not %s' % (what, got, wanted)]
 
 
-def differences(sources, record, header, crate, refusals):
+def differences(sources, record, header, crate, refusals, package):
     """What is wrong, one line each."""
     found = []
     functions, in_header, in_crate = exported(sources), declared(header), called(crate)
     found += same('names in the header', sorted(in_header), sorted(functions))
     found += same('names in the crate', sorted(in_crate), sorted(functions))
+    found += same('names in the package', sorted(listed(package)), sorted(functions))
     for name, (parameters, result) in functions.items():
         wanted = in_c(parameters), C_TYPES[result]
         found += same(name + ' in the header', in_header.get(name, wanted), wanted)
         found += same(name + ' in the crate', in_crate.get(name, parameters), parameters)
+        found += same(name + ' in the package', listed(package).get(name, parameters), parameters)
     fields = rust_fields(record)
     found += same('the record in the header', c_fields(header), [(name, C_TYPES[kind]) for name, kind in fields])
     found += same('the record in the crate', rust_fields(crate), fields)
@@ -266,8 +281,8 @@ def differences(sources, record, header, crate, refusals):
     return found
 
 
-def symbols(archive):
-    listed = subprocess.run(['nm', '-g', '--defined-only', archive], capture_output=True, text=True, check=True).stdout
+def symbols(archive, *words):
+    listed = subprocess.run(['nm', '-g', '--defined-only', *words, archive], capture_output=True, text=True, check=True).stdout
     return sorted(re.findall(r'^\w+ T (\w+)$', listed, flags=re.M))
 
 
@@ -307,6 +322,9 @@ FAULTS = [
     ('refusals', '    17 LastSpread "last spread": "the last dimension is spread";\n    7 Boards', '    7 Boards'),
     ('header', 'const rolwyddac_progress *other', 'rolwyddac_progress *other'),
     ('crate', 'engaged: &mut [u32], other: &[Progress]', 'other: &[Progress], engaged: &mut [u32]'),
+    ('package', 'rolwyddac_sweep(', 'rolwyddac_swept('),
+    ('package', 'status: &mut [u8], processor: u32', 'status: &[u8], processor: u32'),
+    ('package', 'weights: &[u16]', 'weights: &[u8]'),
     ('sources', 'message: u32', 'message: u16'),
     ('sources', '#[no_mangle]\npub extern "C" fn rolwyddac_sweep', 'pub extern "C" fn rolwyddac_sweep'),
 ]
@@ -336,11 +354,14 @@ def main(words):
     sources = sorted(glob.glob(os.path.join(ROOT, 'crates', 'calls', 'src', '*.rt')))
     records = sorted(glob.glob(os.path.join(ROOT, 'crates', 'records', 'src', '*.rt')))
     texts = {'sources': text_of(*sources), 'record': text_of(*records), 'header': text_of(HEADER),
-             'crate': text_of(CRATE), 'refusals': text_of(REFUSALS)}
+             'crate': text_of(CRATE), 'refusals': text_of(REFUSALS), 'package': text_of(PACKAGE)}
     try:
         found = differences(**texts)
         if words:
             found += same('symbols of the archive', symbols(words[0]), sorted(exported(texts['sources'])))
+        if words[1:]:
+            beside = re.findall(r'\b(rolwyddac_\w+)\(', re.sub(r'/\*.*?\*/', '', text_of(LIBRARY), flags=re.S))
+            found += same('symbols of the shared object', symbols(words[1], '-D'), sorted([*exported(texts['sources']), *beside]))
         found = found or untold(texts)
     except (Wrong, ValueError) as wrong:
         found = [str(wrong)]
