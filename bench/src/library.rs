@@ -186,9 +186,7 @@ impl Engine for Library {
         ))
     }
 
-    fn chart_length(
-        &self, encoded: &[u8], grid: &[u32], corners: [i32; 2], cell_size: u32, out: &mut [u32],
-    ) -> u32 {
+    fn chart_length(&self, encoded: &[u8], grid: &[u32], corners: [i32; 2], cell_size: u32, out: &mut [u32]) -> u32 {
         exported!(rolwyddac_chart_length(
             encoded => &[u8], grid => &[u32], corners[0] => i32, corners[1] => i32, cell_size => u32,
             out => &mut [u32]

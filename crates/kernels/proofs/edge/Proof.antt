@@ -1,7 +1,6 @@
 -- `kernels::edge` meets its contract: the first y cells are stored.
 use Prim.Native.Nat.{_-_}
 use native.Mathlib.Omega.{arith}
-use borrow.Author.Needs.{needs}
 use Rattle.kernels.specs.Taps.{inLine}
 use Rattle.kernels.proofs.Sums.{Rowing, rowing-none, rowing-long, rowing-more, rowing-end, mixes-at, in-line}
 use Rattle.kernels.proofs.edge.Statement.{statement}
@@ -44,7 +43,7 @@ add-y : tie.Need-add-y Inv-loop μ-loop
 add-y c = omega (arith, c .before .before .before .before .before .before .pre .narrow, c .before .before .loop-test .taken)
 
 loop-less : tie.Need-loop-less Inv-loop μ-loop
-loop-less c = search needs
+loop-less c = omega (arith, c .before .before .loop-test .taken)
 
 loop-again : tie.Need-loop-again Inv-loop μ-loop
 loop-again c = rowing-more (c .before .before .before .loop .inv) _ (c .before .before .loop-test .taken) (in-line _ _ _ _ _ _ _ _ _ _ _ _ (c .mixed-at .ensures))

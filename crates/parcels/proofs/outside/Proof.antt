@@ -1,5 +1,4 @@
 -- `parcels::outside` meets its contract: none of the first j components is beyond.
-use borrow.Author.Needs.{needs}
 use native.Mathlib.Omega.{arith}
 use Prim.Native.Nat.{_+_, _-_}
 use mathlib.Core.Path.{sym}
@@ -48,7 +47,7 @@ add-j : tie.Need-add-j Inv-loop μ-loop
 add-j c = omega (arith, c .before .loop-test .taken, c .before .before .before .pre .0)
 
 loop-less : tie.Need-loop-less Inv-loop μ-loop
-loop-less c = search needs
+loop-less c = omega (arith, c .before .loop-test .taken)
 
 loop-again : tie.Need-loop-again Inv-loop μ-loop
 loop-again c = nowhere-more _ _ _ (c .before .before .loop .inv) (c .before .loop-test .taken) (lt-leb _ _ (c .if1 .left))

@@ -1,5 +1,4 @@
 -- `parcels::unpack_row` meets its contract: the first y words are at their cells.
-use borrow.Author.Needs.{needs}
 use native.Mathlib.Omega.{arith}
 use Prim.Native.Nat.{_-_}
 use Rattle.parcels.proofs.Windows.{Placing, placing-none, placing-long, placing-more, placing-end}
@@ -37,7 +36,7 @@ add-y : tie.Need-add-y Inv-loop μ-loop
 add-y c = omega (arith, c .before .loop-test .taken, c .before .before .before .pre .0, c .before .before .before .pre .1 .0)
 
 loop-less : tie.Need-loop-less Inv-loop μ-loop
-loop-less c = search needs
+loop-less c = omega (arith, c .before .loop-test .taken)
 
 loop-again : tie.Need-loop-again Inv-loop μ-loop
 loop-again c = placing-more _ _ _ _ _ _ _ (c .before .before .loop .inv) (c .before .loop-test .taken) (c .before .before .before .pre .1 .1)

@@ -8,7 +8,7 @@ use Rattle.values.proofs.band.Statement.{statement}
 use Rattle.values.proofs.band.Tie as tie
 
 sub-full : tie.Need-sub-full
-sub-full c = search needs
+sub-full c = omega (arith, c .before .before .pre .0 .1 .0 .three)
 
 add-full : tie.Need-add-full
 add-full c =
@@ -22,7 +22,7 @@ line-requires c κs =
     band-mixes _ (p .0 .0) (four (s .a) (s .b) (s .c) (s .d)) _ _ _ _ _ _ (p .0 .1 .0) 0 _ (omega arith) (omega (arith, p .0 .1 .0 .low)) _ _ (p .0 .1 .1 .0) (p .0 .1 .1 .1)
 
 sub-line : tie.Need-sub-line
-sub-line c = search needs
+sub-line c = omega (arith, c .before .before .before .before .before .before .before .pre .0 .1 .0 .three)
 
 line-requires-2 : tie.Need-line-requires-2
 line-requires-2 c κs =
@@ -31,7 +31,7 @@ line-requires-2 c κs =
     band-mixes _ (p .0 .0) (four (s .a) (s .b) (s .c) (s .d)) _ _ _ _ _ _ (p .0 .1 .0) 1 _ (omega arith) (omega (arith, p .0 .1 .0 .low)) _ _ (p .0 .1 .1 .0) (kept _ _ _ _ _ (p .0 .1 .1 .1) (c .before .before .before .line .ensures))
 
 sub-line-2 : tie.Need-sub-line-2
-sub-line-2 c = search needs
+sub-line-2 c = omega (arith, c .before .before .before .before .before .before .before .before .before .before .before .pre .0 .1 .0 .three)
 
 line-requires-3 : tie.Need-line-requires-3
 line-requires-3 c κs =
