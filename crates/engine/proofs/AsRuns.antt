@@ -26,10 +26,10 @@ use Rattle.engine.proofs.AsSteps.{turn-is, deliver-is, collect-is}
 
 module _ (bytes : List ℕ) (route : ℕ) (source : List ℕ) (ok : firstOf (linesFor (routeOf route) bytes) ≡ 0)
     (so : Sound (recipe bytes route)) (long : length source ≡ recipe bytes route .cells) where
-  abbrev p : Plan
+  abbrev pub p : Plan
   p = recipe bytes route
 
-  inv-areas : (s : State) → Inv p source s → areas p source s ≡ true
+  pub inv-areas : (s : State) → Inv p source s → areas p source s ≡ true
   unfolding areas
   inv-areas s inv =
       and-true (eq-eqb _ _ long)

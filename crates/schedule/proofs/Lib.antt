@@ -1,0 +1,5 @@
+pub mod Laws
+pub mod Called
+pub mod Telling
+pub mod Demands
+pub mod Rows

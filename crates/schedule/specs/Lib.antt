@@ -1,0 +1,4 @@
+pub mod Given
+pub mod Calls
+pub mod Demands
+pub mod Rows

@@ -1,0 +1,488 @@
+// The driver by rounds: in a round every processor that could gather does its whole tile, then all mail in flight is delivered. The nest's
+// table is made once, and a processor is tested when its place comes, which changes nothing (rounds/proofs/AsItGoes).
+ghost use mathlib.Core.Path.{_≡_};
+ghost use mathlib.Core.List.{[]};
+ghost use Prim.Native.Nat.{_*_, _<_};
+ghost use lib.ListN.{length, getD};
+ghost use Rattle.machine.specs.Plan.{senderOf, sendsOf};
+ghost use Rattle.machine.specs.Machine.{stateOf, carryOut, send, fresh};
+ghost use Rattle.nest.specs.Nest.{cells, processors};
+ghost use Rattle.plan.specs.Shaped.{planOf};
+ghost use Rattle.tables.specs.Tables.{FoundIn};
+ghost use Rattle.rounds.specs.ByState.{Lent, calculatedTile, sentTo, tileDone, afterTile, afterTiles, delivered, afterRound};
+ghost use Rattle.rounds.specs.Rounds.{told, rounds, afterRounds, tileRound, roundsTo};
+ghost use Rattle.engine.specs.Calls.{answer};
+ghost use Rattle.schedule.specs.Given.{Planned, AtTile, AtSend, TellsTo, lastBefore};
+ghost use Rattle.schedule.specs.Calls.{roundsCall, tileRoundsCall};
+use base::word_index;
+use engine::core::areas_fit;
+use engine::store_record;
+use layout::Sizes;
+use layout::route_of;
+use layout::sizes_of;
+use nest::Nest;
+use nest::read;
+use plan::Route;
+use routes::read_for;
+use scans::Place;
+use stages::calculate_stage;
+use stages::gather_stage;
+use stages::ready;
+use stages::send_stage;
+use stages::tiles_left;
+use stages::zero_bytes;
+use stages::zero_words;
+use tables::count_at;
+use tables::fill;
+use tables::nth_at;
+use tables::tile_at;
+use tables::tile_count;
+use tables::tiles_of;
+
+// The gather and the calculate of a tile whose mail is there.
+fn begin_tile(
+    nest: Nest,
+    sizes: Sizes,
+    lens: &[u16; 9217],
+    source: &[u32],
+    memories: &mut [u32],
+    buffer: &[u32],
+    progress: &mut [u32],
+    status: &mut [u8],
+    b: usize,
+    t: usize,
+    finished: u32,
+)
+    requires { ⌜ Planned nest sizes (now lens) × (length (now source) ≡ cells nest) ⌝ }
+    requires { ⌜ AtTile (planOf (sizes .route) nest) (stateOf (now memories) (now buffer) (now progress) (now status)) b t finished ⌝ }
+    ensures { λ _. ⌜ stateOf (now (memories .exit)) (now (buffer .entry)) (now (progress .exit)) (now (status .exit))
+        ≡ calculatedTile (planOf (sizes .route) nest) (now (source .entry)) (stateOf (now (memories .entry)) (now (buffer .entry)) (now (progress .entry)) (now (status .entry))) b t ⌝ }
+{
+    let gathered = gather_stage(nest, sizes, lens, memories, buffer, status, b, t, finished);
+    store_record(progress, b, gathered);
+    let calculated = calculate_stage(nest, sizes, lens, source, memories, b, t, finished);
+    store_record(progress, b, calculated);
+}
+
+// The send of a tile's j-th message.
+fn send_message(
+    nest: Nest,
+    sizes: Sizes,
+    lens: &[u16; 9217],
+    memories: &[u32],
+    buffer: &mut [u32],
+    progress: &mut [u32],
+    status: &mut [u8],
+    b: usize,
+    t: usize,
+    finished: u32,
+    j: usize,
+)
+    requires { ⌜ Planned nest sizes (now lens) × (j < length (sendsOf (planOf (sizes .route) nest) t)) ⌝ }
+    requires { ⌜ AtSend (planOf (sizes .route) nest) (stateOf (now memories) (now buffer) (now progress) (now status)) b t finished j ⌝ }
+    ensures { λ _. ⌜ stateOf (now (memories .entry)) (now (buffer .exit)) (now (progress .exit)) (now (status .exit))
+        ≡ carryOut (planOf (sizes .route) nest) [] (stateOf (now (memories .entry)) (now (buffer .entry)) (now (progress .entry)) (now (status .entry))) b
+        (send (getD (sendsOf (planOf (sizes .route) nest) t) j 0)) ⌝ }
+{
+    let left = send_stage(
+        nest,
+        sizes,
+        lens,
+        memories,
+        buffer,
+        status,
+        b,
+        t,
+        finished,
+        j,
+    );
+    store_record(progress, b, left);
+}
+
+// All sends of a tile.
+fn send_tile(
+    nest: Nest,
+    sizes: Sizes,
+    lens: &[u16; 9217],
+    memories: &[u32],
+    buffer: &mut [u32],
+    progress: &mut [u32],
+    status: &mut [u8],
+    b: usize,
+    t: usize,
+    finished: u32,
+)
+    requires { ⌜ Planned nest sizes (now lens) ⌝ }
+    requires { ⌜ AtSend (planOf (sizes .route) nest) (stateOf (now memories) (now buffer) (now progress) (now status)) b t finished 0 ⌝ }
+    ensures { λ _. ⌜ stateOf (now (memories .entry)) (now (buffer .exit)) (now (progress .exit)) (now (status .exit))
+        ≡ sentTo (planOf (sizes .route) nest) (stateOf (now (memories .entry)) (now (buffer .entry)) (now (progress .entry)) (now (status .entry))) b t
+        (length (sendsOf (planOf (sizes .route) nest) t)) ⌝ }
+{
+    let n = count_at(nest, sizes, lens, t, 0);
+    let mut j = 0;
+    while j < n {
+        send_message(
+            nest,
+            sizes,
+            lens,
+            memories,
+            buffer,
+            progress,
+            status,
+            b,
+            t,
+            finished,
+            j,
+        );
+        j += 1;
+    }
+}
+
+// A whole tile, its mail being there.
+fn whole_tile(
+    nest: Nest,
+    sizes: Sizes,
+    lens: &[u16; 9217],
+    source: &[u32],
+    memories: &mut [u32],
+    buffer: &mut [u32],
+    progress: &mut [u32],
+    status: &mut [u8],
+    b: usize,
+    t: usize,
+    finished: u32,
+)
+    requires { ⌜ Planned nest sizes (now lens) × (length (now source) ≡ cells nest) ⌝ }
+    requires { ⌜ AtTile (planOf (sizes .route) nest) (stateOf (now memories) (now buffer) (now progress) (now status)) b t finished ⌝ }
+    ensures { λ _. ⌜ stateOf (now (memories .exit)) (now (buffer .exit)) (now (progress .exit)) (now (status .exit))
+        ≡ tileDone (planOf (sizes .route) nest) (now (source .entry)) (stateOf (now (memories .entry)) (now (buffer .entry)) (now (progress .entry)) (now (status .entry))) b t ⌝ }
+{
+    begin_tile(
+        nest,
+        sizes,
+        lens,
+        source,
+        memories,
+        buffer,
+        progress,
+        status,
+        b,
+        t,
+        finished,
+    );
+    send_tile(
+        nest,
+        sizes,
+        lens,
+        memories,
+        buffer,
+        progress,
+        status,
+        b,
+        t,
+        finished,
+    );
+}
+
+// A processor's part of a round: its next tile, if it could gather for it.
+fn next_tile(
+    nest: Nest,
+    sizes: Sizes,
+    lens: &[u16; 9217],
+    source: &[u32],
+    memories: &mut [u32],
+    buffer: &mut [u32],
+    progress: &mut [u32],
+    status: &mut [u8],
+    b: usize,
+)
+    requires { ⌜ Planned nest sizes (now lens) × ((length (now source) ≡ cells nest) × (b < processors nest)) ⌝ }
+    requires { ⌜ Lent (planOf (sizes .route) nest) (stateOf (now memories) (now buffer) (now progress) (now status)) ⌝ }
+    ensures { λ _. ⌜ stateOf (now (memories .exit)) (now (buffer .exit)) (now (progress .exit)) (now (status .exit))
+        ≡ afterTile (planOf (sizes .route) nest) (now (source .entry)) (stateOf (now (memories .entry)) (now (buffer .entry)) (now (progress .entry)) (now (status .entry))) b ⌝ }
+{
+    let finished = progress[3 * b];
+    let i = word_index(finished);
+    let n = tile_count(nest, sizes, lens, b);
+    if i >= n {
+        return;
+    }
+    let t = tile_at(nest, sizes, lens, b, i);
+    if ready(nest, sizes, lens, status, t) {
+        whole_tile(
+            nest,
+            sizes,
+            lens,
+            source,
+            memories,
+            buffer,
+            progress,
+            status,
+            b,
+            t,
+            finished,
+        );
+    }
+}
+
+// The tiles of a round.
+fn next_tiles(
+    nest: Nest,
+    sizes: Sizes,
+    lens: &[u16; 9217],
+    source: &[u32],
+    memories: &mut [u32],
+    buffer: &mut [u32],
+    progress: &mut [u32],
+    status: &mut [u8],
+)
+    requires { ⌜ Planned nest sizes (now lens) × (length (now source) ≡ cells nest) ⌝ }
+    requires { ⌜ Lent (planOf (sizes .route) nest) (stateOf (now memories) (now buffer) (now progress) (now status)) ⌝ }
+    ensures { λ _. ⌜ stateOf (now (memories .exit)) (now (buffer .exit)) (now (progress .exit)) (now (status .exit))
+        ≡ afterTiles (planOf (sizes .route) nest) (now (source .entry)) (stateOf (now (memories .entry)) (now (buffer .entry)) (now (progress .entry)) (now (status .entry))) (processors nest) ⌝ }
+{
+    let n = sizes.processors;
+    let mut b = 0;
+    while b < n {
+        next_tile(
+            nest,
+            sizes,
+            lens,
+            source,
+            memories,
+            buffer,
+            progress,
+            status,
+            b,
+        );
+        b += 1;
+    }
+}
+
+// All mail in flight delivered.
+fn deliver_mail(status: &mut [u8])
+    ensures { λ _. ⌜ now (status .exit) ≡ delivered (now (status .entry)) ⌝ }
+{
+    let mut m = 0;
+    while m < status.len() {
+        if status[m] == 1 {
+            status[m] = 2;
+        }
+        m += 1;
+    }
+}
+
+// A round.
+fn round(
+    nest: Nest,
+    sizes: Sizes,
+    lens: &[u16; 9217],
+    source: &[u32],
+    memories: &mut [u32],
+    buffer: &mut [u32],
+    progress: &mut [u32],
+    status: &mut [u8],
+)
+    requires { ⌜ Planned nest sizes (now lens) × (length (now source) ≡ cells nest) ⌝ }
+    requires { ⌜ Lent (planOf (sizes .route) nest) (stateOf (now memories) (now buffer) (now progress) (now status)) ⌝ }
+    ensures { λ _. ⌜ stateOf (now (memories .exit)) (now (buffer .exit)) (now (progress .exit)) (now (status .exit))
+        ≡ afterRound (planOf (sizes .route) nest) (now (source .entry)) (stateOf (now (memories .entry)) (now (buffer .entry)) (now (progress .entry)) (now (status .entry))) ⌝ }
+{
+    next_tiles(
+        nest,
+        sizes,
+        lens,
+        source,
+        memories,
+        buffer,
+        progress,
+        status,
+    );
+    deliver_mail(status);
+}
+
+// All rounds from a fresh start: how many there were.
+pub fn all_rounds(
+    nest: Nest,
+    sizes: Sizes,
+    lens: &[u16; 9217],
+    source: &[u32],
+    memories: &mut [u32],
+    buffer: &mut [u32],
+    progress: &mut [u32],
+    status: &mut [u8],
+) -> u32
+    requires { ⌜ Planned nest sizes (now lens) × (length (now source) ≡ cells nest) ⌝ }
+    requires { ⌜ stateOf (now memories) (now buffer) (now progress) (now status) ≡ fresh (planOf (sizes .route) nest) ⌝ }
+    ensures { λ r. ⌜ (r ≡ rounds (planOf (sizes .route) nest))
+        × (stateOf (now (memories .exit)) (now (buffer .exit)) (now (progress .exit)) (now (status .exit))
+        ≡ afterRounds (planOf (sizes .route) nest) (now (source .entry)) (rounds (planOf (sizes .route) nest))) ⌝ }
+{
+    let mut done: u32 = 0;
+    while tiles_left(nest, sizes, lens, progress) {
+        round(
+            nest,
+            sizes,
+            lens,
+            source,
+            memories,
+            buffer,
+            progress,
+            status,
+        );
+        done += 1;
+    }
+    done
+}
+
+// What the driver tells: its number and the rounds, 0 at a refusal.
+pub struct Driven {
+    pub number: u32,
+    pub rounds: u32,
+}
+
+fn refused(number: u32) -> Driven
+    ensures { λ r. ⌜ (r .number ≡ number) × (r .rounds ≡ 0) ⌝ }
+{
+    Driven {
+        number: number,
+        rounds: 0,
+    }
+}
+
+// The driver by rounds, on the direct route: a fresh start, then rounds to the run's end.
+pub fn run(
+    encoded: &[u8],
+    source: &[u32],
+    memories: &mut [u32],
+    buffer: &mut [u32],
+    progress: &mut [u32],
+    status: &mut [u8],
+) -> Driven
+    ensures { λ r. ⌜ answer (r .number) (told (r .rounds) (stateOf (now (memories .exit)) (now (buffer .exit)) (now (progress .exit)) (now (status .exit))))
+        ≡ roundsCall (now (encoded .entry)) (now (source .entry)) (stateOf (now (memories .entry)) (now (buffer .entry)) (now (progress .entry)) (now (status .entry))) ⌝ }
+{
+    let reading = read_for(encoded, 0);
+    let number = reading.number;
+    if number != 0 {
+        return refused(number);
+    }
+    let nest = reading.nest;
+    let sizes = sizes_of(nest, route_of(0));
+    let mut lens = [0u16; 9217];
+    fill(nest, sizes, &mut lens);
+    if !areas_fit(
+        nest,
+        sizes,
+        &lens,
+        source,
+        memories,
+        buffer,
+        progress.len(),
+        status,
+    ) {
+        return refused(9);
+    }
+    zero_words(memories);
+    zero_words(buffer);
+    zero_words(progress);
+    zero_bytes(status);
+    let rounds = all_rounds(
+        nest,
+        sizes,
+        &lens,
+        source,
+        memories,
+        buffer,
+        progress,
+        status,
+    );
+    Driven {
+        number: 0,
+        rounds: rounds,
+    }
+}
+
+// A tile's processor.
+fn processor_at(nest: Nest, sizes: Sizes, lens: &[u16; 9217], tile: usize) -> usize
+    requires { ⌜ Planned nest sizes (now lens) × (tile < planOf (sizes .route) nest .tiles) ⌝ }
+    ensures { λ r. ⌜ (r ≡ planOf (sizes .route) nest .processorOf tile) × (r < processors nest) ⌝ }
+{
+    if nest.bounds == 0 {
+        return layout::processor_of(nest, sizes, tile);
+    }
+    shaped_table::owner_of(nest, lens, tile)
+}
+
+// The tile that sends a message.
+fn sender_at(nest: Nest, sizes: Sizes, lens: &[u16; 9217], place: Place) -> usize
+    requires { ⌜ Planned nest sizes (now lens) × FoundIn (sizes .route) nest (place .number) place ⌝ }
+    ensures { λ r. ⌜ r ≡ senderOf (planOf (sizes .route) nest) (place .number) ⌝ }
+{
+    place.slot / sizes.ways
+}
+
+// A tile's round, from those of the tiles before it; `last` is that of its processor's previous tile, or 0.
+fn round_at(
+    nest: Nest,
+    sizes: Sizes,
+    lens: &[u16; 9217],
+    rounds: &[u32],
+    tile: usize,
+    last: u32,
+) -> u32
+    requires { ⌜ Planned nest sizes (now lens) × (tile < planOf (sizes .route) nest .tiles) ⌝ }
+    requires { ⌜ TellsTo (planOf (sizes .route) nest) (now rounds) tile
+        × (last ≡ lastBefore (planOf (sizes .route) nest) (planOf (sizes .route) nest .processorOf tile) tile) ⌝ }
+    ensures { λ r. ⌜ r ≡ tileRound (planOf (sizes .route) nest) tile ⌝ }
+{
+    let n = count_at(nest, sizes, lens, tile, 1);
+    let mut latest = last;
+    let mut j = 0;
+    while j < n {
+        let place = nth_at(nest, sizes, lens, tile, 1, j);
+        let sender = sender_at(nest, sizes, lens, place);
+        let round = rounds[sender];
+        if latest < round {
+            latest = round;
+        }
+        j += 1;
+    }
+    latest + 1
+}
+
+// Each tile's round.
+fn tell_rounds(nest: Nest, sizes: Sizes, lens: &[u16; 9217], rounds: &mut [u32])
+    requires { ⌜ Planned nest sizes (now lens) × (length (now rounds) ≡ planOf (sizes .route) nest .tiles) ⌝ }
+    ensures { λ _. ⌜ now (rounds .exit) ≡ roundsTo (planOf (sizes .route) nest) (planOf (sizes .route) nest .tiles) ⌝ }
+{
+    let mut lasts = [0u32; 64];
+    let mut tile = 0;
+    while tile < rounds.len() {
+        let b = processor_at(nest, sizes, lens, tile);
+        let round = round_at(nest, sizes, lens, rounds, tile, lasts[b]);
+        rounds[tile] = round;
+        lasts[b] = round;
+        tile += 1;
+    }
+}
+
+// Each tile's round, told into one word a tile.
+pub fn tile_rounds(encoded: &[u8], rounds: &mut [u32]) -> u32
+    ensures { λ r. ⌜ answer r (now (rounds .exit)) ≡ tileRoundsCall (now (encoded .entry)) (now (rounds .entry)) ⌝ }
+{
+    let reading = read(encoded);
+    let number = reading.number;
+    if number != 0 {
+        return number;
+    }
+    let nest = reading.nest;
+    let sizes = sizes_of(nest, Route::Direct);
+    let mut lens = [0u16; 9217];
+    fill(nest, sizes, &mut lens);
+    if rounds.len() != tiles_of(nest, sizes, &lens) {
+        return 9;
+    }
+    tell_rounds(nest, sizes, &lens, rounds);
+    0
+}
