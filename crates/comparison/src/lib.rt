@@ -368,16 +368,16 @@ pub fn write_lines(space: &mut [u8], encoded: &[u8]) -> usize
     put_lines(space, encoded)
 }
 
-// The lines, made in the space and handed to standard output.
-fn print_by(space: &mut [u8], encoded: &[u8])
+// The lines, made in the space and handed to standard output: whether all of them were written.
+fn print_by(space: &mut [u8], encoded: &[u8]) -> bool
     requires { ⌜ length (now space) ≡ 28 ⌝ }
 {
     let length = write_lines(space, encoded);
-    io::write_all(STDOUT_FILENO, &space[..length]);
+    io::write_all(STDOUT_FILENO, &space[..length])
 }
 
-// What the second program writes for these bytes.
-pub fn print(encoded: &[u8]) {
+// What the second program writes for these bytes; whether all of it was written.
+pub fn print(encoded: &[u8]) -> bool {
     let mut space = [0u8; 28];
-    print_by(&mut space, encoded);
+    print_by(&mut space, encoded)
 }

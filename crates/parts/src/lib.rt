@@ -1,6 +1,9 @@
-// Small things that the case programs share: how much of an area is lent, and numbers in bytes.
+// Small things that the programs share: how much of an area is lent, numbers in bytes, and faults told on standard error.
+use libc::STDERR_FILENO;
+use libc::STDIN_FILENO;
 ghost use mathlib.Core.Path.{_≡_};
 ghost use Prim.Native.Nat.{_≤_, _<_};
+ghost use lib.ListN.{length};
 ghost use Rattle.io.specs.Counts.{Counts};
 ghost use Rattle.parts.specs.Bytes.{wordIn};
 
@@ -69,4 +72,102 @@ pub fn word(bytes: &[u8], at: usize) -> u32
     let b2 = byte_value(bytes[at + 2]);
     let b3 = byte_value(bytes[at + 3]);
     b0 + 256 * b1 + 65536 * b2 + 16777216 * b3
+}
+
+// ---- faults, told on standard error: what is written to standard output does not depend on them
+
+// A byte of standard input, put at a place of the space: 1, 0 at the input's end, -1 where it can't be read.
+fn read_byte(space: &mut [u8], at: usize) -> isize
+    requires { ⌜ at < length (now space) ⌝ }
+    ensures { λ _. ⌜ length (now (space .exit)) ≡ length (now (space .entry)) ⌝ }
+{
+    let mut byte = [0u8; 1];
+    let got = libc::read(STDIN_FILENO, &mut byte);
+    space[at] = byte[0];
+    got
+}
+
+// Standard input, as far as the space goes: how many bytes came. Each read is looked at, so that a part is never taken for the whole: an
+// input that can't be read is told, and counts as empty.
+pub fn read_input(space: &mut [u8]) -> usize
+    ensures { λ r. ⌜ Counts r (now (space .exit)) ⌝ }
+{
+    let mut n: usize = 0;
+    while n < space.len() {
+        let got = read_byte(space, n);
+        if got < 0 {
+            os::fail(b"standard input");
+            return 0;
+        }
+        if got == 0 {
+            break;
+        }
+        n += 1;
+    }
+    n
+}
+
+fn tell(line: &[u8]) {
+    io::write_all(STDERR_FILENO, line);
+}
+
+// Arguments, where there are any: the programs take none.
+pub fn tell_arguments() {
+    if os::arg_count() > 1 {
+        tell(b"arguments are not heeded: the recipe is read from standard input\n");
+    }
+}
+
+// What `io::write_all` answered of standard output, told where it failed.
+pub fn tell_output(written: bool) {
+    if !written {
+        os::fail(b"standard output");
+    }
+}
+
+// Lines 1 to 8 of those that a recipe is refused by.
+fn tell_first(number: u32) {
+    match number {
+        1 => tell(
+            b"1, ragged: the recipe is empty, longer than 512 bytes or no multiple of 16 bytes\n",
+        ),
+        2 => tell(
+            b"2, stray record: kind, order, count, unnamed byte, shift or bound not as the format has them\n",
+        ),
+        3 => tell(b"3, length: some length is 0 or above 1,024\n"),
+        4 => tell(b"4, too large: more than 16,384 cells\n"),
+        5 => tell(
+            b"5, distance: components all zero, the same as an earlier record's, or not zero beyond the last dimension\n",
+        ),
+        6 => tell(
+            b"6, tile: some tile length is 0, above 1,024, or smaller than some distance there\n",
+        ),
+        7 => tell(b"7, boards: more than 64 processors\n"),
+        8 => tell(b"8, tiles: more than 1,024 tiles that hold a cell\n"),
+        _ => {}
+    }
+}
+
+// The lines that came later.
+fn tell_later(number: u32) {
+    match number {
+        16 => tell(
+            b"16, spread order: the first dimension is not spread, or a spread one follows one that is not\n",
+        ),
+        17 => tell(b"17, last spread: the last dimension is spread\n"),
+        18 => tell(b"18, too wide: all components of a distance of kind 4 fit a byte\n"),
+        20 => tell(b"20, empty: no cell of the box is in the shape that the bounds leave\n"),
+        _ => {}
+    }
+}
+
+// Why a recipe is refused, number, term and meaning; nothing where it is not. One of more than 512 bytes is ragged to the programs.
+pub fn tell_refusal(encoded: &[u8]) {
+    if encoded.len() > 512 {
+        return tell_first(1);
+    }
+    let reading = nest::read(encoded);
+    let number = reading.number;
+    tell_first(number);
+    tell_later(number);
 }

@@ -126,19 +126,19 @@ pub fn write_recipe(space: &mut [u8], encoded: &[u8], route: u32) -> usize
     put_recipe(space, encoded, route)
 }
 
-// The text, made in the space and handed to standard output.
-fn print_by(space: &mut [u8], encoded: &[u8], route: u32)
+// The text, made in the space and handed to standard output: whether all of it was written.
+fn print_by(space: &mut [u8], encoded: &[u8], route: u32) -> bool
     requires { ⌜ length (now space) ≡ 473159 ⌝ }
 {
     let length = write_recipe(space, encoded, route);
-    io::write_all(STDOUT_FILENO, &space[..length]);
+    io::write_all(STDOUT_FILENO, &space[..length])
 }
 
 // The plan of a recipe of at most 512 bytes, or why it is refused; a longer one is refused as ragged. The route is 0 for direct passing,
-// any other for indirect.
-pub fn print_recipe(encoded: &[u8], route: u32) {
+// any other for indirect. Whether all of it was written.
+pub fn print_recipe(encoded: &[u8], route: u32) -> bool {
     let mut space = [0u8; 473159];
-    print_by(&mut space, encoded, route);
+    print_by(&mut space, encoded, route)
 }
 
 fn print_hop(of: table::HopCount) {
