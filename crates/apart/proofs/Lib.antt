@@ -1,0 +1,13 @@
+pub mod Computed
+pub mod Letters
+pub mod Agrees
+pub mod Turn
+pub mod Carry
+pub mod Together
+pub mod Theorem
+pub mod Transport
+pub mod Posting
+pub mod Network
+pub mod Joined
+pub mod PacketTheorem
+pub mod Example

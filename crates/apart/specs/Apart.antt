@@ -1,0 +1,149 @@
+-- Processors that share no memory: each has all four areas to itself, and a transport carries a message's words to its taker's areas.
+-- Renders document 01, "The machine", "Runs" and the customer's demand 3, for them: answers and grid are those of the machine on shared areas.
+use Prim.Native.Nat.{ℕ, zero, suc, _*_, _≤_, _<_}
+use mathlib.Core.Path.{_≡_}
+use mathlib.Core.Bool.{true, false}
+use mathlib.Core.List.{List, [], _∷_, _++_}
+use lib.ListN.{length, getD, set}
+use lib.Dec.{ltb, eqb}
+use Rattle.base.specs.Tests.{not, pick, some, tabulate}
+use Rattle.base.specs.Lists.{put}
+use Rattle.base.specs.Numbers.{Line, line, firstOf}
+use Rattle.machine.specs.Plan.{Plan, count, senderOf, takerOf, offset}
+use Rattle.machine.specs.Machine.{State, stateOf, finishedOf, stageOf, sentOf, setProgress, memoryOf, placeOf, tilesLeft, gather, carryOut, Answered}
+use Rattle.machine.specs.Machine.{answered, turn, fresh, sweep}
+use Rattle.machine.specs.Runs.{Event, turnOf, deliveryOf, act, total, program, turnsOf, timesOf, calculates, sends, takes, deliveriesOf, last, answers}
+use Rattle.machine.specs.Runs.{stateAfter, answersTo, steps}
+
+-- ---- the system
+
+-- each processor's own four areas, all of the plan's lengths; no two have a word in common
+abbrev pub Areas : Type 0
+Areas = ℕ → State
+
+-- each made its own fresh start
+unfoldable pub startApart : Plan → Areas
+startApart p b = fresh p
+
+-- processor b's areas are now s, the others' are as they were
+unfoldable pub replaced : Areas → ℕ → State → Areas
+replaced areas b s c = pick (eqb c b) s (areas c)
+
+-- the processors between which message m goes
+abbrev pub senderAt : Plan → ℕ → ℕ
+senderAt p m = p .processorOf (senderOf p m)
+
+abbrev pub takerAt : Plan → ℕ → ℕ
+takerAt p m = p .processorOf (takerOf p m)
+
+-- a turn of processor b: the machine's turn on b's own areas
+unfoldable pub turnApart : Plan → List ℕ → Areas → ℕ → Answered Areas
+turnApart p source areas b =
+    pick (ltb b (p .processors))
+    (record { number = turn p source (areas b) b .number; after = replaced areas b (turn p source (areas b) b .after) })
+    (record { number = 11; after = areas })
+
+-- message m is marked delivered in these areas
+abbrev pub marked : State → ℕ → State
+marked s m = stateOf (s .memories) (s .buffer) (s .progress) (set (s .status) m 2)
+
+-- these words are put into the place of message m, and it is marked delivered
+abbrev pub received : Plan → State → ℕ → List ℕ → State
+received p s m ws = stateOf (s .memories) (put (s .buffer) (offset (p .messages) m) ws) (s .progress) (set (s .status) m 2)
+
+-- the sender's side of carrying message m, and the taker's side, given the words
+unfoldable pub sentOff : Plan → Areas → ℕ → Areas
+sentOff p areas m = replaced areas (senderAt p m) (marked (areas (senderAt p m)) m)
+
+unfoldable pub arrived : Plan → Areas → ℕ → List ℕ → Areas
+arrived p areas m ws = replaced areas (takerAt p m) (received p (areas (takerAt p m)) m ws)
+
+-- message m is carried: what lies in its place at the sender's is put into the same place at the taker's
+unfoldable pub carried : Plan → Areas → ℕ → Areas
+carried p areas m = arrived p (sentOff p areas m) m (placeOf p (areas (senderAt p m) .buffer) m)
+
+-- it is carried where it is in flight at its sender's
+abbrev pub carryLines : Plan → Areas → ℕ → List Line
+carryLines p areas m = line 11 (not (ltb m (count p))) ∷ line 14 (not (eqb (getD (areas (senderAt p m) .status) m 0) 1)) ∷ []
+
+unfoldable pub deliverApart : Plan → Areas → ℕ → Answered Areas
+deliverApart p areas m = answered (firstOf (carryLines p areas m)) (carried p areas m) areas
+
+-- ---- runs of it, by the events of the machine's runs
+
+unfoldable pub actApart : Plan → List ℕ → Areas → Event → Answered Areas
+actApart p source areas (turnOf b) = turnApart p source areas b
+actApart p source areas (deliveryOf m) = deliverApart p areas m
+
+-- collecting: each cell from the processor of its tile, out of that processor's own part of its own memories,
+-- once no processor says of itself that it has tiles left
+unfoldable pub assembled : Plan → Areas → List ℕ
+assembled p areas =
+    tabulate (λ c. pick (p .inside c) (getD (memoryOf p (areas (p .processorOf (p .tileOf c))) (p .processorOf (p .tileOf c))) c 0) (p .boundary))
+    (p .cells)
+
+unfoldable pub collectApart : Plan → Areas → List ℕ → Answered (List ℕ)
+collectApart p areas grid = answered (firstOf (line 15 (some (λ b. tilesLeft p (areas b) b) (p .processors)) ∷ [])) (assembled p areas) grid
+
+-- areas joined from the parts: into a fresh start go each processor's own part of its memories and its record
+unfoldable pub joinTo : Plan → Areas → ℕ → State
+joinTo p areas zero = fresh p
+joinTo p areas (suc b) =
+    stateOf (put (joinTo p areas b .memories) (b * p .cells) (memoryOf p (areas b) b)) (joinTo p areas b .buffer)
+    (setProgress (joinTo p areas b .progress) b (finishedOf (areas b) b) (stageOf (areas b) b) (sentOf (areas b) b)) (joinTo p areas b .status)
+
+abbrev pub joined : Plan → Areas → State
+joined p areas = joinTo p areas (p .processors)
+
+-- ---- the claim
+
+-- a turn of processor b that gave 0, after k such turns of b: the action named, carried out by the machine's rule on b's own areas, the others' untouched
+pub record CarriedOutApart (p : Plan) (source : List ℕ) (areas : Areas) (b k : ℕ) : Type 0 where
+  pub named : k < length (program p b)
+  pub by-rule : actApart p source areas (turnOf b) .after ≡ replaced areas b (carryOut p source (areas b) b (getD (program p b) k (gather 0)))
+
+module _ (p : Plan) (source : List ℕ) (events : List Event) where
+  abbrev pub lastApart : Areas
+  lastApart = last (actApart p source) (startApart p) events
+
+  abbrev pub answersApart : List ℕ
+  answersApart = answers (actApart p source) (startApart p) events
+
+  abbrev pub stepsApart : ℕ
+  stepsApart = steps (actApart p source) (startApart p) events
+
+  -- what the machine on shared areas has after the same events
+  abbrev pub lastShared : State
+  lastShared = last (act p source) (fresh p) events
+
+  pub record Demand3Apart : Type 0 where
+    -- the answers are, one by one, those of the machine on shared areas
+    pub same-answers : answersApart ≡ answers (act p source) (fresh p) events
+    -- each processor has its part of the shared memories and its record
+    pub same-memory : (b : ℕ) → b < p .processors → memoryOf p (lastApart b) b ≡ memoryOf p lastShared b
+    pub same-finished : (b : ℕ) → b < p .processors → finishedOf (lastApart b) b ≡ finishedOf lastShared b
+    pub same-stage : (b : ℕ) → b < p .processors → stageOf (lastApart b) b ≡ stageOf lastShared b
+    pub same-sent : (b : ℕ) → b < p .processors → sentOf (lastApart b) b ≡ sentOf lastShared b
+    -- demand 3, line by line as in the machine's Runs
+    pub bound : stepsApart ≤ total p
+    pub goes-on : stepsApart < total p → (e : Event) × (actApart p source lastApart e .number ≡ 0)
+    pub then-fewer : (e : Event) → actApart p source lastApart e .number ≡ 0 → stepsApart < total p
+    pub can-collect : stepsApart ≡ total p → (grid : List ℕ) → length grid ≡ p .cells → collectApart p lastApart grid .number ≡ 0
+    pub then-all : (grid : List ℕ) → length grid ≡ p .cells → collectApart p lastApart grid .number ≡ 0 → stepsApart ≡ total p
+    pub calculated : (c : ℕ) → c < p .cells → timesOf p events answersApart (calculates p c) ≤ 1
+    pub not-calculated : (c : ℕ) → c < p .cells → p .inside c ≡ false → timesOf p events answersApart (calculates p c) ≡ 0
+    pub sent : (m : ℕ) → m < count p → timesOf p events answersApart (sends m) ≤ 1
+    pub delivered : (m : ℕ) → m < count p → deliveriesOf m events answersApart ≤ 1
+    pub taken : (m : ℕ) → m < count p → timesOf p events answersApart (takes p m) ≤ 1
+    pub all-calculated : stepsApart ≡ total p → (c : ℕ) → c < p .cells → p .inside c ≡ true → timesOf p events answersApart (calculates p c) ≡ 1
+    pub all-sent : stepsApart ≡ total p → (m : ℕ) → m < count p → timesOf p events answersApart (sends m) ≡ 1
+    pub all-delivered : stepsApart ≡ total p → (m : ℕ) → m < count p → deliveriesOf m events answersApart ≡ 1
+    pub all-taken : stepsApart ≡ total p → (m : ℕ) → m < count p → timesOf p events answersApart (takes p m) ≡ 1
+    pub carried-out : (before after : List Event) (b : ℕ) → events ≡ before ++ (turnOf b ∷ after)
+        → actApart p source (stateAfter (actApart p source) (startApart p) before) (turnOf b) .number ≡ 0
+        → CarriedOutApart p source (stateAfter (actApart p source) (startApart p) before) b
+        (turnsOf b before (answersTo (actApart p source) (startApart p) before))
+    pub no-more : (b : ℕ) → turnsOf b events answersApart ≤ length (program p b)
+    -- the grid made of the processors' own parts is the sequential sweep
+    pub grid : stepsApart ≡ total p → assembled p lastApart ≡ sweep p source
+    pub collected : stepsApart ≡ total p → (old : List ℕ) → length old ≡ p .cells → collectApart p lastApart old .after ≡ sweep p source
