@@ -1,5 +1,5 @@
-"""A plain model of document 01 and of the requests W-201 to W-205, W-207 to W-212 and W-214, written from their text,
-read as docs/DECISIONS.md says, and not from the engine.
+"""A plain model of document 01 and of the requests W-201 to W-205 and W-207 to W-214, written from their text, read as
+docs/DECISIONS.md says, and not from the engine.
 
 Every set is made by trying all its candidates. It shares no code, no table and no closed form with
 the engine, so that a test vector made from it tells whether the engine means what the paper says.
@@ -754,6 +754,51 @@ def drive(encoded, areas, falling, route=DIRECT):
         steps += done
 
 
+# W-213: rounds
+
+def rounds(encoded, areas):
+    """The driver: the number, and the rounds that it took, 0 at a refusal. A board that could gather at a round's start does its whole
+    tile; then all mail in flight is delivered."""
+    number = fresh(encoded, areas)
+    if number != 0:
+        return number, 0
+    plan = plan_of(encoded)[1]
+    told = 0
+    while True:
+        ready = [b for b in range(plan.boards) if turn_number(encoded, areas, b)[0] == 0]
+        if ready == []:
+            return 0, told
+        for b in ready:
+            finished = areas.progress[3 * b]
+            while areas.progress[3 * b] == finished:
+                assert turn(encoded, areas, b) == 0
+        for m in range(len(plan.messages)):
+            if areas.status[m] == 1:
+                assert deliver(encoded, areas, m) == 0
+        told += 1
+
+
+def tile_rounds(plan):
+    """A tile's round: one more than the latest among its board's previous tile and the tiles that mail to it, or 1."""
+    found = []
+    for t in range(plan.tiles):
+        own = plan.tiles_of[plan.board_of[t]]
+        before = own[:own.index(t)][-1:] + [plan.messages[m].sender for m in plan.due_at[t]]
+        found.append(1 + max([found[other] for other in before], default=0))
+    return found
+
+
+def rounds_of(encoded, lent):
+    """Each tile's round, into a lent area of one word a tile."""
+    number, plan = plan_of(encoded)
+    if number != 0:
+        return number
+    if len(lent) != plan.tiles:
+        return 9
+    lent[:] = tile_rounds(plan)
+    return 0
+
+
 def plan_text(encoded, route=DIRECT):
     """What the plan printer writes, which stays with direct passing; on the indirect route the same figures and lines of its messages."""
     encoded = bytes(encoded)
@@ -904,6 +949,7 @@ def check_paper():
     check_soundings()
     check_charts()
     check_hours()
+    check_rounds()
 
 
 def check_routes():
@@ -1194,8 +1240,36 @@ def check_hours():
                                  number(0, 10080, unfit, Rig(office=2, **held), [1] * 55)], [11, 9])
 
 
+def check_rounds():
+    """W-213: row A takes 9 rounds; small plans by hand; the driver ends as any run does and refuses as a fresh start does."""
+    def driven(encoded):
+        plan = plan_of(encoded)[1]
+        areas = areas_for(plan, list(range(plan.cells)))
+        areas.progress, areas.status = [77] * len(areas.progress), [200] * len(areas.status)
+        told = rounds(encoded, areas)
+        expect('the grid', (collect(encoded, areas), areas.grid), (0, plan.swept(areas.source)))
+        expect('the end', (set(areas.status) <= {3}, [turn(encoded, areas, b) for b in range(plan.boards)]), (True, [13] * plan.boards))
+        return told, tile_rounds(plan)
+
+    # the second row of tiles begins a round after the first; board 0 takes up the third behind its own first row
+    expect('row A', driven(ROWS['A']), ((0, 9), [1, 2, 3, 4, 2, 3, 4, 5, 5, 6, 7, 8, 6, 7, 8, 9]))
+    expect('row B', driven(ROWS['B']), ((0, 3), [1, 2, 2, 3]))
+    expect('row D', driven(ROWS['D']), ((0, 2), [1, 2]))
+    expect('row E', driven(ROWS['E']), ((0, 3), [1, 2, 3]))
+    expect('row F', driven(ROWS['F']), ((0, 2), [1, 2]))
+    expect('row H', driven(ROWS['H']), ((0, 2), [1, 2]))
+    # tile 2 waits for both tiles of the other board
+    empty = encode([4, 4], [2, 2], [2, 0], [(1, 1)], bounds=[(LOWER, 1, 0, 1, 0)])
+    expect('a shape', driven(empty), ((0, 3), [1, 2, 3]))
+    one = encode([4, 4], [2, 2], [2, 0], [(1, 0)], bounds=[(LOWER, 1, 0, 1, 3)])
+    expect('one tile', driven(one), ((0, 1), [1]))
+    areas = areas_for(plan_of(ROWS['D'])[1], [1] * 5)
+    expect('refused', [rounds(ROWS['D'], areas), rounds(ROWS['D'][16:], areas), rounds(b'', areas)], [(9, 0), (2, 0), (1, 0)])
+    expect('rounds of tiles refused', [rounds_of(ROWS['D'], [0]), rounds_of(ROWS['D'], [0] * 3), rounds_of(ROWS['D'][16:], [])], [9, 9, 2])
+
+
 if __name__ == '__main__':
     check_paper()
     import schedules
     schedules.check()
-    print('the model gives what document 01, W-201 to W-205, W-207 to W-212 and W-214 print')
+    print('the model gives what document 01, W-201 to W-205 and W-207 to W-214 print')

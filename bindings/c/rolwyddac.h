@@ -207,6 +207,22 @@ uint32_t rolwyddac_collect(const uint8_t *encoded, size_t encoded_length, uint32
                            size_t progress_length, const uint8_t *status, size_t status_length, uint32_t *grid,
                            size_t grid_length);
 
+/* Drives a whole run by rounds, on the direct route: makes a fresh start and goes on to the run's end. In a round every
+ * processor that could gather at the round's start does its whole tile, then each message in flight is delivered. Writes one
+ * word to out: the rounds, the greatest that rolwyddac_rounds_of writes. No other plan of whole tiles has fewer. Collecting
+ * then gives the sweep.
+ * Numbers: 1 to 8, 16 to 18, 20; 9, also if out has not 1 word. A refusal leaves memories, buffer, progress, status and out
+ * as they were. */
+uint32_t rolwyddac_rounds(const uint8_t *encoded, size_t encoded_length, const uint32_t *source, size_t source_length,
+                          uint32_t *memories, size_t memories_length, uint32_t *buffer, size_t buffer_length,
+                          rolwyddac_progress *progress, size_t progress_length, uint8_t *status, size_t status_length,
+                          uint32_t *out, size_t out_length);
+
+/* Writes each tile's round to rounds, one word a tile: one more than the latest round among the tiles that it waits for, its
+ * processor's previous tile and those that send to it; 1 where there are none. Round 1 is the first.
+ * Numbers: 1 to 8, 16 to 18, 20; 9 if rounds has not one word a tile. A refusal leaves rounds as it was. */
+uint32_t rolwyddac_rounds_of(const uint8_t *encoded, size_t encoded_length, uint32_t *rounds, size_t rounds_length);
+
 /* Makes a fresh start of both offices together: writes zero to the memories, buffer, progress and status of each, and 2 to
  * every word of engaged, whatever they held.
  * Numbers: 1 to 9, 16 to 18, 20, 21. A refusal leaves all nine as they were. */

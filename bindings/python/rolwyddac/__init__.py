@@ -192,6 +192,20 @@ class Areas:
         return [m for m, status in enumerate(self.status) if status == 1]
 
 
+def rounds(encoded, source):
+    """A whole run by rounds on the direct route: the rounds that it took, and the run at its end, to be collected."""
+    run, out = Run(encoded, source), _words(1)
+    calls.EXPORTED['rounds'](run.encoded, run.source, *run.areas, out)
+    return out[0], run
+
+
+def rounds_of(encoded):
+    """The round of each tile."""
+    found = _words(summary(encoded).tiles)
+    calls.EXPORTED['rounds_of'](encoded, found)
+    return list(found)
+
+
 class Run:
     """A run of one recipe by one route over one source: a fresh start, then any turns and deliveries. Whatever their order, the
     grid that `collect` gives is that of the sweep."""

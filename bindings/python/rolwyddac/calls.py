@@ -27,6 +27,9 @@ rolwyddac_deliver(encoded: &[u8], route: u32, source: &[u32], memories: &[u32], 
 rolwyddac_collect(encoded: &[u8], route: u32, source: &[u32], memories: &[u32], buffer: &[u32], progress: &[Progress],
     status: &[u8], grid: &mut [u32])
 rolwyddac_sweep(encoded: &[u8], source: &[u32], grid: &mut [u32])
+rolwyddac_rounds(encoded: &[u8], source: &[u32], memories: &mut [u32], buffer: &mut [u32], progress: &mut [Progress],
+    status: &mut [u8], out: &mut [u32])
+rolwyddac_rounds_of(encoded: &[u8], rounds: &mut [u32])
 rolwyddac_summary(encoded: &[u8], route: u32, out: &mut [u32])
 rolwyddac_message(encoded: &[u8], route: u32, m: u32, out: &mut [u32])
 rolwyddac_hops(encoded: &[u8], m: u32, out: &mut [u32])

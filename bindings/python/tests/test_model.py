@@ -174,6 +174,17 @@ class Against(unittest.TestCase):
             self.assertEqual(flat(run.collect()), plan.swept(source), case)
         self.assertLessEqual({0, 11, 12, 13, 14, 15}, met)
 
+    def test_rounds(self):
+        draw = Draw(34)
+        for case in range(RUNS):
+            encoded = model.encode(**recipe_of(draw))
+            plan = model.plan_of(encoded)[1]
+            source, tiles = [draw.word() for _ in range(plan.cells)], [0] * plan.tiles
+            model.rounds_of(encoded, tiles)
+            rounds, run = rolwyddac.rounds(encoded, source)
+            self.assertEqual((rounds, rolwyddac.rounds_of(encoded)), (max(tiles), tiles), case)
+            self.assertEqual(flat(run.collect()), plan.swept(source), case)
+
     def test_offices(self):
         draw, met = Draw(29), set()
         for case in range(RUNS):

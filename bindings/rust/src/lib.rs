@@ -125,13 +125,14 @@ pub enum Opening {
     Never,
 }
 
-/// Words that the summary, a message's line, its hops, a look and an opening take.
+/// Words that the summary, a message's line, its hops, a look, a chart's length, an opening and the rounds of a run take.
 const SUMMARY_WORDS: usize = 4;
 const MESSAGE_WORDS: usize = 5;
 const HOPS_WORDS: usize = 1;
 const LOOK_WORDS: usize = 2;
 const CHART_WORDS: usize = 1;
 const OPENS_WORDS: usize = 2;
+const ROUNDS_WORDS: usize = 1;
 
 /// Bytes of the longest chart there is: 16,384 cells of ten digits, each with a space or a line feed behind it, under a
 /// header of 98 bytes. Every chart fits a space of this length.
@@ -215,6 +216,26 @@ calls! {
     ///
     /// Refusals: 1 to 9, 16 to 18 and 20.
     rolwyddac_sweep as sweep(encoded: &[u8], source: &[u32], grid: &mut [u32]);
+
+    /// Drives a whole run by rounds, on the direct route: makes a fresh start and goes on to the run's end. Writes one word to
+    /// `out`: the rounds. [`Run::by_rounds`] is the handier form.
+    ///
+    /// In a round every processor that could gather at the round's start does its whole tile, then each message in flight is
+    /// delivered. The rounds are the greatest that [`rounds_of_words`] writes, and no other plan of whole tiles has fewer.
+    /// [`collect`] then gives what [`sweep`] writes.
+    ///
+    /// Refusals: 1 to 8, 16 to 18, 20, and 9, also if `out` has not 1 word.
+    rolwyddac_rounds as rounds_words(
+        encoded: &[u8], source: &[u32], memories: &mut [u32], buffer: &mut [u32], progress: &mut [Progress],
+        status: &mut [u8], out: &mut [u32],
+    );
+
+    /// Writes each tile's round to `rounds`, one word a tile: one more than the latest round among the tiles that it waits
+    /// for, its processor's previous tile and those that send to it; 1 where there are none. [`rounds_of`] is the handier
+    /// form.
+    ///
+    /// Refusals: 1 to 8, 16 to 18, 20, and 9 if `rounds` has not one word a tile.
+    rolwyddac_rounds_of as rounds_of_words(encoded: &[u8], rounds: &mut [u32]);
 
     /// Writes the plan's totals on the route to `out`: tiles, messages, words, steps. [`summary`] is the handier form.
     ///
@@ -447,4 +468,22 @@ pub fn opens(encoded: &[u8], hours: &[u32], minute: u32, processor: u32) -> Resu
     opens_words(encoded, hours, minute, processor, &mut out)?;
     let [opens, minutes] = out;
     Ok(if opens == 1 { Opening::OpensIn(minutes) } else { Opening::Never })
+}
+
+/// The round of each tile, the first round being 1, when a run goes by rounds: see [`Run::by_rounds`].
+///
+/// Refusals: 1 to 8, 16 to 18 and 20.
+///
+/// ```
+/// # fn main() -> Result<(), rolwyddac::Refusal> {
+/// // four tiles on two processors; each waits for the one before it
+/// let recipe = rolwyddac::Fields::new().dimension(8, 2, 2).dimension(1, 1, 0).distance(&[1, 0], 1).close(0, 0)?;
+/// assert_eq!(rolwyddac::rounds_of(&recipe)?, [1, 2, 3, 4]);
+/// # Ok(())
+/// # }
+/// ```
+pub fn rounds_of(encoded: &[u8]) -> Result<Vec<u32>, Refusal> {
+    let mut rounds = vec![0; summary(encoded, Route::Direct)?.tiles as usize];
+    rounds_of_words(encoded, &mut rounds)?;
+    Ok(rounds)
 }

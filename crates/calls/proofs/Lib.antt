@@ -8,3 +8,5 @@ pub mod OverRig
 pub mod Demand210
 pub mod ChartCalls
 pub mod OverHours
+pub mod RoundCalls
+pub mod Storing

@@ -241,7 +241,7 @@ module _ {M : Type 1} {𝓤 : URA M} {H : Heap 𝓤} {A : Atoms 𝓤} {K : Type 
       await t tt $ split t $ k f is e)))
 
   -- what a call to which the slice was given up leaves
-  given-up : K → (w : Val) (more : Fml) (ws : List Progress)
+  pub given-up : K → (w : Val) (more : Fml) (ws : List Progress)
       → (length ws ≡ length (now x) → Seq K W (‵ (flft κ q) ∷ ‵ (finally R (x .name) ws) ∷ Γ) (lands C Λ En d vunit rest p))
       → Seq K W (‵ (fsep (fsep (finally R (x .name) ws) (feq ℕ (length ws) (length (now x)))) more)
       ∷ ((‵ (flft κ q) ⊛ ‵ ftrue) ⊛ ‵ (Nothing .own tt (w ∷ []))) ∷ Γ) (lands C Λ En d w rest p)

@@ -39,7 +39,7 @@ use Rattle.rounds.proofs.Tiles.{table-length, round-is, within-rounds, few}
 use Rattle.engine.specs.Calls.{answer}
 use Rattle.engine.proofs.Lines.{Opened, call-read, call-later, call-done}
 use Rattle.schedule.specs.Given.{TellsTo, lastBefore, Lasts}
-use Rattle.schedule.specs.Calls.{tileRoundsCall}
+use Rattle.schedule.specs.Calls.{roundsOfCall}
 
 -- ---- processor_at
 module _ (x : Nest) (ok : Accepted x) (r : Route) (t : ℕ) where
@@ -226,16 +226,16 @@ module _ (p : Plan) where
 
 -- ---- the call's returns
 module _ (l area : List ℕ) where
-  pub told-read : (r : ℕ) → r ≡ firstOf (readLines l) → r ≢ 0 → answer r area ≡ tileRoundsCall l area
-  unfolding tileRoundsCall
+  pub told-read : (r : ℕ) → r ≡ firstOf (readLines l) → r ≢ 0 → answer r area ≡ roundsOfCall l area
+  unfolding roundsOfCall
   told-read r e h = call-read (readLines l) (numbered l) _ r _ area e h
 
   module _ (p : Plan) (o : Opened l 0 p) where
-    told-at : answered (firstOf (readLines l ++ (line 9 (not (eqb (length area) (p .tiles))) ∷ []))) (roundsTo p (p .tiles)) area ≡ tileRoundsCall l area
-    unfolding tileRoundsCall
+    told-at : answered (firstOf (readLines l ++ (line 9 (not (eqb (length area) (p .tiles))) ∷ []))) (roundsTo p (p .tiles)) area ≡ roundsOfCall l area
+    unfolding roundsOfCall
     told-at = ap (λ (q : Plan). answered (firstOf (readLines l ++ (line 9 (not (eqb (length area) (q .tiles))) ∷ []))) (roundsTo q (q .tiles)) area) (o .is)
 
-    pub told-area : length area ≢ p .tiles → answer 9 area ≡ tileRoundsCall l area
+    pub told-area : length area ≢ p .tiles → answer 9 area ≡ roundsOfCall l area
     told-area h =
         call-later (readLines l) (numbered l) _ 9 _ area (reads-for (routeOf 0) l (o .none)) (sym (first-true 9 _ _ (not-false (ne-eqb _ _ h))))
         (λ q. omega arith) ∙ told-at
@@ -244,5 +244,5 @@ module _ (l area : List ℕ) where
     unfolding firstOf
     right e = first-false 9 (not (eqb (length area) (p .tiles))) [] (not-true (eq-eqb _ _ e))
 
-    pub told-done : length area ≡ p .tiles → (new : List ℕ) → new ≡ roundsTo p (p .tiles) → answer 0 new ≡ tileRoundsCall l area
+    pub told-done : length area ≡ p .tiles → (new : List ℕ) → new ≡ roundsTo p (p .tiles) → answer 0 new ≡ roundsOfCall l area
     told-done e new c = ap (answer 0) c ∙ call-done (readLines l) (numbered l) _ 0 _ area (reads-for (routeOf 0) l (o .none)) (right e) ∙ told-at

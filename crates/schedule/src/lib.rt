@@ -13,7 +13,7 @@ ghost use Rattle.rounds.specs.ByState.{Lent, calculatedTile, sentTo, tileDone, 
 ghost use Rattle.rounds.specs.Rounds.{told, rounds, afterRounds, tileRound, roundsTo};
 ghost use Rattle.engine.specs.Calls.{answer};
 ghost use Rattle.schedule.specs.Given.{Planned, AtTile, AtSend, TellsTo, lastBefore};
-ghost use Rattle.schedule.specs.Calls.{roundsCall, tileRoundsCall};
+ghost use Rattle.schedule.specs.Calls.{roundsCall, roundsOfCall};
 use base::word_index;
 use engine::core::areas_fit;
 use engine::store_record;
@@ -468,8 +468,8 @@ fn tell_rounds(nest: Nest, sizes: Sizes, lens: &[u16; 9217], rounds: &mut [u32])
 }
 
 // Each tile's round, told into one word a tile.
-pub fn tile_rounds(encoded: &[u8], rounds: &mut [u32]) -> u32
-    ensures { λ r. ⌜ answer r (now (rounds .exit)) ≡ tileRoundsCall (now (encoded .entry)) (now (rounds .entry)) ⌝ }
+pub fn rounds_of(encoded: &[u8], rounds: &mut [u32]) -> u32
+    ensures { λ r. ⌜ answer r (now (rounds .exit)) ≡ roundsOfCall (now (encoded .entry)) (now (rounds .entry)) ⌝ }
 {
     let reading = read(encoded);
     let number = reading.number;

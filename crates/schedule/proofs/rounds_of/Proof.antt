@@ -6,8 +6,8 @@ use Rattle.nest.proofs.Answers.{accepted-read}
 use Rattle.engine.proofs.Lines as lines
 use Rattle.schedule.proofs.Telling as telling
 use borrow.Author.Needs.{needs}
-use Rattle.schedule.proofs.tile_rounds.Statement.{statement}
-use Rattle.schedule.proofs.tile_rounds.Tie as tie
+use Rattle.schedule.proofs.rounds_of.Statement.{statement}
+use Rattle.schedule.proofs.rounds_of.Tie as tie
 
 read-requires : tie.Need-read-requires
 read-requires c κs = search needs
@@ -60,8 +60,8 @@ returns-3 c =
     (c .before .before .before .before .before .if2 .left ∙ c .before .before .before .before .before .before .tiles-of .ensures .0) _
     (c .before .before .tell-rounds .ensures)
 
-pub tile-rounds-spec : {M : Type 1} → statement M
-tile-rounds-spec =
+pub rounds-of-spec : {M : Type 1} → statement M
+rounds-of-spec =
     tie.close
     (tie.spec
     read-requires
