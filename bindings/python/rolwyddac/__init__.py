@@ -42,6 +42,10 @@ Summary = collections.namedtuple('Summary', 'cells processors tiles messages wor
 Summary.__doc__ = 'The totals of a plan.'
 Message = collections.namedtuple('Message', 'sending_tile taking_tile sending_processor taking_processor words')
 Message.__doc__ = 'The line of one message.'
+Row = collections.namedtuple('Row', Message._fields + ('offset',))
+Row.__doc__ = "One message's line, and where its words begin in the buffer."
+Awaited = collections.namedtuple('Awaited', 'tile messages')
+Awaited.__doc__ = 'What a processor waits for: its tile, and the messages due there that are not delivered.'
 Sounding = collections.namedtuple('Sounding', 'cell day survey depth')
 Sounding.__doc__ = 'One record of a file of soundings.'
 
@@ -107,6 +111,33 @@ def message(encoded, route, m):
     out = _words(5)
     calls.EXPORTED['message'](encoded, route, m, out)
     return Message(*out)
+
+
+def messages(encoded, route=DIRECT):
+    """The rows of all messages of a recipe's plan on a route, in the order of their numbers."""
+    width = len(Row._fields)
+    out = _words(width * sizes(encoded, route).status)
+    calls.EXPORTED['messages'](encoded, route, out)
+    return [Row(*out[at:at + width]) for at in range(0, len(out), width)]
+
+
+def owners(encoded):
+    """The processor of each cell's tile, as a grid; outside the shape the number of processors."""
+    out = _words(sizes(encoded).source)
+    calls.EXPORTED['owners'](encoded, out)
+    return _shaped(out, dimensions(encoded))
+
+
+def awaited(encoded, route, progress, status, processor):
+    """What a processor waits for; no messages where it can go on."""
+    marks, out = bytearray(len(status)), _words(1)
+    calls.EXPORTED['awaited'](encoded, route, progress, status, processor, marks, out)
+    return Awaited(out[0], [m for m, mark in enumerate(marks) if mark])
+
+
+def take_in(encoded, route, source, areas, processor, message, words):
+    """Takes a message in at its taker, whose own areas are lent: its words into their place, its status from 0 to 2."""
+    calls.EXPORTED['take_in'](encoded, route, _source(source), *areas, processor, message, words)
 
 
 def hops(encoded, m):

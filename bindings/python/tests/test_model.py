@@ -174,6 +174,77 @@ class Against(unittest.TestCase):
             self.assertEqual(flat(run.collect()), plan.swept(source), case)
         self.assertLessEqual({0, 11, 12, 13, 14, 15}, met)
 
+    def test_transport(self):
+        """Boards that share nothing: each has areas of its own, and the mail between them is late, doubled, cut or brought to another."""
+        draw, met = Draw(32), set()
+        for case in range(RUNS):
+            values, route = recipe_of(draw), draw.below(2)
+            n = len(values['lengths'])
+            bounds = [] if route or draw.below(2) else [(1, 1 + draw.below(n - 1), 0, draw.below(3) - 1, draw.below(6))]
+            encoded = bytes(model.encode(bounds=bounds, **values))
+            number, plan = model.plan_of(encoded, route)
+            if number:
+                continue
+            rows, cells = [0] * (6 * len(plan.messages)), [0] * plan.cells
+            self.assertEqual([model.messages(encoded, route, rows), model.owners(encoded, cells)], [0, 0])
+            self.assertEqual([word for row in rolwyddac.messages(encoded, route) for word in row], rows, case)
+            self.assertEqual(flat(rolwyddac.owners(encoded)), cells, case)
+            for m, row in enumerate(rolwyddac.messages(encoded, route)):
+                self.assertEqual(row[:5], rolwyddac.message(encoded, route, m))
+            self.run_apart(draw, met, encoded, route, plan)
+        self.assertLessEqual({0, 9, 11, 12, 13, 14}, met)
+
+    def run_apart(self, draw, met, encoded, route, plan):
+        source = [draw.word() for _ in range(plan.cells)]
+        runs = [rolwyddac.Run(encoded, source, route) for _ in range(plan.boards)]
+        wanted = [model.areas_for(plan, source) for _ in range(plan.boards)]
+        mail = []
+
+        def both(got, number, b):
+            self.assertEqual(got, number)
+            met.add(number)
+            self.same(runs[b].areas, wanted[b])
+            marks, out = [0] * len(plan.messages), [0]
+            number = model.awaited(encoded, wanted[b], b, marks, out, route)
+            met.add(number)
+            areas = runs[b].areas
+            self.assertEqual(number_of(rolwyddac.awaited, encoded, route, areas.progress, areas.status, b), number)
+            if number == 0:
+                found = rolwyddac.awaited(encoded, route, areas.progress, areas.status, b)
+                self.assertEqual(found, (out[0], [m for m, mark in enumerate(marks) if mark]))
+                self.assertEqual(bool(found.messages), model.turn_number(encoded, wanted[b], b, route)[0] == 12)
+
+        def arrive(b, m, words):
+            got = number_of(rolwyddac.take_in, encoded, route, source, runs[b].areas, b, m, words)
+            both(got, model.take_in(encoded, wanted[b], b, m, words, route), b)
+
+        for _ in range(40 * plan.steps):
+            b = draw.below(plan.boards)
+            kind = draw.below(8)
+            if kind < 4:
+                both(number_of(runs[b].turn, b), model.turn(encoded, wanted[b], b, route), b)
+                continue
+            for m in runs[b].areas.in_flight():
+                both(number_of(runs[b].deliver, m), model.deliver(encoded, wanted[b], m, route), b)
+                line = plan.messages[m]
+                mail.append((plan.board_of[line.taker], m, list(runs[b].areas.buffer[line.offset:line.offset + len(line.cells)])))
+            if mail and kind < 7:
+                to, m, words = mail[draw.below(len(mail))]
+                arrive(to, m, words)
+            elif mail:
+                to, m, words = mail[draw.below(len(mail))]
+                arrive(*[((to + 1) % (plan.boards + 1) % plan.boards, m, words), (to, m, words + words), (to, len(plan.messages), words),
+                         (to, m, words[1:])][draw.below(4)])
+        for to, m, words in mail:
+            arrive(to, m, words)
+        swept = plan.swept(source)
+        finished = [wanted[b].progress[3 * b] == len(plan.tiles_of[b]) for b in range(plan.boards)]
+        for c in range(plan.cells):
+            if plan.inside[c]:
+                b = plan.board_of[plan.tile_of[c]]
+                if finished[b]:
+                    self.assertEqual(runs[b].areas.memories[b * plan.cells + c], swept[c])
+
     def test_offices(self):
         draw, met = Draw(29), set()
         for case in range(RUNS):
