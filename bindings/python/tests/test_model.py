@@ -196,54 +196,64 @@ class Against(unittest.TestCase):
 
     def run_apart(self, draw, met, encoded, route, plan):
         source = [draw.word() for _ in range(plan.cells)]
-        runs = [rolwyddac.Run(encoded, source, route) for _ in range(plan.boards)]
+        boards = [rolwyddac.Board(encoded, source, b, route) for b in range(plan.boards)]
         wanted = [model.areas_for(plan, source) for _ in range(plan.boards)]
         mail = []
 
         def both(got, number, b):
             self.assertEqual(got, number)
             met.add(number)
-            self.same(runs[b].areas, wanted[b])
+            self.same(boards[b].areas, wanted[b])
             marks, out = [0] * len(plan.messages), [0]
             number = model.awaited(encoded, wanted[b], b, marks, out, route)
             met.add(number)
-            areas = runs[b].areas
-            self.assertEqual(number_of(rolwyddac.awaited, encoded, route, areas.progress, areas.status, b), number)
+            self.assertEqual(number_of(boards[b].awaited), number)
             if number == 0:
-                found = rolwyddac.awaited(encoded, route, areas.progress, areas.status, b)
+                found = boards[b].awaited()
                 self.assertEqual(found, (out[0], [m for m, mark in enumerate(marks) if mark]))
                 self.assertEqual(bool(found.messages), model.turn_number(encoded, wanted[b], b, route)[0] == 12)
 
         def arrive(b, m, words):
-            got = number_of(rolwyddac.take_in, encoded, route, source, runs[b].areas, b, m, words)
-            both(got, model.take_in(encoded, wanted[b], b, m, words, route), b)
+            both(number_of(boards[b].take_in, m, words), model.take_in(encoded, wanted[b], b, m, words, route), b)
 
-        for _ in range(40 * plan.steps):
-            b = draw.below(plan.boards)
-            kind = draw.below(8)
-            if kind < 4:
-                both(number_of(runs[b].turn, b), model.turn(encoded, wanted[b], b, route), b)
-                continue
-            for m in runs[b].areas.in_flight():
-                both(number_of(runs[b].deliver, m), model.deliver(encoded, wanted[b], m, route), b)
+        def post(b):
+            for m in boards[b].in_flight():
+                to, words = boards[b].post(m)
+                both(0, model.deliver(encoded, wanted[b], m, route), b)
                 line = plan.messages[m]
-                mail.append((plan.board_of[line.taker], m, list(runs[b].areas.buffer[line.offset:line.offset + len(line.cells)])))
-            if mail and kind < 7:
+                self.assertEqual((to, list(words)), (plan.board_of[line.taker], wanted[b].buffer[line.offset:][:len(line.cells)]))
+                mail.append((to, m, list(words)))
+
+        def turn(b):
+            number = model.turn(encoded, wanted[b], b, route)
+            both(number_of(boards[b].turn), number, b)
+            return number
+
+        for _ in range(4 * plan.steps):
+            b, kind = draw.below(plan.boards), draw.below(8)
+            if kind < 4:
+                turn(b)
+                continue
+            post(b)
+            if mail:
                 to, m, words = mail[draw.below(len(mail))]
-                arrive(to, m, words)
-            elif mail:
-                to, m, words = mail[draw.below(len(mail))]
-                arrive(*[((to + 1) % (plan.boards + 1) % plan.boards, m, words), (to, m, words + words), (to, len(plan.messages), words),
-                         (to, m, words[1:])][draw.below(4)])
-        for to, m, words in mail:
-            arrive(to, m, words)
-        swept = plan.swept(source)
-        finished = [wanted[b].progress[3 * b] == len(plan.tiles_of[b]) for b in range(plan.boards)]
+                # as it is, sometimes cut or doubled, of a message that is not, or at another board
+                faulty = [(to, m, words[1:]), (to, m, words + words), (to, len(plan.messages), words), ((to + 1) % plan.boards, m, words)]
+                arrive(*((to, m, words) if kind < 7 else faulty[draw.below(4)]))
+        # to the end: nothing is lost
+        done = [False] * plan.boards
+        while not all(done):
+            for b in range(plan.boards):
+                while turn(b) == 0:
+                    pass
+                post(b)
+                done[b] = wanted[b].progress[3 * b] == len(plan.tiles_of[b])
+            for packet in mail:
+                arrive(*packet)
+        grids, swept = [flat(board.memory()) for board in boards], plan.swept(source)
         for c in range(plan.cells):
             if plan.inside[c]:
-                b = plan.board_of[plan.tile_of[c]]
-                if finished[b]:
-                    self.assertEqual(runs[b].areas.memories[b * plan.cells + c], swept[c])
+                self.assertEqual(grids[plan.board_of[plan.tile_of[c]]][c], swept[c])
 
     def test_offices(self):
         draw, met = Draw(29), set()

@@ -21,8 +21,8 @@
 //! # }
 //! ```
 //!
-//! [`Rig`] owns the areas of two offices that share the processors. Where processors share no memory, [`messages`], [`owners`],
-//! [`awaited`] and [`take_in`] are what a transport needs.
+//! [`Rig`] owns the areas of two offices that share the processors, [`Board`] those of one processor that shares no memory with
+//! the others.
 
 #![warn(missing_docs)]
 
@@ -32,7 +32,7 @@ mod refusal;
 mod rig;
 mod run;
 
-pub use mail::{awaited, messages, owners, Awaited, Row};
+pub use mail::{awaited, messages, owners, Awaited, Board, Row};
 pub use recipe::{Fields, Recipe};
 pub use refusal::Refusal;
 pub use rig::Rig;
