@@ -13,4 +13,5 @@ pub mod Posting
 pub mod Network
 pub mod PacketTheorem
 pub mod Locality
+pub mod NotLocal
 pub mod Example

@@ -5,32 +5,32 @@ use mathlib.Core.Logic.{_⊎_, inl, inr, _≢_}
 use mathlib.Core.Bool.{Bool, true, false}
 use mathlib.Core.List.{List, [], _∷_}
 use native.Mathlib.Omega.{arith}
-use native.Mathlib.Decide.{ℕ-discrete}
+use native.Mathlib.Decide.{decLt, ℕ-discrete}
 use lib.ListN.{length, getD, set, length-set}
-use lib.Seq.{getD-set-same, getD-set-other}
+use lib.Seq.{getD-set-same, getD-set-other, set-out}
 use lib.Dec.{ltb, eqb}
 use borrow.Author.Tests.{ltb-true, eq-eqb, ne-eqb}
 use Rattle.base.specs.Tests.{_and_, not, pick, every}
-use Rattle.base.specs.Lists.{In, put, setAll, storeAll, allAt, pack}
+use Rattle.base.specs.Lists.{In, put, setAll, storeAll, allAt, unpack, pack}
 use Rattle.base.specs.Numbers.{firstOf}
 use Rattle.base.proofs.Tests.{both, every-at, true-not, pick-true, pick-false}
 use Rattle.base.proofs.Numbers.{none-first}
 use Rattle.base.proofs.Select.{those-in, in-those, at-is, at-low}
 use Rattle.base.proofs.Lists.{pack-length, store-length, setAll-length, setAll-same, setAll-other}
-use Rattle.base.proofs.Entries.{at-in}
-use Rattle.machine.specs.Plan.{Plan, Sound, count, senderOf, takerOf, heldBy, tilesOf, sendsOf, duesOf, offset, words}
+use Rattle.base.proofs.Entries.{at-in, part-at}
+use Rattle.machine.specs.Plan.{Plan, Sound, count, senderOf, takerOf, heldBy, tilesOf, sendsOf, duesOf, offset, Knows}
 use Rattle.machine.specs.Machine.{State, finishedOf, stageOf, sentOf, setProgress, memoryOf, placeOf, currentTile, tilesLeft, fitRecord, fit, unpackAll}
 use Rattle.machine.specs.Machine.{afterSends, Action, gather, calculate, send, actionAt, nextAction, carryOut, Answered, answered, waiting, turnLines, turn}
 use Rattle.machine.specs.Words.{Outside, Packs, Unpacks, Stores}
 use Rattle.machine.proofs.Records.{SameRecord, record-length, fit-sending, fit-is}
-use Rattle.machine.proofs.Values.{gathered-length, gathers-same}
+use Rattle.machine.proofs.Values.{gathered-length}
 use Rattle.machine.proofs.Turns.{Turned, turned, next-zero, next-one, next-two, by-next, Can, can}
 use Rattle.machine.proofs.Progress.{Shape, here-is}
 use Rattle.machine.proofs.Kept.{statusOf, memory-length, memory-new}
 use Rattle.machine.proofs.RunLaws.{number-of}
 use Rattle.machine.proofs.Words.{packs, unpacks, stores}
 use Rattle.apart.specs.Apart.{senderAt, takerAt}
-use Rattle.apart.specs.Locality.{Lent, WritesOwn, Handles, SameTo, SameSource, Likewise, Local, ReadsOwnWord}
+use Rattle.apart.specs.Locality.{Lent, Keeps, WritesOwn, Handles, SameTo, SameSource, Likewise, Local, ReadsOwnWord}
 use Rattle.apart.proofs.Letters.{allAt-same, words-there, words-other}
 use Rattle.apart.proofs.Agrees.{set-both, after-both, waiting-law, lines-law}
 
@@ -68,6 +68,51 @@ module _ (p : Plan) (s : State) (b t n : ℕ) where
       go true = record-length (s .progress) b (finishedOf s b) 2 n
       go false = record-length (s .progress) b (finishedOf s b + 1) 0 0
 
+-- ---- two memories with the same words at the cells of K
+module _ (K : ℕ → Type 0) where
+  pub record SameAt (x y : List ℕ) : Type 0 where
+    pub long : length x ≡ length y
+    pub words : (c : ℕ) → K c → getD x c 0 ≡ getD y c 0
+
+  set-at : (x y : List ℕ) (i v : ℕ) → SameAt x y → SameAt (set x i v) (set y i v)
+  set-at x y i v e =
+      record { long = length-set x i v ∙ e .long ∙ sym (length-set y i v); words = λ c k. go c k (ℕ-discrete c i) (decLt i (length x)) }
+    where
+      go : (c : ℕ) → K c → Dec (c ≡ i) → Dec (i < length x) → getD (set x i v) c 0 ≡ getD (set y i v) c 0
+      go c k (no n) d = getD-set-other x i c v 0 n ∙ e .words c k ∙ sym (getD-set-other y i c v 0 n)
+      go c k (yes q) (yes l) = rw q (getD-set-same x i v 0 l ∙ sym (getD-set-same y i v 0 (rw (sym (e .long)) l)))
+      go c k (yes q) (no l) = rw (set-out x i v (omega arith), set-out y i v (omega (arith, e .long))) (e .words c k)
+
+  unpack-both : (cs ws x y : List ℕ) → SameAt x y → SameAt (unpack x cs ws) (unpack y cs ws)
+  unfolding unpack
+  unpack-both [] ws x y e = e
+  unpack-both (c ∷ cs) [] x y e = e
+  unpack-both (c ∷ cs) (w ∷ ws) x y e = unpack-both cs ws (set x c w) (set y c w) (set-at x y c w e)
+
+  all-both : (p : Plan) (buffer buffer′ : List ℕ) (ms x y : List ℕ) → ((m : ℕ) → In m ms → placeOf p buffer m ≡ placeOf p buffer′ m) → SameAt x y
+      → SameAt (unpackAll p buffer x ms) (unpackAll p buffer′ y ms)
+  unfolding unpackAll
+  all-both p buffer buffer′ [] x y h e = e
+  all-both p buffer buffer′ (m ∷ ms) x y h e =
+      all-both p buffer buffer′ ms _ _ (λ k i. h k (inr i))
+      (rw (h m (inl refl)) (unpack-both (heldBy p m) (placeOf p buffer′ m) x y e))
+
+  pack-both : (cs x y : List ℕ) → ((c : ℕ) → In c cs → K c) → SameAt x y → pack x cs ≡ pack y cs
+  unfolding pack
+  pack-both [] x y h e = refl
+  pack-both (c ∷ cs) x y h e =
+      let a = e .words c (h c (inl refl)) in
+      let b = pack-both cs x y (λ d i. h d (inr i)) e in
+      cc
+
+  -- stored by two rules that agree at these cells, on memories with the same words
+  store-both : (f g : List ℕ → ℕ → ℕ) (cs x y : List ℕ) → ((c : ℕ) → In c cs → (k l : List ℕ) → SameAt k l → f k c ≡ g l c) → SameAt x y
+      → SameAt (storeAll f x cs) (storeAll g y cs)
+  unfolding storeAll
+  store-both f g [] x y h e = e
+  store-both f g (c ∷ cs) x y h e =
+      store-both f g cs _ _ (λ d i. h d (inr i)) (rw (h c (inl refl) x y e) (set-at x y c (g y c) e))
+
 -- ---- values stored by two rules that agree at these cells
 store-same : (f g : List ℕ → ℕ → ℕ) (cs l : List ℕ) → ((k : List ℕ) (c : ℕ) → In c cs → f k c ≡ g k c) → storeAll f l cs ≡ storeAll g l cs
 unfolding storeAll
@@ -91,11 +136,22 @@ shape-of p source s le f =
       records = every-at (fitRecord p s) (p .processors) (both f .0);
     }
 
+-- ---- the cells that a processor keeps
+keeps-low : (p : Plan) → Sound p → (b c : ℕ) → Keeps p b c → c < p .cells
+keeps-low p so b c (Keeps.own t l e i) = so .cell-low t c l i
+keeps-low p so b c (Keeps.brought m l e i) = so .held-low m c l i
+
+known-kept : (p : Plan) (b t : ℕ) → t < p .tiles → p .processorOf t ≡ b → (c : ℕ) → In c (p .cellsOf t) ⊎ Knows p (p .processorOf t) t c → Keeps p b c
+known-kept p b t low e c (inl i) = Keeps.own t low e i
+known-kept p b t low e c (inr (Knows.calculated u l q i)) = Keeps.own u (omega arith) (q ∙ e) i
+known-kept p b t low e c (inr (Knows.taken m l k q i)) = Keeps.brought m l (q ∙ e) i
+
 -- ---- what is written
 nothing : (p : Plan) (s : State) (b : ℕ) → WritesOwn p s s b
 nothing p s b =
     record {
       memories = λ i o. refl;
+      memory = λ c l n. refl;
       records = λ i o. refl;
       buffer = λ i o. refl;
       status = λ m x y. refl;
@@ -113,8 +169,11 @@ module _ (p : Plan) (so : Sound p) (source : List ℕ) (s : State) (b : ℕ) (le
   unfolding carryOut
   by-gather low h =
       let u = unpacks p so source s b low (le .memories) t (here-is p s b h) (le .buffer) in
+      let due-of : (m : ℕ) → In m (duesOf p t) → (m < count p) × (takerAt p m ≡ b) =
+      (λ m i. let k = those-in (takerOf p) t (count p) m i in (k .0, ap (p .processorOf) (k .1) ∙ here-is p s b h)) in
       record {
         memories = u .memories-rest;
+        memory = λ c l n. u .kept c l (λ m i k. let d = due-of m i in n (Keeps.brought m (d .0) (d .1) k));
         records = record-rest (s .progress) b (finishedOf s b) 1 0;
         buffer = λ i o. refl;
         status = λ m x y. setAll-other (duesOf p t) (s .status) 3 m y;
@@ -130,6 +189,7 @@ module _ (p : Plan) (so : Sound p) (source : List ℕ) (s : State) (b : ℕ) (le
       let u = stores p so source s b low (le .memories) t (here-is p s b h) (at-low (p .processorOf) b (p .tiles) (finishedOf s b) h) in
       record {
         memories = u .memories-rest;
+        memory = λ c l n. u .kept c l (λ i. n (Keeps.own t (at-low (p .processorOf) b (p .tiles) (finishedOf s b) h) (here-is p s b h) i));
         records = after-rest p s b t 0;
         buffer = λ i o. refl;
         status = λ m x y. refl;
@@ -158,6 +218,7 @@ module _ (p : Plan) (so : Sound p) (source : List ℕ) (s : State) (b : ℕ) (le
         let u = packs p so source s b m₀ sent-low (ap (p .processorOf) sent-from ∙ here-is p s b h) (le .buffer) in
         record {
           memories = λ i o. refl;
+          memory = λ c l n. refl;
           records = after-rest p s b (senderOf p m₀) (sentOf s b + 1);
           buffer = λ i o. u .buffer-rest i (o m₀ (at-in (sendsOf p t) (sentOf s b) more-left));
           status = λ m x y. getD-set-other (s .status) m₀ m 1 0 (λ e. x (rw e (at-in (sendsOf p t) (sentOf s b) more-left)));
@@ -223,18 +284,42 @@ module _ (p : Plan) (source source′ : List ℕ) (s s′ : State) (b : ℕ) (li
   next-is = let a = view .finished in let c = view .stage in let d = view .sent in cc
 
   -- ---- each action, in both
-  module _ (sh : Shape p s) (sh′ : Shape p s′) (low : b < p .processors) (h : finishedOf s b < length (tilesOf p b)) where
+  module _ (so : Sound p) (sh : Shape p s) (sh′ : Shape p s′) (low : b < p .processors) (h : finishedOf s b < length (tilesOf p b)) where
     abbrev gathered : State → List ℕ
     gathered r = unpackAll p (r .buffer) (memoryOf p r b) (duesOf p tile)
 
     gathered-long : (r : State) → Shape p r → length (gathered r) ≡ p .cells
     gathered-long r q = gathered-length p (r .buffer) (duesOf p tile) (memoryOf p r b) ∙ memory-length p r b low q
 
-    gathered-is : gathered s ≡ gathered s′
+    tile-low : tile < p .tiles
+    tile-low = at-low (p .processorOf) b (p .tiles) (finishedOf s b) h
+
+    -- the words of the cells it keeps, in the two memories
+    before : SameAt (Keeps p b) (memoryOf p s b) (memoryOf p s′ b)
+    before =
+        record {
+          long = memory-length p s b low sh ∙ sym (memory-length p s′ b low sh′);
+          words = λ c k.
+              part-at (s .memories) (b * p .cells) (p .cells) c (keeps-low p so b c k) ∙ view .memory c (keeps-low p so b c k) k
+              ∙ sym (part-at (s′ .memories) (b * p .cells) (p .cells) c (keeps-low p so b c k));
+        }
+
+    -- a new memory put there
+    word-new : (r : State) → Shape p r → (new : List ℕ) → length new ≡ p .cells → (c : ℕ) → c < p .cells
+        → getD (put (r .memories) (b * p .cells) new) (b * p .cells + c) 0 ≡ getD new c 0
+    word-new r q new e c l =
+        sym (part-at (put (r .memories) (b * p .cells) new) (b * p .cells) (p .cells) c l)
+        ∙ ap (λ (x : List ℕ). getD x c 0) (memory-new p r b low q new e)
+
+    then-words : (new new′ : List ℕ) → length new ≡ p .cells → length new′ ≡ p .cells → SameAt (Keeps p b) new new′
+        → (c : ℕ) → c < p .cells → Keeps p b c
+        → getD (put (s .memories) (b * p .cells) new) (b * p .cells + c) 0 ≡ getD (put (s′ .memories) (b * p .cells) new′) (b * p .cells + c) 0
+    then-words new new′ e e′ is c l k = word-new s sh new e c l ∙ is .words c k ∙ sym (word-new s′ sh′ new′ e′ c l)
+
+    gathered-is : SameAt (Keeps p b) (gathered s) (gathered s′)
     gathered-is =
-        ap (λ (l : List ℕ). unpackAll p (s .buffer) l (duesOf p tile)) (view .memory)
-        ∙ gathers-same p (s .buffer) (s′ .buffer) (duesOf p tile) (memoryOf p s′ b)
-        (λ m i. let k = due-mine h m i in view .words m (k .0) (k .1))
+        all-both (Keeps p b) p (s .buffer) (s′ .buffer) (duesOf p tile) (memoryOf p s b) (memoryOf p s′ b)
+        (λ m i. let k = due-mine h m i in view .words m (k .0) (k .1)) before
 
     mark-gathered : (m : ℕ) → m < count p → Handles p b m → Dec (takerOf p m ≡ tile)
         → getD (setAll (s .status) (duesOf p tile) 3) m 0 ≡ getD (setAll (s′ .status) (duesOf p tile) 3) m 0
@@ -252,8 +337,7 @@ module _ (p : Plan) (source source′ : List ℕ) (s s′ : State) (b : ℕ) (li
         let r = set-both b (p .processors) low (s .progress) (s′ .progress) (sh .progress) (sh′ .progress) (finishedOf s b) (finishedOf s′ b) 1 0
         (view .finished) in
         record {
-          memory = memory-new p s b low sh (gathered s) (gathered-long s sh) ∙ gathered-is
-              ∙ sym (memory-new p s′ b low sh′ (gathered s′) (gathered-long s′ sh′));
+          memory = then-words (gathered s) (gathered s′) (gathered-long s sh) (gathered-long s′ sh′) gathered-is;
           finished = r .finished;
           stage = r .stage;
           sent = r .sent;
@@ -269,20 +353,21 @@ module _ (p : Plan) (source source′ : List ℕ) (s s′ : State) (b : ℕ) (li
       done-long : (input : List ℕ) (r : State) → Shape p r → length (done input r) ≡ p .cells
       done-long input r q = store-length (p .value input) (p .cellsOf tile) (memoryOf p r b) ∙ memory-length p r b low q
 
-      done-is : done source s ≡ done source′ s′
+      done-is : SameAt (Keeps p b) (done source s) (done source′ s′)
       done-is =
-          ap (λ (l : List ℕ). storeAll (p .value source) l (p .cellsOf tile)) (view .memory)
-          ∙ store-same (p .value source) (p .value source′) (p .cellsOf tile) (memoryOf p s′ b)
-          (λ k c i. own source source′ k c
-          (like .same-source tile c (at-low (p .processorOf) b (p .tiles) (finishedOf s b) h) (here-is p s b h) i))
+          store-both (Keeps p b) (p .value source) (p .value source′) (p .cellsOf tile) (memoryOf p s b) (memoryOf p s′ b)
+          (λ c i k l e.
+          so .local source k l c (so .cell-low tile c tile-low i)
+          (λ r j. e .words r (known-kept p b tile tile-low (here-is p s b h) r (so .reads-known tile c r tile-low i j)))
+          ∙ own source source′ l c (like .same-source tile c tile-low (here-is p s b h) i))
+          before
 
       both-calculate : SameTo p b (carryOut p source s b (calculate tile)) (carryOut p source′ s′ b (calculate tile))
       unfolding carryOut
       both-calculate =
           let r = after-both p s′ b tile s 0 0 low (sh .progress) (sh′ .progress) (view .finished) refl in
           record {
-            memory = memory-new p s b low sh (done source s) (done-long source s sh) ∙ done-is
-                ∙ sym (memory-new p s′ b low sh′ (done source′ s′) (done-long source′ s′ sh′));
+            memory = then-words (done source s) (done source′ s′) (done-long source s sh) (done-long source′ s′ sh′) done-is;
             finished = r .finished;
             stage = r .stage;
             sent = r .sent;
@@ -290,7 +375,7 @@ module _ (p : Plan) (source source′ : List ℕ) (s s′ : State) (b : ℕ) (li
             marks = view .marks;
           }
 
-    module _ (m : ℕ) (lo : m < count p) where
+    module _ (m : ℕ) (lo : m < count p) (from : senderOf p m ≡ tile) where
       abbrev packed : State → List ℕ
       packed r = pack (memoryOf p r b) (heldBy p m)
 
@@ -301,7 +386,8 @@ module _ (p : Plan) (source source′ : List ℕ) (s s′ : State) (b : ℕ) (li
           → placeOf p (put (s .buffer) (offset (p .messages) m) (packed s)) k ≡ placeOf p (put (s′ .buffer) (offset (p .messages) m) (packed s′)) k
       word-sent k l mine (yes e) =
           rw e (words-there p (s .buffer) m (packed s) (sh .buffer) lo (packed-long s)
-          ∙ ap (λ (x : List ℕ). pack x (heldBy p m)) (view .memory)
+          ∙ pack-both (Keeps p b) (heldBy p m) (memoryOf p s b) (memoryOf p s′ b)
+          (λ c i. known-kept p b (senderOf p m) (rw from tile-low) (ap (p .processorOf) from ∙ here-is p s b h) c (so .held-known m c lo i)) before
           ∙ sym (words-there p (s′ .buffer) m (packed s′) (sh′ .buffer) lo (packed-long s′)))
       word-sent k l mine (no n) =
           words-other p (s .buffer) m (packed s) (sh .buffer) lo (packed-long s) k l n
@@ -345,14 +431,15 @@ module _ (p : Plan) (source source′ : List ℕ) (s s′ : State) (b : ℕ) (li
     both-turn a (Turned.over q) e f = stays (λ z. omega arith)
     both-turn a (Turned.gathers low h g r) e f =
         moves _ _ (next-zero p _ _ _ g) (sym e)
-        (both-gather (shape-of p source s (like .lent) (f refl)) (shape-of p source′ s′ (like .lent′) (sym (like .both-fit) ∙ f refl)) low h)
+        (both-gather so (shape-of p source s (like .lent) (f refl)) (shape-of p source′ s′ (like .lent′) (sym (like .both-fit) ∙ f refl)) low h)
     both-turn a (Turned.calculates low h g) e f =
         moves _ _ (next-one p _ _ _ g) (sym e)
-        (both-calculate (shape-of p source s (like .lent) (f refl)) (shape-of p source′ s′ (like .lent′) (sym (like .both-fit) ∙ f refl)) low h own)
+        (both-calculate so (shape-of p source s (like .lent) (f refl)) (shape-of p source′ s′ (like .lent′) (sym (like .both-fit) ∙ f refl)) low h own)
     both-turn a (Turned.sends low h g) e f =
         moves _ _ (next-two p _ _ _ g) (sym e)
-        (both-send (shape-of p source s (like .lent) (f refl)) (shape-of p source′ s′ (like .lent′) (sym (like .both-fit) ∙ f refl)) low h _
-        (sent-low p so source s b (like .lent) (shape-of p source s (like .lent) (f refl)) low h g))
+        (both-send so (shape-of p source s (like .lent) (f refl)) (shape-of p source′ s′ (like .lent′) (sym (like .both-fit) ∙ f refl)) low h _
+        (sent-low p so source s b (like .lent) (shape-of p source s (like .lent) (f refl)) low h g)
+        (sent-from p so source s b (like .lent) (shape-of p source s (like .lent) (f refl)) low h g))
 
     pub changes-are : SameTo p b (turn p source s b .after) (turn p source′ s′ b .after)
     changes-are = both-turn _ (turned p source s b) number-is (turn-fit p source s b)

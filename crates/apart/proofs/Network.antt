@@ -267,7 +267,8 @@ module _ (p : Plan) (so : Sound p) (source : List ℕ) (s : State) (n : Network)
     pub post-steps : Stepped p source s n (machineEvents p n (postOf m) (post p n m .number)) (post p n m)
     post-steps = go (ℕ-discrete (post p n m .number) 0) (ℕ-discrete (senderAt p m) (takerAt p m))
       where
-        go : Dec (post p n m .number ≡ 0) → Dec (senderAt p m ≡ takerAt p m) → Stepped p source s n (machineEvents p n (postOf m) (post p n m .number)) (post p n m)
+        go : Dec (post p n m .number ≡ 0) → Dec (senderAt p m ≡ takerAt p m)
+            → Stepped p source s n (machineEvents p n (postOf m) (post p n m .number)) (post p n m)
         go (no k) d = rw (events-none k, post-some k) (refused _ k)
         go (yes z) (yes e) =
             rw (events-home z e, post-zero z, posted-home e)

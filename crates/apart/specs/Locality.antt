@@ -7,8 +7,8 @@ use mathlib.Core.List.{List}
 use lib.ListN.{length, getD}
 use Rattle.base.specs.Lists.{In}
 use Rattle.machine.specs.Plan.{Plan, count, heldBy, sendsOf, duesOf, offset, words}
-use Rattle.machine.specs.Machine.{State, finishedOf, stageOf, sentOf, memoryOf, placeOf, currentTile, fit, Answered}
-use Rattle.machine.specs.Words.{Outside}
+use Rattle.machine.specs.Machine.{State, finishedOf, stageOf, sentOf, placeOf, currentTile, fit, Answered}
+use Rattle.machine.specs.Words.{wordAt, Outside}
 use Rattle.apart.specs.Apart.{senderAt, takerAt}
 
 -- source and areas have their lengths
@@ -19,10 +19,16 @@ pub record Lent (p : Plan) (input : List ℕ) (s : State) : Type 0 where
   pub progress : length (s .progress) ≡ 3 * p .processors
   pub status : length (s .status) ≡ count p
 
+-- the cells that processor b keeps words of: those of its tiles, and those that a message to one of its tiles brings
+pub data Keeps (p : Plan) (b c : ℕ) : Type 0 where
+  own : (t : ℕ) → t < p .tiles → p .processorOf t ≡ b → In c (p .cellsOf t) → Keeps p b c
+  brought : (m : ℕ) → m < count p → takerAt p m ≡ b → In c (heldBy p m) → Keeps p b c
+
 -- ---- what a turn of processor b may write: s, and the state after it; every other word is as before
 pub record WritesOwn (p : Plan) (s after : State) (b : ℕ) : Type 0 where
-  -- of the memories b's part, of the records b's three words
+  -- of the memories b's part, and there the words of the cells that it keeps; of the records b's three words
   pub memories : (i : ℕ) → Outside (b * p .cells) (p .cells) i → getD (after .memories) i 0 ≡ getD (s .memories) i 0
+  pub memory : (c : ℕ) → c < p .cells → (Keeps p b c → ⊥) → wordAt p after b c ≡ wordAt p s b c
   pub records : (i : ℕ) → Outside (3 * b) 3 i → getD (after .progress) i 0 ≡ getD (s .progress) i 0
   -- of the buffer the places of the messages that its tile sends, of the status their marks and those of the messages due there
   pub buffer : (i : ℕ) → ((m : ℕ) → In m (sendsOf p (currentTile p s b)) → Outside (offset (p .messages) m) (length (heldBy p m)) i)
@@ -41,9 +47,9 @@ pub record WritesOwn (p : Plan) (s after : State) (b : ℕ) : Type 0 where
 abbrev pub Handles : Plan → ℕ → ℕ → Type 0
 Handles p b m = (senderAt p m ≡ b) ⊎ (takerAt p m ≡ b)
 
--- two states that are the same to processor b: its part of the memories, its record, the places and marks of the messages that it handles
+-- two states that are the same to processor b: the words of the cells that it keeps, its record, the places and marks of the messages that it handles
 pub record SameTo (p : Plan) (b : ℕ) (s s′ : State) : Type 0 where
-  pub memory : memoryOf p s b ≡ memoryOf p s′ b
+  pub memory : (c : ℕ) → c < p .cells → Keeps p b c → wordAt p s b c ≡ wordAt p s′ b c
   pub finished : finishedOf s b ≡ finishedOf s′ b
   pub stage : stageOf s b ≡ stageOf s′ b
   pub sent : sentOf s b ≡ sentOf s′ b
