@@ -4,10 +4,14 @@ pub mod Agrees
 pub mod Turn
 pub mod Carry
 pub mod Together
+pub mod Joined
+pub mod Alike
+pub mod Bounded
 pub mod Theorem
 pub mod Transport
 pub mod Posting
 pub mod Network
-pub mod Joined
 pub mod PacketTheorem
+pub mod Locality
+pub mod NotLocal
 pub mod Example

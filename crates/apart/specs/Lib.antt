@@ -1,3 +1,4 @@
 pub mod Apart
 pub mod Transport
 pub mod Packets
+pub mod Locality
