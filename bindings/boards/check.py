@@ -1,12 +1,13 @@
 """Holds the program boards to the independent model and to its manual. Run as
 
-    python3 bindings/boards/check.py FOLDER [mpi]
+    python3 bindings/boards/check.py FOLDER [--mpi] [--seed 27] [--recipes 40]
 
-with the folder of a program linked with faults.c (bindings/boards/build FOLDER faults); with mpi, boards_mpi there is started by mpirun. Rows A to
+with the folder of a program linked with faults.c (bindings/boards/build FOLDER faults); with --mpi, boards_mpi there is started by mpirun. Rows A to
 F and seeded random recipes by each route, with random delays and in another order of mail: every grid is the model's, word for word. Faults: each
 ends with its status, tells its text, and leaves the grid's file as it was. The last line is `N runs, 0 wrong`; status 1 where one is wrong.
 """
 
+import argparse
 import os
 import random
 import resource
@@ -232,11 +233,11 @@ def check_refusals(check):
         check.ends('usage ' + ' '.join(arguments), USAGE, ['boards: ' + said], model.ROWS['A'], arguments)
 
 
-def main(folder, mpi):
+def main(folder, mpi, seed, recipes):
     with tempfile.TemporaryDirectory() as scratch:
         check = Check(folder, mpi, scratch)
         check_rows(check)
-        check_random(check, 27, 4 if mpi else 40)
+        check_random(check, seed, recipes)
         check_mail_faults(check, model.ROWS['C'], 'indirect', 3)
         check_board_faults(check, model.ROWS['A'], 1)
         if mpi:
@@ -251,6 +252,10 @@ def main(folder, mpi):
 
 
 if __name__ == '__main__':
-    if len(sys.argv) not in (2, 3) or sys.argv[2:] not in ([], ['mpi']):
-        sys.exit(__doc__)
-    sys.exit(main(sys.argv[1], len(sys.argv) == 3))
+    parser = argparse.ArgumentParser(description=__doc__, formatter_class=argparse.RawDescriptionHelpFormatter)
+    parser.add_argument('folder')
+    parser.add_argument('--mpi', action='store_true')
+    parser.add_argument('--seed', type=int, default=27)
+    parser.add_argument('--recipes', type=int, default=40)
+    given = parser.parse_args()
+    sys.exit(main(given.folder, given.mpi, given.seed, given.recipes))

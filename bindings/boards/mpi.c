@@ -54,8 +54,15 @@ enum status transport_begin(struct transport *t, uint32_t boards, double seconds
   return STATUS_DONE;
 }
 
+bool transport_settled(struct transport *t) {
+  int off = 0;
+  MPI_Testall(t->posted, t->posts, &off, MPI_STATUSES_IGNORE);
+  if (off) t->posted = 0;
+  return off != 0;
+}
+
 enum status transport_post(struct transport *t, uint32_t to, const void *bytes, size_t length) {
-  if (t->posted == t->most) {
+  if (t->posted == t->most && (t->most == 0 || !transport_settled(t))) {
     const int most = 2 * t->most + 16;
     MPI_Request *posts = realloc(t->posts, (size_t)most * sizeof *posts);
     if (posts == NULL) return tell_no_memory();
@@ -64,13 +71,6 @@ enum status transport_post(struct transport *t, uint32_t to, const void *bytes, 
   }
   MPI_Isend(bytes, (int)length, MPI_BYTE, (int)to, TAG, MPI_COMM_WORLD, &t->posts[t->posted++]);
   return STATUS_DONE;
-}
-
-bool transport_settled(struct transport *t) {
-  int off = 0;
-  MPI_Testall(t->posted, t->posts, &off, MPI_STATUSES_IGNORE);
-  if (off) t->posted = 0;
-  return off != 0;
 }
 
 static bool has_room(struct transport *t, int bytes) {

@@ -1,7 +1,7 @@
 #include "outbox.h"
 
+#include <stdbool.h>
 #include <stdlib.h>
-#include <string.h>
 
 #include "join.h"
 #include "tell.h"
@@ -21,6 +21,13 @@ static size_t room_for(const struct plan *plan, uint32_t board) {
   return words;
 }
 
+static void fill(uint32_t *room, const struct outbox *out, enum packet_kind kind, uint32_t number, const uint32_t *words, size_t length) {
+  packet_write(room, &out->key, &(struct packet){kind, out->key.run, out->me, number, words, length});
+}
+
+/* the room of a kind that has no words of its own */
+static uint32_t *note_room(const struct outbox *out, enum packet_kind kind) { return out->room + (size_t)(kind - PACKET_ALIVE) * packet_size(0); }
+
 enum status outbox_make(struct outbox *out, struct transport *transport, const struct plan *plan, uint32_t run) {
   const uint32_t me = transport_me(transport);
   *out = (struct outbox){
@@ -36,6 +43,7 @@ enum status outbox_make(struct outbox *out, struct transport *transport, const s
   /* a board does its tiles in rising order, and messages are numbered by their sending tile */
   for (uint32_t m = 0; m < plan_messages(plan); m++)
     if (sends(plan, me, m)) out->mine[out->sends++] = m;
+  fill(note_room(out, PACKET_ALIVE), out, PACKET_ALIVE, 0, NULL, 0);
   return STATUS_DONE;
 }
 
@@ -43,10 +51,6 @@ static uint32_t *take_room(struct outbox *out, size_t length) {
   uint32_t *room = out->room + out->used;
   out->used += packet_size(length);
   return room;
-}
-
-static void fill(uint32_t *room, const struct outbox *out, enum packet_kind kind, uint32_t number, const uint32_t *words, size_t length) {
-  packet_write(room, &out->key, &(struct packet){kind, out->key.run, out->me, number, words, length});
 }
 
 static enum status post_message(struct outbox *out, struct areas *areas, uint32_t message) {
@@ -77,8 +81,9 @@ enum status outbox_post_part(struct outbox *out, const struct areas *areas) {
 }
 
 enum status outbox_post_all(struct outbox *out, enum packet_kind kind, uint32_t number) {
-  uint32_t *room = out->room + (size_t)(kind - PACKET_ALIVE) * packet_size(0);
-  fill(room, out, kind, number, NULL, 0);
+  uint32_t *room = note_room(out, kind);
+  /* that it is there it says again and again, by the same packet */
+  if (kind != PACKET_ALIVE) fill(room, out, kind, number, NULL, 0);
   for (uint32_t board = 0; board < plan_boards(out->plan); board++) {
     if (board == out->me) continue;
     const enum status status = transport_post(out->transport, board, room, packet_size(0) * sizeof *room);

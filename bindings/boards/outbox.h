@@ -30,7 +30,7 @@ enum status outbox_post_messages(struct outbox *out, struct areas *areas);
 /* Posts the board's part of the memories and its record to board 0. */
 enum status outbox_post_part(struct outbox *out, const struct areas *areas);
 
-/* Posts a packet without words of its own to all other boards. */
+/* Posts a packet without words of its own to all other boards: of PACKET_ALIVE any number of times, of another kind once. */
 enum status outbox_post_all(struct outbox *out, enum packet_kind kind, uint32_t number);
 
 void outbox_free(struct outbox *out);
