@@ -186,6 +186,12 @@ def check_board_faults(check, encoded, board):
     check.ends('halted when all is posted', TIMEOUT, late, encoded, given, 'BOARDS_FAULT=halted-late:%d' % board, writes=True)
 
 
+def check_foreign(check):
+    """Mail of a run of another recipe, with this run's number: the check word is over the recipe too."""
+    said = 'board 1: mail of board 0 is corrupt: its check word is not that of what came\n'
+    check.ends('foreign', DAMAGED, [said], model.ROWS['A'], ['--seed', '1'], 'BOARDS_FAULT=foreign:0')
+
+
 def check_part_faults(check):
     encoded, given = model.ROWS['C'], ['--seed', '1', '--run', '9']
     mail = 'board 0: mail of board 3 is '
@@ -244,6 +250,7 @@ def main(folder, mpi, seed, recipes):
             check.ends('processes', USAGE, ['the recipe has 2 boards and there are 3 processes'], model.ROWS['A'], ['--seed', '1'], boards=3)
         else:
             check_mail_faults(check, model.ROWS['A'], 'direct', 7)
+            check_foreign(check)
             check_part_faults(check)
             check_files(check)
             check_refusals(check)

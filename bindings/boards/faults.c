@@ -1,6 +1,6 @@
 /* Faults, delays and another order of mail, laid over a transport when a program for the tests is linked (build, --wrap). Told by the environment:
  *
- *    BOARDS_FAULT    lost, doubled, corrupted, cut or stale, and a message's number: lost:7; or a board's part: lost-part:2
+ *    BOARDS_FAULT    lost, doubled, corrupted, cut, stale or foreign (of another recipe), and a message's number: lost:7; or a board's part: lost-part:2
  *                    killed or halted, and a board: before it posts its first message, or its part: halted-part:2; halted-late: when all is posted
  *                    differs:0: the sweep's last word is another
  *    BOARDS_DELAY    a seed and the most microseconds that a post and a look wait: 5:2000
@@ -69,6 +69,14 @@ static void make_stale(uint32_t *packet) {
   packet[PACKET_CHECK] ^= change;
 }
 
+/* the check word that a packet would have of an empty recipe */
+static void make_foreign(uint32_t *packet) {
+  const struct packet_key key = packet_key((const uint8_t *)"", 0, ROLWYDDAC_DIRECT, packet[PACKET_RUN]);
+  packet_write(packet, &key,
+               &(struct packet){packet[PACKET_KIND], packet[PACKET_RUN], packet[PACKET_FROM], packet[PACKET_NUMBER], packet + PACKET_HEADER,
+                                packet[PACKET_LENGTH]});
+}
+
 /* the board ends or stops here, where that is asked for */
 static void befall_board(const char *killed, const char *halted, uint32_t board) {
   if (asked(killed, board)) raise(SIGKILL);
@@ -78,10 +86,11 @@ static void befall_board(const char *killed, const char *halted, uint32_t board)
 static enum status post_faulty(struct transport *t, uint32_t to, const uint32_t *words, size_t length) {
   if (befalls("lost", words)) return STATUS_DONE;
   if (befalls("cut", words)) length -= sizeof *words;
-  if (befalls("corrupted", words) || befalls("stale", words)) {
+  if (befalls("corrupted", words) || befalls("stale", words) || befalls("foreign", words)) {
     static uint32_t changed[1 << 15];
     memcpy(changed, words, length);
     if (befalls("stale", words)) make_stale(changed);
+    else if (befalls("foreign", words)) make_foreign(changed);
     else changed[length / sizeof *words - 1] ^= 128;
     words = changed;
   }
