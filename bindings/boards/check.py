@@ -239,6 +239,15 @@ def check_refusals(check):
         check.ends('usage ' + ' '.join(arguments), USAGE, ['boards: ' + said], model.ROWS['A'], arguments)
 
 
+def check_processes(check):
+    """What only MPI can meet, and ends that all processes have to agree on."""
+    row, seed = model.ROWS['A'], ['--seed', '1']
+    check.ends('processes', USAGE, ['the recipe has 2 boards and there are 3 processes: start it with mpirun -n 2\n'], row, seed, boards=3)
+    check.ends('ragged', REFUSED, ['boards: recipe refused 1, ragged: '], row[:-1], seed, boards=2)
+    check.ends('no source', FILE, ["boards: can't open %s: No such file or directory\n" % check.path('none')], row, ['--source', check.path('none')])
+    check.ends('differs', DIFFERS, ['board 0: the grid differs from the sweep: cell 63 is '], row, seed, 'BOARDS_FAULT=differs:0')
+
+
 def main(folder, mpi, seed, recipes):
     with tempfile.TemporaryDirectory() as scratch:
         check = Check(folder, mpi, scratch)
@@ -247,7 +256,7 @@ def main(folder, mpi, seed, recipes):
         check_mail_faults(check, model.ROWS['C'], 'indirect', 3)
         check_board_faults(check, model.ROWS['A'], 1)
         if mpi:
-            check.ends('processes', USAGE, ['the recipe has 2 boards and there are 3 processes'], model.ROWS['A'], ['--seed', '1'], boards=3)
+            check_processes(check)
         else:
             check_mail_faults(check, model.ROWS['A'], 'direct', 7)
             check_foreign(check)
