@@ -31,20 +31,26 @@ struct board {
   uint64_t taken;     /* messages taken in */
   uint8_t *marks;     /* room for one byte a message */
   double said;        /* when it last said that it is there */
+  uint32_t tile_cells;
 };
 
 /* ---- arrivals */
 
+static enum status not_due(const struct packet *packet) {
+  return tell(STATUS_DAMAGED, "mail of board %" PRIu32 ": message %" PRIu32 " with %zu words is not due here", packet->from, packet->number,
+              packet->length);
+}
+
+/* the engine tests taker, length and status; who sent it only the plan's row can tell */
 static enum status take_in(struct board *b, const struct packet *packet) {
-  const uint32_t number = areas_take_in(&b->areas, b->me, packet->number, packet->words, packet->length);
+  const uint32_t m = packet->number;
+  if (m < plan_messages(b->plan) && plan_message(b->plan, m)[ROLWYDDAC_ROW_SENDING_PROCESSOR] != packet->from) return not_due(packet);
+  const uint32_t number = areas_take_in(&b->areas, b->me, m, packet->words, packet->length);
   switch (number) {
     case ROLWYDDAC_DONE: b->taken++; return STATUS_DONE;
-    case ROLWYDDAC_NO_MAIL:
-      return tell(STATUS_DONE, "message %" PRIu32 " of board %" PRIu32 " came again: turned away", packet->number, packet->from);
+    case ROLWYDDAC_NO_MAIL: return tell(STATUS_DONE, "message %" PRIu32 " of board %" PRIu32 " came again: turned away", m, packet->from);
     case ROLWYDDAC_AREA:
-    case ROLWYDDAC_NO_SUCH:
-      return tell(STATUS_DAMAGED, "mail of board %" PRIu32 ": message %" PRIu32 " with %zu words is not due here", packet->from,
-                  packet->number, packet->length);
+    case ROLWYDDAC_NO_SUCH: return not_due(packet);
     default: return tell_refusal("taking in", number);
   }
 }
@@ -151,25 +157,24 @@ static enum status look_now_and_then(struct board *b) {
   return status;
 }
 
+/* what is to be done when a turn gave this number; `calculates`: it calculated a tile, if it gave 0 */
+static enum status after_turn(struct board *b, uint32_t number, bool calculates) {
+  if (number == ROLWYDDAC_WAITING) return await_mail(b);
+  if (number != ROLWYDDAC_DONE) return tell_refusal("turn", number);
+  if (calculates) work_on(b->tile_cells, b->options->work);
+  const enum status status = outbox_post_messages(&b->outbox, &b->areas);
+  return status == STATUS_DONE ? look_now_and_then(b) : status;
+}
+
 static enum status take_turns(struct board *b) {
   enum { CALCULATE = 1 };
-  const uint32_t tile_cells = work_cells(b->plan);
-  for (enum status status = STATUS_DONE; status == STATUS_DONE;) {
+  for (;;) {
     const bool calculates = b->areas.progress[b->me].stage == CALCULATE;
     const uint32_t number = areas_turn(&b->areas, b->me);
-    switch (number) {
-      case ROLWYDDAC_DONE:
-        if (calculates) work_on(tile_cells, b->options->work);
-        status = outbox_post_messages(&b->outbox, &b->areas);
-        if (status == STATUS_DONE) status = look_now_and_then(b);
-        break;
-      case ROLWYDDAC_WAITING: status = await_mail(b); break;
-      case ROLWYDDAC_FINISHED: return STATUS_DONE;
-      default: return tell_refusal("turn", number);
-    }
+    if (number == ROLWYDDAC_FINISHED) return STATUS_DONE;
+    const enum status status = after_turn(b, number, calculates);
     if (status != STATUS_DONE) return status;
   }
-  return STATUS_DONE;
 }
 
 /* ---- the end of a board */
@@ -244,6 +249,7 @@ enum status board_run(const struct options *options, const struct job *job, stru
       .me = transport_me(transport),
       .joined = joined,
       .said = now(),
+      .tile_cells = work_cells(&job->plan),
   };
   enum status status = make(&b, job);
   const bool made = status == STATUS_DONE;

@@ -186,8 +186,13 @@ def check_board_faults(check, encoded, board):
     check.ends('halted when all is posted', TIMEOUT, late, encoded, given, 'BOARDS_FAULT=halted-late:%d' % board, writes=True)
 
 
-def check_foreign(check):
-    """Mail of a run of another recipe, with this run's number: the check word is over the recipe too."""
+def check_strays(check):
+    """Mail of a run of another recipe, with this run's number: the check word is over the recipe too. Mail that is another board's."""
+    plan = model.plan_of(model.ROWS['C'])[1]
+    message = plan.messages[0]
+    wrong = (plan.board_of[message.taker] + 1) % plan.boards
+    stray = 'board %d: mail of board %d: message 0 with %d words is not due here\n' % (wrong, plan.board_of[message.sender], len(message.cells))
+    check.ends('misrouted', DAMAGED, [stray], model.ROWS['C'], ['--seed', '1'], 'BOARDS_FAULT=misrouted:0')
     said = 'board 1: mail of board 0 is corrupt: its check word is not that of what came\n'
     check.ends('foreign', DAMAGED, [said], model.ROWS['A'], ['--seed', '1'], 'BOARDS_FAULT=foreign:0')
 
@@ -259,7 +264,7 @@ def main(folder, mpi, seed, recipes):
             check_processes(check)
         else:
             check_mail_faults(check, model.ROWS['A'], 'direct', 7)
-            check_foreign(check)
+            check_strays(check)
             check_part_faults(check)
             check_files(check)
             check_refusals(check)

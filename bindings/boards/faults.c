@@ -1,6 +1,7 @@
 /* Faults, delays and another order of mail, laid over a transport when a program for the tests is linked (build, --wrap). Told by the environment:
  *
- *    BOARDS_FAULT    lost, doubled, corrupted, cut, stale or foreign (of another recipe), and a message's number: lost:7; or a board's part: lost-part:2
+ *    BOARDS_FAULT    lost, doubled, corrupted, cut, stale, foreign (of another recipe) or misrouted (to the next board), and a message's
+ *                    number: lost:7; or a board's part: lost-part:2
  *                    killed or halted, and a board: before it posts its first message, or its part: halted-part:2; halted-late: when all is posted
  *                    differs:0: the sweep's last word is another
  *    BOARDS_DELAY    a seed and the most microseconds that a post and a look wait: 5:2000
@@ -15,6 +16,9 @@
 #include "calls.h"
 #include "packet.h"
 #include "transport.h"
+
+/* the boards of the recipe whose messages are misrouted: row C's */
+enum { MISROUTED_AMONG = 4 };
 
 /* names that the linker makes */
 enum status __real_transport_post(struct transport *t, uint32_t to, const void *bytes, size_t length);
@@ -86,6 +90,7 @@ static void befall_board(const char *killed, const char *halted, uint32_t board)
 static enum status post_faulty(struct transport *t, uint32_t to, const uint32_t *words, size_t length) {
   if (befalls("lost", words)) return STATUS_DONE;
   if (befalls("cut", words)) length -= sizeof *words;
+  if (befalls("misrouted", words)) to = (to + 1) % MISROUTED_AMONG;
   if (befalls("corrupted", words) || befalls("stale", words) || befalls("foreign", words)) {
     static uint32_t changed[1 << 15];
     memcpy(changed, words, length);

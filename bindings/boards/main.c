@@ -81,7 +81,7 @@ int main(int argc, char **argv) {
   if (!transport_reads(transport)) tell_nothing();
   struct options options;
   bool over = false;
-  enum status status = options_read(argc, argv, &options, &over);
+  enum status status = options_read(argc, argv, transport_reads(transport), &options, &over);
   if (status == STATUS_DONE && !over) status = run(&options, transport);
   if (fflush(stdout) != 0 && status == STATUS_DONE) status = tell(STATUS_FILE, "can't write to standard output");
   transport_close(transport, status);

@@ -80,18 +80,20 @@ static enum status take(int option, const char *text, struct options *out, bool 
   }
 }
 
-enum status options_read(int argc, char **argv, struct options *out, bool *over) {
+static void print(int option) {
+  if (option == HELP) fputs(usage, stdout);
+  else printf("boards, Rolwyddac %s\n", rolwyddac_version());
+}
+
+enum status options_read(int argc, char **argv, bool prints, struct options *out, bool *over) {
   *out = (struct options){.route = ROLWYDDAC_DIRECT, .timeout = 10, .verify = true};
   *over = false;
   bool seeded = false;
   opterr = 0;
   for (int option; (option = getopt_long(argc, argv, "", names, NULL)) != -1;) {
-    if (option == HELP || option == VERSION) {
-      *over = true;
-      if (option == HELP) fputs(usage, stdout);
-      else printf("boards, Rolwyddac %s\n", rolwyddac_version());
-      return STATUS_DONE;
-    }
+    *over = option == HELP || option == VERSION;
+    if (*over && prints) print(option);
+    if (*over) return STATUS_DONE;
     const enum status status = take(option, optarg, out, &seeded);
     if (status != STATUS_DONE) return status;
   }

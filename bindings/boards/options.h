@@ -21,7 +21,7 @@ struct options {
   uint32_t work; /* rounds of extra work a cell */
 };
 
-/* Reads the command line. `over` is set where there is nothing to run: help or version was asked for and was printed. */
-enum status options_read(int argc, char **argv, struct options *out, bool *over);
+/* Reads the command line. `over` is set where there is nothing to run: help or version was asked for, and `prints` has it printed. */
+enum status options_read(int argc, char **argv, bool prints, struct options *out, bool *over);
 
 #endif
