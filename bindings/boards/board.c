@@ -55,10 +55,17 @@ static enum status take_in(struct board *b, const struct packet *packet) {
   }
 }
 
+/* the areas to join in are made when the first part is there: at the start all others wait for board 0's first tile */
+static enum status make_joined(struct board *b) {
+  return b->joined->plan != NULL ? STATUS_DONE : areas_make(b->joined, b->plan, b->areas.source);
+}
+
 static enum status join_part(struct board *b, const struct packet *packet) {
   if (b->me != 0 || packet->length != join_length(b->plan))
     return tell(STATUS_DAMAGED, "mail of board %" PRIu32 ": a part that is not due here", packet->from);
   if (b->peers[packet->from].joined) return tell(STATUS_DONE, "the part of board %" PRIu32 " came again: turned away", packet->from);
+  const enum status status = make_joined(b);
+  if (status != STATUS_DONE) return status;
   b->peers[packet->from].joined = true;
   join_put(b->joined, packet->from, packet->words);
   return STATUS_DONE;
@@ -209,11 +216,16 @@ static enum status see_mail_off(struct board *b) {
   return status;
 }
 
+static enum status hand_in(struct board *b) {
+  if (b->me != 0) return outbox_post_part(&b->outbox, &b->areas);
+  const enum status status = make_joined(b);
+  if (status == STATUS_DONE) join_own(b->joined, &b->areas, 0);
+  return status;
+}
+
 /* hands its part in, and stays until all others have finished: their last mail is heeded, if it is a repeat */
 static enum status finish(struct board *b) {
-  enum status status = STATUS_DONE;
-  if (b->me == 0) join_own(b->joined, &b->areas, 0);
-  else status = outbox_post_part(&b->outbox, &b->areas);
+  enum status status = hand_in(b);
   if (status == STATUS_DONE) status = outbox_post_all(&b->outbox, PACKET_FAREWELL, 0);
   if (status == STATUS_DONE) status = await_farewells(b);
   if (status == STATUS_DONE) status = see_mail_off(b);
@@ -232,13 +244,12 @@ static void end_early(struct board *b, enum status status) {
 }
 
 static enum status make(struct board *b, const struct job *job) {
-  enum status status = outbox_make(&b->outbox, b->transport, b->plan, job->run);
+  const enum status status = outbox_make(&b->outbox, b->transport, b->plan, job->run);
   if (status != STATUS_DONE) return status;
   b->peers = calloc(plan_boards(b->plan), sizeof *b->peers);
   b->marks = malloc((size_t)plan_messages(b->plan) + 1);
   if (b->peers == NULL || b->marks == NULL) return tell_no_memory();
-  if (b->me == 0) status = areas_make(b->joined, b->plan, job->source);
-  return status == STATUS_DONE ? areas_make(&b->areas, b->plan, job->source) : status;
+  return areas_make(&b->areas, b->plan, job->source);
 }
 
 enum status board_run(const struct options *options, const struct job *job, struct transport *transport, struct areas *joined) {

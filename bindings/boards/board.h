@@ -9,8 +9,8 @@
 #include "status.h"
 #include "transport.h"
 
-/* Runs the board that this process is, to the end of all boards. At board 0 `joined` has all boards' parts then, and is freed by the caller;
- * elsewhere it is not touched. Where the run ends early the other boards are told. */
+/* Runs the board that this process is, to the end of all boards. At board 0 `joined`, empty before, has all boards' parts then; the caller
+ * frees it. Where the run ends early the other boards are told. */
 enum status board_run(const struct options *options, const struct job *job, struct transport *transport, struct areas *joined);
 
 #endif
