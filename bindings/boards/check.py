@@ -57,6 +57,13 @@ class Check:
             file.write(content)
         return self.path(name)
 
+    def taken(self, name):
+        """What a file has, which is then removed."""
+        with open(self.path(name), 'rb') as file:
+            content = file.read()
+        os.remove(self.path(name))
+        return content
+
     def start(self, boards, arguments, fault='', limit=None, full=False):
         environment = dict(os.environ, OMPI_ALLOW_RUN_AS_ROOT='1', OMPI_ALLOW_RUN_AS_ROOT_CONFIRM='1')
         environment.update(item.split('=', 1) for item in fault.split())
@@ -77,20 +84,20 @@ class Check:
         source = [random.Random(seed).randrange(2 ** 32) for _ in range(plan.cells)]
         arguments = [self.put('recipe', encoded), '--source', self.put('source', words_of(source)), '--grid', self.path('grid'), '--route', route]
         ran = self.start(plan.boards, arguments, fault)
-        found = None
-        if ran.returncode == DONE:
-            with open(self.path('grid'), 'rb') as file:
-                found = file.read()
-            os.remove(self.path('grid'))
+        found = self.taken('grid') if ran.returncode == DONE else None
+        line = 'boards %d messages %d words %d: done, equal to the sweep, grid in %s\n' % (
+            plan.boards, len(plan.messages), plan.words, self.path('grid'))
         if found != words_of(plan.swept(source)):
             self.blame(what, ran, 'the grid is not the model\'s')
+        elif self.taken('said') != line.encode():
+            self.blame(what, ran, 'it does not print %r' % line)
         elif said not in ran.stderr or (not said and ran.stderr):
             self.blame(what, ran, 'it says other than %r' % said)
 
     def ends(self, what, status, said, encoded, arguments, fault='', boards=None, limit=None, full=False, writes=False):
         """A run ends with the status, tells the texts, leaves the grid's file as it was, unless it ends after writing it, and nothing beside it."""
         grid, recipe = self.put('grid', OLD), self.put('recipe', encoded)
-        before = set(os.listdir(self.scratch)) | {'said'}
+        before = set(os.listdir(self.scratch)) | (set() if full else {'said'})
         plan = model.plan_of(encoded)[1]
         ran = self.start(boards or (plan.boards if plan else 1), [recipe, '--grid', grid] + arguments, fault, limit, full)
         with open(grid, 'rb') as file:

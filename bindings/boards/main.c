@@ -37,7 +37,7 @@ static enum status print_times(const struct options *options, const struct job *
 
 static void print_done(const struct options *options, const struct job *job) {
   const struct plan *plan = &job->plan;
-  printf("%" PRIu32 " boards, %" PRIu32 " messages of %zu words: done%s%s%s\n", plan_boards(plan), plan_messages(plan), plan->sizes.buffer,
+  printf("boards %" PRIu32 " messages %" PRIu32 " words %zu: done%s%s%s\n", plan_boards(plan), plan_messages(plan), plan->sizes.buffer,
          options->verify ? ", equal to the sweep" : "", options->grid != NULL ? ", grid in " : "",
          options->grid != NULL ? options->grid : "");
 }
