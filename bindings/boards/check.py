@@ -23,6 +23,8 @@ import model  # noqa: E402
 ROUTES = {'direct': model.DIRECT, 'indirect': model.INDIRECT}
 DONE, REFUSED, USAGE, TIMEOUT, DAMAGED, LOST, DIFFERS, FILE, MACHINE = range(9)
 OLD = b'what the file had before'
+# seconds that a board waits where mail does not come: more than a loaded machine keeps any board from running
+PATIENCE = '0.8'
 
 
 def words_of(values):
@@ -166,7 +168,8 @@ def check_mail_faults(check, encoded, route, m):
     mail = 'board %d: mail of board %d is ' % (taker, sender)
     size = 4 * (6 + len(plan.messages[m].cells))
     label = ', message %d, %s' % (m, route)
-    check.ends('lost' + label, TIMEOUT, [waits(plan, m), ': no mail for 0.4 seconds\n'], encoded, given + ['--timeout', '0.4'], 'BOARDS_FAULT=lost:%d' % m)
+    check.ends('lost' + label, TIMEOUT, [waits(plan, m), ': no mail for %s seconds\n' % PATIENCE], encoded, given + ['--timeout', PATIENCE],
+               'BOARDS_FAULT=lost:%d' % m)
     check.sweeps('doubled' + label, encoded, route, 'BOARDS_FAULT=doubled:%d' % m,
                  said='board %d: message %d of board %d came again: turned away\n' % (taker, m, sender))
     check.ends('corrupted' + label, DAMAGED, [mail + 'corrupt: its check word is not that of what came\n'], encoded, given, 'BOARDS_FAULT=corrupted:%d' % m)
@@ -178,7 +181,7 @@ def check_board_faults(check, encoded, board):
     """A board that is killed or halted, before its first message or before it hands in its part."""
     plan = model.plan_of(encoded)[1]
     first = min(m for m, message in enumerate(plan.messages) if plan.board_of[message.sender] == board)
-    given = ['--seed', '1', '--timeout', '0.4']
+    given = ['--seed', '1', '--timeout', PATIENCE]
     check.ends('halted', TIMEOUT, [waits(plan, first)], encoded, given, 'BOARDS_FAULT=halted:%d' % board)
     if check.mpi:
         # mpirun ends the others, and tells it in its own words and by its own status
@@ -187,9 +190,9 @@ def check_board_faults(check, encoded, board):
     lost = ['boards: board %d was ended by signal 9\n' % board, ': board %d is lost: it ended before it had finished\n' % board]
     check.ends('killed', LOST, lost, encoded, ['--seed', '1'], 'BOARDS_FAULT=killed:%d' % board)
     check.ends('killed at its end', LOST, lost, encoded, ['--seed', '1'], 'BOARDS_FAULT=killed-part:%d' % board)
-    unheard = ': has finished, and nothing was heard of board %d for 0.4 seconds\n' % board
+    unheard = ': has finished, and nothing was heard of board %d for %s seconds\n' % (board, PATIENCE)
     check.ends('halted at its end', TIMEOUT, [unheard], encoded, given, 'BOARDS_FAULT=halted-part:%d' % board)
-    late = ['boards: a board has not ended 0.4 seconds after another\n']
+    late = ['boards: a board has not ended %s seconds after another\n' % PATIENCE]
     check.ends('halted when all is posted', TIMEOUT, late, encoded, given, 'BOARDS_FAULT=halted-late:%d' % board, writes=True)
 
 
