@@ -287,9 +287,10 @@ static void close_line(struct transport *t, uint32_t board) {
   move_on(t, board);
 }
 
-/* what is there of one board. Nothing may be: ECONNRESET only says that it closed its end before it had read all */
+/* What is there of one board. Nothing may be: ECONNRESET only says that it closed its end before it had read all. A packet that is longer than any
+ * is cut by the room. */
 static enum transport_event take_one(struct transport *t, uint32_t from, struct arrival *out) {
-  const ssize_t length = recv(t->ends[from].fd, t->room, t->room_bytes, MSG_TRUNC);
+  const ssize_t length = recv(t->ends[from].fd, t->room, t->room_bytes, 0);
   *out = (struct arrival){.from = from, .words = t->room, .bytes = length < 0 ? 0 : (size_t)length};
   if (length > 0) return TRANSPORT_PACKET;
   if (length < 0) return TRANSPORT_NOTHING;
