@@ -1,6 +1,6 @@
 """Times the program boards: 1, 2, 4 and 8 processes on one recipe, with more and more extra work a cell. Run as
 
-    python3 bindings/boards/measure.py FOLDER [--rounds 15] [--mpi]
+    python3 bindings/boards/measure.py FOLDER [--rounds 15] [--works 0 10 30 100 300 1000 3000] [--mpi]
 
 with the folder of the program (bindings/boards/build). N 128,128, k 16,16, distances (1,0) (0,1) (1,1), as in docs/BENCHMARKS.md. All take turns
 within a round; a ratio is the median over the rounds, a time the best round. A run's time is from the moment at which all processes are there until board 0
@@ -19,7 +19,7 @@ sys.dont_write_bytecode = True
 sys.path.insert(0, os.path.join(os.path.dirname(os.path.abspath(__file__)), '..', '..', 'tools'))
 import model  # noqa: E402
 
-CELLS, BOARDS, WORKS = 128 * 128, (1, 2, 4, 8), (0, 10, 30, 100, 300, 1000, 3000)
+CELLS, BOARDS = 128 * 128, (1, 2, 4, 8)
 
 
 def timed(command):
@@ -46,7 +46,7 @@ def ratio(times, others):
     return statistics.median(a / b for a, b in zip(times, others))
 
 
-def main(folder, rounds, mpi):
+def main(folder, rounds, works, mpi):
     titles = ['extra work a cell, ns', 'sweep µs'] + ['%d process%s µs' % (b, 'es' if b > 1 else '') for b in BOARDS]
     titles += ['%d to 1' % b for b in BOARDS[1:]] + ['1 to the sweep', '2 to the sweep']
     print('| ' + ' | '.join(titles) + ' |\n' + '|---' * len(titles) + '|')
@@ -54,7 +54,7 @@ def main(folder, rounds, mpi):
         for boards in BOARDS:
             with open(os.path.join(scratch, str(boards)), 'wb') as file:
                 file.write(model.encode([128, 128], [16, 16], [boards, 0], [(1, 0), (0, 1), (1, 1)]))
-        for work in WORKS:
+        for work in works:
             commands = {}
             for boards in BOARDS:
                 start = ['mpirun', '--oversubscribe', '-n', str(boards), os.path.join(folder, 'boards_mpi')] if mpi else [os.path.join(folder, 'boards')]
@@ -71,6 +71,7 @@ if __name__ == '__main__':
     parser = argparse.ArgumentParser(description=__doc__, formatter_class=argparse.RawDescriptionHelpFormatter)
     parser.add_argument('folder')
     parser.add_argument('--rounds', type=int, default=15)
+    parser.add_argument('--works', type=int, nargs='+', default=[0, 10, 30, 100, 300, 1000, 3000])
     parser.add_argument('--mpi', action='store_true')
     given = parser.parse_args()
-    main(given.folder, given.rounds, given.mpi)
+    main(given.folder, given.rounds, given.works, given.mpi)
