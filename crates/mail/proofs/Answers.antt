@@ -43,7 +43,8 @@ module _ (l : List ℕ) (route : ℕ) (out : List ℕ) where
         ≡ messagesCall l route out
     unfolding messagesCall
     messages-at =
-        ap (λ (q : Plan). answered (firstOf (linesFor (routeOf route) l ++ (line 9 (not (eqb (length out) (6 * count q))) ∷ []))) (rowsTo q (count q)) out) (o .is)
+        ap (λ (q : Plan). answered (firstOf (linesFor (routeOf route) l ++ (line 9 (not (eqb (length out) (6 * count q))) ∷ []))) (rowsTo q (count q))
+        out) (o .is)
 
     pub messages-area : length out ≢ 6 * count p → answer 9 out ≡ messagesCall l route out
     messages-area h =
@@ -170,6 +171,7 @@ module _ (l : List ℕ) (route : ℕ) (source : List ℕ) (s : State) (b m : ℕ
           t
           ∙ ap (λ (n : ℕ). answered n (received p s m ws) s)
           (sym
-          (first-behind (linesFor (routeOf route) l) (longLine p source s m ws ∷ line 10 (not (fit p s)) ∷ takingLines p s b m) (numbered-for (routeOf route) l) (o .none)
+          (first-behind (linesFor (routeOf route) l) (longLine p source s m ws ∷ line 10 (not (fit p s)) ∷ takingLines p s b m)
+          (numbered-for (routeOf route) l) (o .none)
           ∙ same-lines ∙ first-false 9 (not (areas p source s)) _ (not-true (q .0)) ∙ first-false 10 (not (fit p s)) (takingLines p s b m) (not-true (q .1))))
           ∙ take-in-at

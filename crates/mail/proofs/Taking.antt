@@ -91,7 +91,8 @@ module _ (p : Plan) (s : State) (b m : ℕ) (ws : List ℕ) where
       pub taken-in : getD (s .status) m 0 ≡ 0 → (buffer : List ℕ) → buffer ≡ put (s .buffer) (offset (p .messages) m) ws
           → answer 0 (stateOf (s .memories) buffer (s .progress) (set (s .status) m 2)) ≡ receivedOr p s b m ws
       unfolding number
-      taken-in h buffer q = ap (λ (l : List ℕ). answer 0 (stateOf (s .memories) l (s .progress) (set (s .status) m 2))) q ∙ answered-yes _ (received p s m ws) s (free h)
+      taken-in h buffer q = ap (λ (l : List ℕ). answer 0 (stateOf (s .memories) l (s .progress) (set (s .status) m 2))) q ∙ answered-yes _
+          (received p s m ws) s (free h)
 
 -- ---- the words in their place
 

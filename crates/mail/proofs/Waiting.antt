@@ -111,7 +111,8 @@ module _ (p : Plan) (status : List ℕ) (t : ℕ) where
           at-i i (inl q) s = absurd (s (ap (λ (k : ℕ). getD status k 0) (ap (λ (k : ℕ). getD (duesOf p t) k 0) q ∙ sym e) ∙ h))
           at-i i (inr q) s = g .hit i q s
 
-      pub mark-next : (marks′ : List ℕ) → ((getD status d 0 ≢ 2) × (marks′ ≡ set marks d 1)) ⊎ ((getD status d 0 ≡ 2) × (marks′ ≡ marks)) → Marking marks′ n (j + 1)
+      pub mark-next : (marks′ : List ℕ) → ((getD status d 0 ≢ 2) × (marks′ ≡ set marks d 1)) ⊎ ((getD status d 0 ≡ 2) × (marks′ ≡ marks)) → Marking
+          marks′ n (j + 1)
       mark-next marks′ (inl (h, q)) = rw q (mark-hit h)
       mark-next marks′ (inr (h, q)) = rw q (mark-miss h)
 
@@ -207,7 +208,8 @@ module _ (p : Plan) (s : State) (w : Waits) where
 
     pub unasked-0 : fit p s ≡ true → 0 ≡ firstOf (unaskedLines p s w)
     unfolding firstOf
-    unasked-0 e = sym (first-false 9 (not (waitAreas p s w)) (line 10 (not (fit p s)) ∷ []) (not-true areas-fit) ∙ first-false 10 (not (fit p s)) [] (not-true e))
+    unasked-0 e = sym (first-false 9 (not (waitAreas p s w)) (line 10 (not (fit p s)) ∷ []) (not-true areas-fit) ∙ first-false 10 (not (fit p s)) []
+        (not-true e))
 
   -- none of them holds
   module _ (r : ℕ) (e : r ≡ firstOf (unaskedLines p s w)) (z : r ≡ 0) where

@@ -181,7 +181,8 @@ fn tell_awaited(
     requires { ⌜ Planned nest sizes (now lens) ⌝ }
     requires { ⌜ MayAsk (planOf (sizes .route) nest) (stateOf [] [] (now progress) (now status)) b (waitsOf (now marks) (now out)) ⌝ }
     ensures { λ r. ⌜ answer r (waitsOf (now (marks .exit)) (now (out .exit)))
-        ≡ waitedOr13 (planOf (sizes .route) nest) (stateOf [] [] (now (progress .entry)) (now (status .entry))) b (waitsOf (now (marks .entry)) (now (out .entry))) ⌝ }
+        ≡ waitedOr13 (planOf (sizes .route) nest) (stateOf [] [] (now (progress .entry)) (now (status .entry))) b
+        (waitsOf (now (marks .entry)) (now (out .entry))) ⌝ }
 {
     let i = word_index(progress[3 * b]);
     let stage = progress[3 * b + 1];

@@ -50,7 +50,9 @@ returns-2 c =
     let sizes-of = c .before .before .before .before .before .before .sizes-of in
     let read-for = c .before .before .before .before .before .before .before .before .before .before .read-for in
     answers.messages-area (S .args .encoded .now) (S .args .route) (S .args .out .now) (planOf (sizes-of .result .route) (read-for .result .nest))
-    (lines.opened (S .args .encoded .now) (read-for .result) (read-for .ensures) (c .before .before .before .before .before .before .before .before .before .if1 .left) (sizes-of .ensures .1 ∙ c .before .before .before .before .before .before .before .route-of .ensures))
+    (lines.opened (S .args .encoded .now) (read-for .result) (read-for .ensures)
+    (c .before .before .before .before .before .before .before .before .before .if1 .left)
+    (sizes-of .ensures .1 ∙ c .before .before .before .before .before .before .before .route-of .ensures))
     (λ q. c .if2 .taken (q ∙ ap (λ (n : ℕ). 6 * n) (sym (c .before .before .totals .ensures .0))))
 
 put-rows-requires : tie.Need-put-rows-requires
@@ -71,8 +73,11 @@ returns-3 c =
     let sizes-of = c .before .before .before .before .before .before .before .before .before .before .before .sizes-of in
     let read-for = c .before .before .before .before .before .before .before .before .before .before .before .before .before .before .before .read-for in
     answers.messages-done (S .args .encoded .now) (S .args .route) (S .args .out .now) (planOf (sizes-of .result .route) (read-for .result .nest))
-    (lines.opened (S .args .encoded .now) (read-for .result) (read-for .ensures) (c .before .before .before .before .before .before .before .before .before .before .before .before .before .before .if1 .left) (sizes-of .ensures .1 ∙ c .before .before .before .before .before .before .before .before .before .before .before .before .route-of .ensures))
-    (c .before .before .before .before .before .if2 .left ∙ ap (λ (n : ℕ). 6 * n) (c .before .before .before .before .before .before .before .totals .ensures .0))
+    (lines.opened (S .args .encoded .now) (read-for .result) (read-for .ensures)
+    (c .before .before .before .before .before .before .before .before .before .before .before .before .before .before .if1 .left)
+    (sizes-of .ensures .1 ∙ c .before .before .before .before .before .before .before .before .before .before .before .before .route-of .ensures))
+    (c .before .before .before .before .before .if2 .left ∙ ap (λ (n : ℕ). 6 * n)
+    (c .before .before .before .before .before .before .before .totals .ensures .0))
     _ (c .before .before .put-rows .ensures)
 
 pub messages-spec : {M : Type 1} → statement M

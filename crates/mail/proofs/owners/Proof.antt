@@ -46,7 +46,8 @@ returns-3 c =
     let S = c .before .before .before .before .before .before .before .before .before .before .before .before in
     let read = c .before .before .before .before .before .before .before .before .before .read in
     answers.owners-done (S .args .encoded .now) (S .args .out .now) (planOf Direct (read .result .nest))
-    (lines.opened-direct (S .args .encoded .now) (read .result) (read .ensures .0) (c .before .before .before .before .before .before .before .before .if1 .left) {route = Direct} refl)
+    (lines.opened-direct (S .args .encoded .now) (read .result) (read .ensures .0)
+    (c .before .before .before .before .before .before .before .before .if1 .left) {route = Direct} refl)
     (c .before .before .before .before .if2 .left ∙ c .before .before .before .before .before .before .sizes-of .ensures .0 .cells) _
     (c .before .before .put-owners .ensures)
 

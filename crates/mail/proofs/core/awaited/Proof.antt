@@ -59,7 +59,9 @@ returns-2 c =
     let unasked = c .before .unasked in
     λ l h. answers.awaited-unasked (S .args .encoded .now) (S .args .route) (stateOf [] [] l (S .args .status .now)) (S .args .processor)
     (waitsOf (S .args .marks .now) (S .args .out .now)) (planOf (sizes-of .result .route) (read-for .result .nest))
-    (lines.opened (S .args .encoded .now) (read-for .result) (read-for .ensures) (c .before .before .before .before .before .before .before .before .if1 .left) (sizes-of .ensures .1 ∙ c .before .before .before .before .before .before .route-of .ensures))
+    (lines.opened (S .args .encoded .now) (read-for .result) (read-for .ensures)
+    (c .before .before .before .before .before .before .before .before .if1 .left)
+    (sizes-of .ensures .1 ∙ c .before .before .before .before .before .before .route-of .ensures))
     (unasked .result) (unasked .ensures .0 l (S .args .marks .now) (S .args .out .now) h refl refl) (c .if2 .taken)
 
 returns-3 : tie.Need-returns-3
@@ -70,7 +72,9 @@ returns-3 c =
     let unasked = c .before .before .before .unasked in
     λ l h. answers.awaited-beyond (S .args .encoded .now) (S .args .route) (stateOf [] [] l (S .args .status .now)) (S .args .processor)
     (waitsOf (S .args .marks .now) (S .args .out .now)) (planOf (sizes-of .result .route) (read-for .result .nest))
-    (lines.opened (S .args .encoded .now) (read-for .result) (read-for .ensures) (c .before .before .before .before .before .before .before .before .before .before .if1 .left) (sizes-of .ensures .1 ∙ c .before .before .before .before .before .before .before .before .route-of .ensures))
+    (lines.opened (S .args .encoded .now) (read-for .result) (read-for .ensures)
+    (c .before .before .before .before .before .before .before .before .before .before .if1 .left)
+    (sizes-of .ensures .1 ∙ c .before .before .before .before .before .before .before .before .route-of .ensures))
     (unasked .result) (unasked .ensures .0 l (S .args .marks .now) (S .args .out .now) h refl refl) (c .before .before .if2 .left)
     (omega (arith, sizes-of .ensures .0 .processors, c .if3 .taken))
 
@@ -82,25 +86,32 @@ part-tell-awaited-start c = search needs
 
 part-tell-awaited-end : tie.Need-part-tell-awaited-end
 part-tell-awaited-end c =
-    let S = c .before .before .before .before .before .before .before .before .before .before .before .before .before .before .before .before .before .before .before in
+    let S = c .before .before .before .before .before .before .before .before .before .before .before .before .before .before .before .before .before
+    .before .before in
     omega (
       arith,
       S .pre,
-      (reading.few-words _ _ (c .before .before .before .before .before .before .before .before .before .before .sizes-of .ensures .0) (S .args .progress .count) (c .before .before .before .before .before .before .unasked .ensures .1 (c .before .before .before .before .before .if2 .left))),
+      (reading.few-words _ _ (c .before .before .before .before .before .before .before .before .before .before .sizes-of .ensures .0)
+          (S .args .progress .count) (c .before .before .before .before .before .before .unasked .ensures .1
+          (c .before .before .before .before .before .if2 .left))),
     )
 
 tell-awaited-requires : tie.Need-tell-awaited-requires
 tell-awaited-requires c κs =
     let sizes-of = c .before .before .before .before .before .before .before .before .before .before .before .before .before .sizes-of in
-    let S = c .before .before .before .before .before .before .before .before .before .before .before .before .before .before .before .before .before .before .before .before .before .before in
+    let S = c .before .before .before .before .before .before .before .before .before .before .before .before .before .before .before .before .before
+    .before .before .before .before .before in
     let unasked = c .before .before .before .before .before .before .before .before .before .unasked in
     let if2 = c .before .before .before .before .before .before .before .before .if2 in (
       (sizes-of .ensures .0, c .before .before .before .before .before .before .before .before .before .before .before .fill .ensures),
       waiting.may-ask
-          (planOf (sizes-of .result .route) (c .before .before .before .before .before .before .before .before .before .before .before .before .before .before .before .before .before .read-for .result .nest))
+          (planOf (sizes-of .result .route) (c .before .before .before .before .before .before .before .before .before .before .before .before .before
+          .before .before .before .before .read-for .result .nest))
           (stateOf [] [] (take (S .args .progress .count - 0) (drop 0 (S .args .progress .words))) (S .args .status .now))
           (waitsOf (S .args .marks .now) (S .args .out .now)) (unasked .result)
-          (unasked .ensures .0 (take (S .args .progress .count - 0) (drop 0 (S .args .progress .words))) (S .args .marks .now) (S .args .out .now) (reading.part-carries (S .args .progress) (S .pre) (reading.few-words _ _ (sizes-of .ensures .0) (S .args .progress .count) (unasked .ensures .1 (if2 .left)))) refl refl)
+          (unasked .ensures .0 (take (S .args .progress .count - 0) (drop 0 (S .args .progress .words))) (S .args .marks .now) (S .args .out .now)
+          (reading.part-carries (S .args .progress) (S .pre) (reading.few-words _ _ (sizes-of .ensures .0) (S .args .progress .count)
+          (unasked .ensures .1 (if2 .left)))) refl refl)
           (if2 .left) (S .args .processor) (omega (arith, sizes-of .ensures .0 .processors, c .before .before .before .before .before .before .if3 .left)),
     )
 
@@ -112,18 +123,27 @@ same-length-2 c = search needs
 
 returns-4 : tie.Need-returns-4
 returns-4 c =
-    let S = c .before .before .before .before .before .before .before .before .before .before .before .before .before .before .before .before .before .before .before .before .before .before .before .before .before .before .before in
-    let sizes-of = c .before .before .before .before .before .before .before .before .before .before .before .before .before .before .before .before .before .before .sizes-of in
-    let read-for = c .before .before .before .before .before .before .before .before .before .before .before .before .before .before .before .before .before .before .before .before .before .before .read-for in
+    let S = c .before .before .before .before .before .before .before .before .before .before .before .before .before .before .before .before .before
+    .before .before .before .before .before .before .before .before .before .before in
+    let sizes-of = c .before .before .before .before .before .before .before .before .before .before .before .before .before .before .before .before
+    .before .before .sizes-of in
+    let read-for = c .before .before .before .before .before .before .before .before .before .before .before .before .before .before .before .before
+    .before .before .before .before .before .before .read-for in
     let unasked = c .before .before .before .before .before .before .before .before .before .before .before .before .before .before .unasked in
     let if2 = c .before .before .before .before .before .before .before .before .before .before .before .before .before .if2 in
     λ l h. answers.awaited-told (S .args .encoded .now) (S .args .route) (stateOf [] [] l (S .args .status .now)) (S .args .processor)
     (waitsOf (S .args .marks .now) (S .args .out .now)) (planOf (sizes-of .result .route) (read-for .result .nest))
-    (lines.opened (S .args .encoded .now) (read-for .result) (read-for .ensures) (c .before .before .before .before .before .before .before .before .before .before .before .before .before .before .before .before .before .before .before .before .before .if1 .left) (sizes-of .ensures .1 ∙ c .before .before .before .before .before .before .before .before .before .before .before .before .before .before .before .before .before .before .before .route-of .ensures))
+    (lines.opened (S .args .encoded .now) (read-for .result) (read-for .ensures)
+    (c .before .before .before .before .before .before .before .before .before .before .before .before .before .before .before .before .before .before
+    .before .before .before .if1 .left) (sizes-of .ensures .1 ∙ c .before .before .before .before .before .before .before .before .before .before
+    .before .before .before .before .before .before .before .before .before .route-of .ensures))
     (unasked .result) (unasked .ensures .0 l (S .args .marks .now) (S .args .out .now) h refl refl) (if2 .left)
     (omega (arith, sizes-of .ensures .0 .processors, c .before .before .before .before .before .before .before .before .before .before .before .if3 .left))
     _
-    (c .before .before .before .before .tell-awaited .ensures ∙ ap (λ (k : List ℕ). waitedOr13 (planOf (sizes-of .result .route) (read-for .result .nest)) (stateOf [] [] k (S .args .status .now)) (S .args .processor) (waitsOf (S .args .marks .now) (S .args .out .now))) (reading.part-is (S .args .progress) l (reading.few-words _ _ (sizes-of .ensures .0) (S .args .progress .count) (unasked .ensures .1 (if2 .left))) h))
+    (c .before .before .before .before .tell-awaited .ensures ∙ ap (λ (k : List ℕ). waitedOr13
+    (planOf (sizes-of .result .route) (read-for .result .nest)) (stateOf [] [] k (S .args .status .now)) (S .args .processor)
+    (waitsOf (S .args .marks .now) (S .args .out .now))) (reading.part-is (S .args .progress) l
+    (reading.few-words _ _ (sizes-of .ensures .0) (S .args .progress .count) (unasked .ensures .1 (if2 .left))) h))
 
 pub awaited-spec : {M : Type 1} → statement M
 awaited-spec =

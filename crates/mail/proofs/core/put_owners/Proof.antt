@@ -67,7 +67,8 @@ tile-of-requires c κs =
       S .pre .0,
       omega (
         arith,
-        (owners.row-ends (S .args .t1) (S .pre .0 .accepted) (row-count .result) (c .before .before .before .loop .q) _ refl (row-count .ensures) (c .before .before .loop-test .taken)),
+        (owners.row-ends (S .args .t1) (S .pre .0 .accepted) (row-count .result) (c .before .before .before .loop .q) _ refl (row-count .ensures)
+            (c .before .before .loop-test .taken)),
         owners.wide-some (S .args .t1) (S .pre .0 .accepted),
       ),
     )
@@ -81,7 +82,8 @@ add-end c =
     let row-count = c .before .before .before .before .before .before .row-count in
     omega (
       arith,
-      (owners.row-ends (S .args .t1) (S .pre .0 .accepted) (row-count .result) (c .before .before .before .before .before .loop .q) _ refl (row-count .ensures) (c .before .before .before .before .loop-test .taken)),
+      (owners.row-ends (S .args .t1) (S .pre .0 .accepted) (row-count .result) (c .before .before .before .before .before .loop .q) _ refl
+          (row-count .ensures) (c .before .before .before .before .loop-test .taken)),
       S .pre .0 .accepted .cells-most,
     )
 
@@ -92,7 +94,8 @@ mul-owner-row c =
     let loop = c .before .before .before .before .before .loop in
     omega (
       arith,
-      (owners.row-ends (S .args .t1) (S .pre .0 .accepted) (row-count .result) (loop .q) _ refl (row-count .ensures) (c .before .before .before .before .loop-test .taken)),
+      (owners.row-ends (S .args .t1) (S .pre .0 .accepted) (row-count .result) (loop .q) _ refl (row-count .ensures)
+          (c .before .before .before .before .loop-test .taken)),
       loop .inv .1 .long,
       S .pre .1,
       S .pre .0 .accepted .cells-most,
@@ -111,7 +114,8 @@ part-owner-row-end c =
     let loop = c .before .before .before .before .before .loop in
     omega (
       arith,
-      (owners.row-ends (S .args .t1) (S .pre .0 .accepted) (row-count .result) (loop .q) _ refl (row-count .ensures) (c .before .before .before .before .loop-test .taken)),
+      (owners.row-ends (S .args .t1) (S .pre .0 .accepted) (row-count .result) (loop .q) _ refl (row-count .ensures)
+          (c .before .before .before .before .loop-test .taken)),
       loop .inv .1 .long,
       S .pre .1,
       S .pre .0 .accepted .cells-most,
@@ -131,7 +135,14 @@ owner-row-requires c κs =
     let S = c .before .before .before .before .before .before .before .before .before .before .before in
     let row-count = c .before .before .before .before .before .before .before .row-count in
     owners.mid-few (loop .out) (loop .q * lengthOf (S .args .t1) (last (S .args .t1))) (lengthOf (S .args .t1) (last (S .args .t1)))
-    (omega (arith, (owners.row-ends (S .args .t1) (S .pre .0 .accepted) (row-count .result) (loop .q) _ refl (row-count .ensures) (c .before .before .before .before .before .loop-test .taken)), loop .inv .1 .long, S .pre .1, S .pre .0 .accepted .cells-most))
+    (omega (
+      arith,
+      (owners.row-ends (S .args .t1) (S .pre .0 .accepted) (row-count .result) (loop .q) _ refl (row-count .ensures)
+          (c .before .before .before .before .before .loop-test .taken)),
+      loop .inv .1 .long,
+      S .pre .1,
+      S .pre .0 .accepted .cells-most,
+    ))
     (omega (arith, loop .inv .1 .long, S .pre .1, S .pre .0 .accepted .cells-most))
 
 add-q : tie.Need-add-q Inv-loop μ-loop

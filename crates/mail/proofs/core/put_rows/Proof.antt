@@ -77,13 +77,15 @@ put-row-requires c κs =
             arith,
             loop .inv .few,
             loop .inv .low,
-            (rows.slotted (S .args .nest) (S .args .sizes) (S .pre .0 .0) (S .args .lens .now) (S .pre .0 .1) (tiles-of .result) (tiles-of .ensures .0)) .sheet .few,
+            (rows.slotted (S .args .nest) (S .args .sizes) (S .pre .0 .0) (S .args .lens .now) (S .pre .0 .1) (tiles-of .result)
+                (tiles-of .ensures .0)) .sheet .few,
           ),
           omega (
             arith,
             loop .inv .small,
             loop .inv .low,
-            (rows.slotted (S .args .nest) (S .args .sizes) (S .pre .0 .0) (S .args .lens .now) (S .pre .0 .1) (tiles-of .result) (tiles-of .ensures .0)) .sheet .few,
+            (rows.slotted (S .args .nest) (S .args .sizes) (S .pre .0 .0) (S .args .lens .now) (S .pre .0 .1) (tiles-of .result)
+                (tiles-of .ensures .0)) .sheet .few,
           ),
         ),
       ),

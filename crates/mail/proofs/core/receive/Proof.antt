@@ -85,7 +85,8 @@ copy-words-requires c κs =
     let nth = c .before .before .before .before .before .before .before .nth in
     taking.place-long (S .args .sizes .route) (S .args .nest) (S .args .m) (nth .result) (nth .ensures) (S .args .buffer .now) (S .pre .1 .buffer)
     ∙ sym
-    (taking.long-here (planOf (S .args .sizes .route) (S .args .nest)) (S .args .m) (S .args .words .now) (omega (arith, c .before .before .before .before .before .before .before .before .if1 .left, S .pre .1 .status)) (S .pre .1 .long))
+    (taking.long-here (planOf (S .args .sizes .route) (S .args .nest)) (S .args .m) (S .args .words .now)
+    (omega (arith, c .before .before .before .before .before .before .before .before .if1 .left, S .pre .1 .status)) (S .pre .1 .long))
 
 slice-write-status : tie.Need-slice-write-status
 slice-write-status c = omega (arith, c .before .before .before .before .before .before .before .before .before .before .before .if1 .left)
@@ -107,7 +108,8 @@ returns-4 c =
     (line-at .ensures ∙ ap (lineOf (planOf (S .args .sizes .route) (S .args .nest))) (nth .ensures .number))
     (omega (arith, c .before .before .before .before .before .before .before .before .before .before .before .if1 .left, S .pre .1 .status))
     (c .before .before .before .before .before .before .before .if2 .left) (c .before .before .before .before .before .if3 .left) _
-    (taking.put-in (S .args .sizes .route) (S .args .nest) (S .args .m) (nth .result) (nth .ensures) (S .args .buffer .now) (S .pre .1 .buffer) (S .args .words .now) (copy-words .last .0) (copy-words .kept .0) (copy-words .ensures))
+    (taking.put-in (S .args .sizes .route) (S .args .nest) (S .args .m) (nth .result) (nth .ensures) (S .args .buffer .now) (S .pre .1 .buffer)
+    (S .args .words .now) (copy-words .last .0) (copy-words .kept .0) (copy-words .ensures))
 
 pub receive-spec : {M : Type 1} → statement M
 receive-spec =

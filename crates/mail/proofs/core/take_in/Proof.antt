@@ -56,7 +56,9 @@ returns-2 c =
     λ l h. answers.take-in-length (S .args .encoded .now) (S .args .route) (S .args .source .now)
     (stateOf (S .args .memories .now) (S .args .buffer .now) l (S .args .status .now)) (S .args .processor) (S .args .message) (S .args .words .now)
     (planOf (sizes-of .result .route) (read-for .result .nest))
-    (lines.opened (S .args .encoded .now) (read-for .result) (read-for .ensures) (c .before .before .before .before .before .before .before .before .if1 .left) (sizes-of .ensures .1 ∙ c .before .before .before .before .before .before .route-of .ensures))
+    (lines.opened (S .args .encoded .now) (read-for .result) (read-for .ensures)
+    (c .before .before .before .before .before .before .before .before .if1 .left)
+    (sizes-of .ensures .1 ∙ c .before .before .before .before .before .before .route-of .ensures))
     (sym (c .before .as-long .ensures (S .args .words .now) refl) ∙ not-true _ (c .if2 .taken))
 
 unfit-requires : tie.Need-unfit-requires
@@ -65,7 +67,8 @@ unfit-requires c κs = (
     c .before .before .before .before .before .before .before .before .sizes-of .ensures .0,
     c .before .before .before .before .before .before .fill .ensures,
   ),
-  c .before .before .before .before .before .before .before .before .before .before .before .before .before .before .before .before .before .before .before .pre,
+  c .before .before .before .before .before .before .before .before .before .before .before .before .before .before .before .before .before .before
+      .before .pre,
 )
 
 same-length : tie.Need-same-length
@@ -76,32 +79,42 @@ same-length-2 c = search needs
 
 returns-3 : tie.Need-returns-3
 returns-3 c =
-    let S = c .before .before .before .before .before .before .before .before .before .before .before .before .before .before .before .before .before .before .before .before .before in
+    let S = c .before .before .before .before .before .before .before .before .before .before .before .before .before .before .before .before .before
+    .before .before .before .before in
     let sizes-of = c .before .before .before .before .before .before .before .before .before .before .sizes-of in
     let read-for = c .before .before .before .before .before .before .before .before .before .before .before .before .before .before .read-for in
     let unfit = c .before .unfit in
     λ l h. answers.take-in-unfit (S .args .encoded .now) (S .args .route) (S .args .source .now)
     (stateOf (S .args .memories .now) (S .args .buffer .now) l (S .args .status .now)) (S .args .processor) (S .args .message) (S .args .words .now)
     (planOf (sizes-of .result .route) (read-for .result .nest))
-    (lines.opened (S .args .encoded .now) (read-for .result) (read-for .ensures) (c .before .before .before .before .before .before .before .before .before .before .before .before .before .if1 .left) (sizes-of .ensures .1 ∙ c .before .before .before .before .before .before .before .before .before .before .before .route-of .ensures))
-    (sym (c .before .before .before .before .before .before .as-long .ensures (S .args .words .now) refl) ∙ not-false _ (c .before .before .before .before .before .if2 .left))
+    (lines.opened (S .args .encoded .now) (read-for .result) (read-for .ensures)
+    (c .before .before .before .before .before .before .before .before .before .before .before .before .before .if1 .left)
+    (sizes-of .ensures .1 ∙ c .before .before .before .before .before .before .before .before .before .before .before .route-of .ensures))
+    (sym (c .before .before .before .before .before .before .as-long .ensures (S .args .words .now) refl) ∙ not-false _
+    (c .before .before .before .before .before .if2 .left))
     (unfit .result) (unfit .ensures .0 l h) (c .if3 .taken)
 
 receive-requires : tie.Need-receive-requires
 receive-requires c κs =
     let sizes-of = c .before .before .before .before .before .before .before .before .before .before .before .before .before .sizes-of in
-    let S = c .before .before .before .before .before .before .before .before .before .before .before .before .before .before .before .before .before .before .before .before .before .before .before .before in
+    let S = c .before .before .before .before .before .before .before .before .before .before .before .before .before .before .before .before .before
+    .before .before .before .before .before .before .before in
     let unfit = c .before .before .before .before .unfit in
     let if3 = c .before .before .before .if3 in (
       (sizes-of .ensures .0, c .before .before .before .before .before .before .before .before .before .before .before .fill .ensures),
       taking.may-take
-          (planOf (sizes-of .result .route) (c .before .before .before .before .before .before .before .before .before .before .before .before .before .before .before .before .before .read-for .result .nest))
+          (planOf (sizes-of .result .route) (c .before .before .before .before .before .before .before .before .before .before .before .before .before
+          .before .before .before .before .read-for .result .nest))
           (S .args .source .now)
-          (stateOf (S .args .memories .now) (S .args .buffer .now) (take (S .args .progress .count - 0) (drop 0 (S .args .progress .words))) (S .args .status .now))
+          (stateOf (S .args .memories .now) (S .args .buffer .now) (take (S .args .progress .count - 0) (drop 0 (S .args .progress .words)))
+          (S .args .status .now))
           (unfit .result)
-          (unfit .ensures .0 (take (S .args .progress .count - 0) (drop 0 (S .args .progress .words))) (reading.part-carries (S .args .progress) (S .pre) (reading.few-words _ _ (sizes-of .ensures .0) (S .args .progress .count) (unfit .ensures .1 (if3 .left)))))
+          (unfit .ensures .0 (take (S .args .progress .count - 0) (drop 0 (S .args .progress .words)))
+          (reading.part-carries (S .args .progress) (S .pre) (reading.few-words _ _ (sizes-of .ensures .0) (S .args .progress .count)
+          (unfit .ensures .1 (if3 .left)))))
           (if3 .left) (S .args .message) (S .args .words .now)
-          (sym (c .before .before .before .before .before .before .before .before .before .as-long .ensures (S .args .words .now) refl) ∙ not-false _ (c .before .before .before .before .before .before .before .before .if2 .left)),
+          (sym (c .before .before .before .before .before .before .before .before .before .as-long .ensures (S .args .words .now) refl) ∙ not-false _
+          (c .before .before .before .before .before .before .before .before .if2 .left)),
     )
 
 same-length-3 : tie.Need-same-length-3
@@ -112,15 +125,23 @@ same-length-4 c = search needs
 
 returns-4 : tie.Need-returns-4
 returns-4 c =
-    let S = c .before .before .before .before .before .before .before .before .before .before .before .before .before .before .before .before .before .before .before .before .before .before .before .before .before .before .before .before .before in
-    let sizes-of = c .before .before .before .before .before .before .before .before .before .before .before .before .before .before .before .before .before .before .sizes-of in
-    let read-for = c .before .before .before .before .before .before .before .before .before .before .before .before .before .before .before .before .before .before .before .before .before .before .read-for in
+    let S = c .before .before .before .before .before .before .before .before .before .before .before .before .before .before .before .before .before
+    .before .before .before .before .before .before .before .before .before .before .before .before in
+    let sizes-of = c .before .before .before .before .before .before .before .before .before .before .before .before .before .before .before .before
+    .before .before .sizes-of in
+    let read-for = c .before .before .before .before .before .before .before .before .before .before .before .before .before .before .before .before
+    .before .before .before .before .before .before .read-for in
     let unfit = c .before .before .before .before .before .before .before .before .before .unfit in
     λ l h. answers.take-in-received (S .args .encoded .now) (S .args .route) (S .args .source .now)
     (stateOf (S .args .memories .now) (S .args .buffer .now) l (S .args .status .now)) (S .args .processor) (S .args .message) (S .args .words .now)
     (planOf (sizes-of .result .route) (read-for .result .nest))
-    (lines.opened (S .args .encoded .now) (read-for .result) (read-for .ensures) (c .before .before .before .before .before .before .before .before .before .before .before .before .before .before .before .before .before .before .before .before .before .if1 .left) (sizes-of .ensures .1 ∙ c .before .before .before .before .before .before .before .before .before .before .before .before .before .before .before .before .before .before .before .route-of .ensures))
-    (sym (c .before .before .before .before .before .before .before .before .before .before .before .before .before .before .as-long .ensures (S .args .words .now) refl) ∙ not-false _ (c .before .before .before .before .before .before .before .before .before .before .before .before .before .if2 .left))
+    (lines.opened (S .args .encoded .now) (read-for .result) (read-for .ensures)
+    (c .before .before .before .before .before .before .before .before .before .before .before .before .before .before .before .before .before .before
+    .before .before .before .if1 .left) (sizes-of .ensures .1 ∙ c .before .before .before .before .before .before .before .before .before .before
+    .before .before .before .before .before .before .before .before .before .route-of .ensures))
+    (sym (c .before .before .before .before .before .before .before .before .before .before .before .before .before .before .as-long .ensures
+    (S .args .words .now) refl) ∙ not-false _ (c .before .before .before .before .before .before .before .before .before .before .before .before
+    .before .if2 .left))
     (unfit .result) (unfit .ensures .0 l h) (c .before .before .before .before .before .before .before .before .if3 .left) _
     (c .before .before .before .before .receive .ensures (S .args .memories .now) l)
 

@@ -109,10 +109,20 @@ returns-2 c =
     let word-index = c .before .before .before .before .before .before .before .before .before .word-index in
     waiting.told (planOf (S .args .sizes .route) (S .args .nest)) (stateOf [] [] (S .args .progress .now) (S .args .status .now)) (S .args .b)
     (waitsOf (S .args .marks .now) (S .args .out .now)) (tile-at .result) (if2 .marks)
-    (omega (arith, c .before .before .before .before .before .before .if1 .left, c .before .before .before .before .before .before .before .tile-count .ensures .0, word-index .ensures))
+    (omega (
+      arith,
+      c .before .before .before .before .before .before .if1 .left,
+      c .before .before .before .before .before .before .before .tile-count
+          .ensures .0,
+      word-index .ensures,
+    ))
     (S .pre .1 .out)
     (tile-at .ensures .0 ∙ ap (λ (i : ℕ). getD (tilesOf (planOf (S .args .sizes .route) (S .args .nest)) (S .args .b)) i 0) (word-index .ensures))
-    (⊎-elim (λ w. inl (w .0 .taken, w .5 ∙ w .2 .ensures)) (λ w. inr (w .0 .left, w .1 ∙ c .before .before .before .zero-bytes .ensures ∙ ap (λ (n : ℕ). replicate n 0) (S .pre .1 .marks))) (if2 .came))
+    (⊎-elim (λ w. inl (w .0 .taken, w .5 ∙ w .2 .ensures)) (λ w. inr (
+      w .0 .left,
+      w .1 ∙ c .before .before .before .zero-bytes .ensures ∙ ap
+          (λ (n : ℕ). replicate n 0) (S .pre .1 .marks),
+    )) (if2 .came))
 
 pub tell-awaited-spec : {M : Type 1} → statement M
 tell-awaited-spec =

@@ -66,7 +66,8 @@ part-fit-records-end c =
     omega (
       arith,
       S .pre .1,
-      (reading.few-words (S .args .nest) (S .args .sizes) (S .pre .0 .0) (S .args .progress .count) (c .before .before .before .before .before .before .if1 .left ∙ lines.records-are (S .args .nest) (S .args .sizes) (S .pre .0 .0))),
+      (reading.few-words (S .args .nest) (S .args .sizes) (S .pre .0 .0) (S .args .progress .count)
+          (c .before .before .before .before .before .before .if1 .left ∙ lines.records-are (S .args .nest) (S .args .sizes) (S .pre .0 .0))),
     )
 
 fit-records-requires : tie.Need-fit-records-requires
@@ -77,7 +78,8 @@ fit-records-requires c κs =
       (
         S .pre .0 .1,
         waiting.part-long (S .args .progress) (S .pre .1)
-            (reading.few-words (S .args .nest) (S .args .sizes) (S .pre .0 .0) (S .args .progress .count) (if1 .left ∙ lines.records-are (S .args .nest) (S .args .sizes) (S .pre .0 .0)))
+            (reading.few-words (S .args .nest) (S .args .sizes) (S .pre .0 .0) (S .args .progress .count)
+            (if1 .left ∙ lines.records-are (S .args .nest) (S .args .sizes) (S .pre .0 .0)))
             ∙ if1 .left
             ∙ lines.records-are (S .args .nest) (S .args .sizes) (S .pre .0 .0),
       ),
@@ -92,7 +94,11 @@ returns-5 c =
           (sym (h .counted) ∙ if1 .left ∙ lines.records-are (S .args .nest) (S .args .sizes) (S .pre .0 .0))
           (c .before .before .before .before .before .before .before .if2 .left ∙ totals .ensures .0)
           (sym a ∙ c .before .before .before .before .before .if3 .left ∙ totals .ensures .0) (sym b ∙ c .before .before .before .before .if4 .left)
-          (lines.unfit-record (planOf (S .args .sizes .route) (S .args .nest)) (stateOf [] [] l (S .args .status .now)) (reading.fits-as (planOf (S .args .sizes .route) (S .args .nest)) _ l (reading.part-is (S .args .progress) l (reading.few-words (S .args .nest) (S .args .sizes) (S .pre .0 .0) (S .args .progress .count) (if1 .left ∙ lines.records-are (S .args .nest) (S .args .sizes) (S .pre .0 .0))) h) ∙ sym (c .before .fit-records .ensures) ∙ not-true _ (c .if5 .taken))),
+          (lines.unfit-record (planOf (S .args .sizes .route) (S .args .nest)) (stateOf [] [] l (S .args .status .now))
+          (reading.fits-as (planOf (S .args .sizes .route) (S .args .nest)) _ l
+          (reading.part-is (S .args .progress) l (reading.few-words (S .args .nest) (S .args .sizes) (S .pre .0 .0) (S .args .progress .count)
+          (if1 .left ∙ lines.records-are (S .args .nest) (S .args .sizes) (S .pre .0 .0))) h) ∙ sym (c .before .fit-records .ensures) ∙ not-true _
+          (c .if5 .taken))),
       λ q. absurd (omega arith),
     )
 
@@ -105,10 +111,12 @@ returns-6 c =
     let if2 = c .before .before .before .before .before .before .before .before .before .if2 in
     let totals = c .before .before .before .before .before .before .before .before .before .before .before .before .before .before .totals in (
       λ l ms os h a b. waiting.unasked-10 (planOf (S .args .sizes .route) (S .args .nest)) (stateOf [] [] l (S .args .status .now)) (waitsOf ms os)
-          (sym (h .counted) ∙ c .before .before .before .before .before .before .before .before .before .before .before .if1 .left ∙ lines.records-are (S .args .nest) (S .args .sizes) (S .pre .0 .0))
+          (sym (h .counted) ∙ c .before .before .before .before .before .before .before .before .before .before .before .if1 .left ∙ lines.records-are
+          (S .args .nest) (S .args .sizes) (S .pre .0 .0))
           (if2 .left ∙ totals .ensures .0) (sym a ∙ c .before .before .before .before .before .before .before .if3 .left ∙ totals .ensures .0)
           (sym b ∙ c .before .before .before .before .before .before .if4 .left)
-          (lines.unfit-status (planOf (S .args .sizes .route) (S .args .nest)) (stateOf [] [] l (S .args .status .now)) (if2 .left ∙ totals .ensures .0) (sym (c .before .fit-status .ensures) ∙ not-true _ (c .if6 .taken))),
+          (lines.unfit-status (planOf (S .args .sizes .route) (S .args .nest)) (stateOf [] [] l (S .args .status .now))
+          (if2 .left ∙ totals .ensures .0) (sym (c .before .fit-status .ensures) ∙ not-true _ (c .if6 .taken))),
       λ q. absurd (omega arith),
     )
 
@@ -122,7 +130,11 @@ returns-7 c =
           (sym (h .counted) ∙ if1 .left ∙ lines.records-are (S .args .nest) (S .args .sizes) (S .pre .0 .0)) (if2 .left ∙ totals .ensures .0)
           (sym a ∙ c .before .before .before .before .before .before .before .if3 .left ∙ totals .ensures .0)
           (sym b ∙ c .before .before .before .before .before .before .if4 .left)
-          (lines.fit-both (planOf (S .args .sizes .route) (S .args .nest)) (stateOf [] [] l (S .args .status .now)) (if2 .left ∙ totals .ensures .0) (reading.fits-as (planOf (S .args .sizes .route) (S .args .nest)) _ l (reading.part-is (S .args .progress) l (reading.few-words (S .args .nest) (S .args .sizes) (S .pre .0 .0) (S .args .progress .count) (if1 .left ∙ lines.records-are (S .args .nest) (S .args .sizes) (S .pre .0 .0))) h) ∙ sym (c .before .before .before .fit-records .ensures) ∙ not-false _ (c .before .before .if5 .left)) (sym (c .before .fit-status .ensures) ∙ not-false _ (c .if6 .left))),
+          (lines.fit-both (planOf (S .args .sizes .route) (S .args .nest)) (stateOf [] [] l (S .args .status .now)) (if2 .left ∙ totals .ensures .0)
+          (reading.fits-as (planOf (S .args .sizes .route) (S .args .nest)) _ l
+          (reading.part-is (S .args .progress) l (reading.few-words (S .args .nest) (S .args .sizes) (S .pre .0 .0) (S .args .progress .count)
+          (if1 .left ∙ lines.records-are (S .args .nest) (S .args .sizes) (S .pre .0 .0))) h) ∙ sym (c .before .before .before .fit-records .ensures)
+          ∙ not-false _ (c .before .before .if5 .left)) (sym (c .before .fit-status .ensures) ∙ not-false _ (c .if6 .left))),
       λ _. if1 .left ∙ lines.records-are (S .args .nest) (S .args .sizes) (S .pre .0 .0),
     )
 
