@@ -7,10 +7,12 @@ use native.Mathlib.Decide.{ℕ-discrete}
 use lib.ListN.{length}
 use Rattle.base.specs.Lists.{Bytes}
 use Rattle.base.specs.Numbers.{firstOf}
-use Rattle.base.proofs.Numbers.{first-some}
+use Rattle.base.proofs.Tests.{not-true}
+use Rattle.base.proofs.Numbers.{first-nil, first-false, first-some, first-behind}
 use Rattle.machine.specs.Plan.{Plan, Sound, count}
 use Rattle.machine.specs.Machine.{State, Answered, answered, carryOut, nextAction, turnLines, fresh}
 use Rattle.machine.specs.Runs.{Event}
+use Rattle.machine.proofs.Fresh.{inv-fresh}
 use Rattle.nest.specs.Accepted.{Accepted}
 use Rattle.nest.specs.Reader.{nestOf}
 use Rattle.nest.proofs.Facts.{accepted}
@@ -20,7 +22,7 @@ use Rattle.plan.specs.Shaped.{planOf}
 use Rattle.plan.proofs.ShapedSound.{sound}
 use Rattle.layout.specs.Sizes.{routeOf}
 use Rattle.routes.specs.Routes.{linesFor}
-use Rattle.routes.proofs.Laws.{reads-for}
+use Rattle.routes.proofs.Laws.{reads-for, numbered-for}
 use Rattle.apart.specs.Apart.{Areas, startApart, senderAt, takerAt, Demand3Apart}
 use Rattle.apart.specs.Packets.{NetworkEvent, ByPackets}
 use Rattle.apart.specs.Locality.{Lent, Local}
@@ -31,6 +33,7 @@ use Rattle.apart.proofs.Posting.{Has}
 use Rattle.apart.proofs.Network.{Follows, some-answer, start-follows}
 use Rattle.apart.proofs.PacketTheorem.{by-packets}
 use Rattle.apart.proofs.Locality.{local, local-as, refusing-local}
+use Rattle.apart.proofs.Own.{own-part}
 use Rattle.engine.specs.Calls.{recipe, areas, areaLines, freshCall, turnCall, collectCall}
 use Rattle.engine.specs.Demands.{calls}
 use Rattle.engine.proofs.Lines.{areas-are}
@@ -119,13 +122,42 @@ module _ (bytes : List ℕ) (route : ℕ) where
           (λ source s b le. turn-is bytes route source s z (lent-areas bytes route source s le) b)
       go (no n) = refusing-local (recipe bytes route) (turnCall bytes route) _ (barred n)
 
+-- ---- a fresh start in areas of their lengths gives 0
+module _ (bytes : List ℕ) (route : ℕ) (source : List ℕ) (small : Bytes bytes) (z : firstOf (linesFor (routeOf route) bytes) ≡ 0)
+    (long : length source ≡ recipe bytes route .cells) where
+  fresh-lent : Lent (recipe bytes route) source (fresh (recipe bytes route))
+  fresh-lent =
+      let sh = inv-fresh (recipe bytes route) source .shape in
+      record { source = long; memories = sh .memories; buffer = sh .buffer; progress = sh .progress; status = sh .status }
+
+  fresh-gives : freshCall bytes route source (fresh (recipe bytes route)) .number ≡ 0
+  unfolding freshCall
+  fresh-gives =
+      first-behind (linesFor (routeOf route) bytes) (areaLines (recipe bytes route) source (fresh (recipe bytes route)))
+      (numbered-for (routeOf route) bytes) z
+      ∙ first-false 9 _ [] (not-true (lent-areas bytes route source (fresh (recipe bytes route)) fresh-lent)) ∙ first-nil
+
+  begun : Begun bytes route source (λ b. source) (λ b. fresh (recipe bytes route))
+  begun =
+      record {
+        small = small;
+        accepted = z;
+        whole = long;
+        own = λ b h t c l e i. refl;
+        gave = λ b h. fresh-gives;
+      }
+
 pub apart-demands : ApartDemands
 apart-demands =
     record {
+      begins = begun;
       by-deliveries = deliveries;
       by-packets = packets;
       away = away;
       all-mailed = λ bytes route small z. between.mailed-all (recipe bytes route) (away bytes route small z);
       neighbours = λ bytes route small e z. next bytes route small z e;
       local = turn-local;
+      own-part = λ bytes route small z.
+          own-part (recipe bytes route) (sound (routeOf route) (nestOf bytes) (nest-of bytes route small z)) (turnCall bytes route)
+          (turn-local bytes route small);
     }

@@ -8,6 +8,7 @@ use lib.ListN.{length}
 use Rattle.base.specs.Lists.{Bytes}
 use Rattle.base.specs.Numbers.{firstOf}
 use Rattle.machine.specs.Plan.{count}
+use Rattle.machine.specs.Machine.{fresh}
 use Rattle.machine.specs.Runs.{Event}
 use Rattle.nest.specs.Reader.{nestOf}
 use Rattle.plan.specs.declared.Route.the-variants.{Indirect}
@@ -16,6 +17,7 @@ use Rattle.routes.specs.Routes.{linesFor}
 use Rattle.apart.specs.Apart.{Areas, senderAt, takerAt, Demand3Apart}
 use Rattle.apart.specs.Packets.{NetworkEvent, mailed, ByPackets}
 use Rattle.apart.specs.Locality.{SameSource, Local}
+use Rattle.apart.specs.Own.{OwnPart}
 use Rattle.engine.specs.Calls.{recipe, freshCall, turnCall, collectCall}
 use Rattle.engine.specs.Demands.{calls}
 use Rattle.apart_calls.specs.Calls.{Sources, startCalls, callsApart, callsNetwork, startNetworkCalls}
@@ -30,6 +32,9 @@ pub record Begun (bytes : List ℕ) (route : ℕ) (source : List ℕ) (sources :
   pub gave : (b : ℕ) → b < recipe bytes route .processors → freshCall bytes route (sources b) (lent b) .number ≡ 0
 
 pub record ApartDemands : Type 0 where
+  -- every accepted recipe can so begin, with any source of its length
+  pub begins : (bytes : List ℕ) (route : ℕ) (source : List ℕ) → Bytes bytes → firstOf (linesFor (routeOf route) bytes) ≡ 0
+      → length source ≡ recipe bytes route .cells → Begun bytes route source (λ b. source) (λ b. fresh (recipe bytes route))
   -- delivery as one event, and as two: beside the same calls on shared areas, which are lent the whole source; collecting is given areas joined
   -- from the processors' parts
   pub by-deliveries : (bytes : List ℕ) (route : ℕ) (source : List ℕ) (sources : Sources) (lent : Areas) → Begun bytes route source sources lent
@@ -51,3 +56,6 @@ pub record ApartDemands : Type 0 where
       → NextAlong (nestOf bytes) (senderAt (recipe bytes route) m) (takerAt (recipe bytes route) m)
   -- a turn reads and writes what is its processor's alone; where the recipe is refused, nothing
   pub local : (bytes : List ℕ) (route : ℕ) → Bytes bytes → Local (recipe bytes route) (turnCall bytes route)
+  -- and lent that part alone it answers the same
+  pub own-part : (bytes : List ℕ) (route : ℕ) → Bytes bytes → firstOf (linesFor (routeOf route) bytes) ≡ 0
+      → OwnPart (recipe bytes route) (turnCall bytes route)
