@@ -21,15 +21,18 @@
 //! # }
 //! ```
 //!
-//! [`Rig`] owns the areas of two offices that share the processors.
+//! [`Rig`] owns the areas of two offices that share the processors, [`Board`] those of one processor that shares no memory with
+//! the others.
 
 #![warn(missing_docs)]
 
+mod mail;
 mod recipe;
 mod refusal;
 mod rig;
 mod run;
 
+pub use mail::{awaited, messages, owners, Awaited, Board, Row};
 pub use recipe::{Fields, Recipe};
 pub use refusal::Refusal;
 pub use rig::Rig;
@@ -341,6 +344,42 @@ calls! {
     ///
     /// Refusals: 1 to 8, 16 to 18, 20, 9 if `hours` has not its length or `out` has not 2 words, 25, 11.
     rolwyddac_opens as opens_words(encoded: &[u8], hours: &[u32], minute: u32, processor: u32, out: &mut [u32]);
+
+    /// Writes a row of six words for each message of the route to `out`, in the order of their numbers: the five of
+    /// [`message_words`], then where the message's words begin in the buffer. [`messages`] is the handier form.
+    ///
+    /// Refusals: 1 to 8, 16 to 18, 20, 21, and 9 if `out` has not six words a message.
+    rolwyddac_messages as messages_words(encoded: &[u8], route: Route, out: &mut [u32]);
+
+    /// Writes one word for each cell of the box to `out`: the processor of its tile, or the number of processors for a cell
+    /// outside the shape, which is in no tile. [`owners`] is the handier form.
+    ///
+    /// Refusals: 1 to 8, 16 to 18, 20, and 9 if `out` has not one word a cell.
+    rolwyddac_owners as owners_words(encoded: &[u8], out: &mut [u32]);
+
+    /// What a processor waits for, lent only the records and the status bytes: writes one word to `out`, the tile at which it
+    /// stands, and one byte a message to `marks`, 1 where the processor is to gather and the message is due at that tile and
+    /// not delivered, else 0. Some mark is 1 exactly where [`turn`] would give 12. [`awaited`] is the handier form.
+    ///
+    /// A processor without tiles left is 13.
+    ///
+    /// Refusals: 1 to 11, 13, 16 to 18, 20 and 21.
+    rolwyddac_awaited as awaited_words(
+        encoded: &[u8], route: Route, progress: &[Progress], status: &[u8], processor: u32, marks: &mut [u8],
+        out: &mut [u32],
+    );
+
+    /// Takes a message in at its taker, whose own areas are lent: puts `words` into the message's place in the buffer, and its
+    /// status goes from 0 to 2.
+    ///
+    /// Words that are not as many as the message has are 9; a number too high, or a message that this processor does not
+    /// take, is 11; a message whose status is not 0, as one that came before, is 14.
+    ///
+    /// Refusals: 1 to 11, 14, 16 to 18, 20 and 21.
+    rolwyddac_take_in as take_in(
+        encoded: &[u8], route: Route, source: &[u32], memories: &[u32], buffer: &mut [u32], progress: &[Progress],
+        status: &mut [u8], processor: u32, message: u32, words: &[u32],
+    );
 
     /// Writes the recipe of the fields to `space`. [`Fields`] is the handier form.
     ///

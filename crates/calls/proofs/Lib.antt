@@ -8,3 +8,4 @@ pub mod OverRig
 pub mod Demand210
 pub mod ChartCalls
 pub mod OverHours
+pub mod TransportCalls
