@@ -6,8 +6,8 @@
 #include <stddef.h>
 #include <stdint.h>
 
-#include "plan.h"
 #include "calls.h"
+#include "plan.h"
 #include "status.h"
 
 struct areas {

@@ -56,9 +56,7 @@ static enum status take_in(struct board *b, const struct packet *packet) {
 }
 
 /* the areas to join in are made when the first part is there: at the start all others wait for board 0's first tile */
-static enum status make_joined(struct board *b) {
-  return b->joined->plan != NULL ? STATUS_DONE : areas_make(b->joined, b->plan, b->areas.source);
-}
+static enum status make_joined(struct board *b) { return b->joined->plan != NULL ? STATUS_DONE : areas_make(b->joined, b->plan, b->areas.source); }
 
 static enum status join_part(struct board *b, const struct packet *packet) {
   if (b->me != 0 || packet->length != join_length(b->plan))
@@ -94,8 +92,7 @@ static enum status take_arrival(struct board *b, const struct arrival *arrival) 
   b->peers[from].heard = now();
   switch (packet_read(arrival->words, arrival->bytes, &b->outbox.key, &packet)) {
     case PACKET_CUT: return tell(STATUS_DAMAGED, "mail of board %" PRIu32 " is cut: %zu bytes came", from, arrival->bytes);
-    case PACKET_CORRUPT:
-      return tell(STATUS_DAMAGED, "mail of board %" PRIu32 " is corrupt: its check word is not that of what came", from);
+    case PACKET_CORRUPT: return tell(STATUS_DAMAGED, "mail of board %" PRIu32 " is corrupt: its check word is not that of what came", from);
     case PACKET_STALE:
       return tell(STATUS_DAMAGED, "mail of board %" PRIu32 " is stale: it is of run %" PRIu32 ", this is run %" PRIu32, from, packet.run,
                   b->outbox.key.run);
@@ -211,7 +208,8 @@ static enum status see_mail_off(struct board *b) {
   enum status status = STATUS_DONE;
   while (status == STATUS_DONE && !transport_settled(b->transport)) {
     status = look(b, 0.001);
-    if (status == STATUS_DONE && now() > until) status = tell(STATUS_TIMEOUT, "has finished, and its mail is not off after %g seconds", b->options->timeout);
+    if (status == STATUS_DONE && now() > until)
+      status = tell(STATUS_TIMEOUT, "has finished, and its mail is not off after %g seconds", b->options->timeout);
   }
   return status;
 }

@@ -23,8 +23,7 @@ enum status grid_verify(const struct job *job, const uint32_t *grid) {
   const struct plan *plan = &job->plan;
   uint32_t *swept = calloc(plan->sizes.grid, sizeof *swept);
   if (swept == NULL) return tell_no_memory();
-  const uint32_t number =
-      rolwyddac_sweep(plan->recipe, plan->recipe_length, job->source, plan->sizes.source, swept, plan->sizes.grid);
+  const uint32_t number = rolwyddac_sweep(plan->recipe, plan->recipe_length, job->source, plan->sizes.source, swept, plan->sizes.grid);
   const enum status status = number == ROLWYDDAC_DONE ? compare(grid, swept, plan_cells(plan)) : tell_refusal("sweep", number);
   free(swept);
   return status;

@@ -24,8 +24,7 @@ static enum status print_times(const struct options *options, const struct job *
   if (swept == NULL) return tell_no_memory();
   uint32_t number = rolwyddac_summary(plan->recipe, plan->recipe_length, plan->route, totals, ROLWYDDAC_SUMMARY_LENGTH);
   const double start = now();
-  if (number == ROLWYDDAC_DONE)
-    number = rolwyddac_sweep(plan->recipe, plan->recipe_length, job->source, plan->sizes.source, swept, plan->sizes.grid);
+  if (number == ROLWYDDAC_DONE) number = rolwyddac_sweep(plan->recipe, plan->recipe_length, job->source, plan->sizes.source, swept, plan->sizes.grid);
   const double sweep = now() - start;
   free(swept);
   if (number != ROLWYDDAC_DONE) return tell_refusal("sweep", number);
@@ -38,8 +37,7 @@ static enum status print_times(const struct options *options, const struct job *
 static void print_done(const struct options *options, const struct job *job) {
   const struct plan *plan = &job->plan;
   printf("boards %" PRIu32 " messages %" PRIu32 " words %zu: done%s%s%s\n", plan_boards(plan), plan_messages(plan), plan->sizes.buffer,
-         options->verify ? ", equal to the sweep" : "", options->grid != NULL ? ", grid in " : "",
-         options->grid != NULL ? options->grid : "");
+         options->verify ? ", equal to the sweep" : "", options->grid != NULL ? ", grid in " : "", options->grid != NULL ? options->grid : "");
 }
 
 /* what board 0 does once it has all parts */

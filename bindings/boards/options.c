@@ -30,12 +30,18 @@ static const char usage[] =
 enum { SOURCE = 1, SEED, ROUTE, GRID, TIMEOUT, RUN, VERIFY, NO_VERIFY, WORK, TIMES, HELP, VERSION };
 
 static const struct option names[] = {
-    {"source", required_argument, NULL, SOURCE},   {"seed", required_argument, NULL, SEED},
-    {"route", required_argument, NULL, ROUTE},     {"grid", required_argument, NULL, GRID},
-    {"timeout", required_argument, NULL, TIMEOUT}, {"run", required_argument, NULL, RUN},
-    {"verify", no_argument, NULL, VERIFY},         {"no-verify", no_argument, NULL, NO_VERIFY},
-    {"work", required_argument, NULL, WORK},       {"times", no_argument, NULL, TIMES},
-    {"help", no_argument, NULL, HELP},             {"version", no_argument, NULL, VERSION},
+    {"source", required_argument, NULL, SOURCE},
+    {"seed", required_argument, NULL, SEED},
+    {"route", required_argument, NULL, ROUTE},
+    {"grid", required_argument, NULL, GRID},
+    {"timeout", required_argument, NULL, TIMEOUT},
+    {"run", required_argument, NULL, RUN},
+    {"verify", no_argument, NULL, VERIFY},
+    {"no-verify", no_argument, NULL, NO_VERIFY},
+    {"work", required_argument, NULL, WORK},
+    {"times", no_argument, NULL, TIMES},
+    {"help", no_argument, NULL, HELP},
+    {"version", no_argument, NULL, VERSION},
     {NULL, 0, NULL, 0},
 };
 

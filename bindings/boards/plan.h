@@ -20,9 +20,7 @@ struct plan {
 enum status plan_make(struct plan *out, const uint8_t *recipe, size_t recipe_length, uint32_t route);
 
 /* The row of a message: ROLWYDDAC_ROW_SENDING_PROCESSOR and so on are its places. */
-static inline const uint32_t *plan_message(const struct plan *plan, uint32_t message) {
-  return plan->rows + (size_t)message * ROLWYDDAC_ROW_LENGTH;
-}
+static inline const uint32_t *plan_message(const struct plan *plan, uint32_t message) { return plan->rows + (size_t)message * ROLWYDDAC_ROW_LENGTH; }
 
 static inline uint32_t plan_boards(const struct plan *plan) { return (uint32_t)plan->sizes.progress; }
 static inline uint32_t plan_cells(const struct plan *plan) { return (uint32_t)plan->sizes.source; }
