@@ -3,7 +3,7 @@ use Prim.Native.Nat.{ℕ, zero, suc, _+_, _*_, _-_, _/_, _%_, _≤_, _<_}
 use mathlib.Core.Path.{_≡_, refl, sym, ap, _∙_, subst}
 use mathlib.Core.Bool.{Bool, true}
 use mathlib.Core.List.{List}
-use native.Mathlib.Nat.{add-mul, suc-mul, mul-le-mul-right, mul-pos, mod-lt, mod-eq-of-lt, mul-add-mod-self-right, lt-of-mul-lt-mul-right}
+use native.Mathlib.Nat.{add-mul, mul-le-mul-right, mul-pos, mod-lt, mod-eq-of-lt, mul-add-mod-self-right, lt-of-mul-lt-mul-right}
 use native.Mathlib.Nat.{div-one, div-add-mod', div-mul-le-self, div-le-self, div-div-eq-div-mul, le-div-iff-mul-le, div-lt-iff-lt-mul}
 use native.Mathlib.Omega.{arith}
 use lib.ListN.{length, getD}
@@ -21,7 +21,7 @@ use Rattle.layout.specs.Places.{nth, Has}
 use Rattle.layout.proofs.Cells.{across-product, box-few}
 use Rattle.parcels.specs.Twins.{twoBefore, Twin}
 use Rattle.parcels.proofs.Twins.{Peeled, peeled-none, peeled-more, twin-stride, twin-low, twin-back}
-use Rattle.boxes.specs.Table.{Likes, Twins, Filling}
+use Rattle.boxes.specs.Table.{Likes, Twins}
 
 -- ---- places of a dimension
 

@@ -116,9 +116,12 @@ module _ (p : Plan) (so : Sound p) (t : ℕ) (low : t < p .tiles) (last : ℕ) w
           low = omega arith;
           is = later latest round next w ∙ ap (λ (a : ℕ). larger a round) (x .is)
               ∙ larger-join last (greatest (map (λ m. tileRound p (senderOf p m)) (take j (duesOf p t)))) round
-              ∙ ap (λ (b : ℕ). larger last (larger (greatest (map (λ m. tileRound p (senderOf p m)) (take j (duesOf p t)))) b)) (e ∙ sym (larger-zero (tileRound p (senderOf p (getD (duesOf p t) j 0)))))
-              ∙ ap (larger last) (sym (greatest-append (map (λ m. tileRound p (senderOf p m)) (take j (duesOf p t))) (tileRound p (senderOf p (getD (duesOf p t) j 0)) ∷ [])))
-              ∙ ap (λ (l : List ℕ). larger last (greatest l)) (sym (map-append (λ m. tileRound p (senderOf p m)) (take j (duesOf p t)) (getD (duesOf p t) j 0 ∷ [])))
+              ∙ ap (λ (b : ℕ). larger last (larger (greatest (map (λ m. tileRound p (senderOf p m)) (take j (duesOf p t)))) b))
+              (e ∙ sym (larger-zero (tileRound p (senderOf p (getD (duesOf p t) j 0)))))
+              ∙ ap (larger last) (sym (greatest-append (map (λ m. tileRound p (senderOf p m)) (take j (duesOf p t)))
+              (tileRound p (senderOf p (getD (duesOf p t) j 0)) ∷ [])))
+              ∙ ap (λ (l : List ℕ). larger last (greatest l)) (sym (map-append (λ m. tileRound p (senderOf p m)) (take j (duesOf p t))
+              (getD (duesOf p t) j 0 ∷ [])))
               ∙ ap (λ (l : List ℕ). larger last (greatest (map (λ m. tileRound p (senderOf p m)) l))) (sym (take-suc (duesOf p t) j 0 (due-low h)))
               ∙ ap (λ (i : ℕ). larger last (greatest (map (λ m. tileRound p (senderOf p m)) (take i (duesOf p t))))) (sym k);
         }
@@ -131,7 +134,8 @@ module _ (p : Plan) (so : Sound p) (t : ℕ) (low : t < p .tiles) (last : ℕ) w
         let b : greatest (map (tileRound p) (waitsFor p t)) ≡ latest =
         ap greatest (map-append (tileRound p) (lastOf (those (p .processorOf) (p .processorOf t) t)) (map (senderOf p) (duesOf p t)))
         ∙ greatest-append (map (tileRound p) (lastOf (those (p .processorOf) (p .processorOf t) t))) (map (tileRound p) (map (senderOf p) (duesOf p t)))
-        ∙ ap (λ (l : List ℕ). larger (greatest (map (tileRound p) (lastOf (those (p .processorOf) (p .processorOf t) t)))) (greatest l)) (map-map (tileRound p) (senderOf p) (duesOf p t))
+        ∙ ap (λ (l : List ℕ). larger (greatest (map (tileRound p) (lastOf (those (p .processorOf) (p .processorOf t) t)))) (greatest l))
+        (map-map (tileRound p) (senderOf p) (duesOf p t))
         ∙ ap (λ (k : ℕ). larger k (greatest (map (λ m. tileRound p (senderOf p m)) (duesOf p t)))) (sym e) ∙ sym a in
         let r = round-is p so t low in
         omega arith
@@ -170,7 +174,8 @@ module _ (p : Plan) where
         }
       where
         at-u : (u : ℕ) → u < t + 1 → Dec (u ≡ t) → getD (set table t round) u 0 ≡ tileRound p u
-        at-u u h (yes e) = ap (λ (k : ℕ). getD (set table t round) k 0) e ∙ getD-set-same table t round 0 (omega (arith, i .long)) ∙ is ∙ ap (tileRound p) (sym e)
+        at-u u h (yes e) = ap (λ (k : ℕ). getD (set table t round) k 0) e ∙ getD-set-same table t round 0 (omega (arith, i .long)) ∙ is ∙ ap
+            (tileRound p) (sym e)
         at-u u h (no e) = getD-set-other table t u round 0 e ∙ i .each u (omega arith)
 
     pub lasts-next : Lasts p (set lasts b round) (t + 1)

@@ -1,13 +1,12 @@
 -- `boxes::copy_run` meets its contract: the lengths of the slots before are in the table too.
 use native.Mathlib.Omega.{arith}
-use Prim.Native.Nat.{ℕ, _+_, _-_, _*_, _≤_}
+use Prim.Native.Nat.{ℕ, _-_, _*_, _≤_}
 use native.Mathlib.Nat.{add-mul}
-use mathlib.Core.Path.{_∙_, subst}
+use mathlib.Core.Path.{subst}
 use Rattle.boxes.specs.Table.{Filling}
 use Rattle.layout.proofs.Cells.{box-few}
 use Rattle.boxes.proofs.Scans as L
 use Rattle.boxes.proofs.Runs as R
-use borrow.Author.Needs.{needs}
 use Rattle.boxes.proofs.copy_run.Statement.{statement}
 use Rattle.boxes.proofs.copy_run.Tie as tie
 

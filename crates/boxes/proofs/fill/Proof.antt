@@ -4,7 +4,6 @@ use Prim.Native.Nat.{_-_, _*_}
 use native.Mathlib.Nat.{zero-mul, mul-le-mul-right}
 use Rattle.boxes.specs.Table.{Filling}
 use Rattle.boxes.proofs.Scans as L
-use borrow.Author.Needs.{needs}
 use Rattle.boxes.proofs.fill.Statement.{statement}
 use Rattle.boxes.proofs.fill.Tie as tie
 

@@ -1,7 +1,6 @@
 -- `boxes::fill_from` meets its contract.
 use native.Mathlib.Omega.{arith}
 use Rattle.layout.proofs.Cells.{box-few}
-use borrow.Author.Needs.{needs}
 use Rattle.boxes.proofs.fill_from.Statement.{statement}
 use Rattle.boxes.proofs.fill_from.Tie as tie
 

@@ -3,7 +3,6 @@ use native.Mathlib.Omega.{arith}
 use mathlib.Core.Path.{_∙_}
 use Rattle.boxes.proofs.Scans as L
 use Rattle.boxes.proofs.Runs as R
-use borrow.Author.Needs.{needs}
 use Rattle.boxes.proofs.length_back.Statement.{statement}
 use Rattle.boxes.proofs.length_back.Tie as tie
 

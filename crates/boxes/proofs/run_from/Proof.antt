@@ -7,7 +7,6 @@ use Rattle.plan.proofs.Tiles.{tileCount-pos}
 use Rattle.layout.specs.Places.{nth}
 use Rattle.layout.proofs.Cells.{count-most, box-few}
 use Rattle.boxes.proofs.Runs as R
-use borrow.Author.Needs.{needs}
 use Rattle.boxes.proofs.run_from.Statement.{statement}
 use Rattle.boxes.proofs.run_from.Tie as tie
 
