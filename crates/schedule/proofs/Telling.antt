@@ -14,7 +14,7 @@ use Rattle.base.specs.Tests.{not, keep, those}
 use Rattle.base.specs.Numbers.{line, firstOf}
 use Rattle.base.proofs.Tests.{not-true, not-false}
 use Rattle.base.proofs.Numbers.{first-true, first-false}
-use Rattle.base.proofs.Select.{keep-hit, those-none, at-low, at-is}
+use Rattle.base.proofs.Select.{rankIn, keep-hit, those-none, at-low, at-is}
 use Rattle.machine.specs.Plan.{Plan, Sound, Message, count, senderOf, takerOf, duesOf}
 use Rattle.machine.specs.Machine.{answered}
 use Rattle.nest.specs.declared.Nest.{Nest}
@@ -38,6 +38,7 @@ use Rattle.rounds.proofs.Lists.{larger-is, larger-most, larger-join, larger-zer
 use Rattle.rounds.proofs.Tiles.{table-length, round-is, within-rounds, few}
 use Rattle.engine.specs.Calls.{answer}
 use Rattle.engine.proofs.Lines.{Opened, call-read, call-later, call-done}
+use Rattle.schedule.proofs.Chains.{walk-low, walk-over, walk-at, walk-tile, walk-next}
 use Rattle.schedule.specs.Given.{TellsTo, lastBefore, Lasts}
 use Rattle.schedule.specs.Calls.{roundsOfCall}
 
@@ -85,6 +86,11 @@ found-self r x m p f = subst (λ (k : ℕ). FoundIn r x k p) (sym (f .number)) f
 pub record DuesLoop (p : Plan) (t last n latest j : ℕ) : Type 0 where
   pub low : j ≤ n
   pub is : latest ≡ larger last (greatest (map (λ m. tileRound p (senderOf p m)) (take j (duesOf p t))))
+
+pub record DuesWalk (p : Plan) (t last latest m : ℕ) : Type 0 where
+  pub j : ℕ
+  pub spot : m ≡ getD (duesOf p t) j (count p)
+  pub dues : DuesLoop p t last (length (duesOf p t)) latest j
 
 module _ (p : Plan) (so : Sound p) (t : ℕ) (low : t < p .tiles) (last : ℕ) where
   pub dues-start : (n : ℕ) → DuesLoop p t last n last 0
@@ -139,6 +145,31 @@ module _ (p : Plan) (so : Sound p) (t : ℕ) (low : t < p .tiles) (last : ℕ) w
         ∙ ap (λ (k : ℕ). larger k (greatest (map (λ m. tileRound p (senderOf p m)) (duesOf p t)))) (sym e) ∙ sym a in
         let r = round-is p so t low in
         omega arith
+
+  -- along the chain: m is the j-th message due, or as many as there are
+  module _ (latest m : ℕ) (x : DuesWalk p t last latest m) where
+    pub walk-dues-next : m < count p → (round after v : ℕ) → round ≡ tileRound p (senderOf p m)
+        → ((latest < round) × (after ≡ round)) ⊎ ((round ≤ latest) × (after ≡ latest))
+        → v ≡ getD (duesOf p t) (suc (rankIn (takerOf p) m)) (count p) → DuesWalk p t last after v
+    walk-dues-next h round after v e w k =
+        record {
+          j = x .j + 1;
+          spot = walk-next (takerOf p) (count p) t (x .j) m (x .spot) h v k;
+          dues = dues-next (length (duesOf p t)) latest (x .j) refl (x .dues) (walk-low (takerOf p) (count p) t (x .j) m (x .spot) h) round after
+              (e ∙ ap (λ (i : ℕ). tileRound p (senderOf p i)) (walk-at (takerOf p) (count p) t (x .j) m (x .spot) h)) w;
+        }
+
+    pub walk-sender-low : m < count p → senderOf p m < t
+    walk-sender-low h =
+        let a = so .forward m h in
+        let b = walk-tile (takerOf p) (count p) t (x .j) m (x .spot) h in
+        omega arith
+
+    pub walk-dues-done : count p ≤ m → last ≡ lastBefore p (p .processorOf t) t → latest + 1 ≡ tileRound p t
+    walk-dues-done h = dues-done (length (duesOf p t)) latest (x .j) refl (x .dues) (walk-over (takerOf p) (count p) t (x .j) m (x .spot) h)
+
+  pub walk-dues-start : (m : ℕ) → m ≡ getD (duesOf p t) 0 (count p) → DuesWalk p t last last m
+  walk-dues-start m e = record { j = 0; spot = e; dues = dues-start (length (duesOf p t)) }
 
   pub round-few : tileRound p t ≤ p .tiles
   round-few = let a = within-rounds p so t low in let b = few p so in omega arith

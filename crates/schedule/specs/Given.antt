@@ -35,6 +35,13 @@ pub record Indexed (x : Nest) (z : Sizes) (lens spots sends dues : List ℕ) : T
   pub byTaker : Chained (endOf 1 (planOf (z .route) x)) (count (planOf (z .route) x)) dues
   pub few : count (planOf (z .route) x) ≤ 7168
 
+-- the n messages listed, and chained by their takers
+pub record Dued (x : Nest) (z : Sizes) (lens spots dues : List ℕ) (n : ℕ) : Type 0 where
+  pub planned : Planned x z lens
+  pub listed : Listed (z .route) x lens spots
+  pub byTaker : Chained (endOf 1 (planOf (z .route) x)) (count (planOf (z .route) x)) dues
+  pub all : n ≡ count (planOf (z .route) x)
+
 -- ---- what a whole tile leaves
 
 -- the buffer with messages packed from a memory, one after the other

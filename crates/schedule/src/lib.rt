@@ -13,7 +13,7 @@ ghost use Rattle.rounds.specs.ByState.{Lent, afterTile, afterTiles, delivered, 
 ghost use Rattle.rounds.specs.Rounds.{told, rounds, afterRounds, tileRound, roundsTo};
 ghost use Rattle.engine.specs.Calls.{answer};
 ghost use Rattle.schedule.specs.Index.{Listed};
-ghost use Rattle.schedule.specs.Given.{Planned, Mailed, Indexed, putAll, memoryThen, statusThen, markThen, TellsTo, lastBefore};
+ghost use Rattle.schedule.specs.Given.{Planned, Mailed, Indexed, Dued, putAll, memoryThen, statusThen, markThen, TellsTo, lastBefore};
 ghost use Rattle.schedule.specs.Calls.{roundsCall, roundsOfCall};
 
 pub mod index; // index.rt: the messages of a plan by number and by tile
@@ -41,9 +41,7 @@ use stages::take_message;
 use stages::tiles_left;
 use stages::zero_bytes;
 use stages::zero_words;
-use tables::count_at;
 use tables::fill;
-use tables::nth_at;
 use tables::tile_at;
 use tables::tile_count;
 use tables::tiles_of;
@@ -353,11 +351,11 @@ pub fn all_rounds(
         ≡ afterRounds (planOf (sizes .route) nest) (now (source .entry)) (rounds (planOf (sizes .route) nest))) ⌝ }
 {
     let mut spots = [0u32; 14336];
-    let count = list(nest, sizes, lens, &mut spots);
+    let messages = list(nest, sizes, lens, &mut spots);
     let mut sends = [0u16; 8192];
-    chain_ends(nest, sizes, lens, &spots, &mut sends, count, 0);
+    chain_ends(nest, sizes, lens, &spots, &mut sends, messages, 0);
     let mut dues = [0u16; 8192];
-    chain_ends(nest, sizes, lens, &spots, &mut dues, count, 1);
+    chain_ends(nest, sizes, lens, &spots, &mut dues, messages, 1);
     rounds_by(
         nest,
         sizes,
@@ -466,44 +464,76 @@ fn round_at(
     nest: Nest,
     sizes: Sizes,
     lens: &[u16; 9217],
+    spots: &[u32; 14336],
+    dues: &[u16; 8192],
+    messages: usize,
     rounds: &[u32],
     tile: usize,
     last: u32,
 ) -> u32
-    requires { ⌜ Planned nest sizes (now lens) × (tile < planOf (sizes .route) nest .tiles) ⌝ }
+    requires { ⌜ Dued nest sizes (now lens) (now spots) (now dues) messages × (tile < planOf (sizes .route) nest .tiles) ⌝ }
     requires { ⌜ TellsTo (planOf (sizes .route) nest) (now rounds) tile
         × (last ≡ lastBefore (planOf (sizes .route) nest) (planOf (sizes .route) nest .processorOf tile) tile) ⌝ }
     ensures { λ r. ⌜ r ≡ tileRound (planOf (sizes .route) nest) tile ⌝ }
 {
-    let n = count_at(nest, sizes, lens, tile, 1);
     let mut latest = last;
-    let mut j = 0;
-    while j < n {
-        let place = nth_at(nest, sizes, lens, tile, 1, j);
+    let mut m = first(nest, sizes, dues, tile, 1);
+    while m < messages {
+        let place = spot(nest, sizes, lens, spots, m);
         let sender = sender_at(nest, sizes, lens, place);
         let round = rounds[sender];
         if latest < round {
             latest = round;
         }
-        j += 1;
+        m = next(nest, sizes, dues, tile, 1, m);
     }
     latest + 1
 }
 
-// Each tile's round.
-fn tell_rounds(nest: Nest, sizes: Sizes, lens: &[u16; 9217], rounds: &mut [u32])
-    requires { ⌜ Planned nest sizes (now lens) × (length (now rounds) ≡ planOf (sizes .route) nest .tiles) ⌝ }
+// Each tile's round, by the messages due.
+fn tell_by(
+    nest: Nest,
+    sizes: Sizes,
+    lens: &[u16; 9217],
+    spots: &[u32; 14336],
+    dues: &[u16; 8192],
+    messages: usize,
+    rounds: &mut [u32],
+)
+    requires { ⌜ Dued nest sizes (now lens) (now spots) (now dues) messages × (length (now rounds) ≡ planOf (sizes .route) nest .tiles) ⌝ }
     ensures { λ _. ⌜ now (rounds .exit) ≡ roundsTo (planOf (sizes .route) nest) (planOf (sizes .route) nest .tiles) ⌝ }
 {
     let mut lasts = [0u32; 64];
     let mut tile = 0;
     while tile < rounds.len() {
         let b = processor_at(nest, sizes, lens, tile);
-        let round = round_at(nest, sizes, lens, rounds, tile, lasts[b]);
+        let round = round_at(
+            nest,
+            sizes,
+            lens,
+            spots,
+            dues,
+            messages,
+            rounds,
+            tile,
+            lasts[b],
+        );
         rounds[tile] = round;
         lasts[b] = round;
         tile += 1;
     }
+}
+
+// Each tile's round. The messages are listed, and chained by their takers, once.
+fn tell_rounds(nest: Nest, sizes: Sizes, lens: &[u16; 9217], rounds: &mut [u32])
+    requires { ⌜ Planned nest sizes (now lens) × (length (now rounds) ≡ planOf (sizes .route) nest .tiles) ⌝ }
+    ensures { λ _. ⌜ now (rounds .exit) ≡ roundsTo (planOf (sizes .route) nest) (planOf (sizes .route) nest .tiles) ⌝ }
+{
+    let mut spots = [0u32; 14336];
+    let messages = list(nest, sizes, lens, &mut spots);
+    let mut dues = [0u16; 8192];
+    chain_ends(nest, sizes, lens, &spots, &mut dues, messages, 1);
+    tell_by(nest, sizes, lens, &spots, &dues, messages, rounds);
 }
 
 // Each tile's round, told into one word a tile.
