@@ -10,6 +10,7 @@ ends with its status, tells its text, and leaves the grid's file as it was. The 
 import argparse
 import os
 import random
+import re
 import resource
 import subprocess
 import sys
@@ -254,6 +255,21 @@ def check_refusals(check):
         check.ends('usage ' + ' '.join(arguments), USAGE, ['boards: ' + said], model.ROWS['A'], arguments)
 
 
+def check_manual(check):
+    """The options that --help lists are the manual's, and so are the statuses."""
+    ran = check.start(1, ['--help'])
+    said = check.taken('said').decode()
+    with open(os.path.join(os.path.dirname(os.path.abspath(__file__)), 'MANUAL.md'), encoding='utf-8') as file:
+        manual = file.read()
+    listed = set(re.findall(r'--[a-z][a-z-]*', said))
+    rows = ' '.join(line for line in manual.split('\n') if line.startswith('| `'))
+    statuses = re.findall(r'^\| (\d+) \|', manual, flags=re.M)
+    if ran.returncode != DONE or not listed or listed != set(re.findall(r'--[a-z][a-z-]*', rows)):
+        check.blame('help', ran, 'its options are not the manual\'s')
+    if statuses != [str(status) for status in range(MACHINE + 1)] or any('%s ' % status not in said.split('Exit:')[-1] for status in statuses):
+        check.blame('help', ran, 'its statuses are not the manual\'s')
+
+
 def check_processes(check):
     """What only MPI can meet, and ends that all processes have to agree on."""
     row, seed = model.ROWS['A'], ['--seed', '1']
@@ -278,6 +294,7 @@ def main(folder, mpi, seed, recipes):
             check_part_faults(check)
             check_files(check)
             check_refusals(check)
+            check_manual(check)
         print('%d runs, %d wrong' % (check.runs, check.wrong))
         return 1 if check.wrong else 0
 

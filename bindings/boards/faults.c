@@ -13,8 +13,8 @@
 #include <string.h>
 #include <time.h>
 
-#include "calls.h"
 #include "packet.h"
+#include "rolwyddac.h"
 #include "transport.h"
 
 /* the boards of the recipe whose messages are misrouted: row C's */
