@@ -24,12 +24,12 @@
  *   22 off the box    a sounding, whether it counts or not, names a cell that the recipe's box does not have
  *   10 unfit          progress records, status bytes or engaged words not fit
  *   25 hours          a faulty window of some processor, or a minute above 10,079
- *   11 no such        office, processor or message number too high
+ *   11 no such        office, processor or message number too high, or a message that the processor does not take
  *   24 closed         the processor is not open at that minute
  *   19 engaged        the processor has tiles left for this office and is held by the other
  *   12 waiting        the processor is to gather and a message due at its tile is not delivered
  *   13 finished       the processor has no tiles left
- *   14 no mail        delivery of a message that is not in flight
+ *   14 no mail        delivery of a message that is not in flight, or taking in one that came before
  *   15 early          collecting while a processor has tiles left
  *
  * The recipe (`encoded`) is given to every call but the one that writes it. Beside it a call is lent these areas,

@@ -99,12 +99,12 @@ def version():
 
 
 def term(number):
-    """The term of a number, as `no mail` for 14."""
+    """The term of a number, as `early` for 15."""
     return _library.rolwyddac_term(number).decode()
 
 
 def text(number):
-    """What a number says, as `delivery of a message that is not in flight` for 14."""
+    """What a number says, as `collecting while a processor has tiles left` for 15."""
     return _library.rolwyddac_text(number).decode()
 
 
