@@ -11,7 +11,7 @@ use borrow.Author.Tests.{eqb-true, eq-eqb, ne-eqb, ltb-true, lt-ltb, le-ltb}
 use Rattle.base.specs.Tests.{_and_, _or_, not, pick}
 use Rattle.base.specs.Numbers.{Line, line, firstOf}
 use Rattle.base.proofs.Tests.{both, and-no, or-left, or-right, or-false, neither, none-some, not-true, not-false, true-not}
-use Rattle.base.proofs.Numbers.{Numbered, first-nil, first-true, first-false, first-cons, none-first, first-some, first-behind}
+use Rattle.base.proofs.Numbers.{Numbered, first-nil, first-true, first-false, first-cons, none-first, first-some, first-behind, none-behind}
 use Rattle.machine.specs.Plan.{Plan}
 use Rattle.machine.specs.Machine.{State, fit, tilesLeft, waiting, carryOut, nextAction, Answered, answered}
 use Rattle.machine.proofs.RunLaws.{number-of}
@@ -25,7 +25,7 @@ use Rattle.nest.specs.Reader.{readLines}
 use Rattle.nest.proofs.Numbered.{numbered}
 use Rattle.layout.specs.Sizes.{routeOf}
 use Rattle.routes.specs.Routes.{linesFor}
-use Rattle.routes.proofs.Laws.{front, numbered-for, reads-for}
+use Rattle.routes.proofs.Laws.{numbered-for, reads-for}
 use Rattle.engine.specs.Calls.{answer, recipe, areas, turnCall}
 use Rattle.engine.specs.Given.{unfitLines}
 use Rattle.engine.proofs.Lines.{Opened, and-right, call-read, call-later, call-done}
@@ -145,7 +145,8 @@ module _ (bytes : List ℕ) (route : ℕ) (source : List ℕ) (h : Hours) (s : S
   needs z =
       let p = recipe bytes route in
       let ls = line 9 (not (areas p source s and tableLong p h)) ∷ turnLinesAt p h s b in
-      let e9 = none-first 9 _ _ (λ q. omega arith) (sym (first-behind (linesFor (routeOf route) bytes) ls (numbered-for (routeOf route) bytes) (front (linesFor (routeOf route) bytes) ls z)) ∙ z) in
+      let e9 = none-first 9 _ _ (λ q. omega arith)
+      (none-behind (linesFor (routeOf route) bytes) ls (numbered-for (routeOf route) bytes) z) in
       let e10 = none-first 10 _ _ (λ q. omega arith) (e9 .1) in
       let e25 = none-first 25 _ _ (λ q. omega arith) (e10 .1) in
       let e11 = none-first 11 _ _ (λ q. omega arith) (e25 .1) in
@@ -218,7 +219,8 @@ module _ (bytes : List ℕ) (route : ℕ) (source : List ℕ) (o : ℕ) (h : Hou
   needs-for z =
       let p = recipe bytes route in
       let ls = line 9 (not (areasFor p source l theirs and tableLong p h)) ∷ turnLinesAtFor p o h l theirs b in
-      let e9 = none-first 9 _ _ (λ q. omega arith) (sym (first-behind (linesFor (routeOf route) bytes) ls (numbered-for (routeOf route) bytes) (front (linesFor (routeOf route) bytes) ls z)) ∙ z) in
+      let e9 = none-first 9 _ _ (λ q. omega arith)
+      (none-behind (linesFor (routeOf route) bytes) ls (numbered-for (routeOf route) bytes) z) in
       let e1 = none-first 11 _ _ (λ q. omega arith) (e9 .1) in
       let e10 = none-first 10 _ _ (λ q. omega arith) (e1 .1) in
       let e25 = none-first 25 _ _ (λ q. omega arith) (e10 .1) in

@@ -1,20 +1,15 @@
 -- The worked recipe, computed: every figure by the definitions, and the theorem applied to it.
-use Prim.Native.Nat.{ℕ, zero, suc}
 use mathlib.Core.Path.{_≡_, refl, ap, _∙_}
-use mathlib.Core.Bool.{Bool, true}
-use mathlib.Core.List.{List, [], _∷_}
-use native.Mathlib.Omega.{arith}
+use mathlib.Core.Bool.{true}
+use mathlib.Core.List.{[], _∷_}
 use lib.ListN.{replicate}
-use lib.Dec.{ltb}
-use borrow.Author.Tests.{ltb-true}
 use Rattle.base.specs.Tests.{_and_, _or_, not, pick, every, some, keep, those, tabulate, sum, product}
 use Rattle.base.specs.Numbers.{firstOf}
-use Rattle.base.proofs.Tests.{both}
+use Rattle.base.proofs.Lists.{small, small-bytes}
 use Rattle.machine.specs.Plan.{Plan, offset, count, heldBy}
 use Rattle.machine.specs.Machine.{sweep, sweepTo}
 use Rattle.nest.specs.declared.Nest.{Nest}
 use Rattle.nest.specs.Nest.{tileCount, cells, processors, boxTiles}
-use Rattle.base.specs.Lists.{Bytes}
 use Rattle.nest.specs.Reader.{ofKind, filled, nestBy, nestOf, ragged, blank, checked, mayStand, fitsAt, wellFormed, strayRecord, outside, badLength, tooLarge, needlesslyWide, same, beyond, faulty, badDistance, reached, badTile, badSpread, lastSpread, badProcessors, tooManyTiles, nestLines, readLines}
 use Rattle.nest.specs.Places.{rank, place, cellAt, cellPlace, tileAt, tilePlace, boxTileOf}
 use Rattle.plan.specs.Geometry.{cellsOf, processorOf, inside, hasRead, readAt, readsOf, value}
@@ -23,8 +18,7 @@ use Rattle.plan.specs.Messages.{directions, ahead, reaches, crosses, parcel, ta
 use Rattle.plan.specs.Shaped.{planOf}
 use Rattle.plan.specs.Rows.{accepted, figures, figuresIf, messageLine, linesTo, linesOf}
 use Rattle.nest.proofs.Quick.{quick}
-use Rattle.nest.proofs.Facts as facts
-use Rattle.plan.proofs.ShapedBox.{planOf-box}
+use Rattle.plan.proofs.ShapedBox.{recipe-box}
 use Rattle.engine.proofs.Demands.{demands}
 use Rattle.worked.specs.Harbour.{harbour, depths, Expected, Agrees}
 
@@ -75,26 +69,13 @@ grid-is : sweep (boxPlan Direct nest) depths
 unfolding sweepTo cells product value hasRead readAt cellAt cellPlace place rank every sum _and_ pick tabulate
 grid-is = refl
 
--- each of the list's numbers is a byte
-unfoldable small : List ℕ → Bool
-small [] = true
-small (x ∷ xs) = ltb x 256 and small xs
-
-small-bytes : (l : List ℕ) → small l ≡ true → Bytes l
-unfolding small
-small-bytes [] e i = omega arith
-small-bytes (x ∷ xs) e zero = ltb-true x 256 (both e .0)
-small-bytes (x ∷ xs) e (suc i) = small-bytes xs (both e .1) i
-
 harbour-small : small harbour ≡ true
 unfolding small _and_
 harbour-small = refl
 
 -- the recipe has no bounds: its plan is the box's
 plan-box : planOf Direct (nestOf harbour) ≡ boxPlan Direct nest
-plan-box =
-    planOf-box Direct (nestOf harbour) (facts.accepted harbour (small-bytes harbour harbour-small) number-is) (ap (λ (x : Nest). x .bounds) nest-is)
-    ∙ ap (boxPlan Direct) nest-is
+plan-box = recipe-box harbour nest harbour-small number-is nest-is refl
 
 pub expected : Expected
 unfolding figures
