@@ -68,8 +68,8 @@ relocated x c r l = subst (λ (k : ℕ). Located x k r) (sym (l .number)) l
 -- ---- making the box: corner and lengths are done before j, and the corner is still the tile's place from j on
 
 pub record Boxing (x : Nest) (t : ℕ) (corner lengths : List ℕ) (j : ℕ) : Type 0 where
-  pub first : Filled (λ i. tilePlace x t i * tileLength x i) (x .dimensions) corner j
-  pub second : Filled (boxLength x t) (x .dimensions) lengths j
+  pub first : Filled 4 (λ i. tilePlace x t i * tileLength x i) (x .dimensions) corner j
+  pub second : Filled 4 (boxLength x t) (x .dimensions) lengths j
   pub rest : (i : ℕ) → j ≤ i → i < x .dimensions → getD corner i 0 ≡ tilePlace x t i
 
 module _ (x : Nest) (ok : Accepted x) where

@@ -11,7 +11,7 @@ use Rattle.layout.proofs.across_of.Statement.{statement}
 use Rattle.layout.proofs.across_of.Tie as tie
 
 abbrev Inv-loop : tie.InvT-loop
-Inv-loop nest across₀ n j₀ across j = Filled (tileCount nest) n across j
+Inv-loop nest across₀ n j₀ across j = Filled 4 (tileCount nest) n across j
 
 abbrev μ-loop : tie.MeasureT-loop
 μ-loop nest across₀ n j₀ across j = n - j

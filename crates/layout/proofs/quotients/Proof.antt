@@ -9,7 +9,7 @@ use Rattle.layout.proofs.quotients.Statement.{statement}
 use Rattle.layout.proofs.quotients.Tie as tie
 
 abbrev Inv-loop : tie.InvT-loop
-Inv-loop nest at tile₀ n j₀ tile j = Filled (λ i. getD at i 0 / tileLength nest i) n tile j
+Inv-loop nest at tile₀ n j₀ tile j = Filled 4 (λ i. getD at i 0 / tileLength nest i) n tile j
 
 abbrev μ-loop : tie.MeasureT-loop
 μ-loop nest at tile₀ n j₀ tile j = n - j

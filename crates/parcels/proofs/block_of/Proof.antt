@@ -12,8 +12,8 @@ use Rattle.parcels.proofs.block_of.Statement.{statement}
 use Rattle.parcels.proofs.block_of.Tie as tie
 
 abbrev Inv-loop : tie.InvT-loop
-Inv-loop earlier at corner₀ lengths₀ tiling ends n j₀ corner lengths j = Filled (λ i. (getD at i 0 - one (ltb i earlier)) * getD tiling i 0) n corner j
-    × Filled (λ i. min (getD at i 0 * getD tiling i 0 + getD tiling i 0) (getD ends i 0) - (getD at i 0 - one (ltb i earlier)) * getD tiling i 0) n lengths j
+Inv-loop earlier at corner₀ lengths₀ tiling ends n j₀ corner lengths j = Filled 4 (λ i. (getD at i 0 - one (ltb i earlier)) * getD tiling i 0) n corner j
+    × Filled 4 (λ i. min (getD at i 0 * getD tiling i 0 + getD tiling i 0) (getD ends i 0) - (getD at i 0 - one (ltb i earlier)) * getD tiling i 0) n lengths j
 
 abbrev μ-loop : tie.MeasureT-loop
 μ-loop earlier at corner₀ lengths₀ tiling ends n j₀ corner lengths j = n - j

@@ -9,7 +9,7 @@ use Rattle.values.proofs.margins_of.Statement.{statement}
 use Rattle.values.proofs.margins_of.Tie as tie
 
 abbrev Inv-loop : tie.InvT-loop
-Inv-loop nest components margin₀ n j₀ margin j = Filled (λ q. mostOf nest q (nest .distances)) n margin j
+Inv-loop nest components margin₀ n j₀ margin j = Filled 4 (λ q. mostOf nest q (nest .distances)) n margin j
 
 abbrev μ-loop : tie.MeasureT-loop
 μ-loop nest components margin₀ n j₀ margin j = n - j
