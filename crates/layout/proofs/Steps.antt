@@ -112,7 +112,12 @@ module _ (x : Nest) (ok : Accepted x) where
   pub step-few : (r : Route) (w : ℕ) → tileAt x (along r x w) ≤ 65536
   unfolding tileAt boxTiles
   step-few r w =
-      omega (arith, rank-most (tileCount x) (along r x w) (x .dimensions) (tileCount-pos x ok) (along-within r w), mul-le-mul-right (product (tileCount x) (x .dimensions)) (ok .dimensions-most), box-few x ok)
+      omega (
+        arith,
+        rank-most (tileCount x) (along r x w) (x .dimensions) (tileCount-pos x ok) (along-within r w),
+        mul-le-mul-right (product (tileCount x) (x .dimensions)) (ok .dimensions-most),
+        box-few x ok,
+      )
 
   -- ---- the taker is the sender and the step
 
@@ -161,7 +166,8 @@ module _ (x : Nest) (ok : Accepted x) where
       low : (s : ℕ) → s % ways r x < 8
       low s = omega (arith, ways-few r, mod-lt s (ways-pos r))
 
-  pub stepped-all : (r : Route) (i : ℕ) (l : List ℕ) (d : ℕ) → (i ≡ 0 → ⊥) → Filled 8 (λ w. tileAt x (along r x w)) (ways r x) l d → ways r x ≤ d → Stepped r x i l
+  pub stepped-all : (r : Route) (i : ℕ) (l : List ℕ) (d : ℕ) → (i ≡ 0 → ⊥) → Filled 8 (λ w. tileAt x (along r x w)) (ways r x) l d → ways r x ≤ d
+      → Stepped r x i l
   unfolding endAt
   stepped-all r zero l d f q h = absurd (f refl)
   stepped-all r (suc i) l d f q h =

@@ -82,7 +82,8 @@ module _ (x : Nest) (long : Positive (lengthOf x) (x .dimensions)) where
       rank-low (lengthOf x) (corner u) (x .dimensions) (corner-low u),
       rank-same (tileCount x) (λ j. place (lengthOf x) (x .dimensions) (rank (lengthOf x) (corner u) (x .dimensions)) j / tileLength x j)
           (place (tileCount x) (x .dimensions) u) (x .dimensions)
-          (λ j h. ap (λ (a : ℕ). a / tileLength x j) (place-rank (lengthOf x) (corner u) (x .dimensions) (corner-low u) j h) ∙ mul-div-cancel (place (tileCount x) (x .dimensions) u j) (tiled j h))
+          (λ j h. ap (λ (a : ℕ). a / tileLength x j) (place-rank (lengthOf x) (corner u) (x .dimensions) (corner-low u) j h) ∙ mul-div-cancel
+          (place (tileCount x) (x .dimensions) u j) (tiled j h))
           ∙ rank-place (tileCount x) (x .dimensions) u counts-least l,
     )
 

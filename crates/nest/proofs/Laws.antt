@@ -14,7 +14,8 @@ use lib.Seq.{ext-getD, getD-set-same, getD-set-other}
 use lib.Dec.{eqb, ltb}
 use borrow.Author.Tests.{lt-ltb, le-ltb, le-leb, lt-leb, eq-eqb, ne-eqb, leb-true, eqb-true}
 use Rattle.base.specs.Tests.{_and_, _or_, not, pick, every, some, keep, those, product}
-use Rattle.base.proofs.Tests.{both, and-true, and-left, and-false, and-no, or-left, or-right, or-false, not-true, not-false, is-true, never-both, every-not, some-one, pick-true, pick-false, length-tabulate, tabulate-at}
+use Rattle.base.proofs.Tests.{both, and-true, and-left, and-false, and-no, or-left, or-right, or-false, not-true, not-false, is-true, never-both}
+use Rattle.base.proofs.Tests.{every-not, some-one, pick-true, pick-false, length-tabulate, tabulate-at}
 use Rattle.base.specs.Numbers.{line, firstOf}
 use Rattle.base.proofs.Select.{those-more, those-none, those-few, keep-more, keep-none, keep-few}
 use Rattle.base.proofs.Numbers.{first-true, first-false}
@@ -455,7 +456,8 @@ module _ (needless : Bool) (x : Nest) where
 
         module _ (h20 : noCell x ≡ false) where
           to-5 : firstOf (nestLines needless x)
-              ≡ firstOf (line 5 (badDistance x) ∷ line 6 (badTile x) ∷ line 16 (badSpread x) ∷ line 17 (lastSpread x) ∷ line 7 (badProcessors x) ∷ line 8 (tooManyTiles x) ∷ [])
+              ≡ firstOf (line 5 (badDistance x) ∷ line 6 (badTile x) ∷ line 16 (badSpread x) ∷ line 17 (lastSpread x) ∷ line 7 (badProcessors x)
+              ∷ line 8 (tooManyTiles x) ∷ [])
           unfolding nestLines
           to-5 = first-false 3 (badLength x) _ h3 ∙ (first-false 4 (tooLarge x) _ h4 ∙ (first-false 18 needless _ h18 ∙ first-false 20 (noCell x) _ h20))
 

@@ -25,8 +25,10 @@ use Rattle.nest.proofs.Facts.{accepted}
 use Rattle.plan.specs.declared.Route.{Route}
 use Rattle.plan.specs.declared.Route.the-variants.{Direct, Indirect}
 use Rattle.plan.specs.Geometry.{cellsOf, processorOf, hasRead, readAt, readsOf, value}
-use Rattle.plan.specs.Messages.{directions, reaches, crosses, parcel, taker, slots, slotTile, slotDirection, slotCells, slotTaker, atHome, slotParcel, slotMessage, messagesOf, messagesTo, messages, boxPlan}
-use Rattle.plan.specs.Shaped.{boxTile, tileOf, shapedCells, readsShape, shapedReads, shapedValue, reachesShape, shapedParcel, shapedTaker, slotBox, shapedSlotTaker, shapedHome, shapedSlotParcel, shapedMessage, shapedSlots, planOf}
+use Rattle.plan.specs.Messages.{directions, reaches, crosses, parcel, taker, slots, slotTile, slotDirection, slotCells, slotTaker, atHome}
+use Rattle.plan.specs.Messages.{slotParcel, slotMessage, messagesOf, messagesTo, messages, boxPlan}
+use Rattle.plan.specs.Shaped.{boxTile, tileOf, shapedCells, readsShape, shapedReads, shapedValue, reachesShape, shapedParcel, shapedTaker}
+use Rattle.plan.specs.Shaped.{slotBox, shapedSlotTaker, shapedHome, shapedSlotParcel, shapedMessage, shapedSlots, planOf}
 use Rattle.nest.proofs.Boxes.{all-kept, unbounded-in, unbounded-exists, unbounded-tiles}
 use Rattle.plan.proofs.Tiles.{boxTileOf-low}
 use Rattle.plan.proofs.Slots.{unless-in}

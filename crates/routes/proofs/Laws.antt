@@ -112,7 +112,9 @@ module _ (bytes : List ℕ) (x : Reading) (is : x ≡ readingOf bytes) (bs : x .
     unfolding indirect
     barred r e h =
         record {
-          number = sym (barred-for r bytes none (rw (sym e) (and-true refl (some (nestOf bytes .bounds) (λ q. h (ap (λ (y : Nest). y .bounds) (nest-read bytes x is z) ∙ q))))));
+          number =
+              sym (barred-for r bytes none
+              (rw (sym e) (and-true refl (some (nestOf bytes .bounds) (λ q. h (ap (λ (y : Nest). y .bounds) (nest-read bytes x is z) ∙ q))))));
           nest = λ q. absurd (omega (arith, q));
           bytes-are = λ q. absurd (omega (arith, q));
         }

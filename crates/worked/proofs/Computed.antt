@@ -10,7 +10,9 @@ use Rattle.machine.specs.Plan.{Plan, offset, count, heldBy}
 use Rattle.machine.specs.Machine.{sweep, sweepTo}
 use Rattle.nest.specs.declared.Nest.{Nest}
 use Rattle.nest.specs.Nest.{tileCount, cells, processors, boxTiles}
-use Rattle.nest.specs.Reader.{ofKind, filled, nestBy, nestOf, ragged, blank, checked, mayStand, fitsAt, wellFormed, strayRecord, outside, badLength, tooLarge, needlesslyWide, same, beyond, faulty, badDistance, reached, badTile, badSpread, lastSpread, badProcessors, tooManyTiles, nestLines, readLines}
+use Rattle.nest.specs.Reader.{ofKind, filled, nestBy, nestOf, ragged, blank, checked, mayStand, fitsAt, wellFormed, strayRecord, outside, badLength}
+use Rattle.nest.specs.Reader.{tooLarge, needlesslyWide, same, beyond, faulty, badDistance, reached, badTile, badSpread, lastSpread, badProcessors}
+use Rattle.nest.specs.Reader.{tooManyTiles, nestLines, readLines}
 use Rattle.nest.specs.Places.{rank, place, cellAt, cellPlace, tileAt, tilePlace, boxTileOf}
 use Rattle.plan.specs.Geometry.{cellsOf, processorOf, inside, hasRead, readAt, readsOf, value}
 use Rattle.plan.specs.declared.Route.the-variants.{Direct}
@@ -23,7 +25,9 @@ use Rattle.engine.proofs.Demands.{demands}
 use Rattle.worked.specs.Harbour.{harbour, depths, Expected, Agrees}
 
 number-is : firstOf (readLines harbour) ≡ 0
-unfolding firstOf nestOf nestBy ofKind filled ragged blank checked mayStand fitsAt wellFormed strayRecord outside badLength tooLarge needlesslyWide same beyond faulty badDistance reached badTile badSpread lastSpread badProcessors tooManyTiles tileCount cells boxTiles processors _and_ _or_ not pick every some keep those tabulate product
+unfolding firstOf nestOf nestBy ofKind filled ragged blank checked mayStand fitsAt wellFormed strayRecord outside badLength tooLarge needlesslyWide same
+    beyond faulty badDistance reached badTile badSpread lastSpread badProcessors tooManyTiles tileCount cells boxTiles processors _and_ _or_ not pick every
+    some keep those tabulate product
 number-is = quick harbour ∙ refl
 
 -- the nest of the bytes, so that it is computed once
@@ -53,19 +57,24 @@ unfolding ofKind filled nestBy nestOf pick keep those tabulate
 nest-is = refl
 
 plan-is : figuresIf 0 (boxPlan Direct nest) ≡ accepted 6 3 5 18
-unfolding figuresIf offset processorOf _and_ _or_ pick every some keep product tileCount cells boxTiles rank place cellAt cellPlace tileAt tilePlace boxTileOf inside directions ahead reaches crosses parcel taker slotCells slotTaker atHome slotParcel messagesTo
+unfolding figuresIf offset processorOf _and_ _or_ pick every some keep product tileCount cells boxTiles rank place cellAt cellPlace tileAt tilePlace
+    boxTileOf inside directions ahead reaches crosses parcel taker slotCells slotTaker atHome slotParcel messagesTo
 plan-is = refl
 
-lines-are : linesTo (boxPlan Direct nest) (count (boxPlan Direct nest)) ≡ (0 ∷ 0 ∷ 3 ∷ 0 ∷ 1 ∷ 2 ∷ []) ∷ (1 ∷ 1 ∷ 4 ∷ 0 ∷ 1 ∷ 2 ∷ []) ∷ (2 ∷ 2 ∷ 5 ∷ 0 ∷ 1 ∷ 1 ∷ []) ∷ []
-unfolding linesTo messageLine processorOf _and_ _or_ pick every some keep product tileCount cells boxTiles rank place cellAt cellPlace tileAt tilePlace boxTileOf inside directions ahead reaches crosses parcel taker slotCells slotTaker atHome slotParcel messagesTo
+lines-are : linesTo (boxPlan Direct nest) (count (boxPlan Direct nest)) ≡ (0 ∷ 0 ∷ 3 ∷ 0 ∷ 1 ∷ 2 ∷ []) ∷ (1 ∷ 1 ∷ 4 ∷ 0 ∷ 1 ∷ 2 ∷ [])
+    ∷ (2 ∷ 2 ∷ 5 ∷ 0 ∷ 1 ∷ 1 ∷ []) ∷ []
+unfolding linesTo messageLine processorOf _and_ _or_ pick every some keep product tileCount cells boxTiles rank place cellAt cellPlace tileAt tilePlace
+    boxTileOf inside directions ahead reaches crosses parcel taker slotCells slotTaker atHome slotParcel messagesTo
 lines-are = refl
 
 cells-are : heldBy (boxPlan Direct nest) 1 ≡ 12 ∷ 13 ∷ []
-unfolding processorOf _and_ _or_ pick every some keep product tileCount cells boxTiles rank place cellAt cellPlace tileAt tilePlace boxTileOf inside directions ahead reaches crosses parcel taker slotCells slotTaker atHome slotParcel messagesTo
+unfolding processorOf _and_ _or_ pick every some keep product tileCount cells boxTiles rank place cellAt cellPlace tileAt tilePlace boxTileOf inside
+    directions ahead reaches crosses parcel taker slotCells slotTaker atHome slotParcel messagesTo
 cells-are = refl
 
 grid-is : sweep (boxPlan Direct nest) depths
-    ≡ 35 ∷ 49 ∷ 57 ∷ 61 ∷ 63 ∷ 57 ∷ 100 ∷ 131 ∷ 152 ∷ 165 ∷ 75 ∷ 154 ∷ 228 ∷ 289 ∷ 334 ∷ 90 ∷ 208 ∷ 342 ∷ 474 ∷ 589 ∷ 102 ∷ 259 ∷ 468 ∷ 705 ∷ 943 ∷ 113 ∷ 307 ∷ 601 ∷ 978 ∷ 1404 ∷ []
+    ≡ 35 ∷ 49 ∷ 57 ∷ 61 ∷ 63 ∷ 57 ∷ 100 ∷ 131 ∷ 152 ∷ 165 ∷ 75 ∷ 154 ∷ 228 ∷ 289 ∷ 334 ∷ 90 ∷ 208 ∷ 342 ∷ 474 ∷ 589 ∷ 102 ∷ 259 ∷ 468 ∷ 705 ∷ 943 ∷ 113 ∷ 307
+    ∷ 601 ∷ 978 ∷ 1404 ∷ []
 unfolding sweepTo cells product value hasRead readAt cellAt cellPlace place rank every sum _and_ pick tabulate
 grid-is = refl
 

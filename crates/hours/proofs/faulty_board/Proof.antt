@@ -52,7 +52,9 @@ faulty-pair-requires c κs = search needs
 
 returns : tie.Need-returns Inv-loop μ-loop
 unfolding faultyBoard
-returns c = sym (some-one _ _ (c .before .before .before .before .before .loop .w) (c .before .before .before .before .loop-test .taken) (sym (c .before .faulty-pair .ensures) ∙ c .if1 .taken))
+returns c =
+    sym (some-one _ _ (c .before .before .before .before .before .loop .w) (c .before .before .before .before .loop-test .taken)
+    (sym (c .before .faulty-pair .ensures) ∙ c .if1 .taken))
 
 add-w : tie.Need-add-w Inv-loop μ-loop
 add-w c = search needs

@@ -28,7 +28,8 @@ faulty-board-requires c κs = search needs
 
 returns : tie.Need-returns Inv-loop μ-loop
 unfolding faultyTable
-returns c = sym (some-one _ _ (c .before .before .before .loop .b) (c .before .before .loop-test .taken) (sym (c .before .faulty-board .ensures) ∙ c .if1 .taken))
+returns c =
+    sym (some-one _ _ (c .before .before .before .loop .b) (c .before .before .loop-test .taken) (sym (c .before .faulty-board .ensures) ∙ c .if1 .taken))
 
 add-b : tie.Need-add-b Inv-loop μ-loop
 add-b c = search needs

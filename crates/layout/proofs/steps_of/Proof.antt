@@ -26,7 +26,13 @@ step-of-requires : tie.Need-step-of-requires Inv-loop μ-loop
 step-of-requires c κs = (c .before .before .before .pre, omega (arith, c .loop-test .taken, c .before .before .before .pre .ways))
 
 mul-steps : tie.Need-mul-steps Inv-loop μ-loop
-mul-steps c = let start = c .before .before .before .before in omega (arith, c .before .before .loop .inv .low, ways-few _ (start .pre .accepted) (start .args .sizes .route))
+mul-steps c =
+    let start = c .before .before .before .before in omega (
+      arith,
+      c .before .before .loop .inv .low,
+      ways-few _ (start .pre .accepted)
+          (start .args .sizes .route),
+    )
 
 array-write-steps : tie.Need-array-write-steps Inv-loop μ-loop
 array-write-steps c =
@@ -34,7 +40,13 @@ array-write-steps c =
     omega (arith, c .before .loop-test .taken, start .pre .ways, ways-few _ (start .pre .accepted) (start .args .sizes .route))
 
 add-w : tie.Need-add-w Inv-loop μ-loop
-add-w c = let start = c .before .before .before .before in omega (arith, c .before .before .loop .inv .low, ways-few _ (start .pre .accepted) (start .args .sizes .route))
+add-w c =
+    let start = c .before .before .before .before in omega (
+      arith,
+      c .before .before .loop .inv .low,
+      ways-few _ (start .pre .accepted)
+          (start .args .sizes .route),
+    )
 
 loop-less : tie.Need-loop-less Inv-loop μ-loop
 loop-less c = search needs
