@@ -1,5 +1,6 @@
 pub mod Shared
 pub mod Walking
+pub mod Params
 pub mod OverRecords
 pub mod PlanCalls
 pub mod OfficeCalls

@@ -15,16 +15,35 @@ read-requires : tie.Need-read-requires
 read-requires c κs = search needs
 
 returns : tie.Need-returns
-returns c = L.look-read (c .before .before .before .before .before .before .args .encoded .now) (c .before .before .before .before .before .before .args .first .now) (c .before .before .before .before .before .before .args .second .now) (c .before .before .before .before .before .before .args .office) (c .before .before .before .before .before .before .args .processor) (c .before .before .before .before .before .before .args .out .now) (c .before .read .result) (c .before .read .ensures .0) (c .if1 .taken)
+returns c =
+    L.look-read (c .before .before .before .before .before .before .args .encoded .now) (c .before .before .before .before .before .before .args .first .now)
+    (c .before .before .before .before .before .before .args .second .now) (c .before .before .before .before .before .before .args .office)
+    (c .before .before .before .before .before .before .args .processor) (c .before .before .before .before .before .before .args .out .now)
+    (c .before .read .result) (c .before .read .ensures .0) (c .if1 .taken)
 
 returns-2 : tie.Need-returns-2
-returns-2 c = L.look-out (c .before .before .before .before .before .before .before .args .encoded .now) (c .before .before .before .before .before .before .before .args .first .now) (c .before .before .before .before .before .before .before .args .second .now) (c .before .before .before .before .before .before .before .args .office) (c .before .before .before .before .before .before .before .args .processor) (c .before .before .before .before .before .before .before .args .out .now) (c .before .before .read .result) (c .before .before .read .ensures .0) (c .before .if1 .left) (c .if2 .taken)
+returns-2 c =
+    L.look-out (c .before .before .before .before .before .before .before .args .encoded .now)
+    (c .before .before .before .before .before .before .before .args .first .now)
+    (c .before .before .before .before .before .before .before .args .second .now) (c .before .before .before .before .before .before .before .args .office)
+    (c .before .before .before .before .before .before .before .args .processor) (c .before .before .before .before .before .before .before .args .out .now)
+    (c .before .before .read .result) (c .before .before .read .ensures .0) (c .before .if1 .left) (c .if2 .taken)
 
 look-at-requires : tie.Need-look-at-requires
 look-at-requires c κs = search needs
 
 returns-3 : tie.Need-returns-3
-returns-3 c = L.look-none (c .before .before .before .before .before .before .before .before .before .args .encoded .now) (c .before .before .before .before .before .before .before .before .before .args .first .now) (c .before .before .before .before .before .before .before .before .before .args .second .now) (c .before .before .before .before .before .before .before .before .before .args .office) (c .before .before .before .before .before .before .before .before .before .args .processor) (c .before .before .before .before .before .before .before .before .before .args .out .now) (c .before .before .before .before .read .result) (c .before .before .before .before .read .ensures .0) (c .before .before .before .if1 .left) (c .before .before .if2 .left) (c .before .look-at .result .number) (c .before .look-at .ensures .0 (c .before .before .before .before .before .before .before .before .before .args .first .now) (c .before .before .before .before .before .before .before .before .before .args .second .now) refl refl) (c .if3 .taken)
+returns-3 c =
+    L.look-none (c .before .before .before .before .before .before .before .before .before .args .encoded .now)
+    (c .before .before .before .before .before .before .before .before .before .args .first .now)
+    (c .before .before .before .before .before .before .before .before .before .args .second .now)
+    (c .before .before .before .before .before .before .before .before .before .args .office)
+    (c .before .before .before .before .before .before .before .before .before .args .processor)
+    (c .before .before .before .before .before .before .before .before .before .args .out .now) (c .before .before .before .before .read .result)
+    (c .before .before .before .before .read .ensures .0) (c .before .before .before .if1 .left) (c .before .before .if2 .left)
+    (c .before .look-at .result .number) (c .before .look-at .ensures .0
+    (c .before .before .before .before .before .before .before .before .before .args .first .now)
+    (c .before .before .before .before .before .before .before .before .before .args .second .now) refl refl) (c .if3 .taken)
 
 cast-out : tie.Need-cast-out
 cast-out c = omega (arith, c .before .before .look-at .ensures .1 (c .before .if3 .left) .word)
@@ -44,7 +63,17 @@ same-length c = search needs
 returns-4 : tie.Need-returns-4
 returns-4 c =
     let found = c .before .before .before .look-at .ensures .1 (c .before .before .if3 .left) in
-    L.look-done (c .before .before .before .before .before .before .before .before .before .before .before .args .encoded .now) (c .before .before .before .before .before .before .before .before .before .before .before .args .first .now) (c .before .before .before .before .before .before .before .before .before .before .before .args .second .now) (c .before .before .before .before .before .before .before .before .before .before .before .args .office) (c .before .before .before .before .before .before .before .before .before .before .before .args .processor) (c .before .before .before .before .before .before .before .before .before .before .before .args .out .now) (c .before .before .before .before .before .before .read .result) (c .before .before .before .before .before .before .read .ensures .0) (c .before .before .before .before .before .if1 .left) (c .before .before .before .before .if2 .left) (c .before .before .before .look-at .result .number) (c .before .before .before .look-at .ensures .0 (c .before .before .before .before .before .before .before .before .before .before .before .args .first .now) (c .before .before .before .before .before .before .before .before .before .before .before .args .second .now) refl refl) (c .before .before .if3 .left)
+    L.look-done (c .before .before .before .before .before .before .before .before .before .before .before .args .encoded .now)
+    (c .before .before .before .before .before .before .before .before .before .before .before .args .first .now)
+    (c .before .before .before .before .before .before .before .before .before .before .before .args .second .now)
+    (c .before .before .before .before .before .before .before .before .before .before .before .args .office)
+    (c .before .before .before .before .before .before .before .before .before .before .before .args .processor)
+    (c .before .before .before .before .before .before .before .before .before .before .before .args .out .now)
+    (c .before .before .before .before .before .before .read .result) (c .before .before .before .before .before .before .read .ensures .0)
+    (c .before .before .before .before .before .if1 .left) (c .before .before .before .before .if2 .left)
+    (c .before .before .before .look-at .result .number) (c .before .before .before .look-at .ensures .0
+    (c .before .before .before .before .before .before .before .before .before .before .before .args .first .now)
+    (c .before .before .before .before .before .before .before .before .before .before .before .args .second .now) refl refl) (c .before .before .if3 .left)
     (c .before .before .before .look-at .result .start) (c .before .before .before .look-at .result .words) (found .start) (found .words)
 
 pub rolwyddac-look-spec : {M : Type 1} → statement M
