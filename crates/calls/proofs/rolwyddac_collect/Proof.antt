@@ -1,5 +1,5 @@
--- `rolwyddac_collect` meets its contract: a walk of its MIR, by hand. `flatten` is called on the records, and `core::collect` on their words and
--- all that was lent. All that the proof knows of the two is that they meet their contracts. Assumes nothing.
+-- `rolwyddac_collect` meets its contract: a walk of its MIR, by hand. `flatten` is called on the records, and `core::collect` on
+-- their words and all that was lent. All that the proof knows of the two is that they meet their contracts. Assumes nothing.
 use mathlib.Core.Path.{_≡_, refl, ap}
 use Prim.Native.Nat.{ℕ, _<_, _^_}
 use mathlib.Core.List.{List, [], _∷_, _++_}
@@ -14,11 +14,10 @@ use prog.Memory.{Memory}
 use prog.Routine.{Routine}
 use prog.Wp.{Heap, Env, Calls, Loops, WpFn, Tables}
 use ghost.Atoms.{Atoms}
-use contract.Monad.{Fun, fact}
+use contract.Monad.{Fun}
 use contract.Running.{givenOf, tables, tablesOf}
 use contract.Lifetimes.{Lfts, Shares, AllOutlive}
-use types.Kit.{Given, Item, ‵, raw, some, later, runs, atRet, Sq, _⊛_, ⋆, _$_, _∵_, !, qed, by, move, keep, use1, use2, split, pick, rewrite, feqL}
-use types.Kit.{suffices, frame, await, done}
+use types.Kit.{Given, Item, ‵, raw, runs, atRet, Sq, _⊛_, ⋆, _$_, _∵_, !, qed, by, move, keep, use2, split, rewrite, feqL, suffices, frame, done}
 use types.Part.{whole, sub, look-in, agg}
 use types.Run.{look, init, forget, stop, hop, fld, from, load, addr, and-then, no-more, assigns, land, returns, enter, alloc1, alloc0, params1, pass1, pass0}
 use sound.WpLaws.{FmC, fmOf, WpFn-mono}
@@ -27,7 +26,7 @@ use denote.Plain.{uint-tells, uint-makes, uint-lawful}
 use denote.Builtin.{u8, u32}
 use denote.Ref.{RefT, now}
 use denote.Slice.{Room, finally}
-use denote.Steps.{only, nothing, owned, peeks, heard}
+use denote.Steps.{only, nothing, owned, peeks}
 use denote.Struct.Laws as LL
 use denote.Triple.Entry.{onEntry}
 use denote.Triple.Spec.{Meets, tripleOf}
@@ -53,7 +52,7 @@ use Rattle.engine.proofs.core.collect.Symbol.{name as #engine·core·collect}
 use Rattle.engine.proofs.core.collect.Met as words-thm
 use Rattle.calls.proofs.Walking.{R, F, low, word, words32, records}
 use Rattle.calls.proofs.Params.{Param, number32, flat, reads, changes, Lent, stays, go, spells, tell, values, row, tokens, owning, slices}
-use Rattle.calls.proofs.Params.{After, had, lasting, env, held}
+use Rattle.calls.proofs.Params.{had, env, held, comes-back}
 use Rattle.calls.proofs.Walking.{local, rising, pairs, sepAll, fsepAll, splits, joins, fsplits, fjoins, Flatten, flattens}
 use Rattle.calls.proofs.rolwyddac_collect.Key.{name as #calls·collect}
 use Rattle.calls.proofs.rolwyddac_collect as collect
@@ -170,23 +169,18 @@ module _ {M : Type 1} (𝓤 : URA M) (H : Heap 𝓤) (A : Atoms 𝓤) (W : Given
         calls-at ! fm (Words 𝓤 H A mem run) known₁ (to-words f) (and-then ! (local ! 21 refl) (and-then ! (local ! 19 refl) (and-then ! (local ! 17 refl)
         (and-then ! (local ! 15 refl) (and-then ! (local ! 13 refl) (and-then ! (local ! 5 refl) (and-then ! (local ! 9 refl) (and-then ! (local ! 1 refl)
         (no-more !))))))))) (λ w.
-        use1 W (later (some (λ (r : ℕ). (sepAll 𝓤 Lives ⊛ ‵ (u32 .own r (w ∷ []))) ⊛ raw (ensured 𝓤 H A words.ended (words.clauses 𝓤 H A mem run) κw
-        (given-words f) tt r)))) (id⊢ 𝓤 _) $
-        await ! tt $ pick ! (λ r. split ! $ move ! (1 ∷ []) $
-        use1 W (some (λ (us : After κw in-words (given-words f)). sepAll 𝓤 (lasting 𝓤 in-words κw (given-words f) us) ⊛ raw
-        (fact 𝓤 ((l : List ℕ) → Carries f l → answer r (us .1 .1 .1 .1 .1 .1 .1 .0) ≡ collectCall (now x0) route (now x1) (stateOf (now x2) (now x3) l
-        (now x5)) (now x6))))) (id⊢ 𝓤 _) $
-        pick ! (λ us. split ! $ move ! (1 ∷ []) $
-        heard ! ((l : List ℕ) → Carries f l → answer r (us .1 .1 .1 .1 .1 .1 .1 .0) ≡ collectCall (now x0) route (now x1) (stateOf (now x2) (now x3) l
-        (now x5)) (now x6)) (λ said.
-        splits ! (lasting 𝓤 in-words κw (given-words f) us) $ split ! $ move ! (1 ∷ []) $ feqL ! (λ e6. move ! (8 ∷ []) $ split ! $ move ! (1 ∷ []) $
+        comes-back in-words κw (given-words f) ! u32 Lives w _ (ensured 𝓤 H A words.ended (words.clauses 𝓤 H A mem run) κw (given-words f) tt)
+        (λ r us. (l : List ℕ) → Carries f l → answer r (us .1 .1 .1 .1 .1 .1 .1 .0) ≡ collectCall (now x0) route (now x1) (stateOf (now x2) (now x3) l
+        (now x5)) (now x6))
+        (id⊢ 𝓤 _) (λ r. id⊢ 𝓤 _) (λ r us said.
+        split ! $ move ! (1 ∷ []) $ feqL ! (λ e6. move ! (8 ∷ []) $ split ! $ move ! (1 ∷ []) $
         peeks ! u32 (Is u32) (shows 𝓤 H A u32) r (w ∷ []) (λ is′.
         land ! (from ! (stop !)) (init ! 32 refl (uint-lawful 𝓤 H A W w32 .typed r _ is′ .0)) $
         rewrite ! 32 (λ (u : Val). ‵ (fat fullShare word l0 0 u)) (ap only (uint-tells w32 r (w ∷ []) is′)) refl $
         returns ! (look ! 32 refl) $ forget ! 32 refl $ forget ! 30 refl $ forget ! 28 refl $ forget ! 26 refl $ forget ! 24 refl $
         forget ! 22 refl $ forget ! 20 refl $ forget ! 18 refl $ forget ! 16 refl $ forget ! 14 refl $ forget ! 12 refl $ forget ! 10 refl $
         keep ! (pairs 32 12 ++ (1 ∷ 34 ∷ 2 ∷ [])) $
-        free-all ! _ $ by ! (exits r (us .1 .1 .1 .1 .1 .1 .1 .0) (is′ .1) e6 (said (flatWords (now x4)) e-f))))))))
+        free-all ! _ $ by ! (exits r (us .1 .1 .1 .1 .1 .1 .1 .0) (is′ .1) e6 (said (flatWords (now x4)) e-f))))))
 
     begun : Triple 𝓤 (C #records·flatten) (Flatten 𝓤 H A mem run) → Triple 𝓤 (C #engine·core·collect) (Words 𝓤 H A mem run)
         → Sq W (At (‵ (froom S′.mir l9 0)) (Toks ++ slices 𝓤 params κs given))

@@ -15,11 +15,10 @@ use prog.Memory.{Memory}
 use prog.Routine.{Routine}
 use prog.Wp.{Heap, Env, Calls, Loops, WpFn, Tables}
 use ghost.Atoms.{Atoms}
-use contract.Monad.{Fun, fact}
+use contract.Monad.{Fun}
 use contract.Running.{givenOf, tables, tablesOf}
 use contract.Lifetimes.{Lfts, Shares, AllOutlive}
-use types.Kit.{Given, Item, ‵, raw, some, later, runs, atRet, Sq, _⊛_, ⋆, _$_, _∵_, !, qed, by, move, keep, use1, use2, split, pick, rewrite, feqL}
-use types.Kit.{suffices, frame, await, done}
+use types.Kit.{Given, Item, ‵, raw, runs, atRet, Sq, _⊛_, ⋆, _$_, _∵_, !, qed, by, move, keep, use2, split, rewrite, feqL, suffices, frame, done}
 use types.Part.{whole, sub, look-in, agg}
 use types.Run.{look, init, forget, stop, hop, fld, from, load, of-opd, addr, and-then, no-more, assigns, land, returns, enter, alloc1, alloc0}
 use types.Run.{params1, pass1, pass0}
@@ -29,7 +28,7 @@ use denote.Plain.{uint-makes}
 use denote.Builtin.{u8, u32}
 use denote.Ref.{RefT, now}
 use denote.Slice.{MutSlice, Room, finally}
-use denote.Steps.{only, nothing, owned, peeks, heard}
+use denote.Steps.{only, nothing, owned, peeks}
 use denote.Struct.Laws as LL
 use denote.Triple.Entry.{onEntry}
 use denote.Triple.Spec.{Meets, tripleOf}
@@ -63,7 +62,7 @@ use Rattle.engine.proofs.core.turn.Symbol.{name as #engine·core·turn}
 use Rattle.engine.proofs.core.turn.Met as words-thm
 use Rattle.calls.proofs.Walking.{R, F, E, low, high, progress-is, number-fits, word, ref, bytes, words32, records, slice}
 use Rattle.calls.proofs.Params.{Param, number32, flat, reads, changes, Lent, stays, go, spells, tell, values, row, tokens, owning, slices}
-use Rattle.calls.proofs.Params.{After, had, lasting, env, held}
+use Rattle.calls.proofs.Params.{had, env, held, comes-back}
 use Rattle.calls.proofs.Walking.{local, rising, pairs, sepAll, fsepAll, splits, joins, fsplits, fjoins, Flatten, Put, flattens-lent, puts-at}
 use Rattle.calls.proofs.rolwyddac_turn.Key.{name as #calls·turn}
 use Rattle.calls.proofs.rolwyddac_turn as turn
@@ -226,15 +225,10 @@ module _ {M : Type 1} (𝓤 : URA M) (H : Heap 𝓤) (A : Atoms 𝓤) (W : Given
         calls-at ! fm (Words 𝓤 H A mem run) known₁ (to-words f) (and-then ! (local ! 41 refl) (and-then ! (local ! 39 refl) (and-then ! (local ! 37 refl)
         (and-then ! (local ! 15 refl) (and-then ! (local ! 11 refl) (and-then ! (local ! 25 refl) (and-then ! (local ! 7 refl) (and-then ! (local ! 27 refl)
         (no-more !))))))))) (λ w.
-        use1 W (later (some (λ (r : Turned). (sepAll 𝓤 Lives ⊛ ‵ (E .own r (w ∷ []))) ⊛ raw (ensured 𝓤 H A words.ended (words.clauses 𝓤 H A mem run) κw
-        (given-words f) tt r)))) (id⊢ 𝓤 _) $
-        await ! tt $ pick ! (λ r. split ! $ move ! (1 ∷ []) $
-        use1 W (some (λ (us : After κw in-words (given-words f)). sepAll 𝓤 (lasting 𝓤 in-words κw (given-words f) us) ⊛ raw
-        (fact 𝓤 ((l : List ℕ) → Carries f l → Said r (us .1 .1 .1 .0) (us .1 .1 .1 .1 .0) (us .1 .1 .1 .1 .1 .1 .0) l)))) (id⊢ 𝓤 _) $
-        pick ! (λ us. split ! $ move ! (1 ∷ []) $
-        heard ! ((l : List ℕ) → Carries f l → Said r (us .1 .1 .1 .0) (us .1 .1 .1 .1 .0) (us .1 .1 .1 .1 .1 .1 .0) l) (λ said.
-        splits ! (lasting 𝓤 in-words κw (given-words f) us) $ move ! (4 ∷ []) $ split ! $ move ! (1 ∷ []) $ feqL ! (λ e2. move ! (4 ∷ []) $ split ! $
-        move ! (1 ∷ []) $
+        comes-back in-words κw (given-words f) ! E Lives w _ (ensured 𝓤 H A words.ended (words.clauses 𝓤 H A mem run) κw (given-words f) tt)
+        (λ r us. (l : List ℕ) → Carries f l → Said r (us .1 .1 .1 .0) (us .1 .1 .1 .1 .0) (us .1 .1 .1 .1 .1 .1 .0) l)
+        (id⊢ 𝓤 _) (λ r. id⊢ 𝓤 _) (λ r us said.
+        move ! (4 ∷ []) $ split ! $ move ! (1 ∷ []) $ feqL ! (λ e2. move ! (4 ∷ []) $ split ! $ move ! (1 ∷ []) $
         feqL ! (λ e3. move ! (3 ∷ []) $ split ! $ move ! (1 ∷ []) $ feqL ! (λ e5. move ! (8 ∷ []) $ split ! $ move ! (1 ∷ []) $
         peeks ! E (Is E) (shows 𝓤 H A E) r (w ∷ []) (λ is′.
         land ! (from ! (stop !)) (init ! 32 refl (LL.lawful U.the-type U′.the-laws 𝓤 H A W .typed r _ is′ .0)) $
@@ -242,7 +236,7 @@ module _ {M : Type 1} (𝓤 : URA M) (H : Heap 𝓤) (A : Atoms 𝓤) (W : Given
         forget ! 34 refl $ forget ! 26 refl $ forget ! 24 refl $ forget ! 22 refl $ forget ! 20 refl $ forget ! 18 refl $ forget ! 16 refl $
         keep ! (rising 10 44 ++ (1 ∷ 54 ∷ 55 ∷ 4 ∷ 3 ∷ 2 ∷ [])) $
         stored-part known₂ r (subst (λ (us : List Val). Is E r us) (LL.tells U.the-type U′.the-laws r (w ∷ []) is′) is′)
-        (us .1 .1 .1 .0) (us .1 .1 .1 .1 .0) (us .1 .1 .1 .1 .1 .1 .0) e2 e3 e5 (said (flatWords (now x4)) e-f)))))))))
+        (us .1 .1 .1 .0) (us .1 .1 .1 .1 .0) (us .1 .1 .1 .1 .1 .1 .0) e2 e3 e5 (said (flatWords (now x4)) e-f)))))))
 
     begun : Triple 𝓤 (C #records·flatten) (Flatten 𝓤 H A mem run) → Triple 𝓤 (C #engine·core·turn) (Words 𝓤 H A mem run) → Triple 𝓤 (C #records·put)
         (Put 𝓤 H A mem run)
