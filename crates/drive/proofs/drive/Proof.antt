@@ -40,7 +40,8 @@ loop-again c =
     let G = at-round .round in (
       search needs,
       laws.drive-next (A .encoded .now) (A .source .now) (stateOf (A .memories .now) (A .buffer .now) (A .progress .now) (A .status .now))
-          (A .order) (A .steps) (X .left) (stateOf (X .memories) (X .buffer) (X .progress) (X .status)) _ (G .result) (at-loop-test .loop-test .taken) (X .inv .1)
+          (A .order) (A .steps) (X .left) (stateOf (X .memories) (X .buffer) (X .progress) (X .status)) _ (G .result) (at-loop-test .loop-test .taken)
+          (X .inv .1)
           (G .ensures) (c .if1 .taken),
     )
 

@@ -181,7 +181,8 @@ copy-cells-requires c κs =
       (sizes-of .ensures .0, lines.routed _ (read .result) (read .ensures) (if1 .left) (sizes-of .ensures .1 ∙ route-of .ensures)),
       (
         lines.areas-are p (A .source .now) (stateOf (A .memories .now) (A .buffer .now) l (A .status .now)) (lines.unfit-none p (A .source .now)
-            (stateOf (A .memories .now) (A .buffer .now) l (A .status .now)) (unfit .result) (unfit .ensures .0 l (reading.part-carries (A .progress) (S .pre) few))
+            (stateOf (A .memories .now) (A .buffer .now) l (A .status .now)) (unfit .result)
+            (unfit .ensures .0 l (reading.part-carries (A .progress) (S .pre) few))
             (if3 .left) .0) .memories,
         if2 .left ∙ sizes-of .ensures .0 .cells,
       ),

@@ -202,7 +202,8 @@ send-stage-requires c κs =
         (
           omega (arith, at-tile-count .tile-count .ensures, f),
           rw (t, at-word-index .word-index .ensures) (turns.fit-sent (planOf (A .sizes .route) (A .nest))
-              (stateOf (A .memories .now) (A .buffer .now) (A .progress .now) (A .status .now)) (A .b) (S .pre .1 .fit) (S .pre .1 .processor) f (at-if2 .if2 .left)
+              (stateOf (A .memories .now) (A .buffer .now) (A .progress .now) (A .status .now)) (A .b) (S .pre .1 .fit) (S .pre .1 .processor) f
+              (at-if2 .if2 .left)
               (at-if4 .if4 .left)),
         ),
       ),

@@ -68,7 +68,8 @@ returns-2 c =
     let few = reading.few-words (A .nest) (A .sizes) (S .pre .0 .0) (A .progress .count) (areas-fit .ensures .1 (not-false _ (if1 .left))) in (
       λ l h. lines.unfit-10 (planOf (A .sizes .route) (A .nest)) (A .source .now) (stateOf (A .memories .now) (A .buffer .now) l (A .status .now))
           (sym (areas-fit .ensures .0 l (h .counted)) ∙ not-false _ (if1 .left)) (lines.unfit-record (planOf (A .sizes .route) (A .nest))
-          (stateOf (A .memories .now) (A .buffer .now) l (A .status .now)) (reading.fits-as (planOf (A .sizes .route) (A .nest)) _ l (reading.part-is (A .progress)
+          (stateOf (A .memories .now) (A .buffer .now) l (A .status .now)) (reading.fits-as (planOf (A .sizes .route) (A .nest)) _ l
+          (reading.part-is (A .progress)
           l few h) ∙ sym (fit-records .ensures) ∙ not-true _ (if2 .taken))),
       λ q. absurd (omega (arith, S .pre .1)),
     )
@@ -112,7 +113,8 @@ returns-4 c =
           (A .source .now) (stateOf (A .memories .now) (A .buffer .now) l (A .status .now)) a (lines.fit-both (planOf (A .sizes .route) (A .nest))
           (stateOf (A .memories .now) (A .buffer .now) l (A .status .now)) (lines.areas-are (planOf (A .sizes .route) (A .nest)) (A .source .now)
           (stateOf (A .memories .now) (A .buffer .now) l (A .status .now)) a .status) (reading.fits-as (planOf (A .sizes .route) (A .nest)) _ l
-          (reading.part-is (A .progress) l few h) ∙ sym (fit-records .ensures) ∙ not-false _ (if2 .left)) (sym (fit-status .ensures) ∙ not-false _ (if3 .left))),
+          (reading.part-is (A .progress) l few h) ∙ sym (fit-records .ensures) ∙ not-false _ (if2 .left))
+          (sym (fit-status .ensures) ∙ not-false _ (if3 .left))),
       λ _. n,
     )
 
