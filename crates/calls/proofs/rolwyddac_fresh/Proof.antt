@@ -18,9 +18,9 @@ use contract.Monad.{Fun}
 use contract.Running.{givenOf, tables, tablesOf}
 use contract.Lifetimes.{Lfts, Shares, AllOutlive}
 use types.Kit.{Given, Item, ‵, raw, runs, atRet, Sq, _⊛_, ⋆, _$_, _∵_, !, qed, by, move, keep, use2, split, join, rewrite, feqL, suffices, frame, done}
-use types.Part.{whole, sub, look-in, agg}
-use types.Run.{look, init, forget, stop, hop, fld, from, load, lit, bin, of-opd, addr, and-then, no-more, assigns, land, returns, enter, alloc1}
-use types.Run.{alloc0, params1, pass1, pass0}
+use types.Part.{whole, sub, look-in}
+use types.Run.{look, init, forget, stop, fld, from, load, lit, bin, of-opd, and-then, no-more, assigns, land, returns, enter, alloc1, alloc0, params1}
+use types.Run.{pass1, pass0}
 use sound.WpLaws.{FmC, fmOf, WpFn-mono}
 use denote.Laws.{Is, shows}
 use denote.Plain.{uint-tells, uint-makes, uint-lawful}
@@ -54,6 +54,7 @@ use Rattle.engine.proofs.core.fresh.Met as words-thm
 use Rattle.calls.proofs.Walking.{R, word, ref, bytes, words32, records, slice}
 use Rattle.calls.proofs.Params.{Param, number32, number64, reads, changes, Lent, stays, go, spells, tell, values, row, tokens, owning, slices}
 use Rattle.calls.proofs.Params.{had, env, held, comes-back}
+use Rattle.calls.proofs.Lending.{lends-on}
 use Rattle.calls.proofs.Walking.{local, rising, pairs, sepAll, fsepAll, splits, joins, fsplits, fjoins, Clear, clears-at}
 use Rattle.calls.proofs.rolwyddac_fresh.Key.{name as #calls·fresh}
 use Rattle.calls.proofs.rolwyddac_fresh as fresh
@@ -171,9 +172,7 @@ module _ {M : Type 1} (𝓤 : URA M) (H : Heap 𝓤) (A : Atoms 𝓤) (W : Given
         ∷ []))
         (runs C Λ En mir′.t-10 (atRet En Post))
     cleared known₂ r fits y2 y3 y5 e2 e3 e5 said =
-        assigns ! (addr ! (from ! (fld ! refl (hop ! (look-in ! 26 (sub ! 0 refl (whole !))) (stop !))))) (from ! (stop !)) (init ! 2 refl (tt, tt)) $
-        assigns ! (agg ! (and-then ! (local ! 2 refl) (and-then ! (load ! (from ! (fld ! refl (stop !))) (look-in ! 26 (sub ! 1 refl (whole !))))
-        (no-more !)))) (from ! (stop !)) (init ! 0 refl (tt, (tt, (record { fits = g4 .0 }, tt)))) $
+        lends-on ! 26 2 0 refl refl refl refl refl (sub ! 0 refl (whole !)) (sub ! 1 refl (whole !)) (tt, tt) (tt, (tt, (record { fits = g4 .0 }, tt))) $
         move ! (41 ∷ 42 ∷ []) $
         clears-at mem run κ4 q4 x4 ! fm known₂ (named 4) r fits (and-then ! (local ! 1 refl) (and-then ! (local ! 21 refl) (no-more !))) (λ y4 e4 put4.
         land ! (from ! (stop !)) (init ! 6 refl (tt, tt)) $ forget ! 6 refl $
@@ -193,15 +192,9 @@ module _ {M : Type 1} (𝓤 : URA M) (H : Heap 𝓤) (A : Atoms 𝓤) (W : Given
         assigns ! (bin ! (lit ! tt) (local ! 18 refl) (record { fits = words-fit (length (now x4)) (g4 .1) })) (from ! (stop !))
         (init ! 22 refl (tt, record { fits = words-fit (length (now x4)) (g4 .1) })) $
         forget ! 18 refl $
-        assigns ! (addr ! (from ! (fld ! refl (hop ! (look-in ! 30 (sub ! 0 refl (whole !))) (stop !))))) (from ! (stop !)) (init ! 16 refl (tt, tt)) $
-        assigns ! (agg ! (and-then ! (local ! 16 refl) (and-then ! (load ! (from ! (fld ! refl (stop !))) (look-in ! 30 (sub ! 1 refl (whole !))))
-        (no-more !)))) (from ! (stop !)) (init ! 14 refl (tt, (tt, (record { fits = g2 .0 }, tt)))) $
-        assigns ! (addr ! (from ! (fld ! refl (hop ! (look-in ! 28 (sub ! 0 refl (whole !))) (stop !))))) (from ! (stop !)) (init ! 12 refl (tt, tt)) $
-        assigns ! (agg ! (and-then ! (local ! 12 refl) (and-then ! (load ! (from ! (fld ! refl (stop !))) (look-in ! 28 (sub ! 1 refl (whole !))))
-        (no-more !)))) (from ! (stop !)) (init ! 10 refl (tt, (tt, (record { fits = g3 .0 }, tt)))) $
-        assigns ! (addr ! (from ! (fld ! refl (hop ! (look-in ! 24 (sub ! 0 refl (whole !))) (stop !))))) (from ! (stop !)) (init ! 8 refl (tt, tt)) $
-        assigns ! (agg ! (and-then ! (local ! 8 refl) (and-then ! (load ! (from ! (fld ! refl (stop !))) (look-in ! 24 (sub ! 1 refl (whole !))))
-        (no-more !)))) (from ! (stop !)) (init ! 6 refl (tt, (tt, (record { fits = g5 .0 }, tt)))) $
+        lends-on ! 30 16 14 refl refl refl refl refl (sub ! 0 refl (whole !)) (sub ! 1 refl (whole !)) (tt, tt) (tt, (tt, (record { fits = g2 .0 }, tt))) $
+        lends-on ! 28 12 10 refl refl refl refl refl (sub ! 0 refl (whole !)) (sub ! 1 refl (whole !)) (tt, tt) (tt, (tt, (record { fits = g3 .0 }, tt))) $
+        lends-on ! 24 8 6 refl refl refl refl refl (sub ! 0 refl (whole !)) (sub ! 1 refl (whole !)) (tt, tt) (tt, (tt, (record { fits = g5 .0 }, tt))) $
         owned ! u32 (Is u32) (uint-makes 𝓤 H A W w32) route _ (refl, route-fits) $
         owned ! usize (Is usize) (uint-makes 𝓤 H A W w64) (3 * length (now x4)) _ (refl, words-fit (length (now x4)) (g4 .1)) $
         move ! (53 ∷ 0 ∷ 51 ∷ 50 ∷ 49 ∷ 1 ∷ 48 ∷ []) $ fjoins ! (owning in-words κw given-words) $ move ! (46 ∷ 44 ∷ 43 ∷ 42 ∷ 41 ∷ []) $ joins ! Lives $

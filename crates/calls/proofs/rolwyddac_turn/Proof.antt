@@ -19,9 +19,8 @@ use contract.Monad.{Fun}
 use contract.Running.{givenOf, tables, tablesOf}
 use contract.Lifetimes.{Lfts, Shares, AllOutlive}
 use types.Kit.{Given, Item, ‵, raw, runs, atRet, Sq, _⊛_, ⋆, _$_, _∵_, !, qed, by, move, keep, use2, split, rewrite, feqL, suffices, frame, done}
-use types.Part.{whole, sub, look-in, agg}
-use types.Run.{look, init, forget, stop, hop, fld, from, load, of-opd, addr, and-then, no-more, assigns, land, returns, enter, alloc1, alloc0}
-use types.Run.{params1, pass1, pass0}
+use types.Part.{whole, sub, look-in}
+use types.Run.{look, init, forget, stop, fld, from, load, of-opd, and-then, no-more, assigns, land, returns, enter, alloc1, alloc0, params1, pass1, pass0}
 use sound.WpLaws.{FmC, fmOf, WpFn-mono}
 use denote.Laws.{Is, shows}
 use denote.Plain.{uint-makes}
@@ -63,6 +62,7 @@ use Rattle.engine.proofs.core.turn.Met as words-thm
 use Rattle.calls.proofs.Walking.{R, F, E, low, high, progress-is, number-fits, word, ref, bytes, words32, records, slice}
 use Rattle.calls.proofs.Params.{Param, number32, flat, reads, changes, Lent, stays, go, spells, tell, values, row, tokens, owning, slices}
 use Rattle.calls.proofs.Params.{had, env, held, comes-back}
+use Rattle.calls.proofs.Lending.{lends-on}
 use Rattle.calls.proofs.Walking.{local, rising, pairs, sepAll, fsepAll, splits, joins, fsplits, fjoins, Flatten, Put, flattens-lent, puts-at}
 use Rattle.calls.proofs.rolwyddac_turn.Key.{name as #calls·turn}
 use Rattle.calls.proofs.rolwyddac_turn as turn
@@ -183,9 +183,7 @@ module _ {M : Type 1} (𝓤 : URA M) (H : Heap 𝓤) (A : Atoms 𝓤) (W : Given
         ∷ []))
         (runs C Λ En mir′.t-11 (atRet En Post))
     stored-part known₂ r is y2 y3 y5 e2 e3 e5 said =
-        assigns ! (addr ! (from ! (fld ! refl (hop ! (look-in ! 30 (sub ! 0 refl (whole !))) (stop !))))) (from ! (stop !)) (init ! 2 refl (tt, tt)) $
-        assigns ! (agg ! (and-then ! (local ! 2 refl) (and-then ! (load ! (from ! (fld ! refl (stop !))) (look-in ! 30 (sub ! 1 refl (whole !))))
-        (no-more !)))) (from ! (stop !)) (init ! 0 refl (tt, (tt, (record { fits = g4 .0 }, tt)))) $
+        lends-on ! 30 2 0 refl refl refl refl refl (sub ! 0 refl (whole !)) (sub ! 1 refl (whole !)) (tt, tt) (tt, (tt, (record { fits = g4 .0 }, tt))) $
         move ! (45 ∷ 46 ∷ []) $ puts-at mem run κ4 q4 x4 ! fm known₂ (named 4) (r .number) processor (r .progress)
         (number-fits r is) processor-fits (progress-is r is) (record-there (now x0) route (now x1) (now x2) (now x3) (now x5) (now x4) processor (r .number)
         _ said)
@@ -207,15 +205,9 @@ module _ {M : Type 1} (𝓤 : URA M) (H : Heap 𝓤) (A : Atoms 𝓤) (W : Given
         → Sq W (At (‵ (fat fullShare S′.mir l9 0 (low f))) (‵ (froom U′.mir l10 0)) (Toks ++ slices 𝓤 params κs given))
         (runs C Λ En mir′.t-4 (atRet En Post))
     worded known₁ known₂ f is-f e-f =
-        assigns ! (addr ! (from ! (fld ! refl (hop ! (look-in ! 34 (sub ! 0 refl (whole !))) (stop !))))) (from ! (stop !)) (init ! 16 refl (tt, tt)) $
-        assigns ! (agg ! (and-then ! (local ! 16 refl) (and-then ! (load ! (from ! (fld ! refl (stop !))) (look-in ! 34 (sub ! 1 refl (whole !))))
-        (no-more !)))) (from ! (stop !)) (init ! 14 refl (tt, (tt, (record { fits = g2 .0 }, tt)))) $
-        assigns ! (addr ! (from ! (fld ! refl (hop ! (look-in ! 32 (sub ! 0 refl (whole !))) (stop !))))) (from ! (stop !)) (init ! 12 refl (tt, tt)) $
-        assigns ! (agg ! (and-then ! (local ! 12 refl) (and-then ! (load ! (from ! (fld ! refl (stop !))) (look-in ! 32 (sub ! 1 refl (whole !))))
-        (no-more !)))) (from ! (stop !)) (init ! 10 refl (tt, (tt, (record { fits = g3 .0 }, tt)))) $
-        assigns ! (addr ! (from ! (fld ! refl (hop ! (look-in ! 28 (sub ! 0 refl (whole !))) (stop !))))) (from ! (stop !)) (init ! 8 refl (tt, tt)) $
-        assigns ! (agg ! (and-then ! (local ! 8 refl) (and-then ! (load ! (from ! (fld ! refl (stop !))) (look-in ! 28 (sub ! 1 refl (whole !))))
-        (no-more !)))) (from ! (stop !)) (init ! 6 refl (tt, (tt, (record { fits = g5 .0 }, tt)))) $
+        lends-on ! 34 16 14 refl refl refl refl refl (sub ! 0 refl (whole !)) (sub ! 1 refl (whole !)) (tt, tt) (tt, (tt, (record { fits = g2 .0 }, tt))) $
+        lends-on ! 32 12 10 refl refl refl refl refl (sub ! 0 refl (whole !)) (sub ! 1 refl (whole !)) (tt, tt) (tt, (tt, (record { fits = g3 .0 }, tt))) $
+        lends-on ! 28 8 6 refl refl refl refl refl (sub ! 0 refl (whole !)) (sub ! 1 refl (whole !)) (tt, tt) (tt, (tt, (record { fits = g5 .0 }, tt))) $
         owned ! u32 (Is u32) (uint-makes 𝓤 H A W w32) route _ (refl, route-fits) $
         owned ! F (Is F) (LL.makes S.the-type S′.the-plain 𝓤 H A) f _ is-f $
         owned ! u32 (Is u32) (uint-makes 𝓤 H A W w32) processor _ (refl, processor-fits) $
@@ -243,9 +235,7 @@ module _ {M : Type 1} (𝓤 : URA M) (H : Heap 𝓤) (A : Atoms 𝓤) (W : Given
         → Sq W (At (‵ (froom S′.mir l9 0)) (‵ (froom U′.mir l10 0)) (Toks ++ slices 𝓤 params κs given))
         (runs C Λ En mir′.t-1 (atRet En Post))
     begun known₀ known₁ known₂ =
-        assigns ! (addr ! (from ! (fld ! refl (hop ! (look-in ! 30 (sub ! 0 refl (whole !))) (stop !))))) (from ! (stop !)) (init ! 20 refl (tt, tt)) $
-        assigns ! (agg ! (and-then ! (local ! 20 refl) (and-then ! (load ! (from ! (fld ! refl (stop !))) (look-in ! 30 (sub ! 1 refl (whole !))))
-        (no-more !)))) (from ! (stop !)) (init ! 18 refl (tt, (tt, (record { fits = g4 .0 }, tt)))) $
+        lends-on ! 30 20 18 refl refl refl refl refl (sub ! 0 refl (whole !)) (sub ! 1 refl (whole !)) (tt, tt) (tt, (tt, (record { fits = g4 .0 }, tt))) $
         move ! (54 ∷ 48 ∷ []) $
         flattens-lent mem run κ4 q4 x4 ! fm known₀ (named 4) g4 (λ ν δ. (and-then ! (local ! 20 refl) (no-more !))) (λ f is-f e-f.
         land ! (from ! (stop !)) (init ! 26 refl (LL.lawful S.the-type S′.the-laws 𝓤 H A W .typed f _ is-f .0)) $ forget ! 22 refl $

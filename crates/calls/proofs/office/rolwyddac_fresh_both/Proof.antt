@@ -18,9 +18,9 @@ use contract.Monad.{Fun}
 use contract.Running.{givenOf, tables, tablesOf}
 use contract.Lifetimes.{Lfts, Shares, AllOutlive}
 use types.Kit.{Given, Item, ‵, raw, runs, atRet, Sq, _⊛_, ⋆, _$_, _∵_, !, qed, by, move, keep, use2, split, join, rewrite, feqL, suffices, frame, done}
-use types.Part.{whole, sub, look-in, agg}
-use types.Run.{look, init, forget, stop, hop, fld, from, load, lit, bin, of-opd, addr, and-then, no-more, assigns, land, returns, enter, alloc1}
-use types.Run.{alloc0, params1, pass1, pass0}
+use types.Part.{whole, sub, look-in}
+use types.Run.{look, init, forget, stop, fld, from, load, lit, bin, of-opd, and-then, no-more, assigns, land, returns, enter, alloc1, alloc0, params1}
+use types.Run.{pass1, pass0}
 use sound.WpLaws.{FmC, fmOf, WpFn-mono}
 use denote.Laws.{Is, shows}
 use denote.Plain.{uint-tells, uint-makes, uint-lawful}
@@ -56,6 +56,7 @@ use Rattle.rig.proofs.core.fresh.Met as words-thm
 use Rattle.calls.proofs.Walking.{R, word, ref, bytes, words32, records, slice}
 use Rattle.calls.proofs.Params.{Param, number32, number64, reads, changes, Lent, stays, go, spells, tell, values, row, tokens, owning, slices}
 use Rattle.calls.proofs.Params.{had, env, held, comes-back}
+use Rattle.calls.proofs.Lending.{lends-on}
 use Rattle.calls.proofs.Walking.{local, rising, pairs, sepAll, fsepAll, splits, joins, fsplits, fjoins, Clear, clears-at}
 use Rattle.calls.proofs.office.rolwyddac_fresh_both.Key.{name as #calls·fresh}
 use Rattle.calls.proofs.office.rolwyddac_fresh_both as fresh
@@ -198,15 +199,11 @@ module _ {M : Type 1} (𝓤 : URA M) (H : Heap 𝓤) (A : Atoms 𝓤) (W : Given
         ∷ ‵ (finally u32 (x8 .name) y8) ∷ ‵ (finally u8 (x10 .name) y10) ∷ ‵ (finally u32 (x11 .name) y11) ∷ []))
         (runs C Λ En mir′.t-20 (atRet En Post))
     cleared known₂ r fits y2 y3 y5 y7 y8 y10 y11 e2 e3 e5 e7 e8 e10 e11 said =
-        assigns ! (addr ! (from ! (fld ! refl (hop ! (look-in ! 60 (sub ! 0 refl (whole !))) (stop !))))) (from ! (stop !)) (init ! 6 refl (tt, tt)) $
-        assigns ! (agg ! (and-then ! (local ! 6 refl) (and-then ! (load ! (from ! (fld ! refl (stop !))) (look-in ! 60 (sub ! 1 refl (whole !))))
-        (no-more !)))) (from ! (stop !)) (init ! 4 refl (tt, (tt, (record { fits = g4 .0 }, tt)))) $
+        lends-on ! 60 6 4 refl refl refl refl refl (sub ! 0 refl (whole !)) (sub ! 1 refl (whole !)) (tt, tt) (tt, (tt, (record { fits = g4 .0 }, tt))) $
         move ! (75 ∷ 77 ∷ []) $
         clears-at mem run κ4 q4 x4 ! fm known₂ (named 4) r fits (and-then ! (local ! 5 refl) (and-then ! (local ! 41 refl) (no-more !))) (λ y4 e4 put4.
         land ! (from ! (stop !)) (init ! 10 refl (tt, tt)) $ forget ! 10 refl $
-        assigns ! (addr ! (from ! (fld ! refl (hop ! (look-in ! 52 (sub ! 0 refl (whole !))) (stop !))))) (from ! (stop !)) (init ! 4 refl (tt, tt)) $
-        assigns ! (agg ! (and-then ! (local ! 4 refl) (and-then ! (load ! (from ! (fld ! refl (stop !))) (look-in ! 52 (sub ! 1 refl (whole !))))
-        (no-more !)))) (from ! (stop !)) (init ! 2 refl (tt, (tt, (record { fits = g9 .0 }, tt)))) $
+        lends-on ! 52 4 2 refl refl refl refl refl (sub ! 0 refl (whole !)) (sub ! 1 refl (whole !)) (tt, tt) (tt, (tt, (record { fits = g9 .0 }, tt))) $
         move ! (77 ∷ 78 ∷ []) $
         clears-at mem run κ9 q9 x9 ! fm known₂ (named 9) r fits (and-then ! (local ! 3 refl) (and-then ! (local ! 43 refl) (no-more !))) (λ y9 e9 put9.
         land ! (from ! (stop !)) (init ! 12 refl (tt, tt)) $ forget ! 12 refl $
@@ -234,27 +231,13 @@ module _ {M : Type 1} (𝓤 : URA M) (H : Heap 𝓤) (A : Atoms 𝓤) (W : Given
         assigns ! (bin ! (lit ! tt) (local ! 38 refl) (record { fits = words-fit (length (now x9)) (g9 .1) })) (from ! (stop !))
         (init ! 42 refl (tt, record { fits = words-fit (length (now x9)) (g9 .1) })) $
         forget ! 38 refl $
-        assigns ! (addr ! (from ! (fld ! refl (hop ! (look-in ! 64 (sub ! 0 refl (whole !))) (stop !))))) (from ! (stop !)) (init ! 36 refl (tt, tt)) $
-        assigns ! (agg ! (and-then ! (local ! 36 refl) (and-then ! (load ! (from ! (fld ! refl (stop !))) (look-in ! 64 (sub ! 1 refl (whole !))))
-        (no-more !)))) (from ! (stop !)) (init ! 34 refl (tt, (tt, (record { fits = g2 .0 }, tt)))) $
-        assigns ! (addr ! (from ! (fld ! refl (hop ! (look-in ! 62 (sub ! 0 refl (whole !))) (stop !))))) (from ! (stop !)) (init ! 32 refl (tt, tt)) $
-        assigns ! (agg ! (and-then ! (local ! 32 refl) (and-then ! (load ! (from ! (fld ! refl (stop !))) (look-in ! 62 (sub ! 1 refl (whole !))))
-        (no-more !)))) (from ! (stop !)) (init ! 30 refl (tt, (tt, (record { fits = g3 .0 }, tt)))) $
-        assigns ! (addr ! (from ! (fld ! refl (hop ! (look-in ! 58 (sub ! 0 refl (whole !))) (stop !))))) (from ! (stop !)) (init ! 28 refl (tt, tt)) $
-        assigns ! (agg ! (and-then ! (local ! 28 refl) (and-then ! (load ! (from ! (fld ! refl (stop !))) (look-in ! 58 (sub ! 1 refl (whole !))))
-        (no-more !)))) (from ! (stop !)) (init ! 26 refl (tt, (tt, (record { fits = g5 .0 }, tt)))) $
-        assigns ! (addr ! (from ! (fld ! refl (hop ! (look-in ! 54 (sub ! 0 refl (whole !))) (stop !))))) (from ! (stop !)) (init ! 24 refl (tt, tt)) $
-        assigns ! (agg ! (and-then ! (local ! 24 refl) (and-then ! (load ! (from ! (fld ! refl (stop !))) (look-in ! 54 (sub ! 1 refl (whole !))))
-        (no-more !)))) (from ! (stop !)) (init ! 22 refl (tt, (tt, (record { fits = g7 .0 }, tt)))) $
-        assigns ! (addr ! (from ! (fld ! refl (hop ! (look-in ! 52 (sub ! 0 refl (whole !))) (stop !))))) (from ! (stop !)) (init ! 20 refl (tt, tt)) $
-        assigns ! (agg ! (and-then ! (local ! 20 refl) (and-then ! (load ! (from ! (fld ! refl (stop !))) (look-in ! 52 (sub ! 1 refl (whole !))))
-        (no-more !)))) (from ! (stop !)) (init ! 18 refl (tt, (tt, (record { fits = g8 .0 }, tt)))) $
-        assigns ! (addr ! (from ! (fld ! refl (hop ! (look-in ! 48 (sub ! 0 refl (whole !))) (stop !))))) (from ! (stop !)) (init ! 16 refl (tt, tt)) $
-        assigns ! (agg ! (and-then ! (local ! 16 refl) (and-then ! (load ! (from ! (fld ! refl (stop !))) (look-in ! 48 (sub ! 1 refl (whole !))))
-        (no-more !)))) (from ! (stop !)) (init ! 14 refl (tt, (tt, (record { fits = g10 .0 }, tt)))) $
-        assigns ! (addr ! (from ! (fld ! refl (hop ! (look-in ! 46 (sub ! 0 refl (whole !))) (stop !))))) (from ! (stop !)) (init ! 12 refl (tt, tt)) $
-        assigns ! (agg ! (and-then ! (local ! 12 refl) (and-then ! (load ! (from ! (fld ! refl (stop !))) (look-in ! 46 (sub ! 1 refl (whole !))))
-        (no-more !)))) (from ! (stop !)) (init ! 10 refl (tt, (tt, (record { fits = g11 .0 }, tt)))) $
+        lends-on ! 64 36 34 refl refl refl refl refl (sub ! 0 refl (whole !)) (sub ! 1 refl (whole !)) (tt, tt) (tt, (tt, (record { fits = g2 .0 }, tt))) $
+        lends-on ! 62 32 30 refl refl refl refl refl (sub ! 0 refl (whole !)) (sub ! 1 refl (whole !)) (tt, tt) (tt, (tt, (record { fits = g3 .0 }, tt))) $
+        lends-on ! 58 28 26 refl refl refl refl refl (sub ! 0 refl (whole !)) (sub ! 1 refl (whole !)) (tt, tt) (tt, (tt, (record { fits = g5 .0 }, tt))) $
+        lends-on ! 54 24 22 refl refl refl refl refl (sub ! 0 refl (whole !)) (sub ! 1 refl (whole !)) (tt, tt) (tt, (tt, (record { fits = g7 .0 }, tt))) $
+        lends-on ! 52 20 18 refl refl refl refl refl (sub ! 0 refl (whole !)) (sub ! 1 refl (whole !)) (tt, tt) (tt, (tt, (record { fits = g8 .0 }, tt))) $
+        lends-on ! 48 16 14 refl refl refl refl refl (sub ! 0 refl (whole !)) (sub ! 1 refl (whole !)) (tt, tt) (tt, (tt, (record { fits = g10 .0 }, tt))) $
+        lends-on ! 46 12 10 refl refl refl refl refl (sub ! 0 refl (whole !)) (sub ! 1 refl (whole !)) (tt, tt) (tt, (tt, (record { fits = g11 .0 }, tt))) $
         owned ! u32 (Is u32) (uint-makes 𝓤 H A W w32) route _ (refl, route-fits) $
         owned ! usize (Is usize) (uint-makes 𝓤 H A W w64) (3 * length (now x4)) _ (refl, words-fit (length (now x4)) (g4 .1)) $
         owned ! usize (Is usize) (uint-makes 𝓤 H A W w64) (3 * length (now x9)) _ (refl, words-fit (length (now x9)) (g9 .1)) $
