@@ -1,5 +1,7 @@
 pub mod Shared
 pub mod Walking
+pub mod Lending
+pub mod Params
 pub mod OverRecords
 pub mod PlanCalls
 pub mod OfficeCalls

@@ -7,19 +7,19 @@ use Rattle.nest.specs.Accepted.{Accepted}
 use Rattle.layout.specs.CellRows.{Given}
 use Rattle.values.specs.Reads.{firstRead}
 use Rattle.values.specs.Given.{withBody}
-use Rattle.layout.proofs.Loops.{Eight, eight-none, eight-more, eight-end}
+use Rattle.layout.proofs.Loops.{Filled, filled-none, filled-more, filled-end}
 use Rattle.values.proofs.firsts_of.Statement.{statement}
 use Rattle.values.proofs.firsts_of.Tie as tie
 
 abbrev Inv-loop : tie.InvT-loop
 Inv-loop body components at first₀ n e₀ first e =
-    (x : Nest) → Accepted (withBody x body) → Given (withBody x body) components → Eight (firstRead (withBody x body) at) (body .distances) first e
+    (x : Nest) → Accepted (withBody x body) → Given (withBody x body) components → Filled 8 (firstRead (withBody x body) at) (body .distances) first e
 
 abbrev μ-loop : tie.MeasureT-loop
 μ-loop body components at first₀ n e₀ first e = n - e
 
 loop-holds : tie.Need-loop-holds Inv-loop μ-loop
-loop-holds c = λ x ok g. eight-none _ _ _ (omega arith)
+loop-holds c = λ x ok g. filled-none _ _ _ (omega arith)
 
 first-of-requires : tie.Need-first-of-requires Inv-loop μ-loop
 first-of-requires c κs =
@@ -41,11 +41,11 @@ loop-less c = omega (arith, c .before .loop-test .taken)
 loop-again : tie.Need-loop-again Inv-loop μ-loop
 loop-again c =
     λ x ok g.
-    eight-more _ _ _ _ _ (c .before .before .loop .inv x ok g) (c .before .loop-test .taken) (ok .distances-most)
+    filled-more _ _ _ _ _ (c .before .before .loop .inv x ok g) (c .before .loop-test .taken) (ok .distances-most)
     (c .first-of .ensures x (ok, (c .before .loop-test .taken, g)))
 
 returns : tie.Need-returns Inv-loop μ-loop
-returns c = λ x ok g. record { each = eight-end _ _ _ _ (c .before .loop .inv x ok g) (c .loop-test .left) }
+returns c = λ x ok g. record { each = filled-end _ _ _ _ (c .before .loop .inv x ok g) (c .loop-test .left) .each }
 
 pub firsts-of-spec : {M : Type 1} → statement M
 firsts-of-spec =
