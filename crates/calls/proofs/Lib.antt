@@ -10,3 +10,4 @@ pub mod ChartCalls
 pub mod OverHours
 pub mod RoundCalls
 pub mod Storing
+pub mod OverRounds
