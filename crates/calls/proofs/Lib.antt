@@ -13,3 +13,4 @@ pub mod OverHours
 pub mod RoundCalls
 pub mod Storing
 pub mod TransportCalls
+pub mod OverRounds
