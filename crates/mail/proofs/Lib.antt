@@ -4,3 +4,4 @@ pub mod Waiting
 pub mod Taking
 pub mod Answers
 pub mod Holds
+pub mod MailRows
