@@ -11,7 +11,7 @@ use Rattle.base.specs.Tests.{_and_, not, pick}
 use Rattle.base.specs.Lists.{Bytes}
 use Rattle.base.specs.Numbers.{Line, line, firstOf}
 use Rattle.base.proofs.Tests.{both, true-not}
-use Rattle.base.proofs.Numbers.{none-first, first-behind}
+use Rattle.base.proofs.Numbers.{none-first, none-behind}
 use Rattle.machine.specs.Plan.{Plan}
 use Rattle.machine.specs.Machine as machine
 use Rattle.machine.specs.Machine.{State, Answered}
@@ -19,7 +19,7 @@ use Rattle.machine.specs.Runs.{Event, turnOf, deliveryOf, stateAfter, answersTo
 use Rattle.machine.proofs.RunLaws.{number-of, after-of}
 use Rattle.layout.specs.Sizes.{routeOf}
 use Rattle.routes.specs.Routes.{linesFor}
-use Rattle.routes.proofs.Laws.{front, numbered-for}
+use Rattle.routes.proofs.Laws.{numbered-for}
 use Rattle.rounds.specs.Rounds.{Told, drive, rounds, roundFrom, roundsFrom, roundsOfOther, stateThen, RoundsHold}
 use Rattle.records.specs.Records.{flatWords}
 use Rattle.records.proofs.Words.{length-words}
@@ -118,8 +118,7 @@ module _ (bytes source : List ℕ) where
     single-word : roundsWordsCall bytes source l .number ≡ 0 → length (l .out) ≡ 1
     unfolding roundsWordsCall
     single-word z =
-        let r = front (linesFor (routeOf 0) bytes) (line 9 test ∷ []) z in
-        let n = none-first 9 test [] (λ q. omega arith) (sym (first-behind (linesFor (routeOf 0) bytes) _ (numbered-for (routeOf 0) bytes) r) ∙ z) in
+        let n = none-first 9 test [] (λ q. omega arith) (none-behind (linesFor (routeOf 0) bytes) (line 9 test ∷ []) (numbered-for (routeOf 0) bytes) z) in
         eqb-true _ _ (both (true-not (n .0)) .1)
       where
         test : Bool
