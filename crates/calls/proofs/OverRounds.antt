@@ -1,37 +1,36 @@
 -- Request W-213 holds of the calls as exported, board records as structs.
-use Prim.Native.Nat.{ℕ, zero, suc, _*_, _≤_}
-use mathlib.Core.Path.{_≡_, refl, sym, ap, subst, _∙_}
+use Prim.Native.Nat.{ℕ, zero, suc, _*_}
+use mathlib.Core.Path.{_≡_, refl, sym, ap, _∙_}
 use mathlib.Core.Bool.{Bool, true, false}
-use mathlib.Core.List.{List, [], _∷_, _++_}
+use mathlib.Core.List.{List, [], _∷_}
 use native.Mathlib.Omega.{arith}
 use lib.ListN.{length, getD, replicate, length-replicate}
 use lib.Dec.{eqb}
 use borrow.Author.Tests.{eq-eqb, eqb-true}
 use Rattle.base.specs.Tests.{_and_, not, pick}
 use Rattle.base.specs.Lists.{Bytes}
-use Rattle.base.specs.Numbers.{Line, line, firstOf}
+use Rattle.base.specs.Numbers.{line}
 use Rattle.base.proofs.Tests.{both, true-not}
 use Rattle.base.proofs.Numbers.{none-first, none-behind}
 use Rattle.machine.specs.Plan.{Plan}
 use Rattle.machine.specs.Machine as machine
 use Rattle.machine.specs.Machine.{State, Answered}
-use Rattle.machine.specs.Runs.{Event, turnOf, deliveryOf, stateAfter, answersTo, total}
+use Rattle.machine.specs.Runs.{Event, turnOf, deliveryOf, stateAfter, answersTo}
 use Rattle.machine.proofs.RunLaws.{number-of, after-of}
 use Rattle.layout.specs.Sizes.{routeOf}
 use Rattle.routes.specs.Routes.{linesFor}
 use Rattle.routes.proofs.Laws.{numbered-for}
-use Rattle.rounds.specs.Rounds.{Told, drive, rounds, roundFrom, roundsFrom, roundsOfOther, stateThen, RoundsHold}
-use Rattle.records.specs.Records.{flatWords}
+use Rattle.rounds.specs.Rounds.{Told, drive, rounds, roundFrom, roundsFrom, stateThen, RoundsHold}
 use Rattle.records.proofs.Words.{length-words}
 use Rattle.engine.specs.Calls.{answer, recipe, areas, freshCall, turnCall, deliverCall, collectCall}
 use Rattle.engine.specs.Demands.{calls}
 use Rattle.engine.proofs.Demands as engine
 use Rattle.timed.proofs.Lines.{first-front, nine}
-use Rattle.schedule.specs.Calls.{roundsCall, roundsOfCall}
+use Rattle.schedule.specs.Calls.{roundsCall}
 use Rattle.schedule.proofs.Demands.{demand213}
 use Rattle.calls.specs.RoundCalls.{LentRounds, lentRounds, inLent, roundsWordsCall}
-use Rattle.calls.specs.OverRecords.{Areas, inWords, FreshGave, EventsGave, CollectGave, stepsIn}
-use Rattle.calls.specs.OverRounds.{DriverAreas, driverWords, RoundsGave, RoundsOfGave, FixedRounds, DrivenRun, OverRounds}
+use Rattle.calls.specs.OverRecords.{Areas, inWords, FreshGave, EventsGave}
+use Rattle.calls.specs.OverRounds.{DriverAreas, driverWords, RoundsGave, FixedRounds, DrivenRun, OverRounds}
 use Rattle.calls.proofs.OverRecords.{run-numbers, run-words, event-call, areas-fixed, fixed-as, one-answer, as-before}
 use Rattle.calls.proofs.OverRecords.{Whole, areasOf, in-words, length-carry}
 

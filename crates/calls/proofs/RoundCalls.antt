@@ -14,7 +14,7 @@ use Rattle.base.specs.Numbers.{Line, line, firstOf}
 use Rattle.base.proofs.Tests.{and-left, and-no, and-false, both, not-false, pick-true, pick-false}
 use Rattle.base.proofs.Numbers.{first-true, first-some, first-behind}
 use Rattle.machine.specs.Plan.{Plan, count, words}
-use Rattle.machine.specs.Machine.{State, stateOf, Answered, answered}
+use Rattle.machine.specs.Machine.{stateOf, answered}
 use Rattle.machine.proofs.RunLaws.{number-of, after-of}
 use Rattle.nest.specs.declared.Reading.{Reading}
 use Rattle.nest.specs.Nest.{processors}

@@ -25,7 +25,7 @@ use types.Run.{look, init, forget, stop, hop, fld, from, load, lit, bin, of-opd,
 use types.Run.{params1, pass1, pass0}
 use sound.WpLaws.{FmC, fmOf, WpFn-mono}
 use denote.Laws.{Is, shows}
-use denote.Plain.{uint-vals, uint-tells, uint-makes}
+use denote.Plain.{uint-makes}
 use denote.Builtin.{u8, u32, usize}
 use denote.Ref.{RefT, now}
 use denote.RattleType.{RattleType}
