@@ -73,7 +73,7 @@ fn run_apart(recipe: &Recipe, route: Route) {
     let source: Vec<u32> = (1..).take(plan.cells).collect();
     let numbers = 0..plan.processors as u32;
     let mut boards: Vec<Board> = numbers.map(|b| Board::start(recipe, route, &source, b).unwrap()).collect();
-    let (mut mail, mut again, mut steps) = (vec![], vec![], 0);
+    let (mut mail, mut again, mut steps) = (vec![], Vec::<(usize, u32, Vec<u32>)>::new(), 0);
     while steps < plan.steps {
         let before = steps;
         for (b, board) in (0..).zip(&mut boards) {
@@ -90,7 +90,7 @@ fn run_apart(recipe: &Recipe, route: Route) {
             }
         }
         for (to, m, words) in again.drain(..) {
-            assert_eq!(boards[to].take_in(m, words.as_slice()), Err(Refusal::NoMail));
+            assert_eq!(boards[to].take_in(m, &words), Err(Refusal::NoMail));
         }
         for (to, m, words) in mail.drain(..) {
             boards[to].take_in(m, &words).unwrap();
