@@ -13,6 +13,7 @@ pub mod Posting
 pub mod Network
 pub mod PacketTheorem
 pub mod Locality
+pub mod Fine
 pub mod Own
 pub mod OwnRuns
 pub mod NotLocal

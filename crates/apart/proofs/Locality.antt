@@ -125,7 +125,7 @@ turn-fit : (p : Plan) (source : List ℕ) (s : State) (b : ℕ) → turn p sourc
 unfolding turn
 turn-fit p source s b z = true-not (none-first 10 _ _ (λ k. omega arith) z .0)
 
-shape-of : (p : Plan) (source : List ℕ) (s : State) → Lent p source s → fit p s ≡ true → Shape p s
+pub shape-of : (p : Plan) (source : List ℕ) (s : State) → Lent p source s → fit p s ≡ true → Shape p s
 unfolding fit
 shape-of p source s le f =
     record {

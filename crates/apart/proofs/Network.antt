@@ -59,6 +59,52 @@ was-flying p s m a Delivered.no-such z = absurd (omega arith)
 was-flying p s m a (Delivered.not-flying h) z = absurd (omega arith)
 was-flying p s m a (Delivered.delivers lo q) z = (lo, q)
 
+-- ---- when a message is posted, and when a packet is taken in
+module _ (p : Plan) (n : Network) where
+  module _ (m : ℕ) where
+    pub post-gives : m < count p → statusAt (n .areas) (senderAt p m) m ≡ 1 → post p n m .number ≡ 0
+    unfolding post
+    post-gives lo y = lines-two _ _ (lt-ltb m (count p) lo) (eq-eqb _ 1 y)
+
+    pub post-asks : post p n m .number ≡ 0 → (m < count p) × (statusAt (n .areas) (senderAt p m) m ≡ 1)
+    unfolding post
+    post-asks z = let k = two-lines _ _ z in (ltb-true _ _ (k .0), eqb-true _ _ (k .1))
+
+    pub post-zero : post p n m .number ≡ 0
+        → post p n m ≡ record { number = 0; after = networkOf (sentOff p (n .areas) m) (n .packets ++ posted p (n .areas) m) }
+    unfolding post
+    post-zero z = zero-answer _ _ _ z
+
+    pub post-some : post p n m .number ≢ 0 → post p n m ≡ record { number = post p n m .number; after = n }
+    unfolding post
+    post-some k = some-answer _ _ _ k
+
+  module _ (k : ℕ) where
+    pub arrive-gives : k < length (n .packets)
+        → statusAt (n .areas) (takerAt p (packetAt (n .packets) k .message)) (packetAt (n .packets) k .message) ≡ 0
+        → arrive p n k .number ≡ 0
+    unfolding arrive
+    arrive-gives lo y = lines-two _ _ (lt-ltb k _ lo) (eq-eqb _ 0 y)
+
+    pub arrive-asks : arrive p n k .number ≡ 0
+        → (k < length (n .packets)) × (statusAt (n .areas) (takerAt p (packetAt (n .packets) k .message)) (packetAt (n .packets) k .message) ≡ 0)
+    unfolding arrive
+    arrive-asks z = let q = two-lines _ _ z in (ltb-true _ _ (q .0), eqb-true _ _ (q .1))
+
+    pub arrive-zero : arrive p n k .number ≡ 0 → arrive p n k
+        ≡ record { number = 0; after = networkOf (arrived p (n .areas) (packetAt (n .packets) k .message) (packetAt (n .packets) k .words)) (n .packets) }
+    unfolding arrive
+    arrive-zero z = zero-answer _ _ _ z
+
+    pub arrive-some : arrive p n k .number ≢ 0 → arrive p n k ≡ record { number = arrive p n k .number; after = n }
+    unfolding arrive
+    arrive-some q = some-answer _ _ _ q
+
+    pub arrive-away : k < length (n .packets)
+        → statusAt (n .areas) (takerAt p (packetAt (n .packets) k .message)) (packetAt (n .packets) k .message) ≢ 0 → arrive p n k .number ≡ 14
+    unfolding arrive
+    arrive-away lo q = first-false 11 _ _ (not-true (lt-ltb k _ lo)) ∙ first-true 14 _ _ (not-false (ne-eqb _ 0 q))
+
 -- ---- a network beside shared areas
 pub record Correct (p : Plan) (source : List ℕ) (x : Packet) : Type 0 where
   pub low : x .message < count p
@@ -193,23 +239,6 @@ module _ (p : Plan) (so : Sound p) (source : List ℕ) (s : State) (n : Network)
 
   -- ---- a post
   module _ (m : ℕ) where
-    pub post-gives : m < count p → statusAt (n .areas) (senderAt p m) m ≡ 1 → post p n m .number ≡ 0
-    unfolding post
-    post-gives lo y = lines-two _ _ (lt-ltb m (count p) lo) (eq-eqb _ 1 y)
-
-    pub post-asks : post p n m .number ≡ 0 → (m < count p) × (statusAt (n .areas) (senderAt p m) m ≡ 1)
-    unfolding post
-    post-asks z = let k = two-lines _ _ z in (ltb-true _ _ (k .0), eqb-true _ _ (k .1))
-
-    pub post-zero : post p n m .number ≡ 0
-        → post p n m ≡ record { number = 0; after = networkOf (sentOff p (n .areas) m) (n .packets ++ posted p (n .areas) m) }
-    unfolding post
-    post-zero z = zero-answer _ _ _ z
-
-    pub post-some : post p n m .number ≢ 0 → post p n m ≡ record { number = post p n m .number; after = n }
-    unfolding post
-    post-some k = some-answer _ _ _ k
-
     abbrev packet : Packet
     packet = record { message = m; words = placeOf p (n .areas (senderAt p m) .buffer) m }
 
@@ -269,38 +298,17 @@ module _ (p : Plan) (so : Sound p) (source : List ℕ) (s : State) (n : Network)
       where
         go : Dec (post p n m .number ≡ 0) → Dec (senderAt p m ≡ takerAt p m)
             → Stepped p source s n (machineEvents p n (postOf m) (post p n m .number)) (post p n m)
-        go (no k) d = rw (events-none k, post-some k) (refused _ k)
+        go (no k) d = rw (events-none k, post-some p n m k) (refused _ k)
         go (yes z) (yes e) =
-            rw (events-home z e, post-zero z, posted-home e)
-            (delivery-steps m (post-asks z .0) (x (post-asks z .0) (post-asks z .1)) (sentOff p (n .areas) m)
-            (post-home p so source s (n .areas) inv (fo .to .each) m (post-asks z .0) (post-asks z .1) e))
-        go (yes z) (no k) = rw (events-away z k, post-zero z, posted-away k) (post-packet (post-asks z .0) (post-asks z .1) k)
+            rw (events-home z e, post-zero p n m z, posted-home e)
+            (delivery-steps m (post-asks p n m z .0) (x (post-asks p n m z .0) (post-asks p n m z .1)) (sentOff p (n .areas) m)
+            (post-home p so source s (n .areas) inv (fo .to .each) m (post-asks p n m z .0) (post-asks p n m z .1) e))
+        go (yes z) (no k) = rw (events-away z k, post-zero p n m z, posted-away k) (post-packet (post-asks p n m z .0) (post-asks p n m z .1) k)
 
   -- ---- an arrival
   module _ (k : ℕ) where
     abbrev it : Packet
     it = packetAt (n .packets) k
-
-    pub arrive-gives : k < length (n .packets) → statusAt (n .areas) (takerAt p (it .message)) (it .message) ≡ 0 → arrive p n k .number ≡ 0
-    unfolding arrive
-    arrive-gives lo y = lines-two _ _ (lt-ltb k _ lo) (eq-eqb _ 0 y)
-
-    pub arrive-asks : arrive p n k .number ≡ 0 → (k < length (n .packets)) × (statusAt (n .areas) (takerAt p (it .message)) (it .message) ≡ 0)
-    unfolding arrive
-    arrive-asks z = let q = two-lines _ _ z in (ltb-true _ _ (q .0), eqb-true _ _ (q .1))
-
-    pub arrive-zero : arrive p n k .number ≡ 0 → arrive p n k
-        ≡ record { number = 0; after = networkOf (arrived p (n .areas) (it .message) (it .words)) (n .packets) }
-    unfolding arrive
-    arrive-zero z = zero-answer _ _ _ z
-
-    pub arrive-some : arrive p n k .number ≢ 0 → arrive p n k ≡ record { number = arrive p n k .number; after = n }
-    unfolding arrive
-    arrive-some q = some-answer _ _ _ q
-
-    pub arrive-away : k < length (n .packets) → statusAt (n .areas) (takerAt p (it .message)) (it .message) ≢ 0 → arrive p n k .number ≡ 14
-    unfolding arrive
-    arrive-away lo q = first-false 11 _ _ (not-true (lt-ltb k _ lo)) ∙ first-true 14 _ _ (not-false (ne-eqb _ 0 q))
 
     arrival-none : arrive p n k .number ≢ 0 → machineEvents p n (arrivalOf k) (arrive p n k .number) ≡ []
     unfolding machineEvents
@@ -330,13 +338,13 @@ module _ (p : Plan) (so : Sound p) (source : List ℕ) (s : State) (n : Network)
     arrive-steps = go (ℕ-discrete (arrive p n k .number) 0)
       where
         go : Dec (arrive p n k .number ≡ 0) → Stepped p source s n (machineEvents p n (arrivalOf k) (arrive p n k .number)) (arrive p n k)
-        go (no q) = rw (arrival-none q, arrive-some q) (refused _ q)
+        go (no q) = rw (arrival-none q, arrive-some p n k q) (refused _ q)
         go (yes z) =
-            rw (arrival-one z, arrive-zero z)
-            (delivery-steps (it .message) (fo .right k (arrive-asks z .0) .low) (came (arrive-asks z .0) (arrive-asks z .1))
+            rw (arrival-one z, arrive-zero p n k z)
+            (delivery-steps (it .message) (fo .right k (arrive-asks p n k z .0) .low) (came (arrive-asks p n k z .0) (arrive-asks p n k z .1))
             (arrived p (n .areas) (it .message) (it .words))
-            (arrives p so source s (n .areas) inv (fo .to .each) (it .message) (fo .right k (arrive-asks z .0) .low) (has-it (arrive-asks z .0))
-            (fo .right k (arrive-asks z .0) .away) (it .words) (fo .right k (arrive-asks z .0) .words)))
+            (arrives p so source s (n .areas) inv (fo .to .each) (it .message) (fo .right k (arrive-asks p n k z .0) .low) (has-it (arrive-asks p n k z .0))
+            (fo .right k (arrive-asks p n k z .0) .away) (it .words) (fo .right k (arrive-asks p n k z .0) .words)))
 
   -- ---- any event
   pub event-steps : (e : NetworkEvent) → Stepped p source s n (machineEvents p n e (actNetwork p source n e .number)) (actNetwork p source n e)

@@ -32,6 +32,7 @@ use Rattle.apart.proofs.Agrees.{agrees-fit}
 use Rattle.apart.proofs.Together.{turn-here, turn-nowhere}
 use Rattle.apart.proofs.Network.{Follows, two-lines, start-follows, event-steps}
 use Rattle.apart.proofs.Locality.{local}
+use Rattle.apart.proofs.Fine.{FineNetwork, fit-fine, follows-fine}
 use Rattle.apart.proofs.Own.{narrowed-same, wide-same, wide-lent, wide-fit}
 
 -- ---- one processor's areas r beside others r′ that are the same to it
@@ -227,7 +228,10 @@ module _ (p : Plan) (so : Sound p) (own : ReadsOwnWord p) (source : List ℕ) (l
     event-alike (arrivalOf k) = arrive-alike k
 
 -- ---- a run on the parts beside a run on whole areas
-module _ (p : Plan) (so : Sound p) (own : ReadsOwnWord p) (source : List ℕ) (long : length source ≡ p .cells) where
+-- of calls that answer as the network does wherever areas have their lengths and are fit
+module _ (p : Plan) (so : Sound p) (own : ReadsOwnWord p) (source : List ℕ) (long : length source ≡ p .cells)
+    (acts : Network → NetworkEvent → Answered Network)
+    (same : (n : Network) → FineNetwork p n → (e : NetworkEvent) → acts n e ≡ actNetwork p source n e) where
   record Relates (s : State) (n : Network) (o : OwnNetwork) : Type 0 where
     follows : Follows p source s n
     packets : o .packets ≡ n .packets
@@ -276,38 +280,50 @@ module _ (p : Plan) (so : Sound p) (own : ReadsOwnWord p) (source : List ℕ) (l
     unfolding collectApart wideNetwork
     collect-same grid = rw (left-same, grid-same) refl
 
-    alike : (e : NetworkEvent) → Alike p (actNetwork p source n e) (actNetwork p source (networkOf wide (n .packets)) e)
-    alike =
-        event-alike p so own source long s n (re .follows) wide
-        same-here
-        (λ b h. rw (re .parts b h) (wide-lent p b source (n .areas b) h (here b h) source long))
-        (λ b h. rw (re .parts b h) (wide-fit p b source (n .areas b) h (here b h) (fit-here p so own source long s n (re .follows) b h)))
+    wide-lent-here : (b : ℕ) → b < p .processors → Lent p source (wide b)
+    wide-lent-here b h = rw (re .parts b h) (wide-lent p b source (n .areas b) h (here b h) source long)
 
-    own-number : (e : NetworkEvent) → actOwn p (actNetwork p source) o e .number ≡ actNetwork p source n e .number
+    wide-fit-here : (b : ℕ) → b < p .processors → fit p (wide b) ≡ true
+    wide-fit-here b h = rw (re .parts b h) (wide-fit p b source (n .areas b) h (here b h) (fit-here p so own source long s n (re .follows) b h))
+
+    fine : FineNetwork p n
+    fine = follows-fine p source s n (re .follows)
+
+    wide-fine : FineNetwork p (networkOf wide (n .packets))
+    wide-fine = record { areas = fit-fine p source wide wide-lent-here wide-fit-here; low = fine .low; long = fine .long }
+
+    alike : (e : NetworkEvent) → Alike p (acts n e) (acts (networkOf wide (n .packets)) e)
+    alike e =
+        rw (same n fine e, same (networkOf wide (n .packets)) wide-fine e)
+        (event-alike p so own source long s n (re .follows) wide same-here wide-lent-here wide-fit-here e)
+
+    own-number : (e : NetworkEvent) → actOwn p acts o e .number ≡ acts n e .number
     unfolding actOwn
-    own-number e = ap (λ (w : Network). actNetwork p source w e .number) wide-is ∙ sym (alike e .number)
+    own-number e = ap (λ (w : Network). acts w e .number) wide-is ∙ sym (alike e .number)
+
+    follows-next : (e : NetworkEvent)
+        → Follows p source (stateAfter (act p source) s (machineEvents p n e (actNetwork p source n e .number))) (acts n e .after)
+    follows-next e = rw (same n fine e) (event-steps p so source s n (re .follows) e .follows)
 
     relates-next : (e : NetworkEvent)
-        → Relates (stateAfter (act p source) s (machineEvents p n e (actNetwork p source n e .number))) (actNetwork p source n e .after)
-        (actOwn p (actNetwork p source) o e .after)
+        → Relates (stateAfter (act p source) s (machineEvents p n e (actNetwork p source n e .number))) (acts n e .after) (actOwn p acts o e .after)
     unfolding actOwn ownNetwork
     relates-next e =
         record {
-          follows = event-steps p so source s n (re .follows) e .follows;
-          packets = ap (λ (w : Network). actNetwork p source w e .after .packets) wide-is ∙ sym (alike e .packets);
+          follows = follows-next e;
+          packets = ap (λ (w : Network). acts w e .after .packets) wide-is ∙ sym (alike e .packets);
           parts = λ b h.
-              ap (λ (w : Network). narrowed p b (actNetwork p source w e .after .areas b)) wide-is
-              ∙ sym (narrowed-same p b _ _ (alike e .views b h));
+              ap (λ (w : Network). narrowed p b (acts w e .after .areas b)) wide-is ∙ sym (narrowed-same p b _ _ (alike e .views b h));
         }
 
   relates-end : (es : List NetworkEvent) (s : State) (n : Network) (o : OwnNetwork) → Relates s n o
-      → (t : State) × Relates t (stateAfter (actNetwork p source) n es) (stateAfter (actOwn p (actNetwork p source)) o es)
+      → (t : State) × Relates t (stateAfter acts n es) (stateAfter (actOwn p acts) o es)
   unfolding stateAfter
   relates-end [] s n o re = (s, re)
   relates-end (e ∷ es) s n o re = relates-end es _ _ _ (relates-next s n o re e)
 
   relates-answers : (es : List NetworkEvent) (s : State) (n : Network) (o : OwnNetwork) → Relates s n o
-      → answersTo (actOwn p (actNetwork p source)) o es ≡ answersTo (actNetwork p source) n es
+      → answersTo (actOwn p acts) o es ≡ answersTo acts n es
   unfolding answersTo
   relates-answers [] s n o re = refl
   relates-answers (e ∷ es) s n o re =
@@ -315,17 +331,24 @@ module _ (p : Plan) (so : Sound p) (own : ReadsOwnWord p) (source : List ℕ) (l
       let b = relates-answers es _ _ _ (relates-next s n o re e) in
       cc
 
-  relates-start : Relates (fresh p) (startNetwork p) (ownNetwork p (startNetwork p))
-  unfolding ownNetwork
-  relates-start = record { follows = start-follows p so source; packets = refl; parts = λ b h. refl }
+  module _ (start : Network) (begins : Follows p source (fresh p) start) where
+    relates-start : Relates (fresh p) start (ownNetwork p start)
+    unfolding ownNetwork
+    relates-start = record { follows = begins; packets = refl; parts = λ b h. refl }
 
-  pub own-run : (events : List NetworkEvent) → OwnRun p (actNetwork p source) (startNetwork p) events
-  own-run events =
-      let e = relates-end events (fresh p) (startNetwork p) (ownNetwork p (startNetwork p)) relates-start in
-      let r = e .1 in
-      record {
-        same-answers = relates-answers events (fresh p) (startNetwork p) (ownNetwork p (startNetwork p)) relates-start;
-        same-packets = r .packets;
-        same-parts = r .parts;
-        same-collecting = collect-same (e .0) _ _ r;
-      }
+    pub own-run : (events : List NetworkEvent) → OwnRun p acts start events
+    own-run events =
+        let e = relates-end events (fresh p) start (ownNetwork p start) relates-start in
+        let r = e .1 in
+        record {
+          same-answers = relates-answers events (fresh p) start (ownNetwork p start) relates-start;
+          same-packets = r .packets;
+          same-parts = r .parts;
+          same-collecting = collect-same (e .0) _ _ r;
+        }
+
+-- of the machine
+pub machine-own-run : (p : Plan) → Sound p → ReadsOwnWord p → (source : List ℕ) → length source ≡ p .cells → (events : List NetworkEvent)
+    → OwnRun p (actNetwork p source) (startNetwork p) events
+machine-own-run p so own source long =
+    own-run p so own source long (actNetwork p source) (λ n fine e. refl) (startNetwork p) (start-follows p so source)

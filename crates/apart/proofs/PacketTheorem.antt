@@ -48,19 +48,19 @@ module _ (p : Plan) (so : Sound p) (source : List ℕ) (s : State) (n : Network)
       fly = was-flying p s m _ (delivered p s m) z .1
 
       go : m < count p → (statusAt (n .areas) (senderAt p m) m ≡ 1) ⊎ Has (n .packets) m → (x : NetworkEvent) × (actNetwork p source n x .number ≡ 0)
-      go l (inl y) = (postOf m, post-gives p so source s n fo m l y)
+      go l (inl y) = (postOf m, post-gives p n m l y)
       go l (inr h) =
-          (arrivalOf (h .at), arrive-gives p so source s n fo (h .at) (h .low) (awaited p so source s n fo (h .at) (h .low) (ap (statusOf s) (h .is) ∙ fly)))
+          (arrivalOf (h .at), arrive-gives p n (h .at) (h .low) (awaited p so source s n fo (h .at) (h .low) (ap (statusOf s) (h .is) ∙ fly)))
 
   -- and an event that gives 0 leaves the machine a step
   pub step-there : (x : NetworkEvent) → actNetwork p source n x .number ≡ 0 → (e : Event) × (act p source s e .number ≡ 0)
   unfolding actNetwork
   step-there (turnBy b) z = (turnOf b, sym (turn-gives b) ∙ z)
   step-there (postOf m) z =
-      let k = post-asks p so source s n fo m z in
+      let k = post-asks p n m z in
       (deliveryOf m, flying p so source s (fo .to .inv) m (k .0) (in-flight p so source s (n .areas) (fo .to .inv) (fo .to .each) m (k .0) (k .1)))
   step-there (arrivalOf i) z =
-      let k = arrive-asks p so source s n fo i z in (
+      let k = arrive-asks p n i z in (
         deliveryOf (packetAt (n .packets) i .message),
         flying p so source s (fo .to .inv) _ (fo .right i (k .0) .low)
             (came p so source s n fo i (k .0) (k .1)),
@@ -70,8 +70,8 @@ module _ (p : Plan) (so : Sound p) (source : List ℕ) (s : State) (n : Network)
       → actNetwork p source n (arrivalOf k) ≡ record { number = 14; after = n }
   unfolding actNetwork
   away-is k lo q =
-      let e = arrive-away p so source s n fo k lo q in
-      arrive-some p so source s n fo k (λ z. omega arith) ∙ ap (λ (i : ℕ). record { number = i; after = n }) e
+      let e = arrive-away p n k lo q in
+      arrive-some p n k (λ z. omega arith) ∙ ap (λ (i : ℕ). record { number = i; after = n }) e
 
   collected-length : length (collected p s) ≡ p .cells
   unfolding collected

@@ -6,7 +6,7 @@ use mathlib.Core.Bool.{Bool, true, false}
 use mathlib.Core.List.{List, [], _∷_, _++_, map, append-nil}
 use native.Mathlib.Decide.{decLt, ℕ-discrete}
 use native.Mathlib.Omega.{arith}
-use lib.ListN.{length, length-set, length-map}
+use lib.ListN.{length, length-set}
 use lib.Dec.{ltb, eqb}
 use borrow.Author.Tests.{eqb-true, eq-eqb, ne-eqb, lt-ltb, le-ltb, ltb-true}
 use Rattle.base.specs.Tests.{_and_, not, pick}
@@ -20,6 +20,7 @@ use Rattle.machine.specs.Machine.{State, placeOf, fit, Answered, answered, turn
 use Rattle.machine.specs.Runs.{Event, turnOf, deliveryOf, act}
 use Rattle.machine.proofs.Values.{offset-apart}
 use Rattle.machine.proofs.Progress.{Shape}
+use Rattle.machine.proofs.Invariant.{sender-low}
 use Rattle.machine.proofs.Kept.{Inv}
 use Rattle.machine.proofs.RunLaws.{number-of, after-of}
 use Rattle.plan.specs.declared.Route.{Route}
@@ -37,11 +38,9 @@ use Rattle.apart.specs.Packets.{Packet, Network, networkOf, packetAt, NetworkEv
 use Rattle.apart.specs.Packets.{turnNetwork, actNetwork}
 use Rattle.apart.specs.Locality.{Lent, SameSource, ReadsOwnWord}
 use Rattle.apart.proofs.Letters.{replaced-same, replaced-other, words-fit}
-use Rattle.apart.proofs.Agrees.{Agrees, Nothing, agrees-fit}
-use Rattle.apart.proofs.Together.{Together}
 use Rattle.apart.proofs.Transport.{both-parts, copied-both, carried-home, carried-third, deliver-goes, deliver-after, deliver-stays, same-number}
-use Rattle.apart.proofs.Posting.{sender-at, taker-at}
-use Rattle.apart.proofs.Network.{Follows, some-answer, post-zero, post-some, post-asks, arrive-zero, arrive-some, arrive-asks}
+use Rattle.apart.proofs.Network.{some-answer, post-zero, post-some, post-asks, arrive-zero, arrive-some, arrive-asks}
+use Rattle.apart.proofs.Fine.{Fine, FineNetwork, fine-fit}
 use Rattle.apart.proofs.Alike.{SharedLike}
 use Rattle.apart.proofs.Locality.{source-same}
 use Rattle.engine.specs.Calls.{recipe, areas, areaLines, turnCall, deliverCall, collectCall}
@@ -167,14 +166,11 @@ module _ (bytes : List ℕ) (route : ℕ) (ok : firstOf (linesFor (routeOf route
   -- ---- the processors' own: each source has its processor's words of the whole one
   module _ (source : List ℕ) (sources : Sources) (long : (b : ℕ) → b < p .processors → length (sources b) ≡ p .cells)
       (own : (b : ℕ) → b < p .processors → SameSource p b (sources b) source) where
-    module _ {Q : ℕ → Type 0} (s : State) (a : Areas) (to : Together Q p source s a) where
-      abbrev at : (b : ℕ) → b < p .processors → Agrees Q Nothing p s b (a b)
-      at b h = to .each b h
-
+    module _ (a : Areas) (fine : Fine p a) where
       -- ---- a turn
       turn-as : (b : ℕ) → b < p .processors → turnCall bytes route (sources b) (a b) b ≡ turn p source (a b) b
       turn-as b h =
-          turn-is bytes route (sources b) (a b) ok (shape-areas (sources b) (a b) (long b h) (at b h .shape)) b
+          turn-is bytes route (sources b) (a b) ok (shape-areas (sources b) (a b) (long b h) (fine .shape b h)) b
           ∙ source-same p (own-word (routeOf route) (nestOf bytes)) (sources b) source (a b) b (own b h)
 
       pub turn-same : (b : ℕ) → turnByCall bytes route sources a b ≡ turnApart p source a b
@@ -198,24 +194,24 @@ module _ (bytes : List ℕ) (route : ℕ) (ok : firstOf (linesFor (routeOf route
         to′ = takerAt p m
 
         from-low : from < p .processors
-        from-low = sender-at p so source s a (to .inv) (to .each) m lo
+        from-low = so .processor-low (senderOf p m) (sender-low p so m lo)
 
         to-low : to′ < p .processors
-        to-low = taker-at p so source s a (to .inv) (to .each) m lo
+        to-low = so .processor-low (takerOf p m) (so .taker-low m lo)
 
         hands-as : handsOver bytes route sources a m ≡ deliver p (a from) m
-        hands-as = deliver-is bytes route (sources from) (a from) ok (shape-areas (sources from) (a from) (long from from-low) (at from from-low .shape)) m
+        hands-as = deliver-is bytes route (sources from) (a from) ok (shape-areas (sources from) (a from) (long from from-low) (fine .shape from from-low)) m
 
         fit-from : fit p (a from) ≡ true
-        fit-from = agrees-fit p source s from (a from) (to .inv) (at from from-low)
+        fit-from = fine-fit p a fine from from-low
 
         -- the taker's side on words of the message's length
         takes-as : (ws : List ℕ) → length ws ≡ length (heldBy p m)
             → takesIn bytes route sources a m ws ≡ record { number = 0; after = received p (a to′) m ws }
         takes-as ws e =
             deliver-is bytes route (sources to′) (copied p (a to′) m ws) ok
-            (copied-areas (sources to′) (a to′) (long to′ to-low) (at to′ to-low .shape) m ws lo e) m
-            ∙ copied-both p (a to′) m ws lo (at to′ to-low .shape) (at to′ to-low .high) e
+            (copied-areas (sources to′) (a to′) (long to′ to-low) (fine .shape to′ to-low) m ws lo e) m
+            ∙ copied-both p (a to′) m ws lo (fine .shape to′ to-low) (fine .high to′ to-low) e
 
         gone : deliver p (a from) m .number ≡ 0 → deliver p (a from) m ≡ record { number = 0; after = marked (a from) m }
         gone z = both-parts (deliver p (a from) m) (marked (a from) m) z (deliver-goes p (a from) m z)
@@ -223,10 +219,10 @@ module _ (bytes : List ℕ) (route : ℕ) (ok : firstOf (linesFor (routeOf route
         place-long : length (placeOf p (a from .buffer) m) ≡ length (heldBy p m)
         place-long =
             part-length (a from .buffer) (offset (p .messages) m) (length (heldBy p m))
-            (rw (at from from-low .shape .buffer) (offset-apart (p .messages) m (count p) lo lo))
+            (rw (fine .shape from from-low .buffer) (offset-apart (p .messages) m (count p) lo lo))
 
     -- ---- delivery as one event
-    module _ (s : State) (a : Areas) (to : Together Nothing p source s a) where
+    module _ (a : Areas) (fine : Fine p a) where
       module _ (m : ℕ) (lo : m < count p) where
         abbrev ws : List ℕ
         ws = placeOf p (a (senderAt p m) .buffer) m
@@ -242,10 +238,10 @@ module _ (bytes : List ℕ) (route : ℕ) (ok : firstOf (linesFor (routeOf route
 
         by-left : deliverByCalls bytes route sources a m ≡ left (deliver p (a (senderAt p m)) m)
         unfolding deliverByCalls left
-        by-left = pick-true _ _ _ (lt-ltb m (count p) lo) ∙ ap left (hands-as s a to m lo)
+        by-left = pick-true _ _ _ (lt-ltb m (count p) lo) ∙ ap left (hands-as a fine m lo)
 
         number-as : deliver p (a (senderAt p m)) m .number ≡ deliverApart p a m .number
-        number-as = same-number p a m (fit-from s a to m lo)
+        number-as = same-number p a m (fit-from a fine m lo)
 
         -- carried home: its own words put back
         home-as : senderAt p m ≡ takerAt p m → sentOff p a m ≡ carried p a m
@@ -255,7 +251,7 @@ module _ (bytes : List ℕ) (route : ℕ) (ok : firstOf (linesFor (routeOf route
             go : (c : ℕ) → Dec (c ≡ senderAt p m) → replaced a (senderAt p m) (marked (a (senderAt p m)) m) c ≡ carried p a m c
             go c (yes q) =
                 replaced-same a (senderAt p m) (marked (a (senderAt p m)) m) c q
-                ∙ sym (carried-home p a m e (to .each (senderAt p m) (from-low s a to m lo) .shape .buffer) lo)
+                ∙ sym (carried-home p a m e (fine .shape (senderAt p m) (from-low a fine m lo) .buffer) lo)
                 ∙ ap (carried p a m) (sym q)
             go c (no n) =
                 replaced-other a (senderAt p m) (marked (a (senderAt p m)) m) c n ∙ sym (carried-third p a m c n (λ k. n (k ∙ sym e)))
@@ -265,7 +261,7 @@ module _ (bytes : List ℕ) (route : ℕ) (ok : firstOf (linesFor (routeOf route
         away-as n =
             ap (replaced (sentOff p a m) (takerAt p m))
             (ap (λ (r : State). deliverCall bytes route (sources (takerAt p m)) (copied p r m ws) m .after) there
-            ∙ after-of (takes-as s a to m lo ws (place-long s a to m lo))
+            ∙ after-of (takes-as a fine m lo ws (place-long a fine m lo))
             ∙ ap (λ (r : State). received p r m ws) (sym there))
           where
             there : sentOff p a m (takerAt p m) ≡ a (takerAt p m)
@@ -274,7 +270,7 @@ module _ (bytes : List ℕ) (route : ℕ) (ok : firstOf (linesFor (routeOf route
         zero-as : deliver p (a (senderAt p m)) m .number ≡ 0 → left (deliver p (a (senderAt p m)) m) ≡ record { number = 0; after = carried p a m }
         unfolding left _and_ sentOff
         zero-as z =
-            ap left (gone s a to m lo z)
+            ap left (gone a fine m lo z)
             ∙ ap (λ (x : Areas). record { number = 0; after = x }) (go (ℕ-discrete (senderAt p m) (takerAt p m)))
           where
             go : Dec (senderAt p m ≡ takerAt p m)
@@ -308,11 +304,11 @@ module _ (bytes : List ℕ) (route : ℕ) (ok : firstOf (linesFor (routeOf route
 
       pub apart-same : (e : Event) → callsApart bytes route sources a e ≡ actApart p source a e
       unfolding callsApart actApart
-      apart-same (turnOf b) = turn-same s a to b
+      apart-same (turnOf b) = turn-same a fine b
       apart-same (deliveryOf m) = deliver-same m
 
     -- ---- delivery as two
-    module _ (s : State) (n : Network) (fo : Follows p source s n) where
+    module _ (n : Network) (fo : FineNetwork p n) where
       module _ (m : ℕ) (lo : m < count p) where
         unfoldable leaves : Answered State → Answered Network
         leaves x =
@@ -323,17 +319,17 @@ module _ (bytes : List ℕ) (route : ℕ) (ok : firstOf (linesFor (routeOf route
 
         by-leaves : postByCall bytes route sources n m ≡ leaves (deliver p (n .areas (senderAt p m)) m)
         unfolding postByCall leaves
-        by-leaves = pick-true _ _ _ (lt-ltb m (count p) lo) ∙ ap leaves (hands-as s (n .areas) (fo .to) m lo)
+        by-leaves = pick-true _ _ _ (lt-ltb m (count p) lo) ∙ ap leaves (hands-as (n .areas) (fo .areas) m lo)
 
         post-number : deliver p (n .areas (senderAt p m)) m .number ≡ post p n m .number
         unfolding deliver post
-        post-number = first-false 10 _ _ (not-true (fit-from s (n .areas) (fo .to) m lo))
+        post-number = first-false 10 _ _ (not-true (fit-from (n .areas) (fo .areas) m lo))
 
         zero-post : deliver p (n .areas (senderAt p m)) m .number ≡ 0
             → leaves (deliver p (n .areas (senderAt p m)) m)
             ≡ record { number = 0; after = networkOf (sentOff p (n .areas) m) (n .packets ++ posted p (n .areas) m) }
         unfolding leaves sentOff pick
-        zero-post z = ap leaves (gone s (n .areas) (fo .to) m lo z)
+        zero-post z = ap leaves (gone (n .areas) (fo .areas) m lo z)
 
         some-post : deliver p (n .areas (senderAt p m)) m .number ≢ 0
             → leaves (deliver p (n .areas (senderAt p m)) m) ≡ record { number = deliver p (n .areas (senderAt p m)) m .number; after = n }
@@ -351,11 +347,11 @@ module _ (bytes : List ℕ) (route : ℕ) (ok : firstOf (linesFor (routeOf route
         low-post = by-leaves ∙ go (ℕ-discrete (deliver p (n .areas (senderAt p m)) m .number) 0)
           where
             go : Dec (deliver p (n .areas (senderAt p m)) m .number ≡ 0) → leaves (deliver p (n .areas (senderAt p m)) m) ≡ post p n m
-            go (yes z) = zero-post z ∙ sym (post-zero p so source s n fo m (sym post-number ∙ z))
+            go (yes z) = zero-post z ∙ sym (post-zero p n m (sym post-number ∙ z))
             go (no k) =
                 some-post k
                 ∙ ap (λ (x : ℕ). record { number = x; after = n }) post-number
-                ∙ sym (post-some p so source s n fo m (λ z. k (post-number ∙ z)))
+                ∙ sym (post-some p n m (λ z. k (post-number ∙ z)))
 
       pub post-same : (m : ℕ) → postByCall bytes route sources n m ≡ post p n m
       post-same m = go (decLt m (count p))
@@ -372,9 +368,6 @@ module _ (bytes : List ℕ) (route : ℕ) (ok : firstOf (linesFor (routeOf route
         unfolding arrive
         arrive-number = refl
 
-        words-long : k < length (n .packets) → length (it .words) ≡ length (heldBy p (it .message))
-        words-long h = ap length (fo .right k h .words) ∙ length-map (heldBy p (it .message)) _
-
         unfoldable brings : Answered State → Answered Network
         brings x = record { number = x .number; after = networkOf (replaced (n .areas) (takerAt p (it .message)) (x .after)) (n .packets) }
 
@@ -387,18 +380,18 @@ module _ (bytes : List ℕ) (route : ℕ) (ok : firstOf (linesFor (routeOf route
                 (record { number = firstOf (arrivalLines p n k); after = n }) ≡ arrive p n k
             go (yes z) =
                 let y = arrive-number ∙ z in
-                let h = arrive-asks p so source s n fo k y .0 in
+                let h = arrive-asks p n k y .0 in
                 pick-true _ _ _ (eq-eqb _ 0 z)
-                ∙ ap brings (takes-as s (n .areas) (fo .to) (it .message) (fo .right k h .low) (it .words) (words-long h))
-                ∙ sym (arrive-zero p so source s n fo k y)
+                ∙ ap brings (takes-as (n .areas) (fo .areas) (it .message) (fo .low k h) (it .words) (fo .long k h))
+                ∙ sym (arrive-zero p n k y)
             go (no q) =
                 pick-false _ _ _ (ne-eqb _ 0 q)
                 ∙ ap (λ (x : ℕ). record { number = x; after = n }) (sym arrive-number)
-                ∙ sym (arrive-some p so source s n fo k (λ z. q (sym arrive-number ∙ z)))
+                ∙ sym (arrive-some p n k (λ z. q (sym arrive-number ∙ z)))
 
       pub network-same : (e : NetworkEvent) → callsNetwork bytes route sources n e ≡ actNetwork p source n e
       unfolding callsNetwork actNetwork turnNetwork
       network-same (turnBy b) =
-          ap (λ (x : Answered Areas). record { number = x .number; after = networkOf (x .after) (n .packets) }) (turn-same s (n .areas) (fo .to) b)
+          ap (λ (x : Answered Areas). record { number = x .number; after = networkOf (x .after) (n .packets) }) (turn-same (n .areas) (fo .areas) b)
       network-same (postOf m) = post-same m
       network-same (arrivalOf k) = arrive-same k

@@ -26,6 +26,7 @@ use Rattle.routes.proofs.Laws.{reads-for, numbered-for}
 use Rattle.apart.specs.Apart.{Areas, startApart, senderAt, takerAt, Demand3Apart}
 use Rattle.apart.specs.Packets.{NetworkEvent, ByPackets}
 use Rattle.apart.specs.Locality.{Lent, Local}
+use Rattle.apart.specs.OwnRuns.{OwnRun}
 use Rattle.apart.proofs.Agrees.{Agrees, Nothing}
 use Rattle.apart.proofs.Together.{Together, start-together}
 use Rattle.apart.proofs.Theorem.{demand3-apart}
@@ -33,7 +34,9 @@ use Rattle.apart.proofs.Posting.{Has}
 use Rattle.apart.proofs.Network.{Follows, some-answer, start-follows}
 use Rattle.apart.proofs.PacketTheorem.{by-packets}
 use Rattle.apart.proofs.Locality.{local, local-as, refusing-local}
+use Rattle.apart.proofs.Fine.{together-fine, follows-fine}
 use Rattle.apart.proofs.Own.{own-part}
+use Rattle.apart.proofs.OwnRuns.{own-run}
 use Rattle.engine.specs.Calls.{recipe, areas, areaLines, freshCall, turnCall, collectCall}
 use Rattle.engine.specs.Demands.{calls}
 use Rattle.engine.proofs.Lines.{areas-are}
@@ -77,7 +80,8 @@ module _ (bytes : List ℕ) (route : ℕ) (source : List ℕ) (sources : Sources
       → Demand3Apart (callsApart bytes route sources) (startCalls bytes route sources lent) events p source (calls bytes route source)
       (collectCall bytes route source)
   deliveries =
-      demand3-apart p so source (callsApart bytes route sources) (apart-same bytes route (bg .accepted) so source sources long (bg .own))
+      demand3-apart p so source (callsApart bytes route sources)
+      (λ s a to. apart-same bytes route (bg .accepted) so source sources long (bg .own) a (together-fine p source s a to))
       (startCalls bytes route sources lent) begins (calls bytes route source) (collectCall bytes route source)
       (shared-like bytes route (bg .accepted) so source (bg .whole))
 
@@ -85,9 +89,16 @@ module _ (bytes : List ℕ) (route : ℕ) (source : List ℕ) (sources : Sources
       → ByPackets (callsNetwork bytes route sources) (startNetworkCalls bytes route sources lent) events p (calls bytes route source) source
       (collectCall bytes route source)
   packets =
-      by-packets p so source (callsNetwork bytes route sources) (network-same bytes route (bg .accepted) so source sources long (bg .own))
+      by-packets p so source (callsNetwork bytes route sources)
+      (λ s n fo. network-same bytes route (bg .accepted) so source sources long (bg .own) n (follows-fine p source s n fo))
       (startNetworkCalls bytes route sources lent) follows refl (calls bytes route source) (collectCall bytes route source)
       (shared-like bytes route (bg .accepted) so source (bg .whole))
+
+  parts : (events : List NetworkEvent)
+      → OwnRun p (callsNetwork bytes route sources) (startNetworkCalls bytes route sources lent) events
+  parts =
+      own-run p so (own-word (routeOf route) (nestOf bytes)) source (bg .whole) (callsNetwork bytes route sources)
+      (network-same bytes route (bg .accepted) so source sources long (bg .own)) (startNetworkCalls bytes route sources lent) follows
 
 -- ---- which processors talk
 module _ (bytes : List ℕ) (route : ℕ) (small : Bytes bytes) (z : firstOf (linesFor (routeOf route) bytes) ≡ 0) where
@@ -160,4 +171,5 @@ apart-demands =
       own-part = λ bytes route small z.
           own-part (recipe bytes route) (sound (routeOf route) (nestOf bytes) (nest-of bytes route small z)) (turnCall bytes route)
           (turn-local bytes route small);
+      by-parts = parts;
     }

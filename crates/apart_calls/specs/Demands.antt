@@ -18,6 +18,7 @@ use Rattle.apart.specs.Apart.{Areas, senderAt, takerAt, Demand3Apart}
 use Rattle.apart.specs.Packets.{NetworkEvent, mailed, ByPackets}
 use Rattle.apart.specs.Locality.{SameSource, Local}
 use Rattle.apart.specs.Own.{OwnPart}
+use Rattle.apart.specs.OwnRuns.{OwnRun}
 use Rattle.engine.specs.Calls.{recipe, freshCall, turnCall, collectCall}
 use Rattle.engine.specs.Demands.{calls}
 use Rattle.apart_calls.specs.Calls.{Sources, startCalls, callsApart, callsNetwork, startNetworkCalls}
@@ -59,3 +60,7 @@ pub record ApartDemands : Type 0 where
   -- and lent that part alone it answers the same
   pub own-part : (bytes : List ℕ) (route : ℕ) → Bytes bytes → firstOf (linesFor (routeOf route) bytes) ≡ 0
       → OwnPart (recipe bytes route) (turnCall bytes route)
+  -- and so do whole runs of processors that each have that part alone: the answers, the packets and the collected grid of by-packets
+  pub by-parts : (bytes : List ℕ) (route : ℕ) (source : List ℕ) (sources : Sources) (lent : Areas) → Begun bytes route source sources lent
+      → (events : List NetworkEvent)
+      → OwnRun (recipe bytes route) (callsNetwork bytes route sources) (startNetworkCalls bytes route sources lent) events
