@@ -459,7 +459,8 @@ fn pack_row(
 
 // The words of a slot's parcel, row by row: rows alike that have none of it are passed over at once.
 pub fn pack(nest: Nest, sizes: Sizes, slot: usize, words: &mut [u32], memory: &[u32])
-    requires { ⌜ Sized nest sizes × ((slot < slots (sizes .route) nest) × ((length (now memory) ≡ cells nest) × ((length (now words) ≡ length (slotParcel (sizes .route) nest slot)) × (0 < length (now words))))) ⌝ }
+    requires { ⌜ Sized nest sizes × ((slot < slots (sizes .route) nest) × ((length (now memory) ≡ cells nest)
+        × ((length (now words) ≡ length (slotParcel (sizes .route) nest slot)) × (0 < length (now words))))) ⌝ }
     ensures { λ _. ⌜ now (words .exit) ≡ pack (now (memory .entry)) (slotParcel (sizes .route) nest slot) ⌝ }
 {
     let at = layout::place_of_tile(nest, sizes, slot / sizes.ways);
@@ -506,7 +507,8 @@ fn unpack_row(memory: &mut [u32], words: &[u32], cell: usize, from: usize, n: us
 
 // Each word of a slot's parcel to its cell, row by row.
 pub fn unpack(nest: Nest, sizes: Sizes, slot: usize, memory: &mut [u32], words: &[u32])
-    requires { ⌜ Sized nest sizes × ((slot < slots (sizes .route) nest) × ((length (now memory) ≡ cells nest) × ((length (now words) ≡ length (slotParcel (sizes .route) nest slot)) × (0 < length (now words))))) ⌝ }
+    requires { ⌜ Sized nest sizes × ((slot < slots (sizes .route) nest) × ((length (now memory) ≡ cells nest)
+        × ((length (now words) ≡ length (slotParcel (sizes .route) nest slot)) × (0 < length (now words))))) ⌝ }
     ensures { λ _. ⌜ now (memory .exit) ≡ unpack (now (memory .entry)) (slotParcel (sizes .route) nest slot) (now (words .entry)) ⌝ }
 {
     let at = layout::place_of_tile(nest, sizes, slot / sizes.ways);
