@@ -3,17 +3,15 @@
 ghost use mathlib.Core.Path.{_≡_};
 ghost use Prim.Native.Nat.{ℕ, _+_, _*_, _≤_, _<_};
 ghost use lib.ListN.{length, getD};
-ghost use Rattle.base.specs.Tests.{one};
 ghost use Rattle.machine.specs.Plan.{count, words};
-ghost use Rattle.nest.specs.Accepted.{Accepted};
 ghost use Rattle.nest.specs.Nest.{boxTiles};
 ghost use Rattle.plan.specs.Messages.{ways, slots, slotParcel, boxPlan};
 ghost use Rattle.layout.specs.Sizes.{Sized, Stepped};
-ghost use Rattle.parcels.specs.Twins.{twoBefore};
 ghost use Rattle.boxes.specs.Table.{Table, Filling, Likes, Twins, Summing, Only, Ends, FoundAt, atEnd, countBelow};
 use layout::Sizes;
 use nest::Nest;
-use plan::Route;
+use parcels::one;
+use parcels::two_before;
 use scans::Place;
 use scans::Total;
 
@@ -21,25 +19,6 @@ use scans::Total;
 struct Run {
     back: usize,
     tiles: usize,
-}
-
-// In how many of the first dimensions a tile is like the one before it only if that one has another before it: on the indirect
-// route cells come from there too.
-fn two_before(nest: Nest, route: Route) -> usize
-    requires { ⌜ Accepted nest ⌝ }
-    ensures { λ r. ⌜ r ≡ twoBefore route nest ⌝ }
-{
-    match route {
-        Route::Direct => 0,
-        Route::Indirect => nest.spread - 1,
-    }
-}
-
-// 1 where the test is true, else 0.
-fn one(test: bool) -> usize
-    ensures { λ r. ⌜ r ≡ one test ⌝ }
-{
-    if test { 1 } else { 0 }
 }
 
 // How many places along a dimension, from one on, have another before them, or two where two are asked for, and after them another of

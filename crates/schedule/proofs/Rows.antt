@@ -65,11 +65,15 @@ unfolding routeOf
 plan-B = planOf-box Direct (nestOf rowB) (accepted rowB (small-bytes rowB small-B) number-B) (ap (λ (x : Nest). x .bounds) isB) ∙ ap (boxPlan Direct) isB
 
 computed-A : roundsTo (boxPlan Direct nestA) 16 ≡ 1 ∷ 2 ∷ 3 ∷ 4 ∷ 2 ∷ 3 ∷ 4 ∷ 5 ∷ 5 ∷ 6 ∷ 7 ∷ 8 ∷ 6 ∷ 7 ∷ 8 ∷ 9 ∷ []
-unfolding larger greatest lastOf waitsFor nextRound extended roundsTo those _and_ _or_ pick every some keep product tileCount cells boxTiles rank place cellAt cellPlace tileAt tilePlace boxTileOf inside directions ahead reaches crosses parcel taker slotCells slotTaker atHome slotParcel messagesTo messagesOf processorOf
+unfolding larger greatest lastOf waitsFor nextRound extended roundsTo those _and_ _or_ pick every some keep product tileCount cells boxTiles rank
+    place cellAt cellPlace tileAt tilePlace boxTileOf inside directions ahead reaches crosses parcel taker slotCells slotTaker atHome slotParcel
+    messagesTo messagesOf processorOf
 computed-A = refl
 
 computed-B : roundsTo (boxPlan Direct nestB) 4 ≡ 1 ∷ 2 ∷ 2 ∷ 3 ∷ []
-unfolding larger greatest lastOf waitsFor nextRound extended roundsTo those _and_ _or_ pick every some keep product tileCount cells boxTiles rank place cellAt cellPlace tileAt tilePlace boxTileOf inside directions ahead reaches crosses parcel taker slotCells slotTaker atHome slotParcel messagesTo messagesOf processorOf
+unfolding larger greatest lastOf waitsFor nextRound extended roundsTo those _and_ _or_ pick every some keep product tileCount cells boxTiles rank
+    place cellAt cellPlace tileAt tilePlace boxTileOf inside directions ahead reaches crosses parcel taker slotCells slotTaker atHome slotParcel
+    messagesTo messagesOf processorOf
 computed-B = refl
 
 -- the greatest of the table
