@@ -208,7 +208,7 @@ fn window_of(
 }
 
 // Below which last component distance e puts a cell of the row of a place into the window; 0 if nowhere.
-fn end_in_row(
+pub fn end_in_row(
     nest: Nest,
     components: &[usize; 32],
     window: Window,
