@@ -304,7 +304,7 @@ fn rows_alike(
 }
 
 // Whether a way leads beyond the last tile in a spread dimension: nothing is bound there.
-fn outside(across: [usize; 4], at: [usize; 4], ahead: [usize; 4], n: usize) -> bool
+pub fn outside(across: [usize; 4], at: [usize; 4], ahead: [usize; 4], n: usize) -> bool
     requires { ⌜ (n ≤ 4) × ((j : ℕ) → j < n → getD at j 0 + getD ahead j 0 ≤ 1024) ⌝ }
     ensures { λ r. ⌜ r ≡ some (λ j. leb (getD across j 0) (getD at j 0 + getD ahead j 0)) n ⌝ }
 {

@@ -138,7 +138,8 @@ module _ (starts ends : List ℕ) (n c a : ℕ) where
       sum : at - a + (end - at) ≡ end - a
       sum = omega (arith, p .some)
 
-      go : ((hits ≡ end - at) × AllHit starts ends n at end) ⊎ ((hits ≡ 0) × NoneHit starts ends n at end) → count + hits ≡ length (hitRow starts ends n c a (end - a))
+      go : ((hits ≡ end - at) × AllHit starts ends n at end) ⊎ ((hits ≡ 0) × NoneHit starts ends n at end)
+          → count + hits ≡ length (hitRow starts ends n c a (end - a))
       go (inl (k, h)) = omega (arith, e, k, count-all (at - a) (end - at) (rw (over, there) h), ap (λ (i : ℕ). length (hitRow starts ends n c a i)) sum)
       go (inr (k, h)) = omega (arith, e, k, count-none (at - a) (end - at) (rw (over, there) h), ap (λ (i : ℕ). length (hitRow starts ends n c a i)) sum)
 
@@ -189,7 +190,12 @@ pub record Counts (starts ends : List ℕ) (n a w at count : ℕ) : Type 0 where
 
 module _ (starts ends : List ℕ) (n a w : ℕ) where
   pub counts-none : Counts starts ends n a w a 0
-  counts-none = record { from = omega arith; to = omega arith; is = λ c. let e : a - a ≡ 0 = omega arith in rw e (ap length (sym (hit-start starts ends n c a))) }
+  counts-none =
+      record {
+        from = omega arith;
+        to = omega arith;
+        is = λ c. let e : a - a ≡ 0 = omega arith in rw e (ap length (sym (hit-start starts ends n c a)));
+      }
 
   module _ (at count : ℕ) (p : Counts starts ends n a w at count) where
     pub counts-more : (end hits : ℕ) → PieceIs starts ends n at (a + w) end hits → Counts starts ends n a w end (count + hits)
