@@ -208,7 +208,7 @@ fn window_of(
 }
 
 // Below which last component distance e puts a cell of the row of a place into the window; 0 if nowhere.
-fn end_in_row(
+pub fn end_in_row(
     nest: Nest,
     components: &[usize; 32],
     window: Window,
@@ -304,7 +304,7 @@ fn rows_alike(
 }
 
 // Whether a way leads beyond the last tile in a spread dimension: nothing is bound there.
-fn outside(across: [usize; 4], at: [usize; 4], ahead: [usize; 4], n: usize) -> bool
+pub fn outside(across: [usize; 4], at: [usize; 4], ahead: [usize; 4], n: usize) -> bool
     requires { ⌜ (n ≤ 4) × ((j : ℕ) → j < n → getD at j 0 + getD ahead j 0 ≤ 1024) ⌝ }
     ensures { λ r. ⌜ r ≡ some (λ j. leb (getD across j 0) (getD at j 0 + getD ahead j 0)) n ⌝ }
 {
