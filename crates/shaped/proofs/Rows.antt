@@ -109,7 +109,7 @@ over-is low most from side a b o ea eb eo =
     let e : o ≡ min (low - most - from) (side - 1) = eo ∙ rw (eb, ea) refl in (ap (λ (i : ℕ). from + i) e, ap (λ (i : ℕ). side - i) e)
 
 module _ (x : Nest) (ok : Accepted x) (z : Sending) (p : Shaped x z) (most : List ℕ) (f : Farthest x most) (corner lengths : List ℕ) (i : ℕ)
-    (c : Filled (corners z most) (x .dimensions) corner i) (l : Filled (sides z most) (x .dimensions) lengths i) (h : x .dimensions ≤ i) where
+    (c : Filled 4 (corners z most) (x .dimensions) corner i) (l : Filled 4 (sides z most) (x .dimensions) lengths i) (h : x .dimensions ≤ i) where
   corner-is : (j : ℕ) → j < x .dimensions → getD corner j 0 ≡ corners z most j
   corner-is j o = c .each j (omega arith)
 

@@ -135,8 +135,8 @@ module _ (x : Nest) (ok : Accepted x) (at : List ℕ) (small : (j : ℕ) → j <
   pub first-few : (j : ℕ) → j < x .dimensions → getD at j 0 * tileLength x j ≤ 1048576
   first-few j h = omega (arith, mul-le-mul {n₁ = getD at j 0} {m₁ = tileLength x j} {n₂ = 1024} {m₂ = 1024} (small j h) (ok .tile-most j))
 
-  pub around-is : (low high : List ℕ) (j : ℕ) → Filled (λ i. getD at i 0 * tileLength x i - tileLength x i) (x .dimensions) low j
-      → Filled (λ i. getD at i 0 * tileLength x i + 2 * tileLength x i) (x .dimensions) high j → x .dimensions ≤ j
+  pub around-is : (low high : List ℕ) (j : ℕ) → Filled 4 (λ i. getD at i 0 * tileLength x i - tileLength x i) (x .dimensions) low j
+      → Filled 4 (λ i. getD at i 0 * tileLength x i + 2 * tileLength x i) (x .dimensions) high j → x .dimensions ≤ j
       → Around x at (record { low = low; high = high })
   around-is low high j f g h =
       record { low = λ i o. f .each i (omega arith); high = λ i o. g .each i (omega arith) }

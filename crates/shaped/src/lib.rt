@@ -120,7 +120,7 @@ fn runs_of(
     let mut ends = [0; 8];
     let mut runs = 0;
     for e in 0..n {
-        let limit = parcels::end_in_row(nest, components, window, at, e);
+        let limit = parcels::end_in_row(nest, components, window, &at, e);
         let run = reach_of(nest, components, at, own, limit, e);
         if run.from < run.to {
             starts[runs] = run.from;

@@ -11,8 +11,8 @@ use Rattle.shaped.proofs.around.Tie as tie
 
 abbrev Inv-loop : tie.InvT-loop
 Inv-loop at tiling n low₀ high₀ j₀ low high j =
-    Filled (λ i. getD at i 0 * getD tiling i 0 - getD tiling i 0) n low j
-    × Filled (λ i. getD at i 0 * getD tiling i 0 + 2 * getD tiling i 0) n high j
+    Filled 4 (λ i. getD at i 0 * getD tiling i 0 - getD tiling i 0) n low j
+    × Filled 4 (λ i. getD at i 0 * getD tiling i 0 + 2 * getD tiling i 0) n high j
 
 abbrev μ-loop : tie.MeasureT-loop
 μ-loop at tiling n low₀ high₀ j₀ low high j = n - j

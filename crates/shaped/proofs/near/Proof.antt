@@ -9,7 +9,7 @@ use Rattle.shaped.proofs.near.Tie as tie
 
 abbrev Inv-loop : tie.InvT-loop
 Inv-loop sending most window low from sides n corner₀ lengths₀ j₀ corner lengths j =
-    Filled (R.corners sending most) n corner j × Filled (R.sides sending most) n lengths j
+    Filled 4 (R.corners sending most) n corner j × Filled 4 (R.sides sending most) n lengths j
 
 abbrev μ-loop : tie.MeasureT-loop
 μ-loop sending most window low from sides n corner₀ lengths₀ j₀ corner lengths j = n - j
