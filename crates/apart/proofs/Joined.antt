@@ -1,7 +1,6 @@
 -- Areas joined from the processors' own parts and records: collecting them gives what it gives on shared areas.
 use Prim.Native.Nat.{ℕ, zero, suc, _*_, _≤_, _<_}
 use mathlib.Core.Path.{_≡_, refl, sym, ap, _∙_}
-use mathlib.Core.Logic.{_⊎_, inl, inr, _≢_}
 use mathlib.Core.Bool.{Bool, true, false}
 use mathlib.Core.List.{List}
 use native.Mathlib.Omega.{arith}
@@ -14,10 +13,10 @@ use Rattle.base.specs.Lists.{put}
 use Rattle.base.proofs.Tests.{and-true, every-all, some-same, tabulate-same}
 use Rattle.base.proofs.Lists.{piece-length, piece-same, piece-other}
 use Rattle.machine.specs.Plan.{Plan, Sound, count, tilesOf, words}
-use Rattle.machine.specs.Machine.{State, stateOf, setProgress, finishedOf, stageOf, sentOf, memoryOf, tilesLeft, fitRecord, fit, collected, collect, fresh}
+use Rattle.machine.specs.Machine.{State, stateOf, setProgress, finishedOf, stageOf, sentOf, memoryOf, tilesLeft, fitRecord, fit, collected, collect}
 use Rattle.machine.proofs.Records.{SameRecord, same-then, record-other, record-length, finished-same, stage-same, sent-same, fitAt, fit-is}
 use Rattle.machine.proofs.Progress.{Shape}
-use Rattle.machine.proofs.Kept.{Inv, inv-fit, statusOf, memory-length}
+use Rattle.machine.proofs.Kept.{inv-fit, statusOf, memory-length}
 use Rattle.machine.proofs.Fresh.{inv-fresh, status-fresh}
 use Rattle.apart.specs.Apart.{Areas, joinTo, joined}
 use Rattle.apart.proofs.Together.{Together}

@@ -9,11 +9,11 @@ use native.Mathlib.Decide.{decLt, ℕ-discrete}
 use lib.ListN.{length, getD, set, length-set}
 use lib.Seq.{getD-set-same, getD-set-other, set-out}
 use lib.Dec.{ltb, eqb}
-use borrow.Author.Tests.{ltb-true, eq-eqb, ne-eqb}
-use Rattle.base.specs.Tests.{_and_, not, pick, every}
+use borrow.Author.Tests.{ltb-true, ne-eqb}
+use Rattle.base.specs.Tests.{_and_, not, pick}
 use Rattle.base.specs.Lists.{In, put, setAll, storeAll, allAt, unpack, pack}
 use Rattle.base.specs.Numbers.{firstOf}
-use Rattle.base.proofs.Tests.{both, every-at, true-not, pick-true, pick-false}
+use Rattle.base.proofs.Tests.{both, every-at, true-not, pick-false}
 use Rattle.base.proofs.Numbers.{none-first}
 use Rattle.base.proofs.Select.{those-in, in-those, at-is, at-low}
 use Rattle.base.proofs.Lists.{pack-length, store-length, setAll-length, setAll-same, setAll-other}
@@ -21,15 +21,15 @@ use Rattle.base.proofs.Entries.{at-in, part-at}
 use Rattle.machine.specs.Plan.{Plan, Sound, count, senderOf, takerOf, heldBy, tilesOf, sendsOf, duesOf, offset, Knows}
 use Rattle.machine.specs.Machine.{State, finishedOf, stageOf, sentOf, setProgress, memoryOf, placeOf, currentTile, tilesLeft, fitRecord, fit, unpackAll}
 use Rattle.machine.specs.Machine.{afterSends, Action, gather, calculate, send, actionAt, nextAction, carryOut, Answered, answered, waiting, turnLines, turn}
-use Rattle.machine.specs.Words.{Outside, Packs, Unpacks, Stores}
-use Rattle.machine.proofs.Records.{SameRecord, record-length, fit-sending, fit-is}
+use Rattle.machine.specs.Words.{Outside}
+use Rattle.machine.proofs.Records.{record-length, fit-sending, fit-is}
 use Rattle.machine.proofs.Values.{gathered-length}
-use Rattle.machine.proofs.Turns.{Turned, turned, next-zero, next-one, next-two, by-next, Can, can}
+use Rattle.machine.proofs.Turns.{Turned, turned, next-zero, next-one, next-two, by-next, can}
 use Rattle.machine.proofs.Progress.{Shape, here-is}
-use Rattle.machine.proofs.Kept.{statusOf, memory-length, memory-new}
+use Rattle.machine.proofs.Kept.{memory-length, memory-new}
 use Rattle.machine.proofs.RunLaws.{number-of}
 use Rattle.machine.proofs.Words.{packs, unpacks, stores}
-use Rattle.apart.specs.Apart.{senderAt, takerAt}
+use Rattle.apart.specs.Apart.{takerAt}
 use Rattle.apart.specs.Locality.{Lent, Keeps, WritesOwn, Handles, SameTo, SameSource, Likewise, Local, ReadsOwnWord}
 use Rattle.apart.proofs.Letters.{allAt-same, words-there, words-other}
 use Rattle.apart.proofs.Agrees.{set-both, after-both, waiting-law, lines-law}

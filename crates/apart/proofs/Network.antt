@@ -1,14 +1,14 @@
 -- A network's run beside the machine's: after every event they agree, and each event that gave 0 is a step there or posts one packet.
-use Prim.Native.Nat.{ℕ, suc, _+_, _≤_, _<_}
+use Prim.Native.Nat.{ℕ, _+_, _<_}
 use mathlib.Core.Path.{_≡_, refl, sym, ap, _∙_}
 use mathlib.Core.Logic.{_⊎_, inl, inr, _≢_}
 use mathlib.Core.Bool.{Bool, true}
 use mathlib.Core.List.{List, [], _∷_, _++_, map, append-nil}
 use native.Mathlib.Omega.{arith}
 use native.Mathlib.Decide.{decLt, ℕ-discrete}
-use lib.ListN.{length, getD, length-append, List·getD-append}
+use lib.ListN.{length, length-append, List·getD-append}
 use lib.Seq.{getD-append-seam}
-use lib.Dec.{ltb, eqb}
+use lib.Dec.{eqb}
 use borrow.Author.Tests.{eqb-true, eq-eqb, ne-eqb, lt-ltb, ltb-true}
 use Rattle.base.specs.Tests.{not, pick, one}
 use Rattle.base.specs.Lists.{countIf}
@@ -16,20 +16,20 @@ use Rattle.base.specs.Numbers.{line, firstOf}
 use Rattle.base.proofs.Tests.{not-true, not-false, true-not, pick-true, pick-false, one-true, one-false}
 use Rattle.base.proofs.Numbers.{first-nil, first-false, first-true, none-first}
 use Rattle.machine.specs.Plan.{Plan, Sound, count, heldBy}
-use Rattle.machine.specs.Machine.{State, placeOf, Answered, answered, deliver, turn, fresh}
+use Rattle.machine.specs.Machine.{State, placeOf, Answered, answered, fresh}
 use Rattle.machine.specs.Runs.{Event, turnOf, deliveryOf, act, stateAfter, answersTo, steps}
-use Rattle.machine.proofs.Turns.{Delivered, delivered}
+use Rattle.machine.proofs.Turns.{Delivered}
 use Rattle.machine.proofs.Kept.{Inv, swept, statusOf}
 use Rattle.machine.proofs.Events.{flying}
 use Rattle.machine.proofs.Along.{next-inv}
 use Rattle.machine.proofs.RunLaws.{after-append, steps-append, steps-one}
-use Rattle.apart.specs.Apart.{Areas, startApart, senderAt, takerAt, marked, sentOff, arrived}
+use Rattle.apart.specs.Apart.{Areas, senderAt, takerAt, marked, sentOff, arrived}
 use Rattle.apart.specs.Packets.{Packet, Network, networkOf, packetAt, statusAt, NetworkEvent, turnBy, postOf, arrivalOf, posted, post, arrive}
 use Rattle.apart.specs.Packets.{turnNetwork, actNetwork, startNetwork, machineEvents, machineRun}
 use Rattle.apart.proofs.Agrees.{Agrees, Nothing}
 use Rattle.apart.proofs.Together.{Together, start-together, turn-number, turn-agrees}
 use Rattle.apart.proofs.Transport.{deliver-goes}
-use Rattle.apart.proofs.Posting.{Has, not-posted, still-there, in-flight, post-home, post-away, comes, waits-for, arrives, sender-at, taker-at}
+use Rattle.apart.proofs.Posting.{Has, not-posted, still-there, in-flight, post-home, post-away, comes, waits-for, arrives, sender-at}
 
 -- ---- answers
 pub zero-answer : {A : Type 0} (n : ℕ) (new old : A) → n ≡ 0 → answered n new old ≡ record { number = 0; after = new }

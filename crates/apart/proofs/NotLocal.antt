@@ -5,7 +5,7 @@ use mathlib.Core.Logic.{inl, inr}
 use mathlib.Core.Bool.{true}
 use mathlib.Core.List.{List, [], _∷_}
 use native.Mathlib.Omega.{arith}
-use lib.ListN.{length, getD, set}
+use lib.ListN.{getD, set}
 use Rattle.base.specs.Tests.{_and_, _or_, not, pick, one, every, some, keep, those}
 use Rattle.base.specs.Lists.{In, part, put, setAll, storeAll, allAt, unpack, pack, countIf}
 use Rattle.base.specs.Numbers.{firstOf}

@@ -1,28 +1,28 @@
 -- A turn on the processor's own part alone is the turn on the areas, seen from that part: by locality.
-use Prim.Native.Nat.{ℕ, zero, suc, _+_, _*_, _≤_, _<_}
+use Prim.Native.Nat.{ℕ, _+_, _*_, _≤_, _<_}
 use mathlib.Core.Path.{_≡_, refl, sym, ap, _∙_}
 use mathlib.Core.Logic.{_⊎_, inl, inr, _≢_}
 use mathlib.Core.Bool.{Bool, true, false}
-use mathlib.Core.List.{List, [], _∷_, _++_, map}
+use mathlib.Core.List.{List, [], _∷_, _++_}
 use native.Mathlib.Omega.{arith}
 use native.Mathlib.Decide.{ℕ-discrete}
-use lib.ListN.{length, getD, set, take, drop, replicate, length-replicate}
+use lib.ListN.{length, getD, take, drop, replicate, length-replicate}
 use lib.Seq.{take-append-seam, drop-append-seam}
 use lib.Dec.{leb, eqb}
 use borrow.Author.Tests.{eqb-true, eq-eqb, le-leb, leb-true}
-use Rattle.base.specs.Tests.{_and_, _or_, keep, some, every}
-use Rattle.base.specs.Lists.{In, Rising, part, put, member, unpack, pack}
+use Rattle.base.specs.Tests.{_and_, _or_, some}
+use Rattle.base.specs.Lists.{In, Rising, put, member, unpack, pack}
 use Rattle.base.proofs.Tests.{both, and-true, either, never-both, or-left, or-right, some-at, some-one, every-at, every-all}
 use Rattle.base.proofs.Select.{keep-in, in-keep, keep-rising}
 use Rattle.base.proofs.Lists.{in-member, member-in, part-length, length-put, piece-fits, unpack-gives, unpack-length, pack-right}
 use Rattle.base.proofs.Entries.{part-at, put-same, unpack-other}
 use Rattle.machine.specs.Plan.{Plan, Sound, count, heldBy, offset, words}
-use Rattle.machine.specs.Machine.{State, finishedOf, stageOf, sentOf, setProgress, memoryOf, placeOf, fitRecord, fit, Answered, turn, fresh}
+use Rattle.machine.specs.Machine.{State, finishedOf, stageOf, sentOf, memoryOf, placeOf, fitRecord, fit, Answered, turn, fresh}
 use Rattle.machine.specs.Words.{wordAt}
 use Rattle.machine.proofs.Records.{SameRecord, record-other, record-length, finished-same, stage-same, sent-same, fitAt, fit-is}
 use Rattle.machine.proofs.Values.{offset-apart}
 use Rattle.machine.proofs.Progress.{Shape}
-use Rattle.machine.proofs.Kept.{statusOf, memory-length}
+use Rattle.machine.proofs.Kept.{memory-length}
 use Rattle.machine.proofs.Fresh.{inv-fresh, status-fresh}
 use Rattle.apart.specs.Apart.{senderAt, takerAt}
 use Rattle.apart.specs.Locality.{Lent, Keeps, Handles, SameTo, SameSource, Likewise, Local, ReadsOwnWord}

@@ -1,31 +1,29 @@
 -- Two networks that are the same to every processor answer alike, and stay so; hence a run on the processors' parts alone.
-use Prim.Native.Nat.{ℕ, _*_, _≤_, _<_}
+use Prim.Native.Nat.{ℕ, _*_, _<_}
 use mathlib.Core.Path.{_≡_, refl, sym, ap, _∙_}
-use mathlib.Core.Logic.{_⊎_, inl, inr, _≢_}
+use mathlib.Core.Logic.{inl, inr}
 use mathlib.Core.Bool.{Bool, true, false}
-use mathlib.Core.List.{List, [], _∷_, _++_, map}
+use mathlib.Core.List.{List, [], _∷_, _++_}
 use native.Mathlib.Omega.{arith}
 use native.Mathlib.Decide.{decLt, ℕ-discrete}
 use lib.ListN.{length, getD, set, length-map}
 use lib.Seq.{getD-set-same, getD-set-other}
 use lib.Dec.{ltb, eqb}
-use borrow.Author.Tests.{ltb-true, eq-eqb, ne-eqb, lt-ltb}
+use borrow.Author.Tests.{ltb-true, eq-eqb, ne-eqb}
 use Rattle.base.specs.Tests.{not, pick, some}
 use Rattle.base.specs.Numbers.{line, firstOf}
 use Rattle.base.proofs.Tests.{pick-true, pick-false, some-same, tabulate-same}
 use Rattle.base.proofs.Entries.{part-at}
 use Rattle.machine.specs.Plan.{Plan, Sound, count, senderOf, takerOf, heldBy, tilesOf}
-use Rattle.machine.specs.Machine.{State, memoryOf, placeOf, tilesLeft, fit, Answered, turn, fresh}
+use Rattle.machine.specs.Machine.{State, memoryOf, placeOf, tilesLeft, fit, Answered, fresh}
 use Rattle.machine.specs.Runs.{act, stateAfter, answersTo}
-use Rattle.machine.proofs.Progress.{Shape}
-use Rattle.machine.proofs.Kept.{statusOf}
 use Rattle.machine.proofs.Invariant.{sender-low}
 use Rattle.apart.specs.Apart.{Areas, replaced, senderAt, takerAt, marked, received, sentOff, arrived, turnApart, assembled}
 use Rattle.apart.specs.Apart.{collectApart}
 use Rattle.apart.specs.Packets.{Packet, Network, networkOf, packetAt, statusAt, NetworkEvent, turnBy, postOf, arrivalOf, posted, post, arrive}
 use Rattle.apart.specs.Packets.{turnNetwork, actNetwork, startNetwork, machineEvents}
-use Rattle.apart.specs.Locality.{Lent, Keeps, Handles, SameTo, Likewise, Local, ReadsOwnWord}
-use Rattle.apart.specs.Own.{Own, narrowed, widened}
+use Rattle.apart.specs.Locality.{Lent, Keeps, Handles, SameTo, Likewise, ReadsOwnWord}
+use Rattle.apart.specs.Own.{narrowed, widened}
 use Rattle.apart.specs.OwnRuns.{OwnNetwork, wideNetwork, ownNetwork, actOwn, OwnRun}
 use Rattle.apart.proofs.Letters.{replaced-same, replaced-other, words-there, words-other}
 use Rattle.apart.proofs.Agrees.{agrees-fit}

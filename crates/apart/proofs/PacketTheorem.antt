@@ -4,21 +4,21 @@ use mathlib.Core.Path.{_≡_, refl, sym, ap, _∙_}
 use mathlib.Core.Logic.{_⊎_, inl, inr, _≢_}
 use mathlib.Core.List.{List, []}
 use native.Mathlib.Omega.{arith}
-use lib.ListN.{length, getD}
+use lib.ListN.{length}
 use lib.Dec.{eqb}
 use borrow.Author.Tests.{ne-eqb}
 use Rattle.base.specs.Tests.{not}
 use Rattle.base.proofs.Tests.{not-false, length-tabulate}
 use Rattle.base.proofs.Select.{keep-few}
 use Rattle.machine.specs.Plan.{Plan, Sound, count}
-use Rattle.machine.specs.Machine.{State, Answered, deliver, collect, collected, fresh, sweep}
-use Rattle.machine.specs.Runs.{Event, turnOf, deliveryOf, act, total, steps, Demand3}
+use Rattle.machine.specs.Machine.{State, Answered, collect, collected, fresh, sweep}
+use Rattle.machine.specs.Runs.{Event, turnOf, deliveryOf, act, Demand3}
 use Rattle.machine.proofs.Turns.{delivered, collect-gives}
 use Rattle.machine.proofs.Kept.{statusOf}
 use Rattle.machine.proofs.Events.{flying}
 use Rattle.machine.proofs.RunLaws.{number-of, after-of}
-use Rattle.apart.specs.Apart.{Areas, senderAt, takerAt, turnApart, assembled, joined, collectApart}
-use Rattle.apart.specs.Packets.{Network, packetAt, statusAt, NetworkEvent, turnBy, postOf, arrivalOf, turnNetwork, post, arrive, actNetwork}
+use Rattle.apart.specs.Apart.{senderAt, takerAt, joined, collectApart}
+use Rattle.apart.specs.Packets.{Network, packetAt, statusAt, NetworkEvent, turnBy, postOf, arrivalOf, turnNetwork, actNetwork}
 use Rattle.apart.specs.Packets.{startNetwork, mailed, networkAfter, stepsHere, besides, lastBeside, stepsBeside, ByPackets, MachineByPackets}
 use Rattle.apart.proofs.Together.{turn-number}
 use Rattle.apart.proofs.Theorem.{both-are, assembled-same, collect-number, collect-after}

@@ -1,5 +1,5 @@
 -- Carrying a message is made of the machine's own calls and a copy of words and status.
-use Prim.Native.Nat.{ℕ, _+_, _≤_, _<_}
+use Prim.Native.Nat.{ℕ, _≤_, _<_}
 use mathlib.Core.Path.{_≡_, refl, sym, ap, _∙_}
 use mathlib.Core.Logic.{_≢_}
 use mathlib.Core.Bool.{true}
@@ -10,7 +10,6 @@ use lib.ListN.{length}
 use lib.Seq.{getD-set-same, getD-set-other, set-set}
 use lib.Dec.{leb}
 use borrow.Author.Tests.{eq-eqb, ne-eqb, le-leb}
-use Rattle.base.specs.Lists.{put}
 use Rattle.base.proofs.Tests.{and-true, every-all, not-true, pick-true, pick-false}
 use Rattle.base.proofs.Lists.{part-length, put-part}
 use Rattle.base.proofs.Numbers.{first-false}

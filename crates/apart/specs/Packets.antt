@@ -10,7 +10,7 @@ use Rattle.base.specs.Tests.{not, pick, keep}
 use Rattle.base.specs.Numbers.{Line, line, firstOf}
 use Rattle.machine.specs.Plan.{Plan, count, heldBy}
 use Rattle.machine.specs.Machine.{State, finishedOf, stageOf, sentOf, memoryOf, placeOf, Answered, answered, collect, fresh, sweep}
-use Rattle.machine.specs.Runs.{Event, turnOf, deliveryOf, act, total, stateAfter, steps, last, Demand3}
+use Rattle.machine.specs.Runs.{Event, turnOf, deliveryOf, act, total, steps, last, Demand3}
 use Rattle.apart.specs.Apart.{Areas, startApart, senderAt, takerAt, turnApart, sentOff, arrived, joined, collectApart}
 
 -- a message's number and its words as they were when it was posted

@@ -2,27 +2,25 @@
 use Prim.Native.Nat.{ℕ, _+_, _≤_, _<_}
 use mathlib.Core.Path.{_≡_, refl, sym, ap, _∙_, fun-ext}
 use mathlib.Core.Logic.{_≢_}
-use mathlib.Core.Bool.{Bool, true, false}
-use mathlib.Core.List.{List, [], _∷_, _++_, map, append-nil}
+use mathlib.Core.Bool.{true}
+use mathlib.Core.List.{List, [], _∷_, _++_, append-nil}
 use native.Mathlib.Decide.{decLt, ℕ-discrete}
 use native.Mathlib.Omega.{arith}
 use lib.ListN.{length, length-set}
 use lib.Dec.{ltb, eqb}
-use borrow.Author.Tests.{eqb-true, eq-eqb, ne-eqb, lt-ltb, le-ltb, ltb-true}
+use borrow.Author.Tests.{eq-eqb, ne-eqb, lt-ltb, le-ltb}
 use Rattle.base.specs.Tests.{_and_, not, pick}
-use Rattle.base.specs.Lists.{put}
 use Rattle.base.specs.Numbers.{line, firstOf}
 use Rattle.base.proofs.Tests.{and-true, and-false, and-no, not-true, not-false, pick-true, pick-false}
 use Rattle.base.proofs.Lists.{part-length, length-put}
 use Rattle.base.proofs.Numbers.{first-false, first-true, first-behind}
 use Rattle.machine.specs.Plan.{Plan, Sound, count, senderOf, takerOf, heldBy, offset}
-use Rattle.machine.specs.Machine.{State, placeOf, fit, Answered, answered, turn, deliver, collectLines, collect, collected, fresh}
-use Rattle.machine.specs.Runs.{Event, turnOf, deliveryOf, act}
+use Rattle.machine.specs.Machine.{State, placeOf, fit, Answered, answered, turn, deliver, collectLines, collect, collected}
+use Rattle.machine.specs.Runs.{Event, turnOf, deliveryOf}
 use Rattle.machine.proofs.Values.{offset-apart}
 use Rattle.machine.proofs.Progress.{Shape}
 use Rattle.machine.proofs.Invariant.{sender-low}
-use Rattle.machine.proofs.Kept.{Inv}
-use Rattle.machine.proofs.RunLaws.{number-of, after-of}
+use Rattle.machine.proofs.RunLaws.{after-of}
 use Rattle.plan.specs.declared.Route.{Route}
 use Rattle.plan.specs.declared.Route.the-variants.{Direct, Indirect}
 use Rattle.nest.specs.declared.Nest.{Nest}
@@ -39,16 +37,15 @@ use Rattle.apart.specs.Packets.{turnNetwork, actNetwork}
 use Rattle.apart.specs.Locality.{Lent, SameSource, ReadsOwnWord}
 use Rattle.apart.proofs.Letters.{replaced-same, replaced-other, words-fit}
 use Rattle.apart.proofs.Transport.{both-parts, copied-both, carried-home, carried-third, deliver-goes, deliver-after, deliver-stays, same-number}
-use Rattle.apart.proofs.Network.{some-answer, post-zero, post-some, post-asks, arrive-zero, arrive-some, arrive-asks}
+use Rattle.apart.proofs.Network.{some-answer, post-zero, post-some, arrive-zero, arrive-some, arrive-asks}
 use Rattle.apart.proofs.Fine.{Fine, FineNetwork, fine-fit}
 use Rattle.apart.proofs.Alike.{SharedLike}
 use Rattle.apart.proofs.Locality.{source-same}
-use Rattle.engine.specs.Calls.{recipe, areas, areaLines, turnCall, deliverCall, collectCall}
+use Rattle.engine.specs.Calls.{recipe, areas, turnCall, deliverCall, collectCall}
 use Rattle.engine.specs.Demands.{calls}
-use Rattle.engine.proofs.Lines.{and-right}
 use Rattle.engine.proofs.AsSteps.{turn-is, deliver-is, collect-is}
 use Rattle.engine.proofs.AsRuns as runs
-use Rattle.apart_calls.specs.Calls.{Sources, turnByCall, handsOver, handedOver, takesIn, takenIn, deliverByCalls, callsApart, postByCall, arriveByCall}
+use Rattle.apart_calls.specs.Calls.{Sources, turnByCall, handsOver, takesIn, takenIn, deliverByCalls, callsApart, postByCall, arriveByCall}
 use Rattle.apart_calls.specs.Calls.{callsNetwork}
 
 -- a value reads of the source its own cell's word

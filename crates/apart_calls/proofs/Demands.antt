@@ -1,6 +1,6 @@
 -- The calls on areas that no two processors share have what crate apart proves; messages go to other processors, indirect to the next; a turn is local.
 use Prim.Native.Nat.{ℕ, _<_}
-use mathlib.Core.Path.{_≡_, refl, sym, ap, _∙_}
+use mathlib.Core.Path.{_≡_, refl, ap, _∙_}
 use mathlib.Core.Logic.{_≢_}
 use mathlib.Core.List.{List, [], _++_}
 use native.Mathlib.Decide.{ℕ-discrete}
@@ -10,7 +10,7 @@ use Rattle.base.specs.Numbers.{firstOf}
 use Rattle.base.proofs.Tests.{not-true}
 use Rattle.base.proofs.Numbers.{first-nil, first-false, first-some, first-behind}
 use Rattle.machine.specs.Plan.{Plan, Sound, count}
-use Rattle.machine.specs.Machine.{State, Answered, answered, carryOut, nextAction, turnLines, fresh}
+use Rattle.machine.specs.Machine.{State, answered, carryOut, nextAction, turnLines, fresh}
 use Rattle.machine.specs.Runs.{Event}
 use Rattle.machine.proofs.Fresh.{inv-fresh}
 use Rattle.nest.specs.Accepted.{Accepted}
@@ -27,17 +27,16 @@ use Rattle.apart.specs.Apart.{Areas, startApart, senderAt, takerAt, Demand3Apar
 use Rattle.apart.specs.Packets.{NetworkEvent, ByPackets}
 use Rattle.apart.specs.Locality.{Lent, Local}
 use Rattle.apart.specs.OwnRuns.{OwnRun}
-use Rattle.apart.proofs.Agrees.{Agrees, Nothing}
+use Rattle.apart.proofs.Agrees.{Nothing}
 use Rattle.apart.proofs.Together.{Together, start-together}
 use Rattle.apart.proofs.Theorem.{demand3-apart}
-use Rattle.apart.proofs.Posting.{Has}
 use Rattle.apart.proofs.Network.{Follows, some-answer, start-follows}
 use Rattle.apart.proofs.PacketTheorem.{by-packets}
 use Rattle.apart.proofs.Locality.{local, local-as, refusing-local}
 use Rattle.apart.proofs.Fine.{together-fine, follows-fine}
 use Rattle.apart.proofs.Own.{own-part}
 use Rattle.apart.proofs.OwnRuns.{own-run}
-use Rattle.engine.specs.Calls.{recipe, areas, areaLines, freshCall, turnCall, collectCall}
+use Rattle.engine.specs.Calls.{recipe, areaLines, freshCall, turnCall, collectCall}
 use Rattle.engine.specs.Demands.{calls}
 use Rattle.engine.proofs.Lines.{areas-are}
 use Rattle.engine.proofs.AsSteps.{fresh-gave, turn-is}

@@ -9,19 +9,18 @@ use native.Mathlib.Omega.{arith}
 use lib.ListN.{length}
 use lib.Dec.{eqb}
 use borrow.Author.Tests.{eq-eqb, ne-eqb, eqb-false}
-use Rattle.base.specs.Tests.{not, one, keep}
-use Rattle.base.specs.Lists.{In}
+use Rattle.base.specs.Tests.{one, keep}
 use Rattle.base.proofs.Tests.{not-false, one-true, one-false}
 use Rattle.base.proofs.Select.{keep-more}
-use Rattle.machine.specs.Plan.{Message, Plan, count, senderOf, takerOf}
+use Rattle.machine.specs.Plan.{Message, Plan, count}
 use Rattle.nest.specs.declared.Nest.{Nest}
 use Rattle.nest.specs.Accepted.{Accepted}
 use Rattle.nest.specs.Nest.{processorCount, boxTiles}
-use Rattle.nest.specs.Places.{place, tilePlace}
+use Rattle.nest.specs.Places.{tilePlace}
 use Rattle.plan.specs.declared.Route.{Route}
 use Rattle.plan.specs.declared.Route.the-variants.{Direct, Indirect}
 use Rattle.plan.specs.Geometry.{processorOf}
-use Rattle.plan.specs.Messages.{passed, neighbour, slots, slotTile, slotDimension, slotCells, slotTaker, atHome, slotParcel, messagesTo}
+use Rattle.plan.specs.Messages.{neighbour, slots, slotTile, slotDimension, slotCells, slotTaker, atHome, slotParcel, messagesTo}
 use Rattle.plan.specs.Shaped.{planOf, boxTile}
 use Rattle.plan.proofs.Loops.{allocated}
 use Rattle.plan.proofs.Slots.{full-in, parcel-cells, message-slot}
