@@ -48,24 +48,22 @@ loop-less : tie.Need-loop-less Inv-loop μ-loop
 loop-less c = search needs
 
 loop-again : tie.Need-loop-again Inv-loop μ-loop
-loop-again c =
-    let at-turn = c .before .before .before .before .before .before .before .before .before in
-    let at-in-order = at-turn .before .before .before .before .before in
-    let at-loop-test = at-in-order .before in
-    let at-loop = at-loop-test .before in
-    let start = at-loop .before .before .before .before .before .before .before in
-    let A = start .args in
-    let X = at-loop .loop in
-    let G = at-turn .turn in (
-      search needs,
-      (
+loop-again c = (
+  search needs,
+  (let at-turn = c .before .before .before .before .before .before .before .before .before in
+      let at-in-order = at-turn .before .before .before .before .before in
+      let at-loop-test = at-in-order .before in
+      let at-loop = at-loop-test .before in
+      let start = at-loop .before .before .before .before .before .before .before in
+      let A = start .args in
+      let X = at-loop .loop in
+      let G = at-turn .turn in (
         omega (arith, at-loop-test .loop-test .taken),
-        steps.turns-next (A .encoded .now) (A .source .now) (stateOf (A .memories .now)
-            (A .buffer .now) (A .progress .now) (A .status .now)) (A .processors) (A .falling) (X .place) (X .taken) (c .noted .result) (stateOf (X .memories)
-            (X .buffer) (X .progress) (X .status)) _ (at-in-order .in-order .result) (G .result) (X .inv .1 .1) (at-in-order .in-order .ensures) (G .ensures)
-            (c .noted .ensures),
-      ),
-    )
+        steps.turns-next (A .encoded .now) (A .source .now) (stateOf (A .memories .now) (A .buffer .now) (A .progress .now) (A .status .now))
+            (A .processors) (A .falling) (X .place) (X .taken) (c .noted .result) (stateOf (X .memories) (X .buffer) (X .progress) (X .status)) _
+            (at-in-order .in-order .result) (G .result) (X .inv .1 .1) (at-in-order .in-order .ensures) (G .ensures) (c .noted .ensures),
+      )),
+)
 
 same-length : tie.Need-same-length Inv-loop μ-loop
 same-length c = search needs
