@@ -1,5 +1,5 @@
-"""A plain model of document 01 and of the requests W-201 to W-205, W-207 to W-212 and W-214, written from their text,
-read as docs/DECISIONS.md says, and not from the engine.
+"""A plain model of document 01 and of the requests W-201 to W-205 and W-207 to W-214, written from their text, read as
+docs/DECISIONS.md says, and not from the engine.
 
 Every set is made by trying all its candidates. It shares no code, no table and no closed form with
 the engine, so that a test vector made from it tells whether the engine means what the paper says.
@@ -615,6 +615,69 @@ def look(encoded, first, second, office, b):
     return 0, start, (first, second)[office][start:start + plan.cells]
 
 
+# For a transport, where boards share no memory
+
+def messages(encoded, route, out):
+    """All messages in one call, six words each: the two tiles, their boards, how many words, and where these begin in the mail."""
+    number, plan = plan_of(encoded, route)
+    if number != 0:
+        return number
+    if len(out) != 6 * len(plan.messages):
+        return 9
+    out[:] = [word for message in plan.messages for word in (
+        message.sender, message.taker, plan.board_of[message.sender], plan.board_of[message.taker], len(message.cells), message.offset)]
+    return 0
+
+
+def owners(encoded, out):
+    """The board of each cell's tile; a cell outside the shape has none, and the number of boards stands for that."""
+    number, plan = plan_of(encoded)
+    if number != 0:
+        return number
+    if len(out) != plan.cells:
+        return 9
+    out[:] = [plan.board_of[plan.tile_of[c]] if plan.inside[c] else plan.boards for c in range(plan.cells)]
+    return 0
+
+
+def awaited(encoded, areas, b, marks, out, route=DIRECT):
+    """The tile at which a board stands, and which messages it waits for: those due there, where it is to gather, that are not delivered.
+    Of the areas only records and marks are lent."""
+    number, plan = plan_of(encoded, route)
+    if number != 0:
+        return number
+    count = len(plan.messages)
+    if len(areas.progress) != 3 * plan.boards or len(areas.status) != count or len(marks) != count or len(out) != 1:
+        return 9
+    if not is_fit(plan, areas):
+        return 10
+    if not b < plan.boards:
+        return 11
+    finished, stage, _ = areas.progress[3 * b:3 * b + 3]
+    if finished == len(plan.tiles_of[b]):
+        return 13
+    out[0] = plan.tiles_of[b][finished]
+    marks[:] = [int(stage == 0 and m in plan.due_at[out[0]] and areas.status[m] != 2) for m in range(count)]
+    return 0
+
+
+def take_in(encoded, areas, b, m, words, route=DIRECT):
+    """A message taken in at the board that takes it: its words into their place, and from unsent to delivered. A number that no message of
+    this board has is 11; one that came before is 14."""
+    number, plan = tested(encoded, areas, route,
+                          others_right=lambda plan: m >= len(plan.messages) or len(words) == len(plan.messages[m].cells))
+    if number != 0:
+        return number
+    if m >= len(plan.messages) or plan.board_of[plan.messages[m].taker] != b:
+        return 11
+    if areas.status[m] != 0:
+        return 14
+    offset = plan.messages[m].offset
+    areas.buffer[offset:offset + len(words)] = words
+    areas.status[m] = 2
+    return 0
+
+
 def sweep(encoded, source, grid):
     """The sequential sweep as a call: lines 1 to 8, then the lengths of the two areas it is lent."""
     number, plan = plan_of(encoded)
@@ -752,6 +815,51 @@ def drive(encoded, areas, falling, route=DIRECT):
         if done == 0:
             return steps
         steps += done
+
+
+# W-213: rounds
+
+def rounds(encoded, areas):
+    """The driver: the number, and the rounds that it took, 0 at a refusal. A board that could gather at a round's start does its whole
+    tile; then all mail in flight is delivered."""
+    number = fresh(encoded, areas)
+    if number != 0:
+        return number, 0
+    plan = plan_of(encoded)[1]
+    told = 0
+    while True:
+        ready = [b for b in range(plan.boards) if turn_number(encoded, areas, b)[0] == 0]
+        if ready == []:
+            return 0, told
+        for b in ready:
+            finished = areas.progress[3 * b]
+            while areas.progress[3 * b] == finished:
+                assert turn(encoded, areas, b) == 0
+        for m in range(len(plan.messages)):
+            if areas.status[m] == 1:
+                assert deliver(encoded, areas, m) == 0
+        told += 1
+
+
+def tile_rounds(plan):
+    """A tile's round: one more than the latest among its board's previous tile and the tiles that mail to it, or 1."""
+    found = []
+    for t in range(plan.tiles):
+        own = plan.tiles_of[plan.board_of[t]]
+        before = own[:own.index(t)][-1:] + [plan.messages[m].sender for m in plan.due_at[t]]
+        found.append(1 + max([found[other] for other in before], default=0))
+    return found
+
+
+def rounds_of(encoded, lent):
+    """Each tile's round, into a lent area of one word a tile."""
+    number, plan = plan_of(encoded)
+    if number != 0:
+        return number
+    if len(lent) != plan.tiles:
+        return 9
+    lent[:] = tile_rounds(plan)
+    return 0
 
 
 def plan_text(encoded, route=DIRECT):
@@ -904,6 +1012,8 @@ def check_paper():
     check_soundings()
     check_charts()
     check_hours()
+    check_rounds()
+    check_transport()
 
 
 def check_routes():
@@ -1194,8 +1304,68 @@ def check_hours():
                                  number(0, 10080, unfit, Rig(office=2, **held), [1] * 55)], [11, 9])
 
 
+def check_rounds():
+    """W-213: row A takes 9 rounds; small plans by hand; the driver ends as any run does and refuses as a fresh start does."""
+    def driven(encoded):
+        plan = plan_of(encoded)[1]
+        areas = areas_for(plan, list(range(plan.cells)))
+        areas.progress, areas.status = [77] * len(areas.progress), [200] * len(areas.status)
+        told = rounds(encoded, areas)
+        expect('the grid', (collect(encoded, areas), areas.grid), (0, plan.swept(areas.source)))
+        expect('the end', (set(areas.status) <= {3}, [turn(encoded, areas, b) for b in range(plan.boards)]), (True, [13] * plan.boards))
+        return told, tile_rounds(plan)
+
+    # the second row of tiles begins a round after the first; board 0 takes up the third behind its own first row
+    expect('row A', driven(ROWS['A']), ((0, 9), [1, 2, 3, 4, 2, 3, 4, 5, 5, 6, 7, 8, 6, 7, 8, 9]))
+    expect('row B', driven(ROWS['B']), ((0, 3), [1, 2, 2, 3]))
+    expect('row D', driven(ROWS['D']), ((0, 2), [1, 2]))
+    expect('row E', driven(ROWS['E']), ((0, 3), [1, 2, 3]))
+    expect('row F', driven(ROWS['F']), ((0, 2), [1, 2]))
+    expect('row H', driven(ROWS['H']), ((0, 2), [1, 2]))
+    # tile 2 waits for both tiles of the other board
+    empty = encode([4, 4], [2, 2], [2, 0], [(1, 1)], bounds=[(LOWER, 1, 0, 1, 0)])
+    expect('a shape', driven(empty), ((0, 3), [1, 2, 3]))
+    one = encode([4, 4], [2, 2], [2, 0], [(1, 0)], bounds=[(LOWER, 1, 0, 1, 3)])
+    expect('one tile', driven(one), ((0, 1), [1]))
+    areas = areas_for(plan_of(ROWS['D'])[1], [1] * 5)
+    expect('refused', [rounds(ROWS['D'], areas), rounds(ROWS['D'][16:], areas), rounds(b'', areas)], [(9, 0), (2, 0), (1, 0)])
+    expect('rounds of tiles refused', [rounds_of(ROWS['D'], [0]), rounds_of(ROWS['D'], [0] * 3), rounds_of(ROWS['D'][16:], [])], [9, 9, 2])
+
+
+def check_transport():
+    """Row D, each board with areas of its own: board 1 waits for message 0 at tile 1 until it is carried there."""
+    encoded = ROWS['D']
+    plan = plan_of(encoded)[1]
+    rows, cells = [7] * 6, [7] * 4
+    expect('the messages of D', [messages(encoded, DIRECT, rows[:5]), messages(encoded, DIRECT, rows), rows], [9, 0, [0, 1, 0, 1, 1, 0]])
+    expect('the boards of the cells of D', [owners(encoded, cells[:3]), owners(encoded, cells), cells], [9, 0, [0, 0, 1, 1]])
+    shaped = encode([2, 4], [1, 2], [2, 0], [(1, 0)], bounds=[(1, 1, 0, 0, 2)])
+    cells = [7] * 8
+    expect('the boards of a shape', [owners(shaped, cells), cells], [0, [0, 0, 0, 2, 1, 1, 1, 2]])
+    own = [areas_for(plan, [1] * 4) for _ in range(2)]
+
+    def waits(b, areas=None, count=1):
+        marks, out = [7] * count, [7]
+        return awaited(encoded, areas or own[b], b, marks, out), marks, out
+
+    expect('who waits at the start', [waits(0), waits(1)], [(0, [0], [0]), (0, [1], [1])])
+    expect('no such board, a wrong length', [waits(2, own[0]), waits(0, count=2)], [(11, [7], [7]), (9, [7, 7], [7])])
+    expect('the turns of board 0', [turn(encoded, own[0], 0) for _ in range(4)], [0, 0, 0, 13])
+    expect('it has finished', waits(0), (13, [7], [7]))
+    expect('posting', [deliver(encoded, own[0], 0), own[0].buffer, own[0].status], [0, [2], [2]])
+    expect('the faults of what comes', [take_in(encoded, own[1], b, m, words) for b, m, words in (
+        (1, 0, [2, 2]), (1, 0, []), (0, 0, [2]), (2, 0, [2]), (1, 1, [2]), (1, 1, []))], [9, 9, 11, 11, 11, 11])
+    expect('nothing is written', [own[1].buffer, own[1].status], [[0], [0]])
+    expect('it comes, and again', [take_in(encoded, own[1], 1, 0, [word]) for word in (2, 9)], [0, 14])
+    expect('what came', [own[1].buffer, own[1].status, waits(1)], [[2], [2], (0, [0], [1])])
+    expect('board 1 goes on', [turn(encoded, own[1], 1) for _ in range(3)], [0, 0, 13])
+    expect('its values', own[1].memories[6:], [3, 4])
+    own[1].progress[1] = 3
+    expect('unfit before no such', [take_in(encoded, own[1], 0, 9, []), take_in(encoded, own[1], 1, 0, [])], [10, 9])
+
+
 if __name__ == '__main__':
     check_paper()
     import schedules
     schedules.check()
-    print('the model gives what document 01, W-201 to W-205, W-207 to W-212 and W-214 print')
+    print('the model gives what document 01, W-201 to W-205 and W-207 to W-214 print')

@@ -108,6 +108,12 @@ class ByModel:
         first, second = self.offices.areas
         return model.fresh_both(self.encoded, first, second, self.offices.engaged, self.route)
 
+    def rounds(self):
+        """The rounds of a driven run, and each tile's."""
+        tiles = [0] * model.plan_of(self.encoded)[1].tiles
+        model.rounds_of(self.encoded, tiles)
+        return model.rounds(self.encoded, self.areas)[1], tiles
+
     def turn_of(self, office, processor):
         return self.offices.call(self.encoded, office, ('turn', processor), self.route)
 
@@ -194,6 +200,9 @@ class ByLibrary(ByModel):
         return self.number_of(lambda: self.library.calls.EXPORTED['fresh_both'](
             self.encoded, self.route, first.source, *self.lent(first), second.source, *self.lent(second), self.engaged))
 
+    def rounds(self):
+        return self.library.rounds(self.encoded, self.areas.source)[0], self.library.rounds_of(self.encoded)
+
     def turn_of(self, office, processor):
         own, other = self.offices.areas[office], self.lent(self.offices.areas[1 - office])[2]
         return self.called('office_turn', own, self.engaged, other, office, processor)
@@ -271,6 +280,11 @@ def value_lines(encoded, lines):
 SIZES = ('source', 'memories', 'buffer', 'progress', 'status', 'grid', 'engaged')
 
 
+def rounds_line(maker, name, encoded):
+    rounds, tiles = maker(encoded).rounds()
+    return '%s: %d rounds, of tiles %s' % (name, rounds, ' '.join(map(str, tiles)))
+
+
 def size_line(maker, name, route, encoded):
     by = maker(encoded, 0 if route == 'direct' else 1)
     sizes = by.sizes() if hasattr(by, 'sizes') else {
@@ -340,6 +354,9 @@ def differences(text, maker):
     def hold(what, got, wanted):
         found.extend('%s: `%s`, not `%s`' % (what, g, w) for g, w in zip(got, wanted) if g != w)
 
+    for _, lines in blocks(text, 'rounds'):
+        names = [line.split(':')[0] for line in lines]
+        hold('rounds', lines, [rounds_line(maker, name, known[name]) for name in names])
     for name, lines in blocks(text, 'value'):
         hold('value', lines, value_lines(known[name], lines))
     for name, lines in blocks(text, 'grid'):
@@ -374,6 +391,7 @@ UNTRUE = [
     ('words 1 steps 6', 'words 1 steps 7'),
     ('deliver 0  0   progress 1,0,0 0,0,0   status 2', 'deliver 0  0   progress 1,0,0 0,0,0   status 1'),
     ('| 14 | 12 |', '| 14 | 13 |'),
+    ('D: 2 rounds', 'D: 3 rounds'),
     ('grid 1,2,3,4', 'grid 1,2,3,5'),
 ]
 

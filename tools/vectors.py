@@ -1085,6 +1085,7 @@ def row_a_text():
 def all_files():
     """Name to content, in a fixed order."""
     import desk
+    import foreman
     import rigs
     model.check_paper()
     plans = plan_recipes()
@@ -1107,6 +1108,8 @@ def all_files():
         **rigs.files(rigs.hours_script(), 'hours'),
         **desk.soundings_files(),
         **desk.chart_files(),
+        **foreman.rounds_files(),
+        **foreman.drawing_files(),
     }
 
 

@@ -10,15 +10,6 @@ fn number(result: Result<(), Refusal>) -> u32 {
     result.err().map_or(0, Refusal::number)
 }
 
-/// Methods for a request whose calls the archive may lack: there with the feature of that name. Tests are linked
-/// without them, so that they can be built with all features.
-macro_rules! request {
-    ($feature:literal: $(fn $name:ident($($parameters:tt)*) -> u32 $body:block)*) => {$(
-        #[cfg(all(feature = $feature, not(test)))]
-        fn $name($($parameters)*) -> u32 $body
-    )*};
-}
-
 /// Makes an exported call that the safe crate lacks. A slice goes over as its pointer and its length, a number as it is.
 macro_rules! exported {
     ($name:ident($($parameters:tt)*)) => { exported!(@ $name [] [] $($parameters)*) };
@@ -54,7 +45,7 @@ impl Engine for Library {
             Request::Soundings => true,
             Request::Chart => true,
             Request::Hours => true,
-            Request::Rounds => cfg!(all(feature = "rounds", not(test))),
+            Request::Rounds => true,
         }
     }
 
@@ -215,16 +206,12 @@ impl Engine for Library {
         number(rolwyddac::opens_words(encoded, hours, minute, processor, out))
     }
 
-    request! { "rounds":
-        fn rounds(&self, encoded: &[u8], areas: &mut Areas, out: &mut [u32]) -> u32 {
-            exported!(rolwyddac_rounds(
-                encoded => &[u8], areas.source => &[u32], areas.memories => &mut [u32], areas.buffer => &mut [u32],
-                areas.progress => &mut [Progress], areas.status => &mut [u8], out => &mut [u32]
-            ))
-        }
+    fn rounds(&self, encoded: &[u8], areas: &mut Areas, out: &mut [u32]) -> u32 {
+        let Areas { source, memories, buffer, progress, status } = areas;
+        number(rolwyddac::rounds_words(encoded, source, memories, buffer, progress, status, out))
+    }
 
-        fn rounds_of(&self, encoded: &[u8], rounds: &mut [u32]) -> u32 {
-            exported!(rolwyddac_rounds_of(encoded => &[u8], rounds => &mut [u32]))
-        }
+    fn rounds_of(&self, encoded: &[u8], rounds: &mut [u32]) -> u32 {
+        number(rolwyddac::rounds_of_words(encoded, rounds))
     }
 }

@@ -22,7 +22,7 @@ static void texts(void) {
   must(strcmp(rolwyddac_term(0), "done") == 0, "the term of 0");
   must(strcmp(rolwyddac_term(ROLWYDDAC_RAGGED), "ragged") == 0, "the term of 1");
   must(strcmp(rolwyddac_term(ROLWYDDAC_NO_MAIL), "no mail") == 0, "the term of 14");
-  must(strcmp(rolwyddac_text(ROLWYDDAC_NO_MAIL), "delivery of a message that is not in flight") == 0, "the text of 14");
+  must(strcmp(rolwyddac_text(ROLWYDDAC_EARLY), "collecting while a processor has tiles left") == 0, "the text of 15");
   must(strcmp(rolwyddac_term(ROLWYDDAC_OFF_THE_BOX), "off the box") == 0, "the term of 22");
   must(strcmp(rolwyddac_text(ROLWYDDAC_TOO_LARGE), "more than 16,384 cells") == 0, "the text of 4");
   must(strcmp(rolwyddac_term(4000), "other") == 0, "the term of a number that there is not");

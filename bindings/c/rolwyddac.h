@@ -24,12 +24,12 @@
  *   22 off the box    a sounding, whether it counts or not, names a cell that the recipe's box does not have
  *   10 unfit          progress records, status bytes or engaged words not fit
  *   25 hours          a faulty window of some processor, or a minute above 10,079
- *   11 no such        office, processor or message number too high
+ *   11 no such        office, processor or message number too high, or a message that the processor does not take
  *   24 closed         the processor is not open at that minute
  *   19 engaged        the processor has tiles left for this office and is held by the other
  *   12 waiting        the processor is to gather and a message due at its tile is not delivered
  *   13 finished       the processor has no tiles left
- *   14 no mail        delivery of a message that is not in flight
+ *   14 no mail        delivery of a message that is not in flight, or taking in one that came before
  *   15 early          collecting while a processor has tiles left
  *
  * The recipe (`encoded`) is given to every call but the one that writes it. Beside it a call is lent these areas,
@@ -150,6 +150,17 @@ enum {
   ROLWYDDAC_MESSAGE_LENGTH = 5
 };
 
+/* Places in a message's row of what rolwyddac_messages writes, and a row's length: the first five are those above. */
+enum {
+  ROLWYDDAC_ROW_SENDING_TILE = 0,
+  ROLWYDDAC_ROW_TAKING_TILE = 1,
+  ROLWYDDAC_ROW_SENDING_PROCESSOR = 2,
+  ROLWYDDAC_ROW_TAKING_PROCESSOR = 3,
+  ROLWYDDAC_ROW_WORDS = 4,
+  ROLWYDDAC_ROW_OFFSET = 5,
+  ROLWYDDAC_ROW_LENGTH = 6
+};
+
 /* Writes the plan's totals on the route to out: tiles, messages, words, steps. Cells (the product of the lengths) and
  * processors (the product of the counts that are not 0) stand in the recipe itself.
  * Numbers: 1 to 8, 16 to 18, 20, 21; 9 if out has not 4 words. A refusal leaves out as it was. */
@@ -206,6 +217,22 @@ uint32_t rolwyddac_collect(const uint8_t *encoded, size_t encoded_length, uint32
                            const uint32_t *buffer, size_t buffer_length, const rolwyddac_progress *progress,
                            size_t progress_length, const uint8_t *status, size_t status_length, uint32_t *grid,
                            size_t grid_length);
+
+/* Drives a whole run by rounds, on the direct route: makes a fresh start and goes on to the run's end. In a round every
+ * processor that could gather at the round's start does its whole tile, then each message in flight is delivered. Writes one
+ * word to out: the rounds, the greatest that rolwyddac_rounds_of writes. No other plan of whole tiles has fewer. Collecting
+ * then gives the sweep.
+ * Numbers: 1 to 8, 16 to 18, 20; 9, also if out has not 1 word. A refusal leaves memories, buffer, progress, status and out
+ * as they were. */
+uint32_t rolwyddac_rounds(const uint8_t *encoded, size_t encoded_length, const uint32_t *source, size_t source_length,
+                          uint32_t *memories, size_t memories_length, uint32_t *buffer, size_t buffer_length,
+                          rolwyddac_progress *progress, size_t progress_length, uint8_t *status, size_t status_length,
+                          uint32_t *out, size_t out_length);
+
+/* Writes each tile's round to rounds, one word a tile: one more than the latest round among the tiles that it waits for, its
+ * processor's previous tile and those that send to it; 1 where there are none. Round 1 is the first.
+ * Numbers: 1 to 8, 16 to 18, 20; 9 if rounds has not one word a tile. A refusal leaves rounds as it was. */
+uint32_t rolwyddac_rounds_of(const uint8_t *encoded, size_t encoded_length, uint32_t *rounds, size_t rounds_length);
 
 /* Makes a fresh start of both offices together: writes zero to the memories, buffer, progress and status of each, and 2 to
  * every word of engaged, whatever they held.
@@ -307,6 +334,43 @@ uint32_t rolwyddac_office_turn_at(const uint8_t *encoded, size_t encoded_length,
  * Numbers: 1 to 8, 16 to 18, 20; 9 if hours has not its length or out has not 2 words; 25; 11. A refusal leaves out as it was. */
 uint32_t rolwyddac_opens(const uint8_t *encoded, size_t encoded_length, const uint32_t *hours, size_t hours_length,
                          uint32_t minute, uint32_t processor, uint32_t *out, size_t out_length);
+
+/* For processors that share no memory each keeps all areas to itself, and a transport carries the messages: four calls serve it.
+ * A message that its sender's turn has put in flight is posted by rolwyddac_deliver on the sender's own areas; its words are
+ * those from ROLWYDDAC_ROW_OFFSET on in the sender's buffer, and no later call of the run writes there. rolwyddac_take_in brings
+ * it into the areas of its taker. */
+
+/* Writes a row of six words for each message of the route to out, in the order of their numbers: the five of
+ * rolwyddac_message, then where the message's words begin in the buffer.
+ * Numbers: 1 to 8, 16 to 18, 20, 21; 9 if out has not six words a message. A refusal leaves out as it was. */
+uint32_t rolwyddac_messages(const uint8_t *encoded, size_t encoded_length, uint32_t route, uint32_t *out,
+                            size_t out_length);
+
+/* Writes one word for each cell of the box to out: the processor of its tile; for a cell outside the shape, which is in no
+ * tile, the number of processors. The same on either route.
+ * Numbers: 1 to 8, 16 to 18, 20; 9 if out has not one word a cell. A refusal leaves out as it was. */
+uint32_t rolwyddac_owners(const uint8_t *encoded, size_t encoded_length, uint32_t *out, size_t out_length);
+
+/* What a processor waits for, lent only the records and the status bytes: writes one word to out, the tile at which it
+ * stands, and one byte a message to marks: 1 where the processor is to gather and the message is due at that tile and not
+ * delivered, else 0. Some mark is 1 exactly where rolwyddac_turn would give 12.
+ * Records, status or marks of another length and an out that has not 1 word: each is 9. A processor without tiles left is 13.
+ * Numbers: 1 to 11, 13, 16 to 18, 20, 21. A refusal leaves marks and out as they were. */
+uint32_t rolwyddac_awaited(const uint8_t *encoded, size_t encoded_length, uint32_t route,
+                           const rolwyddac_progress *progress, size_t progress_length, const uint8_t *status,
+                           size_t status_length, uint32_t processor, uint8_t *marks, size_t marks_length,
+                           uint32_t *out, size_t out_length);
+
+/* Takes a message in at its taker, whose own areas are lent: puts the words into the message's place in the buffer, and its
+ * status goes from 0 to 2. Nothing else is written.
+ * Words that are not as many as the message has are 9; a number too high, or a message that this processor does not take, is
+ * 11; a message whose status is not 0, as one that came before, is 14.
+ * Numbers: 1 to 11, 14, 16 to 18, 20, 21. A refusal leaves buffer and status as they were. */
+uint32_t rolwyddac_take_in(const uint8_t *encoded, size_t encoded_length, uint32_t route, const uint32_t *source,
+                           size_t source_length, const uint32_t *memories, size_t memories_length, uint32_t *buffer,
+                           size_t buffer_length, const rolwyddac_progress *progress, size_t progress_length,
+                           uint8_t *status, size_t status_length, uint32_t processor, uint32_t message,
+                           const uint32_t *words, size_t words_length);
 
 /* Writes the recipe of the fields to space: lengths, tiling (tile lengths) and counts (processor counts) have one
  * number a dimension; components has four numbers a distance, zero beyond the last dimension, and weights one. The

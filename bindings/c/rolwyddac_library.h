@@ -56,8 +56,8 @@ typedef struct {
  * Numbers: those of rolwyddac_summary but 9. A refusal leaves out as it was. */
 uint32_t rolwyddac_sizes(const uint8_t *encoded, size_t encoded_length, uint32_t route, rolwyddac_areas *out);
 
-/* The term of a number and what it says, as in the table of rolwyddac.h: "no mail" and "delivery of a message that is not
- * in flight" for 14; "done" and "done" for 0; "other" and "a number that this library has no name for" for one that the
+/* The term of a number and what it says, as in the table of rolwyddac.h: "early" and "collecting while a processor has tiles
+ * left" for 15; "done" and "done" for 0; "other" and "a number that this library has no name for" for one that the
  * table does not have. Never null, and never freed. */
 const char *rolwyddac_term(uint32_t number);
 const char *rolwyddac_text(uint32_t number);

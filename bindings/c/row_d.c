@@ -79,6 +79,18 @@ static void collect(uint32_t wanted) {
                                       at.grid, CELLS), wanted);
 }
 
+static void rounds(size_t length, uint32_t wanted) {
+  before = at;
+  expect("rounds", rolwyddac_rounds(recipe, recipe_length, at.source, source_length, at.memories, PROCESSORS * CELLS,
+                                    at.buffer, WORDS, at.progress, PROCESSORS, at.status, MESSAGES, at.out, length),
+         wanted);
+}
+
+static void rounds_of(size_t length, uint32_t wanted) {
+  before = at;
+  expect("rounds_of", rolwyddac_rounds_of(recipe, recipe_length, at.out, length), wanted);
+}
+
 static void sweep(uint32_t wanted) {
   before = at;
   expect("sweep", rolwyddac_sweep(recipe, recipe_length, at.source, source_length, at.grid, CELLS), wanted);
@@ -120,6 +132,7 @@ static void refused(uint32_t wanted) {
   fresh(wanted), turn(0, wanted), deliver(0, wanted), collect(wanted), sweep(wanted);
   summary(ROLWYDDAC_SUMMARY_LENGTH, wanted), message(0, ROLWYDDAC_MESSAGE_LENGTH, wanted);
   hops(0, 1, wanted), soundings(0, wanted), turn_at(10, 0, wanted), opens(10, 0, 2, wanted);
+  rounds(0, wanted), rounds_of(0, wanted);
   memcpy(recipe, row_d, RECIPE);
   recipe_length = RECIPE;
 }
@@ -204,6 +217,20 @@ static void run_by_hours(void) {
   hours_length--, turn_at(10080, 2, ROLWYDDAC_AREA), hours_length++;
 }
 
+/* the same run by rounds, which have no route: a fresh start's lines, and the second tile waits for the first */
+static void run_by_rounds(void) {
+  source_length = CELLS - 1, rounds(1, ROLWYDDAC_AREA), source_length = CELLS;
+  rounds(0, ROLWYDDAC_AREA), rounds(2, ROLWYDDAC_AREA), rounds(1, ROLWYDDAC_DONE);
+  same("the rounds", at.out, (const uint32_t[]){2}, 1);
+  memset(at.grid, 0, sizeof at.grid);
+  if (route == ROLWYDDAC_DIRECT) {
+    collect(ROLWYDDAC_DONE);
+    same("the values by rounds", at.grid, (const uint32_t[]){1, 2, 3, 4}, CELLS);
+  }
+  rounds_of(1, ROLWYDDAC_AREA), rounds_of(3, ROLWYDDAC_AREA), rounds_of(2, ROLWYDDAC_DONE);
+  same("the tiles' rounds", at.out, (const uint32_t[]){1, 2}, 2);
+}
+
 /* a bound that cuts nothing leaves row D as it is, but for the route */
 static void with_a_bound(void) {
   const uint32_t wanted = ROLWYDDAC_DIRECT_ONLY;
@@ -217,6 +244,7 @@ static void with_a_bound(void) {
   }
   hops(0, 1, ROLWYDDAC_DONE), sweep(ROLWYDDAC_DONE), soundings(0, ROLWYDDAC_DONE);
   opens(30, 0, 2, ROLWYDDAC_DONE);
+  rounds(1, ROLWYDDAC_DONE), rounds_of(2, ROLWYDDAC_DONE);
   memcpy(recipe, row_d, RECIPE), recipe_length = RECIPE;
 }
 
@@ -232,6 +260,7 @@ int main(void) {
     for (size_t c = 0; c < CELLS; c++) at.source[c] = 1;
     run();
     run_by_hours();
+    run_by_rounds();
     with_a_bound();
   }
   const unsigned all = 0x7ffff | 1 << ROLWYDDAC_EMPTY | 1 << ROLWYDDAC_DIRECT_ONLY | 1 << ROLWYDDAC_OFF_THE_BOX |

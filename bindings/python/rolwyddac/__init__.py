@@ -8,7 +8,8 @@
     run.finish()
     print(run.collect())
 
-`Run` owns the areas of one run, `Rig` those of two offices on the same processors. Grids come as numpy arrays of the recipe's
+`Run` owns the areas of one run, `Rig` those of two offices on the same processors, `Board` those of one processor that shares no
+memory with the others. Grids come as numpy arrays of the recipe's
 dimensions, or as lists of lists where numpy is not installed; sources may be either. A refusal is an exception named by its
 term: `rolwyddac.Waiting`, `rolwyddac.NoMail`, all below `rolwyddac.Refused`.
 
@@ -42,6 +43,10 @@ Summary = collections.namedtuple('Summary', 'cells processors tiles messages wor
 Summary.__doc__ = 'The totals of a plan.'
 Message = collections.namedtuple('Message', 'sending_tile taking_tile sending_processor taking_processor words')
 Message.__doc__ = 'The line of one message.'
+Row = collections.namedtuple('Row', Message._fields + ('offset',))
+Row.__doc__ = "One message's line, and where its words begin in the buffer."
+Awaited = collections.namedtuple('Awaited', 'tile messages')
+Awaited.__doc__ = 'What a processor waits for: its tile, and the messages due there that are not delivered.'
 Sounding = collections.namedtuple('Sounding', 'cell day survey depth')
 Sounding.__doc__ = 'One record of a file of soundings.'
 
@@ -107,6 +112,28 @@ def message(encoded, route, m):
     out = _words(5)
     calls.EXPORTED['message'](encoded, route, m, out)
     return Message(*out)
+
+
+def messages(encoded, route=DIRECT):
+    """The rows of all messages of a recipe's plan on a route, in the order of their numbers."""
+    width = len(Row._fields)
+    out = _words(width * sizes(encoded, route).status)
+    calls.EXPORTED['messages'](encoded, route, out)
+    return [Row(*out[at:at + width]) for at in range(0, len(out), width)]
+
+
+def owners(encoded):
+    """The processor of each cell's tile, as a grid; outside the shape the number of processors."""
+    out = _words(sizes(encoded).source)
+    calls.EXPORTED['owners'](encoded, out)
+    return _shaped(out, dimensions(encoded))
+
+
+def awaited(encoded, route, progress, status, processor):
+    """What a processor waits for; no messages where it can go on."""
+    marks, out = bytearray(len(status)), _words(1)
+    calls.EXPORTED['awaited'](encoded, route, progress, status, processor, marks, out)
+    return Awaited(out[0], [m for m, mark in enumerate(marks) if mark])
 
 
 def hops(encoded, m):
@@ -192,6 +219,20 @@ class Areas:
         return [m for m, status in enumerate(self.status) if status == 1]
 
 
+def rounds(encoded, source):
+    """A whole run by rounds on the direct route: the rounds that it took, and the run at its end, to be collected."""
+    run, out = Run(encoded, source), _words(1)
+    calls.EXPORTED['rounds'](run.encoded, run.source, *run.areas, out)
+    return out[0], run
+
+
+def rounds_of(encoded):
+    """The round of each tile."""
+    found = _words(summary(encoded).tiles)
+    calls.EXPORTED['rounds_of'](encoded, found)
+    return list(found)
+
+
 class Run:
     """A run of one recipe by one route over one source: a fresh start, then any turns and deliveries. Whatever their order, the
     grid that `collect` gives is that of the sweep."""
@@ -268,6 +309,49 @@ def _turns(turn, *ends):
         except tuple(REFUSALS[number] for number in ends):
             return taken
         taken += 1
+
+
+class Board:
+    """One processor of a run on processors that share no memory: it has all areas to itself, and a transport carries its messages.
+    Where every message that one posts is taken in by its taker, sooner or later, each finishes, and its memory has the cells of its
+    tiles as the sweep has them."""
+
+    def __init__(self, encoded, source, processor, route=DIRECT):
+        """A fresh start."""
+        self.encoded, self.route, self.source, self.processor = bytes(encoded), route, _source(source), processor
+        self.rows = messages(self.encoded, route)
+        self.areas = Areas(sizes(self.encoded, route))
+        self._call('fresh')
+
+    def _call(self, name, *last):
+        calls.EXPORTED[name](self.encoded, self.route, self.source, *self.areas, *last)
+
+    def memory(self):
+        """The processor's own part of its memories, as a grid."""
+        cells = len(self.areas.memories) // len(self.areas.progress)
+        return _shaped(self.areas.memories[self.processor * cells:][:cells], dimensions(self.encoded))
+
+    def turn(self):
+        """Gives the processor a turn."""
+        self._call('turn', self.processor)
+
+    def awaited(self):
+        """What the processor waits for."""
+        return awaited(self.encoded, self.route, self.areas.progress, self.areas.status, self.processor)
+
+    def in_flight(self):
+        """The messages that are sent and not posted yet, by number."""
+        return self.areas.in_flight()
+
+    def post(self, message):
+        """Posts a message in flight: gives the processor that takes it, and the words to carry there."""
+        self._call('deliver', message)
+        row = self.rows[message]
+        return row.taking_processor, self.areas.buffer[row.offset:row.offset + row.words]
+
+    def take_in(self, message, words):
+        """Takes a message in that another processor posted."""
+        self._call('take_in', self.processor, message, words)
 
 
 class Rig:

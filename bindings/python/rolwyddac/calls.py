@@ -27,6 +27,9 @@ rolwyddac_deliver(encoded: &[u8], route: u32, source: &[u32], memories: &[u32], 
 rolwyddac_collect(encoded: &[u8], route: u32, source: &[u32], memories: &[u32], buffer: &[u32], progress: &[Progress],
     status: &[u8], grid: &mut [u32])
 rolwyddac_sweep(encoded: &[u8], source: &[u32], grid: &mut [u32])
+rolwyddac_rounds(encoded: &[u8], source: &[u32], memories: &mut [u32], buffer: &mut [u32], progress: &mut [Progress],
+    status: &mut [u8], out: &mut [u32])
+rolwyddac_rounds_of(encoded: &[u8], rounds: &mut [u32])
 rolwyddac_summary(encoded: &[u8], route: u32, out: &mut [u32])
 rolwyddac_message(encoded: &[u8], route: u32, m: u32, out: &mut [u32])
 rolwyddac_hops(encoded: &[u8], m: u32, out: &mut [u32])
@@ -47,6 +50,12 @@ rolwyddac_look(encoded: &[u8], first: &[u32], second: &[u32], office: u32, proce
 rolwyddac_chart(encoded: &[u8], grid: &[u32], x: i32, y: i32, cell_size: u32, space: &mut [u8], out: &mut [u32])
 rolwyddac_chart_length(encoded: &[u8], grid: &[u32], x: i32, y: i32, cell_size: u32, out: &mut [u32])
 rolwyddac_soundings(encoded: &[u8], file: &[u8], value: u32, source: &mut [u32])
+rolwyddac_messages(encoded: &[u8], route: u32, out: &mut [u32])
+rolwyddac_owners(encoded: &[u8], out: &mut [u32])
+rolwyddac_awaited(encoded: &[u8], route: u32, progress: &[Progress], status: &[u8], processor: u32, marks: &mut [u8],
+    out: &mut [u32])
+rolwyddac_take_in(encoded: &[u8], route: u32, source: &[u32], memories: &[u32], buffer: &mut [u32], progress: &[Progress],
+    status: &mut [u8], processor: u32, message: u32, words: &[u32])
 rolwyddac_write(lengths: &[u16], tiling: &[u16], counts: &[u16], components: &[u16], weights: &[u16], sides: &[u8],
     bounded: &[u8], earlier: &[u8], slopes: &[i8], offsets: &[i16], shift: u8, boundary: u32, space: &mut [u8])
 '''
@@ -90,12 +99,12 @@ def version():
 
 
 def term(number):
-    """The term of a number, as `no mail` for 14."""
+    """The term of a number, as `early` for 15."""
     return _library.rolwyddac_term(number).decode()
 
 
 def text(number):
-    """What a number says, as `delivery of a message that is not in flight` for 14."""
+    """What a number says, as `collecting while a processor has tiles left` for 15."""
     return _library.rolwyddac_text(number).decode()
 
 

@@ -174,6 +174,98 @@ class Against(unittest.TestCase):
             self.assertEqual(flat(run.collect()), plan.swept(source), case)
         self.assertLessEqual({0, 11, 12, 13, 14, 15}, met)
 
+    def test_rounds(self):
+        draw = Draw(34)
+        for case in range(RUNS):
+            encoded = model.encode(**recipe_of(draw))
+            plan = model.plan_of(encoded)[1]
+            source, tiles = [draw.word() for _ in range(plan.cells)], [0] * plan.tiles
+            model.rounds_of(encoded, tiles)
+            rounds, run = rolwyddac.rounds(encoded, source)
+            self.assertEqual((rounds, rolwyddac.rounds_of(encoded)), (max(tiles), tiles), case)
+            self.assertEqual(flat(run.collect()), plan.swept(source), case)
+
+    def test_transport(self):
+        """Boards that share nothing: each has areas of its own, and the mail between them is late, doubled, cut or brought to another."""
+        draw, met = Draw(32), set()
+        for case in range(RUNS):
+            values, route = recipe_of(draw), draw.below(2)
+            n = len(values['lengths'])
+            bounds = [] if route or draw.below(2) else [(1, 1 + draw.below(n - 1), 0, draw.below(3) - 1, draw.below(6))]
+            encoded = bytes(model.encode(bounds=bounds, **values))
+            number, plan = model.plan_of(encoded, route)
+            if number:
+                continue
+            rows, cells = [0] * (6 * len(plan.messages)), [0] * plan.cells
+            self.assertEqual([model.messages(encoded, route, rows), model.owners(encoded, cells)], [0, 0])
+            self.assertEqual([word for row in rolwyddac.messages(encoded, route) for word in row], rows, case)
+            self.assertEqual(flat(rolwyddac.owners(encoded)), cells, case)
+            for m, row in enumerate(rolwyddac.messages(encoded, route)):
+                self.assertEqual(row[:5], rolwyddac.message(encoded, route, m))
+            self.run_apart(draw, met, encoded, route, plan)
+        self.assertLessEqual({0, 9, 11, 12, 13, 14}, met)
+
+    def run_apart(self, draw, met, encoded, route, plan):
+        source = [draw.word() for _ in range(plan.cells)]
+        boards = [rolwyddac.Board(encoded, source, b, route) for b in range(plan.boards)]
+        wanted = [model.areas_for(plan, source) for _ in range(plan.boards)]
+        mail = []
+
+        def both(got, number, b):
+            self.assertEqual(got, number)
+            met.add(number)
+            self.same(boards[b].areas, wanted[b])
+            marks, out = [0] * len(plan.messages), [0]
+            number = model.awaited(encoded, wanted[b], b, marks, out, route)
+            met.add(number)
+            self.assertEqual(number_of(boards[b].awaited), number)
+            if number == 0:
+                found = boards[b].awaited()
+                self.assertEqual(found, (out[0], [m for m, mark in enumerate(marks) if mark]))
+                self.assertEqual(bool(found.messages), model.turn_number(encoded, wanted[b], b, route)[0] == 12)
+
+        def arrive(b, m, words):
+            both(number_of(boards[b].take_in, m, words), model.take_in(encoded, wanted[b], b, m, words, route), b)
+
+        def post(b):
+            for m in boards[b].in_flight():
+                to, words = boards[b].post(m)
+                both(0, model.deliver(encoded, wanted[b], m, route), b)
+                line = plan.messages[m]
+                self.assertEqual((to, list(words)), (plan.board_of[line.taker], wanted[b].buffer[line.offset:][:len(line.cells)]))
+                mail.append((to, m, list(words)))
+
+        def turn(b):
+            number = model.turn(encoded, wanted[b], b, route)
+            both(number_of(boards[b].turn), number, b)
+            return number
+
+        for _ in range(4 * plan.steps):
+            b, kind = draw.below(plan.boards), draw.below(8)
+            if kind < 4:
+                turn(b)
+                continue
+            post(b)
+            if mail:
+                to, m, words = mail[draw.below(len(mail))]
+                # as it is, sometimes cut or doubled, of a message that is not, or at another board
+                faulty = [(to, m, words[1:]), (to, m, words + words), (to, len(plan.messages), words), ((to + 1) % plan.boards, m, words)]
+                arrive(*((to, m, words) if kind < 7 else faulty[draw.below(4)]))
+        # to the end: nothing is lost
+        done = [False] * plan.boards
+        while not all(done):
+            for b in range(plan.boards):
+                while turn(b) == 0:
+                    pass
+                post(b)
+                done[b] = wanted[b].progress[3 * b] == len(plan.tiles_of[b])
+            for packet in mail:
+                arrive(*packet)
+        grids, swept = [flat(board.memory()) for board in boards], plan.swept(source)
+        for c in range(plan.cells):
+            if plan.inside[c]:
+                self.assertEqual(grids[plan.board_of[plan.tile_of[c]]][c], swept[c])
+
     def test_offices(self):
         draw, met = Draw(29), set()
         for case in range(RUNS):

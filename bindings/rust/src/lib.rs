@@ -21,15 +21,18 @@
 //! # }
 //! ```
 //!
-//! [`Rig`] owns the areas of two offices that share the processors.
+//! [`Rig`] owns the areas of two offices that share the processors, [`Board`] those of one processor that shares no memory with
+//! the others.
 
 #![warn(missing_docs)]
 
+mod mail;
 mod recipe;
 mod refusal;
 mod rig;
 mod run;
 
+pub use mail::{awaited, messages, owners, Awaited, Board, Row};
 pub use recipe::{Fields, Recipe};
 pub use refusal::Refusal;
 pub use rig::Rig;
@@ -125,13 +128,14 @@ pub enum Opening {
     Never,
 }
 
-/// Words that the summary, a message's line, its hops, a look and an opening take.
+/// Words that the summary, a message's line, its hops, a look, a chart's length, an opening and the rounds of a run take.
 const SUMMARY_WORDS: usize = 4;
 const MESSAGE_WORDS: usize = 5;
 const HOPS_WORDS: usize = 1;
 const LOOK_WORDS: usize = 2;
 const CHART_WORDS: usize = 1;
 const OPENS_WORDS: usize = 2;
+const ROUNDS_WORDS: usize = 1;
 
 /// Bytes of the longest chart there is: 16,384 cells of ten digits, each with a space or a line feed behind it, under a
 /// header of 98 bytes. Every chart fits a space of this length.
@@ -215,6 +219,26 @@ calls! {
     ///
     /// Refusals: 1 to 9, 16 to 18 and 20.
     rolwyddac_sweep as sweep(encoded: &[u8], source: &[u32], grid: &mut [u32]);
+
+    /// Drives a whole run by rounds, on the direct route: makes a fresh start and goes on to the run's end. Writes one word to
+    /// `out`: the rounds. [`Run::by_rounds`] is the handier form.
+    ///
+    /// In a round every processor that could gather at the round's start does its whole tile, then each message in flight is
+    /// delivered. The rounds are the greatest that [`rounds_of_words`] writes, and no other plan of whole tiles has fewer.
+    /// [`collect`] then gives what [`sweep`] writes.
+    ///
+    /// Refusals: 1 to 8, 16 to 18, 20, and 9, also if `out` has not 1 word.
+    rolwyddac_rounds as rounds_words(
+        encoded: &[u8], source: &[u32], memories: &mut [u32], buffer: &mut [u32], progress: &mut [Progress],
+        status: &mut [u8], out: &mut [u32],
+    );
+
+    /// Writes each tile's round to `rounds`, one word a tile: one more than the latest round among the tiles that it waits
+    /// for, its processor's previous tile and those that send to it; 1 where there are none. [`rounds_of`] is the handier
+    /// form.
+    ///
+    /// Refusals: 1 to 8, 16 to 18, 20, and 9 if `rounds` has not one word a tile.
+    rolwyddac_rounds_of as rounds_of_words(encoded: &[u8], rounds: &mut [u32]);
 
     /// Writes the plan's totals on the route to `out`: tiles, messages, words, steps. [`summary`] is the handier form.
     ///
@@ -342,6 +366,42 @@ calls! {
     /// Refusals: 1 to 8, 16 to 18, 20, 9 if `hours` has not its length or `out` has not 2 words, 25, 11.
     rolwyddac_opens as opens_words(encoded: &[u8], hours: &[u32], minute: u32, processor: u32, out: &mut [u32]);
 
+    /// Writes a row of six words for each message of the route to `out`, in the order of their numbers: the five of
+    /// [`message_words`], then where the message's words begin in the buffer. [`messages`] is the handier form.
+    ///
+    /// Refusals: 1 to 8, 16 to 18, 20, 21, and 9 if `out` has not six words a message.
+    rolwyddac_messages as messages_words(encoded: &[u8], route: Route, out: &mut [u32]);
+
+    /// Writes one word for each cell of the box to `out`: the processor of its tile, or the number of processors for a cell
+    /// outside the shape, which is in no tile. [`owners`] is the handier form.
+    ///
+    /// Refusals: 1 to 8, 16 to 18, 20, and 9 if `out` has not one word a cell.
+    rolwyddac_owners as owners_words(encoded: &[u8], out: &mut [u32]);
+
+    /// What a processor waits for, lent only the records and the status bytes: writes one word to `out`, the tile at which it
+    /// stands, and one byte a message to `marks`, 1 where the processor is to gather and the message is due at that tile and
+    /// not delivered, else 0. Some mark is 1 exactly where [`turn`] would give 12. [`awaited`] is the handier form.
+    ///
+    /// A processor without tiles left is 13.
+    ///
+    /// Refusals: 1 to 11, 13, 16 to 18, 20 and 21.
+    rolwyddac_awaited as awaited_words(
+        encoded: &[u8], route: Route, progress: &[Progress], status: &[u8], processor: u32, marks: &mut [u8],
+        out: &mut [u32],
+    );
+
+    /// Takes a message in at its taker, whose own areas are lent: puts `words` into the message's place in the buffer, and its
+    /// status goes from 0 to 2.
+    ///
+    /// Words that are not as many as the message has are 9; a number too high, or a message that this processor does not
+    /// take, is 11; a message whose status is not 0, as one that came before, is 14.
+    ///
+    /// Refusals: 1 to 11, 14, 16 to 18, 20 and 21.
+    rolwyddac_take_in as take_in(
+        encoded: &[u8], route: Route, source: &[u32], memories: &[u32], buffer: &mut [u32], progress: &[Progress],
+        status: &mut [u8], processor: u32, message: u32, words: &[u32],
+    );
+
     /// Writes the recipe of the fields to `space`. [`Fields`] is the handier form.
     ///
     /// - `lengths`, `tiling` and `counts` have one number a dimension: its length, tile length and processor count.
@@ -447,4 +507,22 @@ pub fn opens(encoded: &[u8], hours: &[u32], minute: u32, processor: u32) -> Resu
     opens_words(encoded, hours, minute, processor, &mut out)?;
     let [opens, minutes] = out;
     Ok(if opens == 1 { Opening::OpensIn(minutes) } else { Opening::Never })
+}
+
+/// The round of each tile, the first round being 1, when a run goes by rounds: see [`Run::by_rounds`].
+///
+/// Refusals: 1 to 8, 16 to 18 and 20.
+///
+/// ```
+/// # fn main() -> Result<(), rolwyddac::Refusal> {
+/// // four tiles on two processors; each waits for the one before it
+/// let recipe = rolwyddac::Fields::new().dimension(8, 2, 2).dimension(1, 1, 0).distance(&[1, 0], 1).close(0, 0)?;
+/// assert_eq!(rolwyddac::rounds_of(&recipe)?, [1, 2, 3, 4]);
+/// # Ok(())
+/// # }
+/// ```
+pub fn rounds_of(encoded: &[u8]) -> Result<Vec<u32>, Refusal> {
+    let mut rounds = vec![0; summary(encoded, Route::Direct)?.tiles as usize];
+    rounds_of_words(encoded, &mut rounds)?;
+    Ok(rounds)
 }

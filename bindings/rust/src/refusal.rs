@@ -82,12 +82,12 @@ refusals! {
         "a sounding, whether it counts or not, names a cell that the recipe's box does not have";
     10 Unfit "unfit": "progress records, status bytes or engaged words not fit";
     25 Hours "hours": "a faulty window of some processor, or a minute above 10,079";
-    11 NoSuch "no such": "office, processor or message number too high";
+    11 NoSuch "no such": "office, processor or message number too high, or a message that the processor does not take";
     24 Closed "closed": "the processor is not open at that minute";
     19 Engaged "engaged": "the processor has tiles left for this office and is held by the other";
     12 Waiting "waiting": "the processor is to gather and a message due at its tile is not delivered";
     13 Finished "finished": "the processor has no tiles left";
-    14 NoMail "no mail": "delivery of a message that is not in flight";
+    14 NoMail "no mail": "delivery of a message that is not in flight, or taking in one that came before";
     15 Early "early": "collecting while a processor has tiles left";
 }
 
@@ -131,7 +131,7 @@ mod tests {
     #[test]
     fn display_has_number_and_term() {
         let text = Refusal::NoMail.to_string();
-        assert_eq!(text, "refused 14, no mail: delivery of a message that is not in flight");
+        assert_eq!(text, "refused 14, no mail: delivery of a message that is not in flight, or taking in one that came before");
         assert_eq!(format!("{:?}", Refusal::NoMail), text);
         let text = Refusal::Other(4000).to_string();
         assert_eq!(text, "refused 4000, other: a number that this crate has no name for");

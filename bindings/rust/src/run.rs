@@ -1,6 +1,9 @@
 //! The areas of a run with their right sizes, and a run that owns them.
 
-use crate::{collect, deliver, fresh, opens, summary, turn, turn_at, Opening, Progress, Refusal, Route, Summary};
+use crate::{
+    collect, deliver, fresh, opens, rounds_words, summary, turn, turn_at, Opening, Progress, Refusal, Route, Summary,
+    ROUNDS_WORDS,
+};
 
 /// The four areas that a run changes, with the sizes a plan asks for.
 #[derive(Clone, Debug, PartialEq, Eq)]
@@ -50,6 +53,31 @@ impl<'a> Run<'a> {
         let Areas { memories, buffer, progress, status } = &mut areas;
         fresh(encoded, route, source, memories, buffer, progress, status)?;
         Ok(Run { encoded, route, source, plan, areas })
+    }
+
+    /// A whole run by rounds, on the direct route: sizes the areas, makes a fresh start and goes on to the end, in one call.
+    /// Gives the run, to be collected, and the rounds.
+    ///
+    /// In a round every processor that could gather at the round's start does its whole tile, then each message in flight is
+    /// delivered. No other plan of whole tiles has fewer rounds. [`rounds_of`](crate::rounds_of) tells each tile's.
+    ///
+    /// Refusals: 1 to 9, 16 to 18 and 20.
+    ///
+    /// ```
+    /// # fn main() -> Result<(), rolwyddac::Refusal> {
+    /// let recipe = rolwyddac::Fields::new().dimension(4, 2, 2).dimension(1, 1, 0).distance(&[1, 0], 1).close(0, 0)?;
+    /// let (run, rounds) = rolwyddac::Run::by_rounds(&recipe, &[1; 4])?;
+    /// assert_eq!((run.collect()?, rounds), (vec![1, 2, 3, 4], 2));
+    /// # Ok(())
+    /// # }
+    /// ```
+    pub fn by_rounds(encoded: &'a [u8], source: &'a [u32]) -> Result<(Run<'a>, u32), Refusal> {
+        let plan = summary(encoded, Route::Direct)?;
+        let mut areas = Areas::sized(&plan);
+        let Areas { memories, buffer, progress, status } = &mut areas;
+        let mut out = [0; ROUNDS_WORDS];
+        rounds_words(encoded, source, memories, buffer, progress, status, &mut out)?;
+        Ok((Run { encoded, route: Route::Direct, source, plan, areas }, out[0]))
     }
 
     /// Goes on from areas that an earlier run left, as [`Run::into_areas`] gave them, with the same recipe, route and source.

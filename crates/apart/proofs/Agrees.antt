@@ -61,12 +61,12 @@ module _ (p : Plan) (s : State) (b t : ℕ) where
   after-away c n x ne e = same-then (same-back (after-other p s b t n c ne)) e
 
 -- ---- the lines of a turn
-waiting-law : (x : Bool) (g g′ : ℕ) (y y′ : Bool) → g ≡ g′ → (x ≡ true → y ≡ y′) → (x and (eqb g 0 and not y)) ≡ (x and (eqb g′ 0 and not y′))
+pub waiting-law : (x : Bool) (g g′ : ℕ) (y y′ : Bool) → g ≡ g′ → (x ≡ true → y ≡ y′) → (x and (eqb g 0 and not y)) ≡ (x and (eqb g′ 0 and not y′))
 unfolding _and_
 waiting-law true g g′ y y′ e f = rw (e, f refl)
 waiting-law false g g′ y y′ e f = refl
 
-lines-law : (f f′ l w w′ t t′ : Bool) → f ≡ f′ → w ≡ w′ → t ≡ t′
+pub lines-law : (f f′ l w w′ t t′ : Bool) → f ≡ f′ → w ≡ w′ → t ≡ t′
     → firstOf (line 10 (not f) ∷ line 11 (not l) ∷ line 12 w ∷ line 13 (not t) ∷ [])
     ≡ firstOf (line 10 (not f′) ∷ line 11 (not l) ∷ line 12 w′ ∷ line 13 (not t′) ∷ [])
 lines-law f f′ l w w′ t t′ ef ew et = rw (ef, ew, et)

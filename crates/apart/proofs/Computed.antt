@@ -21,7 +21,7 @@ use Rattle.apart.specs.Packets.{NetworkEvent, turnBy, postOf, arrivalOf,
 unfoldable firsts : List Event
 firsts = turnOf 0 ∷ turnOf 0 ∷ turnOf 0 ∷ turnOf 1 ∷ deliveryOf 0 ∷ deliveryOf 0 ∷ deliveryOf 12 ∷ turnOf 4 ∷ turnOf 1 ∷ []
 
-first-numbers : answersApart rows ones firsts ≡ 0 ∷ 0 ∷ 0 ∷ 12 ∷ 0 ∷ 14 ∷ 11 ∷ 11 ∷ 0 ∷ []
+first-numbers : answersApart (actApart rows ones) (startApart rows) firsts ≡ 0 ∷ 0 ∷ 0 ∷ 12 ∷ 0 ∷ 14 ∷ 11 ∷ 11 ∷ 0 ∷ []
 unfolding rows ones total-of those keep offset part put unpack unpackAll setAll storeAll pack allAt every some one countIf not pick _and_ _or_ firstOf
     setProgress tilesLeft fitRecord fit afterSends carryOut actionAt waiting turn fresh firsts startApart replaced turnApart sentOff arrived carried
     deliverApart actApart stateAfter answersTo
@@ -95,7 +95,8 @@ whole =
     turnOf 1 ∷ turnOf 0 ∷ turnOf 0 ∷ deliveryOf 0 ∷ turnOf 0 ∷ turnOf 0 ∷ deliveryOf 0 ∷ deliveryOf 0 ∷ turnOf 0 ∷ turnOf 0 ∷ turnOf 0 ∷
     turnOf 1 ∷ deliveryOf 1 ∷ deliveryOf 1 ∷ turnOf 1 ∷ turnOf 2 ∷ turnOf 1 ∷ turnOf 1 ∷ []
 
-whole-numbers : answersApart line3 source3 whole ≡ 12 ∷ 0 ∷ 0 ∷ 14 ∷ 0 ∷ 12 ∷ 0 ∷ 14 ∷ 0 ∷ 0 ∷ 0 ∷ 12 ∷ 0 ∷ 14 ∷ 0 ∷ 11 ∷ 0 ∷ 13 ∷ []
+whole-numbers : answersApart (actApart line3 source3) (startApart line3) whole
+    ≡ 12 ∷ 0 ∷ 0 ∷ 14 ∷ 0 ∷ 12 ∷ 0 ∷ 14 ∷ 0 ∷ 0 ∷ 0 ∷ 12 ∷ 0 ∷ 14 ∷ 0 ∷ 11 ∷ 0 ∷ 13 ∷ []
 unfolding line3 valueAt source3 those keep offset part put unpack unpackAll setAll storeAll pack allAt every some one countIf not pick _and_ _or_ firstOf
     setProgress tilesLeft fitRecord fit afterSends carryOut actionAt waiting turn fresh whole startApart replaced turnApart sentOff arrived carried
     deliverApart actApart stateAfter answersTo

@@ -8,22 +8,24 @@ use lib.ListN.{getD}
 use Rattle.base.specs.Tests.{_and_, _or_, not, every, some}
 use Rattle.base.specs.Lists.{In, member}
 use Rattle.machine.specs.Plan.{Sound}
-use Rattle.machine.specs.Machine.{sweep}
+use Rattle.machine.specs.Machine.{turn, sweep}
 use Rattle.machine.specs.Runs.{Event, total}
 use Rattle.machine.proofs.SoundTest.{allIn, isRising, knows, cellTest, ownTest, tileTest, heldTest, messageTest, soundTest, tested}
 use Rattle.machine.proofs.ComputedRun.{rows, ones, rounds, all-steps, that-is-all}
 use Rattle.machine.proofs.Example.{sound}
-use Rattle.apart.specs.Apart.{senderAt, takerAt, assembled, lastApart, stepsApart, Demand3Apart}
-use Rattle.apart.specs.Packets.{NetworkEvent, ByPackets}
+use Rattle.apart.specs.Apart.{senderAt, takerAt, assembled, startApart, actApart, lastApart, stepsApart, MachineApart}
+use Rattle.apart.specs.Packets.{NetworkEvent, MachineByPackets}
+use Rattle.apart.specs.Locality.{ReadsOwnWord, Local}
 use Rattle.apart.proofs.Theorem.{theorem-apart}
 use Rattle.apart.proofs.PacketTheorem.{theorem-packets}
+use Rattle.apart.proofs.Locality.{local}
 use Rattle.apart.proofs.Computed.{readsAt, valueAt, line3}
 
-holds : (events : List Event) → Demand3Apart rows ones events
+holds : (events : List Event) → MachineApart rows ones events
 holds events = theorem-apart rows sound ones events
 
 -- the whole run of 20 rounds, apart, gives the sweep
-all-apart : stepsApart rows ones (rounds 20) ≡ total rows
+all-apart : stepsApart (actApart rows ones) (startApart rows) (rounds 20) ≡ total rows
 all-apart = rw (holds (rounds 20) .same-answers) (all-steps ∙ sym that-is-all)
 
 assembles-sweep : assembled rows (lastApart rows ones (rounds 20)) ≡ sweep rows ones
@@ -47,9 +49,18 @@ at-home : senderAt line3 0 ≡ takerAt line3 0
 unfolding line3
 at-home = refl
 
-holds3 : (source : List ℕ) (events : List Event) → Demand3Apart line3 source events
+holds3 : (source : List ℕ) (events : List Event) → MachineApart line3 source events
 holds3 source events = theorem-apart line3 sound3 source events
 
 -- and with two events a delivery
-holds-packets : (source : List ℕ) (events : List NetworkEvent) → ByPackets line3 source events
+holds-packets : (source : List ℕ) (events : List NetworkEvent) → MachineByPackets line3 source events
 holds-packets source events = theorem-packets line3 sound3 source events
+
+-- its turns are local
+own3 : ReadsOwnWord line3
+unfolding line3 valueAt
+own3 source source′ memory zero e = e
+own3 source source′ memory (suc c) e = ap (λ (x : ℕ). x + getD memory c 0) e
+
+is-local : Local line3 (turn line3)
+is-local = local line3 sound3 own3

@@ -1,7 +1,6 @@
 -- Areas joined from the processors' own parts and records: collecting them gives what it gives on shared areas.
 use Prim.Native.Nat.{ℕ, zero, suc, _*_, _≤_, _<_}
 use mathlib.Core.Path.{_≡_, refl, sym, ap, _∙_}
-use mathlib.Core.Logic.{_⊎_, inl, inr, _≢_}
 use mathlib.Core.Bool.{Bool, true, false}
 use mathlib.Core.List.{List}
 use native.Mathlib.Omega.{arith}
@@ -13,10 +12,11 @@ use Rattle.base.specs.Tests.{pick}
 use Rattle.base.specs.Lists.{put}
 use Rattle.base.proofs.Tests.{and-true, every-all, some-same, tabulate-same}
 use Rattle.base.proofs.Lists.{piece-length, piece-same, piece-other}
-use Rattle.machine.specs.Plan.{Plan, Sound, count, tilesOf}
-use Rattle.machine.specs.Machine.{State, stateOf, setProgress, finishedOf, stageOf, sentOf, memoryOf, tilesLeft, fitRecord, fit, collected, collect, fresh}
+use Rattle.machine.specs.Plan.{Plan, Sound, count, tilesOf, words}
+use Rattle.machine.specs.Machine.{State, stateOf, setProgress, finishedOf, stageOf, sentOf, memoryOf, tilesLeft, fitRecord, fit, collected, collect}
 use Rattle.machine.proofs.Records.{SameRecord, same-then, record-other, record-length, finished-same, stage-same, sent-same, fitAt, fit-is}
-use Rattle.machine.proofs.Kept.{Inv, inv-fit, statusOf, memory-length}
+use Rattle.machine.proofs.Progress.{Shape}
+use Rattle.machine.proofs.Kept.{inv-fit, statusOf, memory-length}
 use Rattle.machine.proofs.Fresh.{inv-fresh, status-fresh}
 use Rattle.apart.specs.Apart.{Areas, joinTo, joined}
 use Rattle.apart.proofs.Together.{Together}
@@ -25,6 +25,8 @@ use Rattle.apart.proofs.Together.{Together}
 record Parts (p : Plan) (areas : Areas) (n : ℕ) (j : State) : Type 0 where
   memories : length (j .memories) ≡ p .processors * p .cells
   progress : length (j .progress) ≡ 3 * p .processors
+  buffer : length (j .buffer) ≡ words p
+  status : length (j .status) ≡ count p
   memory : (b : ℕ) → b < n → memoryOf p j b ≡ memoryOf p (areas b) b
   recorded : (b : ℕ) → b < n → SameRecord b (j .progress) (areas b .progress)
   unsent : (m : ℕ) → statusOf j m ≡ 0
@@ -57,6 +59,8 @@ module _ (p : Plan) (areas : Areas) (n : ℕ) (j : State) (low : n < p .processo
       record {
         memories = piece-length (j .memories) (p .cells) (p .processors) n (memoryOf p (areas n) n) (q .memories) long low ∙ q .memories;
         progress = record-length (j .progress) n (finishedOf (areas n) n) (stageOf (areas n) n) (sentOf (areas n) n) ∙ q .progress;
+        buffer = q .buffer;
+        status = q .status;
         memory = λ b h. memory-is b h (ℕ-discrete b n);
         recorded = λ b h. record-is b h (ℕ-discrete b n);
         unsent = q .unsent;
@@ -72,6 +76,8 @@ module _ {Q : ℕ → Type 0} (p : Plan) (so : Sound p) (source : List ℕ) (s :
       record {
         memories = inv-fresh p source .shape .memories;
         progress = inv-fresh p source .shape .progress;
+        buffer = inv-fresh p source .shape .buffer;
+        status = inv-fresh p source .shape .status;
         memory = λ b k. absurd (omega arith);
         recorded = λ b k. absurd (omega arith);
         unsent = status-fresh p;
@@ -90,6 +96,17 @@ module _ {Q : ℕ → Type 0} (p : Plan) (so : Sound p) (source : List ℕ) (s :
   record-shared : (b : ℕ) → b < p .processors → SameRecord b (j .progress) (s .progress)
   record-shared b h = same-then (to .each b h .recorded) (all .recorded b h)
 
+  fit-one : (b : ℕ) → b < p .processors → fitRecord p j b ≡ true
+  fit-one b h =
+      let a = record-shared b h .finished in
+      let c = record-shared b h .stage in
+      let d = record-shared b h .sent in
+      fit-is p j b ∙ (let e : fitAt p b (finishedOf j b) (stageOf j b) (sentOf j b) ≡ fitAt p b (finishedOf s b) (stageOf s b) (sentOf s b) = cc in e)
+      ∙ sym (fit-is p s b) ∙ to .inv .shape .records b h
+
+  pub joined-shape : Shape p j
+  joined-shape = record { memories = all .memories; buffer = all .buffer; progress = all .progress; status = all .status; records = fit-one }
+
   fit-joined : fit p j ≡ true
   unfolding fit
   fit-joined =
@@ -98,14 +115,6 @@ module _ {Q : ℕ → Type 0} (p : Plan) (so : Sound p) (source : List ℕ) (s :
     where
       low-status : (m : ℕ) → statusOf j m ≤ 3
       low-status m = omega (arith, all .unsent m)
-
-      fit-one : (b : ℕ) → b < p .processors → fitRecord p j b ≡ true
-      fit-one b h =
-          let a = record-shared b h .finished in
-          let c = record-shared b h .stage in
-          let d = record-shared b h .sent in
-          fit-is p j b ∙ (let e : fitAt p b (finishedOf j b) (stageOf j b) (sentOf j b) ≡ fitAt p b (finishedOf s b) (stageOf s b) (sentOf s b) = cc in e)
-          ∙ sym (fit-is p s b) ∙ to .inv .shape .records b h
 
   left-joined : (b : ℕ) → b < p .processors → tilesLeft p j b ≡ tilesLeft p s b
   unfolding tilesLeft

@@ -1,14 +1,14 @@
 -- A network's run beside the machine's: after every event they agree, and each event that gave 0 is a step there or posts one packet.
-use Prim.Native.Nat.{ℕ, suc, _+_, _≤_, _<_}
+use Prim.Native.Nat.{ℕ, _+_, _<_}
 use mathlib.Core.Path.{_≡_, refl, sym, ap, _∙_}
 use mathlib.Core.Logic.{_⊎_, inl, inr, _≢_}
 use mathlib.Core.Bool.{Bool, true}
 use mathlib.Core.List.{List, [], _∷_, _++_, map, append-nil}
 use native.Mathlib.Omega.{arith}
 use native.Mathlib.Decide.{decLt, ℕ-discrete}
-use lib.ListN.{length, getD, length-append, List·getD-append}
+use lib.ListN.{length, length-append, List·getD-append}
 use lib.Seq.{getD-append-seam}
-use lib.Dec.{ltb, eqb}
+use lib.Dec.{eqb}
 use borrow.Author.Tests.{eqb-true, eq-eqb, ne-eqb, lt-ltb, ltb-true}
 use Rattle.base.specs.Tests.{not, pick, one}
 use Rattle.base.specs.Lists.{countIf}
@@ -16,27 +16,27 @@ use Rattle.base.specs.Numbers.{line, firstOf}
 use Rattle.base.proofs.Tests.{not-true, not-false, true-not, pick-true, pick-false, one-true, one-false}
 use Rattle.base.proofs.Numbers.{first-nil, first-false, first-true, none-first}
 use Rattle.machine.specs.Plan.{Plan, Sound, count, heldBy}
-use Rattle.machine.specs.Machine.{State, placeOf, Answered, answered, deliver, turn, fresh}
+use Rattle.machine.specs.Machine.{State, placeOf, Answered, answered, fresh}
 use Rattle.machine.specs.Runs.{Event, turnOf, deliveryOf, act, stateAfter, answersTo, steps}
-use Rattle.machine.proofs.Turns.{Delivered, delivered}
+use Rattle.machine.proofs.Turns.{Delivered}
 use Rattle.machine.proofs.Kept.{Inv, swept, statusOf}
 use Rattle.machine.proofs.Events.{flying}
 use Rattle.machine.proofs.Along.{next-inv}
 use Rattle.machine.proofs.RunLaws.{after-append, steps-append, steps-one}
-use Rattle.apart.specs.Apart.{Areas, startApart, senderAt, takerAt, marked, sentOff, arrived}
+use Rattle.apart.specs.Apart.{Areas, senderAt, takerAt, marked, sentOff, arrived}
 use Rattle.apart.specs.Packets.{Packet, Network, networkOf, packetAt, statusAt, NetworkEvent, turnBy, postOf, arrivalOf, posted, post, arrive}
 use Rattle.apart.specs.Packets.{turnNetwork, actNetwork, startNetwork, machineEvents, machineRun}
 use Rattle.apart.proofs.Agrees.{Agrees, Nothing}
 use Rattle.apart.proofs.Together.{Together, start-together, turn-number, turn-agrees}
 use Rattle.apart.proofs.Transport.{deliver-goes}
-use Rattle.apart.proofs.Posting.{Has, not-posted, still-there, in-flight, post-home, post-away, comes, waits-for, arrives, sender-at, taker-at}
+use Rattle.apart.proofs.Posting.{Has, not-posted, still-there, in-flight, post-home, post-away, comes, waits-for, arrives, sender-at}
 
 -- ---- answers
-zero-answer : {A : Type 0} (n : ℕ) (new old : A) → n ≡ 0 → answered n new old ≡ record { number = 0; after = new }
+pub zero-answer : {A : Type 0} (n : ℕ) (new old : A) → n ≡ 0 → answered n new old ≡ record { number = 0; after = new }
 unfolding pick
 zero-answer n new old e = rw e refl
 
-some-answer : {A : Type 0} (n : ℕ) (new old : A) → n ≢ 0 → answered n new old ≡ record { number = n; after = old }
+pub some-answer : {A : Type 0} (n : ℕ) (new old : A) → n ≢ 0 → answered n new old ≡ record { number = n; after = old }
 some-answer {A} n new old k = ap (λ (x : A). record { number = n; after = x }) (pick-false _ _ _ (ne-eqb n 0 k))
 
 pub two-lines : (a b : Bool) → firstOf (line 11 (not a) ∷ line 14 (not b) ∷ []) ≡ 0 → (a ≡ true) × (b ≡ true)
@@ -48,9 +48,9 @@ two-lines a b z =
 pub lines-two : (a b : Bool) → a ≡ true → b ≡ true → firstOf (line 11 (not a) ∷ line 14 (not b) ∷ []) ≡ 0
 lines-two a b e f = first-false 11 _ _ (not-true e) ∙ first-false 14 _ _ (not-true f) ∙ first-nil
 
-turn-is : (p : Plan) (n : Network) (b : ℕ) → machineEvents p n (turnBy b) ≡ turnOf b ∷ []
+turn-is : (p : Plan) (n : Network) (b : ℕ) → (x : ℕ) → machineEvents p n (turnBy b) x ≡ turnOf b ∷ []
 unfolding machineEvents
-turn-is p n b = refl
+turn-is p n b x = refl
 
 -- a delivery that gives 0 was in flight
 pub was-flying : (p : Plan) (s : State) (m : ℕ) (a : Answered State) → Delivered p s m a → a .number ≡ 0 → (m < count p) × (statusOf s m ≡ 1)
@@ -58,6 +58,52 @@ was-flying p s m a (Delivered.unfit h) z = absurd (omega arith)
 was-flying p s m a Delivered.no-such z = absurd (omega arith)
 was-flying p s m a (Delivered.not-flying h) z = absurd (omega arith)
 was-flying p s m a (Delivered.delivers lo q) z = (lo, q)
+
+-- ---- when a message is posted, and when a packet is taken in
+module _ (p : Plan) (n : Network) where
+  module _ (m : ℕ) where
+    pub post-gives : m < count p → statusAt (n .areas) (senderAt p m) m ≡ 1 → post p n m .number ≡ 0
+    unfolding post
+    post-gives lo y = lines-two _ _ (lt-ltb m (count p) lo) (eq-eqb _ 1 y)
+
+    pub post-asks : post p n m .number ≡ 0 → (m < count p) × (statusAt (n .areas) (senderAt p m) m ≡ 1)
+    unfolding post
+    post-asks z = let k = two-lines _ _ z in (ltb-true _ _ (k .0), eqb-true _ _ (k .1))
+
+    pub post-zero : post p n m .number ≡ 0
+        → post p n m ≡ record { number = 0; after = networkOf (sentOff p (n .areas) m) (n .packets ++ posted p (n .areas) m) }
+    unfolding post
+    post-zero z = zero-answer _ _ _ z
+
+    pub post-some : post p n m .number ≢ 0 → post p n m ≡ record { number = post p n m .number; after = n }
+    unfolding post
+    post-some k = some-answer _ _ _ k
+
+  module _ (k : ℕ) where
+    pub arrive-gives : k < length (n .packets)
+        → statusAt (n .areas) (takerAt p (packetAt (n .packets) k .message)) (packetAt (n .packets) k .message) ≡ 0
+        → arrive p n k .number ≡ 0
+    unfolding arrive
+    arrive-gives lo y = lines-two _ _ (lt-ltb k _ lo) (eq-eqb _ 0 y)
+
+    pub arrive-asks : arrive p n k .number ≡ 0
+        → (k < length (n .packets)) × (statusAt (n .areas) (takerAt p (packetAt (n .packets) k .message)) (packetAt (n .packets) k .message) ≡ 0)
+    unfolding arrive
+    arrive-asks z = let q = two-lines _ _ z in (ltb-true _ _ (q .0), eqb-true _ _ (q .1))
+
+    pub arrive-zero : arrive p n k .number ≡ 0 → arrive p n k
+        ≡ record { number = 0; after = networkOf (arrived p (n .areas) (packetAt (n .packets) k .message) (packetAt (n .packets) k .words)) (n .packets) }
+    unfolding arrive
+    arrive-zero z = zero-answer _ _ _ z
+
+    pub arrive-some : arrive p n k .number ≢ 0 → arrive p n k ≡ record { number = arrive p n k .number; after = n }
+    unfolding arrive
+    arrive-some q = some-answer _ _ _ q
+
+    pub arrive-away : k < length (n .packets)
+        → statusAt (n .areas) (takerAt p (packetAt (n .packets) k .message)) (packetAt (n .packets) k .message) ≢ 0 → arrive p n k .number ≡ 14
+    unfolding arrive
+    arrive-away lo q = first-false 11 _ _ (not-true (lt-ltb k _ lo)) ∙ first-true 14 _ _ (not-false (ne-eqb _ 0 q))
 
 -- ---- a network beside shared areas
 pub record Correct (p : Plan) (source : List ℕ) (x : Packet) : Type 0 where
@@ -193,23 +239,6 @@ module _ (p : Plan) (so : Sound p) (source : List ℕ) (s : State) (n : Network)
 
   -- ---- a post
   module _ (m : ℕ) where
-    pub post-gives : m < count p → statusAt (n .areas) (senderAt p m) m ≡ 1 → post p n m .number ≡ 0
-    unfolding post
-    post-gives lo y = lines-two _ _ (lt-ltb m (count p) lo) (eq-eqb _ 1 y)
-
-    pub post-asks : post p n m .number ≡ 0 → (m < count p) × (statusAt (n .areas) (senderAt p m) m ≡ 1)
-    unfolding post
-    post-asks z = let k = two-lines _ _ z in (ltb-true _ _ (k .0), eqb-true _ _ (k .1))
-
-    post-zero : post p n m .number ≡ 0
-        → post p n m ≡ record { number = 0; after = networkOf (sentOff p (n .areas) m) (n .packets ++ posted p (n .areas) m) }
-    unfolding post
-    post-zero z = zero-answer _ _ _ z
-
-    post-some : post p n m .number ≢ 0 → post p n m ≡ record { number = post p n m .number; after = n }
-    unfolding post
-    post-some k = some-answer _ _ _ k
-
     abbrev packet : Packet
     packet = record { message = m; words = placeOf p (n .areas (senderAt p m) .buffer) m }
 
@@ -221,15 +250,15 @@ module _ (p : Plan) (so : Sound p) (source : List ℕ) (s : State) (n : Network)
     unfolding posted
     posted-away k = pick-false _ _ _ (ne-eqb _ _ k)
 
-    events-none : post p n m .number ≢ 0 → machineEvents p n (postOf m) ≡ []
+    events-none : post p n m .number ≢ 0 → machineEvents p n (postOf m) (post p n m .number) ≡ []
     unfolding machineEvents
     events-none k = pick-false _ _ _ (ne-eqb _ 0 k)
 
-    events-home : post p n m .number ≡ 0 → senderAt p m ≡ takerAt p m → machineEvents p n (postOf m) ≡ deliveryOf m ∷ []
+    events-home : post p n m .number ≡ 0 → senderAt p m ≡ takerAt p m → machineEvents p n (postOf m) (post p n m .number) ≡ deliveryOf m ∷ []
     unfolding machineEvents
     events-home z e = pick-true _ _ _ (eq-eqb _ 0 z) ∙ pick-true _ _ _ (eq-eqb _ _ e)
 
-    events-away : post p n m .number ≡ 0 → senderAt p m ≢ takerAt p m → machineEvents p n (postOf m) ≡ []
+    events-away : post p n m .number ≡ 0 → senderAt p m ≢ takerAt p m → machineEvents p n (postOf m) (post p n m .number) ≡ []
     unfolding machineEvents
     events-away z k = pick-true _ _ _ (eq-eqb _ 0 z) ∙ pick-false _ _ _ (ne-eqb _ _ k)
 
@@ -264,48 +293,28 @@ module _ (p : Plan) (so : Sound p) (source : List ℕ) (s : State) (n : Network)
             counted = rw (no-steps, length-append (n .packets) (packet ∷ []), one-true (eq-eqb 0 0 refl)) (omega arith);
           }
 
-    pub post-steps : Stepped p source s n (machineEvents p n (postOf m)) (post p n m)
+    pub post-steps : Stepped p source s n (machineEvents p n (postOf m) (post p n m .number)) (post p n m)
     post-steps = go (ℕ-discrete (post p n m .number) 0) (ℕ-discrete (senderAt p m) (takerAt p m))
       where
-        go : Dec (post p n m .number ≡ 0) → Dec (senderAt p m ≡ takerAt p m) → Stepped p source s n (machineEvents p n (postOf m)) (post p n m)
-        go (no k) d = rw (events-none k, post-some k) (refused _ k)
+        go : Dec (post p n m .number ≡ 0) → Dec (senderAt p m ≡ takerAt p m)
+            → Stepped p source s n (machineEvents p n (postOf m) (post p n m .number)) (post p n m)
+        go (no k) d = rw (events-none k, post-some p n m k) (refused _ k)
         go (yes z) (yes e) =
-            rw (events-home z e, post-zero z, posted-home e)
-            (delivery-steps m (post-asks z .0) (x (post-asks z .0) (post-asks z .1)) (sentOff p (n .areas) m)
-            (post-home p so source s (n .areas) inv (fo .to .each) m (post-asks z .0) (post-asks z .1) e))
-        go (yes z) (no k) = rw (events-away z k, post-zero z, posted-away k) (post-packet (post-asks z .0) (post-asks z .1) k)
+            rw (events-home z e, post-zero p n m z, posted-home e)
+            (delivery-steps m (post-asks p n m z .0) (x (post-asks p n m z .0) (post-asks p n m z .1)) (sentOff p (n .areas) m)
+            (post-home p so source s (n .areas) inv (fo .to .each) m (post-asks p n m z .0) (post-asks p n m z .1) e))
+        go (yes z) (no k) = rw (events-away z k, post-zero p n m z, posted-away k) (post-packet (post-asks p n m z .0) (post-asks p n m z .1) k)
 
   -- ---- an arrival
   module _ (k : ℕ) where
     abbrev it : Packet
     it = packetAt (n .packets) k
 
-    pub arrive-gives : k < length (n .packets) → statusAt (n .areas) (takerAt p (it .message)) (it .message) ≡ 0 → arrive p n k .number ≡ 0
-    unfolding arrive
-    arrive-gives lo y = lines-two _ _ (lt-ltb k _ lo) (eq-eqb _ 0 y)
-
-    pub arrive-asks : arrive p n k .number ≡ 0 → (k < length (n .packets)) × (statusAt (n .areas) (takerAt p (it .message)) (it .message) ≡ 0)
-    unfolding arrive
-    arrive-asks z = let q = two-lines _ _ z in (ltb-true _ _ (q .0), eqb-true _ _ (q .1))
-
-    arrive-zero : arrive p n k .number ≡ 0 → arrive p n k
-        ≡ record { number = 0; after = networkOf (arrived p (n .areas) (it .message) (it .words)) (n .packets) }
-    unfolding arrive
-    arrive-zero z = zero-answer _ _ _ z
-
-    pub arrive-some : arrive p n k .number ≢ 0 → arrive p n k ≡ record { number = arrive p n k .number; after = n }
-    unfolding arrive
-    arrive-some q = some-answer _ _ _ q
-
-    pub arrive-away : k < length (n .packets) → statusAt (n .areas) (takerAt p (it .message)) (it .message) ≢ 0 → arrive p n k .number ≡ 14
-    unfolding arrive
-    arrive-away lo q = first-false 11 _ _ (not-true (lt-ltb k _ lo)) ∙ first-true 14 _ _ (not-false (ne-eqb _ 0 q))
-
-    arrival-none : arrive p n k .number ≢ 0 → machineEvents p n (arrivalOf k) ≡ []
+    arrival-none : arrive p n k .number ≢ 0 → machineEvents p n (arrivalOf k) (arrive p n k .number) ≡ []
     unfolding machineEvents
     arrival-none q = pick-false _ _ _ (ne-eqb _ 0 q)
 
-    arrival-one : arrive p n k .number ≡ 0 → machineEvents p n (arrivalOf k) ≡ deliveryOf (it .message) ∷ []
+    arrival-one : arrive p n k .number ≡ 0 → machineEvents p n (arrivalOf k) (arrive p n k .number) ≡ deliveryOf (it .message) ∷ []
     unfolding machineEvents
     arrival-one z = pick-true _ _ _ (eq-eqb _ 0 z)
 
@@ -325,22 +334,22 @@ module _ (p : Plan) (so : Sound p) (source : List ℕ) (s : State) (n : Network)
       stays = still-there p so source s (n .areas) inv (fo .to .each) (it .message) (fo .right k lo .low) has-it (fo .right k lo .away) (it .words)
           (fo .right k lo .words)
 
-    pub arrive-steps : Stepped p source s n (machineEvents p n (arrivalOf k)) (arrive p n k)
+    pub arrive-steps : Stepped p source s n (machineEvents p n (arrivalOf k) (arrive p n k .number)) (arrive p n k)
     arrive-steps = go (ℕ-discrete (arrive p n k .number) 0)
       where
-        go : Dec (arrive p n k .number ≡ 0) → Stepped p source s n (machineEvents p n (arrivalOf k)) (arrive p n k)
-        go (no q) = rw (arrival-none q, arrive-some q) (refused _ q)
+        go : Dec (arrive p n k .number ≡ 0) → Stepped p source s n (machineEvents p n (arrivalOf k) (arrive p n k .number)) (arrive p n k)
+        go (no q) = rw (arrival-none q, arrive-some p n k q) (refused _ q)
         go (yes z) =
-            rw (arrival-one z, arrive-zero z)
-            (delivery-steps (it .message) (fo .right k (arrive-asks z .0) .low) (came (arrive-asks z .0) (arrive-asks z .1))
+            rw (arrival-one z, arrive-zero p n k z)
+            (delivery-steps (it .message) (fo .right k (arrive-asks p n k z .0) .low) (came (arrive-asks p n k z .0) (arrive-asks p n k z .1))
             (arrived p (n .areas) (it .message) (it .words))
-            (arrives p so source s (n .areas) inv (fo .to .each) (it .message) (fo .right k (arrive-asks z .0) .low) (has-it (arrive-asks z .0))
-            (fo .right k (arrive-asks z .0) .away) (it .words) (fo .right k (arrive-asks z .0) .words)))
+            (arrives p so source s (n .areas) inv (fo .to .each) (it .message) (fo .right k (arrive-asks p n k z .0) .low) (has-it (arrive-asks p n k z .0))
+            (fo .right k (arrive-asks p n k z .0) .away) (it .words) (fo .right k (arrive-asks p n k z .0) .words)))
 
   -- ---- any event
-  pub event-steps : (e : NetworkEvent) → Stepped p source s n (machineEvents p n e) (actNetwork p source n e)
+  pub event-steps : (e : NetworkEvent) → Stepped p source s n (machineEvents p n e (actNetwork p source n e .number)) (actNetwork p source n e)
   unfolding actNetwork
-  event-steps (turnBy b) = rw (turn-is p n b) (turn-steps b)
+  event-steps (turnBy b) = rw (turn-is p n b _) (turn-steps b)
   event-steps (postOf m) = post-steps m
   event-steps (arrivalOf k) = arrive-steps k
 
@@ -350,21 +359,27 @@ module _ (p : Plan) (so : Sound p) (source : List ℕ) where
   start-follows = record
       { to = start-together p source (λ m h. omega (arith, h .low)); right = λ k h. absurd (omega arith); once = λ i k h l e. absurd (omega arith) }
 
-  pub run-follows : (es : List NetworkEvent) (s : State) (n : Network) → Follows p source s n
-      → Follows p source (stateAfter (act p source) s (machineRun p source n es)) (stateAfter (actNetwork p source) n es)
-  unfolding machineRun stateAfter
-  run-follows [] s n fo = fo
-  run-follows (e ∷ es) s n fo =
-      rw (after-append (act p source) s (machineEvents p n e) (machineRun p source (actNetwork p source n e .after) es))
-      (run-follows es _ _ (event-steps p so source s n fo e .follows))
+  -- calls that answer as the network does, beside the machine
+  module _ (acts : Network → NetworkEvent → Answered Network)
+      (same : (s : State) (n : Network) → Follows p source s n → (e : NetworkEvent) → acts n e ≡ actNetwork p source n e) where
+    stepped : (s : State) (n : Network) → Follows p source s n → (e : NetworkEvent)
+        → Stepped p source s n (machineEvents p n e (acts n e .number)) (acts n e)
+    stepped s n fo e = rw (same s n fo e) (event-steps p so source s n fo e)
 
-  pub run-counted : (es : List NetworkEvent) (s : State) (n : Network) → Follows p source s n
-      → steps (actNetwork p source) n es + length (n .packets)
-      ≡ steps (act p source) s (machineRun p source n es) + length (stateAfter (actNetwork p source) n es .packets)
-  unfolding machineRun stateAfter answersTo countIf
-  run-counted [] s n fo = refl
-  run-counted (e ∷ es) s n fo =
-      let a = run-counted es _ _ (event-steps p so source s n fo e .follows) in
-      let b = event-steps p so source s n fo e .counted in
-      let c = steps-append (act p source) s (machineEvents p n e) (machineRun p source (actNetwork p source n e .after) es) in
-      omega arith
+    pub run-follows : (es : List NetworkEvent) (s : State) (n : Network) → Follows p source s n
+        → Follows p source (stateAfter (act p source) s (machineRun acts p n es)) (stateAfter acts n es)
+    unfolding machineRun stateAfter
+    run-follows [] s n fo = fo
+    run-follows (e ∷ es) s n fo =
+        rw (after-append (act p source) s (machineEvents p n e (acts n e .number)) (machineRun acts p (acts n e .after) es))
+        (run-follows es _ _ (stepped s n fo e .follows))
+
+    pub run-counted : (es : List NetworkEvent) (s : State) (n : Network) → Follows p source s n
+        → steps acts n es + length (n .packets) ≡ steps (act p source) s (machineRun acts p n es) + length (stateAfter acts n es .packets)
+    unfolding machineRun stateAfter answersTo countIf
+    run-counted [] s n fo = refl
+    run-counted (e ∷ es) s n fo =
+        let a = run-counted es _ _ (stepped s n fo e .follows) in
+        let b = stepped s n fo e .counted in
+        let c = steps-append (act p source) s (machineEvents p n e (acts n e .number)) (machineRun acts p (acts n e .after) es) in
+        omega arith

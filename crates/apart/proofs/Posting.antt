@@ -1,11 +1,11 @@
 -- Each event of a network beside the machine on shared areas: posts and arrivals, and what they leave in agreement.
-use Prim.Native.Nat.{ℕ, suc, _+_, _≤_, _<_}
+use Prim.Native.Nat.{ℕ, _≤_, _<_}
 use mathlib.Core.Path.{_≡_, refl, sym, ap, _∙_}
 use mathlib.Core.Logic.{_⊎_, inl, inr, _≢_}
-use mathlib.Core.List.{List, [], _∷_, _++_, map}
+use mathlib.Core.List.{List, map}
 use native.Mathlib.Omega.{arith}
-use native.Mathlib.Decide.{decLt, ℕ-discrete}
-use lib.ListN.{length, getD, length-append}
+use native.Mathlib.Decide.{ℕ-discrete}
+use lib.ListN.{length}
 use Rattle.base.proofs.Lists.{part-length}
 use Rattle.machine.specs.Plan.{Plan, Sound, count, senderOf, takerOf, heldBy, offset}
 use Rattle.machine.specs.Machine.{State, placeOf}

@@ -1,18 +1,17 @@
 -- Carrying a message is made of the machine's own calls and a copy of words and status.
-use Prim.Native.Nat.{ℕ, _+_, _≤_, _<_}
+use Prim.Native.Nat.{ℕ, _≤_, _<_}
 use mathlib.Core.Path.{_≡_, refl, sym, ap, _∙_}
 use mathlib.Core.Logic.{_≢_}
 use mathlib.Core.Bool.{true}
-use mathlib.Core.List.{List, _++_}
+use mathlib.Core.List.{List}
 use native.Mathlib.Omega.{arith}
 use native.Mathlib.Decide.{ℕ-discrete}
-use lib.ListN.{length, take, drop, take-append-drop}
+use lib.ListN.{length}
 use lib.Seq.{getD-set-same, getD-set-other, set-set}
 use lib.Dec.{leb}
 use borrow.Author.Tests.{eq-eqb, ne-eqb, le-leb}
-use Rattle.base.specs.Lists.{part, put}
 use Rattle.base.proofs.Tests.{and-true, every-all, not-true, pick-true, pick-false}
-use Rattle.base.proofs.Lists.{part-length}
+use Rattle.base.proofs.Lists.{part-length, put-part}
 use Rattle.base.proofs.Numbers.{first-false}
 use Rattle.machine.specs.Plan.{Plan, Sound, count, senderOf, takerOf, heldBy, words, offset}
 use Rattle.machine.specs.Machine.{State, placeOf, fitRecord, tilesLeft, fit, Answered, deliver, fresh}
@@ -28,17 +27,6 @@ use Rattle.apart.proofs.Letters.{replaced-same, replaced-other}
 use Rattle.apart.proofs.Agrees.{Agrees, Nothing, agrees-fit}
 use Rattle.apart.proofs.Together.{Together, start-together, run-together}
 
--- a part put back where it was
-put-part : (l : List ℕ) (i n : ℕ) → i + n ≤ length l → put l i (part l i n) ≡ l
-unfolding put part
-put-part l i n h =
-    ap (λ (k : ℕ). take i l ++ (part l i n ++ drop k (drop i l))) (part-length l i n h)
-    ∙ ap (λ (x : List ℕ). take i l ++ x) (joined (drop i l))
-    ∙ take-append-drop i l
-  where
-    joined : (x : List ℕ) → take n x ++ drop n x ≡ x
-    joined x = take-append-drop n x
-
 pub deliver-goes : (p : Plan) (r : State) (m : ℕ) → deliver p r m .number ≡ 0 → deliver p r m .after ≡ marked r m
 unfolding deliver
 deliver-goes p r m z = pick-true _ _ _ (eq-eqb _ 0 z)
@@ -52,7 +40,7 @@ received-own p r m len lo =
           (r .status) m 2 2,
     )
 
-both-parts : (x : Answered State) (s : State) → x .number ≡ 0 → x .after ≡ s → x ≡ record { number = 0; after = s }
+pub both-parts : (x : Answered State) (s : State) → x .number ≡ 0 → x .after ≡ s → x ≡ record { number = 0; after = s }
 both-parts x s e f = number-part (x .number) e ∙ after-part (x .after) f
   where
     number-part : (n : ℕ) → n ≡ 0 → _≡_ {A = Answered State} (record { number = n; after = x .after }) (record { number = 0; after = x .after })
@@ -86,12 +74,12 @@ module _ (p : Plan) (r : State) (m : ℕ) (ws : List ℕ) (lo : m < count p) (sh
   copied-leaves : deliver p (copied p r m ws) m .after ≡ received p r m ws
   copied-leaves = deliver-goes p (copied p r m ws) m copied-goes ∙ rw (set-set (r .status) m 1 2)
 
-  copied-both : deliver p (copied p r m ws) m ≡ record { number = 0; after = received p r m ws }
+  pub copied-both : deliver p (copied p r m ws) m ≡ record { number = 0; after = received p r m ws }
   copied-both = both-parts (deliver p (copied p r m ws) m) (received p r m ws) copied-goes copied-leaves
 
 -- who has what once message m is carried
 module _ (p : Plan) (areas : Areas) (m : ℕ) where
-  carried-home : senderAt p m ≡ takerAt p m → length (areas (senderAt p m) .buffer) ≡ words p → m < count p → carried p areas m (senderAt p m)
+  pub carried-home : senderAt p m ≡ takerAt p m → length (areas (senderAt p m) .buffer) ≡ words p → m < count p → carried p areas m (senderAt p m)
       ≡ marked (areas (senderAt p m)) m
   unfolding carried arrived sentOff
   carried-home e len lo = law (senderAt p m) (takerAt p m) e (received-own p (areas (senderAt p m)) m len lo)
@@ -116,19 +104,19 @@ module _ (p : Plan) (areas : Areas) (m : ℕ) where
       ∙ ap (λ (x : State). received p x m (placeOf p (areas (senderAt p m) .buffer) m))
       (replaced-other areas (senderAt p m) _ (takerAt p m) (λ e. n (sym e)))
 
-  carried-third : (c : ℕ) → c ≢ senderAt p m → c ≢ takerAt p m → carried p areas m c ≡ areas c
+  pub carried-third : (c : ℕ) → c ≢ senderAt p m → c ≢ takerAt p m → carried p areas m c ≡ areas c
   unfolding carried arrived sentOff
   carried-third c n k = replaced-other _ (takerAt p m) _ c k ∙ replaced-other areas (senderAt p m) _ c n
 
-  deliver-after : deliverApart p areas m .number ≡ 0 → deliverApart p areas m .after ≡ carried p areas m
+  pub deliver-after : deliverApart p areas m .number ≡ 0 → deliverApart p areas m .after ≡ carried p areas m
   unfolding deliverApart
   deliver-after z = pick-true _ _ _ (eq-eqb _ 0 z)
 
-  deliver-stays : deliverApart p areas m .number ≢ 0 → deliverApart p areas m .after ≡ areas
+  pub deliver-stays : deliverApart p areas m .number ≢ 0 → deliverApart p areas m .after ≡ areas
   unfolding deliverApart
   deliver-stays n = pick-false _ _ _ (ne-eqb _ 0 n)
 
-  same-number : fit p (areas (senderAt p m)) ≡ true → deliver p (areas (senderAt p m)) m .number ≡ deliverApart p areas m .number
+  pub same-number : fit p (areas (senderAt p m)) ≡ true → deliver p (areas (senderAt p m)) m .number ≡ deliverApart p areas m .number
   unfolding deliver deliverApart
   same-number f = first-false 10 _ _ (not-true f)
 

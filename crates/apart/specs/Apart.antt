@@ -11,7 +11,7 @@ use Rattle.base.specs.Lists.{put}
 use Rattle.base.specs.Numbers.{Line, line, firstOf}
 use Rattle.machine.specs.Plan.{Plan, count, senderOf, takerOf, offset}
 use Rattle.machine.specs.Machine.{State, stateOf, finishedOf, stageOf, sentOf, setProgress, memoryOf, placeOf, tilesLeft, gather, carryOut, Answered}
-use Rattle.machine.specs.Machine.{answered, turn, fresh, sweep}
+use Rattle.machine.specs.Machine.{answered, turn, collect, fresh, sweep}
 use Rattle.machine.specs.Runs.{Event, turnOf, deliveryOf, act, total, program, turnsOf, timesOf, calculates, sends, takes, deliveriesOf, last, answers}
 use Rattle.machine.specs.Runs.{stateAfter, answersTo, steps}
 
@@ -95,41 +95,38 @@ joinTo p areas (suc b) =
 abbrev pub joined : Plan → Areas → State
 joined p areas = joinTo p areas (p .processors)
 
--- ---- the claim
+-- ---- the claim, for `acts` on the processors' own areas beside `shared` on shared ones: the machine's, or any calls that answer alike
 
 -- a turn of processor b that gave 0, after k such turns of b: the action named, carried out by the machine's rule on b's own areas, the others' untouched
-pub record CarriedOutApart (p : Plan) (source : List ℕ) (areas : Areas) (b k : ℕ) : Type 0 where
+pub record CarriedOutApart (p : Plan) (source : List ℕ) (acts : Areas → Event → Answered Areas) (areas : Areas) (b k : ℕ) : Type 0 where
   pub named : k < length (program p b)
-  pub by-rule : actApart p source areas (turnOf b) .after ≡ replaced areas b (carryOut p source (areas b) b (getD (program p b) k (gather 0)))
+  pub by-rule : acts areas (turnOf b) .after ≡ replaced areas b (carryOut p source (areas b) b (getD (program p b) k (gather 0)))
 
-module _ (p : Plan) (source : List ℕ) (events : List Event) where
-  abbrev pub lastApart : Areas
-  lastApart = last (actApart p source) (startApart p) events
+module _ (acts : Areas → Event → Answered Areas) (start : Areas) (events : List Event) where
+  abbrev pub areasAfter : Areas
+  areasAfter = last acts start events
 
   abbrev pub answersApart : List ℕ
-  answersApart = answers (actApart p source) (startApart p) events
+  answersApart = answers acts start events
 
   abbrev pub stepsApart : ℕ
-  stepsApart = steps (actApart p source) (startApart p) events
+  stepsApart = steps acts start events
 
-  -- what the machine on shared areas has after the same events
-  abbrev pub lastShared : State
-  lastShared = last (act p source) (fresh p) events
-
-  pub record Demand3Apart : Type 0 where
-    -- the answers are, one by one, those of the machine on shared areas
-    pub same-answers : answersApart ≡ answers (act p source) (fresh p) events
+  pub record Demand3Apart (p : Plan) (source : List ℕ) (shared : State → Event → Answered State) (collects : State → List ℕ → Answered (List ℕ))
+      : Type 0 where
+    -- the answers are, one by one, those on shared areas
+    pub same-answers : answersApart ≡ answers shared (fresh p) events
     -- each processor has its part of the shared memories and its record
-    pub same-memory : (b : ℕ) → b < p .processors → memoryOf p (lastApart b) b ≡ memoryOf p lastShared b
-    pub same-finished : (b : ℕ) → b < p .processors → finishedOf (lastApart b) b ≡ finishedOf lastShared b
-    pub same-stage : (b : ℕ) → b < p .processors → stageOf (lastApart b) b ≡ stageOf lastShared b
-    pub same-sent : (b : ℕ) → b < p .processors → sentOf (lastApart b) b ≡ sentOf lastShared b
+    pub same-memory : (b : ℕ) → b < p .processors → memoryOf p (areasAfter b) b ≡ memoryOf p (last shared (fresh p) events) b
+    pub same-finished : (b : ℕ) → b < p .processors → finishedOf (areasAfter b) b ≡ finishedOf (last shared (fresh p) events) b
+    pub same-stage : (b : ℕ) → b < p .processors → stageOf (areasAfter b) b ≡ stageOf (last shared (fresh p) events) b
+    pub same-sent : (b : ℕ) → b < p .processors → sentOf (areasAfter b) b ≡ sentOf (last shared (fresh p) events) b
     -- demand 3, line by line as in the machine's Runs
     pub bound : stepsApart ≤ total p
-    pub goes-on : stepsApart < total p → (e : Event) × (actApart p source lastApart e .number ≡ 0)
-    pub then-fewer : (e : Event) → actApart p source lastApart e .number ≡ 0 → stepsApart < total p
-    pub can-collect : stepsApart ≡ total p → (grid : List ℕ) → length grid ≡ p .cells → collectApart p lastApart grid .number ≡ 0
-    pub then-all : (grid : List ℕ) → length grid ≡ p .cells → collectApart p lastApart grid .number ≡ 0 → stepsApart ≡ total p
+    pub goes-on : stepsApart < total p → (e : Event) × (acts areasAfter e .number ≡ 0)
+    pub then-fewer : (e : Event) → acts areasAfter e .number ≡ 0 → stepsApart < total p
+    pub can-collect : stepsApart ≡ total p → (grid : List ℕ) → length grid ≡ p .cells → collectApart p areasAfter grid .number ≡ 0
+    pub then-all : (grid : List ℕ) → length grid ≡ p .cells → collectApart p areasAfter grid .number ≡ 0 → stepsApart ≡ total p
     pub calculated : (c : ℕ) → c < p .cells → timesOf p events answersApart (calculates p c) ≤ 1
     pub not-calculated : (c : ℕ) → c < p .cells → p .inside c ≡ false → timesOf p events answersApart (calculates p c) ≡ 0
     pub sent : (m : ℕ) → m < count p → timesOf p events answersApart (sends m) ≤ 1
@@ -140,10 +137,25 @@ module _ (p : Plan) (source : List ℕ) (events : List Event) where
     pub all-delivered : stepsApart ≡ total p → (m : ℕ) → m < count p → deliveriesOf m events answersApart ≡ 1
     pub all-taken : stepsApart ≡ total p → (m : ℕ) → m < count p → timesOf p events answersApart (takes p m) ≡ 1
     pub carried-out : (before after : List Event) (b : ℕ) → events ≡ before ++ (turnOf b ∷ after)
-        → actApart p source (stateAfter (actApart p source) (startApart p) before) (turnOf b) .number ≡ 0
-        → CarriedOutApart p source (stateAfter (actApart p source) (startApart p) before) b
-        (turnsOf b before (answersTo (actApart p source) (startApart p) before))
+        → acts (stateAfter acts start before) (turnOf b) .number ≡ 0
+        → CarriedOutApart p source acts (stateAfter acts start before) b (turnsOf b before (answersTo acts start before))
     pub no-more : (b : ℕ) → turnsOf b events answersApart ≤ length (program p b)
     -- the grid made of the processors' own parts is the sequential sweep
-    pub grid : stepsApart ≡ total p → assembled p lastApart ≡ sweep p source
-    pub collected : stepsApart ≡ total p → (old : List ℕ) → length old ≡ p .cells → collectApart p lastApart old .after ≡ sweep p source
+    pub grid : stepsApart ≡ total p → assembled p areasAfter ≡ sweep p source
+    pub collected : stepsApart ≡ total p → (old : List ℕ) → length old ≡ p .cells → collectApart p areasAfter old .after ≡ sweep p source
+    -- collecting on areas joined from the parts answers as on shared ones
+    pub joins : (old : List ℕ) → collects (joined p areasAfter) old ≡ collects (last shared (fresh p) events) old
+    pub joined-grid : stepsApart ≡ total p → (old : List ℕ) → length old ≡ p .cells
+        → collects (joined p areasAfter) old ≡ record { number = 0; after = sweep p source }
+
+-- ---- of the machine
+
+abbrev pub lastApart : Plan → List ℕ → List Event → Areas
+lastApart p source events = areasAfter (actApart p source) (startApart p) events
+
+-- the same events on shared areas
+abbrev pub lastShared : Plan → List ℕ → List Event → State
+lastShared p source events = last (act p source) (fresh p) events
+
+abbrev pub MachineApart : Plan → List ℕ → List Event → Type 0
+MachineApart p source events = Demand3Apart (actApart p source) (startApart p) events p source (act p source) (collect p)

@@ -1,3 +1,6 @@
 pub mod Apart
 pub mod Transport
 pub mod Packets
+pub mod Locality
+pub mod Own
+pub mod OwnRuns

@@ -6,11 +6,11 @@ use mathlib.Core.Logic.{_≢_}
 use mathlib.Core.List.{List, [], _∷_, _++_, map}
 use lib.ListN.{length, getD}
 use lib.Dec.{ltb, eqb}
-use Rattle.base.specs.Tests.{not, pick}
+use Rattle.base.specs.Tests.{not, pick, keep}
 use Rattle.base.specs.Numbers.{Line, line, firstOf}
 use Rattle.machine.specs.Plan.{Plan, count, heldBy}
 use Rattle.machine.specs.Machine.{State, finishedOf, stageOf, sentOf, memoryOf, placeOf, Answered, answered, collect, fresh, sweep}
-use Rattle.machine.specs.Runs.{Event, turnOf, deliveryOf, act, total, stateAfter, steps, last, Demand3}
+use Rattle.machine.specs.Runs.{Event, turnOf, deliveryOf, act, total, steps, last, Demand3}
 use Rattle.apart.specs.Apart.{Areas, startApart, senderAt, takerAt, turnApart, sentOff, arrived, joined, collectApart}
 
 -- a message's number and its words as they were when it was posted
@@ -70,71 +70,94 @@ actNetwork p source n (arrivalOf k) = arrive p n k
 abbrev pub startNetwork : Plan → Network
 startNetwork p = networkOf (startApart p) []
 
--- ---- the machine's run on shared areas beside it
+-- ---- a run on shared areas beside it
 
--- an arrival that is taken in is a delivery there, and so is a post that needs no packet; another post is none of its events
-unfoldable pub machineEvents : Plan → Network → NetworkEvent → List Event
-machineEvents p n (turnBy b) = turnOf b ∷ []
-machineEvents p n (postOf m) = pick (eqb (post p n m .number) 0) (pick (eqb (senderAt p m) (takerAt p m)) (deliveryOf m ∷ []) []) []
-machineEvents p n (arrivalOf k) = pick (eqb (arrive p n k .number) 0) (deliveryOf (packetAt (n .packets) k .message) ∷ []) []
+-- what an event that gave x is there: an arrival that is taken in is a delivery, and so is a post that needs no packet; another post is none of its events
+unfoldable pub machineEvents : Plan → Network → NetworkEvent → ℕ → List Event
+machineEvents p n (turnBy b) x = turnOf b ∷ []
+machineEvents p n (postOf m) x = pick (eqb x 0) (pick (eqb (senderAt p m) (takerAt p m)) (deliveryOf m ∷ []) []) []
+machineEvents p n (arrivalOf k) x = pick (eqb x 0) (deliveryOf (packetAt (n .packets) k .message) ∷ []) []
 
-unfoldable pub machineRun : Plan → List ℕ → Network → List NetworkEvent → List Event
-machineRun p source n [] = []
-machineRun p source n (e ∷ es) = machineEvents p n e ++ machineRun p source (actNetwork p source n e .after) es
+unfoldable pub machineRun : (Network → NetworkEvent → Answered Network) → Plan → Network → List NetworkEvent → List Event
+machineRun acts p n [] = []
+machineRun acts p n (e ∷ es) = machineEvents p n e (acts n e .number) ++ machineRun acts p (acts n e .after) es
 
--- ---- the claim, over every list of events
+-- how many messages go to another processor
+unfoldable pub mailed : Plan → ℕ
+mailed p = length (keep (λ m. not (eqb (senderAt p m) (takerAt p m))) (count p))
 
-module _ (p : Plan) (source : List ℕ) (events : List NetworkEvent) where
-  abbrev pub lastNetwork : Network
-  lastNetwork = last (actNetwork p source) (startNetwork p) events
+-- ---- the claim, over every list of events, for `acts` on a network beside `shared` on shared areas: the machine's, or any calls that answer alike
 
-  abbrev pub besides : List Event
-  besides = machineRun p source (startNetwork p) events
+module _ (acts : Network → NetworkEvent → Answered Network) (start : Network) (events : List NetworkEvent) where
+  abbrev pub networkAfter : Network
+  networkAfter = last acts start events
 
-  abbrev pub lastBeside : State
-  lastBeside = last (act p source) (fresh p) besides
+  abbrev pub sentPackets : List Packet
+  sentPackets = networkAfter .packets
 
-  abbrev pub stepsBeside : ℕ
-  stepsBeside = steps (act p source) (fresh p) besides
+  abbrev pub stepsHere : ℕ
+  stepsHere = steps acts start events
 
-  pub record ByPackets : Type 0 where
-    -- the machine's run beside it has all of demand 3: no cell calculated twice, no message sent, delivered or taken twice
-    pub beside : Demand3 (act p source) (fresh p) besides p source (collect p)
-    -- a turn would now give what it gives there, and each processor has its part of the memories and its record
-    pub same-turn : (b : ℕ) → actNetwork p source lastNetwork (turnBy b) .number ≡ act p source lastBeside (turnOf b) .number
-    pub same-memory : (b : ℕ) → b < p .processors → memoryOf p (lastNetwork .areas b) b ≡ memoryOf p lastBeside b
-    pub same-finished : (b : ℕ) → b < p .processors → finishedOf (lastNetwork .areas b) b ≡ finishedOf lastBeside b
-    pub same-stage : (b : ℕ) → b < p .processors → stageOf (lastNetwork .areas b) b ≡ stageOf lastBeside b
-    pub same-sent : (b : ℕ) → b < p .processors → sentOf (lastNetwork .areas b) b ≡ sentOf lastBeside b
-    -- the events that gave 0 are the machine's steps and one for each packet
-    pub counted : steps (actNetwork p source) (startNetwork p) events ≡ stepsBeside + length (lastNetwork .packets)
-    -- a packet goes from one processor to another, and has the sweep's words of its message's cells
-    pub goes : (k : ℕ) → k < length (lastNetwork .packets)
-        → (packetAt (lastNetwork .packets) k .message < count p)
-        × (senderAt p (packetAt (lastNetwork .packets) k .message) ≢ takerAt p (packetAt (lastNetwork .packets) k .message))
-    -- no message has two
-    pub once : (i k : ℕ) → i < length (lastNetwork .packets) → k < length (lastNetwork .packets)
-        → packetAt (lastNetwork .packets) i .message ≡ packetAt (lastNetwork .packets) k .message → i ≡ k
-    pub carries : (k : ℕ) → k < length (lastNetwork .packets)
-        → packetAt (lastNetwork .packets) k .words ≡ map (λ c. getD (sweep p source) c 0) (heldBy p (packetAt (lastNetwork .packets) k .message))
-    -- from its send on a message's place at its sender's has the sweep's words, whatever comes: it is not written again, and a transport may read it later
-    pub stays : (m : ℕ) → m < count p → 1 ≤ getD (lastBeside .status) m 0
-        → placeOf p (lastNetwork .areas (senderAt p m) .buffer) m ≡ map (λ c. getD (sweep p source) c 0) (heldBy p m)
-    pub lies-there : (k : ℕ) → k < length (lastNetwork .packets)
-        → placeOf p (lastNetwork .areas (senderAt p (packetAt (lastNetwork .packets) k .message)) .buffer) (packetAt (lastNetwork .packets) k .message)
-        ≡ packetAt (lastNetwork .packets) k .words
-    -- one that comes where its message's status isn't 0 is turned away, and nothing is written
-    pub turned-away : (k : ℕ) → k < length (lastNetwork .packets)
-        → statusAt (lastNetwork .areas) (takerAt p (packetAt (lastNetwork .packets) k .message)) (packetAt (lastNetwork .packets) k .message) ≢ 0
-        → actNetwork p source lastNetwork (arrivalOf k) ≡ record { number = 14; after = lastNetwork }
-    -- while the machine has steps left some event gives 0, if only the arrival of a packet that was posted; and no longer
-    pub goes-on : stepsBeside < total p → (e : NetworkEvent) × (actNetwork p source lastNetwork e .number ≡ 0)
-    pub then-fewer : (e : NetworkEvent) → actNetwork p source lastNetwork e .number ≡ 0 → stepsBeside < total p
-    -- collecting gives 0 exactly when it has none, and then the grid is the sequential sweep
-    pub can-collect : stepsBeside ≡ total p → (grid : List ℕ) → length grid ≡ p .cells → collectApart p (lastNetwork .areas) grid .number ≡ 0
-    pub then-all : (grid : List ℕ) → length grid ≡ p .cells → collectApart p (lastNetwork .areas) grid .number ≡ 0 → stepsBeside ≡ total p
-    -- and so does the machine's own call on areas joined from the processors' parts and records
-    pub joins : (grid : List ℕ) → collect p (joined p (lastNetwork .areas)) grid ≡ collect p lastBeside grid
-    pub joined-grid : stepsBeside ≡ total p → (old : List ℕ) → length old ≡ p .cells
-        → collect p (joined p (lastNetwork .areas)) old ≡ record { number = 0; after = sweep p source }
-    pub grid : stepsBeside ≡ total p → (old : List ℕ) → length old ≡ p .cells → collectApart p (lastNetwork .areas) old .after ≡ sweep p source
+  module _ (p : Plan) (shared : State → Event → Answered State) where
+    abbrev pub besides : List Event
+    besides = machineRun acts p start events
+
+    abbrev pub lastBeside : State
+    lastBeside = last shared (fresh p) besides
+
+    abbrev pub stepsBeside : ℕ
+    stepsBeside = steps shared (fresh p) besides
+
+    pub record ByPackets (source : List ℕ) (collects : State → List ℕ → Answered (List ℕ)) : Type 0 where
+      -- the run beside it has all of demand 3: no cell calculated twice, no message sent, delivered or taken twice
+      pub beside : Demand3 shared (fresh p) besides p source collects
+      -- a turn would now give what it gives there, and each processor has its part of the memories and its record
+      pub same-turn : (b : ℕ) → acts networkAfter (turnBy b) .number ≡ shared lastBeside (turnOf b) .number
+      pub same-memory : (b : ℕ) → b < p .processors → memoryOf p (networkAfter .areas b) b ≡ memoryOf p lastBeside b
+      pub same-finished : (b : ℕ) → b < p .processors → finishedOf (networkAfter .areas b) b ≡ finishedOf lastBeside b
+      pub same-stage : (b : ℕ) → b < p .processors → stageOf (networkAfter .areas b) b ≡ stageOf lastBeside b
+      pub same-sent : (b : ℕ) → b < p .processors → sentOf (networkAfter .areas b) b ≡ sentOf lastBeside b
+      -- the events that gave 0 are the machine's steps and one for each packet; so they are at most its total and the messages that go to another
+      -- processor, which are at most all
+      pub counted : stepsHere ≡ stepsBeside + length sentPackets
+      pub few-packets : length sentPackets ≤ mailed p
+      pub bounded : stepsHere ≤ total p + mailed p
+      pub bounded-all : stepsHere ≤ total p + count p
+      -- a packet goes from one processor to another, and has the sweep's words of its message's cells
+      pub goes : (k : ℕ) → k < length sentPackets
+          → (packetAt sentPackets k .message < count p)
+          × (senderAt p (packetAt sentPackets k .message) ≢ takerAt p (packetAt sentPackets k .message))
+      -- no message has two
+      pub once : (i k : ℕ) → i < length sentPackets → k < length sentPackets
+          → packetAt sentPackets i .message ≡ packetAt sentPackets k .message → i ≡ k
+      pub carries : (k : ℕ) → k < length sentPackets
+          → packetAt sentPackets k .words ≡ map (λ c. getD (sweep p source) c 0) (heldBy p (packetAt sentPackets k .message))
+      -- from its send on a message's place at its sender's has the sweep's words, whatever comes: it is not written again, and a transport may read it later
+      pub stays : (m : ℕ) → m < count p → 1 ≤ getD (lastBeside .status) m 0
+          → placeOf p (networkAfter .areas (senderAt p m) .buffer) m ≡ map (λ c. getD (sweep p source) c 0) (heldBy p m)
+      pub lies-there : (k : ℕ) → k < length sentPackets
+          → placeOf p (networkAfter .areas (senderAt p (packetAt sentPackets k .message)) .buffer) (packetAt sentPackets k .message)
+          ≡ packetAt sentPackets k .words
+      -- one that comes where its message's status isn't 0 is turned away, and nothing is written
+      pub turned-away : (k : ℕ) → k < length sentPackets
+          → statusAt (networkAfter .areas) (takerAt p (packetAt sentPackets k .message)) (packetAt sentPackets k .message) ≢ 0
+          → acts networkAfter (arrivalOf k) ≡ record { number = 14; after = networkAfter }
+      -- while the machine has steps left some event gives 0, if only the arrival of a packet that was posted; and no longer
+      pub goes-on : stepsBeside < total p → (e : NetworkEvent) × (acts networkAfter e .number ≡ 0)
+      pub then-fewer : (e : NetworkEvent) → acts networkAfter e .number ≡ 0 → stepsBeside < total p
+      -- collecting gives 0 exactly when it has none, and then the grid is the sequential sweep
+      pub can-collect : stepsBeside ≡ total p → (grid : List ℕ) → length grid ≡ p .cells → collectApart p (networkAfter .areas) grid .number ≡ 0
+      pub then-all : (grid : List ℕ) → length grid ≡ p .cells → collectApart p (networkAfter .areas) grid .number ≡ 0 → stepsBeside ≡ total p
+      pub grid : stepsBeside ≡ total p → (old : List ℕ) → length old ≡ p .cells → collectApart p (networkAfter .areas) old .after ≡ sweep p source
+      -- and so does collecting on areas joined from the processors' parts and records, as on shared ones
+      pub joins : (grid : List ℕ) → collects (joined p (networkAfter .areas)) grid ≡ collects lastBeside grid
+      pub joined-grid : stepsBeside ≡ total p → (old : List ℕ) → length old ≡ p .cells
+          → collects (joined p (networkAfter .areas)) old ≡ record { number = 0; after = sweep p source }
+
+-- ---- of the machine
+
+abbrev pub lastNetwork : Plan → List ℕ → List NetworkEvent → Network
+lastNetwork p source events = networkAfter (actNetwork p source) (startNetwork p) events
+
+abbrev pub MachineByPackets : Plan → List ℕ → List NetworkEvent → Type 0
+MachineByPackets p source events = ByPackets (actNetwork p source) (startNetwork p) events p (act p source) source (collect p)

@@ -57,7 +57,8 @@ module _ (r : Route) (n : Nest) (tile d : ℕ) (l : d < ways r n) (side : ℕ) (
         ∙ omega (arith, slot-tile n r (tile - getD steps d 0) d a l)
 
     pub none-there : length (slotParcel r n ((tile - getD steps d 0) * ways r n + d)) ≡ 0 → Only r n side tile d (slots r n)
-    none-there z = no-slot (λ s h q e p. let w : 0 < length (slotParcel r n ((tile - getD steps d 0) * ways r n + d)) = rw (one-slot s h q e) at p in omega arith)
+    none-there z = no-slot (λ s h q e p. let w : 0 < length (slotParcel r n ((tile - getD steps d 0) * ways r n + d)) = rw (one-slot s h q e) at p in
+        omega arith)
 
     pub one-there : length (slotParcel r n ((tile - getD steps d 0) * ways r n + d)) ≢ 0 → Only r n side tile d ((tile - getD steps d 0) * ways r n + d)
     one-there f = record { there = λ h. (slot-way n r _ d a l, (slot-end, omega arith)); only = λ s h q e p. one-slot s h q e }
@@ -78,7 +79,8 @@ module _ (n : Nest) (z : Sizes) (h : Sized n z) (tile d : ℕ) (l : d < ways (z 
     pub end-above : getD steps d 0 ≤ tile → z .tiles ≤ tile - getD steps d 0 → Only (z .route) n side tile d (z .tiles * z .ways)
     end-above b a = no-slots (none-above (z .route) n tile d l side steps st b (rw (h .tiles) at a))
 
-    module _ (b : getD steps d 0 ≤ tile) (a : tile - getD steps d 0 < z .tiles) (w : ℕ) (is : w ≡ length (slotParcel (z .route) n ((tile - getD steps d 0) * z .ways + d))) where
+    module _ (b : getD steps d 0 ≤ tile) (a : tile - getD steps d 0 < z .tiles) (w : ℕ)
+        (is : w ≡ length (slotParcel (z .route) n ((tile - getD steps d 0) * z .ways + d))) where
       pub end-none : w ≡ 0 → Only (z .route) n side tile d (z .tiles * z .ways)
       end-none e = no-slots (none-there (z .route) n tile d l side steps st b (rw (h .tiles) at a) (rw (h .ways) at (sym is ∙ e)))
 
@@ -167,7 +169,8 @@ module _ (r : Route) (n : Nest) (ends : List ℕ) (j : ℕ) where
   pub missing-none : Missing r n ends j 0
   missing-none = record { low = omega arith; none = λ i h. absurd (omega arith) }
 
-  pub missing-more : (d k : ℕ) → Missing r n ends j d → d < ways r n → k ≡ ways r n → (getD ends d 0 < slots r n → countBelow ends k (getD ends d 0) ≢ j) → Missing r n ends j (d + 1)
+  pub missing-more : (d k : ℕ) → Missing r n ends j d → d < ways r n → k ≡ ways r n →
+      (getD ends d 0 < slots r n → countBelow ends k (getD ends d 0) ≢ j) → Missing r n ends j (d + 1)
   missing-more d k s h is f = record { low = omega arith; none = λ i k. go i (eq-or-lt-of-le (below i k)) }
     where
       below : (i : ℕ) → i < d + 1 → i ≤ d
@@ -190,10 +193,12 @@ module _ (r : Route) (n : Nest) (ok : Accepted n) (side tile : ℕ) (ends : List
       let t = x .each d h .there (rw e l) in
       f (rw e at (t .1 .1)) (rw e at (t .1 .0))
 
-  step-same : (s : ℕ) → s < slots r n → (0 < length (slotParcel r n s) → endAt r n side s ≢ tile) → countBelow ends (ways r n) (s + 1) ≡ countBelow ends (ways r n) s
+  step-same : (s : ℕ) → s < slots r n → (0 < length (slotParcel r n s) → endAt r n side s ≢ tile) → countBelow ends (ways r n) (s + 1) ≡ countBelow
+      ends (ways r n) s
   step-same s l f = below-same ends (ways r n) s (λ d h. not-end s d h l f)
 
-  step-more : (s : ℕ) → s < slots r n → 0 < length (slotParcel r n s) → endAt r n side s ≡ tile → countBelow ends (ways r n) (s + 1) ≡ countBelow ends (ways r n) s + 1
+  step-more : (s : ℕ) → s < slots r n → 0 < length (slotParcel r n s) → endAt r n side s ≡ tile → countBelow ends (ways r n) (s + 1) ≡ countBelow ends
+      (ways r n) s + 1
   step-more s l p e =
       below-one ends (ways r n) s (s % ways r n) (mod-lt s (ways-pos n ok r)) (sym (x .each (s % ways r n) (mod-lt s (ways-pos n ok r)) .only s l refl e p))
       (λ i h f q. f (sym (x .each i h .there (rw q l) .0) ∙ ap (λ (k : ℕ). k % ways r n) q))
@@ -205,7 +210,8 @@ module _ (r : Route) (n : Nest) (ok : Accepted n) (side tile : ℕ) (ends : List
       l : s < slots r n
       l = omega arith
 
-      go : countBelow ends (ways r n) s ≡ seen r n side tile s → Dec (0 < length (slotParcel r n s)) → Dec (endAt r n side s ≡ tile) → countBelow ends (ways r n) (suc s) ≡ seen r n side tile (suc s)
+      go : countBelow ends (ways r n) s ≡ seen r n side tile s → Dec (0 < length (slotParcel r n s)) → Dec (endAt r n side s ≡ tile) → countBelow ends
+          (ways r n) (suc s) ≡ seen r n side tile (suc s)
       go ih (yes p) (yes e) = rw (← add-one s) (omega (arith, step-more s l p e, seen-hit r n side tile s l p e))
       go ih (yes p) (no e) = rw (← add-one s) (omega (arith, step-same s l (λ q. e), seen-miss r n side tile s l p e))
       go ih (no p) e = rw (← add-one s) (omega (arith, step-same s l (λ q. absurd (p q)), seen-none r n side tile s (omega arith)))
@@ -217,9 +223,11 @@ module _ (r : Route) (n : Nest) (ok : Accepted n) (side tile : ℕ) (ends : List
   -- ---- the j-th of them
 
   -- among the slots before s there is the one with j such messages before it
-  some-slot : (j s : ℕ) → s ≤ slots r n → j < seen r n side tile s → (i : ℕ) × (i < slots r n) × (0 < length (slotParcel r n i)) × (endAt r n side i ≡ tile) × (seen r n side tile i ≡ j)
+  some-slot : (j s : ℕ) → s ≤ slots r n → j < seen r n side tile s → (i : ℕ) × (i < slots r n) × (0 < length (slotParcel r n i)) ×
+      (endAt r n side i ≡ tile) × (seen r n side tile i ≡ j)
   some-slot j zero h q = absurd (omega (arith, seen-start r n side tile))
-  some-slot j (suc s) h q = go (some-slot j s (omega arith)) (decLt j (seen r n side tile s)) (decLt 0 (length (slotParcel r n s))) (ℕ-discrete (endAt r n side s) tile)
+  some-slot j (suc s) h q = go (some-slot j s (omega arith)) (decLt j (seen r n side tile s)) (decLt 0 (length (slotParcel r n s)))
+      (ℕ-discrete (endAt r n side s) tile)
     where
       l : s < slots r n
       l = omega arith
@@ -253,5 +261,6 @@ module _ (r : Route) (n : Nest) (ok : Accepted n) (side tile : ℕ) (ends : List
         let b : countBelow ends (ways r n) s ≡ j = rw is at c in
         let it : getD (atEnd side (boxPlan r n) tile) j 0 ≡ length (messagesTo r n s) =
         ap (λ (k : ℕ). getD (atEnd side (boxPlan r n) tile) k 0) (sym b ∙ below-is s (omega arith))
-        ∙ those-at (endOf side (boxPlan r n)) tile (count (boxPlan r n)) (length (messagesTo r n s)) (number-low r n (slots r n) s l f) (end-is r n side s l f ∙ z) in
+        ∙ those-at (endOf side (boxPlan r n)) tile (count (boxPlan r n)) (length (messagesTo r n s)) (number-low r n (slots r n) s l f)
+        (end-is r n side s l f ∙ z) in
         rw it (found r n s m o w y l q (omega arith))

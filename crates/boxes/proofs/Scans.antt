@@ -21,12 +21,12 @@ use Rattle.plan.proofs.Slots.{total, total-append, total-one, slotParcel-few, s
 use Rattle.layout.specs.declared.Sizes.{Sizes}
 use Rattle.layout.specs.Sizes.{Sized, endAt}
 use Rattle.layout.proofs.Steps.{ways-few}
-use Rattle.parcels.specs.Twins.{Twin}
 use Rattle.boxes.specs.Table.{Table, Filling, Summing, FoundAt, endOf}
 
 -- ---- the ends of a slot's message
 
-pub end-is : (r : Route) (n : Nest) (side s : ℕ) → s < slots r n → 0 < length (slotParcel r n s) → endOf side (boxPlan r n) (length (messagesTo r n s)) ≡ endAt r n side s
+pub end-is : (r : Route) (n : Nest) (side s : ℕ) → s < slots r n → 0 < length (slotParcel r n s) → endOf side (boxPlan r n)
+    (length (messagesTo r n s)) ≡ endAt r n side s
 unfolding endAt
 end-is r n zero s l f = ap (λ (x : Message). x .sender) (at-number r n (slots r n) s l f)
 end-is r n (suc i) s l f = ap (λ (x : Message). x .taker) (at-number r n (slots r n) s l f)
@@ -82,14 +82,11 @@ fill-turn r n lens s v f l m e =
 pub filled : (r : Route) (n : Nest) (lens : List ℕ) (s : ℕ) → Filling r n lens s → slots r n ≤ s → Table r n lens
 filled r n lens s f h = record { plain = f .plain; long = f .long; each = λ i l. f .each i (omega (arith, f .low)) }
 
--- ---- a slot of a tile that another stands for
+-- ---- a slot of a tile
 
 module _ (r : Route) (n : Nest) (d : ℕ) (e : d ≡ ways r n) (w : ℕ) (l : w < d) where
   pub slot-under : (t : ℕ) → t < boxTiles n → t * d + w < slots r n
   slot-under t h = omega (arith, ap (λ (a : ℕ). boxTiles n * a) e, mul-le-mul-right d h, suc-mul t d)
-
-  pub twin-slot : (t p : ℕ) → Twin r n t p → p < t → (p * d + w < t * d + w) × (length (slotParcel r n (p * d + w)) ≡ length (slotParcel r n (t * d + w)))
-  twin-slot t p q h = (omega (arith, mul-le-mul-right d h, suc-mul p d), rw e (sym (q .same w (rw e at l))))
 
 -- a tile more
 pub tile-next : (t d v : ℕ) → v ≡ d → t * d + v ≡ (t + 1) * d
@@ -146,8 +143,13 @@ sum-end r n end s m o x h l = let e : s ≡ end = omega arith in rw e at x
 pub summed : (r : Route) (n : Nest) (s m o : ℕ) → Accepted n → n .bounds ≡ 0 → Summing r n s m o → slots r n ≤ s
     → (m ≡ count (boxPlan r n)) × ((o ≡ words (boxPlan r n)) × ((m ≤ 7168) × (o ≤ 117440512)))
 summed r n s m o a p x h =
-    let e : s ≡ slots r n = omega (arith, x .low) in
-    (x .number ∙ ap (λ (k : ℕ). length (messagesTo r n k)) e, (x .offset ∙ ap (λ (k : ℕ). total (messagesTo r n k)) e, (omega (arith, x .few, x .low, slots-few r n a p), omega (arith, x .small, x .low, slots-few r n a p))))
+    let e : s ≡ slots r n = omega (arith, x .low) in (
+      x .number ∙ ap (λ (k : ℕ). length (messagesTo r n k)) e,
+      (
+        x .offset ∙ ap (λ (k : ℕ). total (messagesTo r n k)) e,
+        (omega (arith, x .few, x .low, slots-few r n a p), omega (arith, x .small, x .low, slots-few r n a p)),
+      ),
+    )
 
 -- the message of a slot is found there
 pub found : (r : Route) (n : Nest) (s m o w : ℕ) → Summing r n s m o → s < slots r n → w ≡ length (slotParcel r n s) → 0 < w
@@ -206,7 +208,14 @@ pub seek-found : (r : Route) (n : Nest) (m s k o w : ℕ) → Seeking r n m s k 
     → FoundAt r n m (record { slot = s; number = m; offset = o; words = w })
 seek-found r n m s k o w x l e h q =
     let z : m ≡ length (messagesTo r n s) = sym q ∙ x .sums .number in
-    let y : Summing r n s m o = record { low = x .sums .low; number = z; few = omega (arith, x .sums .few); offset = x .sums .offset; small = x .sums .small } in
+    let y : Summing r n s m o = record {
+      low = x .sums .low;
+      number = z;
+      few = omega (arith, x .sums .few);
+      offset = x .sums .offset;
+      small = x .sums
+          .small;
+    } in
     subst (λ (i : ℕ). FoundAt r n i (record { slot = s; number = m; offset = o; words = w })) (sym z) (found r n s m o w y l e h)
 
 pub seek-nowhere : (r : Route) (n : Nest) (m s k o : ℕ) → Seeking r n m s k o → slots r n ≤ s → m < count (boxPlan r n) → ⊥

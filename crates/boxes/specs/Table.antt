@@ -1,7 +1,8 @@
 -- The table of message lengths by slot of a nest without bounds, and where a message is found by it.
 -- No sentence of document 01; the contracts of this crate and of the engine cite it.
-use Prim.Native.Nat.{ℕ, suc, zero, _+_, _*_, _%_, _≤_, _<_}
+use Prim.Native.Nat.{ℕ, suc, zero, _+_, _-_, _*_, _%_, _≤_, _<_}
 use mathlib.Core.Path.{_≡_}
+use mathlib.Core.Bool.{Bool}
 use mathlib.Core.List.{List}
 use lib.ListN.{length, getD}
 use lib.Dec.{ltb}
@@ -9,9 +10,11 @@ use Rattle.base.specs.Tests.{one, sum, those}
 use Rattle.machine.specs.Plan as machine
 use Rattle.machine.specs.Plan.{Plan, count, message, senderOf, takerOf}
 use Rattle.nest.specs.declared.Nest.{Nest}
+use Rattle.nest.specs.Nest.{boxTiles}
 use Rattle.plan.specs.declared.Route.{Route}
 use Rattle.plan.specs.Messages.{ways, slots, slotParcel, slotMessage, messagesTo, messages, boxPlan}
 use Rattle.layout.specs.Sizes.{endAt}
+use Rattle.parcels.specs.Twins.{Twin}
 use Rattle.scans.specs.declared.Place.{Place}
 
 -- the nest has no bounds, and `lens` has the length of each slot's parcel
@@ -26,6 +29,17 @@ pub record Filling (r : Route) (x : Nest) (lens : List ℕ) (s : ℕ) : Type 0 w
   pub low : s ≤ slots r x
   pub long : length lens ≡ 9217
   pub each : (i : ℕ) → i < s → getD lens i 0 ≡ length (slotParcel r x i)
+
+-- the n places of a dimension from `at` on have one before them, or two, and after them another of full length
+pub record Likes (at : ℕ) (two : Bool) (tiling length n : ℕ) : Type 0 where
+  pub each : (i : ℕ) → i < n → (one two < at + i) × ((at + i + 2) * tiling ≤ length)
+  pub few : n ≤ 1024
+
+-- the n tiles from t on have parcels as long as those of the tiles k before them
+pub record Twins (r : Route) (x : Nest) (t k n : ℕ) : Type 0 where
+  pub room : t + n ≤ boxTiles x
+  pub far : 0 < n → (1 ≤ k) × (k ≤ t)
+  pub each : (i : ℕ) → i < n → Twin r x (t + i) (t + i - k)
 
 -- the slots before s have m messages, and those o words
 pub record Summing (r : Route) (x : Nest) (s m o : ℕ) : Type 0 where

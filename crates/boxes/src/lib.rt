@@ -1,4 +1,5 @@
-// The table of message lengths of a nest without bounds, filled once in a call: numbers, offsets and totals are scans of it, sends and dues one slot along each way.
+// The table of message lengths of a nest without bounds, filled once in a call: numbers, offsets and totals are scans of it, sends and
+// dues one slot along each way.
 ghost use mathlib.Core.Path.{_≡_};
 ghost use Prim.Native.Nat.{ℕ, _+_, _*_, _≤_, _<_};
 ghost use lib.ListN.{length, getD};
@@ -6,39 +7,92 @@ ghost use Rattle.machine.specs.Plan.{count, words};
 ghost use Rattle.nest.specs.Nest.{boxTiles};
 ghost use Rattle.plan.specs.Messages.{ways, slots, slotParcel, boxPlan};
 ghost use Rattle.layout.specs.Sizes.{Sized, Stepped};
-ghost use Rattle.parcels.specs.Twins.{Twin};
-ghost use Rattle.boxes.specs.Table.{Table, Filling, Summing, Only, Ends, FoundAt, atEnd, countBelow};
+ghost use Rattle.boxes.specs.Table.{Table, Filling, Likes, Twins, Summing, Only, Ends, FoundAt, atEnd, countBelow};
 use layout::Sizes;
 use nest::Nest;
+use parcels::one;
+use parcels::two_before;
 use scans::Place;
 use scans::Total;
 
-// The length of a tile's parcel along a way, as its twin's, which is in the table.
-fn twin_length(
+// So many tiles one after the other, each with parcels as long as those of the tile so far before it.
+struct Run {
+    back: usize,
+    tiles: usize,
+}
+
+// How many places along a dimension, from one on, have another before them, or two where two are asked for, and after them another of
+// full length.
+fn places_like(at: usize, two: bool, tiling: usize, length: usize) -> usize
+    requires { ⌜ (at ≤ 1024) × ((1 ≤ tiling) × (length ≤ 1024)) ⌝ }
+    ensures { λ r. ⌜ Likes at two tiling length r ⌝ }
+{
+    if at <= one(two) {
+        return 0;
+    }
+    let whole = length / tiling;
+    if whole < at + 2 {
+        return 0;
+    }
+    whole - 1 - at
+}
+
+// The tiles from one on that have twins equally far before them: only at the ends of a dimension do lengths change, so that one tile back
+// along the last dimension that allows it will do, up to where that dimension no longer does.
+fn run_from(nest: Nest, sizes: Sizes, tile: usize) -> Run
+    requires { ⌜ Sized nest sizes × (tile < boxTiles nest) ⌝ }
+    ensures { λ r. ⌜ Twins (sizes .route) nest tile (r .back) (r .tiles) ⌝ }
+{
+    let across = sizes.across;
+    let tiling = nest.tiling;
+    let lengths = nest.lengths;
+    let route = sizes.route;
+    let two = two_before(nest, route);
+    let mut left = nest.dimensions;
+    let mut rest = tile;
+    let mut stride = 1;
+    while left > 0 {
+        left -= 1;
+        let n = across[left];
+        let places = places_like(rest % n, left < two, tiling[left], lengths[left]);
+        if places > 0 {
+            return Run {
+                back: stride,
+                tiles: (rest + places) * stride - tile,
+            };
+        }
+        rest = rest / n;
+        stride *= n;
+    }
+    Run { back: 0, tiles: 0 }
+}
+
+// The length of a slot's parcel, as that of the slot so far before it.
+fn length_back(
     nest: Nest,
     sizes: Sizes,
     lens: &[u16; 9217],
     tile: usize,
-    twin: usize,
-    way: usize,
+    run: Run,
+    slot: usize,
 ) -> u16
-    requires { ⌜ Sized nest sizes × ((tile < boxTiles nest) × ((way < sizes .ways) × (Twin (sizes .route) nest tile twin × ((twin < tile) × Filling (sizes .route) nest (now lens) (tile * sizes .ways + way))))) ⌝ }
-    ensures { λ r. ⌜ r ≡ length (slotParcel (sizes .route) nest (tile * sizes .ways + way)) ⌝ }
+    requires { ⌜ Sized nest sizes × (Twins (sizes .route) nest tile (run .back) (run .tiles) × Filling (sizes .route) nest (now lens) slot) ⌝ }
+    requires { ⌜ (tile * sizes .ways ≤ slot) × (slot < (tile + run .tiles) * sizes .ways) ⌝ }
+    ensures { λ r. ⌜ r ≡ length (slotParcel (sizes .route) nest slot) ⌝ }
 {
-    lens[twin * sizes.ways + way]
+    lens[slot - run.back * sizes.ways]
 }
 
-// The lengths of a tile's parcels, as its twin's.
-fn copy_tile(nest: Nest, sizes: Sizes, lens: &mut [u16; 9217], tile: usize, twin: usize)
-    requires { ⌜ Sized nest sizes × ((tile < boxTiles nest) × (Twin (sizes .route) nest tile twin × ((twin < tile) × Filling (sizes .route) nest (now lens) (tile * sizes .ways)))) ⌝ }
-    ensures { λ _. ⌜ Filling (sizes .route) nest (now (lens .exit)) ((tile + 1) * sizes .ways) ⌝ }
+// The lengths of the parcels of a run's tiles, as their twins'.
+fn copy_run(nest: Nest, sizes: Sizes, lens: &mut [u16; 9217], tile: usize, run: Run)
+    requires { ⌜ Sized nest sizes × (Twins (sizes .route) nest tile (run .back) (run .tiles) × Filling (sizes .route) nest (now lens) (tile * sizes .ways)) ⌝ }
+    ensures { λ _. ⌜ Filling (sizes .route) nest (now (lens .exit)) ((tile + run .tiles) * sizes .ways) ⌝ }
 {
-    let n = sizes.ways;
-    let first = tile * n;
-    let mut way = 0;
-    while way < n {
-        lens[first + way] = twin_length(nest, sizes, lens, tile, twin, way);
-        way += 1;
+    let end = (tile + run.tiles) * sizes.ways;
+    let mut slot = tile * sizes.ways;
+    while slot < end {
+        lens[slot] = length_back(nest, sizes, lens, tile, run, slot);
+        slot += 1;
     }
 }
 
@@ -56,17 +110,18 @@ fn count_tile(nest: Nest, sizes: Sizes, lens: &mut [u16; 9217], tile: usize)
     }
 }
 
-// The lengths of a tile's parcels, those of the tiles before it being in the table.
-fn fill_tile(nest: Nest, sizes: Sizes, lens: &mut [u16; 9217], tile: usize)
+// The lengths of the parcels of a tile and, where it begins a run, of the run's other tiles: the tile to go on from.
+fn fill_from(nest: Nest, sizes: Sizes, lens: &mut [u16; 9217], tile: usize) -> usize
     requires { ⌜ Sized nest sizes × ((tile < boxTiles nest) × Filling (sizes .route) nest (now lens) (tile * sizes .ways)) ⌝ }
-    ensures { λ _. ⌜ Filling (sizes .route) nest (now (lens .exit)) ((tile + 1) * sizes .ways) ⌝ }
+    ensures { λ r. ⌜ (tile < r) × Filling (sizes .route) nest (now (lens .exit)) (r * sizes .ways) ⌝ }
 {
-    let twin = parcels::twin_of(nest, sizes, tile);
-    if twin < tile {
-        copy_tile(nest, sizes, lens, tile, twin);
-        return;
+    let run = run_from(nest, sizes, tile);
+    if run.tiles > 0 {
+        copy_run(nest, sizes, lens, tile, run);
+        return tile + run.tiles;
     }
     count_tile(nest, sizes, lens, tile);
+    tile + 1
 }
 
 // The length of each slot's parcel.
@@ -77,8 +132,7 @@ pub fn fill(nest: Nest, sizes: Sizes, lens: &mut [u16; 9217])
     let tiles = sizes.tiles;
     let mut tile = 0;
     while tile < tiles {
-        fill_tile(nest, sizes, lens, tile);
-        tile += 1;
+        tile = fill_from(nest, sizes, lens, tile);
     }
 }
 
@@ -115,7 +169,8 @@ fn sums_to(nest: Nest, sizes: Sizes, lens: &[u16; 9217], end: usize) -> Total
 // How many messages and words there are.
 pub fn totals(nest: Nest, sizes: Sizes, lens: &[u16; 9217]) -> Total
     requires { ⌜ Sized nest sizes × Table (sizes .route) nest (now lens) ⌝ }
-    ensures { λ r. ⌜ (r .messages ≡ count (boxPlan (sizes .route) nest)) × ((r .words ≡ words (boxPlan (sizes .route) nest)) × ((r .messages ≤ 7168) × (r .words ≤ 117440512))) ⌝ }
+    ensures { λ r. ⌜ (r .messages ≡ count (boxPlan (sizes .route) nest)) × ((r .words ≡ words (boxPlan (sizes .route) nest))
+        × ((r .messages ≤ 7168) × (r .words ≤ 117440512))) ⌝ }
 {
     sums_to(nest, sizes, lens, sizes.tiles * sizes.ways)
 }

@@ -1,5 +1,7 @@
 pub mod Shared
 pub mod Walking
+pub mod Lending
+pub mod Params
 pub mod OverRecords
 pub mod PlanCalls
 pub mod OfficeCalls
@@ -8,3 +10,7 @@ pub mod OverRig
 pub mod Demand210
 pub mod ChartCalls
 pub mod OverHours
+pub mod RoundCalls
+pub mod Storing
+pub mod TransportCalls
+pub mod OverRounds

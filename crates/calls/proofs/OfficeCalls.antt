@@ -1,5 +1,5 @@
 -- Laws of the calls for an office: the record of a turn that gave 0 is there; and each return of the look is the call by the line that counts.
-use Prim.Native.Nat.{ℕ, _+_, _*_, _<_}
+use Prim.Native.Nat.{ℕ, _*_, _<_}
 use mathlib.Core.Path.{_≡_, refl, sym, ap, _∙_}
 use mathlib.Core.Logic.{_≢_}
 use mathlib.Core.Bool.{Bool}
@@ -7,14 +7,14 @@ use mathlib.Core.List.{List, [], _∷_}
 use native.Mathlib.Omega.{arith}
 use lib.ListN.{length, set}
 use lib.Dec.{eqb, ltb, leb}
-use borrow.Author.Tests.{eq-eqb, ne-eqb, ltb-true}
+use borrow.Author.Tests.{eq-eqb, ne-eqb}
 use Rattle.base.specs.Tests.{_and_, not}
 use Rattle.base.specs.Numbers.{Line, line, firstOf}
 use Rattle.base.proofs.Tests.{both, and-no, not-true, not-false, true-not}
-use Rattle.base.proofs.Numbers.{first-true, first-false, none-first, first-behind}
+use Rattle.base.proofs.Numbers.{first-true, first-false, none-first, first-behind, none-front, none-behind}
 use Rattle.machine.specs.Plan.{Plan}
-use Rattle.machine.specs.Machine.{stateOf, Answered, waiting, tilesLeft}
-use Rattle.offices.specs.Offices.{Lent, lentOf, fitFor, heldByOther, turnLinesFor}
+use Rattle.machine.specs.Machine.{stateOf, Answered}
+use Rattle.offices.specs.Offices.{Lent, lentOf}
 use Rattle.nest.specs.declared.Reading.{Reading}
 use Rattle.nest.specs.Reader.{readLines, readingOf}
 use Rattle.nest.proofs.Numbered.{numbered}
@@ -23,38 +23,11 @@ use Rattle.records.specs.Records.{flatWords}
 use Rattle.records.proofs.Words.{length-words}
 use Rattle.engine.specs.Calls.{answer, recipe}
 use Rattle.engine.proofs.Lines.{and-right, call-read, call-later, call-done}
-use Rattle.layout.specs.Sizes.{routeOf}
-use Rattle.routes.specs.Routes.{linesFor}
-use Rattle.routes.proofs.Laws.{front, numbered-for}
-use Rattle.rig.specs.Calls.{areasFor, turnCallFor, memoriesLong, lookNumber}
-use Rattle.rig.proofs.Lines.{lengths-are}
+use Rattle.rig.specs.Calls.{turnCallFor, memoriesLong, lookNumber}
+use Rattle.rig.proofs.Starts.{turn-inside}
 use Rattle.calls.specs.OfficeCalls.{lookWords, lookCall}
 
 -- ---- a turn that gave 0 has a record there
-
-module _ (bytes : List ℕ) (route : ℕ) (source : List ℕ) (o : ℕ) (l : Lent) (theirs : List ℕ) (b : ℕ) where
-  abbrev p : Plan
-  p = recipe bytes route
-
-  -- the lines behind the processor's number
-  abbrev later : List Line
-  later = line 19 (heldByOther p o l b) ∷ line 12 (waiting p (l .own) b) ∷ line 13 (not (tilesLeft p (l .own) b)) ∷ []
-
-  turn-inside : turnCallFor bytes route source o l theirs b .number ≡ 0 → 3 * b + 2 < length (l .own .progress)
-  unfolding turnCallFor
-  turn-inside z =
-      let r = front (linesFor (routeOf route) bytes) (line 9 (not (areasFor p source l theirs)) ∷ turnLinesFor p o l theirs b) z in
-      let a = none-first 9 (not (areasFor p source l theirs)) (turnLinesFor p o l theirs b) (λ q. omega arith)
-      (sym (first-behind (linesFor (routeOf route) bytes) _ (numbered-for (routeOf route) bytes) r) ∙ z) in
-      let u = none-first 11 (not (leb o 1)) (line 10 (not (fitFor p o l theirs)) ∷ line 11 (not (ltb b (p .processors))) ∷ later)
-      (λ q. omega arith) (a .1) in
-      let f = none-first 10 (not (fitFor p o l theirs)) (line 11 (not (ltb b (p .processors))) ∷ later) (λ q. omega arith) (u .1) in
-      let t = none-first 11 (not (ltb b (p .processors))) later (λ q. omega arith) (f .1) in
-      omega (
-        arith,
-        lengths-are p source l theirs (true-not (a .0)) .own .progress,
-        ltb-true b (p .processors) (true-not (t .0)),
-      )
 
 pub record-there-for : (bytes : List ℕ) (route : ℕ) (source : List ℕ) (o : ℕ) (m u t e : List ℕ) (rs ss : List Progress) (b n : ℕ)
     (x : Lent)
@@ -130,8 +103,7 @@ look-number bytes first second o b out z =
     let p = recipe bytes 0 in
     let long = memoriesLong p first and memoriesLong p second in
     let eleven = line 11 (not (leb o 1 and ltb b (p .processors))) ∷ [] in
-    let r = front (readLines bytes) (line 9 (not (long and eqb (length out) 2)) ∷ eleven) z in
-    let n = none-first 9 (not (long and eqb (length out) 2)) eleven (λ q. omega arith)
-    (sym (first-behind (readLines bytes) _ (numbered bytes) r) ∙ z) in
+    let r = none-front (readLines bytes) (line 9 (not (long and eqb (length out) 2)) ∷ eleven) z in
+    let n = none-first 9 (not (long and eqb (length out) 2)) eleven (λ q. omega arith) (none-behind (readLines bytes) _ (numbered bytes) z) in
     first-behind (readLines bytes) (line 9 (not long) ∷ eleven) (numbered bytes) r
     ∙ first-false 9 (not long) eleven (not-true (both (true-not (n .0)) .0)) ∙ n .1

@@ -12,7 +12,7 @@ use Rattle.base.specs.Tests.{_and_, not, pick}
 use Rattle.base.specs.Lists.{Bytes}
 use Rattle.base.specs.Numbers.{Line, line, firstOf}
 use Rattle.base.proofs.Tests.{both, true-not}
-use Rattle.base.proofs.Numbers.{none-first, first-behind}
+use Rattle.base.proofs.Numbers.{none-first, none-behind}
 use Rattle.machine.specs.Plan.{Plan, takerOf, heldBy}
 use Rattle.machine.specs.Machine as machine
 use Rattle.machine.specs.Machine.{State, Answered, stateOf, setProgress, afterSends, Action, gather, calculate, send, carryOut, nextAction, collectLines}
@@ -24,7 +24,7 @@ use Rattle.engine.specs.Calls.{answer, recipe, areas, freshCall, turnCall, deli
 use Rattle.engine.specs.Demands.{Fixed, calls, Demand2}
 use Rattle.layout.specs.Sizes.{routeOf}
 use Rattle.routes.specs.Routes.{linesFor}
-use Rattle.routes.proofs.Laws.{front, numbered-for}
+use Rattle.routes.proofs.Laws.{numbered-for}
 use Rattle.engine.proofs.Demands as engine
 use Rattle.records.specs.declared.Progress.{Progress}
 use Rattle.records.specs.Records.{flatWords}
@@ -202,9 +202,8 @@ module _ (bytes : List ℕ) (route : ℕ) (source : List ℕ) where
   pub collect-length : (s : State) (old : List ℕ) → collectCall bytes route source s old .number ≡ 0 → length old ≡ recipe bytes route .cells
   unfolding collectCall
   collect-length s old z =
-      let r = front (linesFor (routeOf route) bytes) (line 9 nine ∷ collectLines (recipe bytes route) s) z in
       let n = none-first 9 nine (collectLines (recipe bytes route) s) (λ q. omega arith)
-      (sym (first-behind (linesFor (routeOf route) bytes) _ (numbered-for (routeOf route) bytes) r) ∙ z) in
+      (none-behind (linesFor (routeOf route) bytes) _ (numbered-for (routeOf route) bytes) z) in
       eqb-true _ _ (both (true-not (n .0)) .1)
     where
       nine : Bool

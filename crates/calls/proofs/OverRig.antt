@@ -11,7 +11,7 @@ use Rattle.base.specs.Tests.{_and_, not, pick}
 use Rattle.base.specs.Lists.{Bytes, part}
 use Rattle.base.specs.Numbers.{line, firstOf}
 use Rattle.base.proofs.Tests.{both, true-not, pick-true}
-use Rattle.base.proofs.Numbers.{none-first, first-behind}
+use Rattle.base.proofs.Numbers.{none-first, none-behind}
 use Rattle.machine.specs.Machine as machine
 use Rattle.machine.specs.Machine.{State, Answered}
 use Rattle.machine.specs.Runs.{Event, turnOf, deliveryOf, stateAfter, answersTo}
@@ -25,7 +25,7 @@ use Rattle.records.proofs.Words.{length-words}
 use Rattle.engine.specs.Calls.{answer, recipe}
 use Rattle.layout.specs.Sizes.{routeOf}
 use Rattle.routes.specs.Routes.{linesFor}
-use Rattle.routes.proofs.Laws.{front, numbered-for}
+use Rattle.routes.proofs.Laws.{numbered-for}
 use Rattle.engine.proofs.Demands as engine
 use Rattle.rig.specs.Calls.{areasFor, turnCallFor, deliverCallFor, collectCallFor, freshRigLines, freshRigCall, lookPart, callFor}
 use Rattle.rig.specs.Calls.{rigCalls, rigCollects}
@@ -267,9 +267,8 @@ module _ (bytes : List ℕ) (route : ℕ) where
       → length old ≡ recipe bytes route .cells
   unfolding collectCallFor
   collect-length source o l theirs old z =
-      let r = front (linesFor (routeOf route) bytes) (line 9 nine ∷ collectLinesFor (recipe bytes route) o l theirs) z in
       let n = none-first 9 nine (collectLinesFor (recipe bytes route) o l theirs) (λ q. omega arith)
-      (sym (first-behind (linesFor (routeOf route) bytes) _ (numbered-for (routeOf route) bytes) r) ∙ z) in
+      (none-behind (linesFor (routeOf route) bytes) _ (numbered-for (routeOf route) bytes) z) in
       eqb-true _ _ (both (true-not (n .0)) .1)
     where
       nine : Bool

@@ -14,6 +14,8 @@ use records::Progress;
 pub mod office; // office.rt: the calls for an office
 pub mod desk; // desk.rt: the calls for the charting desk
 pub mod hour; // hour.rt: the calls with hours
+pub mod round; // round.rt: the calls by rounds
+pub mod transport; // transport.rt: the calls that a transport needs
 
 // One turn of a processor.
 #[no_mangle]

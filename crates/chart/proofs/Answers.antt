@@ -15,8 +15,9 @@ use mir.ValLaws.{toZ-ofZ}
 use borrow.Author.Tests.{eqb-true, eq-eqb, ne-eqb, lt-ltb, le-ltb}
 use Rattle.base.specs.Tests.{_or_, not, pick}
 use Rattle.base.specs.Numbers.{Line, line, firstOf}
-use Rattle.base.proofs.Tests.{or-left, or-right, or-false, not-true, not-false, true-not, neither, pick-true}
+use Rattle.base.proofs.Tests.{or-left, or-right, or-false, not-true, not-false, true-not, neither}
 use Rattle.base.proofs.Numbers.{Numbered, first-true, first-false, first-some, first-behind, none-first}
+pub use Rattle.base.proofs.Numbers.{none-front, none-behind}
 use Rattle.text.specs.Writing.{Pen, pen, write}
 use Rattle.text.proofs.Pens.{write-at, write-front}
 use Rattle.nest.specs.declared.Nest.{Nest}
@@ -24,6 +25,7 @@ use Rattle.nest.specs.declared.Reading.{Reading}
 use Rattle.nest.specs.Nest.{lengthOf, cells}
 use Rattle.nest.specs.Reader.{readLines, nestOf, readingOf}
 use Rattle.nest.proofs.Numbered.{numbered}
+use Rattle.nest.proofs.Answers.{number-read, nest-read}
 use Rattle.chart.specs.declared.Told.{Told}
 use Rattle.chart.specs.Text.{chartText}
 use Rattle.chart.specs.Call.{notCharted, wrongGrid, measureLines, toldOf, lengthLines, lengthCall, writeLines, Written, written, writtenIf, writeCall}
@@ -54,18 +56,6 @@ pub length-told : (n : ℕ) (text : List ℕ) → n ≡ 0 → toldOf n text .len
 unfolding toldOf
 length-told zero text e = refl
 length-told (suc n) text e = absurd (omega arith)
-
--- ---- where no line of two lists holds, none of either does
-
-pub none-front : (a b : List Line) → firstOf (a ++ b) ≡ 0 → firstOf a ≡ 0
-none-front a b e = go (ℕ-discrete (firstOf a) 0)
-  where
-    go : Dec (firstOf a ≡ 0) → firstOf a ≡ 0
-    go (yes z) = z
-    go (no h) = sym (first-some a b h) ∙ e
-
-pub none-behind : (a b : List Line) → Numbered a → firstOf (a ++ b) ≡ 0 → firstOf b ≡ 0
-none-behind a b n e = sym (first-behind a b n (none-front a b e)) ∙ e
 
 -- ---- lines 23 and 9 of a nest
 
@@ -136,17 +126,11 @@ module _ (nest : Nest) (g : List ℕ) (size : ℕ) (text : List ℕ) (m : Told) 
 -- ---- the reader's lines before them
 
 module _ (l : List ℕ) (r : Reading) (e : r ≡ readingOf l) where
-  pub read-number : r .number ≡ firstOf (readLines l)
-  read-number = ap (λ (z : Reading). z .number) e
-
-  pub read-nest : r .number ≡ 0 → r .nest ≡ nestOf l
-  read-nest h = ap (λ (z : Reading). z .nest) e ∙ pick-true _ _ _ (eq-eqb _ _ (sym read-number ∙ h))
-
   behind : r .number ≡ 0 → (more : List Line) → firstOf (readLines l ++ more) ≡ firstOf more
-  behind h more = first-behind (readLines l) more (numbered l) (sym read-number ∙ h)
+  behind h more = first-behind (readLines l) more (numbered l) (sym (number-read l r e) ∙ h)
 
   before : r .number ≢ 0 → (more : List Line) → firstOf (readLines l ++ more) ≡ r .number
-  before h more = first-some (readLines l) more (λ q. h (read-number ∙ q)) ∙ sym read-number
+  before h more = first-some (readLines l) more (λ q. h (number-read l r e ∙ q)) ∙ sym (number-read l r e)
 
   module _ (g : List ℕ) (x y : ℤ) (size : ℕ) where
     pub length-read : (t : Told) → r .number ≢ 0 → Tells t (r .number) 0 → t ≡ lengthCall l g x y size
@@ -162,7 +146,7 @@ module _ (l : List ℕ) (r : Reading) (e : r ≡ readingOf l) where
       told-is =
           let k′ : t ≡ toldOf (firstOf (measureLines (r .nest) g size)) (chartText (r .nest) g x y size) =
           rw (toZ-ofZ w32 x fx, toZ-ofZ w32 y fy) at k in
-          k′ ∙ ap (λ (n : Nest). toldOf (firstOf (measureLines n g size)) (chartText n g x y size)) (read-nest h)
+          k′ ∙ ap (λ (n : Nest). toldOf (firstOf (measureLines n g size)) (chartText n g x y size)) (nest-read l r e h)
 
       pub length-done : t ≡ lengthCall l g x y size
       unfolding lengthCall
@@ -247,7 +231,7 @@ module _ (l g : List ℕ) (x y : ℤ) (size : ℕ) (s : List ℕ) where
         unfolding writeCall writtenIf pair pick
         write-done f q t w =
             let w₁ : pen q t ≡ write (pen 0 s) (chartText (r .nest) g x y size) = rw (toZ-ofZ w32 x fx, toZ-ofZ w32 y fy) at w in
-            let w₂ : pen q t ≡ write (pen 0 s) text = w₁ ∙ ap (λ (n : Nest). write (pen 0 s) (chartText n g x y size)) (read-nest l r e h) in
+            let w₂ : pen q t ≡ write (pen 0 s) text = w₁ ∙ ap (λ (n : Nest). write (pen 0 s) (chartText n g x y size)) (nest-read l r e h) in
             let u : t ≡ text ++ drop (length text) s = ap (λ (z : Pen). z .space) w₂ ∙ write-front s text (omega (arith, long, f)) in
             let m′ : m ≡ toldOf 0 text = is ∙ ap (λ (n : ℕ). toldOf n text) none in
             let z : firstOf (writeLines l g x y size s) ≡ 0 =

@@ -14,7 +14,7 @@ use Rattle.base.specs.Tests.{_and_, _or_, pick}
 use Rattle.base.specs.Numbers.{firstOf}
 use Rattle.base.proofs.Tests.{both, and-true, and-left, and-false, and-no, or-left, neither, not-true, true-not, every-all, every-not}
 use Rattle.base.proofs.Tests.{length-tabulate, tabulate-at}
-use Rattle.base.proofs.Numbers.{first-false, first-behind, none-first}
+use Rattle.base.proofs.Numbers.{first-false, first-behind, none-first, none-behind}
 use Rattle.machine.specs.Plan.{count, words}
 use Rattle.machine.specs.Machine.{State, Answered, stateOf, sweep}
 use Rattle.machine.specs.Runs.{Event, steps, total}
@@ -37,7 +37,7 @@ use Rattle.drive.specs.declared.Order.{Order}
 use Rattle.nest.proofs.Numbered.{numbered}
 use Rattle.routes.specs.Routes.{linesFor}
 use Rattle.routes.proofs.Laws.{numbered-for, open-direct}
-use Rattle.drive.proofs.Whole.{behind-none, ended}
+use Rattle.drive.proofs.Whole.{ended}
 use Rattle.comparison.specs.declared.Extent.{Extent}
 use Rattle.comparison.specs.Agreement.{isBeyond, sourceOf, sameWords, driven, ran, Outcome, outcome, agreeing, compared, ranAndCompared}
 use Rattle.comparison.specs.Agreement.{orderOf, fronts, Within, Roomy, Agreed}
@@ -50,7 +50,7 @@ module _ (bytes source : List ℕ) (s : State) where
   fresh-says : freshCall bytes 0 source s .number ≡ 0 → length source ≡ recipe bytes 0 .cells
   unfolding freshCall areas
   fresh-says z =
-      let a = none-first 9 _ [] (λ e. omega arith) (behind-none (linesFor (routeOf 0) bytes) _ (numbered-for (routeOf 0) bytes) z) in
+      let a = none-first 9 _ [] (λ e. omega arith) (none-behind (linesFor (routeOf 0) bytes) _ (numbered-for (routeOf 0) bytes) z) in
       eqb-true _ _ (both (true-not (a .0)) .0)
 
   -- it gives 0 where the recipe is accepted and the areas have their lengths

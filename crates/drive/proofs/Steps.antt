@@ -142,7 +142,9 @@ module _ (bytes source : List ℕ) (s : State) where
       let idle = took-none (calls bytes 0 source) s (turns o) (sym (h .some) ∙ e) in
       rw is
       (record {
-        state = d .state ∙ ap (λ (x : State). stateAfter (calls bytes 0 source) x (deliveriesTo (o .messages))) (h .state) ∙ sym (after-append (calls bytes 0 source) s (turns o) (deliveriesTo (o .messages)));
+        state =
+            d .state ∙ ap (λ (x : State). stateAfter (calls bytes 0 source) x (deliveriesTo (o .messages))) (h .state)
+            ∙ sym (after-append (calls bytes 0 source) s (turns o) (deliveriesTo (o .messages)));
         some = d .some ∙ ap (λ (x : State). ltb 0 (steps (calls bytes 0 source) x (deliveriesTo (o .messages)))) (h .state)
             ∙ ap (ltb 0) (sum-behind idle);
       })

@@ -1,19 +1,17 @@
 -- A drive from a fresh start ends with every step taken: a round does something, or no call gives 0 any more.
 use Prim.Native.Nat.{ℕ, zero, suc, _+_, _≤_, _<_}
-use mathlib.Core.Path.{_≡_, refl, sym, _∙_}
+use mathlib.Core.Path.{_≡_, refl}
 use mathlib.Core.Logic.{_≢_, _⊎_, inl, inr}
 use mathlib.Core.Bool.{Bool, true, false}
 use mathlib.Core.List.{List, [], _++_, append-assoc}
 use native.Mathlib.Nat.{eq-or-lt-of-le}
-use native.Mathlib.Decide.{ℕ-discrete}
 use native.Mathlib.Omega.{arith}
 use lib.ListN.{getD}
 use borrow.Author.Tests.{ltb-true, eqb-true}
 use Rattle.base.specs.Tests.{pick}
 use Rattle.base.specs.Lists.{countIf}
-use Rattle.base.specs.Numbers.{Line, firstOf}
 use Rattle.base.proofs.Tests.{true-not}
-use Rattle.base.proofs.Numbers.{first-some, first-behind, none-first, Numbered}
+use Rattle.base.proofs.Numbers.{none-first, none-behind}
 use Rattle.machine.specs.Plan.{count}
 use Rattle.machine.specs.Machine.{State, Answered}
 use Rattle.machine.specs.Runs.{Event, turnOf, deliveryOf, stateAfter, answersTo, total, steps, Demand3}
@@ -30,27 +28,12 @@ use Rattle.drive.specs.declared.Order.{Order}
 use Rattle.drive.proofs.Passes as passes
 use Rattle.drive.proofs.Passes.{took-none, took-some}
 
--- more lines behind the reader's: none of either counts
-pub behind-none : (a b : List Line) → Numbered a → firstOf (a ++ b) ≡ 0 → firstOf b ≡ 0
-behind-none a b n h = go (ℕ-discrete (firstOf a) 0)
-  where
-    go : Dec (firstOf a ≡ 0) → firstOf b ≡ 0
-    go (yes e) = sym (first-behind a b n e) ∙ h
-    go (no k) = absurd (k (sym (first-some a b k) ∙ h))
-
-pub before-none : (a b : List Line) → firstOf (a ++ b) ≡ 0 → firstOf a ≡ 0
-before-none a b h = go (ℕ-discrete (firstOf a) 0)
-  where
-    go : Dec (firstOf a ≡ 0) → firstOf a ≡ 0
-    go (yes e) = e
-    go (no k) = sym (first-some a b k) ∙ h
-
 -- what a call that gives 0 says
 module _ (bytes source : List ℕ) (s : State) where
   pub turn-low : (b : ℕ) → turnCall bytes 0 source s b .number ≡ 0 → b < recipe bytes 0 .processors
   unfolding turnCall
   turn-low b z =
-      let x = behind-none (linesFor (routeOf 0) bytes) _ (numbered-for (routeOf 0) bytes) z in
+      let x = none-behind (linesFor (routeOf 0) bytes) _ (numbered-for (routeOf 0) bytes) z in
       let y = none-first 9 _ _ (λ e. omega arith) x in
       let w = none-first 10 _ _ (λ e. omega arith) (y .1) in
       let v = none-first 11 _ _ (λ e. omega arith) (w .1) in
@@ -59,7 +42,7 @@ module _ (bytes source : List ℕ) (s : State) where
   pub delivery-low : (m : ℕ) → deliverCall bytes 0 source s m .number ≡ 0 → (m < count (recipe bytes 0)) × (getD (s .status) m 0 ≡ 1)
   unfolding deliverCall
   delivery-low m z =
-      let x = behind-none (linesFor (routeOf 0) bytes) _ (numbered-for (routeOf 0) bytes) z in
+      let x = none-behind (linesFor (routeOf 0) bytes) _ (numbered-for (routeOf 0) bytes) z in
       let y = none-first 9 _ _ (λ e. omega arith) x in
       let w = none-first 10 _ _ (λ e. omega arith) (y .1) in
       let v = none-first 11 _ _ (λ e. omega arith) (w .1) in

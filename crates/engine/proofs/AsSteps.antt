@@ -1,6 +1,6 @@
 -- Where a recipe is accepted and the areas have their lengths, each call is the machine's step; a fresh start that gave 0 says that it is so.
 use Prim.Native.Nat.{ℕ}
-use mathlib.Core.Path.{_≡_, sym, ap, _∙_}
+use mathlib.Core.Path.{_≡_, ap, _∙_}
 use mathlib.Core.Bool.{Bool, true}
 use mathlib.Core.List.{List, [], _∷_, _++_}
 use native.Mathlib.Omega.{arith}
@@ -10,12 +10,12 @@ use borrow.Author.Tests.{eq-eqb}
 use Rattle.base.specs.Tests.{not}
 use Rattle.base.specs.Numbers.{Line, line, firstOf}
 use Rattle.base.proofs.Tests.{not-true, true-not}
-use Rattle.base.proofs.Numbers.{first-false, none-first, first-behind}
+use Rattle.base.proofs.Numbers.{first-false, none-first, first-behind, none-front, none-behind}
 use Rattle.machine.specs.Plan.{Plan}
 use Rattle.machine.specs.Machine.{State, stateOf, answered, carryOut, nextAction, turnLines, turn, deliverLines, deliver, collectLines, collected, collect}
 use Rattle.layout.specs.Sizes.{routeOf}
 use Rattle.routes.specs.Routes.{linesFor}
-use Rattle.routes.proofs.Laws.{front, numbered-for}
+use Rattle.routes.proofs.Laws.{numbered-for}
 use Rattle.engine.specs.Calls.{recipe, areas, areaLines, freshCall, turnCall, deliverCall, collectCall}
 use Rattle.engine.proofs.Lines.{and-right}
 
@@ -49,10 +49,8 @@ module _ (l : List ℕ) (route : ℕ) where
 pub fresh-gave : (l : List ℕ) (route : ℕ) (source : List ℕ) (s : State) → freshCall l route source s .number ≡ 0
     → (firstOf (linesFor (routeOf route) l) ≡ 0) × (areas (recipe l route) source s ≡ true)
 unfolding freshCall
-fresh-gave l route source s e = (y, true-not (none-first 9 (not (areas (recipe l route) source s)) [] (λ q. omega arith) (x y) .0))
-  where
-    y : firstOf (linesFor (routeOf route) l) ≡ 0
-    y = front (linesFor (routeOf route) l) (areaLines (recipe l route) source s) e
-
-    x : firstOf (linesFor (routeOf route) l) ≡ 0 → firstOf (areaLines (recipe l route) source s) ≡ 0
-    x h = sym (first-behind (linesFor (routeOf route) l) (areaLines (recipe l route) source s) (numbered-for (routeOf route) l) h) ∙ e
+fresh-gave l route source s e = (
+  none-front (linesFor (routeOf route) l) (areaLines (recipe l route) source s) e,
+  true-not (none-first 9 (not (areas (recipe l route) source s)) [] (λ q. omega arith)
+      (none-behind (linesFor (routeOf route) l) (areaLines (recipe l route) source s) (numbered-for (routeOf route) l) e) .0),
+)

@@ -1,6 +1,6 @@
 -- A turn that gave 0 did its action's rule, word by word; a gather wrote every word of every message due.
 use Prim.Native.Nat.{ℕ, _<_}
-use mathlib.Core.Path.{_≡_, sym, _∙_}
+use mathlib.Core.Path.{_≡_}
 use mathlib.Core.Bool.{true}
 use mathlib.Core.List.{List, _++_}
 use native.Mathlib.Omega.{arith}
@@ -9,7 +9,7 @@ use Rattle.base.specs.Tests.{not}
 use Rattle.base.specs.Lists.{In}
 use Rattle.base.specs.Numbers.{firstOf}
 use Rattle.base.proofs.Tests.{true-not}
-use Rattle.base.proofs.Numbers.{none-first, first-behind}
+use Rattle.base.proofs.Numbers.{none-first, none-front, none-behind}
 use Rattle.machine.specs.Plan.{heldBy, duesOf}
 use Rattle.machine.specs.Machine.{State, Action, gather, nextAction, turnLines}
 use Rattle.machine.specs.Words.{wordAt, mailAt, cellOf, Unpacks, Does}
@@ -21,7 +21,7 @@ use Rattle.plan.proofs.ShapedSound.{sound}
 use Rattle.plan.proofs.Plans.{once}
 use Rattle.layout.specs.Sizes.{routeOf}
 use Rattle.routes.specs.Routes.{linesFor}
-use Rattle.routes.proofs.Laws.{front, numbered-for}
+use Rattle.routes.proofs.Laws.{numbered-for}
 use Rattle.engine.specs.Calls.{recipe, areas, areaLines, turnCall}
 use Rattle.engine.proofs.Lines.{areas-are}
 use Rattle.engine.proofs.AsSteps.{turn-is}
@@ -31,15 +31,14 @@ turn-open : (l : List ℕ) (route : ℕ) (source : List ℕ) (s : State) (b : �
     → firstOf (linesFor (routeOf route) l) ≡ 0
 unfolding turnCall
 turn-open l route source s b z =
-    front (linesFor (routeOf route) l) (areaLines (recipe l route) source s ++ turnLines (recipe l route) s b) z
+    none-front (linesFor (routeOf route) l) (areaLines (recipe l route) source s ++ turnLines (recipe l route) s b) z
 
 turn-areas : (l : List ℕ) (route : ℕ) (source : List ℕ) (s : State) (b : ℕ) → turnCall l route source s b .number ≡ 0
     → areas (recipe l route) source s ≡ true
 unfolding turnCall
 turn-areas l route source s b z =
     true-not (none-first 9 (not (areas (recipe l route) source s)) (turnLines (recipe l route) s b) (λ q. omega arith)
-    (sym (first-behind (linesFor (routeOf route) l) (areaLines (recipe l route) source s ++ turnLines (recipe l route) s b)
-    (numbered-for (routeOf route) l) (turn-open l route source s b z)) ∙ z) .0)
+    (none-behind (linesFor (routeOf route) l) (areaLines (recipe l route) source s ++ turnLines (recipe l route) s b) (numbered-for (routeOf route) l) z) .0)
 
 module _ (bytes : List ℕ) (route : ℕ) (ok : Accepted (nestOf bytes)) where
   pub does : (source : List ℕ) (s : State) (b : ℕ) → turnCall bytes route source s b .number ≡ 0

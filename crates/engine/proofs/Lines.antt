@@ -11,7 +11,7 @@ use lib.Dec.{ltb, leb, eqb}
 use borrow.Author.Tests.{eqb-true, eq-eqb, ne-eqb, lt-ltb, le-ltb}
 use Rattle.base.specs.Tests.{_and_, not, pick, every, some}
 use Rattle.base.specs.Numbers.{Line, line, firstOf}
-use Rattle.base.proofs.Tests.{both, and-true, and-left, and-false, and-no, not-true, not-false, true-not, pick-true}
+use Rattle.base.proofs.Tests.{both, and-true, and-left, and-false, and-no, not-true, not-false, true-not}
 use Rattle.base.proofs.Numbers.{Numbered, first-true, first-false, none-first, first-some, first-behind}
 use Rattle.machine.specs.Plan.{Plan, count, words}
 use Rattle.machine.specs.Machine as machine
@@ -30,6 +30,8 @@ use Rattle.layout.specs.Sizes.{Sized, routeOf}
 use Rattle.nest.specs.declared.Reading.{Reading}
 use Rattle.nest.specs.Reader.{readLines, nestOf, readingOf}
 use Rattle.nest.proofs.Numbered.{numbered}
+use Rattle.nest.proofs.Answers.{nest-read}
+pub use Rattle.nest.proofs.Answers.{number-read as read-number}
 use Rattle.routes.specs.Routes.{linesFor, ReadFor}
 use Rattle.routes.proofs.Laws.{numbered-for, reads-for, passed-for, direct-open, routed-for}
 use Rattle.stages.specs.Progress.{progressOnly}
@@ -148,18 +150,12 @@ module _ (l : List ℕ) (r : Reading) where
 
   -- a recipe read for no route is open to the direct one
   module _ (e : r ≡ readingOf l) where
-    pub read-number : r .number ≡ firstOf (readLines l)
-    read-number = ap (λ (z : Reading). z .number) e
-
     pub opened-direct : r .number ≡ 0 → {route : Route} → route ≡ Direct → Opened l 0 (planOf route (r .nest))
     unfolding routeOf
     opened-direct h {route} k =
-        let n : firstOf (readLines l) ≡ 0 = sym read-number ∙ h in
         record {
-          none = passed-for Direct l n (direct-open (nestOf l));
-          is =
-              ap (λ (z : Route). planOf z (r .nest)) k
-              ∙ ap (planOf Direct) (ap (λ (z : Reading). z .nest) e ∙ pick-true _ _ _ (eq-eqb _ _ n));
+          none = passed-for Direct l (sym (read-number l r e) ∙ h) (direct-open (nestOf l));
+          is = ap (λ (z : Route). planOf z (r .nest)) k ∙ ap (planOf Direct) (nest-read l r e h);
         }
 
 -- behind lines of which none has the number 0

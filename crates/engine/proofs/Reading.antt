@@ -5,7 +5,6 @@ use mathlib.Core.Logic.{_≢_}
 use mathlib.Core.Bool.{Bool, true, false}
 use mathlib.Core.List.{List, [], _∷_, _++_}
 use native.Mathlib.Omega.{arith}
-use native.Mathlib.Decide.{ℕ-discrete}
 use lib.ListN.{length, set, take, drop, replicate}
 use lib.Seq.{length-take-le}
 use lib.Dec.{ltb, eqb}
@@ -13,7 +12,7 @@ use borrow.Author.Tests.{eq-eqb, ne-eqb, ltb-true}
 use Rattle.base.specs.Tests.{not, pick, every, some}
 use Rattle.base.specs.Numbers.{Line, line, firstOf}
 use Rattle.base.proofs.Tests.{pick-true, pick-false, true-not}
-use Rattle.base.proofs.Numbers.{none-first, first-some, first-behind}
+use Rattle.base.proofs.Numbers.{none-first, none-behind}
 use Rattle.machine.specs.Plan.{Plan}
 use Rattle.machine.specs.Machine.{State, stateOf, Answered, setProgress, fitRecord, fit, waiting, tilesLeft, turnLines}
 use Rattle.nest.specs.declared.Nest.{Nest}
@@ -114,11 +113,7 @@ module _ (l : List ℕ) (route : ℕ) (source : List ℕ) (s : State) (b : ℕ) 
 
   pub turn-inside : turnCall l route source s b .number ≡ 0 → 3 * b + 2 < length (s .progress)
   unfolding turnCall
-  turn-inside e = by (ℕ-discrete (firstOf (linesFor (routeOf route) l)) 0)
-    where
-      by : Dec (firstOf (linesFor (routeOf route) l) ≡ 0) → 3 * b + 2 < length (s .progress)
-      by (yes z) = inside (sym (first-behind (linesFor (routeOf route) l) (areaLines p source s ++ turnLines p s b) (numbered-for (routeOf route) l) z) ∙ e)
-      by (no z) = absurd (z (sym (first-some (linesFor (routeOf route) l) (areaLines p source s ++ turnLines p s b) z) ∙ e))
+  turn-inside e = inside (none-behind (linesFor (routeOf route) l) (areaLines p source s ++ turnLines p s b) (numbered-for (routeOf route) l) e)
 
 -- ---- what a fresh start makes
 

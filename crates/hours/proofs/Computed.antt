@@ -51,7 +51,8 @@ unfoldable hours : ℕ → Hours
 hours minute = hoursOf (tableOf 5 10 10000 10080) minute
 
 -- open minute included, close minute excluded; each processor by its own pairs
-windows : (openAt (hours 0 .table) 0 4 ≡ false) × (openAt (hours 0 .table) 0 5 ≡ true) × (openAt (hours 0 .table) 0 9 ≡ true) × (openAt (hours 0 .table) 0 10 ≡ false)
+windows : (openAt (hours 0 .table) 0 4 ≡ false) × (openAt (hours 0 .table) 0 5 ≡ true) × (openAt (hours 0 .table) 0 9 ≡ true) × (openAt (hours 0 .table) 0 10
+    ≡ false)
     × (openAt (hours 0 .table) 1 5 ≡ false) × (openAt (hours 0 .table) 1 10079 ≡ true) × (openAt (tableOf 0 3 0 0) 0 0 ≡ true) ×
     (openAt (tableOf 0 0 0 0) 0 0 ≡ false)
 unfolding hours tableOf openAt covers isWindow some _and_ _or_ not
@@ -73,7 +74,8 @@ openings = (refl, refl, refl, refl, refl)
 asked : (askOpening small (hours 0) 0 .after ≡ OpensIn 5) × (askOpening small (hours 0) 0 .number ≡ 0) × (askOpening small (hours 10080) 0 .number ≡ 25)
     × (askOpening small (hours 10080) 0 .after ≡ OpensIn 0) × (askOpening small (hours 0) 2 .number ≡ 11) ×
     (askOpening small (hoursOf (tableOf 0 0 7 7) 0) 2 .number ≡ 25)
-unfolding small hours tableOf askOpening untilOpen firstFrom openAt covers faultyFor faultyTable faultyBoard isFaulty faultyMinute isWindow some _and_ _or_ not pick firstOf
+unfolding small hours tableOf askOpening untilOpen firstFrom openAt covers faultyFor faultyTable faultyBoard isFaulty faultyMinute isWindow some _and_ _or_
+    not pick firstOf
 asked = (refl, refl, refl, refl, refl, refl)
 
 -- ---- one office: each line, and before those that follow it
@@ -92,7 +94,8 @@ lines : (number (9 ∷ 0 ∷ 0 ∷ 0 ∷ 0 ∷ 0 ∷ []) (hours 10080) 9 ≡ 10)
     × (number (replicate 6 0) (hours 10000) 1 ≡ 12)
     × (number (2 ∷ 0 ∷ 0 ∷ 0 ∷ 0 ∷ 0 ∷ []) (hours 9) 0 ≡ 13)
     × (number (replicate 6 0) (hours 9) 0 ≡ 0)
-unfolding small hours tableOf with-records timedTurn faultyFor faultyTable faultyBoard isFaulty faultyMinute closed openAt covers isWindow those keep every some allAt not pick _and_ _or_ firstOf tilesLeft fitRecord fit waiting
+unfolding small hours tableOf with-records timedTurn faultyFor faultyTable faultyBoard isFaulty faultyMinute closed openAt covers isWindow those keep every
+    some allAt not pick _and_ _or_ firstOf tilesLeft fitRecord fit waiting
 lines = (refl, refl, refl, refl, refl, refl, refl, refl, refl)
 
 -- a run that closes mid-tile and goes on when it opens again; mail at any hour
@@ -100,7 +103,9 @@ run-numbers : answersTo (actAt small (1 ∷ 2 ∷ 3 ∷ 4 ∷ 5 ∷ 6 ∷ [])) (
     (turnAt (hours 9) 0 ∷ turnAt (hours 10) 0 ∷ turnAt (hours 5) 0 ∷ turnAt (hours 5) 0 ∷ turnAt (hours 20000) 0 ∷ mailOf 0 ∷ turnAt (hours 5) 1 ∷
     turnAt (hours 10079) 1 ∷ [])
     ≡ 0 ∷ 24 ∷ 0 ∷ 0 ∷ 25 ∷ 0 ∷ 24 ∷ 0 ∷ []
-unfolding small hours tableOf answersTo actAt timedTurn faultyFor faultyTable faultyBoard isFaulty faultyMinute closed openAt covers isWindow those keep offset part put unpack unpackAll setAll storeAll pack allAt every some one not pick _and_ _or_ firstOf setProgress tilesLeft fitRecord fit afterSends carryOut actionAt waiting deliver fresh
+unfolding small hours tableOf answersTo actAt timedTurn faultyFor faultyTable faultyBoard isFaulty faultyMinute closed openAt covers isWindow those keep
+    offset part put unpack unpackAll setAll storeAll pack allAt every some one not pick _and_ _or_ firstOf setProgress tilesLeft fitRecord fit afterSends
+    carryOut actionAt waiting deliver fresh
 run-numbers = refl
 
 -- ---- two offices: each line, and before those that follow it
@@ -123,11 +128,17 @@ lines-for : (numberFor (9 ∷ 0 ∷ 0 ∷ 0 ∷ 0 ∷ 0 ∷ []) (replicate 6 0) 
     × (numberFor (2 ∷ 0 ∷ 0 ∷ 0 ∷ 0 ∷ 0 ∷ []) (0 ∷ 1 ∷ 0 ∷ 0 ∷ 0 ∷ 0 ∷ []) (1 ∷ 2 ∷ []) 0 (hours 5) 0 ≡ 13)  -- held and finished
     × (numberFor (replicate 6 0) (replicate 6 0) (2 ∷ 2 ∷ []) 1 (hours 10000) 1 ≡ 12)
     × (numberFor (replicate 6 0) (replicate 6 0) (2 ∷ 2 ∷ []) 1 (hours 5) 0 ≡ 0)
-unfolding small beds hours tableOf rig with-records actAtOn actAtFor timedTurnFor faultyFor faultyTable faultyBoard isFaulty faultyMinute closed openAt covers isWindow those keep every some one allAt not pick _and_ _or_ firstOf tilesLeft fitRecord fit waiting stageAgrees fitWord fitFor heldByOther ofOffice returned
+unfolding small beds hours tableOf rig with-records actAtOn actAtFor timedTurnFor faultyFor faultyTable faultyBoard isFaulty faultyMinute closed openAt
+    covers isWindow those keep every some one allAt not pick _and_ _or_ firstOf tilesLeft fitRecord fit waiting stageAgrees fitWord fitFor heldByOther
+    ofOffice returned
 lines-for = (refl, refl, refl, refl, refl, refl, refl, refl, refl, refl)
 
 -- two gathers on one processor: either can go first, and then the other finds it engaged, also while the processor is closed for the one that holds it
-gathers-numbers : (answersTo (actAtOn small beds) (freshRig small) (turnBy 0 (hours 5) 0 ∷ turnBy 1 (hours 6) 0 ∷ turnBy 0 (hours 4) 0 ∷ turnBy 1 (hours 4) 0 ∷ []) ≡ 0 ∷ 19 ∷ 24 ∷ 24 ∷ [])
+gathers-numbers : (answersTo (actAtOn small beds) (freshRig small) (turnBy 0 (hours 5) 0 ∷ turnBy 1 (hours 6) 0 ∷ turnBy 0 (hours 4) 0 ∷ turnBy 1 (hours 4) 0
+    ∷ []) ≡ 0 ∷ 19 ∷ 24 ∷ 24 ∷ [])
     × (answersTo (actAtOn small beds) (freshRig small) (turnBy 1 (hours 6) 0 ∷ turnBy 0 (hours 5) 0 ∷ mailBy 0 0 ∷ []) ≡ 0 ∷ 19 ∷ 14 ∷ [])
-unfolding small beds hours tableOf answersTo actAtOn actAtFor timedTurnFor faultyFor faultyTable faultyBoard isFaulty faultyMinute closed openAt covers isWindow those keep offset part put unpack unpackAll setAll storeAll pack allAt every some one not pick _and_ _or_ firstOf setProgress tilesLeft fitRecord fit afterSends carryOut actionAt waiting fresh stageAgrees fitWord fitFor heldByOther freedAfter engagedAfter carryOutFor deliverFor ofOffice returned freshRig
+unfolding small beds hours tableOf answersTo actAtOn actAtFor timedTurnFor faultyFor faultyTable faultyBoard isFaulty faultyMinute closed openAt covers
+    isWindow those keep offset part put unpack unpackAll setAll storeAll pack allAt every some one not pick _and_ _or_ firstOf setProgress tilesLeft
+    fitRecord fit afterSends carryOut actionAt waiting fresh stageAgrees fitWord fitFor heldByOther freedAfter engagedAfter carryOutFor deliverFor ofOffice
+    returned freshRig
 gathers-numbers = (refl, refl)

@@ -47,7 +47,8 @@ opened : every (λ b. openAt short b b) 4 ≡ true
 unfolding short openAt covers isWindow every some _and_ _or_ not
 opened = refl
 
-goes : (source : List ℕ) (events : List Timed) → steps (actAt rows source) (fresh rows) events < total rows → SomeStep (actAt rows source) (fresh rows) events short
+goes : (source : List ℕ) (events : List Timed) → steps (actAt rows source) (fresh rows) events < total rows → SomeStep (actAt rows source) (fresh rows)
+    events short
 unfolding rows
 goes source events h =
     one-office source events .goes-on short faultless (λ b low left. (b, omega arith, every-at (λ b. openAt short b b) 4 opened b low)) h
@@ -60,7 +61,8 @@ getD-zeros (suc n) (suc i) = getD-zeros n i
 
 zeros-shut : (n b minute : ℕ) → openAt (replicate n 0) b minute ≡ false
 unfolding openAt covers
-zeros-shut n b minute = some-none _ 14 (λ w h. and-no _ _ (and-no _ _ (le-ltb minute (closesAt (replicate n 0) b w) (omega (arith, getD-zeros n (28 * b + 2 * w + 1))))))
+zeros-shut n b minute =
+    some-none _ 14 (λ w h. and-no _ _ (and-no _ _ (le-ltb minute (closesAt (replicate n 0) b w) (omega (arith, getD-zeros n (28 * b + 2 * w + 1))))))
 
 zeros-never : (n b minute : ℕ) → untilOpen (replicate n 0) minute b ≡ Never
 zeros-never n b minute = tells (replicate n 0) minute b .if-never (λ i h. zeros-shut n b i)

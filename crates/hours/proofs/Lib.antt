@@ -1,4 +1,3 @@
-pub mod Loops
 pub mod Windows
 pub mod Search
 pub mod Telling

@@ -68,8 +68,8 @@ relocated x c r l = subst (λ (k : ℕ). Located x k r) (sym (l .number)) l
 -- ---- making the box: corner and lengths are done before j, and the corner is still the tile's place from j on
 
 pub record Boxing (x : Nest) (t : ℕ) (corner lengths : List ℕ) (j : ℕ) : Type 0 where
-  pub first : Filled (λ i. tilePlace x t i * tileLength x i) (x .dimensions) corner j
-  pub second : Filled (boxLength x t) (x .dimensions) lengths j
+  pub first : Filled 4 (λ i. tilePlace x t i * tileLength x i) (x .dimensions) corner j
+  pub second : Filled 4 (boxLength x t) (x .dimensions) lengths j
   pub rest : (i : ℕ) → j ≤ i → i < x .dimensions → getD corner i 0 ≡ tilePlace x t i
 
 module _ (x : Nest) (ok : Accepted x) where
@@ -135,7 +135,8 @@ module _ (x : Nest) (ok : Accepted x) where
   abbrev quotientOf : ℕ → ℕ → ℕ
   quotientOf c j = cellPlace x c j / tileLength x j
 
-  pub quotients-are : (c : ℕ) (i u : List ℕ) → Has i (cellPlace x c) (x .dimensions) → Has u (λ j. getD i j 0 / tileLength x j) (x .dimensions) → Has u (quotientOf c) (x .dimensions)
+  pub quotients-are : (c : ℕ) (i u : List ℕ) → Has i (cellPlace x c) (x .dimensions) → Has u (λ j. getD i j 0 / tileLength x j) (x .dimensions)
+      → Has u (quotientOf c) (x .dimensions)
   quotients-are c i u e f = record { each = λ j h. f .each j h ∙ ap (λ (a : ℕ). a / tileLength x j) (e .each j h) }
 
   pub quotient-within : (c j : ℕ) → j < x .dimensions → quotientOf c j ≤ tileCount x j
@@ -177,7 +178,15 @@ module _ (x : Nest) (ok : Accepted x) where
       placed-box : Has r (boxPlace x (b .tile) q) (x .dimensions)
       unfolding boxPlace
       placed-box =
-          record { each = λ j h. omega (arith, p .first j h, is .corner .each j h, place-lengths (nth (b .lengths)) (boxLength x (b .tile)) (x .dimensions) q j (is .lengths .each)) }
+          record {
+            each = λ j h. omega (
+              arith,
+              p .first j h,
+              is .corner .each j h,
+              place-lengths (nth (b .lengths)) (boxLength x (b .tile)) (x .dimensions) q
+                  j (is .lengths .each),
+            );
+          }
 
       pub box-ranked : Ranked (x .lengths) r (x .dimensions)
       box-ranked = record { counts = lengths-countable; at-most = λ j h. omega (arith, placed-box .each j h, boxPlace-low x ok (b .tile) q j h) }
@@ -195,7 +204,8 @@ module _ (x : Nest) (ok : Accepted x) where
           }
 
   -- what the code that makes the box has
-  pub box-countable : (t : ℕ) (l : List ℕ) → t < boxTiles x → Has l (boxLength x t) (x .dimensions) → (product (nth l) (x .dimensions) ≡ boxSize x t) × Countable l (x .dimensions)
+  pub box-countable : (t : ℕ) (l : List ℕ) → t < boxTiles x → Has l (boxLength x t) (x .dimensions) → (product (nth l) (x .dimensions) ≡ boxSize x t) ×
+      Countable l (x .dimensions)
   unfolding boxSize
   box-countable t l h e =
       let s : product (nth l) (x .dimensions) ≡ product (boxLength x t) (x .dimensions) = product-same (nth l) (boxLength x t) (x .dimensions) (e .each) in (
@@ -208,7 +218,8 @@ module _ (x : Nest) (ok : Accepted x) where
       )
 
   module _ (t : ℕ) where
-    pub boxing-none : (corner lengths : List ℕ) → Has corner (tilePlace x t) (x .dimensions) → length corner ≡ 4 → length lengths ≡ 4 → Boxing x t corner lengths 0
+    pub boxing-none : (corner lengths : List ℕ) → Has corner (tilePlace x t) (x .dimensions) → length corner ≡ 4 → length lengths ≡ 4 → Boxing x t corner
+        lengths 0
     boxing-none corner lengths e a b =
         record { first = filled-none _ _ corner a; second = filled-none _ _ lengths b; rest = λ i h k. e .each i k }
 
@@ -222,7 +233,9 @@ module _ (x : Nest) (ok : Accepted x) where
       boxing-more v e =
           record {
             first = filled-more _ _ corner j _ (s .first) h (ok .dimensions-most) (ap (λ (a : ℕ). a * tileLength x j) at);
-            second = filled-more _ _ lengths j v (s .second) h (ok .dimensions-most) (e ∙ ap (λ (a : ℕ). min (tileLength x j) (lengthOf x j - a * tileLength x j)) at);
+            second =
+                filled-more _ _ lengths j v (s .second) h (ok .dimensions-most) (e ∙ ap (λ (a : ℕ). min (tileLength x j) (lengthOf x j - a * tileLength x j))
+                at);
             rest = λ i k l. getD-set-other corner j i (getD corner j 0 * tileLength x j) 0 (λ z. omega arith) ∙ s .rest i (omega arith) l;
           }
         where

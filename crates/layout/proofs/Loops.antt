@@ -10,7 +10,8 @@ use native.Mathlib.Omega.{arith}
 use lib.ListN.{length, getD, set, length-set}
 use lib.Seq.{getD-set-same, getD-set-other}
 use Rattle.base.specs.Tests.{every, some}
-use Rattle.base.proofs.Tests.{every-at, every-all, every-more, some-at, some-one, some-none, same-test}
+use Rattle.base.proofs.Tests.{every-more, some-none}
+pub use Rattle.base.proofs.Tests.{every-same}
 use Rattle.layout.specs.Places.{Has}
 
 -- ---- a loop that returns false at the first number where the test fails
@@ -53,28 +54,19 @@ module _ (f : ℕ → Bool) (n : ℕ) where
   pub nowhere-end : (j : ℕ) → Nowhere f n j → n ≤ j → some f n ≡ false
   nowhere-end j s h = some-none f n (λ i k. s .none i (omega (arith, s .low)))
 
--- ---- tests that agree
-
-pub every-same : (f g : ℕ → Bool) (n : ℕ) → ((i : ℕ) → i < n → f i ≡ g i) → every f n ≡ every g n
-every-same f g n h = same-test (λ e. every-all g n (λ i k. sym (h i k) ∙ every-at f n e i k)) (λ e. every-all f n (λ i k. h i k ∙ every-at g n e i k))
-
-pub some-same : (f g : ℕ → Bool) (n : ℕ) → ((i : ℕ) → i < n → f i ≡ g i) → some f n ≡ some g n
-some-same f g n h =
-    same-test (λ e. let r = some-at f n e in some-one g n (r .0) (r .1) (sym (h (r .0) (r .1)) ∙ r .2))
-    (λ e. let r = some-at g n e in some-one f n (r .0) (r .1) (h (r .0) (r .1) ∙ r .2))
-
 -- ---- an array that is filled from its start
 
-pub record Filled (f : ℕ → ℕ) (n : ℕ) (l : List ℕ) (j : ℕ) : Type 0 where
+-- an array of so many words whose first j are those of f, of the n that will be
+pub record Filled (size : ℕ) (f : ℕ → ℕ) (n : ℕ) (l : List ℕ) (j : ℕ) : Type 0 where
   pub low : j ≤ n
-  pub long : length l ≡ 4
+  pub long : length l ≡ size
   pub each : (i : ℕ) → i < j → getD l i 0 ≡ f i
 
-module _ (f : ℕ → ℕ) (n : ℕ) where
-  pub filled-none : (l : List ℕ) → length l ≡ 4 → Filled f n l 0
+module _ {size : ℕ} (f : ℕ → ℕ) (n : ℕ) where
+  pub filled-none : (l : List ℕ) → length l ≡ size → Filled size f n l 0
   filled-none l e = record { low = omega arith; long = e; each = λ i h. absurd (omega arith) }
 
-  pub filled-more : (l : List ℕ) (j v : ℕ) → Filled f n l j → j < n → n ≤ 4 → v ≡ f j → Filled f n (set l j v) (j + 1)
+  pub filled-more : (l : List ℕ) (j v : ℕ) → Filled size f n l j → j < n → n ≤ size → v ≡ f j → Filled size f n (set l j v) (j + 1)
   filled-more l j v s h m e = record { low = omega arith; long = length-set l j v ∙ s .long; each = λ i k. go i (eq-or-lt-of-le (low i k)) }
     where
       low : (i : ℕ) → i < j + 1 → i ≤ j
@@ -84,13 +76,13 @@ module _ (f : ℕ → ℕ) (n : ℕ) where
       go i (inl q) = ap (λ (k : ℕ). getD (set l j v) k 0) q ∙ getD-set-same l j v 0 (omega (arith, s .long)) ∙ e ∙ ap f (sym q)
       go i (inr q) = getD-set-other l j i v 0 (λ z. omega arith) ∙ s .each i q
 
-  pub filled-end : (l : List ℕ) (j : ℕ) → Filled f n l j → n ≤ j → Has l f n
+  pub filled-end : (l : List ℕ) (j : ℕ) → Filled size f n l j → n ≤ j → Has l f n
   filled-end l j s h = record { each = λ i k. s .each i (omega (arith, s .low)) }
 
--- ---- an array that is changed from its start
+-- ---- an array of four that is changed from its start
 
 pub record Changed (f : ℕ → ℕ) (n : ℕ) (start l : List ℕ) (j : ℕ) : Type 0 where
-  pub first : Filled f n l j
+  pub first : Filled 4 f n l j
   pub rest : (i : ℕ) → j ≤ i → getD l i 0 ≡ getD start i 0
 
 module _ (f : ℕ → ℕ) (n : ℕ) (start : List ℕ) where
@@ -100,27 +92,3 @@ module _ (f : ℕ → ℕ) (n : ℕ) (start : List ℕ) where
   pub changed-more : (l : List ℕ) (j v : ℕ) → Changed f n start l j → j < n → n ≤ 4 → v ≡ f j → Changed f n start (set l j v) (j + 1)
   changed-more l j v s h m e =
       record { first = filled-more f n l j v (s .first) h m e; rest = λ i k. getD-set-other l j i v 0 (λ z. omega arith) ∙ s .rest i (omega arith) }
-
--- ---- an array of eight that is filled from its start
-
-pub record Eight (f : ℕ → ℕ) (n : ℕ) (l : List ℕ) (j : ℕ) : Type 0 where
-  pub low : j ≤ n
-  pub long : length l ≡ 8
-  pub each : (i : ℕ) → i < j → getD l i 0 ≡ f i
-
-module _ (f : ℕ → ℕ) (n : ℕ) where
-  pub eight-none : (l : List ℕ) → length l ≡ 8 → Eight f n l 0
-  eight-none l e = record { low = omega arith; long = e; each = λ i h. absurd (omega arith) }
-
-  pub eight-more : (l : List ℕ) (j v : ℕ) → Eight f n l j → j < n → n ≤ 8 → v ≡ f j → Eight f n (set l j v) (j + 1)
-  eight-more l j v s h m e = record { low = omega arith; long = length-set l j v ∙ s .long; each = λ i k. go i (eq-or-lt-of-le (low i k)) }
-    where
-      low : (i : ℕ) → i < j + 1 → i ≤ j
-      low i k = omega arith
-
-      go : (i : ℕ) → (i ≡ j) ⊎ (i < j) → getD (set l j v) i 0 ≡ f i
-      go i (inl q) = ap (λ (k : ℕ). getD (set l j v) k 0) q ∙ getD-set-same l j v 0 (omega (arith, s .long)) ∙ e ∙ ap f (sym q)
-      go i (inr q) = getD-set-other l j i v 0 (λ z. omega arith) ∙ s .each i q
-
-  pub eight-end : (l : List ℕ) (j : ℕ) → Eight f n l j → n ≤ j → (i : ℕ) → i < n → getD l i 0 ≡ f i
-  eight-end l j s h i k = s .each i (omega (arith, s .low))

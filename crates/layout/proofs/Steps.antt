@@ -24,7 +24,7 @@ use Rattle.layout.specs.Sizes.{routeOf, along, endAt, Stepped}
 use Rattle.layout.specs.Places.{nth, Has, Places, Placed}
 use Rattle.layout.proofs.Dims.{product-pos, place-lengths, rank-add, rank-most}
 use Rattle.layout.proofs.Cells.{four, zeros, twos, two-few, two-product, box-few}
-use Rattle.layout.proofs.Loops.{Eight, eight-end}
+use Rattle.layout.proofs.Loops.{Filled, filled-end}
 
 pub route-direct : (word : ℕ) → word ≡ 0 → Direct ≡ routeOf word
 unfolding routeOf
@@ -112,7 +112,12 @@ module _ (x : Nest) (ok : Accepted x) where
   pub step-few : (r : Route) (w : ℕ) → tileAt x (along r x w) ≤ 65536
   unfolding tileAt boxTiles
   step-few r w =
-      omega (arith, rank-most (tileCount x) (along r x w) (x .dimensions) (tileCount-pos x ok) (along-within r w), mul-le-mul-right (product (tileCount x) (x .dimensions)) (ok .dimensions-most), box-few x ok)
+      omega (
+        arith,
+        rank-most (tileCount x) (along r x w) (x .dimensions) (tileCount-pos x ok) (along-within r w),
+        mul-le-mul-right (product (tileCount x) (x .dimensions)) (ok .dimensions-most),
+        box-few x ok,
+      )
 
   -- ---- the taker is the sender and the step
 
@@ -161,10 +166,11 @@ module _ (x : Nest) (ok : Accepted x) where
       low : (s : ℕ) → s % ways r x < 8
       low s = omega (arith, ways-few r, mod-lt s (ways-pos r))
 
-  pub stepped-all : (r : Route) (i : ℕ) (l : List ℕ) (d : ℕ) → (i ≡ 0 → ⊥) → Eight (λ w. tileAt x (along r x w)) (ways r x) l d → ways r x ≤ d → Stepped r x i l
+  pub stepped-all : (r : Route) (i : ℕ) (l : List ℕ) (d : ℕ) → (i ≡ 0 → ⊥) → Filled 8 (λ w. tileAt x (along r x w)) (ways r x) l d → ways r x ≤ d
+      → Stepped r x i l
   unfolding endAt
   stepped-all r zero l d f q h = absurd (f refl)
   stepped-all r (suc i) l d f q h =
       record {
-        each = λ s k. taker-step r s k ∙ ap (λ (a : ℕ). slotTile r x s + a) (sym (eight-end _ _ l d q h (s % ways r x) (mod-lt s (ways-pos r))));
+        each = λ s k. taker-step r s k ∙ ap (λ (a : ℕ). slotTile r x s + a) (sym (filled-end _ _ l d q h .each (s % ways r x) (mod-lt s (ways-pos r))));
       }

@@ -12,7 +12,8 @@ use Rattle.base.specs.Lists.{countIf}
 use Rattle.base.proofs.Tests.{sum-same, sum-most}
 use Rattle.machine.specs.Plan.{Plan, Sound, count}
 use Rattle.machine.specs.Machine.{Action, gather, nextAction, sentOf, carryOut, collect, fresh}
-use Rattle.machine.specs.Runs.{Event, turnOf, act, stateAfter, answersTo, total, program, turnsOf, timesOf, calculates, sends, takes, deliveriesOf, CarriedOut, last, answers, steps, Demand3}
+use Rattle.machine.specs.Runs.{Event, turnOf, act, stateAfter, answersTo, total, program, turnsOf, timesOf, calculates, sends, takes}
+use Rattle.machine.specs.Runs.{deliveriesOf, CarriedOut, last, answers, steps, Demand3}
 use Rattle.machine.proofs.Records.{fit-is, fit-over}
 use Rattle.machine.proofs.Turns.{by-next}
 use Rattle.machine.proofs.Invariant.{pending}
@@ -53,12 +54,15 @@ module _ (p : Plan) (so : Sound p) (source : List ℕ) (es : List Event) (b : �
       next-at (program p b) _ turns _
       (sym rest-es ∙ turn-takes p (stateAfter (act p source) (fresh p) es) b source (run-inv p so source es (fresh p) (inv-fresh p source) .shape) z)
 
-  carried : act p source (stateAfter (act p source) (fresh p) es) (turnOf b) .number ≡ 0 → CarriedOut p source (act p source) (stateAfter (act p source) (fresh p) es) b turns
+  carried : act p source (stateAfter (act p source) (fresh p) es) (turnOf b) .number ≡ 0 → CarriedOut p source (act p source)
+      (stateAfter (act p source) (fresh p) es) b turns
   unfolding act
   carried z =
       record {
         named = named-next z .0;
-        by-rule = by-next p source (stateAfter (act p source) (fresh p) es) b z ∙ ap (carryOut p source (stateAfter (act p source) (fresh p) es) b) (sym (named-next z .1));
+        by-rule =
+            by-next p source (stateAfter (act p source) (fresh p) es) b z ∙ ap (carryOut p source (stateAfter (act p source) (fresh p) es) b)
+            (sym (named-next z .1));
       }
 
 module _ (p : Plan) (so : Sound p) (source : List ℕ) (events : List Event) where
@@ -72,22 +76,27 @@ module _ (p : Plan) (so : Sound p) (source : List ℕ) (events : List Event) whe
   module _ (f : Action → Bool) (k : ℕ) (named : sum (λ b. countIf f (program p b)) (p .processors) ≡ k) where
     at-most : timesOf p events (answers (act p source) (fresh p) events) f ≤ k
     at-most =
-        let a = sum-most (λ b. countIf f (take (turnsOf b events (answers (act p source) (fresh p) events)) (program p b))) (λ b. countIf f (program p b)) (p .processors)
+        let a = sum-most (λ b. countIf f (take (turnsOf b events (answers (act p source) (fresh p) events)) (program p b))) (λ b. countIf f (program p b))
+        (p .processors)
         (λ b h. count-take f (turnsOf b events (answers (act p source) (fresh p) events)) (program p b)) in
         omega arith
 
     exactly : leftOf p (last (act p source) (fresh p) events) ≡ 0 → timesOf p events (answers (act p source) (fresh p) events) f ≡ k
     exactly z =
-        sum-same (λ b. countIf f (take (turnsOf b events (answers (act p source) (fresh p) events)) (program p b))) (λ b. countIf f (program p b)) (p .processors)
-        (λ b h. ap (countIf f) (take-all (turnsOf b events (answers (act p source) (fresh p) events)) (program p b) (none-after (program p b) _ (sym (rest-es p so source events b) ∙ empty b h))))
+        sum-same (λ b. countIf f (take (turnsOf b events (answers (act p source) (fresh p) events)) (program p b))) (λ b. countIf f (program p b))
+        (p .processors)
+        (λ b h. ap (countIf f) (take-all (turnsOf b events (answers (act p source) (fresh p) events)) (program p b)
+        (none-after (program p b) _ (sym (rest-es p so source events b) ∙ empty b h))))
         ∙ named
       where
         empty : (b : ℕ) → b < p .processors → restOf p (last (act p source) (fresh p) events) b ≡ []
         empty b h =
             let k = all-finished p so source (last (act p source) (fresh p) events) inv z b in
-            rest-end p b _ _ _ k (fit-over p b _ _ (sentOf (last (act p source) (fresh p) events) b) k (sym (fit-is p (last (act p source) (fresh p) events) b) ∙ inv .shape .records b h))
+            rest-end p b _ _ _ k (fit-over p b _ _ (sentOf (last (act p source) (fresh p) events) b) k
+            (sym (fit-is p (last (act p source) (fresh p) events) b) ∙ inv .shape .records b h))
 
-  brought : (m : ℕ) → m < count p → deliveriesOf m events (answers (act p source) (fresh p) events) + pending (statusOf (last (act p source) (fresh p) events) m) ≡ 1
+  brought : (m : ℕ) → m < count p → deliveriesOf m events (answers (act p source) (fresh p) events) + pending
+      (statusOf (last (act p source) (fresh p) events) m) ≡ 1
   brought m lo = run-brings p so source m lo events (fresh p) (inv-fresh p source) ∙ ap pending (status-fresh p m)
 
   none : steps (act p source) (fresh p) events ≡ total p → leftOf p (last (act p source) (fresh p) events) ≡ 0

@@ -16,7 +16,8 @@ use Rattle.base.proofs.Select.{those-in, at-low, at-is}
 use Rattle.base.proofs.Entries.{part-at, put-same, put-rest, pack-at, at-in, unpack-other, unpack-at, store-other}
 use Rattle.base.proofs.Lists.{AllBelow, part-length, length-put, piece-fits, piece-same, unpack-length, pack-length, store-length}
 use Rattle.machine.specs.Plan.{Plan, Sound, count, senderOf, takerOf, heldBy, tilesOf, sendsOf, duesOf, offset, words}
-use Rattle.machine.specs.Machine.{State, Answered, memoryOf, placeOf, finishedOf, stageOf, sentOf, currentTile, fitRecord, fit, unpackAll, gather, calculate, send, nextAction, carryOut, turn}
+use Rattle.machine.specs.Machine.{State, Answered, memoryOf, placeOf, finishedOf, stageOf, sentOf, currentTile, fitRecord, fit, unpackAll}
+use Rattle.machine.specs.Machine.{gather, calculate, send, nextAction, carryOut, turn}
 use Rattle.machine.specs.Words.{cellOf, Outside, Packs, Unpacks, Stores, Does}
 use Rattle.machine.proofs.Records.{fit-is, fit-sending}
 use Rattle.machine.proofs.Turns.{Turned, turned, next-zero, next-one, next-two}

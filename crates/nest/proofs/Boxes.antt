@@ -1,6 +1,6 @@
 -- Laws of the box: its cells and tiles, each tile's first cell; without bounds all tiles of the box hold a cell.
 use Prim.Native.Nat.{ℕ, zero, suc, _+_, _*_, _-_, _/_, _≤_, _<_}
-use mathlib.Core.Path.{_≡_, refl, sym, ap, _∙_}
+use mathlib.Core.Path.{_≡_, refl, ap, _∙_}
 use mathlib.Core.Bool.{Bool, true}
 use mathlib.Core.List.{List, [], _∷_, _++_}
 use native.Mathlib.Nat.{mul-le-mul, mul-le-mul-right, div-mul-le-self, mul-div-cancel, div-le-self}
@@ -8,7 +8,8 @@ use native.Mathlib.Omega.{arith}
 use lib.ListN.{length}
 use borrow.Author.Tests.{eq-eqb}
 use Rattle.base.specs.Tests.{every, some, keep, tabulate, product}
-use Rattle.base.proofs.Tests.{and-true, same-test, every-at, every-all, some-one, length-tabulate}
+use Rattle.base.proofs.Tests.{and-true, some-one, length-tabulate}
+pub use Rattle.base.proofs.Tests.{every-same}
 use Rattle.base.proofs.Select.{keep-hit, keep-few}
 use Rattle.nest.specs.declared.Nest.{Nest}
 use Rattle.nest.specs.Nest.{lengthOf, tileLength, tileCount, cells, boxTiles}
@@ -16,9 +17,6 @@ use Rattle.nest.specs.Places.{rank, place, cellAt, cellPlace, tileAt, ti
 use Rattle.nest.specs.Shape.{inShape, exists, existing, tiles}
 use Rattle.nest.specs.Spans.{Tiled, holds}
 use Rattle.nest.proofs.Rank.{Within, Positive, place-low, rank-low, rank-same, place-rank, rank-place, div-le}
-
-pub every-same : (f g : ℕ → Bool) (n : ℕ) → ((i : ℕ) → i < n → f i ≡ g i) → every f n ≡ every g n
-every-same f g n h = same-test (λ e. every-all g n (λ i k. sym (h i k) ∙ every-at f n e i k)) (λ e. every-all f n (λ i k. h i k ∙ every-at g n e i k))
 
 pub all-kept : (f : ℕ → Bool) (n : ℕ) → ((u : ℕ) → u < n → f u ≡ true) → keep f n ≡ tabulate (λ u. u) n
 unfolding keep tabulate
@@ -84,7 +82,8 @@ module _ (x : Nest) (long : Positive (lengthOf x) (x .dimensions)) where
       rank-low (lengthOf x) (corner u) (x .dimensions) (corner-low u),
       rank-same (tileCount x) (λ j. place (lengthOf x) (x .dimensions) (rank (lengthOf x) (corner u) (x .dimensions)) j / tileLength x j)
           (place (tileCount x) (x .dimensions) u) (x .dimensions)
-          (λ j h. ap (λ (a : ℕ). a / tileLength x j) (place-rank (lengthOf x) (corner u) (x .dimensions) (corner-low u) j h) ∙ mul-div-cancel (place (tileCount x) (x .dimensions) u j) (tiled j h))
+          (λ j h. ap (λ (a : ℕ). a / tileLength x j) (place-rank (lengthOf x) (corner u) (x .dimensions) (corner-low u) j h) ∙ mul-div-cancel
+          (place (tileCount x) (x .dimensions) u j) (tiled j h))
           ∙ rank-place (tileCount x) (x .dimensions) u counts-least l,
     )
 

@@ -14,10 +14,12 @@ use lib.Seq.{ext-getD, getD-set-same, getD-set-other}
 use lib.Dec.{eqb, ltb}
 use borrow.Author.Tests.{lt-ltb, le-ltb, le-leb, lt-leb, eq-eqb, ne-eqb, leb-true, eqb-true}
 use Rattle.base.specs.Tests.{_and_, _or_, not, pick, every, some, keep, those, product}
-use Rattle.base.proofs.Tests.{both, and-true, and-left, and-false, and-no, or-left, or-right, or-false, not-true, not-false, is-true, never-both, every-more, every-not, some-one, pick-true, pick-false, length-tabulate, tabulate-at}
+use Rattle.base.proofs.Tests.{both, and-true, and-left, and-false, and-no, or-left, or-right, or-false, not-true, not-false, is-true, never-both}
+use Rattle.base.proofs.Tests.{every-not, some-one, pick-true, pick-false, length-tabulate, tabulate-at}
 use Rattle.base.specs.Numbers.{line, firstOf}
 use Rattle.base.proofs.Select.{those-more, those-none, those-few, keep-more, keep-none, keep-few}
 use Rattle.base.proofs.Numbers.{first-true, first-false}
+pub use Rattle.base.proofs.Loops.{some-start, some-step, some-end, every-start, every-step, every-end}
 use Rattle.nest.specs.declared.Nest.{Nest}
 use Rattle.nest.specs.Nest.{lengthOf, tileLength, processorCount, tileCount, cells, processors}
 use Rattle.base.specs.Lists.{Bytes}
@@ -28,27 +30,6 @@ use Rattle.nest.specs.Reader.{lastSpread, badProcessors, tooManyTiles, n
 -- ---- loops
 
 module _ (f : ℕ → Bool) where
-  pub some-start : some f 0 ≡ false
-  unfolding some
-  some-start = refl
-
-  pub some-step : (j : ℕ) → some f j ≡ false → f j ≡ false → some f (j + 1) ≡ false
-  unfolding some
-  some-step j p q = rw add-one (or-false p q)
-
-  pub some-end : (n j : ℕ) → j ≤ n → n ≤ j → some f j ≡ false → some f n ≡ false
-  some-end n j a b e = let k : j ≡ n = omega arith in rw k at e
-
-  pub every-start : every f 0 ≡ true
-  unfolding every
-  every-start = refl
-
-  pub every-step : (j : ℕ) → every f j ≡ true → f j ≡ true → every f (j + 1) ≡ true
-  every-step j p q = rw add-one (every-more f j p q)
-
-  pub every-end : (n j : ℕ) → j ≤ n → n ≤ j → every f j ≡ true → every f n ≡ true
-  every-end n j a b e = let k : j ≡ n = omega arith in rw k at e
-
   pub kept-start : _≡_ {A = ℕ} 0 (length (keep f 0))
   unfolding keep
   kept-start = refl
@@ -475,7 +456,8 @@ module _ (needless : Bool) (x : Nest) where
 
         module _ (h20 : noCell x ≡ false) where
           to-5 : firstOf (nestLines needless x)
-              ≡ firstOf (line 5 (badDistance x) ∷ line 6 (badTile x) ∷ line 16 (badSpread x) ∷ line 17 (lastSpread x) ∷ line 7 (badProcessors x) ∷ line 8 (tooManyTiles x) ∷ [])
+              ≡ firstOf (line 5 (badDistance x) ∷ line 6 (badTile x) ∷ line 16 (badSpread x) ∷ line 17 (lastSpread x) ∷ line 7 (badProcessors x)
+              ∷ line 8 (tooManyTiles x) ∷ [])
           unfolding nestLines
           to-5 = first-false 3 (badLength x) _ h3 ∙ (first-false 4 (tooLarge x) _ h4 ∙ (first-false 18 needless _ h18 ∙ first-false 20 (noCell x) _ h20))
 

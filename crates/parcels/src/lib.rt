@@ -61,7 +61,7 @@ fn carry(component: usize, distance: usize, low: usize, high: usize) -> bool
 }
 
 // 1 where the test is true, else 0.
-fn one(test: bool) -> usize
+pub fn one(test: bool) -> usize
     ensures { λ r. ⌜ r ≡ one test ⌝ }
 {
     if test { 1 } else { 0 }
@@ -91,7 +91,7 @@ fn one_back(at: usize, two: bool, tiling: usize, length: usize) -> bool
 
 // In how many of the first dimensions a tile is like the one before it only if that one has another before it: on the indirect
 // route cells come from there too.
-fn two_before(nest: Nest, route: Route) -> usize
+pub fn two_before(nest: Nest, route: Route) -> usize
     requires { ⌜ Accepted nest ⌝ }
     ensures { λ r. ⌜ r ≡ twoBefore route nest ⌝ }
 {
@@ -208,16 +208,16 @@ fn window_of(
 }
 
 // Below which last component distance e puts a cell of the row of a place into the window; 0 if nowhere.
-fn end_in_row(
+pub fn end_in_row(
     nest: Nest,
     components: &[usize; 32],
     window: Window,
-    at: [usize; 4],
+    at: &[usize; 4],
     e: usize,
 ) -> usize
     requires { ⌜ Accepted nest × ((e < nest .distances) × Given nest (now components)) ⌝ }
-    requires { ⌜ (getD (window .low) (nest .dimensions - 1) 0 ≡ 0) × ((j : ℕ) → j < nest .dimensions → getD at j 0 < 1024) ⌝ }
-    ensures { λ r. ⌜ RowEnd nest (windowOf window) (nth at) e r ⌝ }
+    requires { ⌜ (getD (window .low) (nest .dimensions - 1) 0 ≡ 0) × ((j : ℕ) → j < nest .dimensions → getD (now at) j 0 < 1024) ⌝ }
+    ensures { λ r. ⌜ RowEnd nest (windowOf window) (nth (now (at .entry))) e r ⌝ }
 {
     let last = nest.dimensions - 1;
     let low = window.low;
@@ -235,10 +235,10 @@ fn end_in_row(
 }
 
 // That of each distance.
-fn ends_of(nest: Nest, components: &[usize; 32], window: Window, at: [usize; 4]) -> [usize; 8]
+fn ends_of(nest: Nest, components: &[usize; 32], window: Window, at: &[usize; 4]) -> [usize; 8]
     requires { ⌜ Accepted nest × Given nest (now components) ⌝ }
-    requires { ⌜ (getD (window .low) (nest .dimensions - 1) 0 ≡ 0) × ((j : ℕ) → j < nest .dimensions → getD at j 0 < 1024) ⌝ }
-    ensures { λ r. ⌜ DistanceEnds nest (windowOf window) (nth at) r ⌝ }
+    requires { ⌜ (getD (window .low) (nest .dimensions - 1) 0 ≡ 0) × ((j : ℕ) → j < nest .dimensions → getD (now at) j 0 < 1024) ⌝ }
+    ensures { λ r. ⌜ DistanceEnds nest (windowOf window) (nth (now (at .entry))) r ⌝ }
 {
     let mut ends = [0; 8];
     let n = nest.distances;
@@ -304,7 +304,7 @@ fn rows_alike(
 }
 
 // Whether a way leads beyond the last tile in a spread dimension: nothing is bound there.
-fn outside(across: [usize; 4], at: [usize; 4], ahead: [usize; 4], n: usize) -> bool
+pub fn outside(across: [usize; 4], at: [usize; 4], ahead: [usize; 4], n: usize) -> bool
     requires { ⌜ (n ≤ 4) × ((j : ℕ) → j < n → getD at j 0 + getD ahead j 0 ≤ 1024) ⌝ }
     ensures { λ r. ⌜ r ≡ some (λ j. leb (getD across j 0) (getD at j 0 + getD ahead j 0)) n ⌝ }
 {
@@ -388,8 +388,9 @@ pub fn row_at(nest: Nest, components: &[usize; 32], sending: Sending, r: usize) 
     let block = sending.block;
     let lengths = block.lengths;
     let corner = block.corner;
-    let at = layout::place(lengths, corner, r, last);
-    let ends = ends_of(nest, components, sending.window, at);
+    let mut at = corner;
+    layout::add_place(&lengths, &mut at, r, last);
+    let ends = ends_of(nest, components, sending.window, &at);
     let component = at[last];
     let run = run_of(&ends, nest.distances, component, sending.width);
     let alike = rows_alike(nest, components, sending.window, block, at);
@@ -458,7 +459,8 @@ fn pack_row(
 
 // The words of a slot's parcel, row by row: rows alike that have none of it are passed over at once.
 pub fn pack(nest: Nest, sizes: Sizes, slot: usize, words: &mut [u32], memory: &[u32])
-    requires { ⌜ Sized nest sizes × ((slot < slots (sizes .route) nest) × ((length (now memory) ≡ cells nest) × ((length (now words) ≡ length (slotParcel (sizes .route) nest slot)) × (0 < length (now words))))) ⌝ }
+    requires { ⌜ Sized nest sizes × ((slot < slots (sizes .route) nest) × ((length (now memory) ≡ cells nest)
+        × ((length (now words) ≡ length (slotParcel (sizes .route) nest slot)) × (0 < length (now words))))) ⌝ }
     ensures { λ _. ⌜ now (words .exit) ≡ pack (now (memory .entry)) (slotParcel (sizes .route) nest slot) ⌝ }
 {
     let at = layout::place_of_tile(nest, sizes, slot / sizes.ways);
@@ -505,7 +507,8 @@ fn unpack_row(memory: &mut [u32], words: &[u32], cell: usize, from: usize, n: us
 
 // Each word of a slot's parcel to its cell, row by row.
 pub fn unpack(nest: Nest, sizes: Sizes, slot: usize, memory: &mut [u32], words: &[u32])
-    requires { ⌜ Sized nest sizes × ((slot < slots (sizes .route) nest) × ((length (now memory) ≡ cells nest) × ((length (now words) ≡ length (slotParcel (sizes .route) nest slot)) × (0 < length (now words))))) ⌝ }
+    requires { ⌜ Sized nest sizes × ((slot < slots (sizes .route) nest) × ((length (now memory) ≡ cells nest)
+        × ((length (now words) ≡ length (slotParcel (sizes .route) nest slot)) × (0 < length (now words))))) ⌝ }
     ensures { λ _. ⌜ now (memory .exit) ≡ unpack (now (memory .entry)) (slotParcel (sizes .route) nest slot) (now (words .entry)) ⌝ }
 {
     let at = layout::place_of_tile(nest, sizes, slot / sizes.ways);

@@ -22,7 +22,8 @@ use Rattle.plan.proofs.Listed.{number-order, slot-order}
 use Rattle.plan.proofs.Slots.{full-in, parcel-cells, parcel-away, full-away, message-slot}
 use Rattle.plan.proofs.Parcels.{slotTile-low}
 use Rattle.plan.proofs.Sound.{slot-sent}
-use Rattle.plan.proofs.Ways.{nth, wayOf, way-of, nth-of, nth-low, nth-lt, slot-cells, slot-to, way-slot, way-tile, way-cells, way-taker, step-beyond, step-way, taker-at, one-way}
+use Rattle.plan.proofs.Ways.{nth, wayOf, way-of, nth-of, nth-low, nth-lt, slot-cells, slot-to, way-slot, way-tile, way-cells, way-taker}
+use Rattle.plan.proofs.Ways.{step-beyond, step-way, taker-at, one-way}
 
 module _ (x : Nest) (ok : Accepted x) (r : Route) where
   carried : (m t w c : ℕ) → t < boxTiles x → Way r x w → In c (cellsBy r x t w) → senderOf (boxPlan r x) m ≡ t

@@ -26,7 +26,8 @@ use Rattle.plan.specs.Hops.{hopsAlong, hops, alone}
 use Rattle.nest.proofs.Rank.{rank-same}
 use Rattle.plan.proofs.Loops.{allocated}
 use Rattle.plan.proofs.Slots.{in-full, full-in}
-use Rattle.plan.proofs.Parcels.{Held, parcel-held, ahead-low, ahead-some, Passed, passed-in, slotTile-low, slotDimension-low, taker-place, neighbour-place}
+use Rattle.plan.proofs.Parcels.{Held, parcel-held, ahead-low, ahead-some, Passed, passed-in, slotTile-low, slotDimension-low, taker-place}
+use Rattle.plan.proofs.Parcels.{neighbour-place}
 
 -- ---- remainders
 

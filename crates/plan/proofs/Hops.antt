@@ -17,7 +17,9 @@ use Rattle.plan.specs.Messages.{directions, ahead, parcel, taker, before
 use Rattle.plan.specs.Hops.{hopsAlong, stop, Travels}
 use Rattle.plan.proofs.Tiles.{tileAt-le, tileAt-tilePlace}
 use Rattle.plan.proofs.Slots.{in-full}
-use Rattle.plan.proofs.Parcels.{Held, parcel-held, ahead-low, ahead-beyond, before-yes, before-no, before-le, before-other, Passed, passes-passed, in-passed, taker-low, taker-place, stop-low, stop-place, stop-first, stop-last, stop-skip, stop-hop, stop-passed, passed-stop}
+use Rattle.plan.proofs.Parcels.{Held, parcel-held, ahead-low, ahead-beyond, before-yes, before-no, before-le, before-other, Passed}
+use Rattle.plan.proofs.Parcels.{passes-passed, in-passed, taker-low, taker-place, stop-low, stop-place, stop-first, stop-last, stop-skip}
+use Rattle.plan.proofs.Parcels.{stop-hop, stop-passed, passed-stop}
 use Rattle.plan.proofs.Homes.{hop-in, in-hop, unmoved, indirect-away}
 use Rattle.plan.proofs.Carried.{messages}
 

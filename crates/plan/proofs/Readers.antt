@@ -21,7 +21,8 @@ use Rattle.plan.specs.Hops.{stop}
 use Rattle.plan.specs.Exact.{Carries, Read, OnItsWay, Forwarded}
 use Rattle.nest.proofs.Rank.{rank-same}
 use Rattle.plan.proofs.Tiles.{cellPlace-low, cellAt-low, cellPlace-cellAt, cellAt-cellPlace, tilePlace-boxTileOf, boxTileOf-low, read-low, read-back}
-use Rattle.plan.proofs.Parcels.{Held, parcel-held, held-parcel, before-yes, before-no, passed-in, in-passed, stop-is, stop-passed, origin-low, origin-place}
+use Rattle.plan.proofs.Parcels.{Held, parcel-held, held-parcel, before-yes, before-no, passed-in, in-passed, stop-is, stop-passed, origin-low}
+use Rattle.plan.proofs.Parcels.{origin-place}
 use Rattle.plan.proofs.Sound.{reads-at, at-reads, read-way}
 
 module _ (x : Nest) (ok : Accepted x) where

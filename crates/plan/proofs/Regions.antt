@@ -17,13 +17,16 @@ use Rattle.nest.specs.Nest.{lengthOf, tileLength, component, cells, boxTiles}
 use Rattle.plan.specs.declared.Route.{Route}
 use Rattle.plan.specs.declared.Route.the-variants.{Direct, Indirect}
 use Rattle.nest.specs.Places.{rank, cellAt, cellPlace, tileAt, tilePlace, boxTileOf}
-use Rattle.plan.specs.Messages.{two, directions, ahead, crosses, parcel, before, origin, passes, passed, slots, slotTile, slotDirection, slotDimension, slotCells}
-use Rattle.plan.specs.Regions.{Region, among, side, regionSize, regionPlace, regionCell, tilesBox, tilesWindow, directBox, directWindow, indirectBox, indirectWindow, slotBox, slotWindow, comesInto}
+use Rattle.plan.specs.Messages.{two, directions, ahead, crosses, parcel, before, origin, passes, passed, slots, slotTile, slotDirection}
+use Rattle.plan.specs.Messages.{slotDimension, slotCells}
+use Rattle.plan.specs.Regions.{Region, among, side, regionSize, regionPlace, regionCell, tilesBox, tilesWindow, directBox, directWindow}
+use Rattle.plan.specs.Regions.{indirectBox, indirectWindow, slotBox, slotWindow, comesInto}
 use Rattle.nest.proofs.Rank.{Within, place-low, rank-low, rank-same, div-step}
 use Rattle.plan.proofs.Tiles.{cellPlace-low, cellPlace-cellAt, tilePlace-low, tile-inside, tilePlace-boxTileOf}
 use Rattle.plan.proofs.Grid.{met, keep-run, keep-box, keep-both, every-same}
 use Rattle.plan.proofs.Box.{boxTileOf-is}
-use Rattle.plan.proofs.Parcels.{crosses-held, held-crosses, ahead-rank, ahead-low, before-yes, before-no, Passed, passes-passed, passed-passes, slotTile-low, slotDimension-low, origin-place}
+use Rattle.plan.proofs.Parcels.{crosses-held, held-crosses, ahead-rank, ahead-low, before-yes, before-no, Passed, passes-passed, passed-passes}
+use Rattle.plan.proofs.Parcels.{slotTile-low, slotDimension-low, origin-place}
 
 -- ---- one dimension: between which tiles a component lies
 

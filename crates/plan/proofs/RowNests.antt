@@ -31,7 +31,9 @@ nest n m e N k P d w =
     }
 
 abbrev pub nestA : Nest
-nestA = nest 2 1 3 (8 ∷ 8 ∷ 0 ∷ 0 ∷ []) (2 ∷ 2 ∷ 0 ∷ 0 ∷ []) (2 ∷ 0 ∷ 0 ∷ 0 ∷ []) (1 ∷ 0 ∷ 0 ∷ 0 ∷ 0 ∷ 1 ∷ 0 ∷ 0 ∷ 1 ∷ 1 ∷ replicate 22 0) (1 ∷ 1 ∷ 1 ∷ replicate 5 0)
+nestA =
+    nest 2 1 3 (8 ∷ 8 ∷ 0 ∷ 0 ∷ []) (2 ∷ 2 ∷ 0 ∷ 0 ∷ []) (2 ∷ 0 ∷ 0 ∷ 0 ∷ []) (1 ∷ 0 ∷ 0 ∷ 0 ∷ 0 ∷ 1 ∷ 0 ∷ 0 ∷ 1 ∷ 1 ∷ replicate 22 0)
+    (1 ∷ 1 ∷ 1 ∷ replicate 5 0)
 
 pub isA : nestOf rowA ≡ nestA
 unfolding ofKind filled nestBy nestOf pick keep those tabulate
@@ -94,7 +96,9 @@ unfolding ofKind filled nestBy nestOf pick keep those tabulate
 isLater = refl
 
 abbrev pub nestWide : Nest
-nestWide = nest 2 1 3 (9 ∷ 1 ∷ 0 ∷ 0 ∷ []) (3 ∷ 2 ∷ 0 ∷ 0 ∷ []) (2 ∷ 0 ∷ 0 ∷ 0 ∷ []) (1 ∷ 0 ∷ 0 ∷ 0 ∷ 0 ∷ 1 ∷ 0 ∷ 0 ∷ 2 ∷ 1 ∷ replicate 22 0) (1 ∷ 1 ∷ 1 ∷ replicate 5 0)
+nestWide =
+    nest 2 1 3 (9 ∷ 1 ∷ 0 ∷ 0 ∷ []) (3 ∷ 2 ∷ 0 ∷ 0 ∷ []) (2 ∷ 0 ∷ 0 ∷ 0 ∷ []) (1 ∷ 0 ∷ 0 ∷ 0 ∷ 0 ∷ 1 ∷ 0 ∷ 0 ∷ 2 ∷ 1 ∷ replicate 22 0)
+    (1 ∷ 1 ∷ 1 ∷ replicate 5 0)
 
 pub isWide : nestOf rowWide ≡ nestWide
 unfolding ofKind filled nestBy nestOf pick keep those tabulate

@@ -10,6 +10,8 @@ use lib.ListN.{length, getD}
 use lib.Dec.{ltb, eqb}
 use Rattle.base.specs.Tests.{_and_, pick, every, some, keep, sum}
 use Rattle.base.specs.Lists.{In}
+use Rattle.base.specs.Numbers.{firstOf}
+use Rattle.base.proofs.Lists.{small, small-bytes}
 use Rattle.base.proofs.Tests.{both, and-true, and-left, same-test, some-at, some-one, sum-same, length-tabulate}
 use Rattle.base.proofs.Select.{keep-same}
 use Rattle.machine.specs.Plan.{Message, Plan}
@@ -18,11 +20,15 @@ use Rattle.nest.specs.Accepted.{Accepted}
 use Rattle.nest.specs.Nest.{weight, cells, boxTiles, processors}
 use Rattle.nest.specs.Places.{boxTileOf}
 use Rattle.nest.specs.Shape.{inShape, exists, tiles}
+use Rattle.nest.specs.Reader.{readLines, nestOf}
+use Rattle.nest.proofs.Facts.{accepted}
 use Rattle.plan.specs.declared.Route.{Route}
 use Rattle.plan.specs.declared.Route.the-variants.{Direct, Indirect}
 use Rattle.plan.specs.Geometry.{cellsOf, processorOf, hasRead, readAt, readsOf, value}
-use Rattle.plan.specs.Messages.{directions, reaches, crosses, parcel, taker, slots, slotTile, slotDirection, slotCells, slotTaker, atHome, slotParcel, slotMessage, messagesOf, messagesTo, messages, boxPlan}
-use Rattle.plan.specs.Shaped.{boxTile, tileOf, shapedCells, readsShape, shapedReads, shapedValue, reachesShape, shapedParcel, shapedTaker, slotBox, shapedSlotTaker, shapedHome, shapedSlotParcel, shapedMessage, shapedSlots, planOf}
+use Rattle.plan.specs.Messages.{directions, reaches, crosses, parcel, taker, slots, slotTile, slotDirection, slotCells, slotTaker, atHome}
+use Rattle.plan.specs.Messages.{slotParcel, slotMessage, messagesOf, messagesTo, messages, boxPlan}
+use Rattle.plan.specs.Shaped.{boxTile, tileOf, shapedCells, readsShape, shapedReads, shapedValue, reachesShape, shapedParcel, shapedTaker}
+use Rattle.plan.specs.Shaped.{slotBox, shapedSlotTaker, shapedHome, shapedSlotParcel, shapedMessage, shapedSlots, planOf}
 use Rattle.nest.proofs.Boxes.{all-kept, unbounded-in, unbounded-exists, unbounded-tiles}
 use Rattle.plan.proofs.Tiles.{boxTileOf-low}
 use Rattle.plan.proofs.Slots.{unless-in}
@@ -181,3 +187,10 @@ module _ (x : Nest) (ok : Accepted x) (none : x .bounds ≡ 0) where
 pub planOf-box : (r : Route) (x : Nest) → Accepted x → x .bounds ≡ 0 → planOf r x ≡ boxPlan r x
 planOf-box Direct x ok none = direct x ok none
 planOf-box Indirect x ok none = refl
+
+-- bytes that are written out and have no bounds: the plan of their nest is the box's
+pub recipe-box : (bytes : List ℕ) (x : Nest) → small bytes ≡ true → firstOf (readLines bytes) ≡ 0 → nestOf bytes ≡ x → x .bounds ≡ 0
+    → planOf Direct (nestOf bytes) ≡ boxPlan Direct x
+recipe-box bytes x bytes-small number is none =
+    planOf-box Direct (nestOf bytes) (accepted bytes (small-bytes bytes bytes-small) number) (ap (λ (y : Nest). y .bounds) is ∙ none)
+    ∙ ap (boxPlan Direct) is

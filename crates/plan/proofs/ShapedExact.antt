@@ -31,8 +31,10 @@ use Rattle.plan.proofs.Parcels.{slotDirection-pos, taker-within}
 use Rattle.plan.proofs.Ways.{step-way}
 use Rattle.plan.proofs.Readers.{read-by, read-ahead, held-by}
 use Rattle.plan.proofs.Program.{tile-order}
-use Rattle.plan.proofs.ShapedTiles.{boxTile-low, boxTile-exists, before-boxTile, boxTile-lt, number-lt, shapedCells-in, in-shapedCells, exists-cell, tileOf-low, boxTile-tileOf, tileOf-is}
-use Rattle.plan.proofs.ShapedParcels.{moved, Crossed, parcel-crossed, crossed-parcel, reader, reader-low, reader-column, readerTile-box, shapedTaker-low, shapedTaker-from, shapedTaker-first, shapedTaker-column}
+use Rattle.plan.proofs.ShapedTiles.{boxTile-low, boxTile-exists, before-boxTile, boxTile-lt, number-lt, shapedCells-in, in-shapedCells}
+use Rattle.plan.proofs.ShapedTiles.{exists-cell, tileOf-low, boxTile-tileOf, tileOf-is}
+use Rattle.plan.proofs.ShapedParcels.{moved, Crossed, parcel-crossed, crossed-parcel, reader, reader-low, reader-column, readerTile-box}
+use Rattle.plan.proofs.ShapedParcels.{shapedTaker-low, shapedTaker-from, shapedTaker-first, shapedTaker-column}
 use Rattle.plan.proofs.ShapedSlots.{shapedTile-low, shapedDirection-low, slotAt, slotAt-sent, ShapedSent, sent-from, shaped-held}
 use Rattle.plan.proofs.ShapedSound.{shaped-reads-at, at-shaped-reads, sound}
 use Rattle.plan.proofs.ShapedNest.{sweep-is}

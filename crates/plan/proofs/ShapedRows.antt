@@ -7,7 +7,8 @@ use Rattle.base.specs.Tests.{_and_, _or_, not, pick, one, every, some, keep, th
 use Rattle.base.specs.Lists.{member, part, put, setAll, storeAll, allAt, unpack, pack, countIf}
 use Rattle.base.specs.Numbers.{firstOf}
 use Rattle.machine.specs.Plan.{offset, duesOf}
-use Rattle.machine.specs.Machine.{setProgress, tilesLeft, fitRecord, fit, unpackAll, afterSends, carryOut, actionAt, waiting, turn, deliver, collect, collected, fresh, sweepTo, sweep}
+use Rattle.machine.specs.Machine.{setProgress, tilesLeft, fitRecord, fit, unpackAll, afterSends, carryOut, actionAt, waiting, turn, deliver, collect}
+use Rattle.machine.specs.Machine.{collected, fresh, sweepTo, sweep}
 use Rattle.machine.specs.Runs.{act, stateAfter, answersTo, last, answers}
 use Rattle.nest.specs.declared.Nest.{Nest}
 use Rattle.nest.specs.Nest.{tileCount, cells, boxTiles, processors}
@@ -20,7 +21,8 @@ use Rattle.nest.proofs.Quick.{told, quick-all}
 use Rattle.plan.specs.declared.Route.the-variants.{Direct}
 use Rattle.plan.specs.Geometry.{processorOf, inside, hasRead, readAt, readsOf}
 use Rattle.plan.specs.Messages.{directions, ahead, reaches, taker, messagesOf}
-use Rattle.plan.specs.Shaped.{boxTile, tileOf, shapedCells, readsShape, shapedValue, reachesShape, shapedParcel, follows, shapedTaker, shapedSlotTaker, shapedHome, shapedSlotParcel, planOf}
+use Rattle.plan.specs.Shaped.{boxTile, tileOf, shapedCells, readsShape, shapedValue, reachesShape, shapedParcel, follows, shapedTaker}
+use Rattle.plan.specs.Shaped.{shapedSlotTaker, shapedHome, shapedSlotParcel, planOf}
 use Rattle.plan.specs.Rows.{accepted, figuresIf, readersOf}
 use Rattle.plan.specs.ShapedRows.{mail, ones, turns, rowTriangle, rowAlone, rowSingle, rowWhole, rowColumn, rowOutside, rowSlope, ShapedRows}
 
@@ -107,7 +109,9 @@ isSlope = refl
 -- ---- their numbers
 
 numbers : told (rowTriangle ∷ rowAlone ∷ rowSingle ∷ rowWhole ∷ []) ≡ 0 ∷ 0 ∷ 0 ∷ 0 ∷ []
-unfolding firstOf _and_ _or_ not pick every some keep those tabulate product rank place cellPlace tileAt boxTileOf tileCount cells boxTiles processors level raised meets inShape exists existing tiles ofKind filled nestBy nestOf ragged blank boundFits checked mayStand fitsAt wellFormed strayRecord outside badLength tooLarge needlesslyWide noCell same beyond faulty badDistance reached badTile badSpread lastSpread badProcessors tooManyTiles
+unfolding firstOf _and_ _or_ not pick every some keep those tabulate product rank place cellPlace tileAt boxTileOf tileCount cells boxTiles processors level
+    raised meets inShape exists existing tiles ofKind filled nestBy nestOf ragged blank boundFits checked mayStand fitsAt wellFormed strayRecord outside
+    badLength tooLarge needlesslyWide noCell same beyond faulty badDistance reached badTile badSpread lastSpread badProcessors tooManyTiles
 numbers = quick-all _ ∙ refl
 
 numberTriangle : firstOf (readLines rowTriangle) ≡ 0
@@ -129,70 +133,102 @@ numberWhole = ap (λ (l : List ℕ). getD l 3 0) numbers
 -- ---- figures, messages and words
 
 figuresTriangle : figuresIf 0 (planOf Direct nestTriangle) ≡ accepted 3 1 1 8
-unfolding figuresIf offset _and_ _or_ pick every some keep product rank place cellAt cellPlace tileAt tilePlace boxTileOf tileCount cells boxTiles level raised meets inShape exists existing tiles inside directions ahead reaches processorOf boxTile reachesShape shapedParcel taker follows shapedTaker shapedSlotTaker shapedHome shapedSlotParcel messagesOf
+unfolding figuresIf offset _and_ _or_ pick every some keep product rank place cellAt cellPlace tileAt tilePlace boxTileOf tileCount cells boxTiles level
+    raised meets inShape exists existing tiles inside directions ahead reaches processorOf boxTile reachesShape shapedParcel taker follows shapedTaker
+    shapedSlotTaker shapedHome shapedSlotParcel messagesOf
 figuresTriangle = refl
 
 figuresAlone : figuresIf 0 (planOf Direct nestAlone) ≡ accepted 3 0 0 6
-unfolding figuresIf offset _and_ _or_ pick every some keep product rank place cellAt cellPlace tileAt tilePlace boxTileOf tileCount cells boxTiles level raised meets inShape exists existing tiles inside directions ahead reaches processorOf boxTile reachesShape shapedParcel taker follows shapedTaker shapedSlotTaker shapedHome shapedSlotParcel messagesOf
+unfolding figuresIf offset _and_ _or_ pick every some keep product rank place cellAt cellPlace tileAt tilePlace boxTileOf tileCount cells boxTiles level
+    raised meets inShape exists existing tiles inside directions ahead reaches processorOf boxTile reachesShape shapedParcel taker follows shapedTaker
+    shapedSlotTaker shapedHome shapedSlotParcel messagesOf
 figuresAlone = refl
 
 figuresSingle : figuresIf 0 (planOf Direct nestSingle) ≡ accepted 1 0 0 2
-unfolding figuresIf offset _and_ _or_ pick every some keep product rank place cellAt cellPlace tileAt tilePlace boxTileOf tileCount cells boxTiles level raised meets inShape exists existing tiles inside directions ahead reaches processorOf boxTile reachesShape shapedParcel taker follows shapedTaker shapedSlotTaker shapedHome shapedSlotParcel messagesOf
+unfolding figuresIf offset _and_ _or_ pick every some keep product rank place cellAt cellPlace tileAt tilePlace boxTileOf tileCount cells boxTiles level
+    raised meets inShape exists existing tiles inside directions ahead reaches processorOf boxTile reachesShape shapedParcel taker follows shapedTaker
+    shapedSlotTaker shapedHome shapedSlotParcel messagesOf
 figuresSingle = refl
 
 figuresWhole : figuresIf 0 (planOf Direct nestWhole) ≡ accepted 4 2 14 12
-unfolding figuresIf offset _and_ _or_ pick every some keep product rank place cellAt cellPlace tileAt tilePlace boxTileOf tileCount cells boxTiles level raised meets inShape exists existing tiles inside directions ahead reaches processorOf boxTile reachesShape shapedParcel taker follows shapedTaker shapedSlotTaker shapedHome shapedSlotParcel messagesOf
+unfolding figuresIf offset _and_ _or_ pick every some keep product rank place cellAt cellPlace tileAt tilePlace boxTileOf tileCount cells boxTiles level
+    raised meets inShape exists existing tiles inside directions ahead reaches processorOf boxTile reachesShape shapedParcel taker follows shapedTaker
+    shapedSlotTaker shapedHome shapedSlotParcel messagesOf
 figuresWhole = refl
 
 messagesTriangle : planOf Direct nestTriangle .messages ≡ mail 0 2 (0 ∷ []) ∷ []
-unfolding _and_ _or_ pick every some keep product rank place cellAt cellPlace tileAt tilePlace boxTileOf tileCount cells boxTiles level raised meets inShape exists existing tiles inside directions ahead reaches processorOf boxTile reachesShape shapedParcel taker follows shapedTaker shapedSlotTaker shapedHome shapedSlotParcel messagesOf
+unfolding _and_ _or_ pick every some keep product rank place cellAt cellPlace tileAt tilePlace boxTileOf tileCount cells boxTiles level raised meets inShape
+    exists existing tiles inside directions ahead reaches processorOf boxTile reachesShape shapedParcel taker follows shapedTaker shapedSlotTaker shapedHome
+    shapedSlotParcel messagesOf
 messagesTriangle = refl
 
 messagesColumn : planOf Direct nestColumn .messages ≡ mail 0 6 (0 ∷ []) ∷ mail 1 6 (1 ∷ []) ∷ mail 2 6 (2 ∷ []) ∷ []
-unfolding _and_ _or_ pick every some keep product rank place cellAt cellPlace tileAt tilePlace boxTileOf tileCount cells boxTiles level raised meets inShape exists existing tiles inside directions ahead reaches processorOf boxTile reachesShape shapedParcel taker follows shapedTaker shapedSlotTaker shapedHome shapedSlotParcel messagesOf
+unfolding _and_ _or_ pick every some keep product rank place cellAt cellPlace tileAt tilePlace boxTileOf tileCount cells boxTiles level raised meets inShape
+    exists existing tiles inside directions ahead reaches processorOf boxTile reachesShape shapedParcel taker follows shapedTaker shapedSlotTaker shapedHome
+    shapedSlotParcel messagesOf
 messagesColumn = refl
 
 messagesOutside : planOf Direct nestOutside .messages ≡ mail 0 2 (5 ∷ []) ∷ []
-unfolding _and_ _or_ pick every some keep product rank place cellAt cellPlace tileAt tilePlace boxTileOf tileCount cells boxTiles level raised meets inShape exists existing tiles inside directions ahead reaches processorOf boxTile reachesShape shapedParcel taker follows shapedTaker shapedSlotTaker shapedHome shapedSlotParcel messagesOf
+unfolding _and_ _or_ pick every some keep product rank place cellAt cellPlace tileAt tilePlace boxTileOf tileCount cells boxTiles level raised meets inShape
+    exists existing tiles inside directions ahead reaches processorOf boxTile reachesShape shapedParcel taker follows shapedTaker shapedSlotTaker shapedHome
+    shapedSlotParcel messagesOf
 messagesOutside = refl
 
-messagesSlope : planOf Direct nestSlope .messages ≡ mail 0 4 (9 ∷ []) ∷ mail 1 4 (10 ∷ 11 ∷ []) ∷ mail 2 5 (12 ∷ 13 ∷ []) ∷ mail 3 6 (14 ∷ 15 ∷ []) ∷ mail 4 7 (27 ∷ [])
+messagesSlope : planOf Direct nestSlope .messages ≡ mail 0 4 (9 ∷ []) ∷ mail 1 4 (10 ∷ 11 ∷ []) ∷ mail 2 5 (12 ∷ 13 ∷ []) ∷ mail 3 6 (14 ∷ 15 ∷ [])
+    ∷ mail 4 7 (27 ∷ [])
     ∷ mail 5 7 (28 ∷ 29 ∷ []) ∷ mail 6 8 (30 ∷ 31 ∷ []) ∷ mail 7 9 (45 ∷ []) ∷ mail 8 9 (46 ∷ 47 ∷ []) ∷ []
-unfolding _and_ _or_ pick every some keep product rank place cellAt cellPlace tileAt tilePlace boxTileOf tileCount cells boxTiles level raised meets inShape exists existing tiles inside directions ahead reaches processorOf boxTile reachesShape shapedParcel taker follows shapedTaker shapedSlotTaker shapedHome shapedSlotParcel messagesOf
+unfolding _and_ _or_ pick every some keep product rank place cellAt cellPlace tileAt tilePlace boxTileOf tileCount cells boxTiles level raised meets inShape
+    exists existing tiles inside directions ahead reaches processorOf boxTile reachesShape shapedParcel taker follows shapedTaker shapedSlotTaker shapedHome
+    shapedSlotParcel messagesOf
 messagesSlope = refl
 
 tilesTriangle : existing nestTriangle ≡ 0 ∷ 1 ∷ 3 ∷ []
-unfolding _and_ _or_ pick every some keep product rank place cellAt cellPlace tileAt tilePlace boxTileOf tileCount cells boxTiles level raised meets inShape exists existing tiles
+unfolding _and_ _or_ pick every some keep product rank place cellAt cellPlace tileAt tilePlace boxTileOf tileCount cells boxTiles level raised meets inShape
+    exists existing tiles
 tilesTriangle = refl
 
 tilesSingle : existing nestSingle ≡ 1 ∷ []
-unfolding _and_ _or_ pick every some keep product rank place cellAt cellPlace tileAt tilePlace boxTileOf tileCount cells boxTiles level raised meets inShape exists existing tiles
+unfolding _and_ _or_ pick every some keep product rank place cellAt cellPlace tileAt tilePlace boxTileOf tileCount cells boxTiles level raised meets inShape
+    exists existing tiles
 tilesSingle = refl
 
 sweepTriangle : sweep (planOf Direct nestTriangle) ones ≡ 8 ∷ 8 ∷ 7 ∷ 9 ∷ []
-unfolding sweepTo shapedValue readsShape hasRead readAt sum _and_ _or_ pick every some keep product rank place cellAt cellPlace tileAt tilePlace boxTileOf tileCount cells boxTiles level raised meets inShape exists existing tiles
+unfolding sweepTo shapedValue readsShape hasRead readAt sum _and_ _or_ pick every some keep product rank place cellAt cellPlace tileAt tilePlace boxTileOf
+    tileCount cells boxTiles level raised meets inShape exists existing tiles
 sweepTriangle = refl
 
 runTriangle : answers (act (planOf Direct nestTriangle) ones) (fresh (planOf Direct nestTriangle)) turns
     ≡ 0 ∷ 0 ∷ 12 ∷ 0 ∷ 0 ∷ 0 ∷ 0 ∷ 0 ∷ 0 ∷ 13 ∷ []
-unfolding those offset part put unpack unpackAll setAll storeAll pack allAt one countIf not firstOf setProgress tilesLeft fitRecord fit afterSends carryOut actionAt waiting turn deliver act stateAfter answersTo fresh shapedCells tileOf shapedValue readsShape hasRead readAt sum processors _and_ _or_ pick every some keep product rank place cellAt cellPlace tileAt tilePlace boxTileOf tileCount cells boxTiles level raised meets inShape exists existing tiles inside directions ahead reaches processorOf boxTile reachesShape shapedParcel taker follows shapedTaker shapedSlotTaker shapedHome shapedSlotParcel messagesOf
+unfolding those offset part put unpack unpackAll setAll storeAll pack allAt one countIf not firstOf setProgress tilesLeft fitRecord fit afterSends carryOut
+    actionAt waiting turn deliver act stateAfter answersTo fresh shapedCells tileOf shapedValue readsShape hasRead readAt sum processors _and_ _or_ pick
+    every some keep product rank place cellAt cellPlace tileAt tilePlace boxTileOf tileCount cells boxTiles level raised meets inShape exists existing tiles
+    inside directions ahead reaches processorOf boxTile reachesShape shapedParcel taker follows shapedTaker shapedSlotTaker shapedHome shapedSlotParcel
+    messagesOf
 runTriangle = refl
 
 gridTriangle : collect (planOf Direct nestTriangle) (last (act (planOf Direct nestTriangle) ones) (fresh (planOf Direct nestTriangle)) turns)
     (0 ∷ 0 ∷ 0 ∷ 0 ∷ []) .after ≡ 8 ∷ 8 ∷ 7 ∷ 9 ∷ []
-unfolding collect collected tabulate those offset part put unpack unpackAll setAll storeAll pack allAt one countIf not firstOf setProgress tilesLeft fitRecord fit afterSends carryOut actionAt waiting turn deliver act stateAfter answersTo fresh shapedCells tileOf shapedValue readsShape hasRead readAt sum processors _and_ _or_ pick every some keep product rank place cellAt cellPlace tileAt tilePlace boxTileOf tileCount cells boxTiles level raised meets inShape exists existing tiles inside directions ahead reaches processorOf boxTile reachesShape shapedParcel taker follows shapedTaker shapedSlotTaker shapedHome shapedSlotParcel messagesOf
+unfolding collect collected tabulate those offset part put unpack unpackAll setAll storeAll pack allAt one countIf not firstOf setProgress tilesLeft
+    fitRecord fit afterSends carryOut actionAt waiting turn deliver act stateAfter answersTo fresh shapedCells tileOf shapedValue readsShape hasRead readAt
+    sum processors _and_ _or_ pick every some keep product rank place cellAt cellPlace tileAt tilePlace boxTileOf tileCount cells boxTiles level raised
+    meets inShape exists existing tiles inside directions ahead reaches processorOf boxTile reachesShape shapedParcel taker follows shapedTaker
+    shapedSlotTaker shapedHome shapedSlotParcel messagesOf
 gridTriangle = refl
 
 duesColumn : duesOf (planOf Direct nestColumn) 6 ≡ 0 ∷ 1 ∷ 2 ∷ []
-unfolding those _and_ _or_ pick every some keep product rank place cellAt cellPlace tileAt tilePlace boxTileOf tileCount cells boxTiles level raised meets inShape exists existing tiles inside directions ahead reaches processorOf boxTile reachesShape shapedParcel taker follows shapedTaker shapedSlotTaker shapedHome shapedSlotParcel messagesOf
+unfolding those _and_ _or_ pick every some keep product rank place cellAt cellPlace tileAt tilePlace boxTileOf tileCount cells boxTiles level raised meets
+    inShape exists existing tiles inside directions ahead reaches processorOf boxTile reachesShape shapedParcel taker follows shapedTaker shapedSlotTaker
+    shapedHome shapedSlotParcel messagesOf
 duesColumn = refl
 
 readersColumn : readersOf nestColumn 2 ≡ 11 ∷ []
-unfolding readersOf readsOf hasRead readAt member _and_ _or_ pick every some keep product rank place cellAt cellPlace tileAt tilePlace boxTileOf tileCount cells boxTiles level raised meets inShape exists existing tiles
+unfolding readersOf readsOf hasRead readAt member _and_ _or_ pick every some keep product rank place cellAt cellPlace tileAt tilePlace boxTileOf tileCount
+    cells boxTiles level raised meets inShape exists existing tiles
 readersColumn = refl
 
 tileColumn : tileOf nestColumn 11 ≡ 8
-unfolding tileOf _and_ _or_ pick every some keep product rank place cellAt cellPlace tileAt tilePlace boxTileOf tileCount cells boxTiles level raised meets inShape exists existing tiles
+unfolding tileOf _and_ _or_ pick every some keep product rank place cellAt cellPlace tileAt tilePlace boxTileOf tileCount cells boxTiles level raised meets
+    inShape exists existing tiles
 tileColumn = refl
 
 pub shaped-rows : ShapedRows

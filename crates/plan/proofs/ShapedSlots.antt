@@ -18,7 +18,8 @@ use Rattle.nest.specs.Shape.{tiles}
 use Rattle.plan.specs.declared.Route.the-variants.{Direct}
 use Rattle.plan.specs.Geometry.{processorOf}
 use Rattle.plan.specs.Messages.{directions, slots, slotTile, slotDirection, messagesOf}
-use Rattle.plan.specs.Shaped.{boxTile, shapedParcel, shapedTaker, slotBox, shapedSlotTaker, shapedHome, shapedSlotParcel, shapedMessage, shapedSlots, planOf}
+use Rattle.plan.specs.Shaped.{boxTile, shapedParcel, shapedTaker, slotBox, shapedSlotTaker, shapedHome, shapedSlotParcel, shapedMessage}
+use Rattle.plan.specs.Shaped.{shapedSlots, planOf}
 use Rattle.nest.proofs.Boxes.{tiles-few}
 use Rattle.plan.proofs.Listed.{at-number, number-low, message-slot}
 use Rattle.plan.proofs.Slots.{in-full, full-in, unless-in}

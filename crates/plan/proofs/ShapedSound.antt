@@ -28,7 +28,8 @@ use Rattle.plan.proofs.Tiles.{cellAt-cellPlace, processorOf-low, proces
 use Rattle.plan.proofs.Parcels.{ahead-none, slotDirection-pos}
 use Rattle.plan.proofs.Sound.{tile-le, read-way, box-sound}
 use Rattle.plan.proofs.ShapedTiles.{number-le, boxTile-low, shapedCells-in, in-shapedCells, shapedCells-rising, tileOf-low, boxTile-tileOf, tileOf-is}
-use Rattle.plan.proofs.ShapedParcels.{moved, Crossed, parcel-crossed, crossed-parcel, shapedParcel-rising, shapedTaker-low, shapedTaker-le, shapedTaker-column, shapedTaker-after}
+use Rattle.plan.proofs.ShapedParcels.{moved, Crossed, parcel-crossed, crossed-parcel, shapedParcel-rising, shapedTaker-low, shapedTaker-le}
+use Rattle.plan.proofs.ShapedParcels.{shapedTaker-column, shapedTaker-after}
 use Rattle.plan.proofs.ShapedSlots.{shapedTile-low, shapedDirection-low, slotAt-sent, ShapedSent, sent-from, shaped-held}
 
 module _ (x : Nest) where

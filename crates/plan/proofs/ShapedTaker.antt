@@ -26,7 +26,8 @@ use Rattle.nest.proofs.Rank.{Positive, rank-same, rank-place, place-before, div
 use Rattle.plan.proofs.Tiles.{tileCount-pos, tileAt-tilePlace, boxTileOf-low, processorOf-same}
 use Rattle.plan.proofs.Parcels.{taker-low, taker-place}
 use Rattle.plan.proofs.ShapedTiles.{boxTile-low, boxTile-exists, before-boxTile}
-use Rattle.plan.proofs.ShapedParcels.{Crossed, reader, reader-column, taker-le-reader, readerTile, readerTile-low, readerTile-box, shapedTaker-low, shapedTaker-le, shapedTaker-from, shapedTaker-first, shapedTaker-column}
+use Rattle.plan.proofs.ShapedParcels.{Crossed, reader, reader-column, taker-le-reader, readerTile, readerTile-low, readerTile-box}
+use Rattle.plan.proofs.ShapedParcels.{shapedTaker-low, shapedTaker-le, shapedTaker-from, shapedTaker-first, shapedTaker-column}
 
 -- ---- the box's number of u plus v
 

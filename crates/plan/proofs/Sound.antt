@@ -24,9 +24,13 @@ use Rattle.plan.specs.declared.Route.the-variants.{Direct, Indirect}
 use Rattle.plan.specs.Messages.{two, directions, ahead, taker, slots, slotTile, slotDimension, slotCells, slotTaker, atHome, slotParcel, boxPlan}
 use Rattle.plan.specs.Hops.{stop}
 use Rattle.nest.proofs.Rank.{Within, rank-low}
-use Rattle.plan.proofs.Tiles.{cellPlace-low, tileAt-tilePlace, tileAt-le, boxTileOf-low, tilePlace-boxTileOf, processorOf-low, processorOf-same, read-low, read-back, read-before, read-tile}
+use Rattle.plan.proofs.Tiles.{cellPlace-low, tileAt-tilePlace, tileAt-le, boxTileOf-low, tilePlace-boxTileOf, processorOf-low}
+use Rattle.plan.proofs.Tiles.{processorOf-same, read-low, read-back, read-before, read-tile}
 use Rattle.plan.proofs.Slots.{in-full, full-in, parcel-cells, parcel-away, full-away, message-slot, number-low, at-number}
-use Rattle.plan.proofs.Parcels.{cellsOf-in, in-cellsOf, cellsOf-rising, Held, parcel-held, held-parcel, ahead-rank, ahead-beyond, ahead-none, ahead-low, passed-in, in-passed, slotCells-rising, slotTile-low, slotDimension-low, slot-low, slot-tile, slot-parcel, slot-taker, slot-passed, slot-neighbour, taker-low, taker-place, stop-low, stop-first, stop-last, stop-skip, stop-hop, stop-passed, passed-stop, slotTaker-low, slotTaker-after}
+use Rattle.plan.proofs.Parcels.{cellsOf-in, in-cellsOf, cellsOf-rising, Held, parcel-held, held-parcel, ahead-rank, ahead-beyond, ahead-none}
+use Rattle.plan.proofs.Parcels.{ahead-low, passed-in, in-passed, slotCells-rising, slotTile-low, slotDimension-low, slot-low, slot-tile}
+use Rattle.plan.proofs.Parcels.{slot-parcel, slot-taker, slot-passed, slot-neighbour, taker-low, taker-place, stop-low, stop-first, stop-last}
+use Rattle.plan.proofs.Parcels.{stop-skip, stop-hop, stop-passed, passed-stop, slotTaker-low, slotTaker-after}
 
 -- ---- reads
 pub reads-at : (x : Nest) (c r : ℕ) → In r (readsOf x c) → (e : ℕ) × (e < x .distances) × (hasRead x c e ≡ true) × (r ≡ readAt x c e)
@@ -40,7 +44,8 @@ pub at-reads : (x : Nest) (c e : ℕ) → e < x .distances → hasRead x c e ≡
 unfolding readsOf
 at-reads x c e h t = map-in (readAt x c) (keep (hasRead x c) (x .distances)) e (in-keep (hasRead x c) (x .distances) e h t)
 
-pub value-local : (x : Nest) (source s s′ : List ℕ) (c : ℕ) → ((r : ℕ) → In r (readsOf x c) → getD s r 0 ≡ getD s′ r 0) → value x source s c ≡ value x source s′ c
+pub value-local : (x : Nest) (source s s′ : List ℕ) (c : ℕ) → ((r : ℕ) → In r (readsOf x c) → getD s r 0 ≡ getD s′ r 0) → value x source s c
+    ≡ value x source s′ c
 unfolding value pick
 value-local x source s s′ c h =
     ap (λ (a : ℕ). (getD source c 0 + a) / 2 ^ x .shift % 2 ^ 32)
@@ -225,7 +230,9 @@ module _ (x : Nest) (ok : Accepted x) where
           own = refl;
           distance = low;
           stays = λ j h. rw (read-back x ok c e low has j h) (cellPlace-low x ok c j h);
-          steps = λ j h. let h′ : j < x .dimensions = omega (arith, ok .spread-low) in rw (read-back x ok c e low has j h′) (sym (tilePlace-boxTileOf x ok c j h′) ∙ step-v j h);
+          steps =
+              λ j h. let h′ : j < x .dimensions = omega (arith, ok .spread-low) in rw (read-back x ok c e low has j h′)
+              (sym (tilePlace-boxTileOf x ok c j h′) ∙ step-v j h);
         }
 
     taker-le : taker x (boxTileOf x r) v ≤ boxTileOf x c

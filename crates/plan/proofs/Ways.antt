@@ -20,7 +20,9 @@ use Rattle.plan.specs.Messages.{two, directions, ahead, passed, ways, sl
 use Rattle.plan.specs.Exact.{Way, cellsBy, takerBy, stepBy}
 use Rattle.nest.proofs.Rank.{rank-same, rank-place}
 use Rattle.plan.proofs.Tiles.{tileAt-tilePlace}
-use Rattle.plan.proofs.Parcels.{parcel-held, ahead-beyond, before-no, passed-in, slotDirection-pos, slotDirection-low, slotDimension-low, slot-low, slot-tile, slot-parcel, slot-taker, slot-passed, slot-neighbour, taker-place, origin-place, neighbour-place}
+use Rattle.plan.proofs.Parcels.{parcel-held, ahead-beyond, before-no, passed-in, slotDirection-pos, slotDirection-low, slotDimension-low}
+use Rattle.plan.proofs.Parcels.{slot-low, slot-tile, slot-parcel, slot-taker, slot-passed, slot-neighbour, taker-place, origin-place}
+use Rattle.plan.proofs.Parcels.{neighbour-place}
 use Rattle.plan.proofs.Homes.{apart, direct-away, indirect-away}
 
 -- a way's number among those of its tile, from 0; the way of slot s

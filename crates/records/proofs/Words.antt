@@ -108,7 +108,8 @@ take-from (r ∷ rs) i f e l =
     moved i n = omega arith
 
 pub carries-flat : (rs : List Progress) (f : Flat) → f ≡ flatOf rs → Carries f (flatWords rs)
-carries-flat rs f e = rw e (record { counted = count-from rs 0 first ∙ sym (length-words rs); kept = all; room = length-from rs 0 first ∙ length-replicate {A = ℕ} 192 0 })
+carries-flat rs f e =
+    rw e (record { counted = count-from rs 0 first ∙ sym (length-words rs); kept = all; room = length-from rs 0 first ∙ length-replicate {A = ℕ} 192 0 })
   where
     first : Flat
     first = blank (3 * length rs)

@@ -1,9 +1,9 @@
 -- The words of the processors' records, three a record, and the stores into a slice of records.
 -- Renders document 01, "The machine": the board records.
-use Prim.Native.Nat.{ℕ, _+_, _*_, _≤_}
+use Prim.Native.Nat.{ℕ, zero, suc, _+_, _*_, _≤_}
 use mathlib.Core.Path.{_≡_}
-use mathlib.Core.List.{List, [], _∷_}
-use lib.ListN.{length, set, take, replicate}
+use mathlib.Core.List.{List, [], _∷_, _++_}
+use lib.ListN.{length, getD, set, take, replicate}
 use lib.Dec.{ltb, eqb}
 use Rattle.base.specs.Tests.{pick}
 use Rattle.records.specs.declared.Progress.{Progress}
@@ -47,3 +47,16 @@ zeros = record { finished = 0; stage = 0; sent = 0 }
 
 unfoldable pub clearAll : ℕ → List Progress → List Progress
 clearAll number rs = pick (eqb number 0) (replicate (length rs) zeros) rs
+
+-- record i of these words, where it is among the first 64
+unfoldable pub recordIn : Flat → ℕ → Progress
+recordIn f i =
+    pick (ltb i 64) (record { finished = getD (f .words) (3 * i) 0; stage = getD (f .words) (3 * i + 1) 0; sent = getD (f .words) (3 * i + 2) 0 })
+    zeros
+
+unfoldable pub recordsIn : Flat → ℕ → List Progress
+recordsIn f zero = []
+recordsIn f (suc n) = recordsIn f n ++ (recordIn f n ∷ [])
+
+unfoldable pub putAll : ℕ → Flat → List Progress → List Progress
+putAll number f rs = pick (eqb number 0) (recordsIn f (length rs)) rs

@@ -4,7 +4,7 @@ ghost use Prim.Native.Nat.{_<_};
 ghost use lib.ListN.{length};
 ghost use lib.Dec.{eqb};
 ghost use Rattle.base.specs.Tests.{pick};
-ghost use Rattle.records.specs.Records.{flatWords, Carries, blank, withRecord, putAt, zeros, clearAll};
+ghost use Rattle.records.specs.Records.{flatWords, Carries, blank, withRecord, putAt, zeros, clearAll, recordIn, putAll};
 
 // A processor's record (document 01: board record): tiles finished, stage (0 gather, 1 calculate, 2 send), messages sent of the current tile.
 #[repr(C)]
@@ -99,7 +99,7 @@ fn zero() -> Progress
     }
 }
 
-// How many of n records a fresh start clears that gave this number.
+// How many of n records a call stores anew that gave this number.
 fn cleared(number: u32, n: usize) -> usize
     ensures { λ r. ⌜ r ≡ pick (eqb number 0) n 0 ⌝ }
 {
@@ -117,6 +117,33 @@ pub fn clear(progress: &mut [Progress], number: u32)
     let mut i = 0;
     while i < n {
         progress[i] = zero();
+        i += 1;
+    }
+}
+
+// Record i of these words.
+fn record_in(flat: Flat, i: usize) -> Progress
+    ensures { λ r. ⌜ r ≡ recordIn flat i ⌝ }
+{
+    if i >= 64 {
+        return zero();
+    }
+    let words = flat.words;
+    Progress {
+        finished: words[3 * i],
+        stage: words[3 * i + 1],
+        sent: words[3 * i + 2],
+    }
+}
+
+// All records stored from their words where the call's number is 0; at a refusal nothing is written.
+pub fn put_all(progress: &mut [Progress], number: u32, flat: Flat)
+    ensures { λ _. ⌜ now (progress .exit) ≡ putAll number flat (now (progress .entry)) ⌝ }
+{
+    let n = cleared(number, progress.len());
+    let mut i = 0;
+    while i < n {
+        progress[i] = record_in(flat, i);
         i += 1;
     }
 }

@@ -12,7 +12,7 @@ use borrow.Author.Tests.{eq-eqb, ne-eqb}
 use Rattle.base.specs.Tests.{not, pick}
 use Rattle.base.specs.Numbers.{line, firstOf}
 use Rattle.base.proofs.Tests.{both, and-true, true-not, pick-true, pick-false}
-use Rattle.base.proofs.Numbers.{none-first, first-behind}
+use Rattle.base.proofs.Numbers.{none-first, none-front, none-behind}
 use Rattle.machine.specs.Plan.{Plan, Sound}
 use Rattle.machine.specs.Machine.{State}
 use Rattle.machine.specs.Runs.{Event, turnOf, deliveryOf}
@@ -22,7 +22,7 @@ use Rattle.offices.proofs.Engaged.{RigInv, other-is}
 use Rattle.offices.proofs.AnyCalls.{Alike, demand208-for}
 use Rattle.layout.specs.Sizes.{routeOf}
 use Rattle.routes.specs.Routes.{linesFor}
-use Rattle.routes.proofs.Laws.{front, numbered-for}
+use Rattle.routes.proofs.Laws.{numbered-for}
 use Rattle.engine.specs.Calls.{recipe, areas}
 use Rattle.engine.proofs.Lines.{Opened, areas-are}
 use Rattle.rig.specs.Calls.{areasFor, rigAreas, freshRigCall, callFor, rigCalls, rigCollects}
@@ -94,15 +94,14 @@ module _ (bytes : List ℕ) (route : ℕ) (sources : Sources) (ok : firstOf (lin
 module _ (bytes : List ℕ) (route : ℕ) (sources : Sources) (r : Rig) (z : freshRigCall bytes route sources r .number ≡ 0) where
   pub fresh-reads : firstOf (linesFor (routeOf route) bytes) ≡ 0
   unfolding freshRigCall
-  fresh-reads = front (linesFor (routeOf route) bytes) (line 9 (not (rigAreas (recipe bytes route) sources r)) ∷ []) z
+  fresh-reads = none-front (linesFor (routeOf route) bytes) (line 9 (not (rigAreas (recipe bytes route) sources r)) ∷ []) z
 
   fresh-areas : rigAreas (recipe bytes route) sources r ≡ true
   unfolding freshRigCall
   fresh-areas =
       true-not
       (none-first 9 (not (rigAreas (recipe bytes route) sources r)) [] (λ q. omega arith)
-      (sym (first-behind (linesFor (routeOf route) bytes) (line 9 (not (rigAreas (recipe bytes route) sources r)) ∷ [])
-      (numbered-for (routeOf route) bytes) fresh-reads) ∙ z) .0)
+      (none-behind (linesFor (routeOf route) bytes) (line 9 (not (rigAreas (recipe bytes route) sources r)) ∷ []) (numbered-for (routeOf route) bytes) z) .0)
 
   pub fresh-sources : (o : ℕ) → length (sourceFor sources o) ≡ recipe bytes route .cells
   unfolding rigAreas ofOffice pick

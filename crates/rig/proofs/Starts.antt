@@ -10,13 +10,13 @@ use borrow.Author.Tests.{eq-eqb, ne-eqb, ltb-true}
 use Rattle.base.specs.Tests.{not}
 use Rattle.base.specs.Numbers.{line, firstOf}
 use Rattle.base.proofs.Tests.{both, and-true, and-false, and-no, not-true, not-false, true-not, pick-true, pick-false}
-use Rattle.base.proofs.Numbers.{first-true, first-false, none-first, first-behind}
+use Rattle.base.proofs.Numbers.{first-true, first-false, none-first, none-behind}
 use Rattle.machine.specs.Plan.{Plan}
 use Rattle.machine.specs.Machine.{State, stateOf, Answered, answered, fresh}
 use Rattle.offices.specs.Offices.{Lent, lentOf, Rig, rigOf, Sources, freshRig, turnLinesFor}
 use Rattle.layout.specs.Sizes.{routeOf}
 use Rattle.routes.specs.Routes.{linesFor}
-use Rattle.routes.proofs.Laws.{front, numbered-for}
+use Rattle.routes.proofs.Laws.{numbered-for}
 use Rattle.stages.specs.Progress.{setRecord}
 use Rattle.engine.specs.Calls.{answer, recipe, areas}
 use Rattle.engine.specs.Given.{recordsAfter, zerosAfter}
@@ -144,10 +144,8 @@ pub turn-inside : (bytes : List ℕ) (route : ℕ) (source : List ℕ) (o : ℕ)
 unfolding turnCallFor
 turn-inside bytes route source o l theirs b z =
     let p = recipe bytes route in
-    let reads = front (linesFor (routeOf route) bytes) (areaLinesFor p source l theirs ++ turnLinesFor p o l theirs b) z in
     let a = none-first 9 _ _ (λ q. omega arith)
-    (sym (first-behind (linesFor (routeOf route) bytes) (areaLinesFor p source l theirs ++ turnLinesFor p o l theirs b)
-    (numbered-for (routeOf route) bytes) reads) ∙ z) in
+    (none-behind (linesFor (routeOf route) bytes) (areaLinesFor p source l theirs ++ turnLinesFor p o l theirs b) (numbered-for (routeOf route) bytes) z) in
     let f = none-first 11 _ _ (λ q. omega arith) (a .1) in
     let g = none-first 10 _ _ (λ q. omega arith) (f .1) in
     let h = none-first 11 _ _ (λ q. omega arith) (g .1) in

@@ -4,7 +4,6 @@ use mathlib.Core.Path.{_≡_, refl, sym, ap, _∙_}
 use mathlib.Core.Logic.{_≢_}
 use mathlib.Core.Bool.{Bool, true, false}
 use mathlib.Core.List.{List, [], _∷_, _++_}
-use native.Mathlib.Decide.{ℕ-discrete}
 use native.Mathlib.Omega.{arith}
 use lib.Dec.{ltb}
 use borrow.Author.Tests.{lt-ltb, ltb-false}
@@ -12,7 +11,7 @@ use Rattle.base.specs.Tests.{_and_}
 use Rattle.base.specs.Lists.{Bytes}
 use Rattle.base.specs.Numbers.{Line, line, firstOf}
 use Rattle.base.proofs.Tests.{and-true, and-left, and-false, and-no}
-use Rattle.base.proofs.Numbers.{Numbered, first-nil, first-true, first-false, none-first, first-some, first-behind}
+use Rattle.base.proofs.Numbers.{Numbered, first-nil, first-true, first-false, none-first, first-some, first-behind, none-front, none-behind}
 use Rattle.nest.specs.declared.Nest.{Nest}
 use Rattle.nest.specs.declared.Reading.{Reading}
 use Rattle.nest.specs.Reader.{readLines, nestOf, readingOf}
@@ -29,13 +28,6 @@ both-numbered : (a b : List Line) → Numbered a → Numbered b → Numbered (a 
 both-numbered [] b n m = m
 both-numbered (l ∷ a) b n m = (n .0, both-numbered a b (n .1) m)
 
-pub front : (a b : List Line) → firstOf (a ++ b) ≡ 0 → firstOf a ≡ 0
-front a b e = go (ℕ-discrete (firstOf a) 0)
-  where
-    go : Dec (firstOf a ≡ 0) → firstOf a ≡ 0
-    go (yes q) = q
-    go (no q) = absurd (q (sym (first-some a b q) ∙ e))
-
 module _ (r : Route) (bytes : List ℕ) where
   -- none of them has the number 0
   pub numbered-for : Numbered (linesFor r bytes)
@@ -45,14 +37,14 @@ module _ (r : Route) (bytes : List ℕ) where
   -- where none holds, none of the reader's does
   pub reads-for : firstOf (linesFor r bytes) ≡ 0 → firstOf (readLines bytes) ≡ 0
   unfolding linesFor
-  reads-for z = front (readLines bytes) (routeLines r (nestOf bytes)) z
+  reads-for z = none-front (readLines bytes) (routeLines r (nestOf bytes)) z
 
   -- and 21 does not
   pub open-for : firstOf (linesFor r bytes) ≡ 0 → (indirect r and ltb 0 (nestOf bytes .bounds)) ≡ false
   unfolding linesFor
   open-for z =
       none-first 21 (indirect r and ltb 0 (nestOf bytes .bounds)) [] (λ q. omega arith)
-      (sym (first-behind (readLines bytes) (routeLines r (nestOf bytes)) (numbered bytes) (reads-for z)) ∙ z) .0
+      (none-behind (readLines bytes) (routeLines r (nestOf bytes)) (numbered bytes) z) .0
 
   refused-for : firstOf (readLines bytes) ≢ 0 → firstOf (linesFor r bytes) ≡ firstOf (readLines bytes)
   unfolding linesFor
@@ -120,7 +112,9 @@ module _ (bytes : List ℕ) (x : Reading) (is : x ≡ readingOf bytes) (bs : x .
     unfolding indirect
     barred r e h =
         record {
-          number = sym (barred-for r bytes none (rw (sym e) (and-true refl (some (nestOf bytes .bounds) (λ q. h (ap (λ (y : Nest). y .bounds) (nest-read bytes x is z) ∙ q))))));
+          number =
+              sym (barred-for r bytes none
+              (rw (sym e) (and-true refl (some (nestOf bytes .bounds) (λ q. h (ap (λ (y : Nest). y .bounds) (nest-read bytes x is z) ∙ q))))));
           nest = λ q. absurd (omega (arith, q));
           bytes-are = λ q. absurd (omega (arith, q));
         }

@@ -1,8 +1,9 @@
 -- Runs of a row: for each distance the last components from one number on, below another; the cells of a row in one of them, listed.
 -- No sentence of document 02: contracts of functions below the calls cite it.
-use Prim.Native.Nat.{ℕ, zero, suc, _+_, _≤_, _<_}
+use Prim.Native.Nat.{ℕ, zero, suc, _+_, _-_, _≤_, _<_}
 use mathlib.Core.Path.{_≡_}
-use mathlib.Core.Bool.{Bool}
+use mathlib.Core.Logic.{_⊎_}
+use mathlib.Core.Bool.{Bool, true, false}
 use mathlib.Core.List.{List, [], _++_}
 use lib.ListN.{length, getD, take}
 use lib.Dec.{ltb, leb}
@@ -20,6 +21,27 @@ isHit starts ends n a = some (λ e. within (getD starts e 0) (getD ends e 0) a) 
 unfoldable pub hitRow : List ℕ → List ℕ → ℕ → ℕ → ℕ → ℕ → List ℕ
 hitRow starts ends n c a zero = []
 hitRow starts ends n c a (suc y) = hitRow starts ends n c a y ++ keepIf (isHit starts ends n (a + y)) (c + y)
+
+-- the last components from a on, below b, are all hit, or none is
+abbrev pub AllHit : List ℕ → List ℕ → ℕ → ℕ → ℕ → Type 0
+AllHit starts ends n a b = (m : ℕ) → a ≤ m → m < b → isHit starts ends n m ≡ true
+
+abbrev pub NoneHit : List ℕ → List ℕ → ℕ → ℕ → ℕ → Type 0
+NoneHit starts ends n a b = (m : ℕ) → a ≤ m → m < b → isHit starts ends n m ≡ false
+
+-- from a on, below b, the first n runs: those that have begun hit all up to `reach`, and if they hit none, none is hit up to `next`
+pub record AheadIs (starts ends : List ℕ) (n a b reach next : ℕ) : Type 0 where
+  pub begun : a ≤ reach
+  pub later : a < next
+  pub cut : next ≤ b
+  pub all : AllHit starts ends n a reach
+  pub none : reach ≤ a → NoneHit starts ends n a next
+
+-- a piece of a row from a on, cut at b: of its cells `hits` are hit, all or none
+pub record PieceIs (starts ends : List ℕ) (n a b end hits : ℕ) : Type 0 where
+  pub some : a < end
+  pub cut : end ≤ b
+  pub alike : ((hits ≡ end - a) × AllHit starts ends n a end) ⊎ ((hits ≡ 0) × NoneHit starts ends n a end)
 
 -- a row of w cells has room in the list
 pub record Room (list : List ℕ) (n c a w listed : ℕ) : Type 0 where

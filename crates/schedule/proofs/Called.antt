@@ -25,7 +25,8 @@ use Rattle.engine.proofs.AsRuns.{same, inv-areas}
 use Rattle.schedule.specs.Calls.{roundsCall}
 
 -- ---- the calls' rounds are the machine's
-module _ (bytes source : List ℕ) (ok : firstOf (linesFor (routeOf 0) bytes) ≡ 0) (so : Sound (recipe bytes 0)) (long : length source ≡ recipe bytes 0 .cells) where
+module _ (bytes source : List ℕ) (ok : firstOf (linesFor (routeOf 0) bytes) ≡ 0) (so : Sound (recipe bytes 0))
+    (long : length source ≡ recipe bytes 0 .cells) where
   pub driven : drive (calls bytes 0 source) (recipe bytes 0) (recipe bytes 0 .tiles) 0 (fresh (recipe bytes 0))
       ≡ told (rounds (recipe bytes 0)) (afterRounds (recipe bytes 0) source (rounds (recipe bytes 0)))
   driven =
@@ -65,7 +66,8 @@ module _ (bytes source : List ℕ) (s : State) where
       ap (λ (d : Told). answer 0 d)
       (ap (λ (k : ℕ). told k y) re ∙ ap (λ (z : State). told (rounds (recipe bytes 0)) z) ye ∙ sym (driven bytes source ok so long)
       ∙ sym (pick-true (eqb 0 0) _ (told 0 s) (eq-eqb 0 0 refl)))
-      ∙ ap (λ (k : ℕ). answered k (drive (calls bytes 0 source) (recipe bytes 0) (recipe bytes 0 .tiles) 0 (fresh (recipe bytes 0))) (told 0 s)) (sym (none-then e))
+      ∙ ap (λ (k : ℕ). answered k (drive (calls bytes 0 source) (recipe bytes 0) (recipe bytes 0 .tiles) 0 (fresh (recipe bytes 0))) (told 0 s))
+      (sym (none-then e))
 
   module _ (p : Plan) (o : Opened bytes 0 p) where
     pub fresh-now : (x : State) → answer 0 x ≡ freshCall bytes 0 source s → x ≡ fresh p

@@ -21,7 +21,7 @@ use Rattle.engine.specs.Demands.{Fixed, calls}
 use Rattle.engine.proofs.Lines.{areas-are}
 use Rattle.engine.proofs.AsSteps.{fresh-gave}
 use Rattle.engine.proofs.Demands.{fixed}
-use Rattle.schedule.specs.Calls.{roundsCall, tileRoundsLines, tileRoundsCall}
+use Rattle.schedule.specs.Calls.{roundsCall, roundsOfLines, roundsOfCall}
 use Rattle.schedule.specs.Demands.{Demand213}
 use Rattle.schedule.proofs.Called.{held}
 
@@ -44,20 +44,20 @@ module _ (bytes source : List ℕ) (s : State) where
         held bytes source (gave .0) (sound (routeOf 0) (nestOf bytes) (accepted bytes b (reads-for (routeOf 0) bytes (gave .0))))
         (areas-are (recipe bytes 0) source s (gave .1) .source)
 
-tile-rounds : (bytes area : List ℕ) → Fixed (tileRoundsCall bytes area) (tileRoundsLines bytes area) (roundsTo (recipe bytes 0) (recipe bytes 0 .tiles)) area
-unfolding tileRoundsCall
-tile-rounds bytes area = fixed (tileRoundsLines bytes area) (roundsTo (recipe bytes 0) (recipe bytes 0 .tiles)) area
+rounds-of : (bytes area : List ℕ) → Fixed (roundsOfCall bytes area) (roundsOfLines bytes area) (roundsTo (recipe bytes 0) (recipe bytes 0 .tiles)) area
+unfolding roundsOfCall
+rounds-of bytes area = fixed (roundsOfLines bytes area) (roundsTo (recipe bytes 0) (recipe bytes 0 .tiles)) area
 
-round-of : (bytes area : List ℕ) → tileRoundsCall bytes area .number ≡ 0
-    → (t : ℕ) → t < recipe bytes 0 .tiles → getD (tileRoundsCall bytes area .after) t 0 ≡ tileRound (recipe bytes 0) t
+round-of : (bytes area : List ℕ) → roundsOfCall bytes area .number ≡ 0
+    → (t : ℕ) → t < recipe bytes 0 .tiles → getD (roundsOfCall bytes area .after) t 0 ≡ tileRound (recipe bytes 0) t
 unfolding tileRound
-round-of bytes area z t h = ap (λ (l : List ℕ). getD l t 0) (tile-rounds bytes area .works z)
+round-of bytes area z t h = ap (λ (l : List ℕ). getD l t 0) (rounds-of bytes area .works z)
 
 pub demand213 : Demand213
 demand213 =
     record {
       run = run;
-      tile-rounds = tile-rounds;
+      rounds-of = rounds-of;
       as-fresh = as-fresh;
       tells = λ bytes source s b z.
           run bytes source s .works z

@@ -1,33 +1,45 @@
 -- Each function's part of a round, over plain variables: from what its callees leave to what its contract says.
-use Prim.Native.Nat.{ℕ, zero, suc, _+_, _*_, _≤_, _<_}
-use mathlib.Core.Path.{_≡_, refl, sym, ap, _∙_}
-use mathlib.Core.Logic.{_⊎_, inl, inr, _≢_}
+use Prim.Native.Nat.{ℕ, suc, _+_, _-_, _*_, _≤_, _<_}
+use mathlib.Core.Path.{_≡_, refl, sym, ap, _∙_, subst}
+use mathlib.Core.Logic.{_≢_}
 use mathlib.Core.Bool.{true, false}
-use mathlib.Core.List.{List, [], _∷_, _++_}
+use mathlib.Core.List.{List, [], _∷_}
+use native.Mathlib.Numerals.{add-one}
+use native.Mathlib.Decide.{ℕ-discrete}
 use native.Mathlib.Omega.{arith}
-use lib.ListN.{length, getD, set, length-set}
-use lib.Seq.{getD-set-other}
+use lib.ListN.{length, getD, take, drop, set, length-set, drop-of-length-le}
+use lib.Seq.{drop-cons, getD-set-other, set-getD}
 use lib.Dec.{ltb, eqb}
 use borrow.Author.Tests.{eq-eqb, ne-eqb, lt-ltb, le-ltb}
+use borrow.Rule.Slice.PartMut.{putMid}
 use Rattle.base.specs.Tests.{keep, some}
-use Rattle.base.specs.Lists.{setAll, allAt}
-use Rattle.base.proofs.Tests.{and-true, and-false, and-no, pick-true, pick-false, some-same}
-use Rattle.base.proofs.Select.{keep-hit, keep-none}
-use Rattle.machine.specs.Plan.{Plan, Sound, tilesOf, sendsOf, duesOf}
-use Rattle.machine.specs.Machine.{State, stateOf, finishedOf, tilesLeft, gather, calculate, send, carryOut, fresh}
+use Rattle.base.specs.Lists.{part, put, pack, unpack, setAll, allAt}
+use Rattle.base.proofs.Tests.{and-true, and-left, and-false, and-no, pick-true, pick-false, some-same}
+use Rattle.base.proofs.Lists.{piece-fits}
+use Rattle.base.proofs.Select.{keep-hit, keep-none, rankIn}
+use Rattle.machine.specs.Plan.{Plan, Sound, count, offset, heldBy, senderOf, takerOf, tilesOf, sendsOf, duesOf}
+use Rattle.machine.specs.Machine.{State, stateOf, placeOf, finishedOf, setProgress, unpackAll, tilesLeft, fresh}
 use Rattle.nest.specs.declared.Nest.{Nest}
 use Rattle.nest.specs.Accepted.{Accepted}
+use Rattle.nest.specs.Nest.{cells, processors}
 use Rattle.nest.proofs.Boxes.{box-few, tiles-few}
 use Rattle.plan.specs.declared.Route.{Route}
 use Rattle.plan.specs.declared.Route.the-variants.{Direct, Indirect}
 use Rattle.plan.specs.Shaped.{planOf}
-use Rattle.records.specs.declared.Progress.{Progress}
-use Rattle.stages.specs.Progress.{setRecord, progressOnly}
-use Rattle.rounds.specs.ByState.{Lent, Sending, calculatedTile, sentTo, tileDone, mayGather, afterTile, afterTiles, delivered, afterRound}
+use Rattle.layout.specs.declared.Sizes.{Sizes}
+use Rattle.layout.specs.Sizes.{Sized}
+use Rattle.scans.specs.declared.Place.{Place}
+use Rattle.tables.specs.Tables.{FoundIn}
+use Rattle.stages.specs.Progress.{progressOnly}
+use Rattle.stages.proofs.Parts as parts
+use Rattle.engine.proofs.Lines.{area-low}
+use Rattle.rounds.specs.ByState.{Lent, tileDone, mayGather, afterTile, afterTiles, delivered, afterRound}
 use Rattle.rounds.specs.Rounds.{rounds, afterRounds}
-use Rattle.rounds.proofs.ByState.{gathered-one, calculated-one, sending, next-round, no-round, lent-then, left-then, over-then}
+use Rattle.rounds.proofs.ByState.{next-round, no-round, lent-then, left-then, over-then}
 use Rattle.rounds.proofs.Theorem.{theorem213}
-use Rattle.schedule.specs.Given.{AtTile, AtSend}
+use Rattle.schedule.specs.Given.{putAll, memoryThen, statusThen, markThen}
+use Rattle.schedule.proofs.Chains.{walk-low, walk-over, walk-at, walk-next}
+use Rattle.schedule.proofs.Whole.{setAll-append, done-is}
 
 -- areas of the lengths that others have are lent as they are
 pub lent-too : (p : Plan) (s x : State) → Lent p s → length (x .memories) ≡ length (s .memories) → length (x .buffer) ≡ length (s .buffer)
@@ -35,110 +47,134 @@ pub lent-too : (p : Plan) (s x : State) → Lent p s → length (x .memories) �
 lent-too p s x l a b c d =
     record { memories = a ∙ l .memories; buffer = b ∙ l .buffer; progress = c ∙ l .progress; status = d ∙ l .status }
 
+-- a processor's part of the memories ends low
+pub part-few : (x : Nest) (z : Sizes) → Sized x z → (b : ℕ) → b < processors x → b * z .cells + z .cells ≤ 1048576
+part-few x z sized b h = omega (arith, area-low x z sized, piece-fits (z .cells) (z .processors) b (omega (arith, sized .processors)))
+
 -- no more tiles than a nest has cells, on either route
 pub tiles-low : (r : Route) (x : Nest) → Accepted x → planOf r x .tiles ≤ 16384
 tiles-low Direct x ok = let a = tiles-few x in let b = box-few x (ok .long) (ok .tiled) in let c = ok .cells-most in omega arith
 tiles-low Indirect x ok = let b = box-few x (ok .long) (ok .tiled) in let c = ok .cells-most in omega arith
 
--- ---- begin_tile: the record is stored after each stage
-module _ (p : Plan) (source : List ℕ) (s : State) (b t f : ℕ) (a : AtTile p s b t f) where
-  -- after the gather the processor has finished as many tiles
-  finished-still : (x : State) → x ≡ carryOut p [] s b (gather t) → f ≡ finishedOf x b
-  finished-still x e =
-      sym (ap (λ (y : State). finishedOf y b) e
-      ∙ gathered-one p source b (a .processor) t f (a .here) s (a .lent .progress) (sym (a .finished)) .1)
+-- ---- ready: what is left to look at decides; m is the j-th message due, or as many as there are
+pub record ReadyLoop (p : Plan) (t : ℕ) (status : List ℕ) (m : ℕ) : Type 0 where
+  pub j : ℕ
+  pub spot : m ≡ getD (duesOf p t) j (count p)
+  pub is : allAt status 2 (drop j (duesOf p t)) ≡ allAt status 2 (duesOf p t)
 
-  pub begun : (m1 l1 st1 m2 l2 : List ℕ) (r1 r2 : Progress)
-      → stateOf m1 (s .buffer) (setRecord (s .progress) b r1) st1 ≡ carryOut p [] s b (gather t) → l1 ≡ setRecord (s .progress) b r1
-      → ((buffer l status : List ℕ) → f ≡ getD l (3 * b) 0
-      → stateOf m2 buffer (setRecord l b r2) status ≡ carryOut p source (stateOf m1 buffer l status) b (calculate t))
-      → l2 ≡ setRecord l1 b r2 → stateOf m2 (s .buffer) l2 st1 ≡ calculatedTile p source s b t
-  begun m1 l1 st1 m2 l2 r1 r2 e1 k1 e2 k2 =
-      ap (λ (l : List ℕ). stateOf m2 (s .buffer) l st1) k2
-      ∙ e2 (s .buffer) l1 st1 (finished-still (stateOf m1 (s .buffer) l1 st1) first)
-      ∙ ap (λ (x : State). carryOut p source x b (calculate t)) first
-    where
-      first : stateOf m1 (s .buffer) l1 st1 ≡ carryOut p [] s b (gather t)
-      first = ap (λ (l : List ℕ). stateOf m1 (s .buffer) l st1) k1 ∙ e1
+module _ (p : Plan) (t : ℕ) (status : List ℕ) (m : ℕ) where
+  pub ready-start : m ≡ getD (duesOf p t) 0 (count p) → ReadyLoop p t status m
+  ready-start e = record { j = 0; spot = e; is = refl }
 
-  -- ---- whole_tile
-  sending-by : (x y : State) → x ≡ y → Sending p b t f 0 y → Sending p b t f 0 x
-  sending-by x y e d = rw e d
+  module _ (x : ReadyLoop p t status m) where
+    pub ready-done : count p ≤ m → true ≡ allAt status 2 (duesOf p t)
+    unfolding allAt
+    ready-done h = sym (sym (x .is) ∙ rw (drop-of-length-le (duesOf p t) (walk-over (takerOf p) (count p) t (x .j) m (x .spot) h)))
 
-  pub then-sends : (x : State) → x ≡ calculatedTile p source s b t → Lent p x → AtSend p x b t f 0
-  then-sends x e l =
-      record {
-        lent = l;
-        processor = a .processor;
-        tile = a .tile;
-        here = a .here;
-        few = a .few;
-        sending = sending-by x (calculatedTile p source s b t) e
-            (calculated-one p source b (a .processor) t f (a .here) s (a .lent .progress) (sym (a .finished)));
-      }
+    module _ (h : m < count p) where
+      here : drop (x .j) (duesOf p t) ≡ m ∷ drop (suc (x .j)) (duesOf p t)
+      here =
+          drop-cons (duesOf p t) (x .j) 0 (walk-low (takerOf p) (count p) t (x .j) m (x .spot) h)
+          ∙ ap (λ (i : ℕ). i ∷ drop (suc (x .j)) (duesOf p t)) (sym (walk-at (takerOf p) (count p) t (x .j) m (x .spot) h))
 
-  pub tile-done : (x y : State) → x ≡ calculatedTile p source s b t → y ≡ sentTo p x b t (length (sendsOf p t)) → y ≡ tileDone p source s b t
-  unfolding tileDone
-  tile-done x y e k = k ∙ ap (λ (z : State). sentTo p z b t (length (sendsOf p t))) e
+      pub ready-next : getD status m 0 ≡ 2 → (v : ℕ) → v ≡ getD (duesOf p t) (suc (rankIn (takerOf p) m)) (count p)
+          → ReadyLoop p t status v
+      unfolding allAt
+      ready-next e v k =
+          record {
+            j = x .j + 1;
+            spot = walk-next (takerOf p) (count p) t (x .j) m (x .spot) h v k;
+            is =
+                ap (λ (i : ℕ). allAt status 2 (drop i (duesOf p t))) (add-one (x .j))
+                ∙ sym (and-left (eqb (getD status m 0) 2) (allAt status 2 (drop (suc (x .j)) (duesOf p t))) (eq-eqb _ _ e))
+                ∙ sym (ap (allAt status 2) here) ∙ x .is;
+          }
 
--- ---- send_message
-pub sent-one : (p : Plan) (s : State) (b t f j : ℕ) → j < length (sendsOf p t) → AtSend p s b t f j → (bs l st : List ℕ) (r : Progress)
-    → ((k : List ℕ) → f ≡ getD k (3 * b) 0 → j ≡ getD k (3 * b + 2) 0
-    → stateOf (s .memories) bs (setRecord k b r) st
-    ≡ carryOut p [] (stateOf (s .memories) (s .buffer) k (s .status)) b (send (getD (sendsOf p t) (getD k (3 * b + 2) 0) 0)))
-    → l ≡ setRecord (s .progress) b r → stateOf (s .memories) bs l st ≡ carryOut p [] s b (send (getD (sendsOf p t) j 0))
-sent-one p s b t f j low a bs l st r e k =
-    ap (λ (x : List ℕ). stateOf (s .memories) bs x st) k
-    ∙ e (s .progress) (sym (a .sending .finished low)) (sym (a .sending .sent low))
-    ∙ ap (λ (i : ℕ). carryOut p [] s b (send (getD (sendsOf p t) i 0))) (a .sending .sent low)
+      pub ready-no : getD status m 0 ≢ 2 → false ≡ allAt status 2 (duesOf p t)
+      unfolding allAt
+      ready-no e =
+          sym (sym (x .is) ∙ ap (allAt status 2) here
+          ∙ and-false (eqb (getD status m 0) 2) (allAt status 2 (drop (suc (x .j)) (duesOf p t))) (ne-eqb _ _ e))
 
-pub low-in : (p : Plan) (t n j : ℕ) → n ≡ length (sendsOf p t) → j < n → j < length (sendsOf p t)
-low-in p t n j e h = omega arith
+-- ---- gather: what is left to gather gives the same
+pub record GatherLoop (r : Route) (x : Nest) (t : ℕ) (buffer memory₀ status₀ memory status : List ℕ) (m : ℕ) : Type 0 where
+  pub j : ℕ
+  pub spot : m ≡ getD (duesOf (planOf r x) t) j (count (planOf r x))
+  pub gathering : parts.Gathering r x t buffer memory₀ status₀ memory status (length (duesOf (planOf r x) t)) j
 
--- ---- send_tile: after j sends
-pub record SendLoop (p : Plan) (s : State) (b t : ℕ) (bs l st : List ℕ) (n j : ℕ) : Type 0 where
-  pub low : j ≤ n
-  pub buffer : length bs ≡ length (s .buffer)
-  pub progress : length l ≡ length (s .progress)
-  pub status : length st ≡ length (s .status)
-  pub state : stateOf (s .memories) bs l st ≡ sentTo p s b t j
+module _ (r : Route) (x : Nest) (t : ℕ) (buffer memory₀ status₀ : List ℕ) where
+  abbrev q : Plan
+  q = planOf r x
 
-pub send-start : (p : Plan) (s : State) (b t n : ℕ) → SendLoop p s b t (s .buffer) (s .progress) (s .status) n 0
-unfolding sentTo
-send-start p s b t n = record { low = omega arith; buffer = refl; progress = refl; status = refl; state = refl }
+  pub gather-start : (m : ℕ) → m ≡ getD (duesOf (planOf r x) t) 0 (count (planOf r x)) → GatherLoop r x t buffer memory₀ status₀ memory₀ status₀ m
+  gather-start m e = record { j = 0; spot = e; gathering = parts.gather-start r x t buffer memory₀ status₀ (length (duesOf q t)) refl }
 
-module _ (p : Plan) (s : State) (b t f : ℕ) (a : AtSend p s b t f 0) (bs l st : List ℕ) (n j : ℕ) (n-is : n ≡ length (sendsOf p t)) (x : SendLoop p s b t bs l st n j) where
-  sending-at : (y z : State) → y ≡ z → Sending p b t f j z → Sending p b t f j y
-  sending-at y z e d = rw e d
+  module _ (memory status : List ℕ) (m : ℕ) (g : GatherLoop r x t buffer memory₀ status₀ memory status m) where
+    pub gather-next : m < count (planOf r x) → (place : Place) → FoundIn r x m place → (memory′ : List ℕ) → length memory′ ≡ length memory
+        → memory′ ≡ unpack memory (heldBy (planOf r x) (place .number)) (placeOf (planOf r x) buffer (place .number))
+        → (v : ℕ) → v ≡ getD (duesOf (planOf r x) t) (suc (rankIn (takerOf (planOf r x)) m)) (count (planOf r x))
+        → GatherLoop r x t buffer memory₀ status₀ memory′ (set status m 3) v
+    gather-next h place f memory′ l e v k =
+        let low = walk-low (takerOf q) (count q) t (g .j) m (g .spot) h in
+        let at = walk-at (takerOf q) (count q) t (g .j) m (g .spot) h in
+        record {
+          j = g .j + 1;
+          spot = walk-next (takerOf q) (count q) t (g .j) m (g .spot) h v k;
+          gathering =
+              subst (λ (i : ℕ). parts.Gathering r x t buffer memory₀ status₀ memory′ (set status i 3) (length (duesOf q t)) (g .j + 1)) (f .number)
+              (parts.gather-again r x t buffer memory₀ status₀ (length (duesOf q t)) memory memory′ status (g .j) place (g .gathering) low
+              (subst (λ (i : ℕ). FoundIn r x i place) at f) l e);
+        }
 
-  pub may-send : AtSend p (stateOf (s .memories) bs l st) b t f j
-  may-send =
-      record {
-        lent = lent-too p s (stateOf (s .memories) bs l st) (a .lent) refl (x .buffer) (x .progress) (x .status);
-        processor = a .processor;
-        tile = a .tile;
-        here = a .here;
-        few = a .few;
-        sending = sending-at (stateOf (s .memories) bs l st) (sentTo p s b t j) (x .state)
-            (sending p [] b (a .processor) t f (a .here) j s (omega (arith, x .low)) (a .sending));
-      }
+    pub gather-done : count (planOf r x) ≤ m
+        → (memory ≡ unpackAll (planOf r x) buffer memory₀ (duesOf (planOf r x) t)) × (status ≡ setAll status₀ (duesOf (planOf r x) t) 3)
+    gather-done h =
+        parts.gather-done r x t buffer memory₀ status₀ (length (duesOf q t)) memory status (g .j) (g .gathering)
+        (walk-over (takerOf q) (count q) t (g .j) m (g .spot) h)
 
-  pub send-next : j < n → (bs′ l′ st′ : List ℕ) → length bs′ ≡ length bs → length l′ ≡ length l → length st′ ≡ length st
-      → stateOf (s .memories) bs′ l′ st′ ≡ carryOut p [] (stateOf (s .memories) bs l st) b (send (getD (sendsOf p t) j 0))
-      → SendLoop p s b t bs′ l′ st′ n (j + 1)
-  unfolding sentTo
-  send-next h bs′ l′ st′ q1 q2 q3 e =
-      let k : j + 1 ≡ suc j = omega arith in
-      record {
-        low = omega arith;
-        buffer = q1 ∙ x .buffer;
-        progress = q2 ∙ x .progress;
-        status = q3 ∙ x .status;
-        state = e ∙ ap (λ (y : State). carryOut p [] y b (send (getD (sendsOf p t) j 0))) (x .state) ∙ ap (λ (i : ℕ). sentTo p s b t i) (sym k);
-      }
+-- ---- send: what is left to send gives the same
+pub record SendLoop (p : Plan) (t : ℕ) (memory buffer₀ status₀ buffer status : List ℕ) (m : ℕ) : Type 0 where
+  pub j : ℕ
+  pub spot : m ≡ getD (sendsOf p t) j (count p)
+  pub long : length buffer ≡ length buffer₀
+  pub marks : length status ≡ length status₀
+  pub buffers : putAll p memory buffer (drop j (sendsOf p t)) ≡ putAll p memory buffer₀ (sendsOf p t)
+  pub statuses : setAll status (drop j (sendsOf p t)) 1 ≡ setAll status₀ (sendsOf p t) 1
 
-  pub send-done : n ≤ j → stateOf (s .memories) bs l st ≡ sentTo p s b t (length (sendsOf p t))
-  send-done h = let k : j ≡ length (sendsOf p t) = omega (arith, x .low) in x .state ∙ ap (λ (i : ℕ). sentTo p s b t i) k
+module _ (p : Plan) (t : ℕ) (memory buffer₀ status₀ : List ℕ) where
+  pub send-start : (m : ℕ) → m ≡ getD (sendsOf p t) 0 (count p) → SendLoop p t memory buffer₀ status₀ buffer₀ status₀ m
+  send-start m e = record { j = 0; spot = e; long = refl; marks = refl; buffers = refl; statuses = refl }
+
+  module _ (buffer status : List ℕ) (m : ℕ) (x : SendLoop p t memory buffer₀ status₀ buffer status m) where
+    pub send-next : m < count p → (i : ℕ) → i ≡ m → (buffer′ : List ℕ) → length buffer′ ≡ length buffer
+        → buffer′ ≡ put buffer (offset (p .messages) i) (pack memory (heldBy p i))
+        → (v : ℕ) → v ≡ getD (sendsOf p t) (suc (rankIn (senderOf p) m)) (count p)
+        → SendLoop p t memory buffer₀ status₀ buffer′ (set status m 1) v
+    unfolding putAll setAll
+    send-next h i is buffer′ l e v k =
+        let here : drop (x .j) (sendsOf p t) ≡ m ∷ drop (suc (x .j)) (sendsOf p t) =
+        drop-cons (sendsOf p t) (x .j) 0 (walk-low (senderOf p) (count p) t (x .j) m (x .spot) h)
+        ∙ ap (λ (a : ℕ). a ∷ drop (suc (x .j)) (sendsOf p t)) (sym (walk-at (senderOf p) (count p) t (x .j) m (x .spot) h)) in
+        record {
+          j = x .j + 1;
+          spot = walk-next (senderOf p) (count p) t (x .j) m (x .spot) h v k;
+          long = l ∙ x .long;
+          marks = rw length-set (x .marks);
+          buffers =
+              ap (λ (a : ℕ). putAll p memory buffer′ (drop a (sendsOf p t))) (add-one (x .j))
+              ∙ ap (λ (a : List ℕ). putAll p memory a (drop (suc (x .j)) (sendsOf p t)))
+              (e ∙ ap (λ (a : ℕ). put buffer (offset (p .messages) a) (pack memory (heldBy p a))) is)
+              ∙ sym (ap (putAll p memory buffer) here) ∙ x .buffers;
+          statuses =
+              ap (λ (a : ℕ). setAll (set status m 1) (drop a (sendsOf p t)) 1) (add-one (x .j))
+              ∙ sym (ap (λ (a : List ℕ). setAll status a 1) here) ∙ x .statuses;
+        }
+
+    pub send-done : count p ≤ m → (buffer ≡ putAll p memory buffer₀ (sendsOf p t)) × (status ≡ setAll status₀ (sendsOf p t) 1)
+    unfolding putAll setAll
+    send-done h =
+        let none : drop (x .j) (sendsOf p t) ≡ [] = drop-of-length-le (sendsOf p t) (walk-over (senderOf p) (count p) t (x .j) m (x .spot) h) in
+        (sym (ap (putAll p memory buffer) none) ∙ x .buffers, sym (ap (λ (a : List ℕ). setAll status a 1) none) ∙ x .statuses)
 
 -- ---- next_tile
 module _ (p : Plan) (source : List ℕ) (s : State) (b : ℕ) where
@@ -157,6 +193,31 @@ module _ (p : Plan) (source : List ℕ) (s : State) (b : ℕ) where
     tile-does h k y d =
         d ∙ ap (λ (u : ℕ). tileDone p source s b u) e
         ∙ sym (pick-true _ _ _ (and-true (lt-ltb (finishedOf s b) (length (tilesOf p b)) h) (rw e at k)))
+
+-- the tile's code leaves what the tile does; k is the number of cells
+pub tile-now : (r : Route) (x : Nest) (source : List ℕ) (s : State) (b t f k : ℕ) → k ≡ cells x → Lent (planOf r x) s → b < planOf r x .processors
+    → f ≡ finishedOf s b → (ys bs l st : List ℕ) → b * k + k ≤ length (s .memories)
+    → length ys ≡ length (take (b * k + k - b * k) (drop (b * k) (s .memories)))
+    → ys ≡ memoryThen (planOf r x) source (s .buffer) (take (b * k + k - b * k) (drop (b * k) (s .memories))) t
+    → bs ≡ putAll (planOf r x) ys (s .buffer) (sendsOf (planOf r x) t) → l ≡ setProgress (s .progress) b (f + 1) 0 0
+    → st ≡ statusThen (planOf r x) (s .status) t
+    → stateOf (putMid (b * k) (b * k + k - b * k) (s .memories) ys) bs l st ≡ tileDone (planOf r x) source s b t
+tile-now r x source s b t f k e lent low fin ys bs l st h q y u v w =
+    let p = planOf r x in
+    let own : ys ≡ memoryThen (planOf r x) source (s .buffer) (part (s .memories) (b * cells x) (cells x)) t =
+    y ∙ ap (λ (z : List ℕ). memoryThen (planOf r x) source (s .buffer) z t) (parts.mid-is (s .memories) (b * k) k)
+    ∙ ap (λ (i : ℕ). memoryThen (planOf r x) source (s .buffer) (part (s .memories) (b * i) i) t) e in
+    ap (λ (z : List ℕ). stateOf z bs l st) (parts.piece-back (s .memories) ys (λ z. memoryThen (planOf r x) source (s .buffer) z t) b k (cells x) e h q y)
+    ∙ ap (λ (z : List ℕ). stateOf (put (s .memories) (b * cells x) (memoryThen (planOf r x) source (s .buffer)
+    (part (s .memories) (b * cells x) (cells x)) t)) z l st)
+    (u ∙ ap (λ (z : List ℕ). putAll (planOf r x) z (s .buffer) (sendsOf (planOf r x) t)) own)
+    ∙ ap (λ (z : List ℕ). stateOf (put (s .memories) (b * cells x) (memoryThen (planOf r x) source (s .buffer) (part (s .memories) (b * cells x) (cells x)) t))
+    (putAll (planOf r x) (memoryThen (planOf r x) source (s .buffer) (part (s .memories) (b * cells x) (cells x)) t) (s .buffer)
+    (sendsOf (planOf r x) t)) z st) v
+    ∙ ap (stateOf (put (s .memories) (b * cells x) (memoryThen (planOf r x) source (s .buffer) (part (s .memories) (b * cells x) (cells x)) t))
+    (putAll (planOf r x) (memoryThen (planOf r x) source (s .buffer) (part (s .memories) (b * cells x) (cells x)) t) (s .buffer) (sendsOf (planOf r x) t))
+    (setProgress (s .progress) b (f + 1) 0 0)) w
+    ∙ sym (done-is (planOf r x) source s b t f lent low fin)
 
 -- ---- next_tiles: after the first b processors
 pub record TilesLoop (p : Plan) (source : List ℕ) (s x : State) (n b : ℕ) : Type 0 where
@@ -201,11 +262,6 @@ pub record MailLoop (before status : List ℕ) (m : ℕ) : Type 0 where
   pub rest : (i : ℕ) → m ≤ i → getD status i 0 ≡ getD before i 0
   pub state : status ≡ setAll before (keep (λ i. eqb (getD before i 0) 1) m) 2
 
-setAll-append : (l a b : List ℕ) (v : ℕ) → setAll l (a ++ b) v ≡ setAll (setAll l a v) b v
-unfolding setAll
-setAll-append l [] b v = refl
-setAll-append l (x ∷ a) b v = setAll-append (set l x v) a b v
-
 module _ (before : List ℕ) where
   pub mail-start : MailLoop before before 0
   unfolding keep setAll
@@ -222,7 +278,8 @@ module _ (before : List ℕ) where
           rest = λ i q. getD-set-other status m i 2 0 (λ z. omega arith) ∙ x .rest i (omega arith);
           state = ap (λ (l : List ℕ). set l m 2) (x .state)
               ∙ sym (setAll-append before (keep (λ i. eqb (getD before i 0) 1) m) (m ∷ []) 2)
-              ∙ ap (λ (l : List ℕ). setAll before l 2) (sym (keep-hit (λ i. eqb (getD before i 0) 1) m (eq-eqb (getD before m 0) 1 (sym (x .rest m (omega arith)) ∙ e))))
+              ∙ ap (λ (l : List ℕ). setAll before l 2) (sym (keep-hit (λ i. eqb (getD before i 0) 1) m
+              (eq-eqb (getD before m 0) 1 (sym (x .rest m (omega arith)) ∙ e))))
               ∙ ap (λ (c : ℕ). setAll before (keep (λ i. eqb (getD before i 0) 1) c) 2) (sym k);
         }
 
@@ -234,14 +291,20 @@ module _ (before : List ℕ) where
           low = omega arith;
           rest = λ i q. x .rest i (omega arith);
           state = x .state
-              ∙ ap (λ (l : List ℕ). setAll before l 2) (sym (keep-none (λ i. eqb (getD before i 0) 1) m (ne-eqb (getD before m 0) 1 (λ z. e (x .rest m (omega arith) ∙ z)))))
+              ∙ ap (λ (l : List ℕ). setAll before l 2) (sym (keep-none (λ i. eqb (getD before i 0) 1) m
+              (ne-eqb (getD before m 0) 1 (λ z. e (x .rest m (omega arith) ∙ z)))))
               ∙ ap (λ (c : ℕ). setAll before (keep (λ i. eqb (getD before i 0) 1) c) 2) (sym k);
         }
 
-    pub mail-next : m < length before → (after : List ℕ)
-        → ((getD status m 0 ≡ 1) × (after ≡ set status m 2)) ⊎ ((getD status m 0 ≢ 1) × (after ≡ status)) → MailLoop before after (m + 1)
-    mail-next h after (inl w) = rw (w .1) (mail-hit h (w .0))
-    mail-next h after (inr w) = rw (w .1) (mail-miss h (w .0))
+    pub mail-next : m < length before → (after : List ℕ) → after ≡ set status m (markThen (getD status m 0)) → MailLoop before after (m + 1)
+    unfolding markThen
+    mail-next h after e = go (ℕ-discrete (getD status m 0) 1)
+      where
+        go : Dec (getD status m 0 ≡ 1) → MailLoop before after (m + 1)
+        go (yes q) =
+            rw (e ∙ ap (set status m) (pick-true _ _ _ (eq-eqb (getD status m 0) 1 q))) (mail-hit h q)
+        go (no q) =
+            rw (e ∙ ap (set status m) (pick-false _ _ _ (ne-eqb (getD status m 0) 1 q)) ∙ set-getD status m 0) (mail-miss h q)
 
     pub mail-done : length status ≤ m → status ≡ delivered before
     unfolding delivered

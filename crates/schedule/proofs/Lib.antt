@@ -1,3 +1,6 @@
+pub mod Chains
+pub mod Listing
+pub mod Whole
 pub mod Laws
 pub mod Called
 pub mod Telling

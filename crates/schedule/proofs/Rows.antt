@@ -1,44 +1,25 @@
 -- Rows A and B by rounds, computed on the box's plan, which is theirs.
-use Prim.Native.Nat.{ℕ, zero, suc, _<_}
+use Prim.Native.Nat.{ℕ}
 use mathlib.Core.Path.{_≡_, refl, ap, _∙_}
-use mathlib.Core.Bool.{Bool, true}
+use mathlib.Core.Bool.{true}
 use mathlib.Core.List.{List, [], _∷_}
-use native.Mathlib.Omega.{arith}
 use lib.ListN.{getD}
-use lib.Dec.{ltb}
-use borrow.Author.Tests.{ltb-true}
 use Rattle.base.specs.Tests.{_and_, _or_, pick, every, some, keep, those, tabulate, product}
-use Rattle.base.specs.Lists.{Bytes}
-use Rattle.base.specs.Numbers.{firstOf}
-use Rattle.base.proofs.Tests.{both}
+use Rattle.base.proofs.Lists.{small}
 use Rattle.machine.specs.Plan.{Plan}
-use Rattle.nest.specs.declared.Nest.{Nest}
 use Rattle.nest.specs.Nest.{tileCount, cells, boxTiles}
 use Rattle.nest.specs.Places.{rank, place, cellAt, cellPlace, tileAt, tilePlace, boxTileOf}
-use Rattle.nest.specs.Reader.{readLines, nestOf}
 use Rattle.nest.specs.Recipes.{rowA, rowB}
-use Rattle.nest.proofs.Facts.{accepted}
-use Rattle.nest.proofs.Quick.{told}
-use Rattle.nest.proofs.RowNumbers.{numbers}
 use Rattle.plan.specs.Geometry.{processorOf, inside}
 use Rattle.plan.specs.declared.Route.the-variants.{Direct}
 use Rattle.plan.specs.Messages.{directions, ahead, reaches, crosses, parcel, taker, slotCells, slotTaker, atHome, slotParcel, messagesTo, messagesOf, boxPlan}
 use Rattle.plan.proofs.RowNests.{nestA, nestB, isA, isB}
-use Rattle.plan.proofs.ShapedBox.{planOf-box}
+use Rattle.plan.proofs.AToH.{numberA, numberB}
+use Rattle.plan.proofs.ShapedBox.{recipe-box}
 use Rattle.layout.specs.Sizes.{routeOf}
 use Rattle.rounds.specs.Rounds.{larger, greatest, lastOf, waitsFor, nextRound, extended, roundsTo, tileRound, lastRound, rounds}
 use Rattle.engine.specs.Calls.{recipe}
 use Rattle.schedule.specs.Rows.{RoundRows}
-
-unfoldable small : List ℕ → Bool
-small [] = true
-small (x ∷ xs) = ltb x 256 and small xs
-
-small-bytes : (l : List ℕ) → small l ≡ true → Bytes l
-unfolding small
-small-bytes [] e i = omega arith
-small-bytes (x ∷ xs) e zero = ltb-true x 256 (both e .0)
-small-bytes (x ∷ xs) e (suc i) = small-bytes xs (both e .1) i
 
 small-A : small rowA ≡ true
 unfolding small _and_
@@ -48,28 +29,24 @@ small-B : small rowB ≡ true
 unfolding small _and_
 small-B = refl
 
-number-A : firstOf (readLines rowA) ≡ 0
-unfolding told
-number-A = ap (λ (l : List ℕ). getD l 0 0) numbers
-
-number-B : firstOf (readLines rowB) ≡ 0
-unfolding told
-number-B = ap (λ (l : List ℕ). getD l 1 0) numbers
-
 plan-A : recipe rowA 0 ≡ boxPlan Direct nestA
 unfolding routeOf
-plan-A = planOf-box Direct (nestOf rowA) (accepted rowA (small-bytes rowA small-A) number-A) (ap (λ (x : Nest). x .bounds) isA) ∙ ap (boxPlan Direct) isA
+plan-A = recipe-box rowA nestA small-A numberA isA refl
 
 plan-B : recipe rowB 0 ≡ boxPlan Direct nestB
 unfolding routeOf
-plan-B = planOf-box Direct (nestOf rowB) (accepted rowB (small-bytes rowB small-B) number-B) (ap (λ (x : Nest). x .bounds) isB) ∙ ap (boxPlan Direct) isB
+plan-B = recipe-box rowB nestB small-B numberB isB refl
 
 computed-A : roundsTo (boxPlan Direct nestA) 16 ≡ 1 ∷ 2 ∷ 3 ∷ 4 ∷ 2 ∷ 3 ∷ 4 ∷ 5 ∷ 5 ∷ 6 ∷ 7 ∷ 8 ∷ 6 ∷ 7 ∷ 8 ∷ 9 ∷ []
-unfolding larger greatest lastOf waitsFor nextRound extended roundsTo those _and_ _or_ pick every some keep product tileCount cells boxTiles rank place cellAt cellPlace tileAt tilePlace boxTileOf inside directions ahead reaches crosses parcel taker slotCells slotTaker atHome slotParcel messagesTo messagesOf processorOf
+unfolding larger greatest lastOf waitsFor nextRound extended roundsTo those _and_ _or_ pick every some keep product tileCount cells boxTiles rank
+    place cellAt cellPlace tileAt tilePlace boxTileOf inside directions ahead reaches crosses parcel taker slotCells slotTaker atHome slotParcel
+    messagesTo messagesOf processorOf
 computed-A = refl
 
 computed-B : roundsTo (boxPlan Direct nestB) 4 ≡ 1 ∷ 2 ∷ 2 ∷ 3 ∷ []
-unfolding larger greatest lastOf waitsFor nextRound extended roundsTo those _and_ _or_ pick every some keep product tileCount cells boxTiles rank place cellAt cellPlace tileAt tilePlace boxTileOf inside directions ahead reaches crosses parcel taker slotCells slotTaker atHome slotParcel messagesTo messagesOf processorOf
+unfolding larger greatest lastOf waitsFor nextRound extended roundsTo those _and_ _or_ pick every some keep product tileCount cells boxTiles rank
+    place cellAt cellPlace tileAt tilePlace boxTileOf inside directions ahead reaches crosses parcel taker slotCells slotTaker atHome slotParcel
+    messagesTo messagesOf processorOf
 computed-B = refl
 
 -- the greatest of the table

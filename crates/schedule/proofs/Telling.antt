@@ -14,7 +14,7 @@ use Rattle.base.specs.Tests.{not, keep, those}
 use Rattle.base.specs.Numbers.{line, firstOf}
 use Rattle.base.proofs.Tests.{not-true, not-false}
 use Rattle.base.proofs.Numbers.{first-true, first-false}
-use Rattle.base.proofs.Select.{keep-hit, those-none, at-low, at-is}
+use Rattle.base.proofs.Select.{rankIn, keep-hit, those-none, at-low, at-is}
 use Rattle.machine.specs.Plan.{Plan, Sound, Message, count, senderOf, takerOf, duesOf}
 use Rattle.machine.specs.Machine.{answered}
 use Rattle.nest.specs.declared.Nest.{Nest}
@@ -38,8 +38,9 @@ use Rattle.rounds.proofs.Lists.{larger-is, larger-most, larger-join, larger-zer
 use Rattle.rounds.proofs.Tiles.{table-length, round-is, within-rounds, few}
 use Rattle.engine.specs.Calls.{answer}
 use Rattle.engine.proofs.Lines.{Opened, call-read, call-later, call-done}
+use Rattle.schedule.proofs.Chains.{walk-low, walk-over, walk-at, walk-tile, walk-next}
 use Rattle.schedule.specs.Given.{TellsTo, lastBefore, Lasts}
-use Rattle.schedule.specs.Calls.{tileRoundsCall}
+use Rattle.schedule.specs.Calls.{roundsOfCall}
 
 -- ---- processor_at
 module _ (x : Nest) (ok : Accepted x) (r : Route) (t : ℕ) where
@@ -86,6 +87,11 @@ pub record DuesLoop (p : Plan) (t last n latest j : ℕ) : Type 0 where
   pub low : j ≤ n
   pub is : latest ≡ larger last (greatest (map (λ m. tileRound p (senderOf p m)) (take j (duesOf p t))))
 
+pub record DuesWalk (p : Plan) (t last latest m : ℕ) : Type 0 where
+  pub j : ℕ
+  pub spot : m ≡ getD (duesOf p t) j (count p)
+  pub dues : DuesLoop p t last (length (duesOf p t)) latest j
+
 module _ (p : Plan) (so : Sound p) (t : ℕ) (low : t < p .tiles) (last : ℕ) where
   pub dues-start : (n : ℕ) → DuesLoop p t last n last 0
   unfolding greatest
@@ -116,9 +122,12 @@ module _ (p : Plan) (so : Sound p) (t : ℕ) (low : t < p .tiles) (last : ℕ) w
           low = omega arith;
           is = later latest round next w ∙ ap (λ (a : ℕ). larger a round) (x .is)
               ∙ larger-join last (greatest (map (λ m. tileRound p (senderOf p m)) (take j (duesOf p t)))) round
-              ∙ ap (λ (b : ℕ). larger last (larger (greatest (map (λ m. tileRound p (senderOf p m)) (take j (duesOf p t)))) b)) (e ∙ sym (larger-zero (tileRound p (senderOf p (getD (duesOf p t) j 0)))))
-              ∙ ap (larger last) (sym (greatest-append (map (λ m. tileRound p (senderOf p m)) (take j (duesOf p t))) (tileRound p (senderOf p (getD (duesOf p t) j 0)) ∷ [])))
-              ∙ ap (λ (l : List ℕ). larger last (greatest l)) (sym (map-append (λ m. tileRound p (senderOf p m)) (take j (duesOf p t)) (getD (duesOf p t) j 0 ∷ [])))
+              ∙ ap (λ (b : ℕ). larger last (larger (greatest (map (λ m. tileRound p (senderOf p m)) (take j (duesOf p t)))) b))
+              (e ∙ sym (larger-zero (tileRound p (senderOf p (getD (duesOf p t) j 0)))))
+              ∙ ap (larger last) (sym (greatest-append (map (λ m. tileRound p (senderOf p m)) (take j (duesOf p t)))
+              (tileRound p (senderOf p (getD (duesOf p t) j 0)) ∷ [])))
+              ∙ ap (λ (l : List ℕ). larger last (greatest l)) (sym (map-append (λ m. tileRound p (senderOf p m)) (take j (duesOf p t))
+              (getD (duesOf p t) j 0 ∷ [])))
               ∙ ap (λ (l : List ℕ). larger last (greatest (map (λ m. tileRound p (senderOf p m)) l))) (sym (take-suc (duesOf p t) j 0 (due-low h)))
               ∙ ap (λ (i : ℕ). larger last (greatest (map (λ m. tileRound p (senderOf p m)) (take i (duesOf p t))))) (sym k);
         }
@@ -131,10 +140,36 @@ module _ (p : Plan) (so : Sound p) (t : ℕ) (low : t < p .tiles) (last : ℕ) w
         let b : greatest (map (tileRound p) (waitsFor p t)) ≡ latest =
         ap greatest (map-append (tileRound p) (lastOf (those (p .processorOf) (p .processorOf t) t)) (map (senderOf p) (duesOf p t)))
         ∙ greatest-append (map (tileRound p) (lastOf (those (p .processorOf) (p .processorOf t) t))) (map (tileRound p) (map (senderOf p) (duesOf p t)))
-        ∙ ap (λ (l : List ℕ). larger (greatest (map (tileRound p) (lastOf (those (p .processorOf) (p .processorOf t) t)))) (greatest l)) (map-map (tileRound p) (senderOf p) (duesOf p t))
+        ∙ ap (λ (l : List ℕ). larger (greatest (map (tileRound p) (lastOf (those (p .processorOf) (p .processorOf t) t)))) (greatest l))
+        (map-map (tileRound p) (senderOf p) (duesOf p t))
         ∙ ap (λ (k : ℕ). larger k (greatest (map (λ m. tileRound p (senderOf p m)) (duesOf p t)))) (sym e) ∙ sym a in
         let r = round-is p so t low in
         omega arith
+
+  -- along the chain: m is the j-th message due, or as many as there are
+  module _ (latest m : ℕ) (x : DuesWalk p t last latest m) where
+    pub walk-dues-next : m < count p → (round after v : ℕ) → round ≡ tileRound p (senderOf p m)
+        → ((latest < round) × (after ≡ round)) ⊎ ((round ≤ latest) × (after ≡ latest))
+        → v ≡ getD (duesOf p t) (suc (rankIn (takerOf p) m)) (count p) → DuesWalk p t last after v
+    walk-dues-next h round after v e w k =
+        record {
+          j = x .j + 1;
+          spot = walk-next (takerOf p) (count p) t (x .j) m (x .spot) h v k;
+          dues = dues-next (length (duesOf p t)) latest (x .j) refl (x .dues) (walk-low (takerOf p) (count p) t (x .j) m (x .spot) h) round after
+              (e ∙ ap (λ (i : ℕ). tileRound p (senderOf p i)) (walk-at (takerOf p) (count p) t (x .j) m (x .spot) h)) w;
+        }
+
+    pub walk-sender-low : m < count p → senderOf p m < t
+    walk-sender-low h =
+        let a = so .forward m h in
+        let b = walk-tile (takerOf p) (count p) t (x .j) m (x .spot) h in
+        omega arith
+
+    pub walk-dues-done : count p ≤ m → last ≡ lastBefore p (p .processorOf t) t → latest + 1 ≡ tileRound p t
+    walk-dues-done h = dues-done (length (duesOf p t)) latest (x .j) refl (x .dues) (walk-over (takerOf p) (count p) t (x .j) m (x .spot) h)
+
+  pub walk-dues-start : (m : ℕ) → m ≡ getD (duesOf p t) 0 (count p) → DuesWalk p t last last m
+  walk-dues-start m e = record { j = 0; spot = e; dues = dues-start (length (duesOf p t)) }
 
   pub round-few : tileRound p t ≤ p .tiles
   round-few = let a = within-rounds p so t low in let b = few p so in omega arith
@@ -170,7 +205,8 @@ module _ (p : Plan) where
         }
       where
         at-u : (u : ℕ) → u < t + 1 → Dec (u ≡ t) → getD (set table t round) u 0 ≡ tileRound p u
-        at-u u h (yes e) = ap (λ (k : ℕ). getD (set table t round) k 0) e ∙ getD-set-same table t round 0 (omega (arith, i .long)) ∙ is ∙ ap (tileRound p) (sym e)
+        at-u u h (yes e) = ap (λ (k : ℕ). getD (set table t round) k 0) e ∙ getD-set-same table t round 0 (omega (arith, i .long)) ∙ is ∙ ap
+            (tileRound p) (sym e)
         at-u u h (no e) = getD-set-other table t u round 0 e ∙ i .each u (omega arith)
 
     pub lasts-next : Lasts p (set lasts b round) (t + 1)
@@ -226,16 +262,16 @@ module _ (p : Plan) where
 
 -- ---- the call's returns
 module _ (l area : List ℕ) where
-  pub told-read : (r : ℕ) → r ≡ firstOf (readLines l) → r ≢ 0 → answer r area ≡ tileRoundsCall l area
-  unfolding tileRoundsCall
+  pub told-read : (r : ℕ) → r ≡ firstOf (readLines l) → r ≢ 0 → answer r area ≡ roundsOfCall l area
+  unfolding roundsOfCall
   told-read r e h = call-read (readLines l) (numbered l) _ r _ area e h
 
   module _ (p : Plan) (o : Opened l 0 p) where
-    told-at : answered (firstOf (readLines l ++ (line 9 (not (eqb (length area) (p .tiles))) ∷ []))) (roundsTo p (p .tiles)) area ≡ tileRoundsCall l area
-    unfolding tileRoundsCall
+    told-at : answered (firstOf (readLines l ++ (line 9 (not (eqb (length area) (p .tiles))) ∷ []))) (roundsTo p (p .tiles)) area ≡ roundsOfCall l area
+    unfolding roundsOfCall
     told-at = ap (λ (q : Plan). answered (firstOf (readLines l ++ (line 9 (not (eqb (length area) (q .tiles))) ∷ []))) (roundsTo q (q .tiles)) area) (o .is)
 
-    pub told-area : length area ≢ p .tiles → answer 9 area ≡ tileRoundsCall l area
+    pub told-area : length area ≢ p .tiles → answer 9 area ≡ roundsOfCall l area
     told-area h =
         call-later (readLines l) (numbered l) _ 9 _ area (reads-for (routeOf 0) l (o .none)) (sym (first-true 9 _ _ (not-false (ne-eqb _ _ h))))
         (λ q. omega arith) ∙ told-at
@@ -244,5 +280,5 @@ module _ (l area : List ℕ) where
     unfolding firstOf
     right e = first-false 9 (not (eqb (length area) (p .tiles))) [] (not-true (eq-eqb _ _ e))
 
-    pub told-done : length area ≡ p .tiles → (new : List ℕ) → new ≡ roundsTo p (p .tiles) → answer 0 new ≡ tileRoundsCall l area
+    pub told-done : length area ≡ p .tiles → (new : List ℕ) → new ≡ roundsTo p (p .tiles) → answer 0 new ≡ roundsOfCall l area
     told-done e new c = ap (answer 0) c ∙ call-done (readLines l) (numbered l) _ 0 _ area (reads-for (routeOf 0) l (o .none)) (right e) ∙ told-at

@@ -20,9 +20,9 @@ roundsCall bytes source s =
     (drive (calls bytes 0 source) (recipe bytes 0) (recipe bytes 0 .tiles) 0 (machine.fresh (recipe bytes 0))) (told 0 s)
 
 -- each tile's round is lent one word a tile
-abbrev pub tileRoundsLines : List ℕ → List ℕ → List Line
-tileRoundsLines bytes area = readLines bytes ++ (line 9 (not (eqb (length area) (recipe bytes 0 .tiles))) ∷ [])
+abbrev pub roundsOfLines : List ℕ → List ℕ → List Line
+roundsOfLines bytes area = readLines bytes ++ (line 9 (not (eqb (length area) (recipe bytes 0 .tiles))) ∷ [])
 
-unfoldable pub tileRoundsCall : List ℕ → List ℕ → Answered (List ℕ)
-tileRoundsCall bytes area =
-    answered (firstOf (tileRoundsLines bytes area)) (roundsTo (recipe bytes 0) (recipe bytes 0 .tiles)) area
+unfoldable pub roundsOfCall : List ℕ → List ℕ → Answered (List ℕ)
+roundsOfCall bytes area =
+    answered (firstOf (roundsOfLines bytes area)) (roundsTo (recipe bytes 0) (recipe bytes 0 .tiles)) area

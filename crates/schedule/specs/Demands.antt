@@ -12,15 +12,15 @@ use Rattle.nest.specs.Reader.{readLines}
 use Rattle.rounds.specs.Rounds.{Told, told, drive, rounds, roundsTo, tileRound, roundsFrom, RoundsHold, stateThen}
 use Rattle.engine.specs.Calls.{recipe, freshCallLines, freshCall, collectCall}
 use Rattle.engine.specs.Demands.{Fixed, calls}
-use Rattle.schedule.specs.Calls.{roundsCall, tileRoundsLines, tileRoundsCall}
+use Rattle.schedule.specs.Calls.{roundsCall, roundsOfLines, roundsOfCall}
 
 pub record Demand213 : Type 0 where
   -- either call gives the number of its first true line; it does its work, or leaves every lent word as before, and the rounds told are 0
   pub run : (bytes source : List ℕ) (s : State)
       → Fixed (roundsCall bytes source s) (freshCallLines bytes 0 source s)
       (drive (calls bytes 0 source) (recipe bytes 0) (recipe bytes 0 .tiles) 0 (machine.fresh (recipe bytes 0))) (told 0 s)
-  pub tile-rounds : (bytes area : List ℕ)
-      → Fixed (tileRoundsCall bytes area) (tileRoundsLines bytes area) (roundsTo (recipe bytes 0) (recipe bytes 0 .tiles)) area
+  pub rounds-of : (bytes area : List ℕ)
+      → Fixed (roundsOfCall bytes area) (roundsOfLines bytes area) (roundsTo (recipe bytes 0) (recipe bytes 0 .tiles)) area
   -- it refuses as a fresh start does
   pub as-fresh : (bytes source : List ℕ) (s : State) → roundsCall bytes source s .number ≡ freshCall bytes 0 source s .number
   -- the driver tells the greatest round of a tile, and the areas are those after so many rounds of calls
@@ -31,5 +31,5 @@ pub record Demand213 : Type 0 where
   pub by-rounds : (bytes source : List ℕ) (s : State) → Bytes bytes → roundsCall bytes source s .number ≡ 0
       → RoundsHold (calls bytes 0 source) (collectCall bytes 0 source) (recipe bytes 0) source
   -- the word of a tile is its round
-  pub round-of : (bytes area : List ℕ) → tileRoundsCall bytes area .number ≡ 0
-      → (t : ℕ) → t < recipe bytes 0 .tiles → getD (tileRoundsCall bytes area .after) t 0 ≡ tileRound (recipe bytes 0) t
+  pub round-of : (bytes area : List ℕ) → roundsOfCall bytes area .number ≡ 0
+      → (t : ℕ) → t < recipe bytes 0 .tiles → getD (roundsOfCall bytes area .after) t 0 ≡ tileRound (recipe bytes 0) t

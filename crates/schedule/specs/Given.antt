@@ -1,39 +1,65 @@
--- What the code of a round is given: the nest's table, areas of their lengths, a processor and the tile at which it stands.
+-- What the code of a round is given: the nest's table, its messages listed and chained; and what a tile leaves.
 -- No sentence of document 02; the contracts of the functions below the offered calls cite it.
 use Prim.Native.Nat.{ℕ, _≤_, _<_}
 use mathlib.Core.Path.{_≡_}
-use mathlib.Core.List.{List, map}
+use mathlib.Core.List.{List, [], _∷_, map}
 use lib.ListN.{length, getD}
-use Rattle.base.specs.Tests.{those}
-use Rattle.machine.specs.Plan.{Plan, tilesOf}
-use Rattle.machine.specs.Machine.{State, finishedOf}
+use lib.Dec.{eqb}
+use Rattle.base.specs.Tests.{pick, those}
+use Rattle.base.specs.Lists.{put, pack, setAll, storeAll}
+use Rattle.machine.specs.Plan.{Plan, count, offset, heldBy, sendsOf, duesOf}
+use Rattle.machine.specs.Machine.{unpackAll}
 use Rattle.nest.specs.declared.Nest.{Nest}
+use Rattle.plan.specs.Shaped.{planOf}
 use Rattle.layout.specs.declared.Sizes.{Sizes}
 use Rattle.layout.specs.Sizes.{Sized}
+use Rattle.boxes.specs.Table.{endOf}
 use Rattle.tables.specs.Tables.{Tabled}
-use Rattle.rounds.specs.ByState.{Lent, Sending}
 use Rattle.rounds.specs.Rounds.{greatest, lastOf, tileRound}
+use Rattle.schedule.specs.Index.{Listed, Chained}
 
 abbrev pub Planned : Nest → Sizes → List ℕ → Type 0
 Planned x z lens = Sized x z × Tabled x z lens
 
--- processor b stands at tile t, f being finished
-pub record AtTile (p : Plan) (s : State) (b t f : ℕ) : Type 0 where
-  pub lent : Lent p s
-  pub processor : b < p .processors
-  pub tile : t < p .tiles
-  pub here : getD (tilesOf p b) f 0 ≡ t
-  pub finished : f ≡ finishedOf s b
-  pub few : f < 16384
+-- the chain of the messages by the tile at an end, beside a mark for each
+pub record Mailed (x : Nest) (z : Sizes) (side : ℕ) (chain status : List ℕ) : Type 0 where
+  pub chained : Chained (endOf side (planOf (z .route) x)) (count (planOf (z .route) x)) chain
+  pub marks : length status ≡ count (planOf (z .route) x)
+  pub few : count (planOf (z .route) x) ≤ 7168
 
--- processor b has sent j messages of tile t
-pub record AtSend (p : Plan) (s : State) (b t f j : ℕ) : Type 0 where
-  pub lent : Lent p s
-  pub processor : b < p .processors
-  pub tile : t < p .tiles
-  pub here : getD (tilesOf p b) f 0 ≡ t
-  pub few : f < 16384
-  pub sending : Sending p b t f j s
+-- the messages listed, and chained by both ends
+pub record Indexed (x : Nest) (z : Sizes) (lens spots sends dues : List ℕ) : Type 0 where
+  pub planned : Planned x z lens
+  pub listed : Listed (z .route) x lens spots
+  pub bySender : Chained (endOf 0 (planOf (z .route) x)) (count (planOf (z .route) x)) sends
+  pub byTaker : Chained (endOf 1 (planOf (z .route) x)) (count (planOf (z .route) x)) dues
+  pub few : count (planOf (z .route) x) ≤ 7168
+
+-- the n messages listed, and chained by their takers
+pub record Dued (x : Nest) (z : Sizes) (lens spots dues : List ℕ) (n : ℕ) : Type 0 where
+  pub planned : Planned x z lens
+  pub listed : Listed (z .route) x lens spots
+  pub byTaker : Chained (endOf 1 (planOf (z .route) x)) (count (planOf (z .route) x)) dues
+  pub all : n ≡ count (planOf (z .route) x)
+
+-- ---- what a whole tile leaves
+
+-- the buffer with messages packed from a memory, one after the other
+unfoldable pub putAll : Plan → List ℕ → List ℕ → List ℕ → List ℕ
+putAll p memory buffer [] = buffer
+putAll p memory buffer (m ∷ ms) = putAll p memory (put buffer (offset (p .messages) m) (pack memory (heldBy p m))) ms
+
+-- its processor's memory, gathered and calculated
+abbrev pub memoryThen : Plan → List ℕ → List ℕ → List ℕ → ℕ → List ℕ
+memoryThen p source buffer memory t = storeAll (p .value source) (unpackAll p buffer memory (duesOf p t)) (p .cellsOf t)
+
+-- the marks: what was due is taken, what it sends is in flight
+abbrev pub statusThen : Plan → List ℕ → ℕ → List ℕ
+statusThen p status t = setAll (setAll status (duesOf p t) 3) (sendsOf p t) 1
+
+-- a mark once mail in flight is delivered
+unfoldable pub markThen : ℕ → ℕ
+markThen m = pick (eqb m 1) 2 m
 
 -- ---- each tile's round
 

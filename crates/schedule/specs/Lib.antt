@@ -1,4 +1,5 @@
 pub mod Given
+pub mod Index
 pub mod Calls
 pub mod Demands
 pub mod Rows

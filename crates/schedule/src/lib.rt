@@ -1,194 +1,156 @@
 // The driver by rounds: in a round every processor that could gather does its whole tile, then all mail in flight is delivered. The nest's
 // table is made once, and a processor is tested when its place comes, which changes nothing (rounds/proofs/AsItGoes).
 ghost use mathlib.Core.Path.{_≡_};
-ghost use mathlib.Core.List.{[]};
 ghost use Prim.Native.Nat.{_*_, _<_};
 ghost use lib.ListN.{length, getD};
-ghost use Rattle.machine.specs.Plan.{senderOf, sendsOf};
-ghost use Rattle.machine.specs.Machine.{stateOf, carryOut, send, fresh};
+ghost use Rattle.base.specs.Lists.{setAll, allAt};
+ghost use Rattle.machine.specs.Plan.{count, words, senderOf, sendsOf, duesOf};
+ghost use Rattle.machine.specs.Machine.{stateOf, unpackAll, fresh};
 ghost use Rattle.nest.specs.Nest.{cells, processors};
 ghost use Rattle.plan.specs.Shaped.{planOf};
 ghost use Rattle.tables.specs.Tables.{FoundIn};
-ghost use Rattle.rounds.specs.ByState.{Lent, calculatedTile, sentTo, tileDone, afterTile, afterTiles, delivered, afterRound};
+ghost use Rattle.rounds.specs.ByState.{Lent, afterTile, afterTiles, delivered, afterRound};
 ghost use Rattle.rounds.specs.Rounds.{told, rounds, afterRounds, tileRound, roundsTo};
 ghost use Rattle.engine.specs.Calls.{answer};
-ghost use Rattle.schedule.specs.Given.{Planned, AtTile, AtSend, TellsTo, lastBefore};
-ghost use Rattle.schedule.specs.Calls.{roundsCall, tileRoundsCall};
+ghost use Rattle.schedule.specs.Index.{Listed};
+ghost use Rattle.schedule.specs.Given.{Planned, Mailed, Indexed, Dued, putAll, memoryThen, statusThen, markThen, TellsTo, lastBefore};
+ghost use Rattle.schedule.specs.Calls.{roundsCall, roundsOfCall};
+
+pub mod index; // index.rt: the messages of a plan by number and by tile
+
 use base::word_index;
 use engine::core::areas_fit;
 use engine::store_record;
+use index::chain_ends;
+use index::first;
+use index::list;
+use index::next;
+use index::spot;
 use layout::Sizes;
 use layout::route_of;
 use layout::sizes_of;
 use nest::Nest;
 use nest::read;
 use plan::Route;
+use records::Progress;
 use routes::read_for;
 use scans::Place;
-use stages::calculate_stage;
-use stages::gather_stage;
-use stages::ready;
-use stages::send_stage;
+use stages::calculate;
+use stages::put_message;
+use stages::take_message;
 use stages::tiles_left;
 use stages::zero_bytes;
 use stages::zero_words;
-use tables::count_at;
 use tables::fill;
-use tables::nth_at;
 use tables::tile_at;
 use tables::tile_count;
 use tables::tiles_of;
 
-// The gather and the calculate of a tile whose mail is there.
-fn begin_tile(
+// All messages due at the tile are delivered.
+fn ready(nest: Nest, sizes: Sizes, dues: &[u16; 8192], status: &[u8], t: usize) -> bool
+    requires { ⌜ Mailed nest sizes 1 (now dues) (now status) × (t < 1024) ⌝ }
+    ensures { λ r. ⌜ r ≡ allAt (now (status .entry)) 2 (duesOf (planOf (sizes .route) nest) t) ⌝ }
+{
+    let mut m = first(nest, sizes, dues, t, 1);
+    while m < status.len() {
+        if status[m] != 2 {
+            return false;
+        }
+        m = next(nest, sizes, dues, t, 1, m);
+    }
+    true
+}
+
+// All messages due at the tile, into one processor's memory; each is then taken.
+fn gather(
     nest: Nest,
     sizes: Sizes,
     lens: &[u16; 9217],
-    source: &[u32],
-    memories: &mut [u32],
+    spots: &[u32; 14336],
+    dues: &[u16; 8192],
+    memory: &mut [u32],
     buffer: &[u32],
-    progress: &mut [u32],
     status: &mut [u8],
-    b: usize,
     t: usize,
-    finished: u32,
 )
-    requires { ⌜ Planned nest sizes (now lens) × (length (now source) ≡ cells nest) ⌝ }
-    requires { ⌜ AtTile (planOf (sizes .route) nest) (stateOf (now memories) (now buffer) (now progress) (now status)) b t finished ⌝ }
-    ensures { λ _. ⌜ stateOf (now (memories .exit)) (now (buffer .entry)) (now (progress .exit)) (now (status .exit))
-        ≡ calculatedTile (planOf (sizes .route) nest) (now (source .entry)) (stateOf (now (memories .entry)) (now (buffer .entry)) (now (progress .entry)) (now (status .entry))) b t ⌝ }
+    requires { ⌜ Planned nest sizes (now lens) × Listed (sizes .route) nest (now lens) (now spots) ⌝ }
+    requires { ⌜ Mailed nest sizes 1 (now dues) (now status) × (t < 1024) ⌝ }
+    requires { ⌜ (length (now memory) ≡ cells nest) × (length (now buffer) ≡ words (planOf (sizes .route) nest)) ⌝ }
+    ensures { λ _. ⌜ (now (memory .exit)
+        ≡ unpackAll (planOf (sizes .route) nest) (now (buffer .entry)) (now (memory .entry)) (duesOf (planOf (sizes .route) nest) t))
+        × (now (status .exit) ≡ setAll (now (status .entry)) (duesOf (planOf (sizes .route) nest) t) 3) ⌝ }
 {
-    let gathered = gather_stage(nest, sizes, lens, memories, buffer, status, b, t, finished);
-    store_record(progress, b, gathered);
-    let calculated = calculate_stage(nest, sizes, lens, source, memories, b, t, finished);
-    store_record(progress, b, calculated);
-}
-
-// The send of a tile's j-th message.
-fn send_message(
-    nest: Nest,
-    sizes: Sizes,
-    lens: &[u16; 9217],
-    memories: &[u32],
-    buffer: &mut [u32],
-    progress: &mut [u32],
-    status: &mut [u8],
-    b: usize,
-    t: usize,
-    finished: u32,
-    j: usize,
-)
-    requires { ⌜ Planned nest sizes (now lens) × (j < length (sendsOf (planOf (sizes .route) nest) t)) ⌝ }
-    requires { ⌜ AtSend (planOf (sizes .route) nest) (stateOf (now memories) (now buffer) (now progress) (now status)) b t finished j ⌝ }
-    ensures { λ _. ⌜ stateOf (now (memories .entry)) (now (buffer .exit)) (now (progress .exit)) (now (status .exit))
-        ≡ carryOut (planOf (sizes .route) nest) [] (stateOf (now (memories .entry)) (now (buffer .entry)) (now (progress .entry)) (now (status .entry))) b
-        (send (getD (sendsOf (planOf (sizes .route) nest) t) j 0)) ⌝ }
-{
-    let left = send_stage(
-        nest,
-        sizes,
-        lens,
-        memories,
-        buffer,
-        status,
-        b,
-        t,
-        finished,
-        j,
-    );
-    store_record(progress, b, left);
-}
-
-// All sends of a tile.
-fn send_tile(
-    nest: Nest,
-    sizes: Sizes,
-    lens: &[u16; 9217],
-    memories: &[u32],
-    buffer: &mut [u32],
-    progress: &mut [u32],
-    status: &mut [u8],
-    b: usize,
-    t: usize,
-    finished: u32,
-)
-    requires { ⌜ Planned nest sizes (now lens) ⌝ }
-    requires { ⌜ AtSend (planOf (sizes .route) nest) (stateOf (now memories) (now buffer) (now progress) (now status)) b t finished 0 ⌝ }
-    ensures { λ _. ⌜ stateOf (now (memories .entry)) (now (buffer .exit)) (now (progress .exit)) (now (status .exit))
-        ≡ sentTo (planOf (sizes .route) nest) (stateOf (now (memories .entry)) (now (buffer .entry)) (now (progress .entry)) (now (status .entry))) b t
-        (length (sendsOf (planOf (sizes .route) nest) t)) ⌝ }
-{
-    let n = count_at(nest, sizes, lens, t, 0);
-    let mut j = 0;
-    while j < n {
-        send_message(
-            nest,
-            sizes,
-            lens,
-            memories,
-            buffer,
-            progress,
-            status,
-            b,
-            t,
-            finished,
-            j,
-        );
-        j += 1;
+    let mut m = first(nest, sizes, dues, t, 1);
+    while m < status.len() {
+        let place = spot(nest, sizes, lens, spots, m);
+        take_message(nest, sizes, lens, memory, buffer, place);
+        status[m] = 3;
+        m = next(nest, sizes, dues, t, 1, m);
     }
 }
 
-// A whole tile, its mail being there.
+// All messages that the tile sends, from one processor's memory; each is then in flight.
+fn send(
+    nest: Nest,
+    sizes: Sizes,
+    lens: &[u16; 9217],
+    spots: &[u32; 14336],
+    sends: &[u16; 8192],
+    memory: &[u32],
+    buffer: &mut [u32],
+    status: &mut [u8],
+    t: usize,
+)
+    requires { ⌜ Planned nest sizes (now lens) × Listed (sizes .route) nest (now lens) (now spots) ⌝ }
+    requires { ⌜ Mailed nest sizes 0 (now sends) (now status) × (t < 1024) ⌝ }
+    requires { ⌜ (length (now memory) ≡ cells nest) × (length (now buffer) ≡ words (planOf (sizes .route) nest)) ⌝ }
+    ensures { λ _. ⌜ (now (buffer .exit)
+        ≡ putAll (planOf (sizes .route) nest) (now (memory .entry)) (now (buffer .entry)) (sendsOf (planOf (sizes .route) nest) t))
+        × (now (status .exit) ≡ setAll (now (status .entry)) (sendsOf (planOf (sizes .route) nest) t) 1) ⌝ }
+{
+    let mut m = first(nest, sizes, sends, t, 0);
+    while m < status.len() {
+        let place = spot(nest, sizes, lens, spots, m);
+        put_message(nest, sizes, lens, memory, buffer, place);
+        status[m] = 1;
+        m = next(nest, sizes, sends, t, 0, m);
+    }
+}
+
+// A whole tile, its mail being there, in one processor's memory.
 fn whole_tile(
     nest: Nest,
     sizes: Sizes,
     lens: &[u16; 9217],
+    spots: &[u32; 14336],
+    sends: &[u16; 8192],
+    dues: &[u16; 8192],
     source: &[u32],
-    memories: &mut [u32],
+    memory: &mut [u32],
     buffer: &mut [u32],
-    progress: &mut [u32],
     status: &mut [u8],
-    b: usize,
     t: usize,
-    finished: u32,
 )
-    requires { ⌜ Planned nest sizes (now lens) × (length (now source) ≡ cells nest) ⌝ }
-    requires { ⌜ AtTile (planOf (sizes .route) nest) (stateOf (now memories) (now buffer) (now progress) (now status)) b t finished ⌝ }
-    ensures { λ _. ⌜ stateOf (now (memories .exit)) (now (buffer .exit)) (now (progress .exit)) (now (status .exit))
-        ≡ tileDone (planOf (sizes .route) nest) (now (source .entry)) (stateOf (now (memories .entry)) (now (buffer .entry)) (now (progress .entry)) (now (status .entry))) b t ⌝ }
+    requires { ⌜ Indexed nest sizes (now lens) (now spots) (now sends) (now dues) × (t < planOf (sizes .route) nest .tiles) ⌝ }
+    requires { ⌜ (length (now source) ≡ cells nest) × (length (now memory) ≡ cells nest) ⌝ }
+    requires { ⌜ (length (now buffer) ≡ words (planOf (sizes .route) nest)) × (length (now status) ≡ count (planOf (sizes .route) nest)) ⌝ }
+    ensures { λ _. ⌜ (now (memory .exit) ≡ memoryThen (planOf (sizes .route) nest) (now (source .entry)) (now (buffer .entry)) (now (memory .entry)) t)
+        × ((now (buffer .exit) ≡ putAll (planOf (sizes .route) nest) (now (memory .exit)) (now (buffer .entry)) (sendsOf (planOf (sizes .route) nest) t))
+        × (now (status .exit) ≡ statusThen (planOf (sizes .route) nest) (now (status .entry)) t)) ⌝ }
 {
-    begin_tile(
-        nest,
-        sizes,
-        lens,
-        source,
-        memories,
-        buffer,
-        progress,
-        status,
-        b,
-        t,
-        finished,
-    );
-    send_tile(
-        nest,
-        sizes,
-        lens,
-        memories,
-        buffer,
-        progress,
-        status,
-        b,
-        t,
-        finished,
-    );
+    gather(nest, sizes, lens, spots, dues, memory, buffer, status, t);
+    calculate(nest, sizes, lens, source, memory, t);
+    send(nest, sizes, lens, spots, sends, memory, buffer, status, t);
 }
 
-// A processor's part of a round: its next tile, if it could gather for it.
+// A processor's part of a round: its next tile, if it could gather for it. Only its own part of the memories is lent on.
 fn next_tile(
     nest: Nest,
     sizes: Sizes,
     lens: &[u16; 9217],
+    spots: &[u32; 14336],
+    sends: &[u16; 8192],
+    dues: &[u16; 8192],
     source: &[u32],
     memories: &mut [u32],
     buffer: &mut [u32],
@@ -196,10 +158,11 @@ fn next_tile(
     status: &mut [u8],
     b: usize,
 )
-    requires { ⌜ Planned nest sizes (now lens) × ((length (now source) ≡ cells nest) × (b < processors nest)) ⌝ }
+    requires { ⌜ Indexed nest sizes (now lens) (now spots) (now sends) (now dues) × ((length (now source) ≡ cells nest) × (b < processors nest)) ⌝ }
     requires { ⌜ Lent (planOf (sizes .route) nest) (stateOf (now memories) (now buffer) (now progress) (now status)) ⌝ }
     ensures { λ _. ⌜ stateOf (now (memories .exit)) (now (buffer .exit)) (now (progress .exit)) (now (status .exit))
-        ≡ afterTile (planOf (sizes .route) nest) (now (source .entry)) (stateOf (now (memories .entry)) (now (buffer .entry)) (now (progress .entry)) (now (status .entry))) b ⌝ }
+        ≡ afterTile (planOf (sizes .route) nest) (now (source .entry))
+        (stateOf (now (memories .entry)) (now (buffer .entry)) (now (progress .entry)) (now (status .entry))) b ⌝ }
 {
     let finished = progress[3 * b];
     let i = word_index(finished);
@@ -208,21 +171,31 @@ fn next_tile(
         return;
     }
     let t = tile_at(nest, sizes, lens, b, i);
-    if ready(nest, sizes, lens, status, t) {
-        whole_tile(
-            nest,
-            sizes,
-            lens,
-            source,
-            memories,
-            buffer,
-            progress,
-            status,
-            b,
-            t,
-            finished,
-        );
+    if !ready(nest, sizes, dues, status, t) {
+        return;
     }
+    let cells = sizes.cells;
+    let base = b * cells;
+    let end = base + cells;
+    whole_tile(
+        nest,
+        sizes,
+        lens,
+        spots,
+        sends,
+        dues,
+        source,
+        &mut memories[base..end],
+        buffer,
+        status,
+        t,
+    );
+    let after = Progress {
+        finished: finished + 1,
+        stage: 0,
+        sent: 0,
+    };
+    store_record(progress, b, after);
 }
 
 // The tiles of a round.
@@ -230,16 +203,20 @@ fn next_tiles(
     nest: Nest,
     sizes: Sizes,
     lens: &[u16; 9217],
+    spots: &[u32; 14336],
+    sends: &[u16; 8192],
+    dues: &[u16; 8192],
     source: &[u32],
     memories: &mut [u32],
     buffer: &mut [u32],
     progress: &mut [u32],
     status: &mut [u8],
 )
-    requires { ⌜ Planned nest sizes (now lens) × (length (now source) ≡ cells nest) ⌝ }
+    requires { ⌜ Indexed nest sizes (now lens) (now spots) (now sends) (now dues) × (length (now source) ≡ cells nest) ⌝ }
     requires { ⌜ Lent (planOf (sizes .route) nest) (stateOf (now memories) (now buffer) (now progress) (now status)) ⌝ }
     ensures { λ _. ⌜ stateOf (now (memories .exit)) (now (buffer .exit)) (now (progress .exit)) (now (status .exit))
-        ≡ afterTiles (planOf (sizes .route) nest) (now (source .entry)) (stateOf (now (memories .entry)) (now (buffer .entry)) (now (progress .entry)) (now (status .entry))) (processors nest) ⌝ }
+        ≡ afterTiles (planOf (sizes .route) nest) (now (source .entry))
+        (stateOf (now (memories .entry)) (now (buffer .entry)) (now (progress .entry)) (now (status .entry))) (processors nest) ⌝ }
 {
     let n = sizes.processors;
     let mut b = 0;
@@ -248,6 +225,9 @@ fn next_tiles(
             nest,
             sizes,
             lens,
+            spots,
+            sends,
+            dues,
             source,
             memories,
             buffer,
@@ -259,15 +239,20 @@ fn next_tiles(
     }
 }
 
-// All mail in flight delivered.
+// A mark once its mail is delivered.
+fn mark_then(mark: u8) -> u8
+    ensures { λ r. ⌜ r ≡ markThen mark ⌝ }
+{
+    if mark == 1 { 2 } else { mark }
+}
+
+// All mail in flight delivered: every mark is stored, so that no test is waited for.
 fn deliver_mail(status: &mut [u8])
     ensures { λ _. ⌜ now (status .exit) ≡ delivered (now (status .entry)) ⌝ }
 {
     let mut m = 0;
     while m < status.len() {
-        if status[m] == 1 {
-            status[m] = 2;
-        }
+        status[m] = mark_then(status[m]);
         m += 1;
     }
 }
@@ -277,21 +262,28 @@ fn round(
     nest: Nest,
     sizes: Sizes,
     lens: &[u16; 9217],
+    spots: &[u32; 14336],
+    sends: &[u16; 8192],
+    dues: &[u16; 8192],
     source: &[u32],
     memories: &mut [u32],
     buffer: &mut [u32],
     progress: &mut [u32],
     status: &mut [u8],
 )
-    requires { ⌜ Planned nest sizes (now lens) × (length (now source) ≡ cells nest) ⌝ }
+    requires { ⌜ Indexed nest sizes (now lens) (now spots) (now sends) (now dues) × (length (now source) ≡ cells nest) ⌝ }
     requires { ⌜ Lent (planOf (sizes .route) nest) (stateOf (now memories) (now buffer) (now progress) (now status)) ⌝ }
     ensures { λ _. ⌜ stateOf (now (memories .exit)) (now (buffer .exit)) (now (progress .exit)) (now (status .exit))
-        ≡ afterRound (planOf (sizes .route) nest) (now (source .entry)) (stateOf (now (memories .entry)) (now (buffer .entry)) (now (progress .entry)) (now (status .entry))) ⌝ }
+        ≡ afterRound (planOf (sizes .route) nest) (now (source .entry))
+        (stateOf (now (memories .entry)) (now (buffer .entry)) (now (progress .entry)) (now (status .entry))) ⌝ }
 {
     next_tiles(
         nest,
         sizes,
         lens,
+        spots,
+        sends,
+        dues,
         source,
         memories,
         buffer,
@@ -301,7 +293,47 @@ fn round(
     deliver_mail(status);
 }
 
-// All rounds from a fresh start: how many there were.
+// All rounds from a fresh start, by the index: how many there were.
+fn rounds_by(
+    nest: Nest,
+    sizes: Sizes,
+    lens: &[u16; 9217],
+    spots: &[u32; 14336],
+    sends: &[u16; 8192],
+    dues: &[u16; 8192],
+    source: &[u32],
+    memories: &mut [u32],
+    buffer: &mut [u32],
+    progress: &mut [u32],
+    status: &mut [u8],
+) -> u32
+    requires { ⌜ Indexed nest sizes (now lens) (now spots) (now sends) (now dues) × (length (now source) ≡ cells nest) ⌝ }
+    requires { ⌜ stateOf (now memories) (now buffer) (now progress) (now status) ≡ fresh (planOf (sizes .route) nest) ⌝ }
+    ensures { λ r. ⌜ (r ≡ rounds (planOf (sizes .route) nest))
+        × (stateOf (now (memories .exit)) (now (buffer .exit)) (now (progress .exit)) (now (status .exit))
+        ≡ afterRounds (planOf (sizes .route) nest) (now (source .entry)) (rounds (planOf (sizes .route) nest))) ⌝ }
+{
+    let mut done: u32 = 0;
+    while tiles_left(nest, sizes, lens, progress) {
+        round(
+            nest,
+            sizes,
+            lens,
+            spots,
+            sends,
+            dues,
+            source,
+            memories,
+            buffer,
+            progress,
+            status,
+        );
+        done += 1;
+    }
+    done
+}
+
+// All rounds from a fresh start: how many there were. The messages are listed and chained once.
 pub fn all_rounds(
     nest: Nest,
     sizes: Sizes,
@@ -318,21 +350,25 @@ pub fn all_rounds(
         × (stateOf (now (memories .exit)) (now (buffer .exit)) (now (progress .exit)) (now (status .exit))
         ≡ afterRounds (planOf (sizes .route) nest) (now (source .entry)) (rounds (planOf (sizes .route) nest))) ⌝ }
 {
-    let mut done: u32 = 0;
-    while tiles_left(nest, sizes, lens, progress) {
-        round(
-            nest,
-            sizes,
-            lens,
-            source,
-            memories,
-            buffer,
-            progress,
-            status,
-        );
-        done += 1;
-    }
-    done
+    let mut spots = [0u32; 14336];
+    let messages = list(nest, sizes, lens, &mut spots);
+    let mut sends = [0u16; 8192];
+    chain_ends(nest, sizes, lens, &spots, &mut sends, messages, 0);
+    let mut dues = [0u16; 8192];
+    chain_ends(nest, sizes, lens, &spots, &mut dues, messages, 1);
+    rounds_by(
+        nest,
+        sizes,
+        lens,
+        &spots,
+        &sends,
+        &dues,
+        source,
+        memories,
+        buffer,
+        progress,
+        status,
+    )
 }
 
 // What the driver tells: its number and the rounds, 0 at a refusal.
@@ -360,7 +396,8 @@ pub fn run(
     status: &mut [u8],
 ) -> Driven
     ensures { λ r. ⌜ answer (r .number) (told (r .rounds) (stateOf (now (memories .exit)) (now (buffer .exit)) (now (progress .exit)) (now (status .exit))))
-        ≡ roundsCall (now (encoded .entry)) (now (source .entry)) (stateOf (now (memories .entry)) (now (buffer .entry)) (now (progress .entry)) (now (status .entry))) ⌝ }
+        ≡ roundsCall (now (encoded .entry)) (now (source .entry))
+        (stateOf (now (memories .entry)) (now (buffer .entry)) (now (progress .entry)) (now (status .entry))) ⌝ }
 {
     let reading = read_for(encoded, 0);
     let number = reading.number;
@@ -427,49 +464,81 @@ fn round_at(
     nest: Nest,
     sizes: Sizes,
     lens: &[u16; 9217],
+    spots: &[u32; 14336],
+    dues: &[u16; 8192],
+    messages: usize,
     rounds: &[u32],
     tile: usize,
     last: u32,
 ) -> u32
-    requires { ⌜ Planned nest sizes (now lens) × (tile < planOf (sizes .route) nest .tiles) ⌝ }
+    requires { ⌜ Dued nest sizes (now lens) (now spots) (now dues) messages × (tile < planOf (sizes .route) nest .tiles) ⌝ }
     requires { ⌜ TellsTo (planOf (sizes .route) nest) (now rounds) tile
         × (last ≡ lastBefore (planOf (sizes .route) nest) (planOf (sizes .route) nest .processorOf tile) tile) ⌝ }
     ensures { λ r. ⌜ r ≡ tileRound (planOf (sizes .route) nest) tile ⌝ }
 {
-    let n = count_at(nest, sizes, lens, tile, 1);
     let mut latest = last;
-    let mut j = 0;
-    while j < n {
-        let place = nth_at(nest, sizes, lens, tile, 1, j);
+    let mut m = first(nest, sizes, dues, tile, 1);
+    while m < messages {
+        let place = spot(nest, sizes, lens, spots, m);
         let sender = sender_at(nest, sizes, lens, place);
         let round = rounds[sender];
         if latest < round {
             latest = round;
         }
-        j += 1;
+        m = next(nest, sizes, dues, tile, 1, m);
     }
     latest + 1
 }
 
-// Each tile's round.
-fn tell_rounds(nest: Nest, sizes: Sizes, lens: &[u16; 9217], rounds: &mut [u32])
-    requires { ⌜ Planned nest sizes (now lens) × (length (now rounds) ≡ planOf (sizes .route) nest .tiles) ⌝ }
+// Each tile's round, by the messages due.
+fn tell_by(
+    nest: Nest,
+    sizes: Sizes,
+    lens: &[u16; 9217],
+    spots: &[u32; 14336],
+    dues: &[u16; 8192],
+    messages: usize,
+    rounds: &mut [u32],
+)
+    requires { ⌜ Dued nest sizes (now lens) (now spots) (now dues) messages × (length (now rounds) ≡ planOf (sizes .route) nest .tiles) ⌝ }
     ensures { λ _. ⌜ now (rounds .exit) ≡ roundsTo (planOf (sizes .route) nest) (planOf (sizes .route) nest .tiles) ⌝ }
 {
     let mut lasts = [0u32; 64];
     let mut tile = 0;
     while tile < rounds.len() {
         let b = processor_at(nest, sizes, lens, tile);
-        let round = round_at(nest, sizes, lens, rounds, tile, lasts[b]);
+        let round = round_at(
+            nest,
+            sizes,
+            lens,
+            spots,
+            dues,
+            messages,
+            rounds,
+            tile,
+            lasts[b],
+        );
         rounds[tile] = round;
         lasts[b] = round;
         tile += 1;
     }
 }
 
+// Each tile's round. The messages are listed, and chained by their takers, once.
+fn tell_rounds(nest: Nest, sizes: Sizes, lens: &[u16; 9217], rounds: &mut [u32])
+    requires { ⌜ Planned nest sizes (now lens) × (length (now rounds) ≡ planOf (sizes .route) nest .tiles) ⌝ }
+    ensures { λ _. ⌜ now (rounds .exit) ≡ roundsTo (planOf (sizes .route) nest) (planOf (sizes .route) nest .tiles) ⌝ }
+{
+    let mut spots = [0u32; 14336];
+    let messages = list(nest, sizes, lens, &mut spots);
+    let mut dues = [0u16; 8192];
+    chain_ends(nest, sizes, lens, &spots, &mut dues, messages, 1);
+    tell_by(nest, sizes, lens, &spots, &dues, messages, rounds);
+}
+
 // Each tile's round, told into one word a tile.
-pub fn tile_rounds(encoded: &[u8], rounds: &mut [u32]) -> u32
-    ensures { λ r. ⌜ answer r (now (rounds .exit)) ≡ tileRoundsCall (now (encoded .entry)) (now (rounds .entry)) ⌝ }
+pub fn rounds_of(encoded: &[u8], rounds: &mut [u32]) -> u32
+    ensures { λ r. ⌜ answer r (now (rounds .exit)) ≡ roundsOfCall (now (encoded .entry)) (now (rounds .entry)) ⌝ }
 {
     let reading = read(encoded);
     let number = reading.number;

@@ -1,16 +1,16 @@
--- The cells of a slot of a nest with bounds are those found in its box; they grow by rows.
+-- The cells of a slot of a nest with bounds are those found in its box, and in the smaller one of its rows near the window; they grow by rows.
 use Prim.Native.Nat.{ℕ, zero, suc, _+_, _*_, _-_, _/_, _%_, _≤_, _<_}
 use mathlib.Core.Path.{_≡_, refl, sym, ap, _∙_}
 use mathlib.Core.Bool.{Bool, true, false}
 use mathlib.Core.List.{List, [], _∷_, _++_, map, append-assoc, append-nil}
-use native.Mathlib.Nat.{add-zero, add-suc, add-assoc, suc-mul, mul-le-mul-right}
+use native.Mathlib.Nat.{add-zero, add-assoc, suc-mul, mul-le-mul-right}
 use native.Mathlib.Numerals.{add-one}
 use native.Mathlib.Omega.{arith}
 use lib.ListN.{length, getD, take, length-append, length-map}
 use lib.Dec.{eqb, ltb, leb}
-use borrow.Author.Tests.{eqb-true, eq-eqb, ltb-true, lt-ltb, le-ltb}
-use Rattle.base.specs.Tests.{_and_, every, some, keep, keepIf}
-use Rattle.base.proofs.Tests.{both, and-true, same-test, every-at, every-all, some-at, some-one, some-same, some-none, none-some, is-false, never-both}
+use borrow.Author.Tests.{eqb-true, eq-eqb, ltb-true, lt-ltb}
+use Rattle.base.specs.Tests.{_and_, every, some, keep}
+use Rattle.base.proofs.Tests.{both, and-true, same-test, every-at, every-all, some-at, some-one, some-same}
 use Rattle.base.proofs.Select.{keep-hit, keep-none, keep-few, keep-same}
 use Rattle.nest.specs.declared.Nest.{Nest}
 use Rattle.nest.specs.Accepted.{Accepted}
@@ -21,26 +21,23 @@ use Rattle.nest.specs.Spans.{last}
 use Rattle.plan.specs.declared.Route.the-variants.{Direct}
 use Rattle.plan.specs.Geometry.{inside}
 use Rattle.plan.specs.Messages.{ahead, reaches, slots, slotTile, slotDirection}
-use Rattle.plan.specs.Regions.{Region, among, regionSize, regionPlace, regionCell, directBox, directWindow, slotBox, slotWindow, comesInto}
+use Rattle.plan.specs.Regions.{Region, among, regionSize, regionCell, directBox, directWindow, slotBox, slotWindow}
 use Rattle.plan.specs.Shaped.{reachesShape, shapedParcel}
 use Rattle.plan.proofs.Grid.{map-append, keep-both}
 use Rattle.plan.proofs.Box.{boxTileOf-is}
-use Rattle.plan.proofs.Tiles.{cellPlace-low, tilePlace-boxTileOf}
+use Rattle.plan.proofs.Tiles.{cellAt-low, cellPlace-low, cellPlace-cellAt, tilePlace-boxTileOf}
 use Rattle.plan.proofs.Parcels.{slotTile-low}
-use Rattle.plan.proofs.Regions.{box-at, box-all, window-stays, window-at, window-all, region-cells, slotBox-fits, regionCell-place, among-same}
-use Rattle.layout.specs.Places.{nth, Has}
+use Rattle.plan.proofs.Regions.{among-at, among-all, box-at, box-all, window-stays, window-at, window-all, region-cells}
 use Rattle.parcels.specs.declared.Sending.{Sending}
-use Rattle.parcels.specs.declared.Row.{Row}
-use Rattle.parcels.specs.Windows.{windowOf, isRead}
-use Rattle.parcels.specs.Sendings.{placeIn, cellIn, Shaped, Sends, RowEnds, RowAt}
-use Rattle.parcels.proofs.Sendings.{place-is, cell-is, size-is, map-same}
+use Rattle.parcels.specs.declared.Window.{Window}
+use Rattle.parcels.specs.Windows.{windowOf}
+use Rattle.parcels.specs.Sendings.{boxOf, placeIn, cellIn, Boxed, Windowed, Shaped, Sends}
+use Rattle.parcels.proofs.Sendings.{size-is}
 use Rattle.parcels.proofs.Rows.{box-within, cell-before, cell-last, cell-number, row-corner}
-use Rattle.parcels.proofs.Packing.{row-meets}
-use Rattle.parcels.proofs.Walks as walks
-use Rattle.runs.specs.Runs.{within, isHit, hitRow, Listed}
+use Rattle.runs.specs.Runs.{isHit, hitRow, Listed}
 use Rattle.runs.proofs.Laws.{hit-start, hit-one, hit-none}
-use Rattle.shaped.specs.Runs.{inPlace, reachesPlace, RunsAre}
-use Rattle.shaped.specs.Parcels.{comesShaped, shapedFound, Lists}
+use Rattle.shaped.specs.Runs.{inPlace, reachesPlace, comesShaped}
+use Rattle.shaped.specs.Parcels.{shapedFound, Near, RowRuns}
 use Rattle.shaped.proofs.Runs.{place-same, shape-cell, shape-at}
 
 -- ---- a slot's cells are those found in its box
@@ -108,22 +105,61 @@ module _ (x : Nest) (ok : Accepted x) where
     shaped-test : crossesShape ≡ shapedTest
     shaped-test = same-test there back
 
-  module _ (s : ℕ) (l : s < slots Direct x) (z : Sending) (p : Sends Direct x s z) where
-    pub shaped-found : shapedParcel x (slotTile Direct x s) (slotDirection x s) ≡ shapedFound x z (z .rows * z .width)
-    unfolding shapedParcel shapedFound
-    shaped-found =
-        keep-same _ _ (cells x) (λ c h. shaped-test (slotTile Direct x s) (slotDirection x s) c (slotTile-low x Direct s l) h)
-        ∙ keep-both (λ c. among x (slotBox Direct x s) (cellPlace x c)) (λ c. comesShaped x (slotWindow Direct x s) (cellPlace x c))
-        (regionCell x (slotBox Direct x s)) (cells x) (regionSize x (slotBox Direct x s))
-        (region-cells x (slotBox Direct x s) (λ j h. let f = slotBox-fits x ok Direct s j l h in (omega (arith, f .0), f .1)))
-        ∙ map-same (regionCell x (slotBox Direct x s)) (cellIn x z) (cell-is x (slotBox Direct x s) (slotWindow Direct x s) z (p .box) (p .window))
-        (keep (λ q. comesShaped x (slotWindow Direct x s) (cellPlace x (regionCell x (slotBox Direct x s) q))) (regionSize x (slotBox Direct x s)))
-        ∙ ap (map (cellIn x z)) (keep-same _ _ (regionSize x (slotBox Direct x s))
-        (λ n h. comes-same (slotWindow Direct x s) (windowOf (z .window)) _ (placeIn x z n)
-        (λ j k. regionCell-place x ok Direct s l n j k ∙ place-is x (slotBox Direct x s) (slotWindow Direct x s) z (p .box) (p .window) n j k)
-        (λ j k. (sym (p .window .low .each j k), sym (p .window .high .each j k)))))
-        ∙ ap (λ (n : ℕ). map (cellIn x z) (keep (λ q. comesShaped x (windowOf (z .window)) (placeIn x z q)) n))
-        (size-is x (slotBox Direct x s) (slotWindow Direct x s) z (p .box) (p .window) (omega (arith, ok .dimensions-least)) (p .shape .rows) (p .shape .width))
+  -- the smaller box has the same
+  module _ (s : ℕ) (l : s < slots Direct x) (z : Sending) (p : Sends Direct x s z) (y : Sending) (q : Near x z y) where
+    abbrev nearTest : ℕ → Bool
+    nearTest c = among x (boxOf (y .block)) (cellPlace x c) and comesShaped x (windowOf (y .window)) (cellPlace x c)
+
+    window-is : (i : ℕ → ℕ) → comesShaped x (slotWindow Direct x s) i ≡ comesShaped x (windowOf (y .window)) i
+    window-is i =
+        comes-same (slotWindow Direct x s) (windowOf (z .window)) i i (λ j o. refl) (λ j o. (sym (p .window .low .each j o), sym (p .window .high .each j o)))
+        ∙ ap (λ (w : Window). comesShaped x (windowOf w) i) (sym (q .window))
+
+    inner : (i : ℕ → ℕ) → among x (slotBox Direct x s) i ≡ true → comesShaped x (slotWindow Direct x s) i ≡ true → among x (boxOf (y .block)) i ≡ true
+    unfolding comesShaped
+    inner i b c =
+        let r = some-at (λ e. reachesPlace x (slotWindow Direct x s) e i) (x .distances) c in
+        let w = both (both (r .2) .1) .0 in
+        among-all x (boxOf (y .block)) i (λ j o.
+        let a = among-at x (slotBox Direct x s) i b j o in
+        let m = among-at x (slotWindow Direct x s) (λ k. i k + component x (r .0) k) w j o in
+        let f = p .box .corner .each j o in
+        let g = p .box .lengths .each j o in (
+          q .has (r .0) j (i j) (r .1) o (omega (arith, a .0, f)) (omega (arith, a .0, a .1, f, g)) (omega (arith, m .0, p .window .low .each j o)),
+          omega (arith, a .0, a .1, f, g, q .to j o),
+        ))
+
+    outer : (i : ℕ → ℕ) → among x (boxOf (y .block)) i ≡ true → among x (slotBox Direct x s) i ≡ true
+    outer i b = among-all x (slotBox Direct x s) i (λ j o.
+        let a = among-at x (boxOf (y .block)) i b j o in
+        let f = p .box .corner .each j o in
+        let g = p .box .lengths .each j o in
+        (omega (arith, a .0, f, q .from j o), omega (arith, a .1, f, g, q .to j o, p .shape .least j o)))
+
+    near-test : (c : ℕ) (h : c < cells x) → crossesShape (slotTile Direct x s) (slotDirection x s) c (slotTile-low x Direct s l) h ≡ nearTest c
+    near-test c h =
+        shaped-test (slotTile Direct x s) (slotDirection x s) c (slotTile-low x Direct s l) h
+        ∙ same-test
+        (λ t. let b = both t in and-true (inner (cellPlace x c) (b .0) (b .1)) (sym (window-is (cellPlace x c)) ∙ b .1))
+        (λ t. let b = both t in and-true (outer (cellPlace x c) (b .0)) (window-is (cellPlace x c) ∙ b .1))
+
+    boxed : Boxed x (boxOf (y .block)) (y .block)
+    boxed = record { corner = record { each = λ j o. refl }; lengths = record { each = λ j o. omega arith } }
+
+    windowed : Windowed x (windowOf (y .window)) (y .window)
+    windowed = record { low = record { each = λ j o. refl }; high = record { each = λ j o. refl } }
+
+    pub near-found : shapedParcel x (slotTile Direct x s) (slotDirection x s) ≡ shapedFound x y (y .rows * y .width)
+    unfolding shapedParcel shapedFound regionCell
+    near-found =
+        keep-same _ nearTest (cells x) near-test
+        ∙ keep-both (λ c. among x (boxOf (y .block)) (cellPlace x c)) (λ c. comesShaped x (windowOf (y .window)) (cellPlace x c))
+        (cellIn x y) (cells x) (regionSize x (boxOf (y .block))) (region-cells x (boxOf (y .block)) (λ j h. (omega arith, q .shape .inside j h)))
+        ∙ ap (map (cellIn x y)) (keep-same _ _ (regionSize x (boxOf (y .block)))
+        (λ n h. comes-same (windowOf (y .window)) (windowOf (y .window)) (cellPlace x (cellIn x y n)) (placeIn x y n)
+        (λ j k. cellPlace-cellAt x ok (placeIn x y n) (box-within x ok y (q .shape) n) j k) (λ j k. (refl, refl))))
+        ∙ ap (λ (n : ℕ). map (cellIn x y) (keep (λ i. comesShaped x (windowOf (y .window)) (placeIn x y i)) n))
+        (size-is x (boxOf (y .block)) (windowOf (y .window)) y boxed windowed (omega (arith, ok .dimensions-least)) (q .shape .rows) (q .shape .width))
 
 -- ---- they grow by rows
 
@@ -147,114 +183,120 @@ module _ (x : Nest) (z : Sending) where
   unfolding shapedFound
   found-few q = simp length-map (keep-few (test x z) q)
 
-  -- none of n cells
-  found-flat : (q n : ℕ) → ((y : ℕ) → y < n → test x z (q + y) ≡ false) → shapedFound x z (q + n) ≡ shapedFound x z q
-  found-flat q zero h = rw (add-zero q)
-  found-flat q (suc n) h = rw (← add-one n, ← add-assoc q n 1) (found-miss (q + n) (h n (omega arith)) ∙ found-flat q n (λ y k. h y (omega arith)))
+module _ (x : Nest) (ok : Accepted x) (z : Sending) (p : Shaped x z) (r : ℕ) (at : List ℕ) (n : ℕ) (starts ends : List ℕ)
+    (f : RowRuns x z r at n starts ends) where
+  abbrev first : ℕ
+  first = r * z .width
 
-  -- a place that no distance puts into the window
-  not-shaped : (q : ℕ) → walks.meets x z q ≡ false → test x z q ≡ false
-  unfolding comesInto comesShaped
-  not-shaped q h = some-none _ (x .distances) (λ e l. is-false (λ t. never-both (both (both t .1) .0) (none-some _ (x .distances) h e l)))
+  abbrev edge : ℕ
+  edge = getD (z .block .corner) (last x) 0
 
-module _ (x : Nest) (ok : Accepted x) (z : Sending) (p : Shaped x z) (r : ℕ) where
-  module _ (i : ℕ → ℕ) (starts ends : List ℕ) (has : (j : ℕ) → j < last x → placeIn x z (r * z .width) j ≡ i j)
-      (f : RunsAre x i (reachesPlace x (windowOf (z .window))) (x .distances) starts ends) where
-    row-test : (y : ℕ) → y < z .width → isHit starts ends (x .distances) (getD (z .block .corner) (last x) 0 + y) ≡ test x z (r * z .width + y)
-    unfolding comesShaped
-    row-test y h = some-same _ _ (x .distances) (λ e l.
-        ap (within (getD starts e 0) (getD ends e 0)) (sym (cell-last x ok z p r y h))
-        ∙ f .each e l .is (placeIn x z (r * z .width + y)) (λ j o. cell-before x ok z p r y h j o ∙ has j o)
-        (box-within x ok z p (r * z .width + y) (last x) (omega (arith, ok .dimensions-least))))
+  row-test : (y : ℕ) → y < z .width → isHit starts ends n (edge + y) ≡ test x z (first + y)
+  row-test y h =
+      ap (isHit starts ends n) (sym (cell-last x ok z p r y h))
+      ∙ f .runs .is (placeIn x z (first + y)) (λ j o. cell-before x ok z p r y h j o ∙ sym (f .place .each j (omega arith)))
+      (box-within x ok z p (first + y) (last x) (omega (arith, ok .dimensions-least)))
 
-    row-grows : (y : ℕ) → y ≤ z .width
-        → shapedFound x z (r * z .width + y)
-        ≡ shapedFound x z (r * z .width) ++ hitRow starts ends (x .distances) (cellIn x z (r * z .width)) (getD (z .block .corner) (last x) 0) y
-    row-grows zero h =
-        rw (add-zero (r * z .width), hit-start starts ends (x .distances) (cellIn x z (r * z .width)) (getD (z .block .corner) (last x) 0)) (sym (append-nil _))
-    row-grows (suc y) h = rw (← add-one y, ← add-assoc (r * z .width) y 1) (go _ refl (row-grows y (omega arith)))
-      where
-        go : (t : Bool) → isHit starts ends (x .distances) (getD (z .block .corner) (last x) 0 + y) ≡ t
-            → shapedFound x z (r * z .width + y)
-            ≡ shapedFound x z (r * z .width) ++ hitRow starts ends (x .distances) (cellIn x z (r * z .width)) (getD (z .block .corner) (last x) 0) y
-            → shapedFound x z (r * z .width + y + 1)
-            ≡ shapedFound x z (r * z .width) ++ hitRow starts ends (x .distances) (cellIn x z (r * z .width)) (getD (z .block .corner) (last x) 0) (y + 1)
-        go true e ih =
-            found-hit x z (r * z .width + y) (sym (row-test y (omega arith)) ∙ e)
-            ∙ rw (ih, hit-one starts ends (x .distances) (cellIn x z (r * z .width)) (getD (z .block .corner) (last x) 0) y e, cell-number x ok z p r y (omega arith))
-            (append-assoc (shapedFound x z (r * z .width)) _ _)
-        go false e ih =
-            found-miss x z (r * z .width + y) (sym (row-test y (omega arith)) ∙ e)
-            ∙ rw (hit-none starts ends (x .distances) (cellIn x z (r * z .width)) (getD (z .block .corner) (last x) 0) y e) ih
+  row-grows : (y : ℕ) → y ≤ z .width → shapedFound x z (first + y) ≡ shapedFound x z first ++ hitRow starts ends n (cellIn x z first) edge y
+  row-grows zero h = rw (add-zero first, hit-start starts ends n (cellIn x z first) edge) (sym (append-nil _))
+  row-grows (suc y) h = rw (← add-one y, ← add-assoc first y 1) (go _ refl (row-grows y (omega arith)))
+    where
+      go : (t : Bool) → isHit starts ends n (edge + y) ≡ t
+          → shapedFound x z (first + y) ≡ shapedFound x z first ++ hitRow starts ends n (cellIn x z first) edge y
+          → shapedFound x z (first + y + 1) ≡ shapedFound x z first ++ hitRow starts ends n (cellIn x z first) edge (y + 1)
+      go true e ih =
+          found-hit x z (first + y) (sym (row-test y (omega arith)) ∙ e)
+          ∙ rw (ih, hit-one starts ends n (cellIn x z first) edge y e, cell-number x ok z p r y (omega arith)) (append-assoc (shapedFound x z first) _ _)
+      go false e ih =
+          found-miss x z (first + y) (sym (row-test y (omega arith)) ∙ e) ∙ rw (hit-none starts ends n (cellIn x z first) edge y e) ih
 
--- ---- the list that grows by rows
+  -- the whole row, by the place's last component
+  pub row-last : getD at (last x) 0 ≡ edge
+  row-last = f .place .each (last x) (omega (arith, ok .dimensions-least)) ∙ row-corner x ok z p r
 
-pub record Listing (x : Nest) (z : Sending) (list : List ℕ) (count q : ℕ) : Type 0 where
-  pub low : q ≤ z .rows * z .width
+  pub row-found : shapedFound x z ((r + 1) * z .width)
+      ≡ shapedFound x z (r * z .width) ++ hitRow starts ends n (cellIn x z (r * z .width)) (getD at (last x) 0) (z .width)
+  row-found = rw (next-row r (z .width), row-last) (row-grows (z .width) (omega arith))
+    where
+      next-row : (r w : ℕ) → (r + 1) * w ≡ r * w + w
+      next-row r w = rw (add-one r) (suc-mul r w)
+
+-- its cells are the nest's
+pub row-cells : (x : Nest) (ok : Accepted x) (z : Sending) (p : Shaped x z) (r : ℕ) → r < z .rows → cellIn x z (r * z .width) + z .width ≤ cells x
+unfolding regionCell
+row-cells x ok z p r h =
+    let w : 1 ≤ z .width = omega (arith, p .width, p .least (last x) (omega (arith, ok .dimensions-least))) in
+    omega (
+      arith,
+      cell-number x ok z p r (z .width - 1) (omega arith),
+      cellAt-low x ok (placeIn x z (r * z .width + (z .width - 1))) (box-within x ok z p (r * z .width + (z .width - 1))),
+    )
+
+pub row-in : (r w n : ℕ) → r < n → (r + 1) * w ≤ n * w
+row-in r w n h = mul-le-mul-right w (omega arith)
+
+-- ---- the count and the list that grow by rows
+
+pub record Counting (x : Nest) (z : Sending) (count r : ℕ) : Type 0 where
+  pub low : r ≤ z .rows
+  pub is : count ≡ length (shapedFound x z (r * z .width))
+
+pub record Listing (x : Nest) (z : Sending) (list : List ℕ) (count r : ℕ) : Type 0 where
+  pub counted : Counting x z count r
   pub long : length list ≡ 16384
-  pub count-is : count ≡ length (shapedFound x z q)
-  pub is : take count list ≡ shapedFound x z q
+  pub is : take count list ≡ shapedFound x z (r * z .width)
 
 module _ (x : Nest) (z : Sending) where
-  pub listing-none : (list : List ℕ) → length list ≡ 16384 → Listing x z list 0 (0 * z .width)
-  listing-none list h =
-      rw (zero-times (z .width)) (record { low = omega arith; long = h; count-is = ap length (sym (found-none x z)); is = sym (found-none x z) })
+  none-yet : shapedFound x z (0 * z .width) ≡ []
+  none-yet = rw (zero-times (z .width)) (found-none x z)
     where
       zero-times : (n : ℕ) → 0 * n ≡ 0
       zero-times n = omega arith
 
-  module _ (list : List ℕ) (count r : ℕ) (g : Listing x z list count (r * z .width)) where
-    pub listing-few : count ≤ r * z .width
-    listing-few = omega (arith, g .count-is, found-few x z (r * z .width))
+  pub counting-none : Counting x z 0 0
+  counting-none = record { low = omega arith; is = ap length (sym none-yet) }
 
-    -- a row
-    pub listing-row : (ok : Accepted x) (p : Shaped x z) → r < z .rows → (i : ℕ → ℕ) (starts ends : List ℕ) (n c a w : ℕ) (list′ : List ℕ) (count′ : ℕ)
-        → ((j : ℕ) → j < last x → placeIn x z (r * z .width) j ≡ i j)
-        → RunsAre x i (reachesPlace x (windowOf (z .window))) (x .distances) starts ends
-        → n ≡ x .distances → c ≡ cellIn x z (r * z .width) → a ≡ getD (z .block .corner) (last x) 0 → w ≡ z .width
-        → Listed starts ends n c a w list count list′ count′ → Listing x z list′ count′ ((r + 1) * z .width)
-    listing-row ok p low i starts ends n c a w list′ count′ has f en ec ea ew d =
-        let grown = row-grows x ok z p r i starts ends has f (z .width) (omega arith) in
-        let d′ : Listed starts ends (x .distances) (cellIn x z (r * z .width)) (getD (z .block .corner) (last x) 0) (z .width) list count list′ count′ = rw (en, ec, ea, ew) at d in
-        rw (next-row r (z .width)) (record {
-          low = row-in r (z .width) (z .rows) low;
-          long = d′ .long;
-          count-is = d′ .count-is ∙ ap (λ (m : ℕ). m + length (hitRow starts ends (x .distances) (cellIn x z (r * z .width)) (getD (z .block .corner) (last x) 0) (z .width))) (g .count-is)
-              ∙ sym (length-append (shapedFound x z (r * z .width)) _) ∙ ap length (sym grown);
-          is = d′ .is ∙ ap (λ (m : List ℕ). m ++ hitRow starts ends (x .distances) (cellIn x z (r * z .width)) (getD (z .block .corner) (last x) 0) (z .width)) (g .is) ∙ sym grown;
-        })
-      where
-        next-row : (r w : ℕ) → (r + 1) * w ≡ r * w + w
-        next-row r w = rw (add-one r) (suc-mul r w)
+  pub listing-none : (list : List ℕ) → length list ≡ 16384 → Listing x z list 0 0
+  listing-none list h = record { counted = counting-none; long = h; is = sym none-yet }
 
-        row-in : (r w n : ℕ) → r < n → r * w + w ≤ n * w
-        row-in r w n h = omega (arith, mul-le-mul-right w h, suc-mul r w)
+  pub counting-few : (count r : ℕ) → Counting x z count r → count ≤ r * z .width
+  counting-few count r g = omega (arith, g .is, found-few x z (r * z .width))
 
-    -- rows in which no distance puts a cell into the window
-    pub listing-over : (q : Row) → RowAt x z r q → q .run ≡ 0 → Listing x z list count ((r + q .alike) * z .width)
-    listing-over q f e =
+  pub counting-end : (count r : ℕ) → Counting x z count r → z .rows ≤ r → r ≡ z .rows
+  counting-end count r g h = omega (arith, g .low)
+
+  module _ (ok : Accepted x) (p : Shaped x z) (r : ℕ) (low : r < z .rows) (at : List ℕ) (n : ℕ) (starts ends : List ℕ)
+      (f : RowRuns x z r at n starts ends) where
+    pub counting-row : (count more : ℕ) → Counting x z count r → ((c : ℕ) → more ≡ length (hitRow starts ends n c (getD at (last x) 0) (z .width)))
+        → Counting x z (count + more) (r + 1)
+    counting-row count more g h =
         record {
-          low = mul-le-mul-right (z .width) (f .room);
-          long = g .long;
-          count-is = g .count-is ∙ ap length (sym (over (q .alike) (omega arith)));
-          is = g .is ∙ sym (over (q .alike) (omega arith));
+          low = omega arith;
+          is = omega (
+            arith,
+            g .is,
+            h (cellIn x z (r * z .width)),
+            ap length (row-found x ok z p r at n starts ends f),
+            length-append (shapedFound x z (r * z .width)) (hitRow starts ends n (cellIn x z (r * z .width)) (getD at (last x) 0) (z .width)),
+          );
         }
-      where
-        none : (y : ℕ) → y < q .alike → (k : ℕ) → k < z .width → test x z ((r + y) * z .width + k) ≡ false
-        none y h k l =
-            not-shaped x z ((r + y) * z .width + k)
-            (sym (row-meets x z _ _ _ _ _ (f .alike y h) k l) ∙ sym (f .run .is k l) ∙ le-ltb k (q .run) (omega arith))
 
-        over : (y : ℕ) → y ≤ q .alike → shapedFound x z ((r + y) * z .width) ≡ shapedFound x z (r * z .width)
-        over zero h = rw (add-zero r)
-        over (suc y) h =
-            ap (shapedFound x z) (more r y (z .width))
-            ∙ (found-flat x z ((r + y) * z .width) (z .width) (none y (omega arith)) ∙ over y (omega arith))
-          where
-            more : (r y w : ℕ) → (r + suc y) * w ≡ (r + y) * w + w
-            more r y w = rw (add-suc r y) (suc-mul (r + y) w)
-
-    pub listing-end : z .rows ≤ r → take count list ≡ shapedFound x z (z .rows * z .width)
-    listing-end h =
-        let e : r * z .width ≡ z .rows * z .width = omega (arith, g .low, mul-le-mul-right (z .width) h) in
-        g .is ∙ ap (shapedFound x z) e
+    pub listing-row : (list : List ℕ) (count : ℕ) → Listing x z list count r → (c : ℕ) → c ≡ cellIn x z (r * z .width) → (list′ : List ℕ) (count′ : ℕ)
+        → Listed starts ends n c (getD at (last x) 0) (z .width) list count list′ count′ → Listing x z list′ count′ (r + 1)
+    listing-row list count g c ec list′ count′ d =
+        let d′ : Listed starts ends n (cellIn x z (r * z .width)) (getD at (last x) 0) (z .width) list count list′ count′ = rw ec at d in
+        record {
+          counted = record {
+            low = omega arith;
+            is = omega (
+              arith,
+              g .counted .is,
+              d′ .count-is,
+              ap length (row-found x ok z p r at n starts ends f),
+              length-append (shapedFound x z (r * z .width)) (hitRow starts ends n (cellIn x z (r * z .width)) (getD at (last x) 0) (z .width)),
+            );
+          };
+          long = d′ .long;
+          is = d′ .is ∙ ap (λ (m : List ℕ). m ++ hitRow starts ends n (cellIn x z (r * z .width)) (getD at (last x) 0) (z .width)) (g .is)
+              ∙ sym (row-found x ok z p r at n starts ends f);
+        }

@@ -1,3 +1,5 @@
 pub mod Runs
 pub mod Found
+pub mod Rows
 pub mod Listing
+pub mod Tiles

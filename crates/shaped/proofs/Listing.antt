@@ -1,8 +1,9 @@
--- The list of a slot's cells as the code makes it: the slot of a tile and a way, a row's place and room, the whole list, words by it.
+-- A slot's cells as the code counts and lists them: the slot of a tile and a way, its rows, a row's room, the whole list, words by it.
 use Prim.Native.Nat.{ℕ, _+_, _*_, _-_, _/_, _%_, _≤_, _<_}
 use mathlib.Core.Path.{_≡_, refl, sym, ap, _∙_}
 use mathlib.Core.List.{List}
 use native.Mathlib.Nat.{mul-le-mul-right, suc-mul}
+use native.Mathlib.Numerals.{add-one}
 use native.Mathlib.Omega.{arith}
 use lib.ListN.{length, getD, take}
 use lib.Seq.{getD-take, length-take-le}
@@ -25,15 +26,11 @@ use Rattle.layout.specs.Sizes.{along}
 use Rattle.layout.specs.Places.{nth, Has}
 use Rattle.layout.proofs.Steps.{ways-few}
 use Rattle.parcels.specs.declared.Sending.{Sending}
-use Rattle.parcels.specs.declared.Row.{Row}
-use Rattle.parcels.specs.Windows.{windowOf}
-use Rattle.parcels.specs.Sendings.{placeIn, cellIn, Headed, Shaped, Sends, RowAt}
-use Rattle.parcels.proofs.Rows.{size-few, rows-few, box-within, row-corner, row-number}
-use Rattle.parcels.proofs.Alike.{row-first}
-use Rattle.runs.specs.Runs.{Room, Listed, Cells}
-use Rattle.shaped.specs.Runs.{reachesPlace, RunsAre}
-use Rattle.shaped.specs.Parcels.{shapedFound, Lists}
-use Rattle.shaped.proofs.Found.{shaped-found, found-few, Listing, listing-few, listing-row, listing-end}
+use Rattle.parcels.specs.Sendings.{Headed, Shaped, Sends}
+use Rattle.parcels.proofs.Rows.{size-few, row-number}
+use Rattle.runs.specs.Runs.{Room, Cells}
+use Rattle.shaped.specs.Parcels.{shapedFound, Near, Rows, RowRuns, Lists}
+use Rattle.shaped.proofs.Found.{near-found, row-last, row-in, row-cells, Counting, counting-few, Listing}
 
 -- ---- the slot of a tile of the box and a way
 
@@ -54,36 +51,7 @@ module _ (x : Nest) (n : ℕ) (is : n ≡ ways Direct x) (t w : ℕ) (h : t < bo
   pub slot-parcel : shapedParcel x (slotTile Direct x (t * n + w)) (slotDirection x (t * n + w)) ≡ shapedParcel x t (w + 1)
   slot-parcel = rw (is, slot-tile x Direct t w h l, slot-way x Direct t w h l) refl
 
--- ---- a row
-
-module _ (x : Nest) (ok : Accepted x) (z : Sending) (p : Shaped x z) (r : ℕ) (at : List ℕ) (g : Has at (placeIn x z (r * z .width)) (x .dimensions)) where
-  pub row-small : (j : ℕ) → j < x .dimensions → getD at j 0 < 1024
-  row-small j h = omega (arith, g .each j h, box-within x ok z p (r * z .width) j h, ok .length-most j)
-
-  row-last : getD at (last x) 0 ≡ getD (z .block .corner) (last x) 0
-  row-last = g .each (last x) (omega (arith, ok .dimensions-least)) ∙ row-corner x ok z p r
-
-  pub row-room : r < z .rows → (list : List ℕ) (count : ℕ) → Listing x z list count (r * z .width) → (q : Row) → RowAt x z r q → q .place ≡ at
-      → (c : ℕ) → c ≡ rank (nth (x .lengths)) (nth at) (x .dimensions) → Room list (x .distances) c (getD at (last x) 0) (z .width) count
-  row-room low list count f q e same c is =
-      let k = row-first x z r q e c (rw same is) in
-      record {
-        few = ok .distances-most;
-        long = f .long;
-        low = omega (arith, k .low, ok .cells-most);
-        small = omega (arith, row-last, p .width, p .inside (last x) (omega (arith, ok .dimensions-least)), ok .length-most (last x));
-        room = omega (arith, listing-few x z list count r f, size-few x ok z p, mul-le-mul-right (z .width) low, suc-mul r (z .width));
-      }
-
-  pub row-listed : r < z .rows → (list : List ℕ) (count : ℕ) → Listing x z list count (r * z .width) → (starts ends : List ℕ)
-      → RunsAre x (nth at) (reachesPlace x (windowOf (z .window))) (x .distances) starts ends
-      → (c : ℕ) → c ≡ rank (nth (x .lengths)) (nth at) (x .dimensions) → (list′ : List ℕ) (count′ : ℕ)
-      → Listed starts ends (x .distances) c (getD at (last x) 0) (z .width) list count list′ count′ → Listing x z list′ count′ ((r + 1) * z .width)
-  row-listed low list count f starts ends runs c is list′ count′ d =
-      listing-row x z list count r f ok p low (nth at) starts ends (x .distances) c (getD at (last x) 0) (z .width) list′ count′
-      (λ j h. sym (g .each j (omega arith))) runs refl (is ∙ row-number x z r at g) row-last refl d
-
--- ---- the whole list
+-- ---- the rows of a slot
 
 module _ (x : Nest) (ok : Accepted x) (q : Route) (direct : q ≡ Direct) (n t w : ℕ) (is : n ≡ ways q x) (h : t < boxTiles x) (l : w < ways Direct x)
     (z : Sending) (s : Sends q x (t * n + w) z) where
@@ -96,19 +64,66 @@ module _ (x : Nest) (ok : Accepted x) (q : Route) (direct : q ≡ Direct) (n t w
   to : ℕ → ℕ
   to j = tilePlace x (slotTile Direct x (t * n + w)) j + ahead x (slotDirection x (t * n + w)) j
 
-  pub window-high : getD (z .window .high) (last x) 0 ≤ lengthOf x (last x)
+  window-high : getD (z .window .high) (last x) 0 ≤ lengthOf x (last x)
   unfolding to
   window-high =
       let e = sends .window .high .each (last x) (omega (arith, ok .dimensions-least)) in
       omega (arith, e, high-rest x to to (last x) (omega (arith, ok .spread-low)))
 
-  pub lists-all : (list : List ℕ) (count r : ℕ) → Listing x z list count (r * z .width) → z .rows ≤ r → Lists x t (w + 1) list count
-  lists-all list count r f k =
+  pub rows-are : (y : Sending) → Near x z y → Rows x t (w + 1) y
+  rows-are y k =
       record {
-        long = f .long;
-        few = omega (arith, f .count-is, found-few x z (r * z .width), f .low, size-few x ok z (s .shape));
-        is = listing-end x z list count r f k
-            ∙ sym (shaped-found x ok (t * n + w) (slot-under Direct x n own t w h l) z sends) ∙ slot-parcel x n own t w h l;
+        shape = k .shape;
+        ends = rw (k .window) window-high;
+        cells = sym (slot-parcel x n own t w h l) ∙ near-found x ok (t * n + w) (slot-under Direct x n own t w h l) z sends y k;
+      }
+
+-- ---- a row
+
+module _ (x : Nest) (ok : Accepted x) (z : Sending) (p : Shaped x z) (r : ℕ) (low : r < z .rows) (at : List ℕ) (n : ℕ) (starts ends : List ℕ)
+    (f : RowRuns x z r at n starts ends) where
+  pub row-small : getD at (last x) 0 + z .width ≤ 1024
+  row-small = omega (
+    arith,
+    row-last x ok z p r at n starts ends f,
+    p .width,
+    p .inside (last x) (omega (arith, ok .dimensions-least)),
+    ok .length-most (last x),
+  )
+
+  pub row-room : (list : List ℕ) (count : ℕ) → Listing x z list count r → (c : ℕ) → c ≡ rank (nth (x .lengths)) (nth at) (x .dimensions)
+      → Room list n c (getD at (last x) 0) (z .width) count
+  row-room list count g c is =
+      record {
+        few = f .runs .few;
+        long = g .long;
+        low = omega (arith, is, row-number x z r at (f .place), row-cells x ok z p r low, ok .cells-most);
+        small = row-small;
+        room = omega (arith, counting-few x z count r (g .counted), size-few x ok z p, row-in r (z .width) (z .rows) low, row-next r (z .width));
+      }
+    where
+      row-next : (r w : ℕ) → (r + 1) * w ≡ r * w + w
+      row-next r w = rw (add-one r) (suc-mul r w)
+
+-- ---- the whole list, and how many
+
+module _ (x : Nest) (ok : Accepted x) (u v : ℕ) (z : Sending) (q : Rows x u v z) where
+  pub counts-few : (count r : ℕ) → Counting x z count r → count ≤ 16384
+  counts-few count r g =
+      omega (arith, counting-few x z count r g, size-few x ok z (q .shape), mul-le-mul-right (z .width) (g .low))
+
+  pub counts-all : (count r : ℕ) → Counting x z count r → z .rows ≤ r → (count ≡ length (shapedParcel x u v)) × (count ≤ 16384)
+  counts-all count r g k =
+      let e : r ≡ z .rows = omega (arith, g .low) in
+      (g .is ∙ ap (λ (i : ℕ). length (shapedFound x z (i * z .width))) e ∙ ap length (sym (q .cells)), counts-few count r g)
+
+  pub lists-all : (list : List ℕ) (count r : ℕ) → Listing x z list count r → z .rows ≤ r → Lists x u v list count
+  lists-all list count r g k =
+      let e : r ≡ z .rows = omega (arith, g .counted .low) in
+      record {
+        long = g .long;
+        few = counts-few count r (g .counted);
+        is = g .is ∙ ap (λ (i : ℕ). shapedFound x z (i * z .width)) e ∙ sym (q .cells);
       }
 
 -- ---- words by the list

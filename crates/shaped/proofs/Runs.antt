@@ -4,15 +4,15 @@ use mathlib.Core.Path.{_≡_, refl, sym, ap, _∙_}
 use mathlib.Core.Logic.{_⊎_, inl, inr}
 use mathlib.Core.Bool.{Bool, true, false}
 use mathlib.Core.List.{List}
-use native.Mathlib.Nat.{eq-or-lt-of-le}
+use native.Mathlib.Numerals.{add-one}
 use native.Mathlib.Decide.{ℕ-discrete, decLt}
 use native.Mathlib.Omega.{arith}
 use lib.ListN.{length, getD, set, length-set}
 use lib.Seq.{getD-set-same, getD-set-other}
 use lib.Dec.{eqb, ltb, leb}
 use borrow.Author.Tests.{eq-eqb, ne-eqb, lt-ltb, ltb-true, le-leb, leb-true, le-ltb, lt-leb}
-use Rattle.base.specs.Tests.{_and_, pick, every}
-use Rattle.base.proofs.Tests.{both, and-true, and-false, same-test, every-at, every-all, every-not, pick-true, pick-false, is-false, never-both}
+use Rattle.base.specs.Tests.{_and_, _or_, pick, every, some}
+use Rattle.base.proofs.Tests.{both, and-true, and-false, same-test, every-at, every-all, every-not, some-same, pick-true, pick-false, is-false, never-both}
 use Rattle.nest.specs.declared.Nest.{Nest}
 use Rattle.nest.specs.declared.Interval.{Interval}
 use Rattle.nest.specs.Accepted.{Accepted}
@@ -29,8 +29,8 @@ use Rattle.layout.specs.Places.{nth}
 use Rattle.layout.specs.CellRows.{Given}
 use Rattle.layout.proofs.Loops.{Changed}
 use Rattle.parcels.specs.Windows.{RowEnd}
-use Rattle.runs.specs.Runs.{within}
-use Rattle.shaped.specs.Runs.{inPlace, RunIs, readsPlace, reachesPlace, RunsAre}
+use Rattle.runs.specs.Runs.{within, isHit}
+use Rattle.shaped.specs.Runs.{inPlace, RunIs, readsPlace, reachesPlace, comesShaped, RunsAre}
 
 -- ---- numbers
 
@@ -42,6 +42,11 @@ run-in low high a h = let b = both h in (leb-true low a (b .0), ltb-true a high 
 
 run-empty : (low high a : ℕ) → high ≤ low → within low high a ≡ false
 run-empty low high a h = is-false (λ t. let r = run-in low high a t in omega (arith, r .0, r .1))
+
+or-no : (a : Bool) {b : Bool} → b ≡ false → (a or b) ≡ a
+unfolding _or_
+or-no true e = refl
+or-no false e = e
 
 -- ---- places of the shape
 
@@ -189,37 +194,63 @@ module _ (x : Nest) (ok : Accepted x) where
                 ∙ sym (run-empty (from + d) (to + d) (k (last x)) (omega arith)) ∙ read-run from to p .is k s l;
           }
 
--- ---- runs of all distances, filled from the first
+-- ---- the runs that are not empty, gathered from the first distance on
 
-pub record Filling (x : Nest) (i : ℕ → ℕ) (f : ℕ → (ℕ → ℕ) → Bool) (n : ℕ) (starts ends : List ℕ) (e : ℕ) : Type 0 where
-  pub low : e ≤ n
+pub record Gathered (x : Nest) (i : ℕ → ℕ) (f : ℕ → (ℕ → ℕ) → Bool) (starts ends : List ℕ) (n e : ℕ) : Type 0 where
+  pub few : n ≤ e
   pub first : length starts ≡ 8
   pub second : length ends ≡ 8
-  pub each : (d : ℕ) → d < e → RunIs x i (f d) (getD starts d 0) (getD ends d 0)
+  pub is : (k : ℕ → ℕ) → ((j : ℕ) → j < last x → k j ≡ i j) → k (last x) < lengthOf x (last x) → isHit starts ends n (k (last x)) ≡ some (λ d. f d k) e
 
-module _ (x : Nest) (i : ℕ → ℕ) (f : ℕ → (ℕ → ℕ) → Bool) (n : ℕ) where
-  pub filling-none : (starts ends : List ℕ) → length starts ≡ 8 → length ends ≡ 8 → Filling x i f n starts ends 0
-  filling-none starts ends h k = record { low = omega arith; first = h; second = k; each = λ d l. absurd (omega arith) }
+module _ (x : Nest) (i : ℕ → ℕ) (f : ℕ → (ℕ → ℕ) → Bool) where
+  pub gathered-none : (starts ends : List ℕ) → length starts ≡ 8 → length ends ≡ 8 → Gathered x i f starts ends 0 0
+  unfolding some
+  gathered-none starts ends h k = record { few = omega arith; first = h; second = k; is = λ k s l. refl }
 
-  pub filling-more : (starts ends : List ℕ) (e low high : ℕ) → Filling x i f n starts ends e → e < n → n ≤ 8 → RunIs x i (f e) low high
-      → Filling x i f n (set starts e low) (set ends e high) (e + 1)
-  filling-more starts ends e low high s h m r =
-      record {
-        low = omega arith;
-        first = length-set starts e low ∙ s .first;
-        second = length-set ends e high ∙ s .second;
-        each = λ d l. go d (eq-or-lt-of-le (below d l));
-      }
-    where
-      below : (d : ℕ) → d < e + 1 → d ≤ e
-      below d l = omega arith
+  module _ (starts ends : List ℕ) (n e low high : ℕ) (g : Gathered x i f starts ends n e) (r : RunIs x i (f e) low high) where
+    gathered-more : e < 8 → Gathered x i f (set starts n low) (set ends n high) (n + 1) (e + 1)
+    unfolding some
+    gathered-more h =
+        record {
+          few = omega (arith, g .few);
+          first = length-set starts n low ∙ g .first;
+          second = length-set ends n high ∙ g .second;
+          is = λ k s l. rw (add-one n, add-one e) (
+              ap (λ (b : Bool). b or within (getD (set starts n low) n 0) (getD (set ends n high) n 0) (k (last x)))
+              (some-same _ _ n (λ d o. rw (getD-set-other starts n d low 0 (λ z. omega arith), getD-set-other ends n d high 0 (λ z. omega arith)) refl)
+              ∙ g .is k s l)
+              ∙ ap (λ (b : Bool). some (λ d. f d k) e or b)
+              (rw (
+                getD-set-same starts n low 0 (omega (arith, g .few, g .first)),
+                getD-set-same ends n high 0 (omega (arith, g .few, g .second)),
+              ) (r .is k s l)));
+        }
 
-      go : (d : ℕ) → (d ≡ e) ⊎ (d < e) → RunIs x i (f d) (getD (set starts e low) d 0) (getD (set ends e high) d 0)
-      go d (inl q) = rw (q, getD-set-same starts e low 0 (omega (arith, s .first)), getD-set-same ends e high 0 (omega (arith, s .second))) r
-      go d (inr q) = rw (getD-set-other starts e d low 0 (λ z. omega arith), getD-set-other ends e d high 0 (λ z. omega arith)) (s .each d q)
+    gathered-same : high ≤ low → Gathered x i f starts ends n (e + 1)
+    unfolding some
+    gathered-same h =
+        record {
+          few = omega (arith, g .few);
+          first = g .first;
+          second = g .second;
+          is = λ k s l. rw (add-one e) (g .is k s l ∙ sym (or-no (some (λ d. f d k) e) (sym (r .is k s l) ∙ run-empty low high (k (last x)) h)));
+        }
 
-  pub filling-end : (starts ends : List ℕ) (e : ℕ) → Filling x i f n starts ends e → n ≤ e → RunsAre x i f n starts ends
-  filling-end starts ends e s h = record { each = λ d l. s .each d (omega (arith, s .low)) }
+    pub gathered-turn : (starts′ ends′ : List ℕ) (n′ : ℕ) → e < 8
+        → ((low < high) × (starts′ ≡ set starts n low) × (ends′ ≡ set ends n high) × (n′ ≡ n + 1))
+        ⊎ ((high ≤ low) × (starts′ ≡ starts) × (ends′ ≡ ends) × (n′ ≡ n)) → Gathered x i f starts′ ends′ n′ (e + 1)
+    gathered-turn starts′ ends′ n′ h (inl (o, a, b, c)) = rw (a, b, c) (gathered-more h)
+    gathered-turn starts′ ends′ n′ h (inr (o, a, b, c)) = rw (a, b, c) (gathered-same o)
+
+pub gathered-end : (x : Nest) (ok : Accepted x) (i : ℕ → ℕ) (w : Region) (starts ends : List ℕ) (n e : ℕ) → Gathered x i (reachesPlace x w) starts ends n e
+    → e ≤ x .distances → x .distances ≤ e → RunsAre x i (comesShaped x w) n starts ends
+unfolding comesShaped
+gathered-end x ok i w starts ends n e g h k =
+    let q : e ≡ x .distances = omega arith in
+    record {
+      few = omega (arith, g .few, ok .distances-most);
+      is = λ i s l. g .is i s l ∙ ap (some (λ d. reachesPlace x w d i)) q;
+    }
 
 -- ---- a place moved before the last dimension
 

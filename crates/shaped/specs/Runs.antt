@@ -1,18 +1,18 @@
 -- Rows of a nest with bounds: where in a row a place, the place that a distance reads, and the place that it reaches are in the shape.
 -- No sentence of document 02: contracts of functions below the calls cite it.
-use Prim.Native.Nat.{ℕ, _+_, _-_, _<_}
+use Prim.Native.Nat.{ℕ, _+_, _-_, _≤_, _<_}
 use mathlib.Core.Path.{_≡_}
 use mathlib.Core.Bool.{Bool}
 use mathlib.Core.List.{List}
 use lib.ListN.{length, getD}
 use lib.Dec.{leb}
-use Rattle.base.specs.Tests.{_and_, every}
+use Rattle.base.specs.Tests.{_and_, every, some}
 use Rattle.nest.specs.declared.Nest.{Nest}
 use Rattle.nest.specs.Nest.{lengthOf, component}
 use Rattle.nest.specs.Shape.{meets}
 use Rattle.nest.specs.Spans.{last}
 use Rattle.plan.specs.Regions.{Region, among}
-use Rattle.runs.specs.Runs.{within}
+use Rattle.runs.specs.Runs.{within, isHit}
 
 -- place i is in the shape
 unfoldable pub inPlace : Nest → (ℕ → ℕ) → Bool
@@ -30,6 +30,11 @@ readsPlace x e k = every (λ j. leb (component x e j) (k j)) (x .dimensions) and
 abbrev pub reachesPlace : Nest → Region → ℕ → (ℕ → ℕ) → Bool
 reachesPlace x w e k = inPlace x k and among x w (λ j. k j + component x e j) and inPlace x (λ j. k j + component x e j)
 
--- the same for the first n distances
-pub record RunsAre (x : Nest) (i : ℕ → ℕ) (f : ℕ → (ℕ → ℕ) → Bool) (n : ℕ) (starts ends : List ℕ) : Type 0 where
-  pub each : (e : ℕ) → e < n → RunIs x i (f e) (getD starts e 0) (getD ends e 0)
+-- some distance does
+unfoldable pub comesShaped : Nest → Region → (ℕ → ℕ) → Bool
+comesShaped x w i = some (λ e. reachesPlace x w e i) (x .distances)
+
+-- in the row of place i, f holds just where the last component lies in one of the first n runs
+pub record RunsAre (x : Nest) (i : ℕ → ℕ) (f : (ℕ → ℕ) → Bool) (n : ℕ) (starts ends : List ℕ) : Type 0 where
+  pub few : n ≤ 8
+  pub is : (k : ℕ → ℕ) → ((j : ℕ) → j < last x → k j ≡ i j) → k (last x) < lengthOf x (last x) → isHit starts ends n (k (last x)) ≡ f k

@@ -1,30 +1,40 @@
-// Nests with bounds, by rows and spans: the cells of a slot listed, its parcel packed and unpacked.
+// Nests with bounds, by rows and spans: the cells of a slot counted and listed, its parcel packed and unpacked.
 ghost use mathlib.Core.Path.{_≡_};
 ghost use mathlib.Core.Logic.{_⊎_};
+ghost use mathlib.Core.Bool.{true};
 ghost use Prim.Native.Nat.{ℕ, _+_, _-_, _≤_, _<_};
 ghost use lib.ListN.{length, getD};
 ghost use Rattle.base.specs.Lists.{pack, unpack};
 ghost use Rattle.nest.specs.Accepted.{Accepted};
 ghost use Rattle.nest.specs.Nest.{lengthOf, component, cells, boxTiles};
+ghost use Rattle.nest.specs.Places.{tilePlace};
+ghost use Rattle.nest.specs.Shape.{meets};
 ghost use Rattle.nest.specs.Spans.{last, Narrow, Spans};
 ghost use Rattle.plan.specs.declared.Route.the-variants.{Direct};
 ghost use Rattle.plan.specs.Messages.{ways};
 ghost use Rattle.plan.specs.Regions.{Region};
 ghost use Rattle.plan.specs.Shaped.{shapedParcel};
 ghost use Rattle.layout.specs.Sizes.{Sized};
-ghost use Rattle.layout.specs.Places.{nth};
+ghost use Rattle.layout.specs.Places.{nth, Has};
 ghost use Rattle.layout.specs.CellRows.{Given};
-ghost use Rattle.parcels.specs.Windows.{RowEnd, DistanceEnds};
-ghost use Rattle.shaped.specs.Runs.{RunIs, reachesPlace, RunsAre};
-ghost use Rattle.shaped.specs.Parcels.{Lists};
+ghost use Rattle.parcels.specs.Windows.{windowOf, RowEnd};
+ghost use Rattle.parcels.specs.Sendings.{Shaped};
+ghost use Rattle.shaped.specs.Whole.{Around, Wide, Between, Whole};
+ghost use Rattle.shaped.specs.Runs.{inPlace, RunIs, reachesPlace, comesShaped, RunsAre};
+ghost use Rattle.shaped.specs.Parcels.{Farthest, Near, Rows, RowRuns, Lists};
 use layout::Sizes;
 use nest::Interval;
 use nest::Nest;
+use parcels::Block;
+use parcels::Sending;
+use parcels::Window;
 
-// Runs of the distances in a row: the last components from one number on, below another.
+// A row: the place of its first cell, and the runs in it that hold a slot's cells, each from one last component on, below another.
 struct Reached {
+    place: [usize; 4],
     starts: [usize; 8],
     ends: [usize; 8],
+    runs: usize,
 }
 
 // The greater of two.
@@ -92,68 +102,256 @@ fn reach_of(
     }
 }
 
-// The same of each distance.
-fn reaches_of(
+// The row of a place: the runs of those distances that put some cell of it there; `own` is its span.
+fn runs_of(
     nest: Nest,
     components: &[usize; 32],
+    window: Window,
     at: [usize; 4],
     own: Interval,
-    limits: [usize; 8],
 ) -> Reached
-    requires { ⌜ Accepted nest × Given nest (now components) ⌝ }
+    requires { ⌜ Accepted nest × (Given nest (now components)
+        × ((getD (window .low) (last nest) 0 ≡ 0) × (getD (window .high) (last nest) 0 ≤ lengthOf nest (last nest)))) ⌝ }
     requires { ⌜ ((j : ℕ) → j < nest .dimensions → getD at j 0 < 1024) × Spans nest at own ⌝ }
-    ensures { λ r. ⌜ ((w : Region) → w .high (last nest) ≤ lengthOf nest (last nest) → DistanceEnds nest w (nth at) limits
-        → RunsAre nest (nth at) (reachesPlace nest w) (nest .distances) (r .starts) (r .ends)) ⌝ }
+    ensures { λ r. ⌜ (r .place ≡ at) × RunsAre nest (nth at) (comesShaped nest (windowOf window)) (r .runs) (r .starts) (r .ends) ⌝ }
 {
+    let n = nest.distances;
     let mut starts = [0; 8];
     let mut ends = [0; 8];
-    let n = nest.distances;
+    let mut runs = 0;
     for e in 0..n {
-        let run = reach_of(nest, components, at, own, limits[e], e);
-        starts[e] = run.from;
-        ends[e] = run.to;
+        let limit = parcels::end_in_row(nest, components, window, &at, e);
+        let run = reach_of(nest, components, at, own, limit, e);
+        if run.from < run.to {
+            starts[runs] = run.from;
+            ends[runs] = run.to;
+            runs += 1;
+        }
     }
     Reached {
+        place: at,
         starts: starts,
         ends: ends,
+        runs: runs,
     }
 }
 
-// The cells of the shape in a tile of the box that some distance puts into the shape, along a way: listed in index order.
+// Row r of a slot's rows.
+fn row_of(nest: Nest, components: &[usize; 32], rows: Sending, r: usize) -> Reached
+    requires { ⌜ Accepted nest × (Given nest (now components) × (Shaped nest rows × (r < rows .rows))) ⌝ }
+    requires { ⌜ getD (rows .window .high) (last nest) 0 ≤ lengthOf nest (last nest) ⌝ }
+    ensures { λ q. ⌜ RowRuns nest rows r (q .place) (q .runs) (q .starts) (q .ends) ⌝ }
+{
+    let block = rows.block;
+    let lengths = block.lengths;
+    let corner = block.corner;
+    let at = layout::place(lengths, corner, r, nest.dimensions - 1);
+    let own = nest::span(nest, at);
+    runs_of(nest, components, rows.window, at, own)
+}
+
+// How far the distances go in each dimension.
+pub fn farthest(nest: Nest) -> [usize; 4]
+    requires { ⌜ Accepted nest ⌝ }
+    ensures { λ r. ⌜ Farthest nest r ⌝ }
+{
+    let components = nest.components;
+    let n = 4 * nest.distances;
+    let mut most = [0; 4];
+    for i in 0..n {
+        let j = i % 4;
+        most[j] = greater(most[j], components[i]);
+    }
+    most
+}
+
+// The box without the rows that no distance takes to the window, being too far before it; one row at least is left.
+fn near(nest: Nest, sending: Sending, most: [usize; 4]) -> Sending
+    requires { ⌜ Accepted nest × (Shaped nest sending × Farthest nest most) ⌝ }
+    ensures { λ r. ⌜ Near nest sending r ⌝ }
+{
+    let window = sending.window;
+    let low = window.low;
+    let block = sending.block;
+    let from = block.corner;
+    let sides = block.lengths;
+    let n = nest.dimensions;
+    let mut corner = [0; 4];
+    let mut lengths = [0; 4];
+    for j in 0..n {
+        let before = less(less(low[j], most[j]), from[j]);
+        let over = layout::least(before, sides[j] - 1);
+        corner[j] = from[j] + over;
+        lengths[j] = sides[j] - over;
+    }
+    let rows = layout::product(lengths, n - 1);
+    let left = Block {
+        corner: corner,
+        lengths: lengths,
+    };
+    Sending {
+        block: left,
+        window: window,
+        rows: rows,
+        width: sending.width,
+    }
+}
+
+// The rows that hold the cells of a tile of the box and a way: `at` is the tile's place, `most` how far the distances go.
+fn rows_of(
+    nest: Nest,
+    sizes: Sizes,
+    most: [usize; 4],
+    tile: usize,
+    at: [usize; 4],
+    way: usize,
+) -> Sending
+    requires { ⌜ Sized nest sizes × ((sizes .route ≡ Direct) × ((tile < boxTiles nest) × (way < ways Direct nest))) ⌝ }
+    requires { ⌜ Farthest nest most × Has at (tilePlace nest tile) (nest .dimensions) ⌝ }
+    ensures { λ r. ⌜ Rows nest tile (way + 1) r ⌝ }
+{
+    let slot = tile * sizes.ways + way;
+    let ahead = layout::along_of(nest, sizes, way);
+    let sending = parcels::sending_of(nest, sizes, slot, at, ahead);
+    near(nest, sending, most)
+}
+
+// How many cells of the shape in a tile of the box some distance puts into the shape, along a way.
+pub fn count_of(
+    nest: Nest,
+    sizes: Sizes,
+    most: [usize; 4],
+    tile: usize,
+    at: [usize; 4],
+    way: usize,
+) -> usize
+    requires { ⌜ Sized nest sizes × ((sizes .route ≡ Direct) × ((tile < boxTiles nest) × (way < ways Direct nest))) ⌝ }
+    requires { ⌜ Farthest nest most × Has at (tilePlace nest tile) (nest .dimensions) ⌝ }
+    ensures { λ r. ⌜ (r ≡ length (shapedParcel nest tile (way + 1))) × (r ≤ 16384) ⌝ }
+{
+    let rows = rows_of(nest, sizes, most, tile, at, way);
+    let components = nest.components;
+    let n = rows.rows;
+    let last = nest.dimensions - 1;
+    let mut count = 0;
+    for r in 0..n {
+        let row = row_of(nest, &components, rows, r);
+        let place = row.place;
+        let starts = row.starts;
+        let ends = row.ends;
+        count += runs::count_row(&starts, &ends, row.runs, place[last], rows.width);
+    }
+    count
+}
+
+// The same cells, listed in index order.
 pub fn cells_of(nest: Nest, sizes: Sizes, tile: usize, way: usize, list: &mut [u16; 16384]) -> usize
     requires { ⌜ Sized nest sizes × ((sizes .route ≡ Direct) × ((tile < boxTiles nest) × (way < ways Direct nest))) ⌝ }
     requires { ⌜ length (now list) ≡ 16384 ⌝ }
     ensures { λ r. ⌜ Lists nest tile (way + 1) (now (list .exit)) r ⌝ }
 {
-    let slot = tile * sizes.ways + way;
-    let corner = layout::place_of_tile(nest, sizes, tile);
-    let ahead = layout::along_of(nest, sizes, way);
-    let sending = parcels::sending_of(nest, sizes, slot, corner, ahead);
+    let at = layout::place_of_tile(nest, sizes, tile);
+    let rows = rows_of(nest, sizes, farthest(nest), tile, at, way);
     let components = nest.components;
     let lengths = nest.lengths;
-    let rows = sending.rows;
-    let width = sending.width;
-    let n = nest.distances;
+    let n = rows.rows;
     let last = nest.dimensions - 1;
     let mut count = 0;
-    let mut r = 0;
-    while r < rows {
-        let row = parcels::row_at(nest, &components, sending, r);
-        if row.run == 0 {
-            r += row.alike;
-            continue;
-        }
-        let at = row.place;
-        let own = nest::span(nest, at);
-        let number = layout::rank(lengths, at, nest.dimensions);
-        let limits = row.ends;
-        let found = reaches_of(nest, &components, at, own, limits);
-        let starts = found.starts;
-        let ends = found.ends;
-        count = runs::list_row(list, &starts, &ends, n, number, at[last], width, count);
-        r += 1;
+    for r in 0..n {
+        let row = row_of(nest, &components, rows, r);
+        let place = row.place;
+        let starts = row.starts;
+        let ends = row.ends;
+        let number = layout::rank(lengths, place, nest.dimensions);
+        count = runs::list_row(
+            list,
+            &starts,
+            &ends,
+            row.runs,
+            number,
+            place[last],
+            rows.width,
+            count,
+        );
     }
     count
+}
+
+// The tile at a place and what is near it: from one tile before to two after it, in each dimension.
+fn around(nest: Nest, at: [usize; 4]) -> Window
+    requires { ⌜ Accepted nest × ((j : ℕ) → j < nest .dimensions → getD at j 0 ≤ 1024) ⌝ }
+    ensures { λ r. ⌜ Around nest at r ⌝ }
+{
+    let tiling = nest.tiling;
+    let n = nest.dimensions;
+    let mut low = [0; 4];
+    let mut high = [0; 4];
+    for j in 0..n {
+        let first = at[j] * tiling[j];
+        low[j] = less(first, tiling[j]);
+        high[j] = first + 2 * tiling[j];
+    }
+    Window {
+        low: low,
+        high: high,
+    }
+}
+
+// Of two components of the earlier dimension, at which one a bound leaves less: where its slope is not negative, the second.
+fn worst(slope: usize, a: usize, b: usize) -> usize
+    ensures { λ r. ⌜ (slope ≡ 0 → r ≡ a) × (0 < slope → r ≡ b) ⌝ }
+{
+    if slope == 0 {
+        return a;
+    }
+    b
+}
+
+// Whether bound k leaves all of a box: its worst corner meets it.
+fn clears(nest: Nest, area: Window, k: usize) -> bool
+    requires { ⌜ Accepted nest × ((k < nest .bounds) × Wide nest area) ⌝ }
+    ensures { λ r. ⌜ (r ≡ true → (i : ℕ → ℕ) → Between nest area i → meets nest i k ≡ true) ⌝ }
+{
+    let sides = nest.sides;
+    let bounded = nest.bounded;
+    let earlier = nest.earlier;
+    let slopes = nest.slopes;
+    let offsets = nest.offsets;
+    let low = area.low;
+    let high = area.high;
+    let j = bounded[k] as usize;
+    let e = earlier[k] as usize;
+    let slope = slopes[k] as usize;
+    let offset = offsets[k] as usize;
+    if sides[k] == 0 {
+        let at = worst(slope, low[e], high[e]);
+        return slope * at + offset <= low[j] + at + 32768;
+    }
+    let at = worst(slope, high[e], low[e]);
+    high[j] + at + 32768 <= slope * at + offset
+}
+
+// Whether every bound does.
+fn inside(nest: Nest, area: Window) -> bool
+    requires { ⌜ Accepted nest × Wide nest area ⌝ }
+    ensures { λ r. ⌜ (r ≡ true → (i : ℕ → ℕ) → Between nest area i → inPlace nest i ≡ true) ⌝ }
+{
+    let n = nest.bounds;
+    for k in 0..n {
+        if !clears(nest, area, k) {
+            return false;
+        }
+    }
+    true
+}
+
+// Whether the tile at a place lies wholly inside the shape, with all that is near it.
+pub fn whole(nest: Nest, at: [usize; 4]) -> bool
+    requires { ⌜ Accepted nest × ((j : ℕ) → j < nest .dimensions → getD at j 0 ≤ 1024) ⌝ }
+    ensures { λ r. ⌜ (r ≡ true → Whole nest at) ⌝ }
+{
+    let area = around(nest, at);
+    inside(nest, area)
 }
 
 // The words of a slot's parcel.

@@ -4,36 +4,40 @@ use mathlib.Core.Path.{_≡_, refl, sym, ap, _∙_, subst}
 use mathlib.Core.Logic.{_⊎_, inl, inr, _≢_}
 use mathlib.Core.Bool.{Bool, true, false}
 use mathlib.Core.List.{List, [], _∷_}
-use native.Mathlib.Nat.{eq-or-lt-of-le, mul-le-mul-right, suc-mul, add-assoc, mod-lt, mod-eq-of-lt, div-eq-of-lt}
+use native.Mathlib.Nat.{eq-or-lt-of-le, mul-le-mul-right, suc-mul, add-zero, add-assoc, mod-lt, mod-eq-of-lt, div-eq-of-lt, le-div-iff-mul-le}
+use native.Mathlib.Nat.{div-lt-iff-lt-mul}
 use native.Mathlib.Numerals.{add-one}
 use native.Mathlib.Decide.{decLt}
 use native.Mathlib.Omega.{arith}
 use lib.ListN.{length, getD, set, replicate, length-set, length-replicate}
 use lib.Seq.{getD-set-same, getD-set-other}
-use lib.Dec.{eqb, ltb}
-use borrow.Author.Tests.{eq-eqb, ne-eqb, lt-ltb, le-ltb}
-use Rattle.base.specs.Tests.{_and_, pick, some, keep, those}
+use lib.Dec.{eqb, ltb, leb}
+use borrow.Author.Tests.{eq-eqb, ne-eqb, lt-ltb, le-ltb, leb-true}
+use Rattle.base.specs.Tests.{_and_, pick, one, some, keep, those}
 use Rattle.base.specs.Lists.{In}
-use Rattle.base.proofs.Tests.{pick-true, pick-false, some-same}
+use Rattle.base.proofs.Tests.{pick-true, pick-false, one-true, one-false, never-both, some-at, some-same}
 use Rattle.base.proofs.Select.{keep-few, keep-hit, keep-none, keep-more, those-more, those-none, those-few, those-at, those-lt}
 use Rattle.machine.specs.Plan.{count, words, tilesOf, noMessage}
 use Rattle.nest.specs.declared.Nest.{Nest}
 use Rattle.nest.specs.Accepted.{Accepted}
-use Rattle.nest.specs.Nest.{lengthOf, cells, boxTiles}
-use Rattle.nest.specs.Places.{tileAt}
+use Rattle.nest.specs.Nest.{lengthOf, tileCount, component, cells, boxTiles}
+use Rattle.nest.specs.Places.{rank, cellPlace, tileAt, tilePlace}
 use Rattle.nest.specs.Shape.{exists, existing, tiles}
 use Rattle.nest.specs.Spans.{last, holds}
+use Rattle.nest.proofs.Rank.{Within, rank-same}
 use Rattle.nest.proofs.Shapes.{Counting, box-tiles-most}
 use Rattle.plan.specs.declared.Route.{Route}
 use Rattle.plan.specs.declared.Route.the-variants.{Direct}
 use Rattle.plan.specs.Geometry.{processorOf}
-use Rattle.plan.specs.Messages.{ahead, directions, ways, slots, slotTile, slotDirection, taker, slotTaker, messagesOf}
-use Rattle.plan.specs.Hops.{alone}
+use Rattle.plan.specs.Messages.{ahead, directions, ways, slots, slotTile, slotDirection, parcel, taker, slotCells, slotTaker, slotParcel, messagesOf}
+use Rattle.plan.specs.Hops.{hops, alone}
 use Rattle.plan.specs.Shaped.{boxTile, shapedParcel, slotBox, shapedSlotTaker, shapedHome, shapedSlotParcel, shapedMessage, shapedSlots, planOf}
 use Rattle.plan.proofs.Listed as listed
 use Rattle.plan.proofs.Slots.{full-in}
-use Rattle.plan.proofs.Tiles.{boxTileOf-low}
-use Rattle.plan.proofs.ShapedTiles.{boxTile-low, number-low, boxTile-number}
+use Rattle.plan.proofs.Homes.{slotParcel-is}
+use Rattle.plan.proofs.Parcels.{ahead-low, slot-low, slot-tile, slot-way}
+use Rattle.plan.proofs.Tiles.{quotient-low, boxTileOf-low, tilePlace-low, tilePlace-tileAt, tileAt-tilePlace}
+use Rattle.plan.proofs.ShapedTiles.{boxTile-low, boxTile-lt, number-low, boxTile-number}
 use Rattle.plan.proofs.ShapedParcels.{parcel-crossed, shapedTaker-low}
 use Rattle.plan.proofs.ShapedTaker.{stepOf, taker-step}
 use Rattle.plan.proofs.ShapedSlots.{in-box, slotAt-low, slotAt-tile, slotAt-direction, shapedTile-low}
@@ -41,11 +45,15 @@ use Rattle.plan.proofs.ShapedDues.{shapedSlotParcel-is, due-at}
 use Rattle.layout.specs.Sizes.{along, endAt, Stepped}
 use Rattle.layout.specs.Places.{Has}
 use Rattle.layout.proofs.Steps.{ways-few, ways-pos, step-few}
-use Rattle.parcels.proofs.Sendings.{hop, alone-no, alone-yes}
+use Rattle.layout.proofs.Cells.{count-most}
+use Rattle.layout.proofs.CellRows.{rank-last}
+use Rattle.parcels.specs.Twins.{Twin}
+use Rattle.parcels.proofs.Sendings.{one-few, hop, alone-no, alone-yes}
 use Rattle.scans.specs.Scans.{Sheet, Lengths, Summing, Found}
-use Rattle.scans.proofs.Laws.{seen, seen-none, seen-hit, seen-miss, found}
-use Rattle.shaped.specs.Parcels.{Lists}
-use Rattle.shaped_table.specs.Table.{Marks, Numbered, Tiles, Owned, Filling, ShapedTable, Steps, endOf, atEnd}
+use Rattle.scans.proofs.Laws.{seen, seen-start, seen-none, seen-hit, seen-miss, found}
+use Rattle.shaped.specs.Whole.{Whole}
+use Rattle.shaped.proofs.Tiles.{whole-parcel}
+use Rattle.shaped_table.specs.Table.{Marks, Numbered, Tiles, Owned, LikeBefore, Filling, ShapedTable, Steps, endOf, Ranged, atEnd}
 
 -- ---- which tiles exist
 
@@ -221,6 +229,19 @@ module _ (x : Nest) (ok : Accepted x) where
     way-is : s % directions x ≡ w
     way-is = let d = slot-is .1 in omega arith
 
+    -- a tile with the box's parcels: its slot's is that of the box's slot
+    whole-slot : u < boxTiles x → shapedParcel x u (w + 1) ≡ parcel x u (w + 1)
+        → shapedSlotParcel x (t * directions x + w) ≡ slotParcel Direct x (u * directions x + w)
+    unfolding s slotCells
+    whole-slot lu q =
+        let a : slotTile Direct x (u * directions x + w) ≡ u = slot-tile x Direct u w lu l in
+        let b : slotDirection x (u * directions x + w) ≡ w + 1 = ap (λ (i : ℕ). i + 1) (slot-way x Direct u w lu l) in
+        let same : parcel x u (w + 1) ≡ slotCells Direct x (u * directions x + w) = rw (a, b) refl in
+        parcel-is
+        ∙ ap (pick (alone Direct x s) []) (q ∙ same)
+        ∙ ap (λ (i : ℕ). pick (eqb (hops x i) 0) [] (slotCells Direct x (u * directions x + w))) (slot-is .1 ∙ sym b)
+        ∙ sym (slotParcel-is x ok Direct (u * directions x + w) (slot-low x Direct u w lu l))
+
     module _ (steps : List ℕ) (along-is : Has steps (along Direct x w) (x .dimensions)) where
       hops-is : some (λ j. eqb (getD steps j 0) 1 and ltb 1 (getD (x .counts) j 0)) (x .spread) ≡ some (hop x s Direct) (x .spread)
       hops-is = some-same _ _ (x .spread)
@@ -233,6 +254,137 @@ module _ (x : Nest) (ok : Accepted x) where
       pub leaves-all : some (λ j. eqb (getD steps j 0) 1 and ltb 1 (getD (x .counts) j 0)) (x .spread) ≡ true → shapedSlotParcel x (t * directions x + w) ≡ shapedParcel x u (w + 1)
       unfolding s
       leaves-all q = parcel-is ∙ pick-false _ _ _ (alone-no x s Direct (sym hops-is ∙ q))
+
+  -- ---- a way that leads beyond the last tile
+
+  module _ (u w : ℕ) (at steps across : List ℕ) (here : Has at (tilePlace x u) (x .dimensions)) (along-is : Has steps (along Direct x w) (x .dimensions))
+      (counts : (j : ℕ) → j < x .dimensions → getD across j 0 ≡ tileCount x j) where
+    pub steps-low : (j : ℕ) → j < x .spread → getD at j 0 + getD steps j 0 ≤ 1024
+    unfolding along
+    steps-low j l =
+        let d : j < x .dimensions = omega (arith, ok .spread-low) in
+        let e : getD steps j 0 ≡ ahead x (w + 1) j = along-is .each j d in
+        omega (arith, e, here .each j d, tilePlace-low x ok u j d, count-most x ok j d, ahead-low x (w + 1) j l)
+
+    pub beyond-none : some (λ j. leb (getD across j 0) (getD at j 0 + getD steps j 0)) (x .spread) ≡ true → length (shapedParcel x u (w + 1)) ≡ 0
+    unfolding along
+    beyond-none t = none (decLt 0 (length (shapedParcel x u (w + 1))))
+      where
+        r : (j : ℕ) × (j < x .spread) × (leb (getD across j 0) (getD at j 0 + getD steps j 0) ≡ true)
+        r = some-at (λ j. leb (getD across j 0) (getD at j 0 + getD steps j 0)) (x .spread) t
+
+        inner : r .0 < x .dimensions
+        inner = omega (arith, ok .spread-low, r .1)
+
+        over : getD across (r .0) 0 ≤ getD at (r .0) 0 + getD steps (r .0) 0
+        over = leb-true _ _ (r .2)
+
+        step : getD steps (r .0) 0 ≡ ahead x (w + 1) (r .0)
+        step = along-is .each (r .0) inner
+
+        go : (c : ℕ) → In c (shapedParcel x u (w + 1)) → ⊥
+        go c i =
+            let g = parcel-crossed x u (w + 1) c i in
+            omega (
+              arith,
+              over,
+              step,
+              quotient-low x ok (cellPlace x c (r .0) + component x (g .0) (r .0)) (r .0) inner (g .1 .held .stays (r .0) inner),
+              g .1 .held .steps (r .0) (r .1),
+              here .each (r .0) inner,
+              counts (r .0) inner,
+            )
+
+        none : Dec (0 < length (shapedParcel x u (w + 1))) → length (shapedParcel x u (w + 1)) ≡ 0
+        none (yes k) = let f = full-in (shapedParcel x u (w + 1)) k in absurd (go (f .0) (f .1))
+        none (no k) = omega arith
+
+  -- ---- a tile wholly inside the shape, and the one before it along the last dimension
+
+  module _ (t u : ℕ) (h : t < tiles x) (later : t ≡ 0 → ⊥) (is : boxTile x t ≡ u) (before : boxTile x (t - 1) + 1 ≡ u) (at : List ℕ)
+      (here : Has at (tilePlace x u) (x .dimensions)) (deep : getD at (last x) 0 ≡ 0 → ⊥) where
+    u-low : u < boxTiles x
+    u-low = rw (← is) (boxTile-low x t h)
+
+    abbrev back : ℕ → ℕ
+    back j = tilePlace x u j - one (eqb j (last x))
+
+    back-here : back (last x) + 1 ≡ tilePlace x u (last x)
+    back-here = omega (arith, one-true (eq-eqb (last x) (last x) refl), here .each (last x) (omega (arith, ok .dimensions-least)))
+
+    back-other : (j : ℕ) → j < last x → back j ≡ tilePlace x u j
+    back-other j l = omega (arith, one-false (ne-eqb j (last x) (λ e. omega arith)))
+
+    own-rank : rank (tileCount x) (tilePlace x u) (x .dimensions) ≡ u
+    unfolding tileAt
+    own-rank = tileAt-tilePlace x ok u u-low
+
+    back-rank : rank (tileCount x) back (x .dimensions) ≡ u - 1
+    back-rank =
+        let d : 1 ≤ x .dimensions = omega (arith, ok .dimensions-least) in
+        let r : rank (tileCount x) back (last x) ≡ rank (tileCount x) (tilePlace x u) (last x) =
+        rank-same (tileCount x) back (tilePlace x u) (last x) back-other in
+        omega (
+          arith,
+          rank-last (tileCount x) back (x .dimensions) d,
+          rank-last (tileCount x) (tilePlace x u) (x .dimensions) d,
+          ap (λ (a : ℕ). a * tileCount x (last x)) r,
+          back-here,
+          own-rank,
+        )
+
+    back-number : tileAt x back ≡ u - 1
+    unfolding tileAt
+    back-number = back-rank
+
+    back-low : Within (tileCount x) back (x .dimensions)
+    back-low j l = omega (arith, tilePlace-low x ok u j l)
+
+    back-place : (j : ℕ) → j < x .dimensions → tilePlace x (u - 1) j ≡ back j
+    back-place j l = ap (λ (a : ℕ). tilePlace x a j) (sym back-number) ∙ tilePlace-tileAt x ok back back-low j l
+
+    near : (j : ℕ) → j < x .dimensions → (tilePlace x (u - 1) j ≤ getD at j 0) × (getD at j 0 ≤ tilePlace x (u - 1) j + 1)
+    near j l =
+        let e : tilePlace x (u - 1) j ≡ tilePlace x u j - one (eqb j (last x)) = back-place j l in
+        (omega (arith, e, here .each j l), omega (arith, e, here .each j l, one-few (eqb j (last x))))
+
+    pub like-one : Whole x at → (r : Route) → r ≡ Direct → (p : ℕ) → Twin r x u p → p + 1 ≡ u → LikeBefore x t
+    like-one all r d p f e =
+        record {
+          later = omega arith;
+          same = λ w l.
+              ap length (whole-slot t w u h l is u-low
+              (whole-parcel x ok at all u (λ j o. (omega (arith, here .each j o), omega (arith, here .each j o))) (w + 1)))
+              ∙ twin .same w l
+              ∙ ap length (sym (whole-slot (t - 1) w p (omega arith) l (omega arith) (omega (arith, u-low))
+              (whole-parcel x ok at all p (rw p-is near) (w + 1))));
+        }
+      where
+        twin : Twin Direct x u p
+        twin = rw d at f
+
+        p-is : p ≡ u - 1
+        p-is = omega arith
+
+  pub copied : (lens : List ℕ) (t n w v : ℕ) → n ≡ directions x → Filling x lens (t * directions x + w) → LikeBefore x t → w < n
+      → v ≡ getD lens ((t - 1) * n + w) 0 → v ≡ length (shapedSlotParcel x (t * directions x + w))
+  copied lens t n w v e f g l is =
+      is ∙ rw e (f .each ((t - 1) * directions x + w) (below (t - 1) t (directions x) w (omega (arith, g .later)) (omega arith))
+      ∙ sym (g .same w (omega arith)))
+    where
+      below : (a b d w : ℕ) → a + 1 ≡ b → w < d → a * d + w < b * d + w
+      below a b d w e l = omega (arith, mul-le-mul-right d (up a b e), suc-mul a d)
+        where
+          up : (a b : ℕ) → a + 1 ≡ b → suc a ≤ b
+          up a b e = omega arith
+
+  pub before-place : (t n w : ℕ) → n ≡ directions x → LikeBefore x t → t < tiles x → w < n → ((t - 1) * n ≤ 7168) × ((t - 1) * n + w < 7168)
+  before-place t n w e g h l = slot-place′ (t - 1) (omega arith)
+    where
+      slot-place′ : (a : ℕ) → a < tiles x → (a * n ≤ 7168) × (a * n + w < 7168)
+      slot-place′ a k =
+          let q : a * n ≡ a * directions x = ap (λ (i : ℕ). a * i) e in
+          (omega (arith, tile-slot a w k (omega arith), slots-few), omega (arith, tile-slot a w k (omega arith), slots-few))
 
   -- ---- scans
 
@@ -429,7 +581,12 @@ module _ (x : Nest) (ok : Accepted x) where
     seenTo s = seen (shapedMessage x) (shapedSlots x) (endOf side) t s
 
     pub seen-few : (s : ℕ) → seenTo s ≤ s
-    seen-few s = omega (arith, those-few (λ m. endOf side (getD (messagesOf (shapedMessage x) (shapedSlots x)) m noMessage)) t (length (messagesOf (shapedMessage x) s)), listed.few (shapedMessage x) s)
+    seen-few s = omega (
+      arith,
+      those-few (λ m. endOf side (getD (messagesOf (shapedMessage x) (shapedSlots x)) m noMessage)) t
+          (length (messagesOf (shapedMessage x) s)),
+      listed.few (shapedMessage x) s,
+    )
 
     pub seen-turn : (s n n′ : ℕ) (r : Bool) → s < shapedSlots x → n ≡ seenTo s
         → (r ≡ true → (0 < length (shapedSlotParcel x s)) × (endOf side (shapedMessage x s) ≡ t)) × (r ≡ false → 0 < length (shapedSlotParcel x s) → endOf side (shapedMessage x s) ≢ t)
@@ -450,6 +607,36 @@ module _ (x : Nest) (ok : Accepted x) where
     pub seen-nowhere : (s n j : ℕ) → s ≤ shapedSlots x → shapedSlots x ≤ s → n ≡ seenTo s → n ≤ j → j < length (atEnd side (planOf Direct x) t) → ⊥
     seen-nowhere s n j h k e l q = omega (arith, seen-end s n h k e .0)
 
+    -- slots that have it not
+    seen-flat : (a k : ℕ) → a + k ≤ shapedSlots x
+        → ((s : ℕ) → a ≤ s → s < a + k → 0 < length (shapedSlotParcel x s) → endOf side (shapedMessage x s) ≢ t) → seenTo a ≡ seenTo (a + k)
+    seen-flat a zero h f = ap seenTo (sym (add-zero a))
+    seen-flat a (suc k) h f =
+        let q : a + suc k ≡ a + k + 1 = omega arith in
+        seen-flat a k (omega arith) (λ s l m. f s l (omega arith))
+        ∙ seen-turn (a + k) (seenTo (a + k)) (seenTo (a + k)) false (omega arith) refl
+        ((λ z. absurd (never-both z refl)), λ z m. f (a + k) (omega arith) (omega arith) m) (inr (refl, refl))
+        ∙ ap seenTo (sym q)
+
+    module _ (first end : ℕ) (r : Ranged x side t first end) where
+      pub range-start : _≡_ {A = ℕ} 0 (seenTo first)
+      range-start =
+          let z : 0 + first ≡ first = omega arith in
+          sym (seen-start (shapedMessage x) (shapedSlots x) (endOf side) t)
+          ∙ seen-flat 0 first (omega (arith, r .first-low, r .end-low)) (λ s l m. r .before s (omega arith)) ∙ ap seenTo z
+
+      range-end : (s n : ℕ) → s ≤ end → end ≤ s → n ≡ seenTo s → n ≡ seenTo (shapedSlots x)
+      range-end s n h k e =
+          let z : s ≡ end = omega arith in
+          let y : end + (shapedSlots x - end) ≡ shapedSlots x = omega (arith, r .end-low) in
+          e ∙ ap seenTo z ∙ seen-flat end (shapedSlots x - end) (omega (arith, r .end-low)) (λ i l m. r .after i l (omega (arith, r .end-low))) ∙ ap seenTo y
+
+      pub ranged-all : (s n : ℕ) → s ≤ end → end ≤ s → n ≡ seenTo s → (n ≡ length (atEnd side (planOf Direct x) t)) × (n ≤ 7168)
+      ranged-all s n h k e = seen-end (shapedSlots x) n (omega arith) (omega arith) (range-end s n h k e)
+
+      pub ranged-nowhere : (s n j : ℕ) → s ≤ end → end ≤ s → n ≡ seenTo s → n ≤ j → j < length (atEnd side (planOf Direct x) t) → ⊥
+      ranged-nowhere s n j h k e l q = seen-nowhere (shapedSlots x) n j (omega arith) (omega arith) (range-end s n h k e) l q
+
     -- the j-th of them is the message of slot s
     pub seen-found : (s n j m o w : ℕ) → s < shapedSlots x → n ≡ seenTo s → n ≡ j → 0 < length (shapedSlotParcel x s) → endOf side (shapedMessage x s) ≡ t
         → Summing (shapedMessage x) s m o → w ≡ length (shapedSlotParcel x s)
@@ -465,6 +652,53 @@ module _ (x : Nest) (ok : Accepted x) where
             ∙ those-at (λ i. endOf side (getD (messagesOf (shapedMessage x) (shapedSlots x)) i noMessage)) t (length (messagesOf (shapedMessage x) (shapedSlots x)))
             (length (messagesOf (shapedMessage x) s)) (listed.number-low (shapedMessage x) (shapedSlots x) s l full) (ap (endOf side) (listed.at-number (shapedMessage x) (shapedSlots x) s l full) ∙ here)
             ∙ sym (sums .number)
+
+  -- the range of a tile's messages
+
+  module _ (t n first end : ℕ) (h : t < tiles x) (e : n ≡ directions x) (f : first ≡ t * n) (g : end ≡ first + n) where
+    end-is : end ≡ (t + 1) * directions x
+    end-is = g ∙ rw (f, e, add-one t) (sym (suc-mul t (directions x)))
+
+    first-is : first ≡ t * directions x
+    first-is = f ∙ ap (λ (a : ℕ). t * a) e
+
+    end-in : end ≤ shapedSlots x
+    end-in = rw end-is (mul-le-mul-right (directions x) (omega arith))
+
+    pos : 0 < directions x
+    pos = omega (arith, ways-pos x ok Direct)
+
+    sender-after : (s : ℕ) → end ≤ s → t < slotTile Direct x s
+    sender-after s l =
+        let q : (t + 1) * directions x ≤ s = omega (arith, end-is) in
+        let d = le-div-iff-mul-le {k = directions x} {x = t + 1} {y = s} pos .1 q in omega (arith, d)
+
+    sender-before : (s : ℕ) → s < first → slotTile Direct x s < t
+    sender-before s l =
+        let q : s < t * directions x = omega (arith, first-is) in div-lt-iff-lt-mul {k = directions x} {x = s} {y = t} pos .1 q
+
+    pub range-own : (side : ℕ) → side ≡ 0 → Ranged x side t first end
+    range-own zero z =
+        record {
+          first-low = omega arith;
+          end-low = end-in;
+          before = λ s l m q. let e : slotTile Direct x s ≡ t = q in omega (arith, sender-before s l, e);
+          after = λ s l m k q. let e : slotTile Direct x s ≡ t = q in omega (arith, sender-after s l, e);
+        }
+    range-own (suc side) z = absurd (omega arith)
+
+    pub range-all : (side : ℕ) → (side ≡ 0 → ⊥) → Ranged x side t 0 end
+    range-all zero z = absurd (z refl)
+    range-all (suc side) z =
+        record {
+          first-low = omega arith;
+          end-low = end-in;
+          before = λ s l. absurd (omega arith);
+          after = λ s l m k. end-above s m k t h (omega (arith, boxTile-lt x t (slotTile Direct x s) h (shapedTile-low x s m) (sender-after s l)));
+        }
+
+  pub range-room : (t n : ℕ) → t < tiles x → n ≡ directions x → (t * n ≤ 7168) × (t * n + n ≤ 7168)
+  range-room t n h e = let k = end-in t n (t * n) (t * n + n) h e refl refl in (omega (arith, slots-few, k), omega (arith, slots-few, k))
 
   pub dirs-few : directions x ≤ 7
   dirs-few = ways-few x ok Direct

@@ -1,7 +1,8 @@
 -- The table of a nest with bounds: message lengths by slot; behind them the tiles' numbers in the box, their processors, and how many tiles there are.
 -- No sentence of document 02; the contracts of this crate and of those above cite it.
-use Prim.Native.Nat.{ℕ, suc, zero, _+_, _*_, _%_, _≤_, _<_}
+use Prim.Native.Nat.{ℕ, suc, zero, _+_, _*_, _-_, _%_, _≤_, _<_}
 use mathlib.Core.Path.{_≡_}
+use mathlib.Core.Logic.{_≢_}
 use mathlib.Core.List.{List}
 use lib.ListN.{length, getD}
 use lib.Dec.{ltb}
@@ -44,6 +45,11 @@ pub record Filling (x : Nest) (lens : List ℕ) (n : ℕ) : Type 0 where
   pub low : n ≤ shapedSlots x
   pub each : (s : ℕ) → s < n → getD lens s 0 ≡ length (shapedSlotParcel x s)
 
+-- tile t has one before it, and along each way its parcel is as long as that one's
+pub record LikeBefore (x : Nest) (t : ℕ) : Type 0 where
+  pub later : 0 < t
+  pub same : (w : ℕ) → w < directions x → length (shapedSlotParcel x (t * directions x + w)) ≡ length (shapedSlotParcel x ((t - 1) * directions x + w))
+
 abbrev pub ShapedTable : Nest → List ℕ → Type 0
 ShapedTable x lens = Filling x lens (shapedSlots x)
 
@@ -55,6 +61,13 @@ pub record Steps (x : Nest) (steps : List ℕ) : Type 0 where
 abbrev pub endOf : ℕ → Message → ℕ
 endOf zero m = m .sender
 endOf (suc i) m = m .taker
+
+-- messages with tile t at that end stand among the slots from the first number on, below the second
+pub record Ranged (x : Nest) (side t first end : ℕ) : Type 0 where
+  pub first-low : first ≤ end
+  pub end-low : end ≤ shapedSlots x
+  pub before : (s : ℕ) → s < first → 0 < length (shapedSlotParcel x s) → endOf side (shapedMessage x s) ≢ t
+  pub after : (s : ℕ) → end ≤ s → s < shapedSlots x → 0 < length (shapedSlotParcel x s) → endOf side (shapedMessage x s) ≢ t
 
 -- the messages with tile t at that end: sends (0) or dues
 abbrev pub atEnd : ℕ → Plan → ℕ → List ℕ

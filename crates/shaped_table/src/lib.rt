@@ -10,18 +10,27 @@ ghost use Rattle.base.specs.Tests.{keep};
 ghost use Rattle.machine.specs.Plan.{count, words, tilesOf};
 ghost use Rattle.nest.specs.Accepted.{Accepted};
 ghost use Rattle.nest.specs.Nest.{boxTiles, processors};
+ghost use Rattle.nest.specs.Places.{tilePlace};
 ghost use Rattle.nest.specs.Shape.{exists, tiles};
 ghost use Rattle.plan.specs.declared.Route.the-variants.{Direct};
 ghost use Rattle.plan.specs.Geometry.{processorOf};
 ghost use Rattle.plan.specs.Messages.{ways, directions};
 ghost use Rattle.plan.specs.Shaped.{boxTile, shapedMessage, shapedSlotParcel, shapedSlots, planOf};
 ghost use Rattle.layout.specs.Sizes.{Sized};
+ghost use Rattle.layout.specs.Places.{Has};
 ghost use Rattle.scans.specs.Scans.{Found};
-ghost use Rattle.shaped_table.specs.Table.{Marks, Numbered, Tiles, Owned, Filling, ShapedTable, Steps, endOf, atEnd};
+ghost use Rattle.shaped.specs.Parcels.{Farthest};
+ghost use Rattle.shaped_table.specs.Table.{Marks, Numbered, Tiles, Owned, LikeBefore, Filling, ShapedTable, Steps, endOf, Ranged, atEnd};
 use layout::Sizes;
 use nest::Nest;
 use scans::Place;
 use scans::Total;
+
+// Slots from the first one on, below the second.
+struct Range {
+    first: usize,
+    end: usize,
+}
 
 // Marks the tiles of the box that hold a cell of the shape.
 fn mark_tiles(nest: Nest, marks: &mut [u8])
@@ -95,33 +104,103 @@ fn fill_owners(nest: Nest, sizes: Sizes, lens: &mut [u16; 9217])
     }
 }
 
-// The length of a tile's parcel along a way: none where the way stays on the processor.
-fn slot_length(nest: Nest, sizes: Sizes, list: &mut [u16; 16384], tile: usize, way: usize) -> usize
-    requires { ⌜ Sized nest sizes × ((sizes .route ≡ Direct) × (length (now list) ≡ 16384)) ⌝ }
-    requires { ⌜ (tile < boxTiles nest) × (way < directions nest) ⌝ }
-    ensures { λ r. ⌜ (length (now (list .exit)) ≡ 16384) × (((t : ℕ) → t < tiles nest → boxTile nest t ≡ tile
-        → r ≡ length (shapedSlotParcel nest (t * directions nest + way))) × (r ≤ 16384)) ⌝ }
+// The length of a tile's parcel along a way, by its number in the box and its place there: none where the way stays on the processor
+// or leads beyond the last tile.
+fn slot_length(
+    nest: Nest,
+    sizes: Sizes,
+    most: [usize; 4],
+    tile: usize,
+    at: [usize; 4],
+    way: usize,
+) -> usize
+    requires { ⌜ Sized nest sizes × ((sizes .route ≡ Direct) × ((tile < boxTiles nest) × (way < directions nest))) ⌝ }
+    requires { ⌜ Farthest nest most × Has at (tilePlace nest tile) (nest .dimensions) ⌝ }
+    ensures { λ r. ⌜ ((t : ℕ) → t < tiles nest → boxTile nest t ≡ tile
+        → r ≡ length (shapedSlotParcel nest (t * directions nest + way))) × (r ≤ 16384) ⌝ }
 {
     let ahead = layout::along_of(nest, sizes, way);
     let counts = nest.counts;
     if !parcels::leaves(counts, ahead, nest.spread) {
         return 0;
     }
-    shaped::cells_of(nest, sizes, tile, way, list)
+    let across = sizes.across;
+    if parcels::outside(across, at, ahead, nest.spread) {
+        return 0;
+    }
+    shaped::count_of(nest, sizes, most, tile, at, way)
 }
 
-// The lengths of a tile's parcels.
-fn fill_tile(nest: Nest, sizes: Sizes, lens: &mut [u16; 9217], list: &mut [u16; 16384], tile: usize)
-    requires { ⌜ Sized nest sizes × ((sizes .route ≡ Direct) × (length (now list) ≡ 16384)) ⌝ }
+// The lengths of a tile's parcels, counted.
+fn count_tile(nest: Nest, sizes: Sizes, lens: &mut [u16; 9217], most: [usize; 4], tile: usize)
+    requires { ⌜ Sized nest sizes × ((sizes .route ≡ Direct) × Farthest nest most) ⌝ }
     requires { ⌜ (tile < tiles nest) × Filling nest (now lens) (tile * directions nest) ⌝ }
-    ensures { λ _. ⌜ (length (now (list .exit)) ≡ 16384) × Filling nest (now (lens .exit)) ((tile + 1) * directions nest) ⌝ }
+    ensures { λ _. ⌜ Filling nest (now (lens .exit)) ((tile + 1) * directions nest) ⌝ }
 {
     let n = sizes.ways;
     let number = box_of(nest, lens, tile);
+    let at = layout::place_of_tile(nest, sizes, number);
     for way in 0..n {
-        let length = slot_length(nest, sizes, list, number, way);
+        let length = slot_length(nest, sizes, most, number, at, way);
         lens[tile * n + way] = length as u16;
     }
+}
+
+// Whether a tile's parcels are known to be as long as those of the tile before it: in the box it follows that one along the last
+// dimension, has parcels as long there, and both lie wholly inside the shape.
+fn like_before(nest: Nest, sizes: Sizes, lens: &[u16; 9217], tile: usize) -> bool
+    requires { ⌜ Sized nest sizes × ((sizes .route ≡ Direct) × ((tile < tiles nest) × Tiles nest (now lens))) ⌝ }
+    ensures { λ r. ⌜ (r ≡ true → LikeBefore nest tile) ⌝ }
+{
+    if tile == 0 {
+        return false;
+    }
+    let number = box_of(nest, lens, tile);
+    if box_of(nest, lens, tile - 1) + 1 != number {
+        return false;
+    }
+    if parcels::twin_of(nest, sizes, number) + 1 != number {
+        return false;
+    }
+    let at = layout::place_of_tile(nest, sizes, number);
+    if at[nest.dimensions - 1] == 0 {
+        return false;
+    }
+    shaped::whole(nest, at)
+}
+
+// The length of a tile's parcel along a way, as that of the tile before it, which is in the table.
+fn length_before(nest: Nest, sizes: Sizes, lens: &[u16; 9217], tile: usize, way: usize) -> u16
+    requires { ⌜ Sized nest sizes × ((sizes .route ≡ Direct) × LikeBefore nest tile) ⌝ }
+    requires { ⌜ (tile < tiles nest) × ((way < directions nest) × Filling nest (now lens) (tile * directions nest + way)) ⌝ }
+    ensures { λ r. ⌜ r ≡ length (shapedSlotParcel nest (tile * directions nest + way)) ⌝ }
+{
+    lens[(tile - 1) * sizes.ways + way]
+}
+
+// The lengths of a tile's parcels, as those of the tile before it.
+fn copy_tile(nest: Nest, sizes: Sizes, lens: &mut [u16; 9217], tile: usize)
+    requires { ⌜ Sized nest sizes × ((sizes .route ≡ Direct) × LikeBefore nest tile) ⌝ }
+    requires { ⌜ (tile < tiles nest) × Filling nest (now lens) (tile * directions nest) ⌝ }
+    ensures { λ _. ⌜ Filling nest (now (lens .exit)) ((tile + 1) * directions nest) ⌝ }
+{
+    let n = sizes.ways;
+    for way in 0..n {
+        lens[tile * n + way] = length_before(nest, sizes, lens, tile, way);
+    }
+}
+
+// The lengths of a tile's parcels, those of the tiles before it being in the table.
+fn fill_tile(nest: Nest, sizes: Sizes, lens: &mut [u16; 9217], most: [usize; 4], tile: usize)
+    requires { ⌜ Sized nest sizes × ((sizes .route ≡ Direct) × Farthest nest most) ⌝ }
+    requires { ⌜ (tile < tiles nest) × Filling nest (now lens) (tile * directions nest) ⌝ }
+    ensures { λ _. ⌜ Filling nest (now (lens .exit)) ((tile + 1) * directions nest) ⌝ }
+{
+    if like_before(nest, sizes, lens, tile) {
+        copy_tile(nest, sizes, lens, tile);
+        return;
+    }
+    count_tile(nest, sizes, lens, most, tile);
 }
 
 // The whole table.
@@ -133,10 +212,10 @@ pub fn fill(nest: Nest, sizes: Sizes, lens: &mut [u16; 9217])
     mark_tiles(nest, &mut marks);
     list_tiles(nest, sizes, &marks, lens);
     fill_owners(nest, sizes, lens);
-    let mut list = [0u16; 16384];
+    let most = shaped::farthest(nest);
     let n = tiles_of(nest, lens);
     for tile in 0..n {
-        fill_tile(nest, sizes, lens, &mut list, tile);
+        fill_tile(nest, sizes, lens, most, tile);
     }
 }
 
@@ -246,16 +325,33 @@ fn sends_at(
     has_end(nest, sizes, lens, steps, slot, tile, side)
 }
 
+// The slots among which those with the tile at an end stand: the tile's own ones for the sender, else all up to these, since no tile
+// takes a message of a later one.
+fn range_of(nest: Nest, sizes: Sizes, tile: usize, side: usize) -> Range
+    requires { ⌜ Sized nest sizes × ((sizes .route ≡ Direct) × (tile < tiles nest)) ⌝ }
+    ensures { λ r. ⌜ Ranged nest side tile (r .first) (r .end) ⌝ }
+{
+    let first = tile * sizes.ways;
+    let end = first + sizes.ways;
+    if side == 0 {
+        return Range {
+            first: first,
+            end: end,
+        };
+    }
+    Range { first: 0, end: end }
+}
+
 // How many messages have the tile at this end.
 pub fn count_at(nest: Nest, sizes: Sizes, lens: &[u16; 9217], tile: usize, side: usize) -> usize
     requires { ⌜ Sized nest sizes × ((sizes .route ≡ Direct) × (ShapedTable nest (now lens) × (tile < tiles nest))) ⌝ }
     ensures { λ r. ⌜ (r ≡ length (atEnd side (planOf Direct nest) tile)) × (r ≤ 7168) ⌝ }
 {
     let steps = steps_of(nest, sizes);
-    let n = tiles_of(nest, lens);
-    let slots = n * sizes.ways;
+    let slots = range_of(nest, sizes, tile, side);
+    let end = slots.end;
     let mut count = 0;
-    for s in 0..slots {
+    for s in slots.first..end {
         if sends_at(nest, sizes, lens, steps, s, tile, side) {
             count += 1;
         }
@@ -277,10 +373,10 @@ pub fn nth_at(
     ensures { λ r. ⌜ Found (shapedMessage nest) (shapedSlots nest) (getD (atEnd side (planOf Direct nest) tile) j 0) r ⌝ }
 {
     let steps = steps_of(nest, sizes);
-    let n = tiles_of(nest, lens);
-    let slots = n * sizes.ways;
+    let slots = range_of(nest, sizes, tile, side);
+    let end = slots.end;
     let mut seen = 0;
-    for s in 0..slots {
+    for s in slots.first..end {
         if sends_at(nest, sizes, lens, steps, s, tile, side) {
             if seen == j {
                 let before = scans::sums_to(lens, s);

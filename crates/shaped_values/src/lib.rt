@@ -24,6 +24,7 @@ use layout::Cell;
 use layout::Sizes;
 use nest::Interval;
 use nest::Nest;
+use values::Body;
 
 // Where each distance reads in a row: last components from one number on, below another.
 struct Reads {
@@ -166,7 +167,13 @@ fn read_of(nest: Nest, components: &[usize; 32], at: [usize; 4], e: usize) -> In
     requires { ⌜ Accepted nest × ((e < nest .distances) × (Given nest (now components) × Narrow nest at)) ⌝ }
     ensures { λ r. ⌜ ReadsRun nest at e (r .from) (r .to) ⌝ }
 {
-    let d = values::first_of(nest, components, at, e);
+    let body = Body {
+        dimensions: nest.dimensions,
+        distances: nest.distances,
+        shift: nest.shift,
+        boundary: nest.boundary,
+    };
+    let d = values::first_of(body, components, at, e);
     if d == 1024 {
         return Interval { from: 0, to: 0 };
     }

@@ -5,15 +5,14 @@ use mathlib.Core.Logic.{_≢_}
 use mathlib.Core.Bool.{Bool, true, false}
 use mathlib.Core.List.{List, [], _∷_, _++_}
 use native.Mathlib.Omega.{arith}
-use native.Mathlib.Decide.{ℕ-discrete}
 use lib.ListN.{length}
 use lib.Dec.{eqb, leb}
 use borrow.Author.Tests.{eq-eqb, ne-eqb, leb-false}
 use Rattle.base.specs.Tests.{_or_, not, product}
 use Rattle.base.specs.Lists.{Bytes}
-use Rattle.base.specs.Numbers.{Line, line, firstOf}
+use Rattle.base.specs.Numbers.{line, firstOf}
 use Rattle.base.proofs.Tests.{or-right, none-some, not-true, not-false, pick-true, pick-false}
-use Rattle.base.proofs.Numbers.{first-nil, first-true, first-false, none-first, Numbered, first-some, first-behind}
+use Rattle.base.proofs.Numbers.{first-nil, first-true, first-false, none-first, first-some, first-behind, none-behind}
 use Rattle.machine.specs.Machine.{Answered, answered}
 use Rattle.nest.specs.declared.Reading.{Reading}
 use Rattle.nest.specs.Nest.{cells}
@@ -43,14 +42,6 @@ lines-are bytes file source h = rw (or-none (ragged bytes) (raggedFile file) h)
 pub ragged-number : (bytes file source : List ℕ) → raggedFile file ≡ true → firstOf (fillLines bytes file source) ≡ 1
 ragged-number bytes file source h = first-true 1 (ragged bytes or raggedFile file) _ (or-right (ragged bytes) h)
 
--- lines behind others that have numbers: where the first true line's number is 0, so is theirs
-behind-none : (a b : List Line) → Numbered a → firstOf (a ++ b) ≡ 0 → firstOf b ≡ 0
-behind-none a b n e = go (ℕ-discrete (firstOf a) 0)
-  where
-    go : Dec (firstOf a ≡ 0) → firstOf b ≡ 0
-    go (yes z) = sym (first-behind a b n z) ∙ e
-    go (no h) = absurd (h (sym (first-some a b h) ∙ e))
-
 -- number 0: every record names a cell of the box
 module _ (bytes file source : List ℕ) (z : firstOf (fillLines bytes file source) ≡ 0) where
   none-off : offBox (cells (nestOf bytes)) file ≡ false
@@ -59,7 +50,7 @@ module _ (bytes file source : List ℕ) (z : firstOf (fillLines bytes file sourc
       go : (t : Bool) → raggedFile file ≡ t → offBox (cells (nestOf bytes)) file ≡ false
       go true e = absurd (omega (arith, ragged-number bytes file source e, z))
       go false e =
-          let a = behind-none (readLines bytes) _ (numbered bytes) (sym (ap firstOf (lines-are bytes file source e)) ∙ z) in
+          let a = none-behind (readLines bytes) _ (numbered bytes) (sym (ap firstOf (lines-are bytes file source e)) ∙ z) in
           let b = none-first 9 _ _ (λ q. omega arith) a in
           none-first 22 _ _ (λ q. omega arith) (b .1) .0
 

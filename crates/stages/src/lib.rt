@@ -30,7 +30,7 @@ use tables::tile_count;
 use tables::unpack;
 
 // One message from its place in the buffer into one processor's memory.
-fn take_message(
+pub fn take_message(
     nest: Nest,
     sizes: Sizes,
     lens: &[u16; 9217],
@@ -154,7 +154,7 @@ fn next_record(finished: u32, sent: usize, n: usize) -> Progress
 }
 
 // The tile's cells, in one processor's memory.
-fn calculate(
+pub fn calculate(
     nest: Nest,
     sizes: Sizes,
     lens: &[u16; 9217],
@@ -201,7 +201,7 @@ pub fn calculate_stage(
 }
 
 // One message from a processor's memory into its place in the buffer.
-fn put_message(
+pub fn put_message(
     nest: Nest,
     sizes: Sizes,
     lens: &[u16; 9217],

@@ -102,6 +102,18 @@ fn shape_line(nest: Nest, sizes: Sizes, lens: &[u16; 9217], place: Place) -> Mes
     }
 }
 
+// The line of the message found at a place.
+pub fn line_at(nest: Nest, sizes: Sizes, lens: &[u16; 9217], place: Place) -> MessageLine
+    requires { ⌜ Sized nest sizes × Tabled nest sizes (now lens) ⌝ }
+    requires { ⌜ FoundIn (sizes .route) nest (place .number) place ⌝ }
+    ensures { λ r. ⌜ r ≡ lineOf (planOf (sizes .route) nest) (place .number) ⌝ }
+{
+    if nest.bounds == 0 {
+        return box_line(nest, sizes, place);
+    }
+    shape_line(nest, sizes, lens, place)
+}
+
 // The line of message m.
 pub fn line_of(nest: Nest, sizes: Sizes, lens: &[u16; 9217], m: usize) -> MessageLine
     requires { ⌜ Sized nest sizes × Tabled nest sizes (now lens) ⌝ }
@@ -109,10 +121,7 @@ pub fn line_of(nest: Nest, sizes: Sizes, lens: &[u16; 9217], m: usize) -> Messag
     ensures { λ r. ⌜ r ≡ lineOf (planOf (sizes .route) nest) m ⌝ }
 {
     let place = tables::nth(nest, sizes, lens, m);
-    if nest.bounds == 0 {
-        return box_line(nest, sizes, place);
-    }
-    shape_line(nest, sizes, lens, place)
+    line_at(nest, sizes, lens, place)
 }
 
 // Figures, line and hops where the recipe or the message's number is refused.

@@ -11,7 +11,7 @@ use borrow.Author.Tests.{eqb-true, eq-eqb, ne-eqb, ltb-true, lt-ltb, le-ltb}
 use Rattle.base.specs.Tests.{_and_, _or_, not, pick}
 use Rattle.base.specs.Numbers.{Line, line, firstOf}
 use Rattle.base.proofs.Tests.{both, and-no, or-left, or-right, or-false, neither, none-some, not-true, not-false, true-not}
-use Rattle.base.proofs.Numbers.{Numbered, first-nil, first-true, first-false, first-cons, none-first, first-some, first-behind}
+use Rattle.base.proofs.Numbers.{Numbered, first-nil, first-true, first-false, first-cons, none-first, first-some, first-behind, none-behind}
 use Rattle.machine.specs.Plan.{Plan}
 use Rattle.machine.specs.Machine.{State, fit, tilesLeft, waiting, carryOut, nextAction, Answered, answered}
 use Rattle.machine.proofs.RunLaws.{number-of}
@@ -25,7 +25,7 @@ use Rattle.nest.specs.Reader.{readLines}
 use Rattle.nest.proofs.Numbered.{numbered}
 use Rattle.layout.specs.Sizes.{routeOf}
 use Rattle.routes.specs.Routes.{linesFor}
-use Rattle.routes.proofs.Laws.{front, numbered-for, reads-for}
+use Rattle.routes.proofs.Laws.{numbered-for, reads-for}
 use Rattle.engine.specs.Calls.{answer, recipe, areas, turnCall}
 use Rattle.engine.specs.Given.{unfitLines}
 use Rattle.engine.proofs.Lines.{Opened, and-right, call-read, call-later, call-done}
@@ -145,7 +145,8 @@ module _ (bytes : List ℕ) (route : ℕ) (source : List ℕ) (h : Hours) (s : S
   needs z =
       let p = recipe bytes route in
       let ls = line 9 (not (areas p source s and tableLong p h)) ∷ turnLinesAt p h s b in
-      let e9 = none-first 9 _ _ (λ q. omega arith) (sym (first-behind (linesFor (routeOf route) bytes) ls (numbered-for (routeOf route) bytes) (front (linesFor (routeOf route) bytes) ls z)) ∙ z) in
+      let e9 = none-first 9 _ _ (λ q. omega arith)
+      (none-behind (linesFor (routeOf route) bytes) ls (numbered-for (routeOf route) bytes) z) in
       let e10 = none-first 10 _ _ (λ q. omega arith) (e9 .1) in
       let e25 = none-first 25 _ _ (λ q. omega arith) (e10 .1) in
       let e11 = none-first 11 _ _ (λ q. omega arith) (e25 .1) in
@@ -174,20 +175,23 @@ module _ (bytes : List ℕ) (route : ℕ) (source : List ℕ) (h : Hours) (s : S
 
     pub turn-nine : length (h .table) ≢ tableWords p → answer 9 s ≡ turnCallAt bytes route source h s b
     turn-nine n =
-        gate-long (linesFor (routeOf route) bytes) (numbered-for (routeOf route) bytes) (areas p source s) (tableLong p h) (line 10 (not (fit p s)) ∷ []) (hourLines (p .processors) h b) later
+        gate-long (linesFor (routeOf route) bytes) (numbered-for (routeOf route) bytes) (areas p source s) (tableLong p h) (line 10 (not (fit p s)) ∷ [])
+        (hourLines (p .processors) h b) later
         (carryOut p source s b (nextAction p s b)) s (op .none) (ne-eqb _ _ n)
         ∙ turn-at
 
     module _ (long : length (h .table) ≡ tableWords p) (r : ℕ) (e : r ≡ firstOf (unfitLines p source s)) where
       pub turn-unfit : r ≢ 0 → answer r s ≡ turnCallAt bytes route source h s b
       turn-unfit k =
-          gate-unfit (linesFor (routeOf route) bytes) (numbered-for (routeOf route) bytes) (areas p source s) (tableLong p h) (line 10 (not (fit p s)) ∷ []) (hourLines (p .processors) h b) later
+          gate-unfit (linesFor (routeOf route) bytes) (numbered-for (routeOf route) bytes) (areas p source s) (tableLong p h) (line 10 (not (fit p s)) ∷ [])
+          (hourLines (p .processors) h b) later
           (carryOut p source s b (nextAction p s b)) s (op .none) (eq-eqb _ _ long) r e k
           ∙ turn-at
 
       pub turn-shut : r ≡ 0 → (m : ℕ) → m ≡ firstOf (hourLines (p .processors) h b) → m ≢ 0 → answer m s ≡ turnCallAt bytes route source h s b
       turn-shut z m q k =
-          gate-shut (linesFor (routeOf route) bytes) (numbered-for (routeOf route) bytes) (areas p source s) (tableLong p h) (line 10 (not (fit p s)) ∷ []) (hourLines (p .processors) h b) later
+          gate-shut (linesFor (routeOf route) bytes) (numbered-for (routeOf route) bytes) (areas p source s) (tableLong p h) (line 10 (not (fit p s)) ∷ [])
+          (hourLines (p .processors) h b) later
           (carryOut p source s b (nextAction p s b)) s (op .none) (eq-eqb _ _ long) r e ((λ i. omega arith), tt) z m q k
           ∙ turn-at
 
@@ -218,7 +222,8 @@ module _ (bytes : List ℕ) (route : ℕ) (source : List ℕ) (o : ℕ) (h : Hou
   needs-for z =
       let p = recipe bytes route in
       let ls = line 9 (not (areasFor p source l theirs and tableLong p h)) ∷ turnLinesAtFor p o h l theirs b in
-      let e9 = none-first 9 _ _ (λ q. omega arith) (sym (first-behind (linesFor (routeOf route) bytes) ls (numbered-for (routeOf route) bytes) (front (linesFor (routeOf route) bytes) ls z)) ∙ z) in
+      let e9 = none-first 9 _ _ (λ q. omega arith)
+      (none-behind (linesFor (routeOf route) bytes) ls (numbered-for (routeOf route) bytes) z) in
       let e1 = none-first 11 _ _ (λ q. omega arith) (e9 .1) in
       let e10 = none-first 10 _ _ (λ q. omega arith) (e1 .1) in
       let e25 = none-first 25 _ _ (λ q. omega arith) (e10 .1) in
@@ -232,7 +237,8 @@ module _ (bytes : List ℕ) (route : ℕ) (source : List ℕ) (o : ℕ) (h : Hou
       starts.turn-inside bytes route source o l theirs b (sym (number-of (as-plain-for (n .0) (n .1))) ∙ z)
 
   module _ (p : Plan) (op : Opened bytes route p) where
-    turn-at-for : answered (firstOf (linesFor (routeOf route) bytes ++ (line 9 (not (areasFor p source l theirs and tableLong p h)) ∷ turnLinesAtFor p o h l theirs b)))
+    turn-at-for : answered
+        (firstOf (linesFor (routeOf route) bytes ++ (line 9 (not (areasFor p source l theirs and tableLong p h)) ∷ turnLinesAtFor p o h l theirs b)))
         (carryOutFor p source o l b (nextAction p (l .own) b)) l
         ≡ turnCallAtFor bytes route source o h l theirs b
     unfolding turnCallAtFor
@@ -251,21 +257,24 @@ module _ (bytes : List ℕ) (route : ℕ) (source : List ℕ) (o : ℕ) (h : Hou
 
     pub turn-nine-for : length (h .table) ≢ tableWords p → answer 9 l ≡ turnCallAtFor bytes route source o h l theirs b
     turn-nine-for n =
-        gate-long (linesFor (routeOf route) bytes) (numbered-for (routeOf route) bytes) (areasFor p source l theirs) (tableLong p h) middle (hourLines (p .processors) h b) behind
+        gate-long (linesFor (routeOf route) bytes) (numbered-for (routeOf route) bytes) (areasFor p source l theirs) (tableLong p h) middle
+        (hourLines (p .processors) h b) behind
         (carryOutFor p source o l b (nextAction p (l .own) b)) l (op .none) (ne-eqb _ _ n)
         ∙ turn-at-for
 
     module _ (long : length (h .table) ≡ tableWords p) (r : ℕ) (e : r ≡ firstOf (unfitLinesFor p source o l theirs)) where
       pub turn-unfit-for : r ≢ 0 → answer r l ≡ turnCallAtFor bytes route source o h l theirs b
       turn-unfit-for k =
-          gate-unfit (linesFor (routeOf route) bytes) (numbered-for (routeOf route) bytes) (areasFor p source l theirs) (tableLong p h) middle (hourLines (p .processors) h b) behind
+          gate-unfit (linesFor (routeOf route) bytes) (numbered-for (routeOf route) bytes) (areasFor p source l theirs) (tableLong p h) middle
+          (hourLines (p .processors) h b) behind
           (carryOutFor p source o l b (nextAction p (l .own) b)) l (op .none) (eq-eqb _ _ long) r e k
           ∙ turn-at-for
 
       pub turn-shut-for : r ≡ 0 → (m : ℕ) → m ≡ firstOf (hourLines (p .processors) h b) → m ≢ 0
           → answer m l ≡ turnCallAtFor bytes route source o h l theirs b
       turn-shut-for z m q k =
-          gate-shut (linesFor (routeOf route) bytes) (numbered-for (routeOf route) bytes) (areasFor p source l theirs) (tableLong p h) middle (hourLines (p .processors) h b) behind
+          gate-shut (linesFor (routeOf route) bytes) (numbered-for (routeOf route) bytes) (areasFor p source l theirs) (tableLong p h) middle
+          (hourLines (p .processors) h b) behind
           (carryOutFor p source o l b (nextAction p (l .own) b)) l (op .none) (eq-eqb _ _ long) r e ((λ i. omega arith), ((λ i. omega arith), tt)) z m q k
           ∙ turn-at-for
 
@@ -300,7 +309,9 @@ module _ (bytes : List ℕ) (h : Hours) (b : ℕ) where
     ask-at = ap (λ (q : Plan). answered (firstOf (readLines bytes ++ lines q)) (untilOpen (h .table) (h .minute) b) (OpensIn 0)) (op .is)
 
     refusal : (r : ℕ) → r ≡ firstOf (lines p) → r ≢ 0 → answer r (OpensIn 0) ≡ opensCall bytes h b
-    refusal r e k = call-later (readLines bytes) (numbered bytes) (lines p) r (untilOpen (h .table) (h .minute) b) (OpensIn 0) (reads-for (routeOf 0) bytes (op .none)) e k ∙ ask-at
+    refusal r e k =
+        call-later (readLines bytes) (numbered bytes) (lines p) r (untilOpen (h .table) (h .minute) b) (OpensIn 0) (reads-for (routeOf 0) bytes (op .none)) e
+        k ∙ ask-at
 
     pub ask-nine : length (h .table) ≢ tableWords p → answer 9 (OpensIn 0) ≡ opensCall bytes h b
     ask-nine n = refusal 9 (sym (first-true 9 _ _ (not-false (ne-eqb _ _ n)))) (λ q. omega arith)

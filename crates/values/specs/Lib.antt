@@ -1,2 +1,3 @@
 pub mod Reads
 pub mod Waves
+pub mod Given

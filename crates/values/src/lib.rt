@@ -16,9 +16,11 @@ ghost use Rattle.plan.specs.Geometry.{cellsOf, value};
 ghost use Rattle.plan.specs.declared.Route.the-variants.{Direct};
 ghost use Rattle.plan.specs.Messages.{boxPlan};
 ghost use Rattle.layout.specs.Sizes.{Sized};
-ghost use Rattle.layout.specs.Places.{Located, Has};
+ghost use Rattle.layout.specs.Places.{Has};
 ghost use Rattle.layout.specs.CellRows.{Given, rowOf};
-ghost use Rattle.values.specs.Waves.{four, rowsOf, Banded, Spaced, mostOf, Lasts, Lent, Inners, Fours};
+ghost use Rattle.nest.specs.declared.Nest.{Nest};
+ghost use Rattle.values.specs.Waves.{four, rowsOf, Spaced, mostOf, Lasts, Inners};
+ghost use Rattle.values.specs.Given.{withBody, ReadsBy, RowGiven, FoursGiven, BandGiven};
 ghost use Rattle.values.specs.Reads.{firstRead, stepBack, Firsts, Backs};
 use kernels::Rule;
 use kernels::line;
@@ -28,6 +30,14 @@ use layout::Bounds;
 use layout::Cell;
 use layout::Sizes;
 use nest::Nest;
+
+// The numbers of a nest that its rows go by. A nest itself is large, and handed on by value for each row it would be copied as often.
+pub struct Body {
+    pub dimensions: usize,
+    pub distances: usize,
+    pub shift: u64,
+    pub boundary: u64,
+}
 
 // How many cells back distance e reads: a place moved by a distance moves its number so. No component counts for more than
 // its dimension's length.
@@ -59,11 +69,11 @@ pub fn backs_of(nest: Nest, components: &[usize; 32]) -> [usize; 8]
 }
 
 // From which last component on distance e reads a cell, in the row of a place; 1024 if nowhere.
-pub fn first_of(nest: Nest, components: &[usize; 32], at: [usize; 4], e: usize) -> usize
-    requires { ⌜ Accepted nest × ((e < nest .distances) × Given nest (now components)) ⌝ }
-    ensures { λ r. ⌜ r ≡ firstRead nest at e ⌝ }
+pub fn first_of(body: Body, components: &[usize; 32], at: [usize; 4], e: usize) -> usize
+    requires { ⌜ ((x : Nest) × ReadsBy (withBody x body) (now components) e) ⌝ }
+    ensures { λ r. ⌜ ((x : Nest) → ReadsBy (withBody x body) (now (components .entry)) e → r ≡ firstRead (withBody x body) at e) ⌝ }
 {
-    let last = nest.dimensions - 1;
+    let last = body.dimensions - 1;
     for j in 0..last {
         if at[j] < components[4 * e + j] {
             return 1024;
@@ -72,21 +82,22 @@ pub fn first_of(nest: Nest, components: &[usize; 32], at: [usize; 4], e: usize) 
     components[4 * e + last]
 }
 
-fn firsts_of(nest: Nest, components: &[usize; 32], at: [usize; 4]) -> [usize; 8]
-    requires { ⌜ Accepted nest × Given nest (now components) ⌝ }
-    ensures { λ r. ⌜ Firsts nest at r ⌝ }
+fn firsts_of(body: Body, components: &[usize; 32], at: [usize; 4]) -> [usize; 8]
+    requires { ⌜ ((x : Nest) × (Accepted (withBody x body) × Given (withBody x body) (now components))) ⌝ }
+    ensures { λ r. ⌜ ((x : Nest) → Accepted (withBody x body) → Given (withBody x body) (now (components .entry))
+        → Firsts (withBody x body) at r) ⌝ }
 {
     let mut first = [0; 8];
-    let n = nest.distances;
+    let n = body.distances;
     for e in 0..n {
-        first[e] = first_of(nest, components, at, e);
+        first[e] = first_of(body, components, at, e);
     }
     first
 }
 
 // The values of a row, from where its first cell is.
 fn row(
-    nest: Nest,
+    body: Body,
     source: &[u32],
     memory: &mut [u32],
     components: &[usize; 32],
@@ -97,19 +108,19 @@ fn row(
     cell: Cell,
     width: usize,
 )
-    requires { ⌜ Accepted nest × (Lent nest (now components) (now lasts) (now back) (now weights) margin
-        × ((length (now source) ≡ cells nest) × (length (now memory) ≡ cells nest))) ⌝ }
-    requires { ⌜ Located nest (cell .number) cell ×
-        (getD (cell .place) (nest .dimensions - 1) 0 + width ≤ getD (nest .lengths) (nest .dimensions - 1) 0) ⌝ }
-    ensures { λ _. ⌜ now (memory .exit) ≡ storeAll (value nest (now (source .entry))) (now (memory .entry)) (rowOf (cell .number) width) ⌝ }
+    requires { ⌜ ((x : Nest) × RowGiven (withBody x body) (now components) (now lasts) (now back) (now weights) margin (now source) (now memory)
+        cell width) ⌝ }
+    ensures { λ _. ⌜ ((x : Nest) → RowGiven (withBody x body) (now (components .entry)) (now (lasts .entry)) (now (back .entry)) (now (weights .entry))
+        margin (now (source .entry)) (now (memory .entry)) cell width
+        → now (memory .exit) ≡ storeAll (value (withBody x body) (now (source .entry))) (now (memory .entry)) (rowOf (cell .number) width)) ⌝ }
 {
     let at = cell.place;
-    let last = nest.dimensions - 1;
+    let last = body.dimensions - 1;
     let component = at[last];
     let from = margin[last];
-    let shift = nest.shift;
-    let boundary = nest.boundary;
-    let n = nest.distances;
+    let shift = body.shift;
+    let boundary = body.boundary;
+    let n = body.distances;
     let first = cell.number;
     if inner(margin, at, last) {
         line(
@@ -128,7 +139,7 @@ fn row(
         );
         return;
     }
-    let firsts = firsts_of(nest, components, at);
+    let firsts = firsts_of(body, components, at);
     short_line(
         source,
         memory,
@@ -147,7 +158,7 @@ fn row(
 
 // The values of four rows: the first columns row by row, then side by side, then what is left of each row.
 fn band(
-    nest: Nest,
+    body: Body,
     source: &[u32],
     memory: &mut [u32],
     first: &[usize; 8],
@@ -161,15 +172,14 @@ fn band(
     from: usize,
     width: usize,
 )
-    requires { ⌜ Accepted nest × (Banded nest (four a b c d) component from width (now first) (now back) (now weights)
-        × ((length (now source) ≡ cells nest) × (length (now memory) ≡ cells nest))) ⌝ }
-    requires { ⌜ Spaced a b c d ⌝ }
-    ensures { λ _. ⌜ now (memory .exit) ≡ storeAll (value nest (now (source .entry))) (now (memory .entry))
-        (rowsOf (four a b c d) width 4) ⌝ }
+    requires { ⌜ ((x : Nest) × BandGiven (withBody x body) (now first) (now back) (now weights) (now source) (now memory) a b c d component from width) ⌝ }
+    ensures { λ _. ⌜ ((x : Nest) → BandGiven (withBody x body) (now (first .entry)) (now (back .entry)) (now (weights .entry)) (now (source .entry))
+        (now (memory .entry)) a b c d component from width
+        → now (memory .exit) ≡ storeAll (value (withBody x body) (now (source .entry))) (now (memory .entry)) (rowsOf (four a b c d) width 4)) ⌝ }
 {
-    let shift = nest.shift;
-    let boundary = nest.boundary;
-    let n = nest.distances;
+    let shift = body.shift;
+    let boundary = body.boundary;
+    let n = body.distances;
     let full = component + (from - 3);
     line(
         source,
@@ -386,7 +396,7 @@ fn together(
 
 // The values of four rows, one by one.
 fn rows_singly(
-    nest: Nest,
+    body: Body,
     source: &[u32],
     memory: &mut [u32],
     components: &[usize; 32],
@@ -400,14 +410,15 @@ fn rows_singly(
     d: Cell,
     width: usize,
 )
-    requires { ⌜ Accepted nest × (Lent nest (now components) (now lasts) (now back) (now weights) margin
-        × ((length (now source) ≡ cells nest) × (length (now memory) ≡ cells nest))) ⌝ }
-    requires { ⌜ Fours nest a b c d width ⌝ }
-    ensures { λ _. ⌜ now (memory .exit) ≡ storeAll (value nest (now (source .entry))) (now (memory .entry))
-        (rowsOf (four (a .number) (b .number) (c .number) (d .number)) width 4) ⌝ }
+    requires { ⌜ ((x : Nest) × FoursGiven (withBody x body) (now components) (now lasts) (now back) (now weights) margin (now source) (now memory)
+        a b c d width) ⌝ }
+    ensures { λ _. ⌜ ((x : Nest) → FoursGiven (withBody x body) (now (components .entry)) (now (lasts .entry)) (now (back .entry)) (now (weights .entry))
+        margin (now (source .entry)) (now (memory .entry)) a b c d width
+        → now (memory .exit) ≡ storeAll (value (withBody x body) (now (source .entry))) (now (memory .entry))
+        (rowsOf (four (a .number) (b .number) (c .number) (d .number)) width 4)) ⌝ }
 {
     row(
-        nest,
+        body,
         source,
         memory,
         components,
@@ -419,7 +430,7 @@ fn rows_singly(
         width,
     );
     row(
-        nest,
+        body,
         source,
         memory,
         components,
@@ -431,7 +442,7 @@ fn rows_singly(
         width,
     );
     row(
-        nest,
+        body,
         source,
         memory,
         components,
@@ -443,7 +454,7 @@ fn rows_singly(
         width,
     );
     row(
-        nest,
+        body,
         source,
         memory,
         components,
@@ -458,7 +469,7 @@ fn rows_singly(
 
 // The values of four rows: side by side where they are inner and long enough, else one by one.
 fn four_rows(
-    nest: Nest,
+    body: Body,
     source: &[u32],
     memory: &mut [u32],
     components: &[usize; 32],
@@ -472,19 +483,20 @@ fn four_rows(
     d: Cell,
     width: usize,
 )
-    requires { ⌜ Accepted nest × (Lent nest (now components) (now lasts) (now back) (now weights) margin
-        × ((length (now source) ≡ cells nest) × (length (now memory) ≡ cells nest))) ⌝ }
-    requires { ⌜ Fours nest a b c d width ⌝ }
-    ensures { λ _. ⌜ now (memory .exit) ≡ storeAll (value nest (now (source .entry))) (now (memory .entry))
-        (rowsOf (four (a .number) (b .number) (c .number) (d .number)) width 4) ⌝ }
+    requires { ⌜ ((x : Nest) × FoursGiven (withBody x body) (now components) (now lasts) (now back) (now weights) margin (now source) (now memory)
+        a b c d width) ⌝ }
+    ensures { λ _. ⌜ ((x : Nest) → FoursGiven (withBody x body) (now (components .entry)) (now (lasts .entry)) (now (back .entry)) (now (weights .entry))
+        margin (now (source .entry)) (now (memory .entry)) a b c d width
+        → now (memory .exit) ≡ storeAll (value (withBody x body) (now (source .entry))) (now (memory .entry))
+        (rowsOf (four (a .number) (b .number) (c .number) (d .number)) width 4)) ⌝ }
 {
-    let last = nest.dimensions - 1;
+    let last = body.dimensions - 1;
     let place = a.place;
     let component = place[last];
     let from = start_of(margin[last], component);
     if !together(margin, a, b, c, d, last, from, width) {
         rows_singly(
-            nest,
+            body,
             source,
             memory,
             components,
@@ -501,7 +513,7 @@ fn four_rows(
         return;
     }
     band(
-        nest,
+        body,
         source,
         memory,
         lasts,
@@ -561,8 +573,14 @@ pub fn calculate(nest: Nest, sizes: Sizes, source: &[u32], memory: &mut [u32], t
             number: nd,
             place: pd,
         };
+        let body = Body {
+            dimensions: nest.dimensions,
+            distances: nest.distances,
+            shift: nest.shift,
+            boundary: nest.boundary,
+        };
         four_rows(
-            nest,
+            body,
             source,
             memory,
             &components,
@@ -585,8 +603,14 @@ pub fn calculate(nest: Nest, sizes: Sizes, source: &[u32], memory: &mut [u32], t
             number: number,
             place: at,
         };
+        let body = Body {
+            dimensions: nest.dimensions,
+            distances: nest.distances,
+            shift: nest.shift,
+            boundary: nest.boundary,
+        };
         row(
-            nest,
+            body,
             source,
             memory,
             &components,
@@ -640,8 +664,14 @@ pub fn sweep(nest: Nest, sizes: Sizes, source: &[u32], grid: &mut [u32])
             number: (q + 3) * width,
             place: pd,
         };
+        let body = Body {
+            dimensions: nest.dimensions,
+            distances: nest.distances,
+            shift: nest.shift,
+            boundary: nest.boundary,
+        };
         four_rows(
-            nest,
+            body,
             source,
             grid,
             &components,
@@ -663,8 +693,14 @@ pub fn sweep(nest: Nest, sizes: Sizes, source: &[u32], grid: &mut [u32])
             number: r * width,
             place: at,
         };
+        let body = Body {
+            dimensions: nest.dimensions,
+            distances: nest.distances,
+            shift: nest.shift,
+            boundary: nest.boundary,
+        };
         row(
-            nest,
+            body,
             source,
             grid,
             &components,

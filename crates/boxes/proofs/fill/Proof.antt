@@ -3,7 +3,6 @@ use native.Mathlib.Omega.{arith}
 use Prim.Native.Nat.{_-_, _*_}
 use native.Mathlib.Nat.{zero-mul, mul-le-mul-right}
 use Rattle.boxes.specs.Table.{Filling}
-use Rattle.layout.proofs.Cells.{box-few}
 use Rattle.boxes.proofs.Scans as L
 use Rattle.boxes.proofs.fill.Statement.{statement}
 use Rattle.boxes.proofs.fill.Tie as tie
@@ -17,21 +16,16 @@ abbrev μ-loop : tie.MeasureT-loop
 loop-holds : tie.Need-loop-holds Inv-loop μ-loop
 loop-holds c = rw (zero-mul (c .args .sizes .ways)) (L.fill-start (c .args .sizes .route) _ _ (c .pre .1 .0) (c .pre .1 .1))
 
-fill-tile-requires : tie.Need-fill-tile-requires Inv-loop μ-loop
-fill-tile-requires c κs =
+fill-from-requires : tie.Need-fill-from-requires Inv-loop μ-loop
+fill-from-requires c κs =
     let start = c .before .before .before in
     (start .pre .0, (L.under-tiles _ _ (start .pre .0) _ (c .before .loop-test .taken), c .before .before .loop .inv))
 
-add-tile : tie.Need-add-tile Inv-loop μ-loop
-add-tile c =
-    let start = c .before .before .before .before in
-    omega (arith, c .before .before .loop-test .taken, start .pre .0 .tiles, box-few _ (start .pre .0 .accepted))
-
 loop-less : tie.Need-loop-less Inv-loop μ-loop
-loop-less c = omega (arith, c .before .before .loop-test .taken)
+loop-less c = omega (arith, c .before .before .loop-test .taken, c .fill-from .ensures .0)
 
 loop-again : tie.Need-loop-again Inv-loop μ-loop
-loop-again c = c .fill-tile .ensures
+loop-again c = c .fill-from .ensures .1
 
 returns : tie.Need-returns Inv-loop μ-loop
 returns c =
@@ -42,4 +36,11 @@ returns c =
 pub fill-spec : {M : Type 1} → statement M
 fill-spec =
     tie.close
-    (tie.spec Inv-loop μ-loop loop-holds fill-tile-requires add-tile loop-less loop-again returns)
+    (tie.spec
+    Inv-loop
+    μ-loop
+    loop-holds
+    fill-from-requires
+    loop-less
+    loop-again
+    returns)

@@ -24,7 +24,12 @@ returns : tie.Need-returns
 returns c =
     let start = c .before in (
       start .pre .1 .0 .each (start .args .slot) (start .pre .1 .1),
-      omega (arith, start .pre .1 .0 .each (start .args .slot) (start .pre .1 .1), L.parcel-few (start .args .sizes .route) (start .args .nest) (start .pre .0 .accepted) (start .args .slot)),
+      omega (
+        arith,
+        start .pre .1 .0 .each (start .args .slot) (start .pre .1 .1),
+        L.parcel-few (start .args .sizes .route) (start .args .nest)
+            (start .pre .0 .accepted) (start .args .slot),
+      ),
     )
 
 pub length-at-spec : {M : Type 1} → statement M

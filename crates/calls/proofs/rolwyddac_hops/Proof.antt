@@ -12,16 +12,26 @@ read-requires : tie.Need-read-requires
 read-requires c κs = search needs
 
 returns : tie.Need-returns
-returns c = L.hops-read (c .before .before .before .before .args .encoded .now) (c .before .before .before .before .args .m) (c .before .before .before .before .args .out .now) (c .before .read .result) (c .before .read .ensures .0) (c .if1 .taken)
+returns c =
+    let start = c .before .before .before .before in
+    L.hops-read (start .args .encoded .now) (start .args .m) (start .args .out .now) (c .before .read .result) (c .before .read .ensures .0) (c .if1 .taken)
 
 returns-2 : tie.Need-returns-2
-returns-2 c = L.hops-out (c .before .before .before .before .before .args .encoded .now) (c .before .before .before .before .before .args .m) (c .before .before .before .before .before .args .out .now) (c .before .before .read .result) (c .before .before .read .ensures .0) (c .before .if1 .left) (c .if2 .taken)
+returns-2 c =
+    let start = c .before .before .before .before .before in
+    L.hops-out (start .args .encoded .now) (start .args .m) (start .args .out .now) (c .before .before .read .result) (c .before .before .read .ensures .0)
+    (c .before .if1 .left) (c .if2 .taken)
 
 hops-requires : tie.Need-hops-requires
 hops-requires c κs = search needs
 
 returns-3 : tie.Need-returns-3
-returns-3 c = L.hops-none (c .before .before .before .before .before .before .before .args .encoded .now) (c .before .before .before .before .before .before .before .args .m) (c .before .before .before .before .before .before .before .args .out .now) (c .before .before .before .before .read .result) (c .before .before .before .before .read .ensures .0) (c .before .before .before .if1 .left) (c .before .before .if2 .left) (c .before .hops .result) (c .before .hops .ensures) (c .if3 .taken)
+returns-3 c =
+    let at-if1 = c .before .before .before in
+    let at-read = at-if1 .before in
+    let start = at-read .before .before .before in
+    L.hops-none (start .args .encoded .now) (start .args .m) (start .args .out .now) (at-read .read .result) (at-read .read .ensures .0) (at-if1 .if1 .left)
+    (c .before .before .if2 .left) (c .before .hops .result) (c .before .hops .ensures) (c .if3 .taken)
 
 slice-write-out : tie.Need-slice-write-out
 slice-write-out c = search needs
@@ -30,7 +40,12 @@ same-length : tie.Need-same-length
 same-length c = search needs
 
 returns-4 : tie.Need-returns-4
-returns-4 c = L.hops-done (c .before .before .before .before .before .before .before .args .encoded .now) (c .before .before .before .before .before .before .before .args .m) (c .before .before .before .before .before .before .before .args .out .now) (c .before .before .before .before .read .result) (c .before .before .before .before .read .ensures .0) (c .before .before .before .if1 .left) (c .before .before .if2 .left) (c .before .hops .result) (c .before .hops .ensures) (c .if3 .left)
+returns-4 c =
+    let at-if1 = c .before .before .before in
+    let at-read = at-if1 .before in
+    let start = at-read .before .before .before in
+    L.hops-done (start .args .encoded .now) (start .args .m) (start .args .out .now) (at-read .read .result) (at-read .read .ensures .0) (at-if1 .if1 .left)
+    (c .before .before .if2 .left) (c .before .hops .result) (c .before .hops .ensures) (c .if3 .left)
 
 pub rolwyddac-hops-spec : {M : Type 1} → statement M
 rolwyddac-hops-spec =

@@ -14,24 +14,28 @@ read-for-requires : tie.Need-read-for-requires
 read-for-requires c κs = search needs
 
 returns : tie.Need-returns
-returns c = L.message-read (c .before .before .before .before .args .encoded .now) (c .before .before .before .before .args .route)
-    (c .before .before .before .before .args .m) (c .before .before .before .before .args .out .now) (c .before .read-for .result)
+returns c =
+    let start = c .before .before .before .before in
+    L.message-read (start .args .encoded .now) (start .args .route) (start .args .m) (start .args .out .now) (c .before .read-for .result)
     (c .before .read-for .ensures) (c .if1 .taken)
 
 returns-2 : tie.Need-returns-2
-returns-2 c = L.message-out (c .before .before .before .before .before .args .encoded .now) (c .before .before .before .before .before .args .route)
-    (c .before .before .before .before .before .args .m) (c .before .before .before .before .before .args .out .now)
-    (c .before .before .read-for .result) (c .before .before .read-for .ensures) (c .before .if1 .left) (c .if2 .taken)
+returns-2 c =
+    let start = c .before .before .before .before .before in
+    L.message-out (start .args .encoded .now) (start .args .route) (start .args .m) (start .args .out .now) (c .before .before .read-for .result)
+    (c .before .before .read-for .ensures) (c .before .if1 .left) (c .if2 .taken)
 
 message-requires : tie.Need-message-requires
 message-requires c κs = search needs
 
 returns-3 : tie.Need-returns-3
-returns-3 c = L.message-none (c .before .before .before .before .before .before .before .args .encoded .now)
-    (c .before .before .before .before .before .before .before .args .route) (c .before .before .before .before .before .before .before .args .m)
-    (c .before .before .before .before .before .before .before .args .out .now) (c .before .before .before .before .read-for .result)
-    (c .before .before .before .before .read-for .ensures) (c .before .before .before .if1 .left) (c .before .before .if2 .left)
-    (c .before .message .result) (c .before .message .ensures) (c .if3 .taken)
+returns-3 c =
+    let at-if1 = c .before .before .before in
+    let at-read-for = at-if1 .before in
+    let start = at-read-for .before .before .before in
+    L.message-none (start .args .encoded .now) (start .args .route) (start .args .m) (start .args .out .now) (at-read-for .read-for .result)
+    (at-read-for .read-for .ensures) (at-if1 .if1 .left) (c .before .before .if2 .left) (c .before .message .result) (c .before .message .ensures)
+    (c .if3 .taken)
 
 slice-write-out : tie.Need-slice-write-out
 slice-write-out c = search needs
@@ -52,11 +56,13 @@ same-length : tie.Need-same-length
 same-length c = search needs
 
 returns-4 : tie.Need-returns-4
-returns-4 c = L.message-done (c .before .before .before .before .before .before .before .args .encoded .now)
-    (c .before .before .before .before .before .before .before .args .route) (c .before .before .before .before .before .before .before .args .m)
-    (c .before .before .before .before .before .before .before .args .out .now) (c .before .before .before .before .read-for .result)
-    (c .before .before .before .before .read-for .ensures) (c .before .before .before .if1 .left) (c .before .before .if2 .left)
-    (c .before .message .result) (c .before .message .ensures) (c .if3 .left)
+returns-4 c =
+    let at-if1 = c .before .before .before in
+    let at-read-for = at-if1 .before in
+    let start = at-read-for .before .before .before in
+    L.message-done (start .args .encoded .now) (start .args .route) (start .args .m) (start .args .out .now) (at-read-for .read-for .result)
+    (at-read-for .read-for .ensures) (at-if1 .if1 .left) (c .before .before .if2 .left) (c .before .message .result) (c .before .message .ensures)
+    (c .if3 .left)
 
 pub rolwyddac-message-spec : {M : Type 1} → statement M
 rolwyddac-message-spec =

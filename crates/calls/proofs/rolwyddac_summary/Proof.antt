@@ -13,10 +13,16 @@ summary-requires : tie.Need-summary-requires
 summary-requires c κs = search needs
 
 returns : tie.Need-returns
-returns c = L.summary-read (c .before .before .before .before .args .encoded .now) (c .before .before .before .before .args .route) (c .before .before .before .before .args .out .now) (c .before .summary .result) (c .before .summary .ensures) (c .if1 .taken)
+returns c =
+    let start = c .before .before .before .before in
+    L.summary-read (start .args .encoded .now) (start .args .route) (start .args .out .now) (c .before .summary .result) (c .before .summary .ensures)
+    (c .if1 .taken)
 
 returns-2 : tie.Need-returns-2
-returns-2 c = L.summary-out (c .before .before .before .before .before .args .encoded .now) (c .before .before .before .before .before .args .route) (c .before .before .before .before .before .args .out .now) (c .before .before .summary .result) (c .before .before .summary .ensures) (c .before .if1 .left) (c .if2 .taken)
+returns-2 c =
+    let start = c .before .before .before .before .before in
+    L.summary-out (start .args .encoded .now) (start .args .route) (start .args .out .now) (c .before .before .summary .result)
+    (c .before .before .summary .ensures) (c .before .if1 .left) (c .if2 .taken)
 
 slice-write-out : tie.Need-slice-write-out
 slice-write-out c = search needs
@@ -34,7 +40,10 @@ same-length : tie.Need-same-length
 same-length c = search needs
 
 returns-3 : tie.Need-returns-3
-returns-3 c = L.summary-done (c .before .before .before .before .before .args .encoded .now) (c .before .before .before .before .before .args .route) (c .before .before .before .before .before .args .out .now) (c .before .before .summary .result) (c .before .before .summary .ensures) (c .before .if1 .left) (c .if2 .left)
+returns-3 c =
+    let start = c .before .before .before .before .before in
+    L.summary-done (start .args .encoded .now) (start .args .route) (start .args .out .now) (c .before .before .summary .result)
+    (c .before .before .summary .ensures) (c .before .if1 .left) (c .if2 .left)
 
 pub rolwyddac-summary-spec : {M : Type 1} → statement M
 rolwyddac-summary-spec =

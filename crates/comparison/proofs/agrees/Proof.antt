@@ -12,10 +12,14 @@ slice-relend-prefix-fill-source : tie.Need-slice-relend-prefix-fill-source
 slice-relend-prefix-fill-source c = search needs
 
 slice-aggregate-fill-source : tie.Need-slice-aggregate-fill-source
-slice-aggregate-fill-source c = laws.counted (c .before .wide .result) _ (c .before .before .before .before .before .before .before .before .before .before .args .source .now) (c .before .wide .ensures .0) (c .before .before .before .before .before .before .before .before .before .before .pre .1 .source)
+slice-aggregate-fill-source c =
+    let start = c .before .before .before .before .before .before .before .before .before .before in
+    laws.counted (c .before .wide .result) _ (start .args .source .now) (c .before .wide .ensures .0) (start .pre .1 .source)
 
 fill-source-requires : tie.Need-fill-source-requires
-fill-source-requires c κs = omega (arith, laws.front (c .before .wide .result) _ (c .before .before .before .before .before .before .before .before .before .before .args .source .now) (c .before .wide .ensures .0) (c .before .before .before .before .before .before .before .before .before .before .pre .1 .source), c .before .before .before .before .before .before .before .before .before .before .pre .0 .cells)
+fill-source-requires c κs =
+    let start = c .before .before .before .before .before .before .before .before .before .before in
+    omega (arith, laws.front (c .before .wide .result) _ (start .args .source .now) (c .before .wide .ensures .0) (start .pre .1 .source), start .pre .0 .cells)
 
 agrees-on-requires : tie.Need-agrees-on-requires
 agrees-on-requires c κs = search needs
@@ -42,7 +46,17 @@ same-length-7 : tie.Need-same-length-7
 same-length-7 c = search needs
 
 returns : tie.Need-returns
-returns c = let A = c .before .before .before .before .before .before .before .before .before .before .before .before .before .before .before .before .before .before .before .before .before .before .before .before .before .before .before .before .before .before .before .before .before .args in laws.agreed (A .encoded .now) (A .extent) (A .falling) (A .source .now) (A .memories .now) (A .buffer .now) (A .progress .now) (A .status .now) (A .grid .now) (A .swept .now) (c .before .before .before .before .before .before .before .before .before .before .before .before .before .before .before .before .before .before .before .before .before .before .before .before .before .before .before .before .before .before .before .before .before .pre .1) (c .before .before .before .before .before .before .before .before .before .before .before .before .before .before .before .before .before .before .before .before .before .before .before .before .wide .result) (c .before .before .before .before .before .before .before .before .before .before .before .before .before .before .before .before .before .before .before .before .before .before .before .before .wide .ensures .0) (c .before .before .before .before .before .before .before .before .before .before .before .before .before .before .before .before .before .before .before .before .before .before .fill-source .last .0) (c .before .before .before .before .before .before .before .before .before .before .before .before .before .before .before .before .before .before .before .before .before .before .fill-source .kept .0) (A .counting) _ (λ i. omega (arith, c .before .before .before .before .before .before .before .before .before .before .before .before .before .before .before .before .before .before .before .before .before .before .before .before .before .before .before .before .before .before .before .before .shared-slice-known .given i)) (c .before .before .before .before .before .before .before .before .before .before .before .before .before .before .before .before .before .before .before .before .before .before .before .before .before .before .before .before .before .before .before .before .before .pre .0) (c .before .before .before .before .before .before .before .before .before .before .before .before .before .before .before .before .before .before .before .before .before .before .fill-source .ensures) (c .before .before .before .before .before .before .before .before .before .before .before .before .agrees-on .ensures)
+returns c =
+    let at-agrees-on = c .before .before .before .before .before .before .before .before .before .before .before .before in
+    let at-fill-source = at-agrees-on .before .before .before .before .before .before .before .before .before .before in
+    let at-wide = at-fill-source .before .before in
+    let at-shared-slice-known = at-wide .before .before .before .before .before .before .before .before in
+    let start = at-shared-slice-known .before in
+    let A = start .args in
+    laws.agreed (A .encoded .now) (A .extent) (A .falling) (A .source .now) (A .memories .now) (A .buffer .now) (A .progress .now) (A .status .now)
+    (A .grid .now) (A .swept .now) (start .pre .1) (at-wide .wide .result) (at-wide .wide .ensures .0) (at-fill-source .fill-source .last .0)
+    (at-fill-source .fill-source .kept .0) (A .counting) _ (λ i. omega (arith, at-shared-slice-known .shared-slice-known .given i)) (start .pre .0)
+    (at-fill-source .fill-source .ensures) (at-agrees-on .agrees-on .ensures)
 
 pub agrees-spec : {M : Type 1} → statement M
 agrees-spec =

@@ -30,7 +30,13 @@ same-length-6 : tie.Need-same-length-6
 same-length-6 c = search needs
 
 returns : tie.Need-returns
-returns c = let A = c .before .before .before .before .before .before .before .before .before .before .before .before .before .before .before .before .before .before .before .before .before .before .before .before .before .before .before .before .before .before .before .before .args in laws.then-compared (A .encoded .now) (A .source .now) (A .order) (A .steps) (stateOf (A .memories .now) (A .buffer .now) (A .progress .now) (A .status .now)) _ (A .grid .now) (A .swept .now) _ _ (c .before .before .before .before .compare .result) (c .before .before .before .before .before .before .before .before .before .before .before .before .before .before .before .before .before .before .before .run-whole .ensures) (c .before .before .before .before .compare .ensures)
+returns c =
+    let at-compare = c .before .before .before .before in
+    let at-run-whole = at-compare .before .before .before .before .before .before .before .before .before .before .before .before .before .before .before in
+    let start = at-run-whole .before .before .before .before .before .before .before .before .before .before .before .before .before in
+    let A = start .args in
+    laws.then-compared (A .encoded .now) (A .source .now) (A .order) (A .steps) (stateOf (A .memories .now) (A .buffer .now) (A .progress .now)
+    (A .status .now)) _ (A .grid .now) (A .swept .now) _ _ (at-compare .compare .result) (at-run-whole .run-whole .ensures) (at-compare .compare .ensures)
 
 pub agrees-in-spec : {M : Type 1} → statement M
 agrees-in-spec =

@@ -40,13 +40,19 @@ loop-less : tie.Need-loop-less Inv-loop μ-loop
 loop-less c = search needs
 
 loop-again : tie.Need-loop-again Inv-loop μ-loop
-loop-again c = (search needs, laws.source-next (c .before .before .before .before .args .counting) (c .before .before .loop .source) (c .before .before .loop .c) _ (c .before .loop-test .taken) (c .before .before .loop .inv .1) (c .source-word .ensures))
+loop-again c = (
+  search needs,
+  laws.source-next (c .before .before .before .before .args .counting) (c .before .before .loop .source) (c .before .before .loop .c) _
+      (c .before .loop-test .taken) (c .before .before .loop .inv .1) (c .source-word .ensures),
+)
 
 same-length : tie.Need-same-length Inv-loop μ-loop
 same-length c = search needs
 
 returns : tie.Need-returns Inv-loop μ-loop
-returns c = laws.source-done (c .before .before .before .args .counting) (c .before .loop .source) (c .before .before .before .args .source .now) (c .before .loop .c) (c .before .loop .inv .0) (omega (arith, c .before .loop .inv .0, c .loop-test .left)) (c .before .loop .inv .1)
+returns c =
+    laws.source-done (c .before .before .before .args .counting) (c .before .loop .source) (c .before .before .before .args .source .now)
+    (c .before .loop .c) (c .before .loop .inv .0) (omega (arith, c .before .loop .inv .0, c .loop-test .left)) (c .before .loop .inv .1)
 
 pub fill-source-spec : {M : Type 1} → statement M
 fill-source-spec =

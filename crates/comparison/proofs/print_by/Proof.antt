@@ -13,8 +13,10 @@ slice-reshare-prefix-write-all c = search needs
 
 slice-aggregate-write-all : tie.Need-slice-aggregate-write-all
 slice-aggregate-write-all c =
-    let wrote = c .before .before .before .write-lines in
-    counted (wrote .result) _ (omega (arith, wrote .ensures .1, wrote .kept .0, c .before .before .before .before .before .before .before .pre))
+    let at-write-lines = c .before .before .before in
+    let start = at-write-lines .before .before .before .before in
+    let wrote = at-write-lines .write-lines in
+    counted (wrote .result) _ (omega (arith, wrote .ensures .1, wrote .kept .0, start .pre))
 
 write-all-requires : tie.Need-write-all-requires
 write-all-requires c κs = search needs

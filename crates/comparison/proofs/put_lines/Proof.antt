@@ -33,12 +33,15 @@ same-length-2 c = search needs
 
 returns-2 : tie.Need-returns-2
 returns-2 c =
+    let at-if2 = c .before .before .before .before in
+    let at-read = at-if2 .before in
+    let at-if1 = at-read .before in
+    let start = at-if1 .before .before .before in
     let wrote = c .before .before .put-refused2 in
-    let read = c .before .before .before .before .before .read in
-    let short = c .before .before .before .before .before .before .if1 .left in
-    let start = c .before .before .before .before .before .before .before .before .before in (
-      L.refused-put (start .args .encoded .now) _ (pen 0 (start .args .space .now)) short (read .result) (read .ensures .0)
-          (c .before .before .before .before .if2 .taken) (wrote .ensures .0),
+    let read = at-read .read in
+    let short = at-if1 .if1 .left in (
+      L.refused-put (start .args .encoded .now) _ (pen 0 (start .args .space .now)) short (read .result) (read .ensures .0) (at-if2 .if2 .taken)
+          (wrote .ensures .0),
       omega (arith, wrote .ensures .1),
     )
 
@@ -67,18 +70,25 @@ same-length-3 c = search needs
 
 returns-3 : tie.Need-returns-3
 returns-3 c =
-    let beyond = c .before .before .before .before .before .before .is-beyond in
-    let second = c .before .before .before .before .before .before .before .narrow2 in
-    let first = c .before .before .before .before .before .before .before .before .narrow in
-    let sizes = c .before .before .before .before .before .before .before .before .before .sizes-of in
-    let accepted = c .before .before .before .before .before .before .before .before .before .before .before .if2 .left in
-    let read = c .before .before .before .before .before .before .before .before .before .before .before .before .read in
-    let short = c .before .before .before .before .before .before .before .before .before .before .before .before .before .if1 .left in
-    let start = c .before .before .before .before .before .before .before .before .before .before .before .before .before .before .before .before in
+    let at-if3 = c .before .before .before .before .before in
+    let at-is-beyond = at-if3 .before in
+    let at-narrow2 = at-is-beyond .before in
+    let at-narrow = at-narrow2 .before in
+    let at-sizes-of = at-narrow .before in
+    let at-if2 = at-sizes-of .before .before in
+    let at-read = at-if2 .before in
+    let at-if1 = at-read .before in
+    let start = at-if1 .before .before .before in
+    let beyond = at-is-beyond .is-beyond in
+    let second = at-narrow2 .narrow2 in
+    let first = at-narrow .narrow in
+    let sizes = at-sizes-of .sizes-of in
+    let accepted = at-if2 .if2 .left in
+    let read = at-read .read in
+    let short = at-if1 .if1 .left in
     let wrote = c .before .before .put-bytes .ensures in (
       L.beyond-put (start .args .encoded .now) _ (pen 0 (start .args .space .now)) short (read .result) (read .ensures .0) accepted (sizes .result)
-          (sizes .ensures .0) (first .result) (second .result) (first .ensures) (second .ensures) (beyond .result) (beyond .ensures)
-          (c .before .before .before .before .before .if3 .taken) wrote,
+          (sizes .ensures .0) (first .result) (second .result) (first .ensures) (second .ensures) (beyond .result) (beyond .ensures) (at-if3 .if3 .taken) wrote,
       omega (arith, at-end (pen 0 (start .args .space .now)) _ _ wrote),
     )
 
@@ -87,35 +97,49 @@ summary-requires c κs = search needs
 
 put-four-requires : tie.Need-put-four-requires
 put-four-requires c κs =
-    let beyond = c .before .before .before .is-beyond in
-    let second = c .before .before .before .before .narrow2 in
-    let first = c .before .before .before .before .before .narrow in
-    let sizes = c .before .before .before .before .before .before .sizes-of in
-    let accepted = c .before .before .before .before .before .before .before .before .if2 .left in
-    let read = c .before .before .before .before .before .before .before .before .before .read in
-    let start = c .before .before .before .before .before .before .before .before .before .before .before .before .before in
+    let at-is-beyond = c .before .before .before in
+    let at-narrow2 = at-is-beyond .before in
+    let at-narrow = at-narrow2 .before in
+    let at-sizes-of = at-narrow .before in
+    let at-if2 = at-sizes-of .before .before in
+    let at-read = at-if2 .before in
+    let start = at-read .before .before .before .before in
+    let beyond = at-is-beyond .is-beyond in
+    let second = at-narrow2 .narrow2 in
+    let first = at-narrow .narrow in
+    let sizes = at-sizes-of .sizes-of in
+    let accepted = at-if2 .if2 .left in
+    let read = at-read .read in
     let figures = c .before .summary in
     laws.in-limits (start .args .encoded .now) (read .result) (sizes .result) (figures .result) (first .result) (second .result) (read .ensures .0) accepted
-    (sizes .ensures .0) (first .ensures) (second .ensures)
-    (laws.not-beyond (first .result) (second .result) (beyond .result) (beyond .ensures) (c .before .before .if3 .left)) (figures .ensures)
+    (sizes .ensures .0) (first .ensures) (second .ensures) (laws.not-beyond (first .result) (second .result) (beyond .result) (beyond .ensures)
+    (c .before .before .if3 .left)) (figures .ensures)
 
 same-length-4 : tie.Need-same-length-4
 same-length-4 c = search needs
 
 returns-4 : tie.Need-returns-4
 returns-4 c =
-    let beyond = c .before .before .before .before .before .before .is-beyond in
-    let second = c .before .before .before .before .before .before .before .narrow2 in
-    let first = c .before .before .before .before .before .before .before .before .narrow in
-    let sizes = c .before .before .before .before .before .before .before .before .before .sizes-of in
-    let accepted = c .before .before .before .before .before .before .before .before .before .before .before .if2 .left in
-    let read = c .before .before .before .before .before .before .before .before .before .before .before .before .read in
-    let short = c .before .before .before .before .before .before .before .before .before .before .before .before .before .if1 .left in
-    let start = c .before .before .before .before .before .before .before .before .before .before .before .before .before .before .before .before in
+    let at-if3 = c .before .before .before .before .before in
+    let at-is-beyond = at-if3 .before in
+    let at-narrow2 = at-is-beyond .before in
+    let at-narrow = at-narrow2 .before in
+    let at-sizes-of = at-narrow .before in
+    let at-if2 = at-sizes-of .before .before in
+    let at-read = at-if2 .before in
+    let at-if1 = at-read .before in
+    let start = at-if1 .before .before .before in
+    let beyond = at-is-beyond .is-beyond in
+    let second = at-narrow2 .narrow2 in
+    let first = at-narrow .narrow in
+    let sizes = at-sizes-of .sizes-of in
+    let accepted = at-if2 .if2 .left in
+    let read = at-read .read in
+    let short = at-if1 .if1 .left in
     let wrote = c .before .before .put-four in (
       L.lines-put (start .args .encoded .now) _ (pen 0 (start .args .space .now)) short (read .result) (read .ensures .0) accepted (sizes .result)
-          (sizes .ensures .0) (first .result) (second .result) (first .ensures) (second .ensures) (beyond .result) (beyond .ensures)
-          (c .before .before .before .before .before .if3 .left) (wrote .ensures .0),
+          (sizes .ensures .0) (first .result) (second .result) (first .ensures) (second .ensures) (beyond .result) (beyond .ensures) (at-if3 .if3 .left)
+          (wrote .ensures .0),
       wrote .ensures .1,
     )
 

@@ -21,11 +21,13 @@ same-length c = search needs
 
 returns : tie.Need-returns
 returns c =
-    let start = c .before .before .before .before .before .before .before .before .before in
-    let said = c .before .before .before .before .before .before .verdict in
+    let at-if1 = c .before .before .before .before .before in
+    let at-verdict = at-if1 .before in
+    let start = at-verdict .before .before .before in
+    let said = at-verdict .verdict in
     let w = pen (start .args .at) (start .args .space .now) in
     let wrote = c .before .before .put-bytes .ensures in
-    (L.agree-put _ (said .result) (said .ensures) _ w (c .before .before .before .before .before .if1 .taken) wrote, omega (arith, at-end w _ _ wrote))
+    (L.agree-put _ (said .result) (said .ensures) _ w (at-if1 .if1 .taken) wrote, omega (arith, at-end w _ _ wrote))
 
 slice-aggregate-put-bytes-2 : tie.Need-slice-aggregate-put-bytes-2
 slice-aggregate-put-bytes-2 c = search needs
@@ -38,11 +40,13 @@ same-length-2 c = search needs
 
 returns-2 : tie.Need-returns-2
 returns-2 c =
-    let start = c .before .before .before .before .before .before .before .before .before in
-    let said = c .before .before .before .before .before .before .verdict in
+    let at-if1 = c .before .before .before .before .before in
+    let at-verdict = at-if1 .before in
+    let start = at-verdict .before .before .before in
+    let said = at-verdict .verdict in
     let w = pen (start .args .at) (start .args .space .now) in
     let wrote = c .before .before .put-bytes2 .ensures in
-    (L.differ-put _ (said .result) (said .ensures) _ w (c .before .before .before .before .before .if1 .left) wrote, omega (arith, at-end w _ _ wrote))
+    (L.differ-put _ (said .result) (said .ensures) _ w (at-if1 .if1 .left) wrote, omega (arith, at-end w _ _ wrote))
 
 pub put-verdict-spec : {M : Type 1} → statement M
 put-verdict-spec =

@@ -24,7 +24,13 @@ same-length-4 : tie.Need-same-length-4
 same-length-4 c = search needs
 
 returns : tie.Need-returns
-returns c = let A = c .before .before .before .before .before .before .before .before .before .before .before .before .before .before .before .before .before .before .before .before .before .before .before .before .before .before .before .before .before .before .before .before .args in laws.run (A .encoded .now) (A .source .now) (stateOf (A .memories .now) (A .buffer .now) (A .progress .now) (A .status .now)) _ _ (A .order) (A .steps) (c .before .before .before .before .before .before .before .before .before .before .before .before .before .before .before .before .before .before .before .before .before .fresh .result) (c .before .before .before .before .before .before .before .before .before .before .before .before .before .before .before .before .before .before .before .before .before .fresh .ensures) (c .before .before .before .before .before .before .before .before .drive .ensures)
+returns c =
+    let at-drive = c .before .before .before .before .before .before .before .before in
+    let at-fresh = at-drive .before .before .before .before .before .before .before .before .before .before .before .before .before in
+    let start = at-fresh .before .before .before .before .before .before .before .before .before .before .before in
+    let A = start .args in
+    laws.run (A .encoded .now) (A .source .now) (stateOf (A .memories .now) (A .buffer .now) (A .progress .now) (A .status .now)) _ _ (A .order) (A .steps)
+    (at-fresh .fresh .result) (at-fresh .fresh .ensures) (at-drive .drive .ensures)
 
 pub run-whole-spec : {M : Type 1} → statement M
 run-whole-spec =

@@ -33,7 +33,12 @@ shared-slice-read-if2-2 : tie.Need-shared-slice-read-if2-2 Inv-loop μ-loop
 shared-slice-read-if2-2 c = search needs
 
 returns-2 : tie.Need-returns-2 Inv-loop μ-loop
-returns-2 c = let A = c .before .before .before .before .before .before .args in laws.words-differ (A .a .now) (A .b .now) (c .before .before .before .before .loop .i) (c .before .before .before .loop-test .taken) (c .if2 .taken)
+returns-2 c =
+    let at-loop-test = c .before .before .before in
+    let at-loop = at-loop-test .before in
+    let start = at-loop .before .before in
+    let A = start .args in
+    laws.words-differ (A .a .now) (A .b .now) (at-loop .loop .i) (at-loop-test .loop-test .taken) (c .if2 .taken)
 
 add-i : tie.Need-add-i Inv-loop μ-loop
 add-i c = search needs
@@ -42,10 +47,16 @@ loop-less : tie.Need-loop-less Inv-loop μ-loop
 loop-less c = search needs
 
 loop-again : tie.Need-loop-again Inv-loop μ-loop
-loop-again c = let A = c .before .before .before .before .before .before .args in laws.one-more (A .a .now) (A .b .now) (c .before .before .before .before .loop .i) (c .before .before .before .before .loop .inv) (c .if2 .left)
+loop-again c =
+    let at-loop = c .before .before .before .before in
+    let start = at-loop .before .before in
+    let A = start .args in
+    laws.one-more (A .a .now) (A .b .now) (at-loop .loop .i) (at-loop .loop .inv) (c .if2 .left)
 
 returns-3 : tie.Need-returns-3 Inv-loop μ-loop
-returns-3 c = let A = c .before .before .before .args in laws.words-same (A .a .now) (A .b .now) (c .before .loop .i) (c .before .before .if1 .left) (c .loop-test .left) (c .before .loop .inv)
+returns-3 c =
+    let A = c .before .before .before .args in laws.words-same (A .a .now) (A .b .now) (c .before .loop .i) (c .before .before .if1 .left)
+    (c .loop-test .left) (c .before .loop .inv)
 
 pub same-spec : {M : Type 1} → statement M
 same-spec =

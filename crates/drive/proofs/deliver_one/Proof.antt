@@ -16,13 +16,21 @@ same-length : tie.Need-same-length
 same-length c = search needs
 
 returns : tie.Need-returns
-returns c = let A = c .before .before .before .before .before .before .before .before .before .before .before .before .before .args in steps.delivered (A .encoded .now) (A .source .now) (stateOf (A .memories .now) (A .buffer .now) (A .progress .now) (A .status .now)) (A .message) (c .before .before .deliver .result) _ (c .before .before .deliver .ensures)
+returns c =
+    let start = c .before .before .before .before .before .before .before .before .before .before .before .before .before in
+    let A = start .args in
+    steps.delivered (A .encoded .now) (A .source .now) (stateOf (A .memories .now) (A .buffer .now) (A .progress .now) (A .status .now)) (A .message)
+    (c .before .before .deliver .result) _ (c .before .before .deliver .ensures)
 
 same-length-2 : tie.Need-same-length-2
 same-length-2 c = search needs
 
 returns-2 : tie.Need-returns-2
-returns-2 c = let A = c .before .before .before .before .before .before .before .before .before .args in steps.not-delivered (A .encoded .now) (A .source .now) (stateOf (A .memories .now) (A .buffer .now) (A .progress .now) (A .status .now)) (A .message) (sym (c .before .in-flight .ensures) ∙ c .if1 .left)
+returns-2 c =
+    let start = c .before .before .before .before .before .before .before .before .before in
+    let A = start .args in
+    steps.not-delivered (A .encoded .now) (A .source .now) (stateOf (A .memories .now) (A .buffer .now) (A .progress .now) (A .status .now)) (A .message)
+    (sym (c .before .in-flight .ensures) ∙ c .if1 .left)
 
 pub deliver-one-spec : {M : Type 1} → statement M
 deliver-one-spec =

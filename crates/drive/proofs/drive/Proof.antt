@@ -10,7 +10,8 @@ use Rattle.drive.proofs.drive.Tie as tie
 
 abbrev Inv-loop : tie.InvT-loop
 Inv-loop encoded source memories₀ buffer₀ progress₀ status₀ order steps left₀ memories buffer progress status left =
-    ((length memories ≡ length memories₀) × (length buffer ≡ length buffer₀) × (length progress ≡ length progress₀) × (length status ≡ length status₀)) × laws.Left encoded source (stateOf memories₀ buffer₀ progress₀ status₀) order steps left (stateOf memories buffer progress status)
+    ((length memories ≡ length memories₀) × (length buffer ≡ length buffer₀) × (length progress ≡ length progress₀) × (length status ≡ length status₀)) ×
+    laws.Left encoded source (stateOf memories₀ buffer₀ progress₀ status₀) order steps left (stateOf memories buffer progress status)
 
 abbrev μ-loop : tie.MeasureT-loop
 μ-loop encoded source memories₀ buffer₀ progress₀ status₀ order steps left₀ memories buffer progress status left =
@@ -29,7 +30,20 @@ loop-less : tie.Need-loop-less Inv-loop μ-loop
 loop-less c = search needs
 
 loop-again : tie.Need-loop-again Inv-loop μ-loop
-loop-again c = let A = c .before .before .before .before .before .before .before .before .before .before .before .before .before .before .before .before .before .before .before .before .before .before .args in let X = c .before .before .before .before .before .before .before .before .before .before .before .before .before .before .before .loop in let G = c .before .before .before .before .before .before .before .before .before .round in (search needs, laws.drive-next (A .encoded .now) (A .source .now) (stateOf (A .memories .now) (A .buffer .now) (A .progress .now) (A .status .now)) (A .order) (A .steps) (X .left) (stateOf (X .memories) (X .buffer) (X .progress) (X .status)) _ (G .result) (c .before .before .before .before .before .before .before .before .before .before .before .before .before .before .loop-test .taken) (X .inv .1) (G .ensures) (c .if1 .taken))
+loop-again c =
+    let at-round = c .before .before .before .before .before .before .before .before .before in
+    let at-loop-test = at-round .before .before .before .before .before in
+    let at-loop = at-loop-test .before in
+    let start = at-loop .before .before .before .before .before .before .before in
+    let A = start .args in
+    let X = at-loop .loop in
+    let G = at-round .round in (
+      search needs,
+      laws.drive-next (A .encoded .now) (A .source .now) (stateOf (A .memories .now) (A .buffer .now) (A .progress .now) (A .status .now))
+          (A .order) (A .steps) (X .left) (stateOf (X .memories) (X .buffer) (X .progress) (X .status)) _ (G .result) (at-loop-test .loop-test .taken)
+          (X .inv .1)
+          (G .ensures) (c .if1 .taken),
+    )
 
 same-length : tie.Need-same-length Inv-loop μ-loop
 same-length c = search needs
@@ -44,7 +58,19 @@ same-length-4 : tie.Need-same-length-4 Inv-loop μ-loop
 same-length-4 c = search needs
 
 returns : tie.Need-returns Inv-loop μ-loop
-returns c = let A = c .before .before .before .before .before .before .before .before .before .before .before .before .before .before .before .before .before .before .before .before .before .before .args in let X = c .before .before .before .before .before .before .before .before .before .before .before .before .before .before .before .loop in let G = c .before .before .before .before .before .before .before .before .before .round in laws.drive-done (A .encoded .now) (A .source .now) (stateOf (A .memories .now) (A .buffer .now) (A .progress .now) (A .status .now)) (A .order) (A .steps) _ (λ i. omega (arith, c .before .before .before .before .before .before .before .before .before .before .before .before .before .before .before .before .before .before .before .before .before .shared-slice-known .given i)) (laws.drive-none (A .encoded .now) (A .source .now) (stateOf (A .memories .now) (A .buffer .now) (A .progress .now) (A .status .now)) (A .order) (A .steps) (X .left) (stateOf (X .memories) (X .buffer) (X .progress) (X .status)) _ (G .result) (c .before .before .before .before .before .before .before .before .before .before .before .before .before .before .loop-test .taken) (X .inv .1) (G .ensures) (c .if1 .left))
+returns c =
+    let at-round = c .before .before .before .before .before .before .before .before .before in
+    let at-loop-test = at-round .before .before .before .before .before in
+    let at-loop = at-loop-test .before in
+    let at-shared-slice-known = at-loop .before .before .before .before .before .before in
+    let start = at-shared-slice-known .before in
+    let A = start .args in
+    let X = at-loop .loop in
+    let G = at-round .round in
+    laws.drive-done (A .encoded .now) (A .source .now) (stateOf (A .memories .now) (A .buffer .now) (A .progress .now) (A .status .now)) (A .order)
+    (A .steps) _ (λ i. omega (arith, at-shared-slice-known .shared-slice-known .given i)) (laws.drive-none (A .encoded .now) (A .source .now)
+    (stateOf (A .memories .now) (A .buffer .now) (A .progress .now) (A .status .now)) (A .order) (A .steps) (X .left) (stateOf (X .memories) (X .buffer)
+    (X .progress) (X .status)) _ (G .result) (at-loop-test .loop-test .taken) (X .inv .1) (G .ensures) (c .if1 .left))
 
 same-length-5 : tie.Need-same-length-5 Inv-loop μ-loop
 same-length-5 c = search needs
@@ -59,7 +85,15 @@ same-length-8 : tie.Need-same-length-8 Inv-loop μ-loop
 same-length-8 c = search needs
 
 returns-2 : tie.Need-returns-2 Inv-loop μ-loop
-returns-2 c = let A = c .before .before .before .before .before .before .before .before .args in let X = c .before .loop in laws.drive-done (A .encoded .now) (A .source .now) (stateOf (A .memories .now) (A .buffer .now) (A .progress .now) (A .status .now)) (A .order) (A .steps) _ (λ i. omega (arith, c .before .before .before .before .before .before .before .shared-slice-known .given i)) (laws.drive-end (A .encoded .now) (A .source .now) (stateOf (A .memories .now) (A .buffer .now) (A .progress .now) (A .status .now)) (A .order) (A .steps) (X .left) (stateOf (X .memories) (X .buffer) (X .progress) (X .status)) (omega (arith, c .loop-test .left)) (X .inv .1))
+returns-2 c =
+    let at-shared-slice-known = c .before .before .before .before .before .before .before in
+    let start = at-shared-slice-known .before in
+    let A = start .args in
+    let X = c .before .loop in
+    laws.drive-done (A .encoded .now) (A .source .now) (stateOf (A .memories .now) (A .buffer .now) (A .progress .now) (A .status .now)) (A .order)
+    (A .steps) _ (λ i. omega (arith, at-shared-slice-known .shared-slice-known .given i)) (laws.drive-end (A .encoded .now) (A .source .now)
+    (stateOf (A .memories .now) (A .buffer .now) (A .progress .now) (A .status .now)) (A .order) (A .steps) (X .left) (stateOf (X .memories) (X .buffer)
+    (X .progress) (X .status)) (omega (arith, c .loop-test .left)) (X .inv .1))
 
 pub drive-spec : {M : Type 1} → statement M
 drive-spec =

@@ -21,7 +21,13 @@ same-length-4 : tie.Need-same-length-4
 same-length-4 c = search needs
 
 returns : tie.Need-returns
-returns c = let A = c .before .before .before .before .before .before .before .before .before .before .before .before .before .before .before .before .before .before .before .before .args in let G = c .before .before .before .before .before .before .before .before .before .turn-each in steps.round-turns (A .encoded .now) (A .source .now) (stateOf (A .memories .now) (A .buffer .now) (A .progress .now) (A .status .now)) (A .order) (G .result) (stateOf (G .last .1 .1 .0) (G .last .1 .1 .1 .0) (G .last .1 .1 .1 .1 .0) (G .last .1 .1 .1 .1 .1 .0)) (G .ensures) (c .if1 .taken)
+returns c =
+    let at-turn-each = c .before .before .before .before .before .before .before .before .before in
+    let start = at-turn-each .before .before .before .before .before .before .before .before .before .before .before in
+    let A = start .args in
+    let G = at-turn-each .turn-each in
+    steps.round-turns (A .encoded .now) (A .source .now) (stateOf (A .memories .now) (A .buffer .now) (A .progress .now) (A .status .now)) (A .order)
+    (G .result) (stateOf (G .last .1 .1 .0) (G .last .1 .1 .1 .0) (G .last .1 .1 .1 .1 .0) (G .last .1 .1 .1 .1 .1 .0)) (G .ensures) (c .if1 .taken)
 
 deliver-each-requires : tie.Need-deliver-each-requires
 deliver-each-requires c κs = search needs
@@ -39,7 +45,16 @@ same-length-8 : tie.Need-same-length-8
 same-length-8 c = search needs
 
 returns-2 : tie.Need-returns-2
-returns-2 c = let A = c .before .before .before .before .before .before .before .before .before .before .before .before .before .before .before .before .before .before .before .before .before .before .before .before .before .before .before .args in let G = c .before .before .before .before .before .before .before .before .before .before .before .before .before .before .before .before .turn-each in let D = c .before .before .deliver-each in steps.round-both (A .encoded .now) (A .source .now) (stateOf (A .memories .now) (A .buffer .now) (A .progress .now) (A .status .now)) (A .order) (G .result) (D .result) (stateOf (G .last .1 .1 .0) (G .last .1 .1 .1 .0) (G .last .1 .1 .1 .1 .0) (G .last .1 .1 .1 .1 .1 .0)) _ (G .ensures) (c .before .before .before .before .before .before .before .if1 .left) (D .ensures)
+returns-2 c =
+    let at-if1 = c .before .before .before .before .before .before .before in
+    let at-turn-each = at-if1 .before .before .before .before .before .before .before .before .before in
+    let start = at-turn-each .before .before .before .before .before .before .before .before .before .before .before in
+    let A = start .args in
+    let G = at-turn-each .turn-each in
+    let D = c .before .before .deliver-each in
+    steps.round-both (A .encoded .now) (A .source .now) (stateOf (A .memories .now) (A .buffer .now) (A .progress .now) (A .status .now)) (A .order)
+    (G .result) (D .result) (stateOf (G .last .1 .1 .0) (G .last .1 .1 .1 .0) (G .last .1 .1 .1 .1 .0) (G .last .1 .1 .1 .1 .1 .0)) _ (G .ensures)
+    (at-if1 .if1 .left) (D .ensures)
 
 pub round-spec : {M : Type 1} → statement M
 round-spec =

@@ -13,14 +13,24 @@ use Rattle.drive.proofs.turn_each.Tie as tie
 
 abbrev Inv-loop : tie.InvT-loop
 Inv-loop encoded source memories₀ buffer₀ progress₀ status₀ processors falling taken₀ place₀ memories buffer progress status taken place =
-    ((length memories ≡ length memories₀) × (length buffer ≡ length buffer₀) × (length progress ≡ length progress₀) × (length status ≡ length status₀)) × ((place ≤ processors) × Tried (calls encoded 0 source) (stateOf memories₀ buffer₀ progress₀ status₀) (turnsTo processors falling place) taken (stateOf memories buffer progress status))
+    ((length memories ≡ length memories₀) × (length buffer ≡ length buffer₀) × (length progress ≡ length progress₀) × (length status ≡ length status₀)) ×
+    ((place ≤ processors) × Tried (calls encoded 0 source) (stateOf memories₀ buffer₀ progress₀ status₀) (turnsTo processors falling place) taken
+    (stateOf memories buffer progress status))
 
 abbrev μ-loop : tie.MeasureT-loop
 μ-loop encoded source memories₀ buffer₀ progress₀ status₀ processors falling taken₀ place₀ memories buffer progress status taken place =
     processors - place
 
 loop-holds : tie.Need-loop-holds Inv-loop μ-loop
-loop-holds c = let A = c .before .before .before .before .before .before .args in (search needs, (omega arith, steps.turns-start (A .encoded .now) (A .source .now) (stateOf (A .memories .now) (A .buffer .now) (A .progress .now) (A .status .now)) (A .processors) (A .falling)))
+loop-holds c =
+    let A = c .before .before .before .before .before .before .args in (
+      search needs,
+      (
+        omega arith,
+        steps.turns-start (A .encoded .now) (A .source .now)
+            (stateOf (A .memories .now) (A .buffer .now) (A .progress .now) (A .status .now)) (A .processors) (A .falling),
+      ),
+    )
 
 in-order-requires : tie.Need-in-order-requires Inv-loop μ-loop
 in-order-requires c κs = search needs
@@ -38,7 +48,22 @@ loop-less : tie.Need-loop-less Inv-loop μ-loop
 loop-less c = search needs
 
 loop-again : tie.Need-loop-again Inv-loop μ-loop
-loop-again c = let A = c .before .before .before .before .before .before .before .before .before .before .before .before .before .before .before .before .before .before .before .before .before .before .before .args in let X = c .before .before .before .before .before .before .before .before .before .before .before .before .before .before .before .before .loop in let G = c .before .before .before .before .before .before .before .before .before .turn in (search needs, (omega (arith, c .before .before .before .before .before .before .before .before .before .before .before .before .before .before .before .loop-test .taken), steps.turns-next (A .encoded .now) (A .source .now) (stateOf (A .memories .now) (A .buffer .now) (A .progress .now) (A .status .now)) (A .processors) (A .falling) (X .place) (X .taken) (c .noted .result) (stateOf (X .memories) (X .buffer) (X .progress) (X .status)) _ (c .before .before .before .before .before .before .before .before .before .before .before .before .before .before .in-order .result) (G .result) (X .inv .1 .1) (c .before .before .before .before .before .before .before .before .before .before .before .before .before .before .in-order .ensures) (G .ensures) (c .noted .ensures)))
+loop-again c = (
+  search needs,
+  (let at-turn = c .before .before .before .before .before .before .before .before .before in
+      let at-in-order = at-turn .before .before .before .before .before in
+      let at-loop-test = at-in-order .before in
+      let at-loop = at-loop-test .before in
+      let start = at-loop .before .before .before .before .before .before .before in
+      let A = start .args in
+      let X = at-loop .loop in
+      let G = at-turn .turn in (
+        omega (arith, at-loop-test .loop-test .taken),
+        steps.turns-next (A .encoded .now) (A .source .now) (stateOf (A .memories .now) (A .buffer .now) (A .progress .now) (A .status .now))
+            (A .processors) (A .falling) (X .place) (X .taken) (c .noted .result) (stateOf (X .memories) (X .buffer) (X .progress) (X .status)) _
+            (at-in-order .in-order .result) (G .result) (X .inv .1 .1) (at-in-order .in-order .ensures) (G .ensures) (c .noted .ensures),
+      )),
+)
 
 same-length : tie.Need-same-length Inv-loop μ-loop
 same-length c = search needs
@@ -53,7 +78,12 @@ same-length-4 : tie.Need-same-length-4 Inv-loop μ-loop
 same-length-4 c = search needs
 
 returns : tie.Need-returns Inv-loop μ-loop
-returns c = let A = c .before .before .before .before .before .before .before .before .args in let X = c .before .loop in steps.turns-done (A .encoded .now) (A .source .now) (stateOf (A .memories .now) (A .buffer .now) (A .progress .now) (A .status .now)) (A .processors) (A .falling) (X .place) (X .taken) (stateOf (X .memories) (X .buffer) (X .progress) (X .status)) (X .inv .1 .0) (c .loop-test .left) (X .inv .1 .1)
+returns c =
+    let start = c .before .before .before .before .before .before .before .before in
+    let A = start .args in
+    let X = c .before .loop in
+    steps.turns-done (A .encoded .now) (A .source .now) (stateOf (A .memories .now) (A .buffer .now) (A .progress .now) (A .status .now)) (A .processors)
+    (A .falling) (X .place) (X .taken) (stateOf (X .memories) (X .buffer) (X .progress) (X .status)) (X .inv .1 .0) (c .loop-test .left) (X .inv .1 .1)
 
 pub turn-each-spec : {M : Type 1} → statement M
 turn-each-spec =

@@ -13,9 +13,11 @@ same-length c = search needs
 
 returns : tie.Need-returns
 returns c =
-    let flat-of = c .before .before .before .before .flat-of in
+    let at-flat-of = c .before .before .before .before in
+    let start = at-flat-of .before .before .before .before .before .before .before .before in
+    let flat-of = at-flat-of .flat-of in
     let collect = c .before .before .collect in
-    let A = c .before .before .before .before .before .before .before .before .before .before .before .before .args in
+    let A = start .args in
     collect .ensures (A .progress .now) (flat-of .ensures)
 
 pub collect-spec : {M : Type 1} → statement M

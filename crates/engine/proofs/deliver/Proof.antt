@@ -13,9 +13,11 @@ same-length c = search needs
 
 returns : tie.Need-returns
 returns c =
-    let flat-of = c .before .before .before .before .flat-of in
+    let at-flat-of = c .before .before .before .before in
+    let start = at-flat-of .before .before .before .before .before .before .before in
+    let flat-of = at-flat-of .flat-of in
     let deliver = c .before .before .deliver in
-    let A = c .before .before .before .before .before .before .before .before .before .before .before .args in
+    let A = start .args in
     deliver .ensures (A .progress .now) (flat-of .ensures)
 
 pub deliver-spec : {M : Type 1} → statement M

@@ -18,9 +18,11 @@ same-length-3 c = search needs
 
 returns : tie.Need-returns
 returns c =
-    let fresh = c .before .before .before .before .before .before .before .fresh in
+    let at-fresh = c .before .before .before .before .before .before .before in
+    let start = at-fresh .before .before .before .before .before .before .before .before .before .before in
+    let fresh = at-fresh .fresh in
     let if1 = c .if1 in
-    let A = c .before .before .before .before .before .before .before .before .before .before .before .before .before .before .before .before .before .args in
+    let A = start .args in
     reading.not-cleared _ _ _ _ (A .progress .now) (fresh .result) (fresh .ensures (A .progress .now) refl) (if1 .taken)
 
 zero-words-requires : tie.Need-zero-words-requires
@@ -40,11 +42,13 @@ same-length-7 c = search needs
 
 returns-2 : tie.Need-returns-2
 returns-2 c =
-    let fresh = c .before .before .before .before .before .before .before .before .before .before .before .fresh in
-    let if1 = c .before .before .before .before .if1 in
+    let at-if1 = c .before .before .before .before in
+    let at-fresh = at-if1 .before .before .before .before .before .before .before in
+    let start = at-fresh .before .before .before .before .before .before .before .before .before .before in
+    let fresh = at-fresh .fresh in
+    let if1 = at-if1 .if1 in
     let zero-words = c .before .before .zero-words in
-    let A = c .before .before .before .before .before .before .before .before .before .before .before .before .before .before .before .before .before
-    .before .before .before .before .args in
+    let A = start .args in
     reading.all-cleared _ _ _ _ (A .progress .now) (fresh .result) (fresh .ensures (A .progress .now) refl) (if1 .left) _ (zero-words .ensures)
 
 pub fresh-spec : {M : Type 1} → statement M

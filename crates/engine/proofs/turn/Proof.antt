@@ -25,23 +25,26 @@ same-length-4 c = search needs
 
 returns : tie.Need-returns
 returns c =
-    let flat-of = c .before .before .before .before .before .before .before .before .before .flat-of in
-    let turn = c .before .before .before .before .before .before .before .turn in
+    let at-turn = c .before .before .before .before .before .before .before in
+    let at-flat-of = at-turn .before .before in
+    let start = at-flat-of .before .before .before .before .before .before .before .before .before .before in
+    let flat-of = at-flat-of .flat-of in
+    let turn = at-turn .turn in
     let if1 = c .if1 in
-    let A = c .before .before .before .before .before .before .before .before .before .before .before .before .before .before .before .before .before
-    .before .before .args in
+    let A = start .args in
     reading.left-out (turn .result) _ _ (A .progress .now) _ (A .processor) _ (turn .ensures (A .progress .now) (flat-of .ensures)) (if1 .taken)
 
 store-record-requires : tie.Need-store-record-requires
 store-record-requires c κs =
-    let flat-of = c .before .before .before .before .before .before .before .before .before .before .before .flat-of in
-    let turn = c .before .before .before .before .before .before .before .before .before .turn in
+    let at-turn = c .before .before .before .before .before .before .before .before .before in
+    let at-flat-of = at-turn .before .before in
+    let start = at-flat-of .before .before .before .before .before .before .before .before .before .before in
+    let flat-of = at-flat-of .flat-of in
+    let turn = at-turn .turn in
     let if1 = c .before .before .if1 in
-    let A = c .before .before .before .before .before .before .before .before .before .before .before .before .before .before .before .before .before
-    .before .before .before .before .args in
+    let A = start .args in
     reading.turn-inside (A .encoded .now) (A .route) (A .source .now) (stateOf (A .memories .now) (A .buffer .now) (A .progress .now) (A .status .now))
-    (A .processor)
-    (ap (λ (z : Answered State). z .number) (sym (turn .ensures (A .progress .now) (flat-of .ensures))) ∙ if1 .left)
+    (A .processor) (ap (λ (z : Answered State). z .number) (sym (turn .ensures (A .progress .now) (flat-of .ensures))) ∙ if1 .left)
 
 same-length-5 : tie.Need-same-length-5
 same-length-5 c = search needs
@@ -57,12 +60,15 @@ same-length-8 c = search needs
 
 returns-2 : tie.Need-returns-2
 returns-2 c =
-    let flat-of = c .before .before .before .before .before .before .before .before .before .before .before .before .before .before .flat-of in
-    let turn = c .before .before .before .before .before .before .before .before .before .before .before .before .turn in
-    let if1 = c .before .before .before .before .before .if1 in
+    let at-if1 = c .before .before .before .before .before in
+    let at-turn = at-if1 .before .before .before .before .before .before .before in
+    let at-flat-of = at-turn .before .before in
+    let start = at-flat-of .before .before .before .before .before .before .before .before .before .before in
+    let flat-of = at-flat-of .flat-of in
+    let turn = at-turn .turn in
+    let if1 = at-if1 .if1 in
     let store-record = c .before .before .store-record in
-    let A = c .before .before .before .before .before .before .before .before .before .before .before .before .before .before .before .before .before
-    .before .before .before .before .before .before .before .args in
+    let A = start .args in
     reading.written-in (turn .result) _ _ (A .progress .now) _ (A .processor) _ (turn .ensures (A .progress .now) (flat-of .ensures)) (if1 .left) _
     (store-record .ensures)
 

@@ -6,7 +6,7 @@ use native.Mathlib.Omega.{arith}
 use borrow.Author.Needs.{needs}
 use Rattle.base.specs.Tests.{some}
 use Rattle.base.proofs.Tests.{some-one}
-use Rattle.hours.proofs.Loops.{some-start, some-next, some-done}
+use Rattle.base.proofs.Loops.{some-start, some-step, some-end}
 use Rattle.hours.specs.Hours.{faultyBoard, faultyTable}
 use Rattle.hours.proofs.faulty_table.Statement.{statement}
 use Rattle.hours.proofs.faulty_table.Tie as tie
@@ -28,7 +28,8 @@ faulty-board-requires c κs = search needs
 
 returns : tie.Need-returns Inv-loop μ-loop
 unfolding faultyTable
-returns c = sym (some-one _ _ (c .before .before .before .loop .b) (c .before .before .loop-test .taken) (sym (c .before .faulty-board .ensures) ∙ c .if1 .taken))
+returns c =
+    sym (some-one _ _ (c .before .before .before .loop .b) (c .before .before .loop-test .taken) (sym (c .before .faulty-board .ensures) ∙ c .if1 .taken))
 
 add-b : tie.Need-add-b Inv-loop μ-loop
 add-b c = search needs
@@ -37,11 +38,11 @@ loop-less : tie.Need-loop-less Inv-loop μ-loop
 loop-less c = search needs
 
 loop-again : tie.Need-loop-again Inv-loop μ-loop
-loop-again c = (omega arith, some-next _ _ (c .before .before .before .loop .inv .1) (sym (c .before .faulty-board .ensures) ∙ c .if1 .left))
+loop-again c = (omega arith, some-step _ _ (c .before .before .before .loop .inv .1) (sym (c .before .faulty-board .ensures) ∙ c .if1 .left))
 
 returns-2 : tie.Need-returns-2 Inv-loop μ-loop
 unfolding faultyTable
-returns-2 c = some-done _ _ _ (c .before .loop .inv .0) (c .loop-test .left) (c .before .loop .inv .1)
+returns-2 c = sym (some-end _ _ _ (c .before .loop .inv .0) (c .loop-test .left) (c .before .loop .inv .1))
 
 pub faulty-table-spec : {M : Type 1} → statement M
 faulty-table-spec =

@@ -45,7 +45,10 @@ shared-slice-read-wait-2 : tie.Need-shared-slice-read-wait-2 Inv-loop μ-loop
 shared-slice-read-wait-2 c = search needs
 
 wait-requires : tie.Need-wait-requires Inv-loop μ-loop
-wait-requires c κs = (c .before .before .before .before .before .pre .1 .1 .0, W.fair-at _ _ (c .before .before .before .before .before .pre .1 .1 .1) (c .before .before .before .loop .w) (c .before .before .loop-test .taken))
+wait-requires c κs =
+    let at-loop = c .before .before .before in
+    let start = at-loop .before .before in
+    (start .pre .1 .1 .0, W.fair-at _ _ (start .pre .1 .1 .1) (at-loop .loop .w) (c .before .before .loop-test .taken))
 
 least-requires : tie.Need-least-requires Inv-loop μ-loop
 least-requires c κs = search needs

@@ -6,7 +6,7 @@ use native.Mathlib.Omega.{arith}
 use borrow.Author.Needs.{needs}
 use Rattle.base.specs.Tests.{some}
 use Rattle.base.proofs.Tests.{some-one}
-use Rattle.hours.proofs.Loops.{some-start, some-next, some-done}
+use Rattle.base.proofs.Loops.{some-start, some-step, some-end}
 use Rattle.hours.specs.Hours.{inWindow, openAt}
 use Rattle.hours.proofs.open_at.Statement.{statement}
 use Rattle.hours.proofs.open_at.Tie as tie
@@ -52,7 +52,10 @@ covers-requires c κs = search needs
 
 returns : tie.Need-returns Inv-loop μ-loop
 unfolding openAt
-returns c = sym (some-one _ _ (c .before .before .before .before .before .loop .w) (c .before .before .before .before .loop-test .taken) (sym (c .before .covers .ensures) ∙ c .if1 .taken))
+returns c =
+    let at-loop-test = c .before .before .before .before in
+    let at-loop = at-loop-test .before in
+    sym (some-one _ _ (at-loop .loop .w) (at-loop-test .loop-test .taken) (sym (c .before .covers .ensures) ∙ c .if1 .taken))
 
 add-w : tie.Need-add-w Inv-loop μ-loop
 add-w c = search needs
@@ -61,11 +64,11 @@ loop-less : tie.Need-loop-less Inv-loop μ-loop
 loop-less c = search needs
 
 loop-again : tie.Need-loop-again Inv-loop μ-loop
-loop-again c = (omega arith, some-next _ _ (c .before .before .before .before .before .loop .inv .1) (sym (c .before .covers .ensures) ∙ c .if1 .left))
+loop-again c = (omega arith, some-step _ _ (c .before .before .before .before .before .loop .inv .1) (sym (c .before .covers .ensures) ∙ c .if1 .left))
 
 returns-2 : tie.Need-returns-2 Inv-loop μ-loop
 unfolding openAt
-returns-2 c = some-done _ _ _ (c .before .loop .inv .0) (c .loop-test .left) (c .before .loop .inv .1)
+returns-2 c = sym (some-end _ _ _ (c .before .loop .inv .0) (c .loop-test .left) (c .before .loop .inv .1))
 
 pub open-at-spec : {M : Type 1} → statement M
 open-at-spec =

@@ -25,7 +25,9 @@ sub-result-2 : tie.Need-sub-result-2
 sub-result-2 c = search needs
 
 returns-4 : tie.Need-returns-4
-returns-4 c = W.wait-week _ _ _ (c .before .before .before .pre .0) (c .before .before .before .pre .1) (c .before .before .if1 .left) (c .before .if2 .left) (c .if3 .left)
+returns-4 c =
+    W.wait-week _ _ _ (c .before .before .before .pre .0) (c .before .before .before .pre .1) (c .before .before .if1 .left) (c .before .if2 .left)
+    (c .if3 .left)
 
 pub wait-spec : {M : Type 1} → statement M
 wait-spec =

@@ -11,7 +11,7 @@ use Rattle.layout.proofs.across_of.Statement.{statement}
 use Rattle.layout.proofs.across_of.Tie as tie
 
 abbrev Inv-loop : tie.InvT-loop
-Inv-loop nest across₀ n j₀ across j = Filled (tileCount nest) n across j
+Inv-loop nest across₀ n j₀ across j = Filled 4 (tileCount nest) n across j
 
 abbrev μ-loop : tie.MeasureT-loop
 μ-loop nest across₀ n j₀ across j = n - j
@@ -35,10 +35,21 @@ element-copy-out-tile-along-2 : tie.Need-element-copy-out-tile-along-2 Inv-loop 
 element-copy-out-tile-along-2 c = search needs
 
 tile-along-requires : tie.Need-tile-along-requires Inv-loop μ-loop
-tile-along-requires c κs = (omega (arith, c .before .before .before .before .pre .length-most (c .before .before .before .loop .j)), (c .before .before .before .before .pre .tiled _ (omega arith), c .before .before .before .before .pre .tile-most _))
+tile-along-requires c κs = (
+  omega (arith, c .before .before .before .before .pre .length-most (c .before .before .before .loop .j)),
+  (c .before .before .before .before .pre .tiled _ (omega arith), c .before .before .before .before .pre .tile-most _),
+)
 
 add-across : tie.Need-add-across Inv-loop μ-loop
-add-across c = omega (arith, c .tile-along .ensures, div-le-self (getD (c .before .before .before .before .before .args .t1 .lengths) (c .before .before .before .before .loop .j) 0 - 1) (getD (c .before .before .before .before .before .args .t1 .tiling) (c .before .before .before .before .loop .j) 0), c .before .before .before .before .before .pre .length-most (c .before .before .before .before .loop .j))
+add-across c =
+    omega (
+      arith,
+      c .tile-along .ensures,
+      div-le-self (getD (c .before .before .before .before .before .args .t1 .lengths)
+          (c .before .before .before .before .loop .j) 0 - 1) (getD (c .before .before .before .before .before .args .t1 .tiling)
+          (c .before .before .before .before .loop .j) 0),
+      c .before .before .before .before .before .pre .length-most (c .before .before .before .before .loop .j),
+    )
 
 mul-across : tie.Need-mul-across Inv-loop μ-loop
 mul-across c = search needs
@@ -54,7 +65,9 @@ loop-less c = search needs
 
 loop-again : tie.Need-loop-again Inv-loop μ-loop
 unfolding tileCount
-loop-again c = filled-more _ _ _ _ _ (c .before .before .before .before .loop .inv) (c .before .before .before .loop-test .taken) (c .before .before .before .before .before .pre .dimensions-most) (ap (λ (a : ℕ). a + 1) (c .tile-along .ensures))
+loop-again c =
+    filled-more _ _ _ _ _ (c .before .before .before .before .loop .inv) (c .before .before .before .loop-test .taken)
+    (c .before .before .before .before .before .pre .dimensions-most) (ap (λ (a : ℕ). a + 1) (c .tile-along .ensures))
 
 returns : tie.Need-returns Inv-loop μ-loop
 returns c = filled-end _ _ _ _ (c .before .loop .inv) (omega arith)

@@ -9,7 +9,7 @@ use Rattle.layout.proofs.quotients.Statement.{statement}
 use Rattle.layout.proofs.quotients.Tie as tie
 
 abbrev Inv-loop : tie.InvT-loop
-Inv-loop nest at tile₀ n j₀ tile j = Filled (λ i. getD at i 0 / tileLength nest i) n tile j
+Inv-loop nest at tile₀ n j₀ tile j = Filled 4 (λ i. getD at i 0 / tileLength nest i) n tile j
 
 abbrev μ-loop : tie.MeasureT-loop
 μ-loop nest at tile₀ n j₀ tile j = n - j
@@ -30,7 +30,13 @@ element-copy-out-tile-along : tie.Need-element-copy-out-tile-along Inv-loop μ-l
 element-copy-out-tile-along c = search needs
 
 tile-along-requires : tie.Need-tile-along-requires Inv-loop μ-loop
-tile-along-requires c κs = (c .before .before .before .pre .1 _ (omega arith), (c .before .before .before .pre .0 .tiled _ (omega arith), c .before .before .before .pre .0 .tile-most _))
+tile-along-requires c κs = (
+  c .before .before .before .pre .1 _ (omega arith),
+  (
+    c .before .before .before .pre .0 .tiled _ (omega arith),
+    c .before .before .before .pre .0 .tile-most _,
+  ),
+)
 
 mul-tile : tie.Need-mul-tile Inv-loop μ-loop
 mul-tile c = search needs
@@ -45,7 +51,9 @@ loop-less : tie.Need-loop-less Inv-loop μ-loop
 loop-less c = search needs
 
 loop-again : tie.Need-loop-again Inv-loop μ-loop
-loop-again c = filled-more _ _ _ _ _ (c .before .before .before .loop .inv) (c .before .before .loop-test .taken) (c .before .before .before .before .pre .0 .dimensions-most) (c .tile-along .ensures)
+loop-again c =
+    filled-more _ _ _ _ _ (c .before .before .before .loop .inv) (c .before .before .loop-test .taken)
+    (c .before .before .before .before .pre .0 .dimensions-most) (c .tile-along .ensures)
 
 returns : tie.Need-returns Inv-loop μ-loop
 returns c = filled-end _ _ _ _ (c .before .loop .inv) (omega arith)

@@ -12,8 +12,8 @@ use Rattle.parcels.proofs.block_of.Statement.{statement}
 use Rattle.parcels.proofs.block_of.Tie as tie
 
 abbrev Inv-loop : tie.InvT-loop
-Inv-loop earlier at corner₀ lengths₀ tiling ends n j₀ corner lengths j = Filled (λ i. (getD at i 0 - one (ltb i earlier)) * getD tiling i 0) n corner j
-    × Filled (λ i. min (getD at i 0 * getD tiling i 0 + getD tiling i 0) (getD ends i 0) - (getD at i 0 - one (ltb i earlier)) * getD tiling i 0) n lengths j
+Inv-loop earlier at corner₀ lengths₀ tiling ends n j₀ corner lengths j = Filled 4 (λ i. (getD at i 0 - one (ltb i earlier)) * getD tiling i 0) n corner j
+    × Filled 4 (λ i. min (getD at i 0 * getD tiling i 0 + getD tiling i 0) (getD ends i 0) - (getD at i 0 - one (ltb i earlier)) * getD tiling i 0) n lengths j
 
 abbrev μ-loop : tie.MeasureT-loop
 μ-loop earlier at corner₀ lengths₀ tiling ends n j₀ corner lengths j = n - j
@@ -37,7 +37,17 @@ back-requires : tie.Need-back-requires Inv-loop μ-loop
 back-requires c κs = search needs
 
 mul-first : tie.Need-mul-first Inv-loop μ-loop
-mul-first c = omega (arith, tile-few _ (c .before .before .before .before .before .pre .0) (c .back .result) (c .before .before .loop .j) (omega (arith, c .back .ensures, c .before .before .before .before .before .pre .1 (c .before .before .loop .j) (c .before .loop-test .taken), count-most _ (c .before .before .before .before .before .pre .0) (c .before .before .loop .j) (c .before .loop-test .taken))))
+mul-first c =
+    omega (
+      arith,
+      tile-few _ (c .before .before .before .before .before .pre .0) (c .back .result) (c .before .before .loop .j)
+          (omega (
+            arith,
+            c .back .ensures,
+            c .before .before .before .before .before .pre .1 (c .before .before .loop .j) (c .before .loop-test .taken),
+            count-most _ (c .before .before .before .before .before .pre .0) (c .before .before .loop .j) (c .before .loop-test .taken),
+          )),
+    )
 
 mul-corner : tie.Need-mul-corner Inv-loop μ-loop
 mul-corner c = omega (arith, c .before .loop-test .taken, c .before .before .before .before .before .pre .0 .dimensions-most)
@@ -58,10 +68,24 @@ array-read-end-of-2 : tie.Need-array-read-end-of-2 Inv-loop μ-loop
 array-read-end-of-2 c = omega (arith, c .before .loop-test .taken, c .before .before .before .before .before .pre .0 .dimensions-most)
 
 end-of-requires : tie.Need-end-of-requires Inv-loop μ-loop
-end-of-requires c κs = (omega (arith, c .before .before .before .before .before .pre .1 (c .before .before .loop .j) (c .before .loop-test .taken), count-most _ (c .before .before .before .before .before .pre .0) (c .before .before .loop .j) (c .before .loop-test .taken)), c .before .before .before .before .before .pre .0 .tile-most _)
+end-of-requires c κs = (
+  omega (
+    arith,
+    c .before .before .before .before .before .pre .1 (c .before .before .loop .j) (c .before .loop-test .taken),
+    count-most _ (c .before .before .before .before .before .pre .0) (c .before .before .loop .j) (c .before .loop-test .taken),
+  ),
+  c .before .before .before .before .before .pre .0 .tile-most _,
+)
 
 sub-lengths : tie.Need-sub-lengths Inv-loop μ-loop
-sub-lengths c = omega (arith, c .end-of .ensures, begin-end _ (c .before .before .before .before .before .before .pre .0) _ (c .before .back .result) (c .before .before .before .loop .j) (c .before .before .loop-test .taken) (c .before .before .before .before .before .before .pre .1 (c .before .before .before .loop .j) (c .before .before .loop-test .taken)) (omega (arith, c .before .back .ensures)))
+sub-lengths c =
+    omega (
+      arith,
+      c .end-of .ensures,
+      begin-end _ (c .before .before .before .before .before .before .pre .0) _ (c .before .back .result)
+          (c .before .before .before .loop .j) (c .before .before .loop-test .taken) (c .before .before .before .before .before .before .pre .1
+          (c .before .before .before .loop .j) (c .before .before .loop-test .taken)) (omega (arith, c .before .back .ensures)),
+    )
 
 mul-lengths : tie.Need-mul-lengths Inv-loop μ-loop
 mul-lengths c = omega (arith, c .before .before .loop-test .taken, c .before .before .before .before .before .before .pre .0 .dimensions-most)
@@ -76,10 +100,20 @@ loop-less : tie.Need-loop-less Inv-loop μ-loop
 loop-less c = omega (arith, c .before .before .loop-test .taken)
 
 loop-again : tie.Need-loop-again Inv-loop μ-loop
-loop-again c = (filled-more _ _ _ _ _ (c .before .before .before .loop .inv .0) (c .before .before .loop-test .taken) (c .before .before .before .before .before .before .pre .0 .dimensions-most) (rw (c .before .back .ensures)), filled-more _ _ _ _ _ (c .before .before .before .loop .inv .1) (c .before .before .loop-test .taken) (c .before .before .before .before .before .before .pre .0 .dimensions-most) (rw (c .before .back .ensures, c .end-of .ensures)))
+loop-again c = (
+  filled-more _ _ _ _ _ (c .before .before .before .loop .inv .0) (c .before .before .loop-test .taken)
+      (c .before .before .before .before .before .before .pre .0 .dimensions-most) (rw (c .before .back .ensures)),
+  filled-more _ _ _ _ _ (c .before .before .before .loop .inv .1) (c .before .before .loop-test .taken)
+      (c .before .before .before .before .before .before .pre .0 .dimensions-most) (rw (c .before .back .ensures, c .end-of .ensures)),
+)
 
 returns : tie.Need-returns Inv-loop μ-loop
-returns c = record { corner = filled-end _ _ _ _ (c .before .loop .inv .0) (c .loop-test .left); lengths = filled-end _ _ _ _ (c .before .loop .inv .1) (c .loop-test .left) }
+returns c =
+    record {
+      corner = filled-end _ _ _ _ (c .before .loop .inv .0) (c .loop-test .left);
+      lengths = filled-end _ _ _ _ (c .before .loop .inv .1)
+          (c .loop-test .left);
+    }
 
 pub block-of-spec : {M : Type 1} → statement M
 block-of-spec =

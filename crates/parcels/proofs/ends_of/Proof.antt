@@ -32,7 +32,8 @@ loop-less : tie.Need-loop-less Inv-loop μ-loop
 loop-less c = omega (arith, c .before .loop-test .taken)
 
 loop-again : tie.Need-loop-again Inv-loop μ-loop
-loop-again c = ending-more _ _ _ _ _ _ (c .before .before .loop .inv) (c .before .loop-test .taken) (c .before .before .before .pre .0 .0 .distances-most) (c .end-in-row .ensures)
+loop-again c = ending-more _ _ _ _ _ _ (c .before .before .loop .inv) (c .before .loop-test .taken)
+    (c .before .before .before .pre .0 .0 .distances-most) (c .end-in-row .ensures)
 
 returns : tie.Need-returns Inv-loop μ-loop
 returns c = ending-end _ _ _ _ _ (c .before .loop .inv) (c .loop-test .left)

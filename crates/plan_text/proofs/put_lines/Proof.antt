@@ -26,12 +26,9 @@ line-of-requires c κs = search needs
 
 put-line-requires : tie.Need-put-line-requires Inv-loop μ-loop
 put-line-requires c κs =
-    omega (
-      arith,
-      c .before .before .before .before .before .pre .0 .0,
-      c .before .before .before .loop .inv .1 .low,
-      c .before .before .loop-test .taken,
-    )
+    let at-loop = c .before .before .before in
+    let start = at-loop .before .before in
+    omega (arith, start .pre .0 .0, at-loop .loop .inv .1 .low, c .before .before .loop-test .taken)
 
 add-m : tie.Need-add-m Inv-loop μ-loop
 add-m c = search needs

@@ -54,8 +54,10 @@ sizes-of-requires c κs = accepted-for _ _ _ (c .before .before .before .read-fo
 
 fill-requires : tie.Need-fill-requires
 fill-requires c κs =
-    let read = c .before .before .before .before .before .read-for in
-    let if2 = c .before .before .before .before .if2 in
+    let at-if2 = c .before .before .before .before in
+    let at-read-for = at-if2 .before in
+    let read = at-read-for .read-for in
+    let if2 = at-if2 .if2 in
     let route-of = c .before .before .route-of in
     let sizes-of = c .before .sizes-of in
     (sizes-of .ensures .0, (λ h. sizes-of .ensures .1 ∙ route-of .ensures ∙ routed-for _ _ _ (read .ensures) (if2 .left) h, refl))

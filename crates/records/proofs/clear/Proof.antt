@@ -25,9 +25,11 @@ use prog.Wp.{Heap, Out, Env, afterSeq, afterBlock, afterTurn, Calls, Loops, Wp, 
 use ghost.Atoms.{Atoms, sem}
 use contract.Monad.{Fun, fact}
 use contract.Running.{givenOf, tables, tablesOf}
-use types.Kit.{Given, Item, ‵, raw, some, later, runs, anyQ, atRet, Sq, _⊛_, ⋆, _$_, _∵_, !, qed, by, move, keep, drop as let-go, use1, split, join, pick, rewrite, fsplit, fjoin, feqI, suffices, frame, await, done}
+use types.Kit.{Given, Item, ‵, raw, some, later, runs, anyQ, atRet, Sq, _⊛_, ⋆, _$_, _∵_, !, qed, by, move, keep, drop as let-go, use1, split, join}
+use types.Kit.{pick, rewrite, fsplit, fjoin, feqI, suffices, frame, await, done}
 use types.Part.{whole, sub, look-in}
-use types.Run.{look, init, store, store-raw, forget, stop, hop, fld, from, load, lit, unit-lit, of-opd, bin, and-then, no-more, assigns, assigns-last, land, first, blocks, stays, leaves-loop, exec, Below, again, loops, returns, enter, alloc1, alloc0, params1, pass1, pass0}
+use types.Run.{look, init, store, store-raw, forget, stop, hop, fld, from, load, lit, unit-lit, of-opd, bin, and-then, no-more, assigns, assigns-last}
+use types.Run.{land, first, blocks, stays, leaves-loop, exec, Below, again, loops, returns, enter, alloc1, alloc0, params1, pass1, pass0}
 use sound.WpLaws.{fmOf, WpFn-mono}
 use denote.RattleType.{RattleType, owns}
 use denote.Memory.{pointee}
@@ -101,7 +103,8 @@ module _ {M : Type 1} (𝓤 : URA M) (H : Heap 𝓤) (A : Atoms 𝓤) (mem : Mem
   count-of : (k n r : ℕ) → ent 𝓤 (ensured 𝓤 H A cleared.ended (cleared.clauses 𝓤 H A mem run) tt (k, (n, tt)) tt r) (fact 𝓤 (r ≡ choose (eqb k 0) n 0))
   count-of k n r = exE 𝓤 _ (λ ws. snd∗ 𝓤 (sem 𝓤 H A (lasts cleared.ended tt (k, (n, tt)) ws)) (fact 𝓤 (r ≡ choose (eqb k 0) n 0)))
 
-module _ {M : Type 1} (𝓤 : URA M) (H : Heap 𝓤) (A : Atoms 𝓤) (W : Given 𝓤 H A) (mem : Memory → SProp 𝓤) (run : Routine → Fun 𝓤) (κ : Lft) (q : Share) (b o : ℕ) (γ : GName) (ys : List Progress) (k : ℕ)
+module _ {M : Type 1} (𝓤 : URA M) (H : Heap 𝓤) (A : Atoms 𝓤) (W : Given 𝓤 H A) (mem : Memory → SProp 𝓤) (run : Routine → Fun 𝓤) (κ : Lft) (q : Share)
+    (b o : ℕ) (γ : GName) (ys : List Progress) (k : ℕ)
     (gn : Room R (length ys)) (gk : k < 2 ^ 32) where
   abbrev n : ℕ
   n = length ys
@@ -125,7 +128,8 @@ module _ {M : Type 1} (𝓤 : URA M) (H : Heap 𝓤) (A : Atoms 𝓤) (W : Given
       → ent 𝓤 (⋆ 𝓤 H A (‵ (fobs γ (codedHoleys R .code (heres R zs))) ∷ ‵ (fbor κ (Held R (length zs) b o γ)) ∷ ‵ (flft κ q) ∷ [])) (Post vunit)
   exits zs l e =
       qed W (‵ (fobs γ (codedHoleys R .code (heres R zs))) ∷ ‵ (fbor κ (Held R (length zs) b o γ)) ∷ ‵ (flft κ q) ∷ []) ∵
-      suffices ! _ (ends-at 𝓤 H A clears.ended stayed (clears.clauses 𝓤 H A mem run) W (((κ, tt), (q, tt), tt, a, at), tt) vunit tt (zs, (tt, tt)) (l, (tt, tt))) $ says ! e $
+      suffices ! _ (ends-at 𝓤 H A clears.ended stayed (clears.clauses 𝓤 H A mem run) W (((κ, tt), (q, tt), tt, a, at), tt) vunit tt (zs, (tt, tt))
+      (l, (tt, tt))) $ says ! e $
       nothing ! $ move ! (3 ∷ 0 ∷ []) $ join ! $ frame ! $
       fjoin ! $ pureI ! (at-slice R (x zs) (at .0)) (tt, (tt, tt)) (ap (λ (m : ℕ). sliceVal (b, o) m ∷ []) (sym l), subst (Room R) (sym l) gn) $ fjoin ! $
       nothing ! $ owned ! u32 (Is u32) (uint-makes 𝓤 H A W w32) k _ (refl, gk) $ fjoin ! $ move ! (1 ∷ 0 ∷ []) $ fjoin ! $ frame ! $
@@ -176,7 +180,8 @@ module _ {M : Type 1} (𝓤 : URA M) (H : Heap 𝓤) (A : Atoms 𝓤) (W : Given
     all s over = stored-at s c (omega (arith, over, s .within)) ∙ clears-all k c ys counts
 
     next-is : (s : Upto) → s .i < c → (r : Progress) → r ≡ zeros → set (s .rs) (s .i) r ≡ zeroRecords (s .i + 1) ys
-    next-is s less r e = ap (λ (p : Progress). set (s .rs) (s .i) p) e ∙ ap (λ (l : List Progress). set l (s .i) zeros) (s .is) ∙ zeros-more (s .i) ys (omega (arith, less, pre))
+    next-is s less r e =
+        ap (λ (p : Progress). set (s .rs) (s .i) p) e ∙ ap (λ (l : List Progress). set l (s .i) zeros) (s .is) ∙ zeros-more (s .i) ys (omega (arith, less, pre))
 
     next-within : (s : Upto) → s .i < c → s .i + 1 ≤ c
     next-within s less = omega (arith, less)
@@ -195,7 +200,11 @@ module _ {M : Type 1} (𝓤 : URA M) (H : Heap 𝓤) (A : Atoms 𝓤) (W : Given
       En = (tyUnit, l₀) ∷ (sl₁, l₁) ∷ (word, l₂) ∷ (long, l₃) ∷ (long, l₄) ∷ (long, l₅) ∷ (tyBool, l₆) ∷ (T′.mir, l₇) ∷ (long, l₈) ∷ (tyPtr, l₉) ∷ []
 
       abbrev At : Upto → List (Item 𝓤)
-      At s = rooms 𝓤 ((tyPtr, l₉) ∷ (long, l₈) ∷ (T′.mir, l₇) ∷ (tyBool, l₆) ∷ (long, l₅) ∷ []) (holds 𝓤 (((long, l₄), vint w64 (s .i)) ∷ ((long, l₃), vint w64 c) ∷ ((word, l₂), vint w32 k) ∷ ((sl₁, l₁), v₁) ∷ []) (rooms 𝓤 ((tyUnit, l₀) ∷ []) (‵ (row R fullShare (s .rs) b o) ∷ ‵ (fobor κ q (Held R n b o γ)) ∷ ‵ (fobs γ (codedHoleys R .code (heres R ys))) ∷ ‵ (fauth γ (codedHoleys R .code (heres R ys))) ∷ [])))
+      At s =
+          rooms 𝓤 ((tyPtr, l₉) ∷ (long, l₈) ∷ (T′.mir, l₇) ∷ (tyBool, l₆) ∷ (long, l₅) ∷ [])
+          (holds 𝓤 (((long, l₄), vint w64 (s .i)) ∷ ((long, l₃), vint w64 c) ∷ ((word, l₂), vint w32 k) ∷ ((sl₁, l₁), v₁) ∷ [])
+          (rooms 𝓤 ((tyUnit, l₀) ∷ []) (‵ (row R fullShare (s .rs) b o) ∷ ‵ (fobor κ q (Held R n b o γ)) ∷ ‵ (fobs γ (codedHoleys R .code (heres R ys)))
+          ∷ ‵ (fauth γ (codedHoleys R .code (heres R ys))) ∷ [])))
 
       abbrev Turned : Upto → Out → SProp 𝓤
       Turned s = afterTurn 𝓤 H (Below 𝓤 H A Nearer At s) (afterBlock 𝓤 H (afterSeq 𝓤 H (Wp 𝓤 H C Λ En mir′.t-5 (atReturn 𝓤 H En Post)) (atReturn 𝓤 H En Post)))
@@ -204,7 +213,8 @@ module _ {M : Type 1} (𝓤 : URA M) (H : Heap 𝓤) (A : Atoms 𝓤) (W : Given
       ends : (s : Upto) → c ≤ s .i → Sq W (At s) (runs C Λ En mir′.turn-1 (anyQ (Turned s)))
       unfolding afterTurn
       ends s over =
-          assigns ! (bin ! (load ! (from ! (stop !)) (look ! 10 refl)) (load ! (from ! (stop !)) (look ! 12 refl)) tt) (from ! (stop !)) (init ! 6 refl (tt, tt)) $
+          assigns ! (bin ! (load ! (from ! (stop !)) (look ! 10 refl)) (load ! (from ! (stop !)) (look ! 12 refl)) tt) (from ! (stop !))
+          (init ! 6 refl (tt, tt)) $
           rewrite ! 6 (λ (t : Bool). ‵ (fat fullShare tyBool l₆ 0 (vbool t))) (le-ltb _ _ over) refl $
           leaves-loop ! (load ! (from ! (stop !)) (look ! 6 refl)) $
           exec ! C Λ En mir′.t-5 (atRet En Post) $
@@ -229,13 +239,15 @@ module _ {M : Type 1} (𝓤 : URA M) (H : Heap 𝓤) (A : Atoms 𝓤) (W : Given
           let next-fits : s .i + 1 < 2 ^ 64 = omega (arith, less, gc) in
           let inside : s .i < n = omega (arith, less, pre) in
           let inside′ : s .i < length (s .rs) = omega (arith, less, pre, same s) in
-          assigns ! (bin ! (load ! (from ! (stop !)) (look ! 10 refl)) (load ! (from ! (stop !)) (look ! 12 refl)) tt) (from ! (stop !)) (init ! 6 refl (tt, tt)) $
+          assigns ! (bin ! (load ! (from ! (stop !)) (look ! 10 refl)) (load ! (from ! (stop !)) (look ! 12 refl)) tt) (from ! (stop !))
+          (init ! 6 refl (tt, tt)) $
           rewrite ! 6 (λ (t : Bool). ‵ (fat fullShare tyBool l₆ 0 (vbool t))) (lt-ltb _ _ less) refl $
           stays ! (load ! (from ! (stop !)) (look ! 6 refl)) $
           nothing ! $
           use1 W (raw (Of 𝓤 H A mem run .pre to-of)) goes $
           calls-at ! (fmOf 𝓤 H (W .laws) 𝓣) (Of 𝓤 H A mem run) known to-of (no-more !) (λ w.
-          use1 W (later (some (λ (r : Progress). (‵ ftrue ⊛ ‵ (R .own r (w ∷ []))) ⊛ raw (ensured 𝓤 H A zero-fn.ended (zero-fn.clauses 𝓤 H A mem run) tt tt tt r)))) (id⊢ 𝓤 _) $
+          use1 W (later (some (λ (r : Progress). (‵ ftrue ⊛ ‵ (R .own r (w ∷ []))) ⊛ raw (ensured 𝓤 H A zero-fn.ended (zero-fn.clauses 𝓤 H A mem run) tt tt
+          tt r)))) (id⊢ 𝓤 _) $
           await ! tt $
           pick ! (λ r.
           split ! $
@@ -246,17 +258,22 @@ module _ {M : Type 1} (𝓤 : URA M) (H : Heap 𝓤) (A : Atoms 𝓤) (W : Given
           move ! (1 ∷ []) $
           peeks ! R (Is R) (shows 𝓤 H A R) r (w ∷ []) (λ is.
           land ! (from ! (stop !)) (init ! 6 refl (LL.lawful T.the-type T′.the-laws 𝓤 H A W .typed r _ is .0)) $
-          assigns ! (bin ! (load ! (from ! (stop !)) (look ! 12 refl)) (lit ! tt) (record { fits = offset-fits n (s .i) (gn .1) inside })) (from ! (stop !)) (init ! 4 refl (tt, record { fits = offset-fits n (s .i) (gn .1) inside })) $
-          assigns ! (bin ! (load ! (from ! (fld ! refl (stop !))) (look-in ! 18 (sub ! 0 refl (whole !)))) (load ! (from ! (stop !)) (look ! 4 refl)) tt) (from ! (stop !)) (init ! 2 refl (tt, tt)) $
+          assigns ! (bin ! (load ! (from ! (stop !)) (look ! 12 refl)) (lit ! tt) (record { fits = offset-fits n (s .i) (gn .1) inside })) (from ! (stop !))
+          (init ! 4 refl (tt, record { fits = offset-fits n (s .i) (gn .1) inside })) $
+          assigns ! (bin ! (load ! (from ! (fld ! refl (stop !))) (look-in ! 18 (sub ! 0 refl (whole !)))) (load ! (from ! (stop !)) (look ! 4 refl)) tt)
+          (from ! (stop !)) (init ! 2 refl (tt, tt)) $
           rewrite ! 2 (λ (p′ : ℕ). ‵ (fat fullShare tyPtr l₉ 0 (vptr b p′))) (sym (place-is 12 o (s .i))) refl $
           move ! (22 ∷ []) $
-          elem-out ! R (Is R) (shows 𝓤 H A R) (LL.vals T.the-type T′.the-laws) (LL.tells T.the-type T′.the-laws) fullShare (s .rs) (s .i) zeros b o inside′ (λ g.
-          assigns ! (of-opd ! (load ! (from ! (stop !)) (look ! 9 refl))) (from ! (hop ! (look ! 5 refl) (stop !))) (store-raw ! 0 refl (LL.lawful T.the-type T′.the-laws 𝓤 H A W .typed r _ is .0)) $
+          elem-out ! R (Is R) (shows 𝓤 H A R) (LL.vals T.the-type T′.the-laws) (LL.tells T.the-type T′.the-laws) fullShare (s .rs) (s .i) zeros b o inside′
+          (λ g.
+          assigns ! (of-opd ! (load ! (from ! (stop !)) (look ! 9 refl))) (from ! (hop ! (look ! 5 refl) (stop !)))
+          (store-raw ! 0 refl (LL.lawful T.the-type T′.the-laws 𝓤 H A W .typed r _ is .0)) $
           move ! (1 ∷ []) $
           let-go ! $
           move ! (0 ∷ 2 ∷ 1 ∷ []) $
           elem-put ! R fullShare (s .rs) (s .i) r (w ∷ []) b o inside′ $
-          assigns-last ! (bin ! (load ! (from ! (stop !)) (look ! 12 refl)) (lit ! tt) (record { fits = next-fits })) (from ! (stop !)) (store ! 12 refl (tt, record { fits = next-fits })) $
+          assigns-last ! (bin ! (load ! (from ! (stop !)) (look ! 12 refl)) (lit ! tt) (record { fits = next-fits })) (from ! (stop !))
+          (store ! 12 refl (tt, record { fits = next-fits })) $
           forget ! 8 refl $
           forget ! 6 refl $
           forget ! 4 refl $
@@ -269,8 +286,12 @@ module _ {M : Type 1} (𝓤 : URA M) (H : Heap 𝓤) (A : Atoms 𝓤) (W : Given
 
     -- from the count on
     opened : (𝓣 : Tables 𝓤 H) → Triple 𝓤 (𝓣 .C #records·zero) (Of 𝓤 H A mem run) → (l₀ l₁ l₂ l₃ l₄ l₅ l₆ l₇ l₈ l₉ : ℕ)
-        → Sq W (rooms 𝓤 ((tyPtr, l₉) ∷ (long, l₈) ∷ (T′.mir, l₇) ∷ (tyBool, l₆) ∷ (long, l₅) ∷ (long, l₄) ∷ []) (holds 𝓤 (((long, l₃), vint w64 c) ∷ ((word, l₂), vint w32 k) ∷ ((sl₁, l₁), v₁) ∷ []) (rooms 𝓤 ((tyUnit, l₀) ∷ []) ((‵ (flft κ q) ⊛ ‵ ftrue) ∷ ‵ (owns (MutSlice (named 0) κ R ∷ u32 ∷ []) a at) ∷ []))))
-        (runs (𝓣 .C) (𝓣 .Λ) ((tyUnit, l₀) ∷ (sl₁, l₁) ∷ (word, l₂) ∷ (long, l₃) ∷ (long, l₄) ∷ (long, l₅) ∷ (tyBool, l₆) ∷ (T′.mir, l₇) ∷ (long, l₈) ∷ (tyPtr, l₉) ∷ []) mir′.t-3 (atRet ((tyUnit, l₀) ∷ (sl₁, l₁) ∷ (word, l₂) ∷ (long, l₃) ∷ (long, l₄) ∷ (long, l₅) ∷ (tyBool, l₆) ∷ (T′.mir, l₇) ∷ (long, l₈) ∷ (tyPtr, l₉) ∷ []) Post))
+        → Sq W (rooms 𝓤 ((tyPtr, l₉) ∷ (long, l₈) ∷ (T′.mir, l₇) ∷ (tyBool, l₆) ∷ (long, l₅) ∷ (long, l₄) ∷ [])
+        (holds 𝓤 (((long, l₃), vint w64 c) ∷ ((word, l₂), vint w32 k) ∷ ((sl₁, l₁), v₁) ∷ [])
+        (rooms 𝓤 ((tyUnit, l₀) ∷ []) ((‵ (flft κ q) ⊛ ‵ ftrue) ∷ ‵ (owns (MutSlice (named 0) κ R ∷ u32 ∷ []) a at) ∷ []))))
+        (runs (𝓣 .C) (𝓣 .Λ) ((tyUnit, l₀) ∷ (sl₁, l₁) ∷ (word, l₂) ∷ (long, l₃) ∷ (long, l₄) ∷ (long, l₅) ∷ (tyBool, l₆) ∷ (T′.mir, l₇) ∷ (long, l₈)
+        ∷ (tyPtr, l₉) ∷ []) mir′.t-3 (atRet ((tyUnit, l₀) ∷ (sl₁, l₁) ∷ (word, l₂) ∷ (long, l₃) ∷ (long, l₄) ∷ (long, l₅) ∷ (tyBool, l₆) ∷ (T′.mir, l₇)
+        ∷ (long, l₈) ∷ (tyPtr, l₉) ∷ []) Post))
     opened 𝓣 known l₀ l₁ l₂ l₃ l₄ l₅ l₆ l₇ l₈ l₉ =
         assigns ! (of-opd ! (lit ! tt)) (from ! (stop !)) (init ! 10 refl (tt, record { fits = lit< tt })) $
         move ! (21 ∷ []) $
@@ -291,15 +312,20 @@ module _ {M : Type 1} (𝓤 : URA M) (H : Heap 𝓤) (A : Atoms 𝓤) (W : Given
       → ent 𝓤 (onEntry 𝓤 H A clears.signature (κ, tt) (q, tt) a at) (WpFn 𝓤 H (𝓣 .C) (𝓣 .Λ) code.function (v₁ ∷ vint w32 k ∷ []) Post)
   walk 𝓣 known₀ known =
       qed W ((‵ (flft κ q) ⊛ ‵ ftrue) ∷ ‵ (owns (MutSlice (named 0) κ R ∷ u32 ∷ []) a at) ∷ []) ∵ enter ! (𝓣 .C) (𝓣 .Λ) code.function (v₁ ∷ vint w32 k ∷ []) _ $
-      alloc1 ! (λ l₀. alloc1 ! (λ l₁. alloc1 ! (λ l₂. alloc1 ! (λ l₃. alloc1 ! (λ l₄. alloc1 ! (λ l₅. alloc1 ! (λ l₆. alloc1 ! (λ l₇. alloc1 ! (λ l₈. alloc1 ! (λ l₉. alloc0 ! $ params1 ! $
+      alloc1 ! (λ l₀. alloc1
+      ! (λ l₁. alloc1 ! (λ l₂. alloc1
+      ! (λ l₃. alloc1 ! (λ l₄. alloc1 ! (λ l₅. alloc1 ! (λ l₆. alloc1 ! (λ l₇. alloc1 ! (λ l₈. alloc1 ! (λ l₉. alloc0 ! $ params1 ! $
       pass1 ! (init ! 16 refl (tt, (tt, (record { fits = gn .0 }, tt)))) $
       pass1 ! (init ! 14 refl (tt, record { fits = gk })) $
       pass0 ! $
-      assigns ! (of-opd ! (load ! (from ! (fld ! refl (stop !))) (look-in ! 16 (sub ! 1 refl (whole !))))) (from ! (stop !)) (init ! 8 refl (tt, record { fits = gn .0 })) $
+      assigns ! (of-opd ! (load ! (from ! (fld ! refl (stop !))) (look-in ! 16 (sub ! 1 refl (whole !))))) (from ! (stop !))
+      (init ! 8 refl (tt, record { fits = gn .0 })) $
       nothing ! $
       use1 W (raw (Count 𝓤 H A mem run .pre to-count)) asks $
-      calls-at ! (fmOf 𝓤 H (W .laws) 𝓣) (Count 𝓤 H A mem run) known₀ to-count (and-then ! (load ! (from ! (stop !)) (look ! 15 refl)) (and-then ! (load ! (from ! (stop !)) (look ! 9 refl)) (no-more !))) (λ w.
-      use1 W (later (some (λ (r : ℕ). (‵ ftrue ⊛ ‵ (usize .own r (w ∷ []))) ⊛ raw (ensured 𝓤 H A cleared.ended (cleared.clauses 𝓤 H A mem run) tt (k, (n, tt)) tt r)))) (id⊢ 𝓤 _) $
+      calls-at ! (fmOf 𝓤 H (W .laws) 𝓣) (Count 𝓤 H A mem run) known₀ to-count (and-then ! (load ! (from ! (stop !)) (look ! 15 refl))
+      (and-then ! (load ! (from ! (stop !)) (look ! 9 refl)) (no-more !))) (λ w.
+      use1 W (later (some (λ (r : ℕ). (‵ ftrue ⊛ ‵ (usize .own r (w ∷ []))) ⊛ raw (ensured 𝓤 H A cleared.ended (cleared.clauses 𝓤 H A mem run) tt
+      (k, (n, tt)) tt r)))) (id⊢ 𝓤 _) $
       await ! tt $
       pick ! (λ r.
       split ! $
@@ -316,14 +342,16 @@ module _ {M : Type 1} (𝓤 : URA M) (H : Heap 𝓤) (A : Atoms 𝓤) (W : Given
       opened r (is .1) e 𝓣 known l₀ l₁ l₂ l₃ l₄ l₅ l₆ l₇ l₈ l₉))))))))))))))
 
 module _ {M : Type 1} (𝓤 : URA M) (H : Heap 𝓤) (A : Atoms 𝓤) (W : Given 𝓤 H A) (mem : Memory → SProp 𝓤) (run : Routine → Fun 𝓤) where
-  clear-walks : (𝓣 : Tables 𝓤 H) → Triple 𝓤 (𝓣 .C #records·cleared) (Count 𝓤 H A mem run) → Triple 𝓤 (𝓣 .C #records·zero) (Of 𝓤 H A mem run) → Walks 𝓤 H A clears.ended stayed (WpFn 𝓤 H (𝓣 .C) (𝓣 .Λ) code.function) (clears.clauses 𝓤 H A mem run)
+  clear-walks : (𝓣 : Tables 𝓤 H) → Triple 𝓤 (𝓣 .C #records·cleared) (Count 𝓤 H A mem run) → Triple 𝓤 (𝓣 .C #records·zero) (Of 𝓤 H A mem run)
+      → Walks 𝓤 H A clears.ended stayed (WpFn 𝓤 H (𝓣 .C) (𝓣 .Λ) code.function) (clears.clauses 𝓤 H A mem run)
   clear-walks 𝓣 known₀ known =
       walked 𝓤 H A clears.ended stayed (clears.clauses 𝓤 H A mem run) (WpFn 𝓤 H (𝓣 .C) (𝓣 .Λ) code.function)
       (λ κs. (slice-vals, (uint-vals w32, tt))) (λ κs. (mut-slice-tells (named 0) (κs .0) R, (uint-tells w32, tt)))
       (λ κs qs bounds a g are. via 𝓤 _ (fst∗ 𝓤 _ (emp 𝓤))
       (walk 𝓤 H A W mem run (κs .0) (qs .0) (a .0 .ptr .0) (a .0 .ptr .1) (a .0 .name) (a .0 .now) (a .1 .0) (are .0 .0 .1) (are .1 .0 .1) 𝓣 known₀ known))
 
-clear-meets : {M : Type 1} (𝓤 : URA M) (H : Heap 𝓤) (A : Atoms 𝓤) (W : Given 𝓤 H A) (mem : Memory → SProp 𝓤) (run : Routine → Fun 𝓤) (𝓣 : Tables 𝓤 H) → Triple 𝓤 (𝓣 .C #records·cleared) (Count 𝓤 H A mem run) → Triple 𝓤 (𝓣 .C #records·zero) (Of 𝓤 H A mem run)
+clear-meets : {M : Type 1} (𝓤 : URA M) (H : Heap 𝓤) (A : Atoms 𝓤) (W : Given 𝓤 H A) (mem : Memory → SProp 𝓤) (run : Routine → Fun 𝓤) (𝓣 : Tables 𝓤 H)
+    → Triple 𝓤 (𝓣 .C #records·cleared) (Count 𝓤 H A mem run) → Triple 𝓤 (𝓣 .C #records·zero) (Of 𝓤 H A mem run)
     → Meets 𝓤 H A clears.signature (WpFn 𝓤 H (𝓣 .C) (𝓣 .Λ) code.function) (clears.spec 𝓤 H A mem run)
 clear-meets 𝓤 H A W mem run 𝓣 known₀ known =
     walk-meets 𝓤 H A clears.ended stayed W (goes-slice 𝓤 H A W 1 0 tt (plain (λ _. R)), (goes-none 𝓤 H A W 1 (λ _. u32) yes (λ κs x f. refl), tt))

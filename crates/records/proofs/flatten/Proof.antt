@@ -25,9 +25,11 @@ use prog.Wp.{Heap, Out, Env, afterSeq, afterBlock, afterTurn, Calls, Loops, Wp, 
 use ghost.Atoms.{Atoms, sem}
 use contract.Monad.{Fun, fact}
 use contract.Running.{givenOf, tables, tablesOf}
-use types.Kit.{Given, Item, ‵, raw, some, later, runs, anyQ, atRet, Sq, _⊛_, ⋆, _$_, _∵_, !, qed, by, move, keep, use1, split, join, pick, rewrite, fsplit, fjoin, suffices, frame, await, done}
+use types.Kit.{Given, Item, ‵, raw, some, later, runs, anyQ, atRet, Sq, _⊛_, ⋆, _$_, _∵_, !, qed, by, move, keep, use1, split, join, pick, rewrite}
+use types.Kit.{fsplit, fjoin, suffices, frame, await, done}
 use types.Part.{whole, sub, look-in}
-use types.Run.{look, look-raw, init, store, forget, stop, hop, fld, from, load, lit, of-opd, bin, and-then, no-more, assigns, assigns-last, land, first, blocks, stays, leaves-loop, exec, Below, again, loops, returns, enter, alloc1, alloc0, params1, pass1, pass0}
+use types.Run.{look, look-raw, init, store, forget, stop, hop, fld, from, load, lit, of-opd, bin, and-then, no-more, assigns, assigns-last, land}
+use types.Run.{first, blocks, stays, leaves-loop, exec, Below, again, loops, returns, enter, alloc1, alloc0, params1, pass1, pass0}
 use types.Share.{arr-parts}
 use sound.WpLaws.{fmOf, WpFn-mono}
 use denote.RattleType.{RattleType, owns}
@@ -107,7 +109,8 @@ module _ {M : Type 1} (𝓤 : URA M) (H : Heap 𝓤) (A : Atoms 𝓤) (mem : Mem
       → ent 𝓤 (ensured 𝓤 H A with-record.ended (with-record.clauses 𝓤 H A mem run) tt (f, (i, (p, tt))) tt r) (fact 𝓤 (r ≡ withRecord f i p))
   with-of f i p r = exE 𝓤 _ (λ ws. snd∗ 𝓤 (sem 𝓤 H A (lasts with-record.ended tt (f, (i, (p, tt))) ws)) (fact 𝓤 (r ≡ withRecord f i p)))
 
-module _ {M : Type 1} (𝓤 : URA M) (H : Heap 𝓤) (A : Atoms 𝓤) (W : Given 𝓤 H A) (mem : Memory → SProp 𝓤) (run : Routine → Fun 𝓤) (κ : Lft) (q : Share) (b o : ℕ) (γ : GName) (ys : List Progress) (gn : Room R (length ys)) where
+module _ {M : Type 1} (𝓤 : URA M) (H : Heap 𝓤) (A : Atoms 𝓤) (W : Given 𝓤 H A) (mem : Memory → SProp 𝓤) (run : Routine → Fun 𝓤) (κ : Lft) (q : Share)
+    (b o : ℕ) (γ : GName) (ys : List Progress) (gn : Room R (length ys)) where
   abbrev n : ℕ
   n = length ys
 
@@ -123,10 +126,12 @@ module _ {M : Type 1} (𝓤 : URA M) (H : Heap 𝓤) (A : Atoms 𝓤) (W : Given
   abbrev Post : Val → SProp 𝓤
   Post = walkOf 𝓤 H A flatten.ended stayed (flatten.clauses 𝓤 H A mem run) .post (((κ, tt), (q, tt), tt, (x, tt), at), tt)
 
-  exits : (f : Flat) → Is F f (low f ∷ []) → Carries f (flatWords ys) → ent 𝓤 (⋆ 𝓤 H A (‵ (ShrSlice (named 0) κ R .own x (at .0)) ∷ ‵ (flft κ q) ∷ [])) (Post (low f))
+  exits : (f : Flat) → Is F f (low f ∷ []) → Carries f (flatWords ys) → ent 𝓤 (⋆ 𝓤 H A (‵ (ShrSlice (named 0) κ R .own x (at .0)) ∷ ‵ (flft κ q) ∷ []))
+      (Post (low f))
   exits f is e =
       qed W (‵ (ShrSlice (named 0) κ R .own x (at .0)) ∷ ‵ (flft κ q) ∷ []) ∵
-      suffices ! _ (ends-at 𝓤 H A flatten.ended stayed (flatten.clauses 𝓤 H A mem run) W (((κ, tt), (q, tt), tt, (x, tt), at), tt) (low f) f (tt, tt) (tt, tt)) $ says ! e $
+      suffices ! _ (ends-at 𝓤 H A flatten.ended stayed (flatten.clauses 𝓤 H A mem run) W (((κ, tt), (q, tt), tt, (x, tt), at), tt) (low f) f (tt, tt)
+      (tt, tt)) $ says ! e $
       nothing ! $ move ! (2 ∷ 0 ∷ []) $ join ! $ frame ! $ nothing ! $ move ! (1 ∷ 0 ∷ []) $ fjoin ! $
       owned ! F (Is F) (LL.makes S.the-type S′.the-plain 𝓤 H A) f _ is $ move ! (1 ∷ 0 ∷ []) $ done !
 
@@ -135,7 +140,8 @@ module _ {M : Type 1} (𝓤 : URA M) (H : Heap 𝓤) (A : Atoms 𝓤) (W : Given
 
   begins : ent 𝓤 (sem 𝓤 H A ftrue) (Empty 𝓤 H A mem run .pre to-empty)
   begins =
-      qed W (‵ ftrue ∷ []) ∵ nothing ! $ owned ! usize (Is usize) (uint-makes 𝓤 H A W w64) (3 * n) _ (refl, words-fit n (gn .1)) $ fjoin ! $ nothing ! $ join ! $ frame ! $ done !
+      qed W (‵ ftrue ∷ []) ∵ nothing ! $ owned ! usize (Is usize) (uint-makes 𝓤 H A W w64) (3 * n) _ (refl, words-fit n (gn .1)) $ fjoin ! $ nothing ! $
+      join ! $ frame ! $ done !
 
   -- how far a turn is: i records are done
   record Upto : Type 0 where
@@ -187,7 +193,11 @@ module _ {M : Type 1} (𝓤 : URA M) (H : Heap 𝓤) (A : Atoms 𝓤) (W : Given
     En = (S′.mir, l₀) ∷ (sl₁, l₁) ∷ (S′.mir, l₂) ∷ (long, l₃) ∷ (long, l₄) ∷ (long, l₅) ∷ (long, l₆) ∷ (tyBool, l₇) ∷ (tyPtr, l₈) ∷ (T′.mir, l₉) ∷ []
 
     abbrev At : Upto → List (Item 𝓤)
-    At s = rooms 𝓤 ((T′.mir, l₉) ∷ (tyPtr, l₈) ∷ (tyBool, l₇) ∷ (long, l₆) ∷ (long, l₅) ∷ (long, l₄) ∷ []) (holds 𝓤 (((long, l₃), vint w64 (s .i)) ∷ ((S′.mir, l₂), low (s .flat)) ∷ ((sl₁, l₁), v₁) ∷ []) (rooms 𝓤 ((S′.mir, l₀) ∷ []) (‵ (row R p ys b o) ∷ ‵ (fobor κ q (arr-parts (shares R) n .part p ys b o)) ∷ ‵ (fshr-bor κ (λ s. arr-parts (shares R) n .part s ys b o)) ∷ ‵ (fres γ (codedHoleys R .code (heres R ys))) ∷ ‵ (at-slice R x (at .0)) ∷ [])))
+    At s =
+        rooms 𝓤 ((T′.mir, l₉) ∷ (tyPtr, l₈) ∷ (tyBool, l₇) ∷ (long, l₆) ∷ (long, l₅) ∷ (long, l₄) ∷ [])
+        (holds 𝓤 (((long, l₃), vint w64 (s .i)) ∷ ((S′.mir, l₂), low (s .flat)) ∷ ((sl₁, l₁), v₁) ∷ [])
+        (rooms 𝓤 ((S′.mir, l₀) ∷ []) (‵ (row R p ys b o) ∷ ‵ (fobor κ q (arr-parts (shares R) n .part p ys b o))
+        ∷ ‵ (fshr-bor κ (λ s. arr-parts (shares R) n .part s ys b o)) ∷ ‵ (fres γ (codedHoleys R .code (heres R ys))) ∷ ‵ (at-slice R x (at .0)) ∷ [])))
 
     abbrev Turned : Upto → Out → SProp 𝓤
     Turned s = afterTurn 𝓤 H (Below 𝓤 H A Nearer At s) (afterBlock 𝓤 H (afterSeq 𝓤 H (Wp 𝓤 H C Λ En mir′.t-6 (atReturn 𝓤 H En Post)) (atReturn 𝓤 H En Post)))
@@ -196,12 +206,14 @@ module _ {M : Type 1} (𝓤 : URA M) (H : Heap 𝓤) (A : Atoms 𝓤) (W : Given
     ends : (s : Upto) → n ≤ s .i → Sq W (At s) (runs C Λ En mir′.turn-1 (anyQ (Turned s)))
     unfolding afterTurn
     ends s over =
-        assigns ! (of-opd ! (load ! (from ! (fld ! refl (stop !))) (look-in ! 16 (sub ! 1 refl (whole !))))) (from ! (stop !)) (init ! 6 refl (tt, record { fits = gn .0 })) $
+        assigns ! (of-opd ! (load ! (from ! (fld ! refl (stop !))) (look-in ! 16 (sub ! 1 refl (whole !))))) (from ! (stop !))
+        (init ! 6 refl (tt, record { fits = gn .0 })) $
         assigns ! (bin ! (load ! (from ! (stop !)) (look ! 12 refl)) (load ! (from ! (stop !)) (look ! 6 refl)) tt) (from ! (stop !)) (init ! 4 refl (tt, tt)) $
         rewrite ! 4 (λ (t : Bool). ‵ (fat fullShare tyBool l₇ 0 (vbool t))) (le-ltb _ _ over) refl $
         leaves-loop ! (load ! (from ! (stop !)) (look ! 4 refl)) $
         exec ! C Λ En mir′.t-6 (atRet En Post) $
-        assigns ! (of-opd ! (load ! (from ! (stop !)) (look ! 14 refl))) (from ! (stop !)) (init ! 18 refl (LL.lawful S.the-type S′.the-laws 𝓤 H A W .typed (s .flat) _ (s .is) .0)) $
+        assigns ! (of-opd ! (load ! (from ! (stop !)) (look ! 14 refl))) (from ! (stop !))
+        (init ! 18 refl (LL.lawful S.the-type S′.the-laws 𝓤 H A W .typed (s .flat) _ (s .is) .0)) $
         move ! (20 ∷ 21 ∷ []) $
         shuts-slice ! tt R p ys b o $
         returns ! (look ! 19 refl) $
@@ -226,21 +238,27 @@ module _ {M : Type 1} (𝓤 : URA M) (H : Heap 𝓤) (A : Atoms 𝓤) (W : Given
     more s less =
         let i-fits : s .i < 2 ^ 64 = omega (arith, gn .0) in
         let next-fits : s .i + 1 < 2 ^ 64 = omega (arith, gn .0) in
-        assigns ! (of-opd ! (load ! (from ! (fld ! refl (stop !))) (look-in ! 16 (sub ! 1 refl (whole !))))) (from ! (stop !)) (init ! 6 refl (tt, record { fits = gn .0 })) $
+        assigns ! (of-opd ! (load ! (from ! (fld ! refl (stop !))) (look-in ! 16 (sub ! 1 refl (whole !))))) (from ! (stop !))
+        (init ! 6 refl (tt, record { fits = gn .0 })) $
         assigns ! (bin ! (load ! (from ! (stop !)) (look ! 12 refl)) (load ! (from ! (stop !)) (look ! 6 refl)) tt) (from ! (stop !)) (init ! 4 refl (tt, tt)) $
         rewrite ! 4 (λ (t : Bool). ‵ (fat fullShare tyBool l₇ 0 (vbool t))) (lt-ltb _ _ less) refl $
         stays ! (load ! (from ! (stop !)) (look ! 4 refl)) $
-        assigns ! (bin ! (load ! (from ! (stop !)) (look ! 12 refl)) (lit ! tt) (record { fits = offset-fits n (s .i) (gn .1) less })) (from ! (stop !)) (store ! 6 refl (tt, record { fits = offset-fits n (s .i) (gn .1) less })) $
-        assigns ! (bin ! (load ! (from ! (fld ! refl (stop !))) (look-in ! 16 (sub ! 0 refl (whole !)))) (load ! (from ! (stop !)) (look ! 6 refl)) tt) (from ! (stop !)) (init ! 2 refl (tt, tt)) $
+        assigns ! (bin ! (load ! (from ! (stop !)) (look ! 12 refl)) (lit ! tt) (record { fits = offset-fits n (s .i) (gn .1) less })) (from ! (stop !))
+        (store ! 6 refl (tt, record { fits = offset-fits n (s .i) (gn .1) less })) $
+        assigns ! (bin ! (load ! (from ! (fld ! refl (stop !))) (look-in ! 16 (sub ! 0 refl (whole !)))) (load ! (from ! (stop !)) (look ! 6 refl)) tt)
+        (from ! (stop !)) (init ! 2 refl (tt, tt)) $
         rewrite ! 2 (λ (p′ : ℕ). ‵ (fat fullShare tyPtr l₈ 0 (vptr b p′))) (sym (place-is 12 o (s .i))) refl $
         move ! (20 ∷ []) $
         elem-out ! R (Is R) (shows 𝓤 H A R) (LL.vals T.the-type T′.the-laws) (LL.tells T.the-type T′.the-laws) p ys (s .i) zeros b o less (λ g.
-        assigns ! (of-opd ! (load ! (from ! (hop ! (look ! 5 refl) (stop !))) (look-raw ! 0 refl))) (from ! (stop !)) (init ! 3 refl (LL.lawful T.the-type T′.the-laws 𝓤 H A W .typed (elem s) _ g .0)) $
+        assigns ! (of-opd ! (load ! (from ! (hop ! (look ! 5 refl) (stop !))) (look-raw ! 0 refl))) (from ! (stop !))
+        (init ! 3 refl (LL.lawful T.the-type T′.the-laws 𝓤 H A W .typed (elem s) _ g .0)) $
         elem-back ! R p ys (s .i) zeros (T′.lowered (elem s) ∷ []) b o less $
         nothing ! $
         use1 W (raw (With 𝓤 H A mem run .pre (to-with s))) (goes s i-fits g) $
-        calls-at ! (fmOf 𝓤 H (W .laws) 𝓣) (With 𝓤 H A mem run) known (to-with s) (and-then ! (load ! (from ! (stop !)) (look ! 16 refl)) (and-then ! (load ! (from ! (stop !)) (look ! 14 refl)) (and-then ! (load ! (from ! (stop !)) (look ! 2 refl)) (no-more !)))) (λ w.
-        use1 W (later (some (λ (r : Flat). (‵ ftrue ⊛ ‵ (F .own r (w ∷ []))) ⊛ raw (ensured 𝓤 H A with-record.ended (with-record.clauses 𝓤 H A mem run) tt (s .flat, (s .i, (elem s, tt))) tt r)))) (id⊢ 𝓤 _) $
+        calls-at ! (fmOf 𝓤 H (W .laws) 𝓣) (With 𝓤 H A mem run) known (to-with s) (and-then ! (load ! (from ! (stop !)) (look ! 16 refl))
+        (and-then ! (load ! (from ! (stop !)) (look ! 14 refl)) (and-then ! (load ! (from ! (stop !)) (look ! 2 refl)) (no-more !)))) (λ w.
+        use1 W (later (some (λ (r : Flat). (‵ ftrue ⊛ ‵ (F .own r (w ∷ []))) ⊛ raw (ensured 𝓤 H A with-record.ended (with-record.clauses 𝓤 H A mem run) tt
+        (s .flat, (s .i, (elem s, tt))) tt r)))) (id⊢ 𝓤 _) $
         await ! tt $
         pick ! (λ r.
         split ! $
@@ -252,21 +270,28 @@ module _ {M : Type 1} (𝓤 : URA M) (H : Heap 𝓤) (A : Atoms 𝓤) (W : Given
         peeks ! F (Is F) (shows 𝓤 H A F) r (w ∷ []) (λ is.
         land ! (from ! (stop !)) (store ! 17 refl (LL.lawful S.the-type S′.the-laws 𝓤 H A W .typed r _ is .0)) $
         rewrite ! 17 (λ (u : Val). ‵ (fat fullShare S′.mir l₂ 0 u)) (ap only (LL.tells S.the-type S′.the-laws r (w ∷ []) is)) refl $
-        assigns-last ! (bin ! (load ! (from ! (stop !)) (look ! 15 refl)) (lit ! tt) (record { fits = next-fits })) (from ! (stop !)) (store ! 15 refl (tt, record { fits = next-fits })) $
+        assigns-last ! (bin ! (load ! (from ! (stop !)) (look ! 15 refl)) (lit ! tt) (record { fits = next-fits })) (from ! (stop !))
+        (store ! 15 refl (tt, record { fits = next-fits })) $
         forget ! 9 refl $
         forget ! 7 refl $
         forget ! 5 refl $
         forget ! 3 refl $
         keep ! (3 ∷ 4 ∷ 5 ∷ 6 ∷ 7 ∷ 8 ∷ 9 ∷ 10 ∷ 11 ∷ 12 ∷ 13 ∷ 14 ∷ 15 ∷ 16 ∷ 17 ∷ 18 ∷ 19 ∷ 20 ∷ 21 ∷ 22 ∷ 2 ∷ 23 ∷ 24 ∷ 25 ∷ 26 ∷ []) $
-        again ! Nearer At s (after s less r (subst (λ (us : List Val). Is F r us) (LL.tells S.the-type S′.the-laws r (w ∷ []) is) is) e) (nearer n (s .i) less))))))
+        again ! Nearer At s (after s less r (subst (λ (us : List Val). Is F r us) (LL.tells S.the-type S′.the-laws r (w ∷ []) is) is) e)
+        (nearer n (s .i) less))))))
 
     turns : (s : Upto) → Sq W (At s) (runs C Λ En mir′.turn-1 (anyQ (Turned s)))
     turns s = ⊎-elim (λ e. ends s (omega (arith, e))) (more s) (eq-or-lt-of-le (s .within))
 
   -- from the first flat words on
-  looked : (𝓣 : Tables 𝓤 H) → Triple 𝓤 (𝓣 .C #records·with-record) (With 𝓤 H A mem run) → (l₀ l₁ l₂ l₃ l₄ l₅ l₆ l₇ l₈ l₉ : ℕ) (r : Flat) → Is F r (low r ∷ []) → r ≡ blank (3 * n)
-      → Sq W (rooms 𝓤 ((T′.mir, l₉) ∷ (tyPtr, l₈) ∷ (tyBool, l₇) ∷ (long, l₆) ∷ (long, l₅) ∷ (long, l₄) ∷ (long, l₃) ∷ []) (holds 𝓤 (((S′.mir, l₂), low r) ∷ ((sl₁, l₁), v₁) ∷ []) (rooms 𝓤 ((S′.mir, l₀) ∷ []) ((‵ (flft κ q) ⊛ ‵ ftrue) ∷ ‵ (owns (ShrSlice (named 0) κ R ∷ []) (x, tt) at) ∷ []))))
-      (runs (𝓣 .C) (𝓣 .Λ) ((S′.mir, l₀) ∷ (sl₁, l₁) ∷ (S′.mir, l₂) ∷ (long, l₃) ∷ (long, l₄) ∷ (long, l₅) ∷ (long, l₆) ∷ (tyBool, l₇) ∷ (tyPtr, l₈) ∷ (T′.mir, l₉) ∷ []) mir′.t-4 (atRet ((S′.mir, l₀) ∷ (sl₁, l₁) ∷ (S′.mir, l₂) ∷ (long, l₃) ∷ (long, l₄) ∷ (long, l₅) ∷ (long, l₆) ∷ (tyBool, l₇) ∷ (tyPtr, l₈) ∷ (T′.mir, l₉) ∷ []) Post))
+  looked : (𝓣 : Tables 𝓤 H) → Triple 𝓤 (𝓣 .C #records·with-record) (With 𝓤 H A mem run) → (l₀ l₁ l₂ l₃ l₄ l₅ l₆ l₇ l₈ l₉ : ℕ) (r : Flat)
+      → Is F r (low r ∷ []) → r ≡ blank (3 * n)
+      → Sq W (rooms 𝓤 ((T′.mir, l₉) ∷ (tyPtr, l₈) ∷ (tyBool, l₇) ∷ (long, l₆) ∷ (long, l₅) ∷ (long, l₄) ∷ (long, l₃) ∷ [])
+      (holds 𝓤 (((S′.mir, l₂), low r) ∷ ((sl₁, l₁), v₁) ∷ [])
+      (rooms 𝓤 ((S′.mir, l₀) ∷ []) ((‵ (flft κ q) ⊛ ‵ ftrue) ∷ ‵ (owns (ShrSlice (named 0) κ R ∷ []) (x, tt) at) ∷ []))))
+      (runs (𝓣 .C) (𝓣 .Λ) ((S′.mir, l₀) ∷ (sl₁, l₁) ∷ (S′.mir, l₂) ∷ (long, l₃) ∷ (long, l₄) ∷ (long, l₅) ∷ (long, l₆) ∷ (tyBool, l₇) ∷ (tyPtr, l₈)
+      ∷ (T′.mir, l₉) ∷ []) mir′.t-4 (atRet ((S′.mir, l₀) ∷ (sl₁, l₁) ∷ (S′.mir, l₂) ∷ (long, l₃) ∷ (long, l₄) ∷ (long, l₅) ∷ (long, l₆) ∷ (tyBool, l₇)
+      ∷ (tyPtr, l₈) ∷ (T′.mir, l₉) ∷ []) Post))
   looked 𝓣 known l₀ l₁ l₂ l₃ l₄ l₅ l₆ l₇ l₈ l₉ r is e =
       assigns ! (of-opd ! (lit ! tt)) (from ! (stop !)) (init ! 12 refl (tt, record { fits = lit< tt })) $
       move ! (21 ∷ []) $
@@ -277,7 +302,8 @@ module _ {M : Type 1} (𝓤 : URA M) (H : Heap 𝓤) (A : Atoms 𝓤) (W : Given
       move ! (24 ∷ []) $
       split ! $
       move ! (3 ∷ 0 ∷ []) $
-      looks-slice ! tt R (Is R) (shows 𝓤 H A R) (LL.vals T.the-type T′.the-laws) (LL.tells T.the-type T′.the-laws) (LL.copy T.the-type T′.the-copy 𝓤 H A W) ys b o (λ p.
+      looks-slice ! tt R (Is R) (shows 𝓤 H A R) (LL.vals T.the-type T′.the-laws) (LL.tells T.the-type T′.the-laws) (LL.copy T.the-type T′.the-copy 𝓤 H A W)
+      ys b o (λ p.
       keep ! (7 ∷ 8 ∷ 9 ∷ 10 ∷ 11 ∷ 12 ∷ 13 ∷ 14 ∷ 15 ∷ 16 ∷ 17 ∷ 18 ∷ 19 ∷ 20 ∷ 21 ∷ 22 ∷ 23 ∷ 24 ∷ 25 ∷ 26 ∷ 0 ∷ 1 ∷ 2 ∷ 4 ∷ 5 ∷ []) $
       first ! $
       blocks ! $
@@ -287,15 +313,20 @@ module _ {M : Type 1} (𝓤 : URA M) (H : Heap 𝓤) (A : Atoms 𝓤) (W : Given
       → ent 𝓤 (onEntry 𝓤 H A flatten.signature (κ, tt) (q, tt) (x, tt) at) (WpFn 𝓤 H (𝓣 .C) (𝓣 .Λ) code.function (v₁ ∷ []) Post)
   walk 𝓣 known₀ known =
       qed W ((‵ (flft κ q) ⊛ ‵ ftrue) ∷ ‵ (owns (ShrSlice (named 0) κ R ∷ []) (x, tt) at) ∷ []) ∵ enter ! (𝓣 .C) (𝓣 .Λ) code.function (v₁ ∷ []) _ $
-      alloc1 ! (λ l₀. alloc1 ! (λ l₁. alloc1 ! (λ l₂. alloc1 ! (λ l₃. alloc1 ! (λ l₄. alloc1 ! (λ l₅. alloc1 ! (λ l₆. alloc1 ! (λ l₇. alloc1 ! (λ l₈. alloc1 ! (λ l₉. alloc0 ! $ params1 ! $
+      alloc1 ! (λ l₀. alloc1
+      ! (λ l₁. alloc1 ! (λ l₂. alloc1
+      ! (λ l₃. alloc1 ! (λ l₄. alloc1 ! (λ l₅. alloc1 ! (λ l₆. alloc1 ! (λ l₇. alloc1 ! (λ l₈. alloc1 ! (λ l₉. alloc0 ! $ params1 ! $
       pass1 ! (init ! 16 refl (tt, (tt, (record { fits = gn .0 }, tt)))) $
       pass0 ! $
-      assigns ! (of-opd ! (load ! (from ! (fld ! refl (stop !))) (look-in ! 16 (sub ! 1 refl (whole !))))) (from ! (stop !)) (init ! 10 refl (tt, record { fits = gn .0 })) $
-      assigns ! (bin ! (lit ! tt) (load ! (from ! (stop !)) (look ! 10 refl)) (record { fits = words-fit n (gn .1) })) (from ! (stop !)) (init ! 8 refl (tt, record { fits = words-fit n (gn .1) })) $
+      assigns ! (of-opd ! (load ! (from ! (fld ! refl (stop !))) (look-in ! 16 (sub ! 1 refl (whole !))))) (from ! (stop !))
+      (init ! 10 refl (tt, record { fits = gn .0 })) $
+      assigns ! (bin ! (lit ! tt) (load ! (from ! (stop !)) (look ! 10 refl)) (record { fits = words-fit n (gn .1) })) (from ! (stop !))
+      (init ! 8 refl (tt, record { fits = words-fit n (gn .1) })) $
       nothing ! $
       use1 W (raw (Empty 𝓤 H A mem run .pre to-empty)) begins $
       calls-at ! (fmOf 𝓤 H (W .laws) 𝓣) (Empty 𝓤 H A mem run) known₀ to-empty (and-then ! (load ! (from ! (stop !)) (look ! 9 refl)) (no-more !)) (λ w.
-      use1 W (later (some (λ (r : Flat). (‵ ftrue ⊛ ‵ (F .own r (w ∷ []))) ⊛ raw (ensured 𝓤 H A empty.ended (empty.clauses 𝓤 H A mem run) tt (3 * n, tt) tt r)))) (id⊢ 𝓤 _) $
+      use1 W (later (some (λ (r : Flat). (‵ ftrue ⊛ ‵ (F .own r (w ∷ []))) ⊛ raw (ensured 𝓤 H A empty.ended (empty.clauses 𝓤 H A mem run) tt (3 * n, tt) tt
+      r)))) (id⊢ 𝓤 _) $
       await ! tt $
       pick ! (λ r.
       split ! $
@@ -326,7 +357,8 @@ flatten-meets : {M : Type 1} (𝓤 : URA M) (H : Heap 𝓤) (A : Atoms 𝓤) (W 
     → Meets 𝓤 H A flatten.signature (WpFn 𝓤 H (𝓣 .C) (𝓣 .Λ) code.function) (flatten.spec 𝓤 H A mem run)
 flatten-meets 𝓤 H A W mem run 𝓣 known₀ known =
     walk-meets 𝓤 H A flatten.ended stayed W (goes-none-slice 𝓤 H A W 1 (0 ∷ []) tt (plain (λ _. R)) yes, tt)
-    (flatten.clauses 𝓤 H A mem run) (WpFn 𝓤 H (𝓣 .C) (𝓣 .Λ) code.function) (WpFn-mono 𝓤 H (W .laws) 𝓣 code.function) (flatten-walks 𝓤 H A W mem run 𝓣 known₀ known)
+    (flatten.clauses 𝓤 H A mem run) (WpFn 𝓤 H (𝓣 .C) (𝓣 .Λ) code.function) (WpFn-mono 𝓤 H (W .laws) 𝓣 code.function)
+    (flatten-walks 𝓤 H A W mem run 𝓣 known₀ known)
 
 pub flatten-spec : {M : Type 1} → stated.statement M
 unfolding code.routine tablesOf

@@ -21,9 +21,11 @@ use prog.Wp.{Heap, Env, Calls, Loops, WpFn, Tables}
 use ghost.Atoms.{Atoms}
 use contract.Monad.{Fun}
 use contract.Running.{givenOf, tables, tablesOf}
-use types.Kit.{Given, Item, ‵, runs, atRet, Sq, _⊛_, ⋆, _$_, _∵_, !, qed, by, move, keep, drop as let-go, split, join, rewrite, fsplit, fjoin, feqI, suffices, frame, done}
+use types.Kit.{Given, Item, ‵, runs, atRet, Sq, _⊛_, ⋆, _$_, _∵_, !, qed, by, move, keep, drop as let-go, split, join, rewrite, fsplit, fjoin, feqI}
+use types.Kit.{suffices, frame, done}
 use types.Part.{whole, sub, look-in}
-use types.Run.{look, init, store-raw, forget, stop, hop, fld, from, load, lit, unit-lit, of-opd, bin, un, assigns, assigns-last, first, skips, branches, exec, returns, enter, alloc1, alloc0, params1, pass1, pass0}
+use types.Run.{look, init, store-raw, forget, stop, hop, fld, from, load, lit, unit-lit, of-opd, bin, un, assigns, assigns-last, first, skips}
+use types.Run.{branches, exec, returns, enter, alloc1, alloc0, params1, pass1, pass0}
 use sound.WpLaws.{WpFn-mono}
 use denote.RattleType.{RattleType, owns}
 use denote.Memory.{pointee}
@@ -82,7 +84,8 @@ put-nowhere : (k i : ℕ) (p : Progress) (rs : List Progress) → k ≢ 0 → rs
 unfolding putAt
 put-nowhere k i p rs h = sym (pick-false _ _ _ (ne-eqb k 0 h))
 
-module _ {M : Type 1} (𝓤 : URA M) (H : Heap 𝓤) (A : Atoms 𝓤) (W : Given 𝓤 H A) (mem : Memory → SProp 𝓤) (run : Routine → Fun 𝓤) (κ : Lft) (q : Share) (b o : ℕ) (γ : GName) (ys : List Progress) (k i : ℕ) (p : Progress)
+module _ {M : Type 1} (𝓤 : URA M) (H : Heap 𝓤) (A : Atoms 𝓤) (W : Given 𝓤 H A) (mem : Memory → SProp 𝓤) (run : Routine → Fun 𝓤) (κ : Lft) (q : Share)
+    (b o : ℕ) (γ : GName) (ys : List Progress) (k i : ℕ) (p : Progress)
     (gn : Room R (length ys)) (gk : k < 2 ^ 32) (gi : i < 2 ^ 32) (gp : Is R p (low p ∷ [])) (pre : k ≡ 0 → i < length ys) where
   abbrev n : ℕ
   n = length ys
@@ -106,7 +109,8 @@ module _ {M : Type 1} (𝓤 : URA M) (H : Heap 𝓤) (A : Atoms 𝓤) (W : Given
       → ent 𝓤 (⋆ 𝓤 H A (‵ (fobs γ (codedHoleys R .code (heres R zs))) ∷ ‵ (fbor κ (Held R (length zs) b o γ)) ∷ ‵ (flft κ q) ∷ [])) (Post vunit)
   exits zs l e =
       qed W (‵ (fobs γ (codedHoleys R .code (heres R zs))) ∷ ‵ (fbor κ (Held R (length zs) b o γ)) ∷ ‵ (flft κ q) ∷ []) ∵
-      suffices ! _ (ends-at 𝓤 H A puts.ended stayed (puts.clauses 𝓤 H A mem run) W (((κ, tt), (q, tt), tt, a, at), tt) vunit tt (zs, (tt, (tt, (tt, tt)))) (l, (tt, (tt, (tt, tt))))) $ says ! e $
+      suffices ! _ (ends-at 𝓤 H A puts.ended stayed (puts.clauses 𝓤 H A mem run) W (((κ, tt), (q, tt), tt, a, at), tt) vunit tt (zs, (tt, (tt, (tt, tt))))
+      (l, (tt, (tt, (tt, tt))))) $ says ! e $
       nothing ! $ move ! (3 ∷ 0 ∷ []) $ join ! $ frame ! $
       fjoin ! $ pureI ! (at-slice R (x zs) (at .0)) (tt, (tt, tt)) (ap (λ (m : ℕ). sliceVal (b, o) m ∷ []) (sym l), subst (Room R) (sym l) gn) $ fjoin ! $
       nothing ! $ owned ! R (Is R) (LL.makes T.the-type T′.the-plain 𝓤 H A) p _ gp $ fjoin ! $
@@ -121,10 +125,14 @@ module _ {M : Type 1} (𝓤 : URA M) (H : Heap 𝓤) (A : Atoms 𝓤) (W : Given
 
     -- the locals with the test's, and the slice open, holding these records
     abbrev At : Item 𝓤 → List Progress → List (Item 𝓤)
-    At t rs = rooms 𝓤 ((tyPtr, l₈) ∷ (long, l₇) ∷ (long, l₆) ∷ []) (t ∷ ‵ (fdies tyBool l₅) ∷ holds 𝓤 (((T′.mir, l₄), low p) ∷ ((word, l₃), vint w32 i) ∷ ((word, l₂), vint w32 k) ∷ ((sl₁, l₁), v₁) ∷ []) (rooms 𝓤 ((tyUnit, l₀) ∷ []) (‵ (row R fullShare rs b o) ∷ ‵ (fobor κ q (Held R n b o γ)) ∷ ‵ (fobs γ (codedHoleys R .code (heres R ys))) ∷ ‵ (fauth γ (codedHoleys R .code (heres R ys))) ∷ [])))
+    At t rs =
+        rooms 𝓤 ((tyPtr, l₈) ∷ (long, l₇) ∷ (long, l₆) ∷ []) (t ∷ ‵ (fdies tyBool l₅) ∷ holds 𝓤 (((T′.mir, l₄), low p) ∷ ((word, l₃), vint w32 i)
+        ∷ ((word, l₂), vint w32 k) ∷ ((sl₁, l₁), v₁) ∷ []) (rooms 𝓤 ((tyUnit, l₀) ∷ []) (‵ (row R fullShare rs b o) ∷ ‵ (fobor κ q (Held R n b o γ))
+        ∷ ‵ (fobs γ (codedHoleys R .code (heres R ys))) ∷ ‵ (fauth γ (codedHoleys R .code (heres R ys))) ∷ [])))
 
     -- the code after the branch
-    ends : (t : Bool) (zs : List Progress) → length zs ≡ n → zs ≡ putAt k i p ys → Sq W (At (‵ (fat fullShare tyBool l₅ 0 (vbool t))) zs) (runs C Λ En mir′.t-3 (atRet En Post))
+    ends : (t : Bool) (zs : List Progress) → length zs ≡ n → zs ≡ putAt k i p ys → Sq W (At (‵ (fat fullShare tyBool l₅ 0 (vbool t))) zs)
+        (runs C Λ En mir′.t-3 (atRet En Post))
     ends t zs l e =
         assigns ! (of-opd ! (unit-lit !)) (from ! (stop !)) (init ! 16 refl (tt, tt)) $
         move ! (18 ∷ 19 ∷ 20 ∷ 21 ∷ []) $
@@ -157,12 +165,15 @@ module _ {M : Type 1} (𝓤 : URA M) (H : Heap 𝓤) (A : Atoms 𝓤) (W : Given
         rewrite ! 6 (λ (t : Bool). ‵ (fat fullShare tyBool l₅ 0 (vbool t))) (eq-eqb k 0 z) refl $
         first ! $ branches ! (load ! (from ! (stop !)) (look ! 6 refl)) (λ _.
         assigns ! (un ! (load ! (from ! (stop !)) (look ! 10 refl)) (record { fits = wide })) (from ! (stop !)) (init ! 4 refl (tt, record { fits = wide })) $
-        assigns ! (bin ! (load ! (from ! (stop !)) (look ! 4 refl)) (lit ! tt) (record { fits = offset-fits n i (gn .1) inside })) (from ! (stop !)) (init ! 2 refl (tt, record { fits = offset-fits n i (gn .1) inside })) $
-        assigns ! (bin ! (load ! (from ! (fld ! refl (stop !))) (look-in ! 14 (sub ! 0 refl (whole !)))) (load ! (from ! (stop !)) (look ! 2 refl)) tt) (from ! (stop !)) (init ! 0 refl (tt, tt)) $
+        assigns ! (bin ! (load ! (from ! (stop !)) (look ! 4 refl)) (lit ! tt) (record { fits = offset-fits n i (gn .1) inside })) (from ! (stop !))
+        (init ! 2 refl (tt, record { fits = offset-fits n i (gn .1) inside })) $
+        assigns ! (bin ! (load ! (from ! (fld ! refl (stop !))) (look-in ! 14 (sub ! 0 refl (whole !)))) (load ! (from ! (stop !)) (look ! 2 refl)) tt)
+        (from ! (stop !)) (init ! 0 refl (tt, tt)) $
         rewrite ! 0 (λ (p′ : ℕ). ‵ (fat fullShare tyPtr l₈ 0 (vptr b p′))) (sym (place-is 12 o i)) refl $
         move ! (18 ∷ []) $
         elem-out ! R (Is R) (shows 𝓤 H A R) (LL.vals T.the-type T′.the-laws) (LL.tells T.the-type T′.the-laws) fullShare ys i zeros b o inside (λ g.
-        assigns-last ! (of-opd ! (load ! (from ! (stop !)) (look ! 11 refl))) (from ! (hop ! (look ! 3 refl) (stop !))) (store-raw ! 0 refl (LL.lawful T.the-type T′.the-laws 𝓤 H A W .typed p _ gp .0)) $
+        assigns-last ! (of-opd ! (load ! (from ! (stop !)) (look ! 11 refl))) (from ! (hop ! (look ! 3 refl) (stop !)))
+        (store-raw ! 0 refl (LL.lawful T.the-type T′.the-laws 𝓤 H A W .typed p _ gp .0)) $
         move ! (1 ∷ []) $
         let-go ! $
         owned ! R (Is R) (LL.makes T.the-type T′.the-plain 𝓤 H A) p (low p ∷ []) gp $
@@ -179,10 +190,13 @@ module _ {M : Type 1} (𝓤 : URA M) (H : Heap 𝓤) (A : Atoms 𝓤) (W : Given
     by-number (yes z) = stored z
     by-number (no h) = stays h
 
-  walk : (C : Calls 𝓤 H) (Λ : Loops 𝓤 H) → ent 𝓤 (onEntry 𝓤 H A puts.signature (κ, tt) (q, tt) a at) (WpFn 𝓤 H C Λ code.function (v₁ ∷ vint w32 k ∷ vint w32 i ∷ low p ∷ []) Post)
+  walk : (C : Calls 𝓤 H) (Λ : Loops 𝓤 H) → ent 𝓤 (onEntry 𝓤 H A puts.signature (κ, tt) (q, tt) a at)
+      (WpFn 𝓤 H C Λ code.function (v₁ ∷ vint w32 k ∷ vint w32 i ∷ low p ∷ []) Post)
   walk C Λ =
-      qed W ((‵ (flft κ q) ⊛ ‵ ftrue) ∷ ‵ (owns (MutSlice (named 0) κ R ∷ u32 ∷ u32 ∷ R ∷ []) a at) ∷ []) ∵ enter ! C Λ code.function (v₁ ∷ vint w32 k ∷ vint w32 i ∷ low p ∷ []) _ $
-      alloc1 ! (λ l₀. alloc1 ! (λ l₁. alloc1 ! (λ l₂. alloc1 ! (λ l₃. alloc1 ! (λ l₄. alloc1 ! (λ l₅. alloc1 ! (λ l₆. alloc1 ! (λ l₇. alloc1 ! (λ l₈. alloc0 ! $ params1 ! $
+      qed W ((‵ (flft κ q) ⊛ ‵ ftrue) ∷ ‵ (owns (MutSlice (named 0) κ R ∷ u32 ∷ u32 ∷ R ∷ []) a at) ∷ []) ∵ enter ! C Λ code.function
+      (v₁ ∷ vint w32 k ∷ vint w32 i ∷ low p ∷ []) _ $
+      alloc1 ! (λ l₀. alloc1
+      ! (λ l₁. alloc1 ! (λ l₂. alloc1 ! (λ l₃. alloc1 ! (λ l₄. alloc1 ! (λ l₅. alloc1 ! (λ l₆. alloc1 ! (λ l₇. alloc1 ! (λ l₈. alloc0 ! $ params1 ! $
       pass1 ! (init ! 14 refl (tt, (tt, (record { fits = gn .0 }, tt)))) $
       pass1 ! (init ! 12 refl (tt, record { fits = gk })) $
       pass1 ! (init ! 10 refl (tt, record { fits = gi })) $
@@ -204,14 +218,22 @@ module _ {M : Type 1} (𝓤 : URA M) (H : Heap 𝓤) (A : Atoms 𝓤) (W : Given
   put-walks : (C : Calls 𝓤 H) (Λ : Loops 𝓤 H) → Walks 𝓤 H A puts.ended stayed (WpFn 𝓤 H C Λ code.function) (puts.clauses 𝓤 H A mem run)
   put-walks C Λ =
       walked 𝓤 H A puts.ended stayed (puts.clauses 𝓤 H A mem run) (WpFn 𝓤 H C Λ code.function)
-      (λ κs. (slice-vals, (uint-vals w32, (uint-vals w32, (LL.vals T.the-type T′.the-laws, tt))))) (λ κs. (mut-slice-tells (named 0) (κs .0) R, (uint-tells w32, (uint-tells w32, (LL.tells T.the-type T′.the-laws, tt)))))
+      (λ κs. (slice-vals, (uint-vals w32, (uint-vals w32, (LL.vals T.the-type T′.the-laws, tt)))))
+      (λ κs. (mut-slice-tells (named 0) (κs .0) R, (uint-tells w32, (uint-tells w32, (LL.tells T.the-type T′.the-laws, tt)))))
       (λ κs qs bounds a g are. needs 𝓤 (a .1 .0 ≡ 0 → a .1 .1 .0 < length (now (a .0))) _ (λ pre.
-      walk 𝓤 H A W mem run (κs .0) (qs .0) (a .0 .ptr .0) (a .0 .ptr .1) (a .0 .name) (a .0 .now) (a .1 .0) (a .1 .1 .0) (a .1 .1 .1 .0) (are .0 .0 .1) (are .1 .0 .1) (are .1 .1 .0 .1) (are .1 .1 .1 .0) pre C Λ))
+      walk 𝓤 H A W mem run (κs .0) (qs .0) (a .0 .ptr .0) (a .0 .ptr .1) (a .0 .name) (a .0 .now) (a .1 .0) (a .1 .1 .0) (a .1 .1 .1 .0) (are .0 .0 .1)
+      (are .1 .0 .1) (are .1 .1 .0 .1) (are .1 .1 .1 .0) pre C Λ))
 
 put-meets : {M : Type 1} (𝓤 : URA M) (H : Heap 𝓤) (A : Atoms 𝓤) (W : Given 𝓤 H A) (mem : Memory → SProp 𝓤) (run : Routine → Fun 𝓤) (𝓣 : Tables 𝓤 H)
     → Meets 𝓤 H A puts.signature (WpFn 𝓤 H (𝓣 .C) (𝓣 .Λ) code.function) (puts.spec 𝓤 H A mem run)
 put-meets 𝓤 H A W mem run 𝓣 =
-    walk-meets 𝓤 H A puts.ended stayed W (goes-slice 𝓤 H A W 1 0 tt (plain (λ _. R)), (goes-none 𝓤 H A W 1 (λ _. u32) plainly (λ κs x f. refl), (goes-none 𝓤 H A W 1 (λ _. u32) plainly (λ κs x f. refl), (goes-none 𝓤 H A W 1 (λ _. R) plainly (λ κs x f. refl), tt))))
+    walk-meets 𝓤 H A puts.ended stayed W (
+      goes-slice 𝓤 H A W 1 0 tt (plain (λ _. R)),
+      (
+        goes-none 𝓤 H A W 1 (λ _. u32) plainly (λ κs x f. refl),
+        (goes-none 𝓤 H A W 1 (λ _. u32) plainly (λ κs x f. refl), (goes-none 𝓤 H A W 1 (λ _. R) plainly (λ κs x f. refl), tt)),
+      ),
+    )
     (puts.clauses 𝓤 H A mem run) (WpFn 𝓤 H (𝓣 .C) (𝓣 .Λ) code.function) (WpFn-mono 𝓤 H (W .laws) 𝓣 code.function) (put-walks 𝓤 H A W mem run (𝓣 .C) (𝓣 .Λ))
 
 pub put-spec : {M : Type 1} → stated.statement M

@@ -16,10 +16,13 @@ same-length c = search needs
 
 returns : tie.Need-returns
 returns c =
-    let flat-of = c .before .before .before .before .before .flat-of in
-    let flat-of2 = c .before .before .before .flat-of2 in
+    let at-flat-of2 = c .before .before .before in
+    let at-flat-of = at-flat-of2 .before .before in
+    let start = at-flat-of .before .before .before .before .before .before .before .before .before in
+    let flat-of = at-flat-of .flat-of in
+    let flat-of2 = at-flat-of2 .flat-of2 in
     let deliver = c .before .before .deliver in
-    let A = c .before .before .before .before .before .before .before .before .before .before .before .before .before .before .args in
+    let A = start .args in
     deliver .ensures (A .progress .now) (A .theirs .now) (flat-of .ensures) (flat-of2 .ensures)
 
 pub deliver-spec : {M : Type 1} → statement M

@@ -20,9 +20,11 @@ part-result-end c = search needs
 
 returns : tie.Need-returns
 returns c =
-    let look-at = c .before .before .before .look-at in
+    let at-look-at = c .before .before .before in
+    let start = at-look-at .before .before .before .before in
+    let look-at = at-look-at .look-at in
     let if1 = c .before .if1 in
-    let A = c .before .before .before .before .before .before .before .args in
+    let A = start .args in
     let number = look-at .ensures .0 (A .first .now) (A .second .now) refl refl in
     seeing.part-none (A .encoded .now) (A .first .now) (A .second .now) (A .office) (A .processor) (look-at .result .number) number (if1 .taken)
 
@@ -52,9 +54,11 @@ part-result-end-2 c =
 
 returns-2 : tie.Need-returns-2
 returns-2 c =
-    let look-at = c .before .before .before .before .look-at in
+    let at-look-at = c .before .before .before .before in
+    let start = at-look-at .before .before .before .before in
+    let look-at = at-look-at .look-at in
     let if1 = c .before .before .if1 in
-    let A = c .before .before .before .before .before .before .before .before .args in
+    let A = start .args in
     let number = look-at .ensures .0 (A .first .now) (A .second .now) refl refl in
     let seen = look-at .ensures .1 (if1 .left) in
     seeing.part-first (A .encoded .now) (A .first .now) (A .second .now) (A .office) (A .processor) (look-at .result .number) number (if1 .left)
@@ -86,9 +90,11 @@ part-result-end-3 c =
 
 returns-3 : tie.Need-returns-3
 returns-3 c =
-    let look-at = c .before .before .before .before .look-at in
+    let at-look-at = c .before .before .before .before in
+    let start = at-look-at .before .before .before .before in
+    let look-at = at-look-at .look-at in
     let if1 = c .before .before .if1 in
-    let A = c .before .before .before .before .before .before .before .before .args in
+    let A = start .args in
     let number = look-at .ensures .0 (A .first .now) (A .second .now) refl refl in
     let seen = look-at .ensures .1 (if1 .left) in
     seeing.part-second (A .encoded .now) (A .first .now) (A .second .now) (A .office) (A .processor) (look-at .result .number) number (if1 .left)

@@ -1,8 +1,8 @@
 -- The marks so far.
-use Prim.Native.Nat.{_-_}
-use mathlib.Core.Logic.{⊎-elim, inl, inr}
 use native.Mathlib.Omega.{arith}
-use lib.ListN.{length}
+use mathlib.Core.Path.{ap}
+use Prim.Native.Nat.{_-_}
+use lib.ListN.{length, set}
 use Rattle.schedule.proofs.Laws as laws
 use borrow.Author.Needs.{needs}
 use Rattle.schedule.proofs.deliver_mail.Statement.{statement}
@@ -16,33 +16,43 @@ abbrev μ-loop : tie.MeasureT-loop
 μ-loop status₀ m₀ status m = length status₀ - m
 
 loop-holds : tie.Need-loop-holds Inv-loop μ-loop
-loop-holds c = laws.mail-start (c .args .status .now)
+loop-holds c =
+    laws.mail-start (c .before .args .status .now)
 
-slice-read-if1 : tie.Need-slice-read-if1 Inv-loop μ-loop
-slice-read-if1 c = omega (arith, c .before .loop-test .taken)
+slice-read-mark-then : tie.Need-slice-read-mark-then Inv-loop μ-loop
+slice-read-mark-then c =
+    omega (arith, c .before .loop-test .taken, c .before .before .loop .inv .long)
+
+mark-then-requires : tie.Need-mark-then-requires Inv-loop μ-loop
+mark-then-requires c κs =
+    search needs
 
 slice-write-status : tie.Need-slice-write-status Inv-loop μ-loop
-slice-write-status c = omega (arith, c .before .before .loop-test .taken)
+slice-write-status c =
+    omega (arith, c .before .before .loop-test .taken, c .before .before .before .loop .inv .long)
 
 add-m : tie.Need-add-m Inv-loop μ-loop
-add-m c = omega (arith, c .before .before .loop-test .taken, c .before .before .before .loop .inv .long)
+add-m c =
+    omega (arith, c .before .before .loop-test .taken, c .before .before .before .loop .inv .long)
 
 loop-less : tie.Need-loop-less Inv-loop μ-loop
-loop-less c = omega (arith, c .before .before .loop-test .taken, c .before .before .before .loop .inv .long)
+loop-less c =
+    omega (arith, c .before .before .loop-test .taken, c .before .before .before .loop .inv .long)
 
 loop-again : tie.Need-loop-again Inv-loop μ-loop
 loop-again c =
-    laws.mail-next (c .before .before .before .before .args .status .now) (c .before .before .before .loop .status)
-    (c .before .before .before .loop .m) (c .before .before .before .loop .inv) (omega
-    (arith, c .before .before .loop-test .taken, c .before .before .before .loop .inv .long)) (c .if1 .status)
-    (⊎-elim (λ w. inl (w .0 .taken, w .1)) (λ w. inr (w .0 .left, w .1)) (c .if1 .came))
+    let loop = c .before .before .before .loop in
+    laws.mail-next (c .before .before .before .before .before .args .status .now) (loop .status) (loop .m) (loop .inv)
+    (omega (arith, c .before .before .loop-test .taken, loop .inv .long)) _ (ap (set (loop .status) (loop .m)) (c .mark-then .ensures))
 
 same-length : tie.Need-same-length Inv-loop μ-loop
-same-length c = c .before .loop .inv .long
+same-length c =
+    c .before .loop .inv .long
 
 returns : tie.Need-returns Inv-loop μ-loop
-returns c = laws.mail-done (c .before .before .args .status .now) (c .before .loop .status) (c .before .loop .m) (c .before .loop .inv)
-    (c .loop-test .left)
+returns c =
+    let loop = c .before .loop in
+    laws.mail-done (c .before .before .before .args .status .now) (loop .status) (loop .m) (loop .inv) (c .loop-test .left)
 
 pub deliver-mail-spec : {M : Type 1} → statement M
 deliver-mail-spec =
@@ -51,7 +61,8 @@ deliver-mail-spec =
     Inv-loop
     μ-loop
     loop-holds
-    slice-read-if1
+    slice-read-mark-then
+    mark-then-requires
     slice-write-status
     add-m
     loop-less

@@ -1,124 +1,176 @@
 -- All tiles finished, mail missing, or the whole tile.
-use mathlib.Core.Path.{refl, sym, ap, _∙_}
 use native.Mathlib.Omega.{arith}
-use Rattle.machine.specs.Machine.{stateOf}
-use Rattle.plan.specs.Shaped.{planOf}
-use Rattle.schedule.proofs.Laws as laws
-use Prim.Native.Nat.{ℕ}
+use mathlib.Core.Path.{refl, sym, ap, _∙_}
+use Prim.Native.Nat.{ℕ, _*_}
 use lib.ListN.{getD}
+use borrow.Author.Tests.{not-true, not-false}
 use Rattle.machine.specs.Plan.{tilesOf}
+use Rattle.machine.specs.Machine.{stateOf}
+use Rattle.nest.specs.Nest.{cells, processors}
+use Rattle.plan.specs.Shaped.{planOf}
+use Rattle.stages.proofs.Parts as parts
+use Rattle.schedule.proofs.Listing as L
+use Rattle.schedule.proofs.Laws as laws
 use borrow.Author.Needs.{needs}
 use Rattle.schedule.proofs.next_tile.Statement.{statement}
 use Rattle.schedule.proofs.next_tile.Tie as tie
 
 mul-finished : tie.Need-mul-finished
-mul-finished c = let S = c .before .before .before .before .before in omega (arith, S .pre .0 .1 .1, S .pre .1 .progress)
+mul-finished c =
+    let S = c .before .before .before .before .before in
+    omega (arith, S .pre .0 .1 .1, S .pre .1 .progress)
 
 mul-finished-2 : tie.Need-mul-finished-2
-mul-finished-2 c = let S = c .before .before .before .before .before in omega (arith, S .pre .0 .1 .1, S .pre .1 .progress)
+mul-finished-2 c =
+    let S = c .before .before .before .before .before in
+    omega (arith, S .pre .0 .1 .1, S .pre .1 .progress)
 
 slice-read-finished : tie.Need-slice-read-finished
-slice-read-finished c = let S = c .before .before .before .before .before .before in omega (arith, S .pre .0 .1 .1, S .pre .1 .progress)
+slice-read-finished c =
+    let S = c .before .before .before .before .before .before in
+    omega (arith, S .pre .0 .1 .1, S .pre .1 .progress)
 
 word-index-requires : tie.Need-word-index-requires
-word-index-requires c κs = search needs
+word-index-requires c κs =
+    search needs
 
 tile-count-requires : tie.Need-tile-count-requires
-tile-count-requires c κs = c .before .before .before .before .before .before .before .pre .0 .0
+tile-count-requires c κs =
+    c .before .before .before .before .before .before .before .pre .0 .0 .planned
 
 returns : tie.Need-returns
 returns c =
-    let S = c .before .before .before .before .before .before .before .before .before in let A = S .args in let p = planOf (A .sizes .route)
-    (A .nest) in let s = stateOf (A .memories .now) (A .buffer .now) (A .progress .now) (A .status .now) in
-    laws.tile-over p (A .source .now) s (A .b) (omega (arith, c .before .tile-count .ensures .0, c .before .before .word-index .ensures, c .if1 .taken))
+    let S = c .before .before .before .before .before .before .before .before .before in
+    laws.tile-over (planOf (S .args .sizes .route) (S .args .nest)) (S .args .source .now)
+    (stateOf (S .args .memories .now) (S .args .buffer .now) (S .args .progress .now) (S .args .status .now)) (S .args .b)
+    (omega (arith, c .before .tile-count .ensures .0, c .before .before .word-index .ensures, c .if1 .taken))
 
 tile-at-requires : tie.Need-tile-at-requires
 tile-at-requires c κs =
-    let S = c .before .before .before .before .before .before .before .before .before in (
-      S .pre .0 .0 .0,
-      (
-        S .pre .0 .0 .1,
-        omega
-            (arith, c .before .tile-count .ensures .0, c .if1 .left),
-      ),
-    )
+    let S = c .before .before .before .before .before .before .before .before .before in
+    (S .pre .0 .0 .planned .0, (S .pre .0 .0 .planned .1, omega (arith, c .before .tile-count .ensures .0, c .if1 .left)))
 
 ready-requires : tie.Need-ready-requires
 ready-requires c κs =
     let S = c .before .before .before .before .before .before .before .before .before .before .before in (
-      (
-        S .pre .0 .0 .0,
-        (S .pre .0 .0 .1, c .before .tile-at .ensures .1),
-      ),
-      S .pre .1 .status,
-    )
-
-whole-tile-requires : tie.Need-whole-tile-requires
-whole-tile-requires c κs =
-    let c12 = c .before .before .before .before .before .before .before .before .before .before .before .before in
-    let S = c12 .before .before .before .before .before in let A = S .args in let p = planOf (A .sizes .route) (A .nest) in let s = stateOf
-    (A .memories .now) (A .buffer .now) (A .progress .now) (A .status .now) in (
-      (S .pre .0 .0, S .pre .0 .1 .0),
-      record {
-        lent = S .pre .1;
-        processor = S .pre .0 .1 .1;
-        tile = c .before .before .before .before .before .before .before .tile-at .ensures .1;
-        here = sym (c .before .before .before .before .before .before .before .tile-at .ensures .0 ∙ ap (λ (k : ℕ). getD (tilesOf p (A .b)) k 0)
-            (c .before .before .before .before .before .before .before .before .before .before .word-index .ensures));
-        finished = refl;
-        few = omega (
-          arith,
-          c .before .before .before .before .before .before .before .before .before .tile-count .ensures .1,
-          c .before .before
-              .before .before .before .before .before .before .before .before .word-index .ensures,
-          c .before .before .before .before .before .before
-              .before .before .if1 .left,
-        );
-      },
+      record { chained = S .pre .0 .0 .byTaker; marks = S .pre .1 .status; few = S .pre .0 .0 .few },
+      omega
+          (arith, c .before .tile-at .ensures .1, L.tiles-few _ _ _ (S .pre .0 .0 .planned .0) (S .pre .0 .0 .planned .1)),
     )
 
 same-length : tie.Need-same-length
-same-length c = search needs
-
-same-length-2 : tie.Need-same-length-2
-same-length-2 c = search needs
-
-same-length-3 : tie.Need-same-length-3
-same-length-3 c = search needs
-
-same-length-4 : tie.Need-same-length-4
-same-length-4 c = search needs
+same-length c =
+    search needs
 
 returns-2 : tie.Need-returns-2
 returns-2 c =
-    let c12 = c .before .before .before .before .before .before .before .before .before .before .before .before in
-    let c24 = c12 .before .before .before .before .before .before .before .before .before .before .before .before in
-    let S = c24 .before .before in let A = S .args in let p = planOf (A .sizes .route) (A .nest) in let s = stateOf (A .memories .now)
-    (A .buffer .now) (A .progress .now) (A .status .now) in
-    laws.tile-does p (A .source .now) s (A .b) (c12 .before .before .before .before .tile-at .result)
-    (c12 .before .before .before .before .tile-at .ensures .0 ∙ ap (λ (k : ℕ). getD (tilesOf p (A .b)) k 0)
-    (c12 .before .before .before .before .before .before .before .word-index .ensures))
-    (omega (
-      arith,
-      c12 .before .before .before .before .before .before .tile-count .ensures .0,
-      c12 .before .before .before .before .before .before
-          .before .word-index .ensures,
-      c12 .before .before .before .before .before .if1 .left,
-    )) (sym
-    (c12 .before .before .ready .ensures) ∙ c12 .before .if2 .taken) _
-    (c .before .before .before .before .before .before .before .before .whole-tile .ensures)
+    let S = c .before .before .before .before .before .before .before .before .before .before .before .before .before in
+    let tile-at = c .before .before .before .tile-at in
+    let word-index = c .before .before .before .before .before .before .word-index in
+    laws.tile-waits (planOf (S .args .sizes .route) (S .args .nest)) (S .args .source .now)
+    (stateOf (S .args .memories .now) (S .args .buffer .now) (S .args .progress .now) (S .args .status .now)) (S .args .b) (tile-at .result)
+    (tile-at .ensures .0 ∙ ap (λ (k : ℕ). getD (tilesOf (planOf (S .args .sizes .route) (S .args .nest)) (S .args .b)) k 0) (word-index .ensures))
+    (sym (c .before .ready .ensures) ∙ not-true _ (c .if2 .taken))
+
+mul-base : tie.Need-mul-base
+mul-base c =
+    let S = c .before .before .before .before .before .before .before .before .before .before .before .before .before in
+    omega (arith, laws.part-few _ _ (S .pre .0 .0 .planned .0) _ (S .pre .0 .1 .1))
+
+add-end : tie.Need-add-end
+add-end c =
+    let S = c .before .before .before .before .before .before .before .before .before .before .before .before .before in
+    omega (arith, laws.part-few _ _ (S .pre .0 .0 .planned .0) _ (S .pre .0 .1 .1))
+
+mul-whole-tile : tie.Need-mul-whole-tile
+mul-whole-tile c =
+    let S = c .before .before .before .before .before .before .before .before .before .before .before .before .before in
+    omega (arith, laws.part-few _ _ (S .pre .0 .0 .planned .0) _ (S .pre .0 .1 .1))
+
+sub-whole-tile : tie.Need-sub-whole-tile
+sub-whole-tile c =
+    search needs
+
+part-whole-tile-start : tie.Need-part-whole-tile-start
+part-whole-tile-start c =
+    search needs
+
+part-whole-tile-end : tie.Need-part-whole-tile-end
+part-whole-tile-end c =
+    let S = c .before .before .before .before .before .before .before .before .before .before .before .before .before in
+    parts.room (processors (S .args .nest)) (S .args .b) (S .args .sizes .cells) (cells (S .args .nest)) _ (S .pre .0 .1 .1)
+    (S .pre .0 .0 .planned .0 .cells) (S .pre .1 .memories)
+
+whole-tile-requires : tie.Need-whole-tile-requires
+whole-tile-requires c κs =
+    let S = c .before .before .before .before .before .before .before .before .before .before .before .before .before .before .before .before in (
+      (S .pre .0 .0, c .before .before .before .before .before .before .tile-at .ensures .1),
+      (
+        (
+          S .pre .0 .1 .0,
+          parts.mid-length (S .args .memories .now) (S .args .b * S .args .sizes .cells) (S .args .sizes .cells)
+              (parts.room (processors (S .args .nest)) (S .args .b) (S .args .sizes .cells) (cells (S .args .nest)) _ (S .pre .0 .1 .1)
+              (S .pre .0 .0 .planned .0 .cells) (S .pre .1 .memories)) ∙ S .pre .0 .0 .planned .0 .cells,
+        ),
+        (S .pre .1 .buffer, S .pre .1 .status),
+      ),
+    )
+
+add-t24 : tie.Need-add-t24
+add-t24 c =
+    let tile-count = c .before .before .before .before .before .before .before .before .before .before .before .before .before .before .before .tile-count in
+    let word-index = c .before .before .before .before .before .before .before .before .before .before .before .before .before .before .before .before
+    .word-index in
+    let if1 = c .before .before .before .before .before .before .before .before .before .before .before .before .before .before .if1 in
+    omega (arith, tile-count .ensures .1, word-index .ensures, if1 .left)
+
+store-record-requires : tie.Need-store-record-requires
+store-record-requires c κs =
+    let S = c .before .before .before .before .before .before .before .before .before .before .before .before .before .before .before .before .before
+    .before .before .before .before .before .before .before in
+    omega (arith, S .pre .0 .1 .1, S .pre .1 .progress)
+
+same-length-2 : tie.Need-same-length-2
+same-length-2 c =
+    search needs
+
+same-length-3 : tie.Need-same-length-3
+same-length-3 c =
+    search needs
+
+same-length-4 : tie.Need-same-length-4
+same-length-4 c =
+    search needs
 
 same-length-5 : tie.Need-same-length-5
-same-length-5 c = search needs
+same-length-5 c =
+    search needs
 
 returns-3 : tie.Need-returns-3
 returns-3 c =
-    let c12 = c .before .before .before .before .before .before .before .before .before .before .before .before in
-    let S = c12 .before in let A = S .args in let p = planOf (A .sizes .route) (A .nest) in let s = stateOf (A .memories .now) (A .buffer .now)
-    (A .progress .now) (A .status .now) in
-    laws.tile-waits p (A .source .now) s (A .b) (c .before .before .before .tile-at .result) (c .before .before .before .tile-at .ensures .0 ∙ ap (λ
-    (k : ℕ). getD (tilesOf p (A .b)) k 0) (c .before .before .before .before .before .before .word-index .ensures)) (sym
-    (c .before .ready .ensures) ∙ c .if2 .left)
+    let S = c .before .before .before .before .before .before .before .before .before .before .before .before .before .before .before .before .before
+    .before .before .before .before .before .before .before .before .before .before in
+    let tile-at = c .before .before .before .before .before .before .before .before .before .before .before .before .before .before .before .before
+    .before .tile-at in
+    let word-index = c .before .before .before .before .before .before .before .before .before .before .before .before .before .before .before .before
+    .before .before .before .before .word-index in
+    let tile-count = c .before .before .before .before .before .before .before .before .before .before .before .before .before .before .before .before
+    .before .before .before .tile-count in
+    let if1 = c .before .before .before .before .before .before .before .before .before .before .before .before .before .before .before .before
+    .before .before .if1 in
+    let ready = c .before .before .before .before .before .before .before .before .before .before .before .before .before .before .before .ready in
+    let if2 = c .before .before .before .before .before .before .before .before .before .before .before .before .before .before .if2 in
+    let whole-tile = c .before .before .before .before .before .before .before .before .before .before .whole-tile in
+    laws.tile-does (planOf (S .args .sizes .route) (S .args .nest)) (S .args .source .now)
+    (stateOf (S .args .memories .now) (S .args .buffer .now) (S .args .progress .now) (S .args .status .now)) (S .args .b) (tile-at .result)
+    (tile-at .ensures .0 ∙ ap (λ (k : ℕ). getD (tilesOf (planOf (S .args .sizes .route) (S .args .nest)) (S .args .b)) k 0) (word-index .ensures))
+    (omega (arith, tile-count .ensures .0, word-index .ensures, if1 .left)) (sym (ready .ensures) ∙ not-false _ (if2 .left)) _
+    (laws.tile-now (S .args .sizes .route) (S .args .nest) (S .args .source .now)
+    (stateOf (S .args .memories .now) (S .args .buffer .now) (S .args .progress .now) (S .args .status .now)) (S .args .b) (tile-at .result) _
+    (S .args .sizes .cells) (S .pre .0 .0 .planned .0 .cells) (S .pre .1) (S .pre .0 .1 .1) refl _ _ _ _
+    (parts.room (processors (S .args .nest)) (S .args .b) (S .args .sizes .cells) (cells (S .args .nest)) _ (S .pre .0 .1 .1)
+    (S .pre .0 .0 .planned .0 .cells) (S .pre .1 .memories)) (whole-tile .kept .1 .1 .1 .1 .1 .1 .1 .0) (whole-tile .ensures .0)
+    (whole-tile .ensures .1 .0) (c .before .before .store-record .ensures) (whole-tile .ensures .1 .1))
 
 pub next-tile-spec : {M : Type 1} → statement M
 next-tile-spec =
@@ -132,11 +184,19 @@ next-tile-spec =
     returns
     tile-at-requires
     ready-requires
-    whole-tile-requires
     same-length
+    returns-2
+    mul-base
+    add-end
+    mul-whole-tile
+    sub-whole-tile
+    part-whole-tile-start
+    part-whole-tile-end
+    whole-tile-requires
+    add-t24
+    store-record-requires
     same-length-2
     same-length-3
     same-length-4
-    returns-2
     same-length-5
     returns-3)

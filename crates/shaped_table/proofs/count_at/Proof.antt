@@ -1,52 +1,84 @@
--- `shaped_table::count_at` meets its contract: of the first s slots.
+-- `shaped_table::count_at` meets its contract: of the slots before s.
 use Prim.Native.Nat.{_-_, _≤_}
-use mathlib.Core.Path.{_≡_}
+use mathlib.Core.Path.{_≡_, sym, _∙_}
 use mathlib.Core.Logic.{⊎-elim, inl, inr}
+use native.Mathlib.Omega.{arith}
 use Rattle.plan.specs.Shaped.{shapedMessage, shapedSlots}
 use Rattle.shaped_table.specs.Table.{endOf}
-use Rattle.scans.proofs.Laws.{seen, seen-start}
-use mathlib.Core.Path.{sym}
-use native.Mathlib.Omega.{arith}
-use borrow.Author.Needs.{needs}
+use Rattle.scans.proofs.Laws.{seen}
 use Rattle.shaped_table.proofs.Laws as L
+use borrow.Author.Needs.{needs}
 use Rattle.shaped_table.proofs.count_at.Statement.{statement}
 use Rattle.shaped_table.proofs.count_at.Tie as tie
 
 abbrev Inv-loop : tie.InvT-loop
-Inv-loop nest sizes lens tile side steps n slots count₀ s₀ count s = (s ≤ slots) × (count ≡ seen (shapedMessage nest) (shapedSlots nest) (endOf side) tile s)
+Inv-loop nest sizes lens tile side steps end count₀ s₀ count s = (s ≤ end) × (count ≡ seen (shapedMessage nest) (shapedSlots nest) (endOf side) tile s)
 
 abbrev μ-loop : tie.MeasureT-loop
-μ-loop nest sizes lens tile side steps n slots count₀ s₀ count s = slots - s
+μ-loop nest sizes lens tile side steps end count₀ s₀ count s = end - s
 
 steps-of-requires : tie.Need-steps-of-requires Inv-loop μ-loop
 steps-of-requires c κs = (c .pre .0, c .pre .1 .0)
 
-tiles-of-requires : tie.Need-tiles-of-requires Inv-loop μ-loop
-tiles-of-requires c κs = ((c .before .pre .0 .accepted), c .before .pre .1 .1 .0 .owned .tiled)
-
-mul-slots : tie.Need-mul-slots Inv-loop μ-loop
-mul-slots c = omega (arith, L.slots-code (c .before .before .before .args .nest) (c .before .before .before .pre .0 .accepted) (c .before .tiles-of .result) (c .before .before .before .args .sizes .ways) (c .before .tiles-of .ensures .0) (L.ways-are (c .before .before .before .args .nest) (c .before .before .before .pre .0 .accepted) (c .before .before .before .args .sizes .ways) (c .before .before .before .args .sizes .route) (c .before .before .before .pre .0 .ways) (c .before .before .before .pre .1 .0)), L.slots-few _ (c .before .before .before .pre .0 .accepted))
+range-of-requires : tie.Need-range-of-requires Inv-loop μ-loop
+range-of-requires c κs =
+    let start = c .before in
+    (start .pre .0, (start .pre .1 .0, start .pre .1 .1 .1))
 
 loop-holds : tie.Need-loop-holds Inv-loop μ-loop
-loop-holds c = (omega arith, sym (seen-start (shapedMessage (c .before .before .before .args .nest)) (shapedSlots (c .before .before .before .args .nest)) (endOf (c .before .before .before .args .side)) (c .before .before .before .args .tile)))
+loop-holds c =
+    let range-of = c .range-of in
+    let start = c .before .before in
+    (range-of .ensures .first-low, L.range-start _ (start .pre .0 .accepted) (start .args .side) (start .args .tile) _ _ (range-of .ensures))
 
 sends-at-requires : tie.Need-sends-at-requires Inv-loop μ-loop
-sends-at-requires c κs = ((c .before .before .before .before .before .pre .0, (c .before .before .before .before .before .pre .1 .0, (c .before .before .before .before .before .pre .1 .1 .0, c .before .before .before .before .steps-of .ensures))), (omega (arith, L.slots-code (c .before .before .before .before .before .args .nest) (c .before .before .before .before .before .pre .0 .accepted) (c .before .before .before .tiles-of .result) (c .before .before .before .before .before .args .sizes .ways) (c .before .before .before .tiles-of .ensures .0) (L.ways-are (c .before .before .before .before .before .args .nest) (c .before .before .before .before .before .pre .0 .accepted) (c .before .before .before .before .before .args .sizes .ways) (c .before .before .before .before .before .args .sizes .route) (c .before .before .before .before .before .pre .0 .ways) (c .before .before .before .before .before .pre .1 .0)), c .loop-test .taken), c .before .before .before .before .before .pre .1 .1 .1))
+sends-at-requires c κs =
+    let start = c .before .before .before .before in (
+      (start .pre .0, (start .pre .1 .0, (start .pre .1 .1 .0, c .before .before .before .steps-of .ensures))),
+      (omega (arith, c .loop-test .taken, c .before .before .range-of .ensures .end-low), start .pre .1 .1 .1),
+    )
 
 add-count : tie.Need-add-count Inv-loop μ-loop
-add-count c = omega (arith, c .before .before .before .loop .inv .1, L.seen-few _ (c .before .before .before .before .before .before .before .pre .0 .accepted) (c .before .before .before .before .before .before .before .args .side) (c .before .before .before .before .before .before .before .args .tile) (c .before .before .before .loop .s), L.slots-code (c .before .before .before .before .before .before .before .args .nest) (c .before .before .before .before .before .before .before .pre .0 .accepted) (c .before .before .before .before .before .tiles-of .result) (c .before .before .before .before .before .before .before .args .sizes .ways) (c .before .before .before .before .before .tiles-of .ensures .0) (L.ways-are (c .before .before .before .before .before .before .before .args .nest) (c .before .before .before .before .before .before .before .pre .0 .accepted) (c .before .before .before .before .before .before .before .args .sizes .ways) (c .before .before .before .before .before .before .before .args .sizes .route) (c .before .before .before .before .before .before .before .pre .0 .ways) (c .before .before .before .before .before .before .before .pre .1 .0)), L.slots-few _ (c .before .before .before .before .before .before .before .pre .0 .accepted), c .before .before .loop-test .taken)
+add-count c =
+    let loop = c .before .before .before .loop in
+    let start = c .before .before .before .before .before .before in
+    omega (
+      arith,
+      loop .inv .1,
+      L.seen-few _ (start .pre .0 .accepted) (start .args .side) (start .args .tile) (loop .s),
+      c .before .before .loop-test .taken,
+      c .before .before .before .before .range-of .ensures .end-low,
+      L.slots-few _ (start .pre .0 .accepted),
+    )
 
 add-s : tie.Need-add-s Inv-loop μ-loop
-add-s c = omega (arith, L.slots-code (c .before .before .before .before .before .before .before .args .nest) (c .before .before .before .before .before .before .before .pre .0 .accepted) (c .before .before .before .before .before .tiles-of .result) (c .before .before .before .before .before .before .before .args .sizes .ways) (c .before .before .before .before .before .tiles-of .ensures .0) (L.ways-are (c .before .before .before .before .before .before .before .args .nest) (c .before .before .before .before .before .before .before .pre .0 .accepted) (c .before .before .before .before .before .before .before .args .sizes .ways) (c .before .before .before .before .before .before .before .args .sizes .route) (c .before .before .before .before .before .before .before .pre .0 .ways) (c .before .before .before .before .before .before .before .pre .1 .0)), L.slots-few _ (c .before .before .before .before .before .before .before .pre .0 .accepted), c .before .before .loop-test .taken)
+add-s c =
+    omega (
+      arith,
+      c .before .before .loop-test .taken,
+      c .before .before .before .before .range-of .ensures .end-low,
+      L.slots-few _ (c .before .before .before .before .before .before .pre .0 .accepted),
+    )
 
 loop-less : tie.Need-loop-less Inv-loop μ-loop
 loop-less c = omega (arith, c .before .before .loop-test .taken)
 
 loop-again : tie.Need-loop-again Inv-loop μ-loop
-loop-again c = (omega (arith, c .before .before .loop-test .taken), L.seen-turn _ (c .before .before .before .before .before .before .before .pre .0 .accepted) (c .before .before .before .before .before .before .before .args .side) (c .before .before .before .before .before .before .before .args .tile) _ _ _ _ (omega (arith, L.slots-code (c .before .before .before .before .before .before .before .args .nest) (c .before .before .before .before .before .before .before .pre .0 .accepted) (c .before .before .before .before .before .tiles-of .result) (c .before .before .before .before .before .before .before .args .sizes .ways) (c .before .before .before .before .before .tiles-of .ensures .0) (L.ways-are (c .before .before .before .before .before .before .before .args .nest) (c .before .before .before .before .before .before .before .pre .0 .accepted) (c .before .before .before .before .before .before .before .args .sizes .ways) (c .before .before .before .before .before .before .before .args .sizes .route) (c .before .before .before .before .before .before .before .pre .0 .ways) (c .before .before .before .before .before .before .before .pre .1 .0)), c .before .before .loop-test .taken)) (c .before .before .before .loop .inv .1) (c .before .sends-at .ensures) (⊎-elim (λ w. inl (w .0 .taken, w .1)) (λ w. inr (w .0 .left, w .1)) (c .if1 .came)))
+loop-again c =
+    let loop-test = c .before .before .loop-test in
+    let start = c .before .before .before .before .before .before in (
+      omega (arith, loop-test .taken),
+      L.seen-turn _ (start .pre .0 .accepted) (start .args .side) (start .args .tile) _ _ _ _
+          (omega (arith, loop-test .taken, c .before .before .before .before .range-of .ensures .end-low)) (c .before .before .before .loop .inv .1)
+          (c .before .sends-at .ensures) (⊎-elim (λ w. inl (w .0 .taken, w .1)) (λ w. inr (w .0 .left, w .1)) (c .if1 .came)),
+    )
 
 returns : tie.Need-returns Inv-loop μ-loop
-returns c = L.seen-end _ (c .before .before .before .before .before .pre .0 .accepted) (c .before .before .before .before .before .args .side) (c .before .before .before .before .before .args .tile) _ _ (omega (arith, c .before .loop .inv .0, L.slots-code (c .before .before .before .before .before .args .nest) (c .before .before .before .before .before .pre .0 .accepted) (c .before .before .before .tiles-of .result) (c .before .before .before .before .before .args .sizes .ways) (c .before .before .before .tiles-of .ensures .0) (L.ways-are (c .before .before .before .before .before .args .nest) (c .before .before .before .before .before .pre .0 .accepted) (c .before .before .before .before .before .args .sizes .ways) (c .before .before .before .before .before .args .sizes .route) (c .before .before .before .before .before .pre .0 .ways) (c .before .before .before .before .before .pre .1 .0)))) (omega (arith, c .loop-test .left, L.slots-code (c .before .before .before .before .before .args .nest) (c .before .before .before .before .before .pre .0 .accepted) (c .before .before .before .tiles-of .result) (c .before .before .before .before .before .args .sizes .ways) (c .before .before .before .tiles-of .ensures .0) (L.ways-are (c .before .before .before .before .before .args .nest) (c .before .before .before .before .before .pre .0 .accepted) (c .before .before .before .before .before .args .sizes .ways) (c .before .before .before .before .before .args .sizes .route) (c .before .before .before .before .before .pre .0 .ways) (c .before .before .before .before .before .pre .1 .0)))) (c .before .loop .inv .1)
+returns c =
+    let start = c .before .before .before .before in
+    let loop = c .before .loop in
+    L.ranged-all _ (start .pre .0 .accepted) (start .args .side) (start .args .tile) _ _ (c .before .before .range-of .ensures) _ _ (loop .inv .0)
+    (c .loop-test .left) (loop .inv .1)
 
 pub count-at-spec : {M : Type 1} → statement M
 count-at-spec =
@@ -55,8 +87,7 @@ count-at-spec =
     Inv-loop
     μ-loop
     steps-of-requires
-    tiles-of-requires
-    mul-slots
+    range-of-requires
     loop-holds
     sends-at-requires
     add-count

@@ -1,21 +1,20 @@
 -- `shaped_table::fill` meets its contract: the lengths of the first tiles' parcels.
 use Prim.Native.Nat.{_-_, _*_, _≤_}
-use mathlib.Core.Path.{_≡_, refl, sym, _∙_}
+use mathlib.Core.Path.{refl, sym}
 use native.Mathlib.Nat.{mul-le-mul-right}
-use lib.ListN.{length}
+use native.Mathlib.Omega.{arith}
 use Rattle.plan.specs.Messages.{directions}
 use Rattle.shaped_table.specs.Table.{Filling}
-use native.Mathlib.Omega.{arith}
-use borrow.Author.Needs.{needs}
 use Rattle.shaped_table.proofs.Laws as L
+use borrow.Author.Needs.{needs}
 use Rattle.shaped_table.proofs.fill.Statement.{statement}
 use Rattle.shaped_table.proofs.fill.Tie as tie
 
 abbrev Inv-loop : tie.InvT-loop
-Inv-loop nest sizes lens₀ list₀ n tile₀ lens list tile = Filling nest lens (tile * directions nest) × ((tile ≤ n) × (length list ≡ 16384))
+Inv-loop nest sizes lens₀ most n tile₀ lens tile = Filling nest lens (tile * directions nest) × (tile ≤ n)
 
 abbrev μ-loop : tie.MeasureT-loop
-μ-loop nest sizes lens₀ list₀ n tile₀ lens list tile = n - tile
+μ-loop nest sizes lens₀ most n tile₀ lens tile = n - tile
 
 slice-aggregate-mark-tiles : tie.Need-slice-aggregate-mark-tiles Inv-loop μ-loop
 slice-aggregate-mark-tiles c = sym (L.zeros-long _ refl)
@@ -27,31 +26,50 @@ slice-aggregate-list-tiles : tie.Need-slice-aggregate-list-tiles Inv-loop μ-loo
 slice-aggregate-list-tiles c = sym (c .before .before .mark-tiles .ensures .long)
 
 list-tiles-requires : tie.Need-list-tiles-requires Inv-loop μ-loop
-list-tiles-requires c κs = (c .before .before .before .before .before .pre .0, (c .before .before .before .mark-tiles .ensures, c .before .before .before .before .before .pre .1 .1))
+list-tiles-requires c κs =
+    let start = c .before .before .before .before .before in
+    (start .pre .0, (c .before .before .before .mark-tiles .ensures, start .pre .1 .1))
 
 fill-owners-requires : tie.Need-fill-owners-requires Inv-loop μ-loop
 fill-owners-requires c κs = (c .before .before .before .before .before .before .before .pre .0, c .before .list-tiles .ensures)
 
+farthest-requires : tie.Need-farthest-requires Inv-loop μ-loop
+farthest-requires c κs = (c .before .before .before .before .before .before .before .before .pre .0 .accepted)
+
 tiles-of-requires : tie.Need-tiles-of-requires Inv-loop μ-loop
-tiles-of-requires c κs = ((c .before .before .before .before .before .before .before .before .before .pre .0 .accepted), c .before .fill-owners .ensures .tiled)
+tiles-of-requires c κs = (
+  (c .before .before .before .before .before .before .before .before .before .before .pre .0 .accepted),
+  c .before .before .fill-owners .ensures .tiled,
+)
 
 loop-holds : tie.Need-loop-holds Inv-loop μ-loop
-loop-holds c = (L.filling-none _ (c .before .before .before .before .before .before .before .before .before .before .pre .0 .accepted) _ (c .before .before .fill-owners .ensures), (omega arith, omega arith))
+loop-holds c = (
+  L.filling-none _ (c .before .before .before .before .before .before .before .before .before .before .before .pre .0 .accepted) _
+      (c .before .before .before .fill-owners .ensures),
+  omega arith,
+)
 
 fill-tile-requires : tie.Need-fill-tile-requires Inv-loop μ-loop
-fill-tile-requires c κs = ((c .before .before .before .before .before .before .before .before .before .before .before .before .before .before .pre .0, (c .before .before .before .before .before .before .before .before .before .before .before .before .before .before .pre .1 .0, c .before .before .before .loop .inv .1 .1)), (omega (arith, c .before .before .before .before .tiles-of .ensures .0, c .before .before .loop-test .taken), c .before .before .before .loop .inv .0))
+fill-tile-requires c κs =
+    let start = c .before .before .before .before .before .before .before .before .before .before .before .before .before .before in (
+      (start .pre .0, (start .pre .1 .0, c .before .before .before .before .before .farthest .ensures)),
+      (omega (arith, c .before .before .before .tiles-of .ensures .0, c .before .loop-test .taken), c .before .before .loop .inv .0),
+    )
 
 add-tile : tie.Need-add-tile Inv-loop μ-loop
-add-tile c = omega (arith, c .before .before .before .loop-test .taken, c .before .before .before .before .before .tiles-of .ensures .1)
+add-tile c = omega (arith, c .before .before .loop-test .taken, c .before .before .before .before .tiles-of .ensures .1)
 
 loop-less : tie.Need-loop-less Inv-loop μ-loop
-loop-less c = omega (arith, c .before .before .before .loop-test .taken)
+loop-less c = omega (arith, c .before .before .loop-test .taken)
 
 loop-again : tie.Need-loop-again Inv-loop μ-loop
-loop-again c = (c .fill-tile .ensures .1, (omega (arith, c .before .before .before .loop-test .taken), c .fill-tile .ensures .0))
+loop-again c = (c .fill-tile .ensures, omega (arith, c .before .before .loop-test .taken))
 
 returns : tie.Need-returns Inv-loop μ-loop
-returns c = L.filling-end _ (c .before .before .before .before .before .before .before .before .before .before .before .before .pre .0 .accepted) _ _ (c .before .loop .inv .0) (mul-le-mul-right (directions (c .before .before .before .before .before .before .before .before .before .before .before .before .args .nest)) (omega (arith, c .before .before .tiles-of .ensures .0, c .loop-test .left)))
+returns c =
+    let start = c .before .before .before .before .before .before .before .before .before .before .before .before .before in
+    L.filling-end _ (start .pre .0 .accepted) _ _ (c .before .loop .inv .0)
+    (mul-le-mul-right (directions (start .args .nest)) (omega (arith, c .before .before .tiles-of .ensures .0, c .loop-test .left)))
 
 pub fill-spec : {M : Type 1} → statement M
 fill-spec =
@@ -64,6 +82,7 @@ fill-spec =
     slice-aggregate-list-tiles
     list-tiles-requires
     fill-owners-requires
+    farthest-requires
     tiles-of-requires
     loop-holds
     fill-tile-requires

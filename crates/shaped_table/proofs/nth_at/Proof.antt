@@ -1,76 +1,126 @@
--- `shaped_table::nth_at` meets its contract: not among the first s slots.
+-- `shaped_table::nth_at` meets its contract: not among the slots before s.
 use Prim.Native.Nat.{_-_, _≤_}
 use mathlib.Core.Path.{_≡_, sym, _∙_}
 use mathlib.Core.Logic.{⊎-elim, inl, inr}
+use native.Mathlib.Omega.{arith}
 use Rattle.plan.specs.Shaped.{shapedMessage, shapedSlots}
 use Rattle.shaped_table.specs.Table.{endOf}
 use Rattle.scans.proofs.Laws as scan
-use Rattle.scans.proofs.Laws.{seen-start, not-yet}
-use native.Mathlib.Omega.{arith}
-use borrow.Author.Needs.{needs}
+use Rattle.scans.proofs.Laws.{not-yet}
 use Rattle.shaped_table.proofs.Laws as L
+use borrow.Author.Needs.{needs}
 use Rattle.shaped_table.proofs.nth_at.Statement.{statement}
 use Rattle.shaped_table.proofs.nth_at.Tie as tie
 
 abbrev Inv-loop : tie.InvT-loop
-Inv-loop nest sizes lens tile side j steps n slots seen₀ s₀ seen s = (s ≤ slots) × ((seen ≤ j) × (seen ≡ scan.seen (shapedMessage nest) (shapedSlots nest) (endOf side) tile s))
+Inv-loop nest sizes lens tile side j steps end seen₀ s₀ seen s = (s ≤ end) ×
+    ((seen ≤ j) × (seen ≡ scan.seen (shapedMessage nest) (shapedSlots nest) (endOf side) tile s))
 
 abbrev μ-loop : tie.MeasureT-loop
-μ-loop nest sizes lens tile side j steps n slots seen₀ s₀ seen s = slots - s
+μ-loop nest sizes lens tile side j steps end seen₀ s₀ seen s = end - s
 
 steps-of-requires : tie.Need-steps-of-requires Inv-loop μ-loop
 steps-of-requires c κs = (c .pre .0 .0, c .pre .0 .1 .0)
 
-tiles-of-requires : tie.Need-tiles-of-requires Inv-loop μ-loop
-tiles-of-requires c κs = ((c .before .pre .0 .0 .accepted), c .before .pre .0 .1 .1 .0 .owned .tiled)
-
-mul-slots : tie.Need-mul-slots Inv-loop μ-loop
-mul-slots c = omega (arith, L.slots-code (c .before .before .before .args .nest) (c .before .before .before .pre .0 .0 .accepted) (c .before .tiles-of .result) (c .before .before .before .args .sizes .ways) (c .before .tiles-of .ensures .0) (L.ways-are (c .before .before .before .args .nest) (c .before .before .before .pre .0 .0 .accepted) (c .before .before .before .args .sizes .ways) (c .before .before .before .args .sizes .route) (c .before .before .before .pre .0 .0 .ways) (c .before .before .before .pre .0 .1 .0)), L.slots-few _ (c .before .before .before .pre .0 .0 .accepted))
+range-of-requires : tie.Need-range-of-requires Inv-loop μ-loop
+range-of-requires c κs =
+    let start = c .before in
+    (start .pre .0 .0, (start .pre .0 .1 .0, start .pre .0 .1 .1 .1))
 
 loop-holds : tie.Need-loop-holds Inv-loop μ-loop
-loop-holds c = (omega arith, (omega arith, sym (seen-start (shapedMessage (c .before .before .before .args .nest)) (shapedSlots (c .before .before .before .args .nest)) (endOf (c .before .before .before .args .side)) (c .before .before .before .args .tile))))
+loop-holds c =
+    let range-of = c .range-of in
+    let start = c .before .before in (
+      range-of .ensures .first-low,
+      (omega arith, L.range-start _ (start .pre .0 .0 .accepted) (start .args .side) (start .args .tile) _ _ (range-of .ensures)),
+    )
 
 sends-at-requires : tie.Need-sends-at-requires Inv-loop μ-loop
-sends-at-requires c κs = ((c .before .before .before .before .before .pre .0 .0, (c .before .before .before .before .before .pre .0 .1 .0, (c .before .before .before .before .before .pre .0 .1 .1 .0, c .before .before .before .before .steps-of .ensures))), (omega (arith, L.slots-code (c .before .before .before .before .before .args .nest) (c .before .before .before .before .before .pre .0 .0 .accepted) (c .before .before .before .tiles-of .result) (c .before .before .before .before .before .args .sizes .ways) (c .before .before .before .tiles-of .ensures .0) (L.ways-are (c .before .before .before .before .before .args .nest) (c .before .before .before .before .before .pre .0 .0 .accepted) (c .before .before .before .before .before .args .sizes .ways) (c .before .before .before .before .before .args .sizes .route) (c .before .before .before .before .before .pre .0 .0 .ways) (c .before .before .before .before .before .pre .0 .1 .0)), c .loop-test .taken), c .before .before .before .before .before .pre .0 .1 .1 .1))
+sends-at-requires c κs =
+    let start = c .before .before .before .before in (
+      (start .pre .0 .0, (start .pre .0 .1 .0, (start .pre .0 .1 .1 .0, c .before .before .before .steps-of .ensures))),
+      (omega (arith, c .loop-test .taken, c .before .before .range-of .ensures .end-low), start .pre .0 .1 .1 .1),
+    )
 
 sums-to-requires : tie.Need-sums-to-requires Inv-loop μ-loop
-sums-to-requires c κs = L.sheet _ (c .before .before .before .before .before .before .before .before .pre .0 .0 .accepted) _ (c .before .before .before .before .before .before .before .before .pre .0 .1 .1 .0) _ (omega (arith, L.slots-code (c .before .before .before .before .before .before .before .before .args .nest) (c .before .before .before .before .before .before .before .before .pre .0 .0 .accepted) (c .before .before .before .before .before .before .tiles-of .result) (c .before .before .before .before .before .before .before .before .args .sizes .ways) (c .before .before .before .before .before .before .tiles-of .ensures .0) (L.ways-are (c .before .before .before .before .before .before .before .before .args .nest) (c .before .before .before .before .before .before .before .before .pre .0 .0 .accepted) (c .before .before .before .before .before .before .before .before .args .sizes .ways) (c .before .before .before .before .before .before .before .before .args .sizes .route) (c .before .before .before .before .before .before .before .before .pre .0 .0 .ways) (c .before .before .before .before .before .before .before .before .pre .0 .1 .0)), c .before .before .before .loop-test .taken))
+sums-to-requires c κs =
+    let start = c .before .before .before .before .before .before .before in
+    L.sheet _ (start .pre .0 .0 .accepted) _ (start .pre .0 .1 .1 .0) _
+    (omega (arith, c .before .before .before .loop-test .taken, c .before .before .before .before .before .range-of .ensures .end-low))
 
 mul-half-index : tie.Need-mul-half-index Inv-loop μ-loop
-mul-half-index c = omega (arith, L.slots-code (c .before .before .before .before .before .before .before .before .before .args .nest) (c .before .before .before .before .before .before .before .before .before .pre .0 .0 .accepted) (c .before .before .before .before .before .before .before .tiles-of .result) (c .before .before .before .before .before .before .before .before .before .args .sizes .ways) (c .before .before .before .before .before .before .before .tiles-of .ensures .0) (L.ways-are (c .before .before .before .before .before .before .before .before .before .args .nest) (c .before .before .before .before .before .before .before .before .before .pre .0 .0 .accepted) (c .before .before .before .before .before .before .before .before .before .args .sizes .ways) (c .before .before .before .before .before .before .before .before .before .args .sizes .route) (c .before .before .before .before .before .before .before .before .before .pre .0 .0 .ways) (c .before .before .before .before .before .before .before .before .before .pre .0 .1 .0)), L.slots-few _ (c .before .before .before .before .before .before .before .before .before .pre .0 .0 .accepted), c .before .before .before .before .loop-test .taken, c .before .before .before .before .before .before .before .before .before .pre .0 .1 .1 .0 .owned .tiled .numbers .long)
+mul-half-index c =
+    omega (
+      arith,
+      c .before .before .before .before .loop-test .taken,
+      c .before .before .before .before .before .before .range-of .ensures .end-low,
+      L.slots-few _ (c .before .before .before .before .before .before .before .before .pre .0 .0 .accepted),
+    )
 
 element-copy-out-half-index : tie.Need-element-copy-out-half-index Inv-loop μ-loop
-element-copy-out-half-index c = omega (arith, L.slots-code (c .before .before .before .before .before .before .before .before .before .args .nest) (c .before .before .before .before .before .before .before .before .before .pre .0 .0 .accepted) (c .before .before .before .before .before .before .before .tiles-of .result) (c .before .before .before .before .before .before .before .before .before .args .sizes .ways) (c .before .before .before .before .before .before .before .tiles-of .ensures .0) (L.ways-are (c .before .before .before .before .before .before .before .before .before .args .nest) (c .before .before .before .before .before .before .before .before .before .pre .0 .0 .accepted) (c .before .before .before .before .before .before .before .before .before .args .sizes .ways) (c .before .before .before .before .before .before .before .before .before .args .sizes .route) (c .before .before .before .before .before .before .before .before .before .pre .0 .0 .ways) (c .before .before .before .before .before .before .before .before .before .pre .0 .1 .0)), L.slots-few _ (c .before .before .before .before .before .before .before .before .before .pre .0 .0 .accepted), c .before .before .before .before .loop-test .taken, c .before .before .before .before .before .before .before .before .before .pre .0 .1 .1 .0 .owned .tiled .numbers .long)
+element-copy-out-half-index c =
+    let start = c .before .before .before .before .before .before .before .before in
+    omega (
+      arith,
+      c .before .before .before .before .loop-test .taken,
+      c .before .before .before .before .before .before .range-of .ensures .end-low,
+      L.slots-few _ (start .pre .0 .0 .accepted),
+      (start .pre .0 .1 .1 .0) .owned .tiled .numbers .long,
+    )
 
 half-index-requires : tie.Need-half-index-requires Inv-loop μ-loop
 half-index-requires c κs = search needs
 
 returns : tie.Need-returns Inv-loop μ-loop
-returns c = let f = c .before .before .before .before .before .sends-at .ensures .0 (c .before .before .before .before .if1 .taken) in
-    L.seen-found _ (c .before .before .before .before .before .before .before .before .before .before .before .pre .0 .0 .accepted) (c .before .before .before .before .before .before .before .before .before .before .before .args .side) (c .before .before .before .before .before .before .before .before .before .before .before .args .tile) (c .before .before .before .before .before .before .before .loop .s) (c .before .before .before .before .before .before .before .loop .seen) (c .before .before .before .before .before .before .before .before .before .before .before .args .j) _ _ _ (omega (arith, L.slots-code (c .before .before .before .before .before .before .before .before .before .before .before .args .nest) (c .before .before .before .before .before .before .before .before .before .before .before .pre .0 .0 .accepted) (c .before .before .before .before .before .before .before .before .before .tiles-of .result) (c .before .before .before .before .before .before .before .before .before .before .before .args .sizes .ways) (c .before .before .before .before .before .before .before .before .before .tiles-of .ensures .0) (L.ways-are (c .before .before .before .before .before .before .before .before .before .before .before .args .nest) (c .before .before .before .before .before .before .before .before .before .before .before .pre .0 .0 .accepted) (c .before .before .before .before .before .before .before .before .before .before .before .args .sizes .ways) (c .before .before .before .before .before .before .before .before .before .before .before .args .sizes .route) (c .before .before .before .before .before .before .before .before .before .before .before .pre .0 .0 .ways) (c .before .before .before .before .before .before .before .before .before .before .before .pre .0 .1 .0)), c .before .before .before .before .before .before .loop-test .taken)) (c .before .before .before .before .before .before .before .loop .inv .1 .1) (c .before .before .before .if2 .taken) (f .0) (f .1)
-    (c .before .before .sums-to .ensures .1 .1 (shapedMessage (c .before .before .before .before .before .before .before .before .before .before .before .args .nest)) (L.lengths _ (c .before .before .before .before .before .before .before .before .before .before .before .pre .0 .0 .accepted) _ (c .before .before .before .before .before .before .before .before .before .before .before .pre .0 .1 .1 .0) _ (omega (arith, L.slots-code (c .before .before .before .before .before .before .before .before .before .before .before .args .nest) (c .before .before .before .before .before .before .before .before .before .before .before .pre .0 .0 .accepted) (c .before .before .before .before .before .before .before .before .before .tiles-of .result) (c .before .before .before .before .before .before .before .before .before .before .before .args .sizes .ways) (c .before .before .before .before .before .before .before .before .before .tiles-of .ensures .0) (L.ways-are (c .before .before .before .before .before .before .before .before .before .before .before .args .nest) (c .before .before .before .before .before .before .before .before .before .before .before .pre .0 .0 .accepted) (c .before .before .before .before .before .before .before .before .before .before .before .args .sizes .ways) (c .before .before .before .before .before .before .before .before .before .before .before .args .sizes .route) (c .before .before .before .before .before .before .before .before .before .before .before .pre .0 .0 .ways) (c .before .before .before .before .before .before .before .before .before .before .before .pre .0 .1 .0)), c .before .before .before .before .before .before .loop-test .taken))))
-    (c .half-index .ensures ∙ c .before .before .before .before .before .before .before .before .before .before .before .pre .0 .1 .1 .0 .each (c .before .before .before .before .before .before .before .loop .s) (omega (arith, L.slots-code (c .before .before .before .before .before .before .before .before .before .before .before .args .nest) (c .before .before .before .before .before .before .before .before .before .before .before .pre .0 .0 .accepted) (c .before .before .before .before .before .before .before .before .before .tiles-of .result) (c .before .before .before .before .before .before .before .before .before .before .before .args .sizes .ways) (c .before .before .before .before .before .before .before .before .before .tiles-of .ensures .0) (L.ways-are (c .before .before .before .before .before .before .before .before .before .before .before .args .nest) (c .before .before .before .before .before .before .before .before .before .before .before .pre .0 .0 .accepted) (c .before .before .before .before .before .before .before .before .before .before .before .args .sizes .ways) (c .before .before .before .before .before .before .before .before .before .before .before .args .sizes .route) (c .before .before .before .before .before .before .before .before .before .before .before .pre .0 .0 .ways) (c .before .before .before .before .before .before .before .before .before .before .before .pre .0 .1 .0)), c .before .before .before .before .before .before .loop-test .taken)))
+returns c =
+    let start = c .before .before .before .before .before .before .before .before .before .before in
+    let loop = c .before .before .before .before .before .before .before .loop in
+    let loop-test = c .before .before .before .before .before .before .loop-test in
+    let range-of = c .before .before .before .before .before .before .before .before .range-of in
+    let f = c .before .before .before .before .before .sends-at .ensures .0 (c .before .before .before .before .if1 .taken) in L.seen-found _
+    (start .pre .0 .0 .accepted) (start .args .side) (start .args .tile) (loop .s) (loop .seen) (start .args .j) _ _ _
+    (omega (arith, loop-test .taken, range-of .ensures .end-low)) (loop .inv .1 .1) (c .before .before .before .if2 .taken) (f .0) (f .1)
+    (c .before .before .sums-to .ensures .1 .1 (shapedMessage (start .args .nest))
+    (L.lengths _ (start .pre .0 .0 .accepted) _ (start .pre .0 .1 .1 .0) _ (omega (arith, loop-test .taken, range-of .ensures .end-low))))
+    (c .half-index .ensures ∙ (start .pre .0 .1 .1 .0) .each (loop .s) (omega (arith, loop-test .taken, range-of .ensures .end-low)))
 
 add-seen : tie.Need-add-seen Inv-loop μ-loop
 add-seen c = omega (arith, c .before .before .before .before .loop .inv .1 .0)
 
 add-s : tie.Need-add-s Inv-loop μ-loop
-add-s c = omega (arith, L.slots-code (c .before .before .before .before .before .before .before .args .nest) (c .before .before .before .before .before .before .before .pre .0 .0 .accepted) (c .before .before .before .before .before .tiles-of .result) (c .before .before .before .before .before .before .before .args .sizes .ways) (c .before .before .before .before .before .tiles-of .ensures .0) (L.ways-are (c .before .before .before .before .before .before .before .args .nest) (c .before .before .before .before .before .before .before .pre .0 .0 .accepted) (c .before .before .before .before .before .before .before .args .sizes .ways) (c .before .before .before .before .before .before .before .args .sizes .route) (c .before .before .before .before .before .before .before .pre .0 .0 .ways) (c .before .before .before .before .before .before .before .pre .0 .1 .0)), L.slots-few _ (c .before .before .before .before .before .before .before .pre .0 .0 .accepted), c .before .before .loop-test .taken)
+add-s c =
+    omega (
+      arith,
+      c .before .before .loop-test .taken,
+      c .before .before .before .before .range-of .ensures .end-low,
+      L.slots-few _ (c .before .before .before .before .before .before .pre .0 .0 .accepted),
+    )
 
 loop-less : tie.Need-loop-less Inv-loop μ-loop
 loop-less c = omega (arith, c .before .before .loop-test .taken)
 
 loop-again : tie.Need-loop-again Inv-loop μ-loop
-loop-again c = (
-  omega (arith, c .before .before .loop-test .taken),
-  (
-    ⊎-elim (λ w. not-yet _ _ _ (c .before .before .before .loop .inv .1 .0) (w .1 .left) (w .2)) (λ w. omega (arith, w .1, c .before .before .before .loop .inv .1 .0)) (c .if1 .came),
-    L.seen-turn _ (c .before .before .before .before .before .before .before .pre .0 .0 .accepted) (c .before .before .before .before .before .before .before .args .side) (c .before .before .before .before .before .before .before .args .tile) _ _ _ _ (omega (arith, L.slots-code (c .before .before .before .before .before .before .before .args .nest) (c .before .before .before .before .before .before .before .pre .0 .0 .accepted) (c .before .before .before .before .before .tiles-of .result) (c .before .before .before .before .before .before .before .args .sizes .ways) (c .before .before .before .before .before .tiles-of .ensures .0) (L.ways-are (c .before .before .before .before .before .before .before .args .nest) (c .before .before .before .before .before .before .before .pre .0 .0 .accepted) (c .before .before .before .before .before .before .before .args .sizes .ways) (c .before .before .before .before .before .before .before .args .sizes .route) (c .before .before .before .before .before .before .before .pre .0 .0 .ways) (c .before .before .before .before .before .before .before .pre .0 .1 .0)), c .before .before .loop-test .taken)) (c .before .before .before .loop .inv .1 .1) (c .before .sends-at .ensures) (⊎-elim (λ w. inl (w .0 .taken, w .2)) (λ w. inr (w .0 .left, w .1)) (c .if1 .came)),
-  ),
-)
+loop-again c =
+    let loop-test = c .before .before .loop-test in
+    let loop = c .before .before .before .loop in
+    let if1 = c .if1 in
+    let start = c .before .before .before .before .before .before in (
+      omega (arith, loop-test .taken),
+      (
+        ⊎-elim (λ w. not-yet _ _ _ (loop .inv .1 .0) (w .1 .left) (w .2)) (λ w. omega (arith, w .1, loop .inv .1 .0)) (if1 .came),
+        L.seen-turn _ (start .pre .0 .0 .accepted) (start .args .side) (start .args .tile) _ _ _ _
+            (omega (arith, loop-test .taken, c .before .before .before .before .range-of .ensures .end-low)) (loop .inv .1 .1)
+            (c .before .sends-at .ensures) (⊎-elim (λ w. inl (w .0 .taken, w .2)) (λ w. inr (w .0 .left, w .1)) (if1 .came)),
+      ),
+    )
 
 returns-2 : tie.Need-returns-2 Inv-loop μ-loop
-returns-2 c = absurd (L.seen-nowhere _ (c .before .before .before .before .before .pre .0 .0 .accepted) (c .before .before .before .before .before .args .side) (c .before .before .before .before .before .args .tile) _ _ _ (omega (arith, c .before .loop .inv .0, L.slots-code (c .before .before .before .before .before .args .nest) (c .before .before .before .before .before .pre .0 .0 .accepted) (c .before .before .before .tiles-of .result) (c .before .before .before .before .before .args .sizes .ways) (c .before .before .before .tiles-of .ensures .0) (L.ways-are (c .before .before .before .before .before .args .nest) (c .before .before .before .before .before .pre .0 .0 .accepted) (c .before .before .before .before .before .args .sizes .ways) (c .before .before .before .before .before .args .sizes .route) (c .before .before .before .before .before .pre .0 .0 .ways) (c .before .before .before .before .before .pre .0 .1 .0)))) (omega (arith, c .loop-test .left, L.slots-code (c .before .before .before .before .before .args .nest) (c .before .before .before .before .before .pre .0 .0 .accepted) (c .before .before .before .tiles-of .result) (c .before .before .before .before .before .args .sizes .ways) (c .before .before .before .tiles-of .ensures .0) (L.ways-are (c .before .before .before .before .before .args .nest) (c .before .before .before .before .before .pre .0 .0 .accepted) (c .before .before .before .before .before .args .sizes .ways) (c .before .before .before .before .before .args .sizes .route) (c .before .before .before .before .before .pre .0 .0 .ways) (c .before .before .before .before .before .pre .0 .1 .0)))) (c .before .loop .inv .1 .1) (c .before .loop .inv .1 .0) (c .before .before .before .before .before .pre .1))
+returns-2 c =
+    let start = c .before .before .before .before in
+    let loop = c .before .loop in
+    absurd
+    (L.ranged-nowhere _ (start .pre .0 .0 .accepted) (start .args .side) (start .args .tile) _ _ (c .before .before .range-of .ensures) _ _ _
+    (loop .inv .0) (c .loop-test .left) (loop .inv .1 .1) (loop .inv .1 .0) (start .pre .1))
 
 pub nth-at-spec : {M : Type 1} → statement M
 nth-at-spec =
@@ -79,8 +129,7 @@ nth-at-spec =
     Inv-loop
     μ-loop
     steps-of-requires
-    tiles-of-requires
-    mul-slots
+    range-of-requires
     loop-holds
     sends-at-requires
     sums-to-requires

@@ -2,7 +2,6 @@
 use mathlib.Core.Path.{sym, ap, _∙_}
 use lib.ListN.{length}
 use borrow.Author.Tests.{not-true, not-false}
-use Rattle.shaped.proofs.Listing.{listed}
 use native.Mathlib.Omega.{arith}
 use Rattle.shaped_table.proofs.Laws as L
 use borrow.Author.Needs.{needs}
@@ -10,20 +9,65 @@ use Rattle.shaped_table.proofs.slot_length.Statement.{statement}
 use Rattle.shaped_table.proofs.slot_length.Tie as tie
 
 along-of-requires : tie.Need-along-of-requires
-along-of-requires c κs = (c .pre .0 .0, rw (c .pre .0 .1 .0) (c .pre .1 .1))
+along-of-requires c κs = (c .pre .0 .0, rw (c .pre .0 .1 .0) (c .pre .0 .1 .1 .1))
 
 leaves-requires : tie.Need-leaves-requires
-leaves-requires c κs = omega (arith, (c .before .before .pre .0 .0 .accepted) .spread-low, (c .before .before .pre .0 .0 .accepted) .dimensions-most)
+leaves-requires c κs =
+    let start = c .before .before in
+    omega (arith, (start .pre .0 .0 .accepted) .spread-low, (start .pre .0 .0 .accepted) .dimensions-most)
 
 returns : tie.Need-returns
-returns c = (c .before .before .before .before .pre .0 .1 .1, (λ t h e. L.stays-none _ (c .before .before .before .before .pre .0 .0 .accepted) t (c .before .before .before .before .args .way) (c .before .before .before .before .args .tile) h (c .before .before .before .before .pre .1 .1) e _ (rw (c .before .before .before .before .pre .0 .1 .0) at (c .before .before .before .along-of .ensures)) (sym (c .before .leaves .ensures) ∙ not-true _ (c .if1 .taken)), omega arith))
+returns c =
+    let start = c .before .before .before .before in (
+      λ t h e. L.stays-none _ (start .pre .0 .0 .accepted) t (start .args .way) (start .args .tile) h (start .pre .0 .1 .1 .1) e _
+          (rw (start .pre .0 .1 .0) at (c .before .before .before .along-of .ensures)) (sym (c .before .leaves .ensures) ∙ not-true _ (c .if1 .taken)),
+      omega arith,
+    )
 
-cells-of-requires : tie.Need-cells-of-requires
-cells-of-requires c κs = ((c .before .before .before .before .before .pre .0 .0, (c .before .before .before .before .before .pre .0 .1 .0, c .before .before .before .before .before .pre .1)), c .before .before .before .before .before .pre .0 .1 .1)
+outside-requires : tie.Need-outside-requires
+outside-requires c κs =
+    let start = c .before .before .before .before .before in (
+      omega (arith, (start .pre .0 .0 .accepted) .spread-low, (start .pre .0 .0 .accepted) .dimensions-most),
+      L.steps-low _ (start .pre .0 .0 .accepted) (start .args .tile) (start .args .way) _ _ (start .args .sizes .across) (start .pre .1 .1)
+          (rw (start .pre .0 .1 .0) at (c .before .before .before .before .along-of .ensures)) (start .pre .0 .0 .across),
+    )
 
 returns-2 : tie.Need-returns-2
-returns-2 c = (c .cells-of .ensures .long, (λ t h e. listed _ _ _ _ _ (c .cells-of .ensures) ∙ ap length (sym (L.leaves-all _ (c .before .before .before .before .before .before .pre .0 .0 .accepted) t (c .before .before .before .before .before .before .args .way) (c .before .before .before .before .before .before .args .tile) h (c .before .before .before .before .before .before .pre .1 .1) e _ (rw (c .before .before .before .before .before .before .pre .0 .1 .0) at (c .before .before .before .before .before .along-of .ensures)) (sym (c .before .before .before .leaves .ensures) ∙ not-false _ (c .before .before .if1 .left)))), c .cells-of .ensures .few))
+returns-2 c =
+    let start = c .before .before .before .before .before .before .before in
+    let along-of = c .before .before .before .before .before .before .along-of in (
+      λ t h e. sym
+          (ap length (L.leaves-all _ (start .pre .0 .0 .accepted) t (start .args .way) (start .args .tile) h (start .pre .0 .1 .1 .1) e _
+          (rw (start .pre .0 .1 .0) at (along-of .ensures)) (sym (c .before .before .before .before .leaves .ensures) ∙ not-false _
+          (c .before .before .before .if1 .left))) ∙ L.beyond-none _ (start .pre .0 .0 .accepted) (start .args .tile) (start .args .way) _ _
+          (start .args .sizes .across) (start .pre .1 .1) (rw (start .pre .0 .1 .0) at (along-of .ensures)) (start .pre .0 .0 .across)
+          (sym (c .before .outside .ensures) ∙ c .if2 .taken)),
+      omega arith,
+    )
+
+count-of-requires : tie.Need-count-of-requires
+count-of-requires c κs = c .before .before .before .before .before .before .before .pre
+
+returns-3 : tie.Need-returns-3
+returns-3 c =
+    let count-of = c .count-of in
+    let start = c .before .before .before .before .before .before .before .before in (
+      λ t h e. count-of .ensures .0
+          ∙ ap length
+          (sym (L.leaves-all _ (start .pre .0 .0 .accepted) t (start .args .way) (start .args .tile) h (start .pre .0 .1 .1 .1) e _
+          (rw (start .pre .0 .1 .0) at (c .before .before .before .before .before .before .before .along-of .ensures))
+          (sym (c .before .before .before .before .before .leaves .ensures) ∙ not-false _ (c .before .before .before .before .if1 .left)))),
+      count-of .ensures .1,
+    )
 
 pub slot-length-spec : {M : Type 1} → statement M
 slot-length-spec =
-    tie.close (tie.spec along-of-requires leaves-requires returns cells-of-requires returns-2)
+    tie.close
+    (tie.spec
+    along-of-requires
+    leaves-requires
+    returns
+    outside-requires
+    returns-2
+    count-of-requires
+    returns-3)

@@ -30,19 +30,24 @@ product-requires c κs =
 
 returns-3 : tie.Need-returns-3
 returns-3 c =
-    let A = c .before .before .before .before .before .before .before .before .before .before .before .args in
-    let read = c .before .before .before .before .before .read in
-    let left = c .before .before .before .before .if2 .left in
-    R.length-9 (A .encoded .now) (A .file .now) (A .value) (A .source .now)
-    (sym (c .before .before .before .before .before .before .before .ragged .ensures)
-    ∙ c .before .before .before .before .before .before .if1 .left)
-    (sym (number-read (A .encoded .now) (read .result) (read .ensures .0)) ∙ left)
-    (λ q. c .if3 .taken (q ∙ sym (R.size-is (A .encoded .now) (read .result) (read .ensures .0) left _ (c .before .product .ensures))))
+    let at-if2 = c .before .before .before .before in
+    let at-read = at-if2 .before in
+    let at-if1 = at-read .before in
+    let at-ragged = at-if1 .before in
+    let start = at-ragged .before .before .before .before in
+    let A = start .args in
+    let read = at-read .read in
+    let left = at-if2 .if2 .left in
+    R.length-9 (A .encoded .now) (A .file .now) (A .value) (A .source .now) (sym (at-ragged .ragged .ensures) ∙ at-if1 .if1 .left)
+    (sym (number-read (A .encoded .now) (read .result) (read .ensures .0)) ∙ left) (λ q. c .if3 .taken (q ∙ sym (R.size-is (A .encoded .now) (read .result)
+    (read .ensures .0) left _ (c .before .product .ensures))))
 
 fill-source-requires : tie.Need-fill-source-requires
 fill-source-requires c κs =
-    let read = c .before .before .before .before .before .before .read in
-    let left = c .before .before .before .before .before .if2 .left in
+    let at-if2 = c .before .before .before .before .before in
+    let at-read = at-if2 .before in
+    let read = at-read .read in
+    let left = at-if2 .if2 .left in
     R.size-most _ _ (read .ensures .0) left _ (c .before .before .product .ensures) (read .ensures .1 left) _ (c .before .if3 .left)
 
 same-length : tie.Need-same-length
@@ -50,16 +55,19 @@ same-length c = search needs
 
 returns-4 : tie.Need-returns-4
 returns-4 c =
-    let A = c .before .before .before .before .before .before .before .before .before .before .before .before .before .before .before .args in
-    let read = c .before .before .before .before .before .before .before .before .before .read in
-    let left = c .before .before .before .before .before .before .before .before .if2 .left in
-    R.right (A .encoded .now) (A .file .now) (A .value) (A .source .now)
-    (sym (c .before .before .before .before .before .before .before .before .before .before .before .ragged .ensures)
-    ∙ c .before .before .before .before .before .before .before .before .before .before .if1 .left)
-    (sym (number-read (A .encoded .now) (read .result) (read .ensures .0)) ∙ left)
-    _ (c .before .before .fill-source .ensures)
-    (c .before .before .before .before .if3 .left
-    ∙ R.size-is (A .encoded .now) (read .result) (read .ensures .0) left _ (c .before .before .before .before .before .product .ensures))
+    let at-if3 = c .before .before .before .before in
+    let at-product = at-if3 .before in
+    let at-if2 = at-product .before .before .before in
+    let at-read = at-if2 .before in
+    let at-if1 = at-read .before in
+    let at-ragged = at-if1 .before in
+    let start = at-ragged .before .before .before .before in
+    let A = start .args in
+    let read = at-read .read in
+    let left = at-if2 .if2 .left in
+    R.right (A .encoded .now) (A .file .now) (A .value) (A .source .now) (sym (at-ragged .ragged .ensures) ∙ at-if1 .if1 .left)
+    (sym (number-read (A .encoded .now) (read .result) (read .ensures .0)) ∙ left) _ (c .before .before .fill-source .ensures) (at-if3 .if3 .left
+    ∙ R.size-is (A .encoded .now) (read .result) (read .ensures .0) left _ (at-product .product .ensures))
 
 pub fill-spec : {M : Type 1} → statement M
 fill-spec =

@@ -20,19 +20,24 @@ returns c = R.off-22 _ _ _ (sym (c .before .sift .ensures .0) ∙ c .if1 .taken)
 
 copy-requires : tie.Need-copy-requires
 copy-requires c κs =
-    (c .before .before .before .sift .ensures .1 (c .before .before .if1 .left) .long, c .before .before .before .before .before .before .before .before .before .pre)
+    let at-sift = c .before .before .before in
+    let start = at-sift .before .before .before .before .before .before in
+    (at-sift .sift .ensures .1 (c .before .before .if1 .left) .long, start .pre)
 
 same-length : tie.Need-same-length
 same-length c = search needs
 
 returns-2 : tie.Need-returns-2
 returns-2 c =
-    let A = c .before .before .before .before .before .before .before .before .before .before .before .before .args in
-    let off = c .before .before .before .before .before .before .sift .ensures in
-    let left = c .before .before .before .before .before .if1 .left in
-    R.filled-0 (A .file .now) (A .value) (A .source .now) (sym (off .0) ∙ left) _
-    (c .before .before .copy .ensures
-    ∙ S.words-are _ _ _ _ _ (c .before .before .before .before .before .before .before .before .set-out .ensures) (off .1 left))
+    let at-if1 = c .before .before .before .before .before in
+    let at-sift = at-if1 .before in
+    let at-set-out = at-sift .before .before in
+    let start = at-set-out .before .before .before .before in
+    let A = start .args in
+    let off = at-sift .sift .ensures in
+    let left = at-if1 .if1 .left in
+    R.filled-0 (A .file .now) (A .value) (A .source .now) (sym (off .0) ∙ left) _ (c .before .before .copy .ensures ∙ S.words-are _ _ _ _ _
+    (at-set-out .set-out .ensures) (off .1 left))
 
 pub fill-source-spec : {M : Type 1} → statement M
 fill-source-spec = tie.close (tie.spec set-out-requires sift-requires returns copy-requires same-length returns-2)

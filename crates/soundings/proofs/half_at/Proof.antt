@@ -25,25 +25,28 @@ mul-result c = omega (arith, c .byte-word2 .ensures, c .before .shared-slice-kno
 
 add-result : tie.Need-add-result
 add-result c =
+    let start = c .before .before .before .before .before in
     omega (
       arith,
       c .byte-word2 .ensures,
       c .before .before .byte-word .ensures,
-      c .before .shared-slice-known3 .given (c .before .before .before .before .before .args .at),
-      c .before .shared-slice-known3 .given (c .before .before .before .before .before .args .at + 1),
+      c .before .shared-slice-known3 .given (start .args .at),
+      c .before .shared-slice-known3 .given (start .args .at + 1),
     )
 
 returns : tie.Need-returns
-returns c = (
-  omega (arith, c .byte-word2 .ensures, c .before .before .byte-word .ensures),
-  omega (
-    arith,
-    c .byte-word2 .ensures,
-    c .before .before .byte-word .ensures,
-    c .before .shared-slice-known3 .given (c .before .before .before .before .before .args .at),
-    c .before .shared-slice-known3 .given (c .before .before .before .before .before .args .at + 1),
-  ),
-)
+returns c =
+    let start = c .before .before .before .before .before in (
+      omega (arith, c .byte-word2 .ensures, c .before .before .byte-word .ensures),
+      omega (
+        arith,
+        c .byte-word2 .ensures,
+        c .before .before .byte-word .ensures,
+        c .before .shared-slice-known3 .given (start .args .at),
+        c .before .shared-slice-known3 .given
+            (start .args .at + 1),
+      ),
+    )
 
 pub half-at-spec : {M : Type 1} → statement M
 half-at-spec =

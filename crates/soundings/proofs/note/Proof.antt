@@ -82,13 +82,18 @@ element-write-best-3 c = search needs
 
 returns : tie.Need-returns
 returns c =
-    S.noted-taken _ _ _ _ _ _ _ _ (c .before .before .before .before .before .before .before .word-at .ensures) (c .before .before .before .before .before .before .word-at2 .ensures)
-    (c .before .before .before .joined .ensures) (c .before .before .joined2 .ensures) _ (c .word-at3 .ensures) (omega (arith, c .before .if1 .taken))
+    let at-joined = c .before .before .before in
+    let at-word-at2 = at-joined .before .before .before in
+    let at-word-at = at-word-at2 .before in
+    S.noted-taken _ _ _ _ _ _ _ _ (at-word-at .word-at .ensures) (at-word-at2 .word-at2 .ensures) (at-joined .joined .ensures)
+    (c .before .before .joined2 .ensures) _ (c .word-at3 .ensures) (omega (arith, c .before .if1 .taken))
 
 returns-2 : tie.Need-returns-2
 returns-2 c =
-    S.noted-passed _ _ _ _ _ _ _ _ (c .before .before .before .before .before .before .word-at .ensures) (c .before .before .before .before .before .word-at2 .ensures)
-    (c .before .before .joined .ensures) (c .before .joined2 .ensures) (c .if1 .left)
+    let at-word-at2 = c .before .before .before .before .before in
+    let at-word-at = at-word-at2 .before in
+    S.noted-passed _ _ _ _ _ _ _ _ (at-word-at .word-at .ensures) (at-word-at2 .word-at2 .ensures) (c .before .before .joined .ensures)
+    (c .before .joined2 .ensures) (c .if1 .left)
 
 pub note-spec : {M : Type 1} → statement M
 note-spec =

@@ -29,13 +29,11 @@ returns c = (
 )
 
 note-requires : tie.Need-note-requires Inv-loop μ-loop
-note-requires c κs = (
-  c .before .before .before .loop-test .taken,
-  (
-    omega (arith, c .before .before .before .before .before .before .pre .0),
-    c .before .before .before .before .loop .inv .sifted .long,
-  ),
-)
+note-requires c κs =
+    let at-loop-test = c .before .before .before in
+    let at-loop = at-loop-test .before in
+    let start = at-loop .before .before in
+    (at-loop-test .loop-test .taken, (omega (arith, start .pre .0), at-loop .loop .inv .sifted .long))
 
 add-r : tie.Need-add-r Inv-loop μ-loop
 add-r c = search needs
@@ -45,14 +43,17 @@ loop-less c = search needs
 
 loop-again : tie.Need-loop-again Inv-loop μ-loop
 loop-again c =
-    let x = c .before .before .before .before .before .loop .inv in
+    let at-cell-of = c .before .before .before in
+    let at-loop = at-cell-of .before .before in
+    let at-shared-slice-known = at-loop .before in
+    let start = at-shared-slice-known .before in
+    let x = at-loop .loop .inv in
     record {
       few = omega arith;
-      in-box = S.off-more _ _ _ _ (x .in-box) (c .before .before .before .cell-of .ensures) (c .before .before .if1 .left);
-      sifted =
-          S.sifted-more _ (λ i. omega (arith, c .before .before .before .before .before .before .shared-slice-known .given i)) _ _ _ _ _ (x .sifted)
-          (c .before .before .before .cell-of .ensures)
-          (c .before .before .if1 .left) (c .before .before .before .before .before .before .before .pre .0) _ (c .note .ensures);
+      in-box = S.off-more _ _ _ _ (x .in-box) (at-cell-of .cell-of .ensures) (c .before .before .if1 .left);
+      sifted = S.sifted-more
+          _ (λ i. omega (arith, at-shared-slice-known .shared-slice-known .given i)) _ _ _ _ _ (x .sifted) (at-cell-of .cell-of .ensures)
+          (c .before .before .if1 .left) (start .pre .0) _ (c .note .ensures);
     }
 
 returns-2 : tie.Need-returns-2 Inv-loop μ-loop

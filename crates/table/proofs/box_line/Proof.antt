@@ -57,9 +57,11 @@ cast-t13 c =
 
 returns : tie.Need-returns
 returns c =
-    let start = c .before .before .before .before .before in
-    let end-of = c .before .before .before .before .end-of in
-    let end-of2 = c .before .before .before .end-of2 in
+    let at-end-of2 = c .before .before .before in
+    let at-end-of = at-end-of2 .before in
+    let start = at-end-of .before in
+    let end-of = at-end-of .end-of in
+    let end-of2 = at-end-of2 .end-of2 in
     let processor-of = c .before .before .processor-of in
     let processor-of2 = c .before .processor-of2 in
     L.box-line-is _ _ _ _ (start .pre .0 .accepted) (start .pre .1 .1) (start .pre .1 .0) (end-of .result) (end-of2 .result) (processor-of .result)

@@ -33,9 +33,11 @@ cast-t12 c = search needs
 
 returns : tie.Need-returns
 returns c =
-    let start = c .before .before .before .before .before in
-    let tiles-of = c .before .before .before .before .tiles-of in
-    let totals = c .before .before .before .totals in
+    let at-totals = c .before .before .before in
+    let at-tiles-of = at-totals .before in
+    let start = at-tiles-of .before in
+    let tiles-of = at-tiles-of .tiles-of in
+    let totals = at-totals .totals in
     L.figures-are (start .args .sizes .route) (start .args .nest) (tiles-of .result) (totals .result .messages) (totals .result .words)
     (tiles-of .ensures .0) (totals .ensures .0) (totals .ensures .1 .0)
 

@@ -39,30 +39,41 @@ no-hops-requires-2 c κs = search needs
 
 returns-2 : tie.Need-returns-2
 returns-2 c =
-    let read = c .before .before .before .before .before .before .before .before .before .before .read in
-    let if1 = c .before .before .before .before .before .before .before .before .before .if1 in
-    let sizes-of = c .before .before .before .before .before .before .before .sizes-of in
-    c .no-hops2 .ensures
-    ∙ L.hops-none _ (c .before .before .before .before .before .before .before .before .before .before .before .before .args .m) (read .result .nest)
-    (sym (number-read _ _ (read .ensures .0)) ∙ if1 .left) (nest-read _ _ (read .ensures .0) (if1 .left)) (sizes-of .result .route)
-    (sizes-of .ensures .1) (omega (arith, c .before .before .before .totals .ensures .0, c .before .if2 .taken))
+    let at-totals = c .before .before .before in
+    let at-sizes-of = at-totals .before .before .before .before in
+    let at-if1 = at-sizes-of .before .before in
+    let at-read = at-if1 .before in
+    let start = at-read .before .before in
+    let read = at-read .read in
+    let if1 = at-if1 .if1 in
+    let sizes-of = at-sizes-of .sizes-of in
+    c .no-hops2 .ensures ∙ L.hops-none _ (start .args .m) (read .result .nest) (sym (number-read _ _ (read .ensures .0)) ∙ if1 .left)
+    (nest-read _ _ (read .ensures .0) (if1 .left)) (sizes-of .result .route) (sizes-of .ensures .1) (omega (
+      arith,
+      at-totals .totals .ensures .0,
+      c .before .if2 .taken,
+    ))
 
 hops-at-requires : tie.Need-hops-at-requires
 hops-at-requires c κs =
-    let sizes-of = c .before .before .before .before .before .before .before .sizes-of in (
-      (sizes-of .ensures .0, (c .before .before .before .before .before .fill .ensures, sizes-of .ensures .1)),
-      omega (arith, c .before .before .before .totals .ensures .0, c .before .if2 .left),
-    )
+    let at-totals = c .before .before .before in
+    let at-fill = at-totals .before .before in
+    let at-sizes-of = at-fill .before .before in
+    let sizes-of = at-sizes-of .sizes-of in
+    ((sizes-of .ensures .0, (at-fill .fill .ensures, sizes-of .ensures .1)), omega (arith, at-totals .totals .ensures .0, c .before .if2 .left))
 
 returns-3 : tie.Need-returns-3
 returns-3 c =
-    let read = c .before .before .before .before .before .before .before .before .before .before .before .read in
-    let if1 = c .before .before .before .before .before .before .before .before .before .before .if1 in
-    let sizes-of = c .before .before .before .before .before .before .before .before .sizes-of in
-    L.hops-is _ (c .before .before .before .before .before .before .before .before .before .before .before .before .before .args .m)
-    (read .result .nest) (sym (number-read _ _ (read .ensures .0)) ∙ if1 .left) (nest-read _ _ (read .ensures .0) (if1 .left))
-    (sizes-of .result .route) (sizes-of .ensures .1)
-    (omega (arith, c .before .before .before .before .totals .ensures .0, c .before .before .if2 .left)) _ (c .hops-at .ensures)
+    let at-totals = c .before .before .before .before in
+    let at-sizes-of = at-totals .before .before .before .before in
+    let at-if1 = at-sizes-of .before .before in
+    let at-read = at-if1 .before in
+    let start = at-read .before .before in
+    let read = at-read .read in
+    let if1 = at-if1 .if1 in
+    let sizes-of = at-sizes-of .sizes-of in
+    L.hops-is _ (start .args .m) (read .result .nest) (sym (number-read _ _ (read .ensures .0)) ∙ if1 .left) (nest-read _ _ (read .ensures .0) (if1 .left))
+    (sizes-of .result .route) (sizes-of .ensures .1) (omega (arith, at-totals .totals .ensures .0, c .before .before .if2 .left)) _ (c .hops-at .ensures)
 
 pub hops-spec : {M : Type 1} → statement M
 hops-spec =

@@ -28,8 +28,10 @@ sizes-of-requires c κs = accepted-for _ _ _ (c .before .before .before .read-fo
 
 fill-requires : tie.Need-fill-requires
 fill-requires c κs =
-    let read-for = c .before .before .before .before .before .read-for in
-    let if1 = c .before .before .before .before .if1 in
+    let at-if1 = c .before .before .before .before in
+    let at-read-for = at-if1 .before in
+    let read-for = at-read-for .read-for in
+    let if1 = at-if1 .if1 in
     let sizes-of = c .before .sizes-of in (
       sizes-of .ensures .0,
       (
@@ -46,31 +48,43 @@ no-line-requires-2 c κs = search needs
 
 returns-2 : tie.Need-returns-2
 returns-2 c =
-    let read-for = c .before .before .before .before .before .before .before .before .before .before .before .read-for in
-    let if1 = c .before .before .before .before .before .before .before .before .before .before .if1 in
-    let sizes-of = c .before .before .before .before .before .before .before .sizes-of in
-    c .no-line2 .ensures
-    ∙ L.message-none _ _ (c .before .before .before .before .before .before .before .before .before .before .before .before .before .args .m)
-    (read-for .result .nest) (sym (read-for .ensures .number) ∙ if1 .left) (read-for .ensures .nest (if1 .left)) (sizes-of .result .route)
-    (sizes-of .ensures .1 ∙ c .before .before .before .before .before .before .before .before .route-of .ensures)
-    (omega (arith, c .before .before .before .totals .ensures .0, c .before .if2 .taken))
+    let at-totals = c .before .before .before in
+    let at-sizes-of = at-totals .before .before .before .before in
+    let at-route-of = at-sizes-of .before in
+    let at-if1 = at-route-of .before .before in
+    let at-read-for = at-if1 .before in
+    let start = at-read-for .before .before in
+    let read-for = at-read-for .read-for in
+    let if1 = at-if1 .if1 in
+    let sizes-of = at-sizes-of .sizes-of in
+    c .no-line2 .ensures ∙ L.message-none _ _ (start .args .m) (read-for .result .nest) (sym (read-for .ensures .number) ∙ if1 .left)
+    (read-for .ensures .nest (if1 .left)) (sizes-of .result .route) (sizes-of .ensures .1 ∙ at-route-of .route-of .ensures)
+    (omega (arith, at-totals .totals .ensures .0, c .before .if2 .taken))
 
 line-of-requires : tie.Need-line-of-requires
-line-of-requires c κs = (
-  (c .before .before .before .before .before .before .before .sizes-of .ensures .0, c .before .before .before .before .before .fill .ensures),
-  omega (arith, c .before .before .before .totals .ensures .0, c .before .if2 .left),
-)
+line-of-requires c κs =
+    let at-totals = c .before .before .before in
+    let at-fill = at-totals .before .before in
+    let at-sizes-of = at-fill .before .before in
+    ((at-sizes-of .sizes-of .ensures .0, at-fill .fill .ensures), omega (arith, at-totals .totals .ensures .0, c .before .if2 .left))
 
 returns-3 : tie.Need-returns-3
 returns-3 c =
-    let read-for = c .before .before .before .before .before .before .before .before .before .before .before .before .read-for in
-    let if1 = c .before .before .before .before .before .before .before .before .before .before .before .if1 in
-    let sizes-of = c .before .before .before .before .before .before .before .before .sizes-of in
-    c .line-of .ensures
-    ∙ L.message-is _ _ (c .before .before .before .before .before .before .before .before .before .before .before .before .before .before .args .m)
-    (read-for .result .nest) (sym (read-for .ensures .number) ∙ if1 .left) (read-for .ensures .nest (if1 .left)) (sizes-of .result .route)
-    (sizes-of .ensures .1 ∙ c .before .before .before .before .before .before .before .before .before .route-of .ensures)
-    (omega (arith, c .before .before .before .before .totals .ensures .0, c .before .before .if2 .left))
+    let at-totals = c .before .before .before .before in
+    let at-sizes-of = at-totals .before .before .before .before in
+    let at-route-of = at-sizes-of .before in
+    let at-if1 = at-route-of .before .before in
+    let at-read-for = at-if1 .before in
+    let start = at-read-for .before .before in
+    let read-for = at-read-for .read-for in
+    let if1 = at-if1 .if1 in
+    let sizes-of = at-sizes-of .sizes-of in
+    c .line-of .ensures ∙ L.message-is _ _ (start .args .m) (read-for .result .nest) (sym (read-for .ensures .number) ∙ if1 .left) (read-for .ensures .nest
+    (if1 .left)) (sizes-of .result .route) (sizes-of .ensures .1 ∙ at-route-of .route-of .ensures) (omega (
+      arith,
+      at-totals .totals .ensures .0,
+      c .before .before .if2 .left,
+    ))
 
 pub message-spec : {M : Type 1} → statement M
 message-spec =

@@ -25,8 +25,10 @@ sizes-of-requires c κs = accepted-for _ _ _ (c .before .before .before .read-fo
 
 fill-requires : tie.Need-fill-requires
 fill-requires c κs =
-    let read-for = c .before .before .before .before .before .read-for in
-    let if1 = c .before .before .before .before .if1 in
+    let at-if1 = c .before .before .before .before in
+    let at-read-for = at-if1 .before in
+    let read-for = at-read-for .read-for in
+    let if1 = at-if1 .if1 in
     let sizes-of = c .before .sizes-of in (
       sizes-of .ensures .0,
       (
@@ -40,11 +42,14 @@ figures-of-requires c κs = search needs
 
 returns-2 : tie.Need-returns-2
 returns-2 c =
-    let read-for = c .before .before .before .before .before .before .before .before .read-for in
-    let if1 = c .before .before .before .before .before .before .before .if1 in
-    c .figures-of .ensures
-    ∙ L.summary-is _ _ (read-for .result .nest) (sym (read-for .ensures .number) ∙ if1 .left) (read-for .ensures .nest (if1 .left)) _
-    (c .before .before .before .before .sizes-of .ensures .1 ∙ c .before .before .before .before .before .route-of .ensures)
+    let at-sizes-of = c .before .before .before .before in
+    let at-route-of = at-sizes-of .before in
+    let at-if1 = at-route-of .before .before in
+    let at-read-for = at-if1 .before in
+    let read-for = at-read-for .read-for in
+    let if1 = at-if1 .if1 in
+    c .figures-of .ensures ∙ L.summary-is _ _ (read-for .result .nest) (sym (read-for .ensures .number) ∙ if1 .left) (read-for .ensures .nest (if1 .left)) _
+    (at-sizes-of .sizes-of .ensures .1 ∙ at-route-of .route-of .ensures)
 
 pub summary-spec : {M : Type 1} → statement M
 summary-spec =

@@ -26,7 +26,8 @@ returns c =
     (c .before .before .read .ensures .0)) (c .before .if1 .taken))
 
 sizes-of-requires : tie.Need-sizes-of-requires
-sizes-of-requires c κs = accepted-read _ _ (c .before .before .read .ensures .0) (c .before .if1 .left) (c .before .before .read .ensures .1 (c .before .if1 .left))
+sizes-of-requires c κs =
+    accepted-read _ _ (c .before .before .read .ensures .0) (c .before .if1 .left) (c .before .before .read .ensures .1 (c .before .if1 .left))
 
 mul-if2 : tie.Need-mul-if2
 mul-if2 c = search needs
@@ -36,11 +37,13 @@ untold-requires-2 c κs = search needs
 
 returns-2 : tie.Need-returns-2
 returns-2 c =
-    let A = c .before .before .before .before .before .before .before .before .args in
+    let at-if1 = c .before .before .before .before in
+    let at-read = at-if1 .before in
+    let start = at-read .before .before .before in
+    let A = start .args in
     let sized = c .before .before .sizes-of .ensures .0 in
-    let p = planOf (c .before .before .sizes-of .result .route) (c .before .before .before .before .before .read .result .nest) in
-    let op : Opened (A .encoded .now) 0 p = plain.opened-direct (A .encoded .now) (c .before .before .before .before .before .read .result)
-    (c .before .before .before .before .before .read .ensures .0) (c .before .before .before .before .if1 .left)
+    let p = planOf (c .before .before .sizes-of .result .route) (at-read .read .result .nest) in
+    let op : Opened (A .encoded .now) 0 p = plain.opened-direct (A .encoded .now) (at-read .read .result) (at-read .read .ensures .0) (at-if1 .if1 .left)
     (c .before .before .sizes-of .ensures .1) in
     lines.refuses _ 9 _ _ (c .untold2 .ensures) (lines.ask-nine (A .encoded .now) (hoursOf (A .hours .now) (A .minute)) (A .processor) p op
     (λ q. c .before .if2 .taken (q ∙ ap (λ (n : ℕ). 28 * n) (sym (sized .processors)))))
@@ -53,14 +56,17 @@ untold-requires-3 c κs = search needs
 
 returns-3 : tie.Need-returns-3
 returns-3 c =
-    let A = c .before .before .before .before .before .before .before .before .before .before .args in
-    let sized = c .before .before .before .before .sizes-of .ensures .0 in
-    let p = planOf (c .before .before .before .before .sizes-of .result .route)
-    (c .before .before .before .before .before .before .before .read .result .nest) in
-    let op : Opened (A .encoded .now) 0 p = plain.opened-direct (A .encoded .now) (c .before .before .before .before .before .before .before .read .result)
-    (c .before .before .before .before .before .before .before .read .ensures .0) (c .before .before .before .before .before .before .if1 .left)
-    (c .before .before .before .before .sizes-of .ensures .1) in
-    let long = c .before .before .before .if2 .left ∙ ap (λ (n : ℕ). 28 * n) (sized .processors) in
+    let at-if2 = c .before .before .before in
+    let at-sizes-of = at-if2 .before in
+    let at-if1 = at-sizes-of .before .before in
+    let at-read = at-if1 .before in
+    let start = at-read .before .before .before in
+    let A = start .args in
+    let sized = at-sizes-of .sizes-of .ensures .0 in
+    let p = planOf (at-sizes-of .sizes-of .result .route) (at-read .read .result .nest) in
+    let op : Opened (A .encoded .now) 0 p = plain.opened-direct (A .encoded .now) (at-read .read .result) (at-read .read .ensures .0) (at-if1 .if1 .left)
+    (at-sizes-of .sizes-of .ensures .1) in
+    let long = at-if2 .if2 .left ∙ ap (λ (n : ℕ). 28 * n) (sized .processors) in
     let table = ap (λ (n : ℕ). faultyFor n (hoursOf (A .hours .now) (A .minute))) (sym (sized .processors)) ∙ sym (c .before .before .faulty .ensures) in
     lines.refuses _ 25 _ _ (c .untold3 .ensures) (lines.ask-faulty (A .encoded .now) (hoursOf (A .hours .now) (A .minute)) (A .processor) p op long
     (table ∙ c .before .if3 .taken))
@@ -70,49 +76,56 @@ untold-requires-4 c κs = search needs
 
 returns-4 : tie.Need-returns-4
 returns-4 c =
-    let A = c .before .before .before .before .before .before .before .before .before .before .before .args in
-    let sized = c .before .before .before .before .before .sizes-of .ensures .0 in
-    let p = planOf (c .before .before .before .before .before .sizes-of .result .route)
-    (c .before .before .before .before .before .before .before .before .read .result .nest) in
-    let op : Opened (A .encoded .now) 0 p = plain.opened-direct (A .encoded .now)
-    (c .before .before .before .before .before .before .before .before .read .result)
-    (c .before .before .before .before .before .before .before .before .read .ensures .0)
-    (c .before .before .before .before .before .before .before .if1 .left)
-    (c .before .before .before .before .before .sizes-of .ensures .1) in
-    let long = c .before .before .before .before .if2 .left ∙ ap (λ (n : ℕ). 28 * n) (sized .processors) in
-    let table = ap (λ (n : ℕ). faultyFor n (hoursOf (A .hours .now) (A .minute))) (sym (sized .processors)) ∙ sym
-    (c .before .before .before .faulty .ensures) in
+    let at-faulty = c .before .before .before in
+    let at-if2 = at-faulty .before in
+    let at-sizes-of = at-if2 .before in
+    let at-if1 = at-sizes-of .before .before in
+    let at-read = at-if1 .before in
+    let start = at-read .before .before .before in
+    let A = start .args in
+    let sized = at-sizes-of .sizes-of .ensures .0 in
+    let p = planOf (at-sizes-of .sizes-of .result .route) (at-read .read .result .nest) in
+    let op : Opened (A .encoded .now) 0 p = plain.opened-direct (A .encoded .now) (at-read .read .result) (at-read .read .ensures .0) (at-if1 .if1 .left)
+    (at-sizes-of .sizes-of .ensures .1) in
+    let long = at-if2 .if2 .left ∙ ap (λ (n : ℕ). 28 * n) (sized .processors) in
+    let table = ap (λ (n : ℕ). faultyFor n (hoursOf (A .hours .now) (A .minute))) (sym (sized .processors)) ∙ sym (at-faulty .faulty .ensures) in
     lines.refuses _ 11 _ _ (c .untold4 .ensures) (lines.ask-beyond (A .encoded .now) (hoursOf (A .hours .now) (A .minute)) (A .processor) p op long
     (table ∙ c .before .before .if3 .left) (omega (arith, sized .processors, c .before .if4 .taken)))
 
 minutes-requires : tie.Need-minutes-requires
 minutes-requires c κs =
-    let A = c .before .before .before .before .before .before .before .before .before .before .args in
-    let sized = c .before .before .before .before .sizes-of .ensures .0 in
-    let p = planOf (c .before .before .before .before .sizes-of .result .route)
-    (c .before .before .before .before .before .before .before .read .result .nest) in
-    let op : Opened (A .encoded .now) 0 p = plain.opened-direct (A .encoded .now) (c .before .before .before .before .before .before .before .read .result)
-    (c .before .before .before .before .before .before .before .read .ensures .0) (c .before .before .before .before .before .before .if1 .left)
-    (c .before .before .before .before .sizes-of .ensures .1) in
+    let at-if2 = c .before .before .before in
+    let at-sizes-of = at-if2 .before in
+    let at-if1 = at-sizes-of .before .before in
+    let at-read = at-if1 .before in
+    let start = at-read .before .before .before in
+    let A = start .args in
+    let sized = at-sizes-of .sizes-of .ensures .0 in
+    let p = planOf (at-sizes-of .sizes-of .result .route) (at-read .read .result .nest) in
+    let op : Opened (A .encoded .now) 0 p = plain.opened-direct (A .encoded .now) (at-read .read .result) (at-read .read .ensures .0) (at-if1 .if1 .left)
+    (at-sizes-of .sizes-of .ensures .1) in
     let table = ap (λ (n : ℕ). faultyFor n (hoursOf (A .hours .now) (A .minute))) (sym (sized .processors)) ∙ sym (c .before .before .faulty .ensures) in
-    lines.may-ask (c .before .before .before .before .sizes-of .result .processors) (A .hours .now) (A .minute) (A .processor)
-    (omega (arith, sized .processors, sized .accepted .processors-most)) (c .before .before .before .if2 .left)
-    (sym (c .before .before .faulty .ensures) ∙ c .before .if3 .left) (c .if4 .left)
+    lines.may-ask (at-sizes-of .sizes-of .result .processors) (A .hours .now) (A .minute) (A .processor) (omega (
+      arith,
+      sized .processors,
+      sized .accepted .processors-most,
+    )) (at-if2 .if2 .left) (sym (c .before .before .faulty .ensures) ∙ c .before .if3 .left) (c .if4 .left)
 
 returns-5 : tie.Need-returns-5
 returns-5 c =
-    let A = c .before .before .before .before .before .before .before .before .before .before .before .args in
-    let sized = c .before .before .before .before .before .sizes-of .ensures .0 in
-    let p = planOf (c .before .before .before .before .before .sizes-of .result .route)
-    (c .before .before .before .before .before .before .before .before .read .result .nest) in
-    let op : Opened (A .encoded .now) 0 p = plain.opened-direct (A .encoded .now)
-    (c .before .before .before .before .before .before .before .before .read .result)
-    (c .before .before .before .before .before .before .before .before .read .ensures .0)
-    (c .before .before .before .before .before .before .before .if1 .left)
-    (c .before .before .before .before .before .sizes-of .ensures .1) in
-    let long = c .before .before .before .before .if2 .left ∙ ap (λ (n : ℕ). 28 * n) (sized .processors) in
-    let table = ap (λ (n : ℕ). faultyFor n (hoursOf (A .hours .now) (A .minute))) (sym (sized .processors)) ∙ sym
-    (c .before .before .before .faulty .ensures) in
+    let at-faulty = c .before .before .before in
+    let at-if2 = at-faulty .before in
+    let at-sizes-of = at-if2 .before in
+    let at-if1 = at-sizes-of .before .before in
+    let at-read = at-if1 .before in
+    let start = at-read .before .before .before in
+    let A = start .args in
+    let sized = at-sizes-of .sizes-of .ensures .0 in
+    let p = planOf (at-sizes-of .sizes-of .result .route) (at-read .read .result .nest) in
+    let op : Opened (A .encoded .now) 0 p = plain.opened-direct (A .encoded .now) (at-read .read .result) (at-read .read .ensures .0) (at-if1 .if1 .left)
+    (at-sizes-of .sizes-of .ensures .1) in
+    let long = at-if2 .if2 .left ∙ ap (λ (n : ℕ). 28 * n) (sized .processors) in
+    let table = ap (λ (n : ℕ). faultyFor n (hoursOf (A .hours .now) (A .minute))) (sym (sized .processors)) ∙ sym (at-faulty .faulty .ensures) in
     lines.ask-told (A .encoded .now) (hoursOf (A .hours .now) (A .minute)) (A .processor) p op long (table ∙ c .before .before .if3 .left)
     (omega (arith, sized .processors, c .before .if4 .left)) _ (c .minutes .ensures)
 

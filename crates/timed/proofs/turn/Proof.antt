@@ -27,21 +27,22 @@ same-length-4 c = search needs
 
 returns : tie.Need-returns
 returns c =
-    let A = c .before .before .before .before .before .before .before .before .before .before .before .before .before .before .before .before .before
-    .before .before .before .args in
-    reading.left-out (c .before .before .before .before .before .before .before .turn .result) _ _ (A .progress .now) _ (A .processor) _
-    (c .before .before .before .before .before .before .before .turn .ensures (A .progress .now)
-    (c .before .before .before .before .before .before .before .before .before .flat-of .ensures)) (c .if1 .taken)
+    let at-turn = c .before .before .before .before .before .before .before in
+    let at-flat-of = at-turn .before .before in
+    let start = at-flat-of .before .before .before .before .before .before .before .before .before .before .before in
+    let A = start .args in
+    reading.left-out (at-turn .turn .result) _ _ (A .progress .now) _ (A .processor) _ (at-turn .turn .ensures (A .progress .now)
+    (at-flat-of .flat-of .ensures)) (c .if1 .taken)
 
 store-record-requires : tie.Need-store-record-requires
 store-record-requires c κs =
-    let A = c .before .before .before .before .before .before .before .before .before .before .before .before .before .before .before .before .before
-    .before .before .before .before .before .args in
-    lines.turn-inside (A .encoded .now) (A .route) (A .source .now) (hoursOf (A .hours .now) (A .minute))
-    (stateOf (A .memories .now) (A .buffer .now) (A .progress .now) (A .status .now)) (A .processor)
-    (ap (λ (z : Answered State). z .number) (sym
-    (c .before .before .before .before .before .before .before .before .before .turn .ensures (A .progress .now)
-    (c .before .before .before .before .before .before .before .before .before .before .before .flat-of .ensures))) ∙ c .before .before .if1 .left)
+    let at-turn = c .before .before .before .before .before .before .before .before .before in
+    let at-flat-of = at-turn .before .before in
+    let start = at-flat-of .before .before .before .before .before .before .before .before .before .before .before in
+    let A = start .args in
+    lines.turn-inside (A .encoded .now) (A .route) (A .source .now) (hoursOf (A .hours .now) (A .minute)) (stateOf (A .memories .now) (A .buffer .now)
+    (A .progress .now) (A .status .now)) (A .processor) (ap (λ (z : Answered State). z .number) (sym (at-turn .turn .ensures (A .progress .now)
+    (at-flat-of .flat-of .ensures))) ∙ c .before .before .if1 .left)
 
 same-length-5 : tie.Need-same-length-5
 same-length-5 c = search needs
@@ -57,13 +58,13 @@ same-length-8 c = search needs
 
 returns-2 : tie.Need-returns-2
 returns-2 c =
-    let A = c .before .before .before .before .before .before .before .before .before .before .before .before .before .before .before .before .before
-    .before .before .before .before .before .before .before .before .args in
-    reading.written-in (c .before .before .before .before .before .before .before .before .before .before .before .before .turn .result) _ _
-    (A .progress .now) _ (A .processor) _
-    (c .before .before .before .before .before .before .before .before .before .before .before .before .turn .ensures (A .progress .now)
-    (c .before .before .before .before .before .before .before .before .before .before .before .before .before .before .flat-of .ensures))
-    (c .before .before .before .before .before .if1 .left) _ (c .before .before .store-record .ensures)
+    let at-if1 = c .before .before .before .before .before in
+    let at-turn = at-if1 .before .before .before .before .before .before .before in
+    let at-flat-of = at-turn .before .before in
+    let start = at-flat-of .before .before .before .before .before .before .before .before .before .before .before in
+    let A = start .args in
+    reading.written-in (at-turn .turn .result) _ _ (A .progress .now) _ (A .processor) _ (at-turn .turn .ensures (A .progress .now)
+    (at-flat-of .flat-of .ensures)) (at-if1 .if1 .left) _ (c .before .before .store-record .ensures)
 
 pub turn-spec : {M : Type 1} → statement M
 turn-spec =

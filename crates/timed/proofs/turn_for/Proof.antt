@@ -34,24 +34,25 @@ same-length-5 c = search needs
 
 returns : tie.Need-returns
 returns c =
-    let A = c .before .before .before .before .before .before .before .before .before .before .before .before .before .before .before .before .before
-    .before .before .before .before .before .before .before .before .before .args in
-    starts.left-out (c .before .before .before .before .before .before .before .before .before .turn-for .result) _ _ (A .progress .now) _ _
-    (A .processor) _ (c .before .before .before .before .before .before .before .before .before .turn-for .ensures (A .progress .now)
-    (A .theirs .now) (c .before .before .before .before .before .before .before .before .before .before .before .before .before .flat-of .ensures)
-    (c .before .before .before .before .before .before .before .before .before .before .flat-of2 .ensures)) (c .if1 .taken)
+    let at-turn-for = c .before .before .before .before .before .before .before .before .before in
+    let at-flat-of2 = at-turn-for .before in
+    let at-flat-of = at-flat-of2 .before .before .before in
+    let start = at-flat-of .before .before .before .before .before .before .before .before .before .before .before .before .before in
+    let A = start .args in
+    starts.left-out (at-turn-for .turn-for .result) _ _ (A .progress .now) _ _ (A .processor) _ (at-turn-for .turn-for .ensures (A .progress .now)
+    (A .theirs .now) (at-flat-of .flat-of .ensures) (at-flat-of2 .flat-of2 .ensures)) (c .if1 .taken)
 
 store-record-requires : tie.Need-store-record-requires
 store-record-requires c κs =
-    let A = c .before .before .before .before .before .before .before .before .before .before .before .before .before .before .before .before .before
-    .before .before .before .before .before .before .before .before .before .before .before .args in
+    let at-turn-for = c .before .before .before .before .before .before .before .before .before .before .before in
+    let at-flat-of2 = at-turn-for .before in
+    let at-flat-of = at-flat-of2 .before .before .before in
+    let start = at-flat-of .before .before .before .before .before .before .before .before .before .before .before .before .before in
+    let A = start .args in
     lines.turn-inside-for (A .encoded .now) (A .route) (A .source .now) (A .office) (hoursOf (A .hours .now) (A .minute))
     (lentOf (stateOf (A .memories .now) (A .buffer .now) (A .progress .now) (A .status .now)) (A .engaged .now)) (A .theirs .now) (A .processor)
-    (ap (λ (z : Answered Lent). z .number) (sym
-    (c .before .before .before .before .before .before .before .before .before .before .before .turn-for .ensures (A .progress .now)
-    (A .theirs .now) (c .before .before .before .before .before .before .before .before .before .before .before .before .before .before .before
-    .flat-of .ensures) (c .before .before .before .before .before .before .before .before .before .before .before .before .flat-of2
-    .ensures))) ∙ c .before .before .if1 .left)
+    (ap (λ (z : Answered Lent). z .number) (sym (at-turn-for .turn-for .ensures (A .progress .now) (A .theirs .now) (at-flat-of .flat-of .ensures)
+    (at-flat-of2 .flat-of2 .ensures))) ∙ c .before .before .if1 .left)
 
 same-length-6 : tie.Need-same-length-6
 same-length-6 c = search needs
@@ -70,15 +71,14 @@ same-length-10 c = search needs
 
 returns-2 : tie.Need-returns-2
 returns-2 c =
-    let A = c .before .before .before .before .before .before .before .before .before .before .before .before .before .before .before .before .before
-    .before .before .before .before .before .before .before .before .before .before .before .before .before .before .args in
-    starts.written-in (c .before .before .before .before .before .before .before .before .before .before .before .before .before .before .turn-for
-    .result) _ _ (A .progress .now) _ _ (A .processor) _
-    (c .before .before .before .before .before .before .before .before .before .before .before .before .before .before .turn-for .ensures
-    (A .progress .now) (A .theirs .now) (c .before .before .before .before .before .before .before .before .before .before .before .before .before
-    .before .before .before .before .before .flat-of .ensures)
-    (c .before .before .before .before .before .before .before .before .before .before .before .before .before .before .before .flat-of2
-    .ensures)) (c .before .before .before .before .before .if1 .left) _ (c .before .before .store-record .ensures)
+    let at-if1 = c .before .before .before .before .before in
+    let at-turn-for = at-if1 .before .before .before .before .before .before .before .before .before in
+    let at-flat-of2 = at-turn-for .before in
+    let at-flat-of = at-flat-of2 .before .before .before in
+    let start = at-flat-of .before .before .before .before .before .before .before .before .before .before .before .before .before in
+    let A = start .args in
+    starts.written-in (at-turn-for .turn-for .result) _ _ (A .progress .now) _ _ (A .processor) _ (at-turn-for .turn-for .ensures (A .progress .now)
+    (A .theirs .now) (at-flat-of .flat-of .ensures) (at-flat-of2 .flat-of2 .ensures)) (at-if1 .if1 .left) _ (c .before .before .store-record .ensures)
 
 pub turn-for-spec : {M : Type 1} → statement M
 turn-for-spec =

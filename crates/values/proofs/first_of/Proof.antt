@@ -17,7 +17,7 @@ abbrev μ-loop : tie.MeasureT-loop
 μ-loop components e at last j₀ j = last - j
 
 sub-last : tie.Need-sub-last Inv-loop μ-loop
-sub-last c = omega (arith, c .before .pre .0 .dimensions-least)
+sub-last c = omega (arith, c .before .pre .1 .0 .dimensions-least)
 
 loop-holds : tie.Need-loop-holds Inv-loop μ-loop
 loop-holds c = sofar-none _ _
@@ -26,22 +26,50 @@ mul-if1 : tie.Need-mul-if1 Inv-loop μ-loop
 mul-if1 c = search needs
 
 array-read-if1 : tie.Need-array-read-if1 Inv-loop μ-loop
-array-read-if1 c = omega (arith, c .loop-test .taken, c .before .before .before .pre .0 .dimensions-most)
+array-read-if1 c = omega (arith, c .loop-test .taken, c .before .before .before .pre .1 .0 .dimensions-most)
 
 mul-if1-2 : tie.Need-mul-if1-2 Inv-loop μ-loop
-mul-if1-2 c = omega (arith, c .loop-test .taken, c .before .before .before .pre .0 .dimensions-most, c .before .before .before .pre .0 .distances-most, c .before .before .before .pre .1 .0)
+mul-if1-2 c = omega (
+  arith,
+  c .loop-test .taken,
+  c .before .before .before .pre .1 .0 .dimensions-most,
+  c .before .before .before .pre .1 .0
+      .distances-most,
+  c .before .before .before .pre .1 .1 .0,
+)
 
 add-if1 : tie.Need-add-if1 Inv-loop μ-loop
-add-if1 c = omega (arith, c .loop-test .taken, c .before .before .before .pre .0 .dimensions-most, c .before .before .before .pre .0 .distances-most, c .before .before .before .pre .1 .0)
+add-if1 c = omega (
+  arith,
+  c .loop-test .taken,
+  c .before .before .before .pre .1 .0 .dimensions-most,
+  c .before .before .before .pre .1 .0
+      .distances-most,
+  c .before .before .before .pre .1 .1 .0,
+)
 
 mul-if1-3 : tie.Need-mul-if1-3 Inv-loop μ-loop
-mul-if1-3 c = omega (arith, c .loop-test .taken, c .before .before .before .pre .0 .dimensions-most, c .before .before .before .pre .0 .distances-most, c .before .before .before .pre .1 .0)
+mul-if1-3 c = omega (
+  arith,
+  c .loop-test .taken,
+  c .before .before .before .pre .1 .0 .dimensions-most,
+  c .before .before .before .pre .1 .0
+      .distances-most,
+  c .before .before .before .pre .1 .1 .0,
+)
 
 element-copy-out-if1 : tie.Need-element-copy-out-if1 Inv-loop μ-loop
-element-copy-out-if1 c = omega (arith, c .loop-test .taken, c .before .before .before .pre .0 .dimensions-most, c .before .before .before .pre .0 .distances-most, c .before .before .before .pre .1 .0)
+element-copy-out-if1 c = omega (
+  arith,
+  c .loop-test .taken,
+  c .before .before .before .pre .1 .0 .dimensions-most,
+  c .before .before .before .pre .1
+      .0 .distances-most,
+  c .before .before .before .pre .1 .1 .0,
+)
 
 returns : tie.Need-returns Inv-loop μ-loop
-returns c = first-stops _ _ _ _ (c .before .before .before .before .before .pre .1 .1) (c .before .before .before .loop .j) (c .before .before .loop-test .taken) (c .if1 .taken)
+returns c = λ x p. first-stops _ _ _ _ (p .1 .1) (c .before .before .before .loop .j) (c .before .before .loop-test .taken) (c .if1 .taken)
 
 add-j : tie.Need-add-j Inv-loop μ-loop
 add-j c = search needs
@@ -53,19 +81,42 @@ loop-again : tie.Need-loop-again Inv-loop μ-loop
 loop-again c = sofar-more _ _ _ (c .before .before .before .loop .inv) (c .before .before .loop-test .taken) (le-leb _ _ (c .if1 .left))
 
 mul-result : tie.Need-mul-result Inv-loop μ-loop
-mul-result c = omega (arith, c .before .before .before .pre .0 .dimensions-most, c .before .before .before .pre .0 .distances-most, c .before .before .before .pre .1 .0)
+mul-result c = omega (
+  arith,
+  c .before .before .before .pre .1 .0 .dimensions-most,
+  c .before .before .before .pre .1 .0 .distances-most,
+  c .before
+      .before .before .pre .1 .1 .0,
+)
 
 add-result : tie.Need-add-result Inv-loop μ-loop
-add-result c = omega (arith, c .before .before .before .pre .0 .dimensions-most, c .before .before .before .pre .0 .distances-most, c .before .before .before .pre .1 .0)
+add-result c = omega (
+  arith,
+  c .before .before .before .pre .1 .0 .dimensions-most,
+  c .before .before .before .pre .1 .0 .distances-most,
+  c .before
+      .before .before .pre .1 .1 .0,
+)
 
 mul-result-2 : tie.Need-mul-result-2 Inv-loop μ-loop
-mul-result-2 c = omega (arith, c .before .before .before .pre .0 .dimensions-most, c .before .before .before .pre .0 .distances-most, c .before .before .before .pre .1 .0)
+mul-result-2 c = omega (
+  arith,
+  c .before .before .before .pre .1 .0 .dimensions-most,
+  c .before .before .before .pre .1 .0 .distances-most,
+  c .before
+      .before .before .pre .1 .1 .0,
+)
 
 element-copy-out-result : tie.Need-element-copy-out-result Inv-loop μ-loop
-element-copy-out-result c = omega (arith, c .before .before .before .pre .0 .dimensions-most, c .before .before .before .pre .0 .distances-most, c .before .before .before .pre .1 .0)
+element-copy-out-result c = omega (
+  arith,
+  c .before .before .before .pre .1 .0 .dimensions-most,
+  c .before .before .before .pre .1 .0 .distances-most,
+  c .before .before .before .pre .1 .1 .0,
+)
 
 returns-2 : tie.Need-returns-2 Inv-loop μ-loop
-returns-2 c = first-end _ _ _ _ (c .before .before .before .before .pre .1 .1) _ (c .before .before .loop .inv) (c .before .loop-test .left)
+returns-2 c = λ x p. first-end _ _ _ _ (p .1 .1) _ (c .before .before .loop .inv) (c .before .loop-test .left)
 
 pub first-of-spec : {M : Type 1} → statement M
 first-of-spec =

@@ -23,13 +23,18 @@ array-read-start-of c = search needs
 
 start-of-requires : tie.Need-start-of-requires
 start-of-requires c κs =
-    let s = c .before .before .before .before in
-    margin-most _ (s .pre .0 .0) _ (s .pre .0 .1 .0 .margins)
+    let p = c .before .before .before .before .pre .1 in
+    margin-most _ (p .0 .0) _ (p .0 .1 .0 .margins)
 
 together-requires : tie.Need-together-requires
 together-requires c κs =
-    let p = c .before .before .before .before .before .pre in
-    (omega (arith, p .0 .0 .dimensions-most), (c .start-of .ensures .1 .1, (omega (arith, p .1 .then-two), (omega (arith, p .1 .then-three), omega (arith, p .1 .then-fourth)))))
+    let p = c .before .before .before .before .before .pre .1 in (
+      omega (arith, p .0 .0 .dimensions-most),
+      (
+        c .start-of .ensures .1 .1,
+        (omega (arith, p .1 .then-two), (omega (arith, p .1 .then-three), omega (arith, p .1 .then-fourth))),
+      ),
+    )
 
 rows-singly-requires : tie.Need-rows-singly-requires
 rows-singly-requires c κs = c .before .before .before .before .before .before .before .before .pre
@@ -38,19 +43,26 @@ same-length : tie.Need-same-length
 same-length c = search needs
 
 returns : tie.Need-returns
-returns c = search needs
+returns c = c .before .before .rows-singly .ensures
 
 band-requires : tie.Need-band-requires
 band-requires c κs =
-    let p = c .before .before .before .before .before .before .before .before .pre in
+    let s = c .before .before .before .before .before .before .before .before .pre in
+    let p = s .1 in
     let t = c .before .before .together .ensures (not-false _ (c .before .if1 .left)) in
-    ((p .0 .0, (fours-banded _ (p .0 .0) _ _ _ _ _ (p .1) _ _ _ _ _ (p .0 .1 .0) _ (c .before .before .before .start-of .ensures) (t .0) (t .1 .0), p .0 .1 .1)), t .1 .1)
+    let m = c .before .before .before .start-of .ensures in
+    (s .0, ((p .0 .0, (fours-banded _ (p .0 .0) _ _ _ _ _ (p .1) _ _ _ _ _ (p .0 .1 .0) _ m (t .0) (t .1 .0), p .0 .1 .1)), t .1 .1))
 
 same-length-2 : tie.Need-same-length-2
 same-length-2 c = search needs
 
 returns-2 : tie.Need-returns-2
-returns-2 c = search needs
+returns-2 c =
+    let t = c .before .before .before .before .before .together .ensures (not-false _ (c .before .before .before .before .if1 .left)) in
+    let m = c .before .before .before .before .before .before .start-of .ensures in
+    λ x p.
+    c .before .before .band .ensures x
+    ((p .0 .0, (fours-banded _ (p .0 .0) _ _ _ _ _ (p .1) _ _ _ _ _ (p .0 .1 .0) _ m (t .0) (t .1 .0), p .0 .1 .1)), t .1 .1)
 
 pub four-rows-spec : {M : Type 1} → statement M
 four-rows-spec =

@@ -5,11 +5,9 @@ use Rattle.base.proofs.Tests.{pick-true, pick-false}
 use Rattle.values.proofs.greater.Statement.{statement}
 use Rattle.values.proofs.greater.Tie as tie
 
--- src/lib.rt:392:1
 returns : tie.Need-returns
 returns c = sym (pick-true _ _ _ (le-leb _ _ (c .if1 .taken)))
 
--- src/lib.rt:392:1
 returns-2 : tie.Need-returns-2
 returns-2 c = sym (pick-false _ _ _ (lt-leb _ _ (c .if1 .left)))
 

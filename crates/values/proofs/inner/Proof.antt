@@ -17,43 +17,33 @@ Inv-loop last margin at j₀ j = Sofar (λ q. leb (getD margin q 0) (getD at q 0
 abbrev μ-loop : tie.MeasureT-loop
 μ-loop last margin at j₀ j = last - j
 
--- src/lib.rt:443:5
 loop-holds : tie.Need-loop-holds Inv-loop μ-loop
 loop-holds c = sofar-none _ _
 
--- src/lib.rt:444:12
 mul-if1 : tie.Need-mul-if1 Inv-loop μ-loop
 mul-if1 c = omega (arith, c .loop-test .taken, c .before .before .pre)
 
--- src/lib.rt:444:12
 array-read-if1 : tie.Need-array-read-if1 Inv-loop μ-loop
 array-read-if1 c = omega (arith, c .loop-test .taken, c .before .before .pre)
 
--- src/lib.rt:444:20
 mul-if1-2 : tie.Need-mul-if1-2 Inv-loop μ-loop
 mul-if1-2 c = omega (arith, c .loop-test .taken, c .before .before .pre)
 
--- src/lib.rt:444:20
 array-read-if1-2 : tie.Need-array-read-if1-2 Inv-loop μ-loop
 array-read-if1-2 c = omega (arith, c .loop-test .taken, c .before .before .pre)
 
--- src/lib.rt:445:13
 returns : tie.Need-returns Inv-loop μ-loop
 returns c = sym (every-not _ _ (c .before .before .loop .j) (c .before .loop-test .taken) (lt-leb _ _ (c .if1 .taken)))
 
--- src/lib.rt:443:9
 add-j : tie.Need-add-j Inv-loop μ-loop
 add-j c = omega (arith, c .before .loop-test .taken, c .before .before .before .pre)
 
--- src/lib.rt:443:5
 loop-less : tie.Need-loop-less Inv-loop μ-loop
 loop-less c = search needs
 
--- src/lib.rt:443:5
 loop-again : tie.Need-loop-again Inv-loop μ-loop
 loop-again c = sofar-more _ _ _ (c .before .before .loop .inv) (c .before .loop-test .taken) (le-leb _ _ (c .if1 .left))
 
--- src/lib.rt:439:1
 returns-2 : tie.Need-returns-2 Inv-loop μ-loop
 returns-2 c = sym (sofar-end _ _ _ (c .before .loop .inv) (c .loop-test .left))
 

@@ -4,64 +4,81 @@ use native.Mathlib.Omega.{arith}
 use Prim.Native.Nat.{_+_, _*_, _-_}
 use mathlib.Core.Path.{refl}
 use lib.ListN.{getD}
-use Rattle.layout.proofs.Loops.{Eight, eight-none, eight-more, eight-end}
+use Rattle.layout.proofs.Loops.{Filled, filled-none, filled-more, filled-end}
 use Rattle.values.proofs.Margins.{lasts-are}
 use Rattle.values.proofs.lasts_of.Statement.{statement}
 use Rattle.values.proofs.lasts_of.Tie as tie
 
 abbrev Inv-loop : tie.InvT-loop
-Inv-loop components first₀ n last e₀ first e = Eight (λ d. getD components (4 * d + last) 0) n first e
+Inv-loop components first₀ n last e₀ first e = Filled 8 (λ d. getD components (4 * d + last) 0) n first e
 
 abbrev μ-loop : tie.MeasureT-loop
 μ-loop components first₀ n last e₀ first e = n - e
 
--- src/lib.rt:431:16
 sub-last : tie.Need-sub-last Inv-loop μ-loop
 sub-last c = omega (arith, c .before .pre .0 .dimensions-least)
 
--- src/lib.rt:432:5
 loop-holds : tie.Need-loop-holds Inv-loop μ-loop
-loop-holds c = eight-none _ _ _ (omega arith)
+loop-holds c = filled-none _ _ _ (omega arith)
 
--- src/lib.rt:433:31
 mul-first : tie.Need-mul-first Inv-loop μ-loop
-mul-first c = omega (arith, c .loop-test .taken, c .before .before .before .pre .0 .dimensions-most, c .before .before .before .pre .0 .distances-most, c .before .before .before .pre .0 .dimensions-least)
+mul-first c =
+    omega (
+      arith,
+      c .loop-test .taken,
+      c .before .before .before .pre .0 .dimensions-most,
+      c .before .before .before .pre .0 .distances-most,
+      c .before .before .before .pre .0 .dimensions-least,
+    )
 
--- src/lib.rt:433:31
 add-first : tie.Need-add-first Inv-loop μ-loop
-add-first c = omega (arith, c .loop-test .taken, c .before .before .before .pre .0 .dimensions-most, c .before .before .before .pre .0 .distances-most, c .before .before .before .pre .0 .dimensions-least)
+add-first c =
+    omega (
+      arith,
+      c .loop-test .taken,
+      c .before .before .before .pre .0 .dimensions-most,
+      c .before .before .before .pre .0 .distances-most,
+      c .before .before .before .pre .0 .dimensions-least,
+    )
 
--- src/lib.rt:433:20
 mul-first-2 : tie.Need-mul-first-2 Inv-loop μ-loop
-mul-first-2 c = omega (arith, c .loop-test .taken, c .before .before .before .pre .0 .dimensions-most, c .before .before .before .pre .0 .distances-most, c .before .before .before .pre .0 .dimensions-least)
+mul-first-2 c =
+    omega (
+      arith,
+      c .loop-test .taken,
+      c .before .before .before .pre .0 .dimensions-most,
+      c .before .before .before .pre .0 .distances-most,
+      c .before .before .before .pre .0 .dimensions-least,
+    )
 
--- src/lib.rt:433:20
 element-copy-out-first : tie.Need-element-copy-out-first Inv-loop μ-loop
-element-copy-out-first c = omega (arith, c .loop-test .taken, c .before .before .before .pre .0 .dimensions-most, c .before .before .before .pre .0 .distances-most, c .before .before .before .pre .0 .dimensions-least)
+element-copy-out-first c =
+    omega (
+      arith,
+      c .loop-test .taken,
+      c .before .before .before .pre .0 .dimensions-most,
+      c .before .before .before .pre .0 .distances-most,
+      c .before .before .before .pre .0 .dimensions-least,
+    )
 
--- src/lib.rt:433:9
 mul-first-3 : tie.Need-mul-first-3 Inv-loop μ-loop
 mul-first-3 c = omega (arith, c .before .loop-test .taken, c .before .before .before .before .pre .0 .distances-most)
 
--- src/lib.rt:433:9
 array-write-first : tie.Need-array-write-first Inv-loop μ-loop
 array-write-first c = omega (arith, c .before .loop-test .taken, c .before .before .before .before .pre .0 .distances-most)
 
--- src/lib.rt:432:9
 add-e : tie.Need-add-e Inv-loop μ-loop
 add-e c = omega (arith, c .before .loop-test .taken, c .before .before .before .before .pre .0 .distances-most)
 
--- src/lib.rt:432:5
 loop-less : tie.Need-loop-less Inv-loop μ-loop
 loop-less c = search needs
 
--- src/lib.rt:432:5
 loop-again : tie.Need-loop-again Inv-loop μ-loop
-loop-again c = eight-more _ _ _ _ _ (c .before .before .loop .inv) (c .before .loop-test .taken) (c .before .before .before .before .pre .0 .distances-most) refl
+loop-again c =
+    filled-more _ _ _ _ _ (c .before .before .loop .inv) (c .before .loop-test .taken) (c .before .before .before .before .pre .0 .distances-most) refl
 
--- src/lib.rt:425:1
 returns : tie.Need-returns Inv-loop μ-loop
-returns c = lasts-are _ _ _ (c .before .before .before .pre .1) (eight-end _ _ _ _ (c .before .loop .inv) (c .loop-test .left))
+returns c = lasts-are _ _ _ (c .before .before .before .pre .1) (filled-end _ _ _ _ (c .before .loop .inv) (c .loop-test .left) .each)
 
 pub lasts-of-spec : {M : Type 1} → statement M
 lasts-of-spec =

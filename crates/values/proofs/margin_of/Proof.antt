@@ -12,43 +12,33 @@ Inv-loop components j most₀ n e₀ most e = Mosting components j n most e
 abbrev μ-loop : tie.MeasureT-loop
 μ-loop components j most₀ n e₀ most e = n - e
 
--- src/lib.rt:405:5
 loop-holds : tie.Need-loop-holds Inv-loop μ-loop
 loop-holds c = mosting-none _ _ _
 
--- src/lib.rt:406:41
 mul-greater : tie.Need-mul-greater Inv-loop μ-loop
 mul-greater c = omega (arith, c .loop-test .taken, c .before .before .pre .0 .dimensions-most, c .before .before .pre .0 .distances-most, c .before .before .pre .1 .0)
 
--- src/lib.rt:406:41
 add-greater : tie.Need-add-greater Inv-loop μ-loop
 add-greater c = omega (arith, c .loop-test .taken, c .before .before .pre .0 .dimensions-most, c .before .before .pre .0 .distances-most, c .before .before .pre .1 .0)
 
--- src/lib.rt:406:30
 mul-greater-2 : tie.Need-mul-greater-2 Inv-loop μ-loop
 mul-greater-2 c = omega (arith, c .loop-test .taken, c .before .before .pre .0 .dimensions-most, c .before .before .pre .0 .distances-most, c .before .before .pre .1 .0)
 
--- src/lib.rt:406:30
 element-copy-out-greater : tie.Need-element-copy-out-greater Inv-loop μ-loop
 element-copy-out-greater c = omega (arith, c .loop-test .taken, c .before .before .pre .0 .dimensions-most, c .before .before .pre .0 .distances-most, c .before .before .pre .1 .0)
 
--- src/lib.rt:406:9
 greater-requires : tie.Need-greater-requires Inv-loop μ-loop
 greater-requires c κs = search needs
 
--- src/lib.rt:405:9
 add-e : tie.Need-add-e Inv-loop μ-loop
 add-e c = omega (arith, c .before .before .loop-test .taken, c .before .before .before .before .pre .0 .distances-most)
 
--- src/lib.rt:405:5
 loop-less : tie.Need-loop-less Inv-loop μ-loop
 loop-less c = search needs
 
--- src/lib.rt:405:5
 loop-again : tie.Need-loop-again Inv-loop μ-loop
 loop-again c = mosting-more _ _ _ _ _ _ (c .before .before .before .loop .inv) (c .before .before .loop-test .taken) (c .greater .ensures)
 
--- src/lib.rt:399:1
 returns : tie.Need-returns Inv-loop μ-loop
 returns c = most-is _ _ _ (c .before .before .pre .1 .1) _ (mosting-end _ _ _ _ _ (c .before .loop .inv) (c .loop-test .left))
 

@@ -9,40 +9,34 @@ use Rattle.values.proofs.margins_of.Statement.{statement}
 use Rattle.values.proofs.margins_of.Tie as tie
 
 abbrev Inv-loop : tie.InvT-loop
-Inv-loop nest components margin₀ n j₀ margin j = Filled (λ q. mostOf nest q (nest .distances)) n margin j
+Inv-loop nest components margin₀ n j₀ margin j = Filled 4 (λ q. mostOf nest q (nest .distances)) n margin j
 
 abbrev μ-loop : tie.MeasureT-loop
 μ-loop nest components margin₀ n j₀ margin j = n - j
 
--- src/lib.rt:418:5
 loop-holds : tie.Need-loop-holds Inv-loop μ-loop
 loop-holds c = filled-none _ _ _ refl
 
--- src/lib.rt:419:21
 margin-of-requires : tie.Need-margin-of-requires Inv-loop μ-loop
 margin-of-requires c κs = (c .before .before .pre .0, (c .loop-test .taken, c .before .before .pre .1))
 
--- src/lib.rt:419:9
 mul-margin : tie.Need-mul-margin Inv-loop μ-loop
 mul-margin c = omega (arith, c .before .loop-test .taken, c .before .before .before .pre .0 .dimensions-most)
 
--- src/lib.rt:419:9
 array-write-margin : tie.Need-array-write-margin Inv-loop μ-loop
 array-write-margin c = omega (arith, c .before .loop-test .taken, c .before .before .before .pre .0 .dimensions-most)
 
--- src/lib.rt:418:9
 add-j : tie.Need-add-j Inv-loop μ-loop
 add-j c = omega (arith, c .before .loop-test .taken, c .before .before .before .pre .0 .dimensions-most)
 
--- src/lib.rt:418:5
 loop-less : tie.Need-loop-less Inv-loop μ-loop
 loop-less c = search needs
 
--- src/lib.rt:418:5
 loop-again : tie.Need-loop-again Inv-loop μ-loop
-loop-again c = filled-more _ _ _ _ _ (c .before .before .loop .inv) (c .before .loop-test .taken) (c .before .before .before .pre .0 .dimensions-most) (c .margin-of .ensures)
+loop-again c =
+    filled-more _ _ _ _ _ (c .before .before .loop .inv) (c .before .loop-test .taken) (c .before .before .before .pre .0 .dimensions-most)
+    (c .margin-of .ensures)
 
--- src/lib.rt:412:1
 returns : tie.Need-returns Inv-loop μ-loop
 returns c = filled-end _ _ _ _ (c .before .loop .inv) (c .loop-test .left)
 

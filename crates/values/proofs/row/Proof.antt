@@ -26,36 +26,42 @@ inner-requires c κs = search needs
 
 line-requires : tie.Need-line-requires
 line-requires c κs =
-    let s = c .before .before .before .before .before .before .before in
-    let q = s .pre .0 .1 .0 in
-    let r = inner-row _ (s .pre .0 .0) _ (s .pre .1 .0) _ (s .pre .1 .1) _ _ _ _ _ q (sym (c .before .before .inner .ensures) ∙ c .before .if1 .taken) in
-    (row-mixes _ (s .pre .0 .0) _ _ _ _ _ _ r _ _ (q .weights-are) (s .pre .0 .1 .1 .0) (s .pre .0 .1 .1 .1), first-most _ (s .pre .0 .0) _ (q .margins) _ (q .firsts))
+    let p = c .before .before .before .before .before .before .before .pre .1 in
+    let q = p .0 .1 .0 in
+    let i = sym (c .before .before .inner .ensures) ∙ c .before .if1 .taken in
+    let r = inner-row _ (p .0 .0) _ (p .1 .0) _ (p .1 .1) _ _ _ _ _ q i in
+    (row-mixes _ (p .0 .0) _ _ _ _ _ _ r _ _ (q .weights-are) (p .0 .1 .1 .0) (p .0 .1 .1 .1), first-most _ (p .0 .0) _ (q .margins) _ (q .firsts))
 
 same-length : tie.Need-same-length
 same-length c = search needs
 
 returns : tie.Need-returns
 returns c =
-    let s = c .before .before .before .before .before .before .before .before .before .before in
-    row-values _ (s .pre .0 .0) _ _ _ _ _ _ (inner-row _ (s .pre .0 .0) _ (s .pre .1 .0) _ (s .pre .1 .1) _ _ _ _ _ (s .pre .0 .1 .0) (sym (c .before .before .before .before .before .inner .ensures) ∙ c .before .before .before .before .if1 .taken)) _ _ _ (c .before .before .line .ensures)
+    let i = sym (c .before .before .before .before .before .inner .ensures) ∙ c .before .before .before .before .if1 .taken in
+    λ x p. row-values _ (p .0 .0) _ _ _ _ _ _ (inner-row _ (p .0 .0) _ (p .1 .0) _ (p .1 .1) _ _ _ _ _ (p .0 .1 .0) i) _ _ _ (c .before .before .line .ensures)
 
 firsts-of-requires : tie.Need-firsts-of-requires
-firsts-of-requires c κs = search needs
+firsts-of-requires c κs =
+    let p = c .before .before .before .before .before .before .pre in
+    (p .0, (p .1 .0 .0, p .1 .0 .1 .0 .given))
 
 short-line-requires : tie.Need-short-line-requires
 short-line-requires c κs =
-    let s = c .before .before .before .before .before .before .before .before .before in
-    let q = s .pre .0 .1 .0 in
-    let f = c .before .before .firsts-of .ensures in
-    (row-mixes _ (s .pre .0 .0) _ _ _ _ _ _ (any-row _ (s .pre .0 .0) _ (s .pre .1 .0) _ (s .pre .1 .1) _ _ _ _ _ q _ f) _ _ (q .weights-are) (s .pre .0 .1 .1 .0) (s .pre .0 .1 .1 .1), firsts-all _ (s .pre .0 .0) _ (q .margins) _ _ f)
+    let s = c .before .before .before .before .before .before .before .before .before .pre in
+    let p = s .1 in
+    let q = p .0 .1 .0 in
+    let f = c .before .before .firsts-of .ensures (s .0) (p .0 .0) (q .given) in
+    let r = any-row _ (p .0 .0) _ (p .1 .0) _ (p .1 .1) _ _ _ _ _ q _ f in
+    (row-mixes _ (p .0 .0) _ _ _ _ _ _ r _ _ (q .weights-are) (p .0 .1 .1 .0) (p .0 .1 .1 .1), firsts-all _ (p .0 .0) _ (q .margins) _ _ f)
 
 same-length-2 : tie.Need-same-length-2
 same-length-2 c = search needs
 
 returns-2 : tie.Need-returns-2
 returns-2 c =
-    let s = c .before .before .before .before .before .before .before .before .before .before .before .before in
-    row-values _ (s .pre .0 .0) _ _ _ _ _ _ (any-row _ (s .pre .0 .0) _ (s .pre .1 .0) _ (s .pre .1 .1) _ _ _ _ _ (s .pre .0 .1 .0) _ (c .before .before .before .before .before .firsts-of .ensures)) _ _ _ (c .before .before .short-line .ensures)
+    λ x p.
+    let f = c .before .before .before .before .before .firsts-of .ensures x (p .0 .0) (p .0 .1 .0 .given) in
+    row-values _ (p .0 .0) _ _ _ _ _ _ (any-row _ (p .0 .0) _ (p .1 .0) _ (p .1 .1) _ _ _ _ _ (p .0 .1 .0) _ f) _ _ _ (c .before .before .short-line .ensures)
 
 pub row-spec : {M : Type 1} → statement M
 row-spec =

@@ -19,13 +19,16 @@ use Rattle.values.proofs.sweep.Statement.{statement}
 use Rattle.values.proofs.sweep.Tie as tie
 
 abbrev Inv-loop : tie.InvT-loop
-Inv-loop nest source grid₀ components weights back last lengths rows width at₀ margin lasts least groups g₀ grid at g = (g ≤ groups) × (Sweeping nest source grid₀ grid (4 * g * width) × Placed lengths (four 0) (4 * g) last at)
+Inv-loop nest source grid₀ components weights back last lengths rows width at₀ margin lasts least groups g₀ grid at g = (g ≤ groups) ×
+    (Sweeping nest source grid₀ grid (4 * g * width) × Placed lengths (four 0) (4 * g) last at)
 
 abbrev μ-loop : tie.MeasureT-loop
 μ-loop nest source grid₀ components weights back last lengths rows width at₀ margin lasts least groups g₀ grid at g = groups - g
 
 abbrev Inv-loop2 : tie.InvT-loop2
-Inv-loop2 nest source grid₀ components weights back last lengths rows width at₀ margin lasts least groups r₀ grid at r = ((m : List ℕ) → length m ≡ cells nest → Sweeping nest source m grid₀ (4 * groups * width) → Sweeping nest source m grid (r * width)) × Placed lengths (four 0) r last at
+Inv-loop2 nest source grid₀ components weights back last lengths rows width at₀ margin lasts least groups r₀ grid at r =
+    ((m : List ℕ) → length m ≡ cells nest → Sweeping nest source m grid₀ (4 * groups * width) → Sweeping nest source m grid (r * width)) × Placed
+    lengths (four 0) r last at
 
 abbrev μ-loop2 : tie.MeasureT-loop2
 μ-loop2 nest source grid₀ components weights back last lengths rows width at₀ margin lasts least groups r₀ grid at r = rows - r
@@ -53,7 +56,9 @@ margins-of-requires : tie.Need-margins-of-requires Inv-loop μ-loop Inv-loop2 μ
 margins-of-requires c κs = ((c .before .before .before .before .before .before .before .before .before .before .pre .0 .accepted), record { is = refl })
 
 lasts-of-requires : tie.Need-lasts-of-requires Inv-loop μ-loop Inv-loop2 μ-loop2
-lasts-of-requires c κs = ((c .before .before .before .before .before .before .before .before .before .before .before .before .pre .0 .accepted), record { is = refl })
+lasts-of-requires c κs =
+    let c12 = c .before .before .before .before .before .before .before .before .before .before .before .before in
+    ((c12 .pre .0 .accepted), record { is = refl })
 
 least-of-requires : tie.Need-least-of-requires Inv-loop μ-loop Inv-loop2 μ-loop2
 least-of-requires c κs = c .before .before .before .before .before .before .before .before .before .before .before .before .before .before .pre .0 .accepted
@@ -67,106 +72,371 @@ loop-holds c =
     (omega arith, (rw (zero-mul (getD (q .args .nest .lengths) (q .args .nest .dimensions - 1) 0)) (sweeping-none _ _ _), placed-start _ _ _))
 
 mul-q : tie.Need-mul-q Inv-loop μ-loop Inv-loop2 μ-loop2
-mul-q c = omega (arith, fours-in _ _ _ (c .before .before .by-fours .ensures) (c .loop-test .taken), sweep-few _ (c .before .before .before .before .before .before .before .before .before .before .before .before .before .before .before .before .before .before .pre .0 .accepted) _ (c .before .before .before .before .before .before .before .before .before .product .ensures))
+mul-q c =
+    let c2 = c .before .before in
+    let c9 = c2 .before .before .before .before .before .before .before in
+    let c18 = c9 .before .before .before .before .before .before .before .before .before in
+    omega (arith, fours-in _ _ _ (c2 .by-fours .ensures) (c .loop-test .taken), sweep-few _ (c18 .pre .0 .accepted) _ (c9 .product .ensures))
 
 next-place-requires : tie.Need-next-place-requires Inv-loop μ-loop Inv-loop2 μ-loop2
-next-place-requires c κs = sweep-inside _ (c .before .before .before .before .before .before .before .before .before .before .before .before .before .before .before .before .before .before .pre .0 .accepted) _ _ (c .before .loop .inv .1 .1)
+next-place-requires c κs =
+    let c1 = c .before in
+    let c18 = c1 .before .before .before .before .before .before .before .before .before .before .before .before .before .before .before .before .before in
+    sweep-inside _ (c18 .pre .0 .accepted) _ _ (c1 .loop .inv .1 .1)
 
 next-place-requires-2 : tie.Need-next-place-requires-2 Inv-loop μ-loop Inv-loop2 μ-loop2
-next-place-requires-2 c κs = sweep-inside _ (c .before .before .before .before .before .before .before .before .before .before .before .before .before .before .before .before .before .before .before .pre .0 .accepted) _ _ (c .next-place .ensures .next _ (c .before .before .loop .inv .1 .1))
+next-place-requires-2 c κs =
+    let c2 = c .before .before in
+    let c19 = c2 .before .before .before .before .before .before .before .before .before .before .before .before .before .before .before .before .before in
+    sweep-inside _ (c19 .pre .0 .accepted) _ _ (c .next-place .ensures .next _ (c2 .loop .inv .1 .1))
 
 next-place-requires-3 : tie.Need-next-place-requires-3 Inv-loop μ-loop Inv-loop2 μ-loop2
-next-place-requires-3 c κs = sweep-inside _ (c .before .before .before .before .before .before .before .before .before .before .before .before .before .before .before .before .before .before .before .before .pre .0 .accepted) _ _ (c .next-place2 .ensures .next _ (c .before .next-place .ensures .next _ (c .before .before .before .loop .inv .1 .1)))
+next-place-requires-3 c κs =
+    let c1 = c .before in
+    let c3 = c1 .before .before in
+    let c20 = c3 .before .before .before .before .before .before .before .before .before .before .before .before .before .before .before .before .before in
+    sweep-inside _ (c20 .pre .0 .accepted) _ _ (c .next-place2 .ensures .next _ (c1 .next-place .ensures .next _ (c3 .loop .inv .1 .1)))
 
-mul-t43 : tie.Need-mul-t43 Inv-loop μ-loop Inv-loop2 μ-loop2
-mul-t43 c =
-    let q = c .before .before .before .before .before .before .before .before .before .before .before .before .before .before .before .before .before .before .before .before .before in
-    omega (arith, first-low _ (q .pre .0 .accepted) _ _ (c .before .before .before .before .before .before .before .before .before .before .before .before .product .ensures) refl _ (fours-in _ _ _ (c .before .before .before .before .before .by-fours .ensures) (c .before .before .before .loop-test .taken)), q .pre .0 .accepted .cells-most)
+mul-t45 : tie.Need-mul-t45 Inv-loop μ-loop Inv-loop2 μ-loop2
+mul-t45 c =
+    let c3 = c .before .before .before in
+    let c5 = c3 .before .before in
+    let c12 = c5 .before .before .before .before .before .before .before in
+    let c21 = c12 .before .before .before .before .before .before .before .before .before in
+    let q = c21 in
+    omega (
+      arith,
+      first-low _ (q .pre .0 .accepted) _ _ (c12 .product .ensures) refl _
+          (fours-in _ _ _ (c5 .by-fours .ensures) (c3 .loop-test .taken)),
+      q .pre .0 .accepted .cells-most,
+    )
 
-add-t43 : tie.Need-add-t43 Inv-loop μ-loop Inv-loop2 μ-loop2
-add-t43 c = omega (arith, fours-in _ _ _ (c .before .before .before .before .before .by-fours .ensures) (c .before .before .before .loop-test .taken), sweep-few _ (c .before .before .before .before .before .before .before .before .before .before .before .before .before .before .before .before .before .before .before .before .before .pre .0 .accepted) _ (c .before .before .before .before .before .before .before .before .before .before .before .before .product .ensures))
+add-t45 : tie.Need-add-t45 Inv-loop μ-loop Inv-loop2 μ-loop2
+add-t45 c =
+    let c3 = c .before .before .before in
+    let c5 = c3 .before .before in
+    let c12 = c5 .before .before .before .before .before .before .before in
+    let c21 = c12 .before .before .before .before .before .before .before .before .before in
+    omega (arith, fours-in _ _ _ (c5 .by-fours .ensures) (c3 .loop-test .taken), sweep-few _ (c21 .pre .0 .accepted) _ (c12 .product .ensures))
 
-mul-t44 : tie.Need-mul-t44 Inv-loop μ-loop Inv-loop2 μ-loop2
-mul-t44 c =
-    let q = c .before .before .before .before .before .before .before .before .before .before .before .before .before .before .before .before .before .before .before .before .before in
-    omega (arith, number-low _ (q .pre .0 .accepted) _ _ (c .before .before .before .before .before .before .before .before .before .before .before .before .product .ensures) refl _ (fours-in _ _ _ (c .before .before .before .before .before .by-fours .ensures) (c .before .before .before .loop-test .taken)) 1 (omega arith), q .pre .0 .accepted .cells-most)
+mul-t46 : tie.Need-mul-t46 Inv-loop μ-loop Inv-loop2 μ-loop2
+mul-t46 c =
+    let c3 = c .before .before .before in
+    let c5 = c3 .before .before in
+    let c12 = c5 .before .before .before .before .before .before .before in
+    let c21 = c12 .before .before .before .before .before .before .before .before .before in
+    let q = c21 in
+    omega (
+      arith,
+      number-low _ (q .pre .0 .accepted) _ _ (c12 .product .ensures) refl _
+          (fours-in _ _ _ (c5 .by-fours .ensures) (c3 .loop-test .taken)) 1 (omega arith),
+      q .pre .0 .accepted .cells-most,
+    )
 
-add-t43-2 : tie.Need-add-t43-2 Inv-loop μ-loop Inv-loop2 μ-loop2
-add-t43-2 c = omega (arith, fours-in _ _ _ (c .before .before .before .before .before .by-fours .ensures) (c .before .before .before .loop-test .taken), sweep-few _ (c .before .before .before .before .before .before .before .before .before .before .before .before .before .before .before .before .before .before .before .before .before .pre .0 .accepted) _ (c .before .before .before .before .before .before .before .before .before .before .before .before .product .ensures))
+add-t45-2 : tie.Need-add-t45-2 Inv-loop μ-loop Inv-loop2 μ-loop2
+add-t45-2 c =
+    let c3 = c .before .before .before in
+    let c5 = c3 .before .before in
+    let c12 = c5 .before .before .before .before .before .before .before in
+    let c21 = c12 .before .before .before .before .before .before .before .before .before in
+    omega (arith, fours-in _ _ _ (c5 .by-fours .ensures) (c3 .loop-test .taken), sweep-few _ (c21 .pre .0 .accepted) _ (c12 .product .ensures))
 
-mul-t44-2 : tie.Need-mul-t44-2 Inv-loop μ-loop Inv-loop2 μ-loop2
-mul-t44-2 c =
-    let q = c .before .before .before .before .before .before .before .before .before .before .before .before .before .before .before .before .before .before .before .before .before in
-    omega (arith, number-low _ (q .pre .0 .accepted) _ _ (c .before .before .before .before .before .before .before .before .before .before .before .before .product .ensures) refl _ (fours-in _ _ _ (c .before .before .before .before .before .by-fours .ensures) (c .before .before .before .loop-test .taken)) 2 (omega arith), q .pre .0 .accepted .cells-most)
+mul-t46-2 : tie.Need-mul-t46-2 Inv-loop μ-loop Inv-loop2 μ-loop2
+mul-t46-2 c =
+    let c3 = c .before .before .before in
+    let c5 = c3 .before .before in
+    let c12 = c5 .before .before .before .before .before .before .before in
+    let c21 = c12 .before .before .before .before .before .before .before .before .before in
+    let q = c21 in
+    omega (
+      arith,
+      number-low _ (q .pre .0 .accepted) _ _ (c12 .product .ensures) refl _
+          (fours-in _ _ _ (c5 .by-fours .ensures) (c3 .loop-test .taken)) 2 (omega arith),
+      q .pre .0 .accepted .cells-most,
+    )
 
-add-t43-3 : tie.Need-add-t43-3 Inv-loop μ-loop Inv-loop2 μ-loop2
-add-t43-3 c = omega (arith, fours-in _ _ _ (c .before .before .before .before .before .by-fours .ensures) (c .before .before .before .loop-test .taken), sweep-few _ (c .before .before .before .before .before .before .before .before .before .before .before .before .before .before .before .before .before .before .before .before .before .pre .0 .accepted) _ (c .before .before .before .before .before .before .before .before .before .before .before .before .product .ensures))
+add-t45-3 : tie.Need-add-t45-3 Inv-loop μ-loop Inv-loop2 μ-loop2
+add-t45-3 c =
+    let c3 = c .before .before .before in
+    let c5 = c3 .before .before in
+    let c12 = c5 .before .before .before .before .before .before .before in
+    let c21 = c12 .before .before .before .before .before .before .before .before .before in
+    omega (arith, fours-in _ _ _ (c5 .by-fours .ensures) (c3 .loop-test .taken), sweep-few _ (c21 .pre .0 .accepted) _ (c12 .product .ensures))
 
-mul-t44-3 : tie.Need-mul-t44-3 Inv-loop μ-loop Inv-loop2 μ-loop2
-mul-t44-3 c =
-    let q = c .before .before .before .before .before .before .before .before .before .before .before .before .before .before .before .before .before .before .before .before .before in
-    omega (arith, number-low _ (q .pre .0 .accepted) _ _ (c .before .before .before .before .before .before .before .before .before .before .before .before .product .ensures) refl _ (fours-in _ _ _ (c .before .before .before .before .before .by-fours .ensures) (c .before .before .before .loop-test .taken)) 3 (omega arith), q .pre .0 .accepted .cells-most)
+mul-t46-3 : tie.Need-mul-t46-3 Inv-loop μ-loop Inv-loop2 μ-loop2
+mul-t46-3 c =
+    let c3 = c .before .before .before in
+    let c5 = c3 .before .before in
+    let c12 = c5 .before .before .before .before .before .before .before in
+    let c21 = c12 .before .before .before .before .before .before .before .before .before in
+    let q = c21 in
+    omega (
+      arith,
+      number-low _ (q .pre .0 .accepted) _ _ (c12 .product .ensures) refl _
+          (fours-in _ _ _ (c5 .by-fours .ensures) (c3 .loop-test .taken)) 3 (omega arith),
+      q .pre .0 .accepted .cells-most,
+    )
 
 four-rows-requires : tie.Need-four-rows-requires Inv-loop μ-loop Inv-loop2 μ-loop2
 four-rows-requires c κs =
-    let q = c .before .before .before .before .before .before .before .before .before .before .before .before .before .before .before .before .before .before .before .before .before .before .before .before .before .before in
-    ((q .pre .0 .accepted, (record { given = record { is = refl }; backs = c .before .before .before .before .before .before .before .before .before .before .before .before .before .before .before .before .before .before .before .before .backs-of .ensures; weights-are = refl; firsts = c .before .before .before .before .before .before .before .before .before .before .before .before .before .lasts-of .ensures; margins = c .before .before .before .before .before .before .before .before .before .before .before .before .before .before .before .margins-of .ensures }, (q .pre .1 .0, sweeping-long _ _ _ (q .pre .1 .1) _ _ (c .before .before .before .before .before .before .before .before .before .loop .inv .1 .0)))), sweep-fours _ (q .pre .0 .accepted) _ _ (c .before .before .before .before .before .before .before .before .before .before .before .before .before .before .before .before .before .product .ensures) refl _ (fours-in _ _ _ (c .before .before .before .before .before .before .before .before .before .before .by-fours .ensures) (c .before .before .before .before .before .before .before .before .loop-test .taken)) _ _ _ _ (c .before .before .before .before .before .before .before .before .before .loop .inv .1 .1) (c .before .before .before .before .before .before .before .next-place .ensures .next _ (c .before .before .before .before .before .before .before .before .before .loop .inv .1 .1)) (c .before .before .before .before .before .before .next-place2 .ensures .next _ (c .before .before .before .before .before .before .before .next-place .ensures .next _ (c .before .before .before .before .before .before .before .before .before .loop .inv .1 .1))) (c .before .before .before .before .before .next-place3 .ensures .next _ (c .before .before .before .before .before .before .next-place2 .ensures .next _ (c .before .before .before .before .before .before .before .next-place .ensures .next _ (c .before .before .before .before .before .before .before .before .before .loop .inv .1 .1)))))
+    let c5 = c .before .before .before .before .before in
+    let c6 = c5 .before in
+    let c7 = c6 .before in
+    let c8 = c7 .before in
+    let c9 = c8 .before in
+    let c10 = c9 .before in
+    let c13 = c10 .before .before .before in
+    let c15 = c13 .before .before in
+    let c17 = c15 .before .before in
+    let c20 = c17 .before .before .before in
+    let c26 = c20 .before .before .before .before .before .before in
+    let q = c26 in (
+      q .args .nest,
+      (
+        (
+          q .pre .0 .accepted,
+          (
+            record {
+              given = record { is = refl };
+              backs = c20 .backs-of .ensures;
+              weights-are = refl;
+              firsts = c13
+                  .lasts-of .ensures;
+              margins = c15 .margins-of .ensures;
+            },
+            (q .pre .1 .0, sweeping-long _ _ _ (q .pre .1 .1) _ _ (c9 .loop .inv .1 .0)),
+          ),
+        ),
+        sweep-fours _ (q .pre .0 .accepted) _ _ (c17 .product .ensures) refl _ (fours-in _ _ _ (c10 .by-fours .ensures) (c8 .loop-test .taken)) _ _ _ _
+            (c9 .loop .inv .1 .1) (c7 .next-place .ensures .next _ (c9 .loop .inv .1 .1))
+            (c6 .next-place2 .ensures .next _ (c7 .next-place .ensures .next _ (c9 .loop .inv .1 .1)))
+            (c5 .next-place3 .ensures .next _ (c6 .next-place2 .ensures .next _ (c7 .next-place .ensures .next _ (c9 .loop .inv .1 .1)))),
+      ),
+    )
 
 next-place-requires-4 : tie.Need-next-place-requires-4 Inv-loop μ-loop Inv-loop2 μ-loop2
-next-place-requires-4 c κs = sweep-inside _ (c .before .before .before .before .before .before .before .before .before .before .before .before .before .before .before .before .before .before .before .before .before .before .before .before .before .before .before .before .before .pre .0 .accepted) _ _ (c .before .before .before .before .before .before .before .before .next-place3 .ensures .next _ (c .before .before .before .before .before .before .before .before .before .next-place2 .ensures .next _ (c .before .before .before .before .before .before .before .before .before .before .next-place .ensures .next _ (c .before .before .before .before .before .before .before .before .before .before .before .before .loop .inv .1 .1))))
+next-place-requires-4 c κs =
+    let c8 = c .before .before .before .before .before .before .before .before in
+    let c9 = c8 .before in
+    let c10 = c9 .before in
+    let c12 = c10 .before .before in
+    let c29 = c12 .before .before .before .before .before .before .before .before .before .before .before .before .before .before .before .before .before in
+    sweep-inside _ (c29 .pre .0 .accepted) _ _ (c8 .next-place3 .ensures .next _
+    (c9 .next-place2 .ensures .next _ (c10 .next-place .ensures .next _ (c12 .loop .inv .1 .1))))
 
 add-g : tie.Need-add-g Inv-loop μ-loop Inv-loop2 μ-loop2
-add-g c = omega (arith, fours-in _ _ _ (c .before .before .before .before .before .before .before .before .before .before .before .before .before .before .by-fours .ensures) (c .before .before .before .before .before .before .before .before .before .before .before .before .loop-test .taken), sweep-few _ (c .before .before .before .before .before .before .before .before .before .before .before .before .before .before .before .before .before .before .before .before .before .before .before .before .before .before .before .before .before .before .pre .0 .accepted) _ (c .before .before .before .before .before .before .before .before .before .before .before .before .before .before .before .before .before .before .before .before .before .product .ensures))
+add-g c =
+    let c12 = c .before .before .before .before .before .before .before .before .before .before .before .before in
+    let c14 = c12 .before .before in
+    let c21 = c14 .before .before .before .before .before .before .before in
+    let c30 = c21 .before .before .before .before .before .before .before .before .before in
+    omega (arith, fours-in _ _ _ (c14 .by-fours .ensures) (c12 .loop-test .taken), sweep-few _ (c30 .pre .0 .accepted) _ (c21 .product .ensures))
 
 loop-less : tie.Need-loop-less Inv-loop μ-loop Inv-loop2 μ-loop2
 loop-less c = omega (arith, c .before .before .before .before .before .before .before .before .before .before .before .before .loop-test .taken)
 
 loop-again : tie.Need-loop-again Inv-loop μ-loop Inv-loop2 μ-loop2
 loop-again c =
-    let q = c .before .before .before .before .before .before .before .before .before .before .before .before .before .before .before .before .before .before .before .before .before .before .before .before .before .before .before .before .before .before in
-    (omega (arith, c .before .before .before .before .before .before .before .before .before .before .before .before .loop-test .taken), (group-next (c .before .before .before .before .before .before .before .before .before .before .before .before .before .loop .g) (λ (a : ℕ). Sweeping (q .args .nest) (q .args .source .now) (q .args .grid .now) (c .before .before .before .four-rows .last .1 .1 .0) (a * getD (q .args .nest .lengths) (q .args .nest .dimensions - 1) 0)) (sweeping-fours _ (q .pre .0 .accepted) _ _ (c .before .before .before .before .before .before .before .before .before .before .before .before .before .before .before .before .before .before .before .before .before .product .ensures) refl _ (fours-in _ _ _ (c .before .before .before .before .before .before .before .before .before .before .before .before .before .before .by-fours .ensures) (c .before .before .before .before .before .before .before .before .before .before .before .before .loop-test .taken)) _ _ _ _ (q .pre .1 .1) (c .before .before .before .before .before .before .before .before .before .before .before .before .before .loop .inv .1 .0) (box-sound Direct _ (q .pre .0 .accepted)) (c .before .before .before .four-rows .ensures)), group-placed _ _ _ (c .before .before .before .before .before .before .before .before .before .before .before .before .before .loop .g) _ (c .next-place4 .ensures .next _ (c .before .before .before .before .before .before .before .before .before .next-place3 .ensures .next _ (c .before .before .before .before .before .before .before .before .before .before .next-place2 .ensures .next _ (c .before .before .before .before .before .before .before .before .before .before .before .next-place .ensures .next _ (c .before .before .before .before .before .before .before .before .before .before .before .before .before .loop .inv .1 .1)))))))
+    let c3 = c .before .before .before in
+    let c9 = c3 .before .before .before .before .before .before in
+    let c10 = c9 .before in
+    let c11 = c10 .before in
+    let c12 = c11 .before in
+    let c13 = c12 .before in
+    let c14 = c13 .before in
+    let c17 = c14 .before .before .before in
+    let c19 = c17 .before .before in
+    let c21 = c19 .before .before in
+    let c24 = c21 .before .before .before in
+    let c30 = c24 .before .before .before .before .before .before in
+    let q = c30 in (
+      omega (arith, c12 .loop-test .taken),
+      (
+        group-next (c13 .loop .g) (λ (a : ℕ). Sweeping (q .args .nest) (q .args .source .now) (q .args .grid .now)
+            (c3 .four-rows .last .1 .1 .0) (a * getD (q .args .nest .lengths) (q .args .nest .dimensions - 1) 0))
+            (sweeping-fours _ (q .pre .0 .accepted) _ _ (c21 .product .ensures) refl _ (fours-in _ _ _ (c14 .by-fours .ensures) (c12 .loop-test .taken)) _ _ _
+            _ (q .pre .1 .1) (c13 .loop .inv .1 .0) (box-sound Direct _ (q .pre .0 .accepted))
+            (c3 .four-rows .ensures (q .args .nest) (
+              (
+                q .pre .0 .accepted,
+                (
+                  record {
+                    given = record { is = refl };
+                    backs = c24 .backs-of .ensures;
+                    weights-are = refl;
+                    firsts = c17 .lasts-of .ensures;
+                    margins = c19
+                        .margins-of .ensures;
+                  },
+                  (q .pre .1 .0, sweeping-long _ _ _ (q .pre .1 .1) _ _ (c13 .loop .inv .1 .0)),
+                ),
+              ),
+              sweep-fours _ (q .pre .0 .accepted) _
+                  _ (c21 .product .ensures) refl _ (fours-in _ _ _ (c14 .by-fours .ensures) (c12 .loop-test .taken)) _ _ _ _ (c13 .loop .inv .1 .1)
+                  (c11 .next-place .ensures .next _ (c13 .loop .inv .1 .1)) (c10 .next-place2 .ensures .next _
+                  (c11 .next-place .ensures .next _ (c13 .loop .inv .1 .1))) (c9 .next-place3 .ensures .next _
+                  (c10 .next-place2 .ensures .next _ (c11 .next-place .ensures .next _ (c13 .loop .inv .1 .1)))),
+            ))),
+        group-placed _
+            _ _ (c13 .loop .g) _ (c .next-place4 .ensures .next _ (c9 .next-place3 .ensures .next _
+            (c10 .next-place2 .ensures .next _ (c11 .next-place .ensures .next _ (c13 .loop .inv .1 .1))))),
+      ),
+    )
 
 mul-r : tie.Need-mul-r Inv-loop μ-loop Inv-loop2 μ-loop2
-mul-r c = omega (arith, c .before .before .by-fours .ensures, sweep-few _ (c .before .before .before .before .before .before .before .before .before .before .before .before .before .before .before .before .before .before .pre .0 .accepted) _ (c .before .before .before .before .before .before .before .before .before .product .ensures))
+mul-r c =
+    let c2 = c .before .before in
+    let c9 = c2 .before .before .before .before .before .before .before in
+    let c18 = c9 .before .before .before .before .before .before .before .before .before in
+    omega (arith, c2 .by-fours .ensures, sweep-few _ (c18 .pre .0 .accepted) _ (c9 .product .ensures))
 
 loop2-holds : tie.Need-loop2-holds Inv-loop μ-loop Inv-loop2 μ-loop2
 loop2-holds c =
-    let q = c .before .before .before .before .before .before .before .before .before .before .before .before .before .before .before .before .before .before in
-    ((λ m l s. s), group-end _ _ (λ (a : ℕ). Placed (q .args .nest .lengths) (four 0) a (q .args .nest .dimensions - 1) (c .before .loop .at)) (c .before .loop .inv .0) (c .loop-test .left) (c .before .loop .inv .1 .1))
+    let c1 = c .before in
+    let c18 = c1 .before .before .before .before .before .before .before .before .before .before .before .before .before .before .before .before .before in
+    let q = c18 in (
+      (λ m l s. s),
+      group-end _ _ (λ (a : ℕ). Placed (q .args .nest .lengths) (four 0) a (q .args .nest .dimensions - 1) (c1 .loop .at))
+          (c1 .loop .inv .0) (c .loop-test .left) (c1 .loop .inv .1 .1),
+    )
 
-mul-t53 : tie.Need-mul-t53 Inv-loop μ-loop Inv-loop2 μ-loop2
-mul-t53 c =
-    let q = c .before .before .before .before .before .before .before .before .before .before .before .before .before .before .before .before .before .before .before .before in
-    omega (arith, sweep-in _ (q .pre .0 .accepted) _ _ _ (c .before .before .before .before .before .before .before .before .before .before .before .product .ensures) refl (c .loop2-test .taken), q .pre .0 .accepted .cells-most)
+mul-t55 : tie.Need-mul-t55 Inv-loop μ-loop Inv-loop2 μ-loop2
+mul-t55 c =
+    let c11 = c .before .before .before .before .before .before .before .before .before .before .before in
+    let c20 = c11 .before .before .before .before .before .before .before .before .before in
+    let q = c20 in
+    omega (arith, sweep-in _ (q .pre .0 .accepted) _ _ _ (c11 .product .ensures) refl (c .loop2-test .taken), q .pre .0 .accepted .cells-most)
 
 row-requires : tie.Need-row-requires Inv-loop μ-loop Inv-loop2 μ-loop2
 row-requires c κs =
-    let q = c .before .before .before .before .before .before .before .before .before .before .before .before .before .before .before .before .before .before .before .before .before .before .before .before .before in
-    ((q .pre .0 .accepted, (record { given = record { is = refl }; backs = c .before .before .before .before .before .before .before .before .before .before .before .before .before .before .before .before .before .before .before .backs-of .ensures; weights-are = refl; firsts = c .before .before .before .before .before .before .before .before .before .before .before .before .lasts-of .ensures; margins = c .before .before .before .before .before .before .before .before .before .before .before .before .before .before .margins-of .ensures }, (q .pre .1 .0, sweeping-long _ _ _ (q .pre .1 .1) _ _ (c .before .before .before .before .before .before .loop2 .inv .0 _ (q .pre .1 .1) (group-end _ _ (λ (a : ℕ). Sweeping (q .args .nest) (q .args .source .now) (q .args .grid .now) (c .before .before .before .before .before .before .before .before .loop .grid) (a * getD (q .args .nest .lengths) (q .args .nest .dimensions - 1) 0)) (c .before .before .before .before .before .before .before .before .loop .inv .0) (c .before .before .before .before .before .before .before .loop-test .left) (c .before .before .before .before .before .before .before .before .loop .inv .1 .0)))))), (sweep-located _ (q .pre .0 .accepted) _ _ (c .before .before .before .before .before .before .loop2 .inv .1) _ refl (omega (arith, sweep-in _ (q .pre .0 .accepted) _ _ _ (c .before .before .before .before .before .before .before .before .before .before .before .before .before .before .before .before .product .ensures) refl (c .before .before .before .before .before .loop2-test .taken))), omega (arith, c .before .before .before .before .before .before .loop2 .inv .1 .rest (q .args .nest .dimensions - 1) (omega arith), zeros (q .args .nest .dimensions - 1))))
+    let c5 = c .before .before .before .before .before in
+    let c6 = c5 .before in
+    let c7 = c6 .before in
+    let c8 = c7 .before in
+    let c12 = c8 .before .before .before .before in
+    let c14 = c12 .before .before in
+    let c16 = c14 .before .before in
+    let c19 = c16 .before .before .before in
+    let c25 = c19 .before .before .before .before .before .before in
+    let q = c25 in (
+      q .args .nest,
+      (
+        (
+          q .pre .0 .accepted,
+          (
+            record {
+              given = record { is = refl };
+              backs = c19 .backs-of .ensures;
+              weights-are = refl;
+              firsts = c12
+                  .lasts-of .ensures;
+              margins = c14 .margins-of .ensures;
+            },
+            (
+              q .pre .1 .0,
+              sweeping-long _ _ _ (q .pre .1 .1) _ _
+                  (c6 .loop2 .inv .0 _ (q .pre .1 .1) (group-end _ _ (λ (a : ℕ). Sweeping (q .args .nest) (q .args .source .now) (q .args .grid .now)
+                  (c8 .loop .grid) (a * getD (q .args .nest .lengths) (q .args .nest .dimensions - 1) 0)) (c8 .loop .inv .0) (c7 .loop-test .left)
+                  (c8 .loop .inv .1 .0))),
+            ),
+          ),
+        ),
+        (
+          sweep-located _ (q .pre .0 .accepted) _ _ (c6 .loop2 .inv .1) _ refl
+              (omega (arith, sweep-in _ (q .pre .0 .accepted) _ _ _ (c16 .product .ensures) refl (c5 .loop2-test .taken))),
+          omega
+              (arith, c6 .loop2 .inv .1 .rest (q .args .nest .dimensions - 1) (omega arith), zeros (q .args .nest .dimensions - 1)),
+        ),
+      ),
+    )
 
 next-place-requires-5 : tie.Need-next-place-requires-5 Inv-loop μ-loop Inv-loop2 μ-loop2
-next-place-requires-5 c κs = sweep-inside _ (c .before .before .before .before .before .before .before .before .before .before .before .before .before .before .before .before .before .before .before .before .before .before .before .before .before .before .before .before .pre .0 .accepted) _ _ (c .before .before .before .before .before .before .before .before .before .loop2 .inv .1)
+next-place-requires-5 c κs =
+    let c9 = c .before .before .before .before .before .before .before .before .before in
+    let c28 = c9 .before .before .before .before .before .before .before .before .before .before .before .before .before .before .before .before
+    .before .before .before in
+    sweep-inside _ (c28 .pre .0 .accepted) _ _ (c9 .loop2 .inv .1)
 
 add-r : tie.Need-add-r Inv-loop μ-loop Inv-loop2 μ-loop2
-add-r c = omega (arith, sweep-few _ (c .before .before .before .before .before .before .before .before .before .before .before .before .before .before .before .before .before .before .before .before .before .before .before .before .before .before .before .before .before .pre .0 .accepted) _ (c .before .before .before .before .before .before .before .before .before .before .before .before .before .before .before .before .before .before .before .before .product .ensures), c .before .before .before .before .before .before .before .before .before .loop2-test .taken)
+add-r c =
+    let c9 = c .before .before .before .before .before .before .before .before .before in
+    let c20 = c9 .before .before .before .before .before .before .before .before .before .before .before in
+    let c29 = c20 .before .before .before .before .before .before .before .before .before in
+    omega (arith, sweep-few _ (c29 .pre .0 .accepted) _ (c20 .product .ensures), c9 .loop2-test .taken)
 
 loop2-less : tie.Need-loop2-less Inv-loop μ-loop Inv-loop2 μ-loop2
 loop2-less c = omega (arith, c .before .before .before .before .before .before .before .before .before .loop2-test .taken)
 
 loop2-again : tie.Need-loop2-again Inv-loop μ-loop Inv-loop2 μ-loop2
 loop2-again c =
-    let q = c .before .before .before .before .before .before .before .before .before .before .before .before .before .before .before .before .before .before .before .before .before .before .before .before .before .before .before .before .before in
-    ((λ m l s. sweeping-turn _ (q .pre .0 .accepted) _ _ _ (c .before .before .before .before .before .before .before .before .before .before .before .before .before .before .before .before .before .before .before .before .product .ensures) refl _ m _ _ l (c .before .before .before .before .before .before .before .before .before .before .loop2 .inv .0 m l s) (c .before .before .before .before .before .before .before .before .before .loop2-test .taken) (box-sound Direct _ (q .pre .0 .accepted)) (c .before .before .before .row .ensures)), c .next-place5 .ensures .next _ (c .before .before .before .before .before .before .before .before .before .before .loop2 .inv .1))
+    let c3 = c .before .before .before in
+    let c9 = c3 .before .before .before .before .before .before in
+    let c10 = c9 .before in
+    let c11 = c10 .before in
+    let c12 = c11 .before in
+    let c16 = c12 .before .before .before .before in
+    let c18 = c16 .before .before in
+    let c20 = c18 .before .before in
+    let c23 = c20 .before .before .before in
+    let c29 = c23 .before .before .before .before .before .before in
+    let q = c29 in (
+      (λ m l s. sweeping-turn _ (q .pre .0 .accepted) _ _ _ (c20 .product .ensures) refl _ m _ _ l (c10 .loop2 .inv .0 m l s) (c9 .loop2-test .taken)
+          (box-sound Direct _ (q .pre .0 .accepted)) (c3 .row .ensures (q .args .nest) (
+            (
+              q .pre .0 .accepted,
+              (
+                record {
+                  given = record { is = refl };
+                  backs = c23 .backs-of .ensures;
+                  weights-are = refl;
+                  firsts = c16 .lasts-of
+                      .ensures;
+                  margins = c18 .margins-of .ensures;
+                },
+                (
+                  q .pre .1 .0,
+                  sweeping-long _ _ _ (q .pre .1 .1) _ _
+                      (c10 .loop2 .inv .0 _ (q .pre .1 .1) (group-end _ _ (λ (a : ℕ). Sweeping (q .args .nest) (q .args .source .now) (q .args .grid .now)
+                      (c12 .loop .grid) (a * getD (q .args .nest .lengths) (q .args .nest .dimensions - 1) 0)) (c12 .loop .inv .0) (c11 .loop-test .left)
+                      (c12 .loop .inv .1 .0))),
+                ),
+              ),
+            ),
+            (
+              sweep-located _ (q .pre .0 .accepted) _ _ (c10 .loop2 .inv .1) _ refl
+                  (omega (arith, sweep-in _ (q .pre .0 .accepted) _ _ _ (c20 .product .ensures) refl (c9 .loop2-test .taken))),
+              omega
+                  (arith, c10 .loop2 .inv .1 .rest (q .args .nest .dimensions - 1) (omega arith), zeros (q .args .nest .dimensions - 1)),
+            ),
+          ))),
+      c .next-place5
+          .ensures .next _ (c10 .loop2 .inv .1),
+    )
 
 same-length : tie.Need-same-length Inv-loop μ-loop Inv-loop2 μ-loop2
 same-length c =
-    let q = c .before .before .before .before .before .before .before .before .before .before .before .before .before .before .before .before .before .before .before .before in
-    sweeping-long _ _ _ (q .pre .1 .1) _ _ (c .before .loop2 .inv .0 _ (q .pre .1 .1) (group-end _ _ (λ (a : ℕ). Sweeping (q .args .nest) (q .args .source .now) (q .args .grid .now) (c .before .before .before .loop .grid) (a * getD (q .args .nest .lengths) (q .args .nest .dimensions - 1) 0)) (c .before .before .before .loop .inv .0) (c .before .before .loop-test .left) (c .before .before .before .loop .inv .1 .0))) ∙ sym (q .pre .1 .1)
+    let c1 = c .before in
+    let c2 = c1 .before in
+    let c3 = c2 .before in
+    let c20 = c3 .before .before .before .before .before .before .before .before .before .before .before .before .before .before .before .before .before in
+    let q = c20 in
+    sweeping-long _ _ _ (q .pre .1 .1) _ _ (c1 .loop2 .inv .0 _ (q .pre .1 .1)
+    (group-end _ _ (λ (a : ℕ). Sweeping (q .args .nest) (q .args .source .now) (q .args .grid .now) (c3 .loop .grid)
+    (a * getD (q .args .nest .lengths) (q .args .nest .dimensions - 1) 0)) (c3 .loop .inv .0) (c2 .loop-test .left) (c3 .loop .inv .1 .0))) ∙ sym
+    (q .pre .1 .1)
 
 returns : tie.Need-returns Inv-loop μ-loop Inv-loop2 μ-loop2
 returns c =
-    let q = c .before .before .before .before .before .before .before .before .before .before .before .before .before .before .before .before .before .before .before .before in
-    swept _ _ _ (q .pre .1 .1) _ _ (c .before .loop2 .inv .0 _ (q .pre .1 .1) (group-end _ _ (λ (a : ℕ). Sweeping (q .args .nest) (q .args .source .now) (q .args .grid .now) (c .before .before .before .loop .grid) (a * getD (q .args .nest .lengths) (q .args .nest .dimensions - 1) 0)) (c .before .before .before .loop .inv .0) (c .before .before .loop-test .left) (c .before .before .before .loop .inv .1 .0))) (rows-end _ _ _ (c .loop2-test .left) (sweep-all _ (q .pre .0 .accepted) 0 _ _ (c .before .before .before .before .before .before .before .before .before .before .before .product .ensures) refl))
+    let c1 = c .before in
+    let c2 = c1 .before in
+    let c3 = c2 .before in
+    let c11 = c3 .before .before .before .before .before .before .before .before in
+    let c20 = c11 .before .before .before .before .before .before .before .before .before in
+    let q = c20 in
+    swept _ _ _ (q .pre .1 .1) _ _ (c1 .loop2 .inv .0 _ (q .pre .1 .1)
+    (group-end _ _ (λ (a : ℕ). Sweeping (q .args .nest) (q .args .source .now) (q .args .grid .now) (c3 .loop .grid)
+    (a * getD (q .args .nest .lengths) (q .args .nest .dimensions - 1) 0)) (c3 .loop .inv .0) (c2 .loop-test .left) (c3 .loop .inv .1 .0)))
+    (rows-end _ _ _ (c .loop2-test .left) (sweep-all _ (q .pre .0 .accepted) 0 _ _ (c11 .product .ensures) refl))
 
 pub sweep-spec : {M : Type 1} → statement M
 sweep-spec =
@@ -190,13 +460,13 @@ sweep-spec =
     next-place-requires
     next-place-requires-2
     next-place-requires-3
-    mul-t43
-    add-t43
-    mul-t44
-    add-t43-2
-    mul-t44-2
-    add-t43-3
-    mul-t44-3
+    mul-t45
+    add-t45
+    mul-t46
+    add-t45-2
+    mul-t46-2
+    add-t45-3
+    mul-t46-3
     four-rows-requires
     next-place-requires-4
     add-g
@@ -204,7 +474,7 @@ sweep-spec =
     loop-again
     mul-r
     loop2-holds
-    mul-t53
+    mul-t55
     row-requires
     next-place-requires-5
     add-r

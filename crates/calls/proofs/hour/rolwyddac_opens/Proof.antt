@@ -31,9 +31,10 @@ opens-requires c κs = search needs
 
 returns-3 : tie.Need-returns-3
 returns-3 c =
-    let A = c .before .before .before .before .before .before .before .before .args in
-    L.opens-none (A .encoded .now) (hoursOf (A .hours .now) (A .minute)) (A .processor) (A .out .now)
-    (c .before .before .before .before .read .result) (c .before .before .before .before .read .ensures .0)
+    let at-read = c .before .before .before .before in
+    let start = at-read .before .before .before .before in
+    let A = start .args in
+    L.opens-none (A .encoded .now) (hoursOf (A .hours .now) (A .minute)) (A .processor) (A .out .now) (at-read .read .result) (at-read .read .ensures .0)
     (c .before .before .if2 .left) (c .before .opens .result .number) (c .before .opens .result .opening) (c .before .opens .ensures) (c .if3 .taken)
 
 store-opening-requires : tie.Need-store-opening-requires
@@ -44,13 +45,15 @@ same-length c = search needs
 
 returns-4 : tie.Need-returns-4
 returns-4 c =
-    let A = c .before .before .before .before .before .before .before .before .before .before .before .before .args in
-    L.opens-done (A .encoded .now) (hoursOf (A .hours .now) (A .minute)) (A .processor) (A .out .now)
-    (c .before .before .before .before .before .before .before .before .read .result)
-    (c .before .before .before .before .before .before .before .before .read .ensures .0)
-    (c .before .before .before .before .before .before .if2 .left) (c .before .before .before .before .before .opens .result .number)
-    (c .before .before .before .before .before .opens .result .opening) (c .before .before .before .before .before .opens .ensures)
-    (c .before .before .before .before .if3 .left) _ (c .before .before .store-opening .ensures)
+    let at-if3 = c .before .before .before .before in
+    let at-opens = at-if3 .before in
+    let at-if2 = at-opens .before in
+    let at-read = at-if2 .before .before in
+    let start = at-read .before .before .before .before in
+    let A = start .args in
+    L.opens-done (A .encoded .now) (hoursOf (A .hours .now) (A .minute)) (A .processor) (A .out .now) (at-read .read .result) (at-read .read .ensures .0)
+    (at-if2 .if2 .left) (at-opens .opens .result .number) (at-opens .opens .result .opening) (at-opens .opens .ensures) (at-if3 .if3 .left) _
+    (c .before .before .store-opening .ensures)
 
 pub rolwyddac-opens-spec : {M : Type 1} → statement M
 rolwyddac-opens-spec =

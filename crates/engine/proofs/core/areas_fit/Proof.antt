@@ -57,14 +57,16 @@ returns-4 c =
 
 returns-5 : tie.Need-returns-5
 returns-5 c =
-    let S = c .before .before .before .before .before .before .before .before .before .before .before in
+    let at-if2 = c .before .before .before .before in
+    let at-if1 = at-if2 .before in
+    let at-totals = at-if1 .before in
+    let S = at-totals .before .before .before .before .before in
     let A = S .args in
-    let T = c .before .before .before .before .before .before .totals .ensures in
+    let T = at-totals .totals .ensures in
     let e = c .before .if4 .left ∙ lines.records-are (A .nest) (A .sizes) (S .pre .0) in (
-      λ l h. ap (eqb (length (A .status .now))) (T .0) ∙ lines.by-status (planOf (A .sizes .route) (A .nest)) (A .source .now)
-          (stateOf (A .memories .now) (A .buffer .now) l (A .status .now)) (c .before .before .before .before .before .if1 .left ∙ S .pre .0 .cells)
-          (c .before .before .before .before .if2 .left ∙ lines.area-is (A .nest) (A .sizes) (S .pre .0)) (c .before .before .if3 .left ∙ T .1 .0)
-          (sym h ∙ e),
+      λ l h. ap (eqb (length (A .status .now))) (T .0) ∙ lines.by-status (planOf (A .sizes .route) (A .nest)) (A .source .now) (stateOf (A .memories .now)
+          (A .buffer .now) l (A .status .now)) (at-if1 .if1 .left ∙ S .pre .0 .cells) (at-if2 .if2 .left ∙ lines.area-is (A .nest) (A .sizes) (S .pre .0))
+          (c .before .before .if3 .left ∙ T .1 .0) (sym h ∙ e),
       λ _. e,
     )
 

@@ -17,12 +17,12 @@ read-for-requires c κs = search needs
 
 returns : tie.Need-returns
 returns c =
+    let start = c .before .before .before .before .before .before .before .before in
     let read = c .before .read-for in
     let if1 = c .if1 in
-    let A = c .before .before .before .before .before .before .before .before .args in
+    let A = start .args in
     λ l h. lines.collect-read (A .encoded .now) (A .route) (A .source .now) (stateOf (A .memories .now) (A .buffer .now) l (A .status .now)) (A .grid .now)
-    (read .result .number)
-    (read .ensures .number) (if1 .taken)
+    (read .result .number) (read .ensures .number) (if1 .taken)
 
 route-of-requires : tie.Need-route-of-requires
 route-of-requires c κs = search needs
@@ -35,12 +35,16 @@ sizes-of-requires c κs =
 
 returns-2 : tie.Need-returns-2
 returns-2 c =
-    let read = c .before .before .before .before .before .before .read-for in
-    let if1 = c .before .before .before .before .before .if1 in
-    let route-of = c .before .before .before .route-of in
+    let at-route-of = c .before .before .before in
+    let at-if1 = at-route-of .before .before in
+    let at-read-for = at-if1 .before in
+    let start = at-read-for .before .before .before .before .before .before .before in
+    let read = at-read-for .read-for in
+    let if1 = at-if1 .if1 in
+    let route-of = at-route-of .route-of in
     let sizes-of = c .before .before .sizes-of in
     let if2 = c .if2 in
-    let A = c .before .before .before .before .before .before .before .before .before .before .before .before .before .args in
+    let A = start .args in
     let p = planOf (sizes-of .result .route) (read .result .nest) in
     λ l h. lines.collect-grid (A .encoded .now) (A .route) (A .source .now) (stateOf (A .memories .now) (A .buffer .now) l (A .status .now)) (A .grid .now) p
     (lines.opened (A .encoded .now) (read .result) (read .ensures) (if1 .left) (sizes-of .ensures .1 ∙ route-of .ensures))
@@ -48,10 +52,14 @@ returns-2 c =
 
 fill-requires : tie.Need-fill-requires
 fill-requires c κs =
-    let read = c .before .before .before .before .before .before .before .read-for in
-    let if1 = c .before .before .before .before .before .before .if1 in
-    let route-of = c .before .before .before .before .route-of in
-    let sizes-of = c .before .before .before .sizes-of in
+    let at-sizes-of = c .before .before .before in
+    let at-route-of = at-sizes-of .before in
+    let at-if1 = at-route-of .before .before in
+    let at-read-for = at-if1 .before in
+    let read = at-read-for .read-for in
+    let if1 = at-if1 .if1 in
+    let route-of = at-route-of .route-of in
+    let sizes-of = at-sizes-of .sizes-of in
     (sizes-of .ensures .0, (lines.routed _ (read .result) (read .ensures) (if1 .left) (sizes-of .ensures .1 ∙ route-of .ensures), refl))
 
 unfit-requires : tie.Need-unfit-requires
@@ -59,20 +67,24 @@ unfit-requires c κs = search needs
 
 returns-3 : tie.Need-returns-3
 returns-3 c =
-    let read = c .before .before .before .before .before .before .before .before .before .before .before .read-for in
-    let if1 = c .before .before .before .before .before .before .before .before .before .before .if1 in
-    let route-of = c .before .before .before .before .before .before .before .before .route-of in
-    let sizes-of = c .before .before .before .before .before .before .before .sizes-of in
-    let if2 = c .before .before .before .before .before .if2 in
+    let at-if2 = c .before .before .before .before .before in
+    let at-sizes-of = at-if2 .before .before in
+    let at-route-of = at-sizes-of .before in
+    let at-if1 = at-route-of .before .before in
+    let at-read-for = at-if1 .before in
+    let start = at-read-for .before .before .before .before .before .before .before in
+    let read = at-read-for .read-for in
+    let if1 = at-if1 .if1 in
+    let route-of = at-route-of .route-of in
+    let sizes-of = at-sizes-of .sizes-of in
+    let if2 = at-if2 .if2 in
     let unfit = c .before .unfit in
     let if3 = c .if3 in
-    let A = c .before .before .before .before .before .before .before .before .before .before .before .before .before .before .before .before .before
-    .before .args in
+    let A = start .args in
     let p = planOf (sizes-of .result .route) (read .result .nest) in
-    λ l h. lines.collect-unfit (A .encoded .now) (A .route) (A .source .now) (stateOf (A .memories .now) (A .buffer .now) l (A .status .now)) (A .grid .now) p
-    (lines.opened (A .encoded .now) (read .result) (read .ensures) (if1 .left) (sizes-of .ensures .1 ∙ route-of .ensures))
-    (if2 .left ∙ sizes-of .ensures .0 .cells)
-    (unfit .result) (unfit .ensures .0 l h) (if3 .taken)
+    λ l h. lines.collect-unfit (A .encoded .now) (A .route) (A .source .now) (stateOf (A .memories .now) (A .buffer .now) l (A .status .now)) (A .grid .now)
+    p (lines.opened (A .encoded .now) (read .result) (read .ensures) (if1 .left) (sizes-of .ensures .1 ∙ route-of .ensures)) (if2 .left
+    ∙ sizes-of .ensures .0 .cells) (unfit .result) (unfit .ensures .0 l h) (if3 .taken)
 
 sub-tiles-left : tie.Need-sub-tiles-left
 sub-tiles-left c = search needs
@@ -82,23 +94,29 @@ part-tiles-left-start c = search needs
 
 part-tiles-left-end : tie.Need-part-tiles-left-end
 part-tiles-left-end c =
-    let sizes-of = c .before .before .before .before .before .before .before .before .before .before .sizes-of in
-    let unfit = c .before .before .before .before .unfit in
-    let if3 = c .before .before .before .if3 in
-    let S = c .before .before .before .before .before .before .before .before .before .before .before .before .before .before .before .before .before
-    .before .before .before .before in
+    let at-if3 = c .before .before .before in
+    let at-unfit = at-if3 .before in
+    let at-sizes-of = at-unfit .before .before .before .before .before .before in
+    let S = at-sizes-of .before .before .before .before .before .before .before .before .before .before .before in
+    let sizes-of = at-sizes-of .sizes-of in
+    let unfit = at-unfit .unfit in
+    let if3 = at-if3 .if3 in
     let A = S .args in
     omega (arith, S .pre, reading.few-words _ _ (sizes-of .ensures .0) (A .progress .count) (unfit .ensures .1 (if3 .left)))
 
 tiles-left-requires : tie.Need-tiles-left-requires
 tiles-left-requires c κs =
-    let read = c .before .before .before .before .before .before .before .before .before .before .before .before .before .before .before .read-for in
-    let sizes-of = c .before .before .before .before .before .before .before .before .before .before .before .sizes-of in
-    let fill = c .before .before .before .before .before .before .before .fill in
-    let unfit = c .before .before .before .before .before .unfit in
-    let if3 = c .before .before .before .before .if3 in
-    let S = c .before .before .before .before .before .before .before .before .before .before .before .before .before .before .before .before .before
-    .before .before .before .before .before in
+    let at-if3 = c .before .before .before .before in
+    let at-unfit = at-if3 .before in
+    let at-fill = at-unfit .before .before in
+    let at-sizes-of = at-fill .before .before .before .before in
+    let at-read-for = at-sizes-of .before .before .before .before in
+    let S = at-read-for .before .before .before .before .before .before .before in
+    let read = at-read-for .read-for in
+    let sizes-of = at-sizes-of .sizes-of in
+    let fill = at-fill .fill in
+    let unfit = at-unfit .unfit in
+    let if3 = at-if3 .if3 in
     let A = S .args in
     let p = planOf (sizes-of .result .route) (read .result .nest) in
     let few = reading.few-words _ _ (sizes-of .ensures .0) (A .progress .count) (unfit .ensures .1 (if3 .left)) in
@@ -114,47 +132,58 @@ tiles-left-requires c κs =
 
 returns-4 : tie.Need-returns-4
 returns-4 c =
-    let read = c .before .before .before .before .before .before .before .before .before .before .before .before .before .before .before .before .before
-    .read-for in
-    let if1 = c .before .before .before .before .before .before .before .before .before .before .before .before .before .before .before .before .if1 in
-    let route-of = c .before .before .before .before .before .before .before .before .before .before .before .before .before .before .route-of in
-    let sizes-of = c .before .before .before .before .before .before .before .before .before .before .before .before .before .sizes-of in
-    let if2 = c .before .before .before .before .before .before .before .before .before .before .before .if2 in
-    let unfit = c .before .before .before .before .before .before .before .unfit in
-    let if3 = c .before .before .before .before .before .before .if3 in
+    let at-if3 = c .before .before .before .before .before .before in
+    let at-unfit = at-if3 .before in
+    let at-if2 = at-unfit .before .before .before .before in
+    let at-sizes-of = at-if2 .before .before in
+    let at-route-of = at-sizes-of .before in
+    let at-if1 = at-route-of .before .before in
+    let at-read-for = at-if1 .before in
+    let start = at-read-for .before .before .before .before .before .before .before in
+    let read = at-read-for .read-for in
+    let if1 = at-if1 .if1 in
+    let route-of = at-route-of .route-of in
+    let sizes-of = at-sizes-of .sizes-of in
+    let if2 = at-if2 .if2 in
+    let unfit = at-unfit .unfit in
+    let if3 = at-if3 .if3 in
     let tiles-left = c .before .tiles-left in
     let if4 = c .if4 in
-    let A = c .before .before .before .before .before .before .before .before .before .before .before .before .before .before .before .before .before
-    .before .before .before .before .before .before .before .args in
+    let A = start .args in
     let p = planOf (sizes-of .result .route) (read .result .nest) in
     let few = reading.few-words _ _ (sizes-of .ensures .0) (A .progress .count) (unfit .ensures .1 (if3 .left)) in
     λ l h. lines.collect-left (A .encoded .now) (A .route) (A .source .now) (stateOf (A .memories .now) (A .buffer .now) l (A .status .now)) (A .grid .now) p
-    (lines.opened (A .encoded .now) (read .result) (read .ensures) (if1 .left) (sizes-of .ensures .1 ∙ route-of .ensures))
-    (if2 .left ∙ sizes-of .ensures .0 .cells)
-    (unfit .result) (unfit .ensures .0 l h) (if3 .left) (tiles-left .result)
-    (tiles-left .ensures ∙ sym (reading.left-as p _ l (reading.part-is (A .progress) l few h))) (if4 .taken)
+    (lines.opened (A .encoded .now) (read .result) (read .ensures) (if1 .left) (sizes-of .ensures .1 ∙ route-of .ensures)) (if2 .left
+    ∙ sizes-of .ensures .0 .cells) (unfit .result) (unfit .ensures .0 l h) (if3 .left) (tiles-left .result) (tiles-left .ensures
+    ∙ sym (reading.left-as p _ l (reading.part-is (A .progress) l few h))) (if4 .taken)
 
 copy-cells-requires : tie.Need-copy-cells-requires
 copy-cells-requires c κs =
-    let read = c .before .before .before .before .before .before .before .before .before .before .before .before .before .before .before .before .before
-    .before .read-for in
-    let if1 = c .before .before .before .before .before .before .before .before .before .before .before .before .before .before .before .before .before .if1 in
-    let route-of = c .before .before .before .before .before .before .before .before .before .before .before .before .before .before .before .route-of in
-    let sizes-of = c .before .before .before .before .before .before .before .before .before .before .before .before .before .before .sizes-of in
-    let if2 = c .before .before .before .before .before .before .before .before .before .before .before .before .if2 in
-    let unfit = c .before .before .before .before .before .before .before .before .unfit in
-    let if3 = c .before .before .before .before .before .before .before .if3 in
-    let S = c .before .before .before .before .before .before .before .before .before .before .before .before .before .before .before .before .before
-    .before .before .before .before .before .before .before .before in
+    let at-if3 = c .before .before .before .before .before .before .before in
+    let at-unfit = at-if3 .before in
+    let at-if2 = at-unfit .before .before .before .before in
+    let at-sizes-of = at-if2 .before .before in
+    let at-route-of = at-sizes-of .before in
+    let at-if1 = at-route-of .before .before in
+    let at-read-for = at-if1 .before in
+    let S = at-read-for .before .before .before .before .before .before .before in
+    let read = at-read-for .read-for in
+    let if1 = at-if1 .if1 in
+    let route-of = at-route-of .route-of in
+    let sizes-of = at-sizes-of .sizes-of in
+    let if2 = at-if2 .if2 in
+    let unfit = at-unfit .unfit in
+    let if3 = at-if3 .if3 in
     let A = S .args in
     let p = planOf (sizes-of .result .route) (read .result .nest) in
     let few = reading.few-words _ _ (sizes-of .ensures .0) (A .progress .count) (unfit .ensures .1 (if3 .left)) in
     let l = take (A .progress .count - 0) (drop 0 (A .progress .words)) in (
       (sizes-of .ensures .0, lines.routed _ (read .result) (read .ensures) (if1 .left) (sizes-of .ensures .1 ∙ route-of .ensures)),
       (
-        lines.areas-are p (A .source .now) (stateOf (A .memories .now) (A .buffer .now) l (A .status .now))
-            (lines.unfit-none p (A .source .now) (stateOf (A .memories .now) (A .buffer .now) l (A .status .now)) (unfit .result)
-            (unfit .ensures .0 l (reading.part-carries (A .progress) (S .pre) few)) (if3 .left) .0) .memories,
+        lines.areas-are p (A .source .now) (stateOf (A .memories .now) (A .buffer .now) l (A .status .now)) (lines.unfit-none p (A .source .now)
+            (stateOf (A .memories .now) (A .buffer .now) l (A .status .now)) (unfit .result)
+            (unfit .ensures .0 l (reading.part-carries (A .progress) (S .pre) few))
+            (if3 .left) .0) .memories,
         if2 .left ∙ sizes-of .ensures .0 .cells,
       ),
     )
@@ -164,29 +193,33 @@ same-length c = search needs
 
 returns-5 : tie.Need-returns-5
 returns-5 c =
-    let read = c .before .before .before .before .before .before .before .before .before .before .before .before .before .before .before .before .before
-    .before .before .before .before .read-for in
-    let if1 = c .before .before .before .before .before .before .before .before .before .before .before .before .before .before .before .before .before
-    .before .before .before .if1 in
-    let route-of = c .before .before .before .before .before .before .before .before .before .before .before .before .before .before .before .before
-    .before .before .route-of in
-    let sizes-of = c .before .before .before .before .before .before .before .before .before .before .before .before .before .before .before .before
-    .before .sizes-of in
-    let if2 = c .before .before .before .before .before .before .before .before .before .before .before .before .before .before .before .if2 in
-    let unfit = c .before .before .before .before .before .before .before .before .before .before .before .unfit in
-    let if3 = c .before .before .before .before .before .before .before .before .before .before .if3 in
-    let tiles-left = c .before .before .before .before .before .tiles-left in
-    let if4 = c .before .before .before .before .if4 in
+    let at-if4 = c .before .before .before .before in
+    let at-tiles-left = at-if4 .before in
+    let at-if3 = at-tiles-left .before .before .before .before .before in
+    let at-unfit = at-if3 .before in
+    let at-if2 = at-unfit .before .before .before .before in
+    let at-sizes-of = at-if2 .before .before in
+    let at-route-of = at-sizes-of .before in
+    let at-if1 = at-route-of .before .before in
+    let at-read-for = at-if1 .before in
+    let start = at-read-for .before .before .before .before .before .before .before in
+    let read = at-read-for .read-for in
+    let if1 = at-if1 .if1 in
+    let route-of = at-route-of .route-of in
+    let sizes-of = at-sizes-of .sizes-of in
+    let if2 = at-if2 .if2 in
+    let unfit = at-unfit .unfit in
+    let if3 = at-if3 .if3 in
+    let tiles-left = at-tiles-left .tiles-left in
+    let if4 = at-if4 .if4 in
     let copy-cells = c .before .before .copy-cells in
-    let A = c .before .before .before .before .before .before .before .before .before .before .before .before .before .before .before .before .before
-    .before .before .before .before .before .before .before .before .before .before .before .args in
+    let A = start .args in
     let p = planOf (sizes-of .result .route) (read .result .nest) in
     let few = reading.few-words _ _ (sizes-of .ensures .0) (A .progress .count) (unfit .ensures .1 (if3 .left)) in
     λ l h. lines.collect-done (A .encoded .now) (A .route) (A .source .now) (stateOf (A .memories .now) (A .buffer .now) l (A .status .now)) (A .grid .now) p
-    (lines.opened (A .encoded .now) (read .result) (read .ensures) (if1 .left) (sizes-of .ensures .1 ∙ route-of .ensures))
-    (if2 .left ∙ sizes-of .ensures .0 .cells)
-    (unfit .result) (unfit .ensures .0 l h) (if3 .left) (tiles-left .result)
-    (tiles-left .ensures ∙ sym (reading.left-as p _ l (reading.part-is (A .progress) l few h))) (copy-cells .last .1 .1 .1 .0) (if4 .left) (copy-cells .ensures)
+    (lines.opened (A .encoded .now) (read .result) (read .ensures) (if1 .left) (sizes-of .ensures .1 ∙ route-of .ensures)) (if2 .left
+    ∙ sizes-of .ensures .0 .cells) (unfit .result) (unfit .ensures .0 l h) (if3 .left) (tiles-left .result) (tiles-left .ensures
+    ∙ sym (reading.left-as p _ l (reading.part-is (A .progress) l few h))) (copy-cells .last .1 .1 .1 .0) (if4 .left) (copy-cells .ensures)
 
 pub collect-spec : {M : Type 1} → statement M
 collect-spec =

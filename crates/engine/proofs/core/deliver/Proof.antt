@@ -28,8 +28,10 @@ sizes-of-requires c κs =
 
 fill-requires : tie.Need-fill-requires
 fill-requires c κs =
-    let read = c .before .before .before .before .before .read-for in
-    let if1 = c .before .before .before .before .if1 in
+    let at-if1 = c .before .before .before .before in
+    let at-read-for = at-if1 .before in
+    let read = at-read-for .read-for in
+    let if1 = at-if1 .if1 in
     let route-of = c .before .before .route-of in
     let sizes-of = c .before .sizes-of in
     (sizes-of .ensures .0, (lines.routed _ (read .result) (read .ensures) (if1 .left) (sizes-of .ensures .1 ∙ route-of .ensures), refl))
@@ -42,16 +44,21 @@ same-length c = search needs
 
 returns-2 : tie.Need-returns-2
 returns-2 c =
-    let read = c .before .before .before .before .before .before .before .before .before .before .read-for in
-    let if1 = c .before .before .before .before .before .before .before .before .before .if1 in
-    let route-of = c .before .before .before .before .before .before .before .route-of in
-    let sizes-of = c .before .before .before .before .before .before .sizes-of in
+    let at-sizes-of = c .before .before .before .before .before .before in
+    let at-route-of = at-sizes-of .before in
+    let at-if1 = at-route-of .before .before in
+    let at-read-for = at-if1 .before in
+    let start = at-read-for .before .before .before .before .before .before in
+    let read = at-read-for .read-for in
+    let if1 = at-if1 .if1 in
+    let route-of = at-route-of .route-of in
+    let sizes-of = at-sizes-of .sizes-of in
     let if2 = c .if2 in
     let unfit = c .before .unfit in
-    let A = c .before .before .before .before .before .before .before .before .before .before .before .before .before .before .before .before .args in
+    let A = start .args in
     let p = planOf (sizes-of .result .route) (read .result .nest) in
-    λ l h. lines.deliver-unfit (A .encoded .now) (A .route) (A .source .now) (stateOf (A .memories .now) (A .buffer .now) l (A .status .now)) (A .message)
-    p (lines.opened (A .encoded .now) (read .result) (read .ensures) (if1 .left) (sizes-of .ensures .1 ∙ route-of .ensures)) (unfit .result)
+    λ l h. lines.deliver-unfit (A .encoded .now) (A .route) (A .source .now) (stateOf (A .memories .now) (A .buffer .now) l (A .status .now)) (A .message) p
+    (lines.opened (A .encoded .now) (read .result) (read .ensures) (if1 .left) (sizes-of .ensures .1 ∙ route-of .ensures)) (unfit .result)
     (unfit .ensures .0 l h) (if2 .taken)
 
 hand-over-requires : tie.Need-hand-over-requires
@@ -62,15 +69,21 @@ same-length-2 c = search needs
 
 returns-3 : tie.Need-returns-3
 returns-3 c =
-    let read = c .before .before .before .before .before .before .before .before .before .before .before .before .before .before .read-for in
-    let if1 = c .before .before .before .before .before .before .before .before .before .before .before .before .before .if1 in
-    let route-of = c .before .before .before .before .before .before .before .before .before .before .before .route-of in
-    let sizes-of = c .before .before .before .before .before .before .before .before .before .before .sizes-of in
-    let if2 = c .before .before .before .before .if2 in
-    let unfit = c .before .before .before .before .before .unfit in
+    let at-if2 = c .before .before .before .before in
+    let at-unfit = at-if2 .before in
+    let at-sizes-of = at-unfit .before .before .before .before .before in
+    let at-route-of = at-sizes-of .before in
+    let at-if1 = at-route-of .before .before in
+    let at-read-for = at-if1 .before in
+    let start = at-read-for .before .before .before .before .before .before in
+    let read = at-read-for .read-for in
+    let if1 = at-if1 .if1 in
+    let route-of = at-route-of .route-of in
+    let sizes-of = at-sizes-of .sizes-of in
+    let if2 = at-if2 .if2 in
+    let unfit = at-unfit .unfit in
     let hand-over = c .before .before .hand-over in
-    let A = c .before .before .before .before .before .before .before .before .before .before .before .before .before .before .before .before .before
-    .before .before .before .args in
+    let A = start .args in
     let p = planOf (sizes-of .result .route) (read .result .nest) in
     λ l h. lines.deliver-over (A .encoded .now) (A .route) (A .source .now) (stateOf (A .memories .now) (A .buffer .now) l (A .status .now)) (A .message) p
     (lines.opened (A .encoded .now) (read .result) (read .ensures) (if1 .left) (sizes-of .ensures .1 ∙ route-of .ensures)) (unfit .result)

@@ -36,8 +36,10 @@ sizes-of-requires c κs =
 
 fill-requires : tie.Need-fill-requires
 fill-requires c κs =
-    let read = c .before .before .before .before .before .read-for in
-    let if1 = c .before .before .before .before .if1 in
+    let at-if1 = c .before .before .before .before in
+    let at-read-for = at-if1 .before in
+    let read = at-read-for .read-for in
+    let if1 = at-if1 .if1 in
     let route-of = c .before .before .route-of in
     let sizes-of = c .before .sizes-of in
     (sizes-of .ensures .0, (lines.routed _ (read .result) (read .ensures) (if1 .left) (sizes-of .ensures .1 ∙ route-of .ensures), refl))
@@ -56,20 +58,23 @@ same-length-3 c = search needs
 
 returns-2 : tie.Need-returns-2
 returns-2 c =
-    let read = c .before .before .before .before .before .before .before .before .before .before .before .before .read-for in
-    let if1 = c .before .before .before .before .before .before .before .before .before .before .before .if1 in
-    let route-of = c .before .before .before .before .before .before .before .before .before .route-of in
-    let sizes-of = c .before .before .before .before .before .before .before .before .sizes-of in
+    let at-sizes-of = c .before .before .before .before .before .before .before .before in
+    let at-route-of = at-sizes-of .before in
+    let at-if1 = at-route-of .before .before in
+    let at-read-for = at-if1 .before in
+    let start = at-read-for .before .before .before .before .before .before in
+    let read = at-read-for .read-for in
+    let if1 = at-if1 .if1 in
+    let route-of = at-route-of .route-of in
+    let sizes-of = at-sizes-of .sizes-of in
     let if2 = c .if2 in
     let areas-fit = c .before .areas-fit in
-    let A = c .before .before .before .before .before .before .before .before .before .before .before .before .before .before .before .before .before
-    .before .args in
+    let A = start .args in
     let p = planOf (sizes-of .result .route) (read .result .nest) in
     λ l h. ap (λ (k : List ℕ). answer 9 (stateOf (A .memories .now) (A .buffer .now) k (A .status .now)))
-    (sym (reading.zeros-after-no l 9 (λ q. omega arith))) ∙ lines.fresh-area (A .encoded .now) (A .route) (A .source .now)
-    (stateOf (A .memories .now) (A .buffer .now) l (A .status .now)) p
-    (lines.opened (A .encoded .now) (read .result) (read .ensures) (if1 .left) (sizes-of .ensures .1 ∙ route-of .ensures))
-    (sym (areas-fit .ensures .0 l h) ∙ not-true _ (if2 .taken))
+    (sym (reading.zeros-after-no l 9 (λ q. omega arith))) ∙ lines.fresh-area (A .encoded .now) (A .route) (A .source .now) (stateOf (A .memories .now)
+    (A .buffer .now) l (A .status .now)) p (lines.opened (A .encoded .now) (read .result) (read .ensures) (if1 .left) (sizes-of .ensures .1
+    ∙ route-of .ensures)) (sym (areas-fit .ensures .0 l h) ∙ not-true _ (if2 .taken))
 
 zero-words-requires : tie.Need-zero-words-requires
 zero-words-requires c κs = search needs
@@ -91,26 +96,29 @@ same-length-6 c = search needs
 
 returns-3 : tie.Need-returns-3
 returns-3 c =
-    let read = c .before .before .before .before .before .before .before .before .before .before .before .before .before .before .before .before .before
-    .before .before .before .before .before .before .before .read-for in
-    let if1 = c .before .before .before .before .before .before .before .before .before .before .before .before .before .before .before .before .before
-    .before .before .before .before .before .before .if1 in
-    let route-of = c .before .before .before .before .before .before .before .before .before .before .before .before .before .before .before .before
-    .before .before .before .before .before .route-of in
-    let sizes-of = c .before .before .before .before .before .before .before .before .before .before .before .before .before .before .before .before
-    .before .before .before .before .sizes-of in
-    let if2 = c .before .before .before .before .before .before .before .before .before .before .before .before .if2 in
-    let areas-fit = c .before .before .before .before .before .before .before .before .before .before .before .before .before .areas-fit in
-    let zero-words = c .before .before .before .before .before .before .before .before .before .before .zero-words in
-    let zero-words2 = c .before .before .before .before .before .before .zero-words2 in
+    let at-zero-words2 = c .before .before .before .before .before .before in
+    let at-zero-words = at-zero-words2 .before .before .before .before in
+    let at-if2 = at-zero-words .before .before in
+    let at-areas-fit = at-if2 .before in
+    let at-sizes-of = at-areas-fit .before .before .before .before .before .before .before in
+    let at-route-of = at-sizes-of .before in
+    let at-if1 = at-route-of .before .before in
+    let at-read-for = at-if1 .before in
+    let start = at-read-for .before .before .before .before .before .before in
+    let read = at-read-for .read-for in
+    let if1 = at-if1 .if1 in
+    let route-of = at-route-of .route-of in
+    let sizes-of = at-sizes-of .sizes-of in
+    let if2 = at-if2 .if2 in
+    let areas-fit = at-areas-fit .areas-fit in
+    let zero-words = at-zero-words .zero-words in
+    let zero-words2 = at-zero-words2 .zero-words2 in
     let zero-bytes = c .before .before .zero-bytes in
-    let A = c .before .before .before .before .before .before .before .before .before .before .before .before .before .before .before .before .before
-    .before .before .before .before .before .before .before .before .before .before .before .before .before .args in
+    let A = start .args in
     let p = planOf (sizes-of .result .route) (read .result .nest) in
     λ l h. lines.fresh-done (A .encoded .now) (A .route) (A .source .now) (stateOf (A .memories .now) (A .buffer .now) l (A .status .now)) p
-    (lines.opened (A .encoded .now) (read .result) (read .ensures) (if1 .left) (sizes-of .ensures .1 ∙ route-of .ensures))
-    (sym (areas-fit .ensures .0 l h) ∙ not-false _ (if2 .left)) _ _ _ _ (zero-words .ensures) (zero-words2 .ensures) (sym (reading.zeros-after-yes l))
-    (zero-bytes .ensures)
+    (lines.opened (A .encoded .now) (read .result) (read .ensures) (if1 .left) (sizes-of .ensures .1 ∙ route-of .ensures)) (sym (areas-fit .ensures .0 l h)
+    ∙ not-false _ (if2 .left)) _ _ _ _ (zero-words .ensures) (zero-words2 .ensures) (sym (reading.zeros-after-yes l)) (zero-bytes .ensures)
 
 pub fresh-spec : {M : Type 1} → statement M
 fresh-spec =

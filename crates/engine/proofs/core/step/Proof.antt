@@ -70,14 +70,9 @@ returns c =
     (omega (arith, c .before .before .tile-count .ensures .0, c .before .before .before .word-index2 .ensures, c .before .if1 .taken)))
 
 tile-at-requires : tie.Need-tile-at-requires
-tile-at-requires c κs = (
-  c .before .before .before .before .before .before .before .before .before .before .before .before .pre .0 .0,
-  (
-    c .before .before .before .before .before .before .before .before .before .before .before .before .pre .0 .1,
-    omega
-        (arith, c .before .tile-count .ensures .0, c .if1 .left),
-  ),
-)
+tile-at-requires c κs =
+    let start = c .before .before .before .before .before .before .before .before .before .before .before .before in
+    (start .pre .0 .0, (start .pre .0 .1, omega (arith, c .before .tile-count .ensures .0, c .if1 .left)))
 
 ready-requires : tie.Need-ready-requires
 ready-requires c κs = search needs
@@ -90,23 +85,23 @@ same-length c = search needs
 
 returns-2 : tie.Need-returns-2
 returns-2 c =
-    let S = c .before .before .before .before .before .before .before .before .before .before .before .before .before .before .before .before .before .before in
+    let at-if2 = c .before .before .before .before in
+    let at-tile-at = at-if2 .before in
+    let at-if1 = at-tile-at .before in
+    let at-tile-count = at-if1 .before in
+    let at-word-index2 = at-tile-count .before in
+    let S = at-word-index2 .before .before .before .before .before .before .before .before .before .before in
     let A = S .args in
-    reading.refuses (c .refused2 .result) 12 (c .refused2 .ensures) (λ q. omega arith)
-    (stateOf (A .memories .now) (A .buffer .now) (A .progress .now) (A .status .now)) (A .b) _
-    (turns.step-waits (planOf (A .sizes .route) (A .nest)) (A .source .now)
-    (stateOf (A .memories .now) (A .buffer .now) (A .progress .now) (A .status .now)) (A .b) (S .pre .1 .fit) (S .pre .1 .processor)
-    (omega (
+    reading.refuses (c .refused2 .result) 12 (c .refused2 .ensures) (λ q. omega arith) (stateOf (A .memories .now) (A .buffer .now) (A .progress .now)
+    (A .status .now)) (A .b) _ (turns.step-waits (planOf (A .sizes .route) (A .nest)) (A .source .now) (stateOf (A .memories .now) (A .buffer .now)
+    (A .progress .now) (A .status .now)) (A .b) (S .pre .1 .fit) (S .pre .1 .processor) (omega (
       arith,
-      c .before .before .before .before .before .before .before .tile-count .ensures .0,
-      c .before .before .before .before .before .before
-          .before .before .word-index2 .ensures,
-      c .before .before .before .before .before .before .if1 .left,
-    ))
-    (c .before .before .before .before .before .tile-at .result)
-    (c .before .before .before .before .before .tile-at .ensures .0 ∙ ap (λ (k : ℕ). getD (tilesOf (planOf (A .sizes .route) (A .nest)) (A .b)) k 0)
-    (c .before .before .before .before .before .before .before .before .word-index2 .ensures)) (c .before .before .ready .result)
-    (c .before .before .before .before .if2 .taken) (c .before .before .ready .ensures) (not-true _ (c .before .if3 .taken)))
+      at-tile-count .tile-count .ensures .0,
+      at-word-index2 .word-index2 .ensures,
+      at-if1 .if1 .left,
+    )) (at-tile-at .tile-at .result) (at-tile-at .tile-at .ensures .0
+    ∙ ap (λ (k : ℕ). getD (tilesOf (planOf (A .sizes .route) (A .nest)) (A .b)) k 0) (at-word-index2 .word-index2 .ensures))
+    (c .before .before .ready .result) (at-if2 .if2 .taken) (c .before .before .ready .ensures) (not-true _ (c .before .if3 .taken)))
 
 gather-stage-requires : tie.Need-gather-stage-requires
 gather-stage-requires c κs =
@@ -131,49 +126,34 @@ same-length-4 c = search needs
 
 returns-3 : tie.Need-returns-3
 returns-3 c =
-    let S = c .before .before .before .before .before .before .before .before .before .before .before .before .before .before .before .before .before
-    .before .before .before .before .before .before .before .before .before in
+    let at-gather-stage = c .before .before .before .before .before in
+    let at-if3 = at-gather-stage .before .before .before .before in
+    let at-ready = at-if3 .before in
+    let at-if2 = at-ready .before .before in
+    let at-tile-at = at-if2 .before in
+    let at-if1 = at-tile-at .before in
+    let at-tile-count = at-if1 .before in
+    let at-word-index2 = at-tile-count .before in
+    let S = at-word-index2 .before .before .before .before .before .before .before .before .before .before in
     let A = S .args in
-    let G = c .before .before .before .before .before .gather-stage in
-    reading.does (c .done .result) (G .result) (c .done .ensures) _ _ _ _ (A .b) _
-    (turns.step-gathers (planOf (A .sizes .route) (A .nest)) (A .source .now)
+    let G = at-gather-stage .gather-stage in
+    reading.does (c .done .result) (G .result) (c .done .ensures) _ _ _ _ (A .b) _ (turns.step-gathers (planOf (A .sizes .route) (A .nest)) (A .source .now)
     (stateOf (A .memories .now) (A .buffer .now) (A .progress .now) (A .status .now)) (A .b) (S .pre .1 .fit) (S .pre .1 .processor)
-    (omega (
-      arith,
-      c .before .before .before .before .before .before .before .before .before .before .before .before .before .before .before
-          .tile-count .ensures .0,
-      c .before .before .before .before .before .before .before .before .before .before .before .before .before .before .before
-          .before .word-index2 .ensures,
-      c .before .before .before .before .before .before .before .before .before .before .before .before .before .before
-          .if1 .left,
-    )) (c .before .before .before .before .before .before .before .before .before .before .before .before .before .tile-at .result)
-    (c .before .before .before .before .before .before .before .before .before .before .before .before .before .tile-at .ensures .0 ∙ ap
-    (λ (k : ℕ). getD (tilesOf (planOf (A .sizes .route) (A .nest)) (A .b)) k 0)
-    (c .before .before .before .before .before .before .before .before .before .before .before .before .before .before .before .before .word-index2
-    .ensures)) (c .before .before .before .before .before .before .before .before .before .before .ready .result)
-    (stateOf (G .last .1 .1 .1 .0) (A .buffer .now) (setRecord (A .progress .now) (A .b) (G .result)) (G .last .1 .1 .1 .1 .1 .0))
-    (c .before .before .before .before .before .before .before .before .before .before .before .before .if2 .taken)
-    (c .before .before .before .before .before .before .before .before .before .before .ready .ensures)
-    (not-false _ (c .before .before .before .before .before .before .before .before .before .if3 .left)) (G .ensures (A .progress .now) refl))
+    (omega (arith, at-tile-count .tile-count .ensures .0, at-word-index2 .word-index2 .ensures, at-if1 .if1 .left)) (at-tile-at .tile-at .result)
+    (at-tile-at .tile-at .ensures .0 ∙ ap (λ (k : ℕ). getD (tilesOf (planOf (A .sizes .route) (A .nest)) (A .b)) k 0) (at-word-index2 .word-index2 .ensures))
+    (at-ready .ready .result) (stateOf (G .last .1 .1 .1 .0) (A .buffer .now) (setRecord (A .progress .now) (A .b) (G .result)) (G .last .1 .1 .1 .1 .1 .0))
+    (at-if2 .if2 .taken) (at-ready .ready .ensures) (not-false _ (at-if3 .if3 .left)) (G .ensures (A .progress .now) refl))
 
 calculate-stage-requires : tie.Need-calculate-stage-requires
 calculate-stage-requires c κs =
-    let S = c .before .before .before .before .before .before .before .before .before .before .before .before .before .before .before .before in
+    let at-tile-at = c .before .before .before in
+    let at-if1 = at-tile-at .before in
+    let at-tile-count = at-if1 .before in
+    let at-word-index2 = at-tile-count .before in
+    let S = at-word-index2 .before .before .before .before .before .before .before .before .before .before in
     let P = S .pre .1 .areas in (
-      (S .pre .0 .0, (S .pre .0 .1, (S .pre .1 .processor, c .before .before .before .tile-at .ensures .1))),
-      (
-        P .source,
-        (
-          P .memories,
-          omega (
-            arith,
-            c .before .before .before .before .before .tile-count .ensures,
-            c .before .before .before .before .before
-                .before .word-index2 .ensures,
-            c .before .before .before .before .if1 .left,
-          ),
-        ),
-      ),
+      (S .pre .0 .0, (S .pre .0 .1, (S .pre .1 .processor, at-tile-at .tile-at .ensures .1))),
+      (P .source, (P .memories, omega (arith, at-tile-count .tile-count .ensures, at-word-index2 .word-index2 .ensures, at-if1 .if1 .left))),
     )
 
 done-requires-2 : tie.Need-done-requires-2
@@ -184,51 +164,47 @@ same-length-5 c = search needs
 
 returns-4 : tie.Need-returns-4
 returns-4 c =
-    let S = c .before .before .before .before .before .before .before .before .before .before .before .before .before .before .before .before .before
-    .before .before .before in
+    let at-calculate-stage = c .before .before .before in
+    let at-if4 = at-calculate-stage .before .before in
+    let at-tile-at = at-if4 .before .before in
+    let at-if1 = at-tile-at .before in
+    let at-tile-count = at-if1 .before in
+    let at-word-index2 = at-tile-count .before in
+    let S = at-word-index2 .before .before .before .before .before .before .before .before .before .before in
     let A = S .args in
-    let G = c .before .before .before .calculate-stage in
-    reading.does (c .done2 .result) (G .result) (c .done2 .ensures) _ _ _ _ (A .b) _
-    (turns.step-calculates (planOf (A .sizes .route) (A .nest)) (A .source .now)
-    (stateOf (A .memories .now) (A .buffer .now) (A .progress .now) (A .status .now)) (A .b) (S .pre .1 .fit) (S .pre .1 .processor)
-    (omega (
-      arith,
-      c .before .before .before .before .before .before .before .before .before .tile-count .ensures .0,
-      c .before .before .before .before
-          .before .before .before .before .before .before .word-index2 .ensures,
-      c .before .before .before .before .before .before .before .before .if1
-          .left,
-    )) (c .before .before .before .before .before .before .before .tile-at .result)
-    (c .before .before .before .before .before .before .before .tile-at .ensures .0 ∙ ap
-    (λ (k : ℕ). getD (tilesOf (planOf (A .sizes .route) (A .nest)) (A .b)) k 0)
-    (c .before .before .before .before .before .before .before .before .before .before .word-index2 .ensures))
-    (stateOf (G .last .1 .1 .1 .1 .0) (A .buffer .now) (setRecord (A .progress .now) (A .b) (G .result)) (A .status .now))
-    (c .before .before .before .before .before .if4 .taken) (G .ensures (A .buffer .now) (A .progress .now) (A .status .now) refl))
+    let G = at-calculate-stage .calculate-stage in
+    reading.does (c .done2 .result) (G .result) (c .done2 .ensures) _ _ _ _ (A .b) _ (turns.step-calculates (planOf (A .sizes .route) (A .nest))
+    (A .source .now) (stateOf (A .memories .now) (A .buffer .now) (A .progress .now) (A .status .now)) (A .b) (S .pre .1 .fit) (S .pre .1 .processor)
+    (omega (arith, at-tile-count .tile-count .ensures .0, at-word-index2 .word-index2 .ensures, at-if1 .if1 .left)) (at-tile-at .tile-at .result)
+    (at-tile-at .tile-at .ensures .0 ∙ ap (λ (k : ℕ). getD (tilesOf (planOf (A .sizes .route) (A .nest)) (A .b)) k 0) (at-word-index2 .word-index2 .ensures))
+    (stateOf (G .last .1 .1 .1 .1 .0) (A .buffer .now) (setRecord (A .progress .now) (A .b) (G .result)) (A .status .now)) (at-if4 .if4 .taken)
+    (G .ensures (A .buffer .now) (A .progress .now) (A .status .now) refl))
 
 send-stage-requires : tie.Need-send-stage-requires
 send-stage-requires c κs =
-    let S = c .before .before .before .before .before .before .before .before .before .before .before .before .before .before .before .before .before .before in
-    let P = S .pre .1 .areas in let A = S .args in
+    let at-if4 = c .before .before .before in
+    let at-if2 = at-if4 .before in
+    let at-tile-at = at-if2 .before in
+    let at-if1 = at-tile-at .before in
+    let at-tile-count = at-if1 .before in
+    let at-word-index2 = at-tile-count .before in
+    let at-word-index = at-word-index2 .before in
+    let S = at-word-index .before .before .before .before .before .before .before .before .before in
+    let P = S .pre .1 .areas in
+    let A = S .args in
     let f : getD (A .progress .now) (3 * A .b) 0 < length (tilesOf (planOf (A .sizes .route) (A .nest)) (A .b)) =
-    (omega (
-      arith,
-      c .before .before .before .before .before .before .before .tile-count .ensures .0,
-      c .before .before .before .before .before .before
-          .before .before .word-index2 .ensures,
-      c .before .before .before .before .before .before .if1 .left,
-    )) in
-    let t : c .before .before .before .before .before .tile-at .result ≡ getD (tilesOf (planOf (A .sizes .route) (A .nest)) (A .b))
-    (getD (A .progress .now) (3 * A .b) 0) 0 =
-    c .before .before .before .before .before .tile-at .ensures .0 ∙ ap (λ (k : ℕ). getD (tilesOf (planOf (A .sizes .route) (A .nest)) (A .b)) k 0)
-    (c .before .before .before .before .before .before .before .before .word-index2 .ensures) in (
-      (S .pre .0 .0, (S .pre .0 .1, (S .pre .1 .processor, c .before .before .before .before .before .tile-at .ensures .1))),
+    (omega (arith, at-tile-count .tile-count .ensures .0, at-word-index2 .word-index2 .ensures, at-if1 .if1 .left)) in
+    let t : at-tile-at .tile-at .result ≡ getD (tilesOf (planOf (A .sizes .route) (A .nest)) (A .b)) (getD (A .progress .now) (3 * A .b) 0) 0 =
+    at-tile-at .tile-at .ensures .0 ∙ ap (λ (k : ℕ). getD (tilesOf (planOf (A .sizes .route) (A .nest)) (A .b)) k 0) (at-word-index2 .word-index2 .ensures) in (
+      (S .pre .0 .0, (S .pre .0 .1, (S .pre .1 .processor, at-tile-at .tile-at .ensures .1))),
       (
         (P .memories, (P .buffer, P .status)),
         (
-          omega (arith, c .before .before .before .before .before .before .before .tile-count .ensures, f),
-          rw (t, c .before .before .before .before .before .before .before .before .before .word-index .ensures)
-              (turns.fit-sent (planOf (A .sizes .route) (A .nest)) (stateOf (A .memories .now) (A .buffer .now) (A .progress .now) (A .status .now)) (A .b)
-              (S .pre .1 .fit) (S .pre .1 .processor) f (c .before .before .before .before .if2 .left) (c .before .before .before .if4 .left)),
+          omega (arith, at-tile-count .tile-count .ensures, f),
+          rw (t, at-word-index .word-index .ensures) (turns.fit-sent (planOf (A .sizes .route) (A .nest))
+              (stateOf (A .memories .now) (A .buffer .now) (A .progress .now) (A .status .now)) (A .b) (S .pre .1 .fit) (S .pre .1 .processor) f
+              (at-if2 .if2 .left)
+              (at-if4 .if4 .left)),
         ),
       ),
     )
@@ -247,30 +223,23 @@ same-length-8 c = search needs
 
 returns-5 : tie.Need-returns-5
 returns-5 c =
-    let S = c .before .before .before .before .before .before .before .before .before .before .before .before .before .before .before .before .before
-    .before .before .before .before .before .before .before in
+    let at-send-stage = c .before .before .before .before .before in
+    let at-if4 = at-send-stage .before .before .before .before in
+    let at-if2 = at-if4 .before in
+    let at-tile-at = at-if2 .before in
+    let at-if1 = at-tile-at .before in
+    let at-tile-count = at-if1 .before in
+    let at-word-index2 = at-tile-count .before in
+    let at-word-index = at-word-index2 .before in
+    let S = at-word-index .before .before .before .before .before .before .before .before .before in
     let A = S .args in
-    let G = c .before .before .before .before .before .send-stage in
-    reading.does (c .done3 .result) (G .result) (c .done3 .ensures) _ _ _ _ (A .b) _
-    (turns.step-sends (planOf (A .sizes .route) (A .nest)) (A .source .now)
+    let G = at-send-stage .send-stage in
+    reading.does (c .done3 .result) (G .result) (c .done3 .ensures) _ _ _ _ (A .b) _ (turns.step-sends (planOf (A .sizes .route) (A .nest)) (A .source .now)
     (stateOf (A .memories .now) (A .buffer .now) (A .progress .now) (A .status .now)) (A .b) (S .pre .1 .fit) (S .pre .1 .processor)
-    (omega (
-      arith,
-      c .before .before .before .before .before .before .before .before .before .before .before .before .before .tile-count .ensures .0,
-      c
-          .before .before .before .before .before .before .before .before .before .before .before .before .before .before .word-index2 .ensures,
-      c .before
-          .before .before .before .before .before .before .before .before .before .before .before .if1 .left,
-    ))
-    (c .before .before .before .before .before .before .before .before .before .before .before .tile-at .result)
-    (c .before .before .before .before .before .before .before .before .before .before .before .tile-at .ensures .0 ∙ ap
-    (λ (k : ℕ). getD (tilesOf (planOf (A .sizes .route) (A .nest)) (A .b)) k 0)
-    (c .before .before .before .before .before .before .before .before .before .before .before .before .before .before .word-index2 .ensures))
-    (stateOf (A .memories .now) (G .last .1 .1 .1 .1 .0) (setRecord (A .progress .now) (A .b) (G .result)) (G .last .1 .1 .1 .1 .1 .0))
-    (c .before .before .before .before .before .before .before .before .before .before .if2 .left)
-    (c .before .before .before .before .before .before .before .before .before .if4 .left)
-    (G .ensures (A .progress .now) refl (c .before .before .before .before .before .before .before .before .before .before .before .before .before
-    .before .before .word-index .ensures)))
+    (omega (arith, at-tile-count .tile-count .ensures .0, at-word-index2 .word-index2 .ensures, at-if1 .if1 .left)) (at-tile-at .tile-at .result)
+    (at-tile-at .tile-at .ensures .0 ∙ ap (λ (k : ℕ). getD (tilesOf (planOf (A .sizes .route) (A .nest)) (A .b)) k 0) (at-word-index2 .word-index2 .ensures))
+    (stateOf (A .memories .now) (G .last .1 .1 .1 .1 .0) (setRecord (A .progress .now) (A .b) (G .result)) (G .last .1 .1 .1 .1 .1 .0)) (at-if2 .if2 .left)
+    (at-if4 .if4 .left) (G .ensures (A .progress .now) refl (at-word-index .word-index .ensures)))
 
 pub step-spec : {M : Type 1} → statement M
 step-spec =

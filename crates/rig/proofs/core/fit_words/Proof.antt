@@ -42,12 +42,15 @@ shared-slice-read-holder c =
 
 returns : tie.Need-returns Inv-loop μ-loop
 returns c =
-    let loop = c .before .before .before .loop in
+    let at-loop = c .before .before .before in
+    let start = at-loop .before .before .before .before .before in
+    let loop = at-loop .loop in
     let loop-test = c .before .before .loop-test in
     let if1 = c .if1 in
-    let A = c .before .before .before .before .before .before .before .before .args in
+    let A = start .args in
     let f = fitWord (A .office) (lentOf (progressOnly (A .progress .now)) (A .engaged .now)) (A .theirs .now) in
-    sym (every-not f (length (A .engaged .now)) (loop .b) (omega (arith, loop-test .taken)) (tests.word-high (A .office) (A .progress .now) (A .engaged .now) (A .theirs .now) (loop .b) (if1 .taken)))
+    sym (every-not f (length (A .engaged .now)) (loop .b) (omega (arith, loop-test .taken)) (tests.word-high (A .office) (A .progress .now) (A .engaged .now)
+    (A .theirs .now) (loop .b) (if1 .taken)))
 
 mul-stage-agrees : tie.Need-mul-stage-agrees Inv-loop μ-loop
 mul-stage-agrees c = search needs
@@ -66,14 +69,17 @@ stage-agrees-requires c κs = search needs
 
 returns-2 : tie.Need-returns-2 Inv-loop μ-loop
 returns-2 c =
-    let loop = c .before .before .before .before .before .before .loop in
-    let loop-test = c .before .before .before .before .before .loop-test in
+    let at-loop-test = c .before .before .before .before .before in
+    let at-loop = at-loop-test .before in
+    let start = at-loop .before .before .before .before .before in
+    let loop = at-loop .loop in
+    let loop-test = at-loop-test .loop-test in
     let stage-agrees = c .before .stage-agrees in
     let if2 = c .if2 in
-    let A = c .before .before .before .before .before .before .before .before .before .before .before .args in
+    let A = start .args in
     let f = fitWord (A .office) (lentOf (progressOnly (A .progress .now)) (A .engaged .now)) (A .theirs .now) in
-    sym (every-not f (length (A .engaged .now)) (loop .b) (omega (arith, loop-test .taken))
-    (tests.word-own (A .office) (A .progress .now) (A .engaged .now) (A .theirs .now) (loop .b) (sym (stage-agrees .ensures) ∙ not-true _ (if2 .taken))))
+    sym (every-not f (length (A .engaged .now)) (loop .b) (omega (arith, loop-test .taken)) (tests.word-own (A .office) (A .progress .now) (A .engaged .now)
+    (A .theirs .now) (loop .b) (sym (stage-agrees .ensures) ∙ not-true _ (if2 .taken))))
 
 mul-stage-agrees-3 : tie.Need-mul-stage-agrees-3 Inv-loop μ-loop
 mul-stage-agrees-3 c = search needs
@@ -92,16 +98,20 @@ stage-agrees-requires-2 c κs = search needs
 
 returns-3 : tie.Need-returns-3 Inv-loop μ-loop
 returns-3 c =
-    let loop = c .before .before .before .before .before .before .before .before .before .loop in
-    let loop-test = c .before .before .before .before .before .before .before .before .loop-test in
-    let other = c .before .before .before .before .before .before .before .before .before .before .other in
+    let at-loop-test = c .before .before .before .before .before .before .before .before in
+    let at-loop = at-loop-test .before in
+    let at-other = at-loop .before in
+    let start = at-other .before .before .before .before in
+    let loop = at-loop .loop in
+    let loop-test = at-loop-test .loop-test in
+    let other = at-other .other in
     let stage-agrees2 = c .before .stage-agrees2 in
     let if3 = c .if3 in
-    let A = c .before .before .before .before .before .before .before .before .before .before .before .before .before .before .args in
+    let A = start .args in
     let f = fitWord (A .office) (lentOf (progressOnly (A .progress .now)) (A .engaged .now)) (A .theirs .now) in
-    sym (every-not f (length (A .engaged .now)) (loop .b) (omega (arith, loop-test .taken))
-    (tests.word-theirs (A .office) (A .progress .now) (A .engaged .now) (A .theirs .now) (loop .b)
-    (ap (λ (k : ℕ). stageAgrees (getD (A .engaged .now) (loop .b) 0) k (getD (A .theirs .now) (3 * loop .b + 1) 0)) (sym (other .ensures)) ∙ sym (stage-agrees2 .ensures) ∙ not-true _ (if3 .taken))))
+    sym (every-not f (length (A .engaged .now)) (loop .b) (omega (arith, loop-test .taken)) (tests.word-theirs (A .office) (A .progress .now)
+    (A .engaged .now) (A .theirs .now) (loop .b) (ap (λ (k : ℕ). stageAgrees (getD (A .engaged .now) (loop .b) 0) k (getD (A .theirs .now) (3 * loop .b + 1)
+    0)) (sym (other .ensures)) ∙ sym (stage-agrees2 .ensures) ∙ not-true _ (if3 .taken))))
 
 add-b : tie.Need-add-b Inv-loop μ-loop
 add-b c = omega arith
@@ -111,20 +121,28 @@ loop-less c = omega arith
 
 loop-again : tie.Need-loop-again Inv-loop μ-loop
 loop-again c =
-    let loop-test = c .before .before .before .before .before .before .before .before .loop-test in
-    let loop = c .before .before .before .before .before .before .before .before .before .loop in
-    let if1 = c .before .before .before .before .before .before .if1 in
-    let stage-agrees = c .before .before .before .before .stage-agrees in
-    let if2 = c .before .before .before .if2 in
-    let other = c .before .before .before .before .before .before .before .before .before .before .other in
+    let at-if2 = c .before .before .before in
+    let at-stage-agrees = at-if2 .before in
+    let at-if1 = at-stage-agrees .before .before in
+    let at-loop-test = at-if1 .before .before in
+    let at-loop = at-loop-test .before in
+    let at-other = at-loop .before in
+    let start = at-other .before .before .before .before in
+    let loop-test = at-loop-test .loop-test in
+    let loop = at-loop .loop in
+    let if1 = at-if1 .if1 in
+    let stage-agrees = at-stage-agrees .stage-agrees in
+    let if2 = at-if2 .if2 in
+    let other = at-other .other in
     let stage-agrees2 = c .before .stage-agrees2 in
     let if3 = c .if3 in
-    let A = c .before .before .before .before .before .before .before .before .before .before .before .before .before .before .args in
+    let A = start .args in
     let f = fitWord (A .office) (lentOf (progressOnly (A .progress .now)) (A .engaged .now)) (A .theirs .now) in (
       omega (arith, loop-test .taken),
-      parts.every-next f (loop .b) (loop .inv .1)
-          (tests.word-fits (A .office) (A .progress .now) (A .engaged .now) (A .theirs .now) (loop .b) (omega (arith, if1 .left)) (sym (stage-agrees .ensures) ∙ not-false _ (if2 .left))
-          (ap (λ (k : ℕ). stageAgrees (getD (A .engaged .now) (loop .b) 0) k (getD (A .theirs .now) (3 * loop .b + 1) 0)) (sym (other .ensures)) ∙ sym (stage-agrees2 .ensures) ∙ not-false _ (if3 .left))),
+      parts.every-next f (loop .b) (loop .inv .1) (tests.word-fits (A .office) (A .progress .now) (A .engaged .now)
+          (A .theirs .now) (loop .b) (omega (arith, if1 .left)) (sym (stage-agrees .ensures) ∙ not-false _ (if2 .left))
+          (ap (λ (k : ℕ). stageAgrees (getD (A .engaged .now) (loop .b) 0) k (getD (A .theirs .now) (3 * loop .b + 1) 0)) (sym (other .ensures))
+          ∙ sym (stage-agrees2 .ensures) ∙ not-false _ (if3 .left))),
     )
 
 returns-4 : tie.Need-returns-4 Inv-loop μ-loop

@@ -41,13 +41,20 @@ other-requires c κs = search needs
 
 returns-2 : tie.Need-returns-2
 returns-2 c =
-    let word-index = c .before .before .before .before .word-index in
-    let tile-count = c .before .before .before .tile-count in
+    let at-tile-count = c .before .before .before in
+    let at-word-index = at-tile-count .before in
+    let start = at-word-index .before .before .before .before in
+    let word-index = at-word-index .word-index in
+    let tile-count = at-tile-count .tile-count in
     let if1 = c .before .before .if1 in
     let other = c .other in
-    let A = c .before .before .before .before .before .before .before .before .args in
-    tests.held-left (planOf (A .sizes .route) (A .nest)) (A .office) (A .progress .now) (A .engaged .now) (A .b)
-    (omega (arith, word-index .ensures, tile-count .ensures .0, if1 .left)) (other .result) (other .ensures)
+    let A = start .args in
+    tests.held-left (planOf (A .sizes .route) (A .nest)) (A .office) (A .progress .now) (A .engaged .now) (A .b) (omega (
+      arith,
+      word-index .ensures,
+      tile-count .ensures .0,
+      if1 .left,
+    )) (other .result) (other .ensures)
 
 pub held-spec : {M : Type 1} → statement M
 held-spec =

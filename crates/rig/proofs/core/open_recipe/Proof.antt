@@ -27,21 +27,27 @@ sizes-of-requires c κs =
 
 fill-requires : tie.Need-fill-requires
 fill-requires c κs =
-    let read = c .before .before .before .before .before .read-for in
-    let if1 = c .before .before .before .if1 in
+    let at-if1 = c .before .before .before in
+    let at-read-for = at-if1 .before .before in
+    let S = at-read-for .before .before in
+    let read = at-read-for .read-for in
+    let if1 = at-if1 .if1 in
     let route-of = c .before .before .route-of in
     let sizes-of = c .before .sizes-of in
-    let S = c .before .before .before .before .before .before .before in
     (sizes-of .ensures .0, (lines.routed _ (read .result) (read .ensures) (if1 .left) (sizes-of .ensures .1 ∙ route-of .ensures), S .pre))
 
 returns-2 : tie.Need-returns-2
 returns-2 c =
-    let read = c .before .before .before .before .before .before .read-for in
-    let if1 = c .before .before .before .before .if1 in
+    let at-route-of = c .before .before .before in
+    let at-if1 = at-route-of .before in
+    let at-read-for = at-if1 .before .before in
+    let start = at-read-for .before .before in
+    let read = at-read-for .read-for in
+    let if1 = at-if1 .if1 in
     let sizes-of = c .before .before .sizes-of in
-    let route-of = c .before .before .before .route-of in
+    let route-of = at-route-of .route-of in
     let fill = c .fill in
-    let A = c .before .before .before .before .before .before .before .before .args in
+    let A = start .args in
     let opened = lines.opened (A .encoded .now) (read .result) (read .ensures) (if1 .left) (sizes-of .ensures .1 ∙ route-of .ensures) in
     (sym (opened .none), λ _. record { none = opened .none; sized = sizes-of .ensures .0; table = fill .ensures; is = opened .is })
 

@@ -58,18 +58,21 @@ returns-3 c =
 
 returns-4 : tie.Need-returns-4
 returns-4 c =
-    let areas-fit = c .before .before .before .before .before .before .areas-fit in
-    let if1 = c .before .before .before .before .before .if1 in
-    let if2 = c .before .before .before .if2 in
-    let S = c .before .before .before .before .before .before .before .before .before .before .before .before in
+    let at-if2 = c .before .before .before in
+    let at-if1 = at-if2 .before .before in
+    let at-areas-fit = at-if1 .before in
+    let S = at-areas-fit .before .before .before .before .before .before in
+    let areas-fit = at-areas-fit .areas-fit in
+    let if1 = at-if1 .if1 in
+    let if2 = at-if2 .if2 in
     let if3 = c .before .if3 in
     let if4 = c .if4 in
     let A = S .args in
     let p = planOf (A .sizes .route) (A .nest) in (
       λ l q h k. lines.unfit-11 p (A .source .now) (A .office) (lentOf (stateOf (A .memories .now) (A .buffer .now) l (A .status .now)) (A .engaged .now)) q
           (lines.all-long p (A .source .now) (lentOf (stateOf (A .memories .now) (A .buffer .now) l (A .status .now)) (A .engaged .now)) q
-          (sym (areas-fit .ensures .0 l (h .counted)) ∙ not-false _ (if1 .left)) (if2 .left ∙ S .pre .0 .0 .processors)
-          (sym (k .counted) ∙ if3 .left ∙ areas.records-are (A .nest) (A .sizes) (S .pre .0 .0))) (lt-leb _ _ (if4 .taken)),
+          (sym (areas-fit .ensures .0 l (h .counted)) ∙ not-false _ (if1 .left)) (if2 .left ∙ S .pre .0 .0 .processors) (sym (k .counted) ∙ if3 .left
+          ∙ areas.records-are (A .nest) (A .sizes) (S .pre .0 .0))) (lt-leb _ _ (if4 .taken)),
       λ z. absurd (omega arith),
     )
 
@@ -81,9 +84,11 @@ part-fit-rig-start c = search needs
 
 part-fit-rig-end : tie.Need-part-fit-rig-end
 part-fit-rig-end c =
-    let S = c .before .before .before .before .before .before .before .before .before .before .before .before .before .before .before in
-    let areas-fit = c .before .before .before .before .before .before .before .before .before .areas-fit in
-    let if1 = c .before .before .before .before .before .before .before .before .if1 in
+    let at-if1 = c .before .before .before .before .before .before .before .before in
+    let at-areas-fit = at-if1 .before in
+    let S = at-areas-fit .before .before .before .before .before .before in
+    let areas-fit = at-areas-fit .areas-fit in
+    let if1 = at-if1 .if1 in
     let A = S .args in
     omega (arith, S .pre .1 .0, reading.few-words (A .nest) (A .sizes) (S .pre .0 .0) (A .progress .count) (areas-fit .ensures .1 (not-false _ (if1 .left))))
 
@@ -98,12 +103,17 @@ part-fit-rig-end-2 c = search needs
 
 fit-rig-requires : tie.Need-fit-rig-requires
 fit-rig-requires c κs =
-    let areas-fit = c .before .before .before .before .before .before .before .before .before .before .before .before .areas-fit in
-    let if1 = c .before .before .before .before .before .before .before .before .before .before .before .if1 in
-    let S = c .before .before .before .before .before .before .before .before .before .before .before .before .before .before .before .before .before .before in
-    let if3 = c .before .before .before .before .before .before .before .if3 in
-    let if2 = c .before .before .before .before .before .before .before .before .before .if2 in
-    let if4 = c .before .before .before .before .before .before .if4 in
+    let at-if4 = c .before .before .before .before .before .before in
+    let at-if3 = at-if4 .before in
+    let at-if2 = at-if3 .before .before in
+    let at-if1 = at-if2 .before .before in
+    let at-areas-fit = at-if1 .before in
+    let S = at-areas-fit .before .before .before .before .before .before in
+    let areas-fit = at-areas-fit .areas-fit in
+    let if1 = at-if1 .if1 in
+    let if3 = at-if3 .if3 in
+    let if2 = at-if2 .if2 in
+    let if4 = at-if4 .if4 in
     let A = S .args in
     let p = planOf (A .sizes .route) (A .nest) in
     let own = take (A .progress .count - 0) (drop 0 (A .progress .words)) in
@@ -120,20 +130,28 @@ fit-rig-requires c κs =
         (lengths .progress, lengths .status),
         (
           if2 .left ∙ S .pre .0 .0 .processors,
-          (sym (k .counted) ∙ if3 .left ∙ areas.records-are (A .nest) (A .sizes) (S .pre .0 .0), omega (arith, if4 .left)),
+          (
+            sym (k .counted) ∙ if3 .left ∙ areas.records-are (A .nest)
+                (A .sizes) (S .pre .0 .0),
+            omega (arith, if4 .left),
+          ),
         ),
       ),
     )
 
 returns-5 : tie.Need-returns-5
 returns-5 c =
-    let areas-fit = c .before .before .before .before .before .before .before .before .before .before .before .before .before .before .areas-fit in
-    let if1 = c .before .before .before .before .before .before .before .before .before .before .before .before .before .if1 in
-    let S = c .before .before .before .before .before .before .before .before .before .before .before .before .before .before .before .before .before
-    .before .before .before in
-    let if3 = c .before .before .before .before .before .before .before .before .before .if3 in
-    let if2 = c .before .before .before .before .before .before .before .before .before .before .before .if2 in
-    let if4 = c .before .before .before .before .before .before .before .before .if4 in
+    let at-if4 = c .before .before .before .before .before .before .before .before in
+    let at-if3 = at-if4 .before in
+    let at-if2 = at-if3 .before .before in
+    let at-if1 = at-if2 .before .before in
+    let at-areas-fit = at-if1 .before in
+    let S = at-areas-fit .before .before .before .before .before .before in
+    let areas-fit = at-areas-fit .areas-fit in
+    let if1 = at-if1 .if1 in
+    let if3 = at-if3 .if3 in
+    let if2 = at-if2 .if2 in
+    let if4 = at-if4 .if4 in
     let fit-rig = c .before .fit-rig in
     let if5 = c .if5 in
     let A = S .args in
@@ -145,23 +163,26 @@ returns-5 c =
     let few2 = reading.few-words (A .nest) (A .sizes) (S .pre .0 .0) (A .theirs .count) (if3 .left ∙ areas.records-are (A .nest) (A .sizes) (S .pre .0 .0)) in (
       λ l q h k. lines.unfit-10 p (A .source .now) (A .office) (lentOf (stateOf (A .memories .now) (A .buffer .now) l (A .status .now)) (A .engaged .now)) q
           (lines.all-long p (A .source .now) (lentOf (stateOf (A .memories .now) (A .buffer .now) l (A .status .now)) (A .engaged .now)) q
-          (sym (areas-fit .ensures .0 l (h .counted)) ∙ not-false _ (if1 .left)) (if2 .left ∙ S .pre .0 .0 .processors)
-          (sym (k .counted) ∙ if3 .left ∙ areas.records-are (A .nest) (A .sizes) (S .pre .0 .0))) (le-leb (A .office) 1 (omega (arith, if4 .left)))
-          (sym (lines.fit-as p (A .office) (A .memories .now) (A .buffer .now) own l (A .status .now) (A .engaged .now) other q
-          (reading.part-is (A .progress) l few h) (reading.part-is (A .theirs) q few2 k))
-          ∙ sym (fit-rig .ensures) ∙ not-true _ (if5 .taken)),
+          (sym (areas-fit .ensures .0 l (h .counted)) ∙ not-false _ (if1 .left)) (if2 .left ∙ S .pre .0 .0 .processors) (sym (k .counted) ∙ if3 .left
+          ∙ areas.records-are (A .nest) (A .sizes) (S .pre .0 .0))) (le-leb (A .office) 1 (omega (arith, if4 .left)))
+          (sym (lines.fit-as p (A .office) (A .memories .now) (A .buffer .now) own l (A .status .now) (A .engaged .now) other q (reading.part-is (A .progress) l
+          few h) (reading.part-is (A .theirs) q few2 k)) ∙ sym (fit-rig .ensures) ∙ not-true _ (if5 .taken)),
       λ z. absurd (omega arith),
     )
 
 returns-6 : tie.Need-returns-6
 returns-6 c =
-    let areas-fit = c .before .before .before .before .before .before .before .before .before .before .before .before .before .before .areas-fit in
-    let if1 = c .before .before .before .before .before .before .before .before .before .before .before .before .before .if1 in
-    let S = c .before .before .before .before .before .before .before .before .before .before .before .before .before .before .before .before .before
-    .before .before .before in
-    let if3 = c .before .before .before .before .before .before .before .before .before .if3 in
-    let if2 = c .before .before .before .before .before .before .before .before .before .before .before .if2 in
-    let if4 = c .before .before .before .before .before .before .before .before .if4 in
+    let at-if4 = c .before .before .before .before .before .before .before .before in
+    let at-if3 = at-if4 .before in
+    let at-if2 = at-if3 .before .before in
+    let at-if1 = at-if2 .before .before in
+    let at-areas-fit = at-if1 .before in
+    let S = at-areas-fit .before .before .before .before .before .before in
+    let areas-fit = at-areas-fit .areas-fit in
+    let if1 = at-if1 .if1 in
+    let if3 = at-if3 .if3 in
+    let if2 = at-if2 .if2 in
+    let if4 = at-if4 .if4 in
     let fit-rig = c .before .fit-rig in
     let if5 = c .if5 in
     let A = S .args in
@@ -173,12 +194,15 @@ returns-6 c =
     let few2 = reading.few-words (A .nest) (A .sizes) (S .pre .0 .0) (A .theirs .count) (if3 .left ∙ areas.records-are (A .nest) (A .sizes) (S .pre .0 .0)) in (
       λ l q h k. lines.unfit-0 p (A .source .now) (A .office) (lentOf (stateOf (A .memories .now) (A .buffer .now) l (A .status .now)) (A .engaged .now)) q
           (lines.all-long p (A .source .now) (lentOf (stateOf (A .memories .now) (A .buffer .now) l (A .status .now)) (A .engaged .now)) q
-          (sym (areas-fit .ensures .0 l (h .counted)) ∙ not-false _ (if1 .left)) (if2 .left ∙ S .pre .0 .0 .processors)
-          (sym (k .counted) ∙ if3 .left ∙ areas.records-are (A .nest) (A .sizes) (S .pre .0 .0))) (le-leb (A .office) 1 (omega (arith, if4 .left)))
-          (sym (lines.fit-as p (A .office) (A .memories .now) (A .buffer .now) own l (A .status .now) (A .engaged .now) other q
-          (reading.part-is (A .progress) l few h) (reading.part-is (A .theirs) q few2 k))
-          ∙ sym (fit-rig .ensures) ∙ not-false _ (if5 .left)),
-      λ z. (n, if3 .left ∙ areas.records-are (A .nest) (A .sizes) (S .pre .0 .0)),
+          (sym (areas-fit .ensures .0 l (h .counted)) ∙ not-false _ (if1 .left)) (if2 .left ∙ S .pre .0 .0 .processors) (sym (k .counted) ∙ if3 .left
+          ∙ areas.records-are (A .nest) (A .sizes) (S .pre .0 .0))) (le-leb (A .office) 1 (omega (arith, if4 .left)))
+          (sym (lines.fit-as p (A .office) (A .memories .now) (A .buffer .now) own l (A .status .now) (A .engaged .now) other q (reading.part-is (A .progress) l
+          few h) (reading.part-is (A .theirs) q few2 k)) ∙ sym (fit-rig .ensures) ∙ not-false _ (if5 .left)),
+      λ z. (
+        n,
+        if3 .left ∙ areas.records-are (A .nest)
+            (A .sizes) (S .pre .0 .0),
+      ),
     )
 
 pub unfit-spec : {M : Type 1} → statement M

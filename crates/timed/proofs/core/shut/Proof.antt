@@ -24,17 +24,23 @@ open-at-requires c κs = search needs
 
 returns-3 : tie.Need-returns-3
 returns-3 c =
-    let A = c .before .before .before .before .before .before .args in
-    let fair = sym (c .before .before .before .before .faulty .ensures) ∙ c .before .before .before .if1 .left in
-    lines.hours-24 (A .n) (hoursOf (A .table .now) (A .minute)) (A .b) fair (c .before .before .if2 .left)
-    (lines.closed-when (A .table .now) (A .minute) (A .b) (sym (c .before .open-at .ensures) ∙ not-true _ (c .if3 .taken)))
+    let at-if1 = c .before .before .before in
+    let at-faulty = at-if1 .before in
+    let start = at-faulty .before .before in
+    let A = start .args in
+    let fair = sym (at-faulty .faulty .ensures) ∙ at-if1 .if1 .left in
+    lines.hours-24 (A .n) (hoursOf (A .table .now) (A .minute)) (A .b) fair (c .before .before .if2 .left) (lines.closed-when (A .table .now) (A .minute)
+    (A .b) (sym (c .before .open-at .ensures) ∙ not-true _ (c .if3 .taken)))
 
 returns-4 : tie.Need-returns-4
 returns-4 c =
-    let A = c .before .before .before .before .before .before .args in
-    let fair = sym (c .before .before .before .before .faulty .ensures) ∙ c .before .before .before .if1 .left in
-    lines.hours-0 (A .n) (hoursOf (A .table .now) (A .minute)) (A .b) fair (c .before .before .if2 .left)
-    (lines.open-when (A .table .now) (A .minute) (A .b) (sym (c .before .open-at .ensures) ∙ not-false _ (c .if3 .left)))
+    let at-if1 = c .before .before .before in
+    let at-faulty = at-if1 .before in
+    let start = at-faulty .before .before in
+    let A = start .args in
+    let fair = sym (at-faulty .faulty .ensures) ∙ at-if1 .if1 .left in
+    lines.hours-0 (A .n) (hoursOf (A .table .now) (A .minute)) (A .b) fair (c .before .before .if2 .left) (lines.open-when (A .table .now) (A .minute) (A .b)
+    (sym (c .before .open-at .ensures) ∙ not-false _ (c .if3 .left)))
 
 pub shut-spec : {M : Type 1} → statement M
 shut-spec =

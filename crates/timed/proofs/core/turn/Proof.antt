@@ -46,24 +46,24 @@ refused-requires-2 c κs = search needs
 
 returns-2 : tie.Need-returns-2
 returns-2 c =
-    let S = c .before .before .before .before .before .before .before .before .before .before .before .before .before in
+    let at-if1 = c .before .before .before .before in
+    let at-open-recipe = at-if1 .before in
+    let S = at-open-recipe .before .before .before .before .before .before .before .before in
     let A = S .args in
-    let opens = c .before .before .before .before .before .open-recipe .ensures .1 (c .before .before .before .before .if1 .left) in
-    let p = planOf (c .before .before .before .before .before .open-recipe .result .sizes .route)
-    (c .before .before .before .before .before .open-recipe .result .nest) in
-    λ l k.
-    reading.refuses (c .refused2 .result) 9 (c .refused2 .ensures) (λ z. omega arith) (stateOf (A .memories .now) (A .buffer .now) l (A .status .now))
-    (A .processor) _
-    (lines.turn-nine (A .encoded .now) (A .route) (A .source .now) (hoursOf (A .hours .now) (A .minute))
-    (stateOf (A .memories .now) (A .buffer .now) l (A .status .now)) (A .processor) p (record { none = opens .none; is = opens .is })
-    (λ q. c .before .if2 .taken (q ∙ ap (λ (n : ℕ). 28 * n) (sym (opens .sized .processors)))))
+    let opens = at-open-recipe .open-recipe .ensures .1 (at-if1 .if1 .left) in
+    let p = planOf (at-open-recipe .open-recipe .result .sizes .route) (at-open-recipe .open-recipe .result .nest) in
+    λ l k. reading.refuses (c .refused2 .result) 9 (c .refused2 .ensures) (λ z. omega arith) (stateOf (A .memories .now) (A .buffer .now) l (A .status .now))
+    (A .processor) _ (lines.turn-nine (A .encoded .now) (A .route) (A .source .now) (hoursOf (A .hours .now) (A .minute)) (stateOf (A .memories .now)
+    (A .buffer .now) l (A .status .now)) (A .processor) p (record { none = opens .none; is = opens .is }) (λ q. c .before .if2 .taken
+    (q ∙ ap (λ (n : ℕ). 28 * n) (sym (opens .sized .processors)))))
 
 unfit-requires : tie.Need-unfit-requires
 unfit-requires c κs =
-    let S = c .before .before .before .before .before .before .before .before .before .before .before .before .before .before .before .before in
+    let at-if1 = c .before .before .before .before .before .before .before in
+    let at-open-recipe = at-if1 .before in
+    let S = at-open-recipe .before .before .before .before .before .before .before .before in
     let A = S .args in
-    let opens = c .before .before .before .before .before .before .before .before .open-recipe .ensures .1
-    (c .before .before .before .before .before .before .before .if1 .left) in
+    let opens = at-open-recipe .open-recipe .ensures .1 (at-if1 .if1 .left) in
     ((opens .sized, opens .table), S .pre)
 
 refused-requires-3 : tie.Need-refused-requires-3
@@ -80,26 +80,26 @@ same-length-3 c = search needs
 
 returns-3 : tie.Need-returns-3
 returns-3 c =
-    let S = c .before .before .before .before .before .before .before .before .before .before .before .before .before .before .before .before .before
-    .before .before in
+    let at-if2 = c .before .before .before .before .before .before .before in
+    let at-if1 = at-if2 .before .before .before in
+    let at-open-recipe = at-if1 .before in
+    let S = at-open-recipe .before .before .before .before .before .before .before .before in
     let A = S .args in
-    let opens = c .before .before .before .before .before .before .before .before .before .before .before .open-recipe .ensures .1
-    (c .before .before .before .before .before .before .before .before .before .before .if1 .left) in
-    let p = planOf (c .before .before .before .before .before .before .before .before .before .before .before .open-recipe .result .sizes .route)
-    (c .before .before .before .before .before .before .before .before .before .before .before .open-recipe .result .nest) in
-    let long = c .before .before .before .before .before .before .before .if2 .left ∙ ap (λ (n : ℕ). 28 * n) (opens .sized .processors) in
-    λ l k.
-    reading.refuses (c .refused3 .result) (c .before .before .unfit .result) (c .refused3 .ensures) (c .before .if3 .taken)
-    (stateOf (A .memories .now) (A .buffer .now) l (A .status .now)) (A .processor) _
-    (lines.turn-unfit (A .encoded .now) (A .route) (A .source .now) (hoursOf (A .hours .now) (A .minute))
-    (stateOf (A .memories .now) (A .buffer .now) l (A .status .now)) (A .processor) p (record { none = opens .none; is = opens .is }) long
-    (c .before .before .unfit .result) (c .before .before .unfit .ensures .0 l k) (c .before .if3 .taken))
+    let opens = at-open-recipe .open-recipe .ensures .1 (at-if1 .if1 .left) in
+    let p = planOf (at-open-recipe .open-recipe .result .sizes .route) (at-open-recipe .open-recipe .result .nest) in
+    let long = at-if2 .if2 .left ∙ ap (λ (n : ℕ). 28 * n) (opens .sized .processors) in
+    λ l k. reading.refuses (c .refused3 .result) (c .before .before .unfit .result) (c .refused3 .ensures) (c .before .if3 .taken)
+    (stateOf (A .memories .now) (A .buffer .now) l (A .status .now)) (A .processor) _ (lines.turn-unfit (A .encoded .now) (A .route) (A .source .now)
+    (hoursOf (A .hours .now) (A .minute)) (stateOf (A .memories .now) (A .buffer .now) l (A .status .now)) (A .processor) p
+    (record { none = opens .none; is = opens .is }) long (c .before .before .unfit .result) (c .before .before .unfit .ensures .0 l k) (c .before .if3 .taken))
 
 shut-requires : tie.Need-shut-requires
 shut-requires c κs =
-    let opens = c .before .before .before .before .before .before .before .before .before .before .open-recipe .ensures .1
-    (c .before .before .before .before .before .before .before .before .before .if1 .left) in
-    (omega (arith, opens .sized .processors, opens .sized .accepted .processors-most), c .before .before .before .before .before .before .if2 .left)
+    let at-if2 = c .before .before .before .before .before .before in
+    let at-if1 = at-if2 .before .before .before in
+    let at-open-recipe = at-if1 .before in
+    let opens = at-open-recipe .open-recipe .ensures .1 (at-if1 .if1 .left) in
+    (omega (arith, opens .sized .processors, opens .sized .accepted .processors-most), at-if2 .if2 .left)
 
 refused-requires-4 : tie.Need-refused-requires-4
 refused-requires-4 c κs = search needs
@@ -115,23 +115,22 @@ same-length-6 c = search needs
 
 returns-4 : tie.Need-returns-4
 returns-4 c =
-    let S = c .before .before .before .before .before .before .before .before .before .before .before .before .before .before .before .before .before
-    .before .before .before .before in
+    let at-if3 = c .before .before .before in
+    let at-unfit = at-if3 .before in
+    let at-if2 = at-unfit .before .before .before .before .before in
+    let at-if1 = at-if2 .before .before .before in
+    let at-open-recipe = at-if1 .before in
+    let S = at-open-recipe .before .before .before .before .before .before .before .before in
     let A = S .args in
-    let opens = c .before .before .before .before .before .before .before .before .before .before .before .before .before .open-recipe .ensures .1
-    (c .before .before .before .before .before .before .before .before .before .before .before .before .if1 .left) in
-    let p = planOf (c .before .before .before .before .before .before .before .before .before .before .before .before .before .open-recipe .result
-    .sizes .route) (c .before .before .before .before .before .before .before .before .before .before .before .before .before .open-recipe .result .nest) in
-    let long = c .before .before .before .before .before .before .before .before .before .if2 .left ∙ ap (λ (n : ℕ). 28 * n) (opens .sized .processors) in
+    let opens = at-open-recipe .open-recipe .ensures .1 (at-if1 .if1 .left) in
+    let p = planOf (at-open-recipe .open-recipe .result .sizes .route) (at-open-recipe .open-recipe .result .nest) in
+    let long = at-if2 .if2 .left ∙ ap (λ (n : ℕ). 28 * n) (opens .sized .processors) in
     let away = c .before .before .shut .ensures ∙ ap (λ (n : ℕ). firstOf (hourLines n (hoursOf (A .hours .now) (A .minute)) (A .processor)))
     (opens .sized .processors) in
-    λ l k.
-    reading.refuses (c .refused4 .result) (c .before .before .shut .result) (c .refused4 .ensures) (c .before .if4 .taken)
-    (stateOf (A .memories .now) (A .buffer .now) l (A .status .now)) (A .processor) _
-    (lines.turn-shut (A .encoded .now) (A .route) (A .source .now) (hoursOf (A .hours .now) (A .minute))
-    (stateOf (A .memories .now) (A .buffer .now) l (A .status .now)) (A .processor) p (record { none = opens .none; is = opens .is }) long
-    (c .before .before .before .before .unfit .result) (c .before .before .before .before .unfit .ensures .0 l k)
-    (c .before .before .before .if3 .left) (c .before .before .shut .result) away (c .before .if4 .taken))
+    λ l k. reading.refuses (c .refused4 .result) (c .before .before .shut .result) (c .refused4 .ensures) (c .before .if4 .taken) (stateOf (A .memories .now)
+    (A .buffer .now) l (A .status .now)) (A .processor) _ (lines.turn-shut (A .encoded .now) (A .route) (A .source .now) (hoursOf (A .hours .now)
+    (A .minute)) (stateOf (A .memories .now) (A .buffer .now) l (A .status .now)) (A .processor) p (record { none = opens .none; is = opens .is }) long
+    (at-unfit .unfit .result) (at-unfit .unfit .ensures .0 l k) (at-if3 .if3 .left) (c .before .before .shut .result) away (c .before .if4 .taken))
 
 sub-step : tie.Need-sub-step
 sub-step c = search needs
@@ -141,44 +140,35 @@ part-step-start c = search needs
 
 part-step-end : tie.Need-part-step-end
 part-step-end c =
-    let S = c .before .before .before .before .before .before .before .before .before .before .before .before .before .before .before .before .before
-    .before .before .before .before .before .before .before .before in
+    let at-if3 = c .before .before .before .before .before .before .before in
+    let at-unfit = at-if3 .before in
+    let at-if1 = at-unfit .before .before .before .before .before .before .before .before in
+    let at-open-recipe = at-if1 .before in
+    let S = at-open-recipe .before .before .before .before .before .before .before .before in
     let A = S .args in
-    let opens = c .before .before .before .before .before .before .before .before .before .before .before .before .before .before .before .before
-    .before .open-recipe .ensures .1 (c .before .before .before .before .before .before .before .before .before .before .before .before .before
-    .before .before .before .if1 .left) in
-    let few = reading.few-words _ _ (opens .sized) (A .progress .count)
-    (c .before .before .before .before .before .before .before .before .unfit .ensures .1
-    (c .before .before .before .before .before .before .before .if3 .left)) in
+    let opens = at-open-recipe .open-recipe .ensures .1 (at-if1 .if1 .left) in
+    let few = reading.few-words _ _ (opens .sized) (A .progress .count) (at-unfit .unfit .ensures .1 (at-if3 .if3 .left)) in
     omega (arith, S .pre, few)
 
 step-requires : tie.Need-step-requires
 step-requires c κs =
-    let S = c .before .before .before .before .before .before .before .before .before .before .before .before .before .before .before .before .before
-    .before .before .before .before .before .before .before .before .before .before in
+    let at-if4 = c .before .before .before .before .before .before .before in
+    let at-shut = at-if4 .before in
+    let at-if3 = at-shut .before in
+    let at-unfit = at-if3 .before in
+    let at-if1 = at-unfit .before .before .before .before .before .before .before .before in
+    let at-open-recipe = at-if1 .before in
+    let S = at-open-recipe .before .before .before .before .before .before .before .before in
     let A = S .args in
-    let opens = c .before .before .before .before .before .before .before .before .before .before .before .before .before .before .before .before
-    .before .before .before .open-recipe .ensures .1 (c .before .before .before .before .before .before .before .before .before .before .before
-    .before .before .before .before .before .before .before .if1 .left) in
-    let p = planOf (c .before .before .before .before .before .before .before .before .before .before .before .before .before .before .before .before
-    .before .before .before .open-recipe .result .sizes .route)
-    (c .before .before .before .before .before .before .before .before .before .before .before .before .before .before .before .before .before
-    .before .before .open-recipe .result .nest) in
-    let few = reading.few-words _ _ (opens .sized) (A .progress .count)
-    (c .before .before .before .before .before .before .before .before .before .before .unfit .ensures .1
-    (c .before .before .before .before .before .before .before .before .before .if3 .left)) in
+    let opens = at-open-recipe .open-recipe .ensures .1 (at-if1 .if1 .left) in
+    let p = planOf (at-open-recipe .open-recipe .result .sizes .route) (at-open-recipe .open-recipe .result .nest) in
+    let few = reading.few-words _ _ (opens .sized) (A .progress .count) (at-unfit .unfit .ensures .1 (at-if3 .if3 .left)) in
     let own = take (A .progress .count - 0) (drop 0 (A .progress .words)) in
-    let away = c .before .before .before .before .before .before .before .before .shut .ensures ∙ ap
-    (λ (n : ℕ). firstOf (hourLines n (hoursOf (A .hours .now) (A .minute)) (A .processor))) (opens .sized .processors) in
-    let now = lines.hours-none (p .processors) (hoursOf (A .hours .now) (A .minute)) (A .processor)
-    (c .before .before .before .before .before .before .before .before .shut .result) away
-    (c .before .before .before .before .before .before .before .if4 .left) in (
+    let away = at-shut .shut .ensures ∙ ap (λ (n : ℕ). firstOf (hourLines n (hoursOf (A .hours .now) (A .minute)) (A .processor))) (opens .sized .processors) in
+    let now = lines.hours-none (p .processors) (hoursOf (A .hours .now) (A .minute)) (A .processor) (at-shut .shut .result) away (at-if4 .if4 .left) in (
       (opens .sized, opens .table),
       plain.passed p (A .source .now) (stateOf (A .memories .now) (A .buffer .now) own (A .status .now)) (A .processor)
-          (c .before .before .before .before .before .before .before .before .before .before .unfit .result)
-          (c .before .before .before .before .before .before .before .before .before .before .unfit .ensures .0 own
-          (reading.part-carries (A .progress) (S .pre) few))
-          (c .before .before .before .before .before .before .before .before .before .if3 .left) (now .low),
+          (at-unfit .unfit .result) (at-unfit .unfit .ensures .0 own (reading.part-carries (A .progress) (S .pre) few)) (at-if3 .if3 .left) (now .low),
     )
 
 same-length-7 : tie.Need-same-length-7
@@ -192,49 +182,31 @@ same-length-9 c = search needs
 
 returns-5 : tie.Need-returns-5
 returns-5 c =
-    let S = c .before .before .before .before .before .before .before .before .before .before .before .before .before .before .before .before .before
-    .before .before .before .before .before .before .before .before .before .before .before .before .before .before .before .before .before in
+    let at-step = c .before .before .before .before .before .before in
+    let at-if4 = at-step .before .before .before .before .before .before .before .before in
+    let at-shut = at-if4 .before in
+    let at-if3 = at-shut .before in
+    let at-unfit = at-if3 .before in
+    let at-if2 = at-unfit .before .before .before .before .before in
+    let at-if1 = at-if2 .before .before .before in
+    let at-open-recipe = at-if1 .before in
+    let S = at-open-recipe .before .before .before .before .before .before .before .before in
     let A = S .args in
-    let opens = c .before .before .before .before .before .before .before .before .before .before .before .before .before .before .before .before
-    .before .before .before .before .before .before .before .before .before .before .open-recipe .ensures .1
-    (c .before .before .before .before .before .before .before .before .before .before .before .before .before .before .before .before .before
-    .before .before .before .before .before .before .before .before .if1 .left) in
-    let p = planOf (c .before .before .before .before .before .before .before .before .before .before .before .before .before .before .before .before
-    .before .before .before .before .before .before .before .before .before .before .open-recipe .result .sizes .route)
-    (c .before .before .before .before .before .before .before .before .before .before .before .before .before .before .before .before .before
-    .before .before .before .before .before .before .before .before .before .open-recipe .result .nest) in
-    let few = reading.few-words _ _ (opens .sized) (A .progress .count)
-    (c .before .before .before .before .before .before .before .before .before .before .before .before .before .before .before .before .before
-    .unfit .ensures .1 (c .before .before .before .before .before .before .before .before .before .before .before .before .before .before
-    .before .before .if3 .left)) in
+    let opens = at-open-recipe .open-recipe .ensures .1 (at-if1 .if1 .left) in
+    let p = planOf (at-open-recipe .open-recipe .result .sizes .route) (at-open-recipe .open-recipe .result .nest) in
+    let few = reading.few-words _ _ (opens .sized) (A .progress .count) (at-unfit .unfit .ensures .1 (at-if3 .if3 .left)) in
     let own = take (A .progress .count - 0) (drop 0 (A .progress .words)) in
-    let long = c .before .before .before .before .before .before .before .before .before .before .before .before .before .before .before .before
-    .before .before .before .before .before .before .if2 .left ∙ ap (λ (n : ℕ). 28 * n) (opens .sized .processors) in
-    let away = c .before .before .before .before .before .before .before .before .before .before .before .before .before .before .before .shut
-    .ensures ∙ ap (λ (n : ℕ). firstOf (hourLines n (hoursOf (A .hours .now) (A .minute)) (A .processor))) (opens .sized .processors) in
-    let now = lines.hours-none (p .processors) (hoursOf (A .hours .now) (A .minute)) (A .processor)
-    (c .before .before .before .before .before .before .before .before .before .before .before .before .before .before .before .shut .result) away
-    (c .before .before .before .before .before .before .before .before .before .before .before .before .before .before .if4 .left) in
-    λ l k.
-    subst (λ (x : List ℕ).
-    answer (c .before .before .before .before .before .before .step .result .number)
-    (stateOf (c .before .before .before .before .before .before .step .last .1 .1 .1 .1 .0)
-    (c .before .before .before .before .before .before .step .last .1 .1 .1 .1 .1 .0)
-    (recordsAfter x (A .processor) (c .before .before .before .before .before .before .step .result))
-    (c .before .before .before .before .before .before .step .last .1 .1 .1 .1 .1 .1 .1 .0))
-    ≡ turnCallAt (A .encoded .now) (A .route) (A .source .now) (hoursOf (A .hours .now) (A .minute))
-    (stateOf (A .memories .now) (A .buffer .now) x (A .status .now)) (A .processor))
-    (reading.part-is (A .progress) l few k)
-    (plain.turn-steps (A .encoded .now) (A .route) (A .source .now) (stateOf (A .memories .now) (A .buffer .now) own (A .status .now)) (A .processor)
-    p (record { none = opens .none; is = opens .is })
-    (c .before .before .before .before .before .before .before .before .before .before .before .before .before .before .before .before .before .unfit
-    .result) (c .before .before .before .before .before .before .before .before .before .before .before .before .before .before .before .before
-    .before .unfit .ensures .0 own (reading.part-carries (A .progress) (S .pre) few))
-    (c .before .before .before .before .before .before .before .before .before .before .before .before .before .before .before .before .if3 .left)
-    _ (c .before .before .before .before .before .before .step .ensures)
-    ∙ lines.plainly (A .encoded .now) (A .route) (A .source .now) (hoursOf (A .hours .now) (A .minute))
-    (stateOf (A .memories .now) (A .buffer .now) own (A .status .now)) (A .processor) p (record { none = opens .none; is = opens .is }) long
-    (now .fair, now .open-then))
+    let long = at-if2 .if2 .left ∙ ap (λ (n : ℕ). 28 * n) (opens .sized .processors) in
+    let away = at-shut .shut .ensures ∙ ap (λ (n : ℕ). firstOf (hourLines n (hoursOf (A .hours .now) (A .minute)) (A .processor))) (opens .sized .processors) in
+    let now = lines.hours-none (p .processors) (hoursOf (A .hours .now) (A .minute)) (A .processor) (at-shut .shut .result) away (at-if4 .if4 .left) in
+    λ l k. subst (λ (x : List ℕ). answer (at-step .step .result .number) (stateOf (at-step .step .last .1 .1 .1 .1 .0)
+    (at-step .step .last .1 .1 .1 .1 .1 .0) (recordsAfter x (A .processor) (at-step .step .result)) (at-step .step .last .1 .1 .1 .1 .1 .1 .1 .0))
+    ≡ turnCallAt (A .encoded .now) (A .route) (A .source .now) (hoursOf (A .hours .now) (A .minute)) (stateOf (A .memories .now) (A .buffer .now) x
+    (A .status .now)) (A .processor)) (reading.part-is (A .progress) l few k) (plain.turn-steps (A .encoded .now) (A .route) (A .source .now)
+    (stateOf (A .memories .now) (A .buffer .now) own (A .status .now)) (A .processor) p (record { none = opens .none; is = opens .is })
+    (at-unfit .unfit .result) (at-unfit .unfit .ensures .0 own (reading.part-carries (A .progress) (S .pre) few)) (at-if3 .if3 .left) _
+    (at-step .step .ensures) ∙ lines.plainly (A .encoded .now) (A .route) (A .source .now) (hoursOf (A .hours .now) (A .minute)) (stateOf (A .memories .now)
+    (A .buffer .now) own (A .status .now)) (A .processor) p (record { none = opens .none; is = opens .is }) long (now .fair, now .open-then))
 
 pub turn-spec : {M : Type 1} → statement M
 turn-spec =

@@ -46,24 +46,24 @@ refused-requires-2 c κs = search needs
 
 returns-2 : tie.Need-returns-2
 returns-2 c =
-    let S = c .before .before .before .before .before .before .before .before .before .before .before .before .before .before in
+    let at-if1 = c .before .before .before .before in
+    let at-open-recipe = at-if1 .before in
+    let S = at-open-recipe .before .before .before .before .before .before .before .before .before in
     let A = S .args in
-    let opens = c .before .before .before .before .before .open-recipe .ensures .1 (c .before .before .before .before .if1 .left) in
-    let p = planOf (c .before .before .before .before .before .open-recipe .result .sizes .route)
-    (c .before .before .before .before .before .open-recipe .result .nest) in
-    λ l q h k.
-    plain.refuses (c .refused2 .result) 9 (c .refused2 .ensures) (λ z. omega arith)
-    (lentOf (stateOf (A .memories .now) (A .buffer .now) l (A .status .now)) (A .engaged .now)) (A .processor) _
-    (lines.turn-nine-for (A .encoded .now) (A .route) (A .source .now) (A .office) (hoursOf (A .hours .now) (A .minute))
-    (lentOf (stateOf (A .memories .now) (A .buffer .now) l (A .status .now)) (A .engaged .now)) q (A .processor) p
+    let opens = at-open-recipe .open-recipe .ensures .1 (at-if1 .if1 .left) in
+    let p = planOf (at-open-recipe .open-recipe .result .sizes .route) (at-open-recipe .open-recipe .result .nest) in
+    λ l q h k. plain.refuses (c .refused2 .result) 9 (c .refused2 .ensures) (λ z. omega arith) (lentOf (stateOf (A .memories .now) (A .buffer .now) l
+    (A .status .now)) (A .engaged .now)) (A .processor) _ (lines.turn-nine-for (A .encoded .now) (A .route) (A .source .now) (A .office)
+    (hoursOf (A .hours .now) (A .minute)) (lentOf (stateOf (A .memories .now) (A .buffer .now) l (A .status .now)) (A .engaged .now)) q (A .processor) p
     (record { none = opens .none; is = opens .is }) (λ x. c .before .if2 .taken (x ∙ ap (λ (n : ℕ). 28 * n) (sym (opens .sized .processors)))))
 
 unfit-requires : tie.Need-unfit-requires
 unfit-requires c κs =
-    let S = c .before .before .before .before .before .before .before .before .before .before .before .before .before .before .before .before .before .before in
+    let at-if1 = c .before .before .before .before .before .before .before .before in
+    let at-open-recipe = at-if1 .before in
+    let S = at-open-recipe .before .before .before .before .before .before .before .before .before in
     let A = S .args in
-    let opens = c .before .before .before .before .before .before .before .before .before .open-recipe .ensures .1
-    (c .before .before .before .before .before .before .before .before .if1 .left) in
+    let opens = at-open-recipe .open-recipe .ensures .1 (at-if1 .if1 .left) in
     ((opens .sized, opens .table), S .pre)
 
 refused-requires-3 : tie.Need-refused-requires-3
@@ -83,27 +83,27 @@ same-length-4 c = search needs
 
 returns-3 : tie.Need-returns-3
 returns-3 c =
-    let S = c .before .before .before .before .before .before .before .before .before .before .before .before .before .before .before .before .before
-    .before .before .before .before in
+    let at-if2 = c .before .before .before .before .before .before .before .before in
+    let at-if1 = at-if2 .before .before .before in
+    let at-open-recipe = at-if1 .before in
+    let S = at-open-recipe .before .before .before .before .before .before .before .before .before in
     let A = S .args in
-    let opens = c .before .before .before .before .before .before .before .before .before .before .before .before .open-recipe .ensures .1
-    (c .before .before .before .before .before .before .before .before .before .before .before .if1 .left) in
-    let p = planOf (c .before .before .before .before .before .before .before .before .before .before .before .before .open-recipe .result .sizes
-    .route) (c .before .before .before .before .before .before .before .before .before .before .before .before .open-recipe .result .nest) in
-    let long = c .before .before .before .before .before .before .before .before .if2 .left ∙ ap (λ (n : ℕ). 28 * n) (opens .sized .processors) in
-    λ l q h k.
-    plain.refuses (c .refused3 .result) (c .before .before .unfit .result) (c .refused3 .ensures) (c .before .if3 .taken)
-    (lentOf (stateOf (A .memories .now) (A .buffer .now) l (A .status .now)) (A .engaged .now)) (A .processor) _
-    (lines.turn-unfit-for (A .encoded .now) (A .route) (A .source .now) (A .office) (hoursOf (A .hours .now) (A .minute))
-    (lentOf (stateOf (A .memories .now) (A .buffer .now) l (A .status .now)) (A .engaged .now)) q (A .processor) p
-    (record { none = opens .none; is = opens .is }) long (c .before .before .unfit .result) (c .before .before .unfit .ensures .0 l q h k)
-    (c .before .if3 .taken))
+    let opens = at-open-recipe .open-recipe .ensures .1 (at-if1 .if1 .left) in
+    let p = planOf (at-open-recipe .open-recipe .result .sizes .route) (at-open-recipe .open-recipe .result .nest) in
+    let long = at-if2 .if2 .left ∙ ap (λ (n : ℕ). 28 * n) (opens .sized .processors) in
+    λ l q h k. plain.refuses (c .refused3 .result) (c .before .before .unfit .result) (c .refused3 .ensures) (c .before .if3 .taken)
+    (lentOf (stateOf (A .memories .now) (A .buffer .now) l (A .status .now)) (A .engaged .now)) (A .processor) _ (lines.turn-unfit-for (A .encoded .now)
+    (A .route) (A .source .now) (A .office) (hoursOf (A .hours .now) (A .minute)) (lentOf (stateOf (A .memories .now) (A .buffer .now) l (A .status .now))
+    (A .engaged .now)) q (A .processor) p (record { none = opens .none; is = opens .is }) long (c .before .before .unfit .result)
+    (c .before .before .unfit .ensures .0 l q h k) (c .before .if3 .taken))
 
 shut-requires : tie.Need-shut-requires
 shut-requires c κs =
-    let opens = c .before .before .before .before .before .before .before .before .before .before .before .open-recipe .ensures .1
-    (c .before .before .before .before .before .before .before .before .before .before .if1 .left) in
-    (omega (arith, opens .sized .processors, opens .sized .accepted .processors-most), c .before .before .before .before .before .before .before .if2 .left)
+    let at-if2 = c .before .before .before .before .before .before .before in
+    let at-if1 = at-if2 .before .before .before in
+    let at-open-recipe = at-if1 .before in
+    let opens = at-open-recipe .open-recipe .ensures .1 (at-if1 .if1 .left) in
+    (omega (arith, opens .sized .processors, opens .sized .accepted .processors-most), at-if2 .if2 .left)
 
 refused-requires-4 : tie.Need-refused-requires-4
 refused-requires-4 c κs = search needs
@@ -122,26 +122,23 @@ same-length-8 c = search needs
 
 returns-4 : tie.Need-returns-4
 returns-4 c =
-    let S = c .before .before .before .before .before .before .before .before .before .before .before .before .before .before .before .before .before
-    .before .before .before .before .before .before in
+    let at-if3 = c .before .before .before in
+    let at-unfit = at-if3 .before in
+    let at-if2 = at-unfit .before .before .before .before .before .before in
+    let at-if1 = at-if2 .before .before .before in
+    let at-open-recipe = at-if1 .before in
+    let S = at-open-recipe .before .before .before .before .before .before .before .before .before in
     let A = S .args in
-    let opens = c .before .before .before .before .before .before .before .before .before .before .before .before .before .before .open-recipe
-    .ensures .1 (c .before .before .before .before .before .before .before .before .before .before .before .before .before .if1 .left) in
-    let p = planOf (c .before .before .before .before .before .before .before .before .before .before .before .before .before .before .open-recipe
-    .result .sizes .route) (c .before .before .before .before .before .before .before .before .before .before .before .before .before .before
-    .open-recipe .result .nest) in
-    let long = c .before .before .before .before .before .before .before .before .before .before .if2 .left ∙ ap (λ (n : ℕ). 28 * n)
-    (opens .sized .processors) in
+    let opens = at-open-recipe .open-recipe .ensures .1 (at-if1 .if1 .left) in
+    let p = planOf (at-open-recipe .open-recipe .result .sizes .route) (at-open-recipe .open-recipe .result .nest) in
+    let long = at-if2 .if2 .left ∙ ap (λ (n : ℕ). 28 * n) (opens .sized .processors) in
     let away = c .before .before .shut .ensures ∙ ap (λ (n : ℕ). firstOf (hourLines n (hoursOf (A .hours .now) (A .minute)) (A .processor)))
     (opens .sized .processors) in
-    λ l q h k.
-    plain.refuses (c .refused4 .result) (c .before .before .shut .result) (c .refused4 .ensures) (c .before .if4 .taken)
-    (lentOf (stateOf (A .memories .now) (A .buffer .now) l (A .status .now)) (A .engaged .now)) (A .processor) _
-    (lines.turn-shut-for (A .encoded .now) (A .route) (A .source .now) (A .office) (hoursOf (A .hours .now) (A .minute))
-    (lentOf (stateOf (A .memories .now) (A .buffer .now) l (A .status .now)) (A .engaged .now)) q (A .processor) p
-    (record { none = opens .none; is = opens .is }) long (c .before .before .before .before .unfit .result)
-    (c .before .before .before .before .unfit .ensures .0 l q h k) (c .before .before .before .if3 .left) (c .before .before .shut .result) away
-    (c .before .if4 .taken))
+    λ l q h k. plain.refuses (c .refused4 .result) (c .before .before .shut .result) (c .refused4 .ensures) (c .before .if4 .taken)
+    (lentOf (stateOf (A .memories .now) (A .buffer .now) l (A .status .now)) (A .engaged .now)) (A .processor) _ (lines.turn-shut-for (A .encoded .now)
+    (A .route) (A .source .now) (A .office) (hoursOf (A .hours .now) (A .minute)) (lentOf (stateOf (A .memories .now) (A .buffer .now) l (A .status .now))
+    (A .engaged .now)) q (A .processor) p (record { none = opens .none; is = opens .is }) long (at-unfit .unfit .result) (at-unfit .unfit .ensures .0 l q h
+    k) (at-if3 .if3 .left) (c .before .before .shut .result) away (c .before .if4 .taken))
 
 sub-held : tie.Need-sub-held
 sub-held c = search needs
@@ -151,43 +148,42 @@ part-held-start c = search needs
 
 part-held-end : tie.Need-part-held-end
 part-held-end c =
-    let S = c .before .before .before .before .before .before .before .before .before .before .before .before .before .before .before .before .before .before
-    .before .before .before .before .before .before .before in
+    let at-if3 = c .before .before .before .before .before in
+    let at-unfit = at-if3 .before in
+    let at-if1 = at-unfit .before .before .before .before .before .before .before .before .before in
+    let at-open-recipe = at-if1 .before in
+    let S = at-open-recipe .before .before .before .before .before .before .before .before .before in
     let A = S .args in
-    let opens = c .before .before .before .before .before .before .before .before .before .before .before .before .before .before .before .before .open-recipe
-    .ensures .1 (c .before .before .before .before .before .before .before .before .before .before .before .before .before .before .before .if1 .left) in
-    let counts = c .before .before .before .before .before .before .unfit .ensures .1 (c .before .before .before .before .before .if3 .left) in
+    let opens = at-open-recipe .open-recipe .ensures .1 (at-if1 .if1 .left) in
+    let counts = at-unfit .unfit .ensures .1 (at-if3 .if3 .left) in
     let few = reading.few-words _ _ (opens .sized) (A .progress .count) (counts .0) in
     let few2 = reading.few-words _ _ (opens .sized) (A .theirs .count) (counts .1) in
     omega (arith, S .pre .0, few)
 
 held-requires : tie.Need-held-requires
 held-requires c κs =
-    let S = c .before .before .before .before .before .before .before .before .before .before .before .before .before .before .before .before .before .before
-    .before .before .before .before .before .before .before .before .before in
+    let at-if4 = c .before .before .before .before .before in
+    let at-shut = at-if4 .before in
+    let at-if3 = at-shut .before in
+    let at-unfit = at-if3 .before in
+    let at-if1 = at-unfit .before .before .before .before .before .before .before .before .before in
+    let at-open-recipe = at-if1 .before in
+    let S = at-open-recipe .before .before .before .before .before .before .before .before .before in
     let A = S .args in
-    let opens = c .before .before .before .before .before .before .before .before .before .before .before .before .before .before .before .before .before
-    .before .open-recipe .ensures .1 (c .before .before .before .before .before .before .before .before .before .before .before .before .before .before
-    .before .before .before .if1 .left) in
-    let p = planOf (c .before .before .before .before .before .before .before .before .before .before .before .before .before .before .before .before .before
-    .before .open-recipe .result .sizes .route) (c .before .before .before .before .before .before .before .before .before .before .before .before .before
-    .before .before .before .before .before .open-recipe .result .nest) in
+    let opens = at-open-recipe .open-recipe .ensures .1 (at-if1 .if1 .left) in
+    let p = planOf (at-open-recipe .open-recipe .result .sizes .route) (at-open-recipe .open-recipe .result .nest) in
     let own = take (A .progress .count - 0) (drop 0 (A .progress .words)) in
     let other = take (A .theirs .count - 0) (drop 0 (A .theirs .words)) in
-    let counts = c .before .before .before .before .before .before .before .before .unfit .ensures .1 (c .before .before .before .before .before .before .before .if3 .left) in
+    let counts = at-unfit .unfit .ensures .1 (at-if3 .if3 .left) in
     let few = reading.few-words _ _ (opens .sized) (A .progress .count) (counts .0) in
     let few2 = reading.few-words _ _ (opens .sized) (A .theirs .count) (counts .1) in
-    let away = c .before .before .before .before .before .before .shut .ensures ∙ ap
-    (λ (n : ℕ). firstOf (hourLines n (hoursOf (A .hours .now) (A .minute)) (A .processor))) (opens .sized .processors) in
-    let now = lines.hours-none (p .processors) (hoursOf (A .hours .now) (A .minute)) (A .processor)
-    (c .before .before .before .before .before .before .shut .result) away (c .before .before .before .before .before .if4 .left) in
-    let none = plain.unfit-none p (A .source .now) (A .office)
-    (lentOf (stateOf (A .memories .now) (A .buffer .now) own (A .status .now)) (A .engaged .now)) other
-    (c .before .before .before .before .before .before .before .before .unfit .result)
-    (c .before .before .before .before .before .before .before .before .unfit .ensures .0 own other (reading.part-carries (A .progress) (S .pre .0) few)
-    (reading.part-carries (A .theirs) (S .pre .1) few2)) (c .before .before .before .before .before .before .before .if3 .left) in
-    let lengths = plain.lengths-are p (A .source .now) (lentOf (stateOf (A .memories .now) (A .buffer .now) own (A .status .now)) (A .engaged .now))
-    other (none .0) in
+    let away = at-shut .shut .ensures ∙ ap (λ (n : ℕ). firstOf (hourLines n (hoursOf (A .hours .now) (A .minute)) (A .processor))) (opens .sized .processors) in
+    let now = lines.hours-none (p .processors) (hoursOf (A .hours .now) (A .minute)) (A .processor) (at-shut .shut .result) away (at-if4 .if4 .left) in
+    let none = plain.unfit-none p (A .source .now) (A .office) (lentOf (stateOf (A .memories .now) (A .buffer .now) own (A .status .now)) (A .engaged .now))
+    other (at-unfit .unfit .result) (at-unfit .unfit .ensures .0 own other (reading.part-carries (A .progress) (S .pre .0) few)
+    (reading.part-carries (A .theirs) (S .pre .1) few2)) (at-if3 .if3 .left) in
+    let lengths = plain.lengths-are p (A .source .now) (lentOf (stateOf (A .memories .now) (A .buffer .now) own (A .status .now)) (A .engaged .now)) other
+    (none .0) in
     ((opens .sized, opens .table), ((lengths .own .progress, lengths .engaged), (now .low, leb-true _ _ (none .1 .office))))
 
 refused-requires-5 : tie.Need-refused-requires-5
@@ -207,43 +203,32 @@ same-length-12 c = search needs
 
 returns-5 : tie.Need-returns-5
 returns-5 c =
-    let S = c .before .before .before .before .before .before .before .before .before .before .before .before .before .before .before .before .before .before
-    .before .before .before .before .before .before .before .before .before .before .before .before in
+    let at-if4 = c .before .before .before .before .before .before .before .before in
+    let at-shut = at-if4 .before in
+    let at-if3 = at-shut .before in
+    let at-unfit = at-if3 .before in
+    let at-if2 = at-unfit .before .before .before .before .before .before in
+    let at-if1 = at-if2 .before .before .before in
+    let at-open-recipe = at-if1 .before in
+    let S = at-open-recipe .before .before .before .before .before .before .before .before .before in
     let A = S .args in
-    let opens = c .before .before .before .before .before .before .before .before .before .before .before .before .before .before .before .before .before
-    .before .before .before .before .open-recipe .ensures .1
-    (c .before .before .before .before .before .before .before .before .before .before .before .before .before .before .before .before .before .before
-    .before .before .if1 .left) in
-    let p = planOf (c .before .before .before .before .before .before .before .before .before .before .before .before .before .before .before .before .before
-    .before .before .before .before .open-recipe .result .sizes .route)
-    (c .before .before .before .before .before .before .before .before .before .before .before .before .before .before .before .before .before .before
-    .before .before .before .open-recipe .result .nest) in
+    let opens = at-open-recipe .open-recipe .ensures .1 (at-if1 .if1 .left) in
+    let p = planOf (at-open-recipe .open-recipe .result .sizes .route) (at-open-recipe .open-recipe .result .nest) in
     let own = take (A .progress .count - 0) (drop 0 (A .progress .words)) in
     let other = take (A .theirs .count - 0) (drop 0 (A .theirs .words)) in
-    let counts = c .before .before .before .before .before .before .before .before .before .before .before .unfit .ensures .1
-    (c .before .before .before .before .before .before .before .before .before .before .if3 .left) in
+    let counts = at-unfit .unfit .ensures .1 (at-if3 .if3 .left) in
     let few = reading.few-words _ _ (opens .sized) (A .progress .count) (counts .0) in
     let few2 = reading.few-words _ _ (opens .sized) (A .theirs .count) (counts .1) in
-    let long = c .before .before .before .before .before .before .before .before .before .before .before .before .before .before .before .before .before .if2
-    .left ∙ ap (λ (n : ℕ). 28 * n) (opens .sized .processors) in
-    let away = c .before .before .before .before .before .before .before .before .before .shut .ensures ∙ ap
-    (λ (n : ℕ). firstOf (hourLines n (hoursOf (A .hours .now) (A .minute)) (A .processor))) (opens .sized .processors) in
-    let now = lines.hours-none (p .processors) (hoursOf (A .hours .now) (A .minute)) (A .processor)
-    (c .before .before .before .before .before .before .before .before .before .shut .result) away
-    (c .before .before .before .before .before .before .before .before .if4 .left) in
-    λ l q h k.
-    plain.refuses (c .refused5 .result) 19 (c .refused5 .ensures) (λ z. omega arith)
-    (lentOf (stateOf (A .memories .now) (A .buffer .now) l (A .status .now)) (A .engaged .now)) (A .processor) _
-    (plain.turn-held (A .encoded .now) (A .route) (A .source .now) (A .office)
+    let long = at-if2 .if2 .left ∙ ap (λ (n : ℕ). 28 * n) (opens .sized .processors) in
+    let away = at-shut .shut .ensures ∙ ap (λ (n : ℕ). firstOf (hourLines n (hoursOf (A .hours .now) (A .minute)) (A .processor))) (opens .sized .processors) in
+    let now = lines.hours-none (p .processors) (hoursOf (A .hours .now) (A .minute)) (A .processor) (at-shut .shut .result) away (at-if4 .if4 .left) in
+    λ l q h k. plain.refuses (c .refused5 .result) 19 (c .refused5 .ensures) (λ z. omega arith) (lentOf (stateOf (A .memories .now) (A .buffer .now) l
+    (A .status .now)) (A .engaged .now)) (A .processor) _ (plain.turn-held (A .encoded .now) (A .route) (A .source .now) (A .office)
     (lentOf (stateOf (A .memories .now) (A .buffer .now) l (A .status .now)) (A .engaged .now)) q (A .processor) p
-    (record { none = opens .none; is = opens .is })
-    (c .before .before .before .before .before .before .before .before .before .before .before .unfit .result)
-    (c .before .before .before .before .before .before .before .before .before .before .before .unfit .ensures .0 l q h k)
-    (c .before .before .before .before .before .before .before .before .before .before .if3 .left) (now .low)
-    (plain.held-as p (A .office) (A .memories .now) (A .buffer .now) own l (A .status .now) (A .engaged .now) (A .processor)
-    (reading.part-is (A .progress) l few h) ∙ sym (c .before .before .held .ensures) ∙ c .before .if5 .taken)
-    ∙ lines.plainly-for (A .encoded .now) (A .route) (A .source .now) (A .office) (hoursOf (A .hours .now) (A .minute))
-    (lentOf (stateOf (A .memories .now) (A .buffer .now) l (A .status .now)) (A .engaged .now)) q (A .processor) p
+    (record { none = opens .none; is = opens .is }) (at-unfit .unfit .result) (at-unfit .unfit .ensures .0 l q h k) (at-if3 .if3 .left) (now .low)
+    (plain.held-as p (A .office) (A .memories .now) (A .buffer .now) own l (A .status .now) (A .engaged .now) (A .processor) (reading.part-is (A .progress) l
+    few h) ∙ sym (c .before .before .held .ensures) ∙ c .before .if5 .taken) ∙ lines.plainly-for (A .encoded .now) (A .route) (A .source .now) (A .office)
+    (hoursOf (A .hours .now) (A .minute)) (lentOf (stateOf (A .memories .now) (A .buffer .now) l (A .status .now)) (A .engaged .now)) q (A .processor) p
     (record { none = opens .none; is = opens .is }) long (now .fair, now .open-then))
 
 sub-step : tie.Need-sub-step
@@ -254,101 +239,76 @@ part-step-start c = search needs
 
 part-step-end : tie.Need-part-step-end
 part-step-end c =
-    let S = c .before .before .before .before .before .before .before .before .before .before .before .before .before .before .before .before .before .before
-    .before .before .before .before .before .before .before .before .before .before .before .before .before .before .before in
+    let at-if3 = c .before .before .before .before .before .before .before .before .before .before .before .before .before in
+    let at-unfit = at-if3 .before in
+    let at-if1 = at-unfit .before .before .before .before .before .before .before .before .before in
+    let at-open-recipe = at-if1 .before in
+    let S = at-open-recipe .before .before .before .before .before .before .before .before .before in
     let A = S .args in
-    let opens = c .before .before .before .before .before .before .before .before .before .before .before .before .before .before .before .before .before
-    .before .before .before .before .before .before .before .open-recipe .ensures .1
-    (c .before .before .before .before .before .before .before .before .before .before .before .before .before .before .before .before .before .before
-    .before .before .before .before .before .if1 .left) in
-    let counts = c .before .before .before .before .before .before .before .before .before .before .before .before .before .before .unfit .ensures .1
-    (c .before .before .before .before .before .before .before .before .before .before .before .before .before .if3 .left) in
+    let opens = at-open-recipe .open-recipe .ensures .1 (at-if1 .if1 .left) in
+    let counts = at-unfit .unfit .ensures .1 (at-if3 .if3 .left) in
     let few = reading.few-words _ _ (opens .sized) (A .progress .count) (counts .0) in
     let few2 = reading.few-words _ _ (opens .sized) (A .theirs .count) (counts .1) in
     omega (arith, S .pre .0, few)
 
 step-requires : tie.Need-step-requires
 step-requires c κs =
-    let S = c .before .before .before .before .before .before .before .before .before .before .before .before .before .before .before .before .before .before
-    .before .before .before .before .before .before .before .before .before .before .before .before .before .before .before .before .before in
+    let at-if4 = c .before .before .before .before .before .before .before .before .before .before .before .before .before in
+    let at-shut = at-if4 .before in
+    let at-if3 = at-shut .before in
+    let at-unfit = at-if3 .before in
+    let at-if1 = at-unfit .before .before .before .before .before .before .before .before .before in
+    let at-open-recipe = at-if1 .before in
+    let S = at-open-recipe .before .before .before .before .before .before .before .before .before in
     let A = S .args in
-    let opens = c .before .before .before .before .before .before .before .before .before .before .before .before .before .before .before .before .before
-    .before .before .before .before .before .before .before .before .before .open-recipe .ensures .1
-    (c .before .before .before .before .before .before .before .before .before .before .before .before .before .before .before .before .before .before
-    .before .before .before .before .before .before .before .if1 .left) in
-    let p = planOf (c .before .before .before .before .before .before .before .before .before .before .before .before .before .before .before .before .before
-    .before .before .before .before .before .before .before .before .before .open-recipe .result .sizes .route)
-    (c .before .before .before .before .before .before .before .before .before .before .before .before .before .before .before .before .before .before
-    .before .before .before .before .before .before .before .before .open-recipe .result .nest) in
+    let opens = at-open-recipe .open-recipe .ensures .1 (at-if1 .if1 .left) in
+    let p = planOf (at-open-recipe .open-recipe .result .sizes .route) (at-open-recipe .open-recipe .result .nest) in
     let own = take (A .progress .count - 0) (drop 0 (A .progress .words)) in
     let other = take (A .theirs .count - 0) (drop 0 (A .theirs .words)) in
-    let counts = c .before .before .before .before .before .before .before .before .before .before .before .before .before .before .before .before .unfit
-    .ensures .1 (c .before .before .before .before .before .before .before .before .before .before .before .before .before .before .before .if3 .left) in
+    let counts = at-unfit .unfit .ensures .1 (at-if3 .if3 .left) in
     let few = reading.few-words _ _ (opens .sized) (A .progress .count) (counts .0) in
     let few2 = reading.few-words _ _ (opens .sized) (A .theirs .count) (counts .1) in
-    let away = c .before .before .before .before .before .before .before .before .before .before .before .before .before .before .shut .ensures ∙ ap
-    (λ (n : ℕ). firstOf (hourLines n (hoursOf (A .hours .now) (A .minute)) (A .processor))) (opens .sized .processors) in
-    let now = lines.hours-none (p .processors) (hoursOf (A .hours .now) (A .minute)) (A .processor)
-    (c .before .before .before .before .before .before .before .before .before .before .before .before .before .before .shut .result) away
-    (c .before .before .before .before .before .before .before .before .before .before .before .before .before .if4 .left) in
-    let none = plain.unfit-none p (A .source .now) (A .office)
-    (lentOf (stateOf (A .memories .now) (A .buffer .now) own (A .status .now)) (A .engaged .now)) other
-    (c .before .before .before .before .before .before .before .before .before .before .before .before .before .before .before .before .unfit .result)
-    (c .before .before .before .before .before .before .before .before .before .before .before .before .before .before .before .before .unfit .ensures .0 own
-    other (reading.part-carries (A .progress) (S .pre .0) few) (reading.part-carries (A .theirs) (S .pre .1) few2))
-    (c .before .before .before .before .before .before .before .before .before .before .before .before .before .before .before .if3 .left) in
-    let lengths = plain.lengths-are p (A .source .now) (lentOf (stateOf (A .memories .now) (A .buffer .now) own (A .status .now)) (A .engaged .now))
-    other (none .0) in (
+    let away = at-shut .shut .ensures ∙ ap (λ (n : ℕ). firstOf (hourLines n (hoursOf (A .hours .now) (A .minute)) (A .processor))) (opens .sized .processors) in
+    let now = lines.hours-none (p .processors) (hoursOf (A .hours .now) (A .minute)) (A .processor) (at-shut .shut .result) away (at-if4 .if4 .left) in
+    let none = plain.unfit-none p (A .source .now) (A .office) (lentOf (stateOf (A .memories .now) (A .buffer .now) own (A .status .now)) (A .engaged .now))
+    other (at-unfit .unfit .result) (at-unfit .unfit .ensures .0 own other (reading.part-carries (A .progress) (S .pre .0) few)
+    (reading.part-carries (A .theirs) (S .pre .1) few2)) (at-if3 .if3 .left) in
+    let lengths = plain.lengths-are p (A .source .now) (lentOf (stateOf (A .memories .now) (A .buffer .now) own (A .status .now)) (A .engaged .now)) other
+    (none .0) in (
       (opens .sized, opens .table),
       record {
         areas = lengths .own;
-        fit = own-fits p (A .office)
-            (lentOf (stateOf (A .memories .now) (A .buffer .now) own (A .status .now)) (A .engaged .now)) other (none .1 .fits);
+        fit = own-fits p (A .office) (lentOf (stateOf (A .memories .now) (A .buffer .now) own
+            (A .status .now)) (A .engaged .now)) other (none .1 .fits);
         processor = now .low;
       },
     )
 
 engage-requires : tie.Need-engage-requires
 engage-requires c κs =
-    let S = c .before .before .before .before .before .before .before .before .before .before .before .before .before .before .before .before .before .before
-    .before .before .before .before .before .before .before .before .before .before .before .before .before .before .before .before .before
-    .before .before .before .before .before .before .before .before in
+    let at-if4 = c .before .before .before .before .before .before .before .before .before .before .before .before .before .before .before .before .before
+    .before .before .before .before in
+    let at-shut = at-if4 .before in
+    let at-if3 = at-shut .before in
+    let at-unfit = at-if3 .before in
+    let at-if1 = at-unfit .before .before .before .before .before .before .before .before .before in
+    let at-open-recipe = at-if1 .before in
+    let S = at-open-recipe .before .before .before .before .before .before .before .before .before in
     let A = S .args in
-    let opens = c .before .before .before .before .before .before .before .before .before .before .before .before .before .before .before .before .before
-    .before .before .before .before .before .before .before .before .before .before .before .before .before .before .before .before .before .open-recipe .ensures .1 (c .before .before .before .before .before .before .before .before .before .before .before .before .before .before .before
-    .before .before .before .before .before .before .before .before .before .before .before .before .before .before .before .before .before
-    .before .if1 .left) in
-    let p = planOf (c .before .before .before .before .before .before .before .before .before .before .before .before .before .before .before .before .before
-    .before .before .before .before .before .before .before .before .before .before .before .before .before .before .before .before .before .open-recipe .result .sizes .route) (c .before .before .before .before .before .before .before .before .before .before .before .before .before .before
-    .before .before .before .before .before .before .before .before .before .before .before .before .before .before .before .before .before
-    .before .before .before .open-recipe .result .nest) in
+    let opens = at-open-recipe .open-recipe .ensures .1 (at-if1 .if1 .left) in
+    let p = planOf (at-open-recipe .open-recipe .result .sizes .route) (at-open-recipe .open-recipe .result .nest) in
     let own = take (A .progress .count - 0) (drop 0 (A .progress .words)) in
     let other = take (A .theirs .count - 0) (drop 0 (A .theirs .words)) in
-    let counts = c .before .before .before .before .before .before .before .before .before .before .before .before .before .before .before .before .before
-    .before .before .before .before .before .before .before .unfit .ensures .1
-    (c .before .before .before .before .before .before .before .before .before .before .before .before .before .before .before .before .before .before
-    .before .before .before .before .before .if3 .left) in
+    let counts = at-unfit .unfit .ensures .1 (at-if3 .if3 .left) in
     let few = reading.few-words _ _ (opens .sized) (A .progress .count) (counts .0) in
     let few2 = reading.few-words _ _ (opens .sized) (A .theirs .count) (counts .1) in
-    let away = c .before .before .before .before .before .before .before .before .before .before .before .before .before .before .before .before .before
-    .before .before .before .before .before .shut .ensures ∙ ap
-    (λ (n : ℕ). firstOf (hourLines n (hoursOf (A .hours .now) (A .minute)) (A .processor))) (opens .sized .processors) in
-    let now = lines.hours-none (p .processors) (hoursOf (A .hours .now) (A .minute)) (A .processor)
-    (c .before .before .before .before .before .before .before .before .before .before .before .before .before .before .before .before .before .before
-    .before .before .before .before .shut .result) away
-    (c .before .before .before .before .before .before .before .before .before .before .before .before .before .before .before .before .before .before
-    .before .before .before .if4 .left) in
-    let none = plain.unfit-none p (A .source .now) (A .office)
-    (lentOf (stateOf (A .memories .now) (A .buffer .now) own (A .status .now)) (A .engaged .now)) other
-    (c .before .before .before .before .before .before .before .before .before .before .before .before .before .before .before .before .before .before
-    .before .before .before .before .before .before .unfit .result)
-    (c .before .before .before .before .before .before .before .before .before .before .before .before .before .before .before .before .before .before .before
-    .before .before .before .before .before .unfit .ensures .0 own other (reading.part-carries (A .progress) (S .pre .0) few)
-    (reading.part-carries (A .theirs) (S .pre .1) few2))
-    (c .before .before .before .before .before .before .before .before .before .before .before .before .before .before .before .before .before .before
-    .before .before .before .before .before .if3 .left) in
-    let lengths = plain.lengths-are p (A .source .now) (lentOf (stateOf (A .memories .now) (A .buffer .now) own (A .status .now)) (A .engaged .now))
-    other (none .0) in
+    let away = at-shut .shut .ensures ∙ ap (λ (n : ℕ). firstOf (hourLines n (hoursOf (A .hours .now) (A .minute)) (A .processor))) (opens .sized .processors) in
+    let now = lines.hours-none (p .processors) (hoursOf (A .hours .now) (A .minute)) (A .processor) (at-shut .shut .result) away (at-if4 .if4 .left) in
+    let none = plain.unfit-none p (A .source .now) (A .office) (lentOf (stateOf (A .memories .now) (A .buffer .now) own (A .status .now)) (A .engaged .now))
+    other (at-unfit .unfit .result) (at-unfit .unfit .ensures .0 own other (reading.part-carries (A .progress) (S .pre .0) few)
+    (reading.part-carries (A .theirs) (S .pre .1) few2)) (at-if3 .if3 .left) in
+    let lengths = plain.lengths-are p (A .source .now) (lentOf (stateOf (A .memories .now) (A .buffer .now) own (A .status .now)) (A .engaged .now)) other
+    (none .0) in
     omega (arith, lengths .engaged, now .low)
 
 same-length-13 : tie.Need-same-length-13
@@ -365,71 +325,40 @@ same-length-16 c = search needs
 
 returns-6 : tie.Need-returns-6
 returns-6 c =
-    let S = c .before .before .before .before .before .before .before .before .before .before .before .before .before .before .before .before .before .before
-    .before .before .before .before .before .before .before .before .before .before .before .before .before .before .before .before .before
-    .before .before .before .before .before .before .before .before .before .before .before in
+    let at-step = c .before .before .before .before .before .before .before .before .before .before in
+    let at-if5 = at-step .before .before .before .before .before .before .before in
+    let at-held = at-if5 .before in
+    let at-if4 = at-held .before .before .before .before .before .before in
+    let at-shut = at-if4 .before in
+    let at-if3 = at-shut .before in
+    let at-unfit = at-if3 .before in
+    let at-if2 = at-unfit .before .before .before .before .before .before in
+    let at-if1 = at-if2 .before .before .before in
+    let at-open-recipe = at-if1 .before in
+    let S = at-open-recipe .before .before .before .before .before .before .before .before .before in
     let A = S .args in
-    let opens = c .before .before .before .before .before .before .before .before .before .before .before .before .before .before .before .before .before
-    .before .before .before .before .before .before .before .before .before .before .before .before .before .before .before .before .before
-    .before .before .before .open-recipe .ensures .1 (c .before .before .before .before .before .before .before .before .before .before .before .before
-    .before .before .before .before .before .before .before .before .before .before .before .before .before .before .before .before .before
-    .before .before .before .before .before .before .before .if1 .left) in
-    let p = planOf (c .before .before .before .before .before .before .before .before .before .before .before .before .before .before .before .before .before
-    .before .before .before .before .before .before .before .before .before .before .before .before .before .before .before .before .before
-    .before .before .before .open-recipe .result .sizes .route)
-    (c .before .before .before .before .before .before .before .before .before .before .before .before .before .before .before .before .before .before
-    .before .before .before .before .before .before .before .before .before .before .before .before .before .before .before .before .before
-    .before .before .open-recipe .result .nest) in
+    let opens = at-open-recipe .open-recipe .ensures .1 (at-if1 .if1 .left) in
+    let p = planOf (at-open-recipe .open-recipe .result .sizes .route) (at-open-recipe .open-recipe .result .nest) in
     let own = take (A .progress .count - 0) (drop 0 (A .progress .words)) in
     let other = take (A .theirs .count - 0) (drop 0 (A .theirs .words)) in
-    let counts = c .before .before .before .before .before .before .before .before .before .before .before .before .before .before .before .before .before
-    .before .before .before .before .before .before .before .before .before .before .unfit .ensures .1
-    (c .before .before .before .before .before .before .before .before .before .before .before .before .before .before .before .before .before .before
-    .before .before .before .before .before .before .before .before .if3 .left) in
+    let counts = at-unfit .unfit .ensures .1 (at-if3 .if3 .left) in
     let few = reading.few-words _ _ (opens .sized) (A .progress .count) (counts .0) in
     let few2 = reading.few-words _ _ (opens .sized) (A .theirs .count) (counts .1) in
-    let long = c .before .before .before .before .before .before .before .before .before .before .before .before .before .before .before .before .before
-    .before .before .before .before .before .before .before .before .before .before .before .before .before .before .before .before .if2 .left
-    ∙ ap (λ (n : ℕ). 28 * n) (opens .sized .processors) in
-    let away = c .before .before .before .before .before .before .before .before .before .before .before .before .before .before .before .before .before
-    .before .before .before .before .before .before .before .before .shut .ensures ∙ ap
-    (λ (n : ℕ). firstOf (hourLines n (hoursOf (A .hours .now) (A .minute)) (A .processor))) (opens .sized .processors) in
-    let now = lines.hours-none (p .processors) (hoursOf (A .hours .now) (A .minute)) (A .processor)
-    (c .before .before .before .before .before .before .before .before .before .before .before .before .before .before .before .before .before .before
-    .before .before .before .before .before .before .before .shut .result) away
-    (c .before .before .before .before .before .before .before .before .before .before .before .before .before .before .before .before .before .before
-    .before .before .before .before .before .before .if4 .left) in
-    λ l q h k.
-    plain.turn-as (A .encoded .now) (A .route) (A .source .now) (A .office) (A .memories .now) (A .buffer .now) (A .status .now) (A .engaged .now) own
-    l other q (A .processor)
-    (reading.part-is (A .progress) l few h) (reading.part-is (A .theirs) q few2 k)
-    (c .before .before .before .before .before .before .before .before .before .before .step .result)
-    (c .before .before .before .before .before .before .before .before .before .before .step .last .1 .1 .1 .1 .0)
-    (c .before .before .before .before .before .before .before .before .before .before .step .last .1 .1 .1 .1 .1 .0)
-    (c .before .before .before .before .before .before .before .before .before .before .step .last .1 .1 .1 .1 .1 .1 .1 .0)
-    (c .before .before .engage .last .0)
-    (plain.turn-steps (A .encoded .now) (A .route) (A .source .now) (A .office)
+    let long = at-if2 .if2 .left ∙ ap (λ (n : ℕ). 28 * n) (opens .sized .processors) in
+    let away = at-shut .shut .ensures ∙ ap (λ (n : ℕ). firstOf (hourLines n (hoursOf (A .hours .now) (A .minute)) (A .processor))) (opens .sized .processors) in
+    let now = lines.hours-none (p .processors) (hoursOf (A .hours .now) (A .minute)) (A .processor) (at-shut .shut .result) away (at-if4 .if4 .left) in
+    λ l q h k. plain.turn-as (A .encoded .now) (A .route) (A .source .now) (A .office) (A .memories .now) (A .buffer .now) (A .status .now) (A .engaged .now)
+    own l other q (A .processor) (reading.part-is (A .progress) l few h) (reading.part-is (A .theirs) q few2 k) (at-step .step .result)
+    (at-step .step .last .1 .1 .1 .1 .0) (at-step .step .last .1 .1 .1 .1 .1 .0) (at-step .step .last .1 .1 .1 .1 .1 .1 .1 .0)
+    (c .before .before .engage .last .0) (plain.turn-steps (A .encoded .now) (A .route) (A .source .now) (A .office)
     (lentOf (stateOf (A .memories .now) (A .buffer .now) own (A .status .now)) (A .engaged .now)) other (A .processor) p
-    (record { none = opens .none; is = opens .is })
-    (c .before .before .before .before .before .before .before .before .before .before .before .before .before .before .before .before .before .before
-    .before .before .before .before .before .before .before .before .before .unfit .result)
-    (c .before .before .before .before .before .before .before .before .before .before .before .before .before .before .before .before .before .before .before
-    .before .before .before .before .before .before .before .before .unfit .ensures .0 own other
-    (reading.part-carries (A .progress) (S .pre .0) few) (reading.part-carries (A .theirs) (S .pre .1) few2))
-    (c .before .before .before .before .before .before .before .before .before .before .before .before .before .before .before .before .before .before
-    .before .before .before .before .before .before .before .before .if3 .left) (now .low)
-    (plain.held-as p (A .office) (A .memories .now) (A .buffer .now) own own (A .status .now) (A .engaged .now) (A .processor) refl ∙ sym
-    (c .before .before .before .before .before .before .before .before .before .before .before .before .before .before .before .before .before
-    .before .held .ensures) ∙ c .before .before .before .before .before .before .before .before .before .before .before .before .before
-    .before .before .before .before .if5 .left) (c .before .before .before .before .before .before .before .before .before .before .step
-    .result) (c .before .before .before .before .before .before .before .before .before .before .step .last .1 .1 .1 .1 .0)
-    (c .before .before .before .before .before .before .before .before .before .before .step .last .1 .1 .1 .1 .1 .0)
-    (c .before .before .before .before .before .before .before .before .before .before .step .last .1 .1 .1 .1 .1 .1 .1 .0)
-    (c .before .before .engage .last .0) (c .before .before .engage .ensures)
-    (c .before .before .before .before .before .before .before .before .before .before .step .ensures))
-    ∙ lines.plainly-for (A .encoded .now) (A .route) (A .source .now) (A .office) (hoursOf (A .hours .now) (A .minute))
-    (lentOf (stateOf (A .memories .now) (A .buffer .now) l (A .status .now)) (A .engaged .now)) q (A .processor) p
-    (record { none = opens .none; is = opens .is }) long (now .fair, now .open-then)
+    (record { none = opens .none; is = opens .is }) (at-unfit .unfit .result) (at-unfit .unfit .ensures .0 own other (reading.part-carries (A .progress)
+    (S .pre .0) few) (reading.part-carries (A .theirs) (S .pre .1) few2)) (at-if3 .if3 .left) (now .low) (plain.held-as p (A .office) (A .memories .now)
+    (A .buffer .now) own own (A .status .now) (A .engaged .now) (A .processor) refl ∙ sym (at-held .held .ensures) ∙ at-if5 .if5 .left)
+    (at-step .step .result) (at-step .step .last .1 .1 .1 .1 .0) (at-step .step .last .1 .1 .1 .1 .1 .0) (at-step .step .last .1 .1 .1 .1 .1 .1 .1 .0)
+    (c .before .before .engage .last .0) (c .before .before .engage .ensures) (at-step .step .ensures)) ∙ lines.plainly-for (A .encoded .now) (A .route)
+    (A .source .now) (A .office) (hoursOf (A .hours .now) (A .minute)) (lentOf (stateOf (A .memories .now) (A .buffer .now) l (A .status .now))
+    (A .engaged .now)) q (A .processor) p (record { none = opens .none; is = opens .is }) long (now .fair, now .open-then)
 
 pub turn-for-spec : {M : Type 1} → statement M
 turn-for-spec =

@@ -1,0 +1,59 @@
+/* What a run asks of a transport: it carries packets, of which it knows nothing, between processes that share no memory.
+ * sockets.c and mpi.c are two; a program is linked with one of them.
+ *
+ * Packets of one board to another arrive in the order of their posts, or one of the two is told to be lost; the run needs this only for
+ * the farewell, which is a board's last packet. Packets of different boards arrive in any order. */
+#ifndef BOARDS_TRANSPORT_H
+#define BOARDS_TRANSPORT_H
+
+#include <stdbool.h>
+#include <stddef.h>
+#include <stdint.h>
+
+#include "status.h"
+
+struct transport;
+
+/* Opens the transport, before any option is read. Null where that can't be, which is told. */
+struct transport *transport_open(int *argc, char ***argv);
+
+/* Is this the process that reads the files? */
+bool transport_reads(const struct transport *t);
+
+/* What that process has in these bytes the others get. Only before transport_begin. */
+void transport_share(struct transport *t, void *bytes, size_t length);
+
+/* Has one process be each board, and returns in all of them once they are there. Where the starting process is no board itself, it
+ * returns there when all have ended, with the status of the run, and `over` is set; a board that does not end so many seconds after
+ * another has is told. */
+enum status transport_begin(struct transport *t, uint32_t boards, double seconds, bool *over);
+
+/* The board this process is. */
+uint32_t transport_me(const struct transport *t);
+
+/* Sends a packet off, or keeps it in mind until it can be: the bytes stay as they are until transport_settled says yes, or until nothing
+ * but transport_close is called any more. Never waits. */
+enum status transport_post(struct transport *t, uint32_t to, const void *bytes, size_t length);
+
+/* Is every packet posted off? */
+bool transport_settled(struct transport *t);
+
+enum transport_event {
+  TRANSPORT_NOTHING, /* the time is over */
+  TRANSPORT_PACKET,  /* a packet: its bytes are good until the next call */
+  TRANSPORT_CLOSED   /* that board's end is closed: no more packets come from it */
+};
+
+struct arrival {
+  uint32_t from;
+  const uint32_t *words;
+  size_t bytes;
+};
+
+/* Waits for the next event, at most so many seconds, and sends off what is kept in mind. */
+enum transport_event transport_receive(struct transport *t, double seconds, struct arrival *out);
+
+/* Closes the transport of a process that ends with this status, and frees it. May not return where the status is not 0. */
+void transport_close(struct transport *t, enum status status);
+
+#endif

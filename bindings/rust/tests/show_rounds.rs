@@ -1,0 +1,110 @@
+//! The program show_rounds, run as a user runs it. The drawings expected are the model's.
+
+use std::{
+    fs,
+    path::{Path, PathBuf},
+    process::{self, Command, Output},
+    sync::atomic::{AtomicU32, Ordering},
+};
+
+use rolwyddac::Fields;
+
+/// A folder that goes when the test ends.
+struct Folder {
+    path: PathBuf,
+}
+
+impl Folder {
+    fn new() -> Folder {
+        static MADE: AtomicU32 = AtomicU32::new(0);
+        let name = format!("rolwyddac-rounds-{}-{}", process::id(), MADE.fetch_add(1, Ordering::Relaxed));
+        let path = std::env::temp_dir().join(name);
+        fs::create_dir(&path).expect("a folder");
+        Folder { path }
+    }
+
+    fn file(&self, name: &str, content: impl AsRef<[u8]>) -> PathBuf {
+        let path = self.path.join(name);
+        fs::write(&path, content).expect("a file");
+        path
+    }
+}
+
+impl Drop for Folder {
+    fn drop(&mut self) {
+        let _ = fs::remove_dir_all(&self.path);
+    }
+}
+
+fn shown(names: &[&Path]) -> Output {
+    Command::new(env!("CARGO_BIN_EXE_show_rounds")).args(names).output().expect("the program runs")
+}
+
+/// What is told on standard error; the status is 1, and nothing is written to standard output.
+fn told(output: &Output) -> String {
+    assert_eq!(output.status.code(), Some(1));
+    assert!(output.stdout.is_empty());
+    String::from_utf8(output.stderr.clone()).expect("text")
+}
+
+/// The recipes of the stored cases that are accepted with areas of the right lengths: those in front of the first wrong length.
+fn recipes() -> Vec<&'static [u8]> {
+    let mut left: &[u8] = include_bytes!("../../cases/rounds/cases");
+    let mut found = Vec::new();
+    while !left.is_empty() {
+        let length = u32::from_le_bytes(left[..4].try_into().unwrap()) as usize;
+        found.push(&left[32..32 + length]);
+        left = &left[32 + length..];
+    }
+    found
+}
+
+#[test]
+fn every_drawing_is_the_models() {
+    let folder = Folder::new();
+    let mut drawings = include_str!("../../cases/rounds/drawings");
+    for (i, recipe) in recipes().into_iter().enumerate() {
+        if drawings.is_empty() {
+            break;
+        }
+        let output = shown(&[&folder.file("recipe", recipe)]);
+        assert_eq!((output.status.code(), output.stderr.as_slice()), (Some(0), &[][..]), "recipe {i}");
+        let text = String::from_utf8(output.stdout).expect("text");
+        let rest = drawings.strip_prefix(&text);
+        assert!(rest.is_some(), "recipe {i}:\n{text}\nand not\n{}", &drawings[..text.len().min(drawings.len())]);
+        drawings = rest.unwrap();
+    }
+    assert_eq!(drawings, "");
+}
+
+#[test]
+fn a_picture_beside_the_text() {
+    let folder = Folder::new();
+    let recipe = folder.file("recipe", recipes()[0]);
+    let picture = folder.file("picture.svg", "as before");
+    let output = shown(&[&recipe, &picture]);
+    assert_eq!(output.status.code(), Some(0));
+    assert_eq!(String::from_utf8_lossy(&output.stdout), include_str!("../../../docs/rounds-row-a.txt"));
+    assert_eq!(fs::read_to_string(&picture).expect("the picture"), include_str!("../../../docs/rounds-row-a.svg"));
+    assert_eq!(fs::read_dir(&folder.path).expect("the folder").count(), 2);
+}
+
+#[test]
+fn faults() {
+    let folder = Folder::new();
+    let good = Fields::new().dimension(2, 1, 2).dimension(3, 3, 0).distance(&[1, 0], 1).close(0, 0).expect("a recipe");
+    let recipe = folder.file("recipe", &*good);
+    assert!(told(&shown(&[])).starts_with("the recipe is missing\n"));
+    let more = told(&shown(&[&recipe, &folder.path.join("picture"), Path::new("more")]));
+    assert!(more.starts_with("`more` was not expected\n"));
+    let missing = folder.path.join("missing");
+    assert!(told(&shown(&[&missing])).starts_with(&format!("{}: ", missing.display())));
+    let ragged = folder.file("ragged", &good[1..]);
+    let said = told(&shown(&[&ragged]));
+    assert!(said.starts_with(&format!("{}: ", ragged.display())), "{said}");
+    // the text is there, and what went wrong with the picture is told
+    let nowhere = folder.path.join("nowhere").join("picture");
+    let output = shown(&[&recipe, &nowhere]);
+    assert_eq!(output.status.code(), Some(1));
+    assert!(String::from_utf8_lossy(&output.stderr).starts_with(&format!("{}: ", nowhere.display())));
+}

@@ -1,0 +1,28 @@
+-- Each call for a transport gives its first true line; a message's row is its line and its place.
+use Prim.Native.Nat.{ℕ}
+use mathlib.Core.Path.{refl}
+use mathlib.Core.List.{List}
+use Rattle.engine.specs.Calls.{recipe}
+use Rattle.engine.proofs.Demands as engine
+use Rattle.apart.specs.Apart.{received}
+use Rattle.mail.specs.Calls.{rowOf, messagesCall, ownersCall, awaitedCall, takeInLines, takeInCall}
+use Rattle.calls.specs.PlanCalls.{lineWords}
+use Rattle.calls.specs.OverRecords.{inWords}
+use Rattle.calls.specs.TransportCalls.{FixedTransport, RowsAreLines}
+use Rattle.calls.proofs.OverRecords.{fixed-as, as-before, areas-fixed}
+
+pub fixed-transport : (bytes : List ℕ) (route : ℕ) (source : List ℕ) → FixedTransport bytes route source
+unfolding messagesCall ownersCall awaitedCall takeInCall
+fixed-transport bytes route source =
+    record {
+      messages = λ old out n e. fixed-as e (engine.fixed _ _ old);
+      owners = λ old out n e. fixed-as e (engine.fixed _ _ old);
+      awaited = λ a p old out n e. fixed-as e (engine.fixed _ _ old);
+      take-in = λ a b p m words n e.
+          let f = engine.fixed (takeInLines bytes route source (inWords a) p m words) (received (recipe bytes route) (inWords a) m words) (inWords a) in
+          record { fixed = fixed-as e f; as-before = as-before inWords areas-fixed a b n e f };
+    }
+
+pub rows-are-lines : RowsAreLines
+unfolding rowOf lineWords
+rows-are-lines p m = refl

@@ -1,0 +1,32 @@
+-- `mail::awaited` meets its contract.
+use borrow.Author.Needs.{needs}
+use Rattle.mail.proofs.awaited.Statement.{statement}
+use Rattle.mail.proofs.awaited.Tie as tie
+
+flat-of-requires : tie.Need-flat-of-requires
+flat-of-requires c κs = search needs
+
+awaited-requires : tie.Need-awaited-requires
+awaited-requires c κs = search needs
+
+same-length : tie.Need-same-length
+same-length c = search needs
+
+same-length-2 : tie.Need-same-length-2
+same-length-2 c = search needs
+
+returns : tie.Need-returns
+returns c =
+    c .before .before .before .before .awaited .ensures
+    (c .before .before .before .before .before .before .before .before .before .before .before .before .before .args .progress .now)
+    (c .before .before .before .before .before .before .before .flat-of .ensures)
+
+pub awaited-spec : {M : Type 1} → statement M
+awaited-spec =
+    tie.close
+    (tie.spec
+    flat-of-requires
+    awaited-requires
+    same-length
+    same-length-2
+    returns)

@@ -1,0 +1,97 @@
+-- `mail::messages` meets its contract: each return by the line that counts.
+use native.Mathlib.Omega.{arith}
+use Prim.Native.Nat.{ℕ, _*_}
+use mathlib.Core.Path.{refl, sym, ap, _∙_}
+use Rattle.routes.proofs.Laws.{accepted-for}
+use Rattle.plan.specs.Shaped.{planOf}
+use Rattle.engine.proofs.Lines as lines
+use Rattle.mail.proofs.Answers as answers
+use borrow.Author.Needs.{needs}
+use Rattle.mail.proofs.messages.Statement.{statement}
+use Rattle.mail.proofs.messages.Tie as tie
+
+read-for-requires : tie.Need-read-for-requires
+read-for-requires c κs = search needs
+
+returns : tie.Need-returns
+returns c =
+    let S = c .before .before .before .before in
+    let read-for = c .before .read-for in
+    answers.messages-read (S .args .encoded .now) (S .args .route) (S .args .out .now) (read-for .result .number) (read-for .ensures .number)
+    (c .if1 .taken)
+
+route-of-requires : tie.Need-route-of-requires
+route-of-requires c κs = search needs
+
+sizes-of-requires : tie.Need-sizes-of-requires
+sizes-of-requires c κs = accepted-for _ _ _ (c .before .before .before .read-for .ensures) (c .before .before .if1 .left)
+
+fill-requires : tie.Need-fill-requires
+fill-requires c κs =
+    let sizes-of = c .before .sizes-of in
+    let read-for = c .before .before .before .before .before .read-for in (
+      sizes-of .ensures .0,
+      (
+        lines.routed _ (read-for .result) (read-for .ensures) (c .before .before .before .before .if1 .left)
+            (sizes-of .ensures .1 ∙ c .before .before .route-of .ensures),
+        refl,
+      ),
+    )
+
+totals-requires : tie.Need-totals-requires
+totals-requires c κs = (c .before .before .before .sizes-of .ensures .0, c .before .fill .ensures)
+
+mul-if2 : tie.Need-mul-if2
+mul-if2 c = omega (arith, c .before .totals .ensures .1 .1 .0)
+
+returns-2 : tie.Need-returns-2
+returns-2 c =
+    let S = c .before .before .before .before .before .before .before .before .before .before .before .before .before in
+    let sizes-of = c .before .before .before .before .before .before .sizes-of in
+    let read-for = c .before .before .before .before .before .before .before .before .before .before .read-for in
+    answers.messages-area (S .args .encoded .now) (S .args .route) (S .args .out .now) (planOf (sizes-of .result .route) (read-for .result .nest))
+    (lines.opened (S .args .encoded .now) (read-for .result) (read-for .ensures)
+    (c .before .before .before .before .before .before .before .before .before .if1 .left)
+    (sizes-of .ensures .1 ∙ c .before .before .before .before .before .before .before .route-of .ensures))
+    (λ q. c .if2 .taken (q ∙ ap (λ (n : ℕ). 6 * n) (sym (c .before .before .totals .ensures .0))))
+
+put-rows-requires : tie.Need-put-rows-requires
+put-rows-requires c κs = (
+  (
+    c .before .before .before .before .before .before .before .before .sizes-of .ensures .0,
+    c .before .before .before .before .before .before .fill .ensures,
+  ),
+  c .before .before .if2 .left ∙ ap (λ (n : ℕ). 6 * n) (c .before .before .before .before .totals .ensures .0),
+)
+
+same-length : tie.Need-same-length
+same-length c = search needs
+
+returns-3 : tie.Need-returns-3
+returns-3 c =
+    let S = c .before .before .before .before .before .before .before .before .before .before .before .before .before .before .before .before .before .before in
+    let sizes-of = c .before .before .before .before .before .before .before .before .before .before .before .sizes-of in
+    let read-for = c .before .before .before .before .before .before .before .before .before .before .before .before .before .before .before .read-for in
+    answers.messages-done (S .args .encoded .now) (S .args .route) (S .args .out .now) (planOf (sizes-of .result .route) (read-for .result .nest))
+    (lines.opened (S .args .encoded .now) (read-for .result) (read-for .ensures)
+    (c .before .before .before .before .before .before .before .before .before .before .before .before .before .before .if1 .left)
+    (sizes-of .ensures .1 ∙ c .before .before .before .before .before .before .before .before .before .before .before .before .route-of .ensures))
+    (c .before .before .before .before .before .if2 .left ∙ ap (λ (n : ℕ). 6 * n)
+    (c .before .before .before .before .before .before .before .totals .ensures .0))
+    _ (c .before .before .put-rows .ensures)
+
+pub messages-spec : {M : Type 1} → statement M
+messages-spec =
+    tie.close
+    (tie.spec
+    read-for-requires
+    returns
+    route-of-requires
+    sizes-of-requires
+    fill-requires
+    totals-requires
+    mul-if2
+    returns-2
+    put-rows-requires
+    same-length
+    returns-3)

@@ -1,0 +1,32 @@
+-- `mail::take_in` meets its contract.
+use borrow.Author.Needs.{needs}
+use Rattle.mail.proofs.take_in.Statement.{statement}
+use Rattle.mail.proofs.take_in.Tie as tie
+
+flat-of-requires : tie.Need-flat-of-requires
+flat-of-requires c κs = search needs
+
+take-in-requires : tie.Need-take-in-requires
+take-in-requires c κs = search needs
+
+same-length : tie.Need-same-length
+same-length c = search needs
+
+same-length-2 : tie.Need-same-length-2
+same-length-2 c = search needs
+
+returns : tie.Need-returns
+returns c =
+    c .before .before .before .before .take-in .ensures
+    (c .before .before .before .before .before .before .before .before .before .before .before .before .before .before .before .args .progress .now)
+    (c .before .before .before .before .before .before .flat-of .ensures)
+
+pub take-in-spec : {M : Type 1} → statement M
+take-in-spec =
+    tie.close
+    (tie.spec
+    flat-of-requires
+    take-in-requires
+    same-length
+    same-length-2
+    returns)
