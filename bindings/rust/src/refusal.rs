@@ -131,7 +131,10 @@ mod tests {
     #[test]
     fn display_has_number_and_term() {
         let text = Refusal::NoMail.to_string();
-        assert_eq!(text, "refused 14, no mail: delivery of a message that is not in flight, or taking in one that came before");
+        assert_eq!(
+            text,
+            "refused 14, no mail: delivery of a message that is not in flight, or taking in one that came before"
+        );
         assert_eq!(format!("{:?}", Refusal::NoMail), text);
         let text = Refusal::Other(4000).to_string();
         assert_eq!(text, "refused 4000, other: a number that this crate has no name for");

@@ -61,8 +61,7 @@ unfolding figuresIf offset processorOf _and_ _or_ pick every some keep product t
     boxTileOf inside directions ahead reaches crosses parcel taker slotCells slotTaker atHome slotParcel messagesTo
 plan-is = refl
 
-lines-are : linesTo (boxPlan Direct nest) (count (boxPlan Direct nest)) ≡ (0 ∷ 0 ∷ 3 ∷ 0 ∷ 1 ∷ 2 ∷ []) ∷ (1 ∷ 1 ∷ 4 ∷ 0 ∷ 1 ∷ 2 ∷ [])
-    ∷ (2 ∷ 2 ∷ 5 ∷ 0 ∷ 1 ∷ 1 ∷ []) ∷ []
+lines-are : linesTo (boxPlan Direct nest) (count (boxPlan Direct nest)) ≡ (0 ∷ 0 ∷ 3 ∷ 0 ∷ 1 ∷ 2 ∷ []) ∷ (1 ∷ 1 ∷ 4 ∷ 0 ∷ 1 ∷ 2 ∷ []) ∷ (2 ∷ 2 ∷ 5 ∷ 0 ∷ 1 ∷ 1 ∷ []) ∷ []
 unfolding linesTo messageLine processorOf _and_ _or_ pick every some keep product tileCount cells boxTiles rank place cellAt cellPlace tileAt tilePlace
     boxTileOf inside directions ahead reaches crosses parcel taker slotCells slotTaker atHome slotParcel messagesTo
 lines-are = refl
@@ -73,8 +72,7 @@ unfolding processorOf _and_ _or_ pick every some keep product tileCount cells bo
 cells-are = refl
 
 grid-is : sweep (boxPlan Direct nest) depths
-    ≡ 35 ∷ 49 ∷ 57 ∷ 61 ∷ 63 ∷ 57 ∷ 100 ∷ 131 ∷ 152 ∷ 165 ∷ 75 ∷ 154 ∷ 228 ∷ 289 ∷ 334 ∷ 90 ∷ 208 ∷ 342 ∷ 474 ∷ 589 ∷ 102 ∷ 259 ∷ 468 ∷ 705 ∷ 943 ∷ 113 ∷ 307
-    ∷ 601 ∷ 978 ∷ 1404 ∷ []
+    ≡ 35 ∷ 49 ∷ 57 ∷ 61 ∷ 63 ∷ 57 ∷ 100 ∷ 131 ∷ 152 ∷ 165 ∷ 75 ∷ 154 ∷ 228 ∷ 289 ∷ 334 ∷ 90 ∷ 208 ∷ 342 ∷ 474 ∷ 589 ∷ 102 ∷ 259 ∷ 468 ∷ 705 ∷ 943 ∷ 113 ∷ 307 ∷ 601 ∷ 978 ∷ 1404 ∷ []
 unfolding sweepTo cells product value hasRead readAt cellAt cellPlace place rank every sum _and_ pick tabulate
 grid-is = refl
 

@@ -18,9 +18,7 @@ use Rattle.engine.specs.Demands.{calls}
 -- printed by write_recipe --list
 abbrev pub harbour : List ℕ
 harbour =
-    1 ∷ 0 ∷ 6 ∷ 0 ∷ 3 ∷ 0 ∷ 2 ∷ 0 ∷ 0 ∷ 0 ∷ 0 ∷ 0 ∷ 0 ∷ 0 ∷ 0 ∷ 0 ∷ 1 ∷ 0 ∷ 5 ∷ 0 ∷ 2 ∷ 0 ∷ 0 ∷ 0 ∷ 0 ∷ 0 ∷ 0 ∷ 0 ∷ 0 ∷ 0 ∷ 0 ∷ 0 ∷ 2 ∷ 0 ∷ 1 ∷ 0 ∷ 0 ∷ 0 ∷ 3
-    ∷ 0 ∷ 0 ∷ 0 ∷ 0 ∷ 0 ∷ 0 ∷ 0 ∷ 0 ∷ 0 ∷ 2 ∷ 0 ∷ 0 ∷ 1 ∷ 0 ∷ 0 ∷ 2 ∷ 0 ∷ 0 ∷ 0 ∷ 0 ∷ 0 ∷ 0 ∷ 0 ∷ 0 ∷ 0 ∷ 2 ∷ 0 ∷ 1 ∷ 1 ∷ 0 ∷ 0 ∷ 1 ∷ 0 ∷ 0 ∷ 0 ∷ 0 ∷ 0 ∷ 0
-    ∷ 0 ∷ 0 ∷ 0 ∷ 3 ∷ 2 ∷ 0 ∷ 0 ∷ 7 ∷ 0 ∷ 0 ∷ 0 ∷ 0 ∷ 0 ∷ 0 ∷ 0 ∷ 0 ∷ 0 ∷ 0 ∷ 0 ∷ []
+    1 ∷ 0 ∷ 6 ∷ 0 ∷ 3 ∷ 0 ∷ 2 ∷ 0 ∷ 0 ∷ 0 ∷ 0 ∷ 0 ∷ 0 ∷ 0 ∷ 0 ∷ 0 ∷ 1 ∷ 0 ∷ 5 ∷ 0 ∷ 2 ∷ 0 ∷ 0 ∷ 0 ∷ 0 ∷ 0 ∷ 0 ∷ 0 ∷ 0 ∷ 0 ∷ 0 ∷ 0 ∷ 2 ∷ 0 ∷ 1 ∷ 0 ∷ 0 ∷ 0 ∷ 3 ∷ 0 ∷ 0 ∷ 0 ∷ 0 ∷ 0 ∷ 0 ∷ 0 ∷ 0 ∷ 0 ∷ 2 ∷ 0 ∷ 0 ∷ 1 ∷ 0 ∷ 0 ∷ 2 ∷ 0 ∷ 0 ∷ 0 ∷ 0 ∷ 0 ∷ 0 ∷ 0 ∷ 0 ∷ 0 ∷ 2 ∷ 0 ∷ 1 ∷ 1 ∷ 0 ∷ 0 ∷ 1 ∷ 0 ∷ 0 ∷ 0 ∷ 0 ∷ 0 ∷ 0 ∷ 0 ∷ 0 ∷ 0 ∷ 3 ∷ 2 ∷ 0 ∷ 0 ∷ 7 ∷ 0 ∷ 0 ∷ 0 ∷ 0 ∷ 0 ∷ 0 ∷ 0 ∷ 0 ∷ 0 ∷ 0 ∷ 0 ∷ []
 
 -- the source: 100, 101, ..
 abbrev pub depths : List ℕ
@@ -33,8 +31,7 @@ pub record Expected : Type 0 where
   pub lines : linesOf Direct harbour ≡ (0 ∷ 0 ∷ 3 ∷ 0 ∷ 1 ∷ 2 ∷ []) ∷ (1 ∷ 1 ∷ 4 ∷ 0 ∷ 1 ∷ 2 ∷ []) ∷ (2 ∷ 2 ∷ 5 ∷ 0 ∷ 1 ∷ 1 ∷ []) ∷ []
   pub cells : heldBy (planOf Direct (nestOf harbour)) 1 ≡ 12 ∷ 13 ∷ []
   pub grid : sweep (planOf Direct (nestOf harbour)) depths
-      ≡ 35 ∷ 49 ∷ 57 ∷ 61 ∷ 63 ∷ 57 ∷ 100 ∷ 131 ∷ 152 ∷ 165 ∷ 75 ∷ 154 ∷ 228 ∷ 289 ∷ 334 ∷ 90 ∷ 208 ∷ 342 ∷ 474 ∷ 589 ∷ 102 ∷ 259 ∷ 468 ∷ 705 ∷ 943 ∷ 113
-      ∷ 307 ∷ 601 ∷ 978 ∷ 1404 ∷ []
+      ≡ 35 ∷ 49 ∷ 57 ∷ 61 ∷ 63 ∷ 57 ∷ 100 ∷ 131 ∷ 152 ∷ 165 ∷ 75 ∷ 154 ∷ 228 ∷ 289 ∷ 334 ∷ 90 ∷ 208 ∷ 342 ∷ 474 ∷ 589 ∷ 102 ∷ 259 ∷ 468 ∷ 705 ∷ 943 ∷ 113 ∷ 307 ∷ 601 ∷ 978 ∷ 1404 ∷ []
 
 -- and what the theorem says of it, whatever the route, the source, the areas and the order
 unfoldable pub Agrees : Type 0
