@@ -1,48 +1,23 @@
 //! The program chart, run as a user runs it. Texts expected are written out by hand.
 
+mod program;
+
 use std::{
     fs,
-    path::{Path, PathBuf},
-    process::{self, Command, Output},
-    sync::atomic::{AtomicU32, Ordering},
+    path::Path,
+    process::{Command, Output},
 };
 
+use program::{told, Folder};
 use rolwyddac::{Fields, Sounding};
 
-/// A folder that goes when the test ends.
-struct Folder {
-    path: PathBuf,
-}
-
-impl Folder {
-    fn new() -> Folder {
-        static MADE: AtomicU32 = AtomicU32::new(0);
-        let name = format!("rolwyddac-chart-{}-{}", process::id(), MADE.fetch_add(1, Ordering::Relaxed));
-        let path = std::env::temp_dir().join(name);
-        fs::create_dir(&path).expect("a folder");
-        Folder { path }
-    }
-
-    fn file(&self, name: &str, content: impl AsRef<[u8]>) -> PathBuf {
-        let path = self.path.join(name);
-        fs::write(&path, content).expect("a file");
-        path
-    }
-
-    /// The names of all files there.
-    fn names(&self) -> Vec<String> {
-        let entries = fs::read_dir(&self.path).expect("the folder");
-        let mut names: Vec<String> =
-            entries.map(|entry| entry.expect("an entry").file_name().into_string().expect("text")).collect();
-        names.sort();
-        names
-    }
-}
-
-impl Drop for Folder {
-    fn drop(&mut self) {
-        let _ = fs::remove_dir_all(&self.path);
-    }
+/// The names of all files in a folder.
+fn names(folder: &Folder) -> Vec<String> {
+    let entries = fs::read_dir(&folder.path).expect("the folder");
+    let mut names: Vec<String> =
+        entries.map(|entry| entry.expect("an entry").file_name().into_string().expect("text")).collect();
+    names.sort();
+    names
 }
 
 /// Two rows of three cells on two processors; each cell adds the one above it.
@@ -59,13 +34,6 @@ fn chart(words: &[&Path], more: &[&str]) -> Output {
     Command::new(env!("CARGO_BIN_EXE_chart")).args(words).args(more).output().expect("the program runs")
 }
 
-/// What is told on standard error; the status is 1, and nothing is written to standard output.
-fn told(output: &Output) -> String {
-    assert_eq!(output.status.code(), Some(1));
-    assert!(output.stdout.is_empty());
-    String::from_utf8(output.stderr.clone()).expect("text")
-}
-
 #[test]
 fn from_surveys() {
     let folder = Folder::new();
@@ -80,7 +48,7 @@ fn from_surveys() {
     assert_eq!(output.status.code(), Some(0));
     let header = "ncols 3\nnrows 2\nxllcorner -3\nyllcorner 20\ncellsize 50\nNODATA_value -9999\n";
     assert_eq!(fs::read_to_string(&out).expect("the chart"), format!("{header}110 20 300\n111 60 350\n"));
-    assert_eq!(folder.names(), ["autumn", "out.asc", "recipe", "spring"]);
+    assert_eq!(names(&folder), ["autumn", "out.asc", "recipe", "spring"]);
 }
 
 #[test]
@@ -133,5 +101,5 @@ fn faults_are_told_and_leave_the_file() {
         assert!(told.contains(expected), "{told}");
     }
     assert_eq!(fs::read_to_string(&out).expect("the file"), "as before");
-    assert_eq!(folder.names(), ["deep", "empty", "off", "out.asc", "ragged", "recipe", "source"]);
+    assert_eq!(names(&folder), ["deep", "empty", "off", "out.asc", "ragged", "recipe", "source"]);
 }

@@ -1,50 +1,18 @@
 //! The program show_rounds, run as a user runs it. The drawings expected are the model's.
 
+mod program;
+
 use std::{
     fs,
-    path::{Path, PathBuf},
-    process::{self, Command, Output},
-    sync::atomic::{AtomicU32, Ordering},
+    path::Path,
+    process::{Command, Output},
 };
 
+use program::{told, Folder};
 use rolwyddac::Fields;
-
-/// A folder that goes when the test ends.
-struct Folder {
-    path: PathBuf,
-}
-
-impl Folder {
-    fn new() -> Folder {
-        static MADE: AtomicU32 = AtomicU32::new(0);
-        let name = format!("rolwyddac-rounds-{}-{}", process::id(), MADE.fetch_add(1, Ordering::Relaxed));
-        let path = std::env::temp_dir().join(name);
-        fs::create_dir(&path).expect("a folder");
-        Folder { path }
-    }
-
-    fn file(&self, name: &str, content: impl AsRef<[u8]>) -> PathBuf {
-        let path = self.path.join(name);
-        fs::write(&path, content).expect("a file");
-        path
-    }
-}
-
-impl Drop for Folder {
-    fn drop(&mut self) {
-        let _ = fs::remove_dir_all(&self.path);
-    }
-}
 
 fn shown(names: &[&Path]) -> Output {
     Command::new(env!("CARGO_BIN_EXE_show_rounds")).args(names).output().expect("the program runs")
-}
-
-/// What is told on standard error; the status is 1, and nothing is written to standard output.
-fn told(output: &Output) -> String {
-    assert_eq!(output.status.code(), Some(1));
-    assert!(output.stdout.is_empty());
-    String::from_utf8(output.stderr.clone()).expect("text")
 }
 
 /// The recipes of the stored cases that are accepted with areas of the right lengths: those in front of the first wrong length.
