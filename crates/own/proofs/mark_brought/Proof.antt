@@ -35,7 +35,8 @@ returns c =
     let S = c .before .before .before .before .before .before .before .before .before .before in
     let line-at = c .before .before .before .before .before .before .before .line-at in
     brings.brought (planOf (S .args .sizes .route) (S .args .nest)) (S .args .b) (S .args .place .number) (line-at .result) (line-at .ensures)
-    (S .args .marks .now) _ (S .args .ones .now) 16384 (S .args .place .words) (S .pre .1 .0) (S .pre .1 .1 .1) (c .before .before .before .before .before .if1 .taken) (c .before .before .unpack .ensures)
+    (S .args .marks .now) _ (S .args .ones .now) 16384 (S .args .place .words) (S .pre .1 .0) (S .pre .1 .1 .1)
+    (c .before .before .before .before .before .if1 .taken) (c .before .before .unpack .ensures)
 
 returns-2 : tie.Need-returns-2
 returns-2 c =

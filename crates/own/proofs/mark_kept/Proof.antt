@@ -31,14 +31,17 @@ mul-slots : tie.Need-mul-slots Inv-loop μ-loop
 mul-slots c =
     let S = c .before .before .before .before .before .before .before in
     let tiles-of = c .before .tiles-of in
-    let table = rows.slotted (S .args .nest) (S .args .sizes) (S .pre .0 .0) (S .args .lens .now) (S .pre .0 .1) (tiles-of .result) (tiles-of .ensures .0) in
+    let table = rows.slotted (S .args .nest) (S .args .sizes) (S .pre .0 .0) (S .args .lens .now) (S .pre .0 .1) (tiles-of .result)
+    (tiles-of .ensures .0) in
     omega (arith, table .sheet .few)
 
 loop-holds : tie.Need-loop-holds Inv-loop μ-loop
 loop-holds c =
     let S = c .before .before .before .before .before .before .before in
-    let tiles-of = c .before .tiles-of in
-    (pass.past-start (S .args .lens .now) (tiles-of .result * S .args .sizes .ways), brings.keep-start (planOf (S .args .sizes .route) (S .args .nest)) (S .args .b) _ (c .before .before .before .before .mark-own .ensures))
+    let tiles-of = c .before .tiles-of in (
+      pass.past-start (S .args .lens .now) (tiles-of .result * S .args .sizes .ways),
+      brings.keep-start (planOf (S .args .sizes .route) (S .args .nest)) (S .args .b) _ (c .before .before .before .before .mark-own .ensures),
+    )
 
 mul-half-index : tie.Need-mul-half-index Inv-loop μ-loop
 mul-half-index c =
@@ -46,7 +49,8 @@ mul-half-index c =
     let loop = c .before .loop in
     let test = c .loop-test .taken in
     let tiles-of = c .before .before .before .tiles-of in
-    let table = rows.slotted (S .args .nest) (S .args .sizes) (S .pre .0 .0) (S .args .lens .now) (S .pre .0 .1) (tiles-of .result) (tiles-of .ensures .0) in
+    let table = rows.slotted (S .args .nest) (S .args .sizes) (S .pre .0 .0) (S .args .lens .now) (S .pre .0 .1) (tiles-of .result)
+    (tiles-of .ensures .0) in
     omega (arith, test, table .sheet .few, table .sheet .long)
 
 element-copy-out-half-index : tie.Need-element-copy-out-half-index Inv-loop μ-loop
@@ -55,7 +59,8 @@ element-copy-out-half-index c =
     let loop = c .before .loop in
     let test = c .loop-test .taken in
     let tiles-of = c .before .before .before .tiles-of in
-    let table = rows.slotted (S .args .nest) (S .args .sizes) (S .pre .0 .0) (S .args .lens .now) (S .pre .0 .1) (tiles-of .result) (tiles-of .ensures .0) in
+    let table = rows.slotted (S .args .nest) (S .args .sizes) (S .pre .0 .0) (S .args .lens .now) (S .pre .0 .1) (tiles-of .result)
+    (tiles-of .ensures .0) in
     omega (arith, test, table .sheet .few, table .sheet .long)
 
 half-index-requires : tie.Need-half-index-requires Inv-loop μ-loop
@@ -76,9 +81,21 @@ mark-brought-requires c κs =
     let test = c .before .before .before .before .before .loop-test .taken in
     let half-index = c .before .before .before .half-index in
     let tiles-of = c .before .before .before .before .before .before .before .before .tiles-of in
-    let table = rows.slotted (S .args .nest) (S .args .sizes) (S .pre .0 .0) (S .args .lens .now) (S .pre .0 .1) (tiles-of .result) (tiles-of .ensures .0) in (
-      (S .pre .0, pass.here (S .args .sizes .route) (S .args .nest) (S .args .lens .now) _ (loop .slot) (loop .number) (loop .offset) (loop .inv .0) table test (half-index .result) (half-index .ensures) (c .before .before .if1 .taken)),
-      (refl, (loop .inv .1 .long, pass.short (S .args .sizes .route) (S .args .nest) (S .args .lens .now) _ (loop .slot) (loop .number) (loop .offset) (loop .inv .0) table test (half-index .result) (half-index .ensures))),
+    let table = rows.slotted (S .args .nest) (S .args .sizes) (S .pre .0 .0) (S .args .lens .now) (S .pre .0 .1) (tiles-of .result)
+    (tiles-of .ensures .0) in (
+      (
+        S .pre .0,
+        pass.here (S .args .sizes .route) (S .args .nest) (S .args .lens .now) _ (loop .slot) (loop .number) (loop .offset) (loop .inv .0) table
+            test (half-index .result) (half-index .ensures) (c .before .before .if1 .taken),
+      ),
+      (
+        refl,
+        (
+          loop .inv .1 .long,
+          pass.short (S .args .sizes .route) (S .args .nest) (S .args .lens .now) _ (loop .slot) (loop .number) (loop .offset)
+              (loop .inv .0) table test (half-index .result) (half-index .ensures),
+        ),
+      ),
     )
 
 add-number : tie.Need-add-number Inv-loop μ-loop
@@ -87,7 +104,8 @@ add-number c =
     let loop = c .before .before .before .before .before .before .before .before .before .loop in
     let test = c .before .before .before .before .before .before .before .before .loop-test .taken in
     let tiles-of = c .before .before .before .before .before .before .before .before .before .before .before .tiles-of in
-    let table = rows.slotted (S .args .nest) (S .args .sizes) (S .pre .0 .0) (S .args .lens .now) (S .pre .0 .1) (tiles-of .result) (tiles-of .ensures .0) in
+    let table = rows.slotted (S .args .nest) (S .args .sizes) (S .pre .0 .0) (S .args .lens .now) (S .pre .0 .1) (tiles-of .result)
+    (tiles-of .ensures .0) in
     omega (arith, test, loop .inv .0 .few, table .sheet .few)
 
 add-offset : tie.Need-add-offset Inv-loop μ-loop
@@ -97,8 +115,16 @@ add-offset c =
     let test = c .before .before .before .loop-test .taken in
     let half-index = c .before .half-index in
     let tiles-of = c .before .before .before .before .before .before .tiles-of in
-    let table = rows.slotted (S .args .nest) (S .args .sizes) (S .pre .0 .0) (S .args .lens .now) (S .pre .0 .1) (tiles-of .result) (tiles-of .ensures .0) in
-    omega (arith, pass.short (S .args .sizes .route) (S .args .nest) (S .args .lens .now) _ (loop .slot) (loop .number) (loop .offset) (loop .inv .0) table test (half-index .result) (half-index .ensures), loop .inv .0 .small, test, table .sheet .few)
+    let table = rows.slotted (S .args .nest) (S .args .sizes) (S .pre .0 .0) (S .args .lens .now) (S .pre .0 .1) (tiles-of .result)
+    (tiles-of .ensures .0) in
+    omega (
+      arith,
+      pass.short (S .args .sizes .route) (S .args .nest) (S .args .lens .now) _ (loop .slot) (loop .number) (loop .offset) (loop .inv .0) table
+          test (half-index .result) (half-index .ensures),
+      loop .inv .0 .small,
+      test,
+      table .sheet .few,
+    )
 
 add-slot : tie.Need-add-slot Inv-loop μ-loop
 add-slot c =
@@ -107,7 +133,8 @@ add-slot c =
     let test = c .before .before .before .loop-test .taken in
     let half-index = c .before .half-index in
     let tiles-of = c .before .before .before .before .before .before .tiles-of in
-    let table = rows.slotted (S .args .nest) (S .args .sizes) (S .pre .0 .0) (S .args .lens .now) (S .pre .0 .1) (tiles-of .result) (tiles-of .ensures .0) in
+    let table = rows.slotted (S .args .nest) (S .args .sizes) (S .pre .0 .0) (S .args .lens .now) (S .pre .0 .1) (tiles-of .result)
+    (tiles-of .ensures .0) in
     omega (arith, test, table .sheet .few)
 
 loop-less : tie.Need-loop-less Inv-loop μ-loop
@@ -120,15 +147,19 @@ loop-again c =
     let test = c .before .before .before .loop-test .taken in
     let half-index = c .before .half-index in
     let tiles-of = c .before .before .before .before .before .before .tiles-of in
-    let table = rows.slotted (S .args .nest) (S .args .sizes) (S .pre .0 .0) (S .args .lens .now) (S .pre .0 .1) (tiles-of .result) (tiles-of .ensures .0) in
+    let table = rows.slotted (S .args .nest) (S .args .sizes) (S .pre .0 .0) (S .args .lens .now) (S .pre .0 .1) (tiles-of .result)
+    (tiles-of .ensures .0) in
     let if1 = c .if1 in (
-      pass.past-next (S .args .sizes .route) (S .args .nest) (S .args .lens .now) _ (loop .slot) (loop .number) (loop .offset) (loop .inv .0) table test (half-index .result) (half-index .ensures)
+      pass.past-next (S .args .sizes .route) (S .args .nest) (S .args .lens .now) _ (loop .slot) (loop .number) (loop .offset) (loop .inv .0) table test
+          (half-index .result) (half-index .ensures)
           (if1 .number) (⊎-elim (λ w. inl (w .0 .taken, w .7)) (λ w. inr (w .0 .left, w .2)) (if1 .came)),
-      brings.keep-turn (planOf (S .args .sizes .route) (S .args .nest)) (S .args .b) (sound (S .args .sizes .route) (S .args .nest) (S .pre .0 .0 .accepted)) (loop .marks) (loop .number)
+      brings.keep-turn (planOf (S .args .sizes .route) (S .args .nest)) (S .args .b) (sound (S .args .sizes .route) (S .args .nest) (S .pre .0 .0 .accepted))
+          (loop .marks) (loop .number)
           (loop .inv .1) (if1 .marks) (if1 .number) (half-index .result)
           (⊎-elim
           (λ w.
-          let found = pass.here (S .args .sizes .route) (S .args .nest) (S .args .lens .now) _ (loop .slot) (loop .number) (loop .offset) (loop .inv .0) table test (half-index .result) (half-index .ensures) (w .0 .taken) in
+          let found = pass.here (S .args .sizes .route) (S .args .nest) (S .args .lens .now) _ (loop .slot) (loop .number) (loop .offset) (loop .inv .0)
+          table test (half-index .result) (half-index .ensures) (w .0 .taken) in
           inl (found .low, found .words, w .6 ∙ w .3 .ensures, w .7))
           (λ w. inr (w .1, w .2)) (if1 .came)),
     )
@@ -144,9 +175,12 @@ returns c =
     let S = c .before .before .before .before .before .before .before .before .before in
     let loop = c .before .loop in
     let tiles-of = c .before .before .before .tiles-of in
-    let table = rows.slotted (S .args .nest) (S .args .sizes) (S .pre .0 .0) (S .args .lens .now) (S .pre .0 .1) (tiles-of .result) (tiles-of .ensures .0) in
-    brings.keep-done (planOf (S .args .sizes .route) (S .args .nest)) (S .args .b) (sound (S .args .sizes .route) (S .args .nest) (S .pre .0 .0 .accepted)) (loop .marks) (loop .number) (loop .inv .1)
-    (pass.past-all (S .args .sizes .route) (S .args .nest) (S .args .lens .now) _ (loop .slot) (loop .number) (loop .offset) (loop .inv .0) table (c .loop-test .left))
+    let table = rows.slotted (S .args .nest) (S .args .sizes) (S .pre .0 .0) (S .args .lens .now) (S .pre .0 .1) (tiles-of .result)
+    (tiles-of .ensures .0) in
+    brings.keep-done (planOf (S .args .sizes .route) (S .args .nest)) (S .args .b) (sound (S .args .sizes .route) (S .args .nest) (S .pre .0 .0 .accepted))
+    (loop .marks) (loop .number) (loop .inv .1)
+    (pass.past-all (S .args .sizes .route) (S .args .nest) (S .args .lens .now) _ (loop .slot) (loop .number) (loop .offset) (loop .inv .0) table
+    (c .loop-test .left))
 
 pub mark-kept-spec : {M : Type 1} → statement M
 mark-kept-spec =

@@ -19,7 +19,8 @@ same-length c = search needs
 returns : tie.Need-returns
 returns c =
     let S = c .before .before .before .before .before .before .before .before .before in
-    owned.owners-marked (S .args .nest) (S .args .sizes) (S .pre .0) (S .pre .1 .0) (S .args .b) (S .pre .1 .1 .0) _ _ (c .before .before .before .before .before .before .put-owners .ensures)
+    owned.owners-marked (S .args .nest) (S .args .sizes) (S .pre .0) (S .pre .1 .0) (S .args .b) (S .pre .1 .1 .0) _ _
+    (c .before .before .before .before .before .before .put-owners .ensures)
     (c .before .before .mark-equal .ensures)
 
 pub mark-own-spec : {M : Type 1} → statement M
