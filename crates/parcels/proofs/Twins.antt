@@ -4,7 +4,8 @@ use mathlib.Core.Path.{_≡_, refl, sym, ap, _∙_}
 use mathlib.Core.Logic.{_⊎_, inl, inr}
 use mathlib.Core.Bool.{true}
 use mathlib.Core.List.{List}
-use native.Mathlib.Nat.{mul-add-mod-self-right, mod-eq-of-lt, mod-lt, div-add-mod', add-mul, suc-mul, mul-assoc, mul-right-comm, mul-le-mul-right, eq-or-lt-of-le}
+use native.Mathlib.Nat.{mul-add-mod-self-right, mod-eq-of-lt, mod-lt, div-add-mod', add-mul, suc-mul, mul-assoc, mul-right-comm, mul-le-mul-right}
+use native.Mathlib.Nat.{eq-or-lt-of-le}
 use native.Mathlib.Decide.{decLt}
 use native.Mathlib.Omega.{arith}
 use lib.ListN.{getD}

@@ -25,7 +25,13 @@ half-at-requires : tie.Need-half-at-requires
 half-at-requires c κs = search needs
 
 returns : tie.Need-returns
-returns c = let A = c .before .before .before .before .args in omega (arith, c .half-at .ensures, L.component-wide (A .encoded .now) (A .r) (A .j) (c .before .if1 .taken))
+returns c =
+    let A = c .before .before .before .before .args in omega (
+      arith,
+      c .half-at .ensures,
+      L.component-wide (A .encoded .now) (A .r) (A .j)
+          (c .before .if1 .taken),
+    )
 
 add-byte-index : tie.Need-add-byte-index
 add-byte-index c = search needs
@@ -40,7 +46,9 @@ byte-index-requires : tie.Need-byte-index-requires
 byte-index-requires c κs = search needs
 
 returns-2 : tie.Need-returns-2
-returns-2 c = c .byte-index .ensures ∙ L.component-narrow (c .before .before .before .before .before .args .encoded .now) (c .before .before .before .before .before .args .r) (c .before .before .before .before .before .args .j) (c .before .before .if1 .left)
+returns-2 c =
+    let start = c .before .before .before .before .before in
+    c .byte-index .ensures ∙ L.component-narrow (start .args .encoded .now) (start .args .r) (start .args .j) (c .before .before .if1 .left)
 
 pub component-at-spec : {M : Type 1} → statement M
 component-at-spec =

@@ -12,7 +12,14 @@ count-kind-requires-2 : tie.Need-count-kind-requires-2
 count-kind-requires-2 c κs = search needs
 
 add-result : tie.Need-add-result
-add-result c = omega (arith, c .before .count-kind .ensures, c .count-kind2 .ensures, L.kinds-few (c .before .before .before .args .encoded .now) 2, L.kinds-few (c .before .before .before .args .encoded .now) 4)
+add-result c =
+    omega (
+      arith,
+      c .before .count-kind .ensures,
+      c .count-kind2 .ensures,
+      L.kinds-few (c .before .before .before .args .encoded .now) 2,
+      L.kinds-few (c .before .before .before .args .encoded .now) 4,
+    )
 
 returns : tie.Need-returns
 returns c = rw (c .before .count-kind .ensures, c .count-kind2 .ensures)

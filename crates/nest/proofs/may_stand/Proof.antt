@@ -23,10 +23,14 @@ add-if3-2 : tie.Need-add-if3-2
 add-if3-2 c = search needs
 
 returns-3 : tie.Need-returns-3
-returns-3 c = sym (L.stands-between _ _ _ _ _ (c .before .before .before .if1 .left) (c .before .before .if2 .left) (c .before .if3 .taken) ∙ or-left _ (eq-eqb _ _ (c .if4 .taken)))
+returns-3 c =
+    sym (L.stands-between _ _ _ _ _ (c .before .before .before .if1 .left) (c .before .before .if2 .left) (c .before .if3 .taken)
+    ∙ or-left _ (eq-eqb _ _ (c .if4 .taken)))
 
 returns-4 : tie.Need-returns-4
-returns-4 c = sym (L.stands-between _ _ _ _ _ (c .before .before .before .if1 .left) (c .before .before .if2 .left) (c .before .if3 .taken) ∙ L.or-skip (ne-eqb _ _ (c .if4 .left)))
+returns-4 c =
+    sym (L.stands-between _ _ _ _ _ (c .before .before .before .if1 .left) (c .before .before .if2 .left) (c .before .if3 .taken)
+    ∙ L.or-skip (ne-eqb _ _ (c .if4 .left)))
 
 returns-5 : tie.Need-returns-5
 returns-5 c = sym (L.stands-last _ _ _ _ _ (c .before .before .if1 .left) (c .before .if2 .left) (c .if3 .left))

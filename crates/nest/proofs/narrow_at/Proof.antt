@@ -33,7 +33,11 @@ component-at-requires : tie.Need-component-at-requires Inv-loop μ-loop
 component-at-requires c κs = search needs
 
 returns-2 : tie.Need-returns-2 Inv-loop μ-loop
-returns-2 c = sym (L.some-wide (c .before .before .before .before .before .before .before .args .encoded .now) (c .before .before .before .before .before .before .before .args .r) (c .before .before .before .loop .j) _ (c .before .before .loop-test .taken) (c .before .component-at .ensures) (c .if2 .taken))
+returns-2 c =
+    let at-loop = c .before .before .before in
+    let start = at-loop .before .before .before .before in
+    sym (L.some-wide (start .args .encoded .now) (start .args .r) (at-loop .loop .j) _ (c .before .before .loop-test .taken)
+    (c .before .component-at .ensures) (c .if2 .taken))
 
 add-j : tie.Need-add-j Inv-loop μ-loop
 add-j c = search needs
@@ -45,7 +49,10 @@ loop-again : tie.Need-loop-again Inv-loop μ-loop
 loop-again c = (omega arith, L.every-step _ _ (c .before .before .before .loop .inv .1) (L.fits-byte _ _ (c .before .component-at .ensures) (c .if2 .left)))
 
 returns-3 : tie.Need-returns-3 Inv-loop μ-loop
-returns-3 c = sym (L.all-narrow (c .before .before .before .before .before .args .encoded .now) (c .before .before .before .before .before .args .r) (c .before .before .if1 .left) (L.every-end _ _ (c .before .loop .j) (c .before .loop .inv .0) (c .loop-test .left) (c .before .loop .inv .1)))
+returns-3 c =
+    let start = c .before .before .before .before .before in
+    sym (L.all-narrow (start .args .encoded .now) (start .args .r) (c .before .before .if1 .left)
+    (L.every-end _ _ (c .before .loop .j) (c .before .loop .inv .0) (c .loop-test .left) (c .before .loop .inv .1)))
 
 pub narrow-at-spec : {M : Type 1} → statement M
 narrow-at-spec =

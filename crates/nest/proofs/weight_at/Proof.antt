@@ -18,7 +18,9 @@ half-at-requires : tie.Need-half-at-requires
 half-at-requires c κs = search needs
 
 returns : tie.Need-returns
-returns c = c .half-at .ensures .0 ∙ L.weight-wide (c .before .before .before .before .args .encoded .now) (c .before .before .before .before .args .r) (c .before .if1 .taken)
+returns c =
+    let start = c .before .before .before .before in
+    c .half-at .ensures .0 ∙ L.weight-wide (start .args .encoded .now) (start .args .r) (c .before .if1 .taken)
 
 add-half-at-2 : tie.Need-add-half-at-2
 add-half-at-2 c = search needs
@@ -27,7 +29,9 @@ half-at-requires-2 : tie.Need-half-at-requires-2
 half-at-requires-2 c κs = search needs
 
 returns-2 : tie.Need-returns-2
-returns-2 c = c .half-at2 .ensures .0 ∙ L.weight-narrow (c .before .before .before .before .args .encoded .now) (c .before .before .before .before .args .r) (c .before .if1 .left)
+returns-2 c =
+    let start = c .before .before .before .before in
+    c .half-at2 .ensures .0 ∙ L.weight-narrow (start .args .encoded .now) (start .args .r) (c .before .if1 .left)
 
 pub weight-at-spec : {M : Type 1} → statement M
 weight-at-spec =

@@ -30,46 +30,113 @@ mul-n : tie.Need-mul-n Inv-loop μ-loop
 mul-n c = omega (arith, c .loop-test .taken, c .before .loop .inv .low, c .before .before .before .before .before .before .pre .0 .accepted .dimensions-most)
 
 array-read-n : tie.Need-array-read-n Inv-loop μ-loop
-array-read-n c = omega (arith, c .loop-test .taken, c .before .loop .inv .low, c .before .before .before .before .before .before .pre .0 .accepted .dimensions-most)
+array-read-n c =
+    omega (arith, c .loop-test .taken, c .before .loop .inv .low, c .before .before .before .before .before .before .pre .0 .accepted .dimensions-most)
 
 rem-one-back : tie.Need-rem-one-back Inv-loop μ-loop
-rem-one-back c = omega (arith, c .before .before .before .before .before .before .pre .0 .across (c .before .loop .left - 1) (omega (arith, c .loop-test .taken, c .before .loop .inv .low)), tileCount-pos _ (c .before .before .before .before .before .before .pre .0 .accepted) (c .before .loop .left - 1) (omega (arith, c .loop-test .taken, c .before .loop .inv .low)))
+rem-one-back c =
+    let at-loop = c .before in
+    let start = at-loop .before .before .before .before .before in
+    omega (
+      arith,
+      start .pre .0 .across (at-loop .loop .left - 1) (omega (arith, c .loop-test .taken, at-loop .loop .inv .low)),
+      tileCount-pos _ (start .pre .0 .accepted) (at-loop .loop .left - 1) (omega (arith, c .loop-test .taken, at-loop .loop .inv .low)),
+    )
 
 mul-one-back : tie.Need-mul-one-back Inv-loop μ-loop
-mul-one-back c = omega (arith, c .loop-test .taken, c .before .loop .inv .low, c .before .before .before .before .before .before .pre .0 .accepted .dimensions-most)
+mul-one-back c =
+    omega (arith, c .loop-test .taken, c .before .loop .inv .low, c .before .before .before .before .before .before .pre .0 .accepted .dimensions-most)
 
 array-read-one-back : tie.Need-array-read-one-back Inv-loop μ-loop
-array-read-one-back c = omega (arith, c .loop-test .taken, c .before .loop .inv .low, c .before .before .before .before .before .before .pre .0 .accepted .dimensions-most)
+array-read-one-back c =
+    omega (arith, c .loop-test .taken, c .before .loop .inv .low, c .before .before .before .before .before .before .pre .0 .accepted .dimensions-most)
 
 mul-one-back-2 : tie.Need-mul-one-back-2 Inv-loop μ-loop
-mul-one-back-2 c = omega (arith, c .loop-test .taken, c .before .loop .inv .low, c .before .before .before .before .before .before .pre .0 .accepted .dimensions-most)
+mul-one-back-2 c =
+    omega (arith, c .loop-test .taken, c .before .loop .inv .low, c .before .before .before .before .before .before .pre .0 .accepted .dimensions-most)
 
 array-read-one-back-2 : tie.Need-array-read-one-back-2 Inv-loop μ-loop
-array-read-one-back-2 c = omega (arith, c .loop-test .taken, c .before .loop .inv .low, c .before .before .before .before .before .before .pre .0 .accepted .dimensions-most)
+array-read-one-back-2 c =
+    omega (arith, c .loop-test .taken, c .before .loop .inv .low, c .before .before .before .before .before .before .pre .0 .accepted .dimensions-most)
 
 one-back-requires : tie.Need-one-back-requires Inv-loop μ-loop
-one-back-requires c κs = (omega (arith, c .before .before .before .before .before .before .pre .0 .across (c .before .loop .left - 1) (omega (arith, c .loop-test .taken, c .before .loop .inv .low)), count-most _ (c .before .before .before .before .before .before .pre .0 .accepted) (c .before .loop .left - 1) (omega (arith, c .loop-test .taken, c .before .loop .inv .low)), mod-lt (c .before .loop .rest) {m = getD (c .before .before .before .before .before .before .args .sizes .across) (c .before .loop .left - 1) 0} (omega (arith, c .before .before .before .before .before .before .pre .0 .across (c .before .loop .left - 1) (omega (arith, c .loop-test .taken, c .before .loop .inv .low)), tileCount-pos _ (c .before .before .before .before .before .before .pre .0 .accepted) (c .before .loop .left - 1) (omega (arith, c .loop-test .taken, c .before .loop .inv .low))))), c .before .before .before .before .before .before .pre .0 .accepted .tile-most (c .before .loop .left - 1))
+one-back-requires c κs =
+    let at-loop = c .before in
+    let start = at-loop .before .before .before .before .before in (
+      omega (
+        arith,
+        start .pre .0 .across (at-loop .loop .left - 1) (omega (arith, c .loop-test .taken, at-loop .loop .inv .low)),
+        count-most _ (start .pre .0 .accepted) (at-loop .loop .left - 1) (omega (arith, c .loop-test .taken, at-loop .loop .inv .low)),
+        mod-lt (at-loop .loop .rest) {m = getD (start .args .sizes .across) (at-loop .loop .left - 1) 0}
+            (omega (
+              arith,
+              start .pre .0 .across (at-loop .loop .left - 1) (omega (arith, c .loop-test .taken, at-loop .loop .inv .low)),
+              tileCount-pos _ (start .pre .0 .accepted) (at-loop .loop .left - 1) (omega (arith, c .loop-test .taken, at-loop .loop .inv .low)),
+            )),
+      ),
+      start .pre .0 .accepted .tile-most (at-loop .loop .left - 1),
+    )
 
 sub-result : tie.Need-sub-result Inv-loop μ-loop
-sub-result c = twin-low (c .before .before .before .before .before .before .before .before .args .sizes .route) _ (c .before .before .before .before .before .before .before .before .pre .0 .accepted) _ (c .before .before .before .before .before .before .before .before .pre .1) (c .before .before .before .before .before .before .before .before .args .sizes .across) (record { each = c .before .before .before .before .before .before .before .before .pre .0 .across }) _ (c .before .before .before .before .two-before .ensures) _ _ _ (c .before .before .before .loop .inv) (c .before .before .loop-test .taken) (sym (c .before .one-back .ensures) ∙ c .if1 .taken)
+sub-result c =
+    let at-loop = c .before .before .before in
+    let at-two-before = at-loop .before in
+    let start = at-two-before .before .before .before .before in
+    twin-low (start .args .sizes .route) _ (start .pre .0 .accepted) _ (start .pre .1) (start .args .sizes .across) (record { each = start .pre .0 .across })
+    _ (at-two-before .two-before .ensures) _ _ _ (at-loop .loop .inv) (c .before .before .loop-test .taken) (sym (c .before .one-back .ensures) ∙ c .if1 .taken)
 
 returns : tie.Need-returns Inv-loop μ-loop
-returns c = twin-back (c .before .before .before .before .before .before .before .before .args .sizes .route) _ (c .before .before .before .before .before .before .before .before .pre .0 .accepted) _ (c .before .before .before .before .before .before .before .before .pre .1) (c .before .before .before .before .before .before .before .before .args .sizes .across) (record { each = c .before .before .before .before .before .before .before .before .pre .0 .across }) _ (c .before .before .before .before .two-before .ensures) _ _ _ (c .before .before .before .loop .inv) (c .before .before .loop-test .taken) (sym (c .before .one-back .ensures) ∙ c .if1 .taken)
+returns c =
+    let at-loop = c .before .before .before in
+    let at-two-before = at-loop .before in
+    let start = at-two-before .before .before .before .before in
+    twin-back (start .args .sizes .route) _ (start .pre .0 .accepted) _ (start .pre .1) (start .args .sizes .across)
+    (record { each = start .pre .0 .across }) _ (at-two-before .two-before .ensures) _ _ _ (at-loop .loop .inv) (c .before .before .loop-test .taken)
+    (sym (c .before .one-back .ensures) ∙ c .if1 .taken)
 
 div-rest : tie.Need-div-rest Inv-loop μ-loop
-div-rest c = omega (arith, c .before .before .before .before .before .before .before .before .pre .0 .across (c .before .before .before .loop .left - 1) (omega (arith, c .before .before .loop-test .taken, c .before .before .before .loop .inv .low)), tileCount-pos _ (c .before .before .before .before .before .before .before .before .pre .0 .accepted) (c .before .before .before .loop .left - 1) (omega (arith, c .before .before .loop-test .taken, c .before .before .before .loop .inv .low)))
+div-rest c =
+    let at-loop = c .before .before .before in
+    let start = at-loop .before .before .before .before .before in
+    omega (
+      arith,
+      start .pre .0 .across (at-loop .loop .left - 1) (omega (arith, c .before .before .loop-test .taken, at-loop .loop .inv .low)),
+      tileCount-pos _ (start .pre .0 .accepted) (at-loop .loop .left - 1) (omega (arith, c .before .before .loop-test .taken, at-loop .loop .inv .low)),
+    )
 
 mul-stride : tie.Need-mul-stride Inv-loop μ-loop
-mul-stride c = omega (arith, twin-stride (c .before .before .before .before .before .before .before .before .args .sizes .route) _ (c .before .before .before .before .before .before .before .before .pre .0 .accepted) _ (c .before .before .before .before .before .before .before .before .pre .1) (c .before .before .before .before .before .before .before .before .args .sizes .across) (record { each = c .before .before .before .before .before .before .before .before .pre .0 .across }) _ _ _ (peeled-more _ _ _ _ _ _ (c .before .before .before .loop .inv) (c .before .before .loop-test .taken) (omega (arith, c .before .before .before .before .before .before .before .before .pre .0 .across (c .before .before .before .loop .left - 1) (omega (arith, c .before .before .loop-test .taken, c .before .before .before .loop .inv .low)), tileCount-pos _ (c .before .before .before .before .before .before .before .before .pre .0 .accepted) (c .before .before .before .loop .left - 1) (omega (arith, c .before .before .loop-test .taken, c .before .before .before .loop .inv .low))))))
+mul-stride c =
+    let at-loop = c .before .before .before in
+    let start = at-loop .before .before .before .before .before in
+    omega (
+      arith,
+      twin-stride (start .args .sizes .route) _ (start .pre .0 .accepted) _ (start .pre .1) (start .args .sizes .across)
+          (record { each = start .pre .0 .across }) _ _ _ (peeled-more _ _ _ _ _ _ (at-loop .loop .inv) (c .before .before .loop-test .taken)
+          (omega (
+            arith,
+            start .pre .0 .across (at-loop .loop .left - 1) (omega (arith, c .before .before .loop-test .taken, at-loop .loop .inv .low)),
+            tileCount-pos _ (start .pre .0 .accepted) (at-loop .loop .left - 1) (omega (arith, c .before .before .loop-test .taken, at-loop .loop .inv .low)),
+          ))),
+    )
 
 loop-less : tie.Need-loop-less Inv-loop μ-loop
 loop-less c = omega (arith, c .before .before .loop-test .taken)
 
 loop-again : tie.Need-loop-again Inv-loop μ-loop
-loop-again c = peeled-more _ _ _ _ _ _ (c .before .before .before .loop .inv) (c .before .before .loop-test .taken) (omega (arith, c .before .before .before .before .before .before .before .before .pre .0 .across (c .before .before .before .loop .left - 1) (omega (arith, c .before .before .loop-test .taken, c .before .before .before .loop .inv .low)), tileCount-pos _ (c .before .before .before .before .before .before .before .before .pre .0 .accepted) (c .before .before .before .loop .left - 1) (omega (arith, c .before .before .loop-test .taken, c .before .before .before .loop .inv .low))))
+loop-again c =
+    let at-loop = c .before .before .before in
+    let start = at-loop .before .before .before .before .before in
+    peeled-more _ _ _ _ _ _ (at-loop .loop .inv) (c .before .before .loop-test .taken)
+    (omega (
+      arith,
+      start .pre .0 .across (at-loop .loop .left - 1) (omega (arith, c .before .before .loop-test .taken, at-loop .loop .inv .low)),
+      tileCount-pos _ (start .pre .0 .accepted) (at-loop .loop .left - 1) (omega (arith, c .before .before .loop-test .taken, at-loop .loop .inv .low)),
+    ))
 
 returns-2 : tie.Need-returns-2 Inv-loop μ-loop
-returns-2 c = twin-self (c .before .before .before .before .before .before .args .sizes .route) _ (c .before .before .before .before .before .before .pre .0 .accepted) _ (c .before .before .before .before .before .before .pre .1)
+returns-2 c =
+    let start = c .before .before .before .before .before .before in
+    twin-self (start .args .sizes .route) _ (start .pre .0 .accepted) _ (start .pre .1)
 
 pub twin-of-spec : {M : Type 1} → statement M
 twin-of-spec =

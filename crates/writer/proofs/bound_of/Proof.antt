@@ -24,16 +24,22 @@ byte-wide-requires-3 : tie.Need-byte-wide-requires-3
 byte-wide-requires-3 c κs = search needs
 
 array-read-byte-wide-4 : tie.Need-array-read-byte-wide-4
-array-read-byte-wide-4 c = omega (arith, c .before .before .before .before .before .before .before .before .pre)
+array-read-byte-wide-4 c =
+    let start = c .before .before .before .before .before .before .before .before in
+    omega (arith, start .pre)
 
 byte-wide-requires-4 : tie.Need-byte-wide-requires-4
 byte-wide-requires-4 c κs = search needs
 
 mul-half-wide : tie.Need-mul-half-wide
-mul-half-wide c = omega (arith, c .before .before .before .before .before .before .before .before .before .pre)
+mul-half-wide c =
+    let start = c .before .before .before .before .before .before .before .before .before in
+    omega (arith, start .pre)
 
 array-read-half-wide : tie.Need-array-read-half-wide
-array-read-half-wide c = omega (arith, c .before .before .before .before .before .before .before .before .before .pre)
+array-read-half-wide c =
+    let start = c .before .before .before .before .before .before .before .before .before in
+    omega (arith, start .pre)
 
 half-wide-requires : tie.Need-half-wide-requires
 half-wide-requires c κs = search needs
@@ -43,10 +49,13 @@ bound-record-requires c κs = search needs
 
 returns : tie.Need-returns
 returns c =
-    let A = c .before .before .before .before .before .before .before .before .before .before .before .args in
-    L.bound-is (A .nest) (A .k) _ _ _ _ _ _ (c .before .before .before .before .before .byte-wide .ensures)
-    (c .before .before .before .before .byte-wide2 .ensures) (c .before .before .before .byte-wide3 .ensures) (c .before .before .byte-wide4 .ensures)
-    (c .before .half-wide .ensures) (c .bound-record .ensures)
+    let at-byte-wide3 = c .before .before .before in
+    let at-byte-wide2 = at-byte-wide3 .before in
+    let at-byte-wide = at-byte-wide2 .before in
+    let start = at-byte-wide .before .before .before .before .before .before in
+    let A = start .args in
+    L.bound-is (A .nest) (A .k) _ _ _ _ _ _ (at-byte-wide .byte-wide .ensures) (at-byte-wide2 .byte-wide2 .ensures) (at-byte-wide3 .byte-wide3 .ensures)
+    (c .before .before .byte-wide4 .ensures) (c .before .half-wide .ensures) (c .bound-record .ensures)
 
 pub bound-of-spec : {M : Type 1} → statement M
 bound-of-spec =

@@ -51,10 +51,13 @@ array-write-row-7 c = search needs
 
 returns : tie.Need-returns
 returns c =
-    let A = c .before .before .before .before .before .before .args in
-    L.bound-made (A .side) (A .dimension) (A .earlier) (A .slope) (A .offset) _ _ _ _ _ _ (c .before .before .before .before .before .low .ensures)
-    (c .before .before .before .before .low2 .ensures) (c .before .before .before .low3 .ensures) (c .before .before .low4 .ensures)
-    (c .before .low5 .ensures) (c .high .ensures)
+    let at-low3 = c .before .before .before in
+    let at-low2 = at-low3 .before in
+    let at-low = at-low2 .before in
+    let start = at-low .before in
+    let A = start .args in
+    L.bound-made (A .side) (A .dimension) (A .earlier) (A .slope) (A .offset) _ _ _ _ _ _ (at-low .low .ensures) (at-low2 .low2 .ensures)
+    (at-low3 .low3 .ensures) (c .before .before .low4 .ensures) (c .before .low5 .ensures) (c .high .ensures)
 
 pub bound-record-spec : {M : Type 1} → statement M
 bound-record-spec =

@@ -38,7 +38,12 @@ array-write-row-6 : tie.Need-array-write-row-6
 array-write-row-6 c = search needs
 
 returns : tie.Need-returns
-returns c = L.close-made (c .before .before .before .before .before .args .shift) (c .before .before .before .before .before .args .boundary) _ _ _ _ _ (c .before .before .before .before .low .ensures) (c .before .before .before .low2 .ensures) (c .before .before .high .ensures) (c .before .low3 .ensures) (c .high2 .ensures)
+returns c =
+    let at-low2 = c .before .before .before in
+    let at-low = at-low2 .before in
+    let start = at-low .before in
+    L.close-made (start .args .shift) (start .args .boundary) _ _ _ _ _ (at-low .low .ensures) (at-low2 .low2 .ensures) (c .before .before .high .ensures)
+    (c .before .low3 .ensures) (c .high2 .ensures)
 
 pub close-record-spec : {M : Type 1} → statement M
 close-record-spec =

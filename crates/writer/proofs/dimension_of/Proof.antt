@@ -35,7 +35,11 @@ dimension-record-requires : tie.Need-dimension-record-requires
 dimension-record-requires c κs = search needs
 
 returns : tie.Need-returns
-returns c = L.dimension-is (c .before .before .before .before .before .before .before .args .nest) (c .before .before .before .before .before .before .before .args .j) _ _ _ _ (c .before .before .before .wide .ensures) (c .before .before .wide2 .ensures) (c .before .wide3 .ensures) (c .dimension-record .ensures)
+returns c =
+    let at-wide = c .before .before .before in
+    let start = at-wide .before .before .before .before in
+    L.dimension-is (start .args .nest) (start .args .j) _ _ _ _ (at-wide .wide .ensures) (c .before .before .wide2 .ensures) (c .before .wide3 .ensures)
+    (c .dimension-record .ensures)
 
 pub dimension-of-spec : {M : Type 1} → statement M
 dimension-of-spec =

@@ -44,7 +44,13 @@ array-write-row-7 : tie.Need-array-write-row-7
 array-write-row-7 c = search needs
 
 returns : tie.Need-returns
-returns c = L.dimension-made (c .before .before .before .before .before .before .args .length) (c .before .before .before .before .before .before .args .tile) (c .before .before .before .before .before .before .args .count) _ _ _ _ _ _ (c .before .before .before .before .before .low .ensures) (c .before .before .before .before .high .ensures) (c .before .before .before .low2 .ensures) (c .before .before .high2 .ensures) (c .before .low3 .ensures) (c .high3 .ensures)
+returns c =
+    let at-low2 = c .before .before .before in
+    let at-high = at-low2 .before in
+    let at-low = at-high .before in
+    let start = at-low .before in
+    L.dimension-made (start .args .length) (start .args .tile) (start .args .count) _ _ _ _ _ _ (at-low .low .ensures) (at-high .high .ensures)
+    (at-low2 .low2 .ensures) (c .before .before .high2 .ensures) (c .before .low3 .ensures) (c .high3 .ensures)
 
 pub dimension-record-spec : {M : Type 1} → statement M
 dimension-record-spec =

@@ -65,7 +65,15 @@ narrow-record-requires : tie.Need-narrow-record-requires
 narrow-record-requires c κs = search needs
 
 returns : tie.Need-returns
-returns c = let A = c .before .before .before .before .before .before .before .before .before .args in L.narrow-is (A .nest) (A .e) _ _ _ _ (c .before .before .before .before .before .before .wide .ensures) (c .before .before .before .before .before .wide2 .ensures) (c .before .before .before .before .wide3 .ensures) (c .before .before .before .wide4 .ensures) _ _ (c .before .before .narrow .ensures) (c .before .if1 .taken) (c .narrow-record .ensures)
+returns c =
+    let at-wide4 = c .before .before .before in
+    let at-wide3 = at-wide4 .before in
+    let at-wide2 = at-wide3 .before in
+    let at-wide = at-wide2 .before in
+    let start = at-wide .before .before .before in
+    let A = start .args in
+    L.narrow-is (A .nest) (A .e) _ _ _ _ (at-wide .wide .ensures) (at-wide2 .wide2 .ensures) (at-wide3 .wide3 .ensures) (at-wide4 .wide4 .ensures) _ _
+    (c .before .before .narrow .ensures) (c .before .if1 .taken) (c .narrow-record .ensures)
 
 mul-wide-record : tie.Need-mul-wide-record
 mul-wide-record c = search needs
@@ -77,7 +85,15 @@ wide-record-requires : tie.Need-wide-record-requires
 wide-record-requires c κs = search needs
 
 returns-2 : tie.Need-returns-2
-returns-2 c = let A = c .before .before .before .before .before .before .before .before .before .args in L.wide-is (A .nest) (A .e) _ _ _ _ (c .before .before .before .before .before .before .wide .ensures) (c .before .before .before .before .before .wide2 .ensures) (c .before .before .before .before .wide3 .ensures) (c .before .before .before .wide4 .ensures) _ _ (c .before .before .narrow .ensures) (c .before .if1 .left) (c .wide-record .ensures)
+returns-2 c =
+    let at-wide4 = c .before .before .before in
+    let at-wide3 = at-wide4 .before in
+    let at-wide2 = at-wide3 .before in
+    let at-wide = at-wide2 .before in
+    let start = at-wide .before .before .before in
+    let A = start .args in
+    L.wide-is (A .nest) (A .e) _ _ _ _ (at-wide .wide .ensures) (at-wide2 .wide2 .ensures) (at-wide3 .wide3 .ensures) (at-wide4 .wide4 .ensures) _ _
+    (c .before .before .narrow .ensures) (c .before .if1 .left) (c .wide-record .ensures)
 
 pub distance-of-spec : {M : Type 1} → statement M
 distance-of-spec =

@@ -36,7 +36,9 @@ array-read-if1 : tie.Need-array-read-if1 Inv-loop μ-loop
 array-read-if1 c = search needs
 
 returns : tie.Need-returns Inv-loop μ-loop
-returns c = let A = c .before .before .before .before .args in L.not-narrow (A .nest) (A .e) (c .before .before .loop .j) (c .before .loop-test .taken) (omega (arith, c .if1 .taken))
+returns c =
+    let A = c .before .before .before .before .args in L.not-narrow (A .nest) (A .e) (c .before .before .loop .j) (c .before .loop-test .taken)
+    (omega (arith, c .if1 .taken))
 
 add-j : tie.Need-add-j Inv-loop μ-loop
 add-j c = search needs
@@ -45,10 +47,17 @@ loop-less : tie.Need-loop-less Inv-loop μ-loop
 loop-less c = search needs
 
 loop-again : tie.Need-loop-again Inv-loop μ-loop
-loop-again c = let A = c .before .before .before .before .args in (omega arith, every-step _ _ (c .before .before .loop .inv .1) (lt-ltb (component (A .nest) (A .e) (c .before .before .loop .j)) 256 (omega (arith, c .if1 .left))))
+loop-again c =
+    let A = c .before .before .before .before .args in (
+      omega arith,
+      every-step _ _ (c .before .before .loop .inv .1) (lt-ltb (component (A .nest) (A .e) (c .before .before .loop .j)) 256
+          (omega (arith, c .if1 .left))),
+    )
 
 returns-2 : tie.Need-returns-2 Inv-loop μ-loop
-returns-2 c = let A = c .before .before .before .args in L.all-narrow (A .nest) (A .e) (c .before .loop .j) (c .before .loop .inv .0) (c .loop-test .left) (c .before .loop .inv .1)
+returns-2 c =
+    let A = c .before .before .before .args in L.all-narrow (A .nest) (A .e) (c .before .loop .j) (c .before .loop .inv .0) (c .loop-test .left)
+    (c .before .loop .inv .1)
 
 pub narrow-spec : {M : Type 1} → statement M
 narrow-spec =

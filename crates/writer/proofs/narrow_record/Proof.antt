@@ -44,7 +44,13 @@ array-write-row-7 : tie.Need-array-write-row-7
 array-write-row-7 c = search needs
 
 returns : tie.Need-returns
-returns c = L.narrow-made (c .before .before .before .before .before .before .args .d1) (c .before .before .before .before .before .before .args .d2) (c .before .before .before .before .before .before .args .d3) (c .before .before .before .before .before .before .args .d4) (c .before .before .before .before .before .before .args .weight) _ _ _ _ _ _ (c .before .before .before .before .before .low .ensures) (c .before .before .before .before .low2 .ensures) (c .before .before .before .low3 .ensures) (c .before .before .low4 .ensures) (c .before .low5 .ensures) (c .high .ensures)
+returns c =
+    let at-low3 = c .before .before .before in
+    let at-low2 = at-low3 .before in
+    let at-low = at-low2 .before in
+    let start = at-low .before in
+    L.narrow-made (start .args .d1) (start .args .d2) (start .args .d3) (start .args .d4) (start .args .weight) _ _ _ _ _ _ (at-low .low .ensures)
+    (at-low2 .low2 .ensures) (at-low3 .low3 .ensures) (c .before .before .low4 .ensures) (c .before .low5 .ensures) (c .high .ensures)
 
 pub narrow-record-spec : {M : Type 1} → statement M
 narrow-record-spec =

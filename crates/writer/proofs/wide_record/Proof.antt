@@ -68,7 +68,18 @@ array-write-row-11 : tie.Need-array-write-row-11
 array-write-row-11 c = search needs
 
 returns : tie.Need-returns
-returns c = L.wide-made (c .before .before .before .before .before .before .before .before .before .before .args .d1) (c .before .before .before .before .before .before .before .before .before .before .args .d2) (c .before .before .before .before .before .before .before .before .before .before .args .d3) (c .before .before .before .before .before .before .before .before .before .before .args .d4) (c .before .before .before .before .before .before .before .before .before .before .args .weight) _ _ _ _ _ _ _ _ _ _ (c .before .before .before .before .before .before .before .before .before .low .ensures) (c .before .before .before .before .before .before .before .before .high .ensures) (c .before .before .before .before .before .before .before .low2 .ensures) (c .before .before .before .before .before .before .high2 .ensures) (c .before .before .before .before .before .low3 .ensures) (c .before .before .before .before .high3 .ensures) (c .before .before .before .low4 .ensures) (c .before .before .high4 .ensures) (c .before .low5 .ensures) (c .high5 .ensures)
+returns c =
+    let at-low4 = c .before .before .before in
+    let at-high3 = at-low4 .before in
+    let at-low3 = at-high3 .before in
+    let at-high2 = at-low3 .before in
+    let at-low2 = at-high2 .before in
+    let at-high = at-low2 .before in
+    let at-low = at-high .before in
+    let start = at-low .before in
+    L.wide-made (start .args .d1) (start .args .d2) (start .args .d3) (start .args .d4) (start .args .weight) _ _ _ _ _ _ _ _ _ _ (at-low .low .ensures)
+    (at-high .high .ensures) (at-low2 .low2 .ensures) (at-high2 .high2 .ensures) (at-low3 .low3 .ensures) (at-high3 .high3 .ensures) (at-low4 .low4 .ensures)
+    (c .before .before .high4 .ensures) (c .before .low5 .ensures) (c .high5 .ensures)
 
 pub wide-record-spec : {M : Type 1} → statement M
 wide-record-spec =
