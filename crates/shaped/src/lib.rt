@@ -1,4 +1,4 @@
-// Nests with bounds, by rows and spans: the cells of a slot counted and listed, its parcel packed and unpacked.
+// Nests with bounds, by rows and spans: the cells of a slot counted, its parcel packed and unpacked.
 ghost use mathlib.Core.Path.{_≡_};
 ghost use mathlib.Core.Logic.{_⊎_};
 ghost use mathlib.Core.Bool.{true};
@@ -21,7 +21,7 @@ ghost use Rattle.parcels.specs.Windows.{windowOf, RowEnd};
 ghost use Rattle.parcels.specs.Sendings.{Shaped};
 ghost use Rattle.shaped.specs.Whole.{Around, Wide, Between, Whole};
 ghost use Rattle.shaped.specs.Runs.{inPlace, RunIs, reachesPlace, comesShaped, RunsAre};
-ghost use Rattle.shaped.specs.Parcels.{Farthest, Near, Rows, RowRuns, Lists};
+ghost use Rattle.shaped.specs.Parcels.{Farthest, Near, Rows, RowRuns};
 use layout::Sizes;
 use nest::Interval;
 use nest::Nest;
@@ -244,39 +244,6 @@ pub fn count_of(
     count
 }
 
-// The same cells, listed in index order.
-pub fn cells_of(nest: Nest, sizes: Sizes, tile: usize, way: usize, list: &mut [u16; 16384]) -> usize
-    requires { ⌜ Sized nest sizes × ((sizes .route ≡ Direct) × ((tile < boxTiles nest) × (way < ways Direct nest))) ⌝ }
-    requires { ⌜ length (now list) ≡ 16384 ⌝ }
-    ensures { λ r. ⌜ Lists nest tile (way + 1) (now (list .exit)) r ⌝ }
-{
-    let at = layout::place_of_tile(nest, sizes, tile);
-    let rows = rows_of(nest, sizes, farthest(nest), tile, at, way);
-    let components = nest.components;
-    let lengths = nest.lengths;
-    let n = rows.rows;
-    let last = nest.dimensions - 1;
-    let mut count = 0;
-    for r in 0..n {
-        let row = row_of(nest, &components, rows, r);
-        let place = row.place;
-        let starts = row.starts;
-        let ends = row.ends;
-        let number = layout::rank(lengths, place, nest.dimensions);
-        count = runs::list_row(
-            list,
-            &starts,
-            &ends,
-            row.runs,
-            number,
-            place[last],
-            rows.width,
-            count,
-        );
-    }
-    count
-}
-
 // The tile at a place and what is near it: from one tile before to two after it, in each dimension.
 fn around(nest: Nest, at: [usize; 4]) -> Window
     requires { ⌜ Accepted nest × ((j : ℕ) → j < nest .dimensions → getD at j 0 ≤ 1024) ⌝ }
@@ -354,24 +321,75 @@ pub fn whole(nest: Nest, at: [usize; 4]) -> bool
     inside(nest, area)
 }
 
-// The words of a slot's parcel.
+// The rows that hold the cells of a tile of the box and a way, whose place and distances are looked at here.
+fn rows_at(nest: Nest, sizes: Sizes, tile: usize, way: usize) -> Sending
+    requires { ⌜ Sized nest sizes × ((sizes .route ≡ Direct) × ((tile < boxTiles nest) × (way < ways Direct nest))) ⌝ }
+    ensures { λ r. ⌜ Rows nest tile (way + 1) r ⌝ }
+{
+    let at = layout::place_of_tile(nest, sizes, tile);
+    rows_of(nest, sizes, farthest(nest), tile, at, way)
+}
+
+// The words of a slot's parcel, row by row.
 pub fn pack(nest: Nest, sizes: Sizes, tile: usize, way: usize, words: &mut [u32], memory: &[u32])
     requires { ⌜ Sized nest sizes × ((sizes .route ≡ Direct) × ((tile < boxTiles nest) × (way < ways Direct nest))) ⌝ }
     requires { ⌜ (length (now memory) ≡ cells nest) × (length (now words) ≡ length (shapedParcel nest tile (way + 1))) ⌝ }
     ensures { λ _. ⌜ now (words .exit) ≡ pack (now (memory .entry)) (shapedParcel nest tile (way + 1)) ⌝ }
 {
-    let mut list = [0u16; 16384];
-    let n = cells_of(nest, sizes, tile, way, &mut list);
-    runs::pack(&list, n, words, memory);
+    let rows = rows_at(nest, sizes, tile, way);
+    let components = nest.components;
+    let lengths = nest.lengths;
+    let n = rows.rows;
+    let last = nest.dimensions - 1;
+    let mut count = 0;
+    for r in 0..n {
+        let row = row_of(nest, &components, rows, r);
+        let place = row.place;
+        let starts = row.starts;
+        let ends = row.ends;
+        let number = layout::rank(lengths, place, nest.dimensions);
+        count = runs::pack_row(
+            words,
+            memory,
+            &starts,
+            &ends,
+            row.runs,
+            number,
+            place[last],
+            rows.width,
+            count,
+        );
+    }
 }
 
-// Each word of a slot's parcel to its cell.
+// Each word of a slot's parcel to its cell, row by row.
 pub fn unpack(nest: Nest, sizes: Sizes, tile: usize, way: usize, memory: &mut [u32], words: &[u32])
     requires { ⌜ Sized nest sizes × ((sizes .route ≡ Direct) × ((tile < boxTiles nest) × (way < ways Direct nest))) ⌝ }
     requires { ⌜ (length (now memory) ≡ cells nest) × (length (now words) ≡ length (shapedParcel nest tile (way + 1))) ⌝ }
     ensures { λ _. ⌜ now (memory .exit) ≡ unpack (now (memory .entry)) (shapedParcel nest tile (way + 1)) (now (words .entry)) ⌝ }
 {
-    let mut list = [0u16; 16384];
-    let n = cells_of(nest, sizes, tile, way, &mut list);
-    runs::unpack(&list, n, memory, words);
+    let rows = rows_at(nest, sizes, tile, way);
+    let components = nest.components;
+    let lengths = nest.lengths;
+    let n = rows.rows;
+    let last = nest.dimensions - 1;
+    let mut count = 0;
+    for r in 0..n {
+        let row = row_of(nest, &components, rows, r);
+        let place = row.place;
+        let starts = row.starts;
+        let ends = row.ends;
+        let number = layout::rank(lengths, place, nest.dimensions);
+        count = runs::unpack_row(
+            memory,
+            words,
+            &starts,
+            &ends,
+            row.runs,
+            number,
+            place[last],
+            rows.width,
+            count,
+        );
+    }
 }
