@@ -6,16 +6,16 @@ use mathlib.Core.Bool.{Bool, true, false}
 use mathlib.Core.List.{List, [], _∷_, _++_}
 use native.Mathlib.Omega.{arith}
 use lib.ListN.{length, getD, take, drop, length-append, length-drop}
-use lib.Seq.{length-take-le, take-at}
-use lib.Dec.{ltb, eqb}
-use borrow.Author.Tests.{eqb-true, eq-eqb, ne-eqb, lt-ltb, le-ltb}
-use Rattle.base.specs.Tests.{_and_, not, one, keep, tabulate}
+use lib.Seq.{length-take-le, take-at, getD-take}
+use lib.Dec.{ltb, leb, eqb}
+use borrow.Author.Tests.{eq-eqb, ne-eqb, lt-ltb, le-ltb}
+use Rattle.base.specs.Tests.{_and_, not, one, every, keep, tabulate}
 use Rattle.base.specs.Numbers.{line, firstOf}
-use Rattle.base.proofs.Tests.{both, and-left, and-false, and-no, not-true, not-false, true-not, length-tabulate, tabulate-at}
+use Rattle.base.proofs.Tests.{and-true, and-left, and-false, and-no, not-true, not-false, true-not, length-tabulate, tabulate-at}
 use Rattle.base.proofs.Numbers.{first-true, first-false, none-first, first-some, first-behind}
 use Rattle.base.proofs.Select.{keep-same}
 use Rattle.machine.specs.Plan.{Plan, count}
-use Rattle.machine.specs.Machine.{State, progressOnly, fitRecord, tilesLeft, fit}
+use Rattle.machine.specs.Machine.{State, stateOf, finishedOf, stageOf, sentOf, progressOnly, fitRecord, tilesLeft, fit}
 use Rattle.nest.specs.declared.Nest.{Nest}
 use Rattle.nest.specs.declared.Reading.{Reading}
 use Rattle.nest.specs.Nest.{cells, processors}
@@ -24,6 +24,8 @@ use Rattle.layout.specs.declared.Sizes.{Sizes}
 use Rattle.layout.specs.Sizes.{Sized, routeOf}
 use Rattle.routes.specs.Routes.{linesFor, ReadFor}
 use Rattle.tables.specs.Tables.{Tabled}
+use Rattle.records.specs.declared.Flat.{Flat}
+use Rattle.records.specs.Records.{Carries}
 use Rattle.routes.proofs.Laws.{numbered-for}
 use Rattle.engine.specs.Calls.{recipe}
 use Rattle.engine.proofs.Lines.{Opened, opened, routed}
@@ -32,6 +34,8 @@ use Rattle.own.specs.Part.{wordsOf, rankOf, mailAt, markedAt, partFits}
 use Rattle.own_calls.specs.Calls.{wide, boardLines}
 use Rattle.own_calls.specs.declared.core.Board.{Board}
 use Rattle.own_calls.specs.Given.{Opens, Known, unfitLines}
+use Rattle.own_calls.specs.Step.{PartLengths}
+use Rattle.own_calls.proofs.Wide.{fits-are, wide-finished, wide-stage, wide-sent, wide-fit}
 
 -- ---- the first lines
 
@@ -92,6 +96,9 @@ module _ (n : ℕ) (l ys : List ℕ) (h : n ≤ length l) (e : length ys ≡ len
   same-long =
       length-append ys (drop n l) ∙ omega (arith, e ∙ front-long n n l refl h, length-drop n l, h)
 
+pub front-at : (n : ℕ) (l : List ℕ) (i : ℕ) → i < n → getD (take n l) i 0 ≡ getD l i 0
+front-at n l i h = getD-take n l i 0 h
+
 -- ---- marks tell the kept cells
 
 one-test : (t : Bool) → eqb (one t) 1 ≡ t
@@ -122,10 +129,11 @@ module _ (x : Nest) (z : Sizes) (b : ℕ) where
     pub lent-long : length (take (z .cells) kept) ≡ cells x
     lent-long = sym lent-cells ∙ g .cells
 
-    pub known : (lens rank place marks : List ℕ) → Tabled x z lens → b < processors x → length marks ≡ length (take (z .cells) kept) → marks ≡ tabulate (λ c. one (keeps q b c)) (cells x)
+    pub known : (lens rank place marks : List ℕ) → Tabled x z lens → b < processors x → marks ≡ tabulate (λ c. one (keeps q b c)) (cells x)
         → ((m : ℕ) → m ≤ count q → (getD rank m 0 ≡ rankOf q b m) × (getD place m 0 ≡ mailAt q b m))
         → Known x z b lens (marks ++ drop (z .cells) kept) rank place
-    known lens rank place marks t low n is h =
+    known lens rank place marks t low is h =
+        let n = ap length is ∙ length-tabulate (λ c. one (keeps q b c)) (cells x) ∙ sym lent-long in
         record {
           planned = (g, t);
           low = low;
@@ -168,21 +176,6 @@ module _ (p : Plan) (b : ℕ) (s : State) where
   unfolding partFits
   by-marks m u l = sym (and-left _ _ (eq-eqb _ _ m) ∙ and-left _ _ (eq-eqb _ _ u) ∙ and-left _ _ (eq-eqb _ _ l))
 
--- the lengths of a part that fits
-pub record PartLengths (p : Plan) (b : ℕ) (s : State) : Type 0 where
-  pub memory : length (s .memories) ≡ length (keptCells p b)
-  pub mail : length (s .buffer) ≡ wordsOf p (handled p b)
-  pub progress : length (s .progress) ≡ 3
-  pub marks : length (s .status) ≡ length (handled p b)
-
-pub lengths-are : (p : Plan) (b : ℕ) (s : State) → partFits p b s ≡ true → PartLengths p b s
-unfolding partFits
-lengths-are p b s e =
-    let a = both e in
-    let c = both (a .1) in
-    let d = both (c .1) in
-    record { memory = eqb-true _ _ (a .0); mail = eqb-true _ _ (c .0); progress = eqb-true _ _ (d .0); marks = eqb-true _ _ (d .1) }
-
 -- ---- the record's test looks at the records alone
 
 pub record-only : (p : Plan) (s : State) (b : ℕ) → fitRecord p (progressOnly (s .progress)) b ≡ fitRecord p s b
@@ -207,3 +200,40 @@ module _ (p : Plan) (b : ℕ) (s : State) where
       let a = none-first 9 (not (partFits p b s)) (line 10 (not (fit p (wide p b s))) ∷ []) (λ q. omega arith) (sym e ∙ z) in
       let c = none-first 10 (not (fit p (wide p b s))) [] (λ q. omega arith) (a .1) in
       (true-not (a .0), true-not (c .0))
+
+-- line 10 by the words of the record that a call reads, and by the marks
+module _ (p : Plan) (b : ℕ) (low : b < p .processors) (m u l t : List ℕ) (a : partFits p b (stateOf m u l t) ≡ true) where
+  abbrev s : State
+  s = stateOf m u l t
+
+  g : PartLengths p b s
+  g = fits-are p b s a
+
+  pub three-words : (n : ℕ) → n ≡ length l → n ≡ 3
+  three-words n e = e ∙ g .progress
+
+  module _ (f : Flat) (k : Carries f l) where
+    word : (i : ℕ) → i < 3 → getD (f .words) i 0 ≡ getD l i 0
+    word i h =
+        let n : i < length l = omega (arith, h, g .progress) in
+        sym (front-at (length l) (f .words) i n) ∙ ap (λ (z : List ℕ). getD z i 0) (k .kept (omega (arith, g .progress)))
+
+    pub word-0 : getD (f .words) 0 0 ≡ finishedOf (wide p b s) b
+    word-0 = word 0 (omega arith) ∙ sym (wide-finished p b s low g)
+
+    pub word-1 : getD (f .words) 1 0 ≡ stageOf (wide p b s) b
+    word-1 = word 1 (omega arith) ∙ sym (wide-stage p b s low g)
+
+    pub word-2 : getD (f .words) 2 0 ≡ sentOf (wide p b s) b
+    word-2 = word 2 (omega arith) ∙ sym (wide-sent p b s low g)
+
+  module _ (r : Bool) (e : r ≡ fitRecord p (wide p b s) b) where
+    pub ten-record : r ≡ false → 10 ≡ firstOf (unfitLines p b s)
+    ten-record h = unfit-10 p b s a (wide-fit p b s low g ∙ and-false _ _ (sym e ∙ h))
+
+    module _ (v : Bool) (q : v ≡ every (λ i. leb (getD t i 0) 3) (length t)) where
+      pub ten-marks : v ≡ false → 10 ≡ firstOf (unfitLines p b s)
+      ten-marks h = unfit-10 p b s a (wide-fit p b s low g ∙ and-no _ _ (sym q ∙ h))
+
+      pub zero-both : r ≡ true → v ≡ true → 0 ≡ firstOf (unfitLines p b s)
+      zero-both h k = unfit-0 p b s a (wide-fit p b s low g ∙ and-true (sym e ∙ h) (sym q ∙ k))
