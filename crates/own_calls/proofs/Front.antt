@@ -201,39 +201,40 @@ module _ (p : Plan) (b : ℕ) (s : State) where
       let c = none-first 10 (not (fit p (wide p b s))) [] (λ q. omega arith) (a .1) in
       (true-not (a .0), true-not (c .0))
 
--- line 10 by the words of the record that a call reads, and by the marks
-module _ (p : Plan) (b : ℕ) (low : b < p .processors) (m u l t : List ℕ) (a : partFits p b (stateOf m u l t) ≡ true) where
+-- line 10 by the words of the record that a call reads, and by the marks; `r` is what the code says of the lengths
+module _ (p : Plan) (b : ℕ) (low : b < p .processors) (m u l t : List ℕ) (r : Bool) (is : r ≡ partFits p b (stateOf m u l t)) where
   abbrev s : State
   s = stateOf m u l t
 
-  g : PartLengths p b s
-  g = fits-are p b s a
+  pub nine : r ≡ false → 9 ≡ firstOf (unfitLines p b s)
+  nine h = unfit-9 p b s (sym is ∙ h)
 
-  pub three-words : (n : ℕ) → n ≡ length l → n ≡ 3
-  three-words n e = e ∙ g .progress
+  module _ (yes : r ≡ true) where
+    g : PartLengths p b s
+    g = fits-are p b s (sym is ∙ yes)
 
-  module _ (f : Flat) (k : Carries f l) where
-    word : (i : ℕ) → i < 3 → getD (f .words) i 0 ≡ getD l i 0
-    word i h =
-        let n : i < length l = omega (arith, h, g .progress) in
-        sym (front-at (length l) (f .words) i n) ∙ ap (λ (z : List ℕ). getD z i 0) (k .kept (omega (arith, g .progress)))
+    pub three-words : (n : ℕ) → n ≡ length l → n ≡ 3
+    three-words n e = e ∙ g .progress
 
-    pub word-0 : getD (f .words) 0 0 ≡ finishedOf (wide p b s) b
-    word-0 = word 0 (omega arith) ∙ sym (wide-finished p b s low g)
+    module _ (f : Flat) (k : Carries f l) (v : Bool)
+        (says : (w : State) → getD (f .words) 0 0 ≡ finishedOf w b → getD (f .words) 1 0 ≡ stageOf w b → getD (f .words) 2 0 ≡ sentOf w b
+        → v ≡ fitRecord p w b) where
+      word : (i : ℕ) → i < 3 → getD (f .words) i 0 ≡ getD l i 0
+      word i h =
+          let n : i < length l = omega (arith, h, g .progress) in
+          sym (front-at (length l) (f .words) i n) ∙ ap (λ (z : List ℕ). getD z i 0) (k .kept (omega (arith, g .progress)))
 
-    pub word-1 : getD (f .words) 1 0 ≡ stageOf (wide p b s) b
-    word-1 = word 1 (omega arith) ∙ sym (wide-stage p b s low g)
+      e : v ≡ fitRecord p (wide p b s) b
+      e =
+          says (wide p b s) (word 0 (omega arith) ∙ sym (wide-finished p b s low g)) (word 1 (omega arith) ∙ sym (wide-stage p b s low g))
+          (word 2 (omega arith) ∙ sym (wide-sent p b s low g))
 
-    pub word-2 : getD (f .words) 2 0 ≡ sentOf (wide p b s) b
-    word-2 = word 2 (omega arith) ∙ sym (wide-sent p b s low g)
+      pub ten-record : v ≡ false → 10 ≡ firstOf (unfitLines p b s)
+      ten-record h = unfit-10 p b s (sym is ∙ yes) (wide-fit p b s low g ∙ and-false _ _ (sym e ∙ h))
 
-  module _ (r : Bool) (e : r ≡ fitRecord p (wide p b s) b) where
-    pub ten-record : r ≡ false → 10 ≡ firstOf (unfitLines p b s)
-    ten-record h = unfit-10 p b s a (wide-fit p b s low g ∙ and-false _ _ (sym e ∙ h))
+      module _ (y : Bool) (q : y ≡ every (λ i. leb (getD t i 0) 3) (length t)) where
+        pub ten-marks : y ≡ false → 10 ≡ firstOf (unfitLines p b s)
+        ten-marks h = unfit-10 p b s (sym is ∙ yes) (wide-fit p b s low g ∙ and-no _ _ (sym q ∙ h))
 
-    module _ (v : Bool) (q : v ≡ every (λ i. leb (getD t i 0) 3) (length t)) where
-      pub ten-marks : v ≡ false → 10 ≡ firstOf (unfitLines p b s)
-      ten-marks h = unfit-10 p b s a (wide-fit p b s low g ∙ and-no _ _ (sym q ∙ h))
-
-      pub zero-both : r ≡ true → v ≡ true → 0 ≡ firstOf (unfitLines p b s)
-      zero-both h k = unfit-0 p b s a (wide-fit p b s low g ∙ and-true (sym e ∙ h) (sym q ∙ k))
+        pub zero-both : v ≡ true → y ≡ true → 0 ≡ firstOf (unfitLines p b s)
+        zero-both h k = unfit-0 p b s (sym is ∙ yes) (wide-fit p b s low g ∙ and-true (sym e ∙ h) (sym q ∙ k))

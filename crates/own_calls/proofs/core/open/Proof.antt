@@ -13,22 +13,48 @@ closed-requires : tie.Need-closed-requires
 closed-requires c κs = search needs
 
 returns : tie.Need-returns
-returns c = front.closed-read (c .before .before .before .before .before .args .encoded .now) (c .before .before .before .before .before .args .route) (c .before .before .before .before .before .args .processor) (c .closed .result) (c .before .before .before .read-for .result .number) (c .closed .ensures) (c .before .before .before .read-for .ensures .number) (c .before .if1 .taken)
+returns c =
+    let S = c .before .before .before .before .before in
+    let closed = c .closed in
+    let read-for = c .before .before .before .read-for in
+    let if1 = c .before .if1 in
+    front.closed-read (S .args .encoded .now) (S .args .route) (S .args .processor) (closed .result) (read-for .result .number) (closed .ensures)
+    (read-for .ensures .number) (if1 .taken)
 
 route-of-requires : tie.Need-route-of-requires
 route-of-requires c κs = search needs
 
 sizes-of-requires : tie.Need-sizes-of-requires
-sizes-of-requires c κs = accepted-for _ _ _ (c .before .before .before .read-for .ensures) (c .before .if1 .left)
+sizes-of-requires c κs =
+    let read-for = c .before .before .before .read-for in
+    let if1 = c .before .if1 in
+    accepted-for _ _ _ (read-for .ensures) (if1 .left)
 
 closed-requires-2 : tie.Need-closed-requires-2
 closed-requires-2 c κs = search needs
 
 returns-2 : tie.Need-returns-2
-returns-2 c = front.closed-beyond (c .before .before .before .before .before .before .before .before .before .args .encoded .now) (c .before .before .before .before .before .before .before .before .before .args .route) (c .before .before .before .before .before .before .before .before .before .args .processor) (c .before .before .before .before .before .before .before .read-for .result) (c .before .before .before .before .before .before .before .read-for .ensures) (c .before .before .before .before .before .if1 .left) (c .before .before .before .sizes-of .result) (c .before .before .before .sizes-of .ensures .0) (c .before .before .before .sizes-of .ensures .1 ∙ c .before .before .before .before .route-of .ensures) (c .closed2 .result) (c .closed2 .ensures) (c .before .if2 .taken)
+returns-2 c =
+    let S = c .before .before .before .before .before .before .before .before .before in
+    let read-for = c .before .before .before .before .before .before .before .read-for in
+    let if1 = c .before .before .before .before .before .if1 in
+    let sizes-of = c .before .before .before .sizes-of in
+    let route-of = c .before .before .before .before .route-of in
+    let closed2 = c .closed2 in
+    let if2 = c .before .if2 in
+    front.closed-beyond (S .args .encoded .now) (S .args .route) (S .args .processor) (read-for .result) (read-for .ensures) (if1 .left) (sizes-of .result)
+    (sizes-of .ensures .0) (sizes-of .ensures .1 ∙ route-of .ensures) (closed2 .result) (closed2 .ensures) (if2 .taken)
 
 returns-3 : tie.Need-returns-3
-returns-3 c = front.opens (c .before .before .before .before .before .before .before .before .args .encoded .now) (c .before .before .before .before .before .before .before .before .args .route) (c .before .before .before .before .before .before .before .before .args .processor) (c .before .before .before .before .before .before .read-for .result) (c .before .before .before .before .before .before .read-for .ensures) (c .before .before .before .before .if1 .left) (c .before .before .sizes-of .result) (c .before .before .sizes-of .ensures .0) (c .before .before .sizes-of .ensures .1 ∙ c .before .before .before .route-of .ensures) (c .if2 .left)
+returns-3 c =
+    let S = c .before .before .before .before .before .before .before .before in
+    let read-for = c .before .before .before .before .before .before .read-for in
+    let if1 = c .before .before .before .before .if1 in
+    let sizes-of = c .before .before .sizes-of in
+    let route-of = c .before .before .before .route-of in
+    let if2 = c .if2 in
+    front.opens (S .args .encoded .now) (S .args .route) (S .args .processor) (read-for .result) (read-for .ensures) (if1 .left) (sizes-of .result)
+    (sizes-of .ensures .0) (sizes-of .ensures .1 ∙ route-of .ensures) (if2 .left)
 
 pub open-spec : {M : Type 1} → statement M
 open-spec =
