@@ -35,9 +35,7 @@ pub record Known (x : Nest) (z : Sizes) (b : ℕ) (lens kept rank place : List �
   pub low : b < processors x
   pub room : length kept ≡ 16384
   pub cells : take (cells x) kept ≡ tabulate (λ c. one (keeps (planOf (z .route) x) b c)) (cells x)
-  pub ranks-room : length rank ≡ 7169
   pub ranks : (m : ℕ) → m ≤ count (planOf (z .route) x) → getD rank m 0 ≡ rankOf (planOf (z .route) x) b m
-  pub places-room : length place ≡ 7169
   pub places : (m : ℕ) → m ≤ count (planOf (z .route) x) → getD place m 0 ≡ mailAt (planOf (z .route) x) b m
 
 -- lines 9 and 10 of a lent part
