@@ -1,3 +1,7 @@
 pub mod Part
 pub mod Wide
 pub mod Front
+pub mod After
+pub mod Working
+pub mod Stage
+pub mod Turned

@@ -26,7 +26,7 @@ use Rattle.apart.specs.Apart.{senderAt, takerAt}
 use Rattle.apart.specs.Own.{handles, keeps, keptCells, handled, mailOf, putMail, narrowed, widened}
 use Rattle.own.specs.Part.{partOf, lentOf, wordsOf, rankOf, mailAt, partFits}
 use Rattle.own_calls.specs.Calls.{wide, narrow}
-use Rattle.own_calls.specs.Step.{PartLengths, Placed, unpackFrom}
+use Rattle.own_calls.specs.Step.{PartLengths, Ranked, Placed, allOf, unpackFrom}
 use Rattle.own_calls.proofs.Part.{pack-unpack, rank-at, rank-set, ranks-set, ranks-all, mail-part, mail-put, put-mail-long, mail-back, words-room}
 
 -- ---- what a processor handles
@@ -60,14 +60,14 @@ module _ (p : Plan) (b : ℕ) where
       record { memory = eqb-true _ _ (k .0); mail = eqb-true _ _ (l .0); progress = eqb-true _ _ (m .0); marks = eqb-true _ _ (m .1) }
 
 -- ---- a record of three words
-three : (l : List ℕ) → length l ≡ 3 → l ≡ getD l 0 0 ∷ getD l 1 0 ∷ getD l 2 0 ∷ []
+pub three : (l : List ℕ) → length l ≡ 3 → l ≡ getD l 0 0 ∷ getD l 1 0 ∷ getD l 2 0 ∷ []
 three [] e = absurd (omega arith)
 three (x ∷ []) e = absurd (omega arith)
 three (x ∷ y ∷ []) e = absurd (omega arith)
 three (x ∷ y ∷ z ∷ []) e = refl
 three (x ∷ y ∷ z ∷ w ∷ l) e = absurd (omega (arith, e))
 
-three-set : (l : List ℕ) → length l ≡ 3 → (f g n : ℕ) → setProgress l 0 f g n ≡ f ∷ g ∷ n ∷ []
+pub three-set : (l : List ℕ) → length l ≡ 3 → (f g n : ℕ) → setProgress l 0 f g n ≡ f ∷ g ∷ n ∷ []
 unfolding setProgress
 three-set [] e f g n = absurd (omega arith)
 three-set (x ∷ []) e f g n = absurd (omega arith)
@@ -75,10 +75,10 @@ three-set (x ∷ y ∷ []) e f g n = absurd (omega arith)
 three-set (x ∷ y ∷ z ∷ []) e f g n = refl
 three-set (x ∷ y ∷ z ∷ w ∷ l) e f g n = absurd (omega (arith, e))
 
-state-is : {m m′ u u′ l l′ t t′ : List ℕ} → m ≡ m′ → u ≡ u′ → l ≡ l′ → t ≡ t′ → stateOf m u l t ≡ stateOf m′ u′ l′ t′
+pub state-is : {m m′ u u′ l l′ t t′ : List ℕ} → m ≡ m′ → u ≡ u′ → l ≡ l′ → t ≡ t′ → stateOf m u l t ≡ stateOf m′ u′ l′ t′
 state-is a b c d = rw (a, b, c, d)
 
-zeros-at : (n i : ℕ) → _≡_ {A = ℕ} (getD (replicate n 0) i 0) 0
+pub zeros-at : (n i : ℕ) → _≡_ {A = ℕ} (getD (replicate n 0) i 0) 0
 zeros-at zero i = refl
 zeros-at (suc n) zero = refl
 zeros-at (suc n) (suc i) = zeros-at n i
