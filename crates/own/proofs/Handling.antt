@@ -1,10 +1,10 @@
 -- Laws of the messages that a processor handles: the test by a message's line, and how many, with how many words, come before each.
-use Prim.Native.Nat.{ℕ, zero, suc, _+_, _*_, _≤_, _<_}
+use Prim.Native.Nat.{ℕ, suc, _+_, _*_, _≤_, _<_}
 use mathlib.Core.Path.{_≡_, refl, sym, ap, _∙_}
 use mathlib.Core.Logic.{_⊎_, inl, inr, _≢_}
 use mathlib.Core.Bool.{Bool, true, false}
 use mathlib.Core.List.{List, [], _∷_, _++_}
-use native.Mathlib.Nat.{eq-or-lt-of-le, le-of-suc-le-suc, zero-mul, one-mul}
+use native.Mathlib.Nat.{eq-or-lt-of-le, zero-mul, one-mul}
 use native.Mathlib.Numerals.{add-one}
 use native.Mathlib.Omega.{arith}
 use lib.ListN.{length, getD, set, length-set}
@@ -13,10 +13,9 @@ use borrow.Author.Tests.{eq-eqb, ne-eqb}
 use Rattle.base.specs.Tests.{one, keep}
 use Rattle.base.proofs.Tests.{or-left, or-right, or-false, one-true, one-false}
 use Rattle.base.proofs.Select.{keep-hit, keep-none, keep-more, keep-few}
-use Rattle.machine.specs.Plan.{Plan, count, heldBy}
+use Rattle.machine.specs.Plan.{Plan, heldBy}
 use Rattle.table.specs.declared.MessageLine.{MessageLine}
 use Rattle.table.specs.Summary.{lineOf}
-use Rattle.apart.specs.Apart.{senderAt, takerAt}
 use Rattle.apart.specs.Own.{handles}
 use Rattle.own.specs.Part.{wordsOf, rankOf, mailAt}
 

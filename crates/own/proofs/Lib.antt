@@ -2,3 +2,4 @@ pub mod Marks
 pub mod Slots
 pub mod Handling
 pub mod Owned
+pub mod Brought

@@ -11,9 +11,10 @@ use lib.ListN.{length, getD, set, length-set}
 use lib.Seq.{getD-set-same, getD-set-other, ext-getD}
 use lib.Dec.{eqb}
 use borrow.Author.Tests.{eq-eqb, ne-eqb, eqb-true}
-use Rattle.base.specs.Tests.{_and_, one, pick, some, tabulate}
-use Rattle.base.specs.Lists.{In, member}
-use Rattle.base.proofs.Tests.{both, and-true, same-test, some-at, some-one, pick-true, pick-false, is-false, never-both, one-true, one-false, length-tabulate, tabulate-at, tabulate-same}
+use Rattle.base.specs.Tests.{_and_, one, some, tabulate}
+use Rattle.base.specs.Lists.{member}
+use Rattle.base.proofs.Tests.{both, and-true, same-test, some-at, some-one, pick-true, pick-false, one-true, one-false}
+use Rattle.base.proofs.Tests.{length-tabulate, tabulate-at, tabulate-same}
 use Rattle.base.proofs.Lists.{in-member, member-in}
 use Rattle.machine.specs.Plan.{Plan, Sound}
 use Rattle.nest.specs.declared.Nest.{Nest}
@@ -21,7 +22,6 @@ use Rattle.nest.specs.Nest.{cells, processors}
 use Rattle.nest.specs.Accepted.{Accepted}
 use Rattle.plan.specs.declared.Route.{Route}
 use Rattle.plan.specs.declared.Route.the-variants.{Direct}
-use Rattle.plan.specs.Messages.{boxPlan}
 use Rattle.plan.specs.Shaped.{planOf}
 use Rattle.plan.proofs.ShapedBox.{planOf-box}
 use Rattle.plan.proofs.ShapedSound.{sound}

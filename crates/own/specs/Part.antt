@@ -8,7 +8,7 @@ use lib.Dec.{eqb}
 use Rattle.base.specs.Tests.{_and_, keep}
 use Rattle.machine.specs.Plan.{Plan, heldBy}
 use Rattle.machine.specs.Machine.{State, stateOf, finishedOf, stageOf, sentOf}
-use Rattle.apart.specs.Own.{Own, ownCells, keptCells, handles, handled}
+use Rattle.apart.specs.Own.{Own, keptCells, handles, handled}
 
 -- the part that these four areas are, and the areas that a part is: of one processor, so its record is the first
 unfoldable pub partOf : State → Own

@@ -65,8 +65,8 @@ fn mark_brought(
         ≡ pick (eqb (takerAt (planOf (sizes .route) nest) (place .number)) b)
         (unpack (now (marks .entry)) (heldBy (planOf (sizes .route) nest) (place .number)) (replicate (place .words) 1)) (now (marks .entry)) ⌝ }
 {
-    let line = line_at(nest, sizes, lens, place);
-    if line.to == b {
+    let ends = line_at(nest, sizes, lens, place);
+    if ends.to == b {
         let words = place.words;
         tables::unpack(nest, sizes, lens, place, marks, &ones[0..words]);
     }
@@ -118,7 +118,8 @@ pub fn marked(marks: &[u32]) -> usize
 // The words of the marked cells into a memory of all cells.
 pub fn widen(marks: &[u32], words: &[u32], memory: &mut [u32])
     requires { ⌜ (length (now memory) ≡ length (now marks)) × (length (now words) ≡ length (keep (markedAt (now marks)) (length (now marks)))) ⌝ }
-    ensures { λ _. ⌜ now (memory .exit) ≡ unpack (now (memory .entry)) (keep (markedAt (now (marks .entry))) (length (now (marks .entry)))) (now (words .entry)) ⌝ }
+    ensures { λ _. ⌜ now (memory .exit)
+        ≡ unpack (now (memory .entry)) (keep (markedAt (now (marks .entry))) (length (now (marks .entry)))) (now (words .entry)) ⌝ }
 {
     let mut c = 0;
     let mut n = 0;

@@ -23,7 +23,13 @@ shared-slice-read-if1 : tie.Need-shared-slice-read-if1 Inv-loop μ-loop
 shared-slice-read-if1 c = omega (arith, c .before .loop-test .taken)
 
 add-n : tie.Need-add-n Inv-loop μ-loop
-add-n c = omega (arith, marked.few (c .before .before .before .before .args .marks .now) _ _ (c .before .before .before .loop .inv), c .before .before .loop-test .taken)
+add-n c =
+    let loop = c .before .before .before .loop in
+    omega (
+      arith,
+      marked.few (c .before .before .before .before .args .marks .now) (loop .c) (loop .n) (loop .inv),
+      c .before .before .loop-test .taken,
+    )
 
 add-c : tie.Need-add-c Inv-loop μ-loop
 add-c c = omega (arith, c .before .before .loop-test .taken)
