@@ -60,14 +60,14 @@ module _ (p : Plan) (b : ℕ) where
       record { memory = eqb-true _ _ (k .0); mail = eqb-true _ _ (l .0); progress = eqb-true _ _ (m .0); marks = eqb-true _ _ (m .1) }
 
 -- ---- a record of three words
-three : (l : List ℕ) → length l ≡ 3 → l ≡ getD l 0 0 ∷ getD l 1 0 ∷ getD l 2 0 ∷ []
+pub three : (l : List ℕ) → length l ≡ 3 → l ≡ getD l 0 0 ∷ getD l 1 0 ∷ getD l 2 0 ∷ []
 three [] e = absurd (omega arith)
 three (x ∷ []) e = absurd (omega arith)
 three (x ∷ y ∷ []) e = absurd (omega arith)
 three (x ∷ y ∷ z ∷ []) e = refl
 three (x ∷ y ∷ z ∷ w ∷ l) e = absurd (omega (arith, e))
 
-three-set : (l : List ℕ) → length l ≡ 3 → (f g n : ℕ) → setProgress l 0 f g n ≡ f ∷ g ∷ n ∷ []
+pub three-set : (l : List ℕ) → length l ≡ 3 → (f g n : ℕ) → setProgress l 0 f g n ≡ f ∷ g ∷ n ∷ []
 unfolding setProgress
 three-set [] e f g n = absurd (omega arith)
 three-set (x ∷ []) e f g n = absurd (omega arith)
@@ -75,10 +75,10 @@ three-set (x ∷ y ∷ []) e f g n = absurd (omega arith)
 three-set (x ∷ y ∷ z ∷ []) e f g n = refl
 three-set (x ∷ y ∷ z ∷ w ∷ l) e f g n = absurd (omega (arith, e))
 
-state-is : {m m′ u u′ l l′ t t′ : List ℕ} → m ≡ m′ → u ≡ u′ → l ≡ l′ → t ≡ t′ → stateOf m u l t ≡ stateOf m′ u′ l′ t′
+pub state-is : {m m′ u u′ l l′ t t′ : List ℕ} → m ≡ m′ → u ≡ u′ → l ≡ l′ → t ≡ t′ → stateOf m u l t ≡ stateOf m′ u′ l′ t′
 state-is a b c d = rw (a, b, c, d)
 
-zeros-at : (n i : ℕ) → _≡_ {A = ℕ} (getD (replicate n 0) i 0) 0
+pub zeros-at : (n i : ℕ) → _≡_ {A = ℕ} (getD (replicate n 0) i 0) 0
 zeros-at zero i = refl
 zeros-at (suc n) zero = refl
 zeros-at (suc n) (suc i) = zeros-at n i
@@ -102,7 +102,7 @@ module _ (p : Plan) (b : ℕ) (s : State) (low : b < p .processors) (g : PartLen
   pub all-long : length all ≡ p .cells
   all-long = unpack-length (keptCells p b) (s .memories) (replicate (p .cells) 0) ∙ length-replicate (p .cells) 0
 
-  zero-memory : memoryOf p (fresh p) b ≡ replicate (p .cells) 0
+  pub zero-memory : memoryOf p (fresh p) b ≡ replicate (p .cells) 0
   unfolding fresh
   zero-memory = part-zeros (p .processors * p .cells) (b * p .cells) (p .cells) (piece-fits (p .cells) (p .processors) b low)
 
