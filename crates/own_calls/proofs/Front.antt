@@ -5,7 +5,7 @@ use mathlib.Core.Logic.{_≢_}
 use mathlib.Core.Bool.{Bool, true, false}
 use mathlib.Core.List.{List, [], _∷_, _++_}
 use native.Mathlib.Omega.{arith}
-use lib.ListN.{length, getD, take, drop, length-append, length-drop}
+use lib.ListN.{length, getD, take, drop, set, length-set, length-append, length-drop}
 use lib.Seq.{length-take-le, take-at, getD-take}
 use lib.Dec.{ltb, leb, eqb}
 use borrow.Author.Tests.{eq-eqb, ne-eqb, lt-ltb, le-ltb}
@@ -13,7 +13,7 @@ use Rattle.base.specs.Tests.{_and_, not, one, every, keep, tabulate}
 use Rattle.base.specs.Numbers.{line, firstOf}
 use Rattle.base.proofs.Tests.{and-true, and-left, and-false, and-no, not-true, not-false, true-not, length-tabulate, tabulate-at}
 use Rattle.base.proofs.Numbers.{first-true, first-false, none-first, first-some, first-behind}
-use Rattle.base.proofs.Select.{keep-same}
+use Rattle.base.proofs.Select.{keep-few, keep-same}
 use Rattle.machine.specs.Plan.{Plan, count}
 use Rattle.machine.specs.Machine.{State, stateOf, finishedOf, stageOf, sentOf, progressOnly, fitRecord, tilesLeft, fit}
 use Rattle.nest.specs.declared.Nest.{Nest}
@@ -29,9 +29,9 @@ use Rattle.records.specs.Records.{Carries}
 use Rattle.routes.proofs.Laws.{numbered-for}
 use Rattle.engine.specs.Calls.{recipe}
 use Rattle.engine.proofs.Lines.{Opened, opened, routed}
-use Rattle.apart.specs.Own.{keeps, keptCells, handled}
+use Rattle.apart.specs.Own.{owns, keeps, ownCells, keptCells, handled}
 use Rattle.own.specs.Part.{wordsOf, rankOf, mailAt, markedAt, partFits}
-use Rattle.own_calls.specs.Calls.{wide, boardLines}
+use Rattle.own_calls.specs.Calls.{wide, boardLines, lengthsOf}
 use Rattle.own_calls.specs.declared.core.Board.{Board}
 use Rattle.own_calls.specs.Given.{Opens, Known, unfitLines}
 use Rattle.own_calls.specs.Step.{PartLengths}
@@ -113,6 +113,19 @@ marks-keep f n marks e =
     ∙ keep-same (markedAt (tabulate (λ c. one (f c)) n)) f n
     (λ i h. ap (λ (w : ℕ). eqb w 1) (tabulate-at (λ c. one (f c)) n i h) ∙ one-test (f i))
 
+-- four words stored one after the other
+pub four : (l : List ℕ) → length l ≡ 4 → (w x y z : ℕ) → set (set (set (set l 0 w) 1 x) 2 y) 3 z ≡ w ∷ x ∷ y ∷ z ∷ []
+four [] e w x y z = absurd (omega arith)
+four (i ∷ []) e w x y z = absurd (omega arith)
+four (i ∷ j ∷ []) e w x y z = absurd (omega arith)
+four (i ∷ j ∷ k ∷ []) e w x y z = absurd (omega (arith, e))
+four (i ∷ j ∷ k ∷ l ∷ []) e w x y z = refl
+four (i ∷ j ∷ k ∷ l ∷ m ∷ n) e w x y z = absurd (omega (arith, e))
+
+pub set-three : (l : List ℕ) → length l ≡ 4 → (w x y : ℕ) → 3 < length (set (set (set l 0 w) 1 x) 2 y)
+set-three l e w x y =
+    omega (arith, e, length-set l 0 w, length-set (set l 0 w) 1 x, length-set (set (set l 0 w) 1 x) 2 y)
+
 -- ---- what is found once
 
 module _ (x : Nest) (z : Sizes) (b : ℕ) where
@@ -155,6 +168,43 @@ module _ (x : Nest) (z : Sizes) (b : ℕ) where
 
     pub all-mail : (n : ℕ) → n ≡ count q → getD place n 0 ≡ wordsOf q (handled q b)
     all-mail n e = k .places n (omega (arith, e)) ∙ ap (mailAt q b) e
+
+    pub kept-room : z .cells ≤ length kept
+    kept-room = cells-fit (k .planned .0) kept (k .room)
+
+    pub kept-low : (n : ℕ) → n ≡ length (keep (markedAt (take (z .cells) kept)) (length (take (z .cells) kept))) → n ≤ 16384
+    kept-low n e = omega (arith, e ∙ ap length kept-marks, keep-few (keeps q b) (cells x), k .planned .0 .accepted .cells-most)
+
+    -- the four lengths, stored one after the other
+    pub sizes-are : (out : List ℕ) → length out ≡ 4 → (i : ℕ) → i ≡ length (ownCells q b) → (j : ℕ)
+        → j ≡ length (keep (markedAt (take (z .cells) kept)) (length (take (z .cells) kept))) → (n : ℕ) → n ≡ count q
+        → set (set (set (set out 0 i) 1 j) 2 (getD place n 0)) 3 (getD rank n 0) ≡ lengthsOf q b
+    unfolding lengthsOf
+    sizes-are out long i f j h n e =
+        let c = h ∙ ap length kept-marks in
+        let d = all-mail n e in
+        let r = all-handled n e in
+        four out long i j (getD place n 0) (getD rank n 0)
+        ∙ (let w : i ∷ j ∷ getD place n 0 ∷ getD rank n 0 ∷ []
+        ≡ length (ownCells q b) ∷ length (keptCells q b) ∷ wordsOf q (handled q b) ∷ length (handled q b) ∷ [] = cc in w)
+
+  -- the marks of its own cells, in an array's front
+  module _ (g : Sized x z) (old marks : List ℕ) (e : length old ≡ 16384) (is : marks ≡ tabulate (λ c. one (owns q b c)) (cells x)) where
+    own-long : length marks ≡ length (take (z .cells) old)
+    own-long = ap length is ∙ length-tabulate (λ c. one (owns q b c)) (cells x) ∙ sym (lent-long g old e)
+
+    pub marks-room : z .cells ≤ length (marks ++ drop (z .cells) old)
+    marks-room = omega (arith, same-long (z .cells) old marks (cells-fit g old e) own-long, cells-fit g old e)
+
+    pub marks-lent : z .cells ≡ length (take (z .cells) (marks ++ drop (z .cells) old))
+    marks-lent = sym (front-long (z .cells) (z .cells) (marks ++ drop (z .cells) old) refl marks-room)
+
+    pub own-many : (n : ℕ) → n ≡ length (keep (markedAt (take (z .cells) (marks ++ drop (z .cells) old))) (length (take (z .cells) (marks ++ drop (z .cells) old))))
+        → (n ≡ length (ownCells q b)) × (n ≤ 16384)
+    own-many n k =
+        let f : n ≡ length (ownCells q b) =
+        k ∙ ap length (marks-keep (owns q b) (cells x) _ (front-back (z .cells) old marks (cells-fit g old e) own-long (z .cells) refl ∙ is)) in
+        (f, omega (arith, f, keep-few (owns q b) (cells x), g .accepted .cells-most))
 
 -- ---- line 9
 

@@ -16,29 +16,26 @@ use Rattle.base.specs.Lists.{allAt, pack}
 use Rattle.base.specs.Numbers.{Line, line, firstOf}
 use Rattle.base.proofs.Tests.{and-true, and-left, and-false, not-true, not-false, pick-true}
 use Rattle.base.proofs.Select.{at-is}
-use Rattle.base.proofs.Numbers.{Numbered, first-true, first-false, first-some, first-behind}
+use Rattle.base.proofs.Numbers.{first-true, first-false, first-some}
 use Rattle.machine.specs.Plan.{Plan, count, tilesOf, sendsOf, duesOf}
 use Rattle.machine.specs.Machine.{State, stateOf, finishedOf, stageOf, sentOf, currentTile, fit, gather, calculate, send, carryOut, nextAction, Answered, answered}
 use Rattle.machine.specs.Machine.{waiting, tilesLeft, turnLines, turn}
 use Rattle.records.specs.declared.Flat.{Flat}
 use Rattle.records.specs.Records.{Carries}
 use Rattle.plan.specs.Shaped.{planOf}
-use Rattle.layout.specs.Sizes.{routeOf}
-use Rattle.routes.specs.Routes.{linesFor}
-use Rattle.routes.proofs.Laws.{numbered-for}
-use Rattle.engine.specs.Calls.{answer, recipe}
-use Rattle.engine.proofs.Lines.{call-read}
+use Rattle.engine.specs.Calls.{answer}
 use Rattle.engine.proofs.Turns as turns
 use Rattle.engine.proofs.Turns.{answered-no, answered-yes}
 use Rattle.apart.specs.Own.{ownCells, sourceOf}
 use Rattle.own.specs.Part.{rankOf, mailAt, partFits}
 use Rattle.own_calls.specs.declared.core.Board.{Board}
-use Rattle.own_calls.specs.Calls.{wide, narrow, stepped, boardLines, ownTurnCall}
+use Rattle.own_calls.specs.Calls.{wide, narrow, stepped, ownTurnCall}
 use Rattle.own_calls.specs.Given.{Opens, unfitLines}
 use Rattle.own_calls.specs.Step.{PartLengths, MayStep, steppedOr, turnedOr}
 use Rattle.own_calls.proofs.Wide as has
 use Rattle.own_calls.proofs.After as after
 use Rattle.own_calls.proofs.Front.{unfit-none}
+use Rattle.own_calls.proofs.Answers.{closed, opened}
 
 -- ---- past line 9: the machine's turn
 module _ (p : Plan) (b : ℕ) (source : List ℕ) (s : State) (may : MayStep p source s b) where
@@ -171,28 +168,14 @@ three-are f l n h =
     ap (λ (k : ℕ). take k (f .words)) (sym e) ∙ h .kept (omega (arith, e))
 
 -- ---- past the first lines
-both-numbered : (a b : List Line) → Numbered a → Numbered b → Numbered (a ++ b)
-both-numbered [] b n m = m
-both-numbered (l ∷ a) b n m = (n .0, both-numbered a b (n .1) m)
-
 module _ (bytes : List ℕ) (route b : ℕ) (r : Board) (o : Opens bytes route b r) (source : List ℕ) (s : State) where
-  numbered-board : Numbered (boardLines bytes route b)
-  numbered-board =
-      both-numbered (linesFor (routeOf route) bytes) (line 11 (not (ltb b (recipe bytes route .processors))) ∷ []) (numbered-for (routeOf route) bytes)
-      (λ q. omega arith, tt)
-
   abbrev lines : Plan → List Line
   lines p = line 9 (not (eqb (length source) (length (ownCells p b)) and partFits p b s)) ∷ turnLines p (wide p b s) b
 
   pub turn-read : r .number ≢ 0 → answer (r .number) s ≡ ownTurnCall bytes route source s b
   unfolding ownTurnCall
-  turn-read h = call-read (boardLines bytes route b) numbered-board (lines (recipe bytes route)) (r .number) _ s (o .number) h
+  turn-read h = closed bytes route b r o lines (λ p. narrow p b (stepped p b source s)) s h
 
   pub turn-past : r .number ≡ 0 → (a : Answered State) → a ≡ turnedOr (planOf (r .sizes .route) (r .nest)) source s b → a ≡ ownTurnCall bytes route source s b
   unfolding ownTurnCall
-  turn-past z a e =
-      let p : Plan = planOf (r .sizes .route) (r .nest) in
-      e
-      ∙ ap (λ (n : ℕ). answered n (narrow p b (stepped p b source s)) s)
-      (sym (first-behind (boardLines bytes route b) (lines p) numbered-board (sym (o .number) ∙ z)))
-      ∙ ap (λ (q : Plan). answered (firstOf (boardLines bytes route b ++ lines q)) (narrow q b (stepped q b source s)) s) (o .plan z)
+  turn-past z a e = opened bytes route b r o lines (λ p. narrow p b (stepped p b source s)) s z a e

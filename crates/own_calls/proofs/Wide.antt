@@ -102,7 +102,7 @@ module _ (p : Plan) (b : ℕ) (s : State) (low : b < p .processors) (g : PartLen
   pub all-long : length all ≡ p .cells
   all-long = unpack-length (keptCells p b) (s .memories) (replicate (p .cells) 0) ∙ length-replicate (p .cells) 0
 
-  zero-memory : memoryOf p (fresh p) b ≡ replicate (p .cells) 0
+  pub zero-memory : memoryOf p (fresh p) b ≡ replicate (p .cells) 0
   unfolding fresh
   zero-memory = part-zeros (p .processors * p .cells) (b * p .cells) (p .cells) (piece-fits (p .cells) (p .processors) b low)
 

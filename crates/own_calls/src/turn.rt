@@ -22,11 +22,11 @@ ghost use Rattle.mail.specs.Given.{Planned};
 ghost use Rattle.own_calls.specs.Calls.{wide, narrow, ownTurnCall};
 ghost use Rattle.own_calls.specs.Given.{Known};
 ghost use Rattle.own_calls.specs.Step.{Lengths, Tables, Ranked, Placed, unpackFrom, MayStep, steppedOr, turnedOr};
-use base::word_index;
 use crate::core::open;
 use crate::core::own_count;
 use crate::core::prepare;
 use crate::core::unfit;
+use base::word_index;
 use engine::core::Turned;
 use engine::core::refused;
 use layout::Sizes;
@@ -48,7 +48,14 @@ use tables::unpack;
 // ---- messages by the two tables
 
 // All messages due at the tile are delivered.
-fn ready(nest: Nest, sizes: Sizes, lens: &[u16; 9217], ranks: &[u32; 7169], marks: &[u8], tile: usize) -> bool
+fn ready(
+    nest: Nest,
+    sizes: Sizes,
+    lens: &[u16; 9217],
+    ranks: &[u32; 7169],
+    marks: &[u8],
+    tile: usize,
+) -> bool
     requires { ⌜ Planned nest sizes (now lens) × (tile < planOf (sizes .route) nest .tiles) ⌝ }
     requires { ⌜ Ranked (planOf (sizes .route) nest) (now ranks) (duesOf (planOf (sizes .route) nest) tile) (length (now marks)) ⌝ }
     ensures { λ r. ⌜ r ≡ allAt (now (marks .entry)) 2 (pack (now (ranks .entry)) (duesOf (planOf (sizes .route) nest) tile)) ⌝ }
@@ -68,7 +75,15 @@ fn ready(nest: Nest, sizes: Sizes, lens: &[u16; 9217], ranks: &[u32; 7169], mark
 }
 
 // One message, from where its words begin in the mail, into a memory of all cells.
-fn take_from(nest: Nest, sizes: Sizes, lens: &[u16; 9217], place: Place, at: usize, memory: &mut [u32], mail: &[u32])
+fn take_from(
+    nest: Nest,
+    sizes: Sizes,
+    lens: &[u16; 9217],
+    place: Place,
+    at: usize,
+    memory: &mut [u32],
+    mail: &[u32],
+)
     requires { ⌜ Planned nest sizes (now lens) × FoundIn (sizes .route) nest (place .number) place ⌝ }
     requires { ⌜ (length (now memory) ≡ cells nest) × (at + place .words ≤ length (now mail)) ⌝ }
     ensures { λ _. ⌜ now (memory .exit)
@@ -111,7 +126,15 @@ fn gather(
 }
 
 // One message, from a memory of all cells to where its words begin in the mail.
-fn put_in(nest: Nest, sizes: Sizes, lens: &[u16; 9217], place: Place, at: usize, memory: &[u32], mail: &mut [u32])
+fn put_in(
+    nest: Nest,
+    sizes: Sizes,
+    lens: &[u16; 9217],
+    place: Place,
+    at: usize,
+    memory: &[u32],
+    mail: &mut [u32],
+)
     requires { ⌜ Planned nest sizes (now lens) × FoundIn (sizes .route) nest (place .number) place ⌝ }
     requires { ⌜ (length (now memory) ≡ cells nest) × (at + place .words ≤ length (now mail)) ⌝ }
     ensures { λ _. ⌜ now (mail .exit) ≡ put (now (mail .entry)) at (pack (now (memory .entry)) (heldBy (planOf (sizes .route) nest) (place .number))) ⌝ }
@@ -198,11 +221,29 @@ fn calculate_in(
         (now (memory .entry)) (planOf (sizes .route) nest .cellsOf tile) ⌝ }
 {
     let cells = sizes.cells;
-    calculate_with(nest, sizes, lens, source, memory, &mut own[..cells], &mut words[..cells], b, tile);
+    calculate_with(
+        nest,
+        sizes,
+        lens,
+        source,
+        memory,
+        &mut own[..cells],
+        &mut words[..cells],
+        b,
+        tile,
+    );
 }
 
 // The same with that room on the stack.
-fn calculate_own(nest: Nest, sizes: Sizes, lens: &[u16; 9217], source: &[u32], memory: &mut [u32], b: usize, tile: usize)
+fn calculate_own(
+    nest: Nest,
+    sizes: Sizes,
+    lens: &[u16; 9217],
+    source: &[u32],
+    memory: &mut [u32],
+    b: usize,
+    tile: usize,
+)
     requires { ⌜ Planned nest sizes (now lens) × ((b < processors nest) × (tile < planOf (sizes .route) nest .tiles)) ⌝ }
     requires { ⌜ (length (now source) ≡ length (ownCells (planOf (sizes .route) nest) b)) × (length (now memory) ≡ cells nest) ⌝ }
     ensures { λ _. ⌜ now (memory .exit) ≡ storeAll (planOf (sizes .route) nest .value (sourceOf (planOf (sizes .route) nest) b (now (source .entry))))
@@ -210,7 +251,17 @@ fn calculate_own(nest: Nest, sizes: Sizes, lens: &[u16; 9217], source: &[u32], m
 {
     let mut own = [0u32; 16384];
     let mut words = [0u32; 16384];
-    calculate_in(nest, sizes, lens, source, memory, &mut own, &mut words, b, tile);
+    calculate_in(
+        nest,
+        sizes,
+        lens,
+        source,
+        memory,
+        &mut own,
+        &mut words,
+        b,
+        tile,
+    );
 }
 
 // The record once `sent` of the tile's n messages are sent.
@@ -344,15 +395,57 @@ fn step(
         if !ready(nest, sizes, lens, ranks, marks, t) {
             return refused(12);
         }
-        let gathered = gather_stage(nest, sizes, lens, kept, ranks, places, memory, mail, marks, all, b, t, finished);
+        let gathered = gather_stage(
+            nest,
+            sizes,
+            lens,
+            kept,
+            ranks,
+            places,
+            memory,
+            mail,
+            marks,
+            all,
+            b,
+            t,
+            finished,
+        );
         return done(gathered);
     }
     if stage == 1 {
-        let calculated = calculate_stage(nest, sizes, lens, kept, ranks, places, source, memory, all, b, t, finished);
+        let calculated = calculate_stage(
+            nest,
+            sizes,
+            lens,
+            kept,
+            ranks,
+            places,
+            source,
+            memory,
+            all,
+            b,
+            t,
+            finished,
+        );
         return done(calculated);
     }
     let sent = word_index(progress[2]);
-    let left = send_stage(nest, sizes, lens, kept, ranks, places, memory, mail, marks, all, b, t, finished, sent);
+    let left = send_stage(
+        nest,
+        sizes,
+        lens,
+        kept,
+        ranks,
+        places,
+        memory,
+        mail,
+        marks,
+        all,
+        b,
+        t,
+        finished,
+        sent,
+    );
     done(left)
 }
 
@@ -379,7 +472,21 @@ fn step_in(
         (stateOf (now (memory .entry)) (now (mail .entry)) (take 3 (now (words .entry))) (now (marks .entry))) b ⌝ }
 {
     let cells = sizes.cells;
-    step(nest, sizes, lens, &kept[..cells], ranks, places, source, memory, mail, &words[..3], marks, &mut all[..cells], b)
+    step(
+        nest,
+        sizes,
+        lens,
+        &kept[..cells],
+        ranks,
+        places,
+        source,
+        memory,
+        mail,
+        &words[..3],
+        marks,
+        &mut all[..cells],
+        b,
+    )
 }
 
 // Lines 9 and 10, then the stage.
@@ -406,14 +513,48 @@ fn take_turn(
     let mut kept = [0u32; 16384];
     let mut ranks = [0u32; 7169];
     let mut places = [0u32; 7169];
-    prepare(nest, sizes, b, &mut lens, &mut kept, &mut ranks, &mut places);
-    let n = unfit(nest, sizes, &lens, &kept, &ranks, &places, memory, mail, progress, marks, b);
+    prepare(
+        nest,
+        sizes,
+        b,
+        &mut lens,
+        &mut kept,
+        &mut ranks,
+        &mut places,
+    );
+    let n = unfit(
+        nest,
+        sizes,
+        &lens,
+        &kept,
+        &ranks,
+        &places,
+        memory,
+        mail,
+        progress,
+        marks,
+        b,
+    );
     if n != 0 {
         return refused(n);
     }
     let words = progress.words;
     let mut all = [0u32; 16384];
-    step_in(nest, sizes, &lens, &kept, &ranks, &places, source, memory, mail, &words, marks, &mut all, b)
+    step_in(
+        nest,
+        sizes,
+        &lens,
+        &kept,
+        &ranks,
+        &places,
+        source,
+        memory,
+        mail,
+        &words,
+        marks,
+        &mut all,
+        b,
+    )
 }
 
 // One turn of the processor.
@@ -438,5 +579,14 @@ pub fn turn(
     if number != 0 {
         return refused(number);
     }
-    take_turn(board.nest, board.sizes, source, memory, mail, progress, marks, processor as usize)
+    take_turn(
+        board.nest,
+        board.sizes,
+        source,
+        memory,
+        mail,
+        progress,
+        marks,
+        processor as usize,
+    )
 }

@@ -21,9 +21,11 @@ returns c =
     let part-fits = c .before .part-fits in
     let if1 = c .if1 in
     let A = S .args in
-    let p = planOf (A .sizes .route) (A .nest) in
-    (λ l h. front.nine p (A .b) (S .pre .0 .low) (A .memory .now) (A .mail .now) l (A .marks .now) (part-fits .result) (part-fits .ensures l (h .counted))
-    (not-true _ (if1 .taken)), λ z. absurd (omega (arith, z)))
+    let p = planOf (A .sizes .route) (A .nest) in (
+      λ l h. front.nine p (A .b) (S .pre .0 .low) (A .memory .now) (A .mail .now) l (A .marks .now) (part-fits .result) (part-fits .ensures l (h .counted))
+          (not-true _ (if1 .taken)),
+      λ z. absurd (omega (arith, z)),
+    )
 
 array-read-fit-own : tie.Need-array-read-fit-own
 array-read-fit-own c =
@@ -53,10 +55,11 @@ returns-2 c =
     let fit-own = c .before .fit-own in
     let if2 = c .if2 in
     let A = S .args in
-    let p = planOf (A .sizes .route) (A .nest) in
-    (λ l h. front.ten-record p (A .b) (S .pre .0 .low) (A .memory .now) (A .mail .now) l (A .marks .now) (part-fits .result)
-    (part-fits .ensures l (h .counted)) (not-false _ (if1 .left)) (A .progress) h (fit-own .result) (fit-own .ensures) (not-true _ (if2 .taken)),
-    λ z. absurd (omega (arith, z)))
+    let p = planOf (A .sizes .route) (A .nest) in (
+      λ l h. front.ten-record p (A .b) (S .pre .0 .low) (A .memory .now) (A .mail .now) l (A .marks .now) (part-fits .result)
+          (part-fits .ensures l (h .counted)) (not-false _ (if1 .left)) (A .progress) h (fit-own .result) (fit-own .ensures) (not-true _ (if2 .taken)),
+      λ z. absurd (omega (arith, z)),
+    )
 
 fit-status-requires : tie.Need-fit-status-requires
 fit-status-requires c κs = search needs
@@ -70,10 +73,12 @@ returns-3 c =
     let fit-status = c .before .fit-status in
     let if3 = c .if3 in
     let A = S .args in
-    let p = planOf (A .sizes .route) (A .nest) in
-    (λ l h. front.ten-marks p (A .b) (S .pre .0 .low) (A .memory .now) (A .mail .now) l (A .marks .now) (part-fits .result)
-    (part-fits .ensures l (h .counted)) (not-false _ (if1 .left)) (A .progress) h (fit-own .result) (fit-own .ensures) (fit-status .result)
-    (fit-status .ensures) (not-true _ (if3 .taken)), λ z. absurd (omega (arith, z)))
+    let p = planOf (A .sizes .route) (A .nest) in (
+      λ l h. front.ten-marks p (A .b) (S .pre .0 .low) (A .memory .now) (A .mail .now) l (A .marks .now) (part-fits .result)
+          (part-fits .ensures l (h .counted)) (not-false _ (if1 .left)) (A .progress) h (fit-own .result) (fit-own .ensures) (fit-status .result)
+          (fit-status .ensures) (not-true _ (if3 .taken)),
+      λ z. absurd (omega (arith, z)),
+    )
 
 returns-4 : tie.Need-returns-4
 returns-4 c =
@@ -88,12 +93,13 @@ returns-4 c =
     let p = planOf (A .sizes .route) (A .nest) in
     let n = A .progress .count in
     let zeros = replicate {A = ℕ} n 0 in
-    let long = sym (length-replicate {A = ℕ} n 0) in
-    (λ l h. front.zero-both p (A .b) (S .pre .0 .low) (A .memory .now) (A .mail .now) l (A .marks .now) (part-fits .result)
-    (part-fits .ensures l (h .counted)) (not-false _ (if1 .left)) (A .progress) h (fit-own .result) (fit-own .ensures) (fit-status .result)
-    (fit-status .ensures) (not-false _ (if2 .left)) (not-false _ (if3 .left)),
-    λ z. front.three-words p (A .b) (S .pre .0 .low) (A .memory .now) (A .mail .now) zeros (A .marks .now) (part-fits .result)
-    (part-fits .ensures zeros long) (not-false _ (if1 .left)) n long)
+    let long = sym (length-replicate {A = ℕ} n 0) in (
+      λ l h. front.zero-both p (A .b) (S .pre .0 .low) (A .memory .now) (A .mail .now) l (A .marks .now) (part-fits .result)
+          (part-fits .ensures l (h .counted)) (not-false _ (if1 .left)) (A .progress) h (fit-own .result) (fit-own .ensures) (fit-status .result)
+          (fit-status .ensures) (not-false _ (if2 .left)) (not-false _ (if3 .left)),
+      λ z. front.three-words p (A .b) (S .pre .0 .low) (A .memory .now) (A .mail .now) zeros (A .marks .now) (part-fits .result)
+          (part-fits .ensures zeros long) (not-false _ (if1 .left)) n long,
+    )
 
 pub unfit-spec : {M : Type 1} → statement M
 unfit-spec =

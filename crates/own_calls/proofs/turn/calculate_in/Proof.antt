@@ -20,9 +20,16 @@ slice-aggregate-calculate-with-2 c = let S = c .before .before .before .before .
 calculate-with-requires : tie.Need-calculate-with-requires
 calculate-with-requires c κs = let S = c .before .before .before .before .before .before .before in
     let A = S .args in
-    let z = S .pre .0 .0 .0 in
-    (S .pre .0, (S .pre .1 .0, (S .pre .1 .1 .0,
-    (front.lent-long (A .nest) (A .sizes) (A .b) z (A .own .now) (S .pre .1 .1 .1 .0), stage.zeros-front (A .nest) (A .sizes) z (A .words .now) (S .pre .1 .1 .1 .1)))))
+    let z = S .pre .0 .0 .0 in (
+      S .pre .0,
+      (
+        S .pre .1 .0,
+        (
+          S .pre .1 .1 .0,
+          (front.lent-long (A .nest) (A .sizes) (A .b) z (A .own .now) (S .pre .1 .1 .1 .0), stage.zeros-front (A .nest) (A .sizes) z (A .words .now) (S .pre .1 .1 .1 .1)),
+        ),
+      ),
+    )
 
 same-length : tie.Need-same-length
 same-length c = search needs

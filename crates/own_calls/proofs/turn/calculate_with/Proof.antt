@@ -17,14 +17,15 @@ widen-requires c κs = let S = c .before .before .before .before .before .before
     let A = S .args in
     let p = planOf (A .sizes .route) (A .nest) in (
       ap length (S .pre .1 .1 .1 .1) ∙ length-replicate _ _
-      ∙ sym (working.marks-long (owns p (A .b)) (cells (A .nest)) (c .before .before .before .before .mark-own .last .1 .1 .1 .0) (c .before .before .before .before .mark-own .ensures)),
+          ∙ sym (working.marks-long (owns p (A .b)) (cells (A .nest)) (c .before .before .before .before .mark-own .last .1 .1 .1 .0) (c .before .before .before .before .mark-own .ensures)),
       working.marked-many (owns p (A .b)) (cells (A .nest)) (c .before .before .before .before .mark-own .last .1 .1 .1 .0) (c .before .before .before .before .mark-own .ensures) _ (S .pre .1 .0),
     )
 
 calculate-requires : tie.Need-calculate-requires
-calculate-requires c κs = let S = c .before .before .before .before .before .before .before .before .before .before .before .before .before .before .before in
-    ((S .pre .0 .0 .0, (S .pre .0 .0 .1, S .pre .0 .1 .1)),
-    (c .before .before .before .before .widen .kept .1 .1 .0 ∙ ap length (S .pre .1 .1 .1 .1) ∙ length-replicate _ _, S .pre .1 .1 .0))
+calculate-requires c κs = let S = c .before .before .before .before .before .before .before .before .before .before .before .before .before .before .before in (
+  (S .pre .0 .0 .0, (S .pre .0 .0 .1, S .pre .0 .1 .1)),
+  (c .before .before .before .before .widen .kept .1 .1 .0 ∙ ap length (S .pre .1 .1 .1 .1) ∙ length-replicate _ _, S .pre .1 .1 .0),
+)
 
 same-length : tie.Need-same-length
 same-length c = search needs

@@ -53,10 +53,10 @@ word-index-requires-2 c κs = search needs
 
 slice-write-marks : tie.Need-slice-write-marks Inv-loop μ-loop
 slice-write-marks c = omega (
-      arith,
-      c .before .before .before .before .before .before .before .before .before .before .loop .inv .long-marks,
-      working.rank-low (c .before .before .before .before .before .before .before .before .before .before .before .before .before .before .before .args .sizes .route) (c .before .before .before .before .before .before .before .before .before .before .before .before .before .before .before .args .nest) (c .before .before .before .before .before .before .before .before .before .before .before .before .before .before .before .args .tile) (c .before .before .before .before .before .before .before .before .before .before .loop .j) (c .before .before .before .before .before .before .before .before .nth-at .result) (omega (arith, c .before .before .before .before .before .before .before .before .before .before .loop .inv .all, c .before .before .before .before .before .before .before .before .before .loop-test .taken)) (c .before .before .before .before .before .before .before .before .nth-at .ensures) (c .before .before .before .before .before .before .before .before .before .before .before .before .before .before .before .args .ranks .now) _ (c .word-index2 .result) (c .before .before .before .before .before .before .before .before .before .before .before .before .before .before .before .pre .1 .0) (c .word-index2 .ensures),
-    )
+  arith,
+  c .before .before .before .before .before .before .before .before .before .before .loop .inv .long-marks,
+  working.rank-low (c .before .before .before .before .before .before .before .before .before .before .before .before .before .before .before .args .sizes .route) (c .before .before .before .before .before .before .before .before .before .before .before .before .before .before .before .args .nest) (c .before .before .before .before .before .before .before .before .before .before .before .before .before .before .before .args .tile) (c .before .before .before .before .before .before .before .before .before .before .loop .j) (c .before .before .before .before .before .before .before .before .nth-at .result) (omega (arith, c .before .before .before .before .before .before .before .before .before .before .loop .inv .all, c .before .before .before .before .before .before .before .before .before .loop-test .taken)) (c .before .before .before .before .before .before .before .before .nth-at .ensures) (c .before .before .before .before .before .before .before .before .before .before .before .before .before .before .before .args .ranks .now) _ (c .word-index2 .result) (c .before .before .before .before .before .before .before .before .before .before .before .before .before .before .before .pre .1 .0) (c .word-index2 .ensures),
+)
 
 add-j : tie.Need-add-j Inv-loop μ-loop
 add-j c = omega arith

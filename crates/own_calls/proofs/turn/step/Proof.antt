@@ -39,9 +39,10 @@ tile-at-requires c κs = let S = c .before .before .before .before .before .befo
 
 ready-requires : tie.Need-ready-requires
 ready-requires c κs = let S = c .before .before .before .before .before .before .before .before .before .before .before .before .before .before .before in
-    let A = S .args in
-    ((S .pre .0 .0 .planned, c .before .before .tile-at .ensures .1),
-    stage.ranked (A .nest) (A .sizes) (A .b) (A .lens .now) (A .kept .now) (A .ranks .now) (A .places .now) (S .pre .0 .0) (c .before .before .tile-at .result) (turned.own-tile (planOf (A .sizes .route) (A .nest)) (A .b) (A .source .now) (stateOf (A .memory .now) (A .mail .now) (A .progress .now) (A .marks .now)) (S .pre .1) (c .before .before .before .before .before .word-index .result) (c .before .before .before .before .tile-count .result) (c .before .before .before .before .before .word-index .ensures) (c .before .before .before .before .tile-count .ensures .0) (c .before .before .tile-at .result) (getD (A .progress .now) 1 0) (c .before .before .before .if1 .left) (c .before .before .tile-at .ensures .0) refl) (A .marks .now) (S .pre .1 .lengths .marks))
+    let A = S .args in (
+      (S .pre .0 .0 .planned, c .before .before .tile-at .ensures .1),
+      stage.ranked (A .nest) (A .sizes) (A .b) (A .lens .now) (A .kept .now) (A .ranks .now) (A .places .now) (S .pre .0 .0) (c .before .before .tile-at .result) (turned.own-tile (planOf (A .sizes .route) (A .nest)) (A .b) (A .source .now) (stateOf (A .memory .now) (A .mail .now) (A .progress .now) (A .marks .now)) (S .pre .1) (c .before .before .before .before .before .word-index .result) (c .before .before .before .before .tile-count .result) (c .before .before .before .before .before .word-index .ensures) (c .before .before .before .before .tile-count .ensures .0) (c .before .before .tile-at .result) (getD (A .progress .now) 1 0) (c .before .before .before .if1 .left) (c .before .before .tile-at .ensures .0) refl) (A .marks .now) (S .pre .1 .lengths .marks),
+    )
 
 refused-requires-2 : tie.Need-refused-requires-2
 refused-requires-2 c κs = search needs
@@ -112,9 +113,13 @@ word-index-requires-2 c κs = search needs
 
 send-stage-requires : tie.Need-send-stage-requires
 send-stage-requires c κs = let S = c .before .before .before .before .before .before .before .before .before .before .before .before .before .before .before .before .before .before .before .before .before in
-    let A = S .args in
-    ((S .pre .0 .0, record { memory = S .pre .1 .lengths .memory; mail = S .pre .1 .lengths .mail; marks = S .pre .1 .lengths .marks }), ((c .before .before .before .before .before .before .before .before .tile-at .ensures .1, (turned.own-tile (planOf (A .sizes .route) (A .nest)) (A .b) (A .source .now) (stateOf (A .memory .now) (A .mail .now) (A .progress .now) (A .marks .now)) (S .pre .1) (c .before .before .before .before .before .before .before .before .before .before .before .word-index .result) (c .before .before .before .before .before .before .before .before .before .before .tile-count .result) (c .before .before .before .before .before .before .before .before .before .before .before .word-index .ensures) (c .before .before .before .before .before .before .before .before .before .before .tile-count .ensures .0) (c .before .before .before .before .before .before .before .before .tile-at .result) (getD (A .progress .now) 1 0) (c .before .before .before .before .before .before .before .before .before .if1 .left) (c .before .before .before .before .before .before .before .before .tile-at .ensures .0) refl, S .pre .0 .1)),
-    (omega (arith, c .before .before .before .before .before .before .before .before .before .before .before .word-index .ensures, c .before .before .before .before .before .before .before .before .before .if1 .left, c .before .before .before .before .before .before .before .before .before .before .tile-count .ensures .1), turned.sends-left (planOf (A .sizes .route) (A .nest)) (A .b) (A .source .now) (stateOf (A .memory .now) (A .mail .now) (A .progress .now) (A .marks .now)) (S .pre .1) (c .before .before .before .before .before .before .before .before .before .before .before .word-index .result) (c .before .before .before .before .before .before .before .before .before .before .tile-count .result) (c .before .before .before .before .before .before .before .before .before .before .before .word-index .ensures) (c .before .before .before .before .before .before .before .before .before .before .tile-count .ensures .0) (c .before .before .before .before .before .before .before .before .tile-at .result) (getD (A .progress .now) 1 0) (c .before .before .before .before .before .before .before .before .before .if1 .left) (c .before .before .before .before .before .before .before .before .tile-at .ensures .0) refl (c .before .before .before .before .word-index2 .result) (c .before .before .before .before .word-index2 .ensures) (c .before .before .before .before .before .before .before .if2 .left) (c .before .before .before .before .before .before .if4 .left))))
+    let A = S .args in (
+      (S .pre .0 .0, record { memory = S .pre .1 .lengths .memory; mail = S .pre .1 .lengths .mail; marks = S .pre .1 .lengths .marks }),
+      (
+        (c .before .before .before .before .before .before .before .before .tile-at .ensures .1, (turned.own-tile (planOf (A .sizes .route) (A .nest)) (A .b) (A .source .now) (stateOf (A .memory .now) (A .mail .now) (A .progress .now) (A .marks .now)) (S .pre .1) (c .before .before .before .before .before .before .before .before .before .before .before .word-index .result) (c .before .before .before .before .before .before .before .before .before .before .tile-count .result) (c .before .before .before .before .before .before .before .before .before .before .before .word-index .ensures) (c .before .before .before .before .before .before .before .before .before .before .tile-count .ensures .0) (c .before .before .before .before .before .before .before .before .tile-at .result) (getD (A .progress .now) 1 0) (c .before .before .before .before .before .before .before .before .before .if1 .left) (c .before .before .before .before .before .before .before .before .tile-at .ensures .0) refl, S .pre .0 .1)),
+        (omega (arith, c .before .before .before .before .before .before .before .before .before .before .before .word-index .ensures, c .before .before .before .before .before .before .before .before .before .if1 .left, c .before .before .before .before .before .before .before .before .before .before .tile-count .ensures .1), turned.sends-left (planOf (A .sizes .route) (A .nest)) (A .b) (A .source .now) (stateOf (A .memory .now) (A .mail .now) (A .progress .now) (A .marks .now)) (S .pre .1) (c .before .before .before .before .before .before .before .before .before .before .before .word-index .result) (c .before .before .before .before .before .before .before .before .before .before .tile-count .result) (c .before .before .before .before .before .before .before .before .before .before .before .word-index .ensures) (c .before .before .before .before .before .before .before .before .before .before .tile-count .ensures .0) (c .before .before .before .before .before .before .before .before .tile-at .result) (getD (A .progress .now) 1 0) (c .before .before .before .before .before .before .before .before .before .if1 .left) (c .before .before .before .before .before .before .before .before .tile-at .ensures .0) refl (c .before .before .before .before .word-index2 .result) (c .before .before .before .before .word-index2 .ensures) (c .before .before .before .before .before .before .before .if2 .left) (c .before .before .before .before .before .before .if4 .left)),
+      ),
+    )
 
 done-requires-3 : tie.Need-done-requires-3
 done-requires-3 c κs = search needs

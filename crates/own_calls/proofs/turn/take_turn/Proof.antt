@@ -66,9 +66,10 @@ slice-aggregate-step-in-3 c = search needs
 
 step-in-requires : tie.Need-step-in-requires
 step-in-requires c κs = let S = c .before .before .before .before .before .before .before .before .before .before .before .before .before .before .before .before .before .before .before .before .before .before .before .before .before .before .before .before .before .before .before in
-    let A = S .args in
-    ((c .before .before .before .before .before .before .before .before .before .before .before .before .before .before .before .before .before .before .before .before .prepare .ensures, (refl, S .pre .1)),
-    turned.may-step (planOf (A .sizes .route) (A .nest)) (A .b) (A .source .now) (stateOf (A .memory .now) (A .mail .now) (take 3 (A .progress .words)) (A .marks .now)) (c .before .before .before .before .before .before .before .before .before .before .before .before .before .before .before .before .before .before .before .before .before .before .before .before .before .if1 .left ∙ c .before .before .before .before .before .before .before .before .before .before .before .before .before .before .before .before .before .before .before .before .before .before .before .before .before .before .own-count .ensures .0) (c .before .before .before .before .before .before .before .before .before .before .before .unfit .result) (c .before .before .before .before .before .before .before .before .before .before .before .unfit .ensures .0 _ (turned.three-carried (A .progress) (S .pre .1) (c .before .before .before .before .before .before .before .before .before .before .before .unfit .ensures .1 (c .before .before .before .before .before .before .before .before .before .before .if2 .left)))) (c .before .before .before .before .before .before .before .before .before .before .if2 .left) (S .pre .0 .1 .1))
+    let A = S .args in (
+      (c .before .before .before .before .before .before .before .before .before .before .before .before .before .before .before .before .before .before .before .before .prepare .ensures, (refl, S .pre .1)),
+      turned.may-step (planOf (A .sizes .route) (A .nest)) (A .b) (A .source .now) (stateOf (A .memory .now) (A .mail .now) (take 3 (A .progress .words)) (A .marks .now)) (c .before .before .before .before .before .before .before .before .before .before .before .before .before .before .before .before .before .before .before .before .before .before .before .before .before .if1 .left ∙ c .before .before .before .before .before .before .before .before .before .before .before .before .before .before .before .before .before .before .before .before .before .before .before .before .before .before .own-count .ensures .0) (c .before .before .before .before .before .before .before .before .before .before .before .unfit .result) (c .before .before .before .before .before .before .before .before .before .before .before .unfit .ensures .0 _ (turned.three-carried (A .progress) (S .pre .1) (c .before .before .before .before .before .before .before .before .before .before .before .unfit .ensures .1 (c .before .before .before .before .before .before .before .before .before .before .if2 .left)))) (c .before .before .before .before .before .before .before .before .before .before .if2 .left) (S .pre .0 .1 .1),
+    )
 
 same-length-4 : tie.Need-same-length-4
 same-length-4 c = search needs
