@@ -118,7 +118,8 @@ module _ (p : Plan) (b : ℕ) (s : State) (low : b < p .processors) (g : PartLen
       sent-off m n k mail marks l few at now all x y z =
           let q : senderOf p (getD (sendsOf p t) n 0) ≡ t = at-is (senderOf p) t (count p) n few in
           let lo : m < count p = rw at (at-low (senderOf p) t (count p) n few) in
-          let h : handles p b m ≡ true = rw at (sends-handled p b t mine _ (in-those (senderOf p) t (count p) _ (at-low (senderOf p) t (count p) n few) q) .1) in
+          let h : handles p b m ≡ true =
+          rw at (sends-handled p b t mine _ (in-those (senderOf p) t (count p) _ (at-low (senderOf p) t (count p) n few) q) .1) in
           let words : List ℕ = pack (memoryOf p w b) (heldBy p m) in
           sym
           (has.narrow-is p b s low g (carryOut p [] w b (send (getD (sendsOf p t) n 0)))
@@ -128,7 +129,8 @@ module _ (p : Plan) (b : ℕ) (s : State) (low : b < p .processors) (g : PartLen
           ∙ ap (λ (i : ℕ). put (s .buffer) i (pack (memoryOf p w b) (heldBy p m))) (sym (place m (omega (arith, lo))))
           ∙ ap (λ (i : List ℕ). put (s .buffer) (getD places m 0) (pack i (heldBy p m))) (has.wide-memory p b s low g) ∙ sym x)
           (sends-after (ltb (sentOf w b + 1) (length (sendsOf p (senderOf p (getD (sendsOf p t) n 0))))) (finishedOf w b) (sentOf w b + 1) _ refl
-          ∙ next-is (has.wide-finished p b s low g) (ap (λ (i : ℕ). i + 1) (has.wide-sent p b s low g ∙ sym now)) (ap (λ (i : ℕ). length (sendsOf p i)) q ∙ sym all)
+          ∙ next-is (has.wide-finished p b s low g) (ap (λ (i : ℕ). i + 1) (has.wide-sent p b s low g ∙ sym now))
+          (ap (λ (i : ℕ). length (sendsOf p i)) q ∙ sym all)
           ∙ sym z)
           (rw (← at) (has.mark-set p b s low g m lo h 1) ∙ ap (λ (i : ℕ). set (s .status) i 1) (sym (rank m (omega (arith, lo)))) ∙ sym y))
 

@@ -197,7 +197,8 @@ module _ (p : Plan) where
           mail-like (keep f m) y x (λ k i. words-other p x m ws long lo n k (before-low k i) (λ q. let z = keep-in f m k i .0 in omega (arith, z, q))) in
           let b : placeOf p (put x (offset (p .messages) m) ws) m ≡ ws = words-there p x m ws long lo n in
           let c : mailOf p (put x (offset (p .messages) m) ws) behind ≡ mailOf p x behind =
-          mail-like behind y x (λ k i. let z = keep-split f (count p) m lo e .2 k i in words-other p x m ws long lo n k (z .1) (λ q. let w = z .0 in omega (arith, w, q))) in
+          mail-like behind y x
+          (λ k i. let z = keep-split f (count p) m lo e .2 k i in words-other p x m ws long lo n k (z .1) (λ q. let w = z .0 in omega (arith, w, q))) in
           mail-cut y
           ∙ (let d : mailOf p (put x (offset (p .messages) m) ws) (keep f m)
           ++ (placeOf p (put x (offset (p .messages) m) ws) m ++ mailOf p (put x (offset (p .messages) m) ws) behind)

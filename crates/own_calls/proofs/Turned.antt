@@ -18,8 +18,8 @@ use Rattle.base.proofs.Tests.{and-true, and-left, and-false, not-true, not-fals
 use Rattle.base.proofs.Select.{at-is}
 use Rattle.base.proofs.Numbers.{first-true, first-false, first-some}
 use Rattle.machine.specs.Plan.{Plan, count, tilesOf, sendsOf, duesOf}
-use Rattle.machine.specs.Machine.{State, stateOf, finishedOf, stageOf, sentOf, currentTile, fit, gather, calculate, send, carryOut, nextAction, Answered, answered}
-use Rattle.machine.specs.Machine.{waiting, tilesLeft, turnLines, turn}
+use Rattle.machine.specs.Machine.{State, finishedOf, stageOf, sentOf, currentTile, gather, calculate, send, carryOut}
+use Rattle.machine.specs.Machine.{Answered, answered, waiting, tilesLeft, turnLines, turn}
 use Rattle.records.specs.declared.Flat.{Flat}
 use Rattle.records.specs.Records.{Carries}
 use Rattle.plan.specs.Shaped.{planOf}

@@ -94,7 +94,8 @@ module _ (ms : List ℕ) (j : ℕ) where
   pack-end ranks h = rw (drop-of-length-le ms h)
 
   from-turn : (p : Plan) (places mail memory : List ℕ) → j < length ms
-      → unpackFrom p places mail (unpack memory (heldBy p (getD ms j 0)) (part mail (getD places (getD ms j 0) 0) (length (heldBy p (getD ms j 0))))) (drop (j + 1) ms)
+      → unpackFrom p places mail (unpack memory (heldBy p (getD ms j 0)) (part mail (getD places (getD ms j 0) 0) (length (heldBy p (getD ms j 0)))))
+      (drop (j + 1) ms)
       ≡ unpackFrom p places mail memory (drop j ms)
   unfolding unpackFrom
   from-turn p places mail memory h = rw (add-one j, drop-cons ms j 0 h)

@@ -298,7 +298,8 @@ fn calculate_stage(
     tile: usize,
     finished: u32,
 ) -> Progress
-    requires { ⌜ Tables nest sizes b (now lens) (now kept) (now ranks) (now places) × (length (now memory) ≡ length (keptCells (planOf (sizes .route) nest) b)) ⌝ }
+    requires { ⌜ Tables nest sizes b (now lens) (now kept) (now ranks) (now places)
+        × (length (now memory) ≡ length (keptCells (planOf (sizes .route) nest) b)) ⌝ }
     requires { ⌜ (tile < planOf (sizes .route) nest .tiles) × ((now all ≡ replicate (cells nest) 0) × (finished < 16384)) ⌝ }
     requires { ⌜ length (now source) ≡ length (ownCells (planOf (sizes .route) nest) b) ⌝ }
     ensures { λ r. ⌜ ((mail l marks : List ℕ) → Lengths (planOf (sizes .route) nest) b (now (memory .entry)) mail marks → length l ≡ 3 → finished ≡ getD l 0 0

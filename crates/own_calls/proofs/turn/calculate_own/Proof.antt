@@ -11,7 +11,9 @@ slice-aggregate-calculate-in-2 : tie.Need-slice-aggregate-calculate-in-2
 slice-aggregate-calculate-in-2 c = search needs
 
 calculate-in-requires : tie.Need-calculate-in-requires
-calculate-in-requires c κs = let S = c .before .before .before .before .before in (S .pre .0, (S .pre .1 .0, (S .pre .1 .1, (refl, refl))))
+calculate-in-requires c κs =
+    let S = c .before .before .before .before .before in
+    (S .pre .0, (S .pre .1 .0, (S .pre .1 .1, (refl, refl))))
 
 same-length : tie.Need-same-length
 same-length c = search needs

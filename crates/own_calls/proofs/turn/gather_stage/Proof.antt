@@ -11,20 +11,39 @@ use Rattle.own_calls.proofs.turn.gather_stage.Statement.{statement}
 use Rattle.own_calls.proofs.turn.gather_stage.Tie as tie
 
 widen-requires : tie.Need-widen-requires
-widen-requires c κs = let S = c .before .before .before .before .before .before .before in let A = S .args in working.lent-room (keeps (planOf (A .sizes .route) (A .nest)) (A .b)) (cells (A .nest)) (A .kept .now) (S .pre .0 .0 .cells) (A .all .now) (A .memory .now) (ap length (S .pre .1 .1 .1) ∙ length-replicate _ _) (S .pre .0 .1 .memory)
+widen-requires c κs =
+    let S = c .before .before .before .before .before .before .before in
+    let A = S .args in
+    let p = planOf (A .sizes .route) (A .nest) in
+    working.lent-room (keeps p (A .b)) (cells (A .nest)) (A .kept .now) (S .pre .0 .0 .cells) (A .all .now) (A .memory .now) (ap length (S .pre .1 .1 .1)
+    ∙ length-replicate _ _) (S .pre .0 .1 .memory)
 
 gather-requires : tie.Need-gather-requires
-gather-requires c κs = let S = c .before .before .before .before .before .before .before .before .before .before .before .before in
+gather-requires c κs =
+    let at-widen = c .before .before .before .before in
+    let widen = at-widen .widen in
+    let S = at-widen .before .before .before .before .before .before .before .before in
     let A = S .args in (
-      (S .pre .0 .0 .planned, (S .pre .1 .0, c .before .before .before .before .widen .kept .1 .1 .0 ∙ ap length (S .pre .1 .1 .1) ∙ length-replicate _ _)),
+      (S .pre .0 .0 .planned, (S .pre .1 .0, widen .kept .1 .1 .0 ∙ ap length (S .pre .1 .1 .1) ∙ length-replicate _ _)),
       (
-        stage.ranked (A .nest) (A .sizes) (A .b) (A .lens .now) (A .kept .now) (A .ranks .now) (A .places .now) (S .pre .0 .0) (A .tile) (S .pre .1 .1 .0) (A .marks .now) (S .pre .0 .1 .marks),
-        stage.placed (A .nest) (A .sizes) (A .b) (A .lens .now) (A .kept .now) (A .ranks .now) (A .places .now) (S .pre .0 .0) (A .tile) (S .pre .1 .1 .0) (A .mail .now) (S .pre .0 .1 .mail),
+        stage.ranked (A .nest) (A .sizes) (A .b) (A .lens .now) (A .kept .now) (A .ranks .now) (A .places .now) (S .pre .0 .0) (A .tile) (S .pre .1 .1 .0)
+            (A .marks .now) (S .pre .0 .1 .marks),
+        stage.placed (A .nest) (A .sizes) (A .b) (A .lens .now) (A .kept .now) (A .ranks .now) (A .places .now)
+            (S .pre .0 .0) (A .tile) (S .pre .1 .1 .0) (A .mail .now) (S .pre .0 .1 .mail),
       ),
     )
 
 narrow-requires : tie.Need-narrow-requires
-narrow-requires c κs = let S = c .before .before .before .before .before .before .before .before .before .before .before .before .before .before .before .before .before .before .before in let A = S .args in working.lent-room (keeps (planOf (A .sizes .route) (A .nest)) (A .b)) (cells (A .nest)) (A .kept .now) (S .pre .0 .0 .cells) (c .before .before .before .before .before .before .gather .last .1 .1 .1 .1 .1 .0) (A .memory .now) (c .before .before .before .before .before .before .gather .kept .1 .1 .1 .1 .1 .0 ∙ c .before .before .before .before .before .before .before .before .before .before .before .widen .kept .1 .1 .0 ∙ ap length (S .pre .1 .1 .1) ∙ length-replicate _ _) (S .pre .0 .1 .memory)
+narrow-requires c κs =
+    let at-gather = c .before .before .before .before .before .before in
+    let gather = at-gather .gather in
+    let at-widen = at-gather .before .before .before .before .before in
+    let widen = at-widen .widen in
+    let S = at-widen .before .before .before .before .before .before .before .before in
+    let A = S .args in
+    let p = planOf (A .sizes .route) (A .nest) in
+    working.lent-room (keeps p (A .b)) (cells (A .nest)) (A .kept .now) (S .pre .0 .0 .cells) (gather .last .1 .1 .1 .1 .1 .0) (A .memory .now)
+    (gather .kept .1 .1 .1 .1 .1 .0 ∙ widen .kept .1 .1 .0 ∙ ap length (S .pre .1 .1 .1) ∙ length-replicate _ _) (S .pre .0 .1 .memory)
 
 same-length : tie.Need-same-length
 same-length c = search needs
@@ -36,12 +55,19 @@ same-length-3 : tie.Need-same-length-3
 same-length-3 c = search needs
 
 returns : tie.Need-returns
-returns c = let S = c .before .before .before .before .before .before .before .before .before .before .before .before .before .before .before .before .before .before .before .before .before .before in
+returns c =
+    let at-narrow = c .before .before in
+    let narrow = at-narrow .narrow in
+    let at-gather = at-narrow .before .before .before .before .before .before .before in
+    let gather = at-gather .gather in
+    let at-widen = at-gather .before .before .before .before .before in
+    let widen = at-widen .widen in
+    let S = at-widen .before .before .before .before .before .before .before .before in
     let A = S .args in
-    λ l three f.
-    stage.gather-leaves (A .nest) (A .sizes) (A .b) (A .lens .now) (A .kept .now) (A .ranks .now) (A .places .now) (S .pre .0 .0) (A .memory .now) (A .mail .now) (A .marks .now) (A .all .now) l (S .pre .0 .1) (S .pre .1 .1 .1) three (A .finished) f (A .tile)
-    (S .pre .1 .1 .0) (c .before .before .before .before .before .before .before .before .before .before .before .before .before .before .widen .last .1 .1 .0) (c .before .before .before .before .before .before .before .before .before .gather .last .1 .1 .1 .1 .1 .0) (c .before .before .narrow .last .1 .1 .0) (c .before .before .before .before .before .before .before .before .before .gather .last .1 .1 .1 .1 .1 .1 .1 .0) (c .before .before .before .before .before .before .before .before .before .before .before .before .before .before .widen .ensures)
-    (c .before .before .before .before .before .before .before .before .before .gather .ensures .0) (c .before .before .before .before .before .before .before .before .before .gather .ensures .1) (c .before .before .narrow .ensures)
+    λ l three f. stage.gather-leaves (A .nest) (A .sizes) (A .b) (A .lens .now) (A .kept .now) (A .ranks .now) (A .places .now) (S .pre .0 .0)
+    (A .memory .now) (A .mail .now) (A .marks .now) (A .all .now) l (S .pre .0 .1) (S .pre .1 .1 .1) three (A .finished) f (A .tile) (S .pre .1 .1 .0)
+    (widen .last .1 .1 .0) (gather .last .1 .1 .1 .1 .1 .0) (narrow .last .1 .1 .0) (gather .last .1 .1 .1 .1 .1 .1 .1 .0) (widen .ensures)
+    (gather .ensures .0) (gather .ensures .1) (narrow .ensures)
 
 pub gather-stage-spec : {M : Type 1} → statement M
 gather-stage-spec =

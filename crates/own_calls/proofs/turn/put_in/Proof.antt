@@ -21,7 +21,8 @@ part-pack-end : tie.Need-part-pack-end
 part-pack-end c = search needs
 
 pack-requires : tie.Need-pack-requires
-pack-requires c κs = let S = c .before .before .before .before in
+pack-requires c κs =
+    let S = c .before .before .before .before in
     let A = S .args in
     ((S .pre .0 .0 .0, (S .pre .0 .0 .1, S .pre .0 .1)), (S .pre .1 .0, parts.mid-length (A .mail .now) (A .at) (A .place .words) (S .pre .1 .1)))
 
@@ -29,9 +30,12 @@ same-length : tie.Need-same-length
 same-length c = search needs
 
 returns : tie.Need-returns
-returns c = let S = c .before .before .before .before .before .before .before in
+returns c =
+    let at-pack = c .before .before in
+    let pack = at-pack .pack in
+    let S = at-pack .before .before .before .before .before in
     let A = S .args in
-    working.put-back (A .mail .now) (c .before .before .pack .last .1 .1 .1 .1 .0) _ (A .at) (A .place .words) (S .pre .1 .1) (c .before .before .pack .kept .1 .1 .1 .1 .0) (c .before .before .pack .ensures)
+    working.put-back (A .mail .now) (pack .last .1 .1 .1 .1 .0) _ (A .at) (A .place .words) (S .pre .1 .1) (pack .kept .1 .1 .1 .1 .0) (pack .ensures)
 
 pub put-in-spec : {M : Type 1} → statement M
 put-in-spec =

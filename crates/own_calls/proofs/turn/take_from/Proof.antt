@@ -21,7 +21,8 @@ part-unpack-end : tie.Need-part-unpack-end
 part-unpack-end c = search needs
 
 unpack-requires : tie.Need-unpack-requires
-unpack-requires c κs = let S = c .before .before .before .before .before in
+unpack-requires c κs =
+    let S = c .before .before .before .before .before in
     let A = S .args in
     ((S .pre .0 .0 .0, (S .pre .0 .0 .1, S .pre .0 .1)), (S .pre .1 .0, parts.mid-length (A .mail .now) (A .at) (A .place .words) (S .pre .1 .1)))
 
@@ -29,7 +30,12 @@ same-length : tie.Need-same-length
 same-length c = search needs
 
 returns : tie.Need-returns
-returns c = let A = c .before .before .before .before .before .before .before .before .args in working.taken-is (A .memory .now) _ (A .mail .now) (c .before .before .unpack .last .1 .1 .1 .1 .0) (A .at) (A .place .words) (c .before .before .unpack .ensures)
+returns c =
+    let at-unpack = c .before .before in
+    let unpack = at-unpack .unpack in
+    let S = at-unpack .before .before .before .before .before .before in
+    let A = S .args in
+    working.taken-is (A .memory .now) _ (A .mail .now) (unpack .last .1 .1 .1 .1 .0) (A .at) (A .place .words) (unpack .ensures)
 
 pub take-from-spec : {M : Type 1} → statement M
 take-from-spec =
