@@ -9,14 +9,14 @@ use lib.ListN.{length, getD, set}
 use lib.Dec.{ltb}
 use Rattle.base.specs.Tests.{pick}
 use Rattle.base.specs.Lists.{In, part, put, setAll, allAt, unpack, pack, storeAll}
-use Rattle.base.proofs.Select.{at-is, at-low, in-those, keep-lt}
+use Rattle.base.proofs.Select.{at-is, at-low, in-those}
 use Rattle.base.proofs.Lists.{piece-same, pack-length, store-length}
 use Rattle.machine.specs.Plan.{Plan, count, senderOf, heldBy, sendsOf, duesOf}
-use Rattle.machine.specs.Machine.{State, stateOf, finishedOf, stageOf, sentOf, setProgress, memoryOf, placeOf, unpackAll, afterSends}
+use Rattle.machine.specs.Machine.{State, stateOf, finishedOf, sentOf, setProgress, memoryOf, placeOf, unpackAll, afterSends}
 use Rattle.machine.specs.Machine.{gather, calculate, send, carryOut}
 use Rattle.machine.proofs.Values.{gathered-length}
 use Rattle.machine.proofs.Records.{finished-same, stage-same, sent-same}
-use Rattle.apart.specs.Own.{handles, keptCells, handled}
+use Rattle.apart.specs.Own.{handles, keptCells}
 use Rattle.own.specs.Part.{rankOf, mailAt}
 use Rattle.own_calls.specs.Calls.{wide, narrow}
 use Rattle.own_calls.specs.Step.{PartLengths, allOf, unpackFrom}

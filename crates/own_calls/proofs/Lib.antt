@@ -6,3 +6,4 @@ pub mod After
 pub mod Working
 pub mod Stage
 pub mod Turned
+pub mod OwnRows

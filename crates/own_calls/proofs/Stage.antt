@@ -1,6 +1,6 @@
 -- Laws of a stage's work on a part: what each function that it calls asks for, and what is left.
 use Prim.Native.Nat.{ℕ, _+_, _*_, _≤_, _<_}
-use mathlib.Core.Path.{_≡_, refl, sym, ap, _∙_}
+use mathlib.Core.Path.{_≡_, sym, ap, _∙_}
 use mathlib.Core.Logic.{_≢_}
 use mathlib.Core.Bool.{true}
 use mathlib.Core.List.{List, []}
@@ -31,7 +31,7 @@ use Rattle.layout.proofs.Steps.{ways-few}
 use Rattle.boxes.proofs.Scans.{slots-few}
 use Rattle.scans.specs.declared.Place.{Place}
 use Rattle.tables.specs.Tables.{FoundIn}
-use Rattle.apart.specs.Own.{handles, keeps, keptCells, handled, sourceOf}
+use Rattle.apart.specs.Own.{handles, keeps, keptCells, handled}
 use Rattle.own.specs.Part.{wordsOf, markedAt}
 use Rattle.own_calls.specs.Calls.{wide, narrow}
 use Rattle.own_calls.specs.Given.{Known}

@@ -1,20 +1,18 @@
 -- The turn on a part by the line that counts: each way in which the machine's turn ends on the areas that have the part.
-use Prim.Native.Nat.{ℕ, _+_, _*_, _≤_, _<_}
+use Prim.Native.Nat.{ℕ, _+_, _≤_, _<_}
 use mathlib.Core.Path.{_≡_, refl, sym, ap, _∙_}
 use mathlib.Core.Logic.{_≢_}
 use mathlib.Core.Bool.{Bool, true, false}
 use mathlib.Core.List.{List, [], _∷_, _++_}
 use native.Mathlib.Omega.{arith}
-use native.Mathlib.Nat.{mul-le-mul-right}
-use native.Mathlib.Decide.{ℕ-discrete}
-use lib.ListN.{length, getD, take, replicate, length-replicate}
+use lib.ListN.{length, getD, take}
 use lib.Seq.{length-take-le}
 use lib.Dec.{ltb, eqb}
 use borrow.Author.Tests.{eq-eqb, ne-eqb}
-use Rattle.base.specs.Tests.{_and_, not, pick, one, tabulate}
+use Rattle.base.specs.Tests.{_and_, not}
 use Rattle.base.specs.Lists.{allAt, pack}
 use Rattle.base.specs.Numbers.{Line, line, firstOf}
-use Rattle.base.proofs.Tests.{and-true, and-left, and-false, not-true, not-false, pick-true}
+use Rattle.base.proofs.Tests.{and-left, and-false, not-true, not-false, pick-true}
 use Rattle.base.proofs.Select.{at-is}
 use Rattle.base.proofs.Numbers.{first-true, first-false, first-some}
 use Rattle.machine.specs.Plan.{Plan, count, tilesOf, sendsOf, duesOf}
@@ -31,7 +29,7 @@ use Rattle.own.specs.Part.{rankOf, mailAt, partFits}
 use Rattle.own_calls.specs.declared.core.Board.{Board}
 use Rattle.own_calls.specs.Calls.{wide, narrow, stepped, ownTurnCall}
 use Rattle.own_calls.specs.Given.{Opens, unfitLines}
-use Rattle.own_calls.specs.Step.{PartLengths, MayStep, steppedOr, turnedOr}
+use Rattle.own_calls.specs.Step.{MayStep, steppedOr, turnedOr}
 use Rattle.own_calls.proofs.Wide as has
 use Rattle.own_calls.proofs.After as after
 use Rattle.own_calls.proofs.Front.{unfit-none}

@@ -1,14 +1,12 @@
 -- Laws of the loops over a tile's messages by the two tables, of marked cells and of lent parts.
-use Prim.Native.Nat.{ℕ, suc, _+_, _-_, _≤_, _<_}
-use mathlib.Core.Path.{_≡_, refl, sym, ap, _∙_, subst}
-use mathlib.Core.Logic.{_≢_, inl}
+use Prim.Native.Nat.{ℕ, _+_, _-_, _≤_, _<_}
+use mathlib.Core.Path.{_≡_, refl, sym, ap, _∙_}
+use mathlib.Core.Logic.{_≢_}
 use mathlib.Core.Bool.{Bool, true, false}
 use mathlib.Core.List.{List, [], _∷_}
 use native.Mathlib.Numerals.{add-one}
-use native.Mathlib.Nat.{mul-le-mul-right}
-use native.Mathlib.Decide.{ℕ-discrete}
 use native.Mathlib.Omega.{arith}
-use lib.ListN.{length, getD, take, drop, set, replicate, length-set, length-replicate, drop-of-length-le}
+use lib.ListN.{length, getD, take, drop, set, replicate, length-set, drop-of-length-le}
 use lib.Seq.{drop-cons}
 use lib.Dec.{eqb}
 use borrow.Author.Tests.{eq-eqb, ne-eqb}
@@ -16,19 +14,17 @@ use borrow.Rule.Slice.PartMut.{putMid}
 use Rattle.base.specs.Tests.{_and_, one, keep, tabulate}
 use Rattle.base.specs.Lists.{In, part, put, setAll, allAt, unpack, pack, storeAll}
 use Rattle.base.proofs.Tests.{and-left, and-false, length-tabulate}
-use Rattle.base.proofs.Select.{keep-lt}
 use Rattle.base.proofs.Entries.{at-in}
-use Rattle.machine.specs.Plan.{Plan, count, heldBy, duesOf, sendsOf}
+use Rattle.machine.specs.Plan.{Plan, count, heldBy, duesOf}
 use Rattle.nest.specs.declared.Nest.{Nest}
 use Rattle.plan.specs.declared.Route.{Route}
 use Rattle.plan.specs.Shaped.{planOf}
 use Rattle.scans.specs.declared.Place.{Place}
 use Rattle.tables.specs.Tables.{FoundIn}
 use Rattle.stages.proofs.Parts.{mid-is, back}
-use Rattle.apart.specs.Own.{handles, handled, ownCells, sourceOf}
-use Rattle.own.specs.Part.{wordsOf, rankOf, mailAt, markedAt}
+use Rattle.apart.specs.Own.{ownCells, sourceOf}
+use Rattle.own.specs.Part.{markedAt}
 use Rattle.own_calls.specs.Step.{Ranked, Placed, unpackFrom}
-use Rattle.own_calls.proofs.Part.{words-room}
 use Rattle.own_calls.proofs.Wide.{part-zeros}
 use Rattle.own_calls.proofs.Front.{marks-keep}
 
