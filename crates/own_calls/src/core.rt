@@ -2,7 +2,7 @@
 // list of words that the `Flat` carries, since code has no other way to name the caller's record.
 ghost use mathlib.Core.Path.{_≡_};
 ghost use mathlib.Core.List.{List};
-ghost use Prim.Native.Nat.{ℕ, _<_};
+ghost use Prim.Native.Nat.{ℕ, _≤_, _<_};
 ghost use lib.ListN.{length};
 ghost use Rattle.base.specs.Numbers.{firstOf};
 ghost use Rattle.machine.specs.Machine.{State, stateOf, finishedOf, stageOf, sentOf, fitRecord};
@@ -12,19 +12,28 @@ ghost use Rattle.layout.specs.Sizes.{Sized};
 ghost use Rattle.tables.specs.Tables.{Routed};
 ghost use Rattle.records.specs.Records.{Carries};
 ghost use Rattle.mail.specs.Given.{Planned};
+ghost use Rattle.engine.specs.Given.{zerosAfter};
+ghost use Rattle.engine.specs.Calls.{answer};
+ghost use Rattle.apart.specs.Own.{ownCells, handled};
 ghost use Rattle.own.specs.Part.{partFits};
-ghost use Rattle.own_calls.specs.Given.{Opens, Known, unfitLines};
+ghost use Rattle.own_calls.specs.Calls.{lengthsOf, ownFreshCall, ownPostCall, ownArriveCall};
+ghost use Rattle.own_calls.specs.Given.{Opens, Known, unfitLines, freshOr, handedOver, postedOr, MayArrive, arrivedOr, arrivesOr};
 use base::word_index;
 use layout::Sizes;
 use layout::route_of;
 use layout::sizes_of;
+use mail::core::as_long;
+use mail::core::copy_words;
 use nest::Nest;
 use plan::Route;
 use records::Flat;
 use routes::read_for;
 use stages::fit_status;
+use stages::zero_bytes;
+use stages::zero_words;
 use tables::count_at;
 use tables::fill;
+use tables::nth;
 use tables::tile_at;
 use tables::tile_count;
 use tables::totals;
@@ -214,4 +223,378 @@ pub fn unfit(
         return 10;
     }
     0
+}
+
+// ---- how long the areas are
+
+// How many cells the processor's tiles have: the words of its source.
+pub fn own_count(nest: Nest, sizes: Sizes, b: usize) -> usize
+    requires { ⌜ Sized nest sizes × (Routed nest sizes × (b < processors nest)) ⌝ }
+    ensures { λ r. ⌜ (r ≡ length (ownCells (planOf (sizes .route) nest) b)) × (r ≤ 16384) ⌝ }
+{
+    let cells = sizes.cells;
+    let mut marks = [0u32; 16384];
+    own::mark_own(nest, sizes, b, &mut marks[..cells]);
+    own::marked(&marks[..cells])
+}
+
+// The four lengths.
+pub fn put_sizes(nest: Nest, sizes: Sizes, b: usize, out: &mut [u32])
+    requires { ⌜ Sized nest sizes × (Routed nest sizes × ((b < processors nest) × (length (now out) ≡ 4))) ⌝ }
+    ensures { λ _. ⌜ now (out .exit) ≡ lengthsOf (planOf (sizes .route) nest) b ⌝ }
+{
+    let cells = sizes.cells;
+    let mut lens = [0u16; 9217];
+    let mut kept = [0u32; 16384];
+    let mut ranks = [0u32; 7169];
+    let mut places = [0u32; 7169];
+    prepare(
+        nest,
+        sizes,
+        b,
+        &mut lens,
+        &mut kept,
+        &mut ranks,
+        &mut places,
+    );
+    let t = totals(nest, sizes, &lens);
+    let last = t.messages;
+    out[0] = own_count(nest, sizes, b) as u32;
+    out[1] = own::marked(&kept[..cells]) as u32;
+    out[2] = places[last];
+    out[3] = ranks[last];
+}
+
+// ---- a fresh start
+
+// Line 9, then zeros.
+fn fresh_part(
+    nest: Nest,
+    sizes: Sizes,
+    memory: &mut [u32],
+    mail: &mut [u32],
+    words: usize,
+    marks: &mut [u8],
+    b: usize,
+) -> u32
+    requires { ⌜ Sized nest sizes × (Routed nest sizes × (b < processors nest)) ⌝ }
+    ensures { λ r. ⌜ ((records : List ℕ) → words ≡ length records
+        → answer r (stateOf (now (memory .exit)) (now (mail .exit)) (zerosAfter records r) (now (marks .exit)))
+        ≡ freshOr (planOf (sizes .route) nest) b (stateOf (now (memory .entry)) (now (mail .entry)) records (now (marks .entry)))) ⌝ }
+{
+    let mut lens = [0u16; 9217];
+    let mut kept = [0u32; 16384];
+    let mut ranks = [0u32; 7169];
+    let mut places = [0u32; 7169];
+    prepare(
+        nest,
+        sizes,
+        b,
+        &mut lens,
+        &mut kept,
+        &mut ranks,
+        &mut places,
+    );
+    if !part_fits(
+        nest,
+        sizes,
+        &lens,
+        &kept,
+        &ranks,
+        &places,
+        memory,
+        mail,
+        words,
+        marks,
+        b,
+    ) {
+        return 9;
+    }
+    zero_words(memory);
+    zero_words(mail);
+    zero_bytes(marks);
+    0
+}
+
+// A fresh start of all but the record, which has so many words.
+pub fn fresh(
+    encoded: &[u8],
+    route: u32,
+    memory: &mut [u32],
+    mail: &mut [u32],
+    words: usize,
+    marks: &mut [u8],
+    processor: u32,
+) -> u32
+    ensures { λ r. ⌜ ((records : List ℕ) → words ≡ length records
+        → answer r (stateOf (now (memory .exit)) (now (mail .exit)) (zerosAfter records r) (now (marks .exit)))
+        ≡ ownFreshCall (now (encoded .entry)) route (stateOf (now (memory .entry)) (now (mail .entry)) records (now (marks .entry))) processor) ⌝ }
+{
+    let board = open(encoded, route, processor);
+    let number = board.number;
+    if number != 0 {
+        return number;
+    }
+    fresh_part(
+        board.nest,
+        board.sizes,
+        memory,
+        mail,
+        words,
+        marks,
+        processor as usize,
+    )
+}
+
+// ---- a message handed over to a transport
+
+// Line 11, line 14, then the mark.
+fn hand_over(
+    nest: Nest,
+    sizes: Sizes,
+    lens: &[u16; 9217],
+    kept: &[u32],
+    ranks: &[u32; 7169],
+    places: &[u32; 7169],
+    marks: &mut [u8],
+    b: usize,
+    m: usize,
+) -> u32
+    requires { ⌜ Known nest sizes b (now lens) (now kept) (now ranks) (now places) × (length (now marks) ≡ length (handled (planOf (sizes .route) nest) b)) ⌝ }
+    ensures { λ r. ⌜ ((memory mail records : List ℕ) → answer r (stateOf memory mail records (now (marks .exit)))
+        ≡ handedOver (planOf (sizes .route) nest) b (stateOf memory mail records (now (marks .entry))) m) ⌝ }
+{
+    let t = totals(nest, sizes, lens);
+    if m >= t.messages {
+        return 11;
+    }
+    let at = word_index(ranks[m]);
+    let next = word_index(ranks[m + 1]);
+    if next == at {
+        return 14;
+    }
+    if marks[at] != 1 {
+        return 14;
+    }
+    marks[at] = 2;
+    0
+}
+
+// Lines 9 and 10, then these.
+fn post_part(
+    nest: Nest,
+    sizes: Sizes,
+    memory: &[u32],
+    mail: &[u32],
+    progress: Flat,
+    marks: &mut [u8],
+    b: usize,
+    m: usize,
+) -> u32
+    requires { ⌜ Sized nest sizes × (Routed nest sizes × ((b < processors nest) × (length (progress .words) ≡ 192))) ⌝ }
+    ensures { λ r. ⌜ ((records : List ℕ) → Carries progress records
+        → answer r (stateOf (now (memory .entry)) (now (mail .entry)) records (now (marks .exit)))
+        ≡ postedOr (planOf (sizes .route) nest) b (stateOf (now (memory .entry)) (now (mail .entry)) records (now (marks .entry))) m) ⌝ }
+{
+    let mut lens = [0u16; 9217];
+    let mut kept = [0u32; 16384];
+    let mut ranks = [0u32; 7169];
+    let mut places = [0u32; 7169];
+    prepare(
+        nest,
+        sizes,
+        b,
+        &mut lens,
+        &mut kept,
+        &mut ranks,
+        &mut places,
+    );
+    let n = unfit(
+        nest,
+        sizes,
+        &lens,
+        &kept,
+        &ranks,
+        &places,
+        memory,
+        mail,
+        progress,
+        marks,
+        b,
+    );
+    if n != 0 {
+        return n;
+    }
+    hand_over(nest, sizes, &lens, &kept, &ranks, &places, marks, b, m)
+}
+
+// A message is handed over to a transport; its words lie in the mail.
+pub fn post(
+    encoded: &[u8],
+    route: u32,
+    memory: &[u32],
+    mail: &[u32],
+    progress: Flat,
+    marks: &mut [u8],
+    processor: u32,
+    message: u32,
+) -> u32
+    requires { ⌜ length (progress .words) ≡ 192 ⌝ }
+    ensures { λ r. ⌜ ((records : List ℕ) → Carries progress records
+        → answer r (stateOf (now (memory .entry)) (now (mail .entry)) records (now (marks .exit)))
+        ≡ ownPostCall (now (encoded .entry)) route (stateOf (now (memory .entry)) (now (mail .entry)) records (now (marks .entry))) processor message) ⌝ }
+{
+    let board = open(encoded, route, processor);
+    let number = board.number;
+    if number != 0 {
+        return number;
+    }
+    let b = processor as usize;
+    let m = message as usize;
+    post_part(board.nest, board.sizes, memory, mail, progress, marks, b, m)
+}
+
+// ---- a message arrives
+
+// Line 11, line 14, then the words into their place and the mark.
+fn receive(
+    nest: Nest,
+    sizes: Sizes,
+    lens: &[u16; 9217],
+    kept: &[u32],
+    ranks: &[u32; 7169],
+    places: &[u32; 7169],
+    mail: &mut [u32],
+    marks: &mut [u8],
+    b: usize,
+    m: usize,
+    words: &[u32],
+) -> u32
+    requires { ⌜ Known nest sizes b (now lens) (now kept) (now ranks) (now places) ⌝ }
+    requires { ⌜ MayArrive (planOf (sizes .route) nest) b (now mail) (now marks) m (now words) ⌝ }
+    ensures { λ r. ⌜ ((memory records : List ℕ)
+        → answer r (stateOf memory (now (mail .exit)) records (now (marks .exit)))
+        ≡ arrivedOr (planOf (sizes .route) nest) b (stateOf memory (now (mail .entry)) records (now (marks .entry))) m (now (words .entry))) ⌝ }
+{
+    let t = totals(nest, sizes, lens);
+    if m >= t.messages {
+        return 11;
+    }
+    let place = nth(nest, sizes, lens, m);
+    let line = table::line_at(nest, sizes, lens, place);
+    if word_index(line.to) != b {
+        return 11;
+    }
+    let at = word_index(ranks[m]);
+    if marks[at] != 0 {
+        return 14;
+    }
+    let from = word_index(places[m]);
+    let end = from + place.words;
+    copy_words(&mut mail[from..end], words);
+    marks[at] = 2;
+    0
+}
+
+// Lines 9 and 10, then these.
+fn arrive_part(
+    nest: Nest,
+    sizes: Sizes,
+    memory: &[u32],
+    mail: &mut [u32],
+    progress: Flat,
+    marks: &mut [u8],
+    b: usize,
+    m: usize,
+    words: &[u32],
+) -> u32
+    requires { ⌜ Sized nest sizes × (Routed nest sizes × ((b < processors nest) × (length (progress .words) ≡ 192))) ⌝ }
+    ensures { λ r. ⌜ ((records : List ℕ) → Carries progress records
+        → answer r (stateOf (now (memory .entry)) (now (mail .exit)) records (now (marks .exit)))
+        ≡ arrivesOr (planOf (sizes .route) nest) b (stateOf (now (memory .entry)) (now (mail .entry)) records (now (marks .entry))) m
+        (now (words .entry))) ⌝ }
+{
+    let mut lens = [0u16; 9217];
+    let mut kept = [0u32; 16384];
+    let mut ranks = [0u32; 7169];
+    let mut places = [0u32; 7169];
+    prepare(
+        nest,
+        sizes,
+        b,
+        &mut lens,
+        &mut kept,
+        &mut ranks,
+        &mut places,
+    );
+    if !as_long(nest, sizes, &lens, m, words.len()) {
+        return 9;
+    }
+    let n = unfit(
+        nest,
+        sizes,
+        &lens,
+        &kept,
+        &ranks,
+        &places,
+        memory,
+        mail,
+        progress,
+        marks,
+        b,
+    );
+    if n != 0 {
+        return n;
+    }
+    receive(
+        nest,
+        sizes,
+        &lens,
+        &kept,
+        &ranks,
+        &places,
+        mail,
+        marks,
+        b,
+        m,
+        words,
+    )
+}
+
+// A message arrives with these words.
+pub fn arrive(
+    encoded: &[u8],
+    route: u32,
+    memory: &[u32],
+    mail: &mut [u32],
+    progress: Flat,
+    marks: &mut [u8],
+    processor: u32,
+    message: u32,
+    words: &[u32],
+) -> u32
+    requires { ⌜ length (progress .words) ≡ 192 ⌝ }
+    ensures { λ r. ⌜ ((records : List ℕ) → Carries progress records
+        → answer r (stateOf (now (memory .entry)) (now (mail .exit)) records (now (marks .exit)))
+        ≡ ownArriveCall (now (encoded .entry)) route (stateOf (now (memory .entry)) (now (mail .entry)) records (now (marks .entry))) processor message
+        (now (words .entry))) ⌝ }
+{
+    let board = open(encoded, route, processor);
+    let number = board.number;
+    if number != 0 {
+        return number;
+    }
+    let b = processor as usize;
+    let m = message as usize;
+    arrive_part(
+        board.nest,
+        board.sizes,
+        memory,
+        mail,
+        progress,
+        marks,
+        b,
+        m,
+        words,
+    )
 }
