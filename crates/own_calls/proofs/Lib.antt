@@ -7,3 +7,5 @@ pub mod Working
 pub mod Stage
 pub mod Turned
 pub mod OwnRows
+pub mod Collecting
+pub mod Rows
