@@ -3,8 +3,8 @@ use Prim.Native.Nat.{ℕ}
 use mathlib.Core.Path.{_≡_, refl}
 use mathlib.Core.List.{List, [], _∷_, _++_}
 use lib.IntN.{pos, negsuc}
 use Rattle.text.specs.Decimal.{decimal, signed, digitsIn}
-use Rattle.chart.specs.Text.{Frame, gridText, header, headLine, row, more, rowsFrom, cell}
+use Rattle.text.specs.Grid.{Frame, gridText, header, headLine, row, more, rowsFrom, cell}
 use lib.Dec.{eqb}
 use Rattle.base.specs.Tests.{pick, not}
 
