@@ -4,7 +4,7 @@ use mathlib.Core.Path.{_≡_, sym, ap, _∙_}
 use native.Mathlib.Omega.{arith}
 use native.Mathlib.Nat.{zero-mul}
 use borrow.Author.Needs.{needs}
-use Rattle.chart.specs.Text.{rowsFrom}
+use Rattle.text.specs.Grid.{rowsFrom}
 use Rattle.text.proofs.Steps.{Going}
 use Rattle.chart.proofs.Steps.{rows-start, rows-fit, rows-place, rows-room, rows-next, rows-done}
 use Rattle.chart.proofs.Rows.{row-fits, row-wrote}
