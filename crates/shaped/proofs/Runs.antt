@@ -116,7 +116,7 @@ module _ (x : Nest) (ok : Accepted x) where
             in-run low top (k (last x)) (b (k (last x)) (r1 .0) (r3 .0)) (d (k (last x)) (r1 .1) r2 (r3 .1))
 
     -- by what the code makes
-    pub reach-made : (f1 t1 end f2 t2 d low top : ℕ) → d ≡ component x e (last x) → (f1 ≤ low) × ((f2 - d ≤ low) × ((low ≡ f1) ⊎ (low ≡ f2 - d)))
+    reach-made : (f1 t1 end f2 t2 d low top : ℕ) → d ≡ component x e (last x) → (f1 ≤ low) × ((f2 - d ≤ low) × ((low ≡ f1) ⊎ (low ≡ f2 - d)))
         → top ≡ min (min t1 end) (t2 - d)
         → RunIs x i (inPlace x) f1 t1 → RowEnd x w i e end → RunIs x t (inPlace x) f2 t2 → RunIs x i (reachesPlace x w e) low top
     reach-made f1 t1 end f2 t2 d low top z m n own ends far =
