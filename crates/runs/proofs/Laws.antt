@@ -4,7 +4,7 @@ use mathlib.Core.Path.{_≡_, refl, sym, ap, _∙_}
 use mathlib.Core.Logic.{_⊎_, inl, inr}
 use mathlib.Core.Bool.{Bool, true, false}
 use mathlib.Core.List.{List, [], _∷_, _++_, append-assoc, append-nil}
-use native.Mathlib.Nat.{add-zero, add-assoc}
+use native.Mathlib.Nat.{add-zero}
 use native.Mathlib.Numerals.{add-one}
 use native.Mathlib.Decide.{decLt}
 use native.Mathlib.Omega.{arith}
@@ -87,7 +87,7 @@ module _ (starts ends : List ℕ) (n c a : ℕ) where
   unfolding hitRow
   hit-none y h = rw (add-one y, h) (append-nil (hitRow starts ends n c a y))
 
-  pub hit-few : (y : ℕ) → length (hitRow starts ends n c a y) ≤ y
+  hit-few : (y : ℕ) → length (hitRow starts ends n c a y) ≤ y
   unfolding hitRow
   hit-few zero = omega arith
   hit-few (suc y) = go (isHit starts ends n (a + y)) (hit-few y)
@@ -104,7 +104,7 @@ module _ (starts ends : List ℕ) (n c a : ℕ) where
       let h = hit-more-few y m in
       rw e (simp length-append (omega arith))
 
-  pub hit-upto : (y w : ℕ) → y ≤ w → length (hitRow starts ends n c a y) ≤ length (hitRow starts ends n c a w)
+  hit-upto : (y w : ℕ) → y ≤ w → length (hitRow starts ends n c a y) ≤ length (hitRow starts ends n c a w)
   hit-upto y w h = let e : y + (w - y) ≡ w = omega arith in rw e at (hit-more-few y (w - y))
 
   -- by pieces
@@ -124,7 +124,7 @@ module _ (starts ends : List ℕ) (n c a : ℕ) where
       let e : y + suc m ≡ y + m + 1 = omega arith in
       ap (hitRow starts ends n c a) e ∙ hit-none (y + m) (h (a + (y + m)) (omega arith) (omega arith)) ∙ hit-nowhere y m (λ i l o. h i l (omega arith))
 
-  pub hit-piece : (b at end hits : ℕ) → a ≤ at → PieceIs starts ends n at b end hits
+  hit-piece : (b at end hits : ℕ) → a ≤ at → PieceIs starts ends n at b end hits
       → hitRow starts ends n c a (end - a) ≡ hitRow starts ends n c a (at - a) ++ cellsFrom (c + (at - a)) hits
   unfolding tabulate
   hit-piece b at end hits l p = go (p .alike)
@@ -143,7 +143,7 @@ module _ (starts ends : List ℕ) (n c a : ℕ) where
       go (inl (k, h)) = rw (sum, k) (hit-all (at - a) (end - at) (rw (over, there) h))
       go (inr (k, h)) = rw (sum, k) (hit-nowhere (at - a) (end - at) (rw (over, there) h) ∙ sym (append-nil (hitRow starts ends n c a (at - a))))
 
-  pub piece-count : (b at end hits : ℕ) → a ≤ at → PieceIs starts ends n at b end hits
+  piece-count : (b at end hits : ℕ) → a ≤ at → PieceIs starts ends n at b end hits
       → length (hitRow starts ends n c a (at - a)) + hits ≡ length (hitRow starts ends n c a (end - a))
   piece-count b at end hits l p =
       omega (
@@ -223,7 +223,7 @@ module _ (to₀ from : List ℕ) (at first : ℕ) where
     copies-end h = let e : y ≡ n = omega (arith, p .low) in rw e at (p .is)
 
   -- what is copied stands behind the words before it
-  pub copied-take : (m : ℕ) → at + m ≤ length to₀ → first + m ≤ length from
+  copied-take : (m : ℕ) → at + m ≤ length to₀ → first + m ≤ length from
       → take (at + m) (unpack to₀ (cellsFrom at m) (part from first m)) ≡ take at to₀ ++ pack from (cellsFrom first m)
   unfolding unpack tabulate part pack
   copied-take zero h l = rw (add-zero at) (sym (append-nil (take at to₀)))
@@ -254,7 +254,7 @@ module _ (starts ends : List ℕ) (n c a w memory words packed : ℕ) (k : Room 
   piece-words =
       omega (arith, is, k .room, piece-count starts ends n c a (a + w) at end hits from q, hit-upto starts ends n c a (end - a) w (omega (arith, q .cut)))
 
-  pub piece-cells : c + (at - a) + hits ≤ memory
+  piece-cells : c + (at - a) + hits ≤ memory
   piece-cells = omega (arith, hits-few, q .some, q .cut, k .low)
 
   pub packs-fit : Fits words memory count (c + (at - a)) hits

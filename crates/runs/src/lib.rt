@@ -1,7 +1,7 @@
 // Rows by runs: where each distance reaches in a row; the cells reached, counted, packed and unpacked, piece by piece.
 ghost use mathlib.Core.Path.{_≡_};
 ghost use mathlib.Core.Logic.{_⊎_};
-ghost use Prim.Native.Nat.{ℕ, _+_, _*_, _≤_, _<_};
+ghost use Prim.Native.Nat.{ℕ, _+_, _≤_, _<_};
 ghost use lib.ListN.{length};
 ghost use Rattle.base.specs.Lists.{part, unpack};
 ghost use Rattle.runs.specs.Runs.{cellsFrom, hitRow, AheadIs, PieceIs, Fits, Room, Packed, Unpacked};

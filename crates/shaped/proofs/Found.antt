@@ -1,5 +1,5 @@
 -- The cells of a slot of a nest with bounds are those found in its box, and in the smaller one of its rows near the window; they grow by rows.
-use Prim.Native.Nat.{ℕ, zero, suc, _+_, _*_, _-_, _/_, _%_, _≤_, _<_}
+use Prim.Native.Nat.{ℕ, zero, suc, _+_, _*_, _-_, _/_, _≤_, _<_}
 use mathlib.Core.Path.{_≡_, refl, sym, ap, _∙_}
 use mathlib.Core.Bool.{Bool, true, false}
 use mathlib.Core.List.{List, [], _∷_, _++_, map, append-assoc, append-nil}
@@ -18,7 +18,7 @@ use Rattle.base.proofs.Lists.{pack-append, unpack-append, unpack-length}
 use Rattle.nest.specs.declared.Nest.{Nest}
 use Rattle.nest.specs.Accepted.{Accepted}
 use Rattle.nest.specs.Nest.{lengthOf, tileLength, component, cells, boxTiles}
-use Rattle.nest.specs.Places.{cellAt, cellPlace, tilePlace, boxTileOf}
+use Rattle.nest.specs.Places.{cellPlace, tilePlace, boxTileOf}
 use Rattle.nest.specs.Shape.{inShape}
 use Rattle.nest.specs.Spans.{last}
 use Rattle.plan.specs.declared.Route.the-variants.{Direct}
@@ -39,7 +39,7 @@ use Rattle.parcels.proofs.Sendings.{size-is}
 use Rattle.parcels.proofs.Rows.{box-within, cell-before, cell-last, cell-number, row-corner}
 use Rattle.runs.specs.Runs.{isHit, hitRow, Packed, Unpacked}
 use Rattle.runs.proofs.Laws.{hit-start, hit-one, hit-none}
-use Rattle.shaped.specs.Runs.{inPlace, reachesPlace, comesShaped}
+use Rattle.shaped.specs.Runs.{reachesPlace, comesShaped}
 use Rattle.shaped.specs.Parcels.{shapedFound, Near, RowRuns}
 use Rattle.shaped.proofs.Runs.{place-same, shape-cell, shape-at}
 
@@ -77,8 +77,10 @@ module _ (x : Nest) (ok : Accepted x) where
         let r = some-at (reachesShape x t v c) (x .distances) (q .1) in
         let m = both (r .2) in
         let d = both (m .0) in
-        let stays : (j : ℕ) → j < x .dimensions → cellPlace x c j + component x (r .0) j < lengthOf x j = λ j l. ltb-true _ _ (every-at _ (x .dimensions) (d .0) j l) in
-        let steps : (j : ℕ) → j < x .spread → (cellPlace x c j + component x (r .0) j) / tileLength x j ≡ tilePlace x t j + ahead x v j = λ j l. eqb-true _ _ (every-at _ (x .spread) (d .1) j l) in
+        let stays : (j : ℕ) → j < x .dimensions → cellPlace x c j + component x (r .0) j < lengthOf x j =
+        λ j l. ltb-true _ _ (every-at _ (x .dimensions) (d .0) j l) in
+        let steps : (j : ℕ) → j < x .spread → (cellPlace x c j + component x (r .0) j) / tileLength x j ≡ tilePlace x t j + ahead x v j =
+        λ j l. eqb-true _ _ (every-at _ (x .spread) (d .1) j l) in
         let own : (j : ℕ) → j < x .dimensions → cellPlace x c j / tileLength x j ≡ tilePlace x t j =
         λ j l. sym (tilePlace-boxTileOf x ok c j l) ∙ ap (λ (u : ℕ). tilePlace x u j) (eqb-true _ _ (q .0)) in
         and-true
@@ -102,7 +104,8 @@ module _ (x : Nest) (ok : Accepted x) where
         (and-true
         (and-true (every-all (λ j. ltb (cellPlace x c j + component x (r .0) j) (lengthOf x j)) (x .dimensions) (λ j l. lt-ltb _ _ (stays j l)))
         (every-all (λ j. eqb ((cellPlace x c j + component x (r .0) j) / tileLength x j) (tilePlace x t j + ahead x v j)) (x .spread)
-        (λ j s. eq-eqb ((cellPlace x c j + component x (r .0) j) / tileLength x j) (tilePlace x t j + ahead x v j) (let p = steps j s in omega (arith, p .0, p .1)))))
+        (λ j s. eq-eqb ((cellPlace x c j + component x (r .0) j) / tileLength x j) (tilePlace x t j + ahead x v j)
+        (let p = steps j s in omega (arith, p .0, p .1)))))
         (shape-at x ok (λ j. cellPlace x c j + component x (r .0) j) stays ∙ n .1))))
 
     shaped-test : crossesShape ≡ shapedTest

@@ -1,22 +1,22 @@
 -- Bounds met in a whole box, and the parcels of a tile that lies wholly inside the shape: they are those of the box.
 use Prim.Native.Nat.{ℕ, suc, _+_, _*_, _-_, _/_, _≤_, _<_}
 use mathlib.Core.Path.{_≡_, refl, sym, ap, _∙_}
-use mathlib.Core.Bool.{Bool, true, false}
+use mathlib.Core.Bool.{true}
 use mathlib.Core.List.{List}
 use native.Mathlib.Decide.{ℕ-discrete}
 use native.Mathlib.Nat.{mul-le-mul, suc-mul}
 use native.Mathlib.Numerals.{add-one}
 use native.Mathlib.Omega.{arith}
-use lib.ListN.{length, getD}
-use lib.Dec.{eqb, ltb, leb}
-use borrow.Author.Tests.{eqb-true, eq-eqb, ne-eqb, ltb-true, le-leb, leb-true}
+use lib.ListN.{getD}
+use lib.Dec.{eqb}
+use borrow.Author.Tests.{eqb-true, eq-eqb, ne-eqb, ltb-true, le-leb}
 use Rattle.base.specs.Tests.{_and_, every, some}
 use Rattle.base.proofs.Tests.{both, and-true, same-test, every-at, every-more, some-at, some-one, pick-true, pick-false}
 use Rattle.base.proofs.Select.{keep-same}
 use Rattle.nest.specs.declared.Nest.{Nest}
 use Rattle.nest.specs.Accepted.{Accepted}
-use Rattle.nest.specs.Nest.{lengthOf, tileLength, component, side, bounded, earlier, slope, offset, cells, boxTiles}
-use Rattle.nest.specs.Places.{cellAt, cellPlace, tilePlace, boxTileOf}
+use Rattle.nest.specs.Nest.{lengthOf, tileLength, component, side, bounded, earlier, slope, offset, cells}
+use Rattle.nest.specs.Places.{cellPlace, tilePlace, boxTileOf}
 use Rattle.nest.specs.Shape.{level, raised, meets, inShape}
 use Rattle.plan.specs.Geometry.{inside}
 use Rattle.plan.specs.Messages.{reaches, crosses, parcel}

@@ -5,7 +5,6 @@ use native.Mathlib.Omega.{arith}
 use borrow.Author.Tests.{not-false}
 use Rattle.base.proofs.Tests.{never-both}
 use Rattle.shaped.proofs.Tiles as T
-use borrow.Author.Needs.{needs}
 use Rattle.shaped.proofs.inside.Statement.{statement}
 use Rattle.shaped.proofs.inside.Tie as tie
 

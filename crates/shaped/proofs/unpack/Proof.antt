@@ -18,7 +18,9 @@ rows-at-requires : tie.Need-rows-at-requires Inv-loop μ-loop
 rows-at-requires c κs = c .before .before .pre .0
 
 sub-last : tie.Need-sub-last Inv-loop μ-loop
-sub-last c = omega (arith, c .before .before .before .before .before .before .pre .0 .0 .accepted .dimensions-least)
+sub-last c =
+    let start = c .before .before .before .before .before .before in
+    omega (arith, start .pre .0 .0 .accepted .dimensions-least)
 
 loop-holds : tie.Need-loop-holds Inv-loop μ-loop
 loop-holds c = unpacking-none _ _ _ _
@@ -51,36 +53,45 @@ array-read-unpack-row c =
 
 unpack-row-requires : tie.Need-unpack-row-requires Inv-loop μ-loop
 unpack-row-requires c κs =
-    let at-row = c .before .before .before .before .before .before .before in
-    let at-loop = at-row .before .before .before .loop in
-    let at-rows = at-row .before .before .before .before .before .before .before in
+    let at-rank = c .before .before .before in
+    let at-row = at-rank .before .before .before .before in
+    let at-test = at-row .before .before in
+    let at-loop = at-test .before .loop in
+    let at-rows = at-test .before .before .before .before .before in
     let start = at-rows .before .before .before in
-    L.row-room _ (start .pre .0 .0 .accepted) _ (at-rows .rows-at .ensures .shape) _ (at-row .before .before .loop-test .taken) _ _ _ _ (at-row .row-of .ensures) _
-    (at-loop .inv .counted) _ (c .before .before .before .rank .ensures) _ _ (unpacking-long _ _ _ _ _ _ _ (at-loop .inv) ∙ start .pre .1 .0) (L.words-found _ _ _ _ (at-rows .rows-at .ensures) _ (start .pre .1 .1))
+    L.row-room _ (start .pre .0 .0 .accepted) _ (at-rows .rows-at .ensures .shape) _ (at-test .loop-test .taken) _ _ _ _
+    (at-row .row-of .ensures) _ (at-loop .inv .counted) _ (at-rank .rank .ensures) _ _
+    (unpacking-long _ _ _ _ _ _ _ (at-loop .inv) ∙ start .pre .1 .0)
+    (L.words-found _ _ _ _ (at-rows .rows-at .ensures) _ (start .pre .1 .1))
 
 add-r : tie.Need-add-r Inv-loop μ-loop
 add-r c =
-    let at-rows = c .before .before .before .before .before .before .before .before .before .before .before .before .before .before .before .before .before in
-    omega (arith, c .before .before .before .before .before .before .before .before .before .before .before .before .loop-test .taken, rows-few _ (at-rows .before .before .before .pre .0 .0 .accepted) _ (at-rows .rows-at .ensures .shape))
+    let at-test = c .before .before .before .before .before .before .before .before .before .before .before .before in
+    let at-rows = at-test .before .before .before .before .before in
+    omega (arith, at-test .loop-test .taken, rows-few _ (at-rows .before .before .before .pre .0 .0 .accepted) _ (at-rows .rows-at .ensures .shape))
 
 loop-less : tie.Need-loop-less Inv-loop μ-loop
-loop-less c = omega (arith, c .before .before .before .before .before .before .before .before .before .before .before .before .loop-test .taken)
+loop-less c =
+    let at-loop-test = c .before .before .before .before .before .before .before .before .before .before .before .before in
+    omega (arith, at-loop-test .loop-test .taken)
 
 loop-again : tie.Need-loop-again Inv-loop μ-loop
 loop-again c =
     let at-rank = c .before .before .before .before .before .before in
     let at-row = at-rank .before .before .before .before in
-    let at-loop = at-row .before .before .before .loop in
-    let at-rows = at-row .before .before .before .before .before .before .before in
+    let at-test = at-row .before .before in
+    let at-loop = at-test .before .loop in
+    let at-rows = at-test .before .before .before .before .before in
     let start = at-rows .before .before .before in
-    unpacking-row _ _ (start .pre .0 .0 .accepted) (at-rows .rows-at .ensures .shape) _ (at-row .before .before .loop-test .taken) _ _ _ _ (at-row .row-of .ensures) _
-    (at-rank .rank .ensures ∙ row-number (start .args .nest) (at-rows .rows-at .result) (at-loop .r) _ (at-row .row-of .ensures .place)) _ _ _ _ (at-loop .inv)
+    unpacking-row _ _ (start .pre .0 .0 .accepted) (at-rows .rows-at .ensures .shape) _ (at-test .loop-test .taken) _ _ _ _
+    (at-row .row-of .ensures) _
+    (at-rank .rank .ensures ∙ row-number (start .args .nest) (at-rows .rows-at .result) (at-loop .r) _ (at-row .row-of .ensures .place))
+    _ _ _ _ (at-loop .inv)
     (omega (
       arith,
       L.words-found _ _ _ _ (at-rows .rows-at .ensures) _ (start .pre .1 .1),
       counting-upto _ _ _ _ (at-loop .inv .counted),
-    )) _ _
-    (c .before .before .unpack-row .ensures)
+    )) _ _ (c .before .before .unpack-row .ensures)
 
 same-length : tie.Need-same-length Inv-loop μ-loop
 same-length c = unpacking-long _ _ _ _ _ _ _ (c .before .loop .inv)

@@ -1,6 +1,5 @@
 -- `shaped::whole` meets its contract.
 use Rattle.shaped.proofs.Tiles as T
-use borrow.Author.Needs.{needs}
 use Rattle.shaped.proofs.whole.Statement.{statement}
 use Rattle.shaped.proofs.whole.Tie as tie
 

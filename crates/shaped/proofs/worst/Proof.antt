@@ -1,7 +1,6 @@
 -- `shaped::worst` meets its contract.
 use mathlib.Core.Path.{refl}
 use native.Mathlib.Omega.{arith}
-use borrow.Author.Needs.{needs}
 use Rattle.shaped.proofs.worst.Statement.{statement}
 use Rattle.shaped.proofs.worst.Tie as tie
 
