@@ -68,11 +68,11 @@ module _ (bytes : List ℕ) (route b : ℕ) (r : Board) (o : Opens bytes route b
     abbrev called : Answered A
     called = answered (firstOf (boardLines bytes route b ++ lines (recipe bytes route))) (new (recipe bytes route)) old
 
-    closed : r .number ≢ 0 → answer (r .number) old ≡ called
+    pub closed : r .number ≢ 0 → answer (r .number) old ≡ called
     closed h =
         call-read (boardLines bytes route b) numbered-board (lines (recipe bytes route)) (r .number) (new (recipe bytes route)) old (o .number) h
 
-    opened : r .number ≡ 0 → (a : Answered A)
+    pub opened : r .number ≡ 0 → (a : Answered A)
         → a ≡ answered (firstOf (lines (planOf (r .sizes .route) (r .nest)))) (new (planOf (r .sizes .route) (r .nest))) old → a ≡ called
     opened z a e =
         e

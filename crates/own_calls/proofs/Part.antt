@@ -1,29 +1,25 @@
 -- Laws of one processor's part and of the areas that have it: what is put in is taken out again, and where a handled message stands in the part.
-use Prim.Native.Nat.{ℕ, zero, suc, _+_, _*_, _≤_, _<_}
+use Prim.Native.Nat.{ℕ, zero, suc, _+_, _≤_, _<_}
 use mathlib.Core.Path.{_≡_, refl, sym, ap, _∙_}
-use mathlib.Core.Logic.{_⊎_, inl, inr, _≢_}
+use mathlib.Core.Logic.{_⊎_, inl, inr}
 use mathlib.Core.Bool.{Bool, true, false}
 use mathlib.Core.List.{List, [], _∷_, _++_, append-assoc}
 use native.Mathlib.Omega.{arith}
 use native.Mathlib.Decide.{ℕ-discrete}
 use native.Mathlib.Nat.{eq-or-lt-of-le, le-of-suc-le-suc}
-use lib.ListN.{length, getD, take, drop, set, replicate, length-append, length-drop, length-set, take-append-drop}
+use lib.ListN.{length, getD, take, drop, set, length-append, length-drop, length-set, take-append-drop}
 use lib.Seq.{take-append-seam, drop-append-seam, length-take-le, getD-set-same, getD-set-other, ext-getD}
-use lib.Dec.{eqb, leb}
-use borrow.Author.Tests.{eqb-true, eq-eqb}
-use Rattle.base.specs.Tests.{_and_, _or_, keepIf, keep, every}
+use Rattle.base.specs.Tests.{_or_, keepIf, keep}
 use Rattle.base.specs.Lists.{In, Rising, part, put, setAll, allAt, unpack, pack}
-use Rattle.base.proofs.Tests.{both, or-left, or-right, every-at, every-all, same-test}
-use Rattle.base.proofs.Select.{in-append, keep-in, in-keep, keep-rising, keep-hit, keep-lt, keep-at, at-keep}
-use Rattle.base.proofs.Lists.{AllBelow, part-length, length-put, unpack-length, pack-length}
-use Rattle.base.proofs.Entries.{pack-at, at-in, unpack-at, unpack-other}
+use Rattle.base.proofs.Select.{in-append, keep-in, keep-lt, keep-at, at-keep}
+use Rattle.base.proofs.Lists.{AllBelow, part-length, length-put, pack-length}
+use Rattle.base.proofs.Entries.{pack-at, unpack-at}
 use Rattle.machine.specs.Plan.{Plan, count, heldBy, offset, words}
-use Rattle.machine.specs.Machine.{State, placeOf}
+use Rattle.machine.specs.Machine.{placeOf}
 use Rattle.machine.proofs.Values.{offset-apart}
-use Rattle.apart.specs.Apart.{senderAt, takerAt}
-use Rattle.apart.specs.Own.{handles, handled, mailOf, putMail}
+use Rattle.apart.specs.Own.{mailOf, putMail}
 use Rattle.apart.proofs.Letters.{words-fit, words-there, words-other}
-use Rattle.own.specs.Part.{wordsOf, rankOf, mailAt}
+use Rattle.own.specs.Part.{wordsOf}
 
 -- ---- selections
 
@@ -197,7 +193,8 @@ module _ (p : Plan) where
           mail-like (keep f m) y x (λ k i. words-other p x m ws long lo n k (before-low k i) (λ q. let z = keep-in f m k i .0 in omega (arith, z, q))) in
           let b : placeOf p (put x (offset (p .messages) m) ws) m ≡ ws = words-there p x m ws long lo n in
           let c : mailOf p (put x (offset (p .messages) m) ws) behind ≡ mailOf p x behind =
-          mail-like behind y x (λ k i. let z = keep-split f (count p) m lo e .2 k i in words-other p x m ws long lo n k (z .1) (λ q. let w = z .0 in omega (arith, w, q))) in
+          mail-like behind y x
+          (λ k i. let z = keep-split f (count p) m lo e .2 k i in words-other p x m ws long lo n k (z .1) (λ q. let w = z .0 in omega (arith, w, q))) in
           mail-cut y
           ∙ (let d : mailOf p (put x (offset (p .messages) m) ws) (keep f m)
           ++ (placeOf p (put x (offset (p .messages) m) ws) m ++ mailOf p (put x (offset (p .messages) m) ws) behind)

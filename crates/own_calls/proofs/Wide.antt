@@ -1,33 +1,33 @@
 -- Laws of the areas that have a lent part: each area, the record's words, fit, and the part of them after a stage.
 use Prim.Native.Nat.{ℕ, zero, suc, _+_, _*_, _≤_, _<_}
 use mathlib.Core.Path.{_≡_, refl, sym, ap, _∙_}
-use mathlib.Core.Logic.{_⊎_, inl, inr, _≢_}
+use mathlib.Core.Logic.{_≢_}
 use mathlib.Core.Bool.{Bool, true, false}
 use mathlib.Core.List.{List, [], _∷_}
 use native.Mathlib.Omega.{arith}
 use native.Mathlib.Decide.{ℕ-discrete}
-use lib.ListN.{length, getD, set, replicate, length-replicate, getD-replicate}
+use lib.ListN.{length, getD, set, replicate, length-replicate}
 use lib.Seq.{ext-getD}
-use lib.Dec.{eqb, leb, ltb}
+use lib.Dec.{eqb, leb}
 use borrow.Author.Tests.{eqb-true, eq-eqb, leb-true, le-leb}
-use Rattle.base.specs.Tests.{_and_, _or_, pick, keep, every}
-use Rattle.base.specs.Lists.{In, part, put, setAll, allAt, unpack, pack, storeAll}
+use Rattle.base.specs.Tests.{_and_, _or_, every}
+use Rattle.base.specs.Lists.{In, part, put, unpack, pack}
 use Rattle.base.proofs.Tests.{both, and-true, or-left, or-right, every-at, every-all, same-test, never-both}
-use Rattle.base.proofs.Select.{keep-in, in-keep, keep-rising, keep-lt, at-keep, those-in}
-use Rattle.base.proofs.Lists.{part-length, piece-fits, piece-same, piece-length, unpack-length, pack-length, store-length, setAll-length}
-use Rattle.base.proofs.Entries.{part-at, pack-at, unpack-other}
-use Rattle.machine.specs.Plan.{Plan, count, senderOf, takerOf, heldBy, offset, words, sendsOf, duesOf, tilesOf}
-use Rattle.machine.specs.Machine.{State, stateOf, finishedOf, stageOf, sentOf, setProgress, memoryOf, placeOf, fitRecord, fit, unpackAll, afterSends}
-use Rattle.machine.specs.Machine.{gather, calculate, send, carryOut, fresh}
+use Rattle.base.proofs.Select.{keep-in, keep-rising, keep-lt, at-keep, those-in}
+use Rattle.base.proofs.Lists.{part-length, piece-fits, piece-same, piece-length, unpack-length}
+use Rattle.base.proofs.Entries.{part-at, unpack-other}
+use Rattle.machine.specs.Plan.{Plan, count, senderOf, takerOf, heldBy, offset, words, sendsOf, duesOf}
+use Rattle.machine.specs.Machine.{State, stateOf, finishedOf, stageOf, sentOf, setProgress, memoryOf, placeOf, fitRecord, fit}
+use Rattle.machine.specs.Machine.{fresh}
 use Rattle.machine.proofs.Records.{SameRecord, record-other, record-length, finished-same, stage-same, sent-same, fitAt, fit-is}
 use Rattle.machine.proofs.Progress.{Shape}
 use Rattle.machine.proofs.Fresh.{inv-fresh, status-fresh}
 use Rattle.apart.specs.Apart.{senderAt, takerAt}
-use Rattle.apart.specs.Own.{handles, keeps, keptCells, handled, mailOf, putMail, narrowed, widened}
-use Rattle.own.specs.Part.{partOf, lentOf, wordsOf, rankOf, mailAt, partFits}
+use Rattle.apart.specs.Own.{handles, keeps, keptCells, handled, mailOf, narrowed, widened}
+use Rattle.own.specs.Part.{partOf, lentOf, rankOf, mailAt, partFits}
 use Rattle.own_calls.specs.Calls.{wide, narrow}
-use Rattle.own_calls.specs.Step.{PartLengths, Placed, unpackFrom}
-use Rattle.own_calls.proofs.Part.{pack-unpack, rank-at, rank-set, ranks-set, ranks-all, mail-part, mail-put, put-mail-long, mail-back, words-room}
+use Rattle.own_calls.specs.Step.{PartLengths}
+use Rattle.own_calls.proofs.Part.{pack-unpack, rank-at, rank-set, mail-part, mail-put, put-mail-long, mail-back, words-room}
 
 -- ---- what a processor handles
 module _ (p : Plan) (b : ℕ) where

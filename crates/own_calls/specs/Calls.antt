@@ -1,21 +1,20 @@
 -- The calls for one processor that is lent its own part alone, each from the recipe's bytes, the word that names its route, the processor and its part.
 -- Renders document 01, "The machine" and "Numbers a call gives", for a board with memory for nothing else: a call's number, and what it leaves, are those of
 -- the machine on areas that have this part (`widened`, apart/specs/Own). 11 comes before 9 here: the processor decides how long its areas are.
-use Prim.Native.Nat.{ℕ, zero, suc, _*_}
+use Prim.Native.Nat.{ℕ, _*_}
 use mathlib.Core.Bool.{Bool}
 use mathlib.Core.List.{List, [], _∷_, _++_}
-use lib.ListN.{length, getD, set}
+use lib.ListN.{length, getD}
 use lib.Dec.{ltb, eqb}
-use Rattle.base.specs.Tests.{_and_, not, pick, keep, tabulate}
-use Rattle.base.specs.Lists.{unpack, pack}
+use Rattle.base.specs.Tests.{_and_, not, pick, tabulate}
 use Rattle.base.specs.Numbers.{Line, line, firstOf}
-use Rattle.machine.specs.Plan.{Plan, count, senderOf, takerOf, heldBy}
-use Rattle.machine.specs.Machine.{State, stateOf, memoryOf, tilesLeft, fitRecord, fit, Answered, answered, carryOut, nextAction, turnLines, deliverLines, fresh}
+use Rattle.machine.specs.Plan.{Plan, senderOf, takerOf, heldBy}
+use Rattle.machine.specs.Machine.{State, memoryOf, tilesLeft, fitRecord, fit, Answered, answered, carryOut, nextAction, turnLines, deliverLines, fresh}
 use Rattle.layout.specs.Sizes.{routeOf}
 use Rattle.routes.specs.Routes.{linesFor}
 use Rattle.engine.specs.Calls.{recipe}
 use Rattle.apart.specs.Apart.{senderAt, takerAt, marked, received}
-use Rattle.apart.specs.Own.{owns, handles, ownCells, keptCells, handled, narrowed, widened, sourceOf}
+use Rattle.apart.specs.Own.{owns, ownCells, keptCells, handled, narrowed, widened, sourceOf}
 use Rattle.mail.specs.Calls.{takes, asLong}
 use Rattle.own.specs.Part.{partOf, lentOf, wordsOf, mailAt, partFits}
 

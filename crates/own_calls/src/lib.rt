@@ -7,6 +7,7 @@ ghost use Rattle.engine.specs.Calls.{answer};
 ghost use Rattle.own_calls.specs.Calls.{ownSizesCall, ownMessagesCall, ownFreshCall, ownPostCall, ownArriveCall, ownCollectCall};
 
 pub mod core; // core.rt: what the calls share, and the calls without the form of the record
+pub mod turn; // turn.rt: a turn, likewise
 
 use records::flat_of;
 
