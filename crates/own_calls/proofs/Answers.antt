@@ -41,8 +41,10 @@ use Rattle.mail.proofs.Taking.{long-here}
 use Rattle.own.specs.Part.{lentOf, wordsOf, rankOf, mailAt, partFits}
 use Rattle.own.proofs.Handling.{words-append}
 use Rattle.own_calls.specs.Calls.{wide, narrow, boardLines, lengthsOf, ownSizesCall, ownFreshCall, ownPostCall, ownArriveCall}
+use Rattle.own_calls.specs.Calls.{ownRows, ownMessagesCall, ownCollected, ownCollectCall}
 use Rattle.own_calls.specs.declared.core.Board.{Board}
 use Rattle.own_calls.specs.Given.{Opens, unfitLines, freshOr, postLines, postedOr, arriveLines, arrivesOr, markIn, handedOver, MayArrive, arrivedOr}
+use Rattle.own_calls.specs.Given.{collectLines, collectedOr, rowsOr}
 use Rattle.own_calls.specs.Step.{PartLengths}
 use Rattle.own_calls.proofs.Part.{words-room}
 use Rattle.own_calls.proofs.Front.{unfit-none}
@@ -475,3 +477,29 @@ module _ (p : Plan) (b : ℕ) (m u t : List ℕ) (f : Flat) (room : length (f .w
 
   pub may-arrive : (k : ℕ) (ws : List ℕ) → asLong p k ws ≡ true → MayArrive p b u t k ws
   may-arrive k ws h = record { mail-long = part-lent .mail; marks-long = part-lent .marks; long = h }
+
+-- ---- past the first lines: the rows and collecting
+
+module _ (bytes : List ℕ) (route b : ℕ) (r : Board) (o : Opens bytes route b r) where
+  module _ (out : List ℕ) where
+    abbrev rowLines : Plan → List Line
+    rowLines p = line 9 (not (eqb (length out) (7 * length (handled p b)))) ∷ []
+
+    pub messages-read : r .number ≢ 0 → answer (r .number) out ≡ ownMessagesCall bytes route b out
+    unfolding ownMessagesCall
+    messages-read h = closed bytes route b r o rowLines (λ p. ownRows p b (handled p b)) out h
+
+    pub messages-past : r .number ≡ 0 → (a : Answered (List ℕ)) → a ≡ rowsOr (planOf (r .sizes .route) (r .nest)) b out
+        → a ≡ ownMessagesCall bytes route b out
+    unfolding ownMessagesCall
+    messages-past z a e = opened bytes route b r o rowLines (λ p. ownRows p b (handled p b)) out z a e
+
+  module _ (s : State) (grid : List ℕ) where
+    pub collect-read : r .number ≢ 0 → answer (r .number) grid ≡ ownCollectCall bytes route s b grid
+    unfolding ownCollectCall
+    collect-read h = closed bytes route b r o (λ p. collectLines p b s grid) (λ p. ownCollected p b s grid) grid h
+
+    pub collect-past : r .number ≡ 0 → (a : Answered (List ℕ)) → a ≡ collectedOr (planOf (r .sizes .route) (r .nest)) b s grid
+        → a ≡ ownCollectCall bytes route s b grid
+    unfolding ownCollectCall
+    collect-past z a e = opened bytes route b r o (λ p. collectLines p b s grid) (λ p. ownCollected p b s grid) grid z a e

@@ -188,22 +188,33 @@ module _ (x : Nest) (z : Sizes) (b : ℕ) where
         ∙ (let w : i ∷ j ∷ getD place n 0 ∷ getD rank n 0 ∷ []
         ≡ length (ownCells q b) ∷ length (keptCells q b) ∷ wordsOf q (handled q b) ∷ length (handled q b) ∷ [] = cc in w)
 
+  -- what comes back into an array's front
+  module _ (g : Sized x z) (old ys : List ℕ) (e : length old ≡ 16384) (n : length ys ≡ length (take (z .cells) old)) where
+    pub back-room : z .cells ≤ length (ys ++ drop (z .cells) old)
+    back-room = omega (arith, same-long (z .cells) old ys (cells-fit g old e) n, cells-fit g old e)
+
+    pub back-lent : z .cells ≡ length (take (z .cells) (ys ++ drop (z .cells) old))
+    back-lent = sym (front-long (z .cells) (z .cells) (ys ++ drop (z .cells) old) refl back-room)
+
+    pub back-is : take (z .cells) (ys ++ drop (z .cells) old) ≡ ys
+    back-is = front-back (z .cells) old ys (cells-fit g old e) n (z .cells) refl
+
   -- the marks of its own cells, in an array's front
   module _ (g : Sized x z) (old marks : List ℕ) (e : length old ≡ 16384) (is : marks ≡ tabulate (λ c. one (owns q b c)) (cells x)) where
     own-long : length marks ≡ length (take (z .cells) old)
     own-long = ap length is ∙ length-tabulate (λ c. one (owns q b c)) (cells x) ∙ sym (lent-long g old e)
 
     pub marks-room : z .cells ≤ length (marks ++ drop (z .cells) old)
-    marks-room = omega (arith, same-long (z .cells) old marks (cells-fit g old e) own-long, cells-fit g old e)
+    marks-room = back-room g old marks e own-long
 
     pub marks-lent : z .cells ≡ length (take (z .cells) (marks ++ drop (z .cells) old))
-    marks-lent = sym (front-long (z .cells) (z .cells) (marks ++ drop (z .cells) old) refl marks-room)
+    marks-lent = back-lent g old marks e own-long
 
-    pub own-many : (n : ℕ) → n ≡ length (keep (markedAt (take (z .cells) (marks ++ drop (z .cells) old))) (length (take (z .cells) (marks ++ drop (z .cells) old))))
-        → (n ≡ length (ownCells q b)) × (n ≤ 16384)
+    pub own-many : (n : ℕ) → n ≡ length (keep (markedAt (take (z .cells) (marks ++ drop (z .cells) old)))
+        (length (take (z .cells) (marks ++ drop (z .cells) old)))) → (n ≡ length (ownCells q b)) × (n ≤ 16384)
     own-many n k =
         let f : n ≡ length (ownCells q b) =
-        k ∙ ap length (marks-keep (owns q b) (cells x) _ (front-back (z .cells) old marks (cells-fit g old e) own-long (z .cells) refl ∙ is)) in
+        k ∙ ap length (marks-keep (owns q b) (cells x) _ (back-is g old marks e own-long ∙ is)) in
         (f, omega (arith, f, keep-few (owns q b) (cells x), g .accepted .cells-most))
 
 -- ---- line 9
@@ -251,6 +262,12 @@ module _ (p : Plan) (b : ℕ) (s : State) where
       let c = none-first 10 (not (fit p (wide p b s))) [] (λ q. omega arith) (a .1) in
       (true-not (a .0), true-not (c .0))
 
+-- the three words of a record as a call reads them
+pub carried-word : (f : Flat) (l : List ℕ) → Carries f l → length l ≡ 3 → (i : ℕ) → i < 3 → getD (f .words) i 0 ≡ getD l i 0
+carried-word f l k e i h =
+    let n : i < length l = omega (arith, h, e) in
+    sym (front-at (length l) (f .words) i n) ∙ ap (λ (z : List ℕ). getD z i 0) (k .kept (omega (arith, e)))
+
 -- line 10 by the words of the record that a call reads, and by the marks; `r` is what the code says of the lengths
 module _ (p : Plan) (b : ℕ) (low : b < p .processors) (m u l t : List ℕ) (r : Bool) (is : r ≡ partFits p b (stateOf m u l t)) where
   abbrev s : State
@@ -269,15 +286,11 @@ module _ (p : Plan) (b : ℕ) (low : b < p .processors) (m u l t : List ℕ) (r 
     module _ (f : Flat) (k : Carries f l) (v : Bool)
         (says : (w : State) → getD (f .words) 0 0 ≡ finishedOf w b → getD (f .words) 1 0 ≡ stageOf w b → getD (f .words) 2 0 ≡ sentOf w b
         → v ≡ fitRecord p w b) where
-      word : (i : ℕ) → i < 3 → getD (f .words) i 0 ≡ getD l i 0
-      word i h =
-          let n : i < length l = omega (arith, h, g .progress) in
-          sym (front-at (length l) (f .words) i n) ∙ ap (λ (z : List ℕ). getD z i 0) (k .kept (omega (arith, g .progress)))
-
       e : v ≡ fitRecord p (wide p b s) b
       e =
-          says (wide p b s) (word 0 (omega arith) ∙ sym (wide-finished p b s low g)) (word 1 (omega arith) ∙ sym (wide-stage p b s low g))
-          (word 2 (omega arith) ∙ sym (wide-sent p b s low g))
+          says (wide p b s) (carried-word f l k (g .progress) 0 (omega arith) ∙ sym (wide-finished p b s low g))
+          (carried-word f l k (g .progress) 1 (omega arith) ∙ sym (wide-stage p b s low g))
+          (carried-word f l k (g .progress) 2 (omega arith) ∙ sym (wide-sent p b s low g))
 
       pub ten-record : v ≡ false → 10 ≡ firstOf (unfitLines p b s)
       ten-record h = unfit-10 p b s (sym is ∙ yes) (wide-fit p b s low g ∙ and-false _ _ (sym e ∙ h))

@@ -2,6 +2,8 @@ pub mod Part
 pub mod Wide
 pub mod Front
 pub mod Answers
+pub mod Collecting
+pub mod Rows
 pub mod After
 pub mod Working
 pub mod Stage

@@ -1,6 +1,6 @@
 -- What the code below the calls for one processor is given and gives: the nest of an accepted recipe, its table, the processor's cells and messages found once.
 -- No sentence of document 01; the contracts of the functions below the offered calls cite it.
-use Prim.Native.Nat.{ℕ, _≤_, _<_}
+use Prim.Native.Nat.{ℕ, _*_, _≤_, _<_}
 use mathlib.Core.Path.{_≡_}
 use mathlib.Core.Bool.{true}
 use mathlib.Core.List.{List, [], _∷_}
@@ -10,7 +10,7 @@ use Rattle.base.specs.Tests.{_and_, not, pick, one, tabulate}
 use Rattle.base.specs.Lists.{put}
 use Rattle.base.specs.Numbers.{Line, line, firstOf}
 use Rattle.machine.specs.Plan.{Plan, count}
-use Rattle.machine.specs.Machine.{State, stateOf, fit, Answered, answered, deliverLines, fresh}
+use Rattle.machine.specs.Machine.{State, stateOf, tilesLeft, fitRecord, fit, Answered, answered, deliverLines, fresh}
 use Rattle.nest.specs.declared.Nest.{Nest}
 use Rattle.nest.specs.Nest.{cells, processors}
 use Rattle.plan.specs.Shaped.{planOf}
@@ -23,7 +23,7 @@ use Rattle.apart.specs.Own.{keeps, handles, handled}
 use Rattle.mail.specs.Calls.{takes, asLong}
 use Rattle.mail.specs.Given.{Planned}
 use Rattle.own.specs.Part.{wordsOf, rankOf, mailAt, partFits}
-use Rattle.own_calls.specs.Calls.{wide, narrow, boardLines}
+use Rattle.own_calls.specs.Calls.{wide, narrow, boardLines, ownRows, ownCollected, collectFits}
 use Rattle.own_calls.specs.declared.core.Board.{Board}
 
 -- the first lines of a call; where none is true, the recipe's nest, and the processor is one of its
@@ -91,3 +91,22 @@ abbrev pub arrivedOr : Plan → ℕ → State → ℕ → List ℕ → Answered 
 arrivedOr p b s m words =
     answered (firstOf (line 11 (not (takes p b m)) ∷ line 14 (not (eqb (markIn p b (s .status) m) 0)) ∷ []))
     (stateOf (s .memories) (put (s .buffer) (mailAt p b m) words) (s .progress) (set (s .status) (rankOf p b m) 2)) s
+
+-- ---- collecting
+
+-- a cell's word: outside the shape the boundary's, of an own cell the memory's, else as it was
+abbrev pub gridWord : List ℕ → List ℕ → ℕ → ℕ → ℕ → List ℕ → ℕ → ℕ
+gridWord owners memory b none boundary grid c =
+    pick (eqb (getD owners c 0) none) boundary (pick (eqb (getD owners c 0) b) (getD memory c 0) (getD grid c 0))
+
+abbrev pub collectLines : Plan → ℕ → State → List ℕ → List Line
+collectLines p b s grid =
+    line 9 (not (collectFits p b s grid)) ∷ line 10 (not (fitRecord p (wide p b s) b)) ∷ line 15 (tilesLeft p (wide p b s) b) ∷ []
+
+abbrev pub collectedOr : Plan → ℕ → State → List ℕ → Answered (List ℕ)
+collectedOr p b s grid = answered (firstOf (collectLines p b s grid)) (ownCollected p b s grid) grid
+
+-- ---- its messages
+
+abbrev pub rowsOr : Plan → ℕ → List ℕ → Answered (List ℕ)
+rowsOr p b out = answered (firstOf (line 9 (not (eqb (length out) (7 * length (handled p b)))) ∷ [])) (ownRows p b (handled p b)) out

@@ -1,9 +1,10 @@
 // The calls for one processor that is lent its own part alone, for programs that keep its record as words: the lengths of its areas, its messages, a fresh
 // start, a turn, a message handed over, a message that arrives, and its cells' words for the grid. The route is a word, 0 direct, any other indirect.
 ghost use mathlib.Core.Path.{_≡_};
+ghost use mathlib.Core.List.{[]};
 ghost use Rattle.machine.specs.Machine.{stateOf};
 ghost use Rattle.engine.specs.Calls.{answer};
-ghost use Rattle.own_calls.specs.Calls.{ownSizesCall, ownFreshCall, ownPostCall, ownArriveCall};
+ghost use Rattle.own_calls.specs.Calls.{ownSizesCall, ownMessagesCall, ownFreshCall, ownPostCall, ownArriveCall, ownCollectCall};
 
 pub mod core; // core.rt: what the calls share, and the calls without the form of the record
 pub mod turn; // turn.rt: a turn, likewise
@@ -24,6 +25,18 @@ pub fn sizes(encoded: &[u8], route: u32, processor: u32, out: &mut [u32]) -> u32
     }
     core::put_sizes(board.nest, board.sizes, processor as usize, out);
     0
+}
+
+// The messages that it handles, seven words each: number, sending tile, taking tile, sending processor, taking processor, words, their place in its mail.
+pub fn messages(encoded: &[u8], route: u32, processor: u32, out: &mut [u32]) -> u32
+    ensures { λ r. ⌜ answer r (now (out .exit)) ≡ ownMessagesCall (now (encoded .entry)) route processor (now (out .entry)) ⌝ }
+{
+    let board = core::open(encoded, route, processor);
+    let number = board.number;
+    if number != 0 {
+        return number;
+    }
+    core::messages_part(board.nest, board.sizes, processor as usize, out)
 }
 
 // A fresh start.
@@ -110,4 +123,19 @@ pub fn arrive(
         message,
         words,
     )
+}
+
+// Its own cells' words into the grid, and the boundary's where a cell is outside the shape; once it has no tiles left.
+pub fn collect(
+    encoded: &[u8],
+    route: u32,
+    memory: &[u32],
+    progress: &[u32],
+    processor: u32,
+    grid: &mut [u32],
+) -> u32
+    ensures { λ r. ⌜ answer r (now (grid .exit))
+        ≡ ownCollectCall (now (encoded .entry)) route (stateOf (now (memory .entry)) [] (now (progress .entry)) []) processor (now (grid .entry)) ⌝ }
+{
+    core::collect(encoded, route, memory, flat_of(progress), processor, grid)
 }
