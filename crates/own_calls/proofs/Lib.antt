@@ -4,8 +4,4 @@ pub mod Front
 pub mod Answers
 pub mod Collecting
 pub mod Rows
-pub mod After
-pub mod Working
-pub mod Stage
-pub mod Turned
 pub mod OwnRows
