@@ -57,11 +57,11 @@ use Rattle.calls.proofs.Params.{Param, number32, number64, reads, chang
 use Rattle.calls.proofs.Params.{had, env, held, comes-back}
 use Rattle.calls.proofs.Lending.{lends-on}
 use Rattle.calls.proofs.Walking.{local, rising, pairs, sepAll, fsepAll, splits, joins, fsplits, fjoins, Clear, clears-at}
-use Rattle.calls.proofs.own.rolwyddac_own_fresh.Key.{name as #call}
-use Rattle.calls.proofs.own.rolwyddac_own_fresh as fresh
-use Rattle.calls.proofs.own.rolwyddac_own_fresh.Statement as stated
-use Rattle.calls.proofs.own.rolwyddac_own_fresh.Code as code
-use Rattle.calls.proofs.own.rolwyddac_own_fresh.Code.Mir as mir′
+use Rattle.calls.proofs.part.rolwyddac_own_fresh.Key.{name as #call}
+use Rattle.calls.proofs.part.rolwyddac_own_fresh as fresh
+use Rattle.calls.proofs.part.rolwyddac_own_fresh.Statement as stated
+use Rattle.calls.proofs.part.rolwyddac_own_fresh.Code as code
+use Rattle.calls.proofs.part.rolwyddac_own_fresh.Code.Mir as mir′
 
 -- the parameters of this call, and of the one over words
 abbrev params : List (Param 5)
@@ -259,5 +259,5 @@ rolwyddac-own-fresh-spec 𝓤 H 𝓜 𝓖 𝓡 =
     entered 𝓤 H (tripleOf 𝓤 H (𝓖 .A) fresh.signature (fresh.spec 𝓤 H (𝓖 .A) (𝓜 .mem) (𝓡 .run)))
     (tables 𝓤 H 𝓜 𝓡 code.env .C) (tables 𝓤 H 𝓜 𝓡 code.env .Λ) #call code.function (code.unfolded 𝓤 H 𝓜 𝓡)
     (fresh-meets 𝓤 H (𝓖 .A) (givenOf 𝓤 H 𝓜 𝓖) (𝓜 .mem) (𝓡 .run) (tablesOf 𝓤 H 𝓜 (tables 𝓤 H 𝓜 𝓡 code.env))
-    (cited 𝓤 H (Words 𝓤 H (𝓖 .A) (𝓜 .mem) (𝓡 .run)) 𝓜 𝓡 code.env #words words-def.routine code.calls-own_calls·core·fresh (words-thm.met 𝓤 H 𝓜 𝓖 𝓡))
+    (cited 𝓤 H (Words 𝓤 H (𝓖 .A) (𝓜 .mem) (𝓡 .run)) 𝓜 𝓡 code.env #words words-def.routine code.calls-own-calls·core·fresh (words-thm.met 𝓤 H 𝓜 𝓖 𝓡))
     (cited 𝓤 H (Clear 𝓤 H (𝓖 .A) (𝓜 .mem) (𝓡 .run)) 𝓜 𝓡 code.env #records·clear clear-def.routine code.calls-records·clear (clear-thm.met 𝓤 H 𝓜 𝓖 𝓡)))
