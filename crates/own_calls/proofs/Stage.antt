@@ -12,7 +12,7 @@ use lib.Dec.{ltb}
 use Rattle.base.specs.Tests.{pick, keep}
 use Rattle.base.specs.Lists.{put, setAll, unpack, pack, storeAll}
 use Rattle.base.proofs.Select.{keep-lt, at-is, at-low, in-those}
-use Rattle.machine.specs.Plan.{Plan, count, senderOf, heldBy, sendsOf, duesOf}
+use Rattle.machine.specs.Plan.{Plan, count, senderOf, heldBy, tilesOf, sendsOf, duesOf}
 use Rattle.machine.specs.Machine.{stateOf, setProgress, carryOut, gather, calculate, send}
 use Rattle.nest.specs.declared.Nest.{Nest}
 use Rattle.nest.specs.Nest.{cells}
@@ -35,11 +35,26 @@ use Rattle.apart.specs.Own.{handles, keeps, keptCells, handled}
 use Rattle.own.specs.Part.{wordsOf, markedAt}
 use Rattle.own_calls.specs.Calls.{wide, narrow}
 use Rattle.own_calls.specs.Given.{Known}
-use Rattle.own_calls.specs.Step.{PartLengths, Lengths, Tables, Ranked, Placed, allOf, unpackFrom}
+use Rattle.own_calls.specs.Step.{PartLengths, Lengths, Tables, Ranked, Placed, allOf, unpackFrom, Stands}
 use Rattle.own_calls.proofs.Part.{words-room}
 use Rattle.own_calls.proofs.Wide.{dues-handled, sends-handled}
 use Rattle.own_calls.proofs.Working.{front-zeros, spread-is, picked-is}
 use Rattle.own_calls.proofs.After as after
+
+-- ---- the tile at which a processor stands
+
+pub stands-own : (p : Plan) (l : List ℕ) (b t : ℕ) → Stands p l b t → p .processorOf t ≡ b
+stands-own p l b t s = ap (p .processorOf) (s .tile) ∙ at-is (p .processorOf) b (p .tiles) (getD l 0 0) (s .left)
+
+pub stands : (p : Plan) (l : List ℕ) (b t finished n : ℕ) → finished ≡ getD l 0 0 → (n ≡ length (tilesOf p b)) × (n ≤ 16384) → finished < n
+    → t ≡ getD (tilesOf p b) finished 0 → t < p .tiles → Stands p l b t
+stands p l b t finished n f e h i k =
+    record {
+      left = omega (arith, f, e .0, h);
+      tile = i ∙ ap (λ (j : ℕ). getD (tilesOf p b) j 0) f;
+      low = k;
+      few = omega (arith, f, h, e .1);
+    }
 
 -- ---- what is found once
 

@@ -1,6 +1,7 @@
 // A turn of the processor on its part. The words of its kept cells stand in a memory of all cells while a stage works there; mail and marks are looked up
 // where its two tables say. The part after is that of the machine's areas after the machine's turn.
 ghost use mathlib.Core.Path.{_≡_};
+ghost use mathlib.Core.Logic.{_≢_};
 ghost use mathlib.Core.List.{List, []};
 ghost use Prim.Native.Nat.{ℕ, _+_, _≤_, _<_};
 ghost use lib.ListN.{length, getD, set, take, replicate};
@@ -21,7 +22,7 @@ ghost use Rattle.apart.specs.Own.{ownCells, keptCells, sourceOf};
 ghost use Rattle.mail.specs.Given.{Planned};
 ghost use Rattle.own_calls.specs.Calls.{wide, narrow, ownTurnCall};
 ghost use Rattle.own_calls.specs.Given.{Known};
-ghost use Rattle.own_calls.specs.Step.{Lengths, Tables, Ranked, Placed, unpackFrom, MayStep, steppedOr, turnedOr};
+ghost use Rattle.own_calls.specs.Step.{PartLengths, Lengths, Tables, Ranked, Placed, unpackFrom, Stands, MayStep, steppedOr, turnedOr};
 use crate::core::open;
 use crate::core::own_count;
 use crate::core::prepare;
@@ -363,7 +364,117 @@ fn done(progress: Progress) -> Turned
     }
 }
 
-// The stage at which the processor stands.
+// Stage 0: 12 where a message due is not delivered.
+fn first_stage(
+    nest: Nest,
+    sizes: Sizes,
+    lens: &[u16; 9217],
+    kept: &[u32],
+    ranks: &[u32; 7169],
+    places: &[u32; 7169],
+    memory: &mut [u32],
+    mail: &[u32],
+    progress: &[u32],
+    marks: &mut [u8],
+    all: &mut [u32],
+    b: usize,
+    tile: usize,
+) -> Turned
+    requires { ⌜ Tables nest sizes b (now lens) (now kept) (now ranks) (now places) × (now all ≡ replicate (cells nest) 0) ⌝ }
+    requires { ⌜ PartLengths (planOf (sizes .route) nest) b (stateOf (now memory) (now mail) (now progress) (now marks))
+        × Stands (planOf (sizes .route) nest) (now progress) b tile ⌝ }
+    ensures { λ r. ⌜ ((source : List ℕ)
+        → MayStep (planOf (sizes .route) nest) source (stateOf (now (memory .entry)) (now (mail .entry)) (now (progress .entry)) (now (marks .entry))) b
+        → getD (now (progress .entry)) 1 0 ≡ 0
+        → answer (r .number) (stateOf (now (memory .exit)) (now (mail .entry)) (recordsAfter (now (progress .entry)) 0 r) (now (marks .exit)))
+        ≡ steppedOr (planOf (sizes .route) nest) source
+        (stateOf (now (memory .entry)) (now (mail .entry)) (now (progress .entry)) (now (marks .entry))) b) ⌝ }
+{
+    if !ready(nest, sizes, lens, ranks, marks, tile) {
+        return refused(12);
+    }
+    let finished = progress[0];
+    let gathered = gather_stage(
+        nest,
+        sizes,
+        lens,
+        kept,
+        ranks,
+        places,
+        memory,
+        mail,
+        marks,
+        all,
+        b,
+        tile,
+        finished,
+    );
+    done(gathered)
+}
+
+// Stages 1 and 2.
+fn later_stage(
+    nest: Nest,
+    sizes: Sizes,
+    lens: &[u16; 9217],
+    kept: &[u32],
+    ranks: &[u32; 7169],
+    places: &[u32; 7169],
+    source: &[u32],
+    memory: &mut [u32],
+    mail: &mut [u32],
+    progress: &[u32],
+    marks: &mut [u8],
+    all: &mut [u32],
+    b: usize,
+    tile: usize,
+) -> Turned
+    requires { ⌜ Tables nest sizes b (now lens) (now kept) (now ranks) (now places) × (now all ≡ replicate (cells nest) 0) ⌝ }
+    requires { ⌜ MayStep (planOf (sizes .route) nest) (now source) (stateOf (now memory) (now mail) (now progress) (now marks)) b
+        × (Stands (planOf (sizes .route) nest) (now progress) b tile × (getD (now progress) 1 0 ≢ 0)) ⌝ }
+    ensures { λ r. ⌜ answer (r .number) (stateOf (now (memory .exit)) (now (mail .exit)) (recordsAfter (now (progress .entry)) 0 r) (now (marks .exit)))
+        ≡ steppedOr (planOf (sizes .route) nest) (now (source .entry))
+        (stateOf (now (memory .entry)) (now (mail .entry)) (now (progress .entry)) (now (marks .entry))) b ⌝ }
+{
+    let finished = progress[0];
+    if progress[1] == 1 {
+        let calculated = calculate_stage(
+            nest,
+            sizes,
+            lens,
+            kept,
+            ranks,
+            places,
+            source,
+            memory,
+            all,
+            b,
+            tile,
+            finished,
+        );
+        return done(calculated);
+    }
+    let sent = word_index(progress[2]);
+    let left = send_stage(
+        nest,
+        sizes,
+        lens,
+        kept,
+        ranks,
+        places,
+        memory,
+        mail,
+        marks,
+        all,
+        b,
+        tile,
+        finished,
+        sent,
+    );
+    done(left)
+}
+
+// The stage at which the processor stands; 13 where it has no tiles left.
 fn step(
     nest: Nest,
     sizes: Sizes,
@@ -385,18 +496,13 @@ fn step(
         ≡ steppedOr (planOf (sizes .route) nest) (now (source .entry))
         (stateOf (now (memory .entry)) (now (mail .entry)) (now (progress .entry)) (now (marks .entry))) b ⌝ }
 {
-    let finished = progress[0];
-    let stage = progress[1];
-    let i = word_index(finished);
-    if i >= tile_count(nest, sizes, lens, b) {
+    let finished = word_index(progress[0]);
+    if finished >= tile_count(nest, sizes, lens, b) {
         return refused(13);
     }
-    let t = tile_at(nest, sizes, lens, b, i);
-    if stage == 0 {
-        if !ready(nest, sizes, lens, ranks, marks, t) {
-            return refused(12);
-        }
-        let gathered = gather_stage(
+    let tile = tile_at(nest, sizes, lens, b, finished);
+    if progress[1] == 0 {
+        return first_stage(
             nest,
             sizes,
             lens,
@@ -405,49 +511,29 @@ fn step(
             places,
             memory,
             mail,
+            progress,
             marks,
             all,
             b,
-            t,
-            finished,
+            tile,
         );
-        return done(gathered);
     }
-    if stage == 1 {
-        let calculated = calculate_stage(
-            nest,
-            sizes,
-            lens,
-            kept,
-            ranks,
-            places,
-            source,
-            memory,
-            all,
-            b,
-            t,
-            finished,
-        );
-        return done(calculated);
-    }
-    let sent = word_index(progress[2]);
-    let left = send_stage(
+    later_stage(
         nest,
         sizes,
         lens,
         kept,
         ranks,
         places,
+        source,
         memory,
         mail,
+        progress,
         marks,
         all,
         b,
-        t,
-        finished,
-        sent,
-    );
-    done(left)
+        tile,
+    )
 }
 
 // The same with marks and room for as many cells as any recipe has, none of them written yet; `words` begins with the record.
@@ -490,7 +576,63 @@ fn step_in(
     )
 }
 
-// Lines 9 and 10, then the stage.
+// Lines 9 and 10 of its part, then the stage; its source has a word for each cell of its tiles.
+fn turn_in(
+    nest: Nest,
+    sizes: Sizes,
+    lens: &[u16; 9217],
+    kept: &[u32],
+    ranks: &[u32; 7169],
+    places: &[u32; 7169],
+    source: &[u32],
+    memory: &mut [u32],
+    mail: &mut [u32],
+    progress: Flat,
+    marks: &mut [u8],
+    b: usize,
+) -> Turned
+    requires { ⌜ Known nest sizes b (now lens) (now kept) (now ranks) (now places) × (length (progress .words) ≡ 192) ⌝ }
+    requires { ⌜ length (now source) ≡ length (ownCells (planOf (sizes .route) nest) b) ⌝ }
+    ensures { λ r. ⌜ ((records : List ℕ) → Carries progress records
+        → answer (r .number) (stateOf (now (memory .exit)) (now (mail .exit)) (recordsAfter records 0 r) (now (marks .exit)))
+        ≡ turnedOr (planOf (sizes .route) nest) (now (source .entry)) (stateOf (now (memory .entry)) (now (mail .entry)) records (now (marks .entry))) b) ⌝ }
+{
+    let n = unfit(
+        nest,
+        sizes,
+        lens,
+        kept,
+        ranks,
+        places,
+        memory,
+        mail,
+        progress,
+        marks,
+        b,
+    );
+    if n != 0 {
+        return refused(n);
+    }
+    let words = progress.words;
+    let mut all = [0u32; 16384];
+    step_in(
+        nest,
+        sizes,
+        lens,
+        kept,
+        ranks,
+        places,
+        source,
+        memory,
+        mail,
+        &words,
+        marks,
+        &mut all,
+        b,
+    )
+}
+
+// Line 9 of its source; then what is found once, and the rest.
 fn take_turn(
     nest: Nest,
     sizes: Sizes,
@@ -523,25 +665,7 @@ fn take_turn(
         &mut ranks,
         &mut places,
     );
-    let n = unfit(
-        nest,
-        sizes,
-        &lens,
-        &kept,
-        &ranks,
-        &places,
-        memory,
-        mail,
-        progress,
-        marks,
-        b,
-    );
-    if n != 0 {
-        return refused(n);
-    }
-    let words = progress.words;
-    let mut all = [0u32; 16384];
-    step_in(
+    turn_in(
         nest,
         sizes,
         &lens,
@@ -551,9 +675,8 @@ fn take_turn(
         source,
         memory,
         mail,
-        &words,
+        progress,
         marks,
-        &mut all,
         b,
     )
 }
