@@ -74,7 +74,8 @@ module _ (bytes : List ℕ) (route b : ℕ) (r : Board) (o : Opens bytes route b
 
     pub closed : r .number ≢ 0 → answer (r .number) old ≡ called
     closed h =
-        call-read (boardLines bytes route b) (numbered-board bytes route b) (lines (recipe bytes route)) (r .number) (new (recipe bytes route)) old (o .number) h
+        call-read (boardLines bytes route b) (numbered-board bytes route b) (lines (recipe bytes route)) (r .number) (new (recipe bytes route)) old
+        (o .number) h
 
     pub opened : r .number ≡ 0 → (a : Answered A)
         → a ≡ answered (firstOf (lines (planOf (r .sizes .route) (r .nest)))) (new (planOf (r .sizes .route) (r .nest))) old → a ≡ called
@@ -361,7 +362,8 @@ mail-small p b (suc n) h = go (mail-small p b n (omega (arith, h))) (handles p b
           before,
           offset-apart (p .messages) n (suc n) (omega arith) (omega (arith, h)),
         )
-    go before false e = omega (arith, ap (wordsOf p) (keep-none (handles p b) n e), before, offset-apart (p .messages) n (suc n) (omega arith) (omega (arith, h)))
+    go before false e =
+        omega (arith, ap (wordsOf p) (keep-none (handles p b) n e), before, offset-apart (p .messages) n (suc n) (omega arith) (omega (arith, h)))
 
 -- its words in the mail
 module _ (p : Plan) (b m from n : ℕ) (mail : List ℕ) (long : length mail ≡ wordsOf p (handled p b)) (lo : m < count p) (h : handles p b m ≡ true)
