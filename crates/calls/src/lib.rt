@@ -16,6 +16,7 @@ pub mod desk; // desk.rt: the calls for the charting desk
 pub mod hour; // hour.rt: the calls with hours
 pub mod round; // round.rt: the calls by rounds
 pub mod transport; // transport.rt: the calls that a transport needs
+pub mod part; // part.rt: the calls for one processor that is lent its own part alone
 
 // One turn of a processor.
 #[no_mangle]

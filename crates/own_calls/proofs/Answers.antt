@@ -15,7 +15,7 @@ use Rattle.base.specs.Tests.{_and_, _or_, not, pick, keep}
 use Rattle.base.specs.Lists.{In, put, pack}
 use Rattle.base.specs.Numbers.{Line, line, firstOf}
 use Rattle.base.proofs.Tests.{both, either, never-both, and-true, and-false, and-no, and-left, or-right, not-true, not-false, true-not, pick-true, pick-false}
-use Rattle.base.proofs.Numbers.{Numbered, first-true, first-false, none-first, first-some, first-behind}
+use Rattle.base.proofs.Numbers.{Numbered, first-true, first-false, none-first, none-behind, first-some, first-behind}
 use Rattle.base.proofs.Select.{keep-hit, keep-more, keep-none, keep-lt}
 use Rattle.machine.specs.Plan.{Plan, count, heldBy, offset, words}
 use Rattle.machine.specs.Machine.{State, stateOf, finishedOf, stageOf, sentOf, memoryOf, placeOf, fit, Answered, answered, deliverLines, fresh}
@@ -57,12 +57,16 @@ both-numbered : (a b : List Line) → Numbered a → Numbered b → Numbered (a 
 both-numbered [] b n m = m
 both-numbered (l ∷ a) b n m = (n .0, both-numbered a b (n .1) m)
 
-module _ (bytes : List ℕ) (route b : ℕ) (r : Board) (o : Opens bytes route b r) where
+module _ (bytes : List ℕ) (route b : ℕ) where
   numbered-board : Numbered (boardLines bytes route b)
   numbered-board =
       both-numbered (linesFor (routeOf route) bytes) (line 11 (not (ltb b (recipe bytes route .processors))) ∷ []) (numbered-for (routeOf route) bytes)
       (λ q. omega arith, tt)
 
+  pub behind-board : (more : List Line) → firstOf (boardLines bytes route b ++ more) ≡ 0 → firstOf more ≡ 0
+  behind-board more e = none-behind (boardLines bytes route b) more numbered-board e
+
+module _ (bytes : List ℕ) (route b : ℕ) (r : Board) (o : Opens bytes route b r) where
   module _ {A : Type 0} (lines : Plan → List Line) (new : Plan → A) (old : A) where
     -- a call whose lines and words are made of the plan
     abbrev called : Answered A
@@ -70,14 +74,15 @@ module _ (bytes : List ℕ) (route b : ℕ) (r : Board) (o : Opens bytes route b
 
     pub closed : r .number ≢ 0 → answer (r .number) old ≡ called
     closed h =
-        call-read (boardLines bytes route b) numbered-board (lines (recipe bytes route)) (r .number) (new (recipe bytes route)) old (o .number) h
+        call-read (boardLines bytes route b) (numbered-board bytes route b) (lines (recipe bytes route)) (r .number) (new (recipe bytes route)) old
+        (o .number) h
 
     pub opened : r .number ≡ 0 → (a : Answered A)
         → a ≡ answered (firstOf (lines (planOf (r .sizes .route) (r .nest)))) (new (planOf (r .sizes .route) (r .nest))) old → a ≡ called
     opened z a e =
         e
         ∙ ap (λ (n : ℕ). answered n (new (planOf (r .sizes .route) (r .nest))) old)
-        (sym (first-behind (boardLines bytes route b) (lines (planOf (r .sizes .route) (r .nest))) numbered-board (sym (o .number) ∙ z)))
+        (sym (first-behind (boardLines bytes route b) (lines (planOf (r .sizes .route) (r .nest))) (numbered-board bytes route b) (sym (o .number) ∙ z)))
         ∙ ap (λ (q : Plan). answered (firstOf (boardLines bytes route b ++ lines q)) (new q) old) (o .plan z)
 
   -- how long the areas are
@@ -357,7 +362,8 @@ mail-small p b (suc n) h = go (mail-small p b n (omega (arith, h))) (handles p b
           before,
           offset-apart (p .messages) n (suc n) (omega arith) (omega (arith, h)),
         )
-    go before false e = omega (arith, ap (wordsOf p) (keep-none (handles p b) n e), before, offset-apart (p .messages) n (suc n) (omega arith) (omega (arith, h)))
+    go before false e =
+        omega (arith, ap (wordsOf p) (keep-none (handles p b) n e), before, offset-apart (p .messages) n (suc n) (omega arith) (omega (arith, h)))
 
 -- its words in the mail
 module _ (p : Plan) (b m from n : ℕ) (mail : List ℕ) (long : length mail ≡ wordsOf p (handled p b)) (lo : m < count p) (h : handles p b m ≡ true)

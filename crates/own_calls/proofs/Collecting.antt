@@ -127,7 +127,8 @@ module _ (x : Nest) (z : Sizes) (b : ℕ) (lens kept rank place : List ℕ) (k :
   pub zeros-front : take (z .cells) zeros ≡ replicate (cells x) 0
   unfolding part
   zeros-front =
-      part-zeros 16384 0 (z .cells) (omega (arith, k .planned .0 .cells, k .planned .0 .accepted .cells-most)) ∙ ap (λ (n : ℕ). replicate n 0) (k .planned .0 .cells)
+      part-zeros 16384 0 (z .cells) (omega (arith, k .planned .0 .cells, k .planned .0 .accepted .cells-most))
+      ∙ ap (λ (n : ℕ). replicate n 0) (k .planned .0 .cells)
 
   -- by the words of the code
   pub own-grid : (memory words owners grid new l : List ℕ) (none boundary : ℕ) → length memory ≡ length (keptCells q b) → length grid ≡ cells x

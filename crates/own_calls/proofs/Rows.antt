@@ -108,7 +108,13 @@ module _ (p : Plan) (b : ℕ) where
         let z : List ℕ = drop (length (ownRow p b m)) (drop (7 * rankOf p b m) new) in
         let n : length (take (7 * rankOf p b m) new ++ ownRow p b m) ≡ 7 * rankOf p b (suc m) =
         length-append (take (7 * rankOf p b m) new) (ownRow p b m)
-        ∙ omega (arith, length-take-le (7 * rankOf p b m) new rank-low, row-long m, ap length (keep-hit (handles p b) m h), length-append (keep (handles p b) m) (m ∷ [])) in
+        ∙ omega (
+          arith,
+          length-take-le (7 * rankOf p b m) new rank-low,
+          row-long m,
+          ap length (keep-hit (handles p b) m h),
+          length-append (keep (handles p b) m) (m ∷ []),
+        ) in
         ap (take (7 * rankOf p b (suc m))) (sym (append-assoc (take (7 * rankOf p b m) new) (ownRow p b m) z))
         ∙ take-at (take (7 * rankOf p b m) new ++ ownRow p b m) z (7 * rankOf p b (suc m)) n
         ∙ ap (λ (l : List ℕ). l ++ ownRow p b m) (g .rows) ∙ sym (rows-more (keep (handles p b) m) m) ∙ ap (ownRows p b) (sym (keep-hit (handles p b) m h))

@@ -9,7 +9,7 @@ use lib.Dec.{eqb}
 use Rattle.base.specs.Tests.{_and_, not, one, tabulate}
 use Rattle.base.specs.Lists.{In, part, unpack}
 use Rattle.base.specs.Numbers.{line, firstOf}
-use Rattle.machine.specs.Plan.{Plan, count, heldBy}
+use Rattle.machine.specs.Plan.{Plan, count, heldBy, tilesOf}
 use Rattle.machine.specs.Machine.{State, fit, Answered, answered, turnLines}
 use Rattle.nest.specs.declared.Nest.{Nest}
 use Rattle.nest.specs.Nest.{cells, processors}
@@ -59,6 +59,13 @@ unfoldable pub unpackFrom : Plan → List ℕ → List ℕ → List ℕ → List
 unpackFrom p places mail memory [] = memory
 unpackFrom p places mail memory (m ∷ ms) =
     unpackFrom p places mail (unpack memory (heldBy p m) (part mail (getD places m 0) (length (heldBy p m)))) ms
+
+-- by its record, of which l are the words, processor b has tiles left and stands at tile t
+pub record Stands (p : Plan) (l : List ℕ) (b t : ℕ) : Type 0 where
+  pub left : getD l 0 0 < length (tilesOf p b)
+  pub tile : t ≡ getD (tilesOf p b) (getD l 0 0) 0
+  pub low : t < p .tiles
+  pub few : getD l 0 0 < 16384
 
 -- lines 9, 10 and 11 of a turn are false
 pub record MayStep (p : Plan) (source : List ℕ) (s : State) (b : ℕ) : Type 0 where

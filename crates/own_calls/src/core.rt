@@ -504,6 +504,62 @@ fn receive(
 }
 
 // Lines 9 and 10, then these.
+fn arrive_in(
+    nest: Nest,
+    sizes: Sizes,
+    lens: &[u16; 9217],
+    kept: &[u32],
+    ranks: &[u32; 7169],
+    places: &[u32; 7169],
+    memory: &[u32],
+    mail: &mut [u32],
+    progress: Flat,
+    marks: &mut [u8],
+    b: usize,
+    m: usize,
+    words: &[u32],
+) -> u32
+    requires { ⌜ Known nest sizes b (now lens) (now kept) (now ranks) (now places) × (length (progress .words) ≡ 192) ⌝ }
+    ensures { λ r. ⌜ ((records : List ℕ) → Carries progress records
+        → answer r (stateOf (now (memory .entry)) (now (mail .exit)) records (now (marks .exit)))
+        ≡ arrivesOr (planOf (sizes .route) nest) b (stateOf (now (memory .entry)) (now (mail .entry)) records (now (marks .entry))) m
+        (now (words .entry))) ⌝ }
+{
+    if !as_long(nest, sizes, lens, m, words.len()) {
+        return 9;
+    }
+    let n = unfit(
+        nest,
+        sizes,
+        lens,
+        kept,
+        ranks,
+        places,
+        memory,
+        mail,
+        progress,
+        marks,
+        b,
+    );
+    if n != 0 {
+        return n;
+    }
+    receive(
+        nest,
+        sizes,
+        lens,
+        kept,
+        ranks,
+        places,
+        mail,
+        marks,
+        b,
+        m,
+        words,
+    )
+}
+
+// The same, what is known of the part found first.
 fn arrive_part(
     nest: Nest,
     sizes: Sizes,
@@ -534,10 +590,7 @@ fn arrive_part(
         &mut ranks,
         &mut places,
     );
-    if !as_long(nest, sizes, &lens, m, words.len()) {
-        return 9;
-    }
-    let n = unfit(
+    arrive_in(
         nest,
         sizes,
         &lens,
@@ -547,20 +600,6 @@ fn arrive_part(
         memory,
         mail,
         progress,
-        marks,
-        b,
-    );
-    if n != 0 {
-        return n;
-    }
-    receive(
-        nest,
-        sizes,
-        &lens,
-        &kept,
-        &ranks,
-        &places,
-        mail,
         marks,
         b,
         m,
@@ -809,7 +848,8 @@ fn put_row(
     m: usize,
     out: &mut [u32],
 )
-    requires { ⌜ Known nest sizes b (now lens) (now kept) (now ranks) (now places) × ((m < count (planOf (sizes .route) nest)) × (count (planOf (sizes .route) nest) ≤ 7168)) ⌝ }
+    requires { ⌜ Known nest sizes b (now lens) (now kept) (now ranks) (now places)
+        × ((m < count (planOf (sizes .route) nest)) × (count (planOf (sizes .route) nest) ≤ 7168)) ⌝ }
     requires { ⌜ length (now out) ≡ 7 * length (handled (planOf (sizes .route) nest) b) ⌝ }
     ensures { λ _. ⌜ now (out .exit)
         ≡ pick (handles (planOf (sizes .route) nest) b m)

@@ -1,5 +1,5 @@
 // The calls for one processor that is lent its own part alone, for programs that keep its record as words: the lengths of its areas, its messages, a fresh
-// start, a turn, a message handed over, a message that arrives, and its cells' words for the grid. The route is a word, 0 direct, any other indirect.
+// start, a message handed over, a message that arrives, and its cells' words for the grid; a turn is crate own_turn's. The route is a word, 0 direct, any other indirect.
 ghost use mathlib.Core.Path.{_≡_};
 ghost use mathlib.Core.List.{[]};
 ghost use Rattle.machine.specs.Machine.{stateOf};
@@ -7,7 +7,6 @@ ghost use Rattle.engine.specs.Calls.{answer};
 ghost use Rattle.own_calls.specs.Calls.{ownSizesCall, ownMessagesCall, ownFreshCall, ownPostCall, ownArriveCall, ownCollectCall};
 
 pub mod core; // core.rt: what the calls share, and the calls without the form of the record
-pub mod turn; // turn.rt: a turn, likewise
 
 use records::flat_of;
 

@@ -1,9 +1,5 @@
--- `core::arrive_part` meets its contract: each return by the line that counts.
-use mathlib.Core.Path.{refl, sym, _∙_}
-use borrow.Author.Tests.{not-true, not-false}
-use Rattle.machine.specs.Machine.{stateOf}
-use Rattle.plan.specs.Shaped.{planOf}
-use Rattle.own_calls.proofs.Answers as answers
+-- `core::arrive_part` meets its contract.
+use mathlib.Core.Path.{refl}
 use borrow.Author.Needs.{needs}
 use Rattle.own_calls.proofs.core.arrive_part.Statement.{statement}
 use Rattle.own_calls.proofs.core.arrive_part.Tie as tie
@@ -16,29 +12,13 @@ prepare-requires c κs =
     let S = c .before .before .before .before .before .before .before .before in
     ((S .pre .0, (S .pre .1 .0, S .pre .1 .1 .0)), (refl, (refl, (refl, refl))))
 
-as-long-requires : tie.Need-as-long-requires
-as-long-requires c κs =
-    let prepare = c .before .before .prepare in
-    prepare .ensures .planned
+slice-aggregate-arrive-in : tie.Need-slice-aggregate-arrive-in
+slice-aggregate-arrive-in c = search needs
 
-returns : tie.Need-returns
-returns c =
-    let S = c .before .before .before .before .before .before .before .before .before .before .before .before .before in
-    let as-long = c .before .as-long in
-    let if1 = c .if1 in
-    let A = S .args in
-    let p = planOf (A .sizes .route) (A .nest) in
-    λ l h. answers.arrive-length p (A .b) (S .pre .1 .1 .0) (stateOf (A .memory .now) (A .mail .now) l (A .marks .now)) _ refl (A .m) (A .words .now)
-    (sym (as-long .ensures (A .words .now) refl) ∙ not-true _ (if1 .taken))
-
-slice-aggregate-unfit : tie.Need-slice-aggregate-unfit
-slice-aggregate-unfit c = search needs
-
-unfit-requires : tie.Need-unfit-requires
-unfit-requires c κs =
-    let prepare = c .before .before .before .before .before .before .before .before .before .before .prepare in
-    let S = c .before .before .before .before .before .before .before .before .before .before .before .before .before .before .before .before .before .before
-    .before in
+arrive-in-requires : tie.Need-arrive-in-requires
+arrive-in-requires c κs =
+    let prepare = c .before .before .before .before .before .before .before .prepare in
+    let S = c .before .before .before .before .before .before .before .before .before .before .before .before .before .before .before .before in
     (prepare .ensures, S .pre .1 .1 .1)
 
 same-length : tie.Need-same-length
@@ -47,60 +27,10 @@ same-length c = search needs
 same-length-2 : tie.Need-same-length-2
 same-length-2 c = search needs
 
-returns-2 : tie.Need-returns-2
-returns-2 c =
-    let S = c .before .before .before .before .before .before .before .before .before .before .before .before .before .before .before .before .before .before
-    .before .before .before in
-    let unfit = c .before .unfit in
-    let as-long = c .before .before .before .before .before .before .before .before .before .as-long in
-    let if1 = c .before .before .before .before .before .before .before .before .if1 in
-    let if2 = c .if2 in
-    let A = S .args in
-    let p = planOf (A .sizes .route) (A .nest) in
-    λ l h. answers.arrive-unfit p (A .b) (S .pre .1 .1 .0) (stateOf (A .memory .now) (A .mail .now) l (A .marks .now)) (unfit .result)
-    (unfit .ensures .0 l h) (A .m) (A .words .now) (sym (as-long .ensures (A .words .now) refl) ∙ not-false _ (if1 .left)) (if2 .taken)
-
-slice-aggregate-receive : tie.Need-slice-aggregate-receive
-slice-aggregate-receive c = search needs
-
-receive-requires : tie.Need-receive-requires
-receive-requires c κs =
-    let S = c .before .before .before .before .before .before .before .before .before .before .before .before .before .before .before .before .before .before
-    .before .before .before .before .before .before .before .before .before in
-    let prepare = c .before .before .before .before .before .before .before .before .before .before .before .before .before .before .before .before .before
-    .before .prepare in
-    let unfit = c .before .before .before .before .before .before .before .unfit in
-    let if2 = c .before .before .before .before .before .before .if2 in
-    let as-long = c .before .before .before .before .before .before .before .before .before .before .before .before .before .before .before .as-long in
-    let if1 = c .before .before .before .before .before .before .before .before .before .before .before .before .before .before .if1 in
-    let A = S .args in
-    let p = planOf (A .sizes .route) (A .nest) in (
-      prepare .ensures,
-      answers.may-arrive p (A .b) (A .memory .now) (A .mail .now) (A .marks .now) (A .progress) (S .pre .1 .1 .1) (unfit .result)
-          (unfit .ensures) (if2 .left) (A .m) (A .words .now) (sym (as-long .ensures (A .words .now) refl) ∙ not-false _ (if1 .left)),
-    )
-
-same-length-3 : tie.Need-same-length-3
-same-length-3 c = search needs
-
-same-length-4 : tie.Need-same-length-4
-same-length-4 c = search needs
-
-returns-3 : tie.Need-returns-3
-returns-3 c =
-    let S = c .before .before .before .before .before .before .before .before .before .before .before .before .before .before .before .before .before .before
-    .before .before .before .before .before .before .before .before .before .before .before .before .before .before in
-    let unfit = c .before .before .before .before .before .before .before .before .before .before .before .before .unfit in
-    let as-long = c .before .before .before .before .before .before .before .before .before .before .before .before .before .before .before .before .before
-    .before .before .before .as-long in
-    let if1 = c .before .before .before .before .before .before .before .before .before .before .before .before .before .before .before .before .before
-    .before .before .if1 in
-    let if2 = c .before .before .before .before .before .before .before .before .before .before .before .if2 in
-    let receive = c .before .before .before .before .receive in
-    let A = S .args in
-    let p = planOf (A .sizes .route) (A .nest) in
-    λ l h. answers.arrive-come p (A .b) (S .pre .1 .1 .0) (stateOf (A .memory .now) (A .mail .now) l (A .marks .now)) (unfit .result) (unfit .ensures .0 l h)
-    (A .m) (A .words .now) (sym (as-long .ensures (A .words .now) refl) ∙ not-false _ (if1 .left)) (if2 .left) _ (receive .ensures (A .memory .now) l)
+returns : tie.Need-returns
+returns c =
+    let arrive-in = c .before .before .before .before .arrive-in in
+    arrive-in .ensures
 
 pub arrive-part-spec : {M : Type 1} → statement M
 arrive-part-spec =
@@ -108,15 +38,8 @@ arrive-part-spec =
     (tie.spec
     slice-aggregate-prepare
     prepare-requires
-    as-long-requires
-    returns
-    slice-aggregate-unfit
-    unfit-requires
+    slice-aggregate-arrive-in
+    arrive-in-requires
     same-length
     same-length-2
-    returns-2
-    slice-aggregate-receive
-    receive-requires
-    same-length-3
-    same-length-4
-    returns-3)
+    returns)

@@ -85,7 +85,8 @@ returns-4 c =
     let kept-many = marked .ensures ∙ ap length (front.kept-marks (A .nest) (A .sizes) (A .b) (A .lens .now) (A .kept .now) (A .ranks .now) (A .places .now)
     (S .pre .0)) in (
       λ l h. collecting.unfit (planOf (A .sizes .route) (A .nest)) (A .b) (S .pre .0 .low) (A .memory .now) l (A .grid .now) (if1 .left ∙ kept-many)
-          (sym (h .counted) ∙ if2 .left) (if3 .left ∙ S .pre .0 .planned .0 .cells) (A .progress) h (fit-own .result) (fit-own .ensures) (not-true _ (if4 .taken)),
+          (sym (h .counted) ∙ if2 .left) (if3 .left ∙ S .pre .0 .planned .0 .cells) (A .progress) h
+          (fit-own .result) (fit-own .ensures) (not-true _ (if4 .taken)),
       λ z. absurd (omega (arith, z)),
     )
 
@@ -118,7 +119,8 @@ returns-5 c =
     let kept-many = marked .ensures ∙ ap length (front.kept-marks (A .nest) (A .sizes) (A .b) (A .lens .now) (A .kept .now) (A .ranks .now) (A .places .now)
     (S .pre .0)) in (
       λ l h. collecting.left (planOf (A .sizes .route) (A .nest)) (A .b) (S .pre .0 .low) (A .memory .now) l (A .grid .now) (if1 .left ∙ kept-many)
-          (sym (h .counted) ∙ if2 .left) (if3 .left ∙ S .pre .0 .planned .0 .cells) (A .progress) h (fit-own .result) (fit-own .ensures) (not-false _ (if4 .left))
+          (sym (h .counted) ∙ if2 .left) (if3 .left ∙ S .pre .0 .planned .0 .cells) (A .progress) h
+          (fit-own .result) (fit-own .ensures) (not-false _ (if4 .left))
           (word-index .result) (tile-count .result) (word-index .ensures) (tile-count .ensures .0) (if5 .taken),
       λ z. absurd (omega (arith, z)),
     )
@@ -139,7 +141,8 @@ returns-6 c =
     let kept-many = marked .ensures ∙ ap length (front.kept-marks (A .nest) (A .sizes) (A .b) (A .lens .now) (A .kept .now) (A .ranks .now) (A .places .now)
     (S .pre .0)) in (
       λ l h. collecting.none (planOf (A .sizes .route) (A .nest)) (A .b) (S .pre .0 .low) (A .memory .now) l (A .grid .now) (if1 .left ∙ kept-many)
-          (sym (h .counted) ∙ if2 .left) (if3 .left ∙ S .pre .0 .planned .0 .cells) (A .progress) h (fit-own .result) (fit-own .ensures) (not-false _ (if4 .left))
+          (sym (h .counted) ∙ if2 .left) (if3 .left ∙ S .pre .0 .planned .0 .cells) (A .progress) h
+          (fit-own .result) (fit-own .ensures) (not-false _ (if4 .left))
           (word-index .result) (tile-count .result) (word-index .ensures) (tile-count .ensures .0) (if5 .left),
       λ z. (if1 .left ∙ kept-many, if3 .left ∙ S .pre .0 .planned .0 .cells),
     )
