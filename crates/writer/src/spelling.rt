@@ -6,10 +6,6 @@ ghost use Prim.Native.Nat.{ℕ, _+_, _*_, _%_, _<_, _≤_};
 ghost use lib.ListN.{length, getD};
 ghost use Rattle.nest.specs.Encode.{low, high, dimensionRecord, narrowRecord, wideRecord, boundRecord, closeRecord};
 ghost use Rattle.nest.specs.Encode.{dimensionOf, boundOf, narrow, distanceOf, encode};
-ghost use Rattle.writer.specs.Fields.{bounds};
-ghost use Rattle.writer.specs.Writing.{fits};
-
-// ---- records
 
 pub fn wide(x: usize) -> u64
     ensures { λ r. ⌜ r ≡ x ⌝ }
