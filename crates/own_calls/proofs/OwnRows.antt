@@ -31,31 +31,53 @@ abbrev d : Plan
 d = planOf Direct nestD
 
 first : lengthsOf d 0 ≡ 2 ∷ 2 ∷ 1 ∷ 1 ∷ []
-unfolding lengthsOf owns keeps handles wordsOf member _and_ _or_ pick every some keep those product tileCount cells boxTiles rank place cellAt cellPlace tileAt tilePlace boxTileOf level raised meets inShape exists existing tiles inside directions ahead reaches taker messagesOf boxTile reachesShape shapedParcel follows shapedTaker shapedSlotTaker shapedHome shapedSlotParcel shapedCells processorOf processors
+unfolding lengthsOf owns keeps handles wordsOf member _and_ _or_ pick every some keep those product tileCount cells boxTiles rank place cellAt cellPlace
+    tileAt tilePlace boxTileOf level raised meets inShape exists existing tiles inside directions ahead reaches taker messagesOf boxTile reachesShape
+    shapedParcel follows shapedTaker shapedSlotTaker shapedHome shapedSlotParcel shapedCells processorOf processors
 first = refl
 
 second : lengthsOf d 1 ≡ 2 ∷ 3 ∷ 1 ∷ 1 ∷ []
-unfolding lengthsOf owns keeps handles wordsOf member _and_ _or_ pick every some keep those product tileCount cells boxTiles rank place cellAt cellPlace tileAt tilePlace boxTileOf level raised meets inShape exists existing tiles inside directions ahead reaches taker messagesOf boxTile reachesShape shapedParcel follows shapedTaker shapedSlotTaker shapedHome shapedSlotParcel shapedCells processorOf processors
+unfolding lengthsOf owns keeps handles wordsOf member _and_ _or_ pick every some keep those product tileCount cells boxTiles rank place cellAt cellPlace
+    tileAt tilePlace boxTileOf level raised meets inShape exists existing tiles inside directions ahead reaches taker messagesOf boxTile reachesShape
+    shapedParcel follows shapedTaker shapedSlotTaker shapedHome shapedSlotParcel shapedCells processorOf processors
 second = refl
 
 rows : ownRows d 1 (handled d 1) ≡ 0 ∷ 0 ∷ 1 ∷ 0 ∷ 1 ∷ 1 ∷ 0 ∷ []
-unfolding ownRows ownRow handles wordsOf _and_ _or_ pick every some keep those product tileCount cells boxTiles rank place cellAt cellPlace tileAt tilePlace boxTileOf level raised meets inShape exists existing tiles inside directions ahead reaches taker messagesOf boxTile reachesShape shapedParcel follows shapedTaker shapedSlotTaker shapedHome shapedSlotParcel shapedCells processorOf processors
+unfolding ownRows ownRow handles wordsOf _and_ _or_ pick every some keep those product tileCount cells boxTiles rank place cellAt cellPlace tileAt tilePlace
+    boxTileOf level raised meets inShape exists existing tiles inside directions ahead reaches taker messagesOf boxTile reachesShape shapedParcel follows
+    shapedTaker shapedSlotTaker shapedHome shapedSlotParcel shapedCells processorOf processors
 rows = refl
 
 no-message : firstOf (turnLines d (wide d 1 before) 1) ≡ 12
-unfolding firstOf not member offset part put setAll allAt unpack pack storeAll setProgress tilesLeft fitRecord fit unpackAll afterSends carryOut actionAt waiting fresh owns keeps handles mailOf putMail narrowed widened sourceOf partOf lentOf shapedValue readsShape hasRead readAt sum _and_ _or_ pick every some keep those product tileCount cells boxTiles rank place cellAt cellPlace tileAt tilePlace boxTileOf level raised meets inShape exists existing tiles inside directions ahead reaches taker messagesOf boxTile reachesShape shapedParcel follows shapedTaker shapedSlotTaker shapedHome shapedSlotParcel shapedCells processorOf processors
+unfolding firstOf not member offset part put setAll allAt unpack pack storeAll setProgress tilesLeft fitRecord fit unpackAll afterSends carryOut actionAt
+    waiting fresh owns keeps handles mailOf putMail narrowed widened sourceOf partOf lentOf shapedValue readsShape hasRead readAt sum _and_ _or_ pick every
+    some keep those product tileCount cells boxTiles rank place cellAt cellPlace tileAt tilePlace boxTileOf level raised meets inShape exists existing tiles
+    inside directions ahead reaches taker messagesOf boxTile reachesShape shapedParcel follows shapedTaker shapedSlotTaker shapedHome shapedSlotParcel
+    shapedCells processorOf processors
 no-message = refl
 
 gather-turn : narrow d 1 (stepped d 1 (5 ∷ 6 ∷ []) came) ≡ gathered
-unfolding firstOf not member offset part put setAll allAt unpack pack storeAll setProgress tilesLeft fitRecord fit unpackAll afterSends carryOut actionAt waiting fresh owns keeps handles mailOf putMail narrowed widened sourceOf partOf lentOf shapedValue readsShape hasRead readAt sum _and_ _or_ pick every some keep those product tileCount cells boxTiles rank place cellAt cellPlace tileAt tilePlace boxTileOf level raised meets inShape exists existing tiles inside directions ahead reaches taker messagesOf boxTile reachesShape shapedParcel follows shapedTaker shapedSlotTaker shapedHome shapedSlotParcel shapedCells processorOf processors
+unfolding firstOf not member offset part put setAll allAt unpack pack storeAll setProgress tilesLeft fitRecord fit unpackAll afterSends carryOut actionAt
+    waiting fresh owns keeps handles mailOf putMail narrowed widened sourceOf partOf lentOf shapedValue readsShape hasRead readAt sum _and_ _or_ pick every
+    some keep those product tileCount cells boxTiles rank place cellAt cellPlace tileAt tilePlace boxTileOf level raised meets inShape exists existing tiles
+    inside directions ahead reaches taker messagesOf boxTile reachesShape shapedParcel follows shapedTaker shapedSlotTaker shapedHome shapedSlotParcel
+    shapedCells processorOf processors
 gather-turn = refl
 
 calculate-turn : narrow d 1 (stepped d 1 (5 ∷ 6 ∷ []) gathered) ≡ calculated
-unfolding firstOf not member offset part put setAll allAt unpack pack storeAll setProgress tilesLeft fitRecord fit unpackAll afterSends carryOut actionAt waiting fresh owns keeps handles mailOf putMail narrowed widened sourceOf partOf lentOf shapedValue readsShape hasRead readAt sum _and_ _or_ pick every some keep those product tileCount cells boxTiles rank place cellAt cellPlace tileAt tilePlace boxTileOf level raised meets inShape exists existing tiles inside directions ahead reaches taker messagesOf boxTile reachesShape shapedParcel follows shapedTaker shapedSlotTaker shapedHome shapedSlotParcel shapedCells processorOf processors
+unfolding firstOf not member offset part put setAll allAt unpack pack storeAll setProgress tilesLeft fitRecord fit unpackAll afterSends carryOut actionAt
+    waiting fresh owns keeps handles mailOf putMail narrowed widened sourceOf partOf lentOf shapedValue readsShape hasRead readAt sum _and_ _or_ pick every
+    some keep those product tileCount cells boxTiles rank place cellAt cellPlace tileAt tilePlace boxTileOf level raised meets inShape exists existing tiles
+    inside directions ahead reaches taker messagesOf boxTile reachesShape shapedParcel follows shapedTaker shapedSlotTaker shapedHome shapedSlotParcel
+    shapedCells processorOf processors
 calculate-turn = refl
 
 no-tile : firstOf (turnLines d (wide d 1 calculated) 1) ≡ 13
-unfolding firstOf not member offset part put setAll allAt unpack pack storeAll setProgress tilesLeft fitRecord fit unpackAll afterSends carryOut actionAt waiting fresh owns keeps handles mailOf putMail narrowed widened sourceOf partOf lentOf shapedValue readsShape hasRead readAt sum _and_ _or_ pick every some keep those product tileCount cells boxTiles rank place cellAt cellPlace tileAt tilePlace boxTileOf level raised meets inShape exists existing tiles inside directions ahead reaches taker messagesOf boxTile reachesShape shapedParcel follows shapedTaker shapedSlotTaker shapedHome shapedSlotParcel shapedCells processorOf processors
+unfolding firstOf not member offset part put setAll allAt unpack pack storeAll setProgress tilesLeft fitRecord fit unpackAll afterSends carryOut actionAt
+    waiting fresh owns keeps handles mailOf putMail narrowed widened sourceOf partOf lentOf shapedValue readsShape hasRead readAt sum _and_ _or_ pick every
+    some keep those product tileCount cells boxTiles rank place cellAt cellPlace tileAt tilePlace boxTileOf level raised meets inShape exists existing tiles
+    inside directions ahead reaches taker messagesOf boxTile reachesShape shapedParcel follows shapedTaker shapedSlotTaker shapedHome shapedSlotParcel
+    shapedCells processorOf processors
 no-tile = refl
 
 pub own-rows : OwnRows

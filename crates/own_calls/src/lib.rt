@@ -1,5 +1,6 @@
 // The calls for one processor that is lent its own part alone, for programs that keep its record as words: the lengths of its areas, its messages, a fresh
-// start, a message handed over, a message that arrives, and its cells' words for the grid; a turn is crate own_turn's. The route is a word, 0 direct, any other indirect.
+// start, a message handed over, a message that arrives, and its cells' words for the grid; a turn is crate own_turn's. The route is a word, 0 direct, any
+// other indirect.
 ghost use mathlib.Core.Path.{_≡_};
 ghost use mathlib.Core.List.{[]};
 ghost use Rattle.machine.specs.Machine.{stateOf};
