@@ -11,7 +11,7 @@ use lib.ListN.{length, getD}
 use lib.Dec.{leb}
 use borrow.Author.Tests.{leb-true, leb-false, le-leb, lt-leb}
 use Rattle.base.specs.Tests.{pick, every}
-use Rattle.base.proofs.Tests.{pick-true, pick-false, every-at, every-all}
+use Rattle.base.proofs.Tests.{pick-true, pick-false, every-at, every-all, every-same}
 use Rattle.nest.specs.declared.Nest.{Nest}
 use Rattle.nest.specs.Accepted.{Accepted}
 use Rattle.nest.specs.Nest.{component, lengthOf, cells}
@@ -106,6 +106,19 @@ firsts-all x ok margin m i first f e h = go (every (λ j. leb (component x e j) 
     go true q = inl (omega (arith, q ∙ pick-true true (component x e (x .dimensions - 1)) 1024 refl, low))
     go false q = inr (q ∙ pick-false false (component x e (x .dimensions - 1)) 1024 refl)
 
+-- a place copied word by word
+pub firsts-copied : (x : Nest) (ok : Accepted x) (at first : List ℕ)
+    → Firsts x (getD at 0 0 ∷ getD at 1 0 ∷ getD at 2 0 ∷ getD at 3 0 ∷ []) first → Firsts x at first
+unfolding firstRead
+firsts-copied x ok at first f =
+    record {
+      each = λ e h. f .each e h
+          ∙ ap (λ (t : Bool). pick t (component x e (x .dimensions - 1)) 1024)
+          (every-same _ (λ j. leb (component x e j) (getD at j 0)) (x .dimensions - 1)
+          (λ j k. ap (λ (a : ℕ). leb (component x e j) a)
+          (each-four (λ j. four (getD at 0 0) (getD at 1 0) (getD at 2 0) (getD at 3 0) j ≡ getD at j 0) refl refl refl refl j (omega (arith, ok .dimensions-most)))));
+    }
+
 -- ---- one row, inner or not
 
 module _ (x : Nest) (ok : Accepted x) (r : Cell) (q : Located x (r .number) r) (n : ℕ) (fits : getD (r .place) (x .dimensions - 1) 0 + n ≤ lengthOf x (x .dimensions - 1))
@@ -117,22 +130,6 @@ module _ (x : Nest) (ok : Accepted x) (r : Cell) (q : Located x (r .number) r) (
   any-row first f = in-row x ok r q first back weights f (lent .backs) (lent .weights-are) n fits
 
 -- ---- four rows
-
-pub rows-four : (f : List ℕ → ℕ → ℕ) (m : List ℕ) (c : ℕ → ℕ) (w : ℕ)
-    → storeAll f m (rowsOf c w 4) ≡ storeAll f (storeAll f (storeAll f (storeAll f m (rowOf (c 0) w)) (rowOf (c 1) w)) (rowOf (c 2) w)) (rowOf (c 3) w)
-unfolding rowsOf
-rows-four f m c w =
-    store-append f m ((rowOf (c 0) w ++ rowOf (c 1) w) ++ rowOf (c 2) w) (rowOf (c 3) w)
-    ∙ ap (λ (z : List ℕ). storeAll f z (rowOf (c 3) w))
-    (store-append f m (rowOf (c 0) w ++ rowOf (c 1) w) (rowOf (c 2) w)
-    ∙ ap (λ (z : List ℕ). storeAll f z (rowOf (c 2) w)) (store-append f m (rowOf (c 0) w) (rowOf (c 1) w)))
-
-pub singly : (f : List ℕ → ℕ → ℕ) (m m₁ m₂ m₃ m₄ : List ℕ) (c : ℕ → ℕ) (w : ℕ) → m₁ ≡ storeAll f m (rowOf (c 0) w) → m₂ ≡ storeAll f m₁ (rowOf (c 1) w)
-    → m₃ ≡ storeAll f m₂ (rowOf (c 2) w) → m₄ ≡ storeAll f m₃ (rowOf (c 3) w) → m₄ ≡ storeAll f m (rowsOf c w 4)
-singly f m m₁ m₂ m₃ m₄ c w e₁ e₂ e₃ e₄ =
-    e₄
-    ∙ ap (λ (z : List ℕ). storeAll f z (rowOf (c 3) w)) (e₃ ∙ ap (λ (z : List ℕ). storeAll f z (rowOf (c 2) w)) (e₂ ∙ ap (λ (z : List ℕ). storeAll f z (rowOf (c 1) w)) e₁))
-    ∙ sym (rows-four f m c w)
 
 module _ (x : Nest) (ok : Accepted x) (a b c d : Cell) (w : ℕ) (h : Fours x a b c d w) where
   fours-column : (r : Cell) → Located x (r .number) r → getD (r .place) (x .dimensions - 1) 0 ≡ getD (a .place) (x .dimensions - 1) 0 → (y : ℕ) → y < w

@@ -124,18 +124,6 @@ module _ (x : Nest) (ok : Accepted x) where
   unfolding cells
   sweep-rows = sym (product-last (lengthOf x) (x .dimensions) deep)
 
-  module _ (r : ℕ) (at : List ℕ) (p : Placed (x .lengths) (four 0) r (x .dimensions - 1) at) where
-    pub sweep-located : (n : ℕ) → n ≡ r * lengthOf x (x .dimensions - 1) → n < cells x → Located x n (record { number = n; place = at })
-    sweep-located n e l =
-        record {
-          low = l;
-          number = refl;
-          place = rw e (placed-cell x ok _ at (placed-row (x .lengths) (four 0) at r (x .dimensions) deep (ok .long (x .dimensions - 1) (omega (arith, deep))) p));
-        }
-
-    pub sweep-inside : Places (x .lengths) (four 0) (x .dimensions - 1) × Inside (x .lengths) (four 0) (x .dimensions - 1) at
-    sweep-inside = let q = rows-places x ok (x .lengths) (four 0) (lengths-places x ok) in (q, placed-inside (x .lengths) (four 0) at r (x .dimensions - 1) q p)
-
 module _ (x : Nest) (ok : Accepted x) (r rows w : ℕ) (e : rows ≡ product (nth (x .lengths)) (x .dimensions - 1)) (k : w ≡ lengthOf x (x .dimensions - 1)) where
   pub sweep-all : rows * w ≡ cells x
   sweep-all = ap (λ (a : ℕ). a * w) e ∙ ap (λ (a : ℕ). product (nth (x .lengths)) (x .dimensions - 1) * a) k ∙ sweep-rows x ok

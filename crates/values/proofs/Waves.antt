@@ -444,7 +444,3 @@ module _ (x : Nest) (ok : Accepted x) (c : ℕ → ℕ) (a from w : ℕ) (first 
         let s₇ : Front x source m₀ c w 4 m₇ (four w (w - 1 + 1) (w - 2 + 2) (w - 3)) = rw e₇ (row-2 m₆ w (w - 1 + 1) (w - 2) (w - 3) s₆ (c 2 + (w - 2)) 2 refl (omega arith) (omega arith) (omega arith)) in
         let s₈ : Front x source m₀ c w 4 m₈ (four w (w - 1 + 1) (w - 2 + 2) (w - 3 + 3)) = rw e₈ (row-3 m₇ w (w - 1 + 1) (w - 2 + 2) (w - 3) s₇ (c 3 + (w - 3)) 3 refl (omega arith) (omega arith) (omega arith) (omega arith)) in
         front-end x ok source m₀ long c w 4 (g .rows) m₈ _ s₈ (each-four (λ k. w ≤ four w (w - 1 + 1) (w - 2 + 2) (w - 3 + 3) k) (omega arith) (omega arith) (omega arith) (omega arith))
-
--- stores keep the length
-pub kept : (f : List ℕ → ℕ → ℕ) (m m′ cs : List ℕ) (n : ℕ) → length m ≡ n → m′ ≡ storeAll f m cs → length m′ ≡ n
-kept f m m′ cs n l e = ap length e ∙ store-length f cs m ∙ l
