@@ -1,6 +1,6 @@
 -- One tile back along a dimension: the tiles peeled off a tile's number, and where the tile before is a twin.
 use Prim.Native.Nat.{ℕ, zero, suc, _+_, _*_, _-_, _/_, _%_, _≤_, _<_}
-use mathlib.Core.Path.{_≡_, refl, sym, ap, _∙_}
+use mathlib.Core.Path.{_≡_, sym, ap, _∙_}
 use mathlib.Core.Logic.{_⊎_, inl, inr}
 use mathlib.Core.Bool.{true}
 use mathlib.Core.List.{List}
@@ -162,9 +162,6 @@ peeled-back N n t (suc l) q s f h pos a =
     rw z (back-low N n t l q s f p b, back-one N n t l q s f p b)
 
 module _ (r : Route) (x : Nest) (ok : Accepted x) (t : ℕ) (low : t < boxTiles x) where
-  pub twin-self : Twin r x t t
-  twin-self = record { low = omega arith; same = λ w l. refl }
-
   module _ (across : List ℕ) (b : Has across (tileCount x) (x .dimensions)) where
     counts : (c j : ℕ) → place (nth across) (x .dimensions) c j ≡ tilePlace x c j
     unfolding tilePlace
