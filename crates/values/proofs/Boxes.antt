@@ -38,7 +38,8 @@ use Rattle.layout.proofs.Advance.{rows-places, placed-inside}
 use Rattle.values.specs.Waves.{four, rowsOf, Spaced, Inner, Inners, Fours}
 use Rattle.values.specs.Boxes.{Boxed, rowAt, Standing, Stored}
 use Rattle.values.proofs.Waves.{each-four}
-use Rattle.values.proofs.Stores.{store-append, Calculating, calculating-none, calculating-turn, calculated, Sweeping, sweeping-none, sweeping-turn, sweep-all, sweep-in, swept}
+use Rattle.values.proofs.Stores.{store-append, Calculating, calculating-none, calculating-turn, calculated, Sweeping, sweeping-none}
+use Rattle.values.proofs.Stores.{sweeping-turn, sweep-all, sweep-in, swept}
 
 -- ---- lists of rows
 
@@ -115,7 +116,10 @@ module _ (x : Nest) (ok : Accepted x) (N from : List ℕ) (b : Boxed x N from) w
   rows-box = rows-places x ok N from (b .places)
 
   pub wide : (1 ≤ getD N (x .dimensions - 1) 0) × (getD N (x .dimensions - 1) 0 ≤ getD (x .lengths) (x .dimensions - 1) 0)
-  wide = (b .places .positive (x .dimensions - 1) (omega (arith, ok .dimensions-least)), omega (arith, b .within (x .dimensions - 1) (omega (arith, ok .dimensions-least))))
+  wide = (
+    b .places .positive (x .dimensions - 1) (omega (arith, ok .dimensions-least)),
+    omega (arith, b .within (x .dimensions - 1) (omega (arith, ok .dimensions-least))),
+  )
 
   pub box-countable : Countable N (x .dimensions - 1)
   box-countable =
@@ -204,7 +208,8 @@ module _ (x : Nest) (ok : Accepted x) (N from : List ℕ) (b : Boxed x N from) w
       unfolding rowAt
       at-moved k l = rank-same (nth (x .lengths)) (nth (moved at (x .dimensions - 1 - 1) k)) _ (x .dimensions) (λ j i. go j (decLt j (x .dimensions - 1)))
         where
-          go : (j : ℕ) → Dec (j < x .dimensions - 1) → getD (moved at (x .dimensions - 1 - 1) k) j 0 ≡ getD from j 0 + place (nth N) (x .dimensions - 1) (r + k) j
+          go : (j : ℕ) → Dec (j < x .dimensions - 1) → getD (moved at (x .dimensions - 1 - 1) k) j 0 ≡ getD from j 0 + place (nth N) (x .dimensions - 1)
+              (r + k) j
           go j (yes q) = standing-moved k l .is .first j q
           go j (no q) = omega (arith, standing-moved k l .is .rest j (omega arith), place-beyond (nth N) (x .dimensions - 1) (r + k) j (omega arith))
 
@@ -282,7 +287,8 @@ module _ (x : Nest) (source N from : List ℕ) where
       record {
         is = t .is
             ∙ ap (λ (z : List ℕ). storeAll (value x source) z (rowsOf (λ i. rowAt x N from (r + n + i)) (getD N (x .dimensions - 1) 0) k)) (s .is)
-            ∙ ap (λ (z : List ℕ). storeAll (value x source) (storeAll (value x source) m (rowsOf (λ i. rowAt x N from (r + i)) (getD N (x .dimensions - 1) 0) n)) z)
+            ∙ ap (λ (z : List ℕ). storeAll (value x source) (storeAll (value x source) m (rowsOf (λ i. rowAt x N from (r + i)) (getD N (x .dimensions - 1) 0)
+            n)) z)
             (rows-same (λ i. rowAt x N from (r + n + i)) (λ i. rowAt x N from (r + (n + i))) (getD N (x .dimensions - 1) 0) k
             (λ i l. ap (rowAt x N from) (add-assoc r n i)))
             ∙ sym (store-append (value x source) m (rowsOf (λ i. rowAt x N from (r + i)) (getD N (x .dimensions - 1) 0) n) _)
@@ -359,7 +365,8 @@ module _ (x : Nest) (ok : Accepted x) (b : Bounds) (is : Bounded x b) where
         (tile-rows n (omega arith)) (omega arith) _ (rowAt x (b .lengths) (b .corner) n) (row-cell n) refl))
 
     pub tile-stored : t < boxTiles x → (m′ : List ℕ)
-        → m′ ≡ storeAll (value x source) m (rowsOf (rowAt x (b .lengths) (b .corner)) (getD (b .lengths) (x .dimensions - 1) 0) (product (nth (b .lengths)) (x .dimensions - 1)))
+        → m′ ≡ storeAll (value x source) m (rowsOf (rowAt x (b .lengths) (b .corner)) (getD (b .lengths) (x .dimensions - 1) 0)
+        (product (nth (b .lengths)) (x .dimensions - 1)))
         → m′ ≡ storeAll (value x source) m (cellsOf x t)
     tile-stored l m′ e =
         e
@@ -382,7 +389,8 @@ module _ (x : Nest) (ok : Accepted x) where
         place-row (nth (x .lengths)) (x .dimensions) r j (omega arith) (ok .long (x .dimensions - 1) (omega arith)) k,
       ))
       ∙ rank-place (lengthOf x) (x .dimensions) (r * getD (x .lengths) (x .dimensions - 1) 0) (ok .long)
-      (let q = sweep-in x ok r (product (nth (x .lengths)) (x .dimensions - 1)) (getD (x .lengths) (x .dimensions - 1) 0) refl refl h in omega (arith, q .0, q .1))
+      (let q = sweep-in x ok r (product (nth (x .lengths)) (x .dimensions - 1)) (getD (x .lengths) (x .dimensions - 1) 0) refl refl h in
+      omega (arith, q .0, q .1))
 
   module _ (source grid : List ℕ) (long : length grid ≡ cells x) where
     grid-rows : (n : ℕ) → n ≤ product (nth (x .lengths)) (x .dimensions - 1)
@@ -401,7 +409,8 @@ module _ (x : Nest) (ok : Accepted x) where
         (grid-rows n (omega arith)) (omega arith) (box-sound Direct x ok) refl))
 
     pub grid-stored : (grid′ : List ℕ)
-        → grid′ ≡ storeAll (value x source) grid (rowsOf (rowAt x (x .lengths) (Rattle.layout.proofs.Cells.four 0)) (getD (x .lengths) (x .dimensions - 1) 0) (product (nth (x .lengths)) (x .dimensions - 1)))
+        → grid′ ≡ storeAll (value x source) grid (rowsOf (rowAt x (x .lengths) (Rattle.layout.proofs.Cells.four 0)) (getD (x .lengths) (x .dimensions - 1) 0)
+        (product (nth (x .lengths)) (x .dimensions - 1)))
         → grid′ ≡ sweep (boxPlan Direct x) source
     grid-stored grid′ e =
         e

@@ -17,7 +17,8 @@ use Rattle.values.specs.Waves.{four, rowsOf, Lent, Inner}
 use Rattle.values.specs.Given.{RowGiven, BandGiven}
 use Rattle.values.specs.Boxes.{Boxed, Standing, RowsGiven, Stored}
 use Rattle.values.proofs.Margins.{margin-most, fours-banded}
-use Rattle.values.proofs.Boxes.{wide, row-inside, row-ranked, row-number, row-fits, row-located, moved, standing-moved, box-fours, box-spaced, inners, stored-long, stored-none, stored-more, stored-one, stored-four}
+use Rattle.values.proofs.Boxes.{wide, row-inside, row-ranked, row-number, row-fits, row-located, moved, standing-moved, box-fours, box-spaced}
+use Rattle.values.proofs.Boxes.{inners, stored-long, stored-none, stored-more, stored-one, stored-four}
 
 module _ (x : Nest) (components lasts back weights margin source memory grid N from at : List ℕ) (r : ℕ)
     (g : RowsGiven x components lasts back weights margin source memory grid N from at r) where
@@ -57,11 +58,13 @@ module _ (x : Nest) (components lasts back weights margin source memory grid N f
     -- four rows, where they go together
     module _ (t : (1 ≤ x .dimensions - 1) × (Inner margin at (x .dimensions - 1)
         × (getD at (x .dimensions - 1 - 1) 0 + 3 < getD from (x .dimensions - 1 - 1) 0 + getD N (x .dimensions - 1 - 1) 0)))
-        (b c d : ℕ) (e₁ : b ≡ n + getD grid (x .dimensions - 1) 0) (e₂ : c ≡ b + getD grid (x .dimensions - 1) 0) (e₃ : d ≡ c + getD grid (x .dimensions - 1) 0) where
+        (b c d : ℕ) (e₁ : b ≡ n + getD grid (x .dimensions - 1) 0) (e₂ : c ≡ b + getD grid (x .dimensions - 1) 0)
+        (e₃ : d ≡ c + getD grid (x .dimensions - 1) 0) where
       stride : getD grid (x .dimensions - 1) 0 ≡ getD (x .lengths) (x .dimensions - 1) 0
       stride = ap (λ (l : List ℕ). getD l (x .dimensions - 1) 0) (g .1 .0)
 
-      pub given-band : (s : ℕ) → (3 ≤ s) × ((getD margin (x .dimensions - 1) 0 + 3 ≤ getD at (x .dimensions - 1) 0 + s) × (s ≤ 1027)) → s ≤ getD N (x .dimensions - 1) 0
+      pub given-band : (s : ℕ) → (3 ≤ s) × ((getD margin (x .dimensions - 1) 0 + 3 ≤ getD at (x .dimensions - 1) 0 + s) × (s ≤ 1027))
+          → s ≤ getD N (x .dimensions - 1) 0
           → BandGiven x lasts back weights source memory n b c d (getD at (x .dimensions - 1) 0) s (getD N (x .dimensions - 1) 0)
       given-band s q l = (
         (

@@ -40,7 +40,14 @@ advance-element-copy-out-component t c =
 
 advance-add-component : (t : ℕ) → advance-lts.Need-add-component (advance-below t, advance.Post) (advance-at t) advance.Post
 advance-add-component t c =
-    record { fits = omega (arith, inside-fits (c .before .before .args .lengths .now) (c .before .before .args .from .now) (c .before .before .args .at .now) (c .before .before .args .left) (c .before .if1 .left) (omega (arith, c .before .before .pre .1 .0, c .before .before .pre .1 .1 .0 .low)) (c .before .before .pre .1 .1 .0) (c .before .before .pre .1 .1 .1)) }
+    record {
+      fits = omega (
+        arith,
+        inside-fits (c .before .before .args .lengths .now) (c .before .before .args .from .now) (c .before .before .args .at .now)
+            (c .before .before .args .left) (c .before .if1 .left) (omega (arith, c .before .before .pre .1 .0, c .before .before .pre .1 .1 .0 .low))
+            (c .before .before .pre .1 .1 .0) (c .before .before .pre .1 .1 .1),
+      );
+    }
 
 advance-mul-if2 : (t : ℕ) → advance-lts.Need-mul-if2 (advance-below t, advance.Post) (advance-at t) advance.Post
 advance-mul-if2 t c =
@@ -71,8 +78,14 @@ advance-element-write-at t c =
     search needs
 
 advance-returns-2 : (t : ℕ) → advance-lts.Need-returns-2 (advance-below t, advance.Post) (advance-at t) advance.Post
-advance-returns-2 t c =
-    (length-set (c .before .before .before .before .before .args .at .now) _ _ ∙ c .before .before .before .before .before .pre .1 .0, follows-step _ _ _ _ (c .before .before .before .before .if1 .left) (omega (arith, c .before .before .before .before .before .pre .1 .0, c .before .before .before .before .before .pre .1 .1 .0 .low)) (c .if2 .taken))
+advance-returns-2 t c = (
+  length-set (c .before .before .before .before .before .args .at .now) _ _ ∙ c .before .before .before .before .before .pre .1 .0,
+  follows-step _ _ _ _ (c .before .before .before .before .if1 .left) (omega (
+    arith,
+    c .before .before .before .before .before .pre .1 .0,
+    c .before .before .before .before .before .pre .1 .1 .0 .low,
+  )) (c .if2 .taken),
+)
 
 advance-mul-at-2 : (t : ℕ) → advance-lts.Need-mul-at-2 (advance-below t, advance.Post) (advance-at t) advance.Post
 advance-mul-at-2 t c =
@@ -94,17 +107,37 @@ advance-advance-requires : (t : ℕ) → advance-lts.Need-advance-requires (adva
 advance-advance-requires t c κs = (
   omega arith,
   (
-    length-set (c .before .before .before .before .before .before .before .args .at .now) _ _ ∙ c .before .before .before .before .before .before .before .pre .1 .0,
+    length-set (c .before .before .before .before .before .before .before .args .at .now) _ _
+        ∙ c .before .before .before .before .before .before .before .pre .1 .0,
     (
-      places-fewer _ _ (c .before .before .before .before .before .before .before .args .at .now) _ (c .before .before .before .before .before .before .if1 .left) (omega (arith, c .before .before .before .before .before .before .before .pre .1 .0, c .before .before .before .before .before .before .before .pre .1 .1 .0 .low)) (c .before .before .before .before .before .before .before .pre .1 .1 .0),
-      inside-fewer _ _ _ _ (c .before .before .before .before .before .before .if1 .left) (omega (arith, c .before .before .before .before .before .before .before .pre .1 .0, c .before .before .before .before .before .before .before .pre .1 .1 .0 .low)) _ (c .before .before .before .before .before .before .before .pre .1 .1 .1),
+      places-fewer _ _ (c .before .before .before .before .before .before .before .args .at .now) _
+          (c .before .before .before .before .before .before .if1 .left) (omega (
+            arith,
+            c .before .before .before .before .before .before .before .pre .1 .0,
+            c .before .before .before .before .before .before .before .pre .1 .1 .0 .low,
+          )) (c .before .before .before .before .before .before .before .pre .1 .1 .0),
+      inside-fewer _ _ _ _ (c .before .before .before .before .before .before .if1 .left)
+          (omega (
+            arith,
+            c .before .before .before .before .before .before .before .pre .1 .0,
+            c .before .before .before .before .before .before .before .pre .1 .1 .0 .low,
+          )) _
+          (c .before .before .before .before .before .before .before .pre .1 .1 .1),
     ),
   ),
 )
 
 advance-returns-3 : (t : ℕ) → advance-lts.Need-returns-3 (advance-below t, advance.Post) (advance-at t) advance.Post
-advance-returns-3 t c =
-    (c .advance .ensures .0, follows-carry _ _ _ _ _ (c .before .before .before .before .before .before .before .if1 .left) (omega (arith, c .before .before .before .before .before .before .before .before .pre .1 .0, c .before .before .before .before .before .before .before .before .pre .1 .1 .0 .low)) (c .before .before .before .before .before .before .before .before .pre .1 .1 .0) (c .before .before .before .if2 .left) (c .advance .ensures .1))
+advance-returns-3 t c = (
+  c .advance .ensures .0,
+  follows-carry _ _ _ _ _ (c .before .before .before .before .before .before .before .if1 .left)
+      (omega (
+        arith,
+        c .before .before .before .before .before .before .before .before .pre .1 .0,
+        c .before .before .before .before .before .before .before .before .pre .1 .1 .0 .low,
+      ))
+      (c .before .before .before .before .before .before .before .before .pre .1 .1 .0) (c .before .before .before .if2 .left) (c .advance .ensures .1),
+)
 
 pub +advance-spec : {M : Type 1} → statement M
 +advance-spec =

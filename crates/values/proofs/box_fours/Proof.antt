@@ -28,12 +28,23 @@ mul-four-rows c =
 
 four-rows-requires : tie.Need-four-rows-requires Inv-loop μ-loop
 four-rows-requires c κs =
-    let p = c .before .before .before .before .before .before .pre in
-    (p .0, (given-next _ _ _ _ _ _ (c .before .before .before .before .before .before .args .source .now) (c .before .before .before .before .before .before .args .memory .now) _ _ _ _ _ (p .1 .0) _ _ _ (c .before .before .before .loop .inv .1 (p .0) (p .1 .0)) (4 * c .before .before .before .loop .g) (omega arith), omega (arith, c .before .before .loop-test .taken, p .1 .1)))
+    let p = c .before .before .before .before .before .before .pre in (
+      p .0,
+      (
+        given-next _ _ _ _ _ _ (c .before .before .before .before .before .before .args .source .now)
+            (c .before .before .before .before .before .before .args .memory .now) _ _ _ _ _ (p .1 .0) _ _ _ (c .before .before .before .loop .inv .1 (p .0)
+            (p .1 .0)) (4 * c .before .before .before .loop .g) (omega arith),
+        omega (arith, c .before .before .loop-test .taken, p .1 .1),
+      ),
+    )
 
 add-g : tie.Need-add-g Inv-loop μ-loop
 add-g c =
-    omega (arith, c .before .before .before .before .before .loop-test .taken, c .before .before .before .before .before .before .before .before .before .pre .1 .1)
+    omega (
+      arith,
+      c .before .before .before .before .before .loop-test .taken,
+      c .before .before .before .before .before .before .before .before .before .pre .1 .1,
+    )
 
 loop-less : tie.Need-loop-less Inv-loop μ-loop
 loop-less c =
@@ -44,7 +55,13 @@ loop-again c = (
   omega (arith, c .before .before .before .before .before .loop-test .taken),
   λ x p.
       let s = c .before .before .before .before .before .before .loop .inv .1 x p in
-      given-more _ _ _ _ _ _ (c .before .before .before .before .before .before .before .before .before .args .source .now) (c .before .before .before .before .before .before .before .before .before .args .memory .now) _ _ _ _ _ p _ _ _ s (4 * c .before .before .before .before .before .before .loop .g) 4 _ (omega arith) (omega arith) _ _ (c .before .before .four-rows .ensures x (given-next _ _ _ _ _ _ (c .before .before .before .before .before .before .before .before .before .args .source .now) (c .before .before .before .before .before .before .before .before .before .args .memory .now) _ _ _ _ _ p _ _ _ s (4 * c .before .before .before .before .before .before .loop .g) (omega arith))),
+      given-more _ _ _ _ _ _ (c .before .before .before .before .before .before .before .before .before .args .source .now)
+      (c .before .before .before .before .before .before .before .before .before .args .memory .now) _ _ _ _ _ p _ _ _ s
+      (4 * c .before .before .before .before .before .before .loop .g) 4 _ (omega arith) (omega arith) _ _
+      (c .before .before .four-rows .ensures x
+      (given-next _ _ _ _ _ _ (c .before .before .before .before .before .before .before .before .before .args .source .now)
+      (c .before .before .before .before .before .before .before .before .before .args .memory .now) _ _ _ _ _ p _ _ _ s
+      (4 * c .before .before .before .before .before .before .loop .g) (omega arith))),
 )
 
 same-length : tie.Need-same-length Inv-loop μ-loop

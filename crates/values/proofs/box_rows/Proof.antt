@@ -28,30 +28,53 @@ element-copy-out-width : tie.Need-element-copy-out-width Inv-loop μ-loop
 element-copy-out-width c = search needs
 
 loop-holds : tie.Need-loop-holds Inv-loop μ-loop
-loop-holds c =
-    (omega arith, (c .before .before .before .pre .1 .1 .0, λ x g. given-start _ _ _ _ _ _ (c .before .before .before .args .source .now) (c .before .before .before .args .memory .now) _ _ _ _ _ g _ (omega arith)))
+loop-holds c = (
+  omega arith,
+  (
+    c .before .before .before .pre .1 .1 .0,
+    λ x g. given-start _ _ _ _ _ _ (c .before .before .before .args .source .now)
+        (c .before .before .before .args .memory .now) _ _ _ _ _ g _ (omega arith),
+  ),
+)
 
 rank-of-requires : tie.Need-rank-of-requires Inv-loop μ-loop
 rank-of-requires c κs =
     let p = c .before .before .before .before .before .before .pre in
-    let g = given-next _ _ _ _ _ _ (c .before .before .before .before .before .before .args .source .now) (c .before .before .before .before .before .before .args .memory .now) _ _ _ _ _ (p .1 .0) _ _ _ (c .before .before .loop .inv .1 .1 (p .0) (p .1 .0)) (c .before .before .loop .r) (omega (arith, c .before .before .loop .inv .0)) in
+    let g = given-next _ _ _ _ _ _ (c .before .before .before .before .before .before .args .source .now)
+    (c .before .before .before .before .before .before .args .memory .now) _ _ _ _ _ (p .1 .0) _ _ _ (c .before .before .loop .inv .1 .1 (p .0) (p .1 .0))
+    (c .before .before .loop .r) (omega (arith, c .before .before .loop .inv .0)) in
     given-ranked _ _ _ _ _ _ (c .before .before .before .before .before .before .args .source .now) (c .before .before .loop .memory) _ _ _ _ _ g
 
 row-requires : tie.Need-row-requires Inv-loop μ-loop
 row-requires c κs =
     let p = c .before .before .before .before .before .before .before .before .before .pre in
-    let g = given-next _ _ _ _ _ _ (c .before .before .before .before .before .before .before .before .before .args .source .now) (c .before .before .before .before .before .before .before .before .before .args .memory .now) _ _ _ _ _ (p .1 .0) _ _ _ (c .before .before .before .before .before .loop .inv .1 .1 (p .0) (p .1 .0)) (c .before .before .before .before .before .loop .r) (omega (arith, c .before .before .before .before .before .loop .inv .0)) in
-    (p .0, given-row _ _ _ _ _ _ (c .before .before .before .before .before .before .before .before .before .args .source .now) (c .before .before .before .before .before .loop .memory) _ _ _ _ _ g _ (c .before .before .rank-of .ensures))
+    let g = given-next _ _ _ _ _ _ (c .before .before .before .before .before .before .before .before .before .args .source .now)
+    (c .before .before .before .before .before .before .before .before .before .args .memory .now) _ _ _ _ _ (p .1 .0) _ _ _
+    (c .before .before .before .before .before .loop .inv .1 .1 (p .0) (p .1 .0)) (c .before .before .before .before .before .loop .r)
+    (omega (arith, c .before .before .before .before .before .loop .inv .0)) in (
+      p .0,
+      given-row _ _ _ _ _ _ (c .before .before .before .before .before .before .before .before .before .args .source .now)
+          (c .before .before .before .before .before .loop .memory) _ _ _ _ _ g _ (c .before .before .rank-of .ensures),
+    )
 
 advance-requires : tie.Need-advance-requires Inv-loop μ-loop
 advance-requires c κs =
     let p = c .before .before .before .before .before .before .before .before .before .before .before .before .before .pre in
-    let g = given-next _ _ _ _ _ _ (c .before .before .before .before .before .before .before .before .before .before .before .before .before .args .source .now) (c .before .before .before .before .before .before .before .before .before .before .before .before .before .args .memory .now) _ _ _ _ _ (p .1 .0) _ _ _ (c .before .before .before .before .before .before .before .before .before .loop .inv .1 .1 (p .0) (p .1 .0)) (c .before .before .before .before .before .before .before .before .before .loop .r) (omega (arith, c .before .before .before .before .before .before .before .before .before .loop .inv .0)) in
-    given-inside _ _ _ _ _ _ (c .before .before .before .before .before .before .before .before .before .before .before .before .before .args .source .now) (c .before .before .before .before .before .before .before .before .before .loop .memory) _ _ _ _ _ g
+    let g = given-next _ _ _ _ _ _ (c .before .before .before .before .before .before .before .before .before .before .before .before .before .args .source
+    .now) (c .before .before .before .before .before .before .before .before .before .before .before .before .before .args .memory .now) _ _ _ _ _ (p .1 .0)
+    _ _ _ (c .before .before .before .before .before .before .before .before .before .loop .inv .1 .1 (p .0) (p .1 .0))
+    (c .before .before .before .before .before .before .before .before .before .loop .r)
+    (omega (arith, c .before .before .before .before .before .before .before .before .before .loop .inv .0)) in
+    given-inside _ _ _ _ _ _ (c .before .before .before .before .before .before .before .before .before .before .before .before .before .args .source .now)
+    (c .before .before .before .before .before .before .before .before .before .loop .memory) _ _ _ _ _ g
 
 add-r : tie.Need-add-r Inv-loop μ-loop
 add-r c =
-    omega (arith, c .before .before .before .before .before .before .before .before .before .loop-test .taken, c .before .before .before .before .before .before .before .before .before .before .before .before .before .before .pre .1 .1 .1)
+    omega (
+      arith,
+      c .before .before .before .before .before .before .before .before .before .loop-test .taken,
+      c .before .before .before .before .before .before .before .before .before .before .before .before .before .before .pre .1 .1 .1,
+    )
 
 loop-less : tie.Need-loop-less Inv-loop μ-loop
 loop-less c =
@@ -64,10 +87,22 @@ loop-again c = (
     omega (arith, c .before .before .before .before .before .before .before .before .before .loop-test .taken),
     λ x p.
         let s = c .before .before .before .before .before .before .before .before .before .before .loop .inv .1 .1 x p in
-        let g = given-next _ _ _ _ _ _ (c .before .before .before .before .before .before .before .before .before .before .before .before .before .before .args .source .now) (c .before .before .before .before .before .before .before .before .before .before .before .before .before .before .args .memory .now) _ _ _ _ _ p _ _ _ s (c .before .before .before .before .before .before .before .before .before .before .loop .r) (omega (arith, c .before .before .before .before .before .before .before .before .before .before .loop .inv .0)) in
-        let h = given-row _ _ _ _ _ _ (c .before .before .before .before .before .before .before .before .before .before .before .before .before .before .args .source .now) (c .before .before .before .before .before .before .before .before .before .before .loop .memory) _ _ _ _ _ g _ (c .before .before .before .before .before .before .before .rank-of .ensures) in
-        given-more _ _ _ _ _ _ (c .before .before .before .before .before .before .before .before .before .before .before .before .before .before .args .source .now) (c .before .before .before .before .before .before .before .before .before .before .before .before .before .before .args .memory .now) _ _ _ _ _ p _ _ _ s (c .before .before .before .before .before .before .before .before .before .before .loop .r) 1 _ (omega (arith, c .before .before .before .before .before .before .before .before .before .before .loop .inv .0)) (omega (arith, c .before .before .before .before .before .before .before .before .before .before .loop .inv .0)) _ _
-        (given-one _ _ _ _ _ _ (c .before .before .before .before .before .before .before .before .before .before .before .before .before .before .args .source .now) (c .before .before .before .before .before .before .before .before .before .before .loop .memory) _ _ _ _ _ g _ (c .before .before .before .before .before .before .before .rank-of .ensures) _ _ (c .before .before .before .before .row .ensures x h) (c .advance .ensures)),
+        let g = given-next _ _ _ _ _ _ (c .before .before .before .before .before .before .before .before .before .before .before .before .before .before
+        .args .source .now) (c .before .before .before .before .before .before .before .before .before .before .before .before .before .before .args .memory
+        .now) _ _ _ _ _ p _ _ _ s (c .before .before .before .before .before .before .before .before .before .before .loop .r)
+        (omega (arith, c .before .before .before .before .before .before .before .before .before .before .loop .inv .0)) in
+        let h = given-row _ _ _ _ _ _ (c .before .before .before .before .before .before .before .before .before .before .before .before .before .before
+        .args .source .now) (c .before .before .before .before .before .before .before .before .before .before .loop .memory) _ _ _ _ _ g _
+        (c .before .before .before .before .before .before .before .rank-of .ensures) in
+        given-more _ _ _ _ _ _ (c .before .before .before .before .before .before .before .before .before .before .before .before .before .before .args
+        .source .now) (c .before .before .before .before .before .before .before .before .before .before .before .before .before .before .args .memory .now)
+        _ _ _ _ _ p _ _ _ s (c .before .before .before .before .before .before .before .before .before .before .loop .r) 1 _
+        (omega (arith, c .before .before .before .before .before .before .before .before .before .before .loop .inv .0))
+        (omega (arith, c .before .before .before .before .before .before .before .before .before .before .loop .inv .0)) _ _
+        (given-one _ _ _ _ _ _ (c .before .before .before .before .before .before .before .before .before .before .before .before .before .before .args
+        .source .now) (c .before .before .before .before .before .before .before .before .before .before .loop .memory) _ _ _ _ _ g _
+        (c .before .before .before .before .before .before .before .rank-of .ensures) _ _ (c .before .before .before .before .row .ensures x h)
+        (c .advance .ensures)),
   ),
 )
 

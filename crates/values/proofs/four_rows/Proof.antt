@@ -31,12 +31,14 @@ element-copy-out-start-of c = search needs
 
 start-of-requires : tie.Need-start-of-requires
 start-of-requires c κs =
-    given-margin _ _ _ _ _ _ (c .before .before .before .before .before .args .source .now) (c .before .before .before .before .before .args .memory .now) _ _ _ _ _ (c .before .before .before .before .before .pre .1 .0)
+    given-margin _ _ _ _ _ _ (c .before .before .before .before .before .args .source .now) (c .before .before .before .before .before .args .memory .now) _
+    _ _ _ _ (c .before .before .before .before .before .pre .1 .0)
 
 together-requires : tie.Need-together-requires
 together-requires c κs =
     let g = c .before .before .before .before .before .before .before .pre .1 .0 in
-    let i = given-inside _ _ _ _ _ _ (c .before .before .before .before .before .before .before .args .source .now) (c .before .before .before .before .before .before .before .args .memory .now) _ _ _ _ _ g in
+    let i = given-inside _ _ _ _ _ _ (c .before .before .before .before .before .before .before .args .source .now)
+    (c .before .before .before .before .before .before .before .args .memory .now) _ _ _ _ _ g in
     (omega (arith, g .0 .0 .dimensions-most), (c .before .start-of .ensures .1 .1, i .1))
 
 add-box-rows : tie.Need-add-box-rows
@@ -63,32 +65,46 @@ element-copy-out-stride c = search needs
 
 rank-of-requires : tie.Need-rank-of-requires
 rank-of-requires c κs =
-    given-ranked _ _ _ _ _ _ (c .before .before .before .before .before .before .before .before .before .before .before .args .source .now) (c .before .before .before .before .before .before .before .before .before .before .before .args .memory .now) _ _ _ _ _ (c .before .before .before .before .before .before .before .before .before .before .before .pre .1 .0)
+    given-ranked _ _ _ _ _ _ (c .before .before .before .before .before .before .before .before .before .before .before .args .source .now)
+    (c .before .before .before .before .before .before .before .before .before .before .before .args .memory .now) _ _ _ _ _
+    (c .before .before .before .before .before .before .before .before .before .before .before .pre .1 .0)
 
 add-b : tie.Need-add-b
 add-b c =
-    let q = given-small _ _ _ _ _ _ (c .before .before .before .before .before .before .before .before .before .before .before .before .args .source .now) (c .before .before .before .before .before .before .before .before .before .before .before .before .args .memory .now) _ _ _ _ _ (c .before .before .before .before .before .before .before .before .before .before .before .before .pre .1 .0) _ (c .rank-of .ensures) in
+    let q = given-small _ _ _ _ _ _ (c .before .before .before .before .before .before .before .before .before .before .before .before .args .source .now)
+    (c .before .before .before .before .before .before .before .before .before .before .before .before .args .memory .now) _ _ _ _ _
+    (c .before .before .before .before .before .before .before .before .before .before .before .before .pre .1 .0) _ (c .rank-of .ensures) in
     omega (arith, q .0, q .1)
 
 add-c : tie.Need-add-c
 add-c c =
-    let q = given-small _ _ _ _ _ _ (c .before .before .before .before .before .before .before .before .before .before .before .before .args .source .now) (c .before .before .before .before .before .before .before .before .before .before .before .before .args .memory .now) _ _ _ _ _ (c .before .before .before .before .before .before .before .before .before .before .before .before .pre .1 .0) _ (c .rank-of .ensures) in
+    let q = given-small _ _ _ _ _ _ (c .before .before .before .before .before .before .before .before .before .before .before .before .args .source .now)
+    (c .before .before .before .before .before .before .before .before .before .before .before .before .args .memory .now) _ _ _ _ _
+    (c .before .before .before .before .before .before .before .before .before .before .before .before .pre .1 .0) _ (c .rank-of .ensures) in
     omega (arith, q .0, q .1)
 
 add-band : tie.Need-add-band
 add-band c =
-    let q = given-small _ _ _ _ _ _ (c .before .before .before .before .before .before .before .before .before .before .before .before .before .args .source .now) (c .before .before .before .before .before .before .before .before .before .before .before .before .before .args .memory .now) _ _ _ _ _ (c .before .before .before .before .before .before .before .before .before .before .before .before .before .pre .1 .0) _ (c .before .rank-of .ensures) in
+    let q = given-small _ _ _ _ _ _ (c .before .before .before .before .before .before .before .before .before .before .before .before .before .args .source
+    .now) (c .before .before .before .before .before .before .before .before .before .before .before .before .before .args .memory .now) _ _ _ _ _
+    (c .before .before .before .before .before .before .before .before .before .before .before .before .before .pre .1 .0) _ (c .before .rank-of .ensures) in
     omega (arith, q .0, q .1)
 
 band-requires : tie.Need-band-requires
 band-requires c κs =
     let p = c .before .before .before .before .before .before .before .before .before .before .before .before .before .pre in
-    let t = c .before .before .before .before .before .together .ensures (not-false _ (c .before .before .before .before .if1 .left)) in
-    (p .0, given-band _ _ _ _ _ _ (c .before .before .before .before .before .before .before .before .before .before .before .before .before .args .source .now) (c .before .before .before .before .before .before .before .before .before .before .before .before .before .args .memory .now) _ _ _ _ _ (p .1 .0) _ (c .before .rank-of .ensures) (t .1) _ _ _ refl refl refl _ (c .before .before .before .before .before .before .before .start-of .ensures) (t .0))
+    let t = c .before .before .before .before .before .together .ensures (not-false _ (c .before .before .before .before .if1 .left)) in (
+      p .0,
+      given-band _ _ _ _ _ _ (c .before .before .before .before .before .before .before .before .before .before .before .before .before .args .source
+          .now) (c .before .before .before .before .before .before .before .before .before .before .before .before .before .args .memory .now) _ _ _ _ _ (p
+          .1 .0)
+          _ (c .before .rank-of .ensures) (t .1) _ _ _ refl refl refl _ (c .before .before .before .before .before .before .before .start-of .ensures) (t .0),
+    )
 
 sub-at : tie.Need-sub-at
 sub-at c =
-    let t = c .before .before .before .before .before .before .before .before .together .ensures (not-false _ (c .before .before .before .before .before .before .before .if1 .left)) in
+    let t = c .before .before .before .before .before .before .before .before .together .ensures
+    (not-false _ (c .before .before .before .before .before .before .before .if1 .left)) in
     omega (arith, t .1 .0)
 
 mul-at : tie.Need-mul-at
@@ -103,20 +119,37 @@ element-copy-out-at c =
 
 add-at : tie.Need-add-at
 add-at c =
-    let g = c .before .before .before .before .before .before .before .before .before .before .before .before .before .before .before .before .before .pre .1 .0 in
-    let t = c .before .before .before .before .before .before .before .before .before .together .ensures (not-false _ (c .before .before .before .before .before .before .before .before .if1 .left)) in
-    let i = given-inside _ _ _ _ _ _ (c .before .before .before .before .before .before .before .before .before .before .before .before .before .before .before .before .before .args .source .now) (c .before .before .before .before .before .before .before .before .before .before .before .before .before .before .before .before .before .args .memory .now) _ _ _ _ _ g in
-    omega (arith, t .1 .0, t .1 .1 .1, i .1 .0 .small (c .before .before .before .before .before .before .before .before .before .before .before .before .before .before .before .before .before .args .body .dimensions - 1 - 1) (omega (arith, t .1 .0)))
+    let g = c .before .before .before .before .before .before .before .before .before .before .before .before .before .before .before .before .before .pre .1
+    .0 in
+    let t = c .before .before .before .before .before .before .before .before .before .together .ensures
+    (not-false _ (c .before .before .before .before .before .before .before .before .if1 .left)) in
+    let i = given-inside _ _ _ _ _ _ (c .before .before .before .before .before .before .before .before .before .before .before .before .before .before
+    .before .before .before .args .source .now)
+    (c .before .before .before .before .before .before .before .before .before .before .before .before .before .before .before .before .before .args .memory
+    .now) _ _ _ _ _ g in
+    omega (
+      arith,
+      t .1 .0,
+      t .1 .1 .1,
+      i .1 .0 .small (c .before .before .before .before .before .before .before .before .before .before .before .before .before .before .before .before .before
+          .args .body .dimensions - 1 - 1) (omega (arith, t .1 .0)),
+    )
 
 element-write-at : tie.Need-element-write-at
 element-write-at c =
-    let g = c .before .before .before .before .before .before .before .before .before .before .before .before .before .before .before .before .before .pre .1 .0 in
+    let g = c .before .before .before .before .before .before .before .before .before .before .before .before .before .before .before .before .before .pre .1
+    .0 in
     omega (arith, g .1 .1 .1 .long, g .0 .0 .dimensions-most)
 
 advance-requires : tie.Need-advance-requires
 advance-requires c κs =
-    let t = c .before .before .before .before .before .before .before .before .before .before .together .ensures (not-false _ (c .before .before .before .before .before .before .before .before .before .if1 .left)) in
-    given-moved _ _ _ _ _ _ (c .before .before .before .before .before .before .before .before .before .before .before .before .before .before .before .before .before .before .args .source .now) (c .before .before .before .before .before .before .before .before .before .before .before .before .before .before .before .before .before .before .args .memory .now) _ _ _ _ _ (c .before .before .before .before .before .before .before .before .before .before .before .before .before .before .before .before .before .before .pre .1 .0) _ (c .before .before .before .before .before .before .rank-of .ensures) (t .1) _ _ _ refl refl refl
+    let t = c .before .before .before .before .before .before .before .before .before .before .together .ensures
+    (not-false _ (c .before .before .before .before .before .before .before .before .before .if1 .left)) in
+    given-moved _ _ _ _ _ _ (c .before .before .before .before .before .before .before .before .before .before .before .before .before .before .before
+    .before .before .before .args .source .now)
+    (c .before .before .before .before .before .before .before .before .before .before .before .before .before .before .before .before .before .before .args
+    .memory .now) _ _ _ _ _ (c .before .before .before .before .before .before .before .before .before .before .before .before .before .before .before
+    .before .before .before .pre .1 .0) _ (c .before .before .before .before .before .before .rank-of .ensures) (t .1) _ _ _ refl refl refl
 
 same-length-2 : tie.Need-same-length-2
 same-length-2 c = search needs
@@ -124,9 +157,19 @@ same-length-2 c = search needs
 returns-2 : tie.Need-returns-2
 returns-2 c =
     λ x g.
-    let t = c .before .before .before .before .before .before .before .before .before .before .before .together .ensures (not-false _ (c .before .before .before .before .before .before .before .before .before .before .if1 .left)) in
-    given-four _ _ _ _ _ _ (c .before .before .before .before .before .before .before .before .before .before .before .before .before .before .before .before .before .before .before .args .source .now) (c .before .before .before .before .before .before .before .before .before .before .before .before .before .before .before .before .before .before .before .args .memory .now) _ _ _ _ _ g _ (c .before .before .before .before .before .before .before .rank-of .ensures) (t .1) _ _ _ refl refl refl _ _
-    (c .before .before .before .before .before .band .ensures x (given-band _ _ _ _ _ _ (c .before .before .before .before .before .before .before .before .before .before .before .before .before .before .before .before .before .before .before .args .source .now) (c .before .before .before .before .before .before .before .before .before .before .before .before .before .before .before .before .before .before .before .args .memory .now) _ _ _ _ _ g _ (c .before .before .before .before .before .before .before .rank-of .ensures) (t .1) _ _ _ refl refl refl _ (c .before .before .before .before .before .before .before .before .before .before .before .before .before .start-of .ensures) (t .0))) (c .advance .ensures)
+    let t = c .before .before .before .before .before .before .before .before .before .before .before .together .ensures
+    (not-false _ (c .before .before .before .before .before .before .before .before .before .before .if1 .left)) in
+    given-four _ _ _ _ _ _ (c .before .before .before .before .before .before .before .before .before .before .before .before .before .before .before .before
+    .before .before .before .args .source .now)
+    (c .before .before .before .before .before .before .before .before .before .before .before .before .before .before .before .before .before .before
+    .before .args .memory .now) _ _ _ _ _ g _ (c .before .before .before .before .before .before .before .rank-of .ensures) (t .1) _ _ _ refl refl refl _ _
+    (c .before .before .before .before .before .band .ensures x
+    (given-band _ _ _ _ _ _ (c .before .before .before .before .before .before .before .before .before .before .before .before .before .before .before
+    .before .before .before .before .args .source .now)
+    (c .before .before .before .before .before .before .before .before .before .before .before .before .before .before .before .before .before .before
+    .before .args .memory .now) _ _ _ _ _ g _ (c .before .before .before .before .before .before .before .rank-of .ensures) (t .1) _ _ _ refl refl refl _
+    (c .before .before .before .before .before .before .before .before .before .before .before .before .before .start-of .ensures) (t .0)))
+    (c .advance .ensures)
 
 pub four-rows-spec : {M : Type 1} → statement M
 four-rows-spec =

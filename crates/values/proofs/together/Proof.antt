@@ -35,7 +35,11 @@ element-copy-out-if3-2 c = search needs
 
 add-if3 : tie.Need-add-if3
 add-if3 c =
-    omega (arith, c .before .before .before .before .pre .1 .1 .0 .small (c .before .before .before .before .args .last - 1) (omega (arith, c .before .before .if2 .left)))
+    omega (
+      arith,
+      c .before .before .before .before .pre .1 .1 .0 .small (c .before .before .before .before .args .last - 1)
+          (omega (arith, c .before .before .if2 .left)),
+    )
 
 mul-if3-3 : tie.Need-mul-if3-3
 mul-if3-3 c = search needs
@@ -47,8 +51,10 @@ add-if3-2 : tie.Need-add-if3-2
 add-if3-2 c =
     omega (
       arith,
-      c .before .before .before .before .before .pre .1 .1 .1 .each (c .before .before .before .before .before .args .last - 1) (omega (arith, c .before .before .before .if2 .left)),
-      c .before .before .before .before .before .pre .1 .1 .0 .small (c .before .before .before .before .before .args .last - 1) (omega (arith, c .before .before .before .if2 .left)),
+      c .before .before .before .before .before .pre .1 .1 .1 .each (c .before .before .before .before .before .args .last - 1)
+          (omega (arith, c .before .before .before .if2 .left)),
+      c .before .before .before .before .before .pre .1 .1 .0 .small (c .before .before .before .before .before .args .last - 1)
+          (omega (arith, c .before .before .before .if2 .left)),
     )
 
 returns-3 : tie.Need-returns-3
@@ -60,7 +66,13 @@ inner-requires c κs = search needs
 
 returns-4 : tie.Need-returns-4
 returns-4 c =
-    λ z. (omega (arith, c .before .before .before .before .before .before .if1 .left), (omega (arith, c .before .before .before .before .before .if2 .left), (sym (c .inner .ensures) ∙ z, omega (arith, c .before .if3 .left))))
+    λ z. (
+      omega (arith, c .before .before .before .before .before .before .if1 .left),
+      (
+        omega (arith, c .before .before .before .before .before .if2 .left),
+        (sym (c .inner .ensures) ∙ z, omega (arith, c .before .if3 .left)),
+      ),
+    )
 
 pub together-spec : {M : Type 1} → statement M
 together-spec =
