@@ -325,6 +325,11 @@ FAULTS = [
     ('package', 'rolwyddac_sweep(', 'rolwyddac_swept('),
     ('package', 'status: &mut [u8], processor: u32', 'status: &[u8], processor: u32'),
     ('package', 'weights: &[u16]', 'weights: &[u8]'),
+    ('header', 'uint32_t processor, uint32_t message, const uint32_t *words', 'uint32_t message, uint32_t processor, const uint32_t *words'),
+    ('header', '11; 9 if out has not 4 words', '9 if out has not 4 words'),
+    ('crate', 'rolwyddac_own_collect as own_collect(\n        encoded: &[u8], route: Route, memory: &[u32]',
+     'rolwyddac_own_collect as own_collect(\n        encoded: &[u8], route: Route, memory: &mut [u32]'),
+    ('package', 'marks: &mut [u8], processor: u32', 'processor: u32, marks: &mut [u8]'),
     ('sources', 'message: u32', 'message: u16'),
     ('sources', '#[no_mangle]\npub extern "C" fn rolwyddac_sweep', 'pub extern "C" fn rolwyddac_sweep'),
 ]

@@ -8,6 +8,7 @@ Comments name the section of document 01 that the code renders.
 Run as a program it checks the rows and the single facts that the paper prints.
 """
 
+import functools
 from itertools import product
 
 WORD = 2 ** 32
@@ -678,6 +679,168 @@ def take_in(encoded, areas, b, m, words, route=DIRECT):
     return 0
 
 
+# For one board that is lent its own part alone: memory for nothing else
+
+@functools.lru_cache(maxsize=None)
+def own_cells(plan, b):
+    """The cells of its tiles, in index order."""
+    return [c for c in range(plan.cells) if plan.inside[c] and plan.board_of[plan.tile_of[c]] == b]
+
+
+@functools.lru_cache(maxsize=None)
+def kept_cells(plan, b):
+    """The cells that it keeps words of: its own, and those that a message to one of its tiles brings."""
+    brought = [message.cells for message in plan.messages if plan.board_of[message.taker] == b]
+    return sorted(set(own_cells(plan, b)).union(*brought))
+
+
+@functools.lru_cache(maxsize=None)
+def handled(plan, b):
+    """The messages that its tiles send or take."""
+    return [m for m, message in enumerate(plan.messages) if b in (plan.board_of[message.sender], plan.board_of[message.taker])]
+
+
+class OwnAreas:
+    """What such a board is lent: a word for each own cell, a word for each kept cell, the words of its messages one after the other, its
+    record's three words, a mark for each of these messages; to collect, the grid."""
+
+    def __init__(self):
+        self.source = []
+        self.memory = []
+        self.mail = []
+        self.progress = []
+        self.marks = []
+        self.grid = []
+
+
+def own_lengths(plan, b):
+    messages = handled(plan, b)
+    return [len(own_cells(plan, b)), len(kept_cells(plan, b)), sum(len(plan.messages[m].cells) for m in messages), len(messages)]
+
+
+def is_own_part(plan, b, own):
+    _, kept, words, messages = own_lengths(plan, b)
+    return [len(own.memory), len(own.mail), len(own.progress), len(own.marks)] == [kept, words, 3, messages]
+
+
+def own_areas_for(plan, b, source):
+    """A board's part of a fresh start, over its own cells of a source of all cells."""
+    own = OwnAreas()
+    _, kept, words, messages = own_lengths(plan, b)
+    own.source = [source[c] for c in own_cells(plan, b)]
+    own.memory, own.mail, own.progress, own.marks, own.grid = [0] * kept, [0] * words, [0] * 3, [0] * messages, [0] * plan.cells
+    return own
+
+
+def widened(plan, b, own):
+    """Areas of all boards that have this part, and are as a fresh start in every other word."""
+    areas = areas_for(plan, [0] * plan.cells)
+    for c, word in zip(own_cells(plan, b), own.source):
+        areas.source[c] = word
+    for c, word in zip(kept_cells(plan, b), own.memory):
+        areas.memories[b * plan.cells + c] = word
+    areas.progress[3 * b:3 * b + 3] = own.progress
+    at = 0
+    for m, mark in zip(handled(plan, b), own.marks):
+        areas.status[m] = mark
+        count = len(plan.messages[m].cells)
+        areas.buffer[plan.messages[m].offset:plan.messages[m].offset + count] = own.mail[at:at + count]
+        at += count
+    return areas
+
+
+def narrow(plan, b, areas, own):
+    """Back into the part what these areas have there."""
+    messages = handled(plan, b)
+    own.memory[:] = [areas.memories[b * plan.cells + c] for c in kept_cells(plan, b)]
+    own.mail[:] = [areas.buffer[plan.messages[m].offset + j] for m in messages for j in range(len(plan.messages[m].cells))]
+    own.progress[:] = areas.progress[3 * b:3 * b + 3]
+    own.marks[:] = [areas.status[m] for m in messages]
+
+
+def own_number(encoded, route, b, is_right):
+    """The lines up to 9, and the plan: the board is asked for before the lengths, which are its own."""
+    number, plan = plan_of(encoded, route)
+    if number != 0:
+        return number, plan
+    if not b < plan.boards:
+        return 11, plan
+    return (0 if is_right(plan) else 9), plan
+
+
+def on_widened(encoded, own, b, route, is_right, call):
+    """What a call gives and leaves on areas that have this part."""
+    number, plan = own_number(encoded, route, b, lambda plan: is_own_part(plan, b, own) and is_right(plan))
+    if number != 0:
+        return number
+    areas = widened(plan, b, own)
+    number = call(areas)
+    if number == 0:
+        narrow(plan, b, areas, own)
+    return number
+
+
+def own_sizes(encoded, b, out, route=DIRECT):
+    """Four words: its own cells, the cells it keeps, the words of its messages, and how many these are."""
+    number, plan = own_number(encoded, route, b, lambda plan: len(out) == 4)
+    if number == 0:
+        out[:] = own_lengths(plan, b)
+    return number
+
+
+def own_messages(encoded, b, out, route=DIRECT):
+    """A row of seven words for each of its messages: number, the two tiles, their boards, how many words, and where these begin in its mail."""
+    number, plan = own_number(encoded, route, b, lambda plan: len(out) == 7 * len(handled(plan, b)))
+    if number != 0:
+        return number
+    rows, at = [], 0
+    for m in handled(plan, b):
+        message = plan.messages[m]
+        rows += [m, message.sender, message.taker, plan.board_of[message.sender], plan.board_of[message.taker], len(message.cells), at]
+        at += len(message.cells)
+    out[:] = rows
+    return 0
+
+
+def own_fresh(encoded, own, b, route=DIRECT):
+    """No source is lent."""
+    return on_widened(encoded, own, b, route, lambda plan: True, lambda areas: fresh(encoded, areas, route))
+
+
+def own_turn(encoded, own, b, route=DIRECT):
+    return on_widened(encoded, own, b, route, lambda plan: len(own.source) == len(own_cells(plan, b)), lambda areas: turn(encoded, areas, b, route))
+
+
+def own_post(encoded, own, b, m, route=DIRECT):
+    """Message m is handed to a transport: delivered, as far as its sender knows. Of a message that is another's it has no mark, which is 14."""
+    return on_widened(encoded, own, b, route, lambda plan: True, lambda areas: deliver(encoded, areas, m, route))
+
+
+def own_arrive(encoded, own, b, m, words, route=DIRECT):
+    return on_widened(encoded, own, b, route, lambda plan: m >= len(plan.messages) or len(words) == len(plan.messages[m].cells),
+                      lambda areas: take_in(encoded, areas, b, m, words, route))
+
+
+def own_collect(encoded, own, b, route=DIRECT):
+    """Of the part only memory and record are lent. The words of its own cells and of the cells outside the shape are written, no other."""
+    number, plan = own_number(encoded, route, b, lambda plan: [len(own.memory), len(own.progress), len(own.grid)] == [
+        len(kept_cells(plan, b)), 3, plan.cells])
+    if number != 0:
+        return number
+    progress = [0] * (3 * b) + list(own.progress)
+    if not is_fit_record(plan, progress, b):
+        return 10
+    if own.progress[0] < len(plan.tiles_of[b]):
+        return 15
+    kept = dict(zip(kept_cells(plan, b), own.memory))
+    for c in range(plan.cells):
+        if c in own_cells(plan, b):
+            own.grid[c] = kept[c]
+        elif not plan.inside[c]:
+            own.grid[c] = plan.nest.boundary
+    return 0
+
+
 def sweep(encoded, source, grid):
     """The sequential sweep as a call: lines 1 to 8, then the lengths of the two areas it is lent."""
     number, plan = plan_of(encoded)
@@ -1014,6 +1177,7 @@ def check_paper():
     check_hours()
     check_rounds()
     check_transport()
+    check_own()
 
 
 def check_routes():
@@ -1362,6 +1526,56 @@ def check_transport():
     expect('its values', own[1].memories[6:], [3, 4])
     own[1].progress[1] = 3
     expect('unfit before no such', [take_in(encoded, own[1], 0, 9, []), take_in(encoded, own[1], 1, 0, [])], [10, 9])
+
+
+def check_own():
+    """Row D, each board with its own part alone; board 1 keeps cell 1 beside its own, since message 0 brings it."""
+    encoded = ROWS['D']
+    plan = plan_of(encoded)[1]
+
+    def told(call, b, count, route=DIRECT, of=encoded):
+        out = [7] * count
+        number = call(of, b, out, route)
+        expect('as before', number == 0 or out == [7] * count, True)
+        return out if number == 0 else number
+
+    expect('its lengths', [told(own_sizes, b, 4) for b in range(3)], [[2, 2, 1, 1], [2, 3, 1, 1], 11])
+    expect('11 before 9', [told(own_sizes, 1, 5), told(own_sizes, 2, 5), told(own_sizes, 2, 5, of=encoded[16:])], [9, 11, 2])
+    expect('its messages', [told(own_messages, b, 7) for b in range(3)], [[0, 0, 1, 0, 1, 1, 0]] * 2 + [11])
+    expect('rows of other lengths', [told(own_messages, b, 8) for b in range(3)], [9, 9, 11])
+    # boards 1 and 2 of three: the middle one handles what it takes and what it sends
+    line = encode([6, 1], [2, 1], [3, 0], [(1, 0)])
+    expect('three boards', [told(own_messages, b, 14, of=line) for b in (1, 2)], [[0, 0, 1, 0, 1, 1, 0, 1, 1, 2, 1, 2, 1, 1], 9])
+    parts = [own_areas_for(plan, b, [1] * 4) for b in range(2)]
+    parts[0].memory, parts[0].progress, parts[0].marks = [9, 9], [77, 0, 0], [200]
+    expect('a fresh start', [own_fresh(encoded, parts[0], 0), parts[0].memory, parts[0].mail, parts[0].progress, parts[0].marks],
+           [0, [0, 0], [0], [0] * 3, [0]])
+    expect('waits', [own_turn(encoded, parts[1], 1), own_turn(encoded, parts[1], 0), own_turn(encoded, parts[1], 2)], [12, 9, 11])
+    expect('early', [own_collect(encoded, part, b) for b, part in enumerate(parts)], [15, 15])
+    expect('the turns of board 0', [own_turn(encoded, parts[0], 0) for _ in range(4)], [0, 0, 0, 13])
+    expect('what it has', [parts[0].memory, parts[0].mail, parts[0].marks], [[1, 2], [2], [1]])
+    expect('posting', [own_post(encoded, parts[0], 0, m) for m in (1, 0, 0)] + [parts[0].marks], [11, 0, 14, [2]])
+    expect('what comes', [own_arrive(encoded, parts[1], b, m, words) for b, m, words in (
+        (2, 0, []), (1, 0, [2, 2]), (0, 0, [2]), (1, 1, [2]), (1, 0, [2]), (1, 0, [9]))], [11, 9, 9, 11, 0, 14])
+    expect('where it is', [own_arrive(encoded, parts[0], 0, 0, [2]), parts[1].mail, parts[1].marks], [11, [2], [2]])
+    expect('board 1 goes on', [own_turn(encoded, parts[1], 1) for _ in range(3)] + [parts[1].memory, parts[1].marks], [0, 0, 13, [2, 3, 4], [3]])
+    grid = [5] * 4
+    for b in (1, 0):
+        parts[b].grid = grid
+        expect('collecting', own_collect(encoded, parts[b], b), 0)
+        expect('the grid', grid, [5, 5, 3, 4] if b else [1, 2, 3, 4])
+    parts[1].marks = [4]
+    expect('unfit', [own_turn(encoded, parts[1], 1), own_post(encoded, parts[1], 1, 9), own_arrive(encoded, parts[1], 1, 9, []),
+                     own_collect(encoded, parts[1], 1)], [10, 10, 10, 0])
+    # a board without tiles: its part is empty, and it has finished
+    none = plan_of(ROWS['F'])[1]
+    part = own_areas_for(none, 1, [1] * 2)
+    expect('no tiles', [told(own_sizes, 1, 4, of=ROWS['F']), own_turn(ROWS['F'], part, 1), own_collect(ROWS['F'], part, 1), part.grid],
+           [[0] * 4, 13, 0, [0, 0]])
+    shaped = encode([2, 4], [1, 2], [2, 0], [(1, 0)], boundary=9, bounds=[(1, 1, 0, 0, 2)])
+    part = own_areas_for(plan_of(shaped)[1], 1, [1] * 8)
+    part.progress[0] = 2
+    expect('outside the shape', [own_collect(shaped, part, 1), part.grid], [0, [0, 0, 0, 9, 0, 0, 0, 9]])
 
 
 if __name__ == '__main__':

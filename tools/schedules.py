@@ -606,8 +606,66 @@ def check_swaps(count):
         len(cases), *totals)
 
 
+# Boards that are lent their own parts alone
+
+def own_events(plan, mail):
+    """What may be tried next: a turn or a post of any board, a number too high among the posts; mail comes late, again, or at another board."""
+    events = [('turn', b) for b in range(plan.boards)] + [('post', b, m) for b in range(plan.boards) for m in range(len(plan.messages) + 1)]
+    return events + [('arrive', b, m, words) for b, m, words in mail] + [('arrive', (b + 1) % plan.boards, m, words) for b, m, words in mail]
+
+
+def own_step(encoded, route, plan, wide, parts, mail, event):
+    """One event, on the parts and on areas that each board has to itself: the number is the same, and so is what the board's part is after it."""
+    kind, b, *rest = event
+    part, areas = parts[b], wide[b]
+    if kind == 'turn':
+        numbers = model.own_turn(encoded, part, b, route), model.turn(encoded, areas, b, route)
+    elif kind == 'post':
+        numbers = model.own_post(encoded, part, b, *rest, route), model.deliver(encoded, areas, *rest, route)
+    else:
+        numbers = model.own_arrive(encoded, part, b, *rest, route), model.take_in(encoded, areas, b, *rest, route)
+    assert numbers[0] == numbers[1], (event, numbers)
+    seen = copy.deepcopy(part)
+    model.narrow(plan, b, areas, seen)
+    assert same(part, seen, ('memory', 'mail', 'progress', 'marks'))
+    if kind == 'post' and numbers[0] == 0:
+        message = plan.messages[rest[0]]
+        mail.append((plan.board_of[message.taker], rest[0], areas.buffer[message.offset:message.offset + len(message.cells)]))
+    return numbers[0]
+
+
+def check_own_run(encoded, route, draw):
+    plan = model.plan_of(encoded, route)[1]
+    source = [draw.word() for _ in range(plan.cells)]
+    parts = [model.own_areas_for(plan, b, source) for b in range(plan.boards)]
+    wide, mail, numbers, steps = [model.areas_for(plan, source) for _ in range(plan.boards)], [], set(), 0
+    total = plan.steps + len(plan.messages)
+    while steps < total:
+        number = own_step(encoded, route, plan, wide, parts, mail, draw.pick(own_events(plan, mail)))
+        numbers.add(number)
+        steps += number == 0
+    # the grid is put together in any order of the boards
+    grid = [draw.word() for _ in range(plan.cells)]
+    for b in sorted(range(plan.boards), key=lambda b: draw.word()):
+        parts[b].grid = grid
+        assert model.own_collect(encoded, parts[b], b, route) == 0
+    assert grid == plan.swept(source)
+    return numbers
+
+
+def check_own(count):
+    recipes, draw = drawn_recipes(31, count)
+    cases = [(encoded, route) for encoded in recipes for route in (model.DIRECT, model.INDIRECT)]
+    cases += [(encoded, model.DIRECT) for encoded in vectors.shape_recipes()[3:9]]
+    seen = set()
+    for encoded, route in cases:
+        seen |= check_own_run(encoded, route, draw)
+    assert seen == {0, 11, 12, 13, 14}, seen
+    return '%d recipes: boards with their own parts alone answer as with all areas, mail late and again; grids are the sweep' % len(cases)
+
+
 def check(count=12):
-    for part in (check_offices, check_shapes, check_soundings, check_charts, check_hours, check_swaps):
+    for part in (check_offices, check_shapes, check_soundings, check_charts, check_hours, check_swaps, check_own):
         print(part(count))
 
 

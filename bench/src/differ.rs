@@ -5,10 +5,11 @@ mod desk;
 mod events;
 mod hours;
 mod offices;
+mod own;
 mod rounds;
 mod swaps;
 
-use crate::engine::{Areas, Engine, Progress, Request, Rig, Route, HOPS_WORDS, MESSAGE_WORDS, SUMMARY_WORDS};
+use crate::engine::{Areas, Engine, Part, Progress, Request, Rig, Route, HOPS_WORDS, MESSAGE_WORDS, SUMMARY_WORDS};
 use crate::model::{Model, Plan};
 use crate::recipe::{self, Limits, Numbers};
 use crate::rng::Rng;
@@ -99,6 +100,9 @@ struct Pair<'a> {
     our_rig: Rig,
     /// of the processors, empty where turns have no minute
     hours: Vec<u32>,
+    /// of each processor alone, in trials of these
+    their_parts: Vec<Part>,
+    our_parts: Vec<Part>,
 }
 
 fn first_difference<T: PartialEq + Debug>(area: &str, theirs: &[T], ours: &[T]) -> Option<String> {
@@ -119,6 +123,18 @@ fn differing_rigs(a: &Rig, b: &Rig) -> Option<String> {
     office(0).or_else(|| office(1)).or_else(|| first_difference("engaged", &a.engaged, &b.engaged))
 }
 
+fn differing_parts(a: &[Part], b: &[Part]) -> Option<String> {
+    let part = |(at, (a, b)): (usize, (&Part, &Part))| {
+        let found = first_difference("source", &a.source, &b.source)
+            .or_else(|| first_difference("memory", &a.memory, &b.memory))
+            .or_else(|| first_difference("mail", &a.mail, &b.mail))
+            .or_else(|| first_difference("progress", &a.progress, &b.progress))
+            .or_else(|| first_difference("marks", &a.marks, &b.marks));
+        Some(format!("part {at}, {}", found?))
+    };
+    a.iter().zip(b).enumerate().find_map(part)
+}
+
 impl Pair<'_> {
     fn lend(&mut self, areas: Areas) {
         self.theirs = areas.clone();
@@ -137,6 +153,7 @@ impl Pair<'_> {
         }
         let found = differing_areas(&self.theirs, &self.ours)
             .or_else(|| differing_rigs(&self.their_rig, &self.our_rig))
+            .or_else(|| differing_parts(&self.their_parts, &self.our_parts))
             .or_else(|| first_difference("words", out.0, out.1));
         match found {
             Some(detail) => Err((name(), format!("gave {ours}, {detail}"))),
@@ -387,11 +404,12 @@ fn writing(pair: &mut Pair, rng: &mut Rng, numbers: &Numbers) -> Outcome<()> {
 
 /// a damaged recipe through every call, with areas as its sound form has them; it and its sound form are written too
 fn damaged(pair: &mut Pair, rng: &mut Rng, numbers: Numbers) -> Outcome<()> {
-    if let Some(plan) = pair.plan() {
-        let areas = any_state(rng, &plan);
+    let sound = pair.plan();
+    if let Some(plan) = &sound {
+        let areas = any_state(rng, plan);
         pair.lend(areas);
         if pair.engine.has(Request::Offices) {
-            let rig = offices::any_rig(rng, &plan);
+            let rig = offices::any_rig(rng, plan);
             pair.lend_rig(rig);
         }
     }
@@ -421,6 +439,10 @@ fn damaged(pair: &mut Pair, rng: &mut Rng, numbers: Numbers) -> Outcome<()> {
     }
     if pair.engine.has(Request::Rounds) {
         rounds::damaged(pair, rng)?;
+    }
+    if let Some(sound) = sound.filter(|_| pair.engine.has(Request::Own)) {
+        let areas = any_state(rng, &sound);
+        own::damaged(pair, rng, &sound, &areas)?;
     }
     // what is still accepted lies near a limit
     match pair.plan() {
@@ -595,7 +617,7 @@ fn large(pair: &mut Pair, rng: &mut Rng, plan: &Plan) -> Outcome<()> {
 fn large_requests(pair: &mut Pair, rng: &mut Rng, plan: &Plan) -> Outcome<()> {
     let has = |request| pair.engine.has(request);
     let [offices, soundings, chart] = [Request::Offices, Request::Soundings, Request::Chart].map(has);
-    let [hours, rounds] = [Request::Hours, Request::Rounds].map(has);
+    let [hours, rounds, own] = [Request::Hours, Request::Rounds, Request::Own].map(has);
     if offices {
         let rig = offices::any_rig(rng, plan);
         pair.lend_rig(rig);
@@ -612,6 +634,9 @@ fn large_requests(pair: &mut Pair, rng: &mut Rng, plan: &Plan) -> Outcome<()> {
     }
     if hours {
         hours::damaged(pair, rng)?;
+    }
+    if own {
+        own::large(pair, rng, plan)?;
     }
     if rounds && pair.route == Route::Direct {
         rounds::any(pair, rng, plan)?;
@@ -633,6 +658,7 @@ enum Kind {
     Chart,
     Hours,
     Rounds,
+    Own,
 }
 
 /// one of the kinds for which the engine has the calls, some more often than others
@@ -651,6 +677,7 @@ fn some_kind(rng: &mut Rng, engine: &dyn Engine) -> Kind {
         (2, Request::Chart, Kind::Chart),
         (2, Request::Hours, Kind::Hours),
         (1, Request::Rounds, Kind::Rounds),
+        (2, Request::Own, Kind::Own),
     ];
     let asked = asked.iter().filter(|&&(_, request, _)| engine.has(request)).map(|&(times, _, kind)| (times, kind));
     let kinds: Vec<Kind> = always.into_iter().chain(asked).flat_map(|(times, kind)| vec![kind; times]).collect();
@@ -674,8 +701,9 @@ pub fn trial(
     // shapes are for the direct route
     let route = if shaped && !rng.one_in(8) { Route::Direct } else { some_route(&mut rng) };
     let encoded = numbers.bytes();
-    let (theirs, ours, their_rig, our_rig) = Default::default();
-    let mut pair = Pair { engine, model, tally, encoded, route, theirs, ours, their_rig, our_rig, hours: vec![] };
+    let (theirs, ours, their_rig, our_rig, hours, their_parts, our_parts) = Default::default();
+    let mut pair =
+        Pair { engine, model, tally, encoded, route, theirs, ours, their_rig, our_rig, hours, their_parts, our_parts };
     let plan = pair.plan();
     let counted = |test: &dyn Fn(&Plan) -> bool| u64::from(plan.as_ref().is_some_and(|plan| test(plan)));
     pair.tally.forwarded += counted(&|plan| plan.passes_on_alone());
@@ -700,6 +728,7 @@ pub fn trial(
                 }
                 Err(_) => Ok(()),
             },
+            Kind::Own => own::any(&mut pair, &mut rng, &plan),
             Kind::Swaps => swaps::any(&mut pair, &mut rng, &plan),
             Kind::Soundings => desk::soundings(&mut pair, &mut rng, plan.cells),
             Kind::Chart => {

@@ -45,6 +45,22 @@ pub struct Rig {
     pub engaged: Vec<u32>,
 }
 
+/// one processor's own part of the areas, lent alone: the source of its tiles' cells, the words of the cells that it
+/// keeps, the words and marks of the messages that it handles, its one record
+#[derive(Clone, Debug, Default, PartialEq, Eq)]
+pub struct Part {
+    pub source: Vec<u32>,
+    pub memory: Vec<u32>,
+    pub mail: Vec<u32>,
+    pub progress: Vec<Progress>,
+    pub marks: Vec<u8>,
+}
+
+/// words of a part's lengths (source, memory, mail, messages) and of the row of a message that a processor handles
+/// (number, the five of its line, place in the mail)
+pub const OWN_SIZES_WORDS: usize = 4;
+pub const OWN_ROW_WORDS: usize = 7;
+
 /// words of a look: where the processor's part begins, and its length
 pub const LOOK_WORDS: usize = 2;
 
@@ -74,6 +90,8 @@ pub enum Request {
     Hours,
     /// W-213
     Rounds,
+    /// calls for one processor that is lent its own part alone
+    Own,
 }
 
 /// Each call gives its number; at any but 0 no lent word changes.
@@ -171,6 +189,37 @@ pub trait Engine {
     /// the round of each tile
     fn rounds_of(&self, _encoded: &[u8], _rounds: &mut [u32]) -> u32 {
         unimplemented!("W-213")
+    }
+
+    fn own_sizes(&self, _encoded: &[u8], _route: Route, _processor: u32, _out: &mut [u32]) -> u32 {
+        unimplemented!("own parts")
+    }
+
+    fn own_messages(&self, _encoded: &[u8], _route: Route, _processor: u32, _out: &mut [u32]) -> u32 {
+        unimplemented!("own parts")
+    }
+
+    fn own_fresh(&self, _encoded: &[u8], _route: Route, _part: &mut Part, _processor: u32) -> u32 {
+        unimplemented!("own parts")
+    }
+
+    fn own_turn(&self, _encoded: &[u8], _route: Route, _part: &mut Part, _processor: u32) -> u32 {
+        unimplemented!("own parts")
+    }
+
+    fn own_post(&self, _encoded: &[u8], _route: Route, _part: &mut Part, _processor: u32, _message: u32) -> u32 {
+        unimplemented!("own parts")
+    }
+
+    fn own_arrive(
+        &self, _encoded: &[u8], _route: Route, _part: &mut Part, _processor: u32, _message: u32, _words: &[u32],
+    ) -> u32 {
+        unimplemented!("own parts")
+    }
+
+    /// the processor's words into a grid of all cells; only its memory and its record are lent
+    fn own_collect(&self, _encoded: &[u8], _route: Route, _part: &mut Part, _processor: u32, _grid: &mut [u32]) -> u32 {
+        unimplemented!("own parts")
     }
 
     /// The numbers' recipe. Unless an engine has a writer of its own: what reading the bytes gives, then the length.

@@ -1,6 +1,6 @@
 //! The engine's library, through the safe crate over it.
 
-use crate::engine::{Areas, Engine, Progress, Request, Rig, Route};
+use crate::engine::{Areas, Engine, Part, Progress, Request, Rig, Route};
 use crate::recipe::{Bound, Numbers};
 use rolwyddac::Refusal;
 
@@ -46,6 +46,7 @@ impl Engine for Library {
             Request::Chart => true,
             Request::Hours => true,
             Request::Rounds => true,
+            Request::Own => true,
         }
     }
 
@@ -213,5 +214,39 @@ impl Engine for Library {
 
     fn rounds_of(&self, encoded: &[u8], rounds: &mut [u32]) -> u32 {
         number(rolwyddac::rounds_of_words(encoded, rounds))
+    }
+
+    fn own_sizes(&self, encoded: &[u8], route: Route, processor: u32, out: &mut [u32]) -> u32 {
+        number(rolwyddac::own_sizes_words(encoded, route, processor, out))
+    }
+
+    fn own_messages(&self, encoded: &[u8], route: Route, processor: u32, out: &mut [u32]) -> u32 {
+        number(rolwyddac::own_messages_words(encoded, route, processor, out))
+    }
+
+    fn own_fresh(&self, encoded: &[u8], route: Route, part: &mut Part, processor: u32) -> u32 {
+        let Part { memory, mail, progress, marks, .. } = part;
+        number(rolwyddac::own_fresh(encoded, route, memory, mail, progress, marks, processor))
+    }
+
+    fn own_turn(&self, encoded: &[u8], route: Route, part: &mut Part, processor: u32) -> u32 {
+        let Part { source, memory, mail, progress, marks } = part;
+        number(rolwyddac::own_turn(encoded, route, source, memory, mail, progress, marks, processor))
+    }
+
+    fn own_post(&self, encoded: &[u8], route: Route, part: &mut Part, processor: u32, message: u32) -> u32 {
+        let Part { memory, mail, progress, marks, .. } = part;
+        number(rolwyddac::own_post(encoded, route, memory, mail, progress, marks, processor, message))
+    }
+
+    fn own_arrive(
+        &self, encoded: &[u8], route: Route, part: &mut Part, processor: u32, message: u32, words: &[u32],
+    ) -> u32 {
+        let Part { memory, mail, progress, marks, .. } = part;
+        number(rolwyddac::own_arrive(encoded, route, memory, mail, progress, marks, processor, message, words))
+    }
+
+    fn own_collect(&self, encoded: &[u8], route: Route, part: &mut Part, processor: u32, grid: &mut [u32]) -> u32 {
+        number(rolwyddac::own_collect(encoded, route, &part.memory, &part.progress, processor, grid))
     }
 }

@@ -2,7 +2,7 @@
 //! on that plan. It is meant to be read and compared with, not to be quick. Its author had document 01, the trait of
 //! engine.rs and the list of public fields below, and nothing else of this repository; later the text of
 //! the requests W-201, W-203 to W-205 and W-207, then that of those from W-208 on with the names of their calls and the
-//! readings that docs/DECISIONS.md settles.
+//! readings that docs/DECISIONS.md settles, and what is said there of a processor that is lent its own part alone.
 
 use std::array::from_fn;
 use std::cell::RefCell;
@@ -10,8 +10,8 @@ use std::collections::{BTreeMap, BTreeSet};
 use std::rc::Rc;
 
 use crate::engine::{
-    Areas, Engine, Progress, Request, Rig, Route, CHART_WORDS, HOPS_WORDS, HOURS_WORDS, LOOK_WORDS, MESSAGE_WORDS,
-    OPENS_WORDS, ROUNDS_WORDS, SUMMARY_WORDS,
+    Areas, Engine, Part, Progress, Request, Rig, Route, CHART_WORDS, HOPS_WORDS, HOURS_WORDS, LOOK_WORDS,
+    MESSAGE_WORDS, OPENS_WORDS, OWN_ROW_WORDS, OWN_SIZES_WORDS, ROUNDS_WORDS, SUMMARY_WORDS,
 };
 
 // the numbers of refused calls
@@ -736,6 +736,106 @@ impl Plan {
     }
 }
 
+/// What one processor keeps where it is lent its own part alone. All lists are rising.
+pub struct Own<'a> {
+    plan: &'a Plan,
+    processor: usize,
+    /// The cells of its tiles, and those with which messages to its tiles come.
+    pub cells: Vec<usize>,
+    pub kept: Vec<usize>,
+    /// The messages that its tiles send or take, and where the words of each begin in its mail; last, where they end.
+    pub handled: Vec<usize>,
+    pub places: Vec<usize>,
+}
+
+impl<'a> Own<'a> {
+    pub fn of(plan: &'a Plan, processor: usize) -> Own<'a> {
+        let at = |tile: usize| plan.processor_of_tile[tile] == processor;
+        let cells: BTreeSet<usize> =
+            plan.tiles_of_processor[processor].iter().flat_map(|&tile| plan.cells_of_tile[tile].clone()).collect();
+        let (mut kept, mut handled, mut places) = (cells.clone(), Vec::new(), vec![0]);
+        for (number, message) in plan.messages.iter().enumerate() {
+            if at(message.taker) {
+                kept.extend(&message.cells);
+            }
+            if at(message.sender) || at(message.taker) {
+                handled.push(number);
+                places.push(places[places.len() - 1] + message.cells.len());
+            }
+        }
+        let [cells, kept] = [cells, kept].map(|cells| cells.into_iter().collect());
+        Own { plan, processor, cells, kept, handled, places }
+    }
+
+    pub fn sizes(&self) -> [usize; OWN_SIZES_WORDS] {
+        [self.cells.len(), self.kept.len(), self.places[self.handled.len()], self.handled.len()]
+    }
+
+    fn check_part(&self, part: &Part) -> Result<(), u32> {
+        let [_, kept, words, messages] = self.sizes();
+        let lengths = [part.memory.len(), part.mail.len(), part.progress.len(), part.marks.len()];
+        require(lengths == [kept, words, 1, messages], AREA)
+    }
+
+    fn check_record(&self, part: &Part) -> Result<(), u32> {
+        require(self.plan.is_fit(&part.progress[0], &self.plan.tiles_of_processor[self.processor]), UNFIT)
+    }
+
+    fn check_state(&self, part: &Part) -> Result<(), u32> {
+        self.check_record(part)?;
+        require(part.marks.iter().all(|&mark| mark <= TAKEN), UNFIT)
+    }
+
+    /// The rank of a message among those that it handles, and its words' place in the mail.
+    fn place(&self, message: usize) -> Option<(usize, std::ops::Range<usize>)> {
+        let rank = self.handled.binary_search(&message).ok()?;
+        Some((rank, self.places[rank]..self.places[rank + 1]))
+    }
+
+    /// One stage on a memory of all cells, into which the kept words are put.
+    fn step(&self, part: &mut Part) -> Result<(), u32> {
+        let plan = self.plan;
+        let record = &mut part.progress[0];
+        let &tile = plan.tiles_of_processor[self.processor].get(record.finished as usize).ok_or(FINISHED)?;
+        let mut memory = vec![0; plan.cells];
+        self.kept.iter().zip(&part.memory).for_each(|(&cell, &word)| memory[cell] = word);
+        let place = |number: usize| self.place(number).expect("it handles what its tiles send and take");
+        match record.stage {
+            GATHER => {
+                let dues = &plan.dues[tile];
+                require(dues.iter().all(|&number| part.marks[place(number).0] == DELIVERED), WAITING)?;
+                for &number in dues {
+                    let (rank, words) = place(number);
+                    let cells = &plan.messages[number].cells;
+                    cells.iter().zip(&part.mail[words]).for_each(|(&cell, &word)| memory[cell] = word);
+                    part.marks[rank] = TAKEN;
+                }
+                record.stage = CALCULATE;
+            }
+            CALCULATE => {
+                let mut source = vec![0; plan.cells];
+                self.cells.iter().zip(&part.source).for_each(|(&cell, &word)| source[cell] = word);
+                for &cell in &plan.cells_of_tile[tile] {
+                    memory[cell] = plan.value(cell, &source, &memory);
+                }
+                record.stage = SEND;
+                plan.leave_if_sent(tile, record);
+            }
+            _ => {
+                let number = plan.sends[tile][record.sent as usize];
+                let (rank, words) = place(number);
+                let cells = &plan.messages[number].cells;
+                part.mail[words].iter_mut().zip(cells).for_each(|(word, &cell)| *word = memory[cell]);
+                part.marks[rank] = IN_FLIGHT;
+                record.sent += 1;
+                plan.leave_if_sent(tile, record);
+            }
+        }
+        self.kept.iter().zip(&mut part.memory).for_each(|(&cell, word)| *word = memory[cell]);
+        Ok(())
+    }
+}
+
 /// A recipe's bytes and its plan.
 type Kept = Option<(Vec<u8>, Rc<Plan>)>;
 
@@ -760,6 +860,11 @@ impl Model {
         *kept = Some((encoded.to_vec(), Rc::clone(&plan)));
         Ok(plan)
     }
+}
+
+/// The processor of a plan that is lent its own part alone: its number is tested before lengths.
+fn own(plan: &Plan, processor: u32) -> Result<Own<'_>, u32> {
+    Ok(Own::of(plan, index(processor, plan.processors)?))
 }
 
 /// A number given to a call as an index below `count`.
@@ -1007,6 +1112,108 @@ impl Engine for Model {
             let plan = self.plan(encoded, Route::Direct)?;
             require(rounds.len() == plan.places.len(), AREA)?;
             rounds.copy_from_slice(&plan.rounds());
+            Ok(())
+        })
+    }
+
+    fn own_sizes(&self, encoded: &[u8], route: Route, processor: u32, out: &mut [u32]) -> u32 {
+        answer(|| {
+            let plan = self.plan(encoded, route)?;
+            let own = own(&plan, processor)?;
+            require(out.len() == OWN_SIZES_WORDS, AREA)?;
+            out.copy_from_slice(&own.sizes().map(|number| number as u32));
+            Ok(())
+        })
+    }
+
+    fn own_messages(&self, encoded: &[u8], route: Route, processor: u32, out: &mut [u32]) -> u32 {
+        answer(|| {
+            let plan = self.plan(encoded, route)?;
+            let own = own(&plan, processor)?;
+            require(out.len() == OWN_ROW_WORDS * own.handled.len(), AREA)?;
+            let rows = out.chunks_mut(OWN_ROW_WORDS).zip(own.handled.iter().zip(&own.places));
+            for (row, (&number, &place)) in rows {
+                row[0] = number as u32;
+                let told = self.message(encoded, route, number as u32, &mut row[1..=MESSAGE_WORDS]);
+                require(told == 0, told)?;
+                row[1 + MESSAGE_WORDS] = place as u32;
+            }
+            Ok(())
+        })
+    }
+
+    fn own_fresh(&self, encoded: &[u8], route: Route, part: &mut Part, processor: u32) -> u32 {
+        answer(|| {
+            let plan = self.plan(encoded, route)?;
+            own(&plan, processor)?.check_part(part)?;
+            part.memory.fill(0);
+            part.mail.fill(0);
+            part.progress.fill(Progress::default());
+            part.marks.fill(UNSENT);
+            Ok(())
+        })
+    }
+
+    fn own_turn(&self, encoded: &[u8], route: Route, part: &mut Part, processor: u32) -> u32 {
+        answer(|| {
+            let plan = self.plan(encoded, route)?;
+            let own = own(&plan, processor)?;
+            require(part.source.len() == own.cells.len(), AREA)?;
+            own.check_part(part)?;
+            own.check_state(part)?;
+            own.step(part)
+        })
+    }
+
+    fn own_post(&self, encoded: &[u8], route: Route, part: &mut Part, processor: u32, message: u32) -> u32 {
+        answer(|| {
+            let plan = self.plan(encoded, route)?;
+            let own = own(&plan, processor)?;
+            own.check_part(part)?;
+            own.check_state(part)?;
+            let number = index(message, plan.messages.len())?;
+            // another's message has no mark here: it is as one that is not sent
+            let (rank, _) = own.place(number).ok_or(NO_MAIL)?;
+            require(part.marks[rank] == IN_FLIGHT, NO_MAIL)?;
+            part.marks[rank] = DELIVERED;
+            Ok(())
+        })
+    }
+
+    fn own_arrive(
+        &self, encoded: &[u8], route: Route, part: &mut Part, processor: u32, message: u32, words: &[u32],
+    ) -> u32 {
+        answer(|| {
+            let plan = self.plan(encoded, route)?;
+            let own = own(&plan, processor)?;
+            own.check_part(part)?;
+            let found = plan.messages.get(message as usize);
+            require(found.is_none_or(|message| message.cells.len() == words.len()), AREA)?;
+            own.check_state(part)?;
+            let taken = found.filter(|message| plan.processor_of_tile[message.taker] == own.processor);
+            let (rank, place) = taken.and_then(|_| own.place(message as usize)).ok_or(NO_SUCH)?;
+            require(part.marks[rank] == UNSENT, NO_MAIL)?;
+            part.mail[place].copy_from_slice(words);
+            part.marks[rank] = DELIVERED;
+            Ok(())
+        })
+    }
+
+    fn own_collect(&self, encoded: &[u8], route: Route, part: &mut Part, processor: u32, grid: &mut [u32]) -> u32 {
+        answer(|| {
+            let plan = self.plan(encoded, route)?;
+            let own = own(&plan, processor)?;
+            let lengths = [part.memory.len(), part.progress.len(), grid.len()];
+            require(lengths == [own.kept.len(), 1, plan.cells], AREA)?;
+            own.check_record(part)?;
+            let tiles = &plan.tiles_of_processor[own.processor];
+            require(part.progress[0].finished as usize == tiles.len(), EARLY)?;
+            (0..plan.cells).filter(|&cell| !plan.holds(cell)).for_each(|cell| grid[cell] = plan.recipe.boundary);
+            for (cell, &word) in own.kept.iter().zip(&part.memory) {
+                if own.cells.binary_search(cell).is_ok() {
+                    grid[*cell] = word;
+                }
+            }
             Ok(())
         })
     }

@@ -3,8 +3,8 @@
 //! It can carry one fault, so that the comparison itself can be tested: each fault must be found.
 
 use crate::engine::{
-    Areas, Engine, Progress, Request, Rig, Route, CHART_WORDS, HOPS_WORDS, HOURS_WORDS, LOOK_WORDS, MESSAGE_WORDS,
-    OPENS_WORDS, ROUNDS_WORDS, SUMMARY_WORDS,
+    Areas, Engine, Part, Progress, Request, Rig, Route, CHART_WORDS, HOPS_WORDS, HOURS_WORDS, LOOK_WORDS,
+    MESSAGE_WORDS, OPENS_WORDS, OWN_ROW_WORDS, OWN_SIZES_WORDS, ROUNDS_WORDS, SUMMARY_WORDS,
 };
 use crate::recipe::Numbers;
 use std::cell::RefCell;
@@ -190,9 +190,25 @@ pub enum Fault {
     EarlierDeliveredToo,
     /// a gather marks all that is delivered to its processor
     GatherTakesAll,
+    /// for a processor's own part number 9 before number 11
+    OwnLengthsFirst,
+    /// it keeps the cells of its tiles alone
+    OwnCellsKept,
+    /// it handles what it sends alone
+    OwnSendsHandled,
+    /// the place of a message's words is told as in the buffer of all
+    OwnPlaceInBuffer,
+    /// collecting its part writes all cells that it keeps
+    OwnCollectsKept,
+    /// and leaves the cells outside the shape
+    OwnOutsideKept,
+    /// a message that came before can come again
+    OwnArrivesAgain,
+    /// one can come to its sender
+    OwnArrivesAtSender,
 }
 
-pub const FAULTS: [Fault; 88] = [
+pub const FAULTS: [Fault; 96] = [
     Fault::UnspreadShift,
     Fault::EdgeTileFull,
     Fault::OnlyTaker,
@@ -281,6 +297,14 @@ pub const FAULTS: [Fault; 88] = [
     Fault::MailInSendingOrder,
     Fault::EarlierDeliveredToo,
     Fault::GatherTakesAll,
+    Fault::OwnLengthsFirst,
+    Fault::OwnCellsKept,
+    Fault::OwnSendsHandled,
+    Fault::OwnPlaceInBuffer,
+    Fault::OwnCollectsKept,
+    Fault::OwnOutsideKept,
+    Fault::OwnArrivesAgain,
+    Fault::OwnArrivesAtSender,
 ];
 
 /// sending tile, taking tile, cells
@@ -1116,6 +1140,88 @@ impl Made<'_> {
     }
 }
 
+/// one processor's own part, by areas of all processors that have it
+impl Made<'_> {
+    fn owns(&self, processor: u32, cell: u64) -> bool {
+        let index = self.view.cell(cell);
+        self.view.within(&index)
+            && self.view.processor(self.view.tile_number(&self.view.tile_at(&index))) == u64::from(processor)
+    }
+
+    fn is_at(&self, tile: u64, processor: u32) -> bool {
+        self.view.processor(tile) == u64::from(processor)
+    }
+
+    fn own_cells(&self, processor: u32) -> Vec<usize> {
+        (0..self.view.cells()).filter(|&cell| self.owns(processor, cell)).map(|cell| cell as usize).collect()
+    }
+
+    fn kept(&self, processor: u32) -> Vec<usize> {
+        let brought = |cell: u64| self.messages.iter().any(|m| self.is_at(m.1, processor) && m.2.contains(&cell));
+        let brings = |cell: u64| !self.view.has(Fault::OwnCellsKept) && brought(cell);
+        let cells = (0..self.view.cells()).filter(|&cell| self.owns(processor, cell) || brings(cell));
+        cells.map(|cell| cell as usize).collect()
+    }
+
+    fn handled(&self, processor: u32) -> Vec<usize> {
+        let takes = |m: usize| !self.view.has(Fault::OwnSendsHandled) && self.is_at(self.messages[m].1, processor);
+        (0..self.messages.len()).filter(|&m| self.is_at(self.messages[m].0, processor) || takes(m)).collect()
+    }
+
+    /// source, memory, mail, messages
+    fn own_sizes(&self, processor: u32) -> [usize; OWN_SIZES_WORDS] {
+        let handled = self.handled(processor);
+        let words = handled.iter().map(|&m| self.messages[m].2.len()).sum();
+        [self.own_cells(processor).len(), self.kept(processor).len(), words, handled.len()]
+    }
+
+    fn wrong_part(&self, part: &Part, processor: u32) -> bool {
+        let [_, kept, words, messages] = self.own_sizes(processor);
+        [part.memory.len(), part.mail.len(), part.progress.len(), part.marks.len()] != [kept, words, 1, messages]
+    }
+
+    /// the lines 11 and 9 of a processor's own part
+    fn own_lines(&self, processor: u32, wrong: &dyn Fn() -> bool) -> u32 {
+        first(&[
+            (9, &|| self.view.has(Fault::OwnLengthsFirst) && wrong()),
+            (11, &|| u64::from(processor) >= self.view.processors()),
+            (9, wrong),
+        ])
+    }
+
+    fn widened(&self, part: &Part, processor: u32) -> Areas {
+        let (cells, b) = (self.view.cells() as usize, processor as usize);
+        let processors = self.view.processors() as usize;
+        let mut areas = Areas {
+            source: vec![0; cells],
+            memories: vec![0; cells * processors],
+            buffer: vec![0; self.words()],
+            progress: vec![Progress::default(); processors],
+            status: vec![0; self.messages.len()],
+        };
+        self.own_cells(processor).into_iter().zip(&part.source).for_each(|(cell, &word)| areas.source[cell] = word);
+        let kept = self.kept(processor).into_iter().zip(&part.memory);
+        kept.for_each(|(cell, &word)| areas.memories[b * cells + cell] = word);
+        areas.progress[b] = part.progress[0];
+        let mut mail = part.mail.iter();
+        for (m, &mark) in self.handled(processor).into_iter().zip(&part.marks) {
+            areas.status[m] = mark;
+            areas.buffer[self.offset(m)..][..self.messages[m].2.len()].fill_with(|| *mail.next().unwrap());
+        }
+        areas
+    }
+
+    fn narrow(&self, areas: &Areas, part: &mut Part, processor: u32) {
+        let (cells, b) = (self.view.cells() as usize, processor as usize);
+        part.memory = self.kept(processor).into_iter().map(|cell| areas.memories[b * cells + cell]).collect();
+        part.progress[0] = areas.progress[b];
+        let handled = self.handled(processor);
+        part.marks = handled.iter().map(|&m| areas.status[m]).collect();
+        let words = |m: usize| areas.buffer[self.offset(m)..][..self.messages[m].2.len()].to_vec();
+        part.mail = handled.into_iter().flat_map(words).collect();
+    }
+}
+
 /// a lent table of hours and a minute
 #[derive(Clone, Copy)]
 struct Hours<'a> {
@@ -1310,6 +1416,27 @@ impl Naive {
             0 => Ok(Made { view: self.view(bytes), messages: self.messages(bytes, route) }),
             number => Err(number),
         }
+    }
+}
+
+impl Naive {
+    /// what a call gives and leaves on areas that have the part
+    fn on_areas(
+        &self, encoded: &[u8], route: Route, part: &mut Part, processor: u32, wrong: &dyn Fn(&Made) -> bool,
+        call: &mut dyn FnMut(&mut Areas) -> u32,
+    ) -> u32 {
+        let made = match self.made(encoded, route) {
+            Ok(made) => made,
+            Err(number) => return number,
+        };
+        let number = made.own_lines(processor, &|| made.wrong_part(part, processor) || wrong(&made));
+        if number != 0 {
+            return number;
+        }
+        let mut areas = made.widened(part, processor);
+        let number = call(&mut areas);
+        made.narrow(&areas, part, processor);
+        number
     }
 }
 
@@ -1704,5 +1831,109 @@ impl Engine for Naive {
             number => return number,
         }
         0
+    }
+
+    fn own_sizes(&self, encoded: &[u8], route: Route, processor: u32, out: &mut [u32]) -> u32 {
+        let made = match self.made(encoded, route) {
+            Ok(made) => made,
+            Err(number) => return number,
+        };
+        let number = made.own_lines(processor, &|| out.len() != OWN_SIZES_WORDS);
+        if number == 0 {
+            out.copy_from_slice(&made.own_sizes(processor).map(|length| length as u32));
+        }
+        number
+    }
+
+    fn own_messages(&self, encoded: &[u8], route: Route, processor: u32, out: &mut [u32]) -> u32 {
+        let made = match self.made(encoded, route) {
+            Ok(made) => made,
+            Err(number) => return number,
+        };
+        let handled = made.handled(processor);
+        let number = made.own_lines(processor, &|| out.len() != OWN_ROW_WORDS * handled.len());
+        if number == 0 {
+            let mut place = 0;
+            for (row, m) in out.chunks_mut(OWN_ROW_WORDS).zip(handled) {
+                let (sender, taker, ref cells) = made.messages[m];
+                let told = if self.fault == Some(Fault::OwnPlaceInBuffer) { made.offset(m) } else { place };
+                let [from, to] = [sender, taker].map(|tile| made.view.processor(tile));
+                let [sender, taker] = [sender, taker].map(|tile| made.view.dense(tile));
+                let words = [m as u64, sender, taker, from, to, cells.len() as u64, told as u64];
+                row.iter_mut().zip(words).for_each(|(word, number)| *word = number as u32);
+                place += cells.len();
+            }
+        }
+        number
+    }
+
+    fn own_fresh(&self, encoded: &[u8], route: Route, part: &mut Part, processor: u32) -> u32 {
+        self.on_areas(encoded, route, part, processor, &|_| false, &mut |areas| self.fresh(encoded, route, areas))
+    }
+
+    fn own_turn(&self, encoded: &[u8], route: Route, part: &mut Part, processor: u32) -> u32 {
+        let length = part.source.len();
+        let wrong = move |made: &Made| length != made.own_cells(processor).len();
+        self.on_areas(encoded, route, part, processor, &wrong, &mut |areas| self.turn(encoded, route, areas, processor))
+    }
+
+    fn own_post(&self, encoded: &[u8], route: Route, part: &mut Part, processor: u32, message: u32) -> u32 {
+        let post = &mut |areas: &mut Areas| self.deliver(encoded, route, areas, message);
+        self.on_areas(encoded, route, part, processor, &|_| false, post)
+    }
+
+    fn own_arrive(
+        &self, encoded: &[u8], route: Route, part: &mut Part, processor: u32, message: u32, words: &[u32],
+    ) -> u32 {
+        let m = message as usize;
+        let wrong = |made: &Made| made.messages.get(m).is_some_and(|found| found.2.len() != words.len());
+        let arrive = &mut |areas: &mut Areas| {
+            let made = match self.made(encoded, route) {
+                Ok(made) => made,
+                Err(number) => return number,
+            };
+            let sender = self.fault == Some(Fault::OwnArrivesAtSender);
+            let here = |&(from, to, _): &(u64, u64, Vec<u64>)| {
+                made.is_at(to, processor) || (sender && made.is_at(from, processor))
+            };
+            let again = self.fault == Some(Fault::OwnArrivesAgain);
+            let number = first(&[
+                (10, &|| made.unfit(areas, None)),
+                (11, &|| !made.messages.get(m).is_some_and(here)),
+                (14, &|| areas.status[m] != 0 && !(again && areas.status[m] == 2)),
+            ]);
+            if number == 0 {
+                areas.buffer[made.offset(m)..][..words.len()].copy_from_slice(words);
+                areas.status[m] = 2;
+            }
+            number
+        };
+        self.on_areas(encoded, route, part, processor, &wrong, arrive)
+    }
+
+    fn own_collect(&self, encoded: &[u8], route: Route, part: &mut Part, processor: u32, grid: &mut [u32]) -> u32 {
+        let made = match self.made(encoded, route) {
+            Ok(made) => made,
+            Err(number) => return number,
+        };
+        let (kept, cells) = (made.kept(processor), made.view.cells() as usize);
+        let lengths = [part.memory.len(), part.progress.len(), grid.len()];
+        let number = match made.own_lines(processor, &|| lengths != [kept.len(), 1, cells]) {
+            0 if made.unfit_record(processor as usize, part.progress[0]) => 10,
+            0 if (part.progress[0].finished as usize) < made.view.tiles_of(u64::from(processor)).len() => 15,
+            number => number,
+        };
+        if number == 0 {
+            for (cell, word) in grid.iter_mut().enumerate() {
+                let place = kept.iter().position(|&found| found == cell);
+                if !made.view.within(&made.view.cell(cell as u64)) {
+                    let outside = made.view.boundary() as u32;
+                    *word = if self.fault == Some(Fault::OwnOutsideKept) { *word } else { outside };
+                } else if self.fault == Some(Fault::OwnCollectsKept) || made.owns(processor, cell as u64) {
+                    *word = place.map_or(*word, |place| part.memory[place]);
+                }
+            }
+        }
+        number
     }
 }

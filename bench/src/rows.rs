@@ -1,7 +1,7 @@
 //! The models held to what document 01 prints: rows A to H, the printer's lines, the values of D.
 
 use crate::differ;
-use crate::engine::{Areas, Engine, Progress, Request, Rig, Route};
+use crate::engine::{Areas, Engine, Part, Progress, Request, Rig, Route};
 use crate::model::Model;
 use crate::naive::{Naive, FAULTS};
 use crate::plain::{PLAIN, WAVEFRONT};
@@ -740,6 +740,58 @@ fn two_offices_on_row_d() {
     }
 }
 
+/// the second processor keeps cell 1 beside its own, since the message brings it
+#[test]
+fn own_parts_on_row_d() {
+    for engine in engines_with(Request::Own) {
+        let name = engine.name();
+        let encoded = row('D').bytes();
+        let sizes = |processor, length| {
+            let mut out = vec![7; length];
+            (engine.own_sizes(&encoded, Route::Direct, processor, &mut out), out)
+        };
+        assert_eq!([sizes(0, 4), sizes(1, 4)], [(0, vec![2, 2, 1, 1]), (0, vec![2, 3, 1, 1])], "{name}");
+        assert_eq!([sizes(1, 5).0, sizes(2, 5).0, sizes(2, 4).0], [9, 11, 11], "{name}");
+        let mut rows = [7; 7];
+        assert_eq!(engine.own_messages(&encoded, Route::Direct, 1, &mut rows), 0, "{name}");
+        assert_eq!(rows, [0, 0, 1, 0, 1, 1, 0], "{name}");
+        let part = |kept| Part {
+            source: vec![1; 2],
+            memory: vec![9; kept],
+            mail: vec![9],
+            progress: vec![Progress { finished: 9, stage: 9, sent: 9 }],
+            marks: vec![9],
+        };
+        let mut parts = [part(2), part(3)];
+        let turn =
+            |parts: &mut [Part; 2], at: usize| engine.own_turn(&encoded, Route::Direct, &mut parts[at], at as u32);
+        assert_eq!(turn(&mut parts, 0), 10, "{name}");
+        for (processor, part) in (0..).zip(&mut parts) {
+            assert_eq!(engine.own_fresh(&encoded, Route::Direct, part, 2), 11, "{name}");
+            assert_eq!(engine.own_fresh(&encoded, Route::Direct, part, 1 - processor), 9, "{name}");
+            assert_eq!(engine.own_fresh(&encoded, Route::Direct, part, processor), 0, "{name}");
+        }
+        let post = |parts: &mut [Part; 2], message| engine.own_post(&encoded, Route::Direct, &mut parts[0], 0, message);
+        let arrive = |parts: &mut [Part; 2], at: u32, words: &[u32]| {
+            engine.own_arrive(&encoded, Route::Direct, &mut parts[at as usize], at, 0, words)
+        };
+        let collect = |parts: &mut [Part; 2], at: u32, grid: &mut [u32]| {
+            engine.own_collect(&encoded, Route::Direct, &mut parts[at as usize], at, grid)
+        };
+        let mut grid = [8; 4];
+        let early = [turn(&mut parts, 1), post(&mut parts, 0), collect(&mut parts, 0, &mut grid)];
+        assert_eq!(early, [12, 14, 15], "{name}");
+        assert_eq!([0; 4].map(|at| turn(&mut parts, at)), [0, 0, 0, 13], "{name}");
+        assert_eq!([1, 0, 0].map(|message| post(&mut parts, message)), [11, 0, 14], "{name}");
+        assert_eq!([arrive(&mut parts, 0, &[2]), arrive(&mut parts, 1, &[2, 2])], [11, 9], "{name}");
+        assert_eq!([arrive(&mut parts, 1, &[2]), arrive(&mut parts, 1, &[5])], [0, 14], "{name}");
+        assert_eq!([1; 3].map(|at| turn(&mut parts, at)), [0, 0, 13], "{name}");
+        assert_eq!((&parts[0].memory[..], &parts[1].memory[..]), (&[1, 2][..], &[2, 3, 4][..]), "{name}");
+        assert_eq!((collect(&mut parts, 1, &mut grid), grid), (0, [8, 8, 3, 4]), "{name}");
+        assert_eq!((collect(&mut parts, 0, &mut grid), grid), (0, [1, 2, 3, 4]), "{name}");
+    }
+}
+
 const SMALL: Limits = Limits { cells: 30, words: 300 };
 
 #[test]
@@ -772,7 +824,7 @@ fn trials_meet_every_number_of_the_requests() {
     // large recipes too, whatever the number
     assert!(differ::trials(1, 600, &Model::default(), crate::LIMITS).is_ok());
     let Ok(tally) = differ::trials(1, 6000, &Model::default(), SMALL) else { panic!("a difference") };
-    let expected: [(&str, &[usize]); 19] = [
+    let expected: [(&str, &[usize]); 26] = [
         ("fresh_both", &[0, 2, 5, 6, 9]),
         ("office_turn", &[0, 2, 5, 6, 9, 10, 11, 12, 13, 16, 17, 19]),
         ("office_deliver", &[0, 9, 10, 11, 14]),
@@ -786,6 +838,13 @@ fn trials_meet_every_number_of_the_requests() {
         ("opens", &[0, 2, 5, 6, 9, 11, 20, 25]),
         ("rounds", &[0, 2, 5, 6, 9]),
         ("rounds_of", &[0, 2, 5, 6, 9, 20]),
+        ("own_sizes", &[0, 1, 2, 3, 5, 6, 8, 9, 11, 16, 17, 18, 20, 21]),
+        ("own_messages", &[0, 1, 2, 3, 5, 6, 8, 9, 11, 16, 17, 18, 20, 21]),
+        ("own_fresh", &[0, 1, 2, 3, 5, 6, 8, 9, 11, 20, 21]),
+        ("own_turn", &[0, 1, 2, 3, 4, 5, 6, 7, 8, 9, 10, 11, 12, 13, 16, 17, 18, 20, 21]),
+        ("own_post", &[0, 1, 2, 3, 5, 6, 8, 9, 10, 11, 14, 16, 17, 18, 20, 21]),
+        ("own_arrive", &[0, 1, 2, 3, 5, 6, 8, 9, 10, 11, 14, 16, 17, 18, 20, 21]),
+        ("own_collect", &[0, 2, 3, 5, 6, 9, 10, 11, 15, 20, 21]),
         ("fresh", &[0, 20, 21]),
         ("turn", &[0, 20, 21]),
         ("summary", &[0, 8, 20, 21]),

@@ -45,6 +45,9 @@
  *    other      the other office's progress records
  *    hours      28 words a processor: 14 pairs of open and close, in minutes of the week
  *
+ * The calls named rolwyddac_own_.. are for one processor that has memory for its own part alone, and are lent other areas; these are
+ * told where the calls stand. They test the processor's number before the lengths, which are that processor's: 11 before 9.
+ *
  * Calls that work on messages are told the route by which these travel, a word: 0 is direct passing, each message straight
  * to the processor of its taking tile; any other is indirect passing, between neighbours only, one spread dimension at
  * a time and the lowest first. The routes have messages of their own, and so other lengths of buffer and status. All
@@ -159,6 +162,27 @@ enum {
   ROLWYDDAC_ROW_WORDS = 4,
   ROLWYDDAC_ROW_OFFSET = 5,
   ROLWYDDAC_ROW_LENGTH = 6
+};
+
+/* Places in what rolwyddac_own_sizes writes, and their number. */
+enum {
+  ROLWYDDAC_OWN_SOURCE = 0, /* words of the source: the cells of the processor's tiles */
+  ROLWYDDAC_OWN_MEMORY = 1, /* words of its memory: the cells that it keeps */
+  ROLWYDDAC_OWN_MAIL = 2,   /* words of its mail */
+  ROLWYDDAC_OWN_MARKS = 3,  /* its messages: their marks, and rows of rolwyddac_own_messages */
+  ROLWYDDAC_OWN_LENGTH = 4
+};
+
+/* Places in a message's row of what rolwyddac_own_messages writes, and a row's length. */
+enum {
+  ROLWYDDAC_OWN_ROW_MESSAGE = 0,
+  ROLWYDDAC_OWN_ROW_SENDING_TILE = 1,
+  ROLWYDDAC_OWN_ROW_TAKING_TILE = 2,
+  ROLWYDDAC_OWN_ROW_SENDING_PROCESSOR = 3,
+  ROLWYDDAC_OWN_ROW_TAKING_PROCESSOR = 4,
+  ROLWYDDAC_OWN_ROW_WORDS = 5,
+  ROLWYDDAC_OWN_ROW_PLACE = 6,
+  ROLWYDDAC_OWN_ROW_LENGTH = 7
 };
 
 /* Writes the plan's totals on the route to out: tiles, messages, words, steps. Cells (the product of the lengths) and
@@ -371,6 +395,71 @@ uint32_t rolwyddac_take_in(const uint8_t *encoded, size_t encoded_length, uint32
                            size_t buffer_length, const rolwyddac_progress *progress, size_t progress_length,
                            uint8_t *status, size_t status_length, uint32_t processor, uint32_t message,
                            const uint32_t *words, size_t words_length);
+
+/* For processors that share no memory and have room for their own part alone seven calls stand in place of the others. What
+ * one processor is lent grows with its own cells, not with the box:
+ *
+ *    source     one word for each cell of its tiles, in index order
+ *    memory     one word for each cell that it keeps, in index order: those of its tiles, and those that a message to one of its tiles brings
+ *    mail       the words of the messages that its tiles send or take, one message after the other in the order of their numbers
+ *    progress   one record, its own
+ *    marks      one byte for each of these messages, in that order: 0 unsent, 1 in flight, 2 delivered, 3 taken
+ *
+ * rolwyddac_own_sizes tells their lengths, rolwyddac_own_messages which messages they are. Each call gives the number, and leaves the words of
+ * the part, that the call on all areas would: rolwyddac_fresh, rolwyddac_turn, rolwyddac_deliver for a post and rolwyddac_take_in for an
+ * arrival. While one runs it has up to some 430 kilobytes of its own on the stack. */
+
+/* Writes four words to out: how many words source, memory and mail of the processor have, and how many messages it handles.
+ * Numbers: 1 to 8, 16 to 18, 20, 21; 11; 9 if out has not 4 words. A refusal leaves out as it was. */
+uint32_t rolwyddac_own_sizes(const uint8_t *encoded, size_t encoded_length, uint32_t route, uint32_t processor,
+                             uint32_t *out, size_t out_length);
+
+/* Writes a row of seven words for each message that the processor handles to out, in the order of their numbers: its number, then
+ * the five of rolwyddac_message, then where its words begin in the processor's mail.
+ * Numbers: 1 to 8, 16 to 18, 20, 21; 11; 9 if out has not seven words a message. A refusal leaves out as it was. */
+uint32_t rolwyddac_own_messages(const uint8_t *encoded, size_t encoded_length, uint32_t route, uint32_t processor,
+                                uint32_t *out, size_t out_length);
+
+/* Makes the processor's fresh start: writes zero to memory, mail, progress and marks, whatever they held.
+ * Numbers: 1 to 9, 11, 16 to 18, 20, 21. A refusal leaves all four as they were. */
+uint32_t rolwyddac_own_fresh(const uint8_t *encoded, size_t encoded_length, uint32_t route, uint32_t *memory,
+                             size_t memory_length, uint32_t *mail, size_t mail_length, rolwyddac_progress *progress,
+                             size_t progress_length, uint8_t *marks, size_t marks_length, uint32_t processor);
+
+/* Gives the processor a turn: it does the stage at which its record stands, once, as rolwyddac_turn does.
+ * Numbers: 1 to 13, 16 to 18, 20, 21. A refusal leaves memory, mail, progress and marks as they were. */
+uint32_t rolwyddac_own_turn(const uint8_t *encoded, size_t encoded_length, uint32_t route, const uint32_t *source,
+                            size_t source_length, uint32_t *memory, size_t memory_length, uint32_t *mail,
+                            size_t mail_length, rolwyddac_progress *progress, size_t progress_length, uint8_t *marks,
+                            size_t marks_length, uint32_t processor);
+
+/* Posts a message that a turn has put in flight: its mark goes from 1 to 2, and it is the transport's. Its words are those from
+ * ROLWYDDAC_OWN_ROW_PLACE on in the mail, and no later call of the run writes there. Nothing else is written. A message that the
+ * processor does not handle has no mark here, and is 14.
+ * Numbers: 1 to 11, 14, 16 to 18, 20, 21. A refusal leaves marks as they were. */
+uint32_t rolwyddac_own_post(const uint8_t *encoded, size_t encoded_length, uint32_t route, const uint32_t *memory,
+                            size_t memory_length, const uint32_t *mail, size_t mail_length,
+                            const rolwyddac_progress *progress, size_t progress_length, uint8_t *marks,
+                            size_t marks_length, uint32_t processor, uint32_t message);
+
+/* A message arrives at its taker: puts the words into its place in the mail, and its mark goes from 0 to 2. Nothing else is written.
+ * Words that are not as many as the message has are 9; a number too high, or a message that this processor does not take, is
+ * 11; a message whose mark is not 0, as one that came before, is 14.
+ * Numbers: 1 to 11, 14, 16 to 18, 20, 21. A refusal leaves mail and marks as they were. */
+uint32_t rolwyddac_own_arrive(const uint8_t *encoded, size_t encoded_length, uint32_t route, const uint32_t *memory,
+                              size_t memory_length, uint32_t *mail, size_t mail_length,
+                              const rolwyddac_progress *progress, size_t progress_length, uint8_t *marks,
+                              size_t marks_length, uint32_t processor, uint32_t message, const uint32_t *words,
+                              size_t words_length);
+
+/* Puts the processor's part into a grid of all cells, once it has finished: the words of its tiles' cells from its memory, and the
+ * boundary value where a cell is outside the shape. Every other word of grid is as before, so that the grid is whole once each
+ * processor's memory and record were put there, in any order; it is then what rolwyddac_sweep writes, where all calls of each
+ * processor since its fresh start were these, and each message posted arrived with the words that its sender's mail had.
+ * Numbers: 1 to 11, 15 to 18, 20, 21. A refusal leaves grid as it was. */
+uint32_t rolwyddac_own_collect(const uint8_t *encoded, size_t encoded_length, uint32_t route, const uint32_t *memory,
+                               size_t memory_length, const rolwyddac_progress *progress, size_t progress_length,
+                               uint32_t processor, uint32_t *grid, size_t grid_length);
 
 /* Writes the recipe of the fields to space: lengths, tiling (tile lengths) and counts (processor counts) have one
  * number a dimension; components has four numbers a distance, zero beyond the last dimension, and weights one. The

@@ -9,7 +9,7 @@
     print(run.collect())
 
 `Run` owns the areas of one run, `Rig` those of two offices on the same processors, `Board` those of one processor that shares no
-memory with the others. Grids come as numpy arrays of the recipe's
+memory with the others, `OwnBoard` the part of one that has memory for nothing else. Grids come as numpy arrays of the recipe's
 dimensions, or as lists of lists where numpy is not installed; sources may be either. A refusal is an exception named by its
 term: `rolwyddac.Waiting`, `rolwyddac.NoMail`, all below `rolwyddac.Refused`.
 
@@ -45,6 +45,10 @@ Message = collections.namedtuple('Message', 'sending_tile taking_tile sending_pr
 Message.__doc__ = 'The line of one message.'
 Row = collections.namedtuple('Row', Message._fields + ('offset',))
 Row.__doc__ = "One message's line, and where its words begin in the buffer."
+OwnRow = collections.namedtuple('OwnRow', ('message',) + Message._fields + ('place',))
+OwnRow.__doc__ = "A message that a processor handles: its number, its line, and where its words begin in the processor's mail."
+OwnSizes = collections.namedtuple('OwnSizes', 'source memory mail messages')
+OwnSizes.__doc__ = "How long the areas of a processor's own part are: words of source, memory and mail, and its messages."
 Awaited = collections.namedtuple('Awaited', 'tile messages')
 Awaited.__doc__ = 'What a processor waits for: its tile, and the messages due there that are not delivered.'
 Sounding = collections.namedtuple('Sounding', 'cell day survey depth')
@@ -134,6 +138,31 @@ def awaited(encoded, route, progress, status, processor):
     marks, out = bytearray(len(status)), _words(1)
     calls.EXPORTED['awaited'](encoded, route, progress, status, processor, marks, out)
     return Awaited(out[0], [m for m, mark in enumerate(marks) if mark])
+
+
+def own_sizes(encoded, processor, route=DIRECT):
+    """How long the areas of a processor's own part are."""
+    out = _words(len(OwnSizes._fields))
+    calls.EXPORTED['own_sizes'](encoded, route, processor, out)
+    return OwnSizes(*out)
+
+
+def own_messages(encoded, processor, route=DIRECT):
+    """The rows of the messages that a processor handles, in the order of their numbers."""
+    width = len(OwnRow._fields)
+    out = _words(width * own_sizes(encoded, processor, route).messages)
+    calls.EXPORTED['own_messages'](encoded, route, processor, out)
+    return [OwnRow(*out[at:at + width]) for at in range(0, len(out), width)]
+
+
+def own_source(encoded, source, processor):
+    """The words that a source of all cells has at the cells of a processor's tiles: what an `OwnBoard` is lent."""
+    own_sizes(encoded, processor)
+    out, source = _words(sizes(encoded).source), memoryview(_source(source)).cast('B').cast('I')
+    if len(source) != len(out):
+        raise calls.refused(9)
+    calls.EXPORTED['owners'](encoded, out)
+    return array.array('I', [word for word, owner in zip(source, out) if owner == processor])
 
 
 def hops(encoded, m):
@@ -352,6 +381,54 @@ class Board:
     def take_in(self, message, words):
         """Takes a message in that another processor posted."""
         self._call('take_in', self.processor, message, words)
+
+
+class OwnBoard:
+    """One processor of a run on processors that share no memory, with memory for its own part alone; a transport carries its messages.
+    Where every message that one posts arrives at its taker, sooner or later, each finishes, and the grid that all have collected into is
+    that of the sweep."""
+
+    def __init__(self, encoded, source, processor, route=DIRECT):
+        """A fresh start; the source has a word for each cell of the processor's tiles (`own_source`)."""
+        self.encoded, self.route, self.source, self.processor = bytes(encoded), route, _source(source), processor
+        self.rows = own_messages(self.encoded, processor, route)
+        wanted = own_sizes(self.encoded, processor, route)
+        self.memory, self.mail = _words(wanted.memory), _words(wanted.mail)
+        self.progress, self.marks = (Progress * 1)(), bytearray(wanted.messages)
+        self._call('own_fresh', processor)
+
+    def _call(self, name, *last):
+        calls.EXPORTED[name](self.encoded, self.route, self.memory, self.mail, self.progress, self.marks, *last)
+
+    def turn(self):
+        """Gives the processor a turn."""
+        calls.EXPORTED['own_turn'](self.encoded, self.route, self.source, self.memory, self.mail, self.progress, self.marks, self.processor)
+
+    def awaited(self):
+        """The first tile of the processor that has a message still to come, and the messages that it then waits for; None where all have
+        come. Where a turn was refused with 12 it stands at this tile."""
+        missing = [row for row, mark in zip(self.rows, self.marks) if row.taking_processor == self.processor and mark == 0]
+        tile = min((row.taking_tile for row in missing), default=None)
+        return None if tile is None else Awaited(tile, [row.message for row in missing if row.taking_tile == tile])
+
+    def in_flight(self):
+        """The messages that are sent and not posted yet, by number."""
+        return [row.message for row, mark in zip(self.rows, self.marks) if mark == 1]
+
+    def post(self, message):
+        """Posts a message in flight: gives the processor that takes it, and the words to carry there."""
+        self._call('own_post', self.processor, message)
+        row, = [row for row in self.rows if row.message == message]
+        return row.taking_processor, self.mail[row.place:row.place + row.words]
+
+    def arrive(self, message, words):
+        """A message arrives that another processor posted."""
+        self._call('own_arrive', self.processor, message, words)
+
+    def collect(self, grid):
+        """Puts the processor's part into a grid of all cells, an array of words, once it has finished; the words of other processors' cells
+        are as before."""
+        calls.EXPORTED['own_collect'](self.encoded, self.route, self.memory, self.progress, self.processor, grid)
 
 
 class Rig:

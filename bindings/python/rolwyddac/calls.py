@@ -56,6 +56,17 @@ rolwyddac_awaited(encoded: &[u8], route: u32, progress: &[Progress], status: &[u
     out: &mut [u32])
 rolwyddac_take_in(encoded: &[u8], route: u32, source: &[u32], memories: &[u32], buffer: &mut [u32], progress: &[Progress],
     status: &mut [u8], processor: u32, message: u32, words: &[u32])
+rolwyddac_own_sizes(encoded: &[u8], route: u32, processor: u32, out: &mut [u32])
+rolwyddac_own_messages(encoded: &[u8], route: u32, processor: u32, out: &mut [u32])
+rolwyddac_own_fresh(encoded: &[u8], route: u32, memory: &mut [u32], mail: &mut [u32], progress: &mut [Progress], marks: &mut [u8],
+    processor: u32)
+rolwyddac_own_turn(encoded: &[u8], route: u32, source: &[u32], memory: &mut [u32], mail: &mut [u32], progress: &mut [Progress],
+    marks: &mut [u8], processor: u32)
+rolwyddac_own_post(encoded: &[u8], route: u32, memory: &[u32], mail: &[u32], progress: &[Progress], marks: &mut [u8], processor: u32,
+    message: u32)
+rolwyddac_own_arrive(encoded: &[u8], route: u32, memory: &[u32], mail: &mut [u32], progress: &[Progress], marks: &mut [u8],
+    processor: u32, message: u32, words: &[u32])
+rolwyddac_own_collect(encoded: &[u8], route: u32, memory: &[u32], progress: &[Progress], processor: u32, grid: &mut [u32])
 rolwyddac_write(lengths: &[u16], tiling: &[u16], counts: &[u16], components: &[u16], weights: &[u16], sides: &[u8],
     bounded: &[u8], earlier: &[u8], slopes: &[i8], offsets: &[i16], shift: u8, boundary: u32, space: &mut [u8])
 '''

@@ -3,6 +3,7 @@ and schedules, with refused calls between. Run as `python3 bindings/python/tests
 """
 
 import array
+import copy
 import os
 import sys
 import unittest
@@ -76,6 +77,37 @@ def flat(grid):
 
 def records(progress):
     return [word for record in progress for word in (record.finished, record.stage, record.sent)]
+
+
+def own_recipe(draw):
+    """A recipe by a route, with bounds or without, some with processors that have no tiles; and its plan, none where it is refused."""
+    values, route = recipe_of(draw), draw.below(2)
+    n = len(values['lengths'])
+    bounds = [] if route or draw.below(2) else [(draw.below(2), 1 + draw.below(n - 1), 0, draw.below(3) - 1, draw.below(6))]
+    encoded = bytes(model.encode(bounds=bounds, **values))
+    return encoded, route, model.plan_of(encoded, route)[1]
+
+
+def drawn_part(draw, plan, b):
+    """A part with drawn words, in a state that a run need not reach, and now and then in one that is not fit."""
+    part = model.own_areas_for(plan, b, [draw.word() for _ in range(plan.cells)])
+    for area in (part.memory, part.mail, part.grid):
+        area[:] = [draw.word() for _ in area]
+    likely = (2, 2, 2, 0, 1, 3) if draw.below(2) else (0, 1, 2, 3)
+    part.marks[:] = [likely[draw.below(len(likely))] for _ in part.marks]
+    tiles = plan.tiles_of[b]
+    finished = draw.below(len(tiles) + 1) if draw.below(4) else len(tiles)
+    if finished < len(tiles):
+        sends = len(plan.sends_of[tiles[finished]])
+        stage = draw.below(3 if sends else 2)
+        part.progress[:] = [finished, stage, draw.below(sends) if stage == 2 else 0]
+    else:
+        part.progress[:] = [finished, 0, 0]
+    if draw.below(8) == 0:
+        part.progress[draw.below(3)] += 1 + draw.below(3)
+    if part.marks and draw.below(12) == 0:
+        part.marks[draw.below(len(part.marks))] = 4 + draw.below(200)
+    return part
 
 
 class Against(unittest.TestCase):
@@ -265,6 +297,146 @@ class Against(unittest.TestCase):
         for c in range(plan.cells):
             if plan.inside[c]:
                 self.assertEqual(grids[plan.board_of[plan.tile_of[c]]][c], swept[c])
+
+    def test_own_runs(self):
+        """Boards with memory for their own parts alone, in a drawn order, mail late, again, cut or at another board: each answer and each word
+        is the model's, and what all collect is the sweep."""
+        draw, met = Draw(35), set()
+        for case in range(RUNS):
+            encoded, route, plan = own_recipe(draw)
+            if plan is None:
+                continue
+            for b in range(plan.boards + 1):
+                sizes, rows = [0] * 4, [0] * (7 * len(model.handled(plan, b)))
+                numbers = model.own_sizes(encoded, b, sizes, route), model.own_messages(encoded, b, rows, route)
+                self.assertEqual((number_of(rolwyddac.own_sizes, encoded, b, route), number_of(rolwyddac.own_messages, encoded, b, route)),
+                                 numbers, case)
+                if b < plan.boards:
+                    self.assertEqual(list(rolwyddac.own_sizes(encoded, b, route)), sizes, case)
+                    self.assertEqual([word for row in rolwyddac.own_messages(encoded, b, route) for word in row], rows, case)
+            self.run_own(draw, met, encoded, route, plan)
+        self.assertLessEqual({0, 9, 11, 12, 13, 14, 15}, met)
+
+    def run_own(self, draw, met, encoded, route, plan):
+        source = [draw.word() for _ in range(plan.cells)]
+        wanted = [model.own_areas_for(plan, b, source) for b in range(plan.boards)]
+        boards = [rolwyddac.OwnBoard(encoded, rolwyddac.own_source(encoded, source, b), b, route) for b in range(plan.boards)]
+        mail, grid = [], array.array('I', [draw.word() for _ in range(plan.cells)])
+
+        def both(got, number, b):
+            self.assertEqual(got, number)
+            met.add(number)
+            self.same_part(boards[b], wanted[b])
+            return number
+
+        def post(b, m):
+            if both(number_of(boards[b].post, m), model.own_post(encoded, wanted[b], b, m, route), b) == 0:
+                row, = [row for row in boards[b].rows if row.message == m]
+                mail.append((row.taking_processor, m, boards[b].mail[row.place:row.place + row.words]))
+
+        def arrive(b, m, words):
+            both(number_of(boards[b].arrive, m, words), model.own_arrive(encoded, wanted[b], b, m, list(words), route), b)
+
+        def turn(b):
+            number = both(number_of(boards[b].turn), model.own_turn(encoded, wanted[b], b, route), b)
+            if number == 12:
+                tile = plan.tiles_of[b][wanted[b].progress[0]]
+                waited = [m for m in plan.due_at[tile] if wanted[b].marks[model.handled(plan, b).index(m)] != 2]
+                self.assertEqual(boards[b].awaited(), (tile, waited))
+            return number
+
+        def collect(b):
+            wanted[b].grid = list(grid)
+            both(number_of(boards[b].collect, grid), model.own_collect(encoded, wanted[b], b, route), b)
+            self.assertEqual(list(grid), wanted[b].grid)
+
+        for _ in range(3 * plan.steps):
+            b, kind = draw.below(plan.boards), draw.below(9)
+            if kind < 4:
+                turn(b)
+            elif kind < 6:
+                post(b, draw.below(len(plan.messages) + 1))
+            elif kind == 6:
+                collect(b)
+            elif mail:
+                to, m, words = mail[draw.below(len(mail))]
+                faulty = [(to, m, words[1:]), (to, m, words + words), (to, len(plan.messages), words), ((to + 1) % plan.boards, m, words)]
+                arrive(*((to, m, words) if kind == 7 else faulty[draw.below(4)]))
+        # to the end: nothing is lost, and all of it comes once more
+        while any(board.progress[0].finished < len(plan.tiles_of[b]) for b, board in enumerate(boards)):
+            for b, board in enumerate(boards):
+                while turn(b) == 0:
+                    pass
+                for m in board.in_flight():
+                    post(b, m)
+            for packet in mail:
+                arrive(*packet)
+        for b in sorted(range(plan.boards), key=lambda b: draw.word()):
+            collect(b)
+        self.assertEqual(list(grid), plan.swept(source))
+
+    def same_part(self, got, wanted, *more):
+        self.assertEqual([list(got.memory), list(got.mail), records(got.progress), list(got.marks)],
+                         [wanted.memory, wanted.mail, wanted.progress, wanted.marks], more)
+
+    def test_own_states(self):
+        """Any state, with faults of each kind beside each other: the number is that of the first true line, and at a refusal every lent word is
+        as before."""
+        draw, met = Draw(36), {}
+        for case in range(10 * RUNS):
+            encoded, route, plan = own_recipe(draw)
+            if plan is None:
+                continue
+            b = draw.below(plan.boards)
+            wanted = drawn_part(draw, plan, b)
+            if draw.below(6) == 0:
+                b = plan.boards + draw.below(2) * draw.below(2 ** 31)
+            m = draw.below(len(plan.messages) + 1 + draw.below(2))
+            if draw.below(2) and b < plan.boards and model.handled(plan, b):
+                m = model.handled(plan, b)[draw.below(len(model.handled(plan, b)))]
+            words = [draw.word() for _ in range(len(plan.messages[m].cells) if m < len(plan.messages) else draw.below(3))]
+            for area in (wanted.source, wanted.memory, wanted.mail, wanted.marks, wanted.grid, words):
+                if draw.below(25) == 0:
+                    area.append(1) if draw.below(2) or not area else area.pop()
+            if draw.below(25) == 0:
+                wanted.progress = wanted.progress * 2 if draw.below(2) else []
+            if draw.below(12) == 0:
+                route = 1 - route
+            if draw.below(12) == 0:
+                encoded = encoded[:-1] if draw.below(2) else encoded[-16:]
+            for name, last in (('own_sizes', ()), ('own_messages', ()), ('own_fresh', ()), ('own_turn', ()), ('own_post', (m,)),
+                               ('own_arrive', (m, words)), ('own_collect', ())):
+                number = self.own_call(name, encoded, route, wanted, b, last, draw, case)
+                met.setdefault(name, set()).add(number)
+        told = {1, 2, 9, 11, 21}
+        for name, more in (('own_sizes', {0}), ('own_messages', {0}), ('own_fresh', {0}), ('own_turn', {0, 10, 12, 13}), ('own_post', {0, 10, 14}),
+                           ('own_arrive', {0, 10, 14}), ('own_collect', {0, 10, 15})):
+            self.assertEqual(met[name], told | more, name)
+
+    def own_call(self, name, encoded, route, part, b, last, draw, case):
+        """One call on copies of a part, by the package and by the model: the same number, and the same words in every lent area."""
+        wanted, call = copy.deepcopy(part), calls.EXPORTED[name]
+        got = {area: array.array('B' if area == 'marks' else 'I', getattr(part, area)) for area in ('source', 'memory', 'mail', 'marks', 'grid')}
+        progress = (rolwyddac.Progress * (len(part.progress) // 3))(*zip(*[iter(part.progress)] * 3))
+        lent = got['memory'], got['mail'], progress, got['marks']
+        if name in ('own_sizes', 'own_messages'):
+            plan = model.plan_of(encoded, route)[1]
+            right = 4 if name == 'own_sizes' else 7 * len(model.handled(plan, b)) if plan else 0
+            out = [draw.word() for _ in range(right + (draw.below(8) == 0))]
+            told = array.array('I', out)
+            numbers = number_of(call, encoded, route, b, told), getattr(model, name)(encoded, b, out, route)
+            self.assertEqual(list(told), out, (case, name))
+        elif name == 'own_turn':
+            numbers = number_of(call, encoded, route, got['source'], *lent, b), model.own_turn(encoded, wanted, b, route)
+        elif name == 'own_collect':
+            numbers = (number_of(call, encoded, route, got['memory'], progress, b, got['grid']), model.own_collect(encoded, wanted, b, route))
+        else:
+            numbers = number_of(call, encoded, route, *lent, b, *last), getattr(model, name)(encoded, wanted, b, *last, route)
+        self.assertEqual(*numbers, (case, name))
+        for area, words in got.items():
+            self.assertEqual(list(words), getattr(wanted, area), (case, name, area))
+        self.assertEqual(records(progress), wanted.progress, (case, name))
+        return numbers[0]
 
     def test_offices(self):
         draw, met = Draw(29), set()

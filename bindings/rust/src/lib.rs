@@ -22,17 +22,19 @@
 //! ```
 //!
 //! [`Rig`] owns the areas of two offices that share the processors, [`Board`] those of one processor that shares no memory with
-//! the others.
+//! the others, [`OwnBoard`] the part of one that has memory for nothing else.
 
 #![warn(missing_docs)]
 
 mod mail;
+mod own;
 mod recipe;
 mod refusal;
 mod rig;
 mod run;
 
 pub use mail::{awaited, messages, owners, Awaited, Board, Row};
+pub use own::{own_messages, own_sizes, own_source, OwnAreas, OwnBoard, OwnRow, OwnSizes};
 pub use recipe::{Fields, Recipe};
 pub use refusal::Refusal;
 pub use rig::Rig;
@@ -400,6 +402,70 @@ calls! {
     rolwyddac_take_in as take_in(
         encoded: &[u8], route: Route, source: &[u32], memories: &[u32], buffer: &mut [u32], progress: &[Progress],
         status: &mut [u8], processor: u32, message: u32, words: &[u32],
+    );
+
+    /// How long the areas of a processor's own part are: writes four words to `out`, the words of its source, memory and mail, and how
+    /// many messages it handles. [`own_sizes`] is the handier form.
+    ///
+    /// The calls for a processor's own part test its number before the lengths, which are its own: 11 before 9.
+    ///
+    /// Refusals: 1 to 8, 16 to 18, 20, 21, 11, 9 if `out` has not 4 words.
+    rolwyddac_own_sizes as own_sizes_words(encoded: &[u8], route: Route, processor: u32, out: &mut [u32]);
+
+    /// Writes a row of seven words for each message that the processor handles to `out`, in the order of their numbers: its number,
+    /// then the five of [`message_words`], then where its words begin in the processor's mail. [`own_messages`] is the handier form.
+    ///
+    /// Refusals: 1 to 8, 16 to 18, 20, 21, 11, 9 if `out` has not seven words a message.
+    rolwyddac_own_messages as own_messages_words(encoded: &[u8], route: Route, processor: u32, out: &mut [u32]);
+
+    /// Makes the fresh start of a processor that is lent its own part alone: writes zero to all four areas, whatever they held.
+    /// [`OwnBoard`] is the handier form.
+    ///
+    /// `memory` has a word for each cell that the processor keeps, `mail` the words of the messages that it handles, `progress` one
+    /// record, `marks` a byte for each of these messages.
+    ///
+    /// Refusals: 1 to 9, 11, 16 to 18, 20 and 21.
+    rolwyddac_own_fresh as own_fresh(
+        encoded: &[u8], route: Route, memory: &mut [u32], mail: &mut [u32], progress: &mut [Progress],
+        marks: &mut [u8], processor: u32,
+    );
+
+    /// Gives a processor that is lent its own part alone a turn, as [`turn`] does on all areas. `source` has a word for each cell of its
+    /// tiles, in index order.
+    ///
+    /// Refusals: 1 to 13, 16 to 18, 20 and 21.
+    rolwyddac_own_turn as own_turn(
+        encoded: &[u8], route: Route, source: &[u32], memory: &mut [u32], mail: &mut [u32], progress: &mut [Progress],
+        marks: &mut [u8], processor: u32,
+    );
+
+    /// Posts a message that a turn has put in flight: its mark goes from 1 to 2, and it is the transport's; its words lie in the mail. A
+    /// message that the processor does not handle is 14.
+    ///
+    /// Refusals: 1 to 11, 14, 16 to 18, 20 and 21.
+    rolwyddac_own_post as own_post(
+        encoded: &[u8], route: Route, memory: &[u32], mail: &[u32], progress: &[Progress], marks: &mut [u8],
+        processor: u32, message: u32,
+    );
+
+    /// A message arrives at its taker: puts `words` into its place in the mail, and its mark goes from 0 to 2.
+    ///
+    /// Words that are not as many as the message has are 9; a number too high, or a message that this processor does not
+    /// take, is 11; a message whose mark is not 0, as one that came before, is 14.
+    ///
+    /// Refusals: 1 to 11, 14, 16 to 18, 20 and 21.
+    rolwyddac_own_arrive as own_arrive(
+        encoded: &[u8], route: Route, memory: &[u32], mail: &mut [u32], progress: &[Progress], marks: &mut [u8],
+        processor: u32, message: u32, words: &[u32],
+    );
+
+    /// Puts a processor's part into a grid of all cells, once it has finished: the words of its tiles' cells from its memory, and the
+    /// boundary value where a cell is outside the shape. Every other word of `grid` is as before, so that the grid is whole once each
+    /// processor's part was put there, in any order.
+    ///
+    /// Refusals: 1 to 11, 15 to 18, 20 and 21.
+    rolwyddac_own_collect as own_collect(
+        encoded: &[u8], route: Route, memory: &[u32], progress: &[Progress], processor: u32, grid: &mut [u32],
     );
 
     /// Writes the recipe of the fields to `space`. [`Fields`] is the handier form.

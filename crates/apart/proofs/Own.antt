@@ -32,14 +32,14 @@ use Rattle.apart.proofs.Locality.{local}
 
 -- ---- tests and what they say
 module _ (p : Plan) (b : ℕ) where
-  own-test : (c : ℕ) → owns p b c ≡ true → (t : ℕ) × (t < p .tiles) × (p .processorOf t ≡ b) × In c (p .cellsOf t)
+  pub own-test : (c : ℕ) → owns p b c ≡ true → (t : ℕ) × (t < p .tiles) × (p .processorOf t ≡ b) × In c (p .cellsOf t)
   unfolding owns
   own-test c e =
       let k = some-at (λ t. eqb (p .processorOf t) b and member c (p .cellsOf t)) (p .tiles) e in
       let q = both (k .2) in
       (k .0, k .1, eqb-true _ _ (q .0), member-in c _ (q .1))
 
-  test-own : (c t : ℕ) → t < p .tiles → p .processorOf t ≡ b → In c (p .cellsOf t) → owns p b c ≡ true
+  pub test-own : (c t : ℕ) → t < p .tiles → p .processorOf t ≡ b → In c (p .cellsOf t) → owns p b c ≡ true
   unfolding owns
   test-own c t l e i = some-one _ (p .tiles) t l (and-true (eq-eqb _ _ e) (in-member c _ i))
 

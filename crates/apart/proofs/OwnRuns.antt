@@ -49,7 +49,7 @@ module _ (p : Plan) (source : List ℕ) (b : ℕ) (r r′ : State) (be : Beside 
           rw e (getD-set-same (r .status) m 2 0 (rw (be .lent .status) lo) ∙ sym (getD-set-same (r′ .status) m 2 0 (rw (be .lent′ .status) lo)))
       go (no n) = getD-set-other (r .status) m k 2 0 n ∙ be .view .marks k l mine ∙ sym (getD-set-other (r′ .status) m k 2 0 n)
 
-  marked-same : SameTo p b (marked r m) (marked r′ m)
+  pub marked-same : SameTo p b (marked r m) (marked r′ m)
   marked-same =
       record {
         memory = be .view .memory;
@@ -60,7 +60,7 @@ module _ (p : Plan) (source : List ℕ) (b : ℕ) (r r′ : State) (be : Beside 
         marks = mark-same;
       }
 
-  received-same : (ws : List ℕ) → length ws ≡ length (heldBy p m) → SameTo p b (received p r m ws) (received p r′ m ws)
+  pub received-same : (ws : List ℕ) → length ws ≡ length (heldBy p m) → SameTo p b (received p r m ws) (received p r′ m ws)
   received-same ws e =
       record {
         memory = be .view .memory;
@@ -126,10 +126,10 @@ module _ (p : Plan) (so : Sound p) (own : ReadsOwnWord p) (source : List ℕ) (l
   pub fit-here : (b : ℕ) → b < p .processors → fit p (n .areas b) ≡ true
   fit-here b h = agrees-fit p source s b (n .areas b) (fo .to .inv) (fo .to .each b h)
 
-  from-low : (m : ℕ) → m < count p → senderAt p m < p .processors
+  pub from-low : (m : ℕ) → m < count p → senderAt p m < p .processors
   from-low m lo = so .processor-low (senderOf p m) (sender-low p so m lo)
 
-  to-low : (m : ℕ) → m < count p → takerAt p m < p .processors
+  pub to-low : (m : ℕ) → m < count p → takerAt p m < p .processors
   to-low m lo = so .processor-low (takerOf p m) (so .taker-low m lo)
 
   -- other areas that are the same to every processor

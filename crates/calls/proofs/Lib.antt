@@ -14,3 +14,4 @@ pub mod RoundCalls
 pub mod Storing
 pub mod TransportCalls
 pub mod OverRounds
+pub mod OwnCalls

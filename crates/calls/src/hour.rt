@@ -64,7 +64,8 @@ pub extern "C" fn rolwyddac_office_turn_at(
     office: u32,
     processor: u32,
 ) -> u32
-    ensures { λ r. ⌜ answer r (lentOf (stateOf (now (memories .exit)) (now (buffer .exit)) (flatWords (now (progress .exit))) (now (status .exit))) (now (engaged .exit)))
+    ensures { λ r. ⌜ answer r
+        (lentOf (stateOf (now (memories .exit)) (now (buffer .exit)) (flatWords (now (progress .exit))) (now (status .exit))) (now (engaged .exit)))
         ≡ turnCallAtFor (now (encoded .entry)) route (now (source .entry)) office (hoursOf (now (hours .entry)) minute)
         (lentOf (stateOf (now (memories .entry)) (now (buffer .entry)) (flatWords (now (progress .entry))) (now (status .entry))) (now (engaged .entry)))
         (flatWords (now (other .entry))) processor ⌝ }

@@ -16,6 +16,7 @@ pub mod desk; // desk.rt: the calls for the charting desk
 pub mod hour; // hour.rt: the calls with hours
 pub mod round; // round.rt: the calls by rounds
 pub mod transport; // transport.rt: the calls that a transport needs
+pub mod part; // part.rt: the calls for one processor that is lent its own part alone
 
 // One turn of a processor.
 #[no_mangle]
@@ -30,7 +31,8 @@ pub extern "C" fn rolwyddac_turn(
     processor: u32,
 ) -> u32
     ensures { λ r. ⌜ answer r (stateOf (now (memories .exit)) (now (buffer .exit)) (flatWords (now (progress .exit))) (now (status .exit)))
-        ≡ turnCall (now (encoded .entry)) route (now (source .entry)) (stateOf (now (memories .entry)) (now (buffer .entry)) (flatWords (now (progress .entry))) (now (status .entry))) processor ⌝ }
+        ≡ turnCall (now (encoded .entry)) route (now (source .entry))
+        (stateOf (now (memories .entry)) (now (buffer .entry)) (flatWords (now (progress .entry))) (now (status .entry))) processor ⌝ }
 {
     let flat = records::flatten(progress);
     let after = engine::core::turn(
@@ -59,7 +61,8 @@ pub extern "C" fn rolwyddac_fresh(
     status: &mut [u8],
 ) -> u32
     ensures { λ n. ⌜ answer n (stateOf (now (memories .exit)) (now (buffer .exit)) (flatWords (now (progress .exit))) (now (status .exit)))
-        ≡ freshCall (now (encoded .entry)) route (now (source .entry)) (stateOf (now (memories .entry)) (now (buffer .entry)) (flatWords (now (progress .entry))) (now (status .entry))) ⌝ }
+        ≡ freshCall (now (encoded .entry)) route (now (source .entry))
+        (stateOf (now (memories .entry)) (now (buffer .entry)) (flatWords (now (progress .entry))) (now (status .entry))) ⌝ }
 {
     let words = 3 * progress.len();
     let number = engine::core::fresh(encoded, route, source, memories, buffer, words, status);
@@ -80,7 +83,8 @@ pub extern "C" fn rolwyddac_deliver(
     message: u32,
 ) -> u32
     ensures { λ r. ⌜ answer r (stateOf (now (memories .entry)) (now (buffer .entry)) (flatWords (now (progress .entry))) (now (status .exit)))
-        ≡ deliverCall (now (encoded .entry)) route (now (source .entry)) (stateOf (now (memories .entry)) (now (buffer .entry)) (flatWords (now (progress .entry))) (now (status .entry))) message ⌝ }
+        ≡ deliverCall (now (encoded .entry)) route (now (source .entry))
+        (stateOf (now (memories .entry)) (now (buffer .entry)) (flatWords (now (progress .entry))) (now (status .entry))) message ⌝ }
 {
     let flat = records::flatten(progress);
     engine::core::deliver(
@@ -108,7 +112,8 @@ pub extern "C" fn rolwyddac_collect(
     grid: &mut [u32],
 ) -> u32
     ensures { λ r. ⌜ answer r (now (grid .exit))
-        ≡ collectCall (now (encoded .entry)) route (now (source .entry)) (stateOf (now (memories .entry)) (now (buffer .entry)) (flatWords (now (progress .entry))) (now (status .entry))) (now (grid .entry)) ⌝ }
+        ≡ collectCall (now (encoded .entry)) route (now (source .entry))
+        (stateOf (now (memories .entry)) (now (buffer .entry)) (flatWords (now (progress .entry))) (now (status .entry))) (now (grid .entry)) ⌝ }
 {
     let flat = records::flatten(progress);
     engine::core::collect(encoded, route, source, memories, buffer, flat, status, grid)

@@ -23,8 +23,9 @@ use Rattle.nest.specs.Nest.{cells}
 use Rattle.nest.specs.Reader.{nestOf, readLines}
 use Rattle.nest.proofs.Numbered.{numbered}
 use Rattle.nest.specs.Shape.{inShape}
-use Rattle.chart.specs.Text.{Frame, ncols, nrows, xllcorner, yllcorner, cellsize, nodata, missing}
-use Rattle.chart.specs.Text.{headLine, header, cell, more, row, rowsFrom, gridText, frameOf, chartText}
+use Rattle.text.specs.Grid.{Frame, ncols, nrows, xllcorner, yllcorner, cellsize, nodata, missing}
+use Rattle.text.specs.Grid.{headLine, header, cell, more, row, rowsFrom, gridText}
+use Rattle.chart.specs.Text.{frameOf, chartText}
 use Rattle.chart.specs.Call.{Written, notCharted, wrongGrid, toldOf, writeLines, writtenIf, writeCall}
 use Rattle.chart.specs.Apart.{Same, textOf, SameInputs, Demand211}
 use Rattle.chart.proofs.Splits.{Parted, split, cut-same, head-split}

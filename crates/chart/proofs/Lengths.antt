@@ -19,8 +19,9 @@ use Rattle.nest.specs.declared.Nest.{Nest}
 use Rattle.nest.specs.Accepted.{Accepted}
 use Rattle.nest.specs.Nest.{lengthOf, cells}
 use Rattle.nest.specs.Shape.{inShape}
-use Rattle.chart.specs.Text.{frame, ncols, nrows, xllcorner, yllcorner, cellsize, nodata, missing}
-use Rattle.chart.specs.Text.{headLine, header, cell, more, row, rowsFrom, gridText, chartText}
+use Rattle.text.specs.Grid.{frame, ncols, nrows, xllcorner, yllcorner, cellsize, nodata, missing}
+use Rattle.text.specs.Grid.{headLine, header, cell, more, row, rowsFrom, gridText}
+use Rattle.chart.specs.Text.{chartText}
 
 -- a list of words
 abbrev pub Words : List ℕ → Type 0

@@ -4,5 +4,4 @@ pub mod Lengths
 pub mod Steps
 pub mod Apart
 pub mod Answers
-pub mod Example
 pub mod Longest

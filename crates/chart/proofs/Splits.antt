@@ -3,7 +3,7 @@ use Prim.Native.Nat.{ℕ, _≤_, _<_}
 use mathlib.Core.Path.{_≡_, refl, sym, ap, _∙_}
 use mathlib.Core.List.{List, [], _∷_, _++_, append-assoc}
 use native.Mathlib.Omega.{arith}
-use Rattle.chart.specs.Text.{space, feed, headLine}
+use Rattle.text.specs.Grid.{space, feed, headLine}
 use Rattle.text.proofs.Decimals.{Plain}
 
 -- it starts with a space or a line feed

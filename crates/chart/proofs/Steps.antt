@@ -16,7 +16,7 @@ use Rattle.text.specs.Decimal.{decimal, signed}
 use Rattle.text.specs.Writing.{Pen, pen, write}
 use Rattle.text.proofs.Pens.{next, room}
 use Rattle.text.proofs.Steps.{most, Going, going-start, going-fits, going-on, going-done, going-over, Run, run-start, run-fits, run-on, run-done}
-use Rattle.chart.specs.Text.{headLine, cell, more, row, rowsFrom, missing, header, frame, gridText, ncols, nrows, xllcorner, yllcorner, cellsize}
+use Rattle.text.specs.Grid.{headLine, cell, more, row, rowsFrom, missing, header, frame, gridText, ncols, nrows, xllcorner, yllcorner, cellsize}
 
 -- ---- the rest of a row, and rows
 

@@ -9,7 +9,7 @@ use lib.IntN.{ℤ}
 use Rattle.nest.specs.Nest.{cells}
 use Rattle.nest.specs.Reader.{nestOf}
 use Rattle.nest.specs.Shape.{inShape}
-use Rattle.chart.specs.Text.{Frame}
+use Rattle.text.specs.Grid.{Frame}
 use Rattle.chart.specs.Call.{Written, writeCall}
 
 -- of two frames f and g, the grids a and b, the shapes o and p, whatever the recipes

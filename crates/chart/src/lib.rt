@@ -15,7 +15,8 @@ ghost use Rattle.base.specs.Numbers.{firstOf};
 ghost use Rattle.text.specs.Decimal.{decimal, signed};
 ghost use Rattle.text.specs.Writing.{pen, write};
 ghost use Rattle.chart.specs.Rows.{Shown, Rows};
-ghost use Rattle.chart.specs.Text.{frame, headLine, header, cell, more, row, rowsFrom, chartText};
+ghost use Rattle.text.specs.Grid.{frame, headLine, header, cell, more, row, rowsFrom};
+ghost use Rattle.chart.specs.Text.{chartText};
 ghost use Rattle.chart.specs.Call.{measureLines, toldOf, lengthCall, written, writeCall};
 
 // What a call tells: its number, and the text's length in bytes, 0 at a refusal.

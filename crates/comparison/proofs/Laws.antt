@@ -11,8 +11,10 @@ use lib.Dec.{eqb, ltb}
 use lib.Seq.{ext-getD, length-take-le, take-at, getD-set-same, getD-set-other}
 use borrow.Author.Tests.{eqb-true, eq-eqb, ne-eqb, lt-ltb, le-ltb, ltb-false}
 use Rattle.base.specs.Tests.{_and_, _or_, pick}
+use Rattle.base.specs.Alike.{sameWords}
 use Rattle.base.specs.Numbers.{firstOf}
-use Rattle.base.proofs.Tests.{both, and-true, and-left, and-false, and-no, or-left, neither, not-true, true-not, every-all, every-not}
+use Rattle.base.proofs.Alike.{same-self}
+use Rattle.base.proofs.Tests.{both, and-true, and-left, and-false, and-no, or-left, neither, not-true, true-not}
 use Rattle.base.proofs.Tests.{length-tabulate, tabulate-at}
 use Rattle.base.proofs.Numbers.{first-false, first-behind, none-first, none-behind}
 use Rattle.machine.specs.Plan.{count, words}
@@ -39,7 +41,7 @@ use Rattle.routes.specs.Routes.{linesFor}
 use Rattle.routes.proofs.Laws.{numbered-for, open-direct}
 use Rattle.drive.proofs.Whole.{ended}
 use Rattle.comparison.specs.declared.Extent.{Extent}
-use Rattle.comparison.specs.Agreement.{isBeyond, sourceOf, sameWords, driven, ran, Outcome, outcome, agreeing, compared, ranAndCompared}
+use Rattle.comparison.specs.Agreement.{isBeyond, sourceOf, driven, ran, Outcome, outcome, agreeing, compared, ranAndCompared}
 use Rattle.comparison.specs.Agreement.{orderOf, fronts, Within, Roomy, Agreed}
 use Rattle.comparison.proofs.Most.{messages-most, words-most}
 
@@ -68,34 +70,6 @@ module _ (bytes source : List ℕ) (s : State) where
   unfolding sweepCall firstOf
   sweep-goes grid z a b =
       first-behind (readLines bytes) _ (numbered bytes) z ∙ first-false 9 _ [] (not-true (and-true (eq-eqb _ _ a) (eq-eqb _ _ b)))
-
--- ---- the comparison of two areas
-
-pub same-self : (a : List ℕ) → sameWords a a ≡ true
-unfolding sameWords
-same-self a =
-    and-true (eq-eqb (length a) (length a) refl) (every-all (λ i. eqb (getD a i 0) (getD a i 0)) (length a) (λ i l. eq-eqb (getD a i 0) (getD a i 0) refl))
-
-pub lengths-differ : (a b : List ℕ) → length a ≢ length b → false ≡ sameWords a b
-unfolding sameWords
-lengths-differ a b n = sym (and-false _ _ (ne-eqb _ _ n))
-
-pub words-differ : (a b : List ℕ) (i : ℕ) → i < length a → getD a i 0 ≢ getD b i 0 → false ≡ sameWords a b
-unfolding sameWords
-words-differ a b i l n = sym (and-no _ _ (every-not (λ i. eqb (getD a i 0) (getD b i 0)) (length a) i l (ne-eqb _ _ n)))
-
-pub words-same : (a b : List ℕ) (i : ℕ) → length a ≡ length b → length a ≤ i → ((j : ℕ) → j < i → getD a j 0 ≡ getD b j 0) → true ≡ sameWords a b
-unfolding sameWords
-words-same a b i e l h =
-    sym (and-true (eq-eqb _ _ e) (every-all (λ i. eqb (getD a i 0) (getD b i 0)) (length a) (λ j k. eq-eqb _ _ (h j (omega arith)))))
-
-pub one-more : (a b : List ℕ) (i : ℕ) → ((j : ℕ) → j < i → getD a j 0 ≡ getD b j 0) → getD a i 0 ≡ getD b i 0
-    → (j : ℕ) → j < i + 1 → getD a j 0 ≡ getD b j 0
-one-more a b i h e j l = go (eq-or-lt-of-le (omega arith))
-  where
-    go : (j ≡ i) ⊎ (j < i) → getD a j 0 ≡ getD b j 0
-    go (inl q) = rw q e
-    go (inr q) = h j q
 
 -- ---- a run, collected and compared: each way that the code can end
 

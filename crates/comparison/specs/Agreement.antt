@@ -4,9 +4,10 @@ use Prim.Native.Nat.{ℕ, _+_, _*_, _≤_}
 use mathlib.Core.Path.{_≡_}
 use mathlib.Core.Bool.{Bool, true}
 use mathlib.Core.List.{List}
-use lib.ListN.{length, getD, take}
+use lib.ListN.{length, take}
 use lib.Dec.{eqb, ltb}
-use Rattle.base.specs.Tests.{_and_, _or_, pick, every, tabulate}
+use Rattle.base.specs.Tests.{_and_, _or_, pick, tabulate}
+use Rattle.base.specs.Alike.{sameWords}
 use Rattle.base.specs.Numbers.{firstOf}
 use Rattle.machine.specs.Plan.{count, words}
 use Rattle.machine.specs.Machine.{State, Answered, stateOf}
@@ -25,10 +26,6 @@ isBeyond cells processors = ltb 1024 cells or ltb 4096 (cells * processors)
 -- the program's two sources: 1 at each cell, or the cell's number plus 1
 unfoldable pub sourceOf : Bool → ℕ → List ℕ
 sourceOf counting cells = tabulate (λ c. pick counting (c + 1) 1) cells
-
--- two areas have the same words
-unfoldable pub sameWords : List ℕ → List ℕ → Bool
-sameWords a b = eqb (length a) (length b) and every (λ i. eqb (getD a i 0) (getD b i 0)) (length a)
 
 -- the areas after a fresh start of s and at most n rounds in the order
 abbrev pub driven : List ℕ → List ℕ → Order → ℕ → State → State

@@ -9,7 +9,7 @@ ghost use lib.ListN.{length, take};
 ghost use Rattle.base.specs.Tests.{pick};
 ghost use Rattle.machine.specs.Machine.{stateOf};
 ghost use Rattle.text.specs.Writing.{pen, write};
-ghost use Rattle.comparison.specs.Agreement.{isBeyond, sourceOf, sameWords, ran, outcome, compared};
+ghost use Rattle.comparison.specs.Agreement.{isBeyond, sourceOf, ran, outcome, compared};
 ghost use Rattle.comparison.specs.Agreement.{ranAndCompared, orderOf, fronts, Within, Roomy, Agreed};
 ghost use Rattle.comparison.specs.Lines.{verdictLine, agreesFor, fourLines, comparisonText};
 
@@ -47,22 +47,6 @@ fn fill_source(source: &mut [u32], counting: bool)
         source[c] = source_word((c + 1) as u32, counting);
         c += 1;
     }
-}
-
-fn same(a: &[u32], b: &[u32]) -> bool
-    ensures { λ r. ⌜ r ≡ sameWords (now (a .entry)) (now (b .entry)) ⌝ }
-{
-    if a.len() != b.len() {
-        return false;
-    }
-    let mut i: usize = 0;
-    while i < a.len() {
-        if a[i] != b[i] {
-            return false;
-        }
-        i += 1;
-    }
-    true
 }
 
 // A fresh start, and the run driven to its end. Where the fresh start is refused so is every call after it, and the comparison says so.
@@ -118,7 +102,7 @@ fn compare(
     if sweeping != 0 {
         return false;
     }
-    same(grid, swept)
+    base::same(grid, swept)
 }
 
 // One run in the areas lent, collected and compared.

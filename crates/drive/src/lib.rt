@@ -46,7 +46,9 @@ fn turn_each(
     processors: u32,
     falling: bool,
 ) -> bool
-    ensures { λ r. ⌜ Tried (calls (now (encoded .entry)) 0 (now (source .entry))) (stateOf (now (memories .entry)) (now (buffer .entry)) (now (progress .entry)) (now (status .entry))) (turnsTo processors falling processors) r
+    ensures { λ r. ⌜ Tried (calls (now (encoded .entry)) 0 (now (source .entry)))
+        (stateOf (now (memories .entry)) (now (buffer .entry)) (now (progress .entry)) (now (status .entry)))
+        (turnsTo processors falling processors) r
         (stateOf (now (memories .exit)) (now (buffer .exit)) (now (progress .exit)) (now (status .exit))) ⌝ }
 {
     let mut taken = false;
@@ -90,7 +92,8 @@ fn deliver_one(
     status: &mut [u8],
     message: u32,
 ) -> bool
-    ensures { λ r. ⌜ Delivered (deliverCall (now (encoded .entry)) 0 (now (source .entry)) (stateOf (now (memories .entry)) (now (buffer .entry)) (now (progress .entry)) (now (status .entry))) message) r
+    ensures { λ r. ⌜ Delivered (deliverCall (now (encoded .entry)) 0 (now (source .entry))
+        (stateOf (now (memories .entry)) (now (buffer .entry)) (now (progress .entry)) (now (status .entry))) message) r
         (stateOf (now (memories .entry)) (now (buffer .entry)) (now (progress .entry)) (now (status .exit))) ⌝ }
 {
     if in_flight(status, message) {
@@ -119,7 +122,8 @@ fn deliver_each(
     status: &mut [u8],
     messages: u32,
 ) -> bool
-    ensures { λ r. ⌜ Tried (calls (now (encoded .entry)) 0 (now (source .entry))) (stateOf (now (memories .entry)) (now (buffer .entry)) (now (progress .entry)) (now (status .entry))) (deliveriesTo messages) r
+    ensures { λ r. ⌜ Tried (calls (now (encoded .entry)) 0 (now (source .entry)))
+        (stateOf (now (memories .entry)) (now (buffer .entry)) (now (progress .entry)) (now (status .entry))) (deliveriesTo messages) r
         (stateOf (now (memories .entry)) (now (buffer .entry)) (now (progress .entry)) (now (status .exit))) ⌝ }
 {
     let mut delivered = false;
@@ -142,7 +146,10 @@ fn round(
     status: &mut [u8],
     order: Order,
 ) -> bool
-    ensures { λ r. ⌜ Tried (calls (now (encoded .entry)) 0 (now (source .entry))) (stateOf (now (memories .entry)) (now (buffer .entry)) (now (progress .entry)) (now (status .entry))) (roundOf (calls (now (encoded .entry)) 0 (now (source .entry))) order (stateOf (now (memories .entry)) (now (buffer .entry)) (now (progress .entry)) (now (status .entry)))) r
+    ensures { λ r. ⌜ Tried (calls (now (encoded .entry)) 0 (now (source .entry)))
+        (stateOf (now (memories .entry)) (now (buffer .entry)) (now (progress .entry)) (now (status .entry)))
+        (roundOf (calls (now (encoded .entry)) 0 (now (source .entry))) order
+        (stateOf (now (memories .entry)) (now (buffer .entry)) (now (progress .entry)) (now (status .entry)))) r
         (stateOf (now (memories .exit)) (now (buffer .exit)) (now (progress .exit)) (now (status .exit))) ⌝ }
 {
     let processors = order.processors;
@@ -182,7 +189,8 @@ pub fn drive(
     order: Order,
     steps: u32,
 )
-    ensures { λ _. ⌜ Driven (now (encoded .entry)) (now (source .entry)) order steps (stateOf (now (memories .entry)) (now (buffer .entry)) (now (progress .entry)) (now (status .entry)))
+    ensures { λ _. ⌜ Driven (now (encoded .entry)) (now (source .entry)) order steps
+        (stateOf (now (memories .entry)) (now (buffer .entry)) (now (progress .entry)) (now (status .entry)))
         (stateOf (now (memories .exit)) (now (buffer .exit)) (now (progress .exit)) (now (status .exit))) ⌝ }
 {
     let mut left = steps;

@@ -54,7 +54,8 @@ pub record Summing (n : ℕ) (backs weights : List ℕ) (outside : ℕ) (source 
   pub is : total ≡ outside + getD source c 0 + sum (λ i. getD weights i 0 * getD memory (c - getD backs i 0) 0) k
 
 module _ (n : ℕ) (backs weights : List ℕ) (outside shift : ℕ) (source memory : List ℕ) (c : ℕ) where
-  pub summing-none : (v : ℕ) → outside ≤ 2251765453422600 → (v ≡ getD source c 0) × (v < 4294967296) → Summing n backs weights outside source memory c (outside + v) 0
+  pub summing-none : (v : ℕ) → outside ≤ 2251765453422600 → (v ≡ getD source c 0) × (v < 4294967296) → Summing n backs weights outside source memory c
+      (outside + v) 0
   unfolding sum
   summing-none v h q = record { low = omega arith; few = omega arith; is = omega arith }
 
@@ -66,7 +67,9 @@ module _ (n : ℕ) (backs weights : List ℕ) (outside shift : ℕ) (source memo
         record {
           low = omega arith;
           few = omega (arith, s .few);
-          is = rw (add-one k) (q .0 ∙ ap (λ (a : ℕ). total + a * getD memory (c - b) 0) ew ∙ ap (λ (a : ℕ). total + getD weights k 0 * getD memory (c - a) 0) eb ∙ omega (arith, s .is));
+          is =
+              rw (add-one k) (q .0 ∙ ap (λ (a : ℕ). total + a * getD memory (c - b) 0) ew ∙ ap (λ (a : ℕ). total + getD weights k 0 * getD memory (c - a) 0)
+              eb ∙ omega (arith, s .is));
         }
 
     pub summing-end : n ≤ k → (v : ℕ) → v ≡ total / 2 ^ shift % 4294967296 → v ≡ made n backs weights outside shift source memory c
@@ -93,21 +96,23 @@ module _ (n : ℕ) (weights : List ℕ) (word : ℕ → ℕ) (v : ℕ) where
   unfolding sum
   mixing-none r q = record { low = omega arith; few = omega arith; is = omega arith }
 
-  module _ (total k : ℕ) (s : Mixing n weights word v total k) (h : k < n) (light : getD weights k 0 < 65536) (w : ℕ) (e : (w ≡ word k) × (w < 4294967296)) where
-    pub mixing-fits : total + getD weights k 0 * w ≤ 4294967295 + (k + 1) * 281470681677825
-    mixing-fits = omega (arith, s .few, weighs (getD weights k 0) w light (e .1))
+  module _ (total k : ℕ) (s : Mixing n weights word v total k) (h : k < n) (light : getD weights k 0 < 65536) (w : ℕ) (e : (w ≡ word k) × (w < 4294967296))
+    where
+      pub mixing-fits : total + getD weights k 0 * w ≤ 4294967295 + (k + 1) * 281470681677825
+      mixing-fits = omega (arith, s .few, weighs (getD weights k 0) w light (e .1))
 
-    pub mixing-more : Mixing n weights word v (total + getD weights k 0 * w) (k + 1)
-    unfolding sum
-    mixing-more =
-        record {
-          low = omega arith;
-          few = mixing-fits;
-          is = rw (add-one k) (ap (λ (a : ℕ). total + getD weights k 0 * a) (e .0) ∙ omega (arith, s .is));
-        }
+      pub mixing-more : Mixing n weights word v (total + getD weights k 0 * w) (k + 1)
+      unfolding sum
+      mixing-more =
+          record {
+            low = omega arith;
+            few = mixing-fits;
+            is = rw (add-one k) (ap (λ (a : ℕ). total + getD weights k 0 * a) (e .0) ∙ omega (arith, s .is));
+          }
 
 pub mixing-end : (n : ℕ) (firsts backs weights : List ℕ) (boundary shift : ℕ) (source memory : List ℕ) (c a total k : ℕ)
-    → Mixing n weights (λ i. pick (leb (getD firsts i 0) a) (getD memory (c - getD backs i 0) 0) boundary) (getD source c 0) total k → n ≤ k → (r : ℕ) → r ≡ total / 2 ^ shift % 4294967296
+    → Mixing n weights (λ i. pick (leb (getD firsts i 0) a) (getD memory (c - getD backs i 0) 0) boundary) (getD source c 0) total k → n ≤ k → (r : ℕ) → r
+    ≡ total / 2 ^ shift % 4294967296
     → r ≡ mixed n firsts backs weights boundary shift source a memory c
 unfolding mixed
 mixing-end n firsts backs weights boundary shift source memory c a total k s h r e =
@@ -139,7 +144,8 @@ module _ {f : List ℕ → ℕ → ℕ} {memory₀ memory : List ℕ} {c n y : �
 
 -- ---- a row in two parts: where taps may read the boundary's word, and where all read
 
-module _ {n : ℕ} {firsts backs weights : List ℕ} {boundary shift c a span sources words : ℕ} (p : Mixes n firsts backs weights boundary shift c a span sources words) where
+module _ {n : ℕ} {firsts backs weights : List ℕ} {boundary shift c a span sources words : ℕ} (p : Mixes n firsts backs weights boundary shift c a span
+    sources words) where
   -- at some of the cells, in a memory of the same length
   pub mixes-at : (y m words′ : ℕ) → y + m ≤ span → words′ ≡ words → Mixes n firsts backs weights boundary shift (c + y) (a + y) m sources words′
   mixes-at y m words′ h e =
@@ -169,7 +175,8 @@ module _ {n : ℕ} {firsts backs weights : List ℕ} {boundary shift c a span so
         narrow = omega (arith, p .narrow);
       }
 
-  pub mixes-fits : (y from words′ : ℕ) → y < span → All n firsts from → from ≤ a + y → words′ ≡ words → Fits n backs weights 0 shift (c + y) (span - y) sources words′
+  pub mixes-fits : (y from words′ : ℕ) → y < span → All n firsts from → from ≤ a + y → words′ ≡ words → Fits n backs weights 0 shift (c + y) (span - y)
+      sources words′
   mixes-fits y from words′ h all f e =
       record {
         few = p .few;
@@ -182,23 +189,27 @@ module _ {n : ℕ} {firsts backs weights : List ℕ} {boundary shift c a span so
         small = omega (arith, p .small);
       }
 
-pub in-line : (n : ℕ) (firsts backs weights : List ℕ) (boundary shift : ℕ) (source memory : List ℕ) (c a y v : ℕ) → v ≡ mixed n firsts backs weights boundary shift source (a + y) memory (c + y)
+pub in-line : (n : ℕ) (firsts backs weights : List ℕ) (boundary shift : ℕ) (source memory : List ℕ) (c a y v : ℕ) → v ≡ mixed n firsts backs weights boundary
+    shift source (a + y) memory (c + y)
     → set memory (c + y) v ≡ set memory (c + y) (mixed n firsts backs weights boundary shift source (a + (c + y - c)) memory (c + y))
 in-line n firsts backs weights boundary shift source memory c a y v e = let z : a + (c + y - c) ≡ a + y = omega arith in rw z (ap (set memory (c + y)) e)
 
-pub made-mixed : (n : ℕ) (firsts backs weights : List ℕ) (boundary shift : ℕ) (source : List ℕ) (a from : ℕ) → All n firsts from → from ≤ a → (memory : List ℕ) (c : ℕ)
+pub made-mixed : (n : ℕ) (firsts backs weights : List ℕ) (boundary shift : ℕ) (source : List ℕ) (a from : ℕ) → All n firsts from → from ≤ a
+    → (memory : List ℕ) (c : ℕ)
     → made n backs weights 0 shift source memory c ≡ mixed n firsts backs weights boundary shift source a memory c
 unfolding made mixed
 made-mixed n firsts backs weights boundary shift source a from all f memory c =
     let e : sum (λ k. getD weights k 0 * getD memory (c - getD backs k 0) 0) n
     ≡ sum (λ k. getD weights k 0 * pick (leb (getD firsts k 0) a) (getD memory (c - getD backs k 0) 0) boundary) n =
-    sum-same _ _ n (λ k i. ap (λ (b : ℕ). getD weights k 0 * b) (sym (pick-true (leb (getD firsts k 0) a) _ _ (le-leb (getD firsts k 0) a (omega (arith, all k i)))))) in
+    sum-same _ _ n (λ k i. ap (λ (b : ℕ). getD weights k 0 * b)
+    (sym (pick-true (leb (getD firsts k 0) a) _ _ (le-leb (getD firsts k 0) a (omega (arith, all k i)))))) in
     let z : 0 + getD source c 0 + sum (λ k. getD weights k 0 * getD memory (c - getD backs k 0) 0) n
     ≡ getD source c 0 + sum (λ k. getD weights k 0 * pick (leb (getD firsts k 0) a) (getD memory (c - getD backs k 0) 0) boundary) n = omega (arith, e) in
     ap (λ (b : ℕ). b / 2 ^ shift % 4294967296) z
 
 -- so many cells by one rule and the rest by another that gives the same
-pub rows-join : (f g : List ℕ → ℕ → ℕ) (m m′ : List ℕ) (c k : ℕ) → m′ ≡ storeAll f m (tabulate (λ i. c + i) k) → (n : ℕ) → ((l : List ℕ) (y : ℕ) → y < n → g l (c + k + y) ≡ f l (c + k + y))
+pub rows-join : (f g : List ℕ → ℕ → ℕ) (m m′ : List ℕ) (c k : ℕ) → m′ ≡ storeAll f m (tabulate (λ i. c + i) k) → (n : ℕ)
+    → ((l : List ℕ) (y : ℕ) → y < n → g l (c + k + y) ≡ f l (c + k + y))
     → storeAll g m′ (tabulate (λ i. c + k + i) n) ≡ storeAll f m (tabulate (λ i. c + i) (k + n))
 unfolding storeAll tabulate
 rows-join f g m m′ c k e zero h = rw (add-zero k) e
@@ -210,15 +221,18 @@ rows-join f g m m′ c k e (suc n) h =
     ∙ rw (rows-join f g m m′ c k e n (λ l y i. h l y (omega arith)), h (storeAll f m (tabulate (λ i. c + i) (k + n))) n (omega arith), z)
     (sym (store-append f m (tabulate (λ i. c + i) (k + n)) ((c + (k + n)) ∷ []))))
 
-pub line-stored : (f g : List ℕ → ℕ → ℕ) (m m₁ m₂ : List ℕ) (c k width : ℕ) → k < width → m₁ ≡ storeAll f m (tabulate (λ i. c + i) k) → m₂ ≡ storeAll g m₁ (tabulate (λ i. c + k + i) (width - k))
+pub line-stored : (f g : List ℕ → ℕ → ℕ) (m m₁ m₂ : List ℕ) (c k width : ℕ) → k < width → m₁ ≡ storeAll f m (tabulate (λ i. c + i) k) → m₂ ≡ storeAll g m₁
+    (tabulate (λ i. c + k + i) (width - k))
     → ((l : List ℕ) (y : ℕ) → y < width - k → g l (c + k + y) ≡ f l (c + k + y)) → m₂ ≡ storeAll f m (tabulate (λ i. c + i) width)
 line-stored f g m m₁ m₂ c k width l e₁ e₂ h =
     let z : k + (width - k) ≡ width = omega arith in
     rw z at (e₂ ∙ rows-join f g m m₁ c k e₁ (width - k) h)
 
-pub made-line : (n : ℕ) (firsts backs weights : List ℕ) (boundary shift : ℕ) (source : List ℕ) (c a from : ℕ) → All n firsts from → (k : ℕ) → from ≤ a + k → (l : List ℕ) (y : ℕ)
+pub made-line : (n : ℕ) (firsts backs weights : List ℕ) (boundary shift : ℕ) (source : List ℕ) (c a from : ℕ) → All n firsts from → (k : ℕ) → from ≤ a + k
+    → (l : List ℕ) (y : ℕ)
     → made n backs weights 0 shift source l (c + k + y) ≡ inLine n firsts backs weights boundary shift source c a l (c + k + y)
-made-line n firsts backs weights boundary shift source c a from all k f l y = made-mixed n firsts backs weights boundary shift source (a + (c + k + y - c)) from all (omega arith) l (c + k + y)
+made-line n firsts backs weights boundary shift source c a from all k f l y =
+    made-mixed n firsts backs weights boundary shift source (a + (c + k + y - c)) from all (omega arith) l (c + k + y)
 
 -- ---- the taps that are left where some read nowhere
 
@@ -256,7 +270,8 @@ module _ (n : ℕ) (firsts backs weights : List ℕ) (boundary : ℕ) where
         so = record { back = λ k h. absurd (omega arith); weight = λ k h. absurd (omega arith); few = omega arith; is = refl };
       }
 
-  module _ (leftBacks leftWeights : List ℕ) (outside k : ℕ) (s : Resting n firsts backs weights boundary leftBacks leftWeights outside k) (low : n ≤ 8) (h : k < n) where
+  module _ (leftBacks leftWeights : List ℕ) (outside k : ℕ) (s : Resting n firsts backs weights boundary leftBacks leftWeights outside k) (low : n ≤ 8)
+      (h : k < n) where
     pub resting-fits : getD weights k 0 < 65536 → boundary < 4294967296 → outside + getD weights k 0 * boundary ≤ (k + 1) * 281470681677825
     resting-fits light beyond = omega (arith, s .so .few, weighs (getD weights k 0) boundary light beyond)
 
@@ -265,7 +280,8 @@ module _ (n : ℕ) (firsts backs weights : List ℕ) (boundary : ℕ) where
     unfolding sum
     resting-skip e light beyond =
         let t = eq-eqb (getD firsts k 0) 1024 e in
-        let z : getD weights k 0 - pick (eqb (getD firsts k 0) 1024) 0 (getD weights k 0) ≡ getD weights k 0 = rw (pick-true (eqb (getD firsts k 0) 1024) 0 (getD weights k 0) t) (omega arith) in
+        let z : getD weights k 0 - pick (eqb (getD firsts k 0) 1024) 0 (getD weights k 0) ≡ getD weights k 0 = rw
+        (pick-true (eqb (getD firsts k 0) 1024) 0 (getD weights k 0) t) (omega arith) in
         record {
           low = omega arith;
           long-backs = s .long-backs;
@@ -273,19 +289,26 @@ module _ (n : ℕ) (firsts backs weights : List ℕ) (boundary : ℕ) where
           no-backs = λ i q. s .no-backs i (omega arith);
           no-weights = λ i q. s .no-weights i (omega arith);
           so = record {
-            back = next-is (λ i. pick (eqb (getD firsts i 0) 1024) 0 (getD backs i 0)) leftBacks k (s .no-backs k (omega arith) ∙ sym (pick-true (eqb (getD firsts k 0) 1024) 0 (getD backs k 0) t)) (s .so .back);
-            weight = next-is (λ i. pick (eqb (getD firsts i 0) 1024) 0 (getD weights i 0)) leftWeights k (s .no-weights k (omega arith) ∙ sym (pick-true (eqb (getD firsts k 0) 1024) 0 (getD weights k 0) t)) (s .so .weight);
+            back =
+                next-is (λ i. pick (eqb (getD firsts i 0) 1024) 0 (getD backs i 0)) leftBacks k (s .no-backs k (omega arith)
+                ∙ sym (pick-true (eqb (getD firsts k 0) 1024) 0 (getD backs k 0) t)) (s .so .back);
+            weight =
+                next-is (λ i. pick (eqb (getD firsts i 0) 1024) 0 (getD weights i 0)) leftWeights k (s .no-weights k (omega arith)
+                ∙ sym (pick-true (eqb (getD firsts k 0) 1024) 0 (getD weights k 0) t)) (s .so .weight);
             few = resting-fits light beyond;
             is = rw (add-one k) (ap (λ (a : ℕ). outside + a * boundary) (sym z) ∙ omega (arith, s .so .is));
           };
         }
 
-    pub resting-take : getD firsts k 0 ≢ 1024 → Resting n firsts backs weights boundary (set leftBacks k (getD backs k 0)) (set leftWeights k (getD weights k 0)) outside (k + 1)
+    pub resting-take : getD firsts k 0 ≢ 1024 → Resting n firsts backs weights boundary (set leftBacks k (getD backs k 0))
+        (set leftWeights k (getD weights k 0)) outside (k + 1)
     unfolding sum
     resting-take ne =
         let t = ne-eqb (getD firsts k 0) 1024 ne in
-        let z : getD weights k 0 - pick (eqb (getD firsts k 0) 1024) 0 (getD weights k 0) ≡ 0 = rw (pick-false (eqb (getD firsts k 0) 1024) 0 (getD weights k 0) t) (omega arith) in
-        let y : (getD weights k 0 - pick (eqb (getD firsts k 0) 1024) 0 (getD weights k 0)) * boundary ≡ 0 = ap (λ (a : ℕ). a * boundary) z ∙ zero-mul boundary in
+        let z : getD weights k 0 - pick (eqb (getD firsts k 0) 1024) 0 (getD weights k 0)
+        ≡ 0 = rw (pick-false (eqb (getD firsts k 0) 1024) 0 (getD weights k 0) t) (omega arith) in
+        let y : (getD weights k 0 - pick (eqb (getD firsts k 0) 1024) 0 (getD weights k 0)) * boundary ≡ 0 = ap (λ (a : ℕ). a * boundary) z
+        ∙ zero-mul boundary in
         record {
           low = omega arith;
           long-backs = length-set leftBacks k (getD backs k 0) ∙ s .long-backs;
@@ -294,17 +317,20 @@ module _ (n : ℕ) (firsts backs weights : List ℕ) (boundary : ℕ) where
           no-weights = λ i q. getD-set-other leftWeights k i (getD weights k 0) 0 (λ e. omega arith) ∙ s .no-weights i (omega arith);
           so = record {
             back = next-is (λ i. pick (eqb (getD firsts i 0) 1024) 0 (getD backs i 0)) (set leftBacks k (getD backs k 0)) k
-                (getD-set-same leftBacks k (getD backs k 0) 0 (omega (arith, s .long-backs)) ∙ sym (pick-false (eqb (getD firsts k 0) 1024) 0 (getD backs k 0) t))
+                (getD-set-same leftBacks k (getD backs k 0) 0 (omega (arith, s .long-backs))
+                ∙ sym (pick-false (eqb (getD firsts k 0) 1024) 0 (getD backs k 0) t))
                 (λ i q. getD-set-other leftBacks k i (getD backs k 0) 0 (λ e. omega arith) ∙ s .so .back i q);
             weight = next-is (λ i. pick (eqb (getD firsts i 0) 1024) 0 (getD weights i 0)) (set leftWeights k (getD weights k 0)) k
-                (getD-set-same leftWeights k (getD weights k 0) 0 (omega (arith, s .long-weights)) ∙ sym (pick-false (eqb (getD firsts k 0) 1024) 0 (getD weights k 0) t))
+                (getD-set-same leftWeights k (getD weights k 0) 0 (omega (arith, s .long-weights))
+                ∙ sym (pick-false (eqb (getD firsts k 0) 1024) 0 (getD weights k 0) t))
                 (λ i q. getD-set-other leftWeights k i (getD weights k 0) 0 (λ e. omega arith) ∙ s .so .weight i q);
             few = omega (arith, s .so .few);
             is = rw (add-one k) (omega (arith, s .so .is, y));
           };
         }
 
-  pub resting-end : (leftBacks leftWeights : List ℕ) (outside k : ℕ) → Resting n firsts backs weights boundary leftBacks leftWeights outside k → n ≤ k → Rested n firsts backs weights boundary leftBacks leftWeights outside
+  pub resting-end : (leftBacks leftWeights : List ℕ) (outside k : ℕ) → Resting n firsts backs weights boundary leftBacks leftWeights outside k → n ≤ k
+      → Rested n firsts backs weights boundary leftBacks leftWeights outside
   resting-end leftBacks leftWeights outside k s h = let z : k ≡ n = omega (arith, s .low) in rw z at (s .so)
 
 -- what tap gives, in the two parts
@@ -320,7 +346,8 @@ tap-split false f w b a boundary c m e h l =
     let y : w - w ≡ 0 = omega arith in
     rw (pick-true (leb f a) (getD m (c - b) 0) boundary (le-leb f a (l z)), y, zero-mul) (omega arith)
 
-module _ (n : ℕ) (firsts backs weights : List ℕ) (boundary shift : ℕ) (source leftBacks leftWeights : List ℕ) (outside : ℕ) (r : Rested n firsts backs weights boundary leftBacks leftWeights outside)
+module _ (n : ℕ) (firsts backs weights : List ℕ) (boundary shift : ℕ) (source leftBacks leftWeights : List ℕ) (outside : ℕ)
+    (r : Rested n firsts backs weights boundary leftBacks leftWeights outside)
     (from : ℕ) (all : AllOrNone n firsts from) where
   reads-there : (a k : ℕ) → from ≤ a → k < n → getD firsts k 0 ≢ 1024 → getD firsts k 0 ≤ a
   reads-there a k h l ne = go (all k l)
@@ -329,18 +356,23 @@ module _ (n : ℕ) (firsts backs weights : List ℕ) (boundary shift : ℕ) (sou
       go (inl q) = omega arith
       go (inr q) = absurd (ne q)
 
-  rest-mixed : (a : ℕ) → from ≤ a → a < 1024 → (m : List ℕ) (c : ℕ) → made n leftBacks leftWeights outside shift source m c ≡ mixed n firsts backs weights boundary shift source a m c
+  rest-mixed : (a : ℕ) → from ≤ a → a < 1024 → (m : List ℕ) (c : ℕ) → made n leftBacks leftWeights outside shift source m c ≡ mixed n firsts backs weights
+      boundary shift source a m c
   unfolding made mixed
   rest-mixed a h l m c = ap (λ (b : ℕ). b / 2 ^ shift % 4294967296) total
     where
       left : sum (λ k. getD leftWeights k 0 * getD m (c - getD leftBacks k 0) 0) n
           ≡ sum (λ k. pick (eqb (getD firsts k 0) 1024) 0 (getD weights k 0) * getD m (c - pick (eqb (getD firsts k 0) 1024) 0 (getD backs k 0)) 0) n
-      left = sum-same _ _ n (λ k i. ap (λ (b : ℕ). b * getD m (c - getD leftBacks k 0) 0) (r .weight k i) ∙ ap (λ (b : ℕ). pick (eqb (getD firsts k 0) 1024) 0 (getD weights k 0) * getD m (c - b) 0) (r .back k i))
+      left =
+          sum-same _ _ n (λ k i. ap (λ (b : ℕ). b * getD m (c - getD leftBacks k 0) 0) (r .weight k i)
+          ∙ ap (λ (b : ℕ). pick (eqb (getD firsts k 0) 1024) 0 (getD weights k 0) * getD m (c - b) 0) (r .back k i))
 
       each : sum (λ k. (getD weights k 0 - pick (eqb (getD firsts k 0) 1024) 0 (getD weights k 0)) * boundary
           + pick (eqb (getD firsts k 0) 1024) 0 (getD weights k 0) * getD m (c - pick (eqb (getD firsts k 0) 1024) 0 (getD backs k 0)) 0) n
           ≡ sum (λ k. getD weights k 0 * pick (leb (getD firsts k 0) a) (getD m (c - getD backs k 0) 0) boundary) n
-      each = sum-same _ _ n (λ k i. tap-split (eqb (getD firsts k 0) 1024) (getD firsts k 0) (getD weights k 0) (getD backs k 0) a boundary c m refl l (reads-there a k h i))
+      each =
+          sum-same _ _ n (λ k i. tap-split (eqb (getD firsts k 0) 1024) (getD firsts k 0) (getD weights k 0) (getD backs k 0) a boundary c m refl l
+          (reads-there a k h i))
 
       total : outside + getD source c 0 + sum (λ k. getD leftWeights k 0 * getD m (c - getD leftBacks k 0) 0) n
           ≡ getD source c 0 + sum (λ k. getD weights k 0 * pick (leb (getD firsts k 0) a) (getD m (c - getD backs k 0) 0) boundary) n
@@ -357,7 +389,8 @@ module _ (n : ℕ) (firsts backs weights : List ℕ) (boundary shift : ℕ) (sou
       → made n leftBacks leftWeights outside shift source l (c + k + y) ≡ inLine n firsts backs weights boundary shift source c a l (c + k + y)
   rest-line c a width w k f l y i = rest-mixed (a + (c + k + y - c)) (omega arith) (omega arith) l (c + k + y)
 
-  pub rest-fits : (c a span sources words : ℕ) → Mixes n firsts backs weights boundary shift c a span sources words → (y words′ : ℕ) → y < span → from ≤ a + y → words′ ≡ words
+  pub rest-fits : (c a span sources words : ℕ) → Mixes n firsts backs weights boundary shift c a span sources words → (y words′ : ℕ) → y < span
+      → from ≤ a + y → words′ ≡ words
       → Fits n leftBacks leftWeights outside shift (c + y) (span - y) sources words′
   rest-fits c a span sources words p y words′ h f e =
       record {
@@ -400,7 +433,15 @@ module _ {f : List ℕ → ℕ → ℕ} {memory₀ memory : List ℕ} {a t n y :
   waving-more m₁ m₂ m₃ m₄ l e₁ e₂ e₃ e₄ =
       record {
         low = omega arith;
-        is = rw (add-one y, store-append f memory₀ (waveOf a t y) ((a + y) ∷ (a + y + t) ∷ (a + y + t + t) ∷ (a + y + t + t + t) ∷ []), ← p .is, ← e₁, ← e₂, ← e₃) e₄;
+        is =
+            rw (
+              add-one y,
+              store-append f memory₀ (waveOf a t y) ((a + y) ∷ (a + y + t) ∷ (a + y + t + t) ∷ (a + y + t + t + t) ∷ []),
+              ← p .is,
+              ← e₁,
+              ← e₂,
+              ← e₃,
+            ) e₄;
       }
 
   pub waving-end : n ≤ y → memory ≡ storeAll f memory₀ (waveOf a t n)
@@ -414,7 +455,8 @@ pub record Same (n n′ : ℕ) (backs weights backs′ weights′ : List ℕ) : 
   pub weight : (k : ℕ) → k < n → getD weights k 0 ≡ getD weights′ k 0
 
 module _ {n n′ : ℕ} {backs weights backs′ weights′ : List ℕ} (s : Same n n′ backs weights backs′ weights′) where
-  pub fits-same : {outside shift c span sources words : ℕ} → Fits n′ backs′ weights′ outside shift c span sources words → Fits n backs weights outside shift c span sources words
+  pub fits-same : {outside shift c span sources words : ℕ} → Fits n′ backs′ weights′ outside shift c span sources words → Fits n backs weights outside shift
+      c span sources words
   fits-same f =
       record {
         few = omega (arith, f .few, s .many);
@@ -427,14 +469,16 @@ module _ {n n′ : ℕ} {backs weights backs′ weights′ : List ℕ} (s : Same
         small = f .small;
       }
 
-  pub stores-same : (outside shift : ℕ) (source memory cells : List ℕ) → storeAll (made n backs weights outside shift source) memory cells ≡ storeAll (made n′ backs′ weights′ outside shift source) memory cells
+  pub stores-same : (outside shift : ℕ) (source memory cells : List ℕ) → storeAll (made n backs weights outside shift source) memory cells
+      ≡ storeAll (made n′ backs′ weights′ outside shift source) memory cells
   unfolding made
   stores-same outside shift source memory cells = store-same _ _ cells memory (λ m c i. words m c)
     where
       words : (m : List ℕ) (c : ℕ) → made n backs weights outside shift source m c ≡ made n′ backs′ weights′ outside shift source m c
       words m c =
           ap (λ (a : ℕ). (outside + getD source c 0 + a) / 2 ^ shift % 4294967296)
-          (sum-same _ _ n (λ k h. ap (λ (a : ℕ). a * getD m (c - getD backs k 0) 0) (s .weight k h) ∙ ap (λ (a : ℕ). getD weights′ k 0 * getD m (c - a) 0) (s .back k h))
+          (sum-same _ _ n (λ k h. ap (λ (a : ℕ). a * getD m (c - getD backs k 0) 0) (s .weight k h) ∙ ap (λ (a : ℕ). getD weights′ k 0 * getD m (c - a) 0)
+          (s .back k h))
           ∙ ap (sum (λ k. getD weights′ k 0 * getD m (c - getD backs′ k 0) 0)) (s .many))
 
 abbrev Tapped : List ℕ → List ℕ → ℕ → ℕ → ℕ → Type 0
@@ -445,7 +489,13 @@ module _ (backs weights : List ℕ) {n : ℕ} (light : (k : ℕ) → k < n → g
   same-one e p = record { many = sym e; back = below-more _ 0 (below-none _) (p .0); weight = below-more _ 0 (below-none _) (p .1 (light 0 (omega arith))) }
 
   pub same-two : n ≡ 2 → {b₀ w₀ b₁ w₁ : ℕ} → Tapped backs weights 0 b₀ w₀ → Tapped backs weights 1 b₁ w₁ → Same 2 n (b₀ ∷ b₁ ∷ []) (w₀ ∷ w₁ ∷ []) backs weights
-  same-two e p q = record { many = sym e; back = below-more _ 1 (below-more _ 0 (below-none _) (p .0)) (q .0); weight = below-more _ 1 (below-more _ 0 (below-none _) (p .1 (light 0 (omega arith)))) (q .1 (light 1 (omega arith))) }
+  same-two e p q =
+      record {
+        many = sym e;
+        back = below-more _ 1 (below-more _ 0 (below-none _) (p .0)) (q .0);
+        weight = below-more _ 1
+            (below-more _ 0 (below-none _) (p .1 (light 0 (omega arith)))) (q .1 (light 1 (omega arith)));
+      }
 
   pub same-three : n ≡ 3 → {b₀ w₀ b₁ w₁ b₂ w₂ : ℕ} → Tapped backs weights 0 b₀ w₀ → Tapped backs weights 1 b₁ w₁ → Tapped backs weights 2 b₂ w₂
       → Same 3 n (b₀ ∷ b₁ ∷ b₂ ∷ []) (w₀ ∷ w₁ ∷ w₂ ∷ []) backs weights
@@ -453,14 +503,19 @@ module _ (backs weights : List ℕ) {n : ℕ} (light : (k : ℕ) → k < n → g
       record {
         many = sym e;
         back = below-more _ 2 (below-more _ 1 (below-more _ 0 (below-none _) (p .0)) (q .0)) (r .0);
-        weight = below-more _ 2 (below-more _ 1 (below-more _ 0 (below-none _) (p .1 (light 0 (omega arith)))) (q .1 (light 1 (omega arith)))) (r .1 (light 2 (omega arith)));
+        weight =
+            below-more _ 2 (below-more _ 1 (below-more _ 0 (below-none _) (p .1 (light 0 (omega arith)))) (q .1 (light 1 (omega arith))))
+            (r .1 (light 2 (omega arith)));
       }
 
-  pub same-four : n ≡ 4 → {b₀ w₀ b₁ w₁ b₂ w₂ b₃ w₃ : ℕ} → Tapped backs weights 0 b₀ w₀ → Tapped backs weights 1 b₁ w₁ → Tapped backs weights 2 b₂ w₂ → Tapped backs weights 3 b₃ w₃
+  pub same-four : n ≡ 4 → {b₀ w₀ b₁ w₁ b₂ w₂ b₃ w₃ : ℕ} → Tapped backs weights 0 b₀ w₀ → Tapped backs weights 1 b₁ w₁ → Tapped backs weights 2 b₂ w₂
+      → Tapped backs weights 3 b₃ w₃
       → Same 4 n (b₀ ∷ b₁ ∷ b₂ ∷ b₃ ∷ []) (w₀ ∷ w₁ ∷ w₂ ∷ w₃ ∷ []) backs weights
   same-four e p q r s =
       record {
         many = sym e;
         back = below-more _ 3 (below-more _ 2 (below-more _ 1 (below-more _ 0 (below-none _) (p .0)) (q .0)) (r .0)) (s .0);
-        weight = below-more _ 3 (below-more _ 2 (below-more _ 1 (below-more _ 0 (below-none _) (p .1 (light 0 (omega arith)))) (q .1 (light 1 (omega arith)))) (r .1 (light 2 (omega arith)))) (s .1 (light 3 (omega arith)));
+        weight =
+            below-more _ 3 (below-more _ 2 (below-more _ 1 (below-more _ 0 (below-none _) (p .1 (light 0 (omega arith)))) (q .1 (light 1 (omega arith))))
+            (r .1 (light 2 (omega arith)))) (s .1 (light 3 (omega arith)));
       }

@@ -53,7 +53,8 @@ pub follows-none : (N from at : List ℕ) (left : ℕ) → left ≡ 0 → Follow
 follows-none N from at left e = record { next = λ n p. record { first = λ j h. absurd (omega arith); rest = p .rest } }
 
 module _ (N from at : List ℕ) (left : ℕ) (f : left ≢ 0) (long : left ≤ length at) where
-  pub follows-step : getD at (left - 1) 0 + 1 < getD from (left - 1) 0 + getD N (left - 1) 0 → Follows N from left at (set at (left - 1) (getD at (left - 1) 0 + 1))
+  pub follows-step : getD at (left - 1) 0 + 1 < getD from (left - 1) 0 + getD N (left - 1) 0 → Follows N from left at
+      (set at (left - 1) (getD at (left - 1) 0 + 1))
   follows-step h = record { next = λ n p. record { first = λ j k. go n p j (eq-or-lt-of-le (low j k)); rest = λ j k. other j (omega arith) ∙ p .rest j k } }
     where
       low : (j : ℕ) → j < left → j ≤ left - 1
@@ -68,9 +69,15 @@ module _ (N from at : List ℕ) (left : ℕ) (f : left ≢ 0) (long : left ≤ l
       go : (n : ℕ) → Placed N from n left at → (j : ℕ) → (j ≡ left - 1) ⊎ (j < left - 1)
           → getD (set at (left - 1) (getD at (left - 1) 0 + 1)) j 0 ≡ getD from j 0 + place (nth N) left (n + 1) j
       go n p j (inl e) =
-          rw e (omega (arith, getD-set-same at (left - 1) (getD at (left - 1) 0 + 1) 0 (omega arith), p .first (left - 1) (omega arith), row-last (nth N) left n 1 (omega arith) (room n p)))
+          rw e (omega (
+            arith,
+            getD-set-same at (left - 1) (getD at (left - 1) 0 + 1) 0 (omega arith),
+            p .first (left - 1) (omega arith),
+            row-last (nth N) left n 1 (omega arith) (room n p),
+          ))
       go n p j (inr k) =
-          other j (λ e. omega arith) ∙ p .first j (omega arith) ∙ ap (λ (a : ℕ). getD from j 0 + a) (sym (row-before (nth N) left n 1 (omega arith) (room n p) j k))
+          other j (λ e. omega arith) ∙ p .first j (omega arith) ∙ ap (λ (a : ℕ). getD from j 0 + a)
+          (sym (row-before (nth N) left n 1 (omega arith) (room n p) j k))
 
   module _ (p : Places N from left) where
     pub places-fewer : Places N from (left - 1)
@@ -82,7 +89,8 @@ module _ (N from at : List ℕ) (left : ℕ) (f : left ≢ 0) (long : left ≤ l
   pub inside-fewer : (v : ℕ) → Inside N from left at → Inside N from (left - 1) (set at (left - 1) v)
   inside-fewer v i = record { each = λ j h. rw (getD-set-other at (left - 1) j v 0 (λ e. omega arith)) (i .each j (omega arith)) }
 
-pub follows-carry : (N from at r : List ℕ) (left : ℕ) → left ≢ 0 → left ≤ length at → Places N from left → getD from (left - 1) 0 + getD N (left - 1) 0 ≤ getD at (left - 1) 0 + 1
+pub follows-carry : (N from at r : List ℕ) (left : ℕ) → left ≢ 0 → left ≤ length at → Places N from left → getD from (left - 1) 0 + getD N (left - 1) 0
+    ≤ getD at (left - 1) 0 + 1
     → Follows N from (left - 1) (set at (left - 1) (getD from (left - 1) 0)) r → Follows N from left at r
 follows-carry N from at r zero f long p h s = absurd (f refl)
 follows-carry N from at r (suc l) f long p h s =
@@ -103,7 +111,9 @@ follows-carry N from at r (suc l) f long p h s =
     before : (n : ℕ) → Placed N from n (suc l) at → Placed N from (n / getD N l 0) l (set at l (getD from l 0))
     before n q =
         record {
-          first = λ j k. getD-set-other at l j (getD from l 0) 0 (λ e. omega arith) ∙ q .first j (omega arith) ∙ ap (λ (a : ℕ). getD from j 0 + a) (place-before (nth N) l n j k);
+          first =
+              λ j k. getD-set-other at l j (getD from l 0) 0 (λ e. omega arith) ∙ q .first j (omega arith) ∙ ap (λ (a : ℕ). getD from j 0 + a)
+              (place-before (nth N) l n j k);
           rest = λ j k. same j (eq-or-lt-of-le k);
         }
       where
@@ -168,4 +178,5 @@ module _ (x : Nest) (ok : Accepted x) where
     row-located = located x ok b is _ at first
 
     pub row-inside : Places (b .lengths) (b .corner) (x .dimensions - 1) × Inside (b .lengths) (b .corner) (x .dimensions - 1) at
-    row-inside = let q = rows-places (b .lengths) (b .corner) (box-places x ok b is 0) in (q, placed-inside (b .lengths) (b .corner) at r (x .dimensions - 1) q p)
+    row-inside =
+        let q = rows-places (b .lengths) (b .corner) (box-places x ok b is 0) in (q, placed-inside (b .lengths) (b .corner) at r (x .dimensions - 1) q p)

@@ -3,7 +3,8 @@ use Prim.Native.Nat.{ℕ, zero, suc, _+_, _*_, _-_, _/_, _%_, _≤_, _<_}
 use mathlib.Core.Path.{_≡_, sym, ap, _∙_}
 use mathlib.Core.Bool.{Bool}
 use mathlib.Core.List.{List}
-use native.Mathlib.Nat.{add-assoc, div-add-mod', div-lt-iff-lt-mul, mul-add-div-right, mul-add-mod-self-right, div-eq-of-lt, mod-eq-of-lt, mul-le-mul-right, suc-mul}
+use native.Mathlib.Nat.{add-assoc, div-add-mod', div-lt-iff-lt-mul, mul-add-div-right, mul-add-mod-self-right, div-eq-of-lt, mod-eq-of-lt}
+use native.Mathlib.Nat.{mul-le-mul-right, suc-mul}
 use native.Mathlib.Numerals.{add-one}
 use native.Mathlib.Omega.{arith}
 use lib.ListN.{getD}
@@ -73,7 +74,8 @@ row-start N zero r p h = absurd (omega arith)
 row-start N (suc l) r p h =
     let z : suc l - 1 ≡ l = omega arith in
     let k : 1 ≤ N l = rw z at h in
-    rw (z, place-last N l (r * N l)) (ap (λ (a : ℕ). a % N l) {x = r * N l} {y = r * N l + 0} (omega arith) ∙ mul-add-mod-self-right r (N l) 0 ∙ mod-eq-of-lt (omega arith))
+    rw (z, place-last N l (r * N l)) (ap (λ (a : ℕ). a % N l) {x = r * N l} {y = r * N l + 0} (omega arith) ∙ mul-add-mod-self-right r (N l) 0 ∙ mod-eq-of-lt
+    (omega arith))
 
 pub product-last : (N : ℕ → ℕ) (d : ℕ) → 1 ≤ d → product N d ≡ product N (d - 1) * N (d - 1)
 unfolding product
@@ -109,40 +111,55 @@ module _ (x : Nest) (ok : Accepted x) where
     box-counts = box-countable x ok (b .tile) (b .lengths) (is .low) (is .lengths) .1
 
     pub box-rows : product (nth (b .lengths)) (x .dimensions - 1) * getD (b .lengths) (x .dimensions - 1) 0 ≡ b .size
-    box-rows = sym (product-last (nth (b .lengths)) (x .dimensions) deep) ∙ box-countable x ok (b .tile) (b .lengths) (is .low) (is .lengths) .0 ∙ sym (is .size)
+    box-rows =
+        sym (product-last (nth (b .lengths)) (x .dimensions) deep) ∙ box-countable x ok (b .tile) (b .lengths) (is .low) (is .lengths) .0 ∙ sym (is .size)
 
     start : (r : ℕ) → place (boxLength x (b .tile)) (x .dimensions) (r * getD (b .lengths) (x .dimensions - 1) 0) (x .dimensions - 1) ≡ 0
     start r = rw wide (row-start (boxLength x (b .tile)) (x .dimensions) r deep (boxLength-pos x ok (b .tile) (x .dimensions - 1) (omega (arith, deep))))
 
     module _ (r : ℕ) where
-      pub box-width : boxPlace x (b .tile) (r * getD (b .lengths) (x .dimensions - 1) 0) (x .dimensions - 1) + getD (b .lengths) (x .dimensions - 1) 0 ≤ lengthOf x (x .dimensions - 1)
+      pub box-width : boxPlace x (b .tile) (r * getD (b .lengths) (x .dimensions - 1) 0) (x .dimensions - 1) + getD (b .lengths) (x .dimensions - 1) 0
+          ≤ lengthOf x (x .dimensions - 1)
       unfolding boxPlace boxLength
       box-width =
-          omega (arith, start r, wide, tile-inside x ok (tilePlace x (b .tile) (x .dimensions - 1)) (x .dimensions - 1) (omega (arith, deep)) (tilePlace-low x ok (b .tile) (x .dimensions - 1) (omega (arith, deep))))
+          omega (
+            arith,
+            start r,
+            wide,
+            tile-inside x ok (tilePlace x (b .tile) (x .dimensions - 1)) (x .dimensions - 1) (omega (arith, deep))
+                (tilePlace-low x ok (b .tile) (x .dimensions - 1) (omega (arith, deep))),
+          )
 
       pub box-row : (y : ℕ) → y < getD (b .lengths) (x .dimensions - 1) 0
           → boxCell x (b .tile) (r * getD (b .lengths) (x .dimensions - 1) 0) + y ≡ boxCell x (b .tile) (r * getD (b .lengths) (x .dimensions - 1) 0 + y)
       unfolding boxCell cellAt boxPlace
       box-row y h =
           let q : ℕ = r * getD (b .lengths) (x .dimensions - 1) 0 in
-          let k : place (boxLength x (b .tile)) (x .dimensions) (r * getD (b .lengths) (x .dimensions - 1) 0) (x .dimensions - 1) + y < boxLength x (b .tile) (x .dimensions - 1) = omega (arith, start r, wide) in
+          let k : place (boxLength x (b .tile)) (x .dimensions) (r * getD (b .lengths) (x .dimensions - 1) 0) (x .dimensions - 1) + y < boxLength x (b .tile)
+          (x .dimensions - 1) = omega (arith, start r, wide) in
           ap (λ (a : ℕ). a + y) (rank-last (lengthOf x) (boxPlace x (b .tile) (r * getD (b .lengths) (x .dimensions - 1) 0)) (x .dimensions) deep)
           ∙ add-assoc _ _ _
           ∙ ap (λ (a : ℕ). a * lengthOf x (x .dimensions - 1) + (boxPlace x (b .tile) (r * getD (b .lengths) (x .dimensions - 1) 0) (x .dimensions - 1) + y))
-          (rank-same (lengthOf x) (boxPlace x (b .tile) (r * getD (b .lengths) (x .dimensions - 1) 0)) (boxPlace x (b .tile) (r * getD (b .lengths) (x .dimensions - 1) 0 + y)) (x .dimensions - 1)
-          (λ j i. ap (λ (a : ℕ). tilePlace x (b .tile) j * tileLength x j + a) (sym (row-before (boxLength x (b .tile)) (x .dimensions) (r * getD (b .lengths) (x .dimensions - 1) 0) y deep k j i))))
-          ∙ ap (λ (a : ℕ). rank (lengthOf x) (boxPlace x (b .tile) (r * getD (b .lengths) (x .dimensions - 1) 0 + y)) (x .dimensions - 1) * lengthOf x (x .dimensions - 1) + a)
-          (add-assoc _ _ _ ∙ ap (λ (a : ℕ). tilePlace x (b .tile) (x .dimensions - 1) * tileLength x (x .dimensions - 1) + a) (sym (row-last (boxLength x (b .tile)) (x .dimensions) (r * getD (b .lengths) (x .dimensions - 1) 0) y deep k)))
+          (rank-same (lengthOf x) (boxPlace x (b .tile) (r * getD (b .lengths) (x .dimensions - 1) 0))
+          (boxPlace x (b .tile) (r * getD (b .lengths) (x .dimensions - 1) 0 + y)) (x .dimensions - 1)
+          (λ j i. ap (λ (a : ℕ). tilePlace x (b .tile) j * tileLength x j + a)
+          (sym (row-before (boxLength x (b .tile)) (x .dimensions) (r * getD (b .lengths) (x .dimensions - 1) 0) y deep k j i))))
+          ∙ ap (λ (a : ℕ). rank (lengthOf x) (boxPlace x (b .tile) (r * getD (b .lengths) (x .dimensions - 1) 0 + y)) (x .dimensions - 1) * lengthOf x
+          (x .dimensions - 1) + a)
+          (add-assoc _ _ _ ∙ ap (λ (a : ℕ). tilePlace x (b .tile) (x .dimensions - 1) * tileLength x (x .dimensions - 1) + a)
+          (sym (row-last (boxLength x (b .tile)) (x .dimensions) (r * getD (b .lengths) (x .dimensions - 1) 0) y deep k)))
           ∙ sym (rank-last (lengthOf x) (boxPlace x (b .tile) (r * getD (b .lengths) (x .dimensions - 1) 0 + y)) (x .dimensions) deep)
 
 -- ---- one row more
 
-module _ (x : Nest) (ok : Accepted x) (b : Bounds) (is : Bounded x b) (r rows w : ℕ) (e : rows ≡ product (nth (b .lengths)) (x .dimensions - 1)) (k : w ≡ getD (b .lengths) (x .dimensions - 1) 0) where
+module _ (x : Nest) (ok : Accepted x) (b : Bounds) (is : Bounded x b) (r rows w : ℕ) (e : rows ≡ product (nth (b .lengths)) (x .dimensions - 1))
+    (k : w ≡ getD (b .lengths) (x .dimensions - 1) 0) where
   pub box-all : rows * w ≡ b .size
   box-all = ap (λ (a : ℕ). a * w) e ∙ ap (λ (a : ℕ). product (nth (b .lengths)) (x .dimensions - 1) * a) k ∙ box-rows x ok b is
 
   pub box-in : r < rows → (r * w + w ≤ b .size) × (1 ≤ w)
-  box-in h = (omega (arith, row-in w r rows h, box-all), omega (arith, box-counts x ok b is .positive (x .dimensions - 1) (omega (arith, ok .dimensions-least))))
+  box-in h =
+      (omega (arith, row-in w r rows h, box-all), omega (arith, box-counts x ok b is .positive (x .dimensions - 1) (omega (arith, ok .dimensions-least))))
 
 -- all rows are done
 pub rows-end : (rows r w : ℕ) {n : ℕ} → rows ≤ r → rows * w ≡ n → n ≤ r * w
@@ -155,4 +172,10 @@ module _ (x : Nest) (ok : Accepted x) (b : Bounds) (is : Bounded x b) where
   pub row-fits : (r : ℕ) (q : Cell) → Located x (boxCell x (b .tile) (r * getD (b .lengths) (x .dimensions - 1) 0)) q
       → getD (q .place) (x .dimensions - 1) 0 + getD (b .lengths) (x .dimensions - 1) 0 ≤ lengthOf x (x .dimensions - 1)
   row-fits r q l =
-      omega (arith, l .place .each (x .dimensions - 1) (omega (arith, ok .dimensions-least)), boxCell-place x ok (b .tile) (r * getD (b .lengths) (x .dimensions - 1) 0) (x .dimensions - 1) (omega (arith, ok .dimensions-least)), box-width x ok b is r)
+      omega (
+        arith,
+        l .place .each (x .dimensions - 1) (omega (arith, ok .dimensions-least)),
+        boxCell-place x ok (b .tile)
+            (r * getD (b .lengths) (x .dimensions - 1) 0) (x .dimensions - 1) (omega (arith, ok .dimensions-least)),
+        box-width x ok b is r,
+      )

@@ -35,7 +35,15 @@ unfolding rank product
 rank-most N i zero p w = omega arith
 rank-most N i (suc l) p w =
     let ih = rank-most N i l (λ j h. p j (omega arith)) (λ j h. w j (omega arith)) in
-    omega (arith, w l (omega arith), mul-le-mul-right (N l) ih, mul-assoc l (product N l) (N l), mul-le-mul-right (N l) (product-pos N l (λ j h. p j (omega arith))), one-mul (N l), suc-mul l (product N l * N l))
+    omega (
+      arith,
+      w l (omega arith),
+      mul-le-mul-right (N l) ih,
+      mul-assoc l (product N l) (N l),
+      mul-le-mul-right (N l) (product-pos N l (λ j h. p j (omega arith))),
+      one-mul (N l),
+      suc-mul l (product N l * N l),
+    )
 
 -- ---- the product
 
@@ -115,7 +123,8 @@ placed-more N from r n (suc l) f h p =
     go q (inl e) = rw (e, place-last (nth N) l n) (p′ .rest l (omega arith) ∙ getD-set-same from l (getD from l 0 + n % getD N l 0) 0 (omega arith))
     go q (inr k) =
         rw (place-before (nth N) l n q k)
-        (p′ .first q k ∙ ap (λ (a : ℕ). a + place (nth N) l (n / getD N l 0) q) (getD-set-other from l q (getD from l 0 + n % getD N l 0) 0 (λ (e : q ≡ l). omega arith)))
+        (p′ .first q k ∙ ap (λ (a : ℕ). a + place (nth N) l (n / getD N l 0) q) (getD-set-other from l q (getD from l 0 + n % getD N l 0) 0
+        (λ (e : q ≡ l). omega arith)))
 
 pub product-prefix : (N : ℕ → ℕ) (l j : ℕ) → Positive N l → j ≤ l → product N j ≤ product N l
 unfolding product

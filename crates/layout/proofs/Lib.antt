@@ -2,6 +2,7 @@ pub mod Dims
 pub mod Loops
 pub mod Cells
 pub mod CellRows
+pub mod Processors
 pub mod Nested
 pub mod Shares
 pub mod Advance

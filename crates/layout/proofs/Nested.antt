@@ -87,7 +87,8 @@ module _ (x : Nest) (at f s n : ℕ → ℕ) (m : ℕ) (is : (j : ℕ) → j < m
   loops-at zero h c k j b = absurd (omega arith)
   loops-at (suc l) h c k j b =
       ap (λ (i : ℕ). getD (forEach (inner l) (loops x at l)) i (λ j. 0) j) (sym (div-add-mod' c (n l)))
-      ∙ ap (λ (t : ℕ → ℕ). t j) (forEach-at (inner l) (n l) (inner-length l h) (loops x at l) (c / n l) (c % n l) (λ j. 0) (λ j. 0) (omega (arith, loops-length l (omega arith), quotient)) rest ∙ inner-at l h (getD (loops x at l) (c / n l) (λ j. 0)) (c % n l) rest)
+      ∙ ap (λ (t : ℕ → ℕ). t j) (forEach-at (inner l) (n l) (inner-length l h) (loops x at l) (c / n l) (c % n l) (λ j. 0) (λ j. 0)
+      (omega (arith, loops-length l (omega arith), quotient)) rest ∙ inner-at l h (getD (loops x at l) (c / n l) (λ j. 0)) (c % n l) rest)
       ∙ go (eq-or-lt-of-le (le-of-suc-le-suc b)) (loops-at l (omega arith) (c / n l) quotient)
     where
       positive : 1 ≤ n l

@@ -4,7 +4,8 @@ use mathlib.Core.Path.{_≡_, refl, sym, ap, _∙_}
 use mathlib.Core.Logic.{_⊎_, inl, inr}
 use mathlib.Core.Bool.{Bool, true, false}
 use mathlib.Core.List.{List}
-use native.Mathlib.Nat.{add-div-right, add-mul, div-le-self, div-one, eq-or-lt-of-le, le-div-iff-mul-le, le-of-suc-le-suc, mod-eq-of-lt, mod-one, mul-assoc, mul-comm, mul-le-mul-left, mul-le-mul-right, mul-one, one-mul, suc-mul, zero-mul}
+use native.Mathlib.Nat.{add-div-right, add-mul, div-le-self, div-one, eq-or-lt-of-le, le-div-iff-mul-le, le-of-suc-le-suc, mod-eq-of-lt, mod-one}
+use native.Mathlib.Nat.{mul-assoc, mul-comm, mul-le-mul-left, mul-le-mul-right, mul-one, one-mul, suc-mul, zero-mul}
 use native.Mathlib.Decide.{decLt}
 use native.Mathlib.Omega.{arith}
 use lib.ListN.{length, getD, length-map}
@@ -101,7 +102,13 @@ weight-most a w b h e = omega (arith, mul-le-mul-right w h, one-mul w)
 module _ (b c p : ℕ) (spread : Bool) where
   pub shared-all : spread ≡ false → 1 ≤ b → Shared b (pick spread c 1) p (record { first = 0; stride = 1; tiles = b; rest = p })
   shared-all e h =
-      rw (pick-false spread c 1 e) (record { first = sym (mod-one p); stride-is = refl; tiles = sym (div-one _ ∙ omega (arith, mod-one p)); rest = sym (div-one p) })
+      rw (pick-false spread c 1 e) (record {
+        first = sym (mod-one p);
+        stride-is = refl;
+        tiles = sym (div-one _ ∙ omega (arith, mod-one p));
+        rest = sym
+            (div-one p);
+      })
 
   pub shared-some : spread ≡ true → Shared b (pick spread c 1) p (record { first = p % c; stride = c; tiles = (b - 1 + c - p % c) / c; rest = p / c })
   shared-some e = rw (pick-true spread c 1 e) (record { first = refl; stride-is = refl; tiles = refl; rest = refl })
@@ -146,7 +153,8 @@ module _ (counts across : List ℕ) (spread m p : ℕ) where
 
 pub no-tiles : (r : Route) (x : Nest) → Accepted x → (p : ℕ) → processors x ≤ p → length (tilesOf (boxPlan r x) p) ≡ 0
 unfolding those
-no-tiles r x ok p h = ap length (keep-nothing (λ t. eqb (processorOf x t) p) (boxTiles x) (λ t l. ne-eqb (processorOf x t) p (λ e. omega (arith, processorOf-low x ok t))))
+no-tiles r x ok p h =
+    ap length (keep-nothing (λ t. eqb (processorOf x t) p) (boxTiles x) (λ t l. ne-eqb (processorOf x t) p (λ e. omega (arith, processorOf-low x ok t))))
 
 module _ (route : Route) (x : Nest) (ok : Accepted x) (across : List ℕ) (a : Has across (tileCount x) (x .dimensions)) (p : ℕ) where
   abbrev N : ℕ → ℕ
@@ -188,7 +196,8 @@ module _ (route : Route) (x : Nest) (ok : Accepted x) (across : List ℕ) (a : H
   first-in zero j h k = absurd (omega arith)
   first-in (suc l) j h k = go (eq-or-lt-of-le h) (λ q. first-in l j q k)
     where
-      go : (x .spread ≡ suc l) ⊎ (x .spread < suc l) → (x .spread ≤ l → place S l p j ≡ place (processorCount x) (x .spread) p j) → place S (suc l) p j ≡ place (processorCount x) (x .spread) p j
+      go : (x .spread ≡ suc l) ⊎ (x .spread < suc l) → (x .spread ≤ l → place S l p j ≡ place (processorCount x) (x .spread) p j) → place S (suc l) p j
+          ≡ place (processorCount x) (x .spread) p j
       go (inl e) ih = ap (λ (i : ℕ). place S i p j) (sym e) ∙ place-lengths S (processorCount x) (x .spread) p j stride-in
       go (inr e) ih =
           let le : x .spread ≤ l = le-of-suc-le-suc e in
@@ -213,7 +222,8 @@ module _ (route : Route) (x : Nest) (ok : Accepted x) (across : List ℕ) (a : H
       go : Dec (j < x .spread) → tileLoop x at j ≡ values (F j) (S j) (M j)
       go (yes l) =
           pick-true _ _ _ (lt-ltb j (x .spread) l)
-          ∙ loop-same (mod-eq-of-lt (place-low (processorCount x) (x .spread) p (ok .manned) j l) ∙ sym (first-in (x .dimensions) j (omega (arith, ok .spread-low)) l)) (last-is j h) (sym (stride-in j l))
+          ∙ loop-same (mod-eq-of-lt (place-low (processorCount x) (x .spread) p (ok .manned) j l)
+          ∙ sym (first-in (x .dimensions) j (omega (arith, ok .spread-low)) l)) (last-is j h) (sym (stride-in j l))
       go (no l) =
           pick-false _ _ _ (le-ltb j (x .spread) (omega arith))
           ∙ loop-same (sym (first-out j h (omega arith))) (last-is j h) (sym (stride-out j (omega arith)))
@@ -226,12 +236,14 @@ module _ (route : Route) (x : Nest) (ok : Accepted x) (across : List ℕ) (a : H
       ∙ sym (length-map (loops x at (x .dimensions)) (tileAt x))
       ∙ ap length (loops-are-tiles x ok p route low)
 
-  pub tile-is : p < processors x → (f : ℕ) → f < product M (x .dimensions) → rank N (after (x .counts) across (x .spread) (x .dimensions) p f) (x .dimensions) ≡ getD (tilesOf (boxPlan route x) p) f 0
+  pub tile-is : p < processors x → (f : ℕ) → f < product M (x .dimensions) → rank N (after (x .counts) across (x .spread) (x .dimensions) p f)
+      (x .dimensions) ≡ getD (tilesOf (boxPlan route x) p) f 0
   unfolding tileAt
   tile-is low f h =
       rank-lengths N (tileCount x) _ (x .dimensions) (a .each)
       ∙ sym (rank-same (tileCount x) _ _ (x .dimensions) (loops-at x at F S M (x .dimensions) loop-is (x .dimensions) (omega arith) f h))
-      ∙ sym (map-at (tileAt x) (loops x at (x .dimensions)) f (λ j. 0) 0 (omega (arith, loops-length x at F S M (x .dimensions) loop-is (x .dimensions) (omega arith))))
+      ∙ sym (map-at (tileAt x) (loops x at (x .dimensions)) f (λ j. 0) 0
+      (omega (arith, loops-length x at F S M (x .dimensions) loop-is (x .dimensions) (omega arith))))
       ∙ ap (λ (l : List ℕ). getD l f 0) (loops-are-tiles x ok p route low)
 
   -- ---- counting them
@@ -243,10 +255,19 @@ module _ (route : Route) (x : Nest) (ok : Accepted x) (across : List ℕ) (a : H
   across-few = omega (arith, across-product x ok across a, box-few x ok)
 
   pub share-asks : (j : ℕ) → 0 < j → j ≤ x .dimensions
-      → (1 ≤ getD across (j - 1) 0) × ((getD across (j - 1) 0 ≤ 1024) × (ltb (j - 1) (x .spread) ≡ true → (1 ≤ getD (x .counts) (j - 1) 0) × (getD (x .counts) (j - 1) 0 ≤ 4096)))
+      → (1 ≤ getD across (j - 1) 0) × ((getD across (j - 1) 0 ≤ 1024) × (ltb (j - 1) (x .spread) ≡ true → (1 ≤ getD (x .counts) (j - 1) 0) ×
+      (getD (x .counts) (j - 1) 0 ≤ 4096)))
   share-asks j h k =
-      let l : j - 1 < x .dimensions = omega arith in
-      (across-pos (j - 1) l, (omega (arith, a .each (j - 1) l, count-most x ok (j - 1) l), λ t. (ok .manned (j - 1) (ltb-true _ _ t), count-few (j - 1) (ltb-true _ _ t))))
+      let l : j - 1 < x .dimensions = omega arith in (
+        across-pos (j - 1) l,
+        (
+          omega (arith, a .each (j - 1) l, count-most x ok (j - 1) l),
+          λ t. (
+            ok .manned (j - 1) (ltb-true _ _ t),
+            count-few (j - 1) (ltb-true _ _ t),
+          ),
+        ),
+      )
 
   abbrev C : ℕ → ℕ → ℕ → Type 0
   C = Counting (x .counts) across (x .spread) (x .dimensions) p
@@ -273,7 +294,9 @@ module _ (route : Route) (x : Nest) (ok : Accepted x) (across : List ℕ) (a : H
         low = omega (arith, c .low);
         peeled = rest-is l rest r (c .peeled) h;
         is = ap (λ (v : ℕ). n * v * product M l) (tiles-are l rest r (c .peeled) h) ∙ count-step n (M l) (product M l) (product M (x .dimensions)) (c .is);
-        few = rw (tiles-are l rest r (c .peeled) h) (few-step n (M l) (N l) (product N l) (product N (x .dimensions)) (share-most (N l) (S l) (F l) (across-pos l (c .low)) (stride-pos l)) (c .few));
+        few =
+            rw (tiles-are l rest r (c .peeled) h) (few-step n (M l) (N l) (product N l) (product N (x .dimensions))
+            (share-most (N l) (S l) (F l) (across-pos l (c .low)) (stride-pos l)) (c .few));
       }
 
   pub counting-more : (j rest n : ℕ) (r : Share) → 0 < j → C j rest n → Shared (N (j - 1)) (S (j - 1)) rest r → C (j - 1) (r .rest) (n * r .tiles)
@@ -282,7 +305,13 @@ module _ (route : Route) (x : Nest) (ok : Accepted x) (across : List ℕ) (a : H
 
   pub counting-few : (j rest n : ℕ) → C j rest n → n ≤ 16384
   counting-few j rest n c =
-      omega (arith, c .few, across-few, weight-most (product N j) n (product N j * n) (product-pos N j (λ i h. across-pos i (omega (arith, c .low)))) refl, mul-comm n (product N j))
+      omega (
+        arith,
+        c .few,
+        across-few,
+        weight-most (product N j) n (product N j * n) (product-pos N j (λ i h. across-pos i (omega (arith, c .low)))) refl,
+        mul-comm n (product N j),
+      )
 
   pub counting-end : p < processors x → (j rest n : ℕ) → C j rest n → j ≡ 0 → n ≡ length (tilesOf (boxPlan route x) p)
   unfolding product
@@ -342,7 +371,13 @@ module _ (route : Route) (x : Nest) (ok : Accepted x) (across : List ℕ) (a : H
           some = rw t (many-pos l (c .low));
           in-range = below;
           room = under-step tile v weight (N l) (c .under) below;
-          wide = omega (arith, weight-most (product N l) (weight * N l) (product N (x .dimensions)) (product-pos N l (λ i k. across-pos i (omega (arith, c .low)))) weighs, across-few);
+          wide =
+              omega (
+                arith,
+                weight-most (product N l) (weight * N l) (product N (x .dimensions))
+                    (product-pos N l (λ i k. across-pos i (omega (arith, c .low)))) weighs,
+                across-few,
+              );
           next =
               record {
                 low = omega (arith, c .low);
@@ -369,6 +404,7 @@ module _ (route : Route) (x : Nest) (ok : Accepted x) (across : List ℕ) (a : H
         weighs : product N l * (weight * N l) ≡ product N (x .dimensions)
         weighs = weight-step (product N l) (N l) weight (product N (x .dimensions)) (c .few)
 
-    pub finding-more : (j rest left weight tile : ℕ) (r : Share) → 0 < j → D j rest left weight tile → Shared (N (j - 1)) (S (j - 1)) rest r → T (j - 1) left weight tile r
+    pub finding-more : (j rest left weight tile : ℕ) (r : Share) → 0 < j → D j rest left weight tile → Shared (N (j - 1)) (S (j - 1)) rest r
+        → T (j - 1) left weight tile r
     finding-more zero rest left weight tile r h c e = absurd (omega arith)
     finding-more (suc l) rest left weight tile r h c e = let z : suc l - 1 ≡ l = omega arith in rw z (finding-step l rest left weight tile r c (rw z at e))

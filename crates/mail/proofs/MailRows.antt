@@ -61,23 +61,31 @@ unfolding routeOf
 plan-triangle = ap (planOf Direct) isTriangle
 
 rows-B : rowsTo (planOf Direct nestB) 2 ≡ 0 ∷ 2 ∷ 0 ∷ 1 ∷ 8 ∷ 0 ∷ 1 ∷ 3 ∷ 0 ∷ 1 ∷ 6 ∷ 8 ∷ []
-unfolding rowsTo rowOf offset _and_ _or_ pick every some keep product tileCount cells boxTiles rank place cellAt cellPlace tileAt tilePlace boxTileOf level raised meets inShape exists existing tiles inside directions ahead reaches taker messagesOf boxTile reachesShape shapedParcel follows shapedTaker shapedSlotTaker shapedHome shapedSlotParcel processorOf
+unfolding rowsTo rowOf offset _and_ _or_ pick every some keep product tileCount cells boxTiles rank place cellAt cellPlace tileAt tilePlace boxTileOf level
+    raised meets inShape exists existing tiles inside directions ahead reaches taker messagesOf boxTile reachesShape shapedParcel follows shapedTaker
+    shapedSlotTaker shapedHome shapedSlotParcel processorOf
 rows-B = refl
 
 on-D : tabulate (ownerOf (planOf Direct nestD)) 4 ≡ 0 ∷ 0 ∷ 1 ∷ 1 ∷ []
-unfolding tabulate _and_ _or_ pick every some keep product tileCount cells boxTiles rank place cellAt cellPlace tileAt tilePlace boxTileOf level raised meets inShape exists existing tileOf boxTile processorOf processors
+unfolding tabulate _and_ _or_ pick every some keep product tileCount cells boxTiles rank place cellAt cellPlace tileAt tilePlace boxTileOf level raised
+    meets inShape exists existing tileOf boxTile processorOf processors
 on-D = refl
 
 on-triangle : tabulate (ownerOf (planOf Direct nestTriangle)) 4 ≡ 0 ∷ 0 ∷ 2 ∷ 1 ∷ []
-unfolding tabulate _and_ _or_ pick every some keep product tileCount cells boxTiles rank place cellAt cellPlace tileAt tilePlace boxTileOf level raised meets inShape exists existing tileOf boxTile processorOf processors
+unfolding tabulate _and_ _or_ pick every some keep product tileCount cells boxTiles rank place cellAt cellPlace tileAt tilePlace boxTileOf level raised
+    meets inShape exists existing tileOf boxTile processorOf processors
 on-triangle = refl
 
 waits : waited (planOf Direct nestD) (fresh (planOf Direct nestD)) 1 ≡ waitsOf (1 ∷ []) (1 ∷ [])
-unfolding waited awaits fresh tabulate one not those offset _and_ _or_ pick every some keep product tileCount cells boxTiles rank place cellAt cellPlace tileAt tilePlace boxTileOf level raised meets inShape exists existing tiles inside directions ahead reaches taker messagesOf boxTile reachesShape shapedParcel follows shapedTaker shapedSlotTaker shapedHome shapedSlotParcel processorOf processors
+unfolding waited awaits fresh tabulate one not those offset _and_ _or_ pick every some keep product tileCount cells boxTiles rank place cellAt cellPlace
+    tileAt tilePlace boxTileOf level raised meets inShape exists existing tiles inside directions ahead reaches taker messagesOf boxTile reachesShape
+    shapedParcel follows shapedTaker shapedSlotTaker shapedHome shapedSlotParcel processorOf processors
 waits = refl
 
 goes : waited (planOf Direct nestD) (fresh (planOf Direct nestD)) 0 ≡ waitsOf (0 ∷ []) (0 ∷ [])
-unfolding waited awaits fresh tabulate one not those offset _and_ _or_ pick every some keep product tileCount cells boxTiles rank place cellAt cellPlace tileAt tilePlace boxTileOf level raised meets inShape exists existing tiles inside directions ahead reaches taker messagesOf boxTile reachesShape shapedParcel follows shapedTaker shapedSlotTaker shapedHome shapedSlotParcel processorOf processors
+unfolding waited awaits fresh tabulate one not those offset _and_ _or_ pick every some keep product tileCount cells boxTiles rank place cellAt cellPlace
+    tileAt tilePlace boxTileOf level raised meets inShape exists existing tiles inside directions ahead reaches taker messagesOf boxTile reachesShape
+    shapedParcel follows shapedTaker shapedSlotTaker shapedHome shapedSlotParcel processorOf processors
 goes = refl
 
 pub mail-rows : MailRows

@@ -1,5 +1,5 @@
 -- Laws of the cells' processors: a row has one, and the words of the rows passed.
-use Prim.Native.Nat.{ℕ, _+_, _*_, _-_, _/_, _≤_, _<_}
+use Prim.Native.Nat.{ℕ, _+_, _*_, _-_, _≤_, _<_}
 use mathlib.Core.Path.{_≡_, refl, sym, ap, _∙_}
 use mathlib.Core.Bool.{Bool, true, false}
 use mathlib.Core.List.{List}
@@ -18,7 +18,7 @@ use Rattle.base.proofs.Entries.{put-same, put-before}
 use Rattle.nest.specs.declared.Nest.{Nest}
 use Rattle.nest.specs.declared.Interval.{Interval}
 use Rattle.nest.specs.Accepted.{Accepted}
-use Rattle.nest.specs.Nest.{lengthOf, tileLength, cells, processors}
+use Rattle.nest.specs.Nest.{lengthOf, cells, processors}
 use Rattle.nest.specs.Places.{cellPlace, boxTileOf}
 use Rattle.nest.specs.Shape.{inShape}
 use Rattle.nest.specs.Spans.{last, within, Spans, Row}
@@ -26,9 +26,9 @@ use Rattle.nest.proofs.Shapes.{framed, cellPlace-row, span-row}
 use Rattle.plan.specs.declared.Route.the-variants.{Direct}
 use Rattle.plan.specs.Geometry.{processorOf}
 use Rattle.plan.specs.Shaped.{boxTile, tileOf, planOf}
-use Rattle.plan.proofs.Tiles.{tilePlace-boxTileOf, processorOf-same}
 use Rattle.plan.proofs.ShapedTiles.{boxTile-tileOf}
 use Rattle.layout.proofs.CellRows.{row-in, row-next}
+use Rattle.layout.proofs.Processors.{one-processor}
 use Rattle.stages.proofs.Parts.{Stored, store-start, stored-all, back, mid-length}
 use Rattle.mail.specs.Calls.{ownerOf}
 
@@ -59,15 +59,11 @@ module _ (x : Nest) (ok : Accepted x) where
   pub rows-few : (rows : ℕ) → rows * wide ≡ cells x → rows ≤ 16384
   rows-few rows e = omega (arith, mul-le-mul-left rows wide-some, ok .cells-most)
 
-  -- the last dimension is not spread
   row-processor : (q y : ℕ) → y < wide → processorOf x (boxTileOf x (q * wide + y)) ≡ processorOf x (boxTileOf x (q * wide))
   row-processor q y h =
-      processorOf-same x ok (boxTileOf x (q * wide + y)) (boxTileOf x (q * wide))
+      one-processor x ok (q * wide + y) (q * wide)
       (λ j l.
-      tilePlace-boxTileOf x ok (q * wide + y) j (omega (arith, ok .spread-low))
-      ∙ ap (λ (a : ℕ). a / tileLength x j)
-      (cellPlace-row x (framed x ok) q y j h (omega (arith, ok .spread-low)) ∙ pick-false _ _ _ (ne-eqb j (last x) (λ e. omega (arith, ok .spread-low))))
-      ∙ sym (tilePlace-boxTileOf x ok (q * wide) j (omega (arith, ok .spread-low))))
+      cellPlace-row x (framed x ok) q y j h (omega (arith, ok .spread-low)) ∙ pick-false _ _ _ (ne-eqb j (last x) (λ e. omega (arith, ok .spread-low))))
 
   -- by the numbers of the code
   module _ (q : ℕ) (at : List ℕ) (r : Row x q at) (s : Interval) (sp : Spans x at s) (t b none : ℕ) (tile : t ≡ boxTileOf x (q * wide))

@@ -279,7 +279,7 @@ pub fn awaited(
 // ---- taking a message in
 
 // As many words as message m has, where there is one.
-fn as_long(nest: Nest, sizes: Sizes, lens: &[u16; 9217], m: usize, words: usize) -> bool
+pub fn as_long(nest: Nest, sizes: Sizes, lens: &[u16; 9217], m: usize, words: usize) -> bool
     requires { ⌜ Planned nest sizes (now lens) ⌝ }
     ensures { λ r. ⌜ ((l : List ℕ) → words ≡ length l → r ≡ asLong (planOf (sizes .route) nest) m l) ⌝ }
 {
@@ -292,7 +292,7 @@ fn as_long(nest: Nest, sizes: Sizes, lens: &[u16; 9217], m: usize, words: usize)
 }
 
 // Words to words, one after the other.
-fn copy_words(to: &mut [u32], words: &[u32])
+pub fn copy_words(to: &mut [u32], words: &[u32])
     requires { ⌜ length (now to) ≡ length (now words) ⌝ }
     ensures { λ _. ⌜ now (to .exit) ≡ now (words .entry) ⌝ }
 {

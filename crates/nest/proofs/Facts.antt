@@ -24,7 +24,8 @@ use Rattle.base.specs.Lists.{Bytes}
 use Rattle.nest.specs.Reader.{half, kind, records, ofKind, distancesOf, slopeAt, filled, nestBy, nestOf, ragged, boundFits, checked, mayStand, fitsAt}
 use Rattle.nest.specs.Reader.{strayRecord, outside, badLength, tooLarge, noCell, beyond, faulty, badDistance, reached, badTile, isSpread, badSpread}
 use Rattle.nest.specs.Reader.{lastSpread, badProcessors, tooManyTiles, nestLines, readLines}
-use Rattle.nest.proofs.Laws.{Formed, formed, front-kept, filled-length, filled-at, filled-in, filled-out, filled-below, half-small, word-small, weight-small, stands-bound, stands-last, checked-close, checked-bound}
+use Rattle.nest.proofs.Laws.{Formed, formed, front-kept, filled-length, filled-at, filled-in, filled-out, filled-below, half-small, word-small}
+use Rattle.nest.proofs.Laws.{weight-small, stands-bound, stands-last, checked-close, checked-bound}
 
 pub inside-range : (v : ℕ) → outside v ≡ false → (1 ≤ v) × (v ≤ 1024)
 unfolding outside
@@ -272,7 +273,8 @@ module _ (bytes : List ℕ) (n m e : ℕ) where
   unfolding nestBy
   boundary-small b = word-small bytes b _
 
-  pub sizes-are : (nestBy bytes n m e .dimensions ≡ n) × (nestBy bytes n m e .distances ≡ e) × (nestBy bytes n m e .shift ≡ getD bytes (16 * (n + m + e) + 1) 0) × (nestBy bytes n m e .bounds ≡ m)
+  pub sizes-are : (nestBy bytes n m e .dimensions ≡ n) × (nestBy bytes n m e .distances ≡ e) × (nestBy bytes n m e .shift ≡ getD bytes (16 * (n + m + e) + 1)
+      0) × (nestBy bytes n m e .bounds ≡ m)
   unfolding nestBy
   sizes-are = (refl, refl, refl, refl)
 

@@ -58,7 +58,9 @@ add-pos a c d = go (decLt c d)
   where
     go : Dec (c < d) → pos a +ℤ subℕ c d ≡ subℕ (a + c) d
     go (yes h) = ap (λ (z : ℤ). pos a +ℤ z) (sub-neg c d h) ∙ sub-same a (suc (d - suc c)) (a + c) d (omega arith)
-    go (no h) = ap (λ (z : ℤ). pos a +ℤ z) (sub-pos c d (omega arith)) ∙ (ap pos {x = a + (c - d)} {y = a + c - d} (omega arith) ∙ sym (sub-pos (a + c) d (omega arith)))
+    go (no h) =
+        ap (λ (z : ℤ). pos a +ℤ z) (sub-pos c d (omega arith)) ∙ (ap pos {x = a + (c - d)} {y = a + c - d} (omega arith)
+        ∙ sym (sub-pos (a + c) d (omega arith)))
 
 add-neg : (a c d : ℕ) → negℤ (pos a) +ℤ subℕ c d ≡ subℕ c (a + d)
 add-neg zero c d = add-pos 0 c d ∙ sub-same (0 + c) d c (0 + d) (omega arith)
@@ -109,10 +111,13 @@ pub slope-signed : (b : ℕ) → b < 256 → (b + 1) % 256 ≤ 2 → subℕ ((b 
 slope-signed b h l = go (decLt b 128)
   where
     go : Dec (b < 128) → subℕ ((b + 1) % 256) 1 ≡ pick (ltb b 128) (pos b) (negsuc (255 - b))
-    go (yes k) = sub-pos ((b + 1) % 256) 1 (omega arith) ∙ (ap pos {x = (b + 1) % 256 - 1} {y = b} (omega arith) ∙ sym (pick-true (ltb b 128) (pos b) (negsuc (255 - b)) (lt-ltb b 128 k)))
+    go (yes k) =
+        sub-pos ((b + 1) % 256) 1 (omega arith) ∙ (ap pos {x = (b + 1) % 256 - 1} {y = b} (omega arith)
+        ∙ sym (pick-true (ltb b 128) (pos b) (negsuc (255 - b)) (lt-ltb b 128 k)))
     go (no k) =
         sub-neg ((b + 1) % 256) 1 (omega arith)
-        ∙ (ap negsuc {x = 1 - suc ((b + 1) % 256)} {y = 255 - b} (omega arith) ∙ sym (pick-false (ltb b 128) (pos b) (negsuc (255 - b)) (le-ltb b 128 (omega arith))))
+        ∙ (ap negsuc {x = 1 - suc ((b + 1) % 256)} {y = 255 - b} (omega arith)
+        ∙ sym (pick-false (ltb b 128) (pos b) (negsuc (255 - b)) (le-ltb b 128 (omega arith))))
 
 pub offset-signed : (v : ℕ) → v < 65536 → subℕ ((v + 32768) % 65536) 32768 ≡ pick (ltb v 32768) (pos v) (negsuc (65535 - v))
 offset-signed v h = go (decLt v 32768)
@@ -123,4 +128,5 @@ offset-signed v h = go (decLt v 32768)
         ∙ (ap pos {x = (v + 32768) % 65536 - 32768} {y = v} (omega arith) ∙ sym (pick-true (ltb v 32768) (pos v) (negsuc (65535 - v)) (lt-ltb v 32768 k)))
     go (no k) =
         sub-neg ((v + 32768) % 65536) 32768 (omega arith)
-        ∙ (ap negsuc {x = 32768 - suc ((v + 32768) % 65536)} {y = 65535 - v} (omega arith) ∙ sym (pick-false (ltb v 32768) (pos v) (negsuc (65535 - v)) (le-ltb v 32768 (omega arith))))
+        ∙ (ap negsuc {x = 32768 - suc ((v + 32768) % 65536)} {y = 65535 - v} (omega arith) ∙ sym (pick-false (ltb v 32768) (pos v) (negsuc (65535 - v))
+        (le-ltb v 32768 (omega arith))))

@@ -66,7 +66,8 @@ quick-nest needless x =
     behind 3 (badLength x) _ _ (λ h3.
     behind 4 (tooLarge x) _ _ (λ h4.
     behind 18 needless _ _ (λ h18.
-    ap (λ (t : Bool). firstOf (line 20 t ∷ line 5 (badDistance x) ∷ line 6 (badTile x) ∷ line 16 (badSpread x) ∷ line 17 (lastSpread x) ∷ line 7 (badProcessors x) ∷ line 8 (tooManyTiles x) ∷ [])) (cell-same x h3)
+    ap (λ (t : Bool). firstOf (line 20 t ∷ line 5 (badDistance x) ∷ line 6 (badTile x) ∷ line 16 (badSpread x) ∷ line 17 (lastSpread x)
+    ∷ line 7 (badProcessors x) ∷ line 8 (tooManyTiles x) ∷ [])) (cell-same x h3)
     ∙ behind 20 (quickCell x) _ _ (λ h20.
     behind 5 (badDistance x) _ _ (λ h5.
     behind 6 (badTile x) _ _ (λ h6.

@@ -16,12 +16,16 @@ use Rattle.nest.proofs.Quick.{told, quick, quick-all}
 
 pub numbers : told (rowA ∷ rowB ∷ rowC ∷ rowD ∷ rowE ∷ rowF ∷ rowG ∷ rowH ∷ rowLater ∷ [])
     ≡ 0 ∷ 0 ∷ 0 ∷ 0 ∷ 0 ∷ 0 ∷ 0 ∷ 0 ∷ 0 ∷ []
-unfolding firstOf _and_ _or_ not pick every some keep those tabulate product rank place cellPlace tileAt boxTileOf tileCount cells boxTiles processors level raised meets inShape exists existing tiles ofKind filled nestBy nestOf ragged blank boundFits checked mayStand fitsAt wellFormed strayRecord outside badLength tooLarge needlesslyWide noCell same beyond faulty badDistance reached badTile badSpread lastSpread badProcessors tooManyTiles
+unfolding firstOf _and_ _or_ not pick every some keep those tabulate product rank place cellPlace tileAt boxTileOf tileCount cells boxTiles processors level
+    raised meets inShape exists existing tiles ofKind filled nestBy nestOf ragged blank boundFits checked mayStand fitsAt wellFormed strayRecord outside
+    badLength tooLarge needlesslyWide noCell same beyond faulty badDistance reached badTile badSpread lastSpread badProcessors tooManyTiles
 numbers = quick-all _ ∙ refl
 
 -- two faults, a distance of zeros and a tile length 0: the first line counts
 pub first-counts : firstOf (readLines (dimension 4 0 2 ++ dimension 1 1 0 ++ distance 0 0 0 ++ close)) ≡ 5
-unfolding firstOf _and_ _or_ not pick every some keep those tabulate product rank place cellPlace tileAt boxTileOf tileCount cells boxTiles processors level raised meets inShape exists existing tiles ofKind filled nestBy nestOf ragged blank boundFits checked mayStand fitsAt wellFormed strayRecord outside badLength tooLarge needlesslyWide noCell same beyond faulty badDistance reached badTile badSpread lastSpread badProcessors tooManyTiles
+unfolding firstOf _and_ _or_ not pick every some keep those tabulate product rank place cellPlace tileAt boxTileOf tileCount cells boxTiles processors level
+    raised meets inShape exists existing tiles ofKind filled nestBy nestOf ragged blank boundFits checked mayStand fitsAt wellFormed strayRecord outside
+    badLength tooLarge needlesslyWide noCell same beyond faulty badDistance reached badTile badSpread lastSpread badProcessors tooManyTiles
 first-counts = quick _ ∙ refl
 
 -- row B's distance is (2,1): tiles of 2 by 1 hold it, tiles one shorter in either dimension do not
@@ -30,7 +34,9 @@ pub reach-counts : told
     ∷ (dimension 8 1 2 ++ dimension 8 1 0 ++ distance 2 1 0 ++ close)
     ∷ (dimension 8 2 2 ++ dimension 8 1 0 ++ distance 2 2 0 ++ close) ∷ [])
     ≡ 0 ∷ 6 ∷ 6 ∷ []
-unfolding firstOf _and_ _or_ not pick every some keep those tabulate product rank place cellPlace tileAt boxTileOf tileCount cells boxTiles processors level raised meets inShape exists existing tiles ofKind filled nestBy nestOf ragged blank boundFits checked mayStand fitsAt wellFormed strayRecord outside badLength tooLarge needlesslyWide noCell same beyond faulty badDistance reached badTile badSpread lastSpread badProcessors tooManyTiles
+unfolding firstOf _and_ _or_ not pick every some keep those tabulate product rank place cellPlace tileAt boxTileOf tileCount cells boxTiles processors level
+    raised meets inShape exists existing tiles ofKind filled nestBy nestOf ragged blank boundFits checked mayStand fitsAt wellFormed strayRecord outside
+    badLength tooLarge needlesslyWide noCell same beyond faulty badDistance reached badTile badSpread lastSpread badProcessors tooManyTiles
 reach-counts = quick-all _ ∙ refl
 
 -- the counts of two dimensions of a length, the first of a tile length, and of four
@@ -44,27 +50,35 @@ pub counts-told : told
     (twos 4 2 0 0 ∷ twos 4 2 2 2 ∷ twos 4 2 65 0 ∷ twos 4 2 64 0
     ∷ fours 2 0 2 0 ∷ fours 2 0 0 2 ∷ fours 2 2 0 2 ∷ fours 2 2 2 2 ∷ fours 8 4 4 0 ∷ fours 4 4 4 0 ∷ [])
     ≡ 16 ∷ 17 ∷ 7 ∷ 0 ∷ 16 ∷ 16 ∷ 16 ∷ 17 ∷ 7 ∷ 0 ∷ []
-unfolding firstOf _and_ _or_ not pick every some keep those tabulate product rank place cellPlace tileAt boxTileOf tileCount cells boxTiles processors level raised meets inShape exists existing tiles ofKind filled nestBy nestOf ragged blank boundFits checked mayStand fitsAt wellFormed strayRecord outside badLength tooLarge needlesslyWide noCell same beyond faulty badDistance reached badTile badSpread lastSpread badProcessors tooManyTiles
+unfolding firstOf _and_ _or_ not pick every some keep those tabulate product rank place cellPlace tileAt boxTileOf tileCount cells boxTiles processors level
+    raised meets inShape exists existing tiles ofKind filled nestBy nestOf ragged blank boundFits checked mayStand fitsAt wellFormed strayRecord outside
+    badLength tooLarge needlesslyWide noCell same beyond faulty badDistance reached badTile badSpread lastSpread badProcessors tooManyTiles
 counts-told = quick-all _ ∙ refl
 
 -- a count of 1 is a count like any other: in one spread dimension, first, middle or last, or in all; 16, 17 and the product stay
 pub ones-told : told
     (twos 4 2 1 0 ∷ fours 1 6 0 0 ∷ fours 1 2 2 0 ∷ fours 2 1 2 0 ∷ fours 2 2 1 0 ∷ fours 1 1 1 0 ∷ fours 1 64 1 0 ∷ [])
     ≡ 0 ∷ 0 ∷ 0 ∷ 0 ∷ 0 ∷ 0 ∷ 0 ∷ []
-unfolding firstOf _and_ _or_ not pick every some keep those tabulate product rank place cellPlace tileAt boxTileOf tileCount cells boxTiles processors level raised meets inShape exists existing tiles ofKind filled nestBy nestOf ragged blank boundFits checked mayStand fitsAt wellFormed strayRecord outside badLength tooLarge needlesslyWide noCell same beyond faulty badDistance reached badTile badSpread lastSpread badProcessors tooManyTiles
+unfolding firstOf _and_ _or_ not pick every some keep those tabulate product rank place cellPlace tileAt boxTileOf tileCount cells boxTiles processors level
+    raised meets inShape exists existing tiles ofKind filled nestBy nestOf ragged blank boundFits checked mayStand fitsAt wellFormed strayRecord outside
+    badLength tooLarge needlesslyWide noCell same beyond faulty badDistance reached badTile badSpread lastSpread badProcessors tooManyTiles
 ones-told = quick-all _ ∙ refl
 
 pub ones-refused : told
     (twos 4 2 0 1 ∷ twos 4 2 1 1 ∷ fours 1 0 1 0 ∷ fours 1 1 1 1 ∷ fours 1 65 0 0 ∷ fours 65 1 1 0 ∷ fours 1 8 9 0 ∷ [])
     ≡ 16 ∷ 17 ∷ 16 ∷ 17 ∷ 7 ∷ 7 ∷ 7 ∷ []
-unfolding firstOf _and_ _or_ not pick every some keep those tabulate product rank place cellPlace tileAt boxTileOf tileCount cells boxTiles processors level raised meets inShape exists existing tiles ofKind filled nestBy nestOf ragged blank boundFits checked mayStand fitsAt wellFormed strayRecord outside badLength tooLarge needlesslyWide noCell same beyond faulty badDistance reached badTile badSpread lastSpread badProcessors tooManyTiles
+unfolding firstOf _and_ _or_ not pick every some keep those tabulate product rank place cellPlace tileAt boxTileOf tileCount cells boxTiles processors level
+    raised meets inShape exists existing tiles ofKind filled nestBy nestOf ragged blank boundFits checked mayStand fitsAt wellFormed strayRecord outside
+    badLength tooLarge needlesslyWide noCell same beyond faulty badDistance reached badTile badSpread lastSpread badProcessors tooManyTiles
 ones-refused = quick-all _ ∙ refl
 
 -- a tile length 0 counts before each of them, and each of them before 2,048 tiles
 pub counts-between : told
     (twos 4 0 0 1 ∷ twos 4 0 1 1 ∷ twos 4 0 65 0 ∷ twos 64 2 0 1 ∷ twos 64 2 1 1 ∷ twos 64 2 65 0 ∷ twos 64 2 1 0 ∷ [])
     ≡ 6 ∷ 6 ∷ 6 ∷ 16 ∷ 17 ∷ 7 ∷ 8 ∷ []
-unfolding firstOf _and_ _or_ not pick every some keep those tabulate product rank place cellPlace tileAt boxTileOf tileCount cells boxTiles processors level raised meets inShape exists existing tiles ofKind filled nestBy nestOf ragged blank boundFits checked mayStand fitsAt wellFormed strayRecord outside badLength tooLarge needlesslyWide noCell same beyond faulty badDistance reached badTile badSpread lastSpread badProcessors tooManyTiles
+unfolding firstOf _and_ _or_ not pick every some keep those tabulate product rank place cellPlace tileAt boxTileOf tileCount cells boxTiles processors level
+    raised meets inShape exists existing tiles ofKind filled nestBy nestOf ragged blank boundFits checked mayStand fitsAt wellFormed strayRecord outside
+    badLength tooLarge needlesslyWide noCell same beyond faulty badDistance reached badTile badSpread lastSpread badProcessors tooManyTiles
 counts-between = quick-all _ ∙ refl
 
 -- a long dimension on two processors, a distance of kind 4 and weight 1, a channel of 600 cells with tiles of 400
@@ -96,7 +110,9 @@ pub far-told : told
     ∷ channel (far 401 0 0) ∷ most 1024 ∷ most 1025 ∷ channel (far 255 256 0) ∷ channel eight ∷ channel (eight ++ far 303 0 0)
     ∷ (dimension 4 2 2 ++ dimension 1 1 0 ++ far 257 0 0 ++ close) ∷ [])
     ≡ 0 ∷ 0 ∷ 0 ∷ 0 ∷ 6 ∷ 0 ∷ 6 ∷ 6 ∷ 0 ∷ 2 ∷ 6 ∷ []
-unfolding firstOf _and_ _or_ not pick every some keep those tabulate product rank place cellPlace tileAt boxTileOf tileCount cells boxTiles processors level raised meets inShape exists existing tiles ofKind filled nestBy nestOf ragged blank boundFits checked mayStand fitsAt wellFormed strayRecord outside badLength tooLarge needlesslyWide noCell same beyond faulty badDistance reached badTile badSpread lastSpread badProcessors tooManyTiles
+unfolding firstOf _and_ _or_ not pick every some keep those tabulate product rank place cellPlace tileAt boxTileOf tileCount cells boxTiles processors level
+    raised meets inShape exists existing tiles ofKind filled nestBy nestOf ragged blank boundFits checked mayStand fitsAt wellFormed strayRecord outside
+    badLength tooLarge needlesslyWide noCell same beyond faulty badDistance reached badTile badSpread lastSpread badProcessors tooManyTiles
 far-told = quick-all _ ∙ refl
 
 -- byte 11 is the weight's; bytes 1, 12 and 15 have no name; kind 4 before the dimensions, behind the close
@@ -105,7 +121,9 @@ pub far-stray : told
     ∷ channel (4 ∷ 0 ∷ 44 ∷ 1 ∷ replicate 8 0 ++ (1 ∷ replicate 3 0)) ∷ channel (4 ∷ 0 ∷ 44 ∷ 1 ∷ replicate 11 0 ++ (1 ∷ []))
     ∷ (far 300 0 0 ++ channel (distance 1 0 0)) ∷ (channel (distance 1 0 0) ++ far 300 0 0) ∷ [])
     ≡ 0 ∷ 2 ∷ 2 ∷ 2 ∷ 2 ∷ 2 ∷ []
-unfolding firstOf _and_ _or_ not pick every some keep those tabulate product rank place cellPlace tileAt boxTileOf tileCount cells boxTiles processors level raised meets inShape exists existing tiles ofKind filled nestBy nestOf ragged blank boundFits checked mayStand fitsAt wellFormed strayRecord outside badLength tooLarge needlesslyWide noCell same beyond faulty badDistance reached badTile badSpread lastSpread badProcessors tooManyTiles
+unfolding firstOf _and_ _or_ not pick every some keep those tabulate product rank place cellPlace tileAt boxTileOf tileCount cells boxTiles processors level
+    raised meets inShape exists existing tiles ofKind filled nestBy nestOf ragged blank boundFits checked mayStand fitsAt wellFormed strayRecord outside
+    badLength tooLarge needlesslyWide noCell same beyond faulty badDistance reached badTile badSpread lastSpread badProcessors tooManyTiles
 far-stray = quick-all _ ∙ refl
 
 -- 18 where each component fits a byte: before 5 for zeros, a copy of kind 2, another distance of zeros, and behind 4;
@@ -114,7 +132,9 @@ pub far-between : told
     (channel (far 255 1 0) ∷ channel (far 0 0 0) ∷ channel (distance 1 0 0 ++ far 1 0 0) ∷ channel (distance 0 0 0 ++ far 1 0 0)
     ∷ (long 600 400 ++ dimension 100 2 0 ++ far 1 0 0 ++ close) ∷ channel (far 300 0 0 ++ far 300 0 0) ∷ channel (far 0 0 300) ∷ [])
     ≡ 18 ∷ 18 ∷ 18 ∷ 18 ∷ 4 ∷ 5 ∷ 5 ∷ []
-unfolding firstOf _and_ _or_ not pick every some keep those tabulate product rank place cellPlace tileAt boxTileOf tileCount cells boxTiles processors level raised meets inShape exists existing tiles ofKind filled nestBy nestOf ragged blank boundFits checked mayStand fitsAt wellFormed strayRecord outside badLength tooLarge needlesslyWide noCell same beyond faulty badDistance reached badTile badSpread lastSpread badProcessors tooManyTiles
+unfolding firstOf _and_ _or_ not pick every some keep those tabulate product rank place cellPlace tileAt boxTileOf tileCount cells boxTiles processors level
+    raised meets inShape exists existing tiles ofKind filled nestBy nestOf ragged blank boundFits checked mayStand fitsAt wellFormed strayRecord outside
+    badLength tooLarge needlesslyWide noCell same beyond faulty badDistance reached badTile badSpread lastSpread badProcessors tooManyTiles
 far-between = quick-all _ ∙ refl
 
 pub tile-totals : map (λ (b : List ℕ). boxTiles (nestOf b)) (rowA ∷ rowB ∷ rowC ∷ rowD ∷ rowE ∷ rowF ∷ rowG ∷ rowH ∷ [])

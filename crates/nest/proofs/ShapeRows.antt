@@ -58,7 +58,8 @@ cells-left = refl
 pub tiles-left : (map (λ (b : List ℕ). existing (nestOf (square b))) (least ∷ falling ∷ beyond-two ∷ [])
     ≡ (0 ∷ 1 ∷ 3 ∷ []) ∷ (0 ∷ 1 ∷ 2 ∷ []) ∷ (1 ∷ 3 ∷ []) ∷ [])
     × (map (λ (b : List ℕ). tiles (nestOf (square b))) (least ∷ falling ∷ beyond-two ∷ nothing ∷ []) ≡ 3 ∷ 3 ∷ 2 ∷ 0 ∷ [])
-unfolding _and_ _or_ pick every some keep those tabulate product rank place cellPlace tileAt boxTileOf tileCount cells boxTiles level raised meets inShape exists existing tiles ofKind filled nestBy nestOf
+unfolding _and_ _or_ pick every some keep those tabulate product rank place cellPlace tileAt boxTileOf tileCount cells boxTiles level raised meets inShape
+    exists existing tiles ofKind filled nestBy nestOf
 tiles-left = (refl, refl)
 
 -- bounds that leave cells, four of them, all the same; five; each fault of a bound: its side, its dimension, its earlier dimension, equal
@@ -67,10 +68,13 @@ pub bounds-told : told
     (square least ∷ square (least ++ most ++ band ++ falling) ∷ square (least ++ least ++ least ++ least) ∷ square (least ++ least ++ least ++ least ++ least)
     ∷ square (bound 2 1 0 1 0 0) ∷ square (bound 0 2 0 1 0 0) ∷ square (bound 0 1 1 1 0 0) ∷ square (bound 0 0 0 0 0 0)
     ∷ square (bound 0 1 0 2 0 0) ∷ square (bound 0 1 0 254 0 0)
-    ∷ square (5 ∷ 0 ∷ 1 ∷ 0 ∷ 1 ∷ 1 ∷ replicate 10 0) ∷ square (5 ∷ 0 ∷ 1 ∷ 0 ∷ 1 ∷ 0 ∷ 0 ∷ 0 ∷ 1 ∷ replicate 7 0) ∷ square (5 ∷ 0 ∷ 1 ∷ 0 ∷ 1 ∷ replicate 10 0 ++ (1 ∷ []))
+    ∷ square (5 ∷ 0 ∷ 1 ∷ 0 ∷ 1 ∷ 1 ∷ replicate 10 0) ∷ square (5 ∷ 0 ∷ 1 ∷ 0 ∷ 1 ∷ 0 ∷ 0 ∷ 0 ∷ 1 ∷ replicate 7 0)
+    ∷ square (5 ∷ 0 ∷ 1 ∷ 0 ∷ 1 ∷ replicate 10 0 ++ (1 ∷ []))
     ∷ (least ++ square []) ∷ square (distance 0 1 0 ++ least) ∷ (square [] ++ least) ∷ [])
     ≡ 0 ∷ 0 ∷ 0 ∷ 2 ∷ 2 ∷ 2 ∷ 2 ∷ 2 ∷ 2 ∷ 2 ∷ 2 ∷ 2 ∷ 2 ∷ 2 ∷ 2 ∷ 2 ∷ []
-unfolding firstOf _and_ _or_ not pick every some keep those tabulate product rank place cellPlace tileAt boxTileOf tileCount cells boxTiles processors level raised meets inShape exists existing tiles ofKind filled nestBy nestOf ragged blank boundFits checked mayStand fitsAt wellFormed strayRecord outside badLength tooLarge needlesslyWide noCell same beyond faulty badDistance reached badTile badSpread lastSpread badProcessors tooManyTiles
+unfolding firstOf _and_ _or_ not pick every some keep those tabulate product rank place cellPlace tileAt boxTileOf tileCount cells boxTiles processors level
+    raised meets inShape exists existing tiles ofKind filled nestBy nestOf ragged blank boundFits checked mayStand fitsAt wellFormed strayRecord outside
+    badLength tooLarge needlesslyWide noCell same beyond faulty badDistance reached badTile badSpread lastSpread badProcessors tooManyTiles
 bounds-told = quick-all _ ∙ refl
 
 -- 20 where no cell is left, by one bound or by two: before 5 for a distance of zeros, behind 18 and behind 4
@@ -78,5 +82,7 @@ pub shape-between : told
     (square nothing ∷ square (most ++ bound 0 1 0 1 1 0) ∷ square (nothing ++ distance 0 0 0) ∷ square (nothing ++ far 1 0 0)
     ∷ (dimension 200 2 2 ++ dimension 200 2 0 ++ nothing ++ distance 1 0 0 ++ close) ∷ square (least ++ distance 0 0 0) ∷ [])
     ≡ 20 ∷ 20 ∷ 20 ∷ 18 ∷ 4 ∷ 5 ∷ []
-unfolding firstOf _and_ _or_ not pick every some keep those tabulate product rank place cellPlace tileAt boxTileOf tileCount cells boxTiles processors level raised meets inShape exists existing tiles ofKind filled nestBy nestOf ragged blank boundFits checked mayStand fitsAt wellFormed strayRecord outside badLength tooLarge needlesslyWide noCell same beyond faulty badDistance reached badTile badSpread lastSpread badProcessors tooManyTiles
+unfolding firstOf _and_ _or_ not pick every some keep those tabulate product rank place cellPlace tileAt boxTileOf tileCount cells boxTiles processors level
+    raised meets inShape exists existing tiles ofKind filled nestBy nestOf ragged blank boundFits checked mayStand fitsAt wellFormed strayRecord outside
+    badLength tooLarge needlesslyWide noCell same beyond faulty badDistance reached badTile badSpread lastSpread badProcessors tooManyTiles
 shape-between = quick-all _ ∙ refl

@@ -4,7 +4,8 @@ use mathlib.Core.Path.{_≡_, refl, sym, ap, _∙_}
 use mathlib.Core.Logic.{_⊎_, inl, inr, _≢_}
 use mathlib.Core.Bool.{Bool, true, false}
 use mathlib.Core.List.{List, [], _∷_, _++_}
-use native.Mathlib.Nat.{mul-le-mul, mul-le-mul-right, suc-mul, zero-mul, one-mul, mul-zero, mod-eq-of-lt, mul-add-div-right, mul-add-mod-self-right, div-eq-of-lt, div-mul-le-self, mul-div-cancel, zero-div, lt-div-mul-add, div-le-self}
+use native.Mathlib.Nat.{mul-le-mul, mul-le-mul-right, suc-mul, zero-mul, one-mul, mul-zero, mod-eq-of-lt, mul-add-div-right, mul-add-mod-self-right}
+use native.Mathlib.Nat.{div-eq-of-lt, div-mul-le-self, mul-div-cancel, zero-div, lt-div-mul-add, div-le-self}
 use native.Mathlib.Decide.{decLt, decLe, ℕ-discrete}
 use native.Mathlib.Omega.{arith}
 use native.Mathlib.Numerals.{add-one}
@@ -12,7 +13,8 @@ use lib.ListN.{length, getD, replicate, length-replicate, getD-replicate, List·
 use lib.Dec.{eqb, ltb, leb}
 use borrow.Author.Tests.{lt-ltb, le-ltb, le-leb, lt-leb, eq-eqb, ne-eqb, leb-true, ltb-true, eqb-true}
 use Rattle.base.specs.Tests.{_and_, _or_, pick, every, some, keep, tabulate, product}
-use Rattle.base.proofs.Tests.{both, and-true, and-false, and-no, either, or-left, or-right, same-test, is-false, never-both, every-at, every-all, some-at, some-one, some-same, some-none, none-some, pick-true, pick-false, length-tabulate}
+use Rattle.base.proofs.Tests.{both, and-true, and-false, and-no, either, or-left, or-right, same-test, is-false, never-both, every-at, every-all}
+use Rattle.base.proofs.Tests.{some-at, some-one, some-same, some-none, none-some, pick-true, pick-false, length-tabulate}
 use Rattle.base.proofs.Select.{keep-same, keep-few, keep-hit}
 use Rattle.nest.specs.declared.Nest.{Nest}
 use Rattle.nest.specs.declared.Interval.{Interval}
@@ -60,7 +62,8 @@ place-row N l q a j low h = go (ℕ-discrete j l)
 
     go : Dec (j ≡ l) → place N (suc l) (q * N l + a) j ≡ pick (eqb j l) a (place N l q j)
     go (yes e) =
-        rw e (place-last N l (q * N l + a) ∙ (mul-add-mod-self-right q (N l) a ∙ (mod-eq-of-lt low ∙ sym (pick-true (eqb l l) a (place N l q l) (eq-eqb l l refl)))))
+        rw e (place-last N l (q * N l + a)
+        ∙ (mul-add-mod-self-right q (N l) a ∙ (mod-eq-of-lt low ∙ sym (pick-true (eqb l l) a (place N l q l) (eq-eqb l l refl)))))
     go (no e) =
         let z : (q * N l + a) / N l ≡ q = omega (arith, mul-add-div-right pos q a, div-eq-of-lt low) in
         place-before N l (q * N l + a) j (omega arith) ∙ (ap (λ (c : ℕ). place N l c j) z ∙ sym (pick-false (eqb j l) a (place N l q j) (ne-eqb j l e)))
@@ -146,7 +149,8 @@ module _ (f k low high u n : ℕ) (pos : 1 ≤ k) (h : low < high) (m : high ≤
           let t1 : suc (low / k) * k ≤ (u - f) * k = mul-le-mul-right k one-more in
           let t2 : (u - f) * k ≤ (high - 1) / k * k = mul-le-mul-right k (omega arith) in
           let t3 : (u - f) * k / k ≡ u - f = mul-div-cancel (u - f) pos in
-          hit ((u - f) * k) (omega (arith, suc-mul (low / k) k, lt-div-mul-add {a = low} {b = k} pos)) (omega (arith, div-mul-le-self (high - 1) k)) (omega arith)
+          hit ((u - f) * k) (omega (arith, suc-mul (low / k) k, lt-div-mul-add {a = low} {b = k} pos)) (omega (arith, div-mul-le-self (high - 1) k))
+          (omega arith)
 
       back : (leb (f + low / k) u and ltb u (f + (high - 1) / k + 1)) ≡ true → some meetsTile n ≡ true
       back e =
@@ -194,7 +198,8 @@ module _ (x : Nest) (fr : Framed x) where
   row-none : (q : ℕ) (at : List ℕ) (s : Interval) → Row x q at → Spans x at s → s .to ≤ s .from
       → some (λ a. inShape x (q * lengthOf x (last x) + a)) (lengthOf x (last x)) ≡ false
   row-none q at s r sp h =
-      some-none _ _ (λ a l. is-false (λ e. let w = both (sym (span-row q at s r sp a l) ∙ e) in let g = leb-true (s .from) a (w .0) in let k = ltb-true a (s .to) (w .1) in omega arith))
+      some-none _ _ (λ a l. is-false (λ e. let w = both (sym (span-row q at s r sp a l) ∙ e) in let g = leb-true (s .from) a (w .0) in
+      let k = ltb-true a (s .to) (w .1) in omega arith))
 
   next-row : (q : ℕ) → (q + 1) * lengthOf x (last x) ≡ q * lengthOf x (last x) + lengthOf x (last x)
   next-row q = let z : q + 1 ≡ suc q = omega arith in rw z (suc-mul q (lengthOf x (last x)))
@@ -240,7 +245,8 @@ module _ (x : Nest) (fr : Framed x) where
     unfolding tileCount
     number-room at w j p l e =
         let q : Within (tileCount x) (λ i. spot at i / tileLength x i) (j + 1) = λ i k. quotients-low x (fr .long) tiled (spot at) w i (omega arith) in
-        let r : rank (tileCount x) (λ i. spot at i / tileLength x i) (j + 1) < product (tileCount x) (j + 1) = rank-low (tileCount x) (λ i. spot at i / tileLength x i) (j + 1) q in
+        let r : rank (tileCount x) (λ i. spot at i / tileLength x i) (j + 1) < product (tileCount x) (j + 1) = rank-low (tileCount x)
+        (λ i. spot at i / tileLength x i) (j + 1) q in
         let s : product (tileCount x) (j + 1) < 18446744073709551616 =
         product-room (tileCount x) (j + 1) (omega (arith, fr .dimensions-most)) (λ i k. tile-small x i (fr .length-wide i) (fr .long i (omega arith))) in
         omega (arith, number-next (tileCount x) (λ i. spot at i / tileLength x i) j p e)
@@ -253,7 +259,8 @@ module _ (x : Nest) (fr : Framed x) where
         → boxTileOf x (q * lengthOf x (last x) + a) ≡ firstTile at + a / tileLength x (last x)
     unfolding boxTileOf tileAt
     tile-row q at r a low =
-        rank-row (tileCount x) (λ j. cellPlace x (q * lengthOf x (last x) + a) j / tileLength x j) (λ j. spot at j / tileLength x j) (x .dimensions) (last x) suc-last
+        rank-row (tileCount x) (λ j. cellPlace x (q * lengthOf x (last x) + a) j / tileLength x j) (λ j. spot at j / tileLength x j) (x .dimensions) (last x)
+        suc-last
         (λ j h. ap (λ (v : ℕ). v / tileLength x j) (before j h)) first-zero
         ∙ ap (λ (v : ℕ). rank (tileCount x) (λ j. spot at j / tileLength x j) (x .dimensions) + v / tileLength x (last x)) at-last
       where
@@ -293,7 +300,8 @@ module _ (x : Nest) (fr : Framed x) where
           ≡ (leb (firstTile at + s .from / tileLength x (last x)) u and ltb u (firstTile at + (s .to - 1) / tileLength x (last x) + 1))
       row-tiles h u =
           some-same _ _ (lengthOf x (last x)) (held u)
-          ∙ tiles-between (firstTile at) (tileLength x (last x)) (s .from) (s .to) u (lengthOf x (last x)) (tiled (last x) (omega (arith, fr .dimensions-least))) h (sp .most)
+          ∙ tiles-between (firstTile at) (tileLength x (last x)) (s .from) (s .to) u (lengthOf x (last x))
+          (tiled (last x) (omega (arith, fr .dimensions-least))) h (sp .most)
 
       -- the last of them is a tile of the box
       pub row-room : s .from < s .to → firstTile at + (s .to - 1) / tileLength x (last x) + 1 ≤ boxTiles x
@@ -309,7 +317,8 @@ module _ (x : Nest) (fr : Framed x) where
       marked-none marks h = record { long = refl; marks = λ u. or-none _ _ (row-empty h u) }
 
       pub marked-row : (marks after : List ℕ) → s .from < s .to
-          → Marked marks (firstTile at + s .from / tileLength x (last x)) (firstTile at + (s .to - 1) / tileLength x (last x) + 1) after → RowMarked x q marks after
+          → Marked marks (firstTile at + s .from / tileLength x (last x)) (firstTile at + (s .to - 1) / tileLength x (last x) + 1) after
+          → RowMarked x q marks after
       marked-row marks after h m =
           record {
             long = m .long;

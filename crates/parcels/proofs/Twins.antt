@@ -1,10 +1,11 @@
 -- One tile back along a dimension: the tiles peeled off a tile's number, and where the tile before is a twin.
 use Prim.Native.Nat.{ℕ, zero, suc, _+_, _*_, _-_, _/_, _%_, _≤_, _<_}
-use mathlib.Core.Path.{_≡_, refl, sym, ap, _∙_}
+use mathlib.Core.Path.{_≡_, sym, ap, _∙_}
 use mathlib.Core.Logic.{_⊎_, inl, inr}
 use mathlib.Core.Bool.{true}
 use mathlib.Core.List.{List}
-use native.Mathlib.Nat.{mul-add-mod-self-right, mod-eq-of-lt, mod-lt, div-add-mod', add-mul, suc-mul, mul-assoc, mul-right-comm, mul-le-mul-right, eq-or-lt-of-le}
+use native.Mathlib.Nat.{mul-add-mod-self-right, mod-eq-of-lt, mod-lt, div-add-mod', add-mul, suc-mul, mul-assoc, mul-right-comm, mul-le-mul-right}
+use native.Mathlib.Nat.{eq-or-lt-of-le}
 use native.Mathlib.Decide.{decLt}
 use native.Mathlib.Omega.{arith}
 use lib.ListN.{getD}
@@ -161,9 +162,6 @@ peeled-back N n t (suc l) q s f h pos a =
     rw z (back-low N n t l q s f p b, back-one N n t l q s f p b)
 
 module _ (r : Route) (x : Nest) (ok : Accepted x) (t : ℕ) (low : t < boxTiles x) where
-  pub twin-self : Twin r x t t
-  twin-self = record { low = omega arith; same = λ w l. refl }
-
   module _ (across : List ℕ) (b : Has across (tileCount x) (x .dimensions)) where
     counts : (c j : ℕ) → place (nth across) (x .dimensions) c j ≡ tilePlace x c j
     unfolding tilePlace

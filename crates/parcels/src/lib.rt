@@ -6,12 +6,12 @@ ghost use lib.Dec.{eqb, leb, ltb};
 ghost use Rattle.base.specs.Tests.{_and_, one, some};
 ghost use Rattle.base.specs.Lists.{part, pack, unpack};
 ghost use Rattle.nest.specs.Accepted.{Accepted};
-ghost use Rattle.nest.specs.Nest.{tileCount, cells, boxTiles};
+ghost use Rattle.nest.specs.Nest.{tileCount, cells};
 ghost use Rattle.plan.specs.Messages.{slots, slotParcel};
 ghost use Rattle.layout.specs.Sizes.{Sized};
 ghost use Rattle.layout.specs.Places.{nth};
 ghost use Rattle.layout.specs.CellRows.{Given, rowOf};
-ghost use Rattle.parcels.specs.Twins.{twoBefore, Twin};
+ghost use Rattle.parcels.specs.Twins.{twoBefore};
 ghost use Rattle.parcels.specs.Windows.{windowOf, RowEnd, DistanceEnds, Leading, carries, Unchanged, InBlock, Alike, RowRoom, RowPacked};
 ghost use Rattle.parcels.specs.Sendings.{earlier, later, boxAt, windowAt, Boxed, Windowed, Headed, Idle, Shaped, Sends, RowAt};
 use layout::Sizes;
@@ -78,17 +78,6 @@ fn back(at: usize, test: bool) -> usize
     at - n
 }
 
-// Whether a tile has one before it in a dimension, or two where two are asked for, and after it another of full length.
-fn one_back(at: usize, two: bool, tiling: usize, length: usize) -> bool
-    requires { ⌜ (at ≤ 1024) × (tiling ≤ 1024) ⌝ }
-    ensures { λ r. ⌜ r ≡ (ltb (one two) at and leb ((at + 2) * tiling) length) ⌝ }
-{
-    if at <= one(two) {
-        return false;
-    }
-    (at + 2) * tiling <= length
-}
-
 // In how many of the first dimensions a tile is like the one before it only if that one has another before it: on the indirect
 // route cells come from there too.
 pub fn two_before(nest: Nest, route: Route) -> usize
@@ -99,32 +88,6 @@ pub fn two_before(nest: Nest, route: Route) -> usize
         Route::Direct => 0,
         Route::Indirect => nest.spread - 1,
     }
-}
-
-// A tile before this one whose parcels have the lengths that this one's have, or the tile itself: only at the ends of a
-// dimension do they change, so that one tile back along the last dimension that allows it will do.
-pub fn twin_of(nest: Nest, sizes: Sizes, tile: usize) -> usize
-    requires { ⌜ Sized nest sizes × (tile < boxTiles nest) ⌝ }
-    ensures { λ r. ⌜ Twin (sizes .route) nest tile r ⌝ }
-{
-    let across = sizes.across;
-    let tiling = nest.tiling;
-    let lengths = nest.lengths;
-    let route = sizes.route;
-    let two = two_before(nest, route);
-    let mut left = nest.dimensions;
-    let mut rest = tile;
-    let mut stride = 1;
-    while left > 0 {
-        left -= 1;
-        let n = across[left];
-        if one_back(rest % n, left < two, tiling[left], lengths[left]) {
-            return tile - stride;
-        }
-        rest = rest / n;
-        stride *= n;
-    }
-    tile
 }
 
 // In how many of the first dimensions a slot's cells come from the tile before too: on the indirect route in those that

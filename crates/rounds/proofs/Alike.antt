@@ -14,7 +14,8 @@ use Rattle.machine.proofs.Kept.{Inv}
 use Rattle.machine.proofs.Fresh.{inv-fresh}
 use Rattle.machine.proofs.Along.{run-inv, next-inv}
 use Rattle.machine.proofs.RunLaws.{number-of, after-of, same-end, same-numbers}
-use Rattle.rounds.specs.Rounds.{couldGather, wholeTile, tilesBy, mailIn, roundBy, roundFrom, roundsFrom, roundsOfOther, rounds, drive, told, Told, RoundsHold}
+use Rattle.rounds.specs.Rounds.{couldGather, wholeTile, tilesBy, mailIn, roundBy, roundFrom, roundsFrom, roundsOfOther, rounds, drive, told}
+use Rattle.rounds.specs.Rounds.{Told, RoundsHold}
 use Rattle.rounds.proofs.Theorem.{theorem213}
 
 module _ (p : Plan) (so : Sound p) (source : List ℕ) (acts : State → Event → Answered State)
@@ -62,7 +63,8 @@ module _ (p : Plan) (so : Sound p) (source : List ℕ) (acts : State → Event �
   unfolding roundsOfOther
   others-are who zero = refl
   others-are who (suc r) =
-      ap (λ (l : List Event). l ++ roundBy acts p (λ b. couldGather acts p (stateAfter acts (fresh p) l) b and who r b) (stateAfter acts (fresh p) l)) (others-are who r)
+      ap (λ (l : List Event). l ++ roundBy acts p (λ b. couldGather acts p (stateAfter acts (fresh p) l) b and who r b) (stateAfter acts (fresh p) l))
+      (others-are who r)
       ∙ ap (λ (x : State). before ++ roundBy acts p (λ b. couldGather acts p x b and who r b) x) (state-is (fresh p) (inv-fresh p source) before)
       ∙ ap (λ (l : List Event). before ++ l)
       (round-is (λ b. couldGather acts p here b and who r b) (λ b. couldGather (act p source) p here b and who r b) here (inv-then before)
@@ -106,9 +108,11 @@ module _ (p : Plan) (so : Sound p) (source : List ℕ) (acts : State → Event �
     grid-is : (r : ℕ) (grid : List ℕ) → length grid ≡ p .cells
         → collects (stateAfter acts (fresh p) (roundsFrom acts p r)) grid ≡ collect p (stateAfter (act p source) (fresh p) (roundsFrom (act p source) p r)) grid
     grid-is r grid l =
-        ap (λ (x : State). collects x grid) (then-is r) ∙ same-grid (stateAfter (act p source) (fresh p) (roundsFrom (act p source) p r)) (inv-then (roundsFrom (act p source) p r)) grid l
+        ap (λ (x : State). collects x grid) (then-is r) ∙ same-grid (stateAfter (act p source) (fresh p) (roundsFrom (act p source) p r))
+        (inv-then (roundsFrom (act p source) p r)) grid l
 
-    next-is : (r : ℕ) → roundFrom acts p (stateAfter acts (fresh p) (roundsFrom acts p r)) ≡ roundFrom (act p source) p (stateAfter (act p source) (fresh p) (roundsFrom (act p source) p r))
+    next-is : (r : ℕ) → roundFrom acts p (stateAfter acts (fresh p) (roundsFrom acts p r)) ≡ roundFrom (act p source) p
+        (stateAfter (act p source) (fresh p) (roundsFrom (act p source) p r))
     next-is r = round-from _ _ (then-is r) (inv-then (roundsFrom (act p source) p r))
 
     pub rounds-hold : RoundsHold acts collects p source

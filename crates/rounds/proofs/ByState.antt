@@ -14,7 +14,8 @@ use Rattle.base.proofs.Tests.{both, and-true, same-test, is-true, pick-true, ne
 use Rattle.base.proofs.Lists.{allAt-in, allAt-out}
 use Rattle.base.proofs.Select.{at-is}
 use Rattle.machine.specs.Plan.{Plan, Sound, count, senderOf, tilesOf, sendsOf, duesOf}
-use Rattle.machine.specs.Machine.{State, stateOf, finishedOf, stageOf, sentOf, setProgress, tilesLeft, currentTile, Action, gather, calculate, send, afterSends, carryOut, nextAction, deliver, fresh}
+use Rattle.machine.specs.Machine.{State, stateOf, finishedOf, stageOf, sentOf, setProgress, tilesLeft, currentTile, Action, gather, calculate, send}
+use Rattle.machine.specs.Machine.{afterSends, carryOut, nextAction, deliver, fresh}
 use Rattle.machine.specs.Runs.{Event, turnOf, deliveryOf, act, stateAfter}
 use Rattle.machine.proofs.Records.{record-length, finished-same, stage-same, sent-same}
 use Rattle.machine.proofs.Turns.{next-zero, next-one, next-two, by-next}
@@ -50,7 +51,8 @@ module _ (p : Plan) (source : List ℕ) (b : ℕ) where
     after-sends x j ms bs st len e = go (ltb j (length (sendsOf p t))) refl
       where
         go : (more : Bool) → ltb j (length (sendsOf p t)) ≡ more
-            → Sending p b t f j (stateOf ms bs (pick more (setProgress (x .progress) b (finishedOf x b) 2 j) (setProgress (x .progress) b (finishedOf x b + 1) 0 0)) st)
+            → Sending p b t f j (stateOf ms bs (pick more (setProgress (x .progress) b (finishedOf x b) 2 j)
+            (setProgress (x .progress) b (finishedOf x b + 1) 0 0)) st)
         go true q =
             record {
               long = record-length (x .progress) b (finishedOf x b) 2 j ∙ len;
@@ -72,7 +74,8 @@ module _ (p : Plan) (source : List ℕ) (b : ℕ) where
         next-two p (stageOf x b) (currentTile p x b) (sentOf x b) (rw (d .stage h) (omega arith))
         ∙ rw (d .finished h, d .sent h, here) refl
 
-    pub one-sent : (j : ℕ) (x : State) → j < length (sendsOf p t) → Sending p b t f j x → Sending p b t f (suc j) (carryOut p [] x b (send (getD (sendsOf p t) j 0)))
+    pub one-sent : (j : ℕ) (x : State) → j < length (sendsOf p t) → Sending p b t f j x → Sending p b t f (suc j)
+        (carryOut p [] x b (send (getD (sendsOf p t) j 0)))
     unfolding carryOut
     one-sent j x h d =
         let e : senderOf p (getD (sendsOf p t) j 0) ≡ t = at-is (senderOf p) t (count p) j h in
@@ -123,7 +126,8 @@ module _ (p : Plan) (source : List ℕ) (b : ℕ) where
         second : nextAction p (carryOut p [] s b (gather t)) b ≡ calculate t
         second =
             let g = gathered-one s len e in
-            next-one p (stageOf (carryOut p [] s b (gather t)) b) (currentTile p (carryOut p [] s b (gather t)) b) (sentOf (carryOut p [] s b (gather t)) b) (g .2)
+            next-one p (stageOf (carryOut p [] s b (gather t)) b) (currentTile p (carryOut p [] s b (gather t)) b) (sentOf (carryOut p [] s b (gather t)) b)
+            (g .2)
             ∙ ap (λ (i : ℕ). calculate (getD (tilesOf p b) i 0)) (g .1) ∙ ap calculate here
 
 module _ (p : Plan) (so : Sound p) (source : List ℕ) where
@@ -146,7 +150,11 @@ module _ (p : Plan) (so : Sound p) (source : List ℕ) where
       (λ e. let r = could-ready p so source s b e in
       and-true (lt-ltb (finishedOf s b) (length (tilesOf p b)) (r .more))
       (is-true (λ q. let o = allAt-out (s .status) 2 (duesOf p (currentTile p s b)) q in o .2 (r .mail (o .0) (o .1)))))
-      (λ e. ready-could p so source s still b low (record { more = ltb-true _ _ (both e .0); mail = allAt-in (s .status) 2 (duesOf p (currentTile p s b)) (both e .1) }))
+      (λ e. ready-could p so source s still b low (record {
+        more = ltb-true _ _ (both e .0);
+        mail = allAt-in (s .status) 2 (duesOf p (currentTile p s b))
+            (both e .1);
+      }))
 
   one-tile : (s : State) (b : ℕ) → Still p so source s → b < p .processors
       → stateAfter (act p source) s (pick (couldGather (act p source) p s b) (wholeTile (act p source) p s b) []) ≡ afterTile p source s b
@@ -190,15 +198,18 @@ module _ (p : Plan) (so : Sound p) (source : List ℕ) where
   unfolding mailIn delivered
   all-mail s inv =
       mail-is (keep (λ m. eqb (getD (s .status) m 0) 1) (count p)) s (mail-all p so source s inv .0)
-      ∙ ap (λ (k : ℕ). stateOf (s .memories) (s .buffer) (s .progress) (setAll (s .status) (keep (λ m. eqb (getD (s .status) m 0) 1) k) 2)) (sym (inv .shape .status))
+      ∙ ap (λ (k : ℕ). stateOf (s .memories) (s .buffer) (s .progress) (setAll (s .status) (keep (λ m. eqb (getD (s .status) m 0) 1) k) 2))
+      (sym (inv .shape .status))
 
   -- ---- a round
   round-is : (s : State) → Still p so source s → stateAfter (act p source) s (roundFrom (act p source) p s) ≡ afterRound p source s
   unfolding roundBy afterRound
   round-is s start =
       after-append (act p source) s turns (mailIn (act p source) p (stateAfter (act p source) s turns))
-      ∙ all-mail (stateAfter (act p source) s turns) (tiles-run p so source (couldGather (act p source) p s) s start (λ c e. e) (p .processors) (omega arith) .1 .still .inv)
-      ∙ ap withMail (ap (stateAfter (act p source) s) (sym (as-it-goes p so source s start (p .processors) (omega arith))) ∙ tiles-are s start (p .processors) (omega arith))
+      ∙ all-mail (stateAfter (act p source) s turns) (tiles-run p so source (couldGather (act p source) p s) s start (λ c e. e) (p .processors)
+      (omega arith) .1 .still .inv)
+      ∙ ap withMail (ap (stateAfter (act p source) s) (sym (as-it-goes p so source s start (p .processors) (omega arith))) ∙ tiles-are s start
+      (p .processors) (omega arith))
     where
       turns : List Event
       turns = tilesBy (act p source) p (couldGather (act p source) p s) s (p .processors)

@@ -1,33 +1,21 @@
--- Laws of runs: the cells of a row that are hit, by pieces or one more at a time; a list of cells, packed and unpacked by.
+-- Laws of runs: what lies ahead in a row, the pieces of a row and the cells of it that are hit, its words packed and unpacked by pieces.
 use Prim.Native.Nat.{ℕ, zero, suc, _+_, _-_, _≤_, _<_}
 use mathlib.Core.Path.{_≡_, refl, sym, ap, _∙_}
 use mathlib.Core.Logic.{_⊎_, inl, inr}
 use mathlib.Core.Bool.{Bool, true, false}
 use mathlib.Core.List.{List, [], _∷_, _++_, append-assoc, append-nil}
-use native.Mathlib.Nat.{add-zero, add-assoc}
+use native.Mathlib.Nat.{add-zero}
 use native.Mathlib.Numerals.{add-one}
 use native.Mathlib.Decide.{decLt}
 use native.Mathlib.Omega.{arith}
-use lib.ListN.{length, getD, take, set, length-append, length-set, length-take}
-use lib.Seq.{take-suc, take-suc-set, take-length, length-take-le}
+use lib.ListN.{length, getD, take, drop, set, length-append, length-drop}
+use lib.Seq.{take-suc, take-suc-set, take-add, length-take-le, getD-drop, drop-drop}
 use borrow.Author.Tests.{le-leb, lt-leb, lt-ltb, le-ltb}
-use Rattle.base.specs.Tests.{_or_, some, keepIf}
-use Rattle.base.specs.Lists.{pack, unpack}
-use Rattle.base.proofs.Tests.{and-true, and-false, and-no, or-left, or-right, or-false}
-use Rattle.base.proofs.Lists.{pack-append, unpack-append, unpack-length}
-use Rattle.runs.specs.Runs.{within, isHit, hitRow, AllHit, NoneHit, AheadIs, PieceIs, Room, Listed, Cells}
-
--- none of the first e, and not the next
-pub none-more : (f : ℕ → Bool) (e : ℕ) → some f e ≡ false → f e ≡ false → some f (e + 1) ≡ false
-unfolding some
-none-more f e h k = rw (add-one e) (or-false h k)
-
-pub none-start : (f : ℕ → Bool) → some f 0 ≡ false
-unfolding some
-none-start f = refl
-
-pub none-end : (f : ℕ → Bool) (n e : ℕ) → e ≤ n → n ≤ e → some f e ≡ false → some f n ≡ false
-none-end f n e h k p = let q : e ≡ n = omega arith in rw q at p
+use Rattle.base.specs.Tests.{_or_, some, keepIf, tabulate}
+use Rattle.base.specs.Lists.{part, pack, unpack}
+use Rattle.base.proofs.Tests.{and-true, and-false, and-no, or-left, or-right, or-false, length-tabulate}
+use Rattle.base.proofs.Lists.{part-length, pack-append, unpack-append, unpack-length}
+use Rattle.runs.specs.Runs.{within, isHit, hitRow, cellsFrom, AllHit, NoneHit, AheadIs, PieceIs, Fits, Room, Packed, Unpacked}
 
 -- ---- what lies ahead in a row, by its first runs
 
@@ -84,7 +72,7 @@ module _ (starts ends : List ℕ) where
     pub piece-all : (reach ≡ a → ⊥) → reach ≤ b → PieceIs starts ends n a b reach (reach - a)
     piece-all h k = record { some = omega (arith, p .begun); cut = k; alike = inl (refl, p .all) }
 
--- ---- a row being listed
+-- ---- the cells of a row that are hit
 
 module _ (starts ends : List ℕ) (n c a : ℕ) where
   pub hit-start : hitRow starts ends n c a 0 ≡ []
@@ -99,7 +87,7 @@ module _ (starts ends : List ℕ) (n c a : ℕ) where
   unfolding hitRow
   hit-none y h = rw (add-one y, h) (append-nil (hitRow starts ends n c a y))
 
-  pub hit-few : (y : ℕ) → length (hitRow starts ends n c a y) ≤ y
+  hit-few : (y : ℕ) → length (hitRow starts ends n c a y) ≤ y
   unfolding hitRow
   hit-few zero = omega arith
   hit-few (suc y) = go (isHit starts ends n (a + y)) (hit-few y)
@@ -108,26 +96,38 @@ module _ (starts ends : List ℕ) (n c a : ℕ) where
       go true h = simp length-append (omega arith)
       go false h = simp length-append (omega arith)
 
+  hit-more-few : (y m : ℕ) → length (hitRow starts ends n c a y) ≤ length (hitRow starts ends n c a (y + m))
+  unfolding hitRow
+  hit-more-few y zero = rw (add-zero y) (omega arith)
+  hit-more-few y (suc m) =
+      let e : y + suc m ≡ suc (y + m) = omega arith in
+      let h = hit-more-few y m in
+      rw e (simp length-append (omega arith))
+
+  hit-upto : (y w : ℕ) → y ≤ w → length (hitRow starts ends n c a y) ≤ length (hitRow starts ends n c a w)
+  hit-upto y w h = let e : y + (w - y) ≡ w = omega arith in rw e at (hit-more-few y (w - y))
+
   -- by pieces
 
-  count-all : (y m : ℕ) → AllHit starts ends n (a + y) (a + y + m) → length (hitRow starts ends n c a (y + m)) ≡ length (hitRow starts ends n c a y) + m
-  count-all y zero h = rw (add-zero y) (omega arith)
-  count-all y (suc m) h =
+  hit-all : (y m : ℕ) → AllHit starts ends n (a + y) (a + y + m) → hitRow starts ends n c a (y + m) ≡ hitRow starts ends n c a y ++ cellsFrom (c + y) m
+  unfolding tabulate
+  hit-all y zero h = rw (add-zero y) (sym (append-nil (hitRow starts ends n c a y)))
+  hit-all y (suc m) h =
       let e : y + suc m ≡ y + m + 1 = omega arith in
-      let q = count-all y m (λ k l o. h k l (omega arith)) in
-      ap (λ (i : ℕ). length (hitRow starts ends n c a i)) e ∙ ap length (hit-one (y + m) (h (a + (y + m)) (omega arith) (omega arith)))
-      ∙ length-append (hitRow starts ends n c a (y + m)) ((c + (y + m)) ∷ []) ∙ omega (arith, q)
+      let k : c + (y + m) ≡ c + y + m = omega arith in
+      ap (hitRow starts ends n c a) e ∙ hit-one (y + m) (h (a + (y + m)) (omega arith) (omega arith))
+      ∙ rw (hit-all y m (λ i l o. h i l (omega arith)), k) (append-assoc (hitRow starts ends n c a y) (cellsFrom (c + y) m) ((c + y + m) ∷ []))
 
-  count-none : (y m : ℕ) → NoneHit starts ends n (a + y) (a + y + m) → length (hitRow starts ends n c a (y + m)) ≡ length (hitRow starts ends n c a y)
-  count-none y zero h = rw (add-zero y) refl
-  count-none y (suc m) h =
+  hit-nowhere : (y m : ℕ) → NoneHit starts ends n (a + y) (a + y + m) → hitRow starts ends n c a (y + m) ≡ hitRow starts ends n c a y
+  hit-nowhere y zero h = rw (add-zero y) refl
+  hit-nowhere y (suc m) h =
       let e : y + suc m ≡ y + m + 1 = omega arith in
-      ap (λ (i : ℕ). length (hitRow starts ends n c a i)) e ∙ ap length (hit-none (y + m) (h (a + (y + m)) (omega arith) (omega arith)))
-      ∙ count-none y m (λ k l o. h k l (omega arith))
+      ap (hitRow starts ends n c a) e ∙ hit-none (y + m) (h (a + (y + m)) (omega arith) (omega arith)) ∙ hit-nowhere y m (λ i l o. h i l (omega arith))
 
-  pub count-piece : (b at end count hits : ℕ) → count ≡ length (hitRow starts ends n c a (at - a)) → a ≤ at → PieceIs starts ends n at b end hits
-      → count + hits ≡ length (hitRow starts ends n c a (end - a))
-  count-piece b at end count hits e l p = go (p .alike)
+  hit-piece : (b at end hits : ℕ) → a ≤ at → PieceIs starts ends n at b end hits
+      → hitRow starts ends n c a (end - a) ≡ hitRow starts ends n c a (at - a) ++ cellsFrom (c + (at - a)) hits
+  unfolding tabulate
+  hit-piece b at end hits l p = go (p .alike)
     where
       there : a + (at - a) ≡ at
       there = omega arith
@@ -135,51 +135,23 @@ module _ (starts ends : List ℕ) (n c a : ℕ) where
       over : a + (at - a) + (end - at) ≡ end
       over = omega (arith, p .some)
 
-      sum : at - a + (end - at) ≡ end - a
+      sum : end - a ≡ at - a + (end - at)
       sum = omega (arith, p .some)
 
       go : ((hits ≡ end - at) × AllHit starts ends n at end) ⊎ ((hits ≡ 0) × NoneHit starts ends n at end)
-          → count + hits ≡ length (hitRow starts ends n c a (end - a))
-      go (inl (k, h)) = omega (arith, e, k, count-all (at - a) (end - at) (rw (over, there) h), ap (λ (i : ℕ). length (hitRow starts ends n c a i)) sum)
-      go (inr (k, h)) = omega (arith, e, k, count-none (at - a) (end - at) (rw (over, there) h), ap (λ (i : ℕ). length (hitRow starts ends n c a i)) sum)
+          → hitRow starts ends n c a (end - a) ≡ hitRow starts ends n c a (at - a) ++ cellsFrom (c + (at - a)) hits
+      go (inl (k, h)) = rw (sum, k) (hit-all (at - a) (end - at) (rw (over, there) h))
+      go (inr (k, h)) = rw (sum, k) (hit-nowhere (at - a) (end - at) (rw (over, there) h) ∙ sym (append-nil (hitRow starts ends n c a (at - a))))
 
-  module _ (list₀ : List ℕ) (listed : ℕ) where
-    pub listed-none : length list₀ ≡ 16384 → Listed starts ends n c a 0 list₀ listed list₀ listed
-    unfolding hitRow
-    listed-none h = record { long = h; count-is = omega arith; is = sym (append-nil (take listed list₀)) }
-
-    module _ (list : List ℕ) (count y : ℕ) (p : Listed starts ends n c a y list₀ listed list count) where
-      pub listed-low : (w : ℕ) → listed + w ≤ 16384 → y < w → count < 16384
-      listed-low w h k = omega (arith, p .count-is, hit-few y)
-
-      pub listed-hit : count < 16384 → isHit starts ends n (a + y) ≡ true
-          → Listed starts ends n c a (y + 1) list₀ listed (set list count (c + y)) (count + 1)
-      listed-hit h e =
-          record {
-            long = length-set list count (c + y) ∙ p .long;
-            count-is = omega (arith, p .count-is, ap length (hit-one y e), length-append (hitRow starts ends n c a y) ((c + y) ∷ []));
-            is = rw (add-one count) (take-suc-set list count (c + y) (omega (arith, p .long)))
-                ∙ ap (λ (l : List ℕ). l ++ ((c + y) ∷ [])) (p .is)
-                ∙ append-assoc (take listed list₀) (hitRow starts ends n c a y) ((c + y) ∷ [])
-                ∙ ap (λ (l : List ℕ). take listed list₀ ++ l) (sym (hit-one y e));
-          }
-
-      pub listed-miss : isHit starts ends n (a + y) ≡ false → Listed starts ends n c a (y + 1) list₀ listed list count
-      listed-miss e =
-          record {
-            long = p .long;
-            count-is = p .count-is ∙ ap (λ (l : List ℕ). listed + length l) (sym (hit-none y e));
-            is = p .is ∙ ap (λ (l : List ℕ). take listed list₀ ++ l) (sym (hit-none y e));
-          }
-
-      pub listed-turn : (list′ : List ℕ) (count′ : ℕ) → count < 16384
-          → ((isHit starts ends n (a + y) ≡ true) × (list′ ≡ set list count (c + y)) × (count′ ≡ count + 1)) ⊎ ((isHit starts ends n (a + y) ≡ false) × (list′ ≡ list) × (count′ ≡ count))
-          → Listed starts ends n c a (y + 1) list₀ listed list′ count′
-      listed-turn list′ count′ h (inl (e, l, k)) = rw (l, k) (listed-hit h e)
-      listed-turn list′ count′ h (inr (e, l, k)) = rw (l, k) (listed-miss e)
-
-      pub listed-end : (w : ℕ) → y ≤ w → w ≤ y → Listed starts ends n c a w list₀ listed list count
-      listed-end w h k = let e : y ≡ w = omega arith in rw e at p
+  piece-count : (b at end hits : ℕ) → a ≤ at → PieceIs starts ends n at b end hits
+      → length (hitRow starts ends n c a (at - a)) + hits ≡ length (hitRow starts ends n c a (end - a))
+  piece-count b at end hits l p =
+      omega (
+        arith,
+        ap length (hit-piece b at end hits l p),
+        length-append (hitRow starts ends n c a (at - a)) (cellsFrom (c + (at - a)) hits),
+        length-tabulate (λ y. c + (at - a) + y) hits,
+      )
 
 -- ---- a row being counted, by pieces
 
@@ -203,7 +175,7 @@ module _ (starts ends : List ℕ) (n a w : ℕ) where
         record {
           from = omega (arith, p .from, q .some);
           to = q .cut;
-          is = λ c. count-piece starts ends n c a (a + w) at end count hits (p .is c) (p .from) q;
+          is = λ c. omega (arith, p .is c, piece-count starts ends n c a (a + w) at end hits (p .from) q);
         }
 
     pub counts-few : (end hits : ℕ) → PieceIs starts ends n at (a + w) end hits → count + hits ≤ w
@@ -214,64 +186,176 @@ module _ (starts ends : List ℕ) (n a w : ℕ) where
         let e : at - a ≡ w = omega (arith, p .to) in
         (λ c. p .is c ∙ ap (λ (i : ℕ). length (hitRow starts ends n c a i)) e, omega (arith, p .is 0, hit-few starts ends n 0 a (at - a)))
 
--- ---- words by a list of cells
+-- ---- words copied
 
-pub record Packs (memory list words : List ℕ) (n i : ℕ) : Type 0 where
-  pub low : i ≤ n
-  pub long : length words ≡ n
-  pub is : take i words ≡ pack memory (take i list)
+pub record Copies (to₀ from : List ℕ) (at first n : ℕ) (to : List ℕ) (y : ℕ) : Type 0 where
+  pub low : y ≤ n
+  pub is : to ≡ unpack to₀ (cellsFrom at y) (part from first y)
 
-module _ (memory list : List ℕ) (n : ℕ) where
-  pub packs-none : (words : List ℕ) → length words ≡ n → Packs memory list words n 0
-  unfolding pack
-  packs-none words h = record { low = omega arith; long = h; is = refl }
+module _ (to₀ from : List ℕ) (at first : ℕ) where
+  copied-more : (y : ℕ) → first + y < length from
+      → set (unpack to₀ (cellsFrom at y) (part from first y)) (at + y) (getD from (first + y) 0) ≡ unpack to₀ (cellsFrom at (y + 1)) (part from first (y + 1))
+  unfolding unpack tabulate part
+  copied-more y h =
+      sym (unpack-append to₀ (cellsFrom at y) ((at + y) ∷ []) (take y (drop first from)) (getD from (first + y) 0 ∷ [])
+      (length-take-le y (drop first from) (omega (arith, length-drop first from)) ∙ sym (length-tabulate _ y)))
+      ∙ ap (λ (l : List ℕ). unpack to₀ (cellsFrom at y ++ ((at + y) ∷ [])) l)
+      (sym (take-suc (drop first from) y 0 (omega (arith, length-drop first from))
+      ∙ ap (λ (v : ℕ). take y (drop first from) ++ (v ∷ [])) (getD-drop first from y 0)))
+      ∙ rw (add-one y)
 
-  pub packs-more : (words : List ℕ) (i : ℕ) → Packs memory list words n i → i < n → n ≤ length list
-      → Packs memory list (set words i (getD memory (getD list i 0) 0)) n (i + 1)
-  unfolding pack
-  packs-more words i p h k =
+  copied-long : (y : ℕ) → length (unpack to₀ (cellsFrom at y) (part from first y)) ≡ length to₀
+  copied-long y = unpack-length (cellsFrom at y) (part from first y) to₀
+
+  pub copies-none : (n : ℕ) → Copies to₀ from at first n to₀ 0
+  unfolding unpack tabulate part
+  copies-none n = record { low = omega arith; is = refl }
+
+  module _ (n : ℕ) (to : List ℕ) (y : ℕ) (p : Copies to₀ from at first n to y) where
+    pub copies-long : length to ≡ length to₀
+    copies-long = ap length (p .is) ∙ copied-long y
+
+    pub copies-more : y < n → first + n ≤ length from → Copies to₀ from at first n (set to (at + y) (getD from (first + y) 0)) (y + 1)
+    copies-more h l =
+        record { low = omega arith; is = ap (λ (z : List ℕ). set z (at + y) (getD from (first + y) 0)) (p .is) ∙ copied-more y (omega arith) }
+
+    pub copies-end : n ≤ y → to ≡ unpack to₀ (cellsFrom at n) (part from first n)
+    copies-end h = let e : y ≡ n = omega (arith, p .low) in rw e at (p .is)
+
+  -- what is copied stands behind the words before it
+  copied-take : (m : ℕ) → at + m ≤ length to₀ → first + m ≤ length from
+      → take (at + m) (unpack to₀ (cellsFrom at m) (part from first m)) ≡ take at to₀ ++ pack from (cellsFrom first m)
+  unfolding unpack tabulate part pack
+  copied-take zero h l = rw (add-zero at) (sym (append-nil (take at to₀)))
+  copied-take (suc m) h l =
+      let e : at + suc m ≡ suc (at + m) = omega arith in
+      ap (λ (i : ℕ). take i (unpack to₀ (cellsFrom at (suc m)) (part from first (suc m)))) e
+      ∙ ap (λ (y : ℕ). take (suc (at + m)) (unpack to₀ (cellsFrom at y) (part from first y))) (sym (add-one m))
+      ∙ ap (take (suc (at + m))) (sym (copied-more m (omega arith)))
+      ∙ take-suc-set (unpack to₀ (cellsFrom at m) (part from first m)) (at + m) (getD from (first + m) 0) (omega (arith, copied-long m))
+      ∙ ap (λ (z : List ℕ). z ++ (getD from (first + m) 0 ∷ [])) (copied-take m (omega arith) (omega arith))
+      ∙ append-assoc (take at to₀) (pack from (cellsFrom first m)) (getD from (first + m) 0 ∷ [])
+      ∙ ap (λ (z : List ℕ). take at to₀ ++ z) (sym (pack-append from (cellsFrom first m) ((first + m) ∷ [])))
+
+-- ---- a row being packed and unpacked, by pieces
+
+-- a copy of a piece's words, to or from the words behind the first `count`, fits
+module _ (starts ends : List ℕ) (n c a w memory words packed : ℕ) (k : Room starts ends n c a w memory words packed) (at count : ℕ)
+    (from : a ≤ at) (is : count ≡ packed + length (hitRow starts ends n c a (at - a))) (end hits : ℕ)
+    (q : PieceIs starts ends n at (a + w) end hits) where
+  hits-few : hits ≤ end - at
+  hits-few = go (q .alike)
+    where
+      go : ((hits ≡ end - at) × AllHit starts ends n at end) ⊎ ((hits ≡ 0) × NoneHit starts ends n at end) → hits ≤ end - at
+      go (inl h) = omega (arith, h .0)
+      go (inr h) = omega (arith, h .0)
+
+  pub piece-words : count + hits ≤ words
+  piece-words =
+      omega (arith, is, k .room, piece-count starts ends n c a (a + w) at end hits from q, hit-upto starts ends n c a (end - a) w (omega (arith, q .cut)))
+
+  piece-cells : c + (at - a) + hits ≤ memory
+  piece-cells = omega (arith, hits-few, q .some, q .cut, k .low)
+
+  pub packs-fit : Fits words memory count (c + (at - a)) hits
+  packs-fit = record { inner = piece-words; outer = piece-cells; short = (k .short .1, k .short .0) }
+
+  pub unpacks-fit : Fits memory words (c + (at - a)) count hits
+  unpacks-fit = record { inner = piece-cells; outer = piece-words; short = k .short }
+
+pub record Packing (starts ends : List ℕ) (n c a w : ℕ) (memory words₀ : List ℕ) (packed : ℕ) (words : List ℕ) (at count : ℕ) : Type 0 where
+  pub from : a ≤ at
+  pub to : at ≤ a + w
+  pub first : Packed starts ends n c a (at - a) memory words₀ packed words count
+
+module _ (starts ends : List ℕ) (n c a w : ℕ) (memory words₀ : List ℕ) (packed : ℕ) where
+  pub packing-none : Packing starts ends n c a w memory words₀ packed words₀ a packed
+  unfolding hitRow pack
+  packing-none =
+      let e : a - a ≡ 0 = omega arith in
       record {
-        low = omega arith;
-        long = length-set words i _ ∙ p .long;
-        is = rw (add-one i) (take-suc-set words i _ (omega (arith, p .long))
-            ∙ ap (λ (l : List ℕ). l ++ (getD memory (getD list i 0) 0 ∷ [])) (p .is)
-            ∙ sym (pack-append memory (take i list) (getD list i 0 ∷ []))
-            ∙ ap (pack memory) (sym (take-suc list i 0 (omega arith))));
+        from = omega arith;
+        to = omega arith;
+        first = rw e (record { long = refl; count-is = omega arith; is = sym (append-nil (take packed words₀)) });
       }
 
-  pub packs-end : (words : List ℕ) (i : ℕ) → Packs memory list words n i → n ≤ i → words ≡ pack memory (take n list)
-  packs-end words i p h =
-      let e : i ≡ n = omega (arith, p .low) in
-      let q : take n words ≡ pack memory (take n list) = rw e at (p .is) in
-      sym (take-length words) ∙ ap (λ (k : ℕ). take k words) (p .long) ∙ q
+  module _ (words : List ℕ) (at count : ℕ) (p : Packing starts ends n c a w memory words₀ packed words at count) where
+    pub packing-more : Room starts ends n c a w (length memory) (length words₀) packed → (end hits : ℕ) → PieceIs starts ends n at (a + w) end hits
+        → (words′ : List ℕ) → words′ ≡ unpack words (cellsFrom count hits) (part memory (c + (at - a)) hits)
+        → Packing starts ends n c a w memory words₀ packed words′ end (count + hits)
+    packing-more k end hits q words′ e =
+        record {
+          from = omega (arith, p .from, q .some);
+          to = q .cut;
+          first = record {
+            long = ap length e ∙ unpack-length (cellsFrom count hits) (part memory (c + (at - a)) hits) words ∙ p .first .long;
+            count-is = omega (arith, p .first .count-is, piece-count starts ends n c a (a + w) at end hits (p .from) q);
+            is = ap (take (count + hits)) e
+                ∙ copied-take words memory count (c + (at - a)) hits (omega (arith, f .inner, p .first .long)) (f .outer)
+                ∙ ap (λ (l : List ℕ). l ++ pack memory (cellsFrom (c + (at - a)) hits)) (p .first .is)
+                ∙ append-assoc (take packed words₀) _ _
+                ∙ ap (λ (l : List ℕ). take packed words₀ ++ l)
+                (sym (ap (pack memory) (hit-piece starts ends n c a (a + w) at end hits (p .from) q)
+                ∙ pack-append memory (hitRow starts ends n c a (at - a)) (cellsFrom (c + (at - a)) hits)));
+          };
+        }
+      where
+        f : Fits (length words₀) (length memory) count (c + (at - a)) hits
+        f = packs-fit starts ends n c a w _ _ packed k at count (p .from) (p .first .count-is) end hits q
 
-pub record Unpacks (memory₀ list words memory : List ℕ) (n i : ℕ) : Type 0 where
-  pub low : i ≤ n
-  pub is : memory ≡ unpack memory₀ (take i list) (take i words)
+    pub packing-end : a + w ≤ at → Packed starts ends n c a w memory words₀ packed words count
+    packing-end h = let e : at - a ≡ w = omega (arith, p .to) in rw e at (p .first)
 
-module _ (memory₀ list words : List ℕ) (n : ℕ) where
-  pub unpacks-none : Unpacks memory₀ list words memory₀ n 0
-  unfolding unpack
-  unpacks-none = record { low = omega arith; is = refl }
+pub record Unpacking (starts ends : List ℕ) (n c a w : ℕ) (memory₀ words : List ℕ) (unpacked : ℕ) (memory : List ℕ) (at count : ℕ) : Type 0 where
+  pub from : a ≤ at
+  pub to : at ≤ a + w
+  pub first : Unpacked starts ends n c a (at - a) memory₀ words unpacked memory count
 
-  pub unpacks-long : (memory : List ℕ) (i : ℕ) → Unpacks memory₀ list words memory n i → length memory ≡ length memory₀
-  unpacks-long memory i p = ap length (p .is) ∙ unpack-length (take i list) (take i words) memory₀
+part-add : (l : List ℕ) (i m k : ℕ) → part l i (m + k) ≡ part l i m ++ part l (i + m) k
+unfolding part
+part-add l i m k = take-add m k (drop i l) ∙ ap (λ (z : List ℕ). take m (drop i l) ++ take k z) (drop-drop m i l)
 
-  pub unpacks-more : (memory : List ℕ) (i : ℕ) → Unpacks memory₀ list words memory n i → i < n → n ≤ length list → length words ≡ n
-      → Unpacks memory₀ list words (set memory (getD list i 0) (getD words i 0)) n (i + 1)
-  unfolding unpack
-  unpacks-more memory i p h k l =
-      record {
-        low = omega arith;
-        is = rw (add-one i) (ap (λ (m : List ℕ). set m (getD list i 0) (getD words i 0)) (p .is)
-            ∙ sym (unpack-append memory₀ (take i list) (getD list i 0 ∷ []) (take i words) (getD words i 0 ∷ [])
-            (length-take-le i words (omega arith) ∙ sym (length-take-le i list (omega arith))))
-            ∙ ap (λ (z : List ℕ). unpack memory₀ z (take i words ++ (getD words i 0 ∷ []))) (sym (take-suc list i 0 (omega arith)))
-            ∙ ap (unpack memory₀ (take (suc i) list)) (sym (take-suc words i 0 (omega arith))));
-      }
+module _ (starts ends : List ℕ) (n c a w : ℕ) (memory₀ words : List ℕ) (unpacked : ℕ) where
+  pub unpacking-none : Unpacking starts ends n c a w memory₀ words unpacked memory₀ a unpacked
+  unfolding hitRow unpack
+  unpacking-none =
+      let e : a - a ≡ 0 = omega arith in
+      record { from = omega arith; to = omega arith; first = rw e (record { count-is = omega arith; is = refl }) }
 
-  pub unpacks-end : (memory : List ℕ) (i : ℕ) → Unpacks memory₀ list words memory n i → n ≤ i → length words ≡ n → memory ≡ unpack memory₀ (take n list) words
-  unpacks-end memory i p h l =
-      let e : i ≡ n = omega (arith, p .low) in
-      let q : memory ≡ unpack memory₀ (take n list) (take n words) = rw e at (p .is) in
-      q ∙ ap (λ (k : ℕ). unpack memory₀ (take n list) (take k words)) (sym l) ∙ ap (unpack memory₀ (take n list)) (take-length words)
+  module _ (memory : List ℕ) (at count : ℕ) (p : Unpacking starts ends n c a w memory₀ words unpacked memory at count) where
+    pub unpacking-long : length memory ≡ length memory₀
+    unpacking-long = ap length (p .first .is) ∙ unpack-length (hitRow starts ends n c a (at - a)) _ memory₀
+
+    pub unpacking-more : Room starts ends n c a w (length memory₀) (length words) unpacked → (end hits : ℕ) → PieceIs starts ends n at (a + w) end hits
+        → (memory′ : List ℕ) → memory′ ≡ unpack memory (cellsFrom (c + (at - a)) hits) (part words count hits)
+        → Unpacking starts ends n c a w memory₀ words unpacked memory′ end (count + hits)
+    unpacking-more k end hits q memory′ e =
+        record {
+          from = omega (arith, p .from, q .some);
+          to = q .cut;
+          first = record {
+            count-is = omega (arith, p .first .count-is, counted);
+            is = e
+                ∙ ap (λ (i : ℕ). unpack memory (cellsFrom (c + (at - a)) hits) (part words i hits)) (p .first .count-is)
+                ∙ ap (λ (l : List ℕ). unpack l (cellsFrom (c + (at - a)) hits) (part words (unpacked + length before) hits)) (p .first .is)
+                ∙ sym (unpack-append memory₀ before (cellsFrom (c + (at - a)) hits) (part words unpacked (length before))
+                (part words (unpacked + length before) hits)
+                (part-length words unpacked (length before) (omega (arith, p .first .count-is, f .outer))))
+                ∙ ap (unpack memory₀ (before ++ cellsFrom (c + (at - a)) hits)) (sym (part-add words unpacked (length before) hits))
+                ∙ ap (λ (i : ℕ). unpack memory₀ (before ++ cellsFrom (c + (at - a)) hits) (part words unpacked i)) counted
+                ∙ ap (λ (l : List ℕ). unpack memory₀ l (part words unpacked (length (hitRow starts ends n c a (end - a)))))
+                (sym (hit-piece starts ends n c a (a + w) at end hits (p .from) q));
+          };
+        }
+      where
+        before : List ℕ
+        before = hitRow starts ends n c a (at - a)
+
+        f : Fits (length memory₀) (length words) (c + (at - a)) count hits
+        f = unpacks-fit starts ends n c a w _ _ unpacked k at count (p .from) (p .first .count-is) end hits q
+
+        counted : length before + hits ≡ length (hitRow starts ends n c a (end - a))
+        counted = piece-count starts ends n c a (a + w) at end hits (p .from) q
+
+    pub unpacking-end : a + w ≤ at → Unpacked starts ends n c a w memory₀ words unpacked memory count
+    unpacking-end h = let e : at - a ≡ w = omega (arith, p .to) in rw e at (p .first)

@@ -1,4 +1,4 @@
--- Runs of a row: for each distance the last components from one number on, below another; the cells of a row in one of them, listed.
+-- Runs of a row: for each distance the last components from one number on, below another; the cells of a row in one of them, packed and unpacked.
 -- No sentence of document 02: contracts of functions below the calls cite it.
 use Prim.Native.Nat.{ℕ, zero, suc, _+_, _-_, _≤_, _<_}
 use mathlib.Core.Path.{_≡_}
@@ -7,7 +7,8 @@ use mathlib.Core.Bool.{Bool, true, false}
 use mathlib.Core.List.{List, [], _++_}
 use lib.ListN.{length, getD, take}
 use lib.Dec.{ltb, leb}
-use Rattle.base.specs.Tests.{_and_, some, keepIf}
+use Rattle.base.specs.Tests.{_and_, some, keepIf, tabulate}
+use Rattle.base.specs.Lists.{part, pack, unpack}
 
 -- a number from `low` on, below `high`
 abbrev pub within : ℕ → ℕ → ℕ → Bool
@@ -43,23 +44,31 @@ pub record PieceIs (starts ends : List ℕ) (n a b end hits : ℕ) : Type 0 wher
   pub cut : end ≤ b
   pub alike : ((hits ≡ end - a) × AllHit starts ends n a end) ⊎ ((hits ≡ 0) × NoneHit starts ends n a end)
 
--- a row of w cells has room in the list
-pub record Room (list : List ℕ) (n c a w listed : ℕ) : Type 0 where
+-- the n cells from c on
+abbrev pub cellsFrom : ℕ → ℕ → List ℕ
+cellsFrom c n = tabulate (λ y. c + y) n
+
+-- lists so long have n words from `i` on and from `j` on
+pub record Fits (to from i j n : ℕ) : Type 0 where
+  pub inner : i + n ≤ to
+  pub outer : j + n ≤ from
+  pub short : (to ≤ 16384) × (from ≤ 16384)
+
+-- the w cells of a row are a memory's, and those that are hit have a word each, from `packed` on
+pub record Room (starts ends : List ℕ) (n c a w memory words packed : ℕ) : Type 0 where
   pub few : n ≤ 8
-  pub long : length list ≡ 16384
-  pub low : c + w ≤ 16384
+  pub low : c + w ≤ memory
   pub small : a + w ≤ 1024
-  pub room : listed + w ≤ 16384
+  pub room : packed + length (hitRow starts ends n c a w) ≤ words
+  pub short : (memory ≤ 16384) × (words ≤ 16384)
 
--- the list's first cells as before, then those of the row that are hit
-pub record Listed (starts ends : List ℕ) (n c a w : ℕ) (list₀ : List ℕ) (listed : ℕ) (list : List ℕ) (count : ℕ) : Type 0 where
-  pub long : length list ≡ 16384
-  pub count-is : count ≡ listed + length (hitRow starts ends n c a w)
-  pub is : take count list ≡ take listed list₀ ++ hitRow starts ends n c a w
+-- the first words as before, then those of the row's cells that are hit
+pub record Packed (starts ends : List ℕ) (n c a w : ℕ) (memory words₀ : List ℕ) (packed : ℕ) (words : List ℕ) (count : ℕ) : Type 0 where
+  pub long : length words ≡ length words₀
+  pub count-is : count ≡ packed + length (hitRow starts ends n c a w)
+  pub is : take count words ≡ take packed words₀ ++ pack memory (hitRow starts ends n c a w)
 
--- the list's first n are cells of a memory, as many as there are words
-pub record Cells (list : List ℕ) (n words memory : ℕ) : Type 0 where
-  pub long : length list ≡ 16384
-  pub few : n ≤ 16384
-  pub same : words ≡ n
-  pub low : (i : ℕ) → i < n → getD list i 0 < memory
+-- each of these words at its cell
+pub record Unpacked (starts ends : List ℕ) (n c a w : ℕ) (memory₀ words : List ℕ) (unpacked : ℕ) (memory : List ℕ) (count : ℕ) : Type 0 where
+  pub count-is : count ≡ unpacked + length (hitRow starts ends n c a w)
+  pub is : memory ≡ unpack memory₀ (hitRow starts ends n c a w) (part words unpacked (length (hitRow starts ends n c a w)))

@@ -1,33 +1,10 @@
-// Rows by runs: where each distance reaches in a row; the cells reached, counted or listed; words packed and unpacked by such a list.
+// Rows by runs: where each distance reaches in a row; the cells reached, counted, packed and unpacked, piece by piece.
 ghost use mathlib.Core.Path.{_≡_};
 ghost use mathlib.Core.Logic.{_⊎_};
-ghost use Prim.Native.Nat.{ℕ, _+_, _*_, _≤_, _<_};
-ghost use lib.ListN.{length, getD, take};
-ghost use Rattle.base.specs.Lists.{pack, unpack};
-ghost use Rattle.runs.specs.Runs.{within, isHit, hitRow, AheadIs, PieceIs, Room, Listed, Cells};
-
-// Whether a number lies from `low` on, below `high`.
-fn within(low: usize, high: usize, a: usize) -> bool
-    ensures { λ r. ⌜ r ≡ within low high a ⌝ }
-{
-    if a < low {
-        return false;
-    }
-    a < high
-}
-
-// Whether a last component lies in one of the first n runs.
-fn hit(starts: &[usize; 8], ends: &[usize; 8], n: usize, a: usize) -> bool
-    requires { ⌜ n ≤ 8 ⌝ }
-    ensures { λ r. ⌜ r ≡ isHit (now (starts .entry)) (now (ends .entry)) n a ⌝ }
-{
-    for e in 0..n {
-        if within(starts[e], ends[e], a) {
-            return true;
-        }
-    }
-    false
-}
+ghost use Prim.Native.Nat.{ℕ, _+_, _≤_, _<_};
+ghost use lib.ListN.{length};
+ghost use Rattle.base.specs.Lists.{part, unpack};
+ghost use Rattle.runs.specs.Runs.{cellsFrom, hitRow, AheadIs, PieceIs, Fits, Room, Packed, Unpacked};
 
 // What lies ahead in a row: where the runs that have begun end, and where the next one begins.
 struct Ahead {
@@ -130,48 +107,68 @@ pub fn count_row(
     count
 }
 
-// The cells of a row that lie in one, behind those listed before.
-pub fn list_row(
-    list: &mut [u16; 16384],
+// The n words of one list from `first` on, to another list from `at` on.
+fn copy(to: &mut [u32], from: &[u32], at: usize, first: usize, n: usize)
+    requires { ⌜ Fits (length (now to)) (length (now from)) at first n ⌝ }
+    ensures { λ _. ⌜ now (to .exit) ≡ unpack (now (to .entry)) (cellsFrom at n) (part (now (from .entry)) first n) ⌝ }
+{
+    for y in 0..n {
+        to[at + y] = from[first + y];
+    }
+}
+
+// The words of a row's cells that lie in one, behind those packed before: each piece at once.
+pub fn pack_row(
+    words: &mut [u32],
+    memory: &[u32],
     starts: &[usize; 8],
     ends: &[usize; 8],
     n: usize,
     from: usize,
     component: usize,
     width: usize,
-    listed: usize,
+    packed: usize,
 ) -> usize
-    requires { ⌜ Room (now list) n from component width listed ⌝ }
-    ensures { λ r. ⌜ Listed (now (starts .entry)) (now (ends .entry)) n from component width (now (list .entry)) listed (now (list .exit)) r ⌝ }
+    requires { ⌜ Room (now starts) (now ends) n from component width (length (now memory)) (length (now words)) packed ⌝ }
+    ensures { λ r. ⌜ Packed (now (starts .entry)) (now (ends .entry)) n from component width
+        (now (memory .entry)) (now (words .entry)) packed (now (words .exit)) r ⌝ }
 {
-    let mut count = listed;
-    for y in 0..width {
-        if hit(starts, ends, n, component + y) {
-            list[count] = (from + y) as u16;
-            count += 1;
-        }
+    let to = component + width;
+    let mut at = component;
+    let mut count = packed;
+    while at < to {
+        let piece = piece_of(starts, ends, n, at, to);
+        copy(words, memory, count, from + (at - component), piece.hits);
+        count += piece.hits;
+        at = piece.end;
     }
     count
 }
 
-// The words of the first n cells of a list.
-pub fn pack(list: &[u16; 16384], n: usize, words: &mut [u32], memory: &[u32])
-    requires { ⌜ Cells (now list) n (length (now words)) (length (now memory)) ⌝ }
-    ensures { λ _. ⌜ now (words .exit) ≡ pack (now (memory .entry)) (take n (now (list .entry))) ⌝ }
+// Each of the words behind those unpacked before to its cell, of those of a row that lie in one: each piece at once.
+pub fn unpack_row(
+    memory: &mut [u32],
+    words: &[u32],
+    starts: &[usize; 8],
+    ends: &[usize; 8],
+    n: usize,
+    from: usize,
+    component: usize,
+    width: usize,
+    unpacked: usize,
+) -> usize
+    requires { ⌜ Room (now starts) (now ends) n from component width (length (now memory)) (length (now words)) unpacked ⌝ }
+    ensures { λ r. ⌜ Unpacked (now (starts .entry)) (now (ends .entry)) n from component width
+        (now (memory .entry)) (now (words .entry)) unpacked (now (memory .exit)) r ⌝ }
 {
-    for i in 0..n {
-        let cell = base::half_index(list[i]);
-        words[i] = memory[cell];
+    let to = component + width;
+    let mut at = component;
+    let mut count = unpacked;
+    while at < to {
+        let piece = piece_of(starts, ends, n, at, to);
+        copy(memory, words, from + (at - component), count, piece.hits);
+        count += piece.hits;
+        at = piece.end;
     }
-}
-
-// Each word to its cell.
-pub fn unpack(list: &[u16; 16384], n: usize, memory: &mut [u32], words: &[u32])
-    requires { ⌜ Cells (now list) n (length (now words)) (length (now memory)) ⌝ }
-    ensures { λ _. ⌜ now (memory .exit) ≡ unpack (now (memory .entry)) (take n (now (list .entry))) (now (words .entry)) ⌝ }
-{
-    for i in 0..n {
-        let cell = base::half_index(list[i]);
-        memory[cell] = words[i];
-    }
+    count
 }

@@ -1,5 +1,5 @@
 -- The cells of a slot of a nest with bounds are those found in its box, and in the smaller one of its rows near the window; they grow by rows.
-use Prim.Native.Nat.{ℕ, zero, suc, _+_, _*_, _-_, _/_, _%_, _≤_, _<_}
+use Prim.Native.Nat.{ℕ, zero, suc, _+_, _*_, _-_, _/_, _≤_, _<_}
 use mathlib.Core.Path.{_≡_, refl, sym, ap, _∙_}
 use mathlib.Core.Bool.{Bool, true, false}
 use mathlib.Core.List.{List, [], _∷_, _++_, map, append-assoc, append-nil}
@@ -7,15 +7,18 @@ use native.Mathlib.Nat.{add-zero, add-assoc, suc-mul, mul-le-mul-right}
 use native.Mathlib.Numerals.{add-one}
 use native.Mathlib.Omega.{arith}
 use lib.ListN.{length, getD, take, length-append, length-map}
+use lib.Seq.{length-take-le, take-add}
 use lib.Dec.{eqb, ltb, leb}
 use borrow.Author.Tests.{eqb-true, eq-eqb, ltb-true, lt-ltb}
 use Rattle.base.specs.Tests.{_and_, every, some, keep}
+use Rattle.base.specs.Lists.{part, pack, unpack}
 use Rattle.base.proofs.Tests.{both, and-true, same-test, every-at, every-all, some-at, some-one, some-same}
-use Rattle.base.proofs.Select.{keep-hit, keep-none, keep-few, keep-same}
+use Rattle.base.proofs.Select.{keep-hit, keep-none, keep-few, keep-mono, keep-same}
+use Rattle.base.proofs.Lists.{pack-append, unpack-append, unpack-length}
 use Rattle.nest.specs.declared.Nest.{Nest}
 use Rattle.nest.specs.Accepted.{Accepted}
 use Rattle.nest.specs.Nest.{lengthOf, tileLength, component, cells, boxTiles}
-use Rattle.nest.specs.Places.{cellAt, cellPlace, tilePlace, boxTileOf}
+use Rattle.nest.specs.Places.{cellPlace, tilePlace, boxTileOf}
 use Rattle.nest.specs.Shape.{inShape}
 use Rattle.nest.specs.Spans.{last}
 use Rattle.plan.specs.declared.Route.the-variants.{Direct}
@@ -34,9 +37,9 @@ use Rattle.parcels.specs.Windows.{windowOf}
 use Rattle.parcels.specs.Sendings.{boxOf, placeIn, cellIn, Boxed, Windowed, Shaped, Sends}
 use Rattle.parcels.proofs.Sendings.{size-is}
 use Rattle.parcels.proofs.Rows.{box-within, cell-before, cell-last, cell-number, row-corner}
-use Rattle.runs.specs.Runs.{isHit, hitRow, Listed}
+use Rattle.runs.specs.Runs.{isHit, hitRow, Packed, Unpacked}
 use Rattle.runs.proofs.Laws.{hit-start, hit-one, hit-none}
-use Rattle.shaped.specs.Runs.{inPlace, reachesPlace, comesShaped}
+use Rattle.shaped.specs.Runs.{reachesPlace, comesShaped}
 use Rattle.shaped.specs.Parcels.{shapedFound, Near, RowRuns}
 use Rattle.shaped.proofs.Runs.{place-same, shape-cell, shape-at}
 
@@ -74,8 +77,10 @@ module _ (x : Nest) (ok : Accepted x) where
         let r = some-at (reachesShape x t v c) (x .distances) (q .1) in
         let m = both (r .2) in
         let d = both (m .0) in
-        let stays : (j : ℕ) → j < x .dimensions → cellPlace x c j + component x (r .0) j < lengthOf x j = λ j l. ltb-true _ _ (every-at _ (x .dimensions) (d .0) j l) in
-        let steps : (j : ℕ) → j < x .spread → (cellPlace x c j + component x (r .0) j) / tileLength x j ≡ tilePlace x t j + ahead x v j = λ j l. eqb-true _ _ (every-at _ (x .spread) (d .1) j l) in
+        let stays : (j : ℕ) → j < x .dimensions → cellPlace x c j + component x (r .0) j < lengthOf x j =
+        λ j l. ltb-true _ _ (every-at _ (x .dimensions) (d .0) j l) in
+        let steps : (j : ℕ) → j < x .spread → (cellPlace x c j + component x (r .0) j) / tileLength x j ≡ tilePlace x t j + ahead x v j =
+        λ j l. eqb-true _ _ (every-at _ (x .spread) (d .1) j l) in
         let own : (j : ℕ) → j < x .dimensions → cellPlace x c j / tileLength x j ≡ tilePlace x t j =
         λ j l. sym (tilePlace-boxTileOf x ok c j l) ∙ ap (λ (u : ℕ). tilePlace x u j) (eqb-true _ _ (q .0)) in
         and-true
@@ -99,7 +104,8 @@ module _ (x : Nest) (ok : Accepted x) where
         (and-true
         (and-true (every-all (λ j. ltb (cellPlace x c j + component x (r .0) j) (lengthOf x j)) (x .dimensions) (λ j l. lt-ltb _ _ (stays j l)))
         (every-all (λ j. eqb ((cellPlace x c j + component x (r .0) j) / tileLength x j) (tilePlace x t j + ahead x v j)) (x .spread)
-        (λ j s. eq-eqb ((cellPlace x c j + component x (r .0) j) / tileLength x j) (tilePlace x t j + ahead x v j) (let p = steps j s in omega (arith, p .0, p .1)))))
+        (λ j s. eq-eqb ((cellPlace x c j + component x (r .0) j) / tileLength x j) (tilePlace x t j + ahead x v j)
+        (let p = steps j s in omega (arith, p .0, p .1)))))
         (shape-at x ok (λ j. cellPlace x c j + component x (r .0) j) stays ∙ n .1))))
 
     shaped-test : crossesShape ≡ shapedTest
@@ -183,6 +189,10 @@ module _ (x : Nest) (z : Sending) where
   unfolding shapedFound
   found-few q = simp length-map (keep-few (test x z) q)
 
+  found-upto : (q n : ℕ) → q ≤ n → length (shapedFound x z q) ≤ length (shapedFound x z n)
+  unfolding shapedFound
+  found-upto q n h = simp length-map (keep-mono (test x z) n q h)
+
 module _ (x : Nest) (ok : Accepted x) (z : Sending) (p : Shaped x z) (r : ℕ) (at : List ℕ) (n : ℕ) (starts ends : List ℕ)
     (f : RowRuns x z r at n starts ends) where
   abbrev first : ℕ
@@ -232,19 +242,20 @@ row-cells x ok z p r h =
       cellAt-low x ok (placeIn x z (r * z .width + (z .width - 1))) (box-within x ok z p (r * z .width + (z .width - 1))),
     )
 
-pub row-in : (r w n : ℕ) → r < n → (r + 1) * w ≤ n * w
-row-in r w n h = mul-le-mul-right w (omega arith)
-
--- ---- the count and the list that grow by rows
+-- ---- the count, the packed words and the memory that grow by rows
 
 pub record Counting (x : Nest) (z : Sending) (count r : ℕ) : Type 0 where
   pub low : r ≤ z .rows
   pub is : count ≡ length (shapedFound x z (r * z .width))
 
-pub record Listing (x : Nest) (z : Sending) (list : List ℕ) (count r : ℕ) : Type 0 where
+pub record Packing (x : Nest) (z : Sending) (memory words : List ℕ) (count r : ℕ) : Type 0 where
   pub counted : Counting x z count r
-  pub long : length list ≡ 16384
-  pub is : take count list ≡ shapedFound x z (r * z .width)
+  pub long : length words ≡ length (shapedFound x z (z .rows * z .width))
+  pub is : take count words ≡ pack memory (shapedFound x z (r * z .width))
+
+pub record Unpacking (x : Nest) (z : Sending) (memory₀ words memory : List ℕ) (count r : ℕ) : Type 0 where
+  pub counted : Counting x z count r
+  pub is : memory ≡ unpack memory₀ (shapedFound x z (r * z .width)) (take count words)
 
 module _ (x : Nest) (z : Sending) where
   none-yet : shapedFound x z (0 * z .width) ≡ []
@@ -256,47 +267,89 @@ module _ (x : Nest) (z : Sending) where
   pub counting-none : Counting x z 0 0
   counting-none = record { low = omega arith; is = ap length (sym none-yet) }
 
-  pub listing-none : (list : List ℕ) → length list ≡ 16384 → Listing x z list 0 0
-  listing-none list h = record { counted = counting-none; long = h; is = sym none-yet }
+  pub packing-none : (memory words : List ℕ) → length words ≡ length (shapedFound x z (z .rows * z .width)) → Packing x z memory words 0 0
+  unfolding pack
+  packing-none memory words h = record { counted = counting-none; long = h; is = ap (pack memory) (sym none-yet) }
+
+  pub unpacking-none : (memory words : List ℕ) → Unpacking x z memory words memory 0 0
+  unfolding unpack
+  unpacking-none memory words = record { counted = counting-none; is = ap (λ (l : List ℕ). unpack memory l []) (sym none-yet) }
+
+  pub unpacking-long : (memory₀ words memory : List ℕ) (count r : ℕ) → Unpacking x z memory₀ words memory count r → length memory ≡ length memory₀
+  unpacking-long memory₀ words memory count r g = ap length (g .is) ∙ unpack-length (shapedFound x z (r * z .width)) (take count words) memory₀
 
   pub counting-few : (count r : ℕ) → Counting x z count r → count ≤ r * z .width
   counting-few count r g = omega (arith, g .is, found-few x z (r * z .width))
 
-  pub counting-end : (count r : ℕ) → Counting x z count r → z .rows ≤ r → r ≡ z .rows
-  counting-end count r g h = omega (arith, g .low)
+  pub counting-upto : (count r : ℕ) → Counting x z count r → count ≤ length (shapedFound x z (z .rows * z .width))
+  counting-upto count r g =
+      omega (arith, g .is, found-upto x z (r * z .width) (z .rows * z .width) (mul-le-mul-right (z .width) (g .low)))
 
   module _ (ok : Accepted x) (p : Shaped x z) (r : ℕ) (low : r < z .rows) (at : List ℕ) (n : ℕ) (starts ends : List ℕ)
       (f : RowRuns x z r at n starts ends) where
-    pub counting-row : (count more : ℕ) → Counting x z count r → ((c : ℕ) → more ≡ length (hitRow starts ends n c (getD at (last x) 0) (z .width)))
-        → Counting x z (count + more) (r + 1)
+    abbrev cell : ℕ
+    cell = cellIn x z (r * z .width)
+
+    abbrev rowHits : ℕ → List ℕ
+    rowHits c = hitRow starts ends n c (getD at (last x) 0) (z .width)
+
+    pub counting-row : (count more : ℕ) → Counting x z count r → ((c : ℕ) → more ≡ length (rowHits c)) → Counting x z (count + more) (r + 1)
     counting-row count more g h =
         record {
           low = omega arith;
           is = omega (
             arith,
             g .is,
-            h (cellIn x z (r * z .width)),
+            h cell,
             ap length (row-found x ok z p r at n starts ends f),
-            length-append (shapedFound x z (r * z .width)) (hitRow starts ends n (cellIn x z (r * z .width)) (getD at (last x) 0) (z .width)),
+            length-append (shapedFound x z (r * z .width)) (rowHits cell),
           );
         }
 
-    pub listing-row : (list : List ℕ) (count : ℕ) → Listing x z list count r → (c : ℕ) → c ≡ cellIn x z (r * z .width) → (list′ : List ℕ) (count′ : ℕ)
-        → Listed starts ends n c (getD at (last x) 0) (z .width) list count list′ count′ → Listing x z list′ count′ (r + 1)
-    listing-row list count g c ec list′ count′ d =
-        let d′ : Listed starts ends n (cellIn x z (r * z .width)) (getD at (last x) 0) (z .width) list count list′ count′ = rw ec at d in
-        record {
-          counted = record {
+    module _ (count : ℕ) (g : Counting x z count r) where
+      counted : (count′ : ℕ) → count′ ≡ count + length (rowHits cell) → Counting x z count′ (r + 1)
+      counted count′ e =
+          record {
             low = omega arith;
             is = omega (
               arith,
-              g .counted .is,
-              d′ .count-is,
+              e,
+              g .is,
               ap length (row-found x ok z p r at n starts ends f),
-              length-append (shapedFound x z (r * z .width)) (hitRow starts ends n (cellIn x z (r * z .width)) (getD at (last x) 0) (z .width)),
+              length-append (shapedFound x z (r * z .width)) (rowHits cell),
             );
-          };
-          long = d′ .long;
-          is = d′ .is ∙ ap (λ (m : List ℕ). m ++ hitRow starts ends n (cellIn x z (r * z .width)) (getD at (last x) 0) (z .width)) (g .is)
-              ∙ sym (row-found x ok z p r at n starts ends f);
-        }
+          }
+
+      pub counting-room : count + length (rowHits cell) ≤ length (shapedFound x z (z .rows * z .width))
+      counting-room = counting-upto _ (r + 1) (counted _ refl)
+
+    module _ (c : ℕ) (is : c ≡ cell) where
+      pub packing-row : (memory words : List ℕ) (count : ℕ) → Packing x z memory words count r → (words′ : List ℕ) (count′ : ℕ)
+          → Packed starts ends n c (getD at (last x) 0) (z .width) memory words count words′ count′ → Packing x z memory words′ count′ (r + 1)
+      packing-row memory words count g words′ count′ d =
+          let d′ : Packed starts ends n cell (getD at (last x) 0) (z .width) memory words count words′ count′ = rw is at d in
+          record {
+            counted = counted count (g .counted) count′ (d′ .count-is);
+            long = d′ .long ∙ g .long;
+            is = d′ .is
+                ∙ ap (λ (l : List ℕ). l ++ pack memory (rowHits cell)) (g .is)
+                ∙ sym (ap (pack memory) (row-found x ok z p r at n starts ends f) ∙ pack-append memory (shapedFound x z (r * z .width)) (rowHits cell));
+          }
+
+      pub unpacking-row : (memory₀ words memory : List ℕ) (count : ℕ) → Unpacking x z memory₀ words memory count r → count ≤ length words
+          → (memory′ : List ℕ) (count′ : ℕ) → Unpacked starts ends n c (getD at (last x) 0) (z .width) memory words count memory′ count′
+          → Unpacking x z memory₀ words memory′ count′ (r + 1)
+      unfolding part
+      unpacking-row memory₀ words memory count g low memory′ count′ d =
+          let d′ : Unpacked starts ends n cell (getD at (last x) 0) (z .width) memory words count memory′ count′ = rw is at d in
+          record {
+            counted = counted count (g .counted) count′ (d′ .count-is);
+            is = d′ .is
+                ∙ ap (λ (l : List ℕ). unpack l (rowHits cell) (part words count (length (rowHits cell)))) (g .is)
+                ∙ sym (unpack-append memory₀ (shapedFound x z (r * z .width)) (rowHits cell) (take count words) (part words count (length (rowHits cell)))
+                (length-take-le count words low ∙ g .counted .is))
+                ∙ ap (λ (l : List ℕ). unpack memory₀ l (take count words ++ part words count (length (rowHits cell))))
+                (sym (row-found x ok z p r at n starts ends f))
+                ∙ ap (unpack memory₀ (shapedFound x z ((r + 1) * z .width)))
+                (sym (take-add count (length (rowHits cell)) words) ∙ ap (λ (i : ℕ). take i words) (sym (d′ .count-is)));
+          }

@@ -2,4 +2,3 @@ pub mod Runs
 pub mod Found
 pub mod Rows
 pub mod Listing
-pub mod Tiles

@@ -1,15 +1,12 @@
--- A slot's cells as the code counts and lists them: the slot of a tile and a way, its rows, a row's room, the whole list, words by it.
-use Prim.Native.Nat.{ℕ, _+_, _*_, _-_, _/_, _%_, _≤_, _<_}
+-- A slot's cells as the code counts, packs and unpacks them: the slot of a tile and a way, its rows, a row's room, all rows.
+use Prim.Native.Nat.{ℕ, _+_, _*_, _-_, _≤_, _<_}
 use mathlib.Core.Path.{_≡_, refl, sym, ap, _∙_}
 use mathlib.Core.List.{List}
-use native.Mathlib.Nat.{mul-le-mul-right, suc-mul}
-use native.Mathlib.Numerals.{add-one}
+use native.Mathlib.Nat.{mul-le-mul-right}
 use native.Mathlib.Omega.{arith}
 use lib.ListN.{length, getD, take}
-use lib.Seq.{getD-take, length-take-le}
-use Rattle.base.specs.Lists.{In}
-use Rattle.base.proofs.Select.{keep-in}
-use Rattle.base.proofs.Entries.{at-in}
+use lib.Seq.{take-length}
+use Rattle.base.specs.Lists.{pack, unpack}
 use Rattle.nest.specs.declared.Nest.{Nest}
 use Rattle.nest.specs.Accepted.{Accepted}
 use Rattle.nest.specs.Nest.{lengthOf, cells, boxTiles}
@@ -26,11 +23,11 @@ use Rattle.layout.specs.Sizes.{along}
 use Rattle.layout.specs.Places.{nth, Has}
 use Rattle.layout.proofs.Steps.{ways-few}
 use Rattle.parcels.specs.declared.Sending.{Sending}
-use Rattle.parcels.specs.Sendings.{Headed, Shaped, Sends}
+use Rattle.parcels.specs.Sendings.{Headed, Shaped, Sends, cellIn}
 use Rattle.parcels.proofs.Rows.{size-few, row-number}
-use Rattle.runs.specs.Runs.{Room, Cells}
-use Rattle.shaped.specs.Parcels.{shapedFound, Near, Rows, RowRuns, Lists}
-use Rattle.shaped.proofs.Found.{near-found, row-last, row-in, row-cells, Counting, counting-few, Listing}
+use Rattle.runs.specs.Runs.{Room}
+use Rattle.shaped.specs.Parcels.{shapedFound, Near, Rows, RowRuns}
+use Rattle.shaped.proofs.Found.{near-found, found-few, row-last, row-cells, Counting, counting-few, counting-room, Packing, Unpacking}
 
 -- ---- the slot of a tile of the box and a way
 
@@ -91,21 +88,29 @@ module _ (x : Nest) (ok : Accepted x) (z : Sending) (p : Shaped x z) (r : ℕ) (
     ok .length-most (last x),
   )
 
-  pub row-room : (list : List ℕ) (count : ℕ) → Listing x z list count r → (c : ℕ) → c ≡ rank (nth (x .lengths)) (nth at) (x .dimensions)
-      → Room list n c (getD at (last x) 0) (z .width) count
-  row-room list count g c is =
+  pub row-room : (count : ℕ) → Counting x z count r → (c : ℕ) → c ≡ rank (nth (x .lengths)) (nth at) (x .dimensions) → (memory words : ℕ)
+      → memory ≡ cells x → words ≡ length (shapedFound x z (z .rows * z .width))
+      → Room starts ends n c (getD at (last x) 0) (z .width) memory words count
+  row-room count g c is memory words m e =
       record {
         few = f .runs .few;
-        long = g .long;
-        low = omega (arith, is, row-number x z r at (f .place), row-cells x ok z p r low, ok .cells-most);
+        low = omega (arith, here, row-cells x ok z p r low, m);
         small = row-small;
-        room = omega (arith, counting-few x z count r (g .counted), size-few x ok z p, row-in r (z .width) (z .rows) low, row-next r (z .width));
+        room = rw (here, e) (counting-room x z ok p r low at n starts ends f count g);
+        short = (omega (arith, m, ok .cells-most), omega (arith, e, found-few x z (z .rows * z .width), size-few x ok z p));
       }
     where
-      row-next : (r w : ℕ) → (r + 1) * w ≡ r * w + w
-      row-next r w = rw (add-one r) (suc-mul r w)
+      here : c ≡ cellIn x z (r * z .width)
+      here = is ∙ row-number x z r at (f .place)
 
--- ---- the whole list, and how many
+-- ---- all rows
+
+module _ (x : Nest) (u v : ℕ) (z : Sending) (q : Rows x u v z) where
+  pub words-found : (words : ℕ) → words ≡ length (shapedParcel x u v) → words ≡ length (shapedFound x z (z .rows * z .width))
+  words-found words e = e ∙ ap length (q .cells)
+
+  all-found : (count r : ℕ) → Counting x z count r → z .rows ≤ r → shapedFound x z (r * z .width) ≡ shapedParcel x u v
+  all-found count r g k = let e : r ≡ z .rows = omega (arith, g .low) in ap (λ (i : ℕ). shapedFound x z (i * z .width)) e ∙ sym (q .cells)
 
 module _ (x : Nest) (ok : Accepted x) (u v : ℕ) (z : Sending) (q : Rows x u v z) where
   pub counts-few : (count r : ℕ) → Counting x z count r → count ≤ 16384
@@ -113,35 +118,17 @@ module _ (x : Nest) (ok : Accepted x) (u v : ℕ) (z : Sending) (q : Rows x u v 
       omega (arith, counting-few x z count r g, size-few x ok z (q .shape), mul-le-mul-right (z .width) (g .low))
 
   pub counts-all : (count r : ℕ) → Counting x z count r → z .rows ≤ r → (count ≡ length (shapedParcel x u v)) × (count ≤ 16384)
-  counts-all count r g k =
-      let e : r ≡ z .rows = omega (arith, g .low) in
-      (g .is ∙ ap (λ (i : ℕ). length (shapedFound x z (i * z .width))) e ∙ ap length (sym (q .cells)), counts-few count r g)
+  counts-all count r g k = (g .is ∙ ap length (all-found x u v z q count r g k), counts-few count r g)
 
-  pub lists-all : (list : List ℕ) (count r : ℕ) → Listing x z list count r → z .rows ≤ r → Lists x u v list count
-  lists-all list count r g k =
-      let e : r ≡ z .rows = omega (arith, g .counted .low) in
-      record {
-        long = g .long;
-        few = counts-few count r (g .counted);
-        is = g .is ∙ ap (λ (i : ℕ). shapedFound x z (i * z .width)) e ∙ sym (q .cells);
-      }
+  pub packs-all : (memory words : List ℕ) (count r : ℕ) → Packing x z memory words count r → z .rows ≤ r → words ≡ pack memory (shapedParcel x u v)
+  packs-all memory words count r g k =
+      let e : count ≡ length words = counts-all count r (g .counted) k .0 ∙ sym (g .long ∙ ap length (sym (q .cells))) in
+      sym (take-length words) ∙ ap (λ (i : ℕ). take i words) (sym e) ∙ g .is ∙ ap (pack memory) (all-found x u v z q count r (g .counted) k)
 
--- ---- words by the list
-
-module _ (x : Nest) (u v : ℕ) (list : List ℕ) (n : ℕ) (f : Lists x u v list n) where
-  pub listed : n ≡ length (shapedParcel x u v)
-  listed = sym (length-take-le n list (omega (arith, f .few, f .long))) ∙ ap length (f .is)
-
-  pub cells-ready : (words memory : ℕ) → words ≡ length (shapedParcel x u v) → memory ≡ cells x → Cells list n words memory
-  unfolding shapedParcel
-  cells-ready words memory e m =
-      record {
-        long = f .long;
-        few = f .few;
-        same = e ∙ sym listed;
-        low = λ i h. rw m (keep-in _ (cells x) (getD list i 0) (inside i h) .0);
-      }
-    where
-      inside : (i : ℕ) → i < n → In (getD list i 0) (shapedParcel x u v)
-      inside i h =
-          rw (sym (getD-take n list i 0 h) ∙ ap (λ (k : List ℕ). getD k i 0) (f .is)) (at-in (shapedParcel x u v) i (omega (arith, listed)))
+  pub unpacks-all : (memory₀ words memory : List ℕ) (count r : ℕ) → Unpacking x z memory₀ words memory count r → z .rows ≤ r
+      → length words ≡ length (shapedParcel x u v) → memory ≡ unpack memory₀ (shapedParcel x u v) words
+  unpacks-all memory₀ words memory count r g k h =
+      let e : count ≡ length words = counts-all count r (g .counted) k .0 ∙ sym h in
+      g .is
+      ∙ ap (λ (l : List ℕ). unpack memory₀ l (take count words)) (all-found x u v z q count r (g .counted) k)
+      ∙ ap (unpack memory₀ (shapedParcel x u v)) (ap (λ (i : ℕ). take i words) e ∙ take-length words)

@@ -1,6 +1,6 @@
 -- The rows near the window: how far the distances go, and the smaller box.
 use Prim.Native.Nat.{ℕ, _+_, _*_, _-_, _/_, _%_, min, _≤_, _<_}
-use mathlib.Core.Path.{_≡_, refl, sym, ap, _∙_}
+use mathlib.Core.Path.{_≡_, refl, ap, _∙_}
 use mathlib.Core.Logic.{_⊎_, inl, inr}
 use mathlib.Core.List.{List}
 use native.Mathlib.Decide.{ℕ-discrete}
@@ -16,8 +16,6 @@ use Rattle.nest.specs.Spans.{last}
 use Rattle.layout.specs.Places.{nth, Countable, Placed}
 use Rattle.layout.proofs.CellRows.{fewer}
 use Rattle.layout.proofs.Loops.{Filled}
-use Rattle.parcels.specs.declared.Block.{Block}
-use Rattle.parcels.specs.declared.Window.{Window}
 use Rattle.parcels.specs.declared.Sending.{Sending}
 use Rattle.parcels.specs.Windows.{windowOf}
 use Rattle.parcels.specs.Sendings.{Shaped}

@@ -1,5 +1,5 @@
 -- Laws of runs in a row: the row's own span, what a distance reads, what it reaches.
-use Prim.Native.Nat.{ℕ, zero, suc, _+_, _*_, _-_, _≤_, _<_, min}
+use Prim.Native.Nat.{ℕ, _+_, _*_, _-_, _≤_, _<_, min}
 use mathlib.Core.Path.{_≡_, refl, sym, ap, _∙_}
 use mathlib.Core.Logic.{_⊎_, inl, inr}
 use mathlib.Core.Bool.{Bool, true, false}
@@ -9,14 +9,13 @@ use native.Mathlib.Decide.{ℕ-discrete, decLt}
 use native.Mathlib.Omega.{arith}
 use lib.ListN.{length, getD, set, length-set}
 use lib.Seq.{getD-set-same, getD-set-other}
-use lib.Dec.{eqb, ltb, leb}
 use borrow.Author.Tests.{eq-eqb, ne-eqb, lt-ltb, ltb-true, le-leb, leb-true, le-ltb, lt-leb}
-use Rattle.base.specs.Tests.{_and_, _or_, pick, every, some}
+use Rattle.base.specs.Tests.{_or_, some}
 use Rattle.base.proofs.Tests.{both, and-true, and-false, same-test, every-at, every-all, every-not, some-same, pick-true, pick-false, is-false, never-both}
 use Rattle.nest.specs.declared.Nest.{Nest}
 use Rattle.nest.specs.declared.Interval.{Interval}
 use Rattle.nest.specs.Accepted.{Accepted}
-use Rattle.nest.specs.Nest.{lengthOf, component, cells}
+use Rattle.nest.specs.Nest.{lengthOf, component}
 use Rattle.nest.specs.Places.{cellAt, cellPlace}
 use Rattle.nest.specs.Shape.{meets, inShape}
 use Rattle.nest.specs.Spans.{last, rowPlace, meetsFirst, spot, Narrow, Spans}
@@ -65,7 +64,10 @@ module _ (x : Nest) (ok : Accepted x) where
   -- the row's own
   pub span-run : (at : List ℕ) (s : Interval) → Spans x at s → RunIs x (nth at) (inPlace x) (s .from) (s .to)
   unfolding meetsFirst inPlace rowPlace
-  span-run at s p = record { is = λ k h l. sym (p .has (k (last x)) l) ∙ place-same (rowPlace x (spot at) (k (last x))) k (λ j o. go k h j o (ℕ-discrete j (last x))) }
+  span-run at s p =
+      record {
+        is = λ k h l. sym (p .has (k (last x)) l) ∙ place-same (rowPlace x (spot at) (k (last x))) k (λ j o. go k h j o (ℕ-discrete j (last x)));
+      }
     where
       go : (k : ℕ → ℕ) → ((j : ℕ) → j < last x → k j ≡ getD at j 0) → (j : ℕ) → j < x .dimensions → Dec (j ≡ last x) → rowPlace x (spot at) (k (last x)) j ≡ k j
       go k h j o (yes e) = pick-true _ _ _ (eq-eqb j (last x) e) ∙ ap k (sym e)
@@ -114,7 +116,7 @@ module _ (x : Nest) (ok : Accepted x) where
             in-run low top (k (last x)) (b (k (last x)) (r1 .0) (r3 .0)) (d (k (last x)) (r1 .1) r2 (r3 .1))
 
     -- by what the code makes
-    pub reach-made : (f1 t1 end f2 t2 d low top : ℕ) → d ≡ component x e (last x) → (f1 ≤ low) × ((f2 - d ≤ low) × ((low ≡ f1) ⊎ (low ≡ f2 - d)))
+    reach-made : (f1 t1 end f2 t2 d low top : ℕ) → d ≡ component x e (last x) → (f1 ≤ low) × ((f2 - d ≤ low) × ((low ≡ f1) ⊎ (low ≡ f2 - d)))
         → top ≡ min (min t1 end) (t2 - d)
         → RunIs x i (inPlace x) f1 t1 → RowEnd x w i e end → RunIs x t (inPlace x) f2 t2 → RunIs x i (reachesPlace x w e) low top
     reach-made f1 t1 end f2 t2 d low top z m n own ends far =

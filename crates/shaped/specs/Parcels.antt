@@ -3,7 +3,7 @@
 use Prim.Native.Nat.{ℕ, _+_, _*_, _≤_, _<_}
 use mathlib.Core.Path.{_≡_}
 use mathlib.Core.List.{List, map}
-use lib.ListN.{length, getD, take}
+use lib.ListN.{getD}
 use Rattle.base.specs.Tests.{keep}
 use Rattle.nest.specs.declared.Nest.{Nest}
 use Rattle.nest.specs.Nest.{lengthOf, component}
@@ -44,9 +44,3 @@ pub record Rows (x : Nest) (u v : ℕ) (z : Sending) : Type 0 where
 pub record RowRuns (x : Nest) (z : Sending) (r : ℕ) (at : List ℕ) (n : ℕ) (starts ends : List ℕ) : Type 0 where
   pub place : Has at (placeIn x z (r * z .width)) (x .dimensions)
   pub runs : RunsAre x (nth at) (comesShaped x (windowOf (z .window))) n starts ends
-
--- the list begins with the n cells of tile u and direction v
-pub record Lists (x : Nest) (u v : ℕ) (list : List ℕ) (n : ℕ) : Type 0 where
-  pub long : length list ≡ 16384
-  pub few : n ≤ 16384
-  pub is : take n list ≡ shapedParcel x u v

@@ -4,7 +4,6 @@ use Prim.Native.Nat.{ℕ, _+_, _-_, _≤_, _<_}
 use mathlib.Core.Path.{_≡_}
 use mathlib.Core.Bool.{Bool}
 use mathlib.Core.List.{List}
-use lib.ListN.{length, getD}
 use lib.Dec.{leb}
 use Rattle.base.specs.Tests.{_and_, every, some}
 use Rattle.nest.specs.declared.Nest.{Nest}

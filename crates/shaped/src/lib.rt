@@ -1,14 +1,12 @@
-// Nests with bounds, by rows and spans: the cells of a slot counted and listed, its parcel packed and unpacked.
+// Nests with bounds, by rows and spans: the cells of a slot counted, its parcel packed and unpacked.
 ghost use mathlib.Core.Path.{_≡_};
 ghost use mathlib.Core.Logic.{_⊎_};
-ghost use mathlib.Core.Bool.{true};
 ghost use Prim.Native.Nat.{ℕ, _+_, _-_, _≤_, _<_};
 ghost use lib.ListN.{length, getD};
 ghost use Rattle.base.specs.Lists.{pack, unpack};
 ghost use Rattle.nest.specs.Accepted.{Accepted};
 ghost use Rattle.nest.specs.Nest.{lengthOf, component, cells, boxTiles};
 ghost use Rattle.nest.specs.Places.{tilePlace};
-ghost use Rattle.nest.specs.Shape.{meets};
 ghost use Rattle.nest.specs.Spans.{last, Narrow, Spans};
 ghost use Rattle.plan.specs.declared.Route.the-variants.{Direct};
 ghost use Rattle.plan.specs.Messages.{ways};
@@ -19,9 +17,8 @@ ghost use Rattle.layout.specs.Places.{nth, Has};
 ghost use Rattle.layout.specs.CellRows.{Given};
 ghost use Rattle.parcels.specs.Windows.{windowOf, RowEnd};
 ghost use Rattle.parcels.specs.Sendings.{Shaped};
-ghost use Rattle.shaped.specs.Whole.{Around, Wide, Between, Whole};
-ghost use Rattle.shaped.specs.Runs.{inPlace, RunIs, reachesPlace, comesShaped, RunsAre};
-ghost use Rattle.shaped.specs.Parcels.{Farthest, Near, Rows, RowRuns, Lists};
+ghost use Rattle.shaped.specs.Runs.{RunIs, reachesPlace, comesShaped, RunsAre};
+ghost use Rattle.shaped.specs.Parcels.{Farthest, Near, Rows, RowRuns};
 use layout::Sizes;
 use nest::Interval;
 use nest::Nest;
@@ -244,14 +241,22 @@ pub fn count_of(
     count
 }
 
-// The same cells, listed in index order.
-pub fn cells_of(nest: Nest, sizes: Sizes, tile: usize, way: usize, list: &mut [u16; 16384]) -> usize
+// The rows that hold the cells of a tile of the box and a way, whose place and distances are looked at here.
+fn rows_at(nest: Nest, sizes: Sizes, tile: usize, way: usize) -> Sending
     requires { ⌜ Sized nest sizes × ((sizes .route ≡ Direct) × ((tile < boxTiles nest) × (way < ways Direct nest))) ⌝ }
-    requires { ⌜ length (now list) ≡ 16384 ⌝ }
-    ensures { λ r. ⌜ Lists nest tile (way + 1) (now (list .exit)) r ⌝ }
+    ensures { λ r. ⌜ Rows nest tile (way + 1) r ⌝ }
 {
     let at = layout::place_of_tile(nest, sizes, tile);
-    let rows = rows_of(nest, sizes, farthest(nest), tile, at, way);
+    rows_of(nest, sizes, farthest(nest), tile, at, way)
+}
+
+// The words of a slot's parcel, row by row.
+pub fn pack(nest: Nest, sizes: Sizes, tile: usize, way: usize, words: &mut [u32], memory: &[u32])
+    requires { ⌜ Sized nest sizes × ((sizes .route ≡ Direct) × ((tile < boxTiles nest) × (way < ways Direct nest))) ⌝ }
+    requires { ⌜ (length (now memory) ≡ cells nest) × (length (now words) ≡ length (shapedParcel nest tile (way + 1))) ⌝ }
+    ensures { λ _. ⌜ now (words .exit) ≡ pack (now (memory .entry)) (shapedParcel nest tile (way + 1)) ⌝ }
+{
+    let rows = rows_at(nest, sizes, tile, way);
     let components = nest.components;
     let lengths = nest.lengths;
     let n = rows.rows;
@@ -263,8 +268,9 @@ pub fn cells_of(nest: Nest, sizes: Sizes, tile: usize, way: usize, list: &mut [u
         let starts = row.starts;
         let ends = row.ends;
         let number = layout::rank(lengths, place, nest.dimensions);
-        count = runs::list_row(
-            list,
+        count = runs::pack_row(
+            words,
+            memory,
             &starts,
             &ends,
             row.runs,
@@ -274,104 +280,36 @@ pub fn cells_of(nest: Nest, sizes: Sizes, tile: usize, way: usize, list: &mut [u
             count,
         );
     }
-    count
 }
 
-// The tile at a place and what is near it: from one tile before to two after it, in each dimension.
-fn around(nest: Nest, at: [usize; 4]) -> Window
-    requires { ⌜ Accepted nest × ((j : ℕ) → j < nest .dimensions → getD at j 0 ≤ 1024) ⌝ }
-    ensures { λ r. ⌜ Around nest at r ⌝ }
-{
-    let tiling = nest.tiling;
-    let n = nest.dimensions;
-    let mut low = [0; 4];
-    let mut high = [0; 4];
-    for j in 0..n {
-        let first = at[j] * tiling[j];
-        low[j] = less(first, tiling[j]);
-        high[j] = first + 2 * tiling[j];
-    }
-    Window {
-        low: low,
-        high: high,
-    }
-}
-
-// Of two components of the earlier dimension, at which one a bound leaves less: where its slope is not negative, the second.
-fn worst(slope: usize, a: usize, b: usize) -> usize
-    ensures { λ r. ⌜ (slope ≡ 0 → r ≡ a) × (0 < slope → r ≡ b) ⌝ }
-{
-    if slope == 0 {
-        return a;
-    }
-    b
-}
-
-// Whether bound k leaves all of a box: its worst corner meets it.
-fn clears(nest: Nest, area: Window, k: usize) -> bool
-    requires { ⌜ Accepted nest × ((k < nest .bounds) × Wide nest area) ⌝ }
-    ensures { λ r. ⌜ (r ≡ true → (i : ℕ → ℕ) → Between nest area i → meets nest i k ≡ true) ⌝ }
-{
-    let sides = nest.sides;
-    let bounded = nest.bounded;
-    let earlier = nest.earlier;
-    let slopes = nest.slopes;
-    let offsets = nest.offsets;
-    let low = area.low;
-    let high = area.high;
-    let j = bounded[k] as usize;
-    let e = earlier[k] as usize;
-    let slope = slopes[k] as usize;
-    let offset = offsets[k] as usize;
-    if sides[k] == 0 {
-        let at = worst(slope, low[e], high[e]);
-        return slope * at + offset <= low[j] + at + 32768;
-    }
-    let at = worst(slope, high[e], low[e]);
-    high[j] + at + 32768 <= slope * at + offset
-}
-
-// Whether every bound does.
-fn inside(nest: Nest, area: Window) -> bool
-    requires { ⌜ Accepted nest × Wide nest area ⌝ }
-    ensures { λ r. ⌜ (r ≡ true → (i : ℕ → ℕ) → Between nest area i → inPlace nest i ≡ true) ⌝ }
-{
-    let n = nest.bounds;
-    for k in 0..n {
-        if !clears(nest, area, k) {
-            return false;
-        }
-    }
-    true
-}
-
-// Whether the tile at a place lies wholly inside the shape, with all that is near it.
-pub fn whole(nest: Nest, at: [usize; 4]) -> bool
-    requires { ⌜ Accepted nest × ((j : ℕ) → j < nest .dimensions → getD at j 0 ≤ 1024) ⌝ }
-    ensures { λ r. ⌜ (r ≡ true → Whole nest at) ⌝ }
-{
-    let area = around(nest, at);
-    inside(nest, area)
-}
-
-// The words of a slot's parcel.
-pub fn pack(nest: Nest, sizes: Sizes, tile: usize, way: usize, words: &mut [u32], memory: &[u32])
-    requires { ⌜ Sized nest sizes × ((sizes .route ≡ Direct) × ((tile < boxTiles nest) × (way < ways Direct nest))) ⌝ }
-    requires { ⌜ (length (now memory) ≡ cells nest) × (length (now words) ≡ length (shapedParcel nest tile (way + 1))) ⌝ }
-    ensures { λ _. ⌜ now (words .exit) ≡ pack (now (memory .entry)) (shapedParcel nest tile (way + 1)) ⌝ }
-{
-    let mut list = [0u16; 16384];
-    let n = cells_of(nest, sizes, tile, way, &mut list);
-    runs::pack(&list, n, words, memory);
-}
-
-// Each word of a slot's parcel to its cell.
+// Each word of a slot's parcel to its cell, row by row.
 pub fn unpack(nest: Nest, sizes: Sizes, tile: usize, way: usize, memory: &mut [u32], words: &[u32])
     requires { ⌜ Sized nest sizes × ((sizes .route ≡ Direct) × ((tile < boxTiles nest) × (way < ways Direct nest))) ⌝ }
     requires { ⌜ (length (now memory) ≡ cells nest) × (length (now words) ≡ length (shapedParcel nest tile (way + 1))) ⌝ }
     ensures { λ _. ⌜ now (memory .exit) ≡ unpack (now (memory .entry)) (shapedParcel nest tile (way + 1)) (now (words .entry)) ⌝ }
 {
-    let mut list = [0u16; 16384];
-    let n = cells_of(nest, sizes, tile, way, &mut list);
-    runs::unpack(&list, n, memory, words);
+    let rows = rows_at(nest, sizes, tile, way);
+    let components = nest.components;
+    let lengths = nest.lengths;
+    let n = rows.rows;
+    let last = nest.dimensions - 1;
+    let mut count = 0;
+    for r in 0..n {
+        let row = row_of(nest, &components, rows, r);
+        let place = row.place;
+        let starts = row.starts;
+        let ends = row.ends;
+        let number = layout::rank(lengths, place, nest.dimensions);
+        count = runs::unpack_row(
+            memory,
+            words,
+            &starts,
+            &ends,
+            row.runs,
+            number,
+            place[last],
+            rows.width,
+            count,
+        );
+    }
 }

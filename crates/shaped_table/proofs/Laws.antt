@@ -3,7 +3,7 @@ use Prim.Native.Nat.{ℕ, zero, suc, _+_, _*_, _-_, _/_, _%_, _≤_, _<_}
 use mathlib.Core.Path.{_≡_, refl, sym, ap, _∙_, subst}
 use mathlib.Core.Logic.{_⊎_, inl, inr, _≢_}
 use mathlib.Core.Bool.{Bool, true, false}
-use mathlib.Core.List.{List, [], _∷_}
+use mathlib.Core.List.{List, []}
 use native.Mathlib.Nat.{eq-or-lt-of-le, mul-le-mul-right, suc-mul, add-zero, add-assoc, mod-lt, mod-eq-of-lt, div-eq-of-lt, le-div-iff-mul-le}
 use native.Mathlib.Nat.{div-lt-iff-lt-mul}
 use native.Mathlib.Numerals.{add-one}
@@ -15,44 +15,39 @@ use lib.Dec.{eqb, ltb, leb}
 use borrow.Author.Tests.{eq-eqb, ne-eqb, lt-ltb, le-ltb, leb-true}
 use Rattle.base.specs.Tests.{_and_, pick, one, some, keep, those}
 use Rattle.base.specs.Lists.{In}
-use Rattle.base.proofs.Tests.{pick-true, pick-false, one-true, one-false, never-both, some-at, some-same}
-use Rattle.base.proofs.Select.{keep-few, keep-hit, keep-none, keep-more, those-more, those-none, those-few, those-at, those-lt}
+use Rattle.base.proofs.Tests.{pick-true, pick-false, never-both, some-at, some-same}
+use Rattle.base.proofs.Select.{keep-few, keep-none, keep-more, those-more, those-none, those-few, those-at}
 use Rattle.machine.specs.Plan.{count, words, tilesOf, noMessage}
 use Rattle.nest.specs.declared.Nest.{Nest}
 use Rattle.nest.specs.Accepted.{Accepted}
 use Rattle.nest.specs.Nest.{lengthOf, tileCount, component, cells, boxTiles}
-use Rattle.nest.specs.Places.{rank, cellPlace, tileAt, tilePlace}
+use Rattle.nest.specs.Places.{cellPlace, tileAt, tilePlace}
 use Rattle.nest.specs.Shape.{exists, existing, tiles}
 use Rattle.nest.specs.Spans.{last, holds}
-use Rattle.nest.proofs.Rank.{Within, rank-same}
 use Rattle.nest.proofs.Shapes.{Counting, box-tiles-most}
 use Rattle.plan.specs.declared.Route.{Route}
 use Rattle.plan.specs.declared.Route.the-variants.{Direct}
 use Rattle.plan.specs.Geometry.{processorOf}
-use Rattle.plan.specs.Messages.{ahead, directions, ways, slots, slotTile, slotDirection, parcel, taker, slotCells, slotTaker, slotParcel, messagesOf}
+use Rattle.plan.specs.Messages.{ahead, directions, ways, slots, slotTile, slotDirection, parcel, slotCells, slotTaker, slotParcel, messagesOf}
 use Rattle.plan.specs.Hops.{hops, alone}
 use Rattle.plan.specs.Shaped.{boxTile, shapedParcel, slotBox, shapedSlotTaker, shapedHome, shapedSlotParcel, shapedMessage, shapedSlots, planOf}
 use Rattle.plan.proofs.Listed as listed
 use Rattle.plan.proofs.Slots.{full-in}
 use Rattle.plan.proofs.Homes.{slotParcel-is}
 use Rattle.plan.proofs.Parcels.{ahead-low, slot-low, slot-tile, slot-way}
-use Rattle.plan.proofs.Tiles.{quotient-low, boxTileOf-low, tilePlace-low, tilePlace-tileAt, tileAt-tilePlace}
-use Rattle.plan.proofs.ShapedTiles.{boxTile-low, boxTile-lt, number-low, boxTile-number}
+use Rattle.plan.proofs.Tiles.{quotient-low, boxTileOf-low, tilePlace-low}
+use Rattle.plan.proofs.ShapedTiles.{boxTile-lt, number-low, boxTile-number}
 use Rattle.plan.proofs.ShapedParcels.{parcel-crossed, shapedTaker-low}
 use Rattle.plan.proofs.ShapedTaker.{stepOf, taker-step}
-use Rattle.plan.proofs.ShapedSlots.{in-box, slotAt-low, slotAt-tile, slotAt-direction, shapedTile-low}
+use Rattle.plan.proofs.ShapedSlots.{in-box, slotAt-tile, slotAt-direction, shapedTile-low}
 use Rattle.plan.proofs.ShapedDues.{shapedSlotParcel-is, due-at}
 use Rattle.layout.specs.Sizes.{along, endAt, Stepped}
 use Rattle.layout.specs.Places.{Has}
 use Rattle.layout.proofs.Steps.{ways-few, ways-pos, step-few}
 use Rattle.layout.proofs.Cells.{count-most}
-use Rattle.layout.proofs.CellRows.{rank-last}
-use Rattle.parcels.specs.Twins.{Twin}
-use Rattle.parcels.proofs.Sendings.{one-few, hop, alone-no, alone-yes}
+use Rattle.parcels.proofs.Sendings.{hop, alone-no, alone-yes}
 use Rattle.scans.specs.Scans.{Sheet, Lengths, Summing, Found}
 use Rattle.scans.proofs.Laws.{seen, seen-start, seen-none, seen-hit, seen-miss, found}
-use Rattle.shaped.specs.Whole.{Whole}
-use Rattle.shaped.proofs.Tiles.{whole-parcel}
 use Rattle.shaped_table.specs.Table.{Marks, Numbered, Tiles, Owned, LikeBefore, Filling, ShapedTable, Steps, endOf, Ranged, atEnd}
 
 -- ---- which tiles exist
@@ -230,7 +225,7 @@ module _ (x : Nest) (ok : Accepted x) where
     way-is = let d = slot-is .1 in omega arith
 
     -- a tile with the box's parcels: its slot's is that of the box's slot
-    whole-slot : u < boxTiles x → shapedParcel x u (w + 1) ≡ parcel x u (w + 1)
+    pub whole-slot : u < boxTiles x → shapedParcel x u (w + 1) ≡ parcel x u (w + 1)
         → shapedSlotParcel x (t * directions x + w) ≡ slotParcel Direct x (u * directions x + w)
     unfolding s slotCells
     whole-slot lu q =
@@ -247,11 +242,13 @@ module _ (x : Nest) (ok : Accepted x) where
       hops-is = some-same _ _ (x .spread)
           (λ j k. rw way-is (ap (λ (a : ℕ). eqb a 1 and ltb 1 (getD (x .counts) j 0)) (along-is .each j (omega (arith, ok .spread-low)))))
 
-      pub stays-none : some (λ j. eqb (getD steps j 0) 1 and ltb 1 (getD (x .counts) j 0)) (x .spread) ≡ false → _≡_ {A = ℕ} 0 (length (shapedSlotParcel x (t * directions x + w)))
+      pub stays-none : some (λ j. eqb (getD steps j 0) 1 and ltb 1 (getD (x .counts) j 0)) (x .spread) ≡ false → _≡_ {A = ℕ} 0
+          (length (shapedSlotParcel x (t * directions x + w)))
       unfolding s
       stays-none q = sym (ap length (parcel-is ∙ pick-true _ _ _ (alone-yes x s Direct (in-box x s (tile-slot t w h l)) (sym hops-is ∙ q))))
 
-      pub leaves-all : some (λ j. eqb (getD steps j 0) 1 and ltb 1 (getD (x .counts) j 0)) (x .spread) ≡ true → shapedSlotParcel x (t * directions x + w) ≡ shapedParcel x u (w + 1)
+      pub leaves-all : some (λ j. eqb (getD steps j 0) 1 and ltb 1 (getD (x .counts) j 0)) (x .spread) ≡ true → shapedSlotParcel x (t * directions x + w)
+          ≡ shapedParcel x u (w + 1)
       unfolding s
       leaves-all q = parcel-is ∙ pick-false _ _ _ (alone-no x s Direct (sym hops-is ∙ q))
 
@@ -299,72 +296,7 @@ module _ (x : Nest) (ok : Accepted x) where
         none (yes k) = let f = full-in (shapedParcel x u (w + 1)) k in absurd (go (f .0) (f .1))
         none (no k) = omega arith
 
-  -- ---- a tile wholly inside the shape, and the one before it along the last dimension
-
-  module _ (t u : ℕ) (h : t < tiles x) (later : t ≡ 0 → ⊥) (is : boxTile x t ≡ u) (before : boxTile x (t - 1) + 1 ≡ u) (at : List ℕ)
-      (here : Has at (tilePlace x u) (x .dimensions)) (deep : getD at (last x) 0 ≡ 0 → ⊥) where
-    u-low : u < boxTiles x
-    u-low = rw (← is) (boxTile-low x t h)
-
-    abbrev back : ℕ → ℕ
-    back j = tilePlace x u j - one (eqb j (last x))
-
-    back-here : back (last x) + 1 ≡ tilePlace x u (last x)
-    back-here = omega (arith, one-true (eq-eqb (last x) (last x) refl), here .each (last x) (omega (arith, ok .dimensions-least)))
-
-    back-other : (j : ℕ) → j < last x → back j ≡ tilePlace x u j
-    back-other j l = omega (arith, one-false (ne-eqb j (last x) (λ e. omega arith)))
-
-    own-rank : rank (tileCount x) (tilePlace x u) (x .dimensions) ≡ u
-    unfolding tileAt
-    own-rank = tileAt-tilePlace x ok u u-low
-
-    back-rank : rank (tileCount x) back (x .dimensions) ≡ u - 1
-    back-rank =
-        let d : 1 ≤ x .dimensions = omega (arith, ok .dimensions-least) in
-        let r : rank (tileCount x) back (last x) ≡ rank (tileCount x) (tilePlace x u) (last x) =
-        rank-same (tileCount x) back (tilePlace x u) (last x) back-other in
-        omega (
-          arith,
-          rank-last (tileCount x) back (x .dimensions) d,
-          rank-last (tileCount x) (tilePlace x u) (x .dimensions) d,
-          ap (λ (a : ℕ). a * tileCount x (last x)) r,
-          back-here,
-          own-rank,
-        )
-
-    back-number : tileAt x back ≡ u - 1
-    unfolding tileAt
-    back-number = back-rank
-
-    back-low : Within (tileCount x) back (x .dimensions)
-    back-low j l = omega (arith, tilePlace-low x ok u j l)
-
-    back-place : (j : ℕ) → j < x .dimensions → tilePlace x (u - 1) j ≡ back j
-    back-place j l = ap (λ (a : ℕ). tilePlace x a j) (sym back-number) ∙ tilePlace-tileAt x ok back back-low j l
-
-    near : (j : ℕ) → j < x .dimensions → (tilePlace x (u - 1) j ≤ getD at j 0) × (getD at j 0 ≤ tilePlace x (u - 1) j + 1)
-    near j l =
-        let e : tilePlace x (u - 1) j ≡ tilePlace x u j - one (eqb j (last x)) = back-place j l in
-        (omega (arith, e, here .each j l), omega (arith, e, here .each j l, one-few (eqb j (last x))))
-
-    pub like-one : Whole x at → (r : Route) → r ≡ Direct → (p : ℕ) → Twin r x u p → p + 1 ≡ u → LikeBefore x t
-    like-one all r d p f e =
-        record {
-          later = omega arith;
-          same = λ w l.
-              ap length (whole-slot t w u h l is u-low
-              (whole-parcel x ok at all u (λ j o. (omega (arith, here .each j o), omega (arith, here .each j o))) (w + 1)))
-              ∙ twin .same w l
-              ∙ ap length (sym (whole-slot (t - 1) w p (omega arith) l (omega arith) (omega (arith, u-low))
-              (whole-parcel x ok at all p (rw p-is near) (w + 1))));
-        }
-      where
-        twin : Twin Direct x u p
-        twin = rw d at f
-
-        p-is : p ≡ u - 1
-        p-is = omega arith
+  -- ---- the lengths of a tile like the one before it
 
   pub copied : (lens : List ℕ) (t n w v : ℕ) → n ≡ directions x → Filling x lens (t * directions x + w) → LikeBefore x t → w < n
       → v ≡ getD lens ((t - 1) * n + w) 0 → v ≡ length (shapedSlotParcel x (t * directions x + w))
@@ -405,7 +337,8 @@ module _ (x : Nest) (ok : Accepted x) where
   abbrev pub owner : ℕ → ℕ
   owner t = processorOf x (boxTile x t)
 
-  pub own-turn : (p t n o n′ : ℕ) → n ≡ length (those owner p t) → o ≡ owner t → ((o ≡ p) × (n′ ≡ n + 1)) ⊎ ((o ≢ p) × (n′ ≡ n)) → n′ ≡ length (those owner p (t + 1))
+  pub own-turn : (p t n o n′ : ℕ) → n ≡ length (those owner p t) → o ≡ owner t → ((o ≡ p) × (n′ ≡ n + 1)) ⊎ ((o ≢ p) × (n′ ≡ n)) → n′
+      ≡ length (those owner p (t + 1))
   own-turn p t n o n′ e q (inl (h, k)) = rw (add-one t) (omega (arith, those-more owner p t (sym q ∙ h)))
   own-turn p t n o n′ e q (inr (h, k)) = rw (add-one t) (k ∙ e ∙ ap length (sym (those-none owner p t (λ z. h (q ∙ z)))))
 
@@ -433,7 +366,8 @@ module _ (x : Nest) (ok : Accepted x) where
     unfolding pick
     a-cell = full-in (shapedParcel x (slotBox x s) (slotDirection x s)) (go (alone Direct x s) (rw (shapedSlotParcel-is x ok s) at full))
       where
-        go : (t : Bool) → 0 < length (pick t [] (shapedParcel x (slotBox x s) (slotDirection x s))) → 0 < length (shapedParcel x (slotBox x s) (slotDirection x s))
+        go : (t : Bool) → 0 < length (pick t [] (shapedParcel x (slotBox x s) (slotDirection x s)))
+            → 0 < length (shapedParcel x (slotBox x s) (slotDirection x s))
         go true h = absurd (omega arith)
         go false h = h
 
@@ -467,7 +401,8 @@ module _ (x : Nest) (ok : Accepted x) where
   fill-step lens t n w v e f h l is =
       rw (e, ← add-assoc (t * directions x) w 1) (filling-more lens (t * directions x + w) v f (tile-slot t w h (omega arith)) is)
 
-  pub fill-next : (lens : List ℕ) (t n w : ℕ) → n ≡ directions x → w ≤ n → n ≤ w → Filling x lens (t * directions x + w) → Filling x lens ((t + 1) * directions x)
+  pub fill-next : (lens : List ℕ) (t n w : ℕ) → n ≡ directions x → w ≤ n → n ≤ w → Filling x lens (t * directions x + w) → Filling x lens
+      ((t + 1) * directions x)
   fill-next lens t n w e h k f =
       let z : t * directions x + w ≡ (t + 1) * directions x = next t (directions x) w (omega arith) in rw z at f
     where
@@ -553,7 +488,8 @@ module _ (x : Nest) (ok : Accepted x) where
           go : Dec (before < number) → ltb before number ≡ eqb (endOf side (shapedMessage x s)) (suc t)
           go (yes k) =
               lt-ltb before number k
-              ∙ end-yes side (suc t) f (end-here s low full (suc t) h (omega (arith, number-is)) (λ i y. let z : i ≡ t = omega arith in rw z (omega (arith, number-is, b′))))
+              ∙ end-yes side (suc t) f (end-here s low full (suc t) h (omega (arith, number-is)) (λ i y. let z : i ≡ t = omega arith in
+              rw z (omega (arith, number-is, b′))))
           go (no k) = le-ltb before number (omega arith) ∙ end-no side (suc t) f (end-before s low full t h (omega (arith, number-is, b′)))
 
       -- some tile is there
@@ -571,7 +507,8 @@ module _ (x : Nest) (ok : Accepted x) where
   at-end zero t = refl
   at-end (suc side) t = refl
 
-  at-end-is : (side t : ℕ) → those (λ m. endOf side (getD (messagesOf (shapedMessage x) (shapedSlots x)) m noMessage)) t (length (messagesOf (shapedMessage x) (shapedSlots x)))
+  at-end-is : (side t : ℕ) → those (λ m. endOf side (getD (messagesOf (shapedMessage x) (shapedSlots x)) m noMessage)) t
+      (length (messagesOf (shapedMessage x) (shapedSlots x)))
       ≡ atEnd side (planOf Direct x) t
   at-end-is zero t = refl
   at-end-is (suc side) t = refl
@@ -589,7 +526,8 @@ module _ (x : Nest) (ok : Accepted x) where
     )
 
     pub seen-turn : (s n n′ : ℕ) (r : Bool) → s < shapedSlots x → n ≡ seenTo s
-        → (r ≡ true → (0 < length (shapedSlotParcel x s)) × (endOf side (shapedMessage x s) ≡ t)) × (r ≡ false → 0 < length (shapedSlotParcel x s) → endOf side (shapedMessage x s) ≢ t)
+        → (r ≡ true → (0 < length (shapedSlotParcel x s)) × (endOf side (shapedMessage x s) ≡ t)) × (r ≡ false → 0 < length (shapedSlotParcel x s)
+        → endOf side (shapedMessage x s) ≢ t)
         → ((r ≡ true) × (n′ ≡ n + 1)) ⊎ ((r ≡ false) × (n′ ≡ n)) → n′ ≡ seenTo (s + 1)
     seen-turn s n n′ r l e f (inl (h, q)) =
         let k = f .0 h in omega (arith, seen-hit (shapedMessage x) (shapedSlots x) (endOf side) t s l (k .0) (k .1))
@@ -648,9 +586,12 @@ module _ (x : Nest) (ok : Accepted x) where
         place : getD (atEnd side (planOf Direct x) t) j 0 ≡ m
         place =
             ap (λ (z : List ℕ). getD z j 0) (sym (at-end-is side t))
-            ∙ ap (λ (k : ℕ). getD (those (λ i. endOf side (getD (messagesOf (shapedMessage x) (shapedSlots x)) i noMessage)) t (length (messagesOf (shapedMessage x) (shapedSlots x)))) k 0) (sym q ∙ e)
-            ∙ those-at (λ i. endOf side (getD (messagesOf (shapedMessage x) (shapedSlots x)) i noMessage)) t (length (messagesOf (shapedMessage x) (shapedSlots x)))
-            (length (messagesOf (shapedMessage x) s)) (listed.number-low (shapedMessage x) (shapedSlots x) s l full) (ap (endOf side) (listed.at-number (shapedMessage x) (shapedSlots x) s l full) ∙ here)
+            ∙ ap (λ (k : ℕ). getD (those (λ i. endOf side (getD (messagesOf (shapedMessage x) (shapedSlots x)) i noMessage)) t
+            (length (messagesOf (shapedMessage x) (shapedSlots x)))) k 0) (sym q ∙ e)
+            ∙ those-at (λ i. endOf side (getD (messagesOf (shapedMessage x) (shapedSlots x)) i noMessage)) t
+            (length (messagesOf (shapedMessage x) (shapedSlots x)))
+            (length (messagesOf (shapedMessage x) s)) (listed.number-low (shapedMessage x) (shapedSlots x) s l full)
+            (ap (endOf side) (listed.at-number (shapedMessage x) (shapedSlots x) s l full) ∙ here)
             ∙ sym (sums .number)
 
   -- the range of a tile's messages

@@ -6,10 +6,9 @@ ghost use mathlib.Core.Bool.{true, false};
 ghost use Prim.Native.Nat.{ℕ, _+_, _*_, _≤_, _<_};
 ghost use lib.ListN.{length, getD, replicate};
 ghost use lib.Dec.{eqb};
-ghost use Rattle.base.specs.Tests.{keep};
 ghost use Rattle.machine.specs.Plan.{count, words, tilesOf};
 ghost use Rattle.nest.specs.Accepted.{Accepted};
-ghost use Rattle.nest.specs.Nest.{boxTiles, processors};
+ghost use Rattle.nest.specs.Nest.{side, boxTiles, processors};
 ghost use Rattle.nest.specs.Places.{tilePlace};
 ghost use Rattle.nest.specs.Shape.{exists, tiles};
 ghost use Rattle.plan.specs.declared.Route.the-variants.{Direct};
@@ -20,15 +19,32 @@ ghost use Rattle.layout.specs.Sizes.{Sized};
 ghost use Rattle.layout.specs.Places.{Has};
 ghost use Rattle.scans.specs.Scans.{Found};
 ghost use Rattle.shaped.specs.Parcels.{Farthest};
-ghost use Rattle.shaped_table.specs.Table.{Marks, Numbered, Tiles, Owned, LikeBefore, Filling, ShapedTable, Steps, endOf, Ranged, atEnd};
+ghost use Rattle.shaped_table.specs.Table.{Marks, Tiles, Owned, LikeBefore, Filling, ShapedTable, Steps, endOf, Ranged, atEnd};
+ghost use Rattle.shaped_table.specs.Lines.{Held, Area, Few, Cut, Inner, PlacesIn, Lined};
 use layout::Sizes;
+use nest::Interval;
 use nest::Nest;
+use parcels::Window;
 use scans::Place;
 use scans::Total;
 
 // Slots from the first one on, below the second.
 struct Range {
     first: usize,
+    end: usize,
+}
+
+// A processor, and where in the box a row of its tiles along the last dimension ends.
+struct Owner {
+    number: usize,
+    end: usize,
+}
+
+// Of a row of the box's tiles along the last dimension: those, from one number on, below another, that are like the tile before them;
+// and where the row ends.
+struct Line {
+    from: usize,
+    to: usize,
     end: usize,
 }
 
@@ -91,16 +107,33 @@ pub fn owner_of(nest: Nest, lens: &[u16; 9217], tile: usize) -> usize
     lens[8192 + tile] as usize
 }
 
-// The processor of each tile.
+// The processor of a tile of the box, and the end of its row; from this tile on those below the old end have the old one.
+fn owner_at(nest: Nest, sizes: Sizes, old: Owner, tile: usize) -> Owner
+    requires { ⌜ Sized nest sizes × ((tile < boxTiles nest) × Held nest tile (old .number) (old .end)) ⌝ }
+    ensures { λ r. ⌜ (r .number ≡ processorOf nest tile) × ((r .number < processors nest) × Held nest tile (r .number) (r .end)) ⌝ }
+{
+    if tile < old.end {
+        return old;
+    }
+    let across = sizes.across;
+    let n = across[nest.dimensions - 1];
+    Owner {
+        number: layout::processor_of(nest, sizes, tile),
+        end: tile - tile % n + n,
+    }
+}
+
+// The processor of each tile: along the last dimension, which is not spread, it is the same.
 fn fill_owners(nest: Nest, sizes: Sizes, lens: &mut [u16; 9217])
     requires { ⌜ Sized nest sizes × Tiles nest (now lens) ⌝ }
     ensures { λ _. ⌜ Owned nest (now (lens .exit)) (tiles nest) ⌝ }
 {
     let n = tiles_of(nest, lens);
+    let mut owner = Owner { number: 0, end: 0 };
     for t in 0..n {
         let tile = box_of(nest, lens, t);
-        let owner = layout::processor_of(nest, sizes, tile);
-        lens[8192 + t] = owner as u16;
+        owner = owner_at(nest, sizes, owner, tile);
+        lens[8192 + t] = owner.number as u16;
     }
 }
 
@@ -146,27 +179,187 @@ fn count_tile(nest: Nest, sizes: Sizes, lens: &mut [u16; 9217], most: [usize; 4]
     }
 }
 
-// Whether a tile's parcels are known to be as long as those of the tile before it: in the box it follows that one along the last
-// dimension, has parcels as long there, and both lie wholly inside the shape.
-fn like_before(nest: Nest, sizes: Sizes, lens: &[u16; 9217], tile: usize) -> bool
-    requires { ⌜ Sized nest sizes × ((sizes .route ≡ Direct) × ((tile < tiles nest) × Tiles nest (now lens))) ⌝ }
+// The components of the cells of a tile at a place and of those that a distance takes them to, from the least to the greatest.
+fn area_of(nest: Nest, most: [usize; 4], at: [usize; 4]) -> Window
+    requires { ⌜ Accepted nest × (Farthest nest most × ((j : ℕ) → j < nest .dimensions → getD at j 0 ≤ 1024)) ⌝ }
+    ensures { λ r. ⌜ Area nest at most r ⌝ }
+{
+    let tiling = nest.tiling;
+    let n = nest.dimensions;
+    let mut low = [0; 4];
+    let mut high = [0; 4];
+    for j in 0..n {
+        let first = at[j] * tiling[j];
+        low[j] = first;
+        high[j] = first + (tiling[j] - 1) + most[j];
+    }
+    Window {
+        low: low,
+        high: high,
+    }
+}
+
+// Of two components of the earlier dimension, at which one a bound leaves less: where its slope is not negative, the second.
+fn worst(slope: usize, a: usize, b: usize) -> usize
+    ensures { λ r. ⌜ (slope ≡ 0 → r ≡ a) × (0 < slope → r ≡ b) ⌝ }
+{
+    if slope == 0 {
+        return a;
+    }
+    b
+}
+
+// What lower bound k leaves of an interval of the last dimension, all over an area in the dimensions before it.
+fn lower_cut(nest: Nest, area: Window, left: Interval, k: usize) -> Interval
+    requires { ⌜ Accepted nest × ((k < nest .bounds) × ((side nest k ≡ 0) × (Few nest area × ((left .from ≤ 8388608) × (left .to ≤ 1024))))) ⌝ }
+    ensures { λ r. ⌜ Cut nest area k left r ⌝ }
+{
+    let low = area.low;
+    let high = area.high;
+    let j = nest.bounded[k] as usize;
+    let e = nest.earlier[k] as usize;
+    let slope = nest.slopes[k] as usize;
+    let offset = nest.offsets[k] as usize;
+    let at = worst(slope, low[e], high[e]);
+    let level = slope * at + offset;
+    if j + 1 < nest.dimensions {
+        if level <= low[j] + at + 32768 {
+            return left;
+        }
+        return Interval { from: 0, to: 0 };
+    }
+    if level <= left.from + at + 32768 {
+        return left;
+    }
+    Interval {
+        from: level - at - 32768,
+        to: left.to,
+    }
+}
+
+// What upper bound k leaves.
+fn upper_cut(nest: Nest, area: Window, left: Interval, k: usize) -> Interval
+    requires { ⌜ Accepted nest × ((k < nest .bounds) × ((side nest k ≢ 0) × (Few nest area × ((left .from ≤ 8388608) × (left .to ≤ 1024))))) ⌝ }
+    ensures { λ r. ⌜ Cut nest area k left r ⌝ }
+{
+    let low = area.low;
+    let high = area.high;
+    let j = nest.bounded[k] as usize;
+    let e = nest.earlier[k] as usize;
+    let slope = nest.slopes[k] as usize;
+    let offset = nest.offsets[k] as usize;
+    let at = worst(slope, high[e], low[e]);
+    let level = slope * at + offset;
+    if j + 1 < nest.dimensions {
+        if high[j] + at + 32768 <= level {
+            return left;
+        }
+        return Interval { from: 0, to: 0 };
+    }
+    if level < at + 32768 {
+        return Interval { from: 0, to: 0 };
+    }
+    Interval {
+        from: left.from,
+        to: layout::least(left.to, level + 1 - at - 32768),
+    }
+}
+
+// What a bound leaves.
+fn cut_by(nest: Nest, area: Window, left: Interval, k: usize) -> Interval
+    requires { ⌜ Accepted nest × ((k < nest .bounds) × (Few nest area × ((left .from ≤ 8388608) × (left .to ≤ 1024)))) ⌝ }
+    ensures { λ r. ⌜ Cut nest area k left r ⌝ }
+{
+    if nest.sides[k] == 0 {
+        return lower_cut(nest, area, left, k);
+    }
+    upper_cut(nest, area, left, k)
+}
+
+// Where along the last dimension all of an area in the dimensions before it is in the shape.
+fn inner_of(nest: Nest, area: Window) -> Interval
+    requires { ⌜ Accepted nest × Few nest area ⌝ }
+    ensures { λ r. ⌜ Inner nest area (nest .bounds) r ⌝ }
+{
+    let n = nest.bounds;
+    let lengths = nest.lengths;
+    let mut left = Interval {
+        from: 0,
+        to: lengths[nest.dimensions - 1],
+    };
+    for k in 0..n {
+        left = cut_by(nest, area, left, k);
+    }
+    left
+}
+
+// The places of a dimension that have one before them and after them another of full length, where the cells of both tiles, and those
+// at most so far after, lie in an interval.
+fn places_in(inner: Interval, tiling: usize, length: usize, most: usize) -> Interval
+    requires { ⌜ (1 ≤ tiling) × ((tiling ≤ 1024) × ((length ≤ 1024) × ((most ≤ 1024) × (inner .from ≤ 8388608)))) ⌝ }
+    ensures { λ r. ⌜ PlacesIn inner tiling length most r ⌝ }
+{
+    let whole = length / tiling;
+    if whole == 0 {
+        return Interval { from: 0, to: 0 };
+    }
+    if inner.to < most {
+        return Interval { from: 0, to: 0 };
+    }
+    Interval {
+        from: (inner.from + tiling - 1) / tiling + 1,
+        to: layout::least(whole - 1, (inner.to - most) / tiling),
+    }
+}
+
+// The row of a tile of the box along the last dimension: tiles that lie, with all that is near, wholly inside the shape.
+fn line_of(nest: Nest, sizes: Sizes, most: [usize; 4], tile: usize) -> Line
+    requires { ⌜ Sized nest sizes × ((tile < boxTiles nest) × Farthest nest most) ⌝ }
+    ensures { λ r. ⌜ Lined nest (r .from) (r .to) ⌝ }
+{
+    let at = layout::place_of_tile(nest, sizes, tile);
+    let area = area_of(nest, most, at);
+    let inner = inner_of(nest, area);
+    let last = nest.dimensions - 1;
+    let tiling = nest.tiling;
+    let lengths = nest.lengths;
+    let across = sizes.across;
+    let places = places_in(inner, tiling[last], lengths[last], most[last]);
+    let first = tile - at[last];
+    Line {
+        from: first + places.from,
+        to: first + places.to,
+        end: first + across[last],
+    }
+}
+
+// The row of a tile of the box: the old one, where it is not at its end.
+fn line_at(nest: Nest, sizes: Sizes, most: [usize; 4], old: Line, tile: usize) -> Line
+    requires { ⌜ Sized nest sizes × ((tile < boxTiles nest) × (Farthest nest most × Lined nest (old .from) (old .to))) ⌝ }
+    ensures { λ r. ⌜ Lined nest (r .from) (r .to) ⌝ }
+{
+    if tile < old.end {
+        return old;
+    }
+    line_of(nest, sizes, most, tile)
+}
+
+// Whether a tile's parcels are known to be as long as those of the tile before it: in the box it follows that one, and its row says so.
+fn like_before(nest: Nest, lens: &[u16; 9217], line: Line, tile: usize) -> bool
+    requires { ⌜ Accepted nest × ((tile < tiles nest) × (Tiles nest (now lens) × Lined nest (line .from) (line .to))) ⌝ }
     ensures { λ r. ⌜ (r ≡ true → LikeBefore nest tile) ⌝ }
 {
     if tile == 0 {
         return false;
     }
     let number = box_of(nest, lens, tile);
-    if box_of(nest, lens, tile - 1) + 1 != number {
+    if number < line.from {
         return false;
     }
-    if parcels::twin_of(nest, sizes, number) + 1 != number {
+    if number >= line.to {
         return false;
     }
-    let at = layout::place_of_tile(nest, sizes, number);
-    if at[nest.dimensions - 1] == 0 {
-        return false;
-    }
-    shaped::whole(nest, at)
+    box_of(nest, lens, tile - 1) + 1 == number
 }
 
 // The length of a tile's parcel along a way, as that of the tile before it, which is in the table.
@@ -191,12 +384,19 @@ fn copy_tile(nest: Nest, sizes: Sizes, lens: &mut [u16; 9217], tile: usize)
 }
 
 // The lengths of a tile's parcels, those of the tiles before it being in the table.
-fn fill_tile(nest: Nest, sizes: Sizes, lens: &mut [u16; 9217], most: [usize; 4], tile: usize)
-    requires { ⌜ Sized nest sizes × ((sizes .route ≡ Direct) × Farthest nest most) ⌝ }
+fn fill_tile(
+    nest: Nest,
+    sizes: Sizes,
+    lens: &mut [u16; 9217],
+    most: [usize; 4],
+    line: Line,
+    tile: usize,
+)
+    requires { ⌜ Sized nest sizes × ((sizes .route ≡ Direct) × (Farthest nest most × Lined nest (line .from) (line .to))) ⌝ }
     requires { ⌜ (tile < tiles nest) × Filling nest (now lens) (tile * directions nest) ⌝ }
     ensures { λ _. ⌜ Filling nest (now (lens .exit)) ((tile + 1) * directions nest) ⌝ }
 {
-    if like_before(nest, sizes, lens, tile) {
+    if like_before(nest, lens, line, tile) {
         copy_tile(nest, sizes, lens, tile);
         return;
     }
@@ -214,8 +414,15 @@ pub fn fill(nest: Nest, sizes: Sizes, lens: &mut [u16; 9217])
     fill_owners(nest, sizes, lens);
     let most = shaped::farthest(nest);
     let n = tiles_of(nest, lens);
+    let mut line = Line {
+        from: 0,
+        to: 0,
+        end: 0,
+    };
     for tile in 0..n {
-        fill_tile(nest, sizes, lens, most, tile);
+        let number = box_of(nest, lens, tile);
+        line = line_at(nest, sizes, most, line, number);
+        fill_tile(nest, sizes, lens, most, line, tile);
     }
 }
 

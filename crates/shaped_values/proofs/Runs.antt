@@ -96,9 +96,17 @@ module _ (x : Nest) (ok : Accepted x) where
         never : (c : ℕ) → Along x at c → every (λ j. leb (component x e j) (cellPlace x c j)) (x .dimensions) ≡ true → ⊥
         never c l q =
             let t : every (λ j. leb (component x e j) (getD at j 0)) (last x) ≡ true =
-            every-all (λ j. leb (component x e j) (getD at j 0)) (last x) (λ j o. ap (leb (component x e j)) (sym (l .same j o)) ∙ every-at (λ j. leb (component x e j) (cellPlace x c j)) (x .dimensions) q j (omega (arith, last-low))) in
+            every-all (λ j. leb (component x e j) (getD at j 0)) (last x) (λ j o. ap (leb (component x e j)) (sym (l .same j o))
+            ∙ every-at (λ j. leb (component x e j) (cellPlace x c j)) (x .dimensions) q j (omega (arith, last-low))) in
             let d : component x e (last x) ≡ 1024 = sym (pick-true _ _ _ t) ∙ h in
-            omega (arith, d, leb-true (component x e (last x)) (cellPlace x c (last x)) (every-at (λ j. leb (component x e j) (cellPlace x c j)) (x .dimensions) q (last x) last-low), cellPlace-low x ok c (last x) last-low, ok .length-most (last x))
+            omega (
+              arith,
+              d,
+              leb-true (component x e (last x)) (cellPlace x c (last x)) (every-at (λ j. leb (component x e j) (cellPlace x c j))
+                  (x .dimensions) q (last x) last-low),
+              cellPlace-low x ok c (last x) last-low,
+              ok .length-most (last x),
+            )
 
     pub first-most : (a : ℕ) → a ≡ firstRead x at e → a ≤ 1024
     unfolding firstRead
@@ -126,7 +134,8 @@ module _ (x : Nest) (ok : Accepted x) where
       behind : (c : ℕ) → Along x at c → within s (cellPlace x c (last x) - d) ≡ inShape x (readAt x c e)
       unfolding inShape readAt
       behind c l =
-          span-place to s span (λ j. cellPlace x c j - component x e j) (λ j o. omega (arith, l .same j o, moved j o)) (omega (arith, cellPlace-low x ok c (last x) last-low))
+          span-place to s span (λ j. cellPlace x c j - component x e j) (λ j o. omega (arith, l .same j o, moved j o))
+          (omega (arith, cellPlace-low x ok c (last x) last-low))
           ∙ sym (every-same (meets x (cellPlace x (readAt x c e))) (meets x (λ j. cellPlace x c j - component x e j)) (x .bounds)
           (λ b m. meets-same x (framed x ok) (cellPlace x (readAt x c e)) (λ j. cellPlace x c j - component x e j)
           (cellPlace-cellAt x ok (λ j. cellPlace x c j - component x e j) (λ j o. omega (arith, cellPlace-low x ok c j o))) b m))
@@ -211,7 +220,8 @@ module _ (x : Nest) (at : List ℕ) where
 
 -- ---- the row that a distance reads, as a place
 
-pub behind-made : (x : Nest) (components at to : List ℕ) (e j : ℕ) → Given x components → Changed (λ q. getD at q 0 - getD components (4 * e + q) 0) (last x) at to j
+pub behind-made : (x : Nest) (components at to : List ℕ) (e j : ℕ) → Given x components → Changed (λ q. getD at q 0 - getD components (4 * e + q) 0) (last x)
+    at to j
     → last x ≤ j → Narrow x at → ((q : ℕ) → q < last x → getD to q 0 ≡ getD at q 0 - component x e q) × Narrow x to
 behind-made x components at to e j g s h n = (each, λ q o. narrow q o (decLt q (last x)))
   where

@@ -55,7 +55,8 @@ module _ (x : Nest) (f : List ℕ → ℕ → ℕ) where
       → l′ ≡ storeAll g l (rowOf (c + p) m) → l′ ≡ storeAll (insideOnly x f) l (rowOf c w)
   row-cut g l l′ c p m w h before after same e =
       let first : l ≡ storeAll (insideOnly x f) l (rowOf c p) =
-      sym (store-out (rowOf c p) l (λ z i. let q = in-row-of c p z i in let k : c + (z - c) ≡ z = omega (arith, q .0) in rw k at (before (z - c) (omega (arith, q .0, q .1))))) in
+      sym (store-out (rowOf c p) l (λ z i. let q = in-row-of c p z i in let k : c + (z - c) ≡ z = omega (arith, q .0) in
+      rw k at (before (z - c) (omega (arith, q .0, q .1))))) in
       let two : l′ ≡ storeAll (insideOnly x f) l (rowOf c (p + m)) =
       e ∙ rows-join (insideOnly x f) g l l c p first m (λ k y i. let s = same k y i in s .1 ∙ sym (in-word k (c + p + y) (s .0))) in
       let all : p + m + (w - (p + m)) ≡ w = omega arith in
@@ -67,7 +68,8 @@ module _ (x : Nest) (f : List ℕ → ℕ → ℕ) where
   -- no cell of the row is in the shape
   pub row-out : (l : List ℕ) (c w : ℕ) → ((y : ℕ) → y < w → inShape x (c + y) ≡ false) → l ≡ storeAll (insideOnly x f) l (rowOf c w)
   row-out l c w h =
-      sym (store-out (rowOf c w) l (λ z i. let q = in-row-of c w z i in let k : c + (z - c) ≡ z = omega (arith, q .0) in rw k at (h (z - c) (omega (arith, q .0, q .1)))))
+      sym (store-out (rowOf c w) l (λ z i. let q = in-row-of c w z i in let k : c + (z - c) ≡ z = omega (arith, q .0) in
+      rw k at (h (z - c) (omega (arith, q .0, q .1)))))
 
   -- of the cells that a test keeps, those in the shape
   pub store-kept : (h : ℕ → Bool) (n : ℕ) (l : List ℕ) → storeAll (insideOnly x f) l (keep h n) ≡ storeAll f l (keep (λ c. inShape x c and h c) n)
@@ -120,7 +122,8 @@ module _ (f : List ℕ → ℕ → ℕ) (g : ℕ → ℕ) (l₀ : List ℕ) wher
         }
 
   -- one row more
-  pub storing-turn : (l : List ℕ) (r w c : ℕ) (l′ : List ℕ) → Storing f g l₀ l (r * w) → ((y : ℕ) → y < w → c + y ≡ g (r * w + y)) → l′ ≡ storeAll f l (rowOf c w)
+  pub storing-turn : (l : List ℕ) (r w c : ℕ) (l′ : List ℕ) → Storing f g l₀ l (r * w) → ((y : ℕ) → y < w → c + y ≡ g (r * w + y)) → l′ ≡ storeAll f l
+      (rowOf c w)
       → Storing f g l₀ l′ ((r + 1) * w)
   storing-turn l r w c l′ p h e = rw (row-next w r r) (storing-more l (r * w) p c w l′ h e)
 
@@ -146,7 +149,8 @@ module _ (word : ℕ) (l₀ : List ℕ) where
 
 -- ---- words copied
 
-pub copied-at : (memories grid : List ℕ) (from to y : ℕ) → set grid (to + y) (getD memories (from + y) 0) ≡ set grid (to + y) (getD memories (from + (to + y - to)) 0)
+pub copied-at : (memories grid : List ℕ) (from to y : ℕ) → set grid (to + y) (getD memories (from + y) 0) ≡ set grid (to + y)
+    (getD memories (from + (to + y - to)) 0)
 copied-at memories grid from to y = let z : from + (to + y - to) ≡ from + y = omega arith in rw z refl
 
 -- ---- a tile
@@ -165,7 +169,8 @@ module _ (x : Nest) (ok : Accepted x) (t : ℕ) (low : t < boxTiles x) (f : List
 push : (k o : List ℕ) (n v : ℕ) → length k ≡ n → n < length o → set (k ++ drop n o) n v ≡ (k ++ (v ∷ [])) ++ drop (suc n) o
 push k o n v e l =
     let a : length k < length o = omega (arith, e) in
-    rw (sym e) (ap (λ (z : List ℕ). set (k ++ z) (length k) v) (drop-cons o (length k) 0 a) ∙ set-append-seam k _ _ v ∙ sym (append-assoc k (v ∷ []) (drop (suc (length k)) o)))
+    rw (sym e) (ap (λ (z : List ℕ). set (k ++ z) (length k) v) (drop-cons o (length k) 0 a) ∙ set-append-seam k _ _ v
+    ∙ sym (append-assoc k (v ∷ []) (drop (suc (length k)) o)))
 
 front-at : (k o : List ℕ) (n : ℕ) → length k ≡ n → n < length o → getD (k ++ drop n o) n 0 ≡ getD o n 0
 front-at k o n e l = rw (sym e) (rw (drop-cons o (length k) 0 (omega arith)) (getD-append-seam k (getD o (length k) 0) (drop (suc (length k)) o) 0))
@@ -204,7 +209,8 @@ module _ (x : Nest) (ok : Accepted x) (l₀ : List ℕ) (long : length l₀ ≡ 
   pub swept : (source l : List ℕ) (q : ℕ) → q ≡ cells x → Storing (insideOnly x (shapedValue x source)) (λ y. y) l₀ l q → l ≡ sweep (planOf Direct x) source
   unfolding sweepTo
   swept source l q e p =
-      whole x (shapedValue x source) (sweepTo (planOf Direct x) source) (λ c. shapedValue x source (sweepTo (planOf Direct x) source c) c) (x .boundary) (cells x) l₀ long filled
+      whole x (shapedValue x source) (sweepTo (planOf Direct x) source) (λ c. shapedValue x source (sweepTo (planOf Direct x) source c) c) (x .boundary)
+      (cells x) l₀ long filled
       refl (λ c. refl)
       (λ c h k. sound Direct x ok .local source (sweepTo (planOf Direct x) source c ++ drop c l₀) (sweepTo (planOf Direct x) source c) c h
       (λ r i. List·getD-append (sweepTo (planOf Direct x) source c) (drop c l₀) 0 r (omega (arith, k, sound Direct x ok .earlier c r h i))))
@@ -214,12 +220,14 @@ module _ (x : Nest) (ok : Accepted x) (l₀ : List ℕ) (long : length l₀ ≡ 
       → l ≡ collected (planOf Direct x) (stateOf memories [] [] [])
   unfolding collected tabulate heldWord
   gathered memories l q e p =
-      whole x (heldWord x memories) (tabulate (λ c. pick (inShape x c) (heldWord x memories [] c) (x .boundary))) (heldWord x memories []) (x .boundary) (cells x) l₀ long filled
+      whole x (heldWord x memories) (tabulate (λ c. pick (inShape x c) (heldWord x memories [] c) (x .boundary))) (heldWord x memories []) (x .boundary)
+      (cells x) l₀ long filled
       refl (λ c. refl) (λ c h k. refl) l q e p
       ∙ tabulate-same _ _ (cells x) (λ c h. owner c h (inShape x c) refl)
     where
       owner : (c : ℕ) → c < cells x → (t : Bool) → inShape x c ≡ t → pick (inShape x c) (heldWord x memories [] c) (x .boundary)
           ≡ pick (inShape x c) (getD (memoryOf (planOf Direct x) (stateOf memories [] [] []) (processorOf x (boxTile x (tileOf x c)))) c 0) (x .boundary)
       owner c h true e =
-          ap (λ (u : ℕ). pick (inShape x c) (getD (memoryOf (planOf Direct x) (stateOf memories [] [] []) (processorOf x u)) c 0) (x .boundary)) (sym (boxTile-tileOf x ok c h e))
+          ap (λ (u : ℕ). pick (inShape x c) (getD (memoryOf (planOf Direct x) (stateOf memories [] [] []) (processorOf x u)) c 0) (x .boundary))
+          (sym (boxTile-tileOf x ok c h e))
       owner c h false e = pick-false _ _ _ e ∙ sym (pick-false _ _ _ e)

@@ -16,14 +16,15 @@ use Rattle.base.proofs.Lists.{piece-fits}
 use Rattle.nest.specs.declared.Nest.{Nest}
 use Rattle.nest.specs.declared.Interval.{Interval}
 use Rattle.nest.specs.Accepted.{Accepted}
-use Rattle.nest.specs.Nest.{lengthOf, tileLength, weight, cells, processors}
+use Rattle.nest.specs.Nest.{lengthOf, weight, cells, processors}
 use Rattle.nest.specs.Places.{place, cellPlace, boxTileOf}
 use Rattle.nest.specs.Shape.{inShape}
 use Rattle.nest.specs.Spans.{last, within, Spans, Row, Narrow}
 use Rattle.plan.specs.Geometry.{processorOf, readAt}
 use Rattle.plan.specs.Box.{boxSize, boxCell}
 use Rattle.plan.specs.Shaped.{readsShape, shapedValue}
-use Rattle.plan.proofs.Tiles.{cellPlace-low, tilePlace-boxTileOf, processorOf-same}
+use Rattle.plan.proofs.Tiles.{cellPlace-low}
+use Rattle.layout.proofs.Processors.{one-processor}
 use Rattle.layout.specs.declared.Cell.{Cell}
 use Rattle.layout.specs.declared.Bounds.{Bounds}
 use Rattle.layout.specs.Places.{nth, Located, Bounded}
@@ -52,7 +53,8 @@ mixing-end n firsts ends backs weights boundary shift source memory c a total k 
     e ∙ ap (λ (b : ℕ). b / 2 ^ shift % 4294967296) (rw z at (s .is))
 
 -- one cell of those that can be made
-pub readable-at : {n : ℕ} {firsts ends backs weights : List ℕ} {boundary shift c a span sources words : ℕ} → Readable n firsts ends backs weights boundary shift c a span sources words
+pub readable-at : {n : ℕ} {firsts ends backs weights : List ℕ} {boundary shift c a span sources words : ℕ} → Readable n firsts ends backs weights boundary
+    shift c a span sources words
     → (y words′ : ℕ) → y < span → words′ ≡ words → Readable n firsts ends backs weights boundary shift (c + y) (a + y) 1 sources words′
 readable-at {n} {firsts} {ends} {backs} {weights} {boundary} {shift} {c} {a} p y words′ h e =
     record {
@@ -72,7 +74,8 @@ readable-at {n} {firsts} {ends} {backs} {weights} {boundary} {shift} {c} {a} p y
         let o : a + y + z ≡ a + y = omega arith in
         omega (arith, p .back k y i h (rw o at t))
 
-pub first-back : {n : ℕ} {firsts ends backs weights : List ℕ} {boundary shift c a sources words : ℕ} → Readable n firsts ends backs weights boundary shift c a 1 sources words
+pub first-back : {n : ℕ} {firsts ends backs weights : List ℕ} {boundary shift c a sources words : ℕ} → Readable n firsts ends backs weights boundary shift c
+    a 1 sources words
     → (k : ℕ) → k < n → between (getD firsts k 0) (getD ends k 0) a ≡ true → getD backs k 0 ≤ c
 first-back {n} {firsts} {ends} {backs} {weights} {boundary} {shift} {c} {a} p k h t =
     let z : a + 0 ≡ a = omega arith in
@@ -86,7 +89,8 @@ along-at n firsts ends backs weights boundary shift source memory c a y v e = le
 module _ (x : Nest) (ok : Accepted x) where
   -- ---- the word of a cell
 
-  module _ (at firsts ends back weights : List ℕ) (runs : ReadsRuns x at firsts ends) (backs : Backs x back) (is : weights ≡ x .weights) (c a : ℕ) (l : Along x at c)
+  module _ (at firsts ends back weights : List ℕ) (runs : ReadsRuns x at firsts ends) (backs : Backs x back) (is : weights ≡ x .weights) (c a : ℕ)
+      (l : Along x at c)
       (k : a ≡ cellPlace x c (last x)) where
     reads : (e : ℕ) → e < x .distances → between (getD firsts e 0) (getD ends e 0) a ≡ readsShape x c e
     reads e h = ap (between (getD firsts e 0) (getD ends e 0)) k ∙ runs .each e h .is c l
@@ -98,11 +102,13 @@ module _ (x : Nest) (ok : Accepted x) where
     back-low : (e : ℕ) → e < x .distances → between (getD firsts e 0) (getD ends e 0) a ≡ true → getD back e 0 ≤ c
     back-low e h t = omega (arith, found e h (sym (reads e h) ∙ t))
 
-    mixed-is : (source memory : List ℕ) → mixedWord (x .distances) firsts ends back weights (x .boundary) (x .shift) source a memory c ≡ shapedValue x source memory c
+    mixed-is : (source memory : List ℕ) → mixedWord (x .distances) firsts ends back weights (x .boundary) (x .shift) source a memory c ≡ shapedValue x source
+        memory c
     unfolding mixedWord shapedValue
     mixed-is source memory =
         ap (λ (b : ℕ). (getD source c 0 + b) / 2 ^ x .shift % 4294967296)
-        (sum-same _ _ (x .distances) (λ e h. ap (λ (w : List ℕ). getD w e 0 * pick (between (getD firsts e 0) (getD ends e 0) a) (getD memory (c - getD back e 0) 0) (x .boundary)) is
+        (sum-same _ _ (x .distances) (λ e h. ap (λ (w : List ℕ). getD w e 0 * pick (between (getD firsts e 0) (getD ends e 0) a)
+        (getD memory (c - getD back e 0) 0) (x .boundary)) is
         ∙ ap (λ (t : Bool). weight x e * pick t (getD memory (c - getD back e 0) 0) (x .boundary)) (reads e h)
         ∙ ap (λ (b : ℕ). weight x e * b) (word e h (readsShape x c e) refl)))
       where
@@ -181,7 +187,8 @@ module _ (x : Nest) (ok : Accepted x) where
       inner : (y : ℕ) → y < kept → inShape x (r .number + skipped + y) ≡ true
       inner y h =
           let z : r .number + skipped + y ≡ r .number + (skipped + y) = omega arith in
-          rw z (shape-at (skipped + y) (omega (arith, cut-fits)) ∙ in-run (k .from) (k .to) (start + (skipped + y)) (omega (arith, cut .least)) (omega (arith, cut .least)))
+          rw z (shape-at (skipped + y) (omega (arith, cut-fits)) ∙ in-run (k .from) (k .to) (start + (skipped + y)) (omega (arith, cut .least))
+          (omega (arith, cut .least)))
 
       -- the m-th cell that is kept
       along : (y : ℕ) → y < kept → Along x (r .place) (r .number + skipped + y) × (k .from + y ≡ cellPlace x (r .number + skipped + y) (last x))
@@ -196,7 +203,9 @@ module _ (x : Nest) (ok : Accepted x) where
         row-readable sources words e g =
             record {
               few = ok .distances-most;
-              back = λ i y h o t. let a = along y o in back-low (r .place) firsts ends back weights runs backs is (r .number + skipped + y) (k .from + y) (a .0) (a .1) i h t;
+              back =
+                  λ i y h o t. let a = along y o in back-low (r .place) firsts ends back weights runs backs is (r .number + skipped + y) (k .from + y) (a .0)
+                  (a .1) i h t;
               light = λ i h. rw is (ok .weight-most i);
               beyond = ok .boundary-most;
               divides = omega (arith, ok .shift-most);
@@ -210,7 +219,8 @@ module _ (x : Nest) (ok : Accepted x) where
             cut-low′ g = omega (arith, cut-low)
 
         pub row-values : (source memory memory′ : List ℕ)
-            → memory′ ≡ storeAll (mixedAlong (x .distances) firsts ends back weights (x .boundary) (x .shift) source (r .number + skipped) (k .from)) memory (rowOf (r .number + skipped) kept)
+            → memory′ ≡ storeAll (mixedAlong (x .distances) firsts ends back weights (x .boundary) (x .shift) source (r .number + skipped) (k .from)) memory
+            (rowOf (r .number + skipped) kept)
             → memory′ ≡ storeAll (insideOnly x (shapedValue x source)) memory (rowOf (r .number) w)
         row-values source memory memory′ e =
             row-cut x (shapedValue x source) _ memory memory′ (r .number) skipped kept w cut-fits before after (λ m y h. (inner y h, word m y h)) e
@@ -237,14 +247,11 @@ module _ (x : Nest) (ok : Accepted x) where
 
       -- ---- from the memories
 
-      -- the last dimension is not spread
       same-processor : (c : ℕ) → Along x (r .place) c → processorOf x (boxTileOf x c) ≡ processorOf x (boxTileOf x (r .number))
       same-processor c a =
-          processorOf-same x ok (boxTileOf x c) (boxTileOf x (r .number))
+          one-processor x ok c (r .number)
           (λ j o. let q : j < last x = omega (arith, ok .spread-low) in
-          tilePlace-boxTileOf x ok c j (omega (arith, ok .spread-low))
-          ∙ ap (λ (i : ℕ). i / tileLength x j) (a .same j q ∙ l .place .each j (omega (arith, ok .spread-low)))
-          ∙ sym (tilePlace-boxTileOf x ok (r .number) j (omega (arith, ok .spread-low))))
+          a .same j q ∙ l .place .each j (omega (arith, ok .spread-low)))
 
       row-words : (memories grid grid′ : List ℕ) (b : ℕ) → b ≡ processorOf x (boxTileOf x (r .number)) → (n : ℕ) → n ≡ cells x
           → grid′ ≡ storeAll (λ m c. getD memories (b * n + (r .number + skipped) + (c - (r .number + skipped))) 0) grid (rowOf (r .number + skipped) kept)
@@ -254,7 +261,8 @@ module _ (x : Nest) (ok : Accepted x) where
           row-cut x (heldWord x memories) _ grid grid′ (r .number) skipped kept w cut-fits before after (λ m y h. (inner y h, word m y h)) e
         where
           word : (m : List ℕ) (y : ℕ) → y < kept
-              → getD memories (b * n + (r .number + skipped) + (r .number + skipped + y - (r .number + skipped))) 0 ≡ heldWord x memories m (r .number + skipped + y)
+              → getD memories (b * n + (r .number + skipped) + (r .number + skipped + y - (r .number + skipped))) 0 ≡ heldWord x memories m
+              (r .number + skipped + y)
           word m y h =
               let a = along y h .0 in
               let z : b * n + (r .number + skipped) + (r .number + skipped + y - (r .number + skipped)) ≡ b * n + (r .number + skipped + y) = omega arith in
@@ -278,18 +286,21 @@ module _ (x : Nest) (ok : Accepted x) where
       copy-low = omega (arith, cut-low w fits s k span cut′)
 
       pub row-copied : (memories grid grid′ : List ℕ) (t b : ℕ) → t ≡ boxTileOf x (r .number) → b ≡ processorOf x t → (n : ℕ) → n ≡ cells x
-          → grid′ ≡ storeAll (λ m c. getD memories (b * n + (r .number + k .from) + (c - (r .number + k .from))) 0) grid (rowOf (r .number + k .from) (k .to - k .from))
+          → grid′ ≡ storeAll (λ m c. getD memories (b * n + (r .number + k .from) + (c - (r .number + k .from))) 0) grid
+          (rowOf (r .number + k .from) (k .to - k .from))
           → grid′ ≡ storeAll (insideOnly x (heldWord x memories)) grid (rowOf (r .number) w)
       row-copied memories grid grid′ t b tile own n count e =
           row-words w fits s k span cut′ memories grid grid′ b (own ∙ ap (processorOf x) tile) n count
-          (subst (λ (p : ℕ). grid′ ≡ storeAll (λ m c. getD memories (b * n + (r .number + p) + (c - (r .number + p))) 0) grid (rowOf (r .number + p) (k .to - k .from))) (sym from) e)
+          (subst (λ (p : ℕ). grid′ ≡ storeAll (λ m c. getD memories (b * n + (r .number + p) + (c - (r .number + p))) 0) grid
+          (rowOf (r .number + p) (k .to - k .from))) (sym from) e)
 
   -- ---- rows of the nest
 
   pub row-located : (q width : ℕ) (at : List ℕ) → width ≡ lengthOf x (last x) → q * width < cells x → Row x q at
       → Located x (q * width) (record { number = q * width; place = at }) × (getD at (last x) 0 ≡ 0)
   unfolding cellPlace
-  row-located q width at e h r = (record { low = h; number = refl; place = record { each = λ j o. r .first j o ∙ ap (λ (a : ℕ). cellPlace x (q * a) j) (sym e) } }, begin)
+  row-located q width at e h r =
+      (record { low = h; number = refl; place = record { each = λ j o. r .first j o ∙ ap (λ (a : ℕ). cellPlace x (q * a) j) (sym e) } }, begin)
     where
       begin : getD at (last x) 0 ≡ 0
       begin =

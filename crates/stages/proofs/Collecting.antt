@@ -1,5 +1,5 @@
 -- Laws of collecting: a row of cells has one processor, and the grid once some rows are copied.
-use Prim.Native.Nat.{ℕ, zero, suc, _+_, _*_, _-_, _/_, _%_, _≤_, _<_}
+use Prim.Native.Nat.{ℕ, zero, suc, _+_, _*_, _-_, _%_, _≤_, _<_}
 use mathlib.Core.Path.{_≡_, sym, ap, _∙_, subst}
 use mathlib.Core.List.{List, []}
 use native.Mathlib.Nat.{add-assoc, zero-add, zero-mod, add-mod-right}
@@ -14,16 +14,16 @@ use Rattle.base.proofs.Lists.{length-put, part-length, part-put-same, part-put-
 use Rattle.machine.specs.Machine.{stateOf, collected}
 use Rattle.nest.specs.declared.Nest.{Nest}
 use Rattle.nest.specs.Accepted.{Accepted}
-use Rattle.nest.specs.Nest.{lengthOf, tileLength, cells, processors}
+use Rattle.nest.specs.Nest.{lengthOf, cells, processors}
 use Rattle.plan.specs.declared.Route.{Route}
 use Rattle.nest.specs.Places.{place, cellPlace, boxTileOf}
 use Rattle.plan.specs.Geometry.{processorOf}
 use Rattle.plan.specs.Messages.{boxPlan}
 use Rattle.nest.proofs.Rank.{place-last}
-use Rattle.plan.proofs.Tiles.{tilePlace-boxTileOf, processorOf-same}
 use Rattle.layout.specs.declared.Sizes.{Sizes}
 use Rattle.layout.specs.Sizes.{Sized}
 use Rattle.layout.proofs.CellRows.{row-before, row-low}
+use Rattle.layout.proofs.Processors.{one-processor}
 use Rattle.stages.proofs.Parts.{Stored, store-start, stored-all, back, mid-is, mid-length, room}
 
 -- ---- rows
@@ -41,16 +41,11 @@ module _ (x : Nest) (ok : Accepted x) (c : ℕ) (begins : c % rowLength x ≡ 0)
   inside : (y : ℕ) → y < rowLength x → place (lengthOf x) (x .dimensions) c (x .dimensions - 1) + y < rowLength x
   inside y h = omega (arith, last-is (lengthOf x) (x .dimensions) c (omega (arith, ok .dimensions-least)), begins)
 
-  -- the last dimension is not spread
   row-processor : (y : ℕ) → y < rowLength x → processorOf x (boxTileOf x (c + y)) ≡ processorOf x (boxTileOf x c)
   unfolding cellPlace
   row-processor y h =
-      processorOf-same x ok (boxTileOf x (c + y)) (boxTileOf x c)
-      (λ j l.
-      tilePlace-boxTileOf x ok (c + y) j (omega (arith, ok .spread-low))
-      ∙ ap (λ (a : ℕ). a / tileLength x j)
-      (row-before (lengthOf x) (x .dimensions) c y (omega (arith, ok .dimensions-least)) (inside y h) j (omega (arith, ok .spread-low)))
-      ∙ sym (tilePlace-boxTileOf x ok c j (omega (arith, ok .spread-low))))
+      one-processor x ok (c + y) c
+      (λ j l. row-before (lengthOf x) (x .dimensions) c y (omega (arith, ok .dimensions-least)) (inside y h) j (omega (arith, ok .spread-low)))
 
   row-some : 1 ≤ rowLength x
   row-some = ok .long (x .dimensions - 1) (omega (arith, ok .dimensions-least))

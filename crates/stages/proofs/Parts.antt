@@ -2,7 +2,7 @@
 use Prim.Native.Nat.{ℕ, suc, _+_, _*_, _-_, _≤_, _<_}
 use mathlib.Core.Path.{_≡_, refl, sym, ap, _∙_, subst}
 use mathlib.Core.Logic.{_⊎_, inl, inr, _≢_}
-use mathlib.Core.Bool.{Bool, true, false}
+use mathlib.Core.Bool.{true, false}
 use mathlib.Core.List.{List}
 use native.Mathlib.Nat.{eq-or-lt-of-le, le-of-suc-le-suc}
 use native.Mathlib.Numerals.{add-one}
@@ -12,9 +12,9 @@ use lib.Seq.{drop-cons, getD-set-same, getD-set-other, ext-getD}
 use lib.Dec.{eqb}
 use borrow.Author.Tests.{eq-eqb, ne-eqb}
 use borrow.Rule.Slice.PartMut.{putMid}
-use Rattle.base.specs.Tests.{_or_, every, some, tabulate}
+use Rattle.base.specs.Tests.{tabulate}
 use Rattle.base.specs.Lists.{part, put, setAll, allAt, unpack, pack}
-use Rattle.base.proofs.Tests.{and-left, and-false, every-more, length-tabulate, tabulate-at}
+use Rattle.base.proofs.Tests.{and-left, and-false, length-tabulate, tabulate-at}
 use Rattle.base.proofs.Lists.{part-length, piece-fits}
 use Rattle.machine.specs.Plan.{Plan, offset, words, heldBy, duesOf}
 use Rattle.machine.specs.Machine.{placeOf, unpackAll}
@@ -175,30 +175,6 @@ module _ (route : Route) (x : Nest) where
 
     pub look-done : m ≤ j → true ≡ allAt status 2 (duesOf p tile)
     look-done l = sym (all-end (duesOf p tile) j status 2 (omega (arith, g .all))) ∙ g .is
-
--- ---- tests over all numbers below a bound
-
-module _ (f : ℕ → Bool) where
-  pub every-start : every f 0 ≡ true
-  unfolding every
-  every-start = refl
-
-  pub every-next : (i : ℕ) → every f i ≡ true → f i ≡ true → every f (i + 1) ≡ true
-  every-next i h e = ap (every f) (add-one i) ∙ every-more f i h e
-
-  pub every-done : (i n : ℕ) → i ≤ n → n ≤ i → every f i ≡ true → true ≡ every f n
-  every-done i n h k e = let z : i ≡ n = omega arith in sym e ∙ ap (every f) z
-
-  pub some-start : some f 0 ≡ false
-  unfolding some
-  some-start = refl
-
-  pub some-next : (i : ℕ) → some f i ≡ false → f i ≡ false → some f (i + 1) ≡ false
-  unfolding some _or_
-  some-next i h e = rw (add-one i, h, e)
-
-  pub some-done : (i n : ℕ) → i ≤ n → n ≤ i → some f i ≡ false → false ≡ some f n
-  some-done i n h k e = let z : i ≡ n = omega arith in sym e ∙ ap (some f) z
 
 -- ---- words stored one after the other
 

@@ -2,3 +2,4 @@ pub mod Decimals
 pub mod Digits
 pub mod Pens
 pub mod Steps
+pub mod Example

@@ -3,4 +3,5 @@ pub mod Stores
 pub mod Orders
 pub mod Waves
 pub mod Margins
-pub mod Groups
+pub mod Boxes
+pub mod Rows

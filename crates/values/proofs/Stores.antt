@@ -32,7 +32,8 @@ unfolding storeAll
 store-append f l [] b = refl
 store-append f l (p ∷ a) b = store-append f (set l p (f l p)) a b
 
-pub store-row : (f : List ℕ → ℕ → ℕ) (l : List ℕ) (c n : ℕ) → storeAll f l (rowOf c (suc n)) ≡ set (storeAll f l (rowOf c n)) (c + n) (f (storeAll f l (rowOf c n)) (c + n))
+pub store-row : (f : List ℕ → ℕ → ℕ) (l : List ℕ) (c n : ℕ) → storeAll f l (rowOf c (suc n)) ≡ set (storeAll f l (rowOf c n)) (c + n)
+    (f (storeAll f l (rowOf c n)) (c + n))
 unfolding tabulate storeAll
 store-row f l c n = store-append f l (rowOf c n) ((c + n) ∷ [])
 
@@ -92,7 +93,8 @@ module _ (x : Nest) (t : ℕ) (source memory₀ : List ℕ) where
   calculating-row memory q c p (suc n) h e =
       let z : q + suc n ≡ q + n + 1 = omega arith in
       rw (store-row (value x source) memory c n, z)
-      (more (storeAll (value x source) memory (rowOf c n)) (q + n) (calculating-row memory q c p n (omega arith) (λ y k. e y (omega arith))) (c + n) _ (omega arith) (e n (omega arith)) refl)
+      (more (storeAll (value x source) memory (rowOf c n)) (q + n) (calculating-row memory q c p n (omega arith) (λ y k. e y (omega arith))) (c + n) _
+      (omega arith) (e n (omega arith)) refl)
 
 -- one row more of the tile's box, or all of them
 module _ (x : Nest) (ok : Accepted x) (b : Bounds) (is : Bounded x b) (t : ℕ) (same : b .tile ≡ t) (source memory₀ memory : List ℕ) where
@@ -123,18 +125,6 @@ module _ (x : Nest) (ok : Accepted x) where
   sweep-rows : product (nth (x .lengths)) (x .dimensions - 1) * lengthOf x (x .dimensions - 1) ≡ cells x
   unfolding cells
   sweep-rows = sym (product-last (lengthOf x) (x .dimensions) deep)
-
-  module _ (r : ℕ) (at : List ℕ) (p : Placed (x .lengths) (four 0) r (x .dimensions - 1) at) where
-    pub sweep-located : (n : ℕ) → n ≡ r * lengthOf x (x .dimensions - 1) → n < cells x → Located x n (record { number = n; place = at })
-    sweep-located n e l =
-        record {
-          low = l;
-          number = refl;
-          place = rw e (placed-cell x ok _ at (placed-row (x .lengths) (four 0) at r (x .dimensions) deep (ok .long (x .dimensions - 1) (omega (arith, deep))) p));
-        }
-
-    pub sweep-inside : Places (x .lengths) (four 0) (x .dimensions - 1) × Inside (x .lengths) (four 0) (x .dimensions - 1) at
-    sweep-inside = let q = rows-places x ok (x .lengths) (four 0) (lengths-places x ok) in (q, placed-inside (x .lengths) (four 0) at r (x .dimensions - 1) q p)
 
 module _ (x : Nest) (ok : Accepted x) (r rows w : ℕ) (e : rows ≡ product (nth (x .lengths)) (x .dimensions - 1)) (k : w ≡ lengthOf x (x .dimensions - 1)) where
   pub sweep-all : rows * w ≡ cells x
@@ -169,7 +159,11 @@ module _ (x : Nest) (source grid₀ : List ℕ) where
     another : Sound (boxPlan Direct x) → c < cells x → (v : ℕ) → v ≡ value x source grid c → Sweeping x source grid₀ (set grid c v) (c + 1)
     unfolding sweepTo pick
     another sound h v e =
-        record { low = omega arith; is = ap (λ (z : List ℕ). set z c v) (p .is) ∙ step ∙ ap (λ (a : ℕ). (sweepTo (boxPlan Direct x) source c ++ (a ∷ [])) ++ drop (c + 1) grid₀) same ∙ rw (add-one c) refl }
+        record {
+          low = omega arith;
+          is = ap (λ (z : List ℕ). set z c v) (p .is) ∙ step ∙ ap (λ (a : ℕ). (sweepTo (boxPlan Direct x) source c ++ (a ∷ [])) ++
+              drop (c + 1) grid₀) same ∙ rw (add-one c) refl;
+        }
       where
         same : v ≡ value x source (sweepTo (boxPlan Direct x) source c) c
         same =
@@ -184,7 +178,8 @@ module _ (x : Nest) (source grid₀ : List ℕ) where
     swept h =
         let z : c ≡ cells x = omega (arith, p .low) in
         let y : c ≡ length grid₀ = omega arith in
-        p .is ∙ ap (λ (a : ℕ). sweepTo (boxPlan Direct x) source c ++ drop a grid₀) y ∙ ap (λ (a : List ℕ). sweepTo (boxPlan Direct x) source c ++ a) (drop-length grid₀) ∙ append-nil _ ∙ ap (sweepTo (boxPlan Direct x) source) z
+        p .is ∙ ap (λ (a : ℕ). sweepTo (boxPlan Direct x) source c ++ drop a grid₀) y ∙ ap (λ (a : List ℕ). sweepTo (boxPlan Direct x) source c ++ a)
+        (drop-length grid₀) ∙ append-nil _ ∙ ap (sweepTo (boxPlan Direct x) source) z
 
   sweeping-row : length grid₀ ≡ cells x → Sound (boxPlan Direct x) → (grid : List ℕ) (c : ℕ) → Sweeping x source grid₀ grid c → (n : ℕ) → c + n ≤ cells x
       → Sweeping x source grid₀ (storeAll (value x source) grid (rowOf c n)) (c + n)

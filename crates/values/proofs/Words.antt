@@ -49,18 +49,32 @@ module _ (N components : List ℕ) (e n : ℕ) where
   module _ (back j : ℕ) (s : Backing N components e n back j) (h : j < n) (d : ℕ) (k : d ≡ stepOf N components e j) where
     pub backing-more : Backing N components e n (back * getD N j 0 + d) (j + 1)
     unfolding rank
-    backing-more = record { low = omega arith; is = rw (add-one j) (ap (λ (a : ℕ). a * getD N j 0 + d) (s .is) ∙ ap (λ (a : ℕ). rank (nth N) (stepOf N components e) j * getD N j 0 + a) k) }
+    backing-more =
+        record {
+          low = omega arith;
+          is = rw (add-one j) (ap (λ (a : ℕ). a * getD N j 0 + d) (s .is)
+              ∙ ap (λ (a : ℕ). rank (nth N) (stepOf N components e) j * getD N j 0 + a) k);
+        }
 
     pub backing-fits : Countable N n → back * getD N j 0 + d ≤ 65536
     backing-fits c =
-        let r : rank (nth N) (stepOf N components e) (j + 1) ≤ (j + 1) * product (nth N) (j + 1) = rank-most (nth N) (stepOf N components e) (j + 1) (λ q i. c .positive q (omega arith)) (λ q i. omega arith) in
-        omega (arith, backing-more .is, r, mul-le-mul {n₁ = j + 1} {m₁ = product (nth N) (j + 1)} {n₂ = 4} {m₂ = 16384} (omega (arith, c .low)) (omega (arith, c .few, product-prefix (nth N) n (j + 1) (c .positive) (omega arith))))
+        let r : rank (nth N) (stepOf N components e) (j + 1) ≤ (j + 1) * product (nth N) (j + 1) = rank-most (nth N) (stepOf N components e) (j + 1)
+        (λ q i. c .positive q (omega arith)) (λ q i. omega arith) in
+        omega (
+          arith,
+          backing-more .is,
+          r,
+          mul-le-mul {n₁ = j + 1} {m₁ = product (nth N) (j + 1)} {n₂ = 4} {m₂ = 16384} (omega (arith, c .low))
+              (omega (arith, c .few, product-prefix (nth N) n (j + 1) (c .positive) (omega arith))),
+        )
 
-pub backing-end : (x : Nest) (components : List ℕ) (e back j : ℕ) → Given x components → Backing (x .lengths) components e (x .dimensions) back j → x .dimensions ≤ j → back ≡ stepBack x e
+pub backing-end : (x : Nest) (components : List ℕ) (e back j : ℕ) → Given x components → Backing (x .lengths) components e (x .dimensions) back j
+    → x .dimensions ≤ j → back ≡ stepBack x e
 unfolding stepBack
 backing-end x components e back j g s h =
     let z : j ≡ x .dimensions = omega (arith, s .low) in
-    s .is ∙ ap (rank (nth (x .lengths)) (stepOf (x .lengths) components e)) z ∙ ap (λ (l : List ℕ). rank (nth (x .lengths)) (stepOf (x .lengths) l e) (x .dimensions)) (g .is)
+    s .is ∙ ap (rank (nth (x .lengths)) (stepOf (x .lengths) components e)) z ∙ ap (λ (l : List ℕ). rank (nth (x .lengths)) (stepOf (x .lengths) l e)
+    (x .dimensions)) (g .is)
 
 -- ---- tests and picks
 
@@ -115,12 +129,14 @@ module _ (x : Nest) (ok : Accepted x) where
     unfolding mixed value
     mixed-is =
         ap (λ (b : ℕ). (getD source c 0 + b) / 2 ^ x .shift % 4294967296)
-        (sum-same _ _ (x .distances) (λ e h. ap (λ (l : List ℕ). getD l e 0 * pick (leb (getD first e 0) a) (getD memory (c - getD back e 0) 0) (x .boundary)) (r .weights-are)
+        (sum-same _ _ (x .distances) (λ e h. ap (λ (l : List ℕ). getD l e 0 * pick (leb (getD first e 0) a) (getD memory (c - getD back e 0) 0)
+        (x .boundary)) (r .weights-are)
         ∙ ap (λ (b : ℕ). weight x e * b) (pick-same (leb (getD first e 0) a) (hasRead x c e) _ _ (x .boundary) (r .firsts e h)
         (λ t. let z : c - getD back e 0 ≡ readAt x c e = omega (arith, r .backs e h t) in ap (λ (i : ℕ). getD memory i 0) z))))
 
   module _ (c a n : ℕ) (first back weights : List ℕ) (r : InRow x c a n first back weights) where
-    pub row-mixes : (sources words : ℕ) → weights ≡ x .weights → sources ≡ cells x → words ≡ cells x → Mixes (x .distances) first back weights (x .boundary) (x .shift) c a n sources words
+    pub row-mixes : (sources words : ℕ) → weights ≡ x .weights → sources ≡ cells x → words ≡ cells x → Mixes (x .distances) first back weights (x .boundary)
+        (x .shift) c a n sources words
     row-mixes sources words w s m =
         record {
           few = ok .distances-most;
@@ -134,7 +150,8 @@ module _ (x : Nest) (ok : Accepted x) where
           narrow = r .few;
         }
 
-    pub row-values : (source memory memory′ : List ℕ) → memory′ ≡ storeAll (inLine (x .distances) first back weights (x .boundary) (x .shift) source c a) memory (rowOf c n)
+    pub row-values : (source memory memory′ : List ℕ) → memory′ ≡ storeAll (inLine (x .distances) first back weights (x .boundary) (x .shift) source c a)
+        memory (rowOf c n)
         → memory′ ≡ storeAll (value x source) memory (rowOf c n)
     row-values source memory memory′ e = e ∙ store-same _ _ (rowOf c n) memory (λ m z i. let q = in-row-of c n z i in
         let y : c + (z - c) ≡ z = omega (arith, q .0) in
@@ -146,10 +163,16 @@ module _ (x : Nest) (ok : Accepted x) where
   unfolding stepBack readAt cellAt hasRead
   back-is c e l h t =
       sym (rank-add (lengthOf x) (λ j. min (component x e j) (lengthOf x j)) (λ j. cellPlace x c j - component x e j) (x .dimensions))
-      ∙ rank-same (lengthOf x) _ (cellPlace x c) (x .dimensions) (λ j k. omega (arith, cellPlace-low x ok c j k, leb-true (component x e j) (cellPlace x c j) (every-at (λ j. leb (component x e j) (cellPlace x c j)) (x .dimensions) t j k)))
+      ∙ rank-same (lengthOf x) _ (cellPlace x c) (x .dimensions) (λ j k. omega (
+        arith,
+        cellPlace-low x ok c j k,
+        leb-true (component x e j) (cellPlace x c j)
+            (every-at (λ j. leb (component x e j) (cellPlace x c j)) (x .dimensions) t j k),
+      ))
       ∙ cellAt-cellPlace x ok c l
 
-  module _ (r : Cell) (l : Located x (r .number) r) (first back weights : List ℕ) (f : Firsts x (r .place) first) (b : Backs x back) (is : weights ≡ x .weights) where
+  module _ (r : Cell) (l : Located x (r .number) r) (first back weights : List ℕ) (f : Firsts x (r .place) first) (b : Backs x back)
+      (is : weights ≡ x .weights) where
     last : ℕ
     last = x .dimensions - 1
 
@@ -174,8 +197,11 @@ module _ (x : Nest) (ok : Accepted x) where
           ap (λ (a : ℕ). leb a (getD (r .place) (x .dimensions - 1) 0 + y)) (f .each e k)
           ∙ first-test _ (component x e (x .dimensions - 1)) _ (omega (arith, ok .length-most (x .dimensions - 1)))
           ∙ ap (λ (t : Bool). t and leb (component x e (x .dimensions - 1)) (getD (r .place) (x .dimensions - 1) 0 + y))
-          (every-same _ _ (x .dimensions - 1) (λ j i. ap (leb (component x e j)) (l .place .each j (omega arith) ∙ sym (row-before (lengthOf x) (x .dimensions) (r .number) y (omega (arith, ok .dimensions-least)) moved j i))))
-          ∙ ap (λ (a : ℕ). every (λ j. leb (component x e j) (place (lengthOf x) (x .dimensions) (r .number + y) j)) (x .dimensions - 1) and leb (component x e (x .dimensions - 1)) a)
+          (every-same _ _ (x .dimensions - 1)
+          (λ j i. ap (leb (component x e j)) (l .place .each j (omega arith) ∙ sym (row-before (lengthOf x) (x .dimensions) (r .number) y
+          (omega (arith, ok .dimensions-least)) moved j i))))
+          ∙ ap (λ (a : ℕ). every (λ j. leb (component x e j) (place (lengthOf x) (x .dimensions) (r .number + y) j)) (x .dimensions - 1) and leb
+          (component x e (x .dimensions - 1)) a)
           (ap (λ (a : ℕ). a + y) (sym at) ∙ sym (row-last (lengthOf x) (x .dimensions) (r .number) y (omega (arith, ok .dimensions-least)) moved))
           ∙ sym (every-last _ (x .dimensions) (omega (arith, ok .dimensions-least)))
 
@@ -188,7 +214,8 @@ module _ (x : Nest) (ok : Accepted x) where
             backs = λ e k t. ap (λ (a : ℕ). a + readAt x (r .number + y) e) (b .each e k) ∙ back-is (r .number + y) e cell-low k t;
           }
 
-    pub in-row : (n : ℕ) → getD (r .place) (x .dimensions - 1) 0 + n ≤ lengthOf x (x .dimensions - 1) → InRow x (r .number) (getD (r .place) (x .dimensions - 1) 0) n first back weights
+    pub in-row : (n : ℕ) → getD (r .place) (x .dimensions - 1) 0 + n ≤ lengthOf x (x .dimensions - 1) → InRow x (r .number)
+        (getD (r .place) (x .dimensions - 1) 0) n first back weights
     in-row n h =
         record {
           few = omega (arith, ok .length-most (x .dimensions - 1));

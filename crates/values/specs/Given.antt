@@ -7,11 +7,10 @@ use lib.ListN.{length, getD}
 use Rattle.nest.specs.declared.Nest.{Nest}
 use Rattle.nest.specs.Accepted.{Accepted}
 use Rattle.nest.specs.Nest.{cells}
-use Rattle.layout.specs.declared.Cell.{Cell}
 use Rattle.layout.specs.Places.{Located}
 use Rattle.layout.specs.CellRows.{Given}
 use Rattle.values.specs.declared.Body.{Body}
-use Rattle.values.specs.Waves.{four, Spaced, Banded, Lent, Fours}
+use Rattle.values.specs.Waves.{four, Spaced, Banded, Lent}
 
 -- the nest that has these numbers, and all else as x: code is handed no nest, so its contracts speak of every nest that has the numbers
 abbrev pub withBody : Nest → Body → Nest
@@ -44,17 +43,11 @@ abbrev pub RowsLent : Nest → List ℕ → List ℕ → List ℕ → List ℕ �
 RowsLent x components lasts back weights margin source memory =
     Accepted x × (Lent x components lasts back weights margin × ((length source ≡ cells x) × (length memory ≡ cells x)))
 
--- a row of so many cells, from where its first cell is
-abbrev pub RowGiven : Nest → List ℕ → List ℕ → List ℕ → List ℕ → List ℕ → List ℕ → List ℕ → Cell → ℕ → Type 0
-RowGiven x components lasts back weights margin source memory cell width =
+-- a row of so many cells, from the place and the number of its first cell
+abbrev pub RowGiven : Nest → List ℕ → List ℕ → List ℕ → List ℕ → List ℕ → List ℕ → List ℕ → List ℕ → ℕ → ℕ → Type 0
+RowGiven x components lasts back weights margin source memory at first width =
     RowsLent x components lasts back weights margin source memory
-    × (Located x (cell .number) cell × (getD (cell .place) (x .dimensions - 1) 0 + width ≤ getD (x .lengths) (x .dimensions - 1) 0))
-
--- four rows of so many cells
-abbrev pub FoursGiven : Nest → List ℕ → List ℕ → List ℕ → List ℕ → List ℕ → List ℕ → List ℕ → Cell → Cell → Cell → Cell → ℕ
-    → Type 0
-FoursGiven x components lasts back weights margin source memory a b c d width =
-    RowsLent x components lasts back weights margin source memory × Fours x a b c d width
+    × (Located x first (record { number = first; place = at }) × (getD at (x .dimensions - 1) 0 + width ≤ getD (x .lengths) (x .dimensions - 1) 0))
 
 -- four rows that go side by side from column `from` on
 abbrev pub BandGiven : Nest → List ℕ → List ℕ → List ℕ → List ℕ → List ℕ → ℕ → ℕ → ℕ → ℕ → ℕ → ℕ → ℕ → Type 0

@@ -1,3 +1,4 @@
 pub mod Reads
 pub mod Waves
 pub mod Given
+pub mod Boxes

@@ -7,7 +7,7 @@ ghost use Prim.Native.Nat.{_+_, _*_, _-_, _/_, _%_, _^_, _≤_, _<_};
 ghost use lib.ListN.{length, getD};
 ghost use lib.Dec.{leb};
 ghost use mathlib.Core.Bool.{true};
-ghost use Rattle.base.specs.Tests.{_and_, pick, every};
+ghost use Rattle.base.specs.Tests.{_and_, pick, every, product};
 ghost use Rattle.base.specs.Lists.{storeAll};
 ghost use Rattle.machine.specs.Machine.{sweep};
 ghost use Rattle.nest.specs.Accepted.{Accepted};
@@ -16,18 +16,18 @@ ghost use Rattle.plan.specs.Geometry.{cellsOf, value};
 ghost use Rattle.plan.specs.declared.Route.the-variants.{Direct};
 ghost use Rattle.plan.specs.Messages.{boxPlan};
 ghost use Rattle.layout.specs.Sizes.{Sized};
-ghost use Rattle.layout.specs.Places.{Has};
+ghost use Rattle.layout.specs.Places.{nth, Has, Places, Inside, Follows};
 ghost use Rattle.layout.specs.CellRows.{Given, rowOf};
 ghost use Rattle.nest.specs.declared.Nest.{Nest};
-ghost use Rattle.values.specs.Waves.{four, rowsOf, Spaced, mostOf, Lasts, Inners};
-ghost use Rattle.values.specs.Given.{withBody, ReadsBy, RowGiven, FoursGiven, BandGiven};
+ghost use Rattle.values.specs.Waves.{four, rowsOf, mostOf, Lasts, Inner};
+ghost use Rattle.values.specs.Given.{withBody, ReadsBy, RowGiven, BandGiven};
+ghost use Rattle.values.specs.Boxes.{Boxed, rowAt, Standing, RowsGiven, Stored};
 ghost use Rattle.values.specs.Reads.{firstRead, stepBack, Firsts, Backs};
 use kernels::Rule;
 use kernels::line;
 use kernels::short_line;
 use kernels::wave;
 use layout::Bounds;
-use layout::Cell;
 use layout::Sizes;
 use nest::Nest;
 
@@ -95,7 +95,7 @@ fn firsts_of(body: Body, components: &[usize; 32], at: [usize; 4]) -> [usize; 8]
     first
 }
 
-// The values of a row, from where its first cell is.
+// The values of a row, from the place and the number of its first cell.
 fn row(
     body: Body,
     source: &[u32],
@@ -104,24 +104,23 @@ fn row(
     lasts: &[usize; 8],
     back: &[usize; 8],
     weights: &[u64; 8],
-    margin: [usize; 4],
-    cell: Cell,
+    margin: &[usize; 4],
+    at: &[usize; 4],
+    first: usize,
     width: usize,
 )
-    requires { ⌜ ((x : Nest) × RowGiven (withBody x body) (now components) (now lasts) (now back) (now weights) margin (now source) (now memory)
-        cell width) ⌝ }
+    requires { ⌜ ((x : Nest) × RowGiven (withBody x body) (now components) (now lasts) (now back) (now weights) (now margin) (now source) (now memory)
+        (now at) first width) ⌝ }
     ensures { λ _. ⌜ ((x : Nest) → RowGiven (withBody x body) (now (components .entry)) (now (lasts .entry)) (now (back .entry)) (now (weights .entry))
-        margin (now (source .entry)) (now (memory .entry)) cell width
-        → now (memory .exit) ≡ storeAll (value (withBody x body) (now (source .entry))) (now (memory .entry)) (rowOf (cell .number) width)) ⌝ }
+        (now (margin .entry)) (now (source .entry)) (now (memory .entry)) (now (at .entry)) first width
+        → now (memory .exit) ≡ storeAll (value (withBody x body) (now (source .entry))) (now (memory .entry)) (rowOf first width)) ⌝ }
 {
-    let at = cell.place;
     let last = body.dimensions - 1;
     let component = at[last];
     let from = margin[last];
     let shift = body.shift;
     let boundary = body.boundary;
     let n = body.distances;
-    let first = cell.number;
     if inner(margin, at, last) {
         line(
             source,
@@ -139,7 +138,8 @@ fn row(
         );
         return;
     }
-    let firsts = firsts_of(body, components, at);
+    let place = [at[0], at[1], at[2], at[3]];
+    let firsts = firsts_of(body, components, place);
     short_line(
         source,
         memory,
@@ -323,9 +323,9 @@ fn lasts_of(nest: Nest, components: &[usize; 32]) -> [usize; 8]
 }
 
 // Whether all distances read in the row of a place, once far enough along it.
-fn inner(margin: [usize; 4], at: [usize; 4], last: usize) -> bool
+fn inner(margin: &[usize; 4], at: &[usize; 4], last: usize) -> bool
     requires { ⌜ last ≤ 4 ⌝ }
-    ensures { λ r. ⌜ r ≡ every (λ j. leb (getD margin j 0) (getD at j 0)) last ⌝ }
+    ensures { λ r. ⌜ r ≡ every (λ j. leb (getD (now (margin .entry)) j 0) (getD (now (at .entry)) j 0)) last ⌝ }
 {
     for j in 0..last {
         if at[j] < margin[j] {
@@ -346,56 +346,55 @@ fn start_of(margin: usize, component: usize) -> usize
     margin - component + 3
 }
 
-// Whether each of four numbers is as far from the one before it as the second from the first.
-fn spaced(a: usize, b: usize, c: usize, d: usize) -> bool
-    requires { ⌜ (a ≤ b) × ((b ≤ c) × (c ≤ d)) ⌝ }
-    ensures { λ r. ⌜ (r ≡ true → Spaced a b c d) ⌝ }
+// The place of the next row of a box: the last component one more, or the first again and one more before it. In place, since
+// a place copied as soon as one word of it is written is waited for.
+fn advance(lengths: &[usize; 4], from: &[usize; 4], at: &mut [usize; 4], left: usize)
+    requires { ⌜ (length (now at) ≡ 4) × (Places (now lengths) (now from) left × Inside (now lengths) (now from) left (now at)) ⌝ }
+    ensures { λ _. ⌜ (length (now (at .exit)) ≡ 4) × Follows (now (lengths .entry)) (now (from .entry)) left (now (at .entry)) (now (at .exit)) ⌝ }
 {
-    if c - b != b - a {
-        return false;
+    if left == 0 {
+        return;
     }
-    d - c == b - a
+    let j = left - 1;
+    let component = at[j] + 1;
+    if component < from[j] + lengths[j] {
+        at[j] = component;
+        return;
+    }
+    at[j] = from[j];
+    advance(lengths, from, at, j);
 }
 
-// Whether four rows are long enough, equally far from each other and all inner.
+// Whether the row at a place and the three after it are long enough, differ in the last component but one alone, and all are inner:
+// so far from each other as rows of the grid are.
 fn together(
-    margin: [usize; 4],
-    a: Cell,
-    b: Cell,
-    c: Cell,
-    d: Cell,
+    margin: &[usize; 4],
+    lengths: &[usize; 4],
+    corner: &[usize; 4],
+    at: &[usize; 4],
     last: usize,
     from: usize,
     width: usize,
 ) -> bool
-    requires { ⌜ (last ≤ 4) × ((from ≤ 1027) × ((a .number ≤ b .number) × ((b .number ≤ c .number) × (c .number ≤ d .number)))) ⌝ }
-    ensures { λ r. ⌜ (r ≡ true → (from ≤ width) × (Inners margin (a .place) (b .place) (c .place) (d .place) last
-        × Spaced (a .number) (b .number) (c .number) (d .number))) ⌝ }
+    requires { ⌜ (last ≤ 3) × ((from ≤ 1027) × (Places (now lengths) (now corner) last × Inside (now lengths) (now corner) last (now at))) ⌝ }
+    ensures { λ r. ⌜ (r ≡ true → (from ≤ width) × ((1 ≤ last) × (Inner (now (margin .entry)) (now (at .entry)) last
+        × (getD (now (at .entry)) (last - 1) 0 + 3 < getD (now (corner .entry)) (last - 1) 0 + getD (now (lengths .entry)) (last - 1) 0)))) ⌝ }
 {
-    let pa = a.place;
-    let pb = b.place;
-    let pc = c.place;
-    let pd = d.place;
     if width < from + 8 {
         return false;
     }
-    if !inner(margin, pa, last) {
+    if last == 0 {
         return false;
     }
-    if !inner(margin, pb, last) {
+    let j = last - 1;
+    if corner[j] + lengths[j] <= at[j] + 3 {
         return false;
     }
-    if !inner(margin, pc, last) {
-        return false;
-    }
-    if !inner(margin, pd, last) {
-        return false;
-    }
-    spaced(a.number, b.number, c.number, d.number)
+    inner(margin, at, last)
 }
 
-// The values of four rows, one by one.
-fn rows_singly(
+// The values of the rows of a box from row `first` on, whose place is `at`, up to row `end`, one by one.
+fn box_rows(
     body: Body,
     source: &[u32],
     memory: &mut [u32],
@@ -403,99 +402,27 @@ fn rows_singly(
     lasts: &[usize; 8],
     back: &[usize; 8],
     weights: &[u64; 8],
-    margin: [usize; 4],
-    a: Cell,
-    b: Cell,
-    c: Cell,
-    d: Cell,
-    width: usize,
+    margin: &[usize; 4],
+    grid: &[usize; 4],
+    lengths: &[usize; 4],
+    corner: &[usize; 4],
+    at: &mut [usize; 4],
+    first: usize,
+    end: usize,
 )
-    requires { ⌜ ((x : Nest) × FoursGiven (withBody x body) (now components) (now lasts) (now back) (now weights) margin (now source) (now memory)
-        a b c d width) ⌝ }
-    ensures { λ _. ⌜ ((x : Nest) → FoursGiven (withBody x body) (now (components .entry)) (now (lasts .entry)) (now (back .entry)) (now (weights .entry))
-        margin (now (source .entry)) (now (memory .entry)) a b c d width
-        → now (memory .exit) ≡ storeAll (value (withBody x body) (now (source .entry))) (now (memory .entry))
-        (rowsOf (four (a .number) (b .number) (c .number) (d .number)) width 4)) ⌝ }
+    requires { ⌜ ((x : Nest) × (RowsGiven (withBody x body) (now components) (now lasts) (now back) (now weights) (now margin) (now source) (now memory)
+        (now grid) (now lengths) (now corner) (now at) first × ((first ≤ end) × (end ≤ 16384)))) ⌝ }
+    ensures { λ _. ⌜ ((x : Nest) → RowsGiven (withBody x body) (now (components .entry)) (now (lasts .entry)) (now (back .entry)) (now (weights .entry))
+        (now (margin .entry)) (now (source .entry)) (now (memory .entry)) (now (grid .entry)) (now (lengths .entry)) (now (corner .entry))
+        (now (at .entry)) first → Stored (withBody x body) (now (source .entry)) (now (lengths .entry)) (now (corner .entry)) (now (memory .entry))
+        (now (memory .exit)) (now (at .exit)) first (end - first)) ⌝ }
 {
-    row(
-        body,
-        source,
-        memory,
-        components,
-        lasts,
-        back,
-        weights,
-        margin,
-        a,
-        width,
-    );
-    row(
-        body,
-        source,
-        memory,
-        components,
-        lasts,
-        back,
-        weights,
-        margin,
-        b,
-        width,
-    );
-    row(
-        body,
-        source,
-        memory,
-        components,
-        lasts,
-        back,
-        weights,
-        margin,
-        c,
-        width,
-    );
-    row(
-        body,
-        source,
-        memory,
-        components,
-        lasts,
-        back,
-        weights,
-        margin,
-        d,
-        width,
-    );
-}
-
-// The values of four rows: side by side where they are inner and long enough, else one by one.
-fn four_rows(
-    body: Body,
-    source: &[u32],
-    memory: &mut [u32],
-    components: &[usize; 32],
-    lasts: &[usize; 8],
-    back: &[usize; 8],
-    weights: &[u64; 8],
-    margin: [usize; 4],
-    a: Cell,
-    b: Cell,
-    c: Cell,
-    d: Cell,
-    width: usize,
-)
-    requires { ⌜ ((x : Nest) × FoursGiven (withBody x body) (now components) (now lasts) (now back) (now weights) margin (now source) (now memory)
-        a b c d width) ⌝ }
-    ensures { λ _. ⌜ ((x : Nest) → FoursGiven (withBody x body) (now (components .entry)) (now (lasts .entry)) (now (back .entry)) (now (weights .entry))
-        margin (now (source .entry)) (now (memory .entry)) a b c d width
-        → now (memory .exit) ≡ storeAll (value (withBody x body) (now (source .entry))) (now (memory .entry))
-        (rowsOf (four (a .number) (b .number) (c .number) (d .number)) width 4)) ⌝ }
-{
-    let last = body.dimensions - 1;
-    let place = a.place;
-    let component = place[last];
-    let from = start_of(margin[last], component);
-    if !together(margin, a, b, c, d, last, from, width) {
-        rows_singly(
+    let n = body.dimensions;
+    let last = n - 1;
+    let width = lengths[last];
+    for r in first..end {
+        let number = layout::rank_of(grid, at, n);
+        row(
             body,
             source,
             memory,
@@ -504,14 +431,65 @@ fn four_rows(
             back,
             weights,
             margin,
-            a,
-            b,
-            c,
-            d,
+            at,
+            number,
             width,
+        );
+        advance(lengths, corner, at, last);
+    }
+}
+
+// The values of four rows of a box from row `first` on, whose place is `at`: side by side where they go together, else one by one.
+fn four_rows(
+    body: Body,
+    source: &[u32],
+    memory: &mut [u32],
+    components: &[usize; 32],
+    lasts: &[usize; 8],
+    back: &[usize; 8],
+    weights: &[u64; 8],
+    margin: &[usize; 4],
+    grid: &[usize; 4],
+    lengths: &[usize; 4],
+    corner: &[usize; 4],
+    at: &mut [usize; 4],
+    first: usize,
+)
+    requires { ⌜ ((x : Nest) × (RowsGiven (withBody x body) (now components) (now lasts) (now back) (now weights) (now margin) (now source) (now memory)
+        (now grid) (now lengths) (now corner) (now at) first × (first + 4 ≤ 16384))) ⌝ }
+    ensures { λ _. ⌜ ((x : Nest) → RowsGiven (withBody x body) (now (components .entry)) (now (lasts .entry)) (now (back .entry)) (now (weights .entry))
+        (now (margin .entry)) (now (source .entry)) (now (memory .entry)) (now (grid .entry)) (now (lengths .entry)) (now (corner .entry))
+        (now (at .entry)) first → Stored (withBody x body) (now (source .entry)) (now (lengths .entry)) (now (corner .entry)) (now (memory .entry))
+        (now (memory .exit)) (now (at .exit)) first 4) ⌝ }
+{
+    let n = body.dimensions;
+    let last = n - 1;
+    let width = lengths[last];
+    let component = at[last];
+    let from = start_of(margin[last], component);
+    if !together(margin, lengths, corner, at, last, from, width) {
+        box_rows(
+            body,
+            source,
+            memory,
+            components,
+            lasts,
+            back,
+            weights,
+            margin,
+            grid,
+            lengths,
+            corner,
+            at,
+            first,
+            first + 4,
         );
         return;
     }
+    let stride = grid[last];
+    let a = layout::rank_of(grid, at, n);
+    let b = a + stride;
+    let c = b + stride;
     band(
         body,
         source,
@@ -519,199 +497,139 @@ fn four_rows(
         lasts,
         back,
         weights,
-        a.number,
-        b.number,
-        c.number,
-        d.number,
+        a,
+        b,
+        c,
+        c + stride,
         component,
         from,
         width,
     );
+    at[last - 1] += 3;
+    advance(lengths, corner, at, last);
 }
 
-// The values of a tile's cells, in index order, row by row.
+// The values of the rows of a box in groups of four, from its first row on.
+fn box_fours(
+    body: Body,
+    source: &[u32],
+    memory: &mut [u32],
+    components: &[usize; 32],
+    lasts: &[usize; 8],
+    back: &[usize; 8],
+    weights: &[u64; 8],
+    margin: &[usize; 4],
+    grid: &[usize; 4],
+    lengths: &[usize; 4],
+    corner: &[usize; 4],
+    at: &mut [usize; 4],
+    groups: usize,
+)
+    requires { ⌜ ((x : Nest) × (RowsGiven (withBody x body) (now components) (now lasts) (now back) (now weights) (now margin) (now source) (now memory)
+        (now grid) (now lengths) (now corner) (now at) 0 × (4 * groups ≤ 16384))) ⌝ }
+    ensures { λ _. ⌜ ((x : Nest) → RowsGiven (withBody x body) (now (components .entry)) (now (lasts .entry)) (now (back .entry)) (now (weights .entry))
+        (now (margin .entry)) (now (source .entry)) (now (memory .entry)) (now (grid .entry)) (now (lengths .entry)) (now (corner .entry))
+        (now (at .entry)) 0 → Stored (withBody x body) (now (source .entry)) (now (lengths .entry)) (now (corner .entry)) (now (memory .entry))
+        (now (memory .exit)) (now (at .exit)) 0 (4 * groups)) ⌝ }
+{
+    for g in 0..groups {
+        four_rows(
+            body,
+            source,
+            memory,
+            components,
+            lasts,
+            back,
+            weights,
+            margin,
+            grid,
+            lengths,
+            corner,
+            at,
+            4 * g,
+        );
+    }
+}
+
+// The values of the cells of a box, in index order, row by row.
+fn box_values(
+    nest: Nest,
+    source: &[u32],
+    memory: &mut [u32],
+    lengths: [usize; 4],
+    corner: [usize; 4],
+)
+    requires { ⌜ Accepted nest × (Boxed nest lengths corner × ((length (now source) ≡ cells nest) × (length (now memory) ≡ cells nest))) ⌝ }
+    ensures { λ _. ⌜ now (memory .exit) ≡ storeAll (value nest (now (source .entry))) (now (memory .entry))
+        (rowsOf (rowAt nest lengths corner) (getD lengths (nest .dimensions - 1) 0) (product (nth lengths) (nest .dimensions - 1))) ⌝ }
+{
+    let components = nest.components;
+    let weights = nest.weights;
+    let grid = nest.lengths;
+    let back = backs_of(nest, &components);
+    let margin = margins_of(nest, &components);
+    let lasts = lasts_of(nest, &components);
+    let least = least_of(nest, &back);
+    let last = nest.dimensions - 1;
+    let rows = layout::product(lengths, last);
+    let groups = by_fours(rows, lengths[last], least);
+    let body = Body {
+        dimensions: nest.dimensions,
+        distances: nest.distances,
+        shift: nest.shift,
+        boundary: nest.boundary,
+    };
+    let mut at = corner;
+    box_fours(
+        body,
+        source,
+        memory,
+        &components,
+        &lasts,
+        &back,
+        &weights,
+        &margin,
+        &grid,
+        &lengths,
+        &corner,
+        &mut at,
+        groups,
+    );
+    box_rows(
+        body,
+        source,
+        memory,
+        &components,
+        &lasts,
+        &back,
+        &weights,
+        &margin,
+        &grid,
+        &lengths,
+        &corner,
+        &mut at,
+        4 * groups,
+        rows,
+    );
+}
+
+// The values of a tile's cells, in index order.
 pub fn calculate(nest: Nest, sizes: Sizes, source: &[u32], memory: &mut [u32], tile: usize)
     requires { ⌜ Sized nest sizes × ((tile < boxTiles nest) × ((length (now source) ≡ cells nest) × (length (now memory) ≡ cells nest))) ⌝ }
     ensures { λ _. ⌜ now (memory .exit) ≡ storeAll (value nest (now (source .entry))) (now (memory .entry)) (cellsOf nest tile) ⌝ }
 {
     let bounds = layout::bounds_of(nest, sizes, tile);
-    let components = nest.components;
-    let weights = nest.weights;
-    let back = backs_of(nest, &components);
-    let last = nest.dimensions - 1;
-    let grid = nest.lengths;
     let lengths = bounds.lengths;
     let corner = bounds.corner;
-    let rows = layout::product(lengths, last);
-    let width = lengths[last];
-    let mut at = corner;
-    let margin = margins_of(nest, &components);
-    let lasts = lasts_of(nest, &components);
-    let least = least_of(nest, &back);
-    let groups = by_fours(rows, width, least);
-    for g in 0..groups {
-        let pb = layout::next_place(lengths, corner, at, last);
-        let pc = layout::next_place(lengths, corner, pb, last);
-        let pd = layout::next_place(lengths, corner, pc, last);
-        let na = layout::rank(grid, at, nest.dimensions);
-        let a = Cell {
-            number: na,
-            place: at,
-        };
-        let nb = layout::rank(grid, pb, nest.dimensions);
-        let b = Cell {
-            number: nb,
-            place: pb,
-        };
-        let nc = layout::rank(grid, pc, nest.dimensions);
-        let c = Cell {
-            number: nc,
-            place: pc,
-        };
-        let nd = layout::rank(grid, pd, nest.dimensions);
-        let d = Cell {
-            number: nd,
-            place: pd,
-        };
-        let body = Body {
-            dimensions: nest.dimensions,
-            distances: nest.distances,
-            shift: nest.shift,
-            boundary: nest.boundary,
-        };
-        four_rows(
-            body,
-            source,
-            memory,
-            &components,
-            &lasts,
-            &back,
-            &weights,
-            margin,
-            a,
-            b,
-            c,
-            d,
-            width,
-        );
-        let next = layout::next_place(lengths, corner, pd, last);
-        at = next;
-    }
-    for r in 4 * groups..rows {
-        let number = layout::rank(grid, at, nest.dimensions);
-        let cell = Cell {
-            number: number,
-            place: at,
-        };
-        let body = Body {
-            dimensions: nest.dimensions,
-            distances: nest.distances,
-            shift: nest.shift,
-            boundary: nest.boundary,
-        };
-        row(
-            body,
-            source,
-            memory,
-            &components,
-            &lasts,
-            &back,
-            &weights,
-            margin,
-            cell,
-            width,
-        );
-        let next = layout::next_place(lengths, corner, at, last);
-        at = next;
-    }
+    box_values(nest, source, memory, lengths, corner);
 }
 
-// The sequential sweep: all cells in index order, row by row.
+// The sequential sweep: all cells in index order.
 pub fn sweep(nest: Nest, sizes: Sizes, source: &[u32], grid: &mut [u32])
     requires { ⌜ Sized nest sizes × ((length (now source) ≡ cells nest) × (length (now grid) ≡ cells nest)) ⌝ }
     ensures { λ _. ⌜ now (grid .exit) ≡ sweep (boxPlan Direct nest) (now (source .entry)) ⌝ }
 {
-    let components = nest.components;
-    let weights = nest.weights;
-    let back = backs_of(nest, &components);
-    let last = nest.dimensions - 1;
     let lengths = nest.lengths;
-    let rows = layout::product(lengths, last);
-    let width = lengths[last];
-    let mut at = [0; 4];
-    let margin = margins_of(nest, &components);
-    let lasts = lasts_of(nest, &components);
-    let least = least_of(nest, &back);
-    let groups = by_fours(rows, width, least);
-    for g in 0..groups {
-        let q = 4 * g;
-        let pb = layout::next_place(lengths, [0; 4], at, last);
-        let pc = layout::next_place(lengths, [0; 4], pb, last);
-        let pd = layout::next_place(lengths, [0; 4], pc, last);
-        let a = Cell {
-            number: q * width,
-            place: at,
-        };
-        let b = Cell {
-            number: (q + 1) * width,
-            place: pb,
-        };
-        let c = Cell {
-            number: (q + 2) * width,
-            place: pc,
-        };
-        let d = Cell {
-            number: (q + 3) * width,
-            place: pd,
-        };
-        let body = Body {
-            dimensions: nest.dimensions,
-            distances: nest.distances,
-            shift: nest.shift,
-            boundary: nest.boundary,
-        };
-        four_rows(
-            body,
-            source,
-            grid,
-            &components,
-            &lasts,
-            &back,
-            &weights,
-            margin,
-            a,
-            b,
-            c,
-            d,
-            width,
-        );
-        let next = layout::next_place(lengths, [0; 4], pd, last);
-        at = next;
-    }
-    for r in 4 * groups..rows {
-        let cell = Cell {
-            number: r * width,
-            place: at,
-        };
-        let body = Body {
-            dimensions: nest.dimensions,
-            distances: nest.distances,
-            shift: nest.shift,
-            boundary: nest.boundary,
-        };
-        row(
-            body,
-            source,
-            grid,
-            &components,
-            &lasts,
-            &back,
-            &weights,
-            margin,
-            cell,
-            width,
-        );
-        let next = layout::next_place(lengths, [0; 4], at, last);
-        at = next;
-    }
+    let corner = [0; 4];
+    box_values(nest, source, grid, lengths, corner);
 }

@@ -14,11 +14,9 @@ copy-run-requires c κs =
 
 add-result : tie.Need-add-result
 add-result c =
-    omega (
-      arith,
-      c .before .before .before .before .before .run-from .ensures .room,
-      box-few _ (c .before .before .before .before .before .before .pre .0 .accepted),
-    )
+    let at-run-from = c .before .before .before .before .before in
+    let start = at-run-from .before in
+    omega (arith, at-run-from .run-from .ensures .room, box-few _ (start .pre .0 .accepted))
 
 returns : tie.Need-returns
 returns c = (omega (arith, c .before .before .before .if1 .taken), c .before .copy-run .ensures)

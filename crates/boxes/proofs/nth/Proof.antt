@@ -31,12 +31,13 @@ length-at-requires c κs =
 
 returns : tie.Need-returns Inv-loop μ-loop
 returns c =
-    let start = c .before .before .before .before .before .before in
-    let turn = c .before .before .before .before .loop in
+    let at-loop-test = c .before .before .before in
+    let at-loop = at-loop-test .before in
+    let start = at-loop .before .before in
+    let turn = at-loop .loop in
     L.seek-found (start .args .sizes .route) (start .args .nest) (start .args .m) (turn .slot) (turn .number) (turn .offset)
-    (c .before .before .length-at .result) (turn .inv)
-    (L.under (start .args .nest) (start .args .sizes) (start .pre .0 .0) (turn .slot) (c .before .before .before .loop-test .taken))
-    (c .before .before .length-at .ensures .0) (L.positive _ (c .before .if1 .taken)) (c .if2 .taken)
+    (c .before .before .length-at .result) (turn .inv) (L.under (start .args .nest) (start .args .sizes) (start .pre .0 .0) (turn .slot)
+    (at-loop-test .loop-test .taken)) (c .before .before .length-at .ensures .0) (L.positive _ (c .before .if1 .taken)) (c .if2 .taken)
 
 add-number : tie.Need-add-number Inv-loop μ-loop
 add-number c =

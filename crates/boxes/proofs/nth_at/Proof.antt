@@ -52,14 +52,16 @@ length-at-requires c κs =
 
 returns : tie.Need-returns Inv-loop μ-loop
 returns c =
-    let start = c .before .before .before .before .before .before .before .before .before in
-    E.found-at (start .args .sizes .route) _ (start .pre .0 .0 .accepted) _ _ _
-    (c .before .before .before .before .before .before .before .before .slots-at .ensures) _ _
-    (omega (arith, c .before .before .before .before .if1 .taken, L.slots-are _ _ (start .pre .0 .0)))
-    (c .before .before .before .before .before .before .loop .way)
-    (omega (arith, c .before .before .before .before .before .loop-test .taken, start .pre .0 .0 .ways)) refl _ (start .pre .0 .0 .ways)
-    (sym (c .before .before .before .count-below .ensures .0) ∙ c .before .before .if2 .taken) _ _ _ (c .before .sums-to .ensures)
-    (c .length-at .ensures .0)
+    let at-count-below = c .before .before .before in
+    let at-if1 = at-count-below .before in
+    let at-loop-test = at-if1 .before in
+    let at-loop = at-loop-test .before in
+    let at-slots-at = at-loop .before .before in
+    let start = at-slots-at .before in
+    E.found-at (start .args .sizes .route) _ (start .pre .0 .0 .accepted) _ _ _ (at-slots-at .slots-at .ensures) _ _
+    (omega (arith, at-if1 .if1 .taken, L.slots-are _ _ (start .pre .0 .0))) (at-loop .loop .way)
+    (omega (arith, at-loop-test .loop-test .taken, start .pre .0 .0 .ways)) refl _ (start .pre .0 .0 .ways) (sym (at-count-below .count-below .ensures .0)
+    ∙ c .before .before .if2 .taken) _ _ _ (c .before .sums-to .ensures) (c .length-at .ensures .0)
 
 add-way : tie.Need-add-way Inv-loop μ-loop
 add-way c =

@@ -126,30 +126,35 @@ add-t26 c =
 
 mul-t27 : tie.Need-mul-t27 Inv-loop μ-loop
 mul-t27 c =
-    let start = c .before .before .before .before .before .before .before .before in
+    let at-loop = c .before .before .before in
+    let at-two-before = at-loop .before in
+    let start = at-two-before .before .before .before .before in
     omega (
       arith,
       R.run-room (start .args .sizes .route) _ (start .pre .0 .accepted) _ (start .pre .1) (start .args .sizes .across)
-          (record { each = start .pre .0 .across }) _ (c .before .before .before .before .two-before .ensures) _ _ _
-          (c .before .before .before .loop .inv) (c .before .before .loop-test .taken) _ (c .before .places-like .ensures) (c .if1 .taken),
+          (record { each = start .pre .0 .across }) _ (at-two-before .two-before .ensures) _ _ _ (at-loop .loop .inv) (c .before .before .loop-test .taken) _
+          (c .before .places-like .ensures) (c .if1 .taken),
     )
 
 sub-t28 : tie.Need-sub-t28 Inv-loop μ-loop
 sub-t28 c =
-    let start = c .before .before .before .before .before .before .before .before in
+    let at-loop = c .before .before .before in
+    let at-two-before = at-loop .before in
+    let start = at-two-before .before .before .before .before in
     omega (
       arith,
       R.run-over (start .args .sizes .route) _ (start .pre .0 .accepted) _ (start .pre .1) (start .args .sizes .across)
-          (record { each = start .pre .0 .across }) _ (c .before .before .before .before .two-before .ensures) _ _ _
-          (c .before .before .before .loop .inv) (c .before .before .loop-test .taken) _ (c .before .places-like .ensures) (c .if1 .taken),
+          (record { each = start .pre .0 .across }) _ (at-two-before .two-before .ensures) _ _ _ (at-loop .loop .inv) (c .before .before .loop-test .taken) _
+          (c .before .places-like .ensures) (c .if1 .taken),
     )
 
 returns : tie.Need-returns Inv-loop μ-loop
 returns c =
-    let start = c .before .before .before .before .before .before .before .before in
-    R.run-is (start .args .sizes .route) _ (start .pre .0 .accepted) _ (start .pre .1) (start .args .sizes .across)
-    (record { each = start .pre .0 .across }) _ (c .before .before .before .before .two-before .ensures) _ _ _ (c .before .before .before .loop .inv)
-    (c .before .before .loop-test .taken) _ (c .before .places-like .ensures) (c .if1 .taken)
+    let at-loop = c .before .before .before in
+    let at-two-before = at-loop .before in
+    let start = at-two-before .before .before .before .before in
+    R.run-is (start .args .sizes .route) _ (start .pre .0 .accepted) _ (start .pre .1) (start .args .sizes .across) (record { each = start .pre .0 .across })
+    _ (at-two-before .two-before .ensures) _ _ _ (at-loop .loop .inv) (c .before .before .loop-test .taken) _ (c .before .places-like .ensures) (c .if1 .taken)
 
 div-rest : tie.Need-div-rest Inv-loop μ-loop
 div-rest c =

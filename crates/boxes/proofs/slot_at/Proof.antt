@@ -51,15 +51,19 @@ length-at-requires c κs =
 
 returns-3 : tie.Need-returns-3
 returns-3 c =
-    let start = c .before .before .before .before .before .before .before in
-    λ side st. E.end-none _ _ (start .pre .0) _ _ (start .pre .1 .1) _ side st (c .before .before .before .before .before .if1 .left)
-    (c .before .before .before .if2 .left) _ (c .before .length-at .ensures .0) (c .if3 .taken)
+    let at-if2 = c .before .before .before in
+    let at-if1 = at-if2 .before .before in
+    let start = at-if1 .before .before in
+    λ side st. E.end-none _ _ (start .pre .0) _ _ (start .pre .1 .1) _ side st (at-if1 .if1 .left) (at-if2 .if2 .left) _ (c .before .length-at .ensures .0)
+    (c .if3 .taken)
 
 returns-4 : tie.Need-returns-4
 returns-4 c =
-    let start = c .before .before .before .before .before .before .before in
-    λ side st. E.end-one _ _ (start .pre .0) _ _ (start .pre .1 .1) _ side st (c .before .before .before .before .before .if1 .left)
-    (c .before .before .before .if2 .left) _ (c .before .length-at .ensures .0) (c .if3 .left)
+    let at-if2 = c .before .before .before in
+    let at-if1 = at-if2 .before .before in
+    let start = at-if1 .before .before in
+    λ side st. E.end-one _ _ (start .pre .0) _ _ (start .pre .1 .1) _ side st (at-if1 .if1 .left) (at-if2 .if2 .left) _ (c .before .length-at .ensures .0)
+    (c .if3 .left)
 
 pub slot-at-spec : {M : Type 1} → statement M
 slot-at-spec =

@@ -46,26 +46,27 @@ tell-requires-4 c κs = search needs
 
 returns-4 : tie.Need-returns-4
 returns-4 c =
-    let c8 = c .before .before .before .before .before .before .before .before in
-    L.grid-wrong (c8 .args .nest) (c8 .args .grid .now) (c8 .args .x) (c8 .args .y) (c8 .args .cell-size) _
-    (c .before .before .before .before .before .if1 .left) (c .before .before .before .before .if2 .left) (c .before .before .before .if3 .left)
-    (c .tell4 .ensures) (c .before .if4 .taken)
+    let at-if3 = c .before .before .before in
+    let at-if2 = at-if3 .before in
+    let at-if1 = at-if2 .before in
+    let c8 = at-if1 .before .before .before in
+    L.grid-wrong (c8 .args .nest) (c8 .args .grid .now) (c8 .args .x) (c8 .args .y) (c8 .args .cell-size) _ (at-if1 .if1 .left) (at-if2 .if2 .left)
+    (at-if3 .if3 .left) (c .tell4 .ensures) (c .before .if4 .taken)
 
 slice-aggregate-put-text : tie.Need-slice-aggregate-put-text
 slice-aggregate-put-text c = search needs
 
 put-text-requires : tie.Need-put-text-requires
 put-text-requires c κs =
-    let c5 = c .before .before .before .before .before in
+    let at-if3 = c .before .before .before in
+    let at-if2 = at-if3 .before in
+    let c5 = at-if2 .before in
     let c8 = c5 .before .before .before in (
       c8 .pre,
       (
         c5 .if1 .left,
-        L.grid-right (c8 .args .nest) (c8 .args .grid .now) (c8 .args .x) (c8 .args .y) (c8 .args .cell-size) (record {
-          number
-              = 0;
-          length = 0;
-        }) (c5 .if1 .left) (c .before .before .before .before .if2 .left) (c .before .before .before .if3 .left) (c .before .if4 .left),
+        L.grid-right (c8 .args .nest) (c8 .args .grid .now) (c8 .args .x) (c8 .args .y) (c8 .args .cell-size)
+            (record { number = 0; length = 0 }) (c5 .if1 .left) (at-if2 .if2 .left) (at-if3 .if3 .left) (c .before .if4 .left),
       ),
     )
 

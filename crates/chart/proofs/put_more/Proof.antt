@@ -4,7 +4,7 @@ use native.Mathlib.Omega.{arith}
 use borrow.Author.Needs.{needs}
 use mathlib.Core.Path.{_∙_}
 use lib.ListN.{length, drop}
-use Rattle.chart.specs.Text.{more, cell}
+use Rattle.text.specs.Grid.{more, cell}
 use Rattle.text.proofs.Steps.{Going}
 use Rattle.chart.proofs.Steps.{more-start, more-first, more-second, more-next, more-feed, more-done}
 use Rattle.chart.proofs.put_more.Statement.{statement}

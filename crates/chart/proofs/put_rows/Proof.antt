@@ -4,7 +4,7 @@ use mathlib.Core.Path.{_≡_, sym, ap, _∙_}
 use native.Mathlib.Omega.{arith}
 use native.Mathlib.Nat.{zero-mul}
 use borrow.Author.Needs.{needs}
-use Rattle.chart.specs.Text.{rowsFrom}
+use Rattle.text.specs.Grid.{rowsFrom}
 use Rattle.text.proofs.Steps.{Going}
 use Rattle.chart.proofs.Steps.{rows-start, rows-fit, rows-place, rows-room, rows-next, rows-done}
 use Rattle.chart.proofs.Rows.{row-fits, row-wrote}
@@ -56,9 +56,11 @@ put-row-requires c κs =
 
 add-c : tie.Need-add-c Inv-loop μ-loop
 add-c c =
-    let start = c .before .before .before .before .before .before .before .before .before in
-    let loop = c .before .before .before .before .before .before .loop in
-    let taken = c .before .before .before .before .before .loop-test .taken in
+    let at-loop-test = c .before .before .before .before .before in
+    let at-loop = at-loop-test .before in
+    let start = at-loop .before .before .before in
+    let loop = at-loop .loop in
+    let taken = at-loop-test .loop-test .taken in
     let rows = start .pre .1 in
     let fits = rows-fit (loop .c) (start .args .n) (start .args .k) (loop .i) _ (loop .inv .1 .0) taken (rows .few) in
     omega (arith, fits, rows .all, rows .accepted .cells-most)
@@ -71,18 +73,22 @@ loop-less c = search needs
 
 loop-again : tie.Need-loop-again Inv-loop μ-loop
 loop-again c =
-    let start = c .before .before .before .before .before .before .before .before .before in
-    let loop = c .before .before .before .before .before .before .loop in
-    let taken = c .before .before .before .before .before .loop-test .taken in
-    let shown = c .before .before .before .before .shown in
-    let wrote =
-    row-wrote (start .args .nest) (start .args .grid .now) (loop .c) (start .args .n) (start .pre .1 .wide) (shown .result) (shown .ensures) _ _
+    let at-shown = c .before .before .before .before in
+    let at-loop-test = at-shown .before in
+    let at-loop = at-loop-test .before in
+    let start = at-loop .before .before .before in
+    let loop = at-loop .loop in
+    let taken = at-loop-test .loop-test .taken in
+    let shown = at-shown .shown in
+    let wrote = row-wrote (start .args .nest) (start .args .grid .now) (loop .c) (start .args .n) (start .pre .1 .wide) (shown .result) (shown .ensures) _ _
     (c .before .before .put-row .ensures) in (
       omega (arith, taken),
       (
         rows-place (loop .c) (start .args .n) (loop .i) (loop .inv .1 .0),
-        rows-next (start .args .space .now) (start .args .grid .now) (inShape (start .args .nest)) (start .args .at) (start .args .n) (start .args .k)
-            (loop .space) (loop .place) (loop .c) (loop .i) taken (loop .inv .1 .1) _ _ wrote (c .before .before .put-row .kept .0),
+        rows-next (start .args .space .now) (start .args .grid .now)
+            (inShape (start .args .nest)) (start .args .at) (start .args .n) (start .args .k) (loop .space) (loop .place) (loop .c) (loop .i) taken
+            (loop .inv .1 .1)
+            _ _ wrote (c .before .before .put-row .kept .0),
       ),
     )
 

@@ -21,29 +21,33 @@ returns c =
 
 add-t7 : tie.Need-add-t7
 add-t7 c =
-    let span = c .before .before .before .span in
-    let place = c .before .before .before .before .row-place in
-    let start = c .before .before .before .before .before in
-    let low =
-    rows.ends-low (start .args .nest) (start .pre .0) (start .pre .1 .0) (start .args .i) (start .args .c) (start .pre .1 .1 .0) (place .result)
+    let at-span = c .before .before .before in
+    let at-row-place = at-span .before in
+    let start = at-row-place .before in
+    let span = at-span .span in
+    let place = at-row-place .row-place in
+    let low = rows.ends-low (start .args .nest) (start .pre .0) (start .pre .1 .0) (start .args .i) (start .args .c) (start .pre .1 .1 .0) (place .result)
     (span .result) (place .ensures) (span .ensures) in
     omega (arith, low, c .before .if1 .left, start .pre .1 .1 .1)
 
 add-t8 : tie.Need-add-t8
 add-t8 c =
-    let span = c .before .before .before .before .span in
-    let place = c .before .before .before .before .before .row-place in
-    let start = c .before .before .before .before .before .before in
-    let low =
-    rows.ends-low (start .args .nest) (start .pre .0) (start .pre .1 .0) (start .args .i) (start .args .c) (start .pre .1 .1 .0) (place .result)
+    let at-span = c .before .before .before .before in
+    let at-row-place = at-span .before in
+    let start = at-row-place .before in
+    let span = at-span .span in
+    let place = at-row-place .row-place in
+    let low = rows.ends-low (start .args .nest) (start .pre .0) (start .pre .1 .0) (start .args .i) (start .args .c) (start .pre .1 .1 .0) (place .result)
     (span .result) (place .ensures) (span .ensures) in
     omega (arith, low, start .pre .1 .1 .1)
 
 returns-2 : tie.Need-returns-2
 returns-2 c =
-    let span = c .before .before .before .before .span in
-    let place = c .before .before .before .before .before .row-place in
-    let start = c .before .before .before .before .before .before in
+    let at-span = c .before .before .before .before in
+    let at-row-place = at-span .before in
+    let start = at-row-place .before in
+    let span = at-span .span in
+    let place = at-row-place .row-place in
     rows.shown-some (start .args .nest) (start .pre .0) (start .pre .1 .0) (start .args .i) (start .args .c) (start .pre .1 .1 .0) (place .result)
     (span .result) (place .ensures) (span .ensures)
 

@@ -38,12 +38,14 @@ tell-requires-3 c κs = search needs
 
 returns-3 : tie.Need-returns-3
 returns-3 c =
-    let c4 = c .before .before .before .before in
+    let at-if2 = c .before .before .before in
+    let c4 = at-if2 .before in
+    let at-if1 = c4 .before in
     let c6 = c4 .before .before in
     let c10 = c6 .before .before .before .before in
     L.write-short (c10 .args .encoded .now) (c10 .args .grid .now) (c10 .args .x) (c10 .args .y) (c10 .args .cell-size) (c10 .args .space .now)
-    (c6 .read .result) (c6 .read .ensures .0) (c10 .fits .x) (c10 .fits .y) (c .before .before .before .before .before .if1 .left)
-    (c4 .measured .result) (c4 .measured .ensures) (c .before .before .before .if2 .left) _ (c .before .if3 .taken) (c .tell3 .ensures)
+    (c6 .read .result) (c6 .read .ensures .0) (c10 .fits .x) (c10 .fits .y) (at-if1 .if1 .left) (c4 .measured .result) (c4 .measured .ensures)
+    (at-if2 .if2 .left) _ (c .before .if3 .taken) (c .tell3 .ensures)
 
 put-text-requires : tie.Need-put-text-requires
 put-text-requires c κs =

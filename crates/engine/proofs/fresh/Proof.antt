@@ -1,20 +1,19 @@
 use mathlib.Core.Path.{refl}
 use Rattle.engine.proofs.Reading as reading
-use borrow.Author.Needs.{needs}
 use Rattle.engine.proofs.fresh.Statement.{statement}
 use Rattle.engine.proofs.fresh.Tie as tie
 
 fresh-requires : tie.Need-fresh-requires
-fresh-requires c κs = search needs
+fresh-requires c κs = tt
 
 same-length : tie.Need-same-length
-same-length c = search needs
+same-length c = c .before .before .before .before .before .before .before .fresh .kept .1 .1 .1 .0
 
 same-length-2 : tie.Need-same-length-2
-same-length-2 c = search needs
+same-length-2 c = c .before .before .before .before .before .before .before .fresh .kept .1 .1 .1 .1 .0
 
 same-length-3 : tie.Need-same-length-3
-same-length-3 c = search needs
+same-length-3 c = c .before .before .before .before .before .before .before .fresh .kept .1 .1 .1 .1 .1 .1 .0
 
 returns : tie.Need-returns
 returns c =
@@ -26,19 +25,19 @@ returns c =
     reading.not-cleared _ _ _ _ (A .progress .now) (fresh .result) (fresh .ensures (A .progress .now) refl) (if1 .taken)
 
 zero-words-requires : tie.Need-zero-words-requires
-zero-words-requires c κs = search needs
+zero-words-requires c κs = tt
 
 same-length-4 : tie.Need-same-length-4
-same-length-4 c = search needs
+same-length-4 c = c .before .before .before .before .before .before .before .before .before .before .before .fresh .kept .1 .1 .1 .0
 
 same-length-5 : tie.Need-same-length-5
-same-length-5 c = search needs
+same-length-5 c = c .before .before .before .before .before .before .before .before .before .before .before .fresh .kept .1 .1 .1 .1 .0
 
 same-length-6 : tie.Need-same-length-6
-same-length-6 c = search needs
+same-length-6 c = c .before .before .zero-words .kept .0
 
 same-length-7 : tie.Need-same-length-7
-same-length-7 c = search needs
+same-length-7 c = c .before .before .before .before .before .before .before .before .before .before .before .fresh .kept .1 .1 .1 .1 .1 .1 .0
 
 returns-2 : tie.Need-returns-2
 returns-2 c =

@@ -7,7 +7,8 @@ use Rattle.kernels.proofs.edge.Statement.{statement}
 use Rattle.kernels.proofs.edge.Tie as tie
 
 abbrev Inv-loop : tie.InvT-loop
-Inv-loop source memory₀ shift boundary n firsts backs weights cell component width y₀ memory y = Rowing (inLine n firsts backs weights boundary shift source cell component) memory₀ memory cell width y
+Inv-loop source memory₀ shift boundary n firsts backs weights cell component width y₀ memory y =
+    Rowing (inLine n firsts backs weights boundary shift source cell component) memory₀ memory cell width y
 
 abbrev μ-loop : tie.MeasureT-loop
 μ-loop source memory₀ shift boundary n firsts backs weights cell component width y₀ memory y = width - y
@@ -24,7 +25,8 @@ add-mixed-at-2 : tie.Need-add-mixed-at-2 Inv-loop μ-loop
 add-mixed-at-2 c = omega (arith, c .before .before .before .before .before .pre .narrow, c .before .loop-test .taken)
 
 mixed-at-requires : tie.Need-mixed-at-requires Inv-loop μ-loop
-mixed-at-requires c κs = mixes-at (c .before .before .before .before .before .pre) _ 1 _ (omega (arith, c .before .loop-test .taken)) (rowing-long (c .before .before .loop .inv))
+mixed-at-requires c κs =
+    mixes-at (c .before .before .before .before .before .pre) _ 1 _ (omega (arith, c .before .loop-test .taken)) (rowing-long (c .before .before .loop .inv))
 
 add-memory : tie.Need-add-memory Inv-loop μ-loop
 add-memory c =
@@ -37,7 +39,13 @@ mul-memory c =
     omega (arith, s .pre .within, s .pre .small, c .before .before .loop-test .taken)
 
 slice-write-memory : tie.Need-slice-write-memory Inv-loop μ-loop
-slice-write-memory c = omega (arith, c .before .before .before .before .before .before .pre .within, c .before .before .loop-test .taken, rowing-long (c .before .before .before .loop .inv))
+slice-write-memory c =
+    omega (
+      arith,
+      c .before .before .before .before .before .before .pre .within,
+      c .before .before .loop-test .taken,
+      rowing-long (c .before .before .before .loop .inv),
+    )
 
 add-y : tie.Need-add-y Inv-loop μ-loop
 add-y c = omega (arith, c .before .before .before .before .before .before .pre .narrow, c .before .before .loop-test .taken)
@@ -46,7 +54,8 @@ loop-less : tie.Need-loop-less Inv-loop μ-loop
 loop-less c = omega (arith, c .before .before .loop-test .taken)
 
 loop-again : tie.Need-loop-again Inv-loop μ-loop
-loop-again c = rowing-more (c .before .before .before .loop .inv) _ (c .before .before .loop-test .taken) (in-line _ _ _ _ _ _ _ _ _ _ _ _ (c .mixed-at .ensures))
+loop-again c =
+    rowing-more (c .before .before .before .loop .inv) _ (c .before .before .loop-test .taken) (in-line _ _ _ _ _ _ _ _ _ _ _ _ (c .mixed-at .ensures))
 
 same-length : tie.Need-same-length Inv-loop μ-loop
 same-length c = rowing-long (c .before .loop .inv)

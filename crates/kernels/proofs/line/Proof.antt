@@ -29,7 +29,10 @@ sub-row c = search needs
 row-requires : tie.Need-row-requires
 row-requires c κs =
     let s = c .before .before .before .before .before .before .before .before .before in
-    mixes-fits (s .pre .0) _ _ _ (omega (arith, c .before .if1 .left, c .before .before .before .before .before .before .before2 .ensures .0)) (s .pre .1) (c .before .before .before .before .before .before .before2 .ensures .1 (omega (arith, c .before .if1 .left, c .before .before .before .before .before .before .before2 .ensures .0))) (ap length (c .before .before .before .before .edge .ensures) ∙ store-length _ _ _)
+    mixes-fits (s .pre .0) _ _ _ (omega (arith, c .before .if1 .left, c .before .before .before .before .before .before .before2 .ensures .0)) (s .pre .1)
+    (c .before .before .before .before .before .before .before2 .ensures .1
+    (omega (arith, c .before .if1 .left, c .before .before .before .before .before .before .before2 .ensures .0)))
+    (ap length (c .before .before .before .before .edge .ensures) ∙ store-length _ _ _)
 
 same-length-2 : tie.Need-same-length-2
 same-length-2 c = search needs
@@ -37,7 +40,18 @@ same-length-2 c = search needs
 returns-2 : tie.Need-returns-2
 returns-2 c =
     let s = c .before .before .before .before .before .before .before .before .before .before .before .before in
-    line-stored _ _ _ _ _ _ _ _ (omega (arith, c .before .before .before .before .if1 .left, c .before .before .before .before .before .before .before .before .before .before2 .ensures .0)) (c .before .before .before .before .before .before .before .edge .ensures) (c .before .before .row .ensures) (λ l y i. made-line _ _ _ _ _ _ _ _ _ _ (s .pre .1) _ (c .before .before .before .before .before .before .before .before .before .before2 .ensures .1 (omega (arith, c .before .before .before .before .if1 .left, c .before .before .before .before .before .before .before .before .before .before2 .ensures .0))) l y)
+    line-stored _ _ _ _ _ _ _ _ (omega (
+      arith,
+      c .before .before .before .before .if1 .left,
+      c .before .before .before .before .before .before .before .before .before .before2 .ensures .0,
+    ))
+    (c .before .before .before .before .before .before .before .edge .ensures) (c .before .before .row .ensures)
+    (λ l y i. made-line _ _ _ _ _ _ _ _ _ _ (s .pre .1) _ (c .before .before .before .before .before .before .before .before .before .before2 .ensures .1
+    (omega (
+      arith,
+      c .before .before .before .before .if1 .left,
+      c .before .before .before .before .before .before .before .before .before .before2 .ensures .0,
+    ))) l y)
 
 pub line-spec : {M : Type 1} → statement M
 line-spec =

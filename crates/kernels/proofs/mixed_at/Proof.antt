@@ -10,7 +10,8 @@ use Rattle.kernels.proofs.mixed_at.Statement.{statement}
 use Rattle.kernels.proofs.mixed_at.Tie as tie
 
 abbrev Inv-loop : tie.InvT-loop
-Inv-loop source memory shift boundary n firsts backs weights cell component total₀ k₀ total k = Mixing n weights (λ i. pick (leb (getD firsts i 0) component) (getD memory (cell - getD backs i 0) 0) boundary) (getD source cell 0) total k
+Inv-loop source memory shift boundary n firsts backs weights cell component total₀ k₀ total k =
+    Mixing n weights (λ i. pick (leb (getD firsts i 0) component) (getD memory (cell - getD backs i 0) 0) boundary) (getD source cell 0) total k
 
 abbrev μ-loop : tie.MeasureT-loop
 μ-loop source memory shift boundary n firsts backs weights cell component total₀ k₀ total k = n - k
@@ -37,24 +38,39 @@ element-copy-out-word-at-2 c = omega (arith, c .before .before .before .before .
 
 word-at-requires : tie.Need-word-at-requires Inv-loop μ-loop
 word-at-requires c κs =
-    let s = c .before .before .before .before .before .before .before in
-    (omega (arith, s .pre .within), (s .pre .beyond, (s .pre .small, λ h. omega (arith, s .pre .back _ 0 (c .before .before .loop-test .taken) (omega arith) (omega arith)))))
+    let s = c .before .before .before .before .before .before .before in (
+      omega (arith, s .pre .within),
+      (s .pre .beyond, (s .pre .small, λ h. omega (arith, s .pre .back _ 0 (c .before .before .loop-test .taken) (omega arith) (omega arith)))),
+    )
 
 mul-total : tie.Need-mul-total Inv-loop μ-loop
 mul-total c = omega (arith, c .before .before .before .before .before .before .before .before .pre .few, c .before .before .before .loop-test .taken)
 
 element-copy-out-total : tie.Need-element-copy-out-total Inv-loop μ-loop
-element-copy-out-total c = omega (arith, c .before .before .before .before .before .before .before .before .pre .few, c .before .before .before .loop-test .taken)
+element-copy-out-total c =
+    omega (arith, c .before .before .before .before .before .before .before .before .pre .few, c .before .before .before .loop-test .taken)
 
 mul-total-2 : tie.Need-mul-total-2 Inv-loop μ-loop
 mul-total-2 c =
     let s = c .before .before .before .before .before .before .before .before .before in
-    omega (arith, s .pre .few, mixing-fits _ _ _ _ _ _ (c .before .before .before .before .before .loop .inv) (c .before .before .before .before .loop-test .taken) (s .pre .light _ (c .before .before .before .before .loop-test .taken)) _ (c .before .word-at .ensures))
+    omega (
+      arith,
+      s .pre .few,
+      mixing-fits _ _ _ _ _ _ (c .before .before .before .before .before .loop .inv)
+          (c .before .before .before .before .loop-test .taken) (s .pre .light _ (c .before .before .before .before .loop-test .taken)) _
+          (c .before .word-at .ensures),
+    )
 
 add-total : tie.Need-add-total Inv-loop μ-loop
 add-total c =
     let s = c .before .before .before .before .before .before .before .before .before in
-    omega (arith, s .pre .few, mixing-fits _ _ _ _ _ _ (c .before .before .before .before .before .loop .inv) (c .before .before .before .before .loop-test .taken) (s .pre .light _ (c .before .before .before .before .loop-test .taken)) _ (c .before .word-at .ensures))
+    omega (
+      arith,
+      s .pre .few,
+      mixing-fits _ _ _ _ _ _ (c .before .before .before .before .before .loop .inv)
+          (c .before .before .before .before .loop-test .taken) (s .pre .light _ (c .before .before .before .before .loop-test .taken)) _
+          (c .before .word-at .ensures),
+    )
 
 add-k : tie.Need-add-k Inv-loop μ-loop
 add-k c = search needs
@@ -63,7 +79,10 @@ loop-less : tie.Need-loop-less Inv-loop μ-loop
 loop-less c = omega (arith, c .before .before .before .before .loop-test .taken)
 
 loop-again : tie.Need-loop-again Inv-loop μ-loop
-loop-again c = mixing-more _ _ _ _ _ _ (c .before .before .before .before .before .loop .inv) (c .before .before .before .before .loop-test .taken) (c .before .before .before .before .before .before .before .before .before .pre .light _ (c .before .before .before .before .loop-test .taken)) _ (c .before .word-at .ensures)
+loop-again c =
+    mixing-more _ _ _ _ _ _ (c .before .before .before .before .before .loop .inv) (c .before .before .before .before .loop-test .taken)
+    (c .before .before .before .before .before .before .before .before .before .pre .light _ (c .before .before .before .before .loop-test .taken)) _
+    (c .before .word-at .ensures)
 
 closed-requires : tie.Need-closed-requires Inv-loop μ-loop
 closed-requires c κs = c .before .before .before .before .before .pre .divides

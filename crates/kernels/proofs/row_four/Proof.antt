@@ -9,7 +9,9 @@ use Rattle.kernels.proofs.row_four.Statement.{statement}
 use Rattle.kernels.proofs.row_four.Tie as tie
 
 abbrev Inv-loop : tie.InvT-loop
-Inv-loop source memory₀ rule p q r s cell width y₀ memory y = Rowing (made 4 (p .back ∷ q .back ∷ r .back ∷ s .back ∷ []) (p .weight ∷ q .weight ∷ r .weight ∷ s .weight ∷ []) (rule .outside) (rule .shift) source) memory₀ memory cell width y
+Inv-loop source memory₀ rule p q r s cell width y₀ memory y =
+    Rowing (made 4 (p .back ∷ q .back ∷ r .back ∷ s .back ∷ []) (p .weight ∷ q .weight ∷ r .weight ∷ s .weight ∷ []) (rule .outside) (rule .shift) source)
+    memory₀ memory cell width y
 
 abbrev μ-loop : tie.MeasureT-loop
 μ-loop source memory₀ rule p q r s cell width y₀ memory y = width - y
@@ -35,7 +37,8 @@ loop-less c = omega (arith, c .before .before .before .before .loop-test .taken)
 
 loop-again : tie.Need-loop-again Inv-loop μ-loop
 loop-again c =
-    rowing-more (c .before .before .before .before .before .loop .inv) _ (c .before .before .before .before .loop-test .taken) (c .before .before .store-four .ensures)
+    rowing-more (c .before .before .before .before .before .loop .inv) _ (c .before .before .before .before .loop-test .taken)
+    (c .before .before .store-four .ensures)
 
 same-length : tie.Need-same-length Inv-loop μ-loop
 same-length c = rowing-long (c .before .loop .inv)

@@ -8,7 +8,8 @@ use Rattle.kernels.proofs.row_many.Statement.{statement}
 use Rattle.kernels.proofs.row_many.Tie as tie
 
 abbrev Inv-loop : tie.InvT-loop
-Inv-loop source memory₀ rule n backs weights cell width y₀ memory y = Rowing (made n backs weights (rule .outside) (rule .shift) source) memory₀ memory cell width y
+Inv-loop source memory₀ rule n backs weights cell width y₀ memory y =
+    Rowing (made n backs weights (rule .outside) (rule .shift) source) memory₀ memory cell width y
 
 abbrev μ-loop : tie.MeasureT-loop
 μ-loop source memory₀ rule n backs weights cell width y₀ memory y = width - y
@@ -34,7 +35,8 @@ loop-less c = omega (arith, c .before .before .before .before .loop-test .taken)
 
 loop-again : tie.Need-loop-again Inv-loop μ-loop
 loop-again c =
-    rowing-more (c .before .before .before .before .before .loop .inv) _ (c .before .before .before .before .loop-test .taken) (c .before .before .store-many .ensures)
+    rowing-more (c .before .before .before .before .before .loop .inv) _ (c .before .before .before .before .loop-test .taken)
+    (c .before .before .store-many .ensures)
 
 same-length : tie.Need-same-length Inv-loop μ-loop
 same-length c = rowing-long (c .before .loop .inv)

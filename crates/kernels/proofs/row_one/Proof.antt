@@ -9,7 +9,8 @@ use Rattle.kernels.proofs.row_one.Statement.{statement}
 use Rattle.kernels.proofs.row_one.Tie as tie
 
 abbrev Inv-loop : tie.InvT-loop
-Inv-loop source memory₀ rule p cell width y₀ memory y = Rowing (made 1 (p .back ∷ []) (p .weight ∷ []) (rule .outside) (rule .shift) source) memory₀ memory cell width y
+Inv-loop source memory₀ rule p cell width y₀ memory y =
+    Rowing (made 1 (p .back ∷ []) (p .weight ∷ []) (rule .outside) (rule .shift) source) memory₀ memory cell width y
 
 abbrev μ-loop : tie.MeasureT-loop
 μ-loop source memory₀ rule p cell width y₀ memory y = width - y
@@ -35,7 +36,8 @@ loop-less c = omega (arith, c .before .before .before .before .loop-test .taken)
 
 loop-again : tie.Need-loop-again Inv-loop μ-loop
 loop-again c =
-    rowing-more (c .before .before .before .before .before .loop .inv) _ (c .before .before .before .before .loop-test .taken) (c .before .before .store-one .ensures)
+    rowing-more (c .before .before .before .before .before .loop .inv) _ (c .before .before .before .before .loop-test .taken)
+    (c .before .before .store-one .ensures)
 
 same-length : tie.Need-same-length Inv-loop μ-loop
 same-length c = rowing-long (c .before .loop .inv)

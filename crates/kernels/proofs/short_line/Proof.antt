@@ -32,7 +32,19 @@ sub-row c = search needs
 row-requires : tie.Need-row-requires
 row-requires c κs =
     let s = c .before .before .before .before .before .before .before .before .before .before .before .before .before .before in
-    rest-fits _ _ _ _ _ _ (s .args .source .now) _ _ _ (c .before .before .before .before .before .rest-of .ensures) _ (s .pre .1) _ _ _ _ _ (s .pre .0) _ _ (omega (arith, c .before .before .before .before .before .before .if1 .left, c .before .before .before .before .before .before .before .before .before .before .before .before2 .ensures .0)) (c .before .before .before .before .before .before .before .before .before .before .before .before2 .ensures .1 (omega (arith, c .before .before .before .before .before .before .if1 .left, c .before .before .before .before .before .before .before .before .before .before .before .before2 .ensures .0))) (ap length (c .before .before .before .before .before .before .before .before .before .edge .ensures) ∙ store-length _ _ _)
+    rest-fits _ _ _ _ _ _ (s .args .source .now) _ _ _ (c .before .before .before .before .before .rest-of .ensures) _ (s .pre .1) _ _ _ _ _ (s .pre .0) _ _
+    (omega (
+      arith,
+      c .before .before .before .before .before .before .if1 .left,
+      c .before .before .before .before .before .before .before .before .before .before .before .before2 .ensures .0,
+    ))
+    (c .before .before .before .before .before .before .before .before .before .before .before .before2 .ensures .1
+    (omega (
+      arith,
+      c .before .before .before .before .before .before .if1 .left,
+      c .before .before .before .before .before .before .before .before .before .before .before .before2 .ensures .0,
+    )))
+    (ap length (c .before .before .before .before .before .before .before .before .before .edge .ensures) ∙ store-length _ _ _)
 
 same-length-2 : tie.Need-same-length-2
 same-length-2 c = search needs
@@ -40,7 +52,19 @@ same-length-2 c = search needs
 returns-2 : tie.Need-returns-2
 returns-2 c =
     let s = c .before .before .before .before .before .before .before .before .before .before .before .before .before .before .before .before .before in
-    line-stored _ _ _ _ _ _ _ _ (omega (arith, c .before .before .before .before .before .before .before .before .before .if1 .left, c .before .before .before .before .before .before .before .before .before .before .before .before .before .before .before2 .ensures .0)) (c .before .before .before .before .before .before .before .before .before .before .before .before .edge .ensures) (c .before .before .row .ensures) (λ l y i. rest-line _ _ _ _ _ _ _ _ _ _ (c .before .before .before .before .before .before .before .before .rest-of .ensures) _ (s .pre .1) _ _ _ (s .pre .0 .narrow) _ (c .before .before .before .before .before .before .before .before .before .before .before .before .before .before .before2 .ensures .1 (omega (arith, c .before .before .before .before .before .before .before .before .before .if1 .left, c .before .before .before .before .before .before .before .before .before .before .before .before .before .before .before2 .ensures .0))) l y i)
+    line-stored _ _ _ _ _ _ _ _ (omega (
+      arith,
+      c .before .before .before .before .before .before .before .before .before .if1 .left,
+      c .before .before .before .before .before .before .before .before .before .before .before .before .before .before .before2 .ensures .0,
+    ))
+    (c .before .before .before .before .before .before .before .before .before .before .before .before .edge .ensures) (c .before .before .row .ensures)
+    (λ l y i. rest-line _ _ _ _ _ _ _ _ _ _ (c .before .before .before .before .before .before .before .before .rest-of .ensures) _ (s .pre .1) _ _ _
+    (s .pre .0 .narrow) _ (c .before .before .before .before .before .before .before .before .before .before .before .before .before .before .before2
+    .ensures .1 (omega (
+      arith,
+      c .before .before .before .before .before .before .before .before .before .if1 .left,
+      c .before .before .before .before .before .before .before .before .before .before .before .before .before .before .before2 .ensures .0,
+    ))) l y i)
 
 pub short-line-spec : {M : Type 1} → statement M
 short-line-spec =

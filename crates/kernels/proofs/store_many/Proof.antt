@@ -37,8 +37,17 @@ tap-at-requires c κs =
 with-tap-requires : tie.Need-with-tap-requires Inv-loop μ-loop
 with-tap-requires c κs =
     let l = c .before .before .before .loop in
-    let s = c .before .before .before .before .before .before .before .before in
-    (omega (arith, l .inv .few, l .inv .low, s .pre .few), (omega (arith, c .before .tap-at .ensures .1 (s .pre .light _ (c .before .before .loop-test .taken)), s .pre .light _ (c .before .before .loop-test .taken)), (omega (arith, c .before .tap-at .ensures .0, s .pre .back _ (c .before .before .loop-test .taken)), (omega (arith, s .pre .within), s .pre .small))))
+    let s = c .before .before .before .before .before .before .before .before in (
+      omega (arith, l .inv .few, l .inv .low, s .pre .few),
+      (
+        omega (
+          arith,
+          c .before .tap-at .ensures .1 (s .pre .light _ (c .before .before .loop-test .taken)),
+          s .pre .light _ (c .before .before .loop-test .taken),
+        ),
+        (omega (arith, c .before .tap-at .ensures .0, s .pre .back _ (c .before .before .loop-test .taken)), (omega (arith, s .pre .within), s .pre .small)),
+      ),
+    )
 
 add-k : tie.Need-add-k Inv-loop μ-loop
 add-k c = search needs
@@ -49,7 +58,9 @@ loop-less c = omega (arith, c .before .before .before .loop-test .taken)
 loop-again : tie.Need-loop-again Inv-loop μ-loop
 loop-again c =
     let s = c .before .before .before .before .before .before .before .before .before in
-    summing-more _ _ _ _ 0 _ _ _ _ _ (c .before .before .before .before .loop .inv) (c .before .before .before .loop-test .taken) _ _ _ (c .before .before .tap-at .ensures .0) (c .before .before .tap-at .ensures .1 (s .pre .light _ (c .before .before .before .loop-test .taken))) (c .with-tap .ensures)
+    summing-more _ _ _ _ 0 _ _ _ _ _ (c .before .before .before .before .loop .inv) (c .before .before .before .loop-test .taken) _ _ _
+    (c .before .before .tap-at .ensures .0) (c .before .before .tap-at .ensures .1 (s .pre .light _ (c .before .before .before .loop-test .taken)))
+    (c .with-tap .ensures)
 
 closed-requires : tie.Need-closed-requires Inv-loop μ-loop
 closed-requires c κs =
@@ -72,7 +83,8 @@ same-length c = search needs
 returns : tie.Need-returns Inv-loop μ-loop
 returns c =
     let s = c .before .before .before .before .before .before .before in
-    ap (set (s .args .memory .now) (s .args .c)) (summing-end _ _ _ _ _ _ _ _ _ _ (c .before .before .loop .inv) (c .before .loop-test .left) _ (c .closed .ensures))
+    ap (set (s .args .memory .now) (s .args .c)) (summing-end _ _ _ _ _ _ _ _ _ _ (c .before .before .loop .inv) (c .before .loop-test .left) _
+    (c .closed .ensures))
 
 pub store-many-spec : {M : Type 1} → statement M
 store-many-spec =

@@ -34,7 +34,8 @@ returns : tie.Need-returns
 unfolding sum
 returns c =
     let s = c .before .before .before .before .before .before .before in
-    closes 1 (s .args .p .back ∷ []) (s .args .p .weight ∷ []) _ _ (s .args .source .now) (s .args .memory .now) _ _ _ (omega (arith, c .before .before .before .before .word-of .ensures .0)) (c .closed .ensures)
+    closes 1 (s .args .p .back ∷ []) (s .args .p .weight ∷ []) _ _ (s .args .source .now) (s .args .memory .now) _ _ _
+    (omega (arith, c .before .before .before .before .word-of .ensures .0)) (c .closed .ensures)
 
 pub store-one-spec : {M : Type 1} → statement M
 store-one-spec =

@@ -39,7 +39,8 @@ returns : tie.Need-returns
 unfolding sum
 returns c =
     let s = c .before .before .before .before .before .before .before .before .before in
-    closes 2 (s .args .p .back ∷ s .args .q .back ∷ []) (s .args .p .weight ∷ s .args .q .weight ∷ []) _ _ (s .args .source .now) (s .args .memory .now) _ _ _ (omega (arith, c .before .before .before .before .before .before .word-of .ensures .0)) (c .closed .ensures)
+    closes 2 (s .args .p .back ∷ s .args .q .back ∷ []) (s .args .p .weight ∷ s .args .q .weight ∷ []) _ _ (s .args .source .now) (s .args .memory .now) _ _
+    _ (omega (arith, c .before .before .before .before .before .before .word-of .ensures .0)) (c .closed .ensures)
 
 pub store-two-spec : {M : Type 1} → statement M
 store-two-spec =

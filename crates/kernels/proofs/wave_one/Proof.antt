@@ -9,7 +9,8 @@ use Rattle.kernels.proofs.wave_one.Statement.{statement}
 use Rattle.kernels.proofs.wave_one.Tie as tie
 
 abbrev Inv-loop : tie.InvT-loop
-Inv-loop source memory₀ rule p a t width y₀ memory y = Waving (made 1 (p .back ∷ []) (p .weight ∷ []) (rule .outside) (rule .shift) source) memory₀ memory a t width y
+Inv-loop source memory₀ rule p a t width y₀ memory y =
+    Waving (made 1 (p .back ∷ []) (p .weight ∷ []) (rule .outside) (rule .shift) source) memory₀ memory a t width y
 
 abbrev μ-loop : tie.MeasureT-loop
 μ-loop source memory₀ rule p a t width y₀ memory y = width - y
@@ -50,27 +51,40 @@ store-one-requires c κs =
 store-one-requires-2 : tie.Need-store-one-requires-2 Inv-loop μ-loop
 store-one-requires-2 c κs =
     let s = c .before .before .before .before .before .before .before .before .before in
-    fits-at (s .pre) _ 1 _ (omega arith) (omega (arith, c .before .before .before .before .before .loop-test .taken)) (omega (arith, waving-long (c .before .before .before .before .before .before .loop .inv)))
+    fits-at (s .pre) _ 1 _ (omega arith) (omega (arith, c .before .before .before .before .before .loop-test .taken))
+    (omega (arith, waving-long (c .before .before .before .before .before .before .loop .inv)))
 
 store-one-requires-3 : tie.Need-store-one-requires-3 Inv-loop μ-loop
 store-one-requires-3 c κs =
     let s = c .before .before .before .before .before .before .before .before .before .before .before .before .before in
-    fits-at (s .pre) _ 1 _ (omega arith) (omega (arith, c .before .before .before .before .before .before .before .before .before .loop-test .taken)) (omega (arith, waving-long (c .before .before .before .before .before .before .before .before .before .before .loop .inv)))
+    fits-at (s .pre) _ 1 _ (omega arith) (omega (arith, c .before .before .before .before .before .before .before .before .before .loop-test .taken))
+    (omega (arith, waving-long (c .before .before .before .before .before .before .before .before .before .before .loop .inv)))
 
 store-one-requires-4 : tie.Need-store-one-requires-4 Inv-loop μ-loop
 store-one-requires-4 c κs =
     let s = c .before .before .before .before .before .before .before .before .before .before .before .before .before .before .before .before .before in
-    fits-at (s .pre) _ 1 _ (omega arith) (omega (arith, c .before .before .before .before .before .before .before .before .before .before .before .before .before .loop-test .taken)) (omega (arith, waving-long (c .before .before .before .before .before .before .before .before .before .before .before .before .before .before .loop .inv)))
+    fits-at (s .pre) _ 1 _ (omega arith)
+    (omega (arith, c .before .before .before .before .before .before .before .before .before .before .before .before .before .loop-test .taken))
+    (omega (arith, waving-long (c .before .before .before .before .before .before .before .before .before .before .before .before .before .before .loop .inv)))
 
 add-y : tie.Need-add-y Inv-loop μ-loop
 add-y c = search needs
 
 loop-less : tie.Need-loop-less Inv-loop μ-loop
-loop-less c = omega (arith, c .before .before .before .before .before .before .before .before .before .before .before .before .before .before .before .before .loop-test .taken)
+loop-less c =
+    omega (
+      arith,
+      c .before .before .before .before .before .before .before .before .before .before .before .before .before .before .before .before
+          .loop-test .taken,
+    )
 
 loop-again : tie.Need-loop-again Inv-loop μ-loop
 loop-again c =
-    waving-more (c .before .before .before .before .before .before .before .before .before .before .before .before .before .before .before .before .before .loop .inv) _ _ _ _ (c .before .before .before .before .before .before .before .before .before .before .before .before .before .before .before .before .loop-test .taken) (c .before .before .before .before .before .before .before .before .before .before .before .before .before .before .store-one .ensures) (c .before .before .before .before .before .before .before .before .before .before .store-one2 .ensures) (c .before .before .before .before .before .before .store-one3 .ensures) (c .before .before .store-one4 .ensures)
+    waving-more (c .before .before .before .before .before .before .before .before .before .before .before .before .before .before .before .before .before
+    .loop .inv) _ _ _ _ (c .before .before .before .before .before .before .before .before .before .before .before .before .before .before .before .before
+    .loop-test .taken) (c .before .before .before .before .before .before .before .before .before .before .before .before .before .before .store-one
+    .ensures) (c .before .before .before .before .before .before .before .before .before .before .store-one2 .ensures)
+    (c .before .before .before .before .before .before .store-one3 .ensures) (c .before .before .store-one4 .ensures)
 
 same-length : tie.Need-same-length Inv-loop μ-loop
 same-length c = waving-long (c .before .loop .inv)

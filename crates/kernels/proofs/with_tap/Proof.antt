@@ -25,8 +25,10 @@ add-result c =
 
 returns : tie.Need-returns
 returns c =
-    let s = c .before .before .before .before in
-    (ap (λ (v : ℕ). s .args .total + s .args .tap .weight * v) (c .before .word-of .ensures .0), omega (arith, weighs _ _ (s .pre .1 .0) (c .before .word-of .ensures .1)))
+    let s = c .before .before .before .before in (
+      ap (λ (v : ℕ). s .args .total + s .args .tap .weight * v) (c .before .word-of .ensures .0),
+      omega (arith, weighs _ _ (s .pre .1 .0) (c .before .word-of .ensures .1)),
+    )
 
 pub with-tap-spec : {M : Type 1} → statement M
 with-tap-spec = tie.close (tie.spec sub-word-of word-of-requires mul-result add-result returns)

@@ -24,7 +24,10 @@ cast-result : tie.Need-cast-result
 cast-result c = omega (arith, c .shared-slice-known .given (c .before .before .args .cell - c .before .before .args .back))
 
 returns-2 : tie.Need-returns-2
-returns-2 c = (sym (pick-true _ _ _ (le-leb _ _ (c .before .if1 .left))), omega (arith, c .shared-slice-known .given (c .before .before .args .cell - c .before .before .args .back)))
+returns-2 c = (
+  sym (pick-true _ _ _ (le-leb _ _ (c .before .if1 .left))),
+  omega (arith, c .shared-slice-known .given (c .before .before .args .cell - c .before .before .args .back)),
+)
 
 pub word-at-spec : {M : Type 1} → statement M
 word-at-spec =

@@ -63,7 +63,15 @@ add-place-element-copy-out-at t c = search needs
 add-place-add-at :
     (t : ℕ) →
     add-place-lts.Need-add-at (add-place-below t, add-place.Post) (add-place-at t) add-place.Post
-add-place-add-at t c = record { fits = omega (arith, place-fits (c .before .before .before .args .lengths .now) (c .before .before .before .args .at .now) (c .before .before .before .args .n) (c .before .before .before .args .left) (c .before .before .if1 .left) (omega arith) (c .before .before .before .pre .1 .1)) }
+add-place-add-at t c =
+    record {
+      fits = omega (
+        arith,
+        place-fits (c .before .before .before .args .lengths .now) (c .before .before .before .args .at .now)
+            (c .before .before .before .args .n) (c .before .before .before .args .left) (c .before .before .if1 .left) (omega arith)
+            (c .before .before .before .pre .1 .1),
+      );
+    }
 
 add-place-element-write-at : (t : ℕ) → add-place-lts.Need-element-write-at (
   add-place-below t,
@@ -81,7 +89,14 @@ add-place-add-place-requires : (t : ℕ) → add-place-lts.Need-add-place-requir
   add-place-below t,
   add-place.Post,
 ) (add-place-at t) add-place.Post
-add-place-add-place-requires t c κs = (omega arith, (length-set (c .before .before .before .before .args .at .now) _ _ ∙ c .before .before .before .before .pre .1 .0, places-less _ _ (c .before .before .before .before .args .n) _ (c .before .before .before .if1 .left) (omega arith) (c .before .before .before .before .pre .1 .1)))
+add-place-add-place-requires t c κs = (
+  omega arith,
+  (
+    length-set (c .before .before .before .before .args .at .now) _ _ ∙ c .before .before .before .before .pre .1 .0,
+    places-less _ _ (c .before .before .before .before .args .n) _ (c .before .before .before .if1 .left) (omega arith)
+        (c .before .before .before .before .pre .1 .1),
+  ),
+)
 
 add-place-returns-2 :
     (t : ℕ) →
@@ -89,7 +104,8 @@ add-place-returns-2 :
     (add-place-below t, add-place.Post)
     (add-place-at t)
     add-place.Post
-add-place-returns-2 t c = (c .add-place .ensures .0, placed-more _ _ _ _ _ (c .before .before .before .before .if1 .left) (omega arith) (c .add-place .ensures .1))
+add-place-returns-2 t c =
+    (c .add-place .ensures .0, placed-more _ _ _ _ _ (c .before .before .before .before .if1 .left) (omega arith) (c .add-place .ensures .1))
 
 pub +add-place-spec : {M : Type 1} → statement M
 +add-place-spec =

@@ -54,7 +54,14 @@ next-place-add-component : (t : ℕ) → next-place-lts.Need-add-component (
   next-place-below t,
   next-place.Post,
 ) (next-place-at t) next-place.Post
-next-place-add-component t c = record { fits = omega (arith, inside-fits (c .before .args .t1) (c .before .args .t2) (c .before .args .t3) (c .before .args .left) (c .if1 .left) (omega arith) (c .before .pre .1 .0) (c .before .pre .1 .1)) }
+next-place-add-component t c =
+    record {
+      fits = omega (
+        arith,
+        inside-fits (c .before .args .t1) (c .before .args .t2) (c .before .args .t3) (c .before .args .left) (c .if1 .left)
+            (omega arith) (c .before .pre .1 .0) (c .before .pre .1 .1),
+      );
+    }
 
 next-place-mul-if2 :
     (t : ℕ) →
@@ -138,13 +145,20 @@ next-place-next-place-requires : (t : ℕ) → next-place-lts.Need-next-place-re
   next-place-below t,
   next-place.Post,
 ) (next-place-at t) next-place.Post
-next-place-next-place-requires t c κs = (omega arith, (places-fewer _ _ (c .before .before .args .t3) _ (c .before .if1 .left) (omega arith) (c .before .before .pre .1 .0), inside-fewer _ _ _ _ (c .before .if1 .left) (omega arith) _ (c .before .before .pre .1 .1)))
+next-place-next-place-requires t c κs = (
+  omega arith,
+  (
+    places-fewer _ _ (c .before .before .args .t3) _ (c .before .if1 .left) (omega arith) (c .before .before .pre .1 .0),
+    inside-fewer _ _ _ _ (c .before .if1 .left) (omega arith) _ (c .before .before .pre .1 .1),
+  ),
+)
 
 next-place-returns-3 : (t : ℕ) → next-place-lts.Need-returns-3 (
   next-place-below t,
   next-place.Post,
 ) (next-place-at t) next-place.Post
-next-place-returns-3 t c = follows-carry _ _ _ _ _ (c .before .before .if1 .left) (omega arith) (c .before .before .before .pre .1 .0) (c .before .if2 .left) (c .next-place .ensures)
+next-place-returns-3 t c =
+    follows-carry _ _ _ _ _ (c .before .before .if1 .left) (omega arith) (c .before .before .before .pre .1 .0) (c .before .if2 .left) (c .next-place .ensures)
 
 pub +next-place-spec : {M : Type 1} → statement M
 +next-place-spec = close μ-next-place λ t. next-place-lts.spec (

@@ -27,7 +27,8 @@ product-of-below t =
     and 1 product-of-kinds.ps (falls 1 product-of-kinds.ps _<_ μ-product-of t) product-of.Pre
 
 -- what is known past the test
-of : (t : ℕ) (c : product-of-lts.Else1 (product-of-below t, product-of.Post) (product-of-at t) product-of.Post) → ProductTurn (c .before .args .counts .now) (c .before .args .left)
+of : (t : ℕ) (c : product-of-lts.Else1 (product-of-below t, product-of.Post) (product-of-at t) product-of.Post) → ProductTurn (c .before .args .counts .now)
+    (c .before .args .left)
 of t c = product-turn _ _ (c .if1 .left) (c .before .pre .1)
 
 all : (t : ℕ) (c : product-of-lts.After-product-of (product-of-below t, product-of.Post) (product-of-at t) product-of.Post)

@@ -25,11 +25,13 @@ abbrev rank-of-below : ℕ → In 2 rank-of-kinds.ps
 rank-of-below t = and 2 rank-of-kinds.ps (falls 2 rank-of-kinds.ps _<_ μ-rank-of t) rank-of.Pre
 
 -- what is known past the test
-of : (t : ℕ) (c : rank-of-lts.Else1 (rank-of-below t, rank-of.Post) (rank-of-at t) rank-of.Post) → RankTurn (c .before .args .lengths .now) (c .before .args .at .now) (c .before .args .left)
+of : (t : ℕ) (c : rank-of-lts.Else1 (rank-of-below t, rank-of.Post) (rank-of-at t) rank-of.Post) → RankTurn (c .before .args .lengths .now)
+    (c .before .args .at .now) (c .before .args .left)
 of t c = rank-turn _ _ _ (c .if1 .left) (c .before .pre .1)
 
 all : (t : ℕ) (c : rank-of-lts.After-rank-of (rank-of-below t, rank-of.Post) (rank-of-at t) rank-of.Post)
-    → c .rank-of .result * getD (c .before .before .args .lengths .now) (c .before .before .args .left - 1) 0 + getD (c .before .before .args .at .now) (c .before .before .args .left - 1) 0 ≤ 65536
+    → c .rank-of .result * getD (c .before .before .args .lengths .now) (c .before .before .args .left - 1) 0 + getD (c .before .before .args .at .now)
+    (c .before .before .args .left - 1) 0 ≤ 65536
 all t c = rw (c .rank-of .ensures) (of t (c .before) .fits)
 
 rank-of-returns :

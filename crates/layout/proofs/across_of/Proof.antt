@@ -35,20 +35,21 @@ element-copy-out-tile-along-2 : tie.Need-element-copy-out-tile-along-2 Inv-loop 
 element-copy-out-tile-along-2 c = search needs
 
 tile-along-requires : tie.Need-tile-along-requires Inv-loop μ-loop
-tile-along-requires c κs = (
-  omega (arith, c .before .before .before .before .pre .length-most (c .before .before .before .loop .j)),
-  (c .before .before .before .before .pre .tiled _ (omega arith), c .before .before .before .before .pre .tile-most _),
-)
+tile-along-requires c κs =
+    let at-loop = c .before .before .before in
+    let start = at-loop .before in
+    (omega (arith, start .pre .length-most (at-loop .loop .j)), (start .pre .tiled _ (omega arith), start .pre .tile-most _))
 
 add-across : tie.Need-add-across Inv-loop μ-loop
 add-across c =
+    let at-loop = c .before .before .before .before in
+    let start = at-loop .before in
     omega (
       arith,
       c .tile-along .ensures,
-      div-le-self (getD (c .before .before .before .before .before .args .t1 .lengths)
-          (c .before .before .before .before .loop .j) 0 - 1) (getD (c .before .before .before .before .before .args .t1 .tiling)
-          (c .before .before .before .before .loop .j) 0),
-      c .before .before .before .before .before .pre .length-most (c .before .before .before .before .loop .j),
+      div-le-self (getD (start .args .t1 .lengths) (at-loop .loop .j) 0 - 1)
+          (getD (start .args .t1 .tiling) (at-loop .loop .j) 0),
+      start .pre .length-most (at-loop .loop .j),
     )
 
 mul-across : tie.Need-mul-across Inv-loop μ-loop
@@ -66,8 +67,10 @@ loop-less c = search needs
 loop-again : tie.Need-loop-again Inv-loop μ-loop
 unfolding tileCount
 loop-again c =
-    filled-more _ _ _ _ _ (c .before .before .before .before .loop .inv) (c .before .before .before .loop-test .taken)
-    (c .before .before .before .before .before .pre .dimensions-most) (ap (λ (a : ℕ). a + 1) (c .tile-along .ensures))
+    let at-loop-test = c .before .before .before in
+    let at-loop = at-loop-test .before in
+    let start = at-loop .before in
+    filled-more _ _ _ _ _ (at-loop .loop .inv) (at-loop-test .loop-test .taken) (start .pre .dimensions-most) (ap (λ (a : ℕ). a + 1) (c .tile-along .ensures))
 
 returns : tie.Need-returns Inv-loop μ-loop
 returns c = filled-end _ _ _ _ (c .before .loop .inv) (omega arith)

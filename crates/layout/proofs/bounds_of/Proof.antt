@@ -32,7 +32,15 @@ array-read-first : tie.Need-array-read-first Inv-loop μ-loop
 array-read-first c = search needs
 
 mul-first-2 : tie.Need-mul-first-2 Inv-loop μ-loop
-mul-first-2 c = record { fits = omega (arith, boxing-low _ (c .before .before .before .before .before .before .pre .0 .accepted) _ _ _ _ (c .before .loop .inv) (c .loop-test .taken), c .before .before .before .before .before .before .pre .0 .accepted .length-most (c .before .loop .j)) }
+mul-first-2 c =
+    let start = c .before .before .before .before .before .before in
+    record {
+      fits = omega (
+        arith,
+        boxing-low _ (start .pre .0 .accepted) _ _ _ _ (c .before .loop .inv) (c .loop-test .taken),
+        start .pre .0 .accepted .length-most (c .before .loop .j),
+      );
+    }
 
 mul-corner : tie.Need-mul-corner Inv-loop μ-loop
 mul-corner c = search needs
@@ -47,7 +55,8 @@ array-read-least : tie.Need-array-read-least Inv-loop μ-loop
 array-read-least c = search needs
 
 sub-least : tie.Need-sub-least Inv-loop μ-loop
-sub-least c = omega (arith, boxing-low _ (c .before .before .before .before .before .before .pre .0 .accepted) _ _ _ _ (c .before .loop .inv) (c .loop-test .taken))
+sub-least c =
+    omega (arith, boxing-low _ (c .before .before .before .before .before .before .pre .0 .accepted) _ _ _ _ (c .before .loop .inv) (c .loop-test .taken))
 
 least-requires : tie.Need-least-requires Inv-loop μ-loop
 least-requires c κs = search needs
@@ -65,13 +74,20 @@ loop-less : tie.Need-loop-less Inv-loop μ-loop
 loop-less c = search needs
 
 loop-again : tie.Need-loop-again Inv-loop μ-loop
-loop-again c = boxing-more _ (c .before .before .before .before .before .before .before .pre .0 .accepted) _ _ _ _ (c .before .before .loop .inv) (c .before .loop-test .taken) _ (c .least .ensures)
+loop-again c =
+    boxing-more _ (c .before .before .before .before .before .before .before .pre .0 .accepted) _ _ _ _ (c .before .before .loop .inv)
+    (c .before .loop-test .taken) _ (c .least .ensures)
 
 product-of-requires : tie.Need-product-of-requires Inv-loop μ-loop
-product-of-requires c κs = boxing-countable _ (c .before .before .before .before .before .before .before .pre .0 .accepted) _ _ _ _ (c .before .before .loop .inv) (omega arith) (c .before .before .before .before .before .before .before .pre .1)
+product-of-requires c κs =
+    let start = c .before .before .before .before .before .before .before in
+    boxing-countable _ (start .pre .0 .accepted) _ _ _ _ (c .before .before .loop .inv) (omega arith) (start .pre .1)
 
 returns : tie.Need-returns Inv-loop μ-loop
-returns c = (boxing-end _ (c .before .before .before .before .before .before .before .before .pre .0 .accepted) _ _ _ _ (c .before .before .before .loop .inv) (omega arith) (c .before .before .before .before .before .before .before .before .pre .1) _ (c .product-of .ensures), refl)
+returns c =
+    let at-loop = c .before .before .before in
+    let start = at-loop .before .before .before .before .before in
+    (boxing-end _ (start .pre .0 .accepted) _ _ _ _ (at-loop .loop .inv) (omega arith) (start .pre .1) _ (c .product-of .ensures), refl)
 
 pub bounds-of-spec : {M : Type 1} → statement M
 bounds-of-spec =

@@ -23,7 +23,12 @@ step-of-requires c κs =
 add-result : tie.Need-add-result
 add-result c =
     let start = c .before .before .before .before in
-    omega (arith, c .step-of .ensures .1, end-fits _ (start .pre .0 .accepted) (start .args .sizes .route) _ (start .pre .0 .ways) (start .args .slot) (start .pre .1))
+    omega (
+      arith,
+      c .step-of .ensures .1,
+      end-fits _ (start .pre .0 .accepted) (start .args .sizes .route) _ (start .pre .0 .ways) (start .args .slot)
+          (start .pre .1),
+    )
 
 returns-2 : tie.Need-returns-2
 returns-2 c =

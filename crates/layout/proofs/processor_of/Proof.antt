@@ -13,12 +13,20 @@ remainders-requires : tie.Need-remainders-requires
 remainders-requires c κs = (c .before .before .before .pre .0 .accepted, c .before .put-tile .ensures .0)
 
 rank-of-requires : tie.Need-rank-of-requires
-rank-of-requires c κs = processor-ranked _ (c .before .before .before .before .before .before .before .pre .0 .accepted) (c .before .before .before .before .before .before .before .args .tile) _ _ (c .before .before .before .before .before .put-tile .ensures .1) (c .before .before .before .remainders .ensures)
+rank-of-requires c κs =
+    let at-remainders = c .before .before .before in
+    let at-put-tile = at-remainders .before .before in
+    let start = at-put-tile .before .before in
+    processor-ranked _ (start .pre .0 .accepted) (start .args .tile) _ _ (at-put-tile .put-tile .ensures .1) (at-remainders .remainders .ensures)
 
 returns : tie.Need-returns
 returns c =
-    let e = c .rank-of .ensures ∙ processor-rank _ (c .before .before .before .before .before .before .before .before .pre .0 .accepted) (c .before .before .before .before .before .before .before .before .args .tile) _ _ (c .before .before .before .before .before .before .put-tile .ensures .1) (c .before .before .before .before .remainders .ensures) in
-    (e, rw e (processorOf-low _ (c .before .before .before .before .before .before .before .before .pre .0 .accepted) (c .before .before .before .before .before .before .before .before .args .tile)))
+    let at-remainders = c .before .before .before .before in
+    let at-put-tile = at-remainders .before .before in
+    let start = at-put-tile .before .before in
+    let e = c .rank-of .ensures ∙ processor-rank _ (start .pre .0 .accepted) (start .args .tile) _ _ (at-put-tile .put-tile .ensures .1)
+    (at-remainders .remainders .ensures) in
+    (e, rw e (processorOf-low _ (start .pre .0 .accepted) (start .args .tile)))
 
 pub processor-of-spec : {M : Type 1} → statement M
 processor-of-spec =

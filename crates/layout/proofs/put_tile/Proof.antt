@@ -5,10 +5,14 @@ use Rattle.layout.proofs.put_tile.Statement.{statement}
 use Rattle.layout.proofs.put_tile.Tie as tie
 
 add-place-requires : tie.Need-add-place-requires
-add-place-requires c κs = (refl, across-places _ (c .before .before .before .before .pre .accepted) _ (record { each = c .before .before .before .before .pre .across }))
+add-place-requires c κs =
+    let start = c .before .before .before .before in
+    (refl, across-places _ (start .pre .accepted) _ (record { each = start .pre .across }))
 
 returns : tie.Need-returns
-returns c = (c .add-place .ensures .0, placed-tile _ (c .before .before .before .before .before .pre .accepted) _ (record { each = c .before .before .before .before .before .pre .across }) _ _ (c .add-place .ensures .1))
+returns c =
+    let start = c .before .before .before .before .before in
+    (c .add-place .ensures .0, placed-tile _ (start .pre .accepted) _ (record { each = start .pre .across }) _ _ (c .add-place .ensures .1))
 
 pub put-tile-spec : {M : Type 1} → statement M
 put-tile-spec = tie.close (tie.spec add-place-requires returns)

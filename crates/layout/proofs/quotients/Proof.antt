@@ -52,8 +52,9 @@ loop-less c = search needs
 
 loop-again : tie.Need-loop-again Inv-loop μ-loop
 loop-again c =
-    filled-more _ _ _ _ _ (c .before .before .before .loop .inv) (c .before .before .loop-test .taken)
-    (c .before .before .before .before .pre .0 .dimensions-most) (c .tile-along .ensures)
+    let at-loop = c .before .before .before in
+    let start = at-loop .before in
+    filled-more _ _ _ _ _ (at-loop .loop .inv) (c .before .before .loop-test .taken) (start .pre .0 .dimensions-most) (c .tile-along .ensures)
 
 returns : tie.Need-returns Inv-loop μ-loop
 returns c = filled-end _ _ _ _ (c .before .loop .inv) (omega arith)

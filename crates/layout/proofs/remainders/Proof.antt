@@ -42,7 +42,11 @@ loop-less : tie.Need-loop-less Inv-loop μ-loop
 loop-less c = search needs
 
 loop-again : tie.Need-loop-again Inv-loop μ-loop
-loop-again c = changed-more _ _ _ _ _ _ (c .before .before .loop .inv) (c .before .loop-test .taken) (omega (arith, c .before .before .before .before .pre .0 .spread-low, c .before .before .before .before .pre .0 .dimensions-most)) (ap (λ (a : ℕ). a % getD (c .before .before .before .before .args .nest .counts) (c .before .before .loop .j) 0) (c .before .before .loop .inv .rest _ (omega arith)))
+loop-again c =
+    let start = c .before .before .before .before in
+    changed-more _ _ _ _ _ _ (c .before .before .loop .inv) (c .before .loop-test .taken)
+    (omega (arith, start .pre .0 .spread-low, start .pre .0 .dimensions-most))
+    (ap (λ (a : ℕ). a % getD (start .args .nest .counts) (c .before .before .loop .j) 0) (c .before .before .loop .inv .rest _ (omega arith)))
 
 returns : tie.Need-returns Inv-loop μ-loop
 returns c = filled-end _ _ _ _ (c .before .loop .inv .first) (omega arith)

@@ -24,14 +24,18 @@ ways-of-requires c κs = c .before .before .before .before .before .before .pre
 returns : tie.Need-returns
 unfolding cells processors
 returns c =
-    let start = c .before .before .before .before .before .before .before in (
+    let at-product = c .before .before .before in
+    let at-across-of = at-product .before in
+    let start = at-across-of .before .before .before in (
       record {
         accepted = start .pre;
-        cells = c .before .before .before .product .ensures;
-        tiles = c .before .before .product2 .ensures ∙ across-product _ (start .pre) _ (c .before .before .before .before .across-of .ensures);
+        cells = at-product .product .ensures;
+        tiles = c .before .before .product2 .ensures ∙ across-product _ (start .pre) _
+            (at-across-of .across-of .ensures);
         processors = c .before .product3 .ensures;
         ways = c .ways-of .ensures;
-        across = c .before .before .before .before .across-of .ensures .each;
+        across =
+            at-across-of .across-of .ensures .each;
       },
       refl,
     )

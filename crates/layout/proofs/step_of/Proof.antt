@@ -19,7 +19,8 @@ rank-requires c κs =
 returns : tie.Need-returns
 returns c =
     let start = c .before .before .before in
-    let is = c .rank .ensures ∙ tile-rank _ (start .pre .0 .accepted) (start .args .sizes .across) (record { each = start .pre .0 .across }) _ _ (c .before .before .along-of .ensures) in
+    let is = c .rank .ensures ∙ tile-rank _ (start .pre .0 .accepted) (start .args .sizes .across) (record { each = start .pre .0 .across }) _ _
+    (c .before .before .along-of .ensures) in
     (is, omega (arith, is, step-few _ (start .pre .0 .accepted) (start .args .sizes .route) (start .args .way)))
 
 pub step-of-spec : {M : Type 1} → statement M

@@ -19,7 +19,8 @@ abbrev μ-loop : tie.MeasureT-loop
 loop-holds : tie.Need-loop-holds Inv-loop μ-loop
 loop-holds c =
     let start = c .before .before in
-    finding-none (start .args .sizes .route) (start .args .nest) (start .pre .0 .accepted) (start .args .sizes .across) (record { each = start .pre .0 .across }) (start .args .processor) (start .args .finished) (start .pre .1)
+    finding-none (start .args .sizes .route) (start .args .nest) (start .pre .0 .accepted) (start .args .sizes .across)
+    (record { each = start .pre .0 .across }) (start .args .processor) (start .args .finished) (start .pre .1)
 
 sub-j : tie.Need-sub-j Inv-loop μ-loop
 sub-j c = omega (arith, c .loop-test .taken)
@@ -43,18 +44,24 @@ array-read-share-of-2 c = low c
 share-of-requires : tie.Need-share-of-requires Inv-loop μ-loop
 share-of-requires c κs =
     let start = c .before .before .before .before in
-    share-asks (start .args .sizes .route) (start .args .nest) (start .pre .0 .accepted) (start .args .sizes .across) (record { each = start .pre .0 .across }) (start .args .processor) (c .before .loop .j) (c .loop-test .taken) (c .before .loop .inv .low)
+    share-asks (start .args .sizes .route) (start .args .nest) (start .pre .0 .accepted) (start .args .sizes .across)
+    (record { each = start .pre .0 .across }) (start .args .processor) (c .before .loop .j) (c .loop-test .taken) (c .before .loop .inv .low)
 
 -- past the share
 turn : (c : lts.After-share-of (share-of-reads.Asked, share-of-reads.Learnt) reads.Pre reads.Post Inv-loop μ-loop)
-    → Turn (c .before .before .before .before .before .args .nest .counts) (c .before .before .before .before .before .args .sizes .across) (c .before .before .before .before .before .args .nest .spread) (c .before .before .before .before .before .args .nest .dimensions) (c .before .before .before .before .before .args .processor) (c .before .before .before .before .before .args .finished)
+    → Turn (c .before .before .before .before .before .args .nest .counts) (c .before .before .before .before .before .args .sizes .across)
+    (c .before .before .before .before .before .args .nest .spread) (c .before .before .before .before .before .args .nest .dimensions)
+    (c .before .before .before .before .before .args .processor) (c .before .before .before .before .before .args .finished)
     (c .before .before .loop .j - 1) (c .before .before .loop .left) (c .before .before .loop .weight) (c .before .before .loop .tile) (c .share-of .result)
 turn c =
     let start = c .before .before .before .before .before in
-    finding-more (start .args .sizes .route) (start .args .nest) (start .pre .0 .accepted) (start .args .sizes .across) (record { each = start .pre .0 .across }) (start .args .processor) (start .args .finished) (start .pre .1)
-    (c .before .before .loop .j) (c .before .before .loop .rest) (c .before .before .loop .left) (c .before .before .loop .weight) (c .before .before .loop .tile) (c .share-of .result) (c .before .loop-test .taken) (c .before .before .loop .inv) (c .share-of .ensures)
+    finding-more (start .args .sizes .route) (start .args .nest) (start .pre .0 .accepted) (start .args .sizes .across)
+    (record { each = start .pre .0 .across }) (start .args .processor) (start .args .finished) (start .pre .1)
+    (c .before .before .loop .j) (c .before .before .loop .rest) (c .before .before .loop .left) (c .before .before .loop .weight)
+    (c .before .before .loop .tile) (c .share-of .result) (c .before .loop-test .taken) (c .before .before .loop .inv) (c .share-of .ensures)
 
-small : (c : lts.After-share-of (share-of-reads.Asked, share-of-reads.Learnt) reads.Pre reads.Post Inv-loop μ-loop) → getD (c .before .before .before .before .before .args .sizes .across) (c .before .before .loop .j - 1) 0 ≤ 1024
+small : (c : lts.After-share-of (share-of-reads.Asked, share-of-reads.Learnt) reads.Pre reads.Post Inv-loop μ-loop)
+    → getD (c .before .before .before .before .before .args .sizes .across) (c .before .before .loop .j - 1) 0 ≤ 1024
 small c = share-of-requires (c .before) _ .1 .0
 
 rem-tile : tie.Need-rem-tile Inv-loop μ-loop
@@ -93,7 +100,8 @@ loop-again c = turn (c .before .before .before .before) .next
 returns : tie.Need-returns Inv-loop μ-loop
 returns c =
     let start = c .before .before .before .before in
-    finding-end (start .args .sizes .route) (start .args .nest) (start .pre .0 .accepted) (start .args .sizes .across) (record { each = start .pre .0 .across }) (start .args .processor) (start .args .finished) (start .pre .1)
+    finding-end (start .args .sizes .route) (start .args .nest) (start .pre .0 .accepted) (start .args .sizes .across)
+    (record { each = start .pre .0 .across }) (start .args .processor) (start .args .finished) (start .pre .1)
     _ _ _ _ _ (c .before .loop .inv) (omega (arith, c .loop-test .left))
 
 pub tile-at-spec : {M : Type 1} → statement M

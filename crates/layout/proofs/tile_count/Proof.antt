@@ -16,12 +16,17 @@ abbrev μ-loop : tie.MeasureT-loop
 μ-loop processor counts across spread m j₀ rest₀ n₀ j rest n = j
 
 returns : tie.Need-returns Inv-loop μ-loop
-returns c = (sym (no-tiles (c .before .before .args .sizes .route) _ (c .before .before .pre .accepted) _ (omega (arith, c .if1 .taken, c .before .before .pre .processors))), omega arith)
+returns c = (
+  sym (no-tiles (c .before .before .args .sizes .route) _ (c .before .before .pre .accepted) _
+      (omega (arith, c .if1 .taken, c .before .before .pre .processors))),
+  omega arith,
+)
 
 loop-holds : tie.Need-loop-holds Inv-loop μ-loop
 loop-holds c =
     let start = c .before .before .before .before in
-    counting-none (start .args .sizes .route) (start .args .nest) (start .pre .accepted) (start .args .sizes .across) (record { each = start .pre .across }) (start .args .processor)
+    counting-none (start .args .sizes .route) (start .args .nest) (start .pre .accepted) (start .args .sizes .across) (record { each = start .pre .across })
+    (start .args .processor)
 
 sub-j : tie.Need-sub-j Inv-loop μ-loop
 sub-j c = omega (arith, c .loop-test .taken)
@@ -45,21 +50,30 @@ array-read-share-of-2 c = low c
 share-of-requires : tie.Need-share-of-requires Inv-loop μ-loop
 share-of-requires c κs =
     let start = c .before .before .before .before .before .before in
-    share-asks (start .args .sizes .route) (start .args .nest) (start .pre .accepted) (start .args .sizes .across) (record { each = start .pre .across }) (start .args .processor) (c .before .loop .j) (c .loop-test .taken) (c .before .loop .inv .low)
+    share-asks (start .args .sizes .route) (start .args .nest) (start .pre .accepted) (start .args .sizes .across) (record { each = start .pre .across })
+    (start .args .processor) (c .before .loop .j) (c .loop-test .taken) (c .before .loop .inv .low)
 
 -- past the share
 more : (c : lts.After-share-of (share-of-reads.Asked, share-of-reads.Learnt) reads.Pre reads.Post Inv-loop μ-loop)
-    → Counting (c .before .before .before .before .before .before .before .args .nest .counts) (c .before .before .before .before .before .before .before .args .sizes .across) (c .before .before .before .before .before .before .before .args .nest .spread) (c .before .before .before .before .before .before .before .args .nest .dimensions) (c .before .before .before .before .before .before .before .args .processor)
+    → Counting (c .before .before .before .before .before .before .before .args .nest .counts)
+    (c .before .before .before .before .before .before .before .args .sizes .across)
+    (c .before .before .before .before .before .before .before .args .nest .spread)
+    (c .before .before .before .before .before .before .before .args .nest .dimensions)
+    (c .before .before .before .before .before .before .before .args .processor)
     (c .before .before .loop .j - 1) (c .share-of .result .rest) (c .before .before .loop .n * c .share-of .result .tiles)
 more c =
     let start = c .before .before .before .before .before .before .before in
-    counting-more (start .args .sizes .route) (start .args .nest) (start .pre .accepted) (start .args .sizes .across) (record { each = start .pre .across }) (start .args .processor)
-    (c .before .before .loop .j) (c .before .before .loop .rest) (c .before .before .loop .n) (c .share-of .result) (c .before .loop-test .taken) (c .before .before .loop .inv) (c .share-of .ensures)
+    counting-more (start .args .sizes .route) (start .args .nest) (start .pre .accepted) (start .args .sizes .across) (record { each = start .pre .across })
+    (start .args .processor)
+    (c .before .before .loop .j) (c .before .before .loop .rest) (c .before .before .loop .n) (c .share-of .result) (c .before .loop-test .taken)
+    (c .before .before .loop .inv) (c .share-of .ensures)
 
-few : (c : lts.After-share-of (share-of-reads.Asked, share-of-reads.Learnt) reads.Pre reads.Post Inv-loop μ-loop) → c .before .before .loop .n * c .share-of .result .tiles ≤ 16384
+few : (c : lts.After-share-of (share-of-reads.Asked, share-of-reads.Learnt) reads.Pre reads.Post Inv-loop μ-loop) → c .before .before .loop .n
+    * c .share-of .result .tiles ≤ 16384
 few c =
     let start = c .before .before .before .before .before .before .before in
-    counting-few (start .args .sizes .route) (start .args .nest) (start .pre .accepted) (start .args .sizes .across) (record { each = start .pre .across }) (start .args .processor) _ _ _ (more c)
+    counting-few (start .args .sizes .route) (start .args .nest) (start .pre .accepted) (start .args .sizes .across) (record { each = start .pre .across })
+    (start .args .processor) _ _ _ (more c)
 
 mul-n : tie.Need-mul-n Inv-loop μ-loop
 mul-n c = omega (arith, few (c .before))
@@ -73,9 +87,11 @@ loop-again c = more (c .before)
 returns-2 : tie.Need-returns-2 Inv-loop μ-loop
 returns-2 c =
     let start = c .before .before .before .before .before .before in (
-      counting-end (start .args .sizes .route) (start .args .nest) (start .pre .accepted) (start .args .sizes .across) (record { each = start .pre .across }) (start .args .processor) (omega (arith, c .before .before .before .before .if1 .left, start .pre .processors))
+      counting-end (start .args .sizes .route) (start .args .nest) (start .pre .accepted) (start .args .sizes .across) (record { each = start .pre .across })
+          (start .args .processor) (omega (arith, c .before .before .before .before .if1 .left, start .pre .processors))
           _ _ _ (c .before .loop .inv) (omega (arith, c .loop-test .left)),
-      counting-few (start .args .sizes .route) (start .args .nest) (start .pre .accepted) (start .args .sizes .across) (record { each = start .pre .across }) (start .args .processor) _ _ _ (c .before .loop .inv),
+      counting-few (start .args .sizes .route) (start .args .nest) (start .pre .accepted) (start .args .sizes .across) (record { each = start .pre .across })
+          (start .args .processor) _ _ _ (c .before .loop .inv),
     )
 
 pub tile-count-spec : {M : Type 1} → statement M

@@ -13,17 +13,21 @@ quotients-requires : tie.Need-quotients-requires
 quotients-requires c κs = (c .before .before .pre .0 .accepted, place-small _ (c .before .before .pre .0 .accepted) _ _ (c .before .cell-of .ensures .place))
 
 rank-requires : tie.Need-rank-requires
-rank-requires c κs = tile-ranked _ (c .before .before .before .before .pre .0 .accepted) (c .before .before .before .before .args .sizes .across) (record { each = c .before .before .before .before .pre .0 .across }) _ _
-    (quotients-are _ (c .before .before .before .before .pre .0 .accepted) _ _ _ (c .before .before .before .cell-of .ensures .place) (c .before .quotients .ensures))
-    (quotient-within _ (c .before .before .before .before .pre .0 .accepted) (c .before .before .before .before .args .cell))
+rank-requires c κs =
+    let at-cell-of = c .before .before .before in
+    let start = at-cell-of .before in
+    tile-ranked _ (start .pre .0 .accepted) (start .args .sizes .across) (record { each = start .pre .0 .across }) _ _
+    (quotients-are _ (start .pre .0 .accepted) _ _ _ (at-cell-of .cell-of .ensures .place) (c .before .quotients .ensures))
+    (quotient-within _ (start .pre .0 .accepted) (start .args .cell))
 
 returns : tie.Need-returns
 unfolding boxTileOf
 returns c =
-    let e = c .rank .ensures
-    ∙ tile-rank _ (c .before .before .before .before .before .pre .0 .accepted) (c .before .before .before .before .before .args .sizes .across) (record { each = c .before .before .before .before .before .pre .0 .across }) _ _
-    (quotients-are _ (c .before .before .before .before .before .pre .0 .accepted) _ _ _ (c .before .before .before .before .cell-of .ensures .place) (c .before .before .quotients .ensures)) in
-    (e, rw e (boxTileOf-low _ (c .before .before .before .before .before .pre .0 .accepted) (c .before .before .before .before .before .args .cell)))
+    let at-cell-of = c .before .before .before .before in
+    let start = at-cell-of .before in
+    let e = c .rank .ensures ∙ tile-rank _ (start .pre .0 .accepted) (start .args .sizes .across) (record { each = start .pre .0 .across }) _ _
+    (quotients-are _ (start .pre .0 .accepted) _ _ _ (at-cell-of .cell-of .ensures .place) (c .before .before .quotients .ensures)) in
+    (e, rw e (boxTileOf-low _ (start .pre .0 .accepted) (start .args .cell)))
 
 pub tile-of-spec : {M : Type 1} → statement M
 tile-of-spec = tie.close (tie.spec cell-of-requires quotients-requires rank-requires returns)

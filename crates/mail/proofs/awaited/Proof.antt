@@ -17,9 +17,10 @@ same-length-2 c = search needs
 
 returns : tie.Need-returns
 returns c =
-    c .before .before .before .before .awaited .ensures
-    (c .before .before .before .before .before .before .before .before .before .before .before .before .before .args .progress .now)
-    (c .before .before .before .before .before .before .before .flat-of .ensures)
+    let at-awaited = c .before .before .before .before in
+    let at-flat-of = at-awaited .before .before .before in
+    let start = at-flat-of .before .before .before .before .before .before in
+    at-awaited .awaited .ensures (start .args .progress .now) (at-flat-of .flat-of .ensures)
 
 pub awaited-spec : {M : Type 1} → statement M
 awaited-spec =

@@ -27,11 +27,12 @@ sizes-of-requires c κs =
 
 returns-2 : tie.Need-returns-2
 returns-2 c =
-    let S = c .before .before .before .before .before .before .before .before in
-    let read = c .before .before .before .before .before .read in
-    answers.owners-area (S .args .encoded .now) (S .args .out .now) (planOf Direct (read .result .nest))
-    (lines.opened-direct (S .args .encoded .now) (read .result) (read .ensures .0) (c .before .before .before .before .if1 .left) {route = Direct} refl)
-    (λ q. c .if2 .taken (q ∙ sym (c .before .before .sizes-of .ensures .0 .cells)))
+    let at-if1 = c .before .before .before .before in
+    let at-read = at-if1 .before in
+    let S = at-read .before .before .before in
+    let read = at-read .read in
+    answers.owners-area (S .args .encoded .now) (S .args .out .now) (planOf Direct (read .result .nest)) (lines.opened-direct (S .args .encoded .now)
+    (read .result) (read .ensures .0) (at-if1 .if1 .left) {route = Direct} refl) (λ q. c .if2 .taken (q ∙ sym (c .before .before .sizes-of .ensures .0 .cells)))
 
 put-owners-requires : tie.Need-put-owners-requires
 put-owners-requires c κs =
@@ -43,12 +44,14 @@ same-length c = search needs
 
 returns-3 : tie.Need-returns-3
 returns-3 c =
-    let S = c .before .before .before .before .before .before .before .before .before .before .before .before in
-    let read = c .before .before .before .before .before .before .before .before .before .read in
-    answers.owners-done (S .args .encoded .now) (S .args .out .now) (planOf Direct (read .result .nest))
-    (lines.opened-direct (S .args .encoded .now) (read .result) (read .ensures .0)
-    (c .before .before .before .before .before .before .before .before .if1 .left) {route = Direct} refl)
-    (c .before .before .before .before .if2 .left ∙ c .before .before .before .before .before .before .sizes-of .ensures .0 .cells) _
+    let at-if2 = c .before .before .before .before in
+    let at-sizes-of = at-if2 .before .before in
+    let at-if1 = at-sizes-of .before .before in
+    let at-read = at-if1 .before in
+    let S = at-read .before .before .before in
+    let read = at-read .read in
+    answers.owners-done (S .args .encoded .now) (S .args .out .now) (planOf Direct (read .result .nest)) (lines.opened-direct (S .args .encoded .now)
+    (read .result) (read .ensures .0) (at-if1 .if1 .left) {route = Direct} refl) (at-if2 .if2 .left ∙ at-sizes-of .sizes-of .ensures .0 .cells) _
     (c .before .before .put-owners .ensures)
 
 pub owners-spec : {M : Type 1} → statement M

@@ -17,9 +17,10 @@ same-length-2 c = search needs
 
 returns : tie.Need-returns
 returns c =
-    c .before .before .before .before .take-in .ensures
-    (c .before .before .before .before .before .before .before .before .before .before .before .before .before .before .before .args .progress .now)
-    (c .before .before .before .before .before .before .flat-of .ensures)
+    let at-take-in = c .before .before .before .before in
+    let at-flat-of = at-take-in .before .before in
+    let start = at-flat-of .before .before .before .before .before .before .before .before .before in
+    at-take-in .take-in .ensures (start .args .progress .now) (at-flat-of .flat-of .ensures)
 
 pub take-in-spec : {M : Type 1} → statement M
 take-in-spec =

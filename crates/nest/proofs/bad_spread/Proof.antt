@@ -44,7 +44,11 @@ element-copy-out-if3 : tie.Need-element-copy-out-if3 Inv-loop μ-loop
 element-copy-out-if3 c = search needs
 
 returns-2 : tie.Need-returns-2 Inv-loop μ-loop
-returns-2 c = sym (L.later-spread (c .before .before .before .before .before .before .before .before .args .t1) (c .before .before .before .before .before .loop .j) (c .before .before .before .before .loop-test .taken) (c .before .before .if2 .taken) (c .if3 .taken))
+returns-2 c =
+    let at-loop-test = c .before .before .before .before in
+    let at-loop = at-loop-test .before in
+    let start = at-loop .before .before .before in
+    sym (L.later-spread (start .args .t1) (at-loop .loop .j) (at-loop-test .loop-test .taken) (c .before .before .if2 .taken) (c .if3 .taken))
 
 add-j : tie.Need-add-j Inv-loop μ-loop
 add-j c = search needs
@@ -53,10 +57,18 @@ loop-less : tie.Need-loop-less Inv-loop μ-loop
 loop-less c = search needs
 
 loop-again : tie.Need-loop-again Inv-loop μ-loop
-loop-again c = (omega arith, L.some-step _ _ (c .before .before .before .loop .inv .1) (⊎-elim (λ w. L.after-no (c .before .before .before .before .before .before .args .t1) (c .before .before .before .loop .j) (w .2 .left)) (λ w. L.after-spread (c .before .before .before .before .before .before .args .t1) (c .before .before .before .loop .j) (w .left)) (c .if2 .came)))
+loop-again c =
+    let at-loop = c .before .before .before in
+    let start = at-loop .before .before .before in (
+      omega arith,
+      L.some-step _ _ (at-loop .loop .inv .1) (⊎-elim (λ w. L.after-no (start .args .t1) (at-loop .loop .j) (w .2 .left))
+          (λ w. L.after-spread (start .args .t1) (at-loop .loop .j) (w .left)) (c .if2 .came)),
+    )
 
 returns-3 : tie.Need-returns-3 Inv-loop μ-loop
-returns-3 c = sym (L.spread-well (c .before .before .before .before .args .t1) (c .before .before .if1 .left) (L.some-end _ _ (c .before .loop .j) (c .before .loop .inv .0) (c .loop-test .left) (c .before .loop .inv .1)))
+returns-3 c =
+    sym (L.spread-well (c .before .before .before .before .args .t1) (c .before .before .if1 .left)
+    (L.some-end _ _ (c .before .loop .j) (c .before .loop .inv .0) (c .loop-test .left) (c .before .loop .inv .1)))
 
 pub bad-spread-spec : {M : Type 1} → statement M
 bad-spread-spec =

@@ -36,13 +36,31 @@ element-copy-out-total-2 : tie.Need-element-copy-out-total-2 Inv-loop μ-loop
 element-copy-out-total-2 c = search needs
 
 div-total : tie.Need-div-total Inv-loop μ-loop
-div-total c = c .before .before .before .before .pre .1 (c .before .before .before .loop .j) (c .before .before .loop-test .taken)
+div-total c =
+    let at-loop = c .before .before .before in
+    let start = at-loop .before in
+    start .pre .1 (at-loop .loop .j) (c .before .before .loop-test .taken)
 
 add-total : tie.Need-add-total Inv-loop μ-loop
-add-total c = omega (arith, c .before .before .before .before .pre .0 .length-wide (c .before .before .before .loop .j), div-le-self (getD (c .before .before .before .before .args .t1 .lengths) (c .before .before .before .loop .j) 0 - 1) (getD (c .before .before .before .before .args .t1 .tiling) (c .before .before .before .loop .j) 0))
+add-total c =
+    let at-loop = c .before .before .before in
+    let start = at-loop .before in
+    omega (
+      arith,
+      start .pre .0 .length-wide (at-loop .loop .j),
+      div-le-self (getD (start .args .t1 .lengths) (at-loop .loop .j) 0 - 1)
+          (getD (start .args .t1 .tiling) (at-loop .loop .j) 0),
+    )
 
 mul-total-3 : tie.Need-mul-total-3 Inv-loop μ-loop
-mul-total-3 c = omega (arith, L.tile-next (c .before .before .before .before .args .t1) (c .before .before .before .loop .j) (c .before .before .before .loop .total) (c .before .before .before .before .pre .0 .dimensions-most) (c .before .before .loop-test .taken) (c .before .before .before .before .pre .0 .length-wide) (c .before .before .before .before .pre .0 .long) (c .before .before .before .loop .inv .1))
+mul-total-3 c =
+    let at-loop = c .before .before .before in
+    let start = at-loop .before in
+    omega (
+      arith,
+      L.tile-next (start .args .t1) (at-loop .loop .j) (at-loop .loop .total) (start .pre .0 .dimensions-most)
+          (c .before .before .loop-test .taken) (start .pre .0 .length-wide) (start .pre .0 .long) (at-loop .loop .inv .1),
+    )
 
 add-j : tie.Need-add-j Inv-loop μ-loop
 add-j c = search needs

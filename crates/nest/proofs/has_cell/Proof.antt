@@ -34,7 +34,14 @@ span-requires : tie.Need-span-requires Inv-loop μ-loop
 span-requires c κs = (c .before .before .before .before .before .before .pre, c .row-place .ensures .narrow)
 
 returns-2 : tie.Need-returns-2 Inv-loop μ-loop
-returns-2 c = sym (S.rows-some _ (c .before .before .before .before .before .before .before .before .before .pre) (c .before .before .before .before .before .loop .q) _ _ _ (c .before .before .before .row-place .ensures) (c .before .before .span .ensures) (c .if2 .taken) (c .before .before .before .before .loop-test .taken) (c .before .before .before .before .before .before .row-count .ensures))
+returns-2 c =
+    let at-row-place = c .before .before .before in
+    let at-loop-test = at-row-place .before in
+    let at-loop = at-loop-test .before in
+    let at-row-count = at-loop .before in
+    let start = at-row-count .before .before .before in
+    sym (S.rows-some _ (start .pre) (at-loop .loop .q) _ _ _ (at-row-place .row-place .ensures) (c .before .before .span .ensures) (c .if2 .taken)
+    (at-loop-test .loop-test .taken) (at-row-count .row-count .ensures))
 
 add-q : tie.Need-add-q Inv-loop μ-loop
 add-q c = omega (arith, c .before .before .before .before .loop-test .taken)
@@ -43,10 +50,20 @@ loop-less : tie.Need-loop-less Inv-loop μ-loop
 loop-less c = omega (arith, c .before .before .before .before .loop-test .taken)
 
 loop-again : tie.Need-loop-again Inv-loop μ-loop
-loop-again c = (omega (arith, c .before .before .before .before .loop-test .taken), S.rows-none _ (c .before .before .before .before .before .before .before .before .before .pre) _ _ _ (c .before .before .before .row-place .ensures) (c .before .before .span .ensures) (c .if2 .left) (c .before .before .before .before .before .loop .inv .1))
+loop-again c =
+    let at-row-place = c .before .before .before in
+    let at-loop-test = at-row-place .before in
+    let at-loop = at-loop-test .before in
+    let start = at-loop .before .before .before .before in (
+      omega (arith, at-loop-test .loop-test .taken),
+      S.rows-none _ (start .pre) _ _ _ (at-row-place .row-place .ensures) (c .before .before .span .ensures)
+          (c .if2 .left) (at-loop .loop .inv .1),
+    )
 
 returns-3 : tie.Need-returns-3 Inv-loop μ-loop
-returns-3 c = sym (S.rows-end _ (c .before .before .before .before .before .pre) _ _ (c .before .loop .inv .0) (c .loop-test .left) (c .before .before .row-count .ensures) (c .before .loop .inv .1))
+returns-3 c =
+    sym (S.rows-end _ (c .before .before .before .before .before .pre) _ _ (c .before .loop .inv .0) (c .loop-test .left)
+    (c .before .before .row-count .ensures) (c .before .loop .inv .1))
 
 pub has-cell-spec : {M : Type 1} → statement M
 has-cell-spec =

@@ -32,19 +32,19 @@ div-mark c =
 
 add-mark : tie.Need-add-mark
 add-mark c =
-    let start = c .before .before .before .before .before .before .before .before .before .before in
+    let at-tile-at = c .before .before .before .before in
+    let at-if1 = at-tile-at .before in
+    let at-span = at-if1 .before .before in
+    let at-row-place = at-span .before in
+    let start = at-row-place .before .before in
     omega (
       arith,
-      S.row-room (start .args .nest) (start .pre .0 .0) (start .pre .0 .1) (start .args .q) _ _
-          (c .before .before .before .before .before .before .before .before .row-place .ensures)
-          (c .before .before .before .before .before .before .before .span .ensures)
-          (c .before .before .before .before .before .if1 .taken),
+      S.row-room (start .args .nest) (start .pre .0 .0) (start .pre .0 .1) (start .args .q) _ _ (at-row-place .row-place .ensures)
+          (at-span .span .ensures) (at-if1 .if1 .taken),
       S.row-start (start .args .nest) (start .pre .0 .0) (start .pre .0 .1) (start .args .q) _ _
-          (c .before .before .before .before .before .before .before .before .row-place .ensures)
-          (c .before .before .before .before .before .before .before .span .ensures)
-          (c .before .before .before .before .before .if1 .taken),
+          (at-row-place .row-place .ensures) (at-span .span .ensures) (at-if1 .if1 .taken),
       S.box-room (start .args .nest) (start .pre .0 .0) (start .pre .0 .1),
-      c .before .before .before .before .tile-at .ensures,
+      at-tile-at .tile-at .ensures,
     )
 
 sub-mark : tie.Need-sub-mark
@@ -57,48 +57,52 @@ div-mark-2 c =
 
 add-mark-2 : tie.Need-add-mark-2
 add-mark-2 c =
-    let start = c .before .before .before .before .before .before .before .before .before .before .before in
+    let at-tile-at = c .before .before .before .before .before in
+    let at-if1 = at-tile-at .before in
+    let at-span = at-if1 .before .before in
+    let at-row-place = at-span .before in
+    let start = at-row-place .before .before in
     omega (
       arith,
-      S.row-room (start .args .nest) (start .pre .0 .0) (start .pre .0 .1) (start .args .q) _ _
-          (c .before .before .before .before .before .before .before .before .before .row-place .ensures)
-          (c .before .before .before .before .before .before .before .before .span .ensures)
-          (c .before .before .before .before .before .before .if1 .taken),
+      S.row-room (start .args .nest) (start .pre .0 .0) (start .pre .0 .1) (start .args .q) _ _ (at-row-place .row-place .ensures)
+          (at-span .span .ensures) (at-if1 .if1 .taken),
       S.box-room (start .args .nest) (start .pre .0 .0) (start .pre .0 .1),
-      c .before .before .before .before .before .tile-at .ensures,
+      at-tile-at .tile-at .ensures,
     )
 
 add-mark-3 : tie.Need-add-mark-3
 add-mark-3 c =
-    let start = c .before .before .before .before .before .before .before .before .before .before .before in
+    let at-tile-at = c .before .before .before .before .before in
+    let at-if1 = at-tile-at .before in
+    let at-span = at-if1 .before .before in
+    let at-row-place = at-span .before in
+    let start = at-row-place .before .before in
     omega (
       arith,
-      S.row-room (start .args .nest) (start .pre .0 .0) (start .pre .0 .1) (start .args .q) _ _
-          (c .before .before .before .before .before .before .before .before .before .row-place .ensures)
-          (c .before .before .before .before .before .before .before .before .span .ensures)
-          (c .before .before .before .before .before .before .if1 .taken),
+      S.row-room (start .args .nest) (start .pre .0 .0) (start .pre .0 .1) (start .args .q) _ _ (at-row-place .row-place .ensures)
+          (at-span .span .ensures) (at-if1 .if1 .taken),
       S.box-room (start .args .nest) (start .pre .0 .0) (start .pre .0 .1),
-      c .before .before .before .before .before .tile-at .ensures,
+      at-tile-at .tile-at .ensures,
     )
 
 mark-requires : tie.Need-mark-requires
 mark-requires c κs =
-    let start = c .before .before .before .before .before .before .before .before .before .before .before in (
+    let at-tile-at = c .before .before .before .before .before in
+    let at-if1 = at-tile-at .before in
+    let at-span = at-if1 .before .before in
+    let at-row-place = at-span .before in
+    let start = at-row-place .before .before in (
       omega (
         arith,
-        S.row-start (start .args .nest) (start .pre .0 .0) (start .pre .0 .1) (start .args .q) _ _
-            (c .before .before .before .before .before .before .before .before .before .row-place .ensures)
-            (c .before .before .before .before .before .before .before .before .span .ensures)
-            (c .before .before .before .before .before .before .if1 .taken),
-        c .before .before .before .before .before .tile-at .ensures,
+        S.row-start (start .args .nest) (start .pre .0 .0) (start .pre .0 .1) (start .args .q) _ _ (at-row-place .row-place .ensures)
+            (at-span .span .ensures) (at-if1 .if1 .taken),
+        at-tile-at .tile-at .ensures,
       ),
       omega (
         arith,
-        S.row-room (start .args .nest) (start .pre .0 .0) (start .pre .0 .1) (start .args .q) _ _
-            (c .before .before .before .before .before .before .before .before .before .row-place .ensures)
-            (c .before .before .before .before .before .before .before .before .span .ensures)
-            (c .before .before .before .before .before .before .if1 .taken),
-        c .before .before .before .before .before .tile-at .ensures,
+        S.row-room (start .args .nest) (start .pre .0 .0) (start .pre .0 .1) (start .args .q) _ _ (at-row-place .row-place .ensures)
+            (at-span .span .ensures) (at-if1 .if1 .taken),
+        at-tile-at .tile-at .ensures,
         start .pre .1 .1,
       ),
     )
@@ -108,12 +112,13 @@ same-length c = search needs
 
 returns : tie.Need-returns
 returns c =
-    let start = c .before .before .before .before .before .before .before .before .before .before .before .before .before .before in
-    S.marked-row-by (start .args .nest) (start .pre .0 .0) (start .pre .0 .1) (start .args .q) _ _
-    (c .before .before .before .before .before .before .before .before .before .before .before .before .row-place .ensures)
-    (c .before .before .before .before .before .before .before .before .before .before .before .span .ensures) _ _ _
-    (c .before .before .before .before .before .before .before .before .tile-at .ensures)
-    (c .before .before .before .before .before .before .before .before .before .if1 .taken) (c .before .before .mark .ensures)
+    let at-tile-at = c .before .before .before .before .before .before .before .before in
+    let at-if1 = at-tile-at .before in
+    let at-span = at-if1 .before .before in
+    let at-row-place = at-span .before in
+    let start = at-row-place .before .before in
+    S.marked-row-by (start .args .nest) (start .pre .0 .0) (start .pre .0 .1) (start .args .q) _ _ (at-row-place .row-place .ensures)
+    (at-span .span .ensures) _ _ _ (at-tile-at .tile-at .ensures) (at-if1 .if1 .taken) (c .before .before .mark .ensures)
 
 returns-2 : tie.Need-returns-2
 returns-2 c =

@@ -26,7 +26,10 @@ shared-slice-read-if1 : tie.Need-shared-slice-read-if1 Inv-loop μ-loop
 shared-slice-read-if1 c = omega arith
 
 add-count : tie.Need-add-count Inv-loop μ-loop
-add-count c = omega (arith, keep-few (λ i. ltb 0 (getD (c .before .before .before .before .args .marks .now) i 0)) (c .before .before .before .loop .u), c .before .before .before .loop .inv .1)
+add-count c =
+    let at-loop = c .before .before .before in
+    let start = at-loop .before in
+    omega (arith, keep-few (λ i. ltb 0 (getD (start .args .marks .now) i 0)) (at-loop .loop .u), at-loop .loop .inv .1)
 
 add-u : tie.Need-add-u Inv-loop μ-loop
 add-u c = omega arith
@@ -35,7 +38,11 @@ loop-less : tie.Need-loop-less Inv-loop μ-loop
 loop-less c = omega arith
 
 loop-again : tie.Need-loop-again Inv-loop μ-loop
-loop-again c = (omega arith, ⊎-elim (λ w. w .1 ∙ L.kept-more _ _ _ (c .before .before .before .loop .inv .1) (lt-ltb 0 _ (w .0 .taken))) (λ w. w .1 ∙ L.kept-none _ _ _ (c .before .before .before .loop .inv .1) (le-ltb 0 _ (w .0 .left))) (c .if1 .came))
+loop-again c = (
+  omega arith,
+  ⊎-elim (λ w. w .1 ∙ L.kept-more _ _ _ (c .before .before .before .loop .inv .1) (lt-ltb 0 _ (w .0 .taken)))
+      (λ w. w .1 ∙ L.kept-none _ _ _ (c .before .before .before .loop .inv .1) (le-ltb 0 _ (w .0 .left))) (c .if1 .came),
+)
 
 returns : tie.Need-returns Inv-loop μ-loop
 returns c = L.kept-end _ _ (c .before .loop .u) _ (c .before .loop .inv .0) (c .loop-test .left) (c .before .loop .inv .1)

@@ -26,7 +26,9 @@ loop-holds : tie.Need-loop-holds Inv-loop μ-loop
 loop-holds c = C.cutting-start _ _
 
 cut-requires : tie.Need-cut-requires Inv-loop μ-loop
-cut-requires c κs = (c .before .before .before .before .pre .0, (c .loop-test .taken, c .before .before .before .before .pre .1))
+cut-requires c κs =
+    let start = c .before .before .before .before in
+    (start .pre .0, (c .loop-test .taken, start .pre .1))
 
 add-k : tie.Need-add-k Inv-loop μ-loop
 add-k c = omega (arith, c .before .loop-test .taken, c .before .before .before .before .before .pre .0 .bounds-most)

@@ -13,10 +13,28 @@ returns : tie.Need-returns
 returns c = sym (S.few-in-box (c .before .before .args .nest) _ (c .before .box-tiles .ensures) (c .if1 .taken))
 
 returns-2 : tie.Need-returns-2
-returns-2 c = sym (S.many-in-box (c .before .before .before .before .args .nest) (c .before .before .before .before .pre .0 .0 .long) (c .before .before .before .before .pre .0 .1) _ (c .before .before .before .box-tiles .ensures) (c .before .before .if1 .left) (c .if2 .taken))
+returns-2 c =
+    let at-box-tiles = c .before .before .before in
+    let start = at-box-tiles .before in
+    sym (S.many-in-box (start .args .nest) (start .pre .0 .0 .long) (start .pre .0 .1) _ (at-box-tiles .box-tiles .ensures) (c .before .before .if1 .left)
+    (c .if2 .taken))
 
 tile-total-requires : tie.Need-tile-total-requires
-tile-total-requires c κs = (c .before .before .before .before .pre .0, (c .before .before .before .box-tiles .ensures, omega (arith, c .before .before .before .box-tiles .ensures, box-few (c .before .before .before .before .args .nest) (c .before .before .before .before .pre .0 .0 .long) (c .before .before .before .before .pre .0 .1), c .before .before .before .before .pre .1)))
+tile-total-requires c κs =
+    let at-box-tiles = c .before .before .before in
+    let start = at-box-tiles .before in (
+      start .pre .0,
+      (
+        at-box-tiles .box-tiles .ensures,
+        omega (
+          arith,
+          at-box-tiles .box-tiles .ensures,
+          box-few (start .args .nest) (start .pre .0 .0 .long)
+              (start .pre .0 .1),
+          start .pre .1,
+        ),
+      ),
+    )
 
 returns-3 : tie.Need-returns-3
 returns-3 c = S.counted-tiles (c .before .before .before .before .before .args .nest) _ (c .tile-total .ensures)

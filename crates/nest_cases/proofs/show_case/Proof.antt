@@ -45,10 +45,24 @@ byte-index-requires-3 : tie.Need-byte-index-requires-3
 byte-index-requires-3 c κs = search needs
 
 mul-count : tie.Need-mul-count
-mul-count c = omega (arith, c .byte-index3 .ensures, c .before .shared-slice-known4 .given ((c .before .before .before .before .before .before .before .before .args .at + 1 + c .before .before .before .before .before .byte-index .result) + 1))
+mul-count c =
+    let at-byte-index = c .before .before .before .before .before in
+    let start = at-byte-index .before .before .before in
+    omega (arith, c .byte-index3 .ensures, c .before .shared-slice-known4 .given ((start .args .at + 1 + at-byte-index .byte-index .result) + 1))
 
 add-count : tie.Need-add-count
-add-count c = omega (arith, c .byte-index3 .ensures, c .before .before .byte-index2 .ensures, c .before .shared-slice-known4 .given (c .before .before .before .before .before .before .before .before .args .at + 1 + c .before .before .before .before .before .byte-index .result), c .before .shared-slice-known4 .given ((c .before .before .before .before .before .before .before .before .args .at + 1 + c .before .before .before .before .before .byte-index .result) + 1))
+add-count c =
+    let at-byte-index = c .before .before .before .before .before in
+    let start = at-byte-index .before .before .before in
+    omega (
+      arith,
+      c .byte-index3 .ensures,
+      c .before .before .byte-index2 .ensures,
+      c .before .shared-slice-known4 .given
+          (start .args .at + 1 + at-byte-index .byte-index .result),
+      c .before .shared-slice-known4 .given
+          ((start .args .at + 1 + at-byte-index .byte-index .result) + 1),
+    )
 
 sub-if2 : tie.Need-sub-if2
 sub-if2 c = search needs

@@ -38,14 +38,16 @@ back-requires c κs = search needs
 
 mul-first : tie.Need-mul-first Inv-loop μ-loop
 mul-first c =
+    let start = c .before .before .before .before .before in
     omega (
       arith,
-      tile-few _ (c .before .before .before .before .before .pre .0) (c .back .result) (c .before .before .loop .j)
+      tile-few _ (start .pre .0) (c .back .result) (c .before .before .loop .j)
           (omega (
             arith,
             c .back .ensures,
-            c .before .before .before .before .before .pre .1 (c .before .before .loop .j) (c .before .loop-test .taken),
-            count-most _ (c .before .before .before .before .before .pre .0) (c .before .before .loop .j) (c .before .loop-test .taken),
+            start .pre .1 (c .before .before .loop .j) (c .before .loop-test .taken),
+            count-most _ (start .pre .0)
+                (c .before .before .loop .j) (c .before .loop-test .taken),
           )),
     )
 
@@ -68,23 +70,26 @@ array-read-end-of-2 : tie.Need-array-read-end-of-2 Inv-loop μ-loop
 array-read-end-of-2 c = omega (arith, c .before .loop-test .taken, c .before .before .before .before .before .pre .0 .dimensions-most)
 
 end-of-requires : tie.Need-end-of-requires Inv-loop μ-loop
-end-of-requires c κs = (
-  omega (
-    arith,
-    c .before .before .before .before .before .pre .1 (c .before .before .loop .j) (c .before .loop-test .taken),
-    count-most _ (c .before .before .before .before .before .pre .0) (c .before .before .loop .j) (c .before .loop-test .taken),
-  ),
-  c .before .before .before .before .before .pre .0 .tile-most _,
-)
+end-of-requires c κs =
+    let start = c .before .before .before .before .before in (
+      omega (
+        arith,
+        start .pre .1 (c .before .before .loop .j) (c .before .loop-test .taken),
+        count-most _ (start .pre .0) (c .before .before .loop .j)
+            (c .before .loop-test .taken),
+      ),
+      start .pre .0 .tile-most _,
+    )
 
 sub-lengths : tie.Need-sub-lengths Inv-loop μ-loop
 sub-lengths c =
+    let at-loop = c .before .before .before in
+    let start = at-loop .before .before .before in
     omega (
       arith,
       c .end-of .ensures,
-      begin-end _ (c .before .before .before .before .before .before .pre .0) _ (c .before .back .result)
-          (c .before .before .before .loop .j) (c .before .before .loop-test .taken) (c .before .before .before .before .before .before .pre .1
-          (c .before .before .before .loop .j) (c .before .before .loop-test .taken)) (omega (arith, c .before .back .ensures)),
+      begin-end _ (start .pre .0) _ (c .before .back .result) (at-loop .loop .j) (c .before .before .loop-test .taken)
+          (start .pre .1 (at-loop .loop .j) (c .before .before .loop-test .taken)) (omega (arith, c .before .back .ensures)),
     )
 
 mul-lengths : tie.Need-mul-lengths Inv-loop μ-loop
@@ -100,12 +105,13 @@ loop-less : tie.Need-loop-less Inv-loop μ-loop
 loop-less c = omega (arith, c .before .before .loop-test .taken)
 
 loop-again : tie.Need-loop-again Inv-loop μ-loop
-loop-again c = (
-  filled-more _ _ _ _ _ (c .before .before .before .loop .inv .0) (c .before .before .loop-test .taken)
-      (c .before .before .before .before .before .before .pre .0 .dimensions-most) (rw (c .before .back .ensures)),
-  filled-more _ _ _ _ _ (c .before .before .before .loop .inv .1) (c .before .before .loop-test .taken)
-      (c .before .before .before .before .before .before .pre .0 .dimensions-most) (rw (c .before .back .ensures, c .end-of .ensures)),
-)
+loop-again c =
+    let at-loop = c .before .before .before in
+    let start = at-loop .before .before .before in (
+      filled-more _ _ _ _ _ (at-loop .loop .inv .0) (c .before .before .loop-test .taken) (start .pre .0 .dimensions-most) (rw (c .before .back .ensures)),
+      filled-more _ _ _ _ _ (at-loop .loop .inv .1) (c .before .before .loop-test .taken) (start .pre .0 .dimensions-most)
+          (rw (c .before .back .ensures, c .end-of .ensures)),
+    )
 
 returns : tie.Need-returns Inv-loop μ-loop
 returns c =

@@ -86,10 +86,12 @@ carry-requires c κs =
 
 returns : tie.Need-returns Inv-loop μ-loop
 returns c =
-    let S = c .before .before .before .before .before .before .before .before .before in
-    let loop = c .before .before .before .before .before .loop in
-    end-stops _ (S .pre .0 .0) (S .args .window) (S .args .at .now) _ _ (S .pre .0 .1 .1) (loop .j)
-    (c .before .before .before .before .loop-test .taken) (sym (c .before .carry .ensures) ∙ not-true _ (c .if1 .taken))
+    let at-loop-test = c .before .before .before .before in
+    let at-loop = at-loop-test .before in
+    let S = at-loop .before .before .before .before in
+    let loop = at-loop .loop in
+    end-stops _ (S .pre .0 .0) (S .args .window) (S .args .at .now) _ _ (S .pre .0 .1 .1) (loop .j) (at-loop-test .loop-test .taken)
+    (sym (c .before .carry .ensures) ∙ not-true _ (c .if1 .taken))
 
 add-j : tie.Need-add-j Inv-loop μ-loop
 add-j c =
@@ -102,8 +104,10 @@ loop-less c =
 
 loop-again : tie.Need-loop-again Inv-loop μ-loop
 loop-again c =
-    let loop = c .before .before .before .before .before .loop in
-    sofar-more _ _ _ (loop .inv) (c .before .before .before .before .loop-test .taken) (sym (c .before .carry .ensures) ∙ not-false _ (c .if1 .left))
+    let at-loop-test = c .before .before .before .before in
+    let at-loop = at-loop-test .before in
+    let loop = at-loop .loop in
+    sofar-more _ _ _ (loop .inv) (at-loop-test .loop-test .taken) (sym (c .before .carry .ensures) ∙ not-false _ (c .if1 .left))
 
 mul-d : tie.Need-mul-d Inv-loop μ-loop
 mul-d c =

@@ -7,16 +7,24 @@ use Rattle.parcels.proofs.idle.Statement.{statement}
 use Rattle.parcels.proofs.idle.Tie as tie
 
 outside-requires : tie.Need-outside-requires
-outside-requires c κs = (omega (arith, c .before .before .pre .0 .accepted .spread-low, c .before .before .pre .0 .accepted .dimensions-most), headed-to _ (c .before .before .pre .0 .accepted) _ _ _ _ (c .before .before .pre .1))
+outside-requires c κs = (
+  omega (arith, c .before .before .pre .0 .accepted .spread-low, c .before .before .pre .0 .accepted .dimensions-most),
+  headed-to _ (c .before .before .pre .0 .accepted) _ _ _ _ (c .before .before .pre .1),
+)
 
 returns : tie.Need-returns
-returns c = idle-outside _ (c .before .before .before .before .pre .0 .accepted) _ _ _ _ (c .before .before .before .before .pre .1) (c .before .before .before .before .args .sizes .across) (record { each = c .before .before .before .before .pre .0 .across }) (sym (c .before .outside .ensures) ∙ c .if1 .taken)
+returns c =
+    let start = c .before .before .before .before in
+    idle-outside _ (start .pre .0 .accepted) _ _ _ _ (start .pre .1) (start .args .sizes .across) (record { each = start .pre .0 .across })
+    (sym (c .before .outside .ensures) ∙ c .if1 .taken)
 
 leaves-requires : tie.Need-leaves-requires
 leaves-requires c κs = search needs
 
 returns-2 : tie.Need-returns-2
-returns-2 c = idle-counts _ (c .before .before .before .before .before .pre .0 .accepted) _ _ _ _ (c .before .before .before .before .before .pre .1) _ (c .leaves .ensures)
+returns-2 c =
+    let start = c .before .before .before .before .before in
+    idle-counts _ (start .pre .0 .accepted) _ _ _ _ (start .pre .1) _ (c .leaves .ensures)
 
 pub idle-spec : {M : Type 1} → statement M
 idle-spec = tie.close (tie.spec outside-requires returns leaves-requires returns-2)

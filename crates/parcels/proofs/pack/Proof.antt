@@ -19,55 +19,108 @@ abbrev μ-loop : tie.MeasureT-loop
 μ-loop nest slot words₀ memory sending components rows width lengths count₀ r₀ words count r = rows - r
 
 div-place-of-tile : tie.Need-div-place-of-tile Inv-loop μ-loop
-div-place-of-tile c = ways-some _ (c .before .before .before .pre .0 .accepted) (c .before .before .before .args .sizes .route) _ (c .before .before .before .pre .0 .ways)
+div-place-of-tile c =
+    ways-some _ (c .before .before .before .pre .0 .accepted) (c .before .before .before .args .sizes .route) _ (c .before .before .before .pre .0 .ways)
 
 place-of-tile-requires : tie.Need-place-of-tile-requires Inv-loop μ-loop
 place-of-tile-requires c κs = c .before .before .before .pre .0
 
 rem-along-of : tie.Need-rem-along-of Inv-loop μ-loop
-rem-along-of c = ways-some _ (c .before .before .before .before .before .pre .0 .accepted) (c .before .before .before .before .before .args .sizes .route) _ (c .before .before .before .before .before .pre .0 .ways)
+rem-along-of c =
+    let start = c .before .before .before .before .before in
+    ways-some _ (start .pre .0 .accepted) (start .args .sizes .route) _ (start .pre .0 .ways)
 
 along-of-requires : tie.Need-along-of-requires Inv-loop μ-loop
-along-of-requires c κs = (c .before .before .before .before .before .pre .0, way-low _ (c .before .before .before .before .before .pre .0 .accepted) (c .before .before .before .before .before .args .sizes .route) _ (c .before .before .before .before .before .pre .0 .ways) (c .before .before .before .before .before .args .slot))
+along-of-requires c κs =
+    let start = c .before .before .before .before .before in
+    (start .pre .0, way-low _ (start .pre .0 .accepted) (start .args .sizes .route) _ (start .pre .0 .ways) (start .args .slot))
 
 sending-of-requires : tie.Need-sending-of-requires Inv-loop μ-loop
-sending-of-requires c κs = (c .before .before .before .before .before .before .pre .0, headed (c .before .before .before .before .before .before .args .sizes .route) _ _ _ _ _ (c .before .before .before .before .before .before .pre .0 .ways) (c .before .before .before .before .before .before .pre .1 .0) (c .before .before .place-of-tile .ensures) (c .along-of .ensures))
+sending-of-requires c κs =
+    let start = c .before .before .before .before .before .before in (
+      start .pre .0,
+      headed (start .args .sizes .route) _ _ _ _ _ (start .pre .0 .ways) (start .pre .1 .0) (c .before .before .place-of-tile .ensures)
+          (c .along-of .ensures),
+    )
 
 loop-holds : tie.Need-loop-holds Inv-loop μ-loop
-loop-holds c = rw (zero-mul (c .before .before .sending-of .result .width)) (packed-none _ _ _ _ (words-found _ _ _ _ (c .before .before .sending-of .ensures) _ (c .before .before .before .before .before .before .before .before .before .pre .1 .1 .1)) (size-few _ (c .before .before .before .before .before .before .before .before .before .pre .0 .accepted) _ (c .before .before .sending-of .ensures .shape)))
+loop-holds c =
+    let start = c .before .before .before .before .before .before .before .before .before in
+    rw (zero-mul (c .before .before .sending-of .result .width)) (packed-none _ _ _ _ (words-found _ _ _ _ (c .before .before .sending-of .ensures) _
+    (start .pre .1 .1 .1)) (size-few _ (start .pre .0 .accepted) _ (c .before .before .sending-of .ensures .shape)))
 
 row-at-requires : tie.Need-row-at-requires Inv-loop μ-loop
-row-at-requires c κs = (c .before .before .before .before .before .before .before .before .before .before .before .before .pre .0 .accepted, (record { is = refl }, (c .before .before .before .before .before .sending-of .ensures .shape, c .before .loop-test .taken)))
+row-at-requires c κs =
+    let at-sending-of = c .before .before .before .before .before in
+    let start = at-sending-of .before .before .before .before .before .before .before in
+    (start .pre .0 .accepted, (record { is = refl }, (at-sending-of .sending-of .ensures .shape, c .before .loop-test .taken)))
 
 add-r : tie.Need-add-r Inv-loop μ-loop
-add-r c = omega (arith, c .before .before .before .row-at .ensures .room, rows-few _ (c .before .before .before .before .before .before .before .before .before .before .before .before .before .before .before .before .pre .0 .accepted) _ (c .before .before .before .before .before .before .before .before .before .sending-of .ensures .shape))
+add-r c =
+    let at-row-at = c .before .before .before in
+    let at-sending-of = at-row-at .before .before .before .before .before .before in
+    let start = at-sending-of .before .before .before .before .before .before .before in
+    omega (arith, at-row-at .row-at .ensures .room, rows-few _ (start .pre .0 .accepted) _ (at-sending-of .sending-of .ensures .shape))
 
 loop-less : tie.Need-loop-less Inv-loop μ-loop
-loop-less c = omega (arith, c .before .before .before .row-at .ensures .least, c .before .before .before .before .before .loop-test .taken)
+loop-less c =
+    let at-row-at = c .before .before .before in
+    let at-loop-test = at-row-at .before .before in
+    omega (arith, at-row-at .row-at .ensures .least, at-loop-test .loop-test .taken)
 
 loop-again : tie.Need-loop-again Inv-loop μ-loop
-loop-again c = packed-over _ _ _ _ (c .before .before .before .row-at .ensures) (c .before .if1 .taken) _ _ _ (c .before .before .before .before .before .before .loop .inv)
+loop-again c =
+    let at-row-at = c .before .before .before in
+    let at-loop = at-row-at .before .before .before in
+    packed-over _ _ _ _ (at-row-at .row-at .ensures) (c .before .if1 .taken) _ _ _ (at-loop .loop .inv)
 
 rank-requires : tie.Need-rank-requires Inv-loop μ-loop
-rank-requires c κs = row-ranked _ _ _ _ (c .before .before .before .before .row-at .ensures .place) (c .before .before .before .before .before .before .before .before .before .before .before .before .before .before .before .before .before .pre .0 .accepted) (c .before .before .before .before .before .before .before .before .before .before .sending-of .ensures .shape)
+rank-requires c κs =
+    let at-row-at = c .before .before .before .before in
+    let at-sending-of = at-row-at .before .before .before .before .before .before in
+    let start = at-sending-of .before .before .before .before .before .before .before in
+    row-ranked _ _ _ _ (at-row-at .row-at .ensures .place) (start .pre .0 .accepted) (at-sending-of .sending-of .ensures .shape)
 
 pack-row-requires : tie.Need-pack-row-requires Inv-loop μ-loop
-pack-row-requires c κs = packed-room _ _ _ _ _ _ _ (row-first _ _ _ _ (c .before .before .before .before .before .before .before .row-at .ensures) _ (c .before .before .rank .ensures)) _ _ _ (c .before .before .before .before .before .before .before .before .before .before .loop .inv) (c .before .before .before .before .before .before .before .before .before .before .before .before .before .before .before .before .before .before .before .before .pre .0 .accepted) (c .before .before .before .before .before .before .before .before .before .before .before .before .before .before .before .before .before .before .before .before .pre .1 .1 .0)
+pack-row-requires c κs =
+    let at-row-at = c .before .before .before .before .before .before .before in
+    let at-loop = at-row-at .before .before .before in
+    let start = at-loop .before .before .before .before .before .before .before .before .before .before in
+    packed-room _ _ _ _ _ _ _ (row-first _ _ _ _ (at-row-at .row-at .ensures) _ (c .before .before .rank .ensures)) _ _ _ (at-loop .loop .inv)
+    (start .pre .0 .accepted) (start .pre .1 .1 .0)
 
 add-r-2 : tie.Need-add-r-2 Inv-loop μ-loop
-add-r-2 c = omega (arith, c .before .before .before .before .before .before .before .before .before .before .before .before .loop-test .taken, rows-few _ (c .before .before .before .before .before .before .before .before .before .before .before .before .before .before .before .before .before .before .before .before .before .before .before .pre .0 .accepted) _ (c .before .before .before .before .before .before .before .before .before .before .before .before .before .before .before .before .sending-of .ensures .shape))
+add-r-2 c =
+    let at-loop-test = c .before .before .before .before .before .before .before .before .before .before .before .before in
+    let at-sending-of = at-loop-test .before .before .before .before in
+    let start = at-sending-of .before .before .before .before .before .before .before in
+    omega (arith, at-loop-test .loop-test .taken, rows-few _ (start .pre .0 .accepted) _ (at-sending-of .sending-of .ensures .shape))
 
 loop-less-2 : tie.Need-loop-less-2 Inv-loop μ-loop
-loop-less-2 c = omega (arith, c .before .before .before .before .before .before .before .before .before .before .before .before .loop-test .taken)
+loop-less-2 c =
+    let at-loop-test = c .before .before .before .before .before .before .before .before .before .before .before .before in
+    omega (arith, at-loop-test .loop-test .taken)
 
 loop-again-2 : tie.Need-loop-again-2 Inv-loop μ-loop
-loop-again-2 c = packed-next _ _ _ _ (c .before .before .before .before .before .before .before .before .before .before .row-at .ensures) _ (row-first _ _ _ _ (c .before .before .before .before .before .before .before .before .before .before .row-at .ensures) _ (c .before .before .before .before .before .rank .ensures)) _ _ _ _ _ (c .before .before .before .before .before .before .before .before .before .before .before .before .before .loop .inv) (c .before .before .pack-row .ensures)
+loop-again-2 c =
+    let at-rank = c .before .before .before .before .before in
+    let at-row-at = at-rank .before .before .before .before .before in
+    let at-loop = at-row-at .before .before .before in
+    packed-next _ _ _ _ (at-row-at .row-at .ensures) _ (row-first _ _ _ _ (at-row-at .row-at .ensures) _ (at-rank .rank .ensures)) _ _ _ _ _
+    (at-loop .loop .inv) (c .before .before .pack-row .ensures)
 
 same-length : tie.Need-same-length Inv-loop μ-loop
-same-length c = c .before .loop .inv .long ∙ sym (words-found _ _ _ _ (c .before .before .before .before .sending-of .ensures) _ (c .before .before .before .before .before .before .before .before .before .before .before .pre .1 .1 .1))
+same-length c =
+    let at-sending-of = c .before .before .before .before in
+    let start = at-sending-of .before .before .before .before .before .before .before in
+    c .before .loop .inv .long ∙ sym (words-found _ _ _ _ (at-sending-of .sending-of .ensures) _ (start .pre .1 .1 .1))
 
 returns : tie.Need-returns Inv-loop μ-loop
-returns c = packed-end _ _ _ _ _ _ (c .before .loop .inv) (mul-le-mul-right (c .before .before .before .before .sending-of .result .width) (c .loop-test .left)) ∙ ap (pack (c .before .before .before .before .before .before .before .before .before .before .before .args .memory .now)) (sym (full-found _ _ _ _ (c .before .before .before .before .sending-of .ensures) _ (c .before .before .before .before .before .before .before .before .before .before .before .pre .1 .1 .1)))
+returns c =
+    let at-sending-of = c .before .before .before .before in
+    let start = at-sending-of .before .before .before .before .before .before .before in
+    packed-end _ _ _ _ _ _ (c .before .loop .inv) (mul-le-mul-right (at-sending-of .sending-of .result .width) (c .loop-test .left))
+    ∙ ap (pack (start .args .memory .now)) (sym (full-found _ _ _ _ (at-sending-of .sending-of .ensures) _ (start .pre .1 .1 .1)))
 
 pub pack-spec : {M : Type 1} → statement M
 pack-spec =

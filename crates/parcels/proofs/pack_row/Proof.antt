@@ -13,20 +13,30 @@ use Rattle.parcels.proofs.pack_row.Statement.{statement}
 use Rattle.parcels.proofs.pack_row.Tie as tie
 
 abbrev Inv-distances : tie.InvT-distances
-Inv-distances words₀ memory ends distances from component width packed count₀ y₀ number last e₀ words count y e = Searching (λ d. ltb last (getD ends d 0)) distances words₀ count₀ y₀ words count y e
+Inv-distances words₀ memory ends distances from component width packed count₀ y₀ number last e₀ words count y e =
+    Searching (λ d. ltb last (getD ends d 0)) distances words₀ count₀ y₀ words count y e
 
 abbrev μ-distances : tie.MeasureT-distances
 μ-distances words₀ memory ends distances from component width packed count₀ y₀ number last e₀ words count y e = distances - e
 
 abbrev Inv-cells : tie.InvT-cells
-Inv-cells words₀ memory ends distances from component width packed count₀ y₀ words count y = Packing ends distances from component width memory words₀ packed words count y
+Inv-cells words₀ memory ends distances from component width packed count₀ y₀ words count y =
+    Packing ends distances from component width memory words₀ packed words count y
 
 abbrev μ-cells : tie.MeasureT-cells
 μ-cells words₀ memory ends distances from component width packed count₀ y₀ words count y = width - y
 
 -- a word that is to be packed has room
-room : (c : tie.After-shared-slice-known Inv-distances μ-distances Inv-cells μ-cells) → (c .before .before .before .before .distances .count < length (c .before .before .before .before .distances .words)) × (c .before .before .before .before .distances .count < 16384)
-room c = packing-room _ _ _ _ _ _ _ _ (c .before .before .before .before .before .before .before .pre) _ _ _ (c .before .before .before .before .before .before .cells .inv) (c .before .before .before .before .before .cells-test .taken) _ _ _ _ (c .before .before .before .before .distances .inv) (c .before .before .before .distances-test .taken) (c .before .if1 .taken)
+room : (c : tie.After-shared-slice-known Inv-distances μ-distances Inv-cells μ-cells) → (c .before .before .before .before .distances .count < length
+    (c .before .before .before .before .distances .words)) × (c .before .before .before .before .distances .count < 16384)
+room c =
+    let at-distances-test = c .before .before .before in
+    let at-distances = at-distances-test .before in
+    let at-cells-test = at-distances .before in
+    let at-cells = at-cells-test .before in
+    let start = at-cells .before in
+    packing-room _ _ _ _ _ _ _ _ (start .pre) _ _ _ (at-cells .cells .inv) (at-cells-test .cells-test .taken) _ _ _ _ (at-distances .distances .inv)
+    (at-distances-test .distances-test .taken) (c .before .if1 .taken)
 
 cells-holds : tie.Need-cells-holds Inv-distances μ-distances Inv-cells μ-cells
 cells-holds c = packing-none _ _ _ _ _ _ _ _
@@ -47,11 +57,17 @@ element-copy-out-if1 : tie.Need-element-copy-out-if1 Inv-distances μ-distances 
 element-copy-out-if1 c = omega (arith, c .distances-test .taken, c .before .before .before .before .pre .few)
 
 mul-words : tie.Need-mul-words Inv-distances μ-distances Inv-cells μ-cells
-mul-words c = omega (arith, c .before .before .before .before .cells-test .taken, c .before .before .before .before .before .before .pre .low, c .before .before .before .before .before .before .pre .short)
+mul-words c =
+    let at-cells-test = c .before .before .before .before in
+    let start = at-cells-test .before .before in
+    omega (arith, at-cells-test .cells-test .taken, start .pre .low, start .pre .short)
 
 shared-slice-read-words :
     tie.Need-shared-slice-read-words Inv-distances μ-distances Inv-cells μ-cells
-shared-slice-read-words c = omega (arith, c .before .before .before .before .before .cells-test .taken, c .before .before .before .before .before .before .before .pre .low)
+shared-slice-read-words c =
+    let at-cells-test = c .before .before .before .before .before in
+    let start = at-cells-test .before .before in
+    omega (arith, at-cells-test .cells-test .taken, start .pre .low)
 
 mul-words-2 : tie.Need-mul-words-2 Inv-distances μ-distances Inv-cells μ-cells
 mul-words-2 c = omega (arith, room c .1)
@@ -63,13 +79,27 @@ add-count : tie.Need-add-count Inv-distances μ-distances Inv-cells μ-cells
 add-count c = omega (arith, room c .1)
 
 add-y : tie.Need-add-y Inv-distances μ-distances Inv-cells μ-cells
-add-y c = omega (arith, c .before .before .before .before .distances .inv .same-y, c .before .before .before .before .before .cells-test .taken, c .before .before .before .before .before .before .before .pre .small)
+add-y c =
+    let at-distances = c .before .before .before .before in
+    let at-cells-test = at-distances .before in
+    let start = at-cells-test .before .before in
+    omega (arith, at-distances .distances .inv .same-y, at-cells-test .cells-test .taken, start .pre .small)
 
 cells-less : tie.Need-cells-less Inv-distances μ-distances Inv-cells μ-cells
-cells-less c = omega (arith, c .before .before .before .before .distances .inv .same-y, c .before .before .before .before .before .cells-test .taken)
+cells-less c =
+    let at-distances = c .before .before .before .before in
+    let at-cells-test = at-distances .before in
+    omega (arith, at-distances .distances .inv .same-y, at-cells-test .cells-test .taken)
 
 cells-again : tie.Need-cells-again Inv-distances μ-distances Inv-cells μ-cells
-cells-again c = packing-hit _ _ _ _ _ _ _ _ (c .before .before .before .before .before .before .before .pre) _ _ _ (c .before .before .before .before .before .before .cells .inv) (c .before .before .before .before .before .cells-test .taken) _ _ _ _ (c .before .before .before .before .distances .inv) (c .before .before .before .distances-test .taken) (c .before .if1 .taken)
+cells-again c =
+    let at-distances-test = c .before .before .before in
+    let at-distances = at-distances-test .before in
+    let at-cells-test = at-distances .before in
+    let at-cells = at-cells-test .before in
+    let start = at-cells .before in
+    packing-hit _ _ _ _ _ _ _ _ (start .pre) _ _ _ (at-cells .cells .inv) (at-cells-test .cells-test .taken) _ _ _ _ (at-distances .distances .inv)
+    (at-distances-test .distances-test .taken) (c .before .if1 .taken)
 
 add-e : tie.Need-add-e Inv-distances μ-distances Inv-cells μ-cells
 add-e c = omega (arith, c .before .before .distances-test .taken, c .before .before .before .before .before .before .pre .few)
@@ -78,13 +108,31 @@ distances-less : tie.Need-distances-less Inv-distances μ-distances Inv-cells μ
 distances-less c = search needs
 
 distances-again : tie.Need-distances-again Inv-distances μ-distances Inv-cells μ-cells
-distances-again c = record { same-words = c .before .before .before .distances .inv .same-words; same-count = c .before .before .before .distances .inv .same-count; same-y = c .before .before .before .distances .inv .same-y; low = omega (arith, c .before .before .distances-test .taken); none = nowhere-more _ _ _ (record { low = c .before .before .before .distances .inv .low; none = c .before .before .before .distances .inv .none }) (c .before .before .distances-test .taken) (le-ltb _ _ (c .if1 .left)) .none }
+distances-again c =
+    record {
+      same-words = c .before .before .before .distances .inv .same-words;
+      same-count = c .before .before .before .distances .inv .same-count;
+      same-y =
+          c .before .before .before .distances .inv .same-y;
+      low = omega (arith, c .before .before .distances-test .taken);
+      none = nowhere-more _ _ _
+          (record { low = c .before .before .before .distances .inv .low; none = c .before .before .before .distances .inv .none })
+          (c .before .before .distances-test .taken) (le-ltb _ _ (c .if1 .left)) .none;
+    }
 
 same-length : tie.Need-same-length Inv-distances μ-distances Inv-cells μ-cells
-same-length c = packing-long _ _ _ _ _ _ _ _ (c .before .before .before .before .pre) _ _ _ (omega arith) (packing-left _ _ _ _ _ _ _ _ (c .before .before .before .before .pre) _ _ _ (c .before .before .before .cells .inv) (c .before .before .cells-test .taken) _ _ _ _ (c .before .distances .inv) (c .distances-test .left))
+same-length c =
+    let at-cells = c .before .before .before in
+    let start = at-cells .before in
+    packing-long _ _ _ _ _ _ _ _ (start .pre) _ _ _ (omega arith) (packing-left _ _ _ _ _ _ _ _ (start .pre) _ _ _ (at-cells .cells .inv)
+    (c .before .before .cells-test .taken) _ _ _ _ (c .before .distances .inv) (c .distances-test .left))
 
 returns : tie.Need-returns Inv-distances μ-distances Inv-cells μ-cells
-returns c = packing-left _ _ _ _ _ _ _ _ (c .before .before .before .before .pre) _ _ _ (c .before .before .before .cells .inv) (c .before .before .cells-test .taken) _ _ _ _ (c .before .distances .inv) (c .distances-test .left)
+returns c =
+    let at-cells = c .before .before .before in
+    let start = at-cells .before in
+    packing-left _ _ _ _ _ _ _ _ (start .pre) _ _ _ (at-cells .cells .inv) (c .before .before .cells-test .taken) _ _ _ _ (c .before .distances .inv)
+    (c .distances-test .left)
 
 same-length-2 : tie.Need-same-length-2 Inv-distances μ-distances Inv-cells μ-cells
 same-length-2 c = packing-long _ _ _ _ _ _ _ _ (c .before .before .pre) _ _ _ (c .before .cells .inv .low) (c .before .cells .inv .first)

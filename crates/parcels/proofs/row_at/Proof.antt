@@ -38,9 +38,11 @@ rows-alike-requires c κs =
 
 returns : tie.Need-returns
 returns c =
-    let S = c .before .before .before .before .before .before .before .before .before .before .before .before in
-    row-found _ (S .pre .0) _ (S .pre .1 .1 .0) _ (S .pre .1 .1 .1) _ (c .before .before .before .before .before .add-place .ensures .1) _
-    (c .rows-alike .ensures) _ (c .before .before .before .ends-of .ensures) _ (c .before .run-of .ensures)
+    let at-ends-of = c .before .before .before in
+    let at-add-place = at-ends-of .before .before in
+    let S = at-add-place .before .before .before .before .before .before .before in
+    row-found _ (S .pre .0) _ (S .pre .1 .1 .0) _ (S .pre .1 .1 .1) _ (at-add-place .add-place .ensures .1) _ (c .rows-alike .ensures) _
+    (at-ends-of .ends-of .ensures) _ (c .before .run-of .ensures)
 
 pub row-at-spec : {M : Type 1} → statement M
 row-at-spec =

@@ -45,10 +45,14 @@ element-copy-out-rows : tie.Need-element-copy-out-rows Inv-loop μ-loop
 element-copy-out-rows c = omega (arith, c .before .before .before .pre .0 .dimensions-most, c .before .before .before .pre .0 .dimensions-least)
 
 mul-rows-2 : tie.Need-mul-rows-2 Inv-loop μ-loop
-mul-rows-2 c = omega (arith, c .before .before .before .before .pre .0 .dimensions-most, c .before .before .before .before .pre .0 .dimensions-least)
+mul-rows-2 c =
+    let start = c .before .before .before .before in
+    omega (arith, start .pre .0 .dimensions-most, start .pre .0 .dimensions-least)
 
 element-copy-out-rows-2 : tie.Need-element-copy-out-rows-2 Inv-loop μ-loop
-element-copy-out-rows-2 c = omega (arith, c .before .before .before .before .pre .0 .dimensions-most, c .before .before .before .before .pre .0 .dimensions-least)
+element-copy-out-rows-2 c =
+    let start = c .before .before .before .before in
+    omega (arith, start .pre .0 .dimensions-most, start .pre .0 .dimensions-least)
 
 add-rows : tie.Need-add-rows Inv-loop μ-loop
 add-rows c = omega (arith, c .before .before .before .before .before .pre .1 .1 .most)
@@ -60,19 +64,34 @@ loop-holds : tie.Need-loop-holds Inv-loop μ-loop
 loop-holds c = steady-none _ _ _ _ _ _ _ (omega (arith, c .before .before .before .before .before .pre .1 .1 .low))
 
 mul-unchanged : tie.Need-mul-unchanged Inv-loop μ-loop
-mul-unchanged c = omega (arith, c .loop-test .taken, c .before .before .before .before .before .before .before .pre .0 .distances-most, c .before .before .before .before .before .before .before .pre .0 .dimensions-most, c .before .before .before .before .before .before .before .pre .0 .dimensions-least)
+mul-unchanged c =
+    let start = c .before .before .before .before .before .before .before in
+    omega (arith, c .loop-test .taken, start .pre .0 .distances-most, start .pre .0 .dimensions-most, start .pre .0 .dimensions-least)
 
 add-unchanged : tie.Need-add-unchanged Inv-loop μ-loop
-add-unchanged c = omega (arith, c .loop-test .taken, c .before .before .before .before .before .before .before .pre .0 .distances-most, c .before .before .before .before .before .before .before .pre .0 .dimensions-most, c .before .before .before .before .before .before .before .pre .0 .dimensions-least)
+add-unchanged c =
+    let start = c .before .before .before .before .before .before .before in
+    omega (arith, c .loop-test .taken, start .pre .0 .distances-most, start .pre .0 .dimensions-most, start .pre .0 .dimensions-least)
 
 mul-unchanged-2 : tie.Need-mul-unchanged-2 Inv-loop μ-loop
-mul-unchanged-2 c = omega (arith, c .loop-test .taken, c .before .before .before .before .before .before .before .pre .0 .distances-most, c .before .before .before .before .before .before .before .pre .0 .dimensions-most, c .before .before .before .before .before .before .before .pre .0 .dimensions-least)
+mul-unchanged-2 c =
+    let start = c .before .before .before .before .before .before .before in
+    omega (arith, c .loop-test .taken, start .pre .0 .distances-most, start .pre .0 .dimensions-most, start .pre .0 .dimensions-least)
 
 element-copy-out-unchanged : tie.Need-element-copy-out-unchanged Inv-loop μ-loop
-element-copy-out-unchanged c = omega (arith, c .loop-test .taken, c .before .before .before .before .before .before .before .pre .0 .distances-most, c .before .before .before .before .before .before .before .pre .0 .dimensions-most, c .before .before .before .before .before .before .before .pre .0 .dimensions-least)
+element-copy-out-unchanged c =
+    let start = c .before .before .before .before .before .before .before in
+    omega (arith, c .loop-test .taken, start .pre .0 .distances-most, start .pre .0 .dimensions-most, start .pre .0 .dimensions-least)
 
 add-unchanged-2 : tie.Need-add-unchanged-2 Inv-loop μ-loop
-add-unchanged-2 c = omega (arith, given-few _ (c .before .before .before .before .before .before .before .before .pre .0) _ (c .before .before .before .before .before .before .before .before .pre .1 .0) (c .before .before .loop .e) (c .before .before .before .before .before .before .before .before .args .nest .dimensions - 1 - 1), c .before .before .before .before .before .before .before .before .pre .1 .1 .low, c .before .before .before .before .before .before .before .before .pre .1 .1 .most)
+add-unchanged-2 c =
+    let start = c .before .before .before .before .before .before .before .before in
+    omega (
+      arith,
+      given-few _ (start .pre .0) _ (start .pre .1 .0) (c .before .before .loop .e) (start .args .nest .dimensions - 1 - 1),
+      start .pre .1 .1 .low,
+      start .pre .1 .1 .most,
+    )
 
 unchanged-requires : tie.Need-unchanged-requires Inv-loop μ-loop
 unchanged-requires c κs = search needs
@@ -81,16 +100,25 @@ least-requires : tie.Need-least-requires Inv-loop μ-loop
 least-requires c κs = search needs
 
 add-e : tie.Need-add-e Inv-loop μ-loop
-add-e c = omega (arith, c .before .before .before .loop-test .taken, c .before .before .before .before .before .before .before .before .before .before .pre .0 .distances-most, c .before .before .before .before .before .before .before .before .before .before .pre .0 .dimensions-most, c .before .before .before .before .before .before .before .before .before .before .pre .0 .dimensions-least)
+add-e c =
+    let at-loop-test = c .before .before .before in
+    let start = at-loop-test .before .before .before .before .before .before .before in
+    omega (arith, at-loop-test .loop-test .taken, start .pre .0 .distances-most, start .pre .0 .dimensions-most, start .pre .0 .dimensions-least)
 
 loop-less : tie.Need-loop-less Inv-loop μ-loop
 loop-less c = omega (arith, c .before .before .before .loop-test .taken)
 
 loop-again : tie.Need-loop-again Inv-loop μ-loop
-loop-again c = steady-more _ _ _ _ _ _ _ _ _ _ _ (c .before .before .before .before .loop .inv) (c .before .before .before .loop-test .taken) (c .before .unchanged .ensures) (c .least .ensures)
+loop-again c =
+    let at-loop-test = c .before .before .before in
+    let at-loop = at-loop-test .before in
+    steady-more _ _ _ _ _ _ _ _ _ _ _ (at-loop .loop .inv) (at-loop-test .loop-test .taken) (c .before .unchanged .ensures) (c .least .ensures)
 
 returns : tie.Need-returns Inv-loop μ-loop
-returns c = steady-end _ _ _ _ _ _ _ _ _ (c .before .loop .inv) (c .loop-test .left) _ _ _ _ (c .before .before .before .before .before .before .before .pre .1 .0) refl refl refl refl refl (omega (arith, c .before .before .before .before .before .before .before .pre .1 .1 .low))
+returns c =
+    let start = c .before .before .before .before .before .before .before in
+    steady-end _ _ _ _ _ _ _ _ _ (c .before .loop .inv) (c .loop-test .left) _ _ _ _ (start .pre .1 .0) refl refl refl refl refl
+    (omega (arith, start .pre .1 .1 .low))
 
 pub rows-alike-spec : {M : Type 1} → statement M
 rows-alike-spec =

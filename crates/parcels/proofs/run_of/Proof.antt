@@ -35,7 +35,9 @@ loop-less : tie.Need-loop-less Inv-loop μ-loop
 loop-less c = omega (arith, c .before .before .loop-test .taken)
 
 loop-again : tie.Need-loop-again Inv-loop μ-loop
-loop-again c = ⊎-elim (λ p. highest-turn _ _ _ _ _ (c .before .before .before .loop .inv) (c .before .before .loop-test .taken) _ (inl (p .0 .taken, p .2))) (λ p. highest-turn _ _ _ _ _ (c .before .before .before .loop .inv) (c .before .before .loop-test .taken) _ (inr (p .0 .left, p .1))) (c .if1 .came)
+loop-again c =
+    ⊎-elim (λ p. highest-turn _ _ _ _ _ (c .before .before .before .loop .inv) (c .before .before .loop-test .taken) _ (inl (p .0 .taken, p .2)))
+    (λ p. highest-turn _ _ _ _ _ (c .before .before .before .loop .inv) (c .before .before .loop-test .taken) _ (inr (p .0 .left, p .1))) (c .if1 .came)
 
 sub-least : tie.Need-sub-least Inv-loop μ-loop
 sub-least c = omega (arith, c .before .loop .inv .most)

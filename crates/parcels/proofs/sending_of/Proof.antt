@@ -18,16 +18,29 @@ block-of-requires : tie.Need-block-of-requires
 block-of-requires c κs = (c .before .before .pre .0 .accepted, headed-at _ (c .before .before .pre .0 .accepted) _ _ _ _ (c .before .before .pre .1))
 
 later-of-requires : tie.Need-later-of-requires
-later-of-requires c κs = omega (arith, way-low _ (c .before .before .before .before .pre .0 .accepted) (c .before .before .before .before .args .sizes .route) _ (c .before .before .before .before .pre .0 .ways) (c .before .before .before .before .args .slot), ways-few _ (c .before .before .before .before .pre .0 .accepted) (c .before .before .before .before .args .sizes .route))
+later-of-requires c κs =
+    let start = c .before .before .before .before in
+    omega (
+      arith,
+      way-low _ (start .pre .0 .accepted) (start .args .sizes .route) _ (start .pre .0 .ways) (start .args .slot),
+      ways-few _ (start .pre .0 .accepted) (start .args .sizes .route),
+    )
 
 window-of-requires : tie.Need-window-of-requires
-window-of-requires c κs = (c .before .before .before .before .before .pre .0 .accepted, (refl, headed-to _ (c .before .before .before .before .before .pre .0 .accepted) _ _ _ _ (c .before .before .before .before .before .pre .1)))
+window-of-requires c κs =
+    let start = c .before .before .before .before .before in
+    (start .pre .0 .accepted, (refl, headed-to _ (start .pre .0 .accepted) _ _ _ _ (start .pre .1)))
 
 sub-last : tie.Need-sub-last
 sub-last c = search needs
 
 product-requires : tie.Need-product-requires
-product-requires c κs = fewer _ (c .before .before .before .before .before .before .before .before .pre .0 .accepted) _ (boxed-countable _ (c .before .before .before .before .before .before .before .before .pre .0 .accepted) _ _ _ _ (c .before .before .before .before .before .before .before .before .pre .1) _ (c .before .before .before .before .before .before .before .before .pre .0 .ways) _ _ (c .before .before .before .before .before .before .earlier-of .ensures) (c .before .before .before .before .before .block-of .ensures))
+product-requires c κs =
+    let at-block-of = c .before .before .before .before .before in
+    let at-earlier-of = at-block-of .before in
+    let start = at-earlier-of .before .before in
+    fewer _ (start .pre .0 .accepted) _ (boxed-countable _ (start .pre .0 .accepted) _ _ _ _ (start .pre .1) _ (start .pre .0 .ways) _ _
+    (at-earlier-of .earlier-of .ensures) (at-block-of .block-of .ensures))
 
 mul-t14 : tie.Need-mul-t14
 mul-t14 c = search needs
@@ -36,7 +49,14 @@ array-read-t18 : tie.Need-array-read-t18
 array-read-t18 c = search needs
 
 returns : tie.Need-returns
-returns c = sends-of _ (c .before .before .before .before .before .before .before .before .before .pre .0 .accepted) _ _ _ _ (c .before .before .before .before .before .before .before .before .before .pre .1) _ (c .before .before .before .before .before .before .before .before .before .pre .0 .ways) _ _ _ (c .before .before .before .before .before .before .before .earlier-of .ensures) (c .before .before .before .before .later-of .ensures) (c .before .before .before .before .before .before .block-of .ensures) (c .before .before .before .window-of .ensures) (c .product .ensures) refl
+returns c =
+    let at-window-of = c .before .before .before in
+    let at-later-of = at-window-of .before in
+    let at-block-of = at-later-of .before .before in
+    let at-earlier-of = at-block-of .before in
+    let start = at-earlier-of .before .before in
+    sends-of _ (start .pre .0 .accepted) _ _ _ _ (start .pre .1) _ (start .pre .0 .ways) _ _ _ (at-earlier-of .earlier-of .ensures)
+    (at-later-of .later-of .ensures) (at-block-of .block-of .ensures) (at-window-of .window-of .ensures) (c .product .ensures) refl
 
 pub sending-of-spec : {M : Type 1} → statement M
 sending-of-spec =

@@ -16,64 +16,152 @@ use Rattle.parcels.proofs.unpack.Statement.{statement}
 use Rattle.parcels.proofs.unpack.Tie as tie
 
 abbrev Inv-loop : tie.InvT-loop
-Inv-loop nest slot memory₀ words sending components rows lengths count₀ r₀ memory count r = Unpacking nest sending memory₀ words memory count (r * sending .width)
+Inv-loop nest slot memory₀ words sending components rows lengths count₀ r₀ memory count r =
+    Unpacking nest sending memory₀ words memory count (r * sending .width)
 
 abbrev μ-loop : tie.MeasureT-loop
 μ-loop nest slot memory₀ words sending components rows lengths count₀ r₀ memory count r = rows - r
 
 div-place-of-tile : tie.Need-div-place-of-tile Inv-loop μ-loop
-div-place-of-tile c = ways-some _ (c .before .before .before .pre .0 .accepted) (c .before .before .before .args .sizes .route) _ (c .before .before .before .pre .0 .ways)
+div-place-of-tile c =
+    ways-some _ (c .before .before .before .pre .0 .accepted) (c .before .before .before .args .sizes .route) _ (c .before .before .before .pre .0 .ways)
 
 place-of-tile-requires : tie.Need-place-of-tile-requires Inv-loop μ-loop
 place-of-tile-requires c κs = c .before .before .before .pre .0
 
 rem-along-of : tie.Need-rem-along-of Inv-loop μ-loop
-rem-along-of c = ways-some _ (c .before .before .before .before .before .pre .0 .accepted) (c .before .before .before .before .before .args .sizes .route) _ (c .before .before .before .before .before .pre .0 .ways)
+rem-along-of c =
+    let start = c .before .before .before .before .before in
+    ways-some _ (start .pre .0 .accepted) (start .args .sizes .route) _ (start .pre .0 .ways)
 
 along-of-requires : tie.Need-along-of-requires Inv-loop μ-loop
-along-of-requires c κs = (c .before .before .before .before .before .pre .0, way-low _ (c .before .before .before .before .before .pre .0 .accepted) (c .before .before .before .before .before .args .sizes .route) _ (c .before .before .before .before .before .pre .0 .ways) (c .before .before .before .before .before .args .slot))
+along-of-requires c κs =
+    let start = c .before .before .before .before .before in
+    (start .pre .0, way-low _ (start .pre .0 .accepted) (start .args .sizes .route) _ (start .pre .0 .ways) (start .args .slot))
 
 sending-of-requires : tie.Need-sending-of-requires Inv-loop μ-loop
-sending-of-requires c κs = (c .before .before .before .before .before .before .pre .0, headed (c .before .before .before .before .before .before .args .sizes .route) _ _ _ _ _ (c .before .before .before .before .before .before .pre .0 .ways) (c .before .before .before .before .before .before .pre .1 .0) (c .before .before .place-of-tile .ensures) (c .along-of .ensures))
+sending-of-requires c κs =
+    let start = c .before .before .before .before .before .before in (
+      start .pre .0,
+      headed (start .args .sizes .route) _ _ _ _ _ (start .pre .0 .ways) (start .pre .1 .0) (c .before .before .place-of-tile .ensures)
+          (c .along-of .ensures),
+    )
 
 loop-holds : tie.Need-loop-holds Inv-loop μ-loop
 loop-holds c = rw (zero-mul (c .before .before .sending-of .result .width)) (unpacking-none _ _ _ _)
 
 row-at-requires : tie.Need-row-at-requires Inv-loop μ-loop
-row-at-requires c κs = (c .before .before .before .before .before .before .before .before .before .before .before .before .pre .0 .accepted, (record { is = refl }, (c .before .before .before .before .before .sending-of .ensures .shape, c .before .loop-test .taken)))
+row-at-requires c κs =
+    let at-sending-of = c .before .before .before .before .before in
+    let start = at-sending-of .before .before .before .before .before .before .before in
+    (start .pre .0 .accepted, (record { is = refl }, (at-sending-of .sending-of .ensures .shape, c .before .loop-test .taken)))
 
 add-r : tie.Need-add-r Inv-loop μ-loop
-add-r c = omega (arith, c .before .before .before .row-at .ensures .room, rows-few _ (c .before .before .before .before .before .before .before .before .before .before .before .before .before .before .before .before .pre .0 .accepted) _ (c .before .before .before .before .before .before .before .before .before .sending-of .ensures .shape))
+add-r c =
+    let at-row-at = c .before .before .before in
+    let at-sending-of = at-row-at .before .before .before .before .before .before in
+    let start = at-sending-of .before .before .before .before .before .before .before in
+    omega (arith, at-row-at .row-at .ensures .room, rows-few _ (start .pre .0 .accepted) _ (at-sending-of .sending-of .ensures .shape))
 
 loop-less : tie.Need-loop-less Inv-loop μ-loop
-loop-less c = omega (arith, c .before .before .before .row-at .ensures .least, c .before .before .before .before .before .loop-test .taken)
+loop-less c =
+    let at-row-at = c .before .before .before in
+    let at-loop-test = at-row-at .before .before in
+    omega (arith, at-row-at .row-at .ensures .least, at-loop-test .loop-test .taken)
 
 loop-again : tie.Need-loop-again Inv-loop μ-loop
-loop-again c = unpacked-over _ _ _ _ (c .before .before .before .row-at .ensures) (c .before .if1 .taken) _ _ _ _ (c .before .before .before .before .before .before .loop .inv)
+loop-again c =
+    let at-row-at = c .before .before .before in
+    let at-loop = at-row-at .before .before .before in
+    unpacked-over _ _ _ _ (at-row-at .row-at .ensures) (c .before .if1 .taken) _ _ _ _ (at-loop .loop .inv)
 
 rank-requires : tie.Need-rank-requires Inv-loop μ-loop
-rank-requires c κs = row-ranked _ _ _ _ (c .before .before .before .row-at .ensures .place) (c .before .before .before .before .before .before .before .before .before .before .before .before .before .before .before .before .pre .0 .accepted) (c .before .before .before .before .before .before .before .before .before .sending-of .ensures .shape)
+rank-requires c κs =
+    let at-row-at = c .before .before .before in
+    let at-sending-of = at-row-at .before .before .before .before .before .before in
+    let start = at-sending-of .before .before .before .before .before .before .before in
+    row-ranked _ _ _ _ (at-row-at .row-at .ensures .place) (start .pre .0 .accepted) (at-sending-of .sending-of .ensures .shape)
 
 unpack-row-requires : tie.Need-unpack-row-requires Inv-loop μ-loop
-unpack-row-requires c κs = (omega (arith, (row-first _ _ _ _ (c .before .before .before .before .before .row-at .ensures) _ (c .before .rank .ensures)) .low, c .before .before .before .before .before .row-at .ensures .run .low, unpacking-long _ _ _ _ _ _ _ (c .before .before .before .before .before .before .before .before .loop .inv), c .before .before .before .before .before .before .before .before .before .before .before .before .before .before .before .before .before .before .pre .1 .1 .0), (omega (arith, unpacking-long _ _ _ _ _ _ _ (c .before .before .before .before .before .before .before .before .loop .inv), c .before .before .before .before .before .before .before .before .before .before .before .before .before .before .before .before .before .before .pre .1 .1 .0, c .before .before .before .before .before .before .before .before .before .before .before .before .before .before .before .before .before .before .pre .0 .accepted .cells-most), omega (arith, run-room _ _ _ _ _ _ _ (row-first _ _ _ _ (c .before .before .before .before .before .row-at .ensures) _ (c .before .rank .ensures)) _ (c .before .before .before .before .before .row-at .ensures .run) _ (c .before .before .before .before .before .before .before .before .loop .inv .count-is), (words-found _ _ _ _ (c .before .before .before .before .before .before .before .before .before .before .before .sending-of .ensures) _ (c .before .before .before .before .before .before .before .before .before .before .before .before .before .before .before .before .before .before .pre .1 .1 .1)))))
+unpack-row-requires c κs =
+    let at-row-at = c .before .before .before .before .before in
+    let at-loop = at-row-at .before .before .before in
+    let at-sending-of = at-loop .before .before .before in
+    let start = at-sending-of .before .before .before .before .before .before .before in (
+      omega (
+        arith,
+        (row-first _ _ _ _ (at-row-at .row-at .ensures) _ (c .before .rank .ensures)) .low,
+        at-row-at .row-at .ensures .run .low,
+        unpacking-long _ _ _ _ _ _ _ (at-loop .loop .inv),
+        start .pre .1 .1 .0,
+      ),
+      (
+        omega (arith, unpacking-long _ _ _ _ _ _ _ (at-loop .loop .inv), start .pre .1 .1 .0, start .pre .0 .accepted .cells-most),
+        omega (
+          arith,
+          run-room _ _ _ _ _ _ _ (row-first _ _ _ _ (at-row-at .row-at .ensures) _ (c .before .rank .ensures)) _ (at-row-at .row-at .ensures .run) _
+              (at-loop .loop .inv .count-is),
+          (words-found _ _ _ _ (at-sending-of .sending-of .ensures) _ (start .pre .1 .1 .1)),
+        ),
+      ),
+    )
 
 add-count : tie.Need-add-count Inv-loop μ-loop
-add-count c = omega (arith, run-room _ _ _ _ _ _ _ (row-first _ _ _ _ (c .before .before .before .before .before .before .before .before .before .row-at .ensures) _ (c .before .before .before .before .before .rank .ensures)) _ (c .before .before .before .before .before .before .before .before .before .row-at .ensures .run) _ (c .before .before .before .before .before .before .before .before .before .before .before .before .loop .inv .count-is), found-few (c .before .before .before .before .before .before .before .before .before .before .before .before .before .before .before .before .before .before .before .before .before .before .args .nest) (c .before .before .before .before .before .before .before .before .before .before .before .before .before .before .before .sending-of .result) (c .before .before .before .before .before .before .before .before .before .before .before .before .before .before .before .sending-of .result .rows * c .before .before .before .before .before .before .before .before .before .before .before .before .before .before .before .sending-of .result .width), size-few _ (c .before .before .before .before .before .before .before .before .before .before .before .before .before .before .before .before .before .before .before .before .before .before .pre .0 .accepted) _ (c .before .before .before .before .before .before .before .before .before .before .before .before .before .before .before .sending-of .ensures .shape))
+add-count c =
+    let at-rank = c .before .before .before .before .before in
+    let at-row-at = at-rank .before .before .before .before in
+    let at-loop = at-row-at .before .before .before in
+    let at-sending-of = at-loop .before .before .before in
+    let start = at-sending-of .before .before .before .before .before .before .before in
+    omega (
+      arith,
+      run-room _ _ _ _ _ _ _ (row-first _ _ _ _ (at-row-at .row-at .ensures) _ (at-rank .rank .ensures)) _ (at-row-at .row-at .ensures .run) _
+          (at-loop .loop .inv .count-is),
+      found-few (start .args .nest) (at-sending-of .sending-of .result)
+          (at-sending-of .sending-of .result .rows * at-sending-of .sending-of .result .width),
+      size-few _ (start .pre .0 .accepted) _
+          (at-sending-of .sending-of .ensures .shape),
+    )
 
 add-r-2 : tie.Need-add-r-2 Inv-loop μ-loop
-add-r-2 c = omega (arith, c .before .before .before .before .before .before .before .before .before .before .before .loop-test .taken, rows-few _ (c .before .before .before .before .before .before .before .before .before .before .before .before .before .before .before .before .before .before .before .before .before .before .pre .0 .accepted) _ (c .before .before .before .before .before .before .before .before .before .before .before .before .before .before .before .sending-of .ensures .shape))
+add-r-2 c =
+    let at-loop-test = c .before .before .before .before .before .before .before .before .before .before .before in
+    let at-sending-of = at-loop-test .before .before .before .before in
+    let start = at-sending-of .before .before .before .before .before .before .before in
+    omega (arith, at-loop-test .loop-test .taken, rows-few _ (start .pre .0 .accepted) _ (at-sending-of .sending-of .ensures .shape))
 
 loop-less-2 : tie.Need-loop-less-2 Inv-loop μ-loop
-loop-less-2 c = omega (arith, c .before .before .before .before .before .before .before .before .before .before .before .loop-test .taken)
+loop-less-2 c =
+    let at-loop-test = c .before .before .before .before .before .before .before .before .before .before .before in
+    omega (arith, at-loop-test .loop-test .taken)
 
 loop-again-2 : tie.Need-loop-again-2 Inv-loop μ-loop
-loop-again-2 c = unpacked-next _ _ _ _ (c .before .before .before .before .before .before .before .before .before .row-at .ensures) _ (row-first _ _ _ _ (c .before .before .before .before .before .before .before .before .before .row-at .ensures) _ (c .before .before .before .before .before .rank .ensures)) _ _ _ _ _ (c .before .before .before .before .before .before .before .before .before .before .before .before .loop .inv) (omega (arith, run-room _ _ _ _ _ _ _ (row-first _ _ _ _ (c .before .before .before .before .before .before .before .before .before .row-at .ensures) _ (c .before .before .before .before .before .rank .ensures)) _ (c .before .before .before .before .before .before .before .before .before .row-at .ensures .run) _ (c .before .before .before .before .before .before .before .before .before .before .before .before .loop .inv .count-is), (words-found _ _ _ _ (c .before .before .before .before .before .before .before .before .before .before .before .before .before .before .before .sending-of .ensures) _ (c .before .before .before .before .before .before .before .before .before .before .before .before .before .before .before .before .before .before .before .before .before .before .pre .1 .1 .1)))) (c .before .before .before .unpack-row .ensures)
+loop-again-2 c =
+    let at-unpack-row = c .before .before .before in
+    let at-rank = at-unpack-row .before .before in
+    let at-row-at = at-rank .before .before .before .before in
+    let at-loop = at-row-at .before .before .before in
+    let at-sending-of = at-loop .before .before .before in
+    let start = at-sending-of .before .before .before .before .before .before .before in
+    unpacked-next _ _ _ _ (at-row-at .row-at .ensures) _ (row-first _ _ _ _ (at-row-at .row-at .ensures) _ (at-rank .rank .ensures)) _ _ _ _ _
+    (at-loop .loop .inv) (omega (
+      arith,
+      run-room _ _ _ _ _ _ _ (row-first _ _ _ _ (at-row-at .row-at .ensures) _ (at-rank .rank .ensures)) _
+          (at-row-at .row-at .ensures .run) _ (at-loop .loop .inv .count-is),
+      (words-found _ _ _ _ (at-sending-of .sending-of .ensures) _ (start .pre .1 .1 .1)),
+    ))
+    (at-unpack-row .unpack-row .ensures)
 
 same-length : tie.Need-same-length Inv-loop μ-loop
 same-length c = unpacking-long _ _ _ _ _ _ _ (c .before .loop .inv)
 
 returns : tie.Need-returns Inv-loop μ-loop
-returns c = unpacked _ _ _ _ _ _ _ (c .before .loop .inv) (mul-le-mul-right (c .before .before .before .before .sending-of .result .width) (c .loop-test .left)) (words-found _ _ _ _ (c .before .before .before .before .sending-of .ensures) _ (c .before .before .before .before .before .before .before .before .before .before .before .pre .1 .1 .1)) ∙ ap (λ (l : List ℕ). unpack (c .before .before .before .before .before .before .before .before .before .before .before .args .memory .now) l (c .before .before .before .before .before .before .before .before .before .before .before .args .words .now)) (sym (full-found _ _ _ _ (c .before .before .before .before .sending-of .ensures) _ (c .before .before .before .before .before .before .before .before .before .before .before .pre .1 .1 .1)))
+returns c =
+    let at-sending-of = c .before .before .before .before in
+    let start = at-sending-of .before .before .before .before .before .before .before in
+    unpacked _ _ _ _ _ _ _ (c .before .loop .inv) (mul-le-mul-right (at-sending-of .sending-of .result .width) (c .loop-test .left))
+    (words-found _ _ _ _ (at-sending-of .sending-of .ensures) _ (start .pre .1 .1 .1)) ∙ ap (λ (l : List ℕ). unpack (start .args .memory .now) l
+    (start .args .words .now)) (sym (full-found _ _ _ _ (at-sending-of .sending-of .ensures) _ (start .pre .1 .1 .1)))
 
 pub unpack-spec : {M : Type 1} → statement M
 unpack-spec =

@@ -43,7 +43,13 @@ add-to : tie.Need-add-to Inv-loop μ-loop
 add-to c = omega (arith, c .before .before .before .pre .1 .1 (c .before .loop .j) (c .loop-test .taken))
 
 mul-low : tie.Need-mul-low Inv-loop μ-loop
-mul-low c = omega (arith, tile-few _ (c .before .before .before .pre .0) (getD (c .before .before .before .args .t3) (c .before .loop .j) 0 + getD (c .before .before .before .args .t4) (c .before .loop .j) 0) (c .before .loop .j) (omega (arith, c .before .before .before .pre .1 .1 (c .before .loop .j) (c .loop-test .taken))))
+mul-low c =
+    omega (
+      arith,
+      tile-few _ (c .before .before .before .pre .0) (getD (c .before .before .before .args .t3) (c .before .loop .j) 0 + getD
+          (c .before .before .before .args .t4) (c .before .loop .j) 0) (c .before .loop .j)
+          (omega (arith, c .before .before .before .pre .1 .1 (c .before .loop .j) (c .loop-test .taken))),
+    )
 
 mul-low-2 : tie.Need-mul-low-2 Inv-loop μ-loop
 mul-low-2 c = omega (arith, c .loop-test .taken, c .before .before .before .pre .0 .spread-low, c .before .before .before .pre .0 .dimensions-most)
@@ -55,34 +61,70 @@ one-requires : tie.Need-one-requires Inv-loop μ-loop
 one-requires c κs = search needs
 
 add-end-of : tie.Need-add-end-of Inv-loop μ-loop
-add-end-of c = omega (arith, c .before .before .before .before .pre .1 .1 (c .before .before .loop .j) (c .before .loop-test .taken), c .one .ensures, one-few (leb (c .before .before .before .before .args .later) (c .before .before .loop .j)))
+add-end-of c =
+    let start = c .before .before .before .before in
+    omega (
+      arith,
+      start .pre .1 .1 (c .before .before .loop .j) (c .before .loop-test .taken),
+      c .one .ensures,
+      one-few (leb (start .args .later) (c .before .before .loop .j)),
+    )
 
 mul-end-of : tie.Need-mul-end-of Inv-loop μ-loop
-mul-end-of c = omega (arith, c .before .loop-test .taken, c .before .before .before .before .pre .0 .spread-low, c .before .before .before .before .pre .0 .dimensions-most)
+mul-end-of c =
+    let start = c .before .before .before .before in
+    omega (arith, c .before .loop-test .taken, start .pre .0 .spread-low, start .pre .0 .dimensions-most)
 
 array-read-end-of : tie.Need-array-read-end-of Inv-loop μ-loop
-array-read-end-of c = omega (arith, c .before .loop-test .taken, c .before .before .before .before .pre .0 .spread-low, c .before .before .before .before .pre .0 .dimensions-most)
+array-read-end-of c =
+    let start = c .before .before .before .before in
+    omega (arith, c .before .loop-test .taken, start .pre .0 .spread-low, start .pre .0 .dimensions-most)
 
 end-of-requires : tie.Need-end-of-requires Inv-loop μ-loop
-end-of-requires c κs = (omega (arith, c .before .before .before .before .pre .1 .1 (c .before .before .loop .j) (c .before .loop-test .taken), c .one .ensures, one-few (leb (c .before .before .before .before .args .later) (c .before .before .loop .j))), c .before .before .before .before .pre .0 .tile-most _)
+end-of-requires c κs =
+    let start = c .before .before .before .before in (
+      omega (
+        arith,
+        start .pre .1 .1 (c .before .before .loop .j) (c .before .loop-test .taken),
+        c .one .ensures,
+        one-few (leb (start .args .later) (c .before .before .loop .j)),
+      ),
+      start .pre .0 .tile-most _,
+    )
 
 mul-high : tie.Need-mul-high Inv-loop μ-loop
-mul-high c = omega (arith, c .before .before .loop-test .taken, c .before .before .before .before .before .pre .0 .spread-low, c .before .before .before .before .before .pre .0 .dimensions-most)
+mul-high c =
+    let start = c .before .before .before .before .before in
+    omega (arith, c .before .before .loop-test .taken, start .pre .0 .spread-low, start .pre .0 .dimensions-most)
 
 array-write-high : tie.Need-array-write-high Inv-loop μ-loop
-array-write-high c = omega (arith, c .before .before .loop-test .taken, c .before .before .before .before .before .pre .0 .spread-low, c .before .before .before .before .before .pre .0 .dimensions-most)
+array-write-high c =
+    let start = c .before .before .before .before .before in
+    omega (arith, c .before .before .loop-test .taken, start .pre .0 .spread-low, start .pre .0 .dimensions-most)
 
 add-j : tie.Need-add-j Inv-loop μ-loop
-add-j c = omega (arith, c .before .before .loop-test .taken, c .before .before .before .before .before .pre .0 .spread-low, c .before .before .before .before .before .pre .0 .dimensions-most)
+add-j c =
+    let start = c .before .before .before .before .before in
+    omega (arith, c .before .before .loop-test .taken, start .pre .0 .spread-low, start .pre .0 .dimensions-most)
 
 loop-less : tie.Need-loop-less Inv-loop μ-loop
 loop-less c = omega (arith, c .before .before .loop-test .taken)
 
 loop-again : tie.Need-loop-again Inv-loop μ-loop
-loop-again c = (changed-more _ _ _ _ _ _ (c .before .before .before .loop .inv .0) (c .before .before .loop-test .taken) (omega (arith, c .before .before .before .before .before .pre .0 .spread-low, c .before .before .before .before .before .pre .0 .dimensions-most)) refl, changed-more _ _ _ _ _ _ (c .before .before .before .loop .inv .1) (c .before .before .loop-test .taken) (omega (arith, c .before .before .before .before .before .pre .0 .spread-low, c .before .before .before .before .before .pre .0 .dimensions-most)) (rw (c .end-of .ensures, c .before .one .ensures)))
+loop-again c =
+    let at-loop = c .before .before .before in
+    let start = at-loop .before .before in (
+      changed-more _ _ _ _ _ _ (at-loop .loop .inv .0) (c .before .before .loop-test .taken)
+          (omega (arith, start .pre .0 .spread-low, start .pre .0 .dimensions-most)) refl,
+      changed-more _ _ _ _ _ _ (at-loop .loop .inv .1)
+          (c .before .before .loop-test .taken) (omega (arith, start .pre .0 .spread-low, start .pre .0 .dimensions-most))
+          (rw (c .end-of .ensures, c .before .one .ensures)),
+    )
 
 returns : tie.Need-returns Inv-loop μ-loop
-returns c = windowed _ (c .before .before .before .pre .0) _ (c .before .before .before .pre .1 .0) (λ j. getD (c .before .before .before .args .t3) j 0 + getD (c .before .before .before .args .t4) j 0) _ _ _ (c .before .loop .inv .0) (c .before .loop .inv .1) (c .loop-test .left)
+returns c =
+    windowed _ (c .before .before .before .pre .0) _ (c .before .before .before .pre .1 .0) (λ j. getD (c .before .before .before .args .t3) j 0 + getD
+    (c .before .before .before .args .t4) j 0) _ _ _ (c .before .loop .inv .0) (c .before .loop .inv .1) (c .loop-test .left)
 
 pub window-of-spec : {M : Type 1} → statement M
 window-of-spec =

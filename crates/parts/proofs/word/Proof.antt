@@ -62,7 +62,15 @@ add-result-3 : tie.Need-add-result-3
 add-result-3 c = search needs
 
 returns-3 : tie.Need-returns-3
-returns-3 c = laws.word-is (c .before .before .before .before .before .before .before .before .before .before .before .args .bytes .now) (c .before .before .before .before .before .before .before .before .before .before .before .args .at) (c .before .before .before .before .before .before .byte-value .result) (c .before .before .before .before .byte-value2 .result) (c .before .before .byte-value3 .result) (c .byte-value4 .result) (c .before .before .before .before .before .before .before .before .before .if1 .left) (c .before .before .before .before .before .before .before .before .if2 .left) (c .before .before .before .before .before .before .byte-value .ensures .0) (c .before .before .before .before .byte-value2 .ensures .0) (c .before .before .byte-value3 .ensures .0) (c .byte-value4 .ensures .0)
+returns-3 c =
+    let at-byte-value2 = c .before .before .before .before in
+    let at-byte-value = at-byte-value2 .before .before in
+    let at-if2 = at-byte-value .before .before in
+    let at-if1 = at-if2 .before in
+    let start = at-if1 .before .before in
+    laws.word-is (start .args .bytes .now) (start .args .at) (at-byte-value .byte-value .result) (at-byte-value2 .byte-value2 .result)
+    (c .before .before .byte-value3 .result) (c .byte-value4 .result) (at-if1 .if1 .left) (at-if2 .if2 .left) (at-byte-value .byte-value .ensures .0)
+    (at-byte-value2 .byte-value2 .ensures .0) (c .before .before .byte-value3 .ensures .0) (c .byte-value4 .ensures .0)
 
 pub word-spec : {M : Type 1} → statement M
 word-spec =

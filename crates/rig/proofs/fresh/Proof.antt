@@ -43,8 +43,11 @@ same-length-7 c =
 
 returns : tie.Need-returns
 returns c =
-    let fresh = c .before .before .before .before .before .before .before .before .before .before .before .before .before .before .before .fresh in
-    let A = c .before .before .before .before .before .before .before .before .before .before .before .before .before .before .before .before .before .before .before .before .before .before .before .before .before .before .before .before .before .before .before .before .before .before .before .args in
+    let at-fresh = c .before .before .before .before .before .before .before .before .before .before .before .before .before .before .before in
+    let start = at-fresh .before .before .before .before .before .before .before .before .before .before .before .before .before .before .before .before
+    .before .before .before .before in
+    let fresh = at-fresh .fresh in
+    let A = start .args in
     starts.not-cleared (fresh .result) _ _ _ _ _ _ (A .progress0 .now) (A .progress1 .now) _ _ (c .if1 .taken)
     (fresh .ensures (A .progress0 .now) (A .progress1 .now) refl refl)
 
@@ -56,12 +59,14 @@ zero-words-requires-2 c κs = tt
 
 same-length-8 : tie.Need-same-length-8
 same-length-8 c =
-    let at-fresh = c .before .before .before .before .before .before .before .before .before .before .before .before .before .before .before .before .before .before .before .before .before .before .before in
+    let at-fresh = c .before .before .before .before .before .before .before .before .before .before .before .before .before .before .before .before .before
+    .before .before .before .before .before .before in
     at-fresh .fresh .kept .1 .1 .1 .0
 
 same-length-9 : tie.Need-same-length-9
 same-length-9 c =
-    let at-fresh = c .before .before .before .before .before .before .before .before .before .before .before .before .before .before .before .before .before .before .before .before .before .before .before in
+    let at-fresh = c .before .before .before .before .before .before .before .before .before .before .before .before .before .before .before .before .before
+    .before .before .before .before .before .before in
     at-fresh .fresh .kept .1 .1 .1 .1 .0
 
 same-length-10 : tie.Need-same-length-10
@@ -69,17 +74,20 @@ same-length-10 c = c .before .before .before .before .before .before .zero-words
 
 same-length-11 : tie.Need-same-length-11
 same-length-11 c =
-    let at-fresh = c .before .before .before .before .before .before .before .before .before .before .before .before .before .before .before .before .before .before .before .before .before .before .before in
+    let at-fresh = c .before .before .before .before .before .before .before .before .before .before .before .before .before .before .before .before .before
+    .before .before .before .before .before .before in
     at-fresh .fresh .kept .1 .1 .1 .1 .1 .1 .0
 
 same-length-12 : tie.Need-same-length-12
 same-length-12 c =
-    let at-fresh = c .before .before .before .before .before .before .before .before .before .before .before .before .before .before .before .before .before .before .before .before .before .before .before in
+    let at-fresh = c .before .before .before .before .before .before .before .before .before .before .before .before .before .before .before .before .before
+    .before .before .before .before .before .before in
     at-fresh .fresh .kept .1 .1 .1 .1 .1 .1 .1 .1 .0
 
 same-length-13 : tie.Need-same-length-13
 same-length-13 c =
-    let at-fresh = c .before .before .before .before .before .before .before .before .before .before .before .before .before .before .before .before .before .before .before .before .before .before .before in
+    let at-fresh = c .before .before .before .before .before .before .before .before .before .before .before .before .before .before .before .before .before
+    .before .before .before .before .before .before in
     at-fresh .fresh .kept .1 .1 .1 .1 .1 .1 .1 .1 .1 .0
 
 same-length-14 : tie.Need-same-length-14
@@ -87,22 +95,29 @@ same-length-14 c = c .before .before .zero-words2 .kept .0
 
 same-length-15 : tie.Need-same-length-15
 same-length-15 c =
-    let at-fresh = c .before .before .before .before .before .before .before .before .before .before .before .before .before .before .before .before .before .before .before .before .before .before .before in
+    let at-fresh = c .before .before .before .before .before .before .before .before .before .before .before .before .before .before .before .before .before
+    .before .before .before .before .before .before in
     at-fresh .fresh .kept .1 .1 .1 .1 .1 .1 .1 .1 .1 .1 .1 .0
 
 same-length-16 : tie.Need-same-length-16
 same-length-16 c =
-    let at-fresh = c .before .before .before .before .before .before .before .before .before .before .before .before .before .before .before .before .before .before .before .before .before .before .before in
+    let at-fresh = c .before .before .before .before .before .before .before .before .before .before .before .before .before .before .before .before .before
+    .before .before .before .before .before .before in
     at-fresh .fresh .kept .1 .1 .1 .1 .1 .1 .1 .1 .1 .1 .1 .1 .0
 
 returns-2 : tie.Need-returns-2
 returns-2 c =
-    let fresh = c .before .before .before .before .before .before .before .before .before .before .before .before .before .before .before .before .before .before .before .before .before .before .before .fresh in
-    let zero-words = c .before .before .before .before .before .before .zero-words in
+    let at-zero-words = c .before .before .before .before .before .before in
+    let at-if1 = at-zero-words .before .before in
+    let at-fresh = at-if1 .before .before .before .before .before .before .before .before .before .before .before .before .before .before .before in
+    let start = at-fresh .before .before .before .before .before .before .before .before .before .before .before .before .before .before .before .before
+    .before .before .before .before in
+    let fresh = at-fresh .fresh in
+    let zero-words = at-zero-words .zero-words in
     let zero-words2 = c .before .before .zero-words2 in
-    let A = c .before .before .before .before .before .before .before .before .before .before .before .before .before .before .before .before .before .before .before .before .before .before .before .before .before .before .before .before .before .before .before .before .before .before .before .before .before .before .before .before .before .before .before .args in
-    starts.all-cleared (fresh .result) _ _ _ _ _ _ (A .progress0 .now) (A .progress1 .now) _ _ (c .before .before .before .before .before .before .before .before .if1 .left) _ _ (zero-words .ensures) (zero-words2 .ensures)
-    (fresh .ensures (A .progress0 .now) (A .progress1 .now) refl refl)
+    let A = start .args in
+    starts.all-cleared (fresh .result) _ _ _ _ _ _ (A .progress0 .now) (A .progress1 .now) _ _ (at-if1 .if1 .left) _ _ (zero-words .ensures)
+    (zero-words2 .ensures) (fresh .ensures (A .progress0 .now) (A .progress1 .now) refl refl)
 
 pub fresh-spec : {M : Type 1} → statement M
 fresh-spec =

@@ -13,18 +13,24 @@ returns c = L.reader's _ _ (c .before .read .ensures .0) (c .before .read .ensur
 
 returns-2 : tie.Need-returns-2
 returns-2 c =
-    let read = c .before .before .before .before .read in
-    L.without _ _ (read .ensures .0) (read .ensures .1) (c .before .before .before .if1 .left) _ (c .if2 .taken)
+    let at-if1 = c .before .before .before in
+    let at-read = at-if1 .before in
+    let read = at-read .read in
+    L.without _ _ (read .ensures .0) (read .ensures .1) (at-if1 .if1 .left) _ (c .if2 .taken)
 
 returns-3 : tie.Need-returns-3
 returns-3 c =
-    let read = c .before .before .before .before .before .read in
-    L.straight _ _ (read .ensures .0) (read .ensures .1) (c .before .before .before .before .if1 .left) _ (route-direct _ (c .if3 .taken))
+    let at-if1 = c .before .before .before .before in
+    let at-read = at-if1 .before in
+    let read = at-read .read in
+    L.straight _ _ (read .ensures .0) (read .ensures .1) (at-if1 .if1 .left) _ (route-direct _ (c .if3 .taken))
 
 returns-4 : tie.Need-returns-4
 returns-4 c =
-    let read = c .before .before .before .before .before .read in
-    L.barred _ _ (read .ensures .0) (read .ensures .1) (c .before .before .before .before .if1 .left) _ (route-indirect _ (c .if3 .left)) (c .before .if2 .left)
+    let at-if1 = c .before .before .before .before in
+    let at-read = at-if1 .before in
+    let read = at-read .read in
+    L.barred _ _ (read .ensures .0) (read .ensures .1) (at-if1 .if1 .left) _ (route-indirect _ (c .if3 .left)) (c .before .if2 .left)
 
 pub read-for-spec : {M : Type 1} → statement M
 read-for-spec = tie.close (tie.spec read-requires returns returns-2 returns-3 returns-4)

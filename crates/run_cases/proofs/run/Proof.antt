@@ -7,12 +7,14 @@ use Rattle.run_cases.proofs.run.Statement.{statement}
 use Rattle.run_cases.proofs.run.Tie as tie
 
 abbrev Inv-loop : tie.InvT-loop
-Inv-loop fd recipe₀ source₀ memories₀ buffer₀ progress₀ status₀ grid₀ lent₀ record₀ records₀ recipe source memories buffer progress status grid lent «record» records =
+Inv-loop fd recipe₀ source₀ memories₀ buffer₀ progress₀ status₀ grid₀ lent₀ record₀ records₀
+    recipe source memories buffer progress status grid lent «record» records =
     (length recipe ≡ 512) × (length source ≡ 1024) × (length memories ≡ 4096) × (length buffer ≡ 7168) × (length progress ≡ 192)
     × (length status ≡ 7168) × (length grid ≡ 1024) × (length lent ≡ 8) × (length «record» ≡ 16)
 
 abbrev μ-loop : tie.MeasureT-loop
-μ-loop fd recipe₀ source₀ memories₀ buffer₀ progress₀ status₀ grid₀ lent₀ record₀ records₀ recipe source memories buffer progress status grid lent «record» records =
+μ-loop fd recipe₀ source₀ memories₀ buffer₀ progress₀ status₀ grid₀ lent₀ record₀ records₀
+    recipe source memories buffer progress status grid lent «record» records =
     records
 
 loop-holds : tie.Need-loop-holds Inv-loop μ-loop

@@ -32,27 +32,39 @@ further-requires : tie.Need-further-requires Inv-loop μ-loop
 further-requires c κs = search needs
 
 mul-sooner : tie.Need-mul-sooner Inv-loop μ-loop
-mul-sooner c = omega (arith, c .before .before .before .loop-test .taken, c .before .before .before .before .before .pre .0)
+mul-sooner c =
+    let at-loop-test = c .before .before .before in
+    let start = at-loop-test .before .before in
+    omega (arith, at-loop-test .loop-test .taken, start .pre .0)
 
 element-copy-out-sooner : tie.Need-element-copy-out-sooner Inv-loop μ-loop
-element-copy-out-sooner c = omega (arith, c .before .before .before .loop-test .taken, c .before .before .before .before .before .pre .0)
+element-copy-out-sooner c =
+    let at-loop-test = c .before .before .before in
+    let start = at-loop-test .before .before in
+    omega (arith, at-loop-test .loop-test .taken, start .pre .0)
 
 sooner-requires : tie.Need-sooner-requires Inv-loop μ-loop
 sooner-requires c κs = search needs
 
 add-e : tie.Need-add-e Inv-loop μ-loop
 add-e c =
-    omega (arith, c .before .before .before .before .before .loop-test .taken, c .before .before .before .before .before .before .before .pre .0)
+    let at-loop-test = c .before .before .before .before .before in
+    let start = at-loop-test .before .before in
+    omega (arith, at-loop-test .loop-test .taken, start .pre .0)
 
 loop-less : tie.Need-loop-less Inv-loop μ-loop
-loop-less c = omega (arith, c .before .before .before .before .before .loop-test .taken)
+loop-less c =
+    let at-loop-test = c .before .before .before .before .before in
+    omega (arith, at-loop-test .loop-test .taken)
 
 loop-again : tie.Need-loop-again Inv-loop μ-loop
-loop-again c = (
-  omega (arith, c .before .before .before .before .before .loop-test .taken),
-  L.ahead-more _ _ _ _ _ _ _ (c .before .before .before .before .before .before .loop .inv .1) _ _ (c .before .before .further .ensures)
-      (c .sooner .ensures),
-)
+loop-again c =
+    let at-loop-test = c .before .before .before .before .before in
+    let at-loop = at-loop-test .before in (
+      omega (arith, at-loop-test .loop-test .taken),
+      L.ahead-more _ _ _ _ _ _ _ (at-loop .loop .inv .1) _ _ (c .before .before .further .ensures)
+          (c .sooner .ensures),
+    )
 
 returns : tie.Need-returns Inv-loop μ-loop
 returns c =

@@ -1,11 +1,7 @@
 -- `runs::count_row` meets its contract: the cells before `at` are counted.
-use Prim.Native.Nat.{ℕ, _+_, _-_, _≤_}
-use mathlib.Core.Path.{_≡_}
+use Prim.Native.Nat.{_-_}
 use native.Mathlib.Omega.{arith}
-use lib.ListN.{length}
-use Rattle.runs.specs.Runs.{hitRow}
 use Rattle.runs.proofs.Laws as L
-use borrow.Author.Needs.{needs}
 use Rattle.runs.proofs.count_row.Statement.{statement}
 use Rattle.runs.proofs.count_row.Tie as tie
 
@@ -26,11 +22,9 @@ piece-of-requires c κs = (c .before .before .pre .0, c .loop-test .taken)
 
 add-count : tie.Need-add-count Inv-loop μ-loop
 add-count c =
-    omega (
-      arith,
-      c .before .before .before .before .pre .1,
-      L.counts-few _ _ _ _ _ _ _ (c .before .before .before .loop .inv) _ _ (c .before .piece-of .ensures),
-    )
+    let at-loop = c .before .before .before in
+    let start = at-loop .before in
+    omega (arith, start .pre .1, L.counts-few _ _ _ _ _ _ _ (at-loop .loop .inv) _ _ (c .before .piece-of .ensures))
 
 loop-less : tie.Need-loop-less Inv-loop μ-loop
 loop-less c =

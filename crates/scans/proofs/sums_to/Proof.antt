@@ -11,7 +11,8 @@ use Rattle.scans.proofs.sums_to.Statement.{statement}
 use Rattle.scans.proofs.sums_to.Tie as tie
 
 abbrev Inv-loop : tie.InvT-loop
-Inv-loop lens end s₀ messages₀ words₀ s messages words = (s ≤ end) × ((messages ≤ s) × ((words ≤ 16384 * s) × ((f : ℕ → Message) → Lengths f end lens → Summing f s messages words)))
+Inv-loop lens end s₀ messages₀ words₀ s messages words =
+    (s ≤ end) × ((messages ≤ s) × ((words ≤ 16384 * s) × ((f : ℕ → Message) → Lengths f end lens → Summing f s messages words)))
 
 abbrev μ-loop : tie.MeasureT-loop
 μ-loop lens end s₀ messages₀ words₀ s messages words = end - s
@@ -29,37 +30,59 @@ half-index-requires : tie.Need-half-index-requires Inv-loop μ-loop
 half-index-requires c κs = search needs
 
 add-messages : tie.Need-add-messages Inv-loop μ-loop
-add-messages c = omega (arith, c .before .before .before .before .loop .inv .1 .0, c .before .before .before .before .before .pre .few, c .before .before .before .loop-test .taken)
+add-messages c =
+    let at-loop-test = c .before .before .before in
+    let at-loop = at-loop-test .before in
+    let start = at-loop .before in
+    omega (arith, at-loop .loop .inv .1 .0, start .pre .few, at-loop-test .loop-test .taken)
 
 add-words : tie.Need-add-words Inv-loop μ-loop
-add-words c = omega (arith, c .before .before .before .before .loop .inv .1 .1 .0, c .before .before .before .before .before .pre .few, c .before .before .before .loop-test .taken, c .before .half-index .ensures, c .before .before .before .before .before .pre .short (c .before .before .before .before .loop .s) (c .before .before .before .loop-test .taken))
+add-words c =
+    let at-loop-test = c .before .before .before in
+    let at-loop = at-loop-test .before in
+    let start = at-loop .before in
+    omega (
+      arith,
+      at-loop .loop .inv .1 .1 .0,
+      start .pre .few,
+      at-loop-test .loop-test .taken,
+      c .before .half-index .ensures,
+      start .pre .short (at-loop .loop .s) (at-loop-test .loop-test .taken),
+    )
 
 add-s : tie.Need-add-s Inv-loop μ-loop
-add-s c = omega (arith, c .before .before .before .before .before .pre .few, c .before .before .before .loop-test .taken)
+add-s c =
+    let at-loop-test = c .before .before .before in
+    let start = at-loop-test .before .before in
+    omega (arith, start .pre .few, at-loop-test .loop-test .taken)
 
 loop-less : tie.Need-loop-less Inv-loop μ-loop
 loop-less c = omega (arith, c .before .before .before .loop-test .taken)
 
 loop-again : tie.Need-loop-again Inv-loop μ-loop
-loop-again c = (
-  omega (arith, c .before .before .before .loop-test .taken),
-  (
-    ⊎-elim (λ w. omega (arith, w .1, c .before .before .before .before .loop .inv .1 .0)) (λ w. omega (arith, w .1, c .before .before .before .before .loop .inv .1 .0)) (c .if1 .came),
-    (
-      omega (arith, c .before .before .before .before .loop .inv .1 .1 .0, c .before .half-index .ensures, c .before .before .before .before .before .pre .short (c .before .before .before .before .loop .s) (c .before .before .before .loop-test .taken)),
-      λ f h. L.sum-turn f (c .before .before .before .before .loop .s) (c .before .before .before .before .loop .messages) (c .before .before .before .before .loop .words) (c .before .half-index .result) (c .if1 .messages) (c .before .before .before .before .loop .inv .1 .1 .1 f h)
-          (c .before .half-index .ensures ∙ h .each (c .before .before .before .before .loop .s) (c .before .before .before .loop-test .taken))
-          (⊎-elim (λ w. inl (w .0 .taken, w .1)) (λ w. inr (w .0 .left, w .1)) (c .if1 .came)),
-    ),
-  ),
-)
+loop-again c =
+    let at-loop-test = c .before .before .before in
+    let at-loop = at-loop-test .before in
+    let start = at-loop .before in (
+      omega (arith, at-loop-test .loop-test .taken),
+      (
+        ⊎-elim (λ w. omega (arith, w .1, at-loop .loop .inv .1 .0)) (λ w. omega (arith, w .1, at-loop .loop .inv .1 .0)) (c .if1 .came),
+        (
+          omega (arith, at-loop .loop .inv .1 .1 .0, c .before .half-index .ensures, start .pre .short (at-loop .loop .s) (at-loop-test .loop-test .taken)),
+          λ f h. L.sum-turn f (at-loop .loop .s) (at-loop .loop .messages) (at-loop .loop .words) (c .before .half-index .result) (c .if1 .messages)
+              (at-loop .loop .inv .1 .1 .1 f h) (c .before .half-index .ensures ∙ h .each (at-loop .loop .s) (at-loop-test .loop-test .taken))
+              (⊎-elim (λ w. inl (w .0 .taken, w .1)) (λ w. inr (w .0 .left, w .1)) (c .if1 .came)),
+        ),
+      ),
+    )
 
 returns : tie.Need-returns Inv-loop μ-loop
 returns c = (
   omega (arith, c .before .loop .inv .0, c .before .loop .inv .1 .0, c .before .before .pre .few),
   (
     omega (arith, c .before .loop .inv .0, c .before .loop .inv .1 .1 .0, c .before .before .pre .few),
-    λ f h. L.sum-end f (c .before .loop .s) (c .before .before .args .end) _ _ (c .before .loop .inv .0) (c .loop-test .left) (c .before .loop .inv .1 .1 .1 f h),
+    λ f h. L.sum-end f (c .before .loop .s) (c .before .before .args .end) _ _ (c .before .loop .inv .0) (c .loop-test .left)
+        (c .before .loop .inv .1 .1 .1 f h),
   ),
 )
 

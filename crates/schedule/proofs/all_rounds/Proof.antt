@@ -22,19 +22,21 @@ chain-ends-requires-2 c κs =
 
 rounds-by-requires : tie.Need-rounds-by-requires
 rounds-by-requires c κs =
-    let S = c .before .before .before .before .before .before .before .before .before .before .before .before .before .before .before .before .before
-    .before .before .before in
-    let list = c .before .before .before .before .before .before .before .before .before .before .before .before .before .list in
-    let chain-ends = c .before .before .before .before .before .before .before .before .before .before .chain-ends in
-    let chain-ends2 = c .before .before .before .before .before .before .before .chain-ends2 in (
+    let at-chain-ends2 = c .before .before .before .before .before .before .before in
+    let at-chain-ends = at-chain-ends2 .before .before .before in
+    let at-list = at-chain-ends .before .before .before in
+    let S = at-list .before .before .before .before .before .before .before in
+    let list = at-list .list in
+    let chain-ends = at-chain-ends .chain-ends in
+    let chain-ends2 = at-chain-ends2 .chain-ends2 in (
       (
         record {
           planned = S .pre .0 .0;
           listed = list .ensures .1;
           bySender = chain-ends .ensures;
           byTaker = chain-ends2 .ensures;
-          few = list .ensures
-              .1 .few;
+          few =
+              list .ensures .1 .few;
         },
         S .pre .0 .1,
       ),
@@ -59,7 +61,8 @@ same-length-4 c =
 
 returns : tie.Need-returns
 returns c =
-    let rounds-by = c .before .before .before .before .before .before .before .before .rounds-by in
+    let at-rounds-by = c .before .before .before .before .before .before .before .before in
+    let rounds-by = at-rounds-by .rounds-by in
     rounds-by .ensures
 
 pub all-rounds-spec : {M : Type 1} → statement M

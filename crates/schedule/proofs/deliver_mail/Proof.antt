@@ -41,9 +41,11 @@ loop-less c =
 
 loop-again : tie.Need-loop-again Inv-loop μ-loop
 loop-again c =
-    let loop = c .before .before .before .loop in
-    laws.mail-next (c .before .before .before .before .before .args .status .now) (loop .status) (loop .m) (loop .inv)
-    (omega (arith, c .before .before .loop-test .taken, loop .inv .long)) _ (ap (set (loop .status) (loop .m)) (c .mark-then .ensures))
+    let at-loop = c .before .before .before in
+    let start = at-loop .before .before in
+    let loop = at-loop .loop in
+    laws.mail-next (start .args .status .now) (loop .status) (loop .m) (loop .inv) (omega (arith, c .before .before .loop-test .taken, loop .inv .long)) _
+    (ap (set (loop .status) (loop .m)) (c .mark-then .ensures))
 
 same-length : tie.Need-same-length Inv-loop μ-loop
 same-length c =

@@ -46,26 +46,29 @@ slice-write-status c =
 
 next-requires : tie.Need-next-requires Inv-loop μ-loop
 next-requires c κs =
-    let S = c .before .before .before .before .before .before .before .before .before .before .before in
-    let loop-test = c .before .before .before .before .before .loop-test in
-    let loop = c .before .before .before .before .before .before .loop in (
+    let at-loop-test = c .before .before .before .before .before in
+    let at-loop = at-loop-test .before in
+    let S = at-loop .before .before .before .before .before in
+    let loop-test = at-loop-test .loop-test in
+    let loop = at-loop .loop in (
       S .pre .1 .0 .0 .chained,
       (
         omega (arith, loop-test .taken, loop .inv .gathering .longStatus, S .pre .1 .0 .0 .marks),
         (
           omega (arith, loop-test .taken, loop .inv .gathering .longStatus, S .pre .1 .0 .0 .marks, S .pre .1 .0 .0 .few),
-          chains.walk-tile
-              (takerOf (planOf (S .args .sizes .route) (S .args .nest))) (count (planOf (S .args .sizes .route) (S .args .nest))) (S .args .t) (loop .inv .j)
-              (loop .m) (loop .inv .spot) (omega (arith, loop-test .taken, loop .inv .gathering .longStatus, S .pre .1 .0 .0 .marks)),
+          chains.walk-tile (takerOf (planOf (S .args .sizes .route) (S .args .nest))) (count (planOf (S .args .sizes .route) (S .args .nest))) (S .args .t)
+              (loop .inv .j) (loop .m) (loop .inv .spot) (omega (arith, loop-test .taken, loop .inv .gathering .longStatus, S .pre .1 .0 .0 .marks)),
         ),
       ),
     )
 
 loop-less : tie.Need-loop-less Inv-loop μ-loop
 loop-less c =
-    let loop-test = c .before .before .before .before .before .before .loop-test in
-    let loop = c .before .before .before .before .before .before .before .loop in
-    let S = c .before .before .before .before .before .before .before .before .before .before .before .before in
+    let at-loop-test = c .before .before .before .before .before .before in
+    let at-loop = at-loop-test .before in
+    let S = at-loop .before .before .before .before .before in
+    let loop-test = at-loop-test .loop-test in
+    let loop = at-loop .loop in
     omega (
       arith,
       loop-test .taken,
@@ -77,13 +80,17 @@ loop-less c =
 
 loop-again : tie.Need-loop-again Inv-loop μ-loop
 loop-again c =
-    let S = c .before .before .before .before .before .before .before .before .before .before .before .before in
-    let loop = c .before .before .before .before .before .before .before .loop in
-    let spot = c .before .before .before .before .before .spot in
-    let take-message = c .before .before .before .take-message in
+    let at-take-message = c .before .before .before in
+    let at-spot = at-take-message .before .before in
+    let at-loop-test = at-spot .before in
+    let at-loop = at-loop-test .before in
+    let S = at-loop .before .before .before .before .before in
+    let loop = at-loop .loop in
+    let spot = at-spot .spot in
+    let take-message = at-take-message .take-message in
     laws.gather-next (S .args .sizes .route) (S .args .nest) (S .args .t) _ _ _ _ _ _ (loop .inv)
-    (omega (arith, c .before .before .before .before .before .before .loop-test .taken, loop .inv .gathering .longStatus, S .pre .1 .0 .0 .marks))
-    (spot .result) (spot .ensures) _ (take-message .kept .1 .1 .1 .0) (take-message .ensures) _ (c .next .ensures)
+    (omega (arith, at-loop-test .loop-test .taken, loop .inv .gathering .longStatus, S .pre .1 .0 .0 .marks)) (spot .result) (spot .ensures) _
+    (take-message .kept .1 .1 .1 .0) (take-message .ensures) _ (c .next .ensures)
 
 same-length : tie.Need-same-length Inv-loop μ-loop
 same-length c =

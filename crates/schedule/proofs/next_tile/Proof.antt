@@ -64,11 +64,13 @@ same-length c =
 
 returns-2 : tie.Need-returns-2
 returns-2 c =
-    let S = c .before .before .before .before .before .before .before .before .before .before .before .before .before in
-    let tile-at = c .before .before .before .tile-at in
-    let word-index = c .before .before .before .before .before .before .word-index in
-    laws.tile-waits (planOf (S .args .sizes .route) (S .args .nest)) (S .args .source .now)
-    (stateOf (S .args .memories .now) (S .args .buffer .now) (S .args .progress .now) (S .args .status .now)) (S .args .b) (tile-at .result)
+    let at-tile-at = c .before .before .before in
+    let at-word-index = at-tile-at .before .before .before in
+    let S = at-word-index .before .before .before .before .before .before .before in
+    let tile-at = at-tile-at .tile-at in
+    let word-index = at-word-index .word-index in
+    laws.tile-waits (planOf (S .args .sizes .route) (S .args .nest)) (S .args .source .now) (stateOf (S .args .memories .now) (S .args .buffer .now)
+    (S .args .progress .now) (S .args .status .now)) (S .args .b) (tile-at .result)
     (tile-at .ensures .0 ∙ ap (λ (k : ℕ). getD (tilesOf (planOf (S .args .sizes .route) (S .args .nest)) (S .args .b)) k 0) (word-index .ensures))
     (sym (c .before .ready .ensures) ∙ not-true _ (c .if2 .taken))
 
@@ -118,10 +120,12 @@ whole-tile-requires c κs =
 
 add-t24 : tie.Need-add-t24
 add-t24 c =
-    let tile-count = c .before .before .before .before .before .before .before .before .before .before .before .before .before .before .before .tile-count in
-    let word-index = c .before .before .before .before .before .before .before .before .before .before .before .before .before .before .before .before
-    .word-index in
-    let if1 = c .before .before .before .before .before .before .before .before .before .before .before .before .before .before .if1 in
+    let at-if1 = c .before .before .before .before .before .before .before .before .before .before .before .before .before .before in
+    let at-tile-count = at-if1 .before in
+    let at-word-index = at-tile-count .before in
+    let tile-count = at-tile-count .tile-count in
+    let word-index = at-word-index .word-index in
+    let if1 = at-if1 .if1 in
     omega (arith, tile-count .ensures .1, word-index .ensures, if1 .left)
 
 store-record-requires : tie.Need-store-record-requires
@@ -148,29 +152,30 @@ same-length-5 c =
 
 returns-3 : tie.Need-returns-3
 returns-3 c =
-    let S = c .before .before .before .before .before .before .before .before .before .before .before .before .before .before .before .before .before
-    .before .before .before .before .before .before .before .before .before .before in
-    let tile-at = c .before .before .before .before .before .before .before .before .before .before .before .before .before .before .before .before
-    .before .tile-at in
-    let word-index = c .before .before .before .before .before .before .before .before .before .before .before .before .before .before .before .before
-    .before .before .before .before .word-index in
-    let tile-count = c .before .before .before .before .before .before .before .before .before .before .before .before .before .before .before .before
-    .before .before .before .tile-count in
-    let if1 = c .before .before .before .before .before .before .before .before .before .before .before .before .before .before .before .before
-    .before .before .if1 in
-    let ready = c .before .before .before .before .before .before .before .before .before .before .before .before .before .before .before .ready in
-    let if2 = c .before .before .before .before .before .before .before .before .before .before .before .before .before .before .if2 in
-    let whole-tile = c .before .before .before .before .before .before .before .before .before .before .whole-tile in
-    laws.tile-does (planOf (S .args .sizes .route) (S .args .nest)) (S .args .source .now)
-    (stateOf (S .args .memories .now) (S .args .buffer .now) (S .args .progress .now) (S .args .status .now)) (S .args .b) (tile-at .result)
+    let at-whole-tile = c .before .before .before .before .before .before .before .before .before .before in
+    let at-if2 = at-whole-tile .before .before .before .before in
+    let at-ready = at-if2 .before in
+    let at-tile-at = at-ready .before .before in
+    let at-if1 = at-tile-at .before in
+    let at-tile-count = at-if1 .before in
+    let at-word-index = at-tile-count .before in
+    let S = at-word-index .before .before .before .before .before .before .before in
+    let tile-at = at-tile-at .tile-at in
+    let word-index = at-word-index .word-index in
+    let tile-count = at-tile-count .tile-count in
+    let if1 = at-if1 .if1 in
+    let ready = at-ready .ready in
+    let if2 = at-if2 .if2 in
+    let whole-tile = at-whole-tile .whole-tile in
+    laws.tile-does (planOf (S .args .sizes .route) (S .args .nest)) (S .args .source .now) (stateOf (S .args .memories .now) (S .args .buffer .now)
+    (S .args .progress .now) (S .args .status .now)) (S .args .b) (tile-at .result)
     (tile-at .ensures .0 ∙ ap (λ (k : ℕ). getD (tilesOf (planOf (S .args .sizes .route) (S .args .nest)) (S .args .b)) k 0) (word-index .ensures))
     (omega (arith, tile-count .ensures .0, word-index .ensures, if1 .left)) (sym (ready .ensures) ∙ not-false _ (if2 .left)) _
-    (laws.tile-now (S .args .sizes .route) (S .args .nest) (S .args .source .now)
-    (stateOf (S .args .memories .now) (S .args .buffer .now) (S .args .progress .now) (S .args .status .now)) (S .args .b) (tile-at .result) _
-    (S .args .sizes .cells) (S .pre .0 .0 .planned .0 .cells) (S .pre .1) (S .pre .0 .1 .1) refl _ _ _ _
-    (parts.room (processors (S .args .nest)) (S .args .b) (S .args .sizes .cells) (cells (S .args .nest)) _ (S .pre .0 .1 .1)
-    (S .pre .0 .0 .planned .0 .cells) (S .pre .1 .memories)) (whole-tile .kept .1 .1 .1 .1 .1 .1 .1 .0) (whole-tile .ensures .0)
-    (whole-tile .ensures .1 .0) (c .before .before .store-record .ensures) (whole-tile .ensures .1 .1))
+    (laws.tile-now (S .args .sizes .route) (S .args .nest) (S .args .source .now) (stateOf (S .args .memories .now) (S .args .buffer .now)
+    (S .args .progress .now) (S .args .status .now)) (S .args .b) (tile-at .result) _ (S .args .sizes .cells) (S .pre .0 .0 .planned .0 .cells) (S .pre .1)
+    (S .pre .0 .1 .1) refl _ _ _ _ (parts.room (processors (S .args .nest)) (S .args .b) (S .args .sizes .cells) (cells (S .args .nest)) _ (S .pre .0 .1 .1)
+    (S .pre .0 .0 .planned .0 .cells) (S .pre .1 .memories)) (whole-tile .kept .1 .1 .1 .1 .1 .1 .1 .0) (whole-tile .ensures .0) (whole-tile .ensures .1 .0)
+    (c .before .before .store-record .ensures) (whole-tile .ensures .1 .1))
 
 pub next-tile-spec : {M : Type 1} → statement M
 next-tile-spec =

@@ -23,19 +23,22 @@ loop-holds c =
 
 next-tile-requires : tie.Need-next-tile-requires Inv-loop μ-loop
 next-tile-requires c κs =
-    let S = c .before .before .before .before .before .before .before .before .before .before .before in
-    let loop = c .before .before .before .before .before .loop in (
-      (S .pre .0 .0, (S .pre .0 .1, omega (arith, c .before .before .before .before .loop-test .taken, S .pre .0 .0 .planned .0 .processors))),
-      laws.tiles-lent (planOf (S .args .sizes .route) (S .args .nest)) (S .args .source .now)
-          (stateOf (S .args .memories .now) (S .args .buffer .now) (S .args .progress .now) (S .args .status .now))
-          (stateOf (loop .memories) (loop .buffer) (loop .progress) (loop .status)) (S .args .sizes .processors) (loop .b) (loop .inv) (S .pre .1),
+    let at-loop-test = c .before .before .before .before in
+    let at-loop = at-loop-test .before in
+    let S = at-loop .before .before .before .before .before .before in
+    let loop = at-loop .loop in (
+      (S .pre .0 .0, (S .pre .0 .1, omega (arith, at-loop-test .loop-test .taken, S .pre .0 .0 .planned .0 .processors))),
+      laws.tiles-lent (planOf (S .args .sizes .route) (S .args .nest)) (S .args .source .now) (stateOf (S .args .memories .now) (S .args .buffer .now)
+          (S .args .progress .now) (S .args .status .now)) (stateOf (loop .memories) (loop .buffer) (loop .progress) (loop .status))
+          (S .args .sizes .processors)
+          (loop .b) (loop .inv) (S .pre .1),
     )
 
 add-b : tie.Need-add-b Inv-loop μ-loop
 add-b c =
-    let loop-test = c .before .before .before .before .before .before .before .before .before .before .before .before .before .loop-test in
-    let S = c .before .before .before .before .before .before .before .before .before .before .before .before .before .before .before .before .before
-    .before .before .before in
+    let at-loop-test = c .before .before .before .before .before .before .before .before .before .before .before .before .before in
+    let S = at-loop-test .before .before .before .before .before .before .before in
+    let loop-test = at-loop-test .loop-test in
     omega (arith, loop-test .taken, S .pre .0 .0 .planned .0 .processors, S .pre .0 .0 .planned .0 .accepted .processors-most)
 
 loop-less : tie.Need-loop-less Inv-loop μ-loop
@@ -44,16 +47,17 @@ loop-less c =
 
 loop-again : tie.Need-loop-again Inv-loop μ-loop
 loop-again c =
-    let S = c .before .before .before .before .before .before .before .before .before .before .before .before .before .before .before .before .before
-    .before .before .before in
-    let loop = c .before .before .before .before .before .before .before .before .before .before .before .before .before .before .loop in
-    let loop-test = c .before .before .before .before .before .before .before .before .before .before .before .before .before .loop-test in
-    let next-tile = c .before .before .before .before .before .before .before .before .next-tile in
-    laws.tiles-next (planOf (S .args .sizes .route) (S .args .nest)) (S .args .source .now)
-    (stateOf (S .args .memories .now) (S .args .buffer .now) (S .args .progress .now) (S .args .status .now))
-    (stateOf (loop .memories) (loop .buffer) (loop .progress) (loop .status)) (S .args .sizes .processors) (loop .b) (loop .inv) (loop-test .taken) _
-    (next-tile .kept .1 .1 .1 .1 .1 .1 .1 .0) (next-tile .kept .1 .1 .1 .1 .1 .1 .1 .1 .0) (next-tile .kept .1 .1 .1 .1 .1 .1 .1 .1 .1 .0)
-    (next-tile .kept .1 .1 .1 .1 .1 .1 .1 .1 .1 .1 .0) (next-tile .ensures)
+    let at-next-tile = c .before .before .before .before .before .before .before .before in
+    let at-loop-test = at-next-tile .before .before .before .before .before in
+    let at-loop = at-loop-test .before in
+    let S = at-loop .before .before .before .before .before .before in
+    let loop = at-loop .loop in
+    let loop-test = at-loop-test .loop-test in
+    let next-tile = at-next-tile .next-tile in
+    laws.tiles-next (planOf (S .args .sizes .route) (S .args .nest)) (S .args .source .now) (stateOf (S .args .memories .now) (S .args .buffer .now)
+    (S .args .progress .now) (S .args .status .now)) (stateOf (loop .memories) (loop .buffer) (loop .progress) (loop .status)) (S .args .sizes .processors)
+    (loop .b) (loop .inv) (loop-test .taken) _ (next-tile .kept .1 .1 .1 .1 .1 .1 .1 .0) (next-tile .kept .1 .1 .1 .1 .1 .1 .1 .1 .0)
+    (next-tile .kept .1 .1 .1 .1 .1 .1 .1 .1 .1 .0) (next-tile .kept .1 .1 .1 .1 .1 .1 .1 .1 .1 .1 .0) (next-tile .ensures)
 
 same-length : tie.Need-same-length Inv-loop μ-loop
 same-length c =

@@ -56,9 +56,11 @@ next-requires c κs =
 
 loop-less : tie.Need-loop-less Inv-loop μ-loop
 loop-less c =
-    let loop-test = c .before .before .before .loop-test in
-    let S = c .before .before .before .before .before .before .before in
-    let loop = c .before .before .before .before .loop in
+    let at-loop-test = c .before .before .before in
+    let at-loop = at-loop-test .before in
+    let S = at-loop .before .before .before in
+    let loop-test = at-loop-test .loop-test in
+    let loop = at-loop .loop in
     omega (
       arith,
       loop-test .taken,
@@ -69,10 +71,12 @@ loop-less c =
 
 loop-again : tie.Need-loop-again Inv-loop μ-loop
 loop-again c =
-    let S = c .before .before .before .before .before .before .before in
-    let loop = c .before .before .before .before .loop in
+    let at-loop-test = c .before .before .before in
+    let at-loop = at-loop-test .before in
+    let S = at-loop .before .before .before in
+    let loop = at-loop .loop in
     laws.ready-next (planOf (S .args .sizes .route) (S .args .nest)) (S .args .t) _ _ (loop .inv)
-    (omega (arith, c .before .before .before .loop-test .taken, S .pre .0 .marks)) (c .before .if1 .left) _ (c .next .ensures)
+    (omega (arith, at-loop-test .loop-test .taken, S .pre .0 .marks)) (c .before .if1 .left) _ (c .next .ensures)
 
 returns-2 : tie.Need-returns-2 Inv-loop μ-loop
 returns-2 c =

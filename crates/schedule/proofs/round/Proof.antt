@@ -33,14 +33,14 @@ same-length-4 c =
 
 returns : tie.Need-returns
 returns c =
-    let S = c .before .before .before .before .before .before .before .before .before .before .before .before .before .before .before .before .before
-    .before .before .before .before .before in
-    let next-tiles = c .before .before .before .before .before .before .before .before .before .before .before .before .next-tiles in
+    let at-next-tiles = c .before .before .before .before .before .before .before .before .before .before .before .before in
+    let S = at-next-tiles .before .before .before .before .before .before .before .before .before .before in
+    let next-tiles = at-next-tiles .next-tiles in
     let deliver-mail = c .before .before .deliver-mail in
-    laws.round-done (planOf (S .args .sizes .route) (S .args .nest)) (S .args .source .now)
-    (stateOf (S .args .memories .now) (S .args .buffer .now) (S .args .progress .now) (S .args .status .now))
-    (stateOf (next-tiles .last .1 .1 .1 .1 .1 .1 .1 .0) (next-tiles .last .1 .1 .1 .1 .1 .1 .1 .1 .0) (next-tiles .last .1 .1 .1 .1 .1 .1 .1 .1 .1 .0)
-    (next-tiles .last .1 .1 .1 .1 .1 .1 .1 .1 .1 .1 .0)) (deliver-mail .last .0) (next-tiles .ensures) (deliver-mail .ensures)
+    laws.round-done (planOf (S .args .sizes .route) (S .args .nest)) (S .args .source .now) (stateOf (S .args .memories .now) (S .args .buffer .now)
+    (S .args .progress .now) (S .args .status .now)) (stateOf (next-tiles .last .1 .1 .1 .1 .1 .1 .1 .0) (next-tiles .last .1 .1 .1 .1 .1 .1 .1 .1 .0)
+    (next-tiles .last .1 .1 .1 .1 .1 .1 .1 .1 .1 .0) (next-tiles .last .1 .1 .1 .1 .1 .1 .1 .1 .1 .1 .0)) (deliver-mail .last .0) (next-tiles .ensures)
+    (deliver-mail .ensures)
 
 pub round-spec : {M : Type 1} → statement M
 round-spec =

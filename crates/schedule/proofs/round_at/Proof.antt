@@ -61,37 +61,42 @@ mul-round c =
 
 shared-slice-read-round : tie.Need-shared-slice-read-round Inv-loop μ-loop
 shared-slice-read-round c =
-    let S = c .before .before .before .before .before .before .before in
+    let at-loop-test = c .before .before .before in
+    let at-loop = at-loop-test .before in
+    let S = at-loop .before .before .before in
     let sender-at = c .before .sender-at in
-    let loop = c .before .before .before .before .loop in
+    let loop = at-loop .loop in
     telling.in-table (planOf (S .args .sizes .route) (S .args .nest)) (S .args .tile) (S .args .rounds .now) (S .pre .1 .0) (S .pre .0 .1)
-    (sender-at .result) _ (sender-at .ensures ∙ ap (senderOf (planOf (S .args .sizes .route) (S .args .nest)))
-    (c .before .before .spot .ensures .number)) (telling.walk-sender-low (planOf (S .args .sizes .route) (S .args .nest))
-    (sound (S .args .sizes .route) (S .args .nest) (S .pre .0 .0 .planned .0 .accepted)) (S .args .tile) (S .pre .0 .1) (S .args .last) (loop .latest)
-    (loop .m) (loop .inv) (omega (arith, c .before .before .before .loop-test .taken, S .pre .0 .0 .all)))
+    (sender-at .result) _ (sender-at .ensures ∙ ap (senderOf (planOf (S .args .sizes .route) (S .args .nest))) (c .before .before .spot .ensures .number))
+    (telling.walk-sender-low (planOf (S .args .sizes .route) (S .args .nest)) (sound (S .args .sizes .route) (S .args .nest)
+    (S .pre .0 .0 .planned .0 .accepted)) (S .args .tile) (S .pre .0 .1) (S .args .last) (loop .latest) (loop .m) (loop .inv)
+    (omega (arith, at-loop-test .loop-test .taken, S .pre .0 .0 .all)))
 
 next-requires : tie.Need-next-requires Inv-loop μ-loop
 next-requires c κs =
-    let S = c .before .before .before .before .before .before .before .before in
-    let loop-test = c .before .before .before .before .loop-test in
-    let loop = c .before .before .before .before .before .loop in (
+    let at-loop-test = c .before .before .before .before in
+    let at-loop = at-loop-test .before in
+    let S = at-loop .before .before .before in
+    let loop-test = at-loop-test .loop-test in
+    let loop = at-loop .loop in (
       S .pre .0 .0 .byTaker,
       (
         omega (arith, loop-test .taken, S .pre .0 .0 .all),
         (
           omega (arith, loop-test .taken, S .pre .0 .0 .all, S .pre .0 .0 .listed .few),
-          chains.walk-tile
-              (takerOf (planOf (S .args .sizes .route) (S .args .nest))) (count (planOf (S .args .sizes .route) (S .args .nest))) (S .args .tile) (loop .inv .j)
-              (loop .m) (loop .inv .spot) (omega (arith, loop-test .taken, S .pre .0 .0 .all)),
+          chains.walk-tile (takerOf (planOf (S .args .sizes .route) (S .args .nest))) (count (planOf (S .args .sizes .route) (S .args .nest))) (S .args .tile)
+              (loop .inv .j) (loop .m) (loop .inv .spot) (omega (arith, loop-test .taken, S .pre .0 .0 .all)),
         ),
       ),
     )
 
 loop-less : tie.Need-loop-less Inv-loop μ-loop
 loop-less c =
-    let loop-test = c .before .before .before .before .before .loop-test in
-    let S = c .before .before .before .before .before .before .before .before .before in
-    let loop = c .before .before .before .before .before .before .loop in
+    let at-loop-test = c .before .before .before .before .before in
+    let at-loop = at-loop-test .before in
+    let S = at-loop .before .before .before in
+    let loop-test = at-loop-test .loop-test in
+    let loop = at-loop .loop in
     omega (
       arith,
       loop-test .taken,
@@ -103,21 +108,23 @@ loop-less c =
 
 loop-again : tie.Need-loop-again Inv-loop μ-loop
 loop-again c =
-    let S = c .before .before .before .before .before .before .before .before .before in
-    let loop = c .before .before .before .before .before .before .loop in
-    let loop-test = c .before .before .before .before .before .loop-test in
-    let sender-at = c .before .before .before .sender-at in
+    let at-sender-at = c .before .before .before in
+    let at-spot = at-sender-at .before in
+    let at-loop-test = at-spot .before in
+    let at-loop = at-loop-test .before in
+    let S = at-loop .before .before .before in
+    let loop = at-loop .loop in
+    let loop-test = at-loop-test .loop-test in
+    let sender-at = at-sender-at .sender-at in
     let if1 = c .before .if1 in
-    telling.walk-dues-next (planOf (S .args .sizes .route) (S .args .nest))
-    (sound (S .args .sizes .route) (S .args .nest) (S .pre .0 .0 .planned .0 .accepted)) (S .args .tile) (S .pre .0 .1) (S .args .last)
-    (loop .latest) (loop .m) (loop .inv) (omega (arith, loop-test .taken, S .pre .0 .0 .all)) (getD (S .args .rounds .now) (sender-at .result) 0)
-    (if1 .latest) _ (ap (λ (u : ℕ). getD (S .args .rounds .now) u 0)
-    (sender-at .ensures ∙ ap (senderOf (planOf (S .args .sizes .route) (S .args .nest)))
-    (c .before .before .before .before .spot .ensures .number)) ∙ S .pre .1 .0 .each _
-    (telling.walk-sender-low (planOf (S .args .sizes .route) (S .args .nest))
-    (sound (S .args .sizes .route) (S .args .nest) (S .pre .0 .0 .planned .0 .accepted)) (S .args .tile) (S .pre .0 .1) (S .args .last)
-    (loop .latest) (loop .m) (loop .inv) (omega (arith, loop-test .taken, S .pre .0 .0 .all))))
-    (⊎-elim (λ w. inl (w .0 .taken, w .1)) (λ w. inr (w .0 .left, w .1)) (if1 .came)) (c .next .ensures)
+    telling.walk-dues-next (planOf (S .args .sizes .route) (S .args .nest)) (sound (S .args .sizes .route) (S .args .nest)
+    (S .pre .0 .0 .planned .0 .accepted)) (S .args .tile) (S .pre .0 .1) (S .args .last) (loop .latest) (loop .m) (loop .inv)
+    (omega (arith, loop-test .taken, S .pre .0 .0 .all)) (getD (S .args .rounds .now) (sender-at .result) 0) (if1 .latest) _
+    (ap (λ (u : ℕ). getD (S .args .rounds .now) u 0) (sender-at .ensures ∙ ap (senderOf (planOf (S .args .sizes .route) (S .args .nest)))
+    (at-spot .spot .ensures .number)) ∙ S .pre .1 .0 .each _ (telling.walk-sender-low (planOf (S .args .sizes .route) (S .args .nest))
+    (sound (S .args .sizes .route) (S .args .nest) (S .pre .0 .0 .planned .0 .accepted)) (S .args .tile) (S .pre .0 .1) (S .args .last) (loop .latest)
+    (loop .m) (loop .inv) (omega (arith, loop-test .taken, S .pre .0 .0 .all)))) (⊎-elim (λ w. inl (w .0 .taken, w .1)) (λ w. inr (w .0 .left, w .1))
+    (if1 .came)) (c .next .ensures)
 
 add-result : tie.Need-add-result Inv-loop μ-loop
 add-result c =

@@ -52,17 +52,19 @@ round-requires c κs =
 
 add-done : tie.Need-add-done Inv-loop μ-loop
 add-done c =
-    let S = c .before .before .before .before .before .before .before .before .before .before .before .before .before .before .before .before .before
-    .before .before .before .before .before in
-    let loop = c .before .before .before .before .before .before .before .before .before .before .before .before .before .before .before .before .loop in
-    let tiles-left = c .before .before .before .before .before .before .before .before .before .before .before .before .before .before .tiles-left in
-    let if1 = c .before .before .before .before .before .before .before .before .before .before .before .before .before .if1 in
+    let at-if1 = c .before .before .before .before .before .before .before .before .before .before .before .before .before in
+    let at-tiles-left = at-if1 .before in
+    let at-loop = at-tiles-left .before .before in
+    let S = at-loop .before .before .before .before .before .before in
+    let loop = at-loop .loop in
+    let tiles-left = at-tiles-left .tiles-left in
+    let if1 = at-if1 .if1 in
     omega (
       arith,
-      laws.rounds-more (planOf (S .args .sizes .route) (S .args .nest))
-          (sound (S .args .sizes .route) (S .args .nest) (S .pre .0 .0 .planned .0 .accepted)) (S .args .source .now)
-          (stateOf (S .args .memories .now) (S .args .buffer .now) (S .args .progress .now) (S .args .status .now))
-          (stateOf (loop .memories) (loop .buffer) (loop .progress) (loop .status)) (loop .done) (loop .inv) (sym (tiles-left .ensures) ∙ if1 .taken),
+      laws.rounds-more (planOf (S .args .sizes .route) (S .args .nest)) (sound (S .args .sizes .route) (S .args .nest)
+          (S .pre .0 .0 .planned .0 .accepted)) (S .args .source .now) (stateOf (S .args .memories .now) (S .args .buffer .now) (S .args .progress .now)
+          (S .args .status .now)) (stateOf (loop .memories) (loop .buffer) (loop .progress) (loop .status)) (loop .done) (loop .inv)
+          (sym (tiles-left .ensures) ∙ if1 .taken),
       laws.rounds-few (planOf (S .args .sizes .route) (S .args .nest)) (sound (S .args .sizes .route) (S .args .nest)
           (S .pre .0 .0 .planned .0 .accepted)) (S .args .source .now) (stateOf (S .args .memories .now) (S .args .buffer .now) (S .args .progress .now)
           (S .args .status .now)),
@@ -71,33 +73,37 @@ add-done c =
 
 loop-less : tie.Need-loop-less Inv-loop μ-loop
 loop-less c =
-    let S = c .before .before .before .before .before .before .before .before .before .before .before .before .before .before .before .before .before
-    .before .before .before .before .before in
-    let loop = c .before .before .before .before .before .before .before .before .before .before .before .before .before .before .before .before .loop in
-    let tiles-left = c .before .before .before .before .before .before .before .before .before .before .before .before .before .before .tiles-left in
-    let if1 = c .before .before .before .before .before .before .before .before .before .before .before .before .before .if1 in
+    let at-if1 = c .before .before .before .before .before .before .before .before .before .before .before .before .before in
+    let at-tiles-left = at-if1 .before in
+    let at-loop = at-tiles-left .before .before in
+    let S = at-loop .before .before .before .before .before .before in
+    let loop = at-loop .loop in
+    let tiles-left = at-tiles-left .tiles-left in
+    let if1 = at-if1 .if1 in
     omega (
       arith,
-      laws.rounds-more (planOf (S .args .sizes .route) (S .args .nest))
-          (sound (S .args .sizes .route) (S .args .nest) (S .pre .0 .0 .planned .0 .accepted)) (S .args .source .now)
-          (stateOf (S .args .memories .now) (S .args .buffer .now) (S .args .progress .now) (S .args .status .now))
-          (stateOf (loop .memories) (loop .buffer) (loop .progress) (loop .status)) (loop .done) (loop .inv) (sym (tiles-left .ensures) ∙ if1 .taken),
+      laws.rounds-more (planOf (S .args .sizes .route) (S .args .nest)) (sound (S .args .sizes .route) (S .args .nest)
+          (S .pre .0 .0 .planned .0 .accepted)) (S .args .source .now) (stateOf (S .args .memories .now) (S .args .buffer .now) (S .args .progress .now)
+          (S .args .status .now)) (stateOf (loop .memories) (loop .buffer) (loop .progress) (loop .status)) (loop .done) (loop .inv)
+          (sym (tiles-left .ensures) ∙ if1 .taken),
     )
 
 loop-again : tie.Need-loop-again Inv-loop μ-loop
 loop-again c =
-    let S = c .before .before .before .before .before .before .before .before .before .before .before .before .before .before .before .before .before
-    .before .before .before .before .before in
-    let loop = c .before .before .before .before .before .before .before .before .before .before .before .before .before .before .before .before .loop in
-    let tiles-left = c .before .before .before .before .before .before .before .before .before .before .before .before .before .before .tiles-left in
-    let if1 = c .before .before .before .before .before .before .before .before .before .before .before .before .before .if1 in
-    let round = c .before .before .before .before .before .before .before .before .round in
-    laws.rounds-next (planOf (S .args .sizes .route) (S .args .nest)) (sound (S .args .sizes .route) (S .args .nest)
-    (S .pre .0 .0 .planned .0 .accepted)) (S .args .source .now) (stateOf (S .args .memories .now) (S .args .buffer .now) (S .args .progress .now)
-    (S .args .status .now)) (stateOf (loop .memories) (loop .buffer) (loop .progress) (loop .status)) (loop .done) (loop .inv)
-    (laws.rounds-more (planOf (S .args .sizes .route) (S .args .nest))
-    (sound (S .args .sizes .route) (S .args .nest) (S .pre .0 .0 .planned .0 .accepted)) (S .args .source .now)
-    (stateOf (S .args .memories .now) (S .args .buffer .now) (S .args .progress .now) (S .args .status .now))
+    let at-round = c .before .before .before .before .before .before .before .before in
+    let at-if1 = at-round .before .before .before .before .before in
+    let at-tiles-left = at-if1 .before in
+    let at-loop = at-tiles-left .before .before in
+    let S = at-loop .before .before .before .before .before .before in
+    let loop = at-loop .loop in
+    let tiles-left = at-tiles-left .tiles-left in
+    let if1 = at-if1 .if1 in
+    let round = at-round .round in
+    laws.rounds-next (planOf (S .args .sizes .route) (S .args .nest)) (sound (S .args .sizes .route) (S .args .nest) (S .pre .0 .0 .planned .0 .accepted))
+    (S .args .source .now) (stateOf (S .args .memories .now) (S .args .buffer .now) (S .args .progress .now) (S .args .status .now))
+    (stateOf (loop .memories) (loop .buffer) (loop .progress) (loop .status)) (loop .done) (loop .inv)
+    (laws.rounds-more (planOf (S .args .sizes .route) (S .args .nest)) (sound (S .args .sizes .route) (S .args .nest) (S .pre .0 .0 .planned .0 .accepted))
+    (S .args .source .now) (stateOf (S .args .memories .now) (S .args .buffer .now) (S .args .progress .now) (S .args .status .now))
     (stateOf (loop .memories) (loop .buffer) (loop .progress) (loop .status)) (loop .done) (loop .inv) (sym (tiles-left .ensures) ∙ if1 .taken)) _
     (round .kept .1 .1 .1 .1 .1 .1 .1 .0) (round .kept .1 .1 .1 .1 .1 .1 .1 .1 .0) (round .kept .1 .1 .1 .1 .1 .1 .1 .1 .1 .0)
     (round .kept .1 .1 .1 .1 .1 .1 .1 .1 .1 .1 .0) (round .ensures)

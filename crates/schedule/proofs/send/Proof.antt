@@ -46,26 +46,29 @@ slice-write-status c =
 
 next-requires : tie.Need-next-requires Inv-loop μ-loop
 next-requires c κs =
-    let S = c .before .before .before .before .before .before .before .before .before .before .before in
-    let loop-test = c .before .before .before .before .before .loop-test in
-    let loop = c .before .before .before .before .before .before .loop in (
+    let at-loop-test = c .before .before .before .before .before in
+    let at-loop = at-loop-test .before in
+    let S = at-loop .before .before .before .before .before in
+    let loop-test = at-loop-test .loop-test in
+    let loop = at-loop .loop in (
       S .pre .1 .0 .0 .chained,
       (
         omega (arith, loop-test .taken, loop .inv .marks, S .pre .1 .0 .0 .marks),
         (
           omega (arith, loop-test .taken, loop .inv .marks, S .pre .1 .0 .0 .marks, S .pre .1 .0 .0 .few),
-          chains.walk-tile
-              (senderOf (planOf (S .args .sizes .route) (S .args .nest))) (count (planOf (S .args .sizes .route) (S .args .nest))) (S .args .t) (loop .inv .j)
-              (loop .m) (loop .inv .spot) (omega (arith, loop-test .taken, loop .inv .marks, S .pre .1 .0 .0 .marks)),
+          chains.walk-tile (senderOf (planOf (S .args .sizes .route) (S .args .nest))) (count (planOf (S .args .sizes .route) (S .args .nest))) (S .args .t)
+              (loop .inv .j) (loop .m) (loop .inv .spot) (omega (arith, loop-test .taken, loop .inv .marks, S .pre .1 .0 .0 .marks)),
         ),
       ),
     )
 
 loop-less : tie.Need-loop-less Inv-loop μ-loop
 loop-less c =
-    let loop-test = c .before .before .before .before .before .before .loop-test in
-    let loop = c .before .before .before .before .before .before .before .loop in
-    let S = c .before .before .before .before .before .before .before .before .before .before .before .before in
+    let at-loop-test = c .before .before .before .before .before .before in
+    let at-loop = at-loop-test .before in
+    let S = at-loop .before .before .before .before .before in
+    let loop-test = at-loop-test .loop-test in
+    let loop = at-loop .loop in
     omega (
       arith,
       loop-test .taken,
@@ -77,12 +80,16 @@ loop-less c =
 
 loop-again : tie.Need-loop-again Inv-loop μ-loop
 loop-again c =
-    let S = c .before .before .before .before .before .before .before .before .before .before .before .before in
-    let loop = c .before .before .before .before .before .before .before .loop in
-    let put-message = c .before .before .before .put-message in
+    let at-put-message = c .before .before .before in
+    let at-spot = at-put-message .before .before in
+    let at-loop-test = at-spot .before in
+    let at-loop = at-loop-test .before in
+    let S = at-loop .before .before .before .before .before in
+    let loop = at-loop .loop in
+    let put-message = at-put-message .put-message in
     laws.send-next (planOf (S .args .sizes .route) (S .args .nest)) (S .args .t) _ _ _ _ _ _ (loop .inv)
-    (omega (arith, c .before .before .before .before .before .before .loop-test .taken, loop .inv .marks, S .pre .1 .0 .0 .marks)) _
-    (c .before .before .before .before .before .spot .ensures .number) _ (put-message .kept .1 .1 .1 .1 .0) (put-message .ensures) _ (c .next .ensures)
+    (omega (arith, at-loop-test .loop-test .taken, loop .inv .marks, S .pre .1 .0 .0 .marks)) _ (at-spot .spot .ensures .number) _
+    (put-message .kept .1 .1 .1 .1 .0) (put-message .ensures) _ (c .next .ensures)
 
 same-length : tie.Need-same-length Inv-loop μ-loop
 same-length c =

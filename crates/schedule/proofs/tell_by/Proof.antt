@@ -47,13 +47,15 @@ round-at-requires c κs =
 
 mul-rounds : tie.Need-mul-rounds Inv-loop μ-loop
 mul-rounds c =
-    let S = c .before .before .before .before .before .before in
+    let at-loop-test = c .before .before .before in
+    let at-loop = at-loop-test .before in
+    let S = at-loop .before .before in
     omega (
       arith,
-      c .before .before .before .loop-test .taken,
-      c .before .before .before .before .loop .inv .tells .long,
-      tiles-low
-          (S .args .sizes .route) (S .args .nest) (S .pre .0 .planned .0 .accepted),
+      at-loop-test .loop-test .taken,
+      at-loop .loop .inv .tells .long,
+      tiles-low (S .args .sizes .route) (S .args .nest)
+          (S .pre .0 .planned .0 .accepted),
     )
 
 slice-write-rounds : tie.Need-slice-write-rounds Inv-loop μ-loop
@@ -70,28 +72,34 @@ array-write-lasts c =
 
 add-tile : tie.Need-add-tile Inv-loop μ-loop
 add-tile c =
-    let S = c .before .before .before .before .before .before in
+    let at-loop-test = c .before .before .before in
+    let at-loop = at-loop-test .before in
+    let S = at-loop .before .before in
     omega (
       arith,
-      c .before .before .before .loop-test .taken,
-      c .before .before .before .before .loop .inv .tells .long,
-      tiles-low
-          (S .args .sizes .route) (S .args .nest) (S .pre .0 .planned .0 .accepted),
+      at-loop-test .loop-test .taken,
+      at-loop .loop .inv .tells .long,
+      tiles-low (S .args .sizes .route) (S .args .nest)
+          (S .pre .0 .planned .0 .accepted),
     )
 
 loop-less : tie.Need-loop-less Inv-loop μ-loop
 loop-less c =
-    omega (arith, c .before .before .before .loop-test .taken, c .before .before .before .before .loop .inv .long)
+    let at-loop-test = c .before .before .before in
+    let at-loop = at-loop-test .before in
+    omega (arith, at-loop-test .loop-test .taken, at-loop .loop .inv .long)
 
 loop-again : tie.Need-loop-again Inv-loop μ-loop
 loop-again c =
-    let S = c .before .before .before .before .before .before in
-    let loop = c .before .before .before .before .loop in
+    let at-loop-test = c .before .before .before in
+    let at-loop = at-loop-test .before in
+    let S = at-loop .before .before in
+    let loop = at-loop .loop in
     let processor-at = c .before .before .processor-at in
     let round-at = c .round-at in
     telling.table-next (planOf (S .args .sizes .route) (S .args .nest)) (S .args .rounds .now) (loop .rounds) (loop .lasts) (loop .tile) (loop .inv)
-    (S .pre .0 .planned .0 .accepted .processors-most) (omega (arith, c .before .before .before .loop-test .taken, loop .inv .tells .long))
-    (processor-at .result) (processor-at .ensures .0) (processor-at .ensures .1) (round-at .result) (round-at .ensures)
+    (S .pre .0 .planned .0 .accepted .processors-most) (omega (arith, at-loop-test .loop-test .taken, loop .inv .tells .long)) (processor-at .result)
+    (processor-at .ensures .0) (processor-at .ensures .1) (round-at .result) (round-at .ensures)
 
 same-length : tie.Need-same-length Inv-loop μ-loop
 same-length c =

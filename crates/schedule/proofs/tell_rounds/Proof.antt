@@ -15,9 +15,11 @@ chain-ends-requires c κs =
 
 tell-by-requires : tie.Need-tell-by-requires
 tell-by-requires c κs =
-    let S = c .before .before .before .before .before .before .before .before .before in
-    let list = c .before .before .before .before .before .before .list in
-    (record { planned = S .pre .0; listed = list .ensures .1; byTaker = c .before .before .before .chain-ends .ensures; all = list .ensures .0 }, S .pre .1)
+    let at-chain-ends = c .before .before .before in
+    let at-list = at-chain-ends .before .before .before in
+    let S = at-list .before .before .before in
+    let list = at-list .list in
+    (record { planned = S .pre .0; listed = list .ensures .1; byTaker = at-chain-ends .chain-ends .ensures; all = list .ensures .0 }, S .pre .1)
 
 same-length : tie.Need-same-length
 same-length c =

@@ -33,21 +33,17 @@ calculate-requires c κs =
 
 send-requires : tie.Need-send-requires
 send-requires c κs =
-    let S = c .before .before .before .before .before .before .before .before .before .before .before .before .before .before .before .before .before
-    .before .before in
-    let gather = c .before .before .before .before .before .before .before .before .before .before .before .gather in (
+    let at-calculate = c .before .before .before .before .before in
+    let at-gather = at-calculate .before .before .before .before .before .before in
+    let S = at-gather .before .before .before .before .before .before .before .before in
+    let gather = at-gather .gather in (
       (S .pre .0 .0 .planned, S .pre .0 .0 .listed),
       (
         (
-          record {
-            chained = S .pre .0 .0 .bySender;
-            marks = gather .kept .1 .1 .1 .1 .1 .1 .1 .0 ∙ S .pre
-                .1 .1 .1;
-            few = S .pre .0 .0 .few;
-          },
+          record { chained = S .pre .0 .0 .bySender; marks = gather .kept .1 .1 .1 .1 .1 .1 .1 .0 ∙ S .pre .1 .1 .1; few = S .pre .0 .0 .few },
           omega (arith, S .pre .0 .1, L.tiles-few _ _ _ (S .pre .0 .0 .planned .0) (S .pre .0 .0 .planned .1)),
         ),
-        (c .before .before .before .before .before .calculate .kept .1 .1 .1 .1 .0 ∙ (gather .kept .1 .1 .1 .1 .1 .0 ∙ S .pre .1 .0 .1), S .pre .1 .1 .0),
+        (at-calculate .calculate .kept .1 .1 .1 .1 .0 ∙ (gather .kept .1 .1 .1 .1 .1 .0 ∙ S .pre .1 .0 .1), S .pre .1 .1 .0),
       ),
     )
 
@@ -65,11 +61,13 @@ same-length-3 c =
 
 returns : tie.Need-returns
 returns c =
-    let calculate = c .before .before .before .before .before .before .before .before .before .before .calculate in
-    let S = c .before .before .before .before .before .before .before .before .before .before .before .before .before .before .before .before .before
-    .before .before .before .before .before .before .before in
-    let gather = c .before .before .before .before .before .before .before .before .before .before .before .before .before .before .before .before .gather in
-    let send = c .before .before .before .before .send in (
+    let at-send = c .before .before .before .before in
+    let at-calculate = at-send .before .before .before .before .before .before in
+    let at-gather = at-calculate .before .before .before .before .before .before in
+    let S = at-gather .before .before .before .before .before .before .before .before in
+    let calculate = at-calculate .calculate in
+    let gather = at-gather .gather in
+    let send = at-send .send in (
       calculate .ensures ∙ ap (λ (m : List ℕ). storeAll (planOf (S .args .sizes .route) (S .args .nest) .value (S .args .source .now)) m
           (planOf (S .args .sizes .route) (S .args .nest) .cellsOf (S .args .t))) (gather .ensures .0),
       (

@@ -1,8 +1,7 @@
 -- `shaped::ahead_of` meets its contract: the first j components are moved.
 use Prim.Native.Nat.{_+_, _*_, _-_}
-use mathlib.Core.Path.{refl, sym, ap, _∙_}
+use mathlib.Core.Path.{refl}
 use native.Mathlib.Omega.{arith}
-use borrow.Author.Needs.{needs}
 use lib.ListN.{getD}
 use Rattle.layout.proofs.Loops.{Changed, changed-none, changed-more}
 use Rattle.shaped.proofs.Runs as R
@@ -22,43 +21,74 @@ loop-holds : tie.Need-loop-holds Inv-loop μ-loop
 loop-holds c = changed-none _ _ _ (omega arith)
 
 mul-to : tie.Need-mul-to Inv-loop μ-loop
-mul-to c = omega (arith, c .loop-test .taken, c .before .before .before .pre .0 .0 .dimensions-most, c .before .before .before .pre .0 .0 .distances-most, c .before .before .before .pre .0 .1 .0)
+mul-to c =
+    let start = c .before .before .before in
+    omega (arith, c .loop-test .taken, start .pre .0 .0 .dimensions-most, start .pre .0 .0 .distances-most, start .pre .0 .1 .0)
 
 array-read-to : tie.Need-array-read-to Inv-loop μ-loop
-array-read-to c = omega (arith, c .loop-test .taken, c .before .before .before .pre .0 .0 .dimensions-most, c .before .before .before .pre .0 .0 .distances-most, c .before .before .before .pre .0 .1 .0)
+array-read-to c =
+    let start = c .before .before .before in
+    omega (arith, c .loop-test .taken, start .pre .0 .0 .dimensions-most, start .pre .0 .0 .distances-most, start .pre .0 .1 .0)
 
 mul-to-2 : tie.Need-mul-to-2 Inv-loop μ-loop
-mul-to-2 c = omega (arith, c .loop-test .taken, c .before .before .before .pre .0 .0 .dimensions-most, c .before .before .before .pre .0 .0 .distances-most, c .before .before .before .pre .0 .1 .0)
+mul-to-2 c =
+    let start = c .before .before .before in
+    omega (arith, c .loop-test .taken, start .pre .0 .0 .dimensions-most, start .pre .0 .0 .distances-most, start .pre .0 .1 .0)
 
 add-to : tie.Need-add-to Inv-loop μ-loop
-add-to c = omega (arith, c .loop-test .taken, c .before .before .before .pre .0 .0 .dimensions-most, c .before .before .before .pre .0 .0 .distances-most, c .before .before .before .pre .0 .1 .0)
+add-to c =
+    let start = c .before .before .before in
+    omega (arith, c .loop-test .taken, start .pre .0 .0 .dimensions-most, start .pre .0 .0 .distances-most, start .pre .0 .1 .0)
 
 mul-to-3 : tie.Need-mul-to-3 Inv-loop μ-loop
-mul-to-3 c = omega (arith, c .loop-test .taken, c .before .before .before .pre .0 .0 .dimensions-most, c .before .before .before .pre .0 .0 .distances-most, c .before .before .before .pre .0 .1 .0)
+mul-to-3 c =
+    let start = c .before .before .before in
+    omega (arith, c .loop-test .taken, start .pre .0 .0 .dimensions-most, start .pre .0 .0 .distances-most, start .pre .0 .1 .0)
 
 element-copy-out-to : tie.Need-element-copy-out-to Inv-loop μ-loop
-element-copy-out-to c = omega (arith, c .loop-test .taken, c .before .before .before .pre .0 .0 .dimensions-most, c .before .before .before .pre .0 .0 .distances-most, c .before .before .before .pre .0 .1 .0)
+element-copy-out-to c =
+    let start = c .before .before .before in
+    omega (arith, c .loop-test .taken, start .pre .0 .0 .dimensions-most, start .pre .0 .0 .distances-most, start .pre .0 .1 .0)
 
 add-to-2 : tie.Need-add-to-2 Inv-loop μ-loop
-add-to-2 c = omega (arith, c .before .before .before .before .pre .1 (c .before .before .loop .j) (omega (arith, c .before .loop-test .taken)), R.given-most _ (c .before .before .before .before .pre .0 .0) _ (c .before .before .before .before .pre .0 .1 .1) (c .before .before .before .before .args .e) (c .before .before .loop .j))
+add-to-2 c =
+    let start = c .before .before .before .before in
+    omega (
+      arith,
+      start .pre .1 (c .before .before .loop .j) (omega (arith, c .before .loop-test .taken)),
+      R.given-most _ (start .pre .0 .0) _
+          (start .pre .0 .1 .1) (start .args .e) (c .before .before .loop .j),
+    )
 
 mul-to-4 : tie.Need-mul-to-4 Inv-loop μ-loop
-mul-to-4 c = omega (arith, c .before .loop-test .taken, c .before .before .before .before .pre .0 .0 .dimensions-most, c .before .before .before .before .pre .0 .0 .distances-most, c .before .before .before .before .pre .0 .1 .0)
+mul-to-4 c =
+    let start = c .before .before .before .before in
+    omega (arith, c .before .loop-test .taken, start .pre .0 .0 .dimensions-most, start .pre .0 .0 .distances-most, start .pre .0 .1 .0)
 
 array-write-to : tie.Need-array-write-to Inv-loop μ-loop
-array-write-to c = omega (arith, c .before .loop-test .taken, c .before .before .before .before .pre .0 .0 .dimensions-most, c .before .before .before .before .pre .0 .0 .distances-most, c .before .before .before .before .pre .0 .1 .0)
+array-write-to c =
+    let start = c .before .before .before .before in
+    omega (arith, c .before .loop-test .taken, start .pre .0 .0 .dimensions-most, start .pre .0 .0 .distances-most, start .pre .0 .1 .0)
 
 add-j : tie.Need-add-j Inv-loop μ-loop
-add-j c = omega (arith, c .before .loop-test .taken, c .before .before .before .before .pre .0 .0 .dimensions-most, c .before .before .before .before .pre .0 .0 .distances-most, c .before .before .before .before .pre .0 .1 .0)
+add-j c =
+    let start = c .before .before .before .before in
+    omega (arith, c .before .loop-test .taken, start .pre .0 .0 .dimensions-most, start .pre .0 .0 .distances-most, start .pre .0 .1 .0)
 
 loop-less : tie.Need-loop-less Inv-loop μ-loop
 loop-less c = omega (arith, c .before .loop-test .taken)
 
 loop-again : tie.Need-loop-again Inv-loop μ-loop
-loop-again c = changed-more _ _ _ _ _ _ (c .before .before .loop .inv) (c .before .loop-test .taken) (omega (arith, c .before .before .before .before .pre .0 .0 .dimensions-most)) refl
+loop-again c =
+    let at-test = c .before in
+    changed-more _ _ _ _ _ _ (at-test .before .loop .inv) (at-test .loop-test .taken)
+    (omega (arith, at-test .before .before .before .pre .0 .0 .dimensions-most)) refl
 
 returns : tie.Need-returns Inv-loop μ-loop
-returns c = R.moved-ahead _ (c .before .before .before .pre .0 .0) _ (c .before .before .before .pre .0 .1 .1) (c .before .before .before .args .t3) (c .before .before .before .args .e) (c .before .before .before .pre .1) _ _ (c .before .loop .inv) (c .loop-test .left)
+returns c =
+    let start = c .before .before .before in
+    R.moved-ahead _ (start .pre .0 .0) _ (start .pre .0 .1 .1) (start .args .t3) (start .args .e) (start .pre .1) _ _ (c .before .loop .inv)
+    (c .loop-test .left)
 
 pub ahead-of-spec : {M : Type 1} → statement M
 ahead-of-spec =

@@ -5,7 +5,6 @@ use native.Mathlib.Omega.{arith}
 use Rattle.parcels.proofs.Rows.{rows-few}
 use Rattle.shaped.proofs.Found.{Counting, counting-none, counting-row}
 use Rattle.shaped.proofs.Listing as L
-use borrow.Author.Needs.{needs}
 use Rattle.shaped.proofs.count_of.Statement.{statement}
 use Rattle.shaped.proofs.count_of.Tie as tie
 
@@ -28,13 +27,10 @@ loop-holds c = counting-none _ _
 
 row-of-requires : tie.Need-row-of-requires Inv-loop μ-loop
 row-of-requires c κs =
-    let rows-of = c .before .before .before .before .before .rows-of in (
-      (
-        (c .before .before .before .before .before .before .pre .0 .0 .accepted),
-        (record { is = refl }, (rows-of .ensures .shape, c .before .loop-test .taken)),
-      ),
-      rows-of .ensures .ends,
-    )
+    let at-rows-of = c .before .before .before .before .before in
+    let start = at-rows-of .before in
+    let rows-of = at-rows-of .rows-of in
+    (((start .pre .0 .0 .accepted), (record { is = refl }, (rows-of .ensures .shape, c .before .loop-test .taken))), rows-of .ensures .ends)
 
 mul-count-row : tie.Need-mul-count-row Inv-loop μ-loop
 mul-count-row c =
@@ -48,51 +44,58 @@ array-read-count-row c =
 
 count-row-requires : tie.Need-count-row-requires Inv-loop μ-loop
 count-row-requires c κs =
-    let row-of = c .before .before .before .before .before .row-of in (
+    let at-row-of = c .before .before .before .before .before in
+    let at-loop-test = at-row-of .before .before in
+    let at-rows-of = at-loop-test .before .before .before .before in
+    let start = at-rows-of .before in
+    let row-of = at-row-of .row-of in (
       row-of .ensures .runs .few,
-      L.row-small _ (c .before .before .before .before .before .before .before .before .before .before .before .before .pre .0 .0 .accepted) _
-          (c .before .before .before .before .before .before .before .before .before .before .before .rows-of .ensures .shape) _
-          (c .before .before .before .before .before .before .before .loop-test .taken) _ _ _ _ (row-of .ensures),
+      L.row-small _ (start .pre .0 .0 .accepted) _ (at-rows-of .rows-of .ensures .shape) _ (at-loop-test .loop-test .taken) _ _ _
+          _ (row-of .ensures),
     )
 
 add-count : tie.Need-add-count Inv-loop μ-loop
 add-count c =
-    let start = c .before .before .before .before .before .before .before .before .before .before .before .before .before in
-    let rows-of = c .before .before .before .before .before .before .before .before .before .before .before .before .rows-of in
+    let at-row-of = c .before .before .before .before .before .before in
+    let at-loop-test = at-row-of .before .before in
+    let at-loop = at-loop-test .before in
+    let at-rows-of = at-loop .before .before .before in
+    let start = at-rows-of .before in
+    let rows-of = at-rows-of .rows-of in
     omega (
       arith,
-      L.counts-few _ (start .pre .0 .0 .accepted) _ _ _ (rows-of .ensures) _ _
-          (c .before .before .before .before .before .before .before .before .before .loop .inv),
+      L.counts-few _ (start .pre .0 .0 .accepted) _ _ _ (rows-of .ensures) _ _ (at-loop .loop .inv),
       c .count-row .ensures .1,
-      L.row-small _ (start .pre .0 .0 .accepted) _ (rows-of .ensures .shape) _
-          (c .before .before .before .before .before .before .before .before .loop-test .taken) _ _ _ _
-          (c .before .before .before .before .before .before .row-of .ensures),
+      L.row-small _ (start .pre .0 .0 .accepted) _ (rows-of .ensures .shape) _ (at-loop-test .loop-test .taken) _ _ _ _ (at-row-of .row-of .ensures),
     )
 
 add-r : tie.Need-add-r Inv-loop μ-loop
 add-r c =
-    omega (
-      arith,
-      c .before .before .before .before .before .before .before .before .loop-test .taken,
-      rows-few _ (c .before .before .before .before .before .before .before .before .before .before .before .before .before .pre .0 .0 .accepted) _
-          (c .before .before .before .before .before .before .before .before .before .before .before .before .rows-of .ensures .shape),
-    )
+    let at-loop-test = c .before .before .before .before .before .before .before .before in
+    let at-rows-of = at-loop-test .before .before .before .before in
+    let start = at-rows-of .before in
+    omega (arith, at-loop-test .loop-test .taken, rows-few _ (start .pre .0 .0 .accepted) _ (at-rows-of .rows-of .ensures .shape))
 
 loop-less : tie.Need-loop-less Inv-loop μ-loop
-loop-less c = omega (arith, c .before .before .before .before .before .before .before .before .loop-test .taken)
+loop-less c =
+    let at-loop-test = c .before .before .before .before .before .before .before .before in
+    omega (arith, at-loop-test .loop-test .taken)
 
 loop-again : tie.Need-loop-again Inv-loop μ-loop
 loop-again c =
-    counting-row _ _ (c .before .before .before .before .before .before .before .before .before .before .before .before .before .pre .0 .0 .accepted)
-    (c .before .before .before .before .before .before .before .before .before .before .before .before .rows-of .ensures .shape) _
-    (c .before .before .before .before .before .before .before .before .loop-test .taken) _ _ _ _
-    (c .before .before .before .before .before .before .row-of .ensures) _ _
-    (c .before .before .before .before .before .before .before .before .before .loop .inv) (c .count-row .ensures .0)
+    let at-row-of = c .before .before .before .before .before .before in
+    let at-loop-test = at-row-of .before .before in
+    let at-loop = at-loop-test .before in
+    let at-rows-of = at-loop .before .before .before in
+    let start = at-rows-of .before in
+    counting-row _ _ (start .pre .0 .0 .accepted) (at-rows-of .rows-of .ensures .shape) _ (at-loop-test .loop-test .taken) _ _ _ _
+    (at-row-of .row-of .ensures) _ _ (at-loop .loop .inv) (c .count-row .ensures .0)
 
 returns : tie.Need-returns Inv-loop μ-loop
 returns c =
-    L.counts-all _ (c .before .before .before .before .before .pre .0 .0 .accepted) _ _ _ (c .before .before .before .before .rows-of .ensures) _ _
-    (c .before .loop .inv) (c .loop-test .left)
+    let at-rows-of = c .before .before .before .before in
+    let start = at-rows-of .before in
+    L.counts-all _ (start .pre .0 .0 .accepted) _ _ _ (at-rows-of .rows-of .ensures) _ _ (c .before .loop .inv) (c .loop-test .left)
 
 pub count-of-spec : {M : Type 1} → statement M
 count-of-spec =

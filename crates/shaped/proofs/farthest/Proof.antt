@@ -35,20 +35,25 @@ greater-requires : tie.Need-greater-requires Inv-loop μ-loop
 greater-requires c κs = search needs
 
 mul-most : tie.Need-mul-most Inv-loop μ-loop
-mul-most c = omega (arith, c .before .loop-test .taken, c .before .before .before .before .before .pre .distances-most)
+mul-most c =
+    let start = c .before .before .before .before .before in
+    omega (arith, c .before .loop-test .taken, start .pre .distances-most)
 
 array-write-most : tie.Need-array-write-most Inv-loop μ-loop
 array-write-most c = omega (arith, c .before .before .loop .inv .long)
 
 add-i : tie.Need-add-i Inv-loop μ-loop
-add-i c = omega (arith, c .before .loop-test .taken, c .before .before .before .before .before .pre .distances-most)
+add-i c =
+    let start = c .before .before .before .before .before in
+    omega (arith, c .before .loop-test .taken, start .pre .distances-most)
 
 loop-less : tie.Need-loop-less Inv-loop μ-loop
 loop-less c = omega (arith, c .before .loop-test .taken)
 
 loop-again : tie.Need-loop-again Inv-loop μ-loop
 loop-again c =
-    R.most-more _ _ _ _ (c .before .before .loop .inv) (R.component-small _ (c .before .before .before .before .before .pre) _) (c .greater .ensures)
+    let start = c .before .before .before .before .before in
+    R.most-more _ _ _ _ (c .before .before .loop .inv) (R.component-small _ (start .pre) _) (c .greater .ensures)
 
 returns : tie.Need-returns Inv-loop μ-loop
 returns c = R.most-end _ (c .before .before .before .before .pre) _ _ (c .loop-test .left) (c .before .loop .inv)

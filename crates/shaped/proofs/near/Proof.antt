@@ -18,163 +18,148 @@ loop-holds : tie.Need-loop-holds Inv-loop μ-loop
 loop-holds c = (filled-none _ _ _ (omega arith), filled-none _ _ _ (omega arith))
 
 mul-less : tie.Need-mul-less Inv-loop μ-loop
-mul-less c = omega (arith, c .loop-test .taken, c .before .before .before .before .before .before .before .pre .0 .dimensions-most)
+mul-less c =
+    let start = c .before .before .before .before .before .before .before in
+    omega (arith, c .loop-test .taken, start .pre .0 .dimensions-most)
 
 array-read-less : tie.Need-array-read-less Inv-loop μ-loop
-array-read-less c = omega (arith, c .loop-test .taken, c .before .before .before .before .before .before .before .pre .0 .dimensions-most)
+array-read-less c =
+    let start = c .before .before .before .before .before .before .before in
+    omega (arith, c .loop-test .taken, start .pre .0 .dimensions-most)
 
 mul-less-2 : tie.Need-mul-less-2 Inv-loop μ-loop
-mul-less-2 c = omega (arith, c .loop-test .taken, c .before .before .before .before .before .before .before .pre .0 .dimensions-most)
+mul-less-2 c =
+    let start = c .before .before .before .before .before .before .before in
+    omega (arith, c .loop-test .taken, start .pre .0 .dimensions-most)
 
 array-read-less-2 : tie.Need-array-read-less-2 Inv-loop μ-loop
-array-read-less-2 c = omega (arith, c .loop-test .taken, c .before .before .before .before .before .before .before .pre .0 .dimensions-most)
+array-read-less-2 c =
+    let start = c .before .before .before .before .before .before .before in
+    omega (arith, c .loop-test .taken, start .pre .0 .dimensions-most)
 
 less-requires : tie.Need-less-requires Inv-loop μ-loop
 less-requires c κs = search needs
 
 mul-less-3 : tie.Need-mul-less-3 Inv-loop μ-loop
 mul-less-3 c =
-    omega (arith, c .before .loop-test .taken, c .before .before .before .before .before .before .before .before .pre .0 .dimensions-most)
+    let start = c .before .before .before .before .before .before .before .before in
+    omega (arith, c .before .loop-test .taken, start .pre .0 .dimensions-most)
 
 array-read-less-3 : tie.Need-array-read-less-3 Inv-loop μ-loop
 array-read-less-3 c =
-    omega (arith, c .before .loop-test .taken, c .before .before .before .before .before .before .before .before .pre .0 .dimensions-most)
+    let start = c .before .before .before .before .before .before .before .before in
+    omega (arith, c .before .loop-test .taken, start .pre .0 .dimensions-most)
 
 less-requires-2 : tie.Need-less-requires-2 Inv-loop μ-loop
 less-requires-2 c κs = search needs
 
 mul-least : tie.Need-mul-least Inv-loop μ-loop
 mul-least c =
-    omega (
-      arith,
-      c .before .before .loop-test .taken,
-      c .before .before .before .before .before .before .before .before .before .pre .0 .dimensions-most,
-    )
+    let start = c .before .before .before .before .before .before .before .before .before in
+    omega (arith, c .before .before .loop-test .taken, start .pre .0 .dimensions-most)
 
 array-read-least : tie.Need-array-read-least Inv-loop μ-loop
 array-read-least c =
-    omega (
-      arith,
-      c .before .before .loop-test .taken,
-      c .before .before .before .before .before .before .before .before .before .pre .0 .dimensions-most,
-    )
+    let start = c .before .before .before .before .before .before .before .before .before in
+    omega (arith, c .before .before .loop-test .taken, start .pre .0 .dimensions-most)
 
 sub-least : tie.Need-sub-least Inv-loop μ-loop
 sub-least c =
-    omega (
-      arith,
-      c .before .before .before .before .before .before .before .before .before .pre .1 .0 .least (c .before .before .before .loop .j)
-          (c .before .before .loop-test .taken),
-    )
+    let at-loop = c .before .before .before in
+    let start = at-loop .before .before .before .before .before .before in
+    omega (arith, start .pre .1 .0 .least (at-loop .loop .j) (c .before .before .loop-test .taken))
 
 least-requires : tie.Need-least-requires Inv-loop μ-loop
 least-requires c κs = search needs
 
 mul-corner : tie.Need-mul-corner Inv-loop μ-loop
 mul-corner c =
-    omega (
-      arith,
-      c .before .before .before .loop-test .taken,
-      c .before .before .before .before .before .before .before .before .before .before .pre .0 .dimensions-most,
-    )
+    let at-loop-test = c .before .before .before in
+    let start = at-loop-test .before .before .before .before .before .before .before in
+    omega (arith, at-loop-test .loop-test .taken, start .pre .0 .dimensions-most)
 
 array-read-corner : tie.Need-array-read-corner Inv-loop μ-loop
 array-read-corner c =
-    omega (
-      arith,
-      c .before .before .before .loop-test .taken,
-      c .before .before .before .before .before .before .before .before .before .before .pre .0 .dimensions-most,
-    )
+    let at-loop-test = c .before .before .before in
+    let start = at-loop-test .before .before .before .before .before .before .before in
+    omega (arith, at-loop-test .loop-test .taken, start .pre .0 .dimensions-most)
 
 add-corner : tie.Need-add-corner Inv-loop μ-loop
 add-corner c =
-    let start = c .before .before .before .before .before .before .before .before .before .before in
-    let loop = c .before .before .before .before .loop in
-    omega (
-      arith,
-      c .least .ensures,
-      start .pre .1 .0 .inside (loop .j) (c .before .before .before .loop-test .taken),
-      start .pre .0 .length-most (loop .j),
-    )
+    let at-loop-test = c .before .before .before in
+    let at-loop = at-loop-test .before in
+    let start = at-loop .before .before .before .before .before .before in
+    let loop = at-loop .loop in
+    omega (arith, c .least .ensures, start .pre .1 .0 .inside (loop .j) (at-loop-test .loop-test .taken), start .pre .0 .length-most (loop .j))
 
 mul-corner-2 : tie.Need-mul-corner-2 Inv-loop μ-loop
 mul-corner-2 c =
-    omega (
-      arith,
-      c .before .before .before .loop-test .taken,
-      c .before .before .before .before .before .before .before .before .before .before .pre .0 .dimensions-most,
-    )
+    let at-loop-test = c .before .before .before in
+    let start = at-loop-test .before .before .before .before .before .before .before in
+    omega (arith, at-loop-test .loop-test .taken, start .pre .0 .dimensions-most)
 
 array-write-corner : tie.Need-array-write-corner Inv-loop μ-loop
 array-write-corner c =
-    omega (
-      arith,
-      c .before .before .before .loop-test .taken,
-      c .before .before .before .before .before .before .before .before .before .before .pre .0 .dimensions-most,
-    )
+    let at-loop-test = c .before .before .before in
+    let start = at-loop-test .before .before .before .before .before .before .before in
+    omega (arith, at-loop-test .loop-test .taken, start .pre .0 .dimensions-most)
 
 mul-lengths : tie.Need-mul-lengths Inv-loop μ-loop
 mul-lengths c =
-    omega (
-      arith,
-      c .before .before .before .loop-test .taken,
-      c .before .before .before .before .before .before .before .before .before .before .pre .0 .dimensions-most,
-    )
+    let at-loop-test = c .before .before .before in
+    let start = at-loop-test .before .before .before .before .before .before .before in
+    omega (arith, at-loop-test .loop-test .taken, start .pre .0 .dimensions-most)
 
 array-read-lengths : tie.Need-array-read-lengths Inv-loop μ-loop
 array-read-lengths c =
-    omega (
-      arith,
-      c .before .before .before .loop-test .taken,
-      c .before .before .before .before .before .before .before .before .before .before .pre .0 .dimensions-most,
-    )
+    let at-loop-test = c .before .before .before in
+    let start = at-loop-test .before .before .before .before .before .before .before in
+    omega (arith, at-loop-test .loop-test .taken, start .pre .0 .dimensions-most)
 
 sub-lengths : tie.Need-sub-lengths Inv-loop μ-loop
 sub-lengths c = omega (arith, c .least .ensures)
 
 mul-lengths-2 : tie.Need-mul-lengths-2 Inv-loop μ-loop
 mul-lengths-2 c =
-    omega (
-      arith,
-      c .before .before .before .loop-test .taken,
-      c .before .before .before .before .before .before .before .before .before .before .pre .0 .dimensions-most,
-    )
+    let at-loop-test = c .before .before .before in
+    let start = at-loop-test .before .before .before .before .before .before .before in
+    omega (arith, at-loop-test .loop-test .taken, start .pre .0 .dimensions-most)
 
 array-write-lengths : tie.Need-array-write-lengths Inv-loop μ-loop
 array-write-lengths c =
-    omega (
-      arith,
-      c .before .before .before .loop-test .taken,
-      c .before .before .before .before .before .before .before .before .before .before .pre .0 .dimensions-most,
-    )
+    let at-loop-test = c .before .before .before in
+    let start = at-loop-test .before .before .before .before .before .before .before in
+    omega (arith, at-loop-test .loop-test .taken, start .pre .0 .dimensions-most)
 
 add-j : tie.Need-add-j Inv-loop μ-loop
 add-j c =
-    omega (
-      arith,
-      c .before .before .before .loop-test .taken,
-      c .before .before .before .before .before .before .before .before .before .before .pre .0 .dimensions-most,
-    )
+    let at-loop-test = c .before .before .before in
+    let start = at-loop-test .before .before .before .before .before .before .before in
+    omega (arith, at-loop-test .loop-test .taken, start .pre .0 .dimensions-most)
 
 loop-less : tie.Need-loop-less Inv-loop μ-loop
 loop-less c = omega (arith, c .before .before .before .loop-test .taken)
 
 loop-again : tie.Need-loop-again Inv-loop μ-loop
 loop-again c =
-    let loop = c .before .before .before .before .loop in
-    let loop-test = c .before .before .before .loop-test in
-    let start = c .before .before .before .before .before .before .before .before .before .before in
+    let at-loop-test = c .before .before .before in
+    let at-loop = at-loop-test .before in
+    let start = at-loop .before .before .before .before .before .before in
+    let loop = at-loop .loop in
+    let loop-test = at-loop-test .loop-test in
     let less = c .before .before .less in
     let less2 = c .before .less2 in
     let least = c .least in (
-      filled-more _ _ _ _ _ (loop .inv .0) (loop-test .taken) (start .pre .0 .dimensions-most)
-          (R.over-is _ _ _ _ _ _ _ (less .ensures) (less2 .ensures) (least .ensures) .0),
+      filled-more _ _ _ _ _ (loop .inv .0) (loop-test .taken) (start .pre .0 .dimensions-most) (R.over-is _ _ _ _ _ _ _ (less .ensures) (less2 .ensures)
+          (least .ensures) .0),
       filled-more _ _ _ _ _ (loop .inv .1) (loop-test .taken) (start .pre .0 .dimensions-most)
           (R.over-is _ _ _ _ _ _ _ (less .ensures) (less2 .ensures) (least .ensures) .1),
     )
 
 sub-product : tie.Need-sub-product Inv-loop μ-loop
-sub-product c = omega (arith, c .before .before .before .before .before .before .before .pre .0 .dimensions-least)
+sub-product c =
+    let start = c .before .before .before .before .before .before .before in
+    omega (arith, start .pre .0 .dimensions-least)
 
 product-requires : tie.Need-product-requires Inv-loop μ-loop
 product-requires c κs =

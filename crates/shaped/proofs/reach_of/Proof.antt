@@ -12,7 +12,11 @@ use Rattle.shaped.proofs.reach_of.Statement.{statement}
 use Rattle.shaped.proofs.reach_of.Tie as tie
 
 returns : tie.Need-returns
-returns c = λ w h ends. R.reach-none _ (c .before .pre .0 .0) w (nth (c .before .args .at)) (λ j. getD (c .before .args .at) j 0 + component (c .before .args .nest) (c .before .args .e) j) (c .before .args .e) (λ j o. refl) h (rw (c .if1 .taken) at ends)
+returns c =
+    let start = c .before in
+    λ w h ends. R.reach-none _ (start .pre .0 .0) w (nth (start .args .at))
+    (λ j. getD (start .args .at) j 0 + component (start .args .nest) (start .args .e) j) (start .args .e) (λ j o. refl) h
+    (rw (c .if1 .taken) at ends)
 
 ahead-of-requires : tie.Need-ahead-of-requires
 ahead-of-requires c κs = (c .before .pre .0, c .before .pre .1 .0)
@@ -24,16 +28,24 @@ sub-last : tie.Need-sub-last
 sub-last c = omega (arith, c .before .before .before .before .pre .0 .0 .dimensions-least)
 
 mul-d : tie.Need-mul-d
-mul-d c = omega (arith, c .before .before .before .before .pre .0 .0 .dimensions-most, c .before .before .before .before .pre .0 .0 .distances-most, c .before .before .before .before .pre .0 .1 .0)
+mul-d c =
+    let start = c .before .before .before .before in
+    omega (arith, start .pre .0 .0 .dimensions-most, start .pre .0 .0 .distances-most, start .pre .0 .1 .0)
 
 add-d : tie.Need-add-d
-add-d c = omega (arith, c .before .before .before .before .pre .0 .0 .dimensions-most, c .before .before .before .before .pre .0 .0 .distances-most, c .before .before .before .before .pre .0 .1 .0)
+add-d c =
+    let start = c .before .before .before .before in
+    omega (arith, start .pre .0 .0 .dimensions-most, start .pre .0 .0 .distances-most, start .pre .0 .1 .0)
 
 mul-d-2 : tie.Need-mul-d-2
-mul-d-2 c = omega (arith, c .before .before .before .before .pre .0 .0 .dimensions-most, c .before .before .before .before .pre .0 .0 .distances-most, c .before .before .before .before .pre .0 .1 .0)
+mul-d-2 c =
+    let start = c .before .before .before .before in
+    omega (arith, start .pre .0 .0 .dimensions-most, start .pre .0 .0 .distances-most, start .pre .0 .1 .0)
 
 element-copy-out-d : tie.Need-element-copy-out-d
-element-copy-out-d c = omega (arith, c .before .before .before .before .pre .0 .0 .dimensions-most, c .before .before .before .before .pre .0 .0 .distances-most, c .before .before .before .before .pre .0 .1 .0)
+element-copy-out-d c =
+    let start = c .before .before .before .before in
+    omega (arith, start .pre .0 .0 .dimensions-most, start .pre .0 .0 .distances-most, start .pre .0 .1 .0)
 
 less-requires : tie.Need-less-requires
 less-requires c κs = search needs
@@ -51,10 +63,18 @@ least-requires-2 : tie.Need-least-requires-2
 least-requires-2 c κs = search needs
 
 returns-2 : tie.Need-returns-2
-returns-2 c = λ w h ends. R.reach-code _ (c .before .before .before .before .before .before .before .before .before .before .pre .0 .0) w (nth (c .before .before .before .before .before .before .before .before .before .before .args .at)) (nth (c .before .before .before .before .before .before .before .before .ahead-of .result)) (c .before .before .before .before .before .before .before .before .before .before .args .e) (λ j o. c .before .before .before .before .before .before .before .before .ahead-of .ensures .0 j o) h
-    (c .before .before .before .before .before .before .before .before .before .before .args .own .from) (c .before .before .before .before .before .before .before .before .before .before .args .own .to) (c .before .before .before .before .before .before .before .before .before .before .args .limit) (c .before .before .before .before .before .before .before .span .result .from) (c .before .before .before .before .before .before .before .span .result .to) _ (c .before .before .before .before .less .result) (c .before .less2 .result) (c .before .before .least .result) _ _
-    (R.given-is _ (c .before .before .before .before .before .before .before .before .before .before .pre .0 .0) _ (c .before .before .before .before .before .before .before .before .before .before .pre .0 .1 .1) (c .before .before .before .before .before .before .before .before .before .before .args .e) _) (c .before .before .before .before .less .ensures) (c .before .before .before .greater .ensures) (c .before .before .least .ensures) (c .before .less2 .ensures) (c .least2 .ensures)
-    (R.span-run _ (c .before .before .before .before .before .before .before .before .before .before .pre .0 .0) _ _ (c .before .before .before .before .before .before .before .before .before .before .pre .1 .1)) ends (R.span-run _ (c .before .before .before .before .before .before .before .before .before .before .pre .0 .0) _ _ (c .before .before .before .before .before .before .before .span .ensures))
+returns-2 c =
+    let at-greater = c .before .before .before in
+    let at-less = at-greater .before in
+    let at-span = at-less .before .before .before in
+    let at-ahead-of = at-span .before in
+    let start = at-ahead-of .before .before in
+    λ w h ends. R.reach-code _ (start .pre .0 .0) w (nth (start .args .at)) (nth (at-ahead-of .ahead-of .result)) (start .args .e)
+    (λ j o. at-ahead-of .ahead-of .ensures .0 j o) h (start .args .own .from) (start .args .own .to) (start .args .limit) (at-span .span .result .from)
+    (at-span .span .result .to) _ (at-less .less .result) (c .before .less2 .result) (c .before .before .least .result) _ _
+    (R.given-is _ (start .pre .0 .0) _ (start .pre .0 .1 .1) (start .args .e) _) (at-less .less .ensures) (at-greater .greater .ensures)
+    (c .before .before .least .ensures) (c .before .less2 .ensures) (c .least2 .ensures) (R.span-run _ (start .pre .0 .0) _ _ (start .pre .1 .1)) ends
+    (R.span-run _ (start .pre .0 .0) _ _ (at-span .span .ensures))
 
 pub reach-of-spec : {M : Type 1} → statement M
 reach-of-spec =

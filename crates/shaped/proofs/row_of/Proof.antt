@@ -3,7 +3,6 @@ use native.Mathlib.Omega.{arith}
 use Rattle.nest.proofs.Shapes.{framed}
 use Rattle.parcels.proofs.Rows.{box-places, row-small}
 use Rattle.shaped.proofs.Rows as R
-use borrow.Author.Needs.{needs}
 use Rattle.shaped.proofs.row_of.Statement.{statement}
 use Rattle.shaped.proofs.row_of.Tie as tie
 

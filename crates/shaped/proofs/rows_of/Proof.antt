@@ -1,7 +1,6 @@
 -- `shaped::rows_of` meets its contract.
 use native.Mathlib.Omega.{arith}
 use Rattle.shaped.proofs.Listing as L
-use borrow.Author.Needs.{needs}
 use Rattle.shaped.proofs.rows_of.Statement.{statement}
 use Rattle.shaped.proofs.rows_of.Tie as tie
 

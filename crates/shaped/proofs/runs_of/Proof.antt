@@ -7,7 +7,6 @@ use Rattle.layout.specs.Places.{nth}
 use Rattle.parcels.specs.Windows.{windowOf}
 use Rattle.shaped.specs.Runs.{reachesPlace}
 use Rattle.shaped.proofs.Runs as R
-use borrow.Author.Needs.{needs}
 use Rattle.shaped.proofs.runs_of.Statement.{statement}
 use Rattle.shaped.proofs.runs_of.Tie as tie
 
@@ -33,65 +32,62 @@ reach-of-requires c κs =
 
 mul-starts : tie.Need-mul-starts Inv-loop μ-loop
 mul-starts c =
-    omega (
-      arith,
-      c .before .before .before .before .before .loop-test .taken,
-      c .before .before .before .before .before .before .loop .inv .1 .few,
-      c .before .before .before .before .before .before .before .pre .0 .0 .distances-most,
-    )
+    let at-loop-test = c .before .before .before .before .before in
+    let at-loop = at-loop-test .before in
+    let start = at-loop .before in
+    omega (arith, at-loop-test .loop-test .taken, at-loop .loop .inv .1 .few, start .pre .0 .0 .distances-most)
 
 array-write-starts : tie.Need-array-write-starts Inv-loop μ-loop
 array-write-starts c =
-    omega (
-      arith,
-      c .before .before .before .before .before .loop-test .taken,
-      c .before .before .before .before .before .before .loop .inv .1 .few,
-      c .before .before .before .before .before .before .before .pre .0 .0 .distances-most,
-    )
+    let at-loop-test = c .before .before .before .before .before in
+    let at-loop = at-loop-test .before in
+    let start = at-loop .before in
+    omega (arith, at-loop-test .loop-test .taken, at-loop .loop .inv .1 .few, start .pre .0 .0 .distances-most)
 
 mul-ends : tie.Need-mul-ends Inv-loop μ-loop
 mul-ends c =
-    omega (
-      arith,
-      c .before .before .before .before .before .loop-test .taken,
-      c .before .before .before .before .before .before .loop .inv .1 .few,
-      c .before .before .before .before .before .before .before .pre .0 .0 .distances-most,
-    )
+    let at-loop-test = c .before .before .before .before .before in
+    let at-loop = at-loop-test .before in
+    let start = at-loop .before in
+    omega (arith, at-loop-test .loop-test .taken, at-loop .loop .inv .1 .few, start .pre .0 .0 .distances-most)
 
 array-write-ends : tie.Need-array-write-ends Inv-loop μ-loop
 array-write-ends c =
-    omega (
-      arith,
-      c .before .before .before .before .before .loop-test .taken,
-      c .before .before .before .before .before .before .loop .inv .1 .few,
-      c .before .before .before .before .before .before .before .pre .0 .0 .distances-most,
-    )
+    let at-loop-test = c .before .before .before .before .before in
+    let at-loop = at-loop-test .before in
+    let start = at-loop .before in
+    omega (arith, at-loop-test .loop-test .taken, at-loop .loop .inv .1 .few, start .pre .0 .0 .distances-most)
 
 add-runs : tie.Need-add-runs Inv-loop μ-loop
 add-runs c =
-    omega (
-      arith,
-      c .before .before .before .before .before .loop-test .taken,
-      c .before .before .before .before .before .before .loop .inv .1 .few,
-      c .before .before .before .before .before .before .before .pre .0 .0 .distances-most,
-    )
+    let at-loop-test = c .before .before .before .before .before in
+    let at-loop = at-loop-test .before in
+    let start = at-loop .before in
+    omega (arith, at-loop-test .loop-test .taken, at-loop .loop .inv .1 .few, start .pre .0 .0 .distances-most)
 
 add-e : tie.Need-add-e Inv-loop μ-loop
 add-e c =
-    omega (arith, c .before .before .before .before .before .loop-test .taken, c .before .before .before .before .before .before .before .pre .0 .0 .distances-most)
+    let at-loop-test = c .before .before .before .before .before in
+    let start = at-loop-test .before .before in
+    omega (arith, at-loop-test .loop-test .taken, start .pre .0 .0 .distances-most)
 
 loop-less : tie.Need-loop-less Inv-loop μ-loop
-loop-less c = omega (arith, c .before .before .before .before .before .loop-test .taken)
+loop-less c =
+    let at-loop-test = c .before .before .before .before .before in
+    omega (arith, at-loop-test .loop-test .taken)
 
 loop-again : tie.Need-loop-again Inv-loop μ-loop
 loop-again c =
-    let loop-test = c .before .before .before .before .before .loop-test in
-    let start = c .before .before .before .before .before .before .before in (
+    let at-end-in-row = c .before .before .before in
+    let at-loop-test = at-end-in-row .before .before in
+    let at-loop = at-loop-test .before in
+    let start = at-loop .before in
+    let loop-test = at-loop-test .loop-test in (
       omega (arith, loop-test .taken),
-      R.gathered-turn _ _ _ _ _ _ _ _ _ (c .before .before .before .before .before .before .loop .inv .1)
-          (c .before .before .reach-of .ensures (windowOf (start .args .window)) (start .pre .0 .1 .1 .1) (c .before .before .before .end-in-row .ensures))
-          _ _ _ (omega (arith, loop-test .taken, start .pre .0 .0 .distances-most))
-          (⊎-elim (λ w. inl (w .0 .taken, w .1, w .2, w .3)) (λ w. inr (w .0 .left, w .1, w .2, w .3)) (c .if1 .came)),
+      R.gathered-turn _ _ _ _ _ _ _ _ _ (at-loop .loop .inv .1)
+          (c .before .before .reach-of .ensures (windowOf (start .args .window)) (start .pre .0 .1 .1 .1) (at-end-in-row .end-in-row .ensures)) _ _ _
+          (omega (arith, loop-test .taken, start .pre .0 .0 .distances-most)) (⊎-elim (λ w. inl (w .0 .taken, w .1, w .2, w .3))
+          (λ w. inr (w .0 .left, w .1, w .2, w .3)) (c .if1 .came)),
     )
 
 returns : tie.Need-returns Inv-loop μ-loop

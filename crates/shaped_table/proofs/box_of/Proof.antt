@@ -17,10 +17,26 @@ element-copy-out-result : tie.Need-element-copy-out-result
 element-copy-out-result c = omega (arith, c .pre .1 .1, c .pre .0 .tiles-most, c .pre .1 .0 .numbers .long)
 
 cast-result : tie.Need-cast-result
-cast-result c = omega (arith, c .before .pre .1 .0 .numbers .boxes (c .before .args .tile) (c .before .pre .1 .1), boxTile-low _ (c .before .args .tile) (c .before .pre .1 .1), box-tiles-most _ (c .before .pre .0))
+cast-result c =
+    omega (
+      arith,
+      c .before .pre .1 .0 .numbers .boxes (c .before .args .tile) (c .before .pre .1 .1),
+      boxTile-low _ (c .before .args .tile)
+          (c .before .pre .1 .1),
+      box-tiles-most _ (c .before .pre .0),
+    )
 
 returns : tie.Need-returns
-returns c = (c .before .pre .1 .0 .numbers .boxes (c .before .args .tile) (c .before .pre .1 .1), omega (arith, c .before .pre .1 .0 .numbers .boxes (c .before .args .tile) (c .before .pre .1 .1), boxTile-low _ (c .before .args .tile) (c .before .pre .1 .1), box-tiles-most _ (c .before .pre .0)))
+returns c = (
+  c .before .pre .1 .0 .numbers .boxes (c .before .args .tile) (c .before .pre .1 .1),
+  omega (
+    arith,
+    c .before .pre .1 .0 .numbers .boxes (c .before .args .tile) (c .before .pre .1 .1),
+    boxTile-low _ (c .before .args .tile)
+        (c .before .pre .1 .1),
+    box-tiles-most _ (c .before .pre .0),
+  ),
+)
 
 pub box-of-spec : {M : Type 1} → statement M
 box-of-spec =

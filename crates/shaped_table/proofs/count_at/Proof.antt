@@ -40,37 +40,38 @@ sends-at-requires c κs =
 
 add-count : tie.Need-add-count Inv-loop μ-loop
 add-count c =
-    let loop = c .before .before .before .loop in
-    let start = c .before .before .before .before .before .before in
+    let at-loop = c .before .before .before in
+    let at-range-of = at-loop .before in
+    let start = at-range-of .before .before in
+    let loop = at-loop .loop in
     omega (
       arith,
       loop .inv .1,
       L.seen-few _ (start .pre .0 .accepted) (start .args .side) (start .args .tile) (loop .s),
       c .before .before .loop-test .taken,
-      c .before .before .before .before .range-of .ensures .end-low,
+      at-range-of .range-of .ensures .end-low,
       L.slots-few _ (start .pre .0 .accepted),
     )
 
 add-s : tie.Need-add-s Inv-loop μ-loop
 add-s c =
-    omega (
-      arith,
-      c .before .before .loop-test .taken,
-      c .before .before .before .before .range-of .ensures .end-low,
-      L.slots-few _ (c .before .before .before .before .before .before .pre .0 .accepted),
-    )
+    let at-range-of = c .before .before .before .before in
+    let start = at-range-of .before .before in
+    omega (arith, c .before .before .loop-test .taken, at-range-of .range-of .ensures .end-low, L.slots-few _ (start .pre .0 .accepted))
 
 loop-less : tie.Need-loop-less Inv-loop μ-loop
 loop-less c = omega (arith, c .before .before .loop-test .taken)
 
 loop-again : tie.Need-loop-again Inv-loop μ-loop
 loop-again c =
-    let loop-test = c .before .before .loop-test in
-    let start = c .before .before .before .before .before .before in (
+    let at-loop = c .before .before .before in
+    let at-range-of = at-loop .before in
+    let start = at-range-of .before .before in
+    let loop-test = c .before .before .loop-test in (
       omega (arith, loop-test .taken),
       L.seen-turn _ (start .pre .0 .accepted) (start .args .side) (start .args .tile) _ _ _ _
-          (omega (arith, loop-test .taken, c .before .before .before .before .range-of .ensures .end-low)) (c .before .before .before .loop .inv .1)
-          (c .before .sends-at .ensures) (⊎-elim (λ w. inl (w .0 .taken, w .1)) (λ w. inr (w .0 .left, w .1)) (c .if1 .came)),
+          (omega (arith, loop-test .taken, at-range-of .range-of .ensures .end-low)) (at-loop .loop .inv .1) (c .before .sends-at .ensures)
+          (⊎-elim (λ w. inl (w .0 .taken, w .1)) (λ w. inr (w .0 .left, w .1)) (c .if1 .came)),
     )
 
 returns : tie.Need-returns Inv-loop μ-loop

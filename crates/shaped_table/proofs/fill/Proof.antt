@@ -1,26 +1,28 @@
--- `shaped_table::fill` meets its contract: the lengths of the first tiles' parcels.
+-- `shaped_table::fill` meets its contract: the lengths of the first tiles' parcels, and what is known of their row.
 use Prim.Native.Nat.{_-_, _*_, _≤_}
 use mathlib.Core.Path.{refl, sym}
 use native.Mathlib.Nat.{mul-le-mul-right}
 use native.Mathlib.Omega.{arith}
 use Rattle.plan.specs.Messages.{directions}
 use Rattle.shaped_table.specs.Table.{Filling}
+use Rattle.shaped_table.specs.Lines.{Lined}
 use Rattle.shaped_table.proofs.Laws as L
-use borrow.Author.Needs.{needs}
+use Rattle.shaped_table.proofs.Lines as R
 use Rattle.shaped_table.proofs.fill.Statement.{statement}
 use Rattle.shaped_table.proofs.fill.Tie as tie
 
 abbrev Inv-loop : tie.InvT-loop
-Inv-loop nest sizes lens₀ most n tile₀ lens tile = Filling nest lens (tile * directions nest) × (tile ≤ n)
+Inv-loop nest sizes lens₀ most n line₀ tile₀ lens line tile =
+    Filling nest lens (tile * directions nest) × ((tile ≤ n) × Lined nest (line .from) (line .to))
 
 abbrev μ-loop : tie.MeasureT-loop
-μ-loop nest sizes lens₀ most n tile₀ lens tile = n - tile
+μ-loop nest sizes lens₀ most n line₀ tile₀ lens line tile = n - tile
 
 slice-aggregate-mark-tiles : tie.Need-slice-aggregate-mark-tiles Inv-loop μ-loop
 slice-aggregate-mark-tiles c = sym (L.zeros-long _ refl)
 
 mark-tiles-requires : tie.Need-mark-tiles-requires Inv-loop μ-loop
-mark-tiles-requires c κs = ((c .before .pre .0 .accepted), refl)
+mark-tiles-requires c κs = (c .before .pre .0 .accepted, refl)
 
 slice-aggregate-list-tiles : tie.Need-slice-aggregate-list-tiles Inv-loop μ-loop
 slice-aggregate-list-tiles c = sym (c .before .before .mark-tiles .ensures .long)
@@ -31,39 +33,68 @@ list-tiles-requires c κs =
     (start .pre .0, (c .before .before .before .mark-tiles .ensures, start .pre .1 .1))
 
 fill-owners-requires : tie.Need-fill-owners-requires Inv-loop μ-loop
-fill-owners-requires c κs = (c .before .before .before .before .before .before .before .pre .0, c .before .list-tiles .ensures)
+fill-owners-requires c κs =
+    let start = c .before .before .before .before .before .before .before in
+    (start .pre .0, c .before .list-tiles .ensures)
 
 farthest-requires : tie.Need-farthest-requires Inv-loop μ-loop
-farthest-requires c κs = (c .before .before .before .before .before .before .before .before .pre .0 .accepted)
+farthest-requires c κs =
+    let start = c .before .before .before .before .before .before .before .before in
+    start .pre .0 .accepted
 
 tiles-of-requires : tie.Need-tiles-of-requires Inv-loop μ-loop
-tiles-of-requires c κs = (
-  (c .before .before .before .before .before .before .before .before .before .before .pre .0 .accepted),
-  c .before .before .fill-owners .ensures .tiled,
-)
+tiles-of-requires c κs =
+    let start = c .before .before .before .before .before .before .before .before .before .before in
+    (start .pre .0 .accepted, c .before .before .fill-owners .ensures .tiled)
 
 loop-holds : tie.Need-loop-holds Inv-loop μ-loop
-loop-holds c = (
-  L.filling-none _ (c .before .before .before .before .before .before .before .before .before .before .before .pre .0 .accepted) _
-      (c .before .before .before .fill-owners .ensures),
-  omega arith,
-)
+loop-holds c =
+    let start = c .before .before .before .before .before .before .before .before .before .before .before in
+    (L.filling-none _ (start .pre .0 .accepted) _ (c .before .before .before .fill-owners .ensures), (omega arith, R.lined-none _))
+
+box-of-requires : tie.Need-box-of-requires Inv-loop μ-loop
+box-of-requires c κs =
+    let start = c .before .before .before .before .before .before .before .before .before .before .before .before .before .before in (
+      start .pre .0 .accepted,
+      (
+        c .before .before .loop .inv .0 .owned .tiled,
+        omega (
+          arith,
+          c .before .before .before .tiles-of .ensures .0,
+          c .before .loop-test .taken,
+        ),
+      ),
+    )
+
+line-at-requires : tie.Need-line-at-requires Inv-loop μ-loop
+line-at-requires c κs =
+    let at-loop = c .before .before .before in
+    let at-farthest = at-loop .before .before .before in
+    let start = at-farthest .before .before .before .before .before .before .before .before .before in
+    (start .pre .0, (c .box-of .ensures .1, (at-farthest .farthest .ensures, at-loop .loop .inv .1 .1)))
 
 fill-tile-requires : tie.Need-fill-tile-requires Inv-loop μ-loop
 fill-tile-requires c κs =
-    let start = c .before .before .before .before .before .before .before .before .before .before .before .before .before .before in (
-      (start .pre .0, (start .pre .1 .0, c .before .before .before .before .before .farthest .ensures)),
-      (omega (arith, c .before .before .before .tiles-of .ensures .0, c .before .loop-test .taken), c .before .before .loop .inv .0),
+    let at-loop-test = c .before .before .before .before in
+    let at-loop = at-loop-test .before in
+    let at-tiles-of = at-loop .before in
+    let at-farthest = at-tiles-of .before .before in
+    let start = at-farthest .before .before .before .before .before .before .before .before .before in (
+      (start .pre .0, (start .pre .1 .0, (at-farthest .farthest .ensures, c .before .line-at .ensures))),
+      (omega (arith, at-tiles-of .tiles-of .ensures .0, at-loop-test .loop-test .taken), at-loop .loop .inv .0),
     )
 
 add-tile : tie.Need-add-tile Inv-loop μ-loop
-add-tile c = omega (arith, c .before .before .loop-test .taken, c .before .before .before .before .tiles-of .ensures .1)
+add-tile c =
+    let at-loop-test = c .before .before .before .before .before in
+    let at-tiles-of = at-loop-test .before .before in
+    omega (arith, at-loop-test .loop-test .taken, at-tiles-of .tiles-of .ensures .1)
 
 loop-less : tie.Need-loop-less Inv-loop μ-loop
-loop-less c = omega (arith, c .before .before .loop-test .taken)
+loop-less c = omega (arith, c .before .before .before .before .before .loop-test .taken)
 
 loop-again : tie.Need-loop-again Inv-loop μ-loop
-loop-again c = (c .fill-tile .ensures, omega (arith, c .before .before .loop-test .taken))
+loop-again c = (c .fill-tile .ensures, (omega (arith, c .before .before .before .before .before .loop-test .taken), c .before .before .line-at .ensures))
 
 returns : tie.Need-returns Inv-loop μ-loop
 returns c =
@@ -85,6 +116,8 @@ fill-spec =
     farthest-requires
     tiles-of-requires
     loop-holds
+    box-of-requires
+    line-at-requires
     fill-tile-requires
     add-tile
     loop-less

@@ -1,11 +1,10 @@
 -- `shaped_table::like_before` meets its contract.
-use mathlib.Core.Path.{refl, sym, ap, _∙_}
+use Prim.Native.Nat.{_+_}
+use mathlib.Core.Path.{refl}
 use native.Mathlib.Omega.{arith}
+use borrow.Author.Tests.{eqb-true}
 use Rattle.base.proofs.Tests.{never-both}
-use Rattle.layout.proofs.Cells.{count-most}
-use Rattle.plan.proofs.Tiles.{tilePlace-low}
 use Rattle.shaped_table.proofs.Laws as L
-use borrow.Author.Needs.{needs}
 use Rattle.shaped_table.proofs.like_before.Statement.{statement}
 use Rattle.shaped_table.proofs.like_before.Tie as tie
 
@@ -13,85 +12,37 @@ returns : tie.Need-returns
 returns c = λ e. absurd (never-both e refl)
 
 box-of-requires : tie.Need-box-of-requires
-box-of-requires c κs =
-    let start = c .before in
-    ((start .pre .0 .accepted), ((start .pre .1 .1 .1), (start .pre .1 .1 .0)))
-
-sub-box-of : tie.Need-sub-box-of
-sub-box-of c = omega (arith, c .before .if1 .left)
-
-box-of-requires-2 : tie.Need-box-of-requires-2
-box-of-requires-2 c κs =
-    let start = c .before .before in
-    ((start .pre .0 .accepted), ((start .pre .1 .1 .1), omega (arith, (start .pre .1 .1 .0))))
-
-add-if2 : tie.Need-add-if2
-add-if2 c = omega (arith, c .box-of2 .ensures .1, L.box-few _ (c .before .before .before .pre .0 .accepted))
+box-of-requires c κs = (c .before .pre .0, (c .before .pre .1 .1 .0, c .before .pre .1 .0))
 
 returns-2 : tie.Need-returns-2
 returns-2 c = λ e. absurd (never-both e refl)
 
-twin-of-requires : tie.Need-twin-of-requires
-twin-of-requires c κs = (c .before .before .before .before .pre .0, c .before .before .box-of .ensures .1)
-
-add-if3 : tie.Need-add-if3
-add-if3 c =
-    omega (
-      arith,
-      c .twin-of .ensures .low,
-      c .before .before .before .box-of .ensures .1,
-      L.box-few _ (c .before .before .before .before .before .pre .0 .accepted),
-    )
-
 returns-3 : tie.Need-returns-3
 returns-3 c = λ e. absurd (never-both e refl)
 
-place-of-tile-requires : tie.Need-place-of-tile-requires
-place-of-tile-requires c κs = c .before .before .before .before .before .before .pre .0
+sub-box-of : tie.Need-sub-box-of
+sub-box-of c = omega (arith, c .before .before .before .before .before .if1 .left)
 
-sub-if4 : tie.Need-sub-if4
-sub-if4 c = omega (arith, (c .before .before .before .before .before .before .before .before .pre .0 .accepted) .dimensions-least)
+box-of-requires-2 : tie.Need-box-of-requires-2
+box-of-requires-2 c κs =
+    let start = c .before .before .before .before .before .before in
+    (start .pre .0, (start .pre .1 .1 .0, omega (arith, start .pre .1 .0)))
 
-mul-if4 : tie.Need-mul-if4
-mul-if4 c =
-    let start = c .before .before .before .before .before .before .before .before in
-    omega (arith, (start .pre .0 .accepted) .dimensions-least, (start .pre .0 .accepted) .dimensions-most)
-
-array-read-if4 : tie.Need-array-read-if4
-array-read-if4 c =
-    let start = c .before .before .before .before .before .before .before .before in
-    omega (arith, (start .pre .0 .accepted) .dimensions-least, (start .pre .0 .accepted) .dimensions-most)
+add-result : tie.Need-add-result
+add-result c =
+    let start = c .before .before .before .before .before .before .before in
+    omega (arith, c .box-of2 .ensures .1, L.box-few _ (start .pre .0))
 
 returns-4 : tie.Need-returns-4
-returns-4 c = λ e. absurd (never-both e refl)
-
-whole-requires : tie.Need-whole-requires
-whole-requires c κs =
-    let start = c .before .before .before .before .before .before .before .before .before in (
-      (start .pre .0 .accepted),
-      λ j h. omega (
-        arith,
-        c .before .before .place-of-tile .ensures .each j h,
-        tilePlace-low (start .args .nest) (start .pre .0 .accepted)
-            (c .before .before .before .before .before .before .before .box-of .result) j h,
-        count-most (start .args .nest) (start .pre .0 .accepted) j h,
-      ),
-    )
-
-returns-5 : tie.Need-returns-5
-returns-5 c =
-    let start = c .before .before .before .before .before .before .before .before .before .before in
-    let box-of = c .before .before .before .before .before .before .before .before .box-of in
-    λ e. L.like-one (start .args .nest) (start .pre .0 .accepted) (start .args .tile) (box-of .result) (start .pre .1 .1 .0)
-    (c .before .before .before .before .before .before .before .before .before .if1 .left) (sym (box-of .ensures .0))
-    (omega (
-      arith,
-      c .before .before .before .before .before .before .before .box-of2 .ensures .0,
-      c .before .before .before .before .before .before
-          .if2 .left,
-    ))
-    _ (c .before .before .before .place-of-tile .ensures) (c .before .if4 .left) (c .whole .ensures e) (start .args .sizes .route) (start .pre .1 .0)
-    _ (c .before .before .before .before .before .twin-of .ensures) (c .before .before .before .before .if3 .left)
+returns-4 c =
+    let at-if2 = c .before .before .before in
+    let at-box-of = at-if2 .before .before in
+    let at-if1 = at-box-of .before in
+    let start = at-if1 .before in
+    let box-of = at-box-of .box-of in
+    λ e. start .pre .1 .1 .1 .each (start .args .tile) (omega (arith, at-if1 .if1 .left)) (start .pre .1 .0)
+    (omega (arith, box-of .ensures .0, at-if2 .if2 .left)) (omega (arith, box-of .ensures .0, c .before .if3 .left))
+    (omega (arith, box-of .ensures .0, c .box-of2 .ensures .0, eqb-true (c .box-of2 .result + 1) (box-of .result) e))
 
 pub like-before-spec : {M : Type 1} → statement M
 like-before-spec =
@@ -99,17 +50,9 @@ like-before-spec =
     (tie.spec
     returns
     box-of-requires
+    returns-2
+    returns-3
     sub-box-of
     box-of-requires-2
-    add-if2
-    returns-2
-    twin-of-requires
-    add-if3
-    returns-3
-    place-of-tile-requires
-    sub-if4
-    mul-if4
-    array-read-if4
-    returns-4
-    whole-requires
-    returns-5)
+    add-result
+    returns-4)

@@ -23,7 +23,16 @@ loop-holds : tie.Need-loop-holds Inv-loop μ-loop
 loop-holds c = (omega arith, rw (c .before .before .pre .1) (S.counting-start _ (framed _ (c .before .before .pre .0)) (c .before .before .pre .0 .tiled)))
 
 mark-row-requires : tie.Need-mark-row-requires Inv-loop μ-loop
-mark-row-requires c κs = (((framed _ (c .before .before .before .before .before .pre .0)), (c .before .before .before .before .before .pre .0 .tiled)), (S.row-low _ (framed _ (c .before .before .before .before .before .pre .0)) (c .before .before .before .before .before .pre .0 .tiled) _ _ (c .before .loop-test .taken) (c .before .before .before .row-count .ensures), omega (arith, c .before .before .loop .inv .1 .long, box-tiles-most _ (c .before .before .before .before .before .pre .0))))
+mark-row-requires c κs =
+    let at-row-count = c .before .before .before in
+    let start = at-row-count .before .before in (
+      ((framed _ (start .pre .0)), (start .pre .0 .tiled)),
+      (
+        S.row-low _ (framed _ (start .pre .0)) (start .pre .0 .tiled) _ _ (c .before .loop-test .taken)
+            (at-row-count .row-count .ensures),
+        omega (arith, c .before .before .loop .inv .1 .long, box-tiles-most _ (start .pre .0)),
+      ),
+    )
 
 add-q : tie.Need-add-q Inv-loop μ-loop
 add-q c = omega (arith, c .before .before .before .before .loop-test .taken)
@@ -32,7 +41,14 @@ loop-less : tie.Need-loop-less Inv-loop μ-loop
 loop-less c = omega (arith, c .before .before .before .before .loop-test .taken)
 
 loop-again : tie.Need-loop-again Inv-loop μ-loop
-loop-again c = (omega (arith, c .before .before .before .before .loop-test .taken), S.counting-next _ (framed _ (c .before .before .before .before .before .before .before .before .pre .0)) (c .before .before .before .before .before .before .before .before .pre .0 .tiled) _ _ _ (c .before .before .before .before .before .loop .inv .1) (c .before .before .mark-row .ensures))
+loop-again c =
+    let at-loop-test = c .before .before .before .before in
+    let at-loop = at-loop-test .before in
+    let start = at-loop .before .before .before in (
+      omega (arith, at-loop-test .loop-test .taken),
+      S.counting-next _ (framed _ (start .pre .0)) (start .pre .0 .tiled) _ _ _ (at-loop .loop .inv .1)
+          (c .before .before .mark-row .ensures),
+    )
 
 same-length : tie.Need-same-length Inv-loop μ-loop
 same-length c = omega (arith, c .before .loop .inv .1 .long, L.zeros-long _ (c .before .before .before .before .pre .1))

@@ -44,26 +44,27 @@ sends-at-requires c κs =
 
 sums-to-requires : tie.Need-sums-to-requires Inv-loop μ-loop
 sums-to-requires c κs =
-    let start = c .before .before .before .before .before .before .before in
-    L.sheet _ (start .pre .0 .0 .accepted) _ (start .pre .0 .1 .1 .0) _
-    (omega (arith, c .before .before .before .loop-test .taken, c .before .before .before .before .before .range-of .ensures .end-low))
+    let at-loop-test = c .before .before .before in
+    let at-range-of = at-loop-test .before .before in
+    let start = at-range-of .before .before in
+    L.sheet _ (start .pre .0 .0 .accepted) _ (start .pre .0 .1 .1 .0) _ (omega (arith, at-loop-test .loop-test .taken, at-range-of .range-of .ensures .end-low))
 
 mul-half-index : tie.Need-mul-half-index Inv-loop μ-loop
 mul-half-index c =
-    omega (
-      arith,
-      c .before .before .before .before .loop-test .taken,
-      c .before .before .before .before .before .before .range-of .ensures .end-low,
-      L.slots-few _ (c .before .before .before .before .before .before .before .before .pre .0 .0 .accepted),
-    )
+    let at-loop-test = c .before .before .before .before in
+    let at-range-of = at-loop-test .before .before in
+    let start = at-range-of .before .before in
+    omega (arith, at-loop-test .loop-test .taken, at-range-of .range-of .ensures .end-low, L.slots-few _ (start .pre .0 .0 .accepted))
 
 element-copy-out-half-index : tie.Need-element-copy-out-half-index Inv-loop μ-loop
 element-copy-out-half-index c =
-    let start = c .before .before .before .before .before .before .before .before in
+    let at-loop-test = c .before .before .before .before in
+    let at-range-of = at-loop-test .before .before in
+    let start = at-range-of .before .before in
     omega (
       arith,
-      c .before .before .before .before .loop-test .taken,
-      c .before .before .before .before .before .before .range-of .ensures .end-low,
+      at-loop-test .loop-test .taken,
+      at-range-of .range-of .ensures .end-low,
       L.slots-few _ (start .pre .0 .0 .accepted),
       (start .pre .0 .1 .1 .0) .owned .tiled .numbers .long,
     )
@@ -73,44 +74,50 @@ half-index-requires c κs = search needs
 
 returns : tie.Need-returns Inv-loop μ-loop
 returns c =
-    let start = c .before .before .before .before .before .before .before .before .before .before in
-    let loop = c .before .before .before .before .before .before .before .loop in
-    let loop-test = c .before .before .before .before .before .before .loop-test in
-    let range-of = c .before .before .before .before .before .before .before .before .range-of in
-    let f = c .before .before .before .before .before .sends-at .ensures .0 (c .before .before .before .before .if1 .taken) in L.seen-found _
-    (start .pre .0 .0 .accepted) (start .args .side) (start .args .tile) (loop .s) (loop .seen) (start .args .j) _ _ _
-    (omega (arith, loop-test .taken, range-of .ensures .end-low)) (loop .inv .1 .1) (c .before .before .before .if2 .taken) (f .0) (f .1)
-    (c .before .before .sums-to .ensures .1 .1 (shapedMessage (start .args .nest))
-    (L.lengths _ (start .pre .0 .0 .accepted) _ (start .pre .0 .1 .1 .0) _ (omega (arith, loop-test .taken, range-of .ensures .end-low))))
-    (c .half-index .ensures ∙ (start .pre .0 .1 .1 .0) .each (loop .s) (omega (arith, loop-test .taken, range-of .ensures .end-low)))
+    let at-if2 = c .before .before .before in
+    let at-if1 = at-if2 .before in
+    let at-sends-at = at-if1 .before in
+    let at-loop-test = at-sends-at .before in
+    let at-loop = at-loop-test .before in
+    let at-range-of = at-loop .before in
+    let start = at-range-of .before .before in
+    let loop = at-loop .loop in
+    let loop-test = at-loop-test .loop-test in
+    let range-of = at-range-of .range-of in
+    let f = at-sends-at .sends-at .ensures .0 (at-if1 .if1 .taken) in
+    L.seen-found _ (start .pre .0 .0 .accepted) (start .args .side) (start .args .tile) (loop .s) (loop .seen) (start .args .j) _ _ _
+    (omega (arith, loop-test .taken, range-of .ensures .end-low)) (loop .inv .1 .1) (at-if2 .if2 .taken) (f .0) (f .1)
+    (c .before .before .sums-to .ensures .1 .1 (shapedMessage (start .args .nest)) (L.lengths _ (start .pre .0 .0 .accepted) _ (start .pre .0 .1 .1 .0) _
+    (omega (arith, loop-test .taken, range-of .ensures .end-low)))) (c .half-index .ensures ∙ (start .pre .0 .1 .1 .0) .each (loop .s)
+    (omega (arith, loop-test .taken, range-of .ensures .end-low)))
 
 add-seen : tie.Need-add-seen Inv-loop μ-loop
 add-seen c = omega (arith, c .before .before .before .before .loop .inv .1 .0)
 
 add-s : tie.Need-add-s Inv-loop μ-loop
 add-s c =
-    omega (
-      arith,
-      c .before .before .loop-test .taken,
-      c .before .before .before .before .range-of .ensures .end-low,
-      L.slots-few _ (c .before .before .before .before .before .before .pre .0 .0 .accepted),
-    )
+    let at-range-of = c .before .before .before .before in
+    let start = at-range-of .before .before in
+    omega (arith, c .before .before .loop-test .taken, at-range-of .range-of .ensures .end-low, L.slots-few _ (start .pre .0 .0 .accepted))
 
 loop-less : tie.Need-loop-less Inv-loop μ-loop
 loop-less c = omega (arith, c .before .before .loop-test .taken)
 
 loop-again : tie.Need-loop-again Inv-loop μ-loop
 loop-again c =
+    let at-loop = c .before .before .before in
+    let at-range-of = at-loop .before in
+    let start = at-range-of .before .before in
     let loop-test = c .before .before .loop-test in
-    let loop = c .before .before .before .loop in
-    let if1 = c .if1 in
-    let start = c .before .before .before .before .before .before in (
+    let loop = at-loop .loop in
+    let if1 = c .if1 in (
       omega (arith, loop-test .taken),
       (
-        ⊎-elim (λ w. not-yet _ _ _ (loop .inv .1 .0) (w .1 .left) (w .2)) (λ w. omega (arith, w .1, loop .inv .1 .0)) (if1 .came),
+        ⊎-elim (λ w. not-yet _ _ _ (loop .inv .1 .0) (w .1 .left) (w .2)) (λ w. omega (arith, w .1, loop .inv .1 .0))
+            (if1 .came),
         L.seen-turn _ (start .pre .0 .0 .accepted) (start .args .side) (start .args .tile) _ _ _ _
-            (omega (arith, loop-test .taken, c .before .before .before .before .range-of .ensures .end-low)) (loop .inv .1 .1)
-            (c .before .sends-at .ensures) (⊎-elim (λ w. inl (w .0 .taken, w .2)) (λ w. inr (w .0 .left, w .1)) (if1 .came)),
+            (omega (arith, loop-test .taken, at-range-of .range-of .ensures .end-low)) (loop .inv .1 .1) (c .before .sends-at .ensures)
+            (⊎-elim (λ w. inl (w .0 .taken, w .2)) (λ w. inr (w .0 .left, w .1)) (if1 .came)),
       ),
     )
 

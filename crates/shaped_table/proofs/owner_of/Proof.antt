@@ -17,10 +17,26 @@ element-copy-out-result : tie.Need-element-copy-out-result
 element-copy-out-result c = omega (arith, c .pre .1 .1, c .pre .0 .tiles-most, c .pre .1 .0 .tiled .numbers .long)
 
 cast-result : tie.Need-cast-result
-cast-result c = omega (arith, c .before .pre .1 .0 .owners (c .before .args .tile) (c .before .pre .1 .1), processorOf-low _ (c .before .pre .0) (boxTile (c .before .args .nest) (c .before .args .tile)), c .before .pre .0 .processors-most)
+cast-result c =
+    omega (
+      arith,
+      c .before .pre .1 .0 .owners (c .before .args .tile) (c .before .pre .1 .1),
+      processorOf-low _ (c .before .pre .0)
+          (boxTile (c .before .args .nest) (c .before .args .tile)),
+      c .before .pre .0 .processors-most,
+    )
 
 returns : tie.Need-returns
-returns c = (c .before .pre .1 .0 .owners (c .before .args .tile) (c .before .pre .1 .1), omega (arith, c .before .pre .1 .0 .owners (c .before .args .tile) (c .before .pre .1 .1), processorOf-low _ (c .before .pre .0) (boxTile (c .before .args .nest) (c .before .args .tile)), c .before .pre .0 .processors-most))
+returns c = (
+  c .before .pre .1 .0 .owners (c .before .args .tile) (c .before .pre .1 .1),
+  omega (
+    arith,
+    c .before .pre .1 .0 .owners (c .before .args .tile) (c .before .pre .1 .1),
+    processorOf-low _ (c .before .pre .0)
+        (boxTile (c .before .args .nest) (c .before .args .tile)),
+    c .before .pre .0 .processors-most,
+  ),
+)
 
 pub owner-of-spec : {M : Type 1} → statement M
 owner-of-spec =

@@ -34,14 +34,15 @@ outside-requires c κs =
 
 returns-2 : tie.Need-returns-2
 returns-2 c =
-    let start = c .before .before .before .before .before .before .before in
-    let along-of = c .before .before .before .before .before .before .along-of in (
-      λ t h e. sym
-          (ap length (L.leaves-all _ (start .pre .0 .0 .accepted) t (start .args .way) (start .args .tile) h (start .pre .0 .1 .1 .1) e _
-          (rw (start .pre .0 .1 .0) at (along-of .ensures)) (sym (c .before .before .before .before .leaves .ensures) ∙ not-false _
-          (c .before .before .before .if1 .left))) ∙ L.beyond-none _ (start .pre .0 .0 .accepted) (start .args .tile) (start .args .way) _ _
-          (start .args .sizes .across) (start .pre .1 .1) (rw (start .pre .0 .1 .0) at (along-of .ensures)) (start .pre .0 .0 .across)
-          (sym (c .before .outside .ensures) ∙ c .if2 .taken)),
+    let at-if1 = c .before .before .before in
+    let at-leaves = at-if1 .before in
+    let at-along-of = at-leaves .before .before in
+    let start = at-along-of .before in
+    let along-of = at-along-of .along-of in (
+      λ t h e. sym (ap length (L.leaves-all _ (start .pre .0 .0 .accepted) t (start .args .way) (start .args .tile) h (start .pre .0 .1 .1 .1) e _
+          (rw (start .pre .0 .1 .0) at (along-of .ensures)) (sym (at-leaves .leaves .ensures) ∙ not-false _ (at-if1 .if1 .left))) ∙ L.beyond-none _
+          (start .pre .0 .0 .accepted) (start .args .tile) (start .args .way) _ _ (start .args .sizes .across) (start .pre .1 .1)
+          (rw (start .pre .0 .1 .0) at (along-of .ensures)) (start .pre .0 .0 .across) (sym (c .before .outside .ensures) ∙ c .if2 .taken)),
       omega arith,
     )
 
@@ -50,13 +51,14 @@ count-of-requires c κs = c .before .before .before .before .before .before .bef
 
 returns-3 : tie.Need-returns-3
 returns-3 c =
-    let count-of = c .count-of in
-    let start = c .before .before .before .before .before .before .before .before in (
-      λ t h e. count-of .ensures .0
-          ∙ ap length
-          (sym (L.leaves-all _ (start .pre .0 .0 .accepted) t (start .args .way) (start .args .tile) h (start .pre .0 .1 .1 .1) e _
-          (rw (start .pre .0 .1 .0) at (c .before .before .before .before .before .before .before .along-of .ensures))
-          (sym (c .before .before .before .before .before .leaves .ensures) ∙ not-false _ (c .before .before .before .before .if1 .left)))),
+    let at-if1 = c .before .before .before .before in
+    let at-leaves = at-if1 .before in
+    let at-along-of = at-leaves .before .before in
+    let start = at-along-of .before in
+    let count-of = c .count-of in (
+      λ t h e. count-of .ensures .0 ∙ ap length (sym (L.leaves-all _ (start .pre .0 .0 .accepted) t (start .args .way) (start .args .tile) h
+          (start .pre .0 .1 .1 .1) e _ (rw (start .pre .0 .1 .0) at (at-along-of .along-of .ensures)) (sym (at-leaves .leaves .ensures)
+          ∙ not-false _ (at-if1 .if1 .left)))),
       count-of .ensures .1,
     )
 

@@ -14,7 +14,8 @@ use Rattle.shaped_table.proofs.tile_at.Statement.{statement}
 use Rattle.shaped_table.proofs.tile_at.Tie as tie
 
 abbrev Inv-loop : tie.InvT-loop
-Inv-loop nest lens processor finished n count₀ t₀ count t = (t ≤ n) × ((count ≤ finished) × (count ≡ length (those (λ i. processorOf nest (boxTile nest i)) processor t)))
+Inv-loop nest lens processor finished n count₀ t₀ count t =
+    (t ≤ n) × ((count ≤ finished) × (count ≡ length (those (λ i. processorOf nest (boxTile nest i)) processor t)))
 
 abbrev μ-loop : tie.MeasureT-loop
 μ-loop nest lens processor finished n count₀ t₀ count t = n - t
@@ -26,10 +27,26 @@ loop-holds : tie.Need-loop-holds Inv-loop μ-loop
 loop-holds c = (omega arith, (omega arith, L.own-start _ (c .before .pre .0 .0) _))
 
 owner-of-requires : tie.Need-owner-of-requires Inv-loop μ-loop
-owner-of-requires c κs = (c .before .before .before .pre .0 .0, (c .before .before .before .pre .0 .1 .owned, omega (arith, c .before .before .tiles-of .ensures .0, c .loop-test .taken)))
+owner-of-requires c κs = (
+  c .before .before .before .pre .0 .0,
+  (
+    c .before .before .before .pre .0 .1 .owned,
+    omega (
+      arith,
+      c .before .before .tiles-of .ensures .0,
+      c .loop-test .taken,
+    ),
+  ),
+)
 
 returns : tie.Need-returns Inv-loop μ-loop
-returns c = L.own-found _ (c .before .before .before .before .before .before .pre .0 .0) _ _ _ _ (omega (arith, c .before .before .before .before .before .tiles-of .ensures .0, c .before .before .before .loop-test .taken)) (c .before .before .before .before .loop .inv .1 .1) (c .if2 .taken) (sym (c .before .before .owner-of .ensures .0) ∙ c .before .if1 .taken)
+returns c =
+    let at-loop-test = c .before .before .before in
+    let at-loop = at-loop-test .before in
+    let at-tiles-of = at-loop .before in
+    let start = at-tiles-of .before in
+    L.own-found _ (start .pre .0 .0) _ _ _ _ (omega (arith, at-tiles-of .tiles-of .ensures .0, at-loop-test .loop-test .taken)) (at-loop .loop .inv .1 .1)
+    (c .if2 .taken) (sym (c .before .before .owner-of .ensures .0) ∙ c .before .if1 .taken)
 
 add-count : tie.Need-add-count Inv-loop μ-loop
 add-count c = omega (arith, c .before .before .before .before .loop .inv .1 .0)
@@ -41,16 +58,23 @@ loop-less : tie.Need-loop-less Inv-loop μ-loop
 loop-less c = omega (arith, c .before .before .loop-test .taken)
 
 loop-again : tie.Need-loop-again Inv-loop μ-loop
-loop-again c = (
-  omega (arith, c .before .before .loop-test .taken),
-  (
-    ⊎-elim (λ w. not-yet _ _ _ (c .before .before .before .loop .inv .1 .0) (w .1 .left) (w .2)) (λ w. omega (arith, w .1, c .before .before .before .loop .inv .1 .0)) (c .if1 .came),
-    L.own-turn _ (c .before .before .before .before .before .pre .0 .0) _ _ _ _ _ (c .before .before .before .loop .inv .1 .1) (c .before .owner-of .ensures .0) (⊎-elim (λ w. inl (w .0 .taken, w .2)) (λ w. inr (w .0 .left, w .1)) (c .if1 .came)),
-  ),
-)
+loop-again c =
+    let at-loop = c .before .before .before in
+    let start = at-loop .before .before in (
+      omega (arith, c .before .before .loop-test .taken),
+      (
+        ⊎-elim (λ w. not-yet _ _ _ (at-loop .loop .inv .1 .0) (w .1 .left) (w .2))
+            (λ w. omega (arith, w .1, at-loop .loop .inv .1 .0)) (c .if1 .came),
+        L.own-turn _ (start .pre .0 .0) _ _ _ _ _ (at-loop .loop .inv .1 .1)
+            (c .before .owner-of .ensures .0) (⊎-elim (λ w. inl (w .0 .taken, w .2)) (λ w. inr (w .0 .left, w .1)) (c .if1 .came)),
+      ),
+    )
 
 returns-2 : tie.Need-returns-2 Inv-loop μ-loop
-returns-2 c = absurd (L.own-nowhere _ (c .before .before .before .pre .0 .0) _ _ _ _ (omega (arith, c .before .loop .inv .0, c .before .before .tiles-of .ensures .0)) (omega (arith, c .loop-test .left, c .before .before .tiles-of .ensures .0)) (c .before .loop .inv .1 .1) (c .before .loop .inv .1 .0) (c .before .before .before .pre .1))
+returns-2 c =
+    absurd (L.own-nowhere _ (c .before .before .before .pre .0 .0) _ _ _ _ (omega (arith, c .before .loop .inv .0, c .before .before .tiles-of .ensures .0))
+    (omega (arith, c .loop-test .left, c .before .before .tiles-of .ensures .0)) (c .before .loop .inv .1 .1) (c .before .loop .inv .1 .0)
+    (c .before .before .before .pre .1))
 
 pub tile-at-spec : {M : Type 1} → statement M
 tile-at-spec =

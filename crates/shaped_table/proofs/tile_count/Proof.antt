@@ -26,10 +26,31 @@ loop-holds : tie.Need-loop-holds Inv-loop μ-loop
 loop-holds c = (omega arith, L.own-start _ (c .before .pre .0) _)
 
 owner-of-requires : tie.Need-owner-of-requires Inv-loop μ-loop
-owner-of-requires c κs = ((c .before .before .before .pre .0), (c .before .before .before .pre .1 .owned, omega (arith, c .before .before .tiles-of .ensures .0, c .loop-test .taken)))
+owner-of-requires c κs = (
+  (c .before .before .before .pre .0),
+  (
+    c .before .before .before .pre .1 .owned,
+    omega (
+      arith,
+      c .before .before .tiles-of .ensures .0,
+      c .loop-test .taken,
+    ),
+  ),
+)
 
 add-count : tie.Need-add-count Inv-loop μ-loop
-add-count c = omega (arith, c .before .before .before .loop .inv .1, those-few (λ i. processorOf (c .before .before .before .before .before .args .nest) (boxTile (c .before .before .before .before .before .args .nest) i)) (c .before .before .before .before .before .args .processor) (c .before .before .before .loop .t), c .before .before .loop-test .taken, c .before .before .before .before .tiles-of .ensures .1)
+add-count c =
+    let at-loop = c .before .before .before in
+    let at-tiles-of = at-loop .before in
+    let start = at-tiles-of .before in
+    omega (
+      arith,
+      at-loop .loop .inv .1,
+      those-few (λ i. processorOf (start .args .nest) (boxTile (start .args .nest) i)) (start .args .processor)
+          (at-loop .loop .t),
+      c .before .before .loop-test .taken,
+      at-tiles-of .tiles-of .ensures .1,
+    )
 
 add-t : tie.Need-add-t Inv-loop μ-loop
 add-t c = omega (arith, c .before .before .loop-test .taken, c .before .before .before .before .tiles-of .ensures .1)
@@ -38,10 +59,18 @@ loop-less : tie.Need-loop-less Inv-loop μ-loop
 loop-less c = omega (arith, c .before .before .loop-test .taken)
 
 loop-again : tie.Need-loop-again Inv-loop μ-loop
-loop-again c = (omega (arith, c .before .before .loop-test .taken), L.own-turn _ (c .before .before .before .before .before .pre .0) _ _ _ _ _ (c .before .before .before .loop .inv .1) (c .before .owner-of .ensures .0) (⊎-elim (λ w. inl (w .0 .taken, w .1)) (λ w. inr (w .0 .left, w .1)) (c .if1 .came)))
+loop-again c =
+    let at-loop = c .before .before .before in
+    let start = at-loop .before .before in (
+      omega (arith, c .before .before .loop-test .taken),
+      L.own-turn _ (start .pre .0) _ _ _ _ _ (at-loop .loop .inv .1) (c .before .owner-of .ensures .0)
+          (⊎-elim (λ w. inl (w .0 .taken, w .1)) (λ w. inr (w .0 .left, w .1)) (c .if1 .came)),
+    )
 
 returns : tie.Need-returns Inv-loop μ-loop
-returns c = L.own-end _ (c .before .before .before .pre .0) _ _ _ (omega (arith, c .before .loop .inv .0, c .before .before .tiles-of .ensures .0)) (omega (arith, c .loop-test .left, c .before .before .tiles-of .ensures .0)) (c .before .loop .inv .1)
+returns c =
+    L.own-end _ (c .before .before .before .pre .0) _ _ _ (omega (arith, c .before .loop .inv .0, c .before .before .tiles-of .ensures .0))
+    (omega (arith, c .loop-test .left, c .before .before .tiles-of .ensures .0)) (c .before .loop .inv .1)
 
 pub tile-count-spec : {M : Type 1} → statement M
 tile-count-spec =

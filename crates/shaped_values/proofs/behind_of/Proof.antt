@@ -64,7 +64,9 @@ loop-less : tie.Need-loop-less Inv-loop μ-loop
 loop-less c = omega (arith, c .before .loop-test .taken)
 
 loop-again : tie.Need-loop-again Inv-loop μ-loop
-loop-again c = changed-more _ _ _ _ _ _ (c .before .before .loop .inv) (c .before .loop-test .taken) (omega (arith, c .before .before .before .before .pre .0 .0 .dimensions-most)) refl
+loop-again c =
+    changed-more _ _ _ _ _ _ (c .before .before .loop .inv) (c .before .loop-test .taken)
+    (omega (arith, c .before .before .before .before .pre .0 .0 .dimensions-most)) refl
 
 returns : tie.Need-returns Inv-loop μ-loop
 returns c =

@@ -25,34 +25,62 @@ processor-of-requires c κs = search needs
 
 add-first : tie.Need-add-first
 add-first c =
-    let s = c .before .before .before .before .before .before .before .before .before in
-    omega (arith, copy-low _ (s .pre .0 .0 .accepted) _ (s .pre .1 .0) _ (s .pre .1 .1 .0) (s .pre .1 .1 .1) _ _ (c .before .before .before .before .before .span .ensures) (c .before .before .before .before .overlap .ensures), s .pre .0 .0 .accepted .cells-most)
+    let at-overlap = c .before .before .before .before in
+    let at-span = at-overlap .before in
+    let s = at-span .before .before .before .before in
+    omega (
+      arith,
+      copy-low _ (s .pre .0 .0 .accepted) _ (s .pre .1 .0) _ (s .pre .1 .1 .0) (s .pre .1 .1 .1) _ _ (at-span .span .ensures)
+          (at-overlap .overlap .ensures),
+      s .pre .0 .0 .accepted .cells-most,
+    )
 
 mul-copy-words : tie.Need-mul-copy-words
 mul-copy-words c =
-    let s = c .before .before .before .before .before .before .before .before .before .before .before in
-    let r = copy-room _ (s .pre .0 .0 .accepted) _ _ _ _ _ (c .before .before .before .before .processor-of .ensures .1) (s .pre .0 .0 .cells) (s .pre .0 .1 .0) (copy-low _ (s .pre .0 .0 .accepted) _ (s .pre .1 .0) _ (s .pre .1 .1 .0) (s .pre .1 .1 .1) _ _ (c .before .before .before .before .before .before .before .span .ensures) (c .before .before .before .before .before .before .overlap .ensures)) in omega (arith, r .0, r .1)
+    let at-processor-of = c .before .before .before .before in
+    let at-overlap = at-processor-of .before .before in
+    let at-span = at-overlap .before in
+    let s = at-span .before .before .before .before in
+    let r = copy-room _ (s .pre .0 .0 .accepted) _ _ _ _ _ (at-processor-of .processor-of .ensures .1) (s .pre .0 .0 .cells) (s .pre .0 .1 .0)
+    (copy-low _ (s .pre .0 .0 .accepted) _ (s .pre .1 .0) _ (s .pre .1 .1 .0) (s .pre .1 .1 .1) _ _ (at-span .span .ensures) (at-overlap .overlap .ensures)) in
+    omega (arith, r .0, r .1)
 
 add-copy-words : tie.Need-add-copy-words
 add-copy-words c =
-    let s = c .before .before .before .before .before .before .before .before .before .before .before in
-    let r = copy-room _ (s .pre .0 .0 .accepted) _ _ _ _ _ (c .before .before .before .before .processor-of .ensures .1) (s .pre .0 .0 .cells) (s .pre .0 .1 .0) (copy-low _ (s .pre .0 .0 .accepted) _ (s .pre .1 .0) _ (s .pre .1 .1 .0) (s .pre .1 .1 .1) _ _ (c .before .before .before .before .before .before .before .span .ensures) (c .before .before .before .before .before .before .overlap .ensures)) in omega (arith, r .0, r .1)
+    let at-processor-of = c .before .before .before .before in
+    let at-overlap = at-processor-of .before .before in
+    let at-span = at-overlap .before in
+    let s = at-span .before .before .before .before in
+    let r = copy-room _ (s .pre .0 .0 .accepted) _ _ _ _ _ (at-processor-of .processor-of .ensures .1) (s .pre .0 .0 .cells) (s .pre .0 .1 .0)
+    (copy-low _ (s .pre .0 .0 .accepted) _ (s .pre .1 .0) _ (s .pre .1 .1 .0) (s .pre .1 .1 .1) _ _ (at-span .span .ensures) (at-overlap .overlap .ensures)) in
+    omega (arith, r .0, r .1)
 
 sub-copy-words : tie.Need-sub-copy-words
 sub-copy-words c = search needs
 
 copy-words-requires : tie.Need-copy-words-requires
 copy-words-requires c κs =
-    let s = c .before .before .before .before .before .before .before .before .before .before .before .before in
-    let l = copy-low _ (s .pre .0 .0 .accepted) _ (s .pre .1 .0) _ (s .pre .1 .1 .0) (s .pre .1 .1 .1) _ _ (c .before .before .before .before .before .before .before .before .span .ensures) (c .before .before .before .before .before .before .before .overlap .ensures) in let r = copy-room _ (s .pre .0 .0 .accepted) _ _ _ _ _ (c .before .before .before .before .before .processor-of .ensures .1) (s .pre .0 .0 .cells) (s .pre .0 .1 .0) l in ((r .0, (omega (arith, l, s .pre .0 .1 .1), r .1)), omega (arith, s .pre .0 .1 .1, s .pre .0 .0 .accepted .cells-most))
+    let at-processor-of = c .before .before .before .before .before in
+    let at-overlap = at-processor-of .before .before in
+    let at-span = at-overlap .before in
+    let s = at-span .before .before .before .before in
+    let l = copy-low _ (s .pre .0 .0 .accepted) _ (s .pre .1 .0) _ (s .pre .1 .1 .0) (s .pre .1 .1 .1) _ _ (at-span .span .ensures)
+    (at-overlap .overlap .ensures) in
+    let r = copy-room _ (s .pre .0 .0 .accepted) _ _ _ _ _ (at-processor-of .processor-of .ensures .1) (s .pre .0 .0 .cells) (s .pre .0 .1 .0) l in
+    ((r .0, (omega (arith, l, s .pre .0 .1 .1), r .1)), omega (arith, s .pre .0 .1 .1, s .pre .0 .0 .accepted .cells-most))
 
 same-length : tie.Need-same-length
 same-length c = search needs
 
 returns : tie.Need-returns
 returns c =
-    let s = c .before .before .before .before .before .before .before .before .before .before .before .before .before .before .before in
-    row-copied _ (s .pre .0 .0 .accepted) _ (s .pre .1 .0) _ (s .pre .1 .1 .0) (s .pre .1 .1 .1) _ _ (c .before .before .before .before .before .before .before .before .before .before .before .span .ensures) (c .before .before .before .before .before .before .before .before .before .before .overlap .ensures) _ _ _ _ _ (c .before .before .before .before .before .before .before .before .before .tile-of .ensures .0) (c .before .before .before .before .before .before .before .before .processor-of .ensures .0) _ (s .pre .0 .0 .cells) (c .before .before .copy-words .ensures)
+    let at-processor-of = c .before .before .before .before .before .before .before .before in
+    let at-tile-of = at-processor-of .before in
+    let at-overlap = at-tile-of .before in
+    let at-span = at-overlap .before in
+    let s = at-span .before .before .before .before in
+    row-copied _ (s .pre .0 .0 .accepted) _ (s .pre .1 .0) _ (s .pre .1 .1 .0) (s .pre .1 .1 .1) _ _ (at-span .span .ensures) (at-overlap .overlap .ensures)
+    _ _ _ _ _ (at-tile-of .tile-of .ensures .0) (at-processor-of .processor-of .ensures .0) _ (s .pre .0 .0 .cells) (c .before .before .copy-words .ensures)
 
 pub copy-row-spec : {M : Type 1} → statement M
 copy-row-spec =

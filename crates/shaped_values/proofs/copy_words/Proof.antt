@@ -49,7 +49,8 @@ loop-less c = omega (arith, c .before .loop-test .taken)
 loop-again : tie.Need-loop-again Inv-loop μ-loop
 loop-again c =
     let s = c .before .before .before in
-    rowing-more (c .before .before .loop .inv) _ (c .before .loop-test .taken) (copied-at (s .args .memories .now) (c .before .before .loop .grid) (s .args .from) (s .args .to) (c .before .before .loop .y))
+    rowing-more (c .before .before .loop .inv) _ (c .before .loop-test .taken) (copied-at (s .args .memories .now) (c .before .before .loop .grid)
+    (s .args .from) (s .args .to) (c .before .before .loop .y))
 
 same-length : tie.Need-same-length Inv-loop μ-loop
 same-length c = rowing-long (c .before .loop .inv)

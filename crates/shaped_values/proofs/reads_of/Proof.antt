@@ -38,7 +38,9 @@ loop-less : tie.Need-loop-less Inv-loop μ-loop
 loop-less c = omega (arith, c .before .loop-test .taken)
 
 loop-again : tie.Need-loop-again Inv-loop μ-loop
-loop-again c = filling-more _ _ _ _ _ _ _ (c .before .before .loop .inv) (c .before .loop-test .taken) (c .before .before .before .pre .0 .distances-most) (c .read-of .ensures)
+loop-again c =
+    filling-more _ _ _ _ _ _ _ (c .before .before .loop .inv) (c .before .loop-test .taken) (c .before .before .before .pre .0 .distances-most)
+    (c .read-of .ensures)
 
 returns : tie.Need-returns Inv-loop μ-loop
 returns c = filling-end _ _ _ _ _ (c .before .loop .inv) (c .loop-test .left)

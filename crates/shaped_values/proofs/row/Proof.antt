@@ -32,7 +32,8 @@ sub-few c = search needs
 returns : tie.Need-returns
 returns c =
     let s = c .before .before .before .before .before .before .before .before in
-    row-none _ (s .pre .0 .0) _ (s .pre .1 .0) _ (s .pre .1 .1) _ _ (c .before .before .before .span .ensures) (c .before .before .overlap .ensures) _ _ (c .if1 .taken)
+    row-none _ (s .pre .0 .0) _ (s .pre .1 .0) _ (s .pre .1 .1) _ _ (c .before .before .before .span .ensures) (c .before .before .overlap .ensures) _ _
+    (c .if1 .taken)
 
 reads-of-requires : tie.Need-reads-of-requires
 reads-of-requires c κs =
@@ -44,21 +45,35 @@ sub-first c = search needs
 
 add-first : tie.Need-add-first
 add-first c =
-    let s = c .before .before .before .before .before .before .before .before .before .before .before .before in
-    omega (arith, cut-low _ (s .pre .0 .0) _ (s .pre .1 .0) _ (s .pre .1 .1) _ _ (c .before .before .before .before .before .before .before .span .ensures) (c .before .before .before .before .before .before .overlap .ensures), s .pre .0 .0 .cells-most)
+    let at-overlap = c .before .before .before .before .before .before in
+    let at-span = at-overlap .before in
+    let s = at-span .before .before .before .before .before in
+    omega (
+      arith,
+      cut-low _ (s .pre .0 .0) _ (s .pre .1 .0) _ (s .pre .1 .1) _ _ (at-span .span .ensures) (at-overlap .overlap .ensures),
+      s .pre .0 .0 .cells-most,
+    )
 
 store-row-requires : tie.Need-store-row-requires
 store-row-requires c κs =
-    let s = c .before .before .before .before .before .before .before .before .before .before .before .before .before .before .before in
-    row-readable _ (s .pre .0 .0) _ (s .pre .1 .0) _ (s .pre .1 .1) _ _ (c .before .before .before .before .before .before .before .before .before .before .span .ensures) (c .before .before .before .before .before .before .before .before .before .overlap .ensures) _ _ _ _ (c .before .before .before .before .before .before .reads-of .ensures) (s .pre .0 .1 .0 .1 .0) (s .pre .0 .1 .0 .1 .1) _ _ (s .pre .0 .1 .1 .0) (s .pre .0 .1 .1 .1)
+    let at-reads-of = c .before .before .before .before .before .before in
+    let at-overlap = at-reads-of .before .before .before in
+    let at-span = at-overlap .before in
+    let s = at-span .before .before .before .before .before in
+    row-readable _ (s .pre .0 .0) _ (s .pre .1 .0) _ (s .pre .1 .1) _ _ (at-span .span .ensures) (at-overlap .overlap .ensures) _ _ _ _
+    (at-reads-of .reads-of .ensures) (s .pre .0 .1 .0 .1 .0) (s .pre .0 .1 .0 .1 .1) _ _ (s .pre .0 .1 .1 .0) (s .pre .0 .1 .1 .1)
 
 same-length : tie.Need-same-length
 same-length c = search needs
 
 returns-2 : tie.Need-returns-2
 returns-2 c =
-    let s = c .before .before .before .before .before .before .before .before .before .before .before .before .before .before .before .before .before .before in
-    row-values _ (s .pre .0 .0) _ (s .pre .1 .0) _ (s .pre .1 .1) _ _ (c .before .before .before .before .before .before .before .before .before .before .before .before .before .span .ensures) (c .before .before .before .before .before .before .before .before .before .before .before .before .overlap .ensures) _ _ _ _ (c .before .before .before .before .before .before .before .before .before .reads-of .ensures) (s .pre .0 .1 .0 .1 .0) (s .pre .0 .1 .0 .1 .1) _ _ _ (c .before .before .store-row .ensures)
+    let at-reads-of = c .before .before .before .before .before .before .before .before .before in
+    let at-overlap = at-reads-of .before .before .before in
+    let at-span = at-overlap .before in
+    let s = at-span .before .before .before .before .before in
+    row-values _ (s .pre .0 .0) _ (s .pre .1 .0) _ (s .pre .1 .1) _ _ (at-span .span .ensures) (at-overlap .overlap .ensures) _ _ _ _
+    (at-reads-of .reads-of .ensures) (s .pre .0 .1 .0 .1 .0) (s .pre .0 .1 .0 .1 .1) _ _ _ (c .before .before .store-row .ensures)
 
 pub row-spec : {M : Type 1} → statement M
 row-spec =

@@ -8,7 +8,8 @@ use Rattle.shaped_values.proofs.store_row.Statement.{statement}
 use Rattle.shaped_values.proofs.store_row.Tie as tie
 
 abbrev Inv-loop : tie.InvT-loop
-Inv-loop source memory₀ shift boundary n firsts ends backs weights cell component width y₀ memory y = Rowing (mixedAlong n firsts ends backs weights boundary shift source cell component) memory₀ memory cell width y
+Inv-loop source memory₀ shift boundary n firsts ends backs weights cell component width y₀ memory y =
+    Rowing (mixedAlong n firsts ends backs weights boundary shift source cell component) memory₀ memory cell width y
 
 abbrev μ-loop : tie.MeasureT-loop
 μ-loop source memory₀ shift boundary n firsts ends backs weights cell component width y₀ memory y = width - y
@@ -25,7 +26,8 @@ add-value-at-2 : tie.Need-add-value-at-2 Inv-loop μ-loop
 add-value-at-2 c = omega (arith, c .before .before .before .before .before .pre .narrow, c .before .loop-test .taken)
 
 value-at-requires : tie.Need-value-at-requires Inv-loop μ-loop
-value-at-requires c κs = readable-at (c .before .before .before .before .before .pre) _ _ (c .before .loop-test .taken) (rowing-long (c .before .before .loop .inv))
+value-at-requires c κs =
+    readable-at (c .before .before .before .before .before .pre) _ _ (c .before .loop-test .taken) (rowing-long (c .before .before .loop .inv))
 
 add-memory : tie.Need-add-memory Inv-loop μ-loop
 add-memory c =
@@ -38,7 +40,10 @@ mul-memory c =
     omega (arith, s .pre .inner, s .pre .small, c .before .before .loop-test .taken)
 
 slice-write-memory : tie.Need-slice-write-memory Inv-loop μ-loop
-slice-write-memory c = omega (arith, c .before .before .before .before .before .before .pre .inner, c .before .before .loop-test .taken, rowing-long (c .before .before .before .loop .inv))
+slice-write-memory c =
+    let at-loop = c .before .before .before in
+    let start = at-loop .before .before .before in
+    omega (arith, start .pre .inner, c .before .before .loop-test .taken, rowing-long (at-loop .loop .inv))
 
 add-y : tie.Need-add-y Inv-loop μ-loop
 add-y c = omega (arith, c .before .before .before .before .before .before .pre .narrow, c .before .before .loop-test .taken)
@@ -47,7 +52,8 @@ loop-less : tie.Need-loop-less Inv-loop μ-loop
 loop-less c = omega (arith, c .before .before .loop-test .taken)
 
 loop-again : tie.Need-loop-again Inv-loop μ-loop
-loop-again c = rowing-more (c .before .before .before .loop .inv) _ (c .before .before .loop-test .taken) (along-at _ _ _ _ _ _ _ _ _ _ _ _ _ (c .value-at .ensures))
+loop-again c =
+    rowing-more (c .before .before .before .loop .inv) _ (c .before .before .loop-test .taken) (along-at _ _ _ _ _ _ _ _ _ _ _ _ _ (c .value-at .ensures))
 
 same-length : tie.Need-same-length Inv-loop μ-loop
 same-length c = rowing-long (c .before .loop .inv)

@@ -10,7 +10,9 @@ use Rattle.shaped_values.proofs.value_at.Statement.{statement}
 use Rattle.shaped_values.proofs.value_at.Tie as tie
 
 abbrev Inv-loop : tie.InvT-loop
-Inv-loop source memory shift boundary n firsts ends backs weights cell component total₀ k₀ total k = Mixing n weights (λ i. pick (between (getD firsts i 0) (getD ends i 0) component) (getD memory (cell - getD backs i 0) 0) boundary) (getD source cell 0) total k
+Inv-loop source memory shift boundary n firsts ends backs weights cell component total₀ k₀ total k =
+    Mixing n weights (λ i. pick (between (getD firsts i 0) (getD ends i 0) component) (getD memory (cell - getD backs i 0) 0) boundary) (getD source cell 0)
+    total k
 
 abbrev μ-loop : tie.MeasureT-loop
 μ-loop source memory shift boundary n firsts ends backs weights cell component total₀ k₀ total k = n - k
@@ -47,29 +49,57 @@ word-at-requires c κs =
     (omega (arith, s .pre .inner), (s .pre .beyond, (s .pre .small, first-back (s .pre) _ (c .before .before .before .loop-test .taken))))
 
 mul-total : tie.Need-mul-total Inv-loop μ-loop
-mul-total c = omega (arith, c .before .before .before .before .before .before .before .before .before .pre .few, c .before .before .before .before .loop-test .taken)
+mul-total c =
+    let at-loop-test = c .before .before .before .before in
+    let start = at-loop-test .before .before .before .before .before in
+    omega (arith, start .pre .few, at-loop-test .loop-test .taken)
 
 element-copy-out-total : tie.Need-element-copy-out-total Inv-loop μ-loop
-element-copy-out-total c = omega (arith, c .before .before .before .before .before .before .before .before .before .pre .few, c .before .before .before .before .loop-test .taken)
+element-copy-out-total c =
+    let at-loop-test = c .before .before .before .before in
+    let start = at-loop-test .before .before .before .before .before in
+    omega (arith, start .pre .few, at-loop-test .loop-test .taken)
 
 mul-total-2 : tie.Need-mul-total-2 Inv-loop μ-loop
 mul-total-2 c =
-    let s = c .before .before .before .before .before .before .before .before .before .before in
-    omega (arith, s .pre .few, mixing-fits _ _ _ _ _ _ (c .before .before .before .before .before .before .loop .inv) (c .before .before .before .before .before .loop-test .taken) (s .pre .light _ (c .before .before .before .before .before .loop-test .taken)) _ (c .before .word-at .ensures))
+    let at-loop-test = c .before .before .before .before .before in
+    let at-loop = at-loop-test .before in
+    let s = at-loop .before .before .before .before in
+    omega (
+      arith,
+      s .pre .few,
+      mixing-fits _ _ _ _ _ _ (at-loop .loop .inv) (at-loop-test .loop-test .taken)
+          (s .pre .light _ (at-loop-test .loop-test .taken)) _ (c .before .word-at .ensures),
+    )
 
 add-total : tie.Need-add-total Inv-loop μ-loop
 add-total c =
-    let s = c .before .before .before .before .before .before .before .before .before .before in
-    omega (arith, s .pre .few, mixing-fits _ _ _ _ _ _ (c .before .before .before .before .before .before .loop .inv) (c .before .before .before .before .before .loop-test .taken) (s .pre .light _ (c .before .before .before .before .before .loop-test .taken)) _ (c .before .word-at .ensures))
+    let at-loop-test = c .before .before .before .before .before in
+    let at-loop = at-loop-test .before in
+    let s = at-loop .before .before .before .before in
+    omega (
+      arith,
+      s .pre .few,
+      mixing-fits _ _ _ _ _ _ (at-loop .loop .inv) (at-loop-test .loop-test .taken)
+          (s .pre .light _ (at-loop-test .loop-test .taken)) _ (c .before .word-at .ensures),
+    )
 
 add-k : tie.Need-add-k Inv-loop μ-loop
-add-k c = omega (arith, c .before .before .before .before .before .before .before .before .before .before .pre .few, c .before .before .before .before .before .loop-test .taken)
+add-k c =
+    let at-loop-test = c .before .before .before .before .before in
+    let start = at-loop-test .before .before .before .before .before in
+    omega (arith, start .pre .few, at-loop-test .loop-test .taken)
 
 loop-less : tie.Need-loop-less Inv-loop μ-loop
 loop-less c = omega (arith, c .before .before .before .before .before .loop-test .taken)
 
 loop-again : tie.Need-loop-again Inv-loop μ-loop
-loop-again c = mixing-more _ _ _ _ _ _ (c .before .before .before .before .before .before .loop .inv) (c .before .before .before .before .before .loop-test .taken) (c .before .before .before .before .before .before .before .before .before .before .pre .light _ (c .before .before .before .before .before .loop-test .taken)) _ (c .before .word-at .ensures)
+loop-again c =
+    let at-loop-test = c .before .before .before .before .before in
+    let at-loop = at-loop-test .before in
+    let start = at-loop .before .before .before .before in
+    mixing-more _ _ _ _ _ _ (at-loop .loop .inv) (at-loop-test .loop-test .taken) (start .pre .light _ (at-loop-test .loop-test .taken)) _
+    (c .before .word-at .ensures)
 
 closed-requires : tie.Need-closed-requires Inv-loop μ-loop
 closed-requires c κs = c .before .before .before .before .before .pre .divides

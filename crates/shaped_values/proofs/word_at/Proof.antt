@@ -33,8 +33,10 @@ cast-result c =
 
 returns-3 : tie.Need-returns-3
 returns-3 c =
-    let s = c .before .before .before in
-    (sym (pick-true _ _ _ (in-run _ _ _ (c .before .before .if1 .left) (omega (arith, c .before .if2 .left)))), omega (arith, c .shared-slice-known .given (s .args .cell - s .args .back)))
+    let s = c .before .before .before in (
+      sym (pick-true _ _ _ (in-run _ _ _ (c .before .before .if1 .left) (omega (arith, c .before .if2 .left)))),
+      omega (arith, c .shared-slice-known .given (s .args .cell - s .args .back)),
+    )
 
 pub word-at-spec : {M : Type 1} → statement M
 word-at-spec =

@@ -40,11 +40,12 @@ same-length-2 c = search needs
 
 returns-2 : tie.Need-returns-2
 returns-2 c =
-    let S = c .before .before .before .before .before .before .before .before .before in
+    let at-box-of = c .before .before .before .before in
+    let at-if1 = at-box-of .before in
+    let S = at-if1 .before .before .before .before in
     let A = S .args in
-    shapes.shape-stored (A .nest) (A .sizes .route) (S .pre .0 .1 .0 .routed (c .before .before .before .before .before .if1 .left)) (A .source .now)
-    (A .memory .now) _ (A .tile) (c .before .before .before .before .box-of .result) (c .before .before .before .before .box-of .ensures .0)
-    (c .before .before .calculate2 .ensures)
+    shapes.shape-stored (A .nest) (A .sizes .route) (S .pre .0 .1 .0 .routed (at-if1 .if1 .left)) (A .source .now) (A .memory .now) _ (A .tile)
+    (at-box-of .box-of .result) (at-box-of .box-of .ensures .0) (c .before .before .calculate2 .ensures)
 
 pub calculate-spec : {M : Type 1} → statement M
 calculate-spec = tie.close (tie.spec calculate-requires same-length returns box-of-requires calculate-requires-2 same-length-2 returns-2)

@@ -97,55 +97,54 @@ part-copy-row-end c =
 
 mul-copy-row-2 : tie.Need-mul-copy-row-2 Inv-loop μ-loop
 mul-copy-row-2 c =
-    let S = c .before .before .before .before .before .before .before .before in
-    omega (
-      arith,
-      collecting.row-at (S .pre .0) (S .pre .1) (c .before .before .before .before .loop .inv) (c .before .before .before .loop-test .taken)
-          (c .before .processor-of .ensures .1) .room,
-    )
+    let at-loop-test = c .before .before .before in
+    let at-loop = at-loop-test .before in
+    let S = at-loop .before .before .before .before in
+    omega (arith, collecting.row-at (S .pre .0) (S .pre .1) (at-loop .loop .inv) (at-loop-test .loop-test .taken) (c .before .processor-of .ensures .1) .room)
 
 sub-copy-row-2 : tie.Need-sub-copy-row-2 Inv-loop μ-loop
 sub-copy-row-2 c = omega arith
 
 part-copy-row-start-2 : tie.Need-part-copy-row-start-2 Inv-loop μ-loop
 part-copy-row-start-2 c =
-    let S = c .before .before .before .before .before .before .before .before in
-    omega (
-      arith,
-      collecting.row-at (S .pre .0) (S .pre .1) (c .before .before .before .before .loop .inv) (c .before .before .before .loop-test .taken)
-          (c .before .processor-of .ensures .1) .room,
-    )
+    let at-loop-test = c .before .before .before in
+    let at-loop = at-loop-test .before in
+    let S = at-loop .before .before .before .before in
+    omega (arith, collecting.row-at (S .pre .0) (S .pre .1) (at-loop .loop .inv) (at-loop-test .loop-test .taken) (c .before .processor-of .ensures .1) .room)
 
 part-copy-row-end-2 : tie.Need-part-copy-row-end-2 Inv-loop μ-loop
 part-copy-row-end-2 c =
-    let S = c .before .before .before .before .before .before .before .before in
-    omega (
-      arith,
-      collecting.row-at (S .pre .0) (S .pre .1) (c .before .before .before .before .loop .inv) (c .before .before .before .loop-test .taken)
-          (c .before .processor-of .ensures .1) .room,
-    )
+    let at-loop-test = c .before .before .before in
+    let at-loop = at-loop-test .before in
+    let S = at-loop .before .before .before .before in
+    omega (arith, collecting.row-at (S .pre .0) (S .pre .1) (at-loop .loop .inv) (at-loop-test .loop-test .taken) (c .before .processor-of .ensures .1) .room)
 
 copy-row-requires : tie.Need-copy-row-requires Inv-loop μ-loop
 copy-row-requires c κs =
-    let S = c .before .before .before .before .before .before .before .before .before in
-    collecting.row-same (c .before .before .before .before .before .loop .inv)
-    (collecting.row-at (S .pre .0) (S .pre .1) (c .before .before .before .before .before .loop .inv) (c .before .before .before .before .loop-test .taken)
+    let at-loop-test = c .before .before .before .before in
+    let at-loop = at-loop-test .before in
+    let S = at-loop .before .before .before .before in
+    collecting.row-same (at-loop .loop .inv) (collecting.row-at (S .pre .0) (S .pre .1) (at-loop .loop .inv) (at-loop-test .loop-test .taken)
     (c .before .before .processor-of .ensures .1))
 
 loop-less : tie.Need-loop-less Inv-loop μ-loop
 loop-less c =
-    let S = c .before .before .before .before .before .before .before .before .before .before .before .before in
-    let R = collecting.row-at (S .pre .0) (S .pre .1) (c .before .before .before .before .before .before .before .before .loop .inv)
-    (c .before .before .before .before .before .before .before .loop-test .taken) (c .before .before .before .before .before .processor-of .ensures .1) in
+    let at-processor-of = c .before .before .before .before .before in
+    let at-loop-test = at-processor-of .before .before in
+    let at-loop = at-loop-test .before in
+    let S = at-loop .before .before .before .before in
+    let R = collecting.row-at (S .pre .0) (S .pre .1) (at-loop .loop .inv) (at-loop-test .loop-test .taken) (at-processor-of .processor-of .ensures .1) in
     omega (arith, R .some, R .ends)
 
 loop-again : tie.Need-loop-again Inv-loop μ-loop
 loop-again c =
-    let S = c .before .before .before .before .before .before .before .before .before .before .before .before in
-    collecting.copied-more (c .before .before .before .before .before .before .before .before .loop .inv)
-    (collecting.row-at (S .pre .0) (S .pre .1) (c .before .before .before .before .before .before .before .before .loop .inv)
-    (c .before .before .before .before .before .before .before .loop-test .taken) (c .before .before .before .before .before .processor-of .ensures .1))
-    (c .before .before .before .before .before .before .tile-of .ensures .0) (c .before .before .before .before .before .processor-of .ensures .0)
+    let at-processor-of = c .before .before .before .before .before in
+    let at-tile-of = at-processor-of .before in
+    let at-loop-test = at-tile-of .before in
+    let at-loop = at-loop-test .before in
+    let S = at-loop .before .before .before .before in
+    collecting.copied-more (at-loop .loop .inv) (collecting.row-at (S .pre .0) (S .pre .1) (at-loop .loop .inv) (at-loop-test .loop-test .taken)
+    (at-processor-of .processor-of .ensures .1)) (at-tile-of .tile-of .ensures .0) (at-processor-of .processor-of .ensures .0)
     (c .before .before .copy-row .ensures)
 
 same-length : tie.Need-same-length Inv-loop μ-loop

@@ -39,10 +39,11 @@ take-message-requires c κs =
 
 slice-write-status : tie.Need-slice-write-status Inv-loop μ-loop
 slice-write-status c =
-    let S = c .before .before .before .before .before .before .before .before .before .before .before in
-    let x = c .before .before .before .before .before .before .loop .inv in
-    omega
-    (arith, c .before .before .before .before .nth-at .ensures .number, c .before .before .before .before .nth-at .ensures .low, x .longStatus, S .pre .1 .1 .1)
+    let at-nth-at = c .before .before .before .before in
+    let at-loop = at-nth-at .before .before in
+    let S = at-loop .before .before .before .before .before in
+    let x = at-loop .loop .inv in
+    omega (arith, at-nth-at .nth-at .ensures .number, at-nth-at .nth-at .ensures .low, x .longStatus, S .pre .1 .1 .1)
 
 add-j : tie.Need-add-j Inv-loop μ-loop
 add-j c = omega arith
@@ -52,12 +53,16 @@ loop-less c = omega arith
 
 loop-again : tie.Need-loop-again Inv-loop μ-loop
 loop-again c =
-    let A = c .before .before .before .before .before .before .before .before .before .before .before .args in
-    let L = c .before .before .before .before .before .before .loop in
-    parts.gather-again (A .sizes .route) (A .nest) (A .tile) (A .buffer .now) (A .memory .now) (A .status .now)
-    (c .before .before .before .before .before .before .before .count-at .result) (L .memory) (c .before .before .take-message .last .1 .1 .1 .0)
-    (L .status) (L .j) (c .before .before .before .before .nth-at .result) (L .inv) (c .before .before .before .before .before .loop-test .taken)
-    (c .before .before .before .before .nth-at .ensures) (c .before .before .take-message .kept .1 .1 .1 .0) (c .before .before .take-message .ensures)
+    let at-nth-at = c .before .before .before .before in
+    let at-loop-test = at-nth-at .before in
+    let at-loop = at-loop-test .before in
+    let at-count-at = at-loop .before in
+    let start = at-count-at .before .before .before .before in
+    let A = start .args in
+    let L = at-loop .loop in
+    parts.gather-again (A .sizes .route) (A .nest) (A .tile) (A .buffer .now) (A .memory .now) (A .status .now) (at-count-at .count-at .result) (L .memory)
+    (c .before .before .take-message .last .1 .1 .1 .0) (L .status) (L .j) (at-nth-at .nth-at .result) (L .inv) (at-loop-test .loop-test .taken)
+    (at-nth-at .nth-at .ensures) (c .before .before .take-message .kept .1 .1 .1 .0) (c .before .before .take-message .ensures)
 
 same-length : tie.Need-same-length Inv-loop μ-loop
 same-length c = c .before .loop .inv .long

@@ -28,10 +28,13 @@ shared-slice-read-if1 c =
 
 returns : tie.Need-returns Inv-loop μ-loop
 returns c =
-    let A = c .before .before .before .before .before .before .before .args in
-    parts.look-no (A .sizes .route) (A .nest) (A .tile) (A .status .now) (c .before .before .before .before .before .count-at .result)
-    (c .before .before .before .before .loop .j) (c .before .before .before .before .loop .inv) (c .before .before .nth-at .result)
-    (c .before .before .before .loop-test .taken) (c .before .before .nth-at .ensures) (c .if1 .taken)
+    let at-loop-test = c .before .before .before in
+    let at-loop = at-loop-test .before in
+    let at-count-at = at-loop .before in
+    let start = at-count-at .before .before in
+    let A = start .args in
+    parts.look-no (A .sizes .route) (A .nest) (A .tile) (A .status .now) (at-count-at .count-at .result) (at-loop .loop .j) (at-loop .loop .inv)
+    (c .before .before .nth-at .result) (at-loop-test .loop-test .taken) (c .before .before .nth-at .ensures) (c .if1 .taken)
 
 add-j : tie.Need-add-j Inv-loop μ-loop
 add-j c = omega arith
@@ -41,10 +44,13 @@ loop-less c = omega arith
 
 loop-again : tie.Need-loop-again Inv-loop μ-loop
 loop-again c =
-    let A = c .before .before .before .before .before .before .before .args in
-    parts.look-again (A .sizes .route) (A .nest) (A .tile) (A .status .now) (c .before .before .before .before .before .count-at .result)
-    (c .before .before .before .before .loop .j) (c .before .before .before .before .loop .inv) (c .before .before .nth-at .result)
-    (c .before .before .before .loop-test .taken) (c .before .before .nth-at .ensures) (c .if1 .left)
+    let at-loop-test = c .before .before .before in
+    let at-loop = at-loop-test .before in
+    let at-count-at = at-loop .before in
+    let start = at-count-at .before .before in
+    let A = start .args in
+    parts.look-again (A .sizes .route) (A .nest) (A .tile) (A .status .now) (at-count-at .count-at .result) (at-loop .loop .j) (at-loop .loop .inv)
+    (c .before .before .nth-at .result) (at-loop-test .loop-test .taken) (c .before .before .nth-at .ensures) (c .if1 .left)
 
 returns-2 : tie.Need-returns-2 Inv-loop μ-loop
 returns-2 c =

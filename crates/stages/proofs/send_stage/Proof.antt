@@ -90,16 +90,15 @@ same-length-2 c = search needs
 
 returns : tie.Need-returns
 returns c =
-    let S = c .before .before .before .before .before .before .before .before .before .before .before in
+    let at-put-message = c .before .before .before .before in
+    let at-nth-at = at-put-message .before .before .before in
+    let S = at-nth-at .before .before .before .before in
     let A = S .args in
     let n = c .before .count-at in
-    λ l f g.
-    stages.sent-is (A .sizes .route) (A .nest) (stateOf (A .memories .now) (A .buffer .now) l (A .status .now)) (A .processor) (A .tile) (A .sizes .cells)
-    (S .pre .0 .0 .cells) (A .sent) (n .result) (c .before .before .before .before .before .before .before .nth-at .result)
-    (c .before .before .before .before .put-message .last .1 .1 .1 .1 .0) _ g (S .pre .1 .1 .1)
-    (c .before .before .before .before .before .before .before .nth-at .ensures) (n .ensures .0) (c .before .before .before .before .put-message .ensures)
-    (c .next-record .ensures l (A .processor) ∙ ap
-    (λ (k : ℕ). pick (ltb (A .sent + 1) (n .result)) (setProgress l (A .processor) k 2 (A .sent + 1)) (setProgress l (A .processor) (k + 1) 0 0)) f)
+    λ l f g. stages.sent-is (A .sizes .route) (A .nest) (stateOf (A .memories .now) (A .buffer .now) l (A .status .now)) (A .processor) (A .tile)
+    (A .sizes .cells) (S .pre .0 .0 .cells) (A .sent) (n .result) (at-nth-at .nth-at .result) (at-put-message .put-message .last .1 .1 .1 .1 .0) _ g
+    (S .pre .1 .1 .1) (at-nth-at .nth-at .ensures) (n .ensures .0) (at-put-message .put-message .ensures) (c .next-record .ensures l (A .processor)
+    ∙ ap (λ (k : ℕ). pick (ltb (A .sent + 1) (n .result)) (setProgress l (A .processor) k 2 (A .sent + 1)) (setProgress l (A .processor) (k + 1) 0 0)) f)
 
 pub send-stage-spec : {M : Type 1} → statement M
 send-stage-spec =

@@ -1,4 +1,4 @@
-use mathlib.Core.Path.{sym, ap, _∙_}
+use mathlib.Core.Path.{refl, sym, ap, _∙_}
 use Rattle.machine.specs.Machine.{stateOf, Answered}
 use Rattle.offices.specs.Offices.{Lent, lentOf}
 use Rattle.hours.specs.Hours.{hoursOf}
@@ -9,28 +9,28 @@ use Rattle.timed.proofs.turn_for.Statement.{statement}
 use Rattle.timed.proofs.turn_for.Tie as tie
 
 flat-of-requires : tie.Need-flat-of-requires
-flat-of-requires c κs = search needs
+flat-of-requires c κs = tt
 
 flat-of-requires-2 : tie.Need-flat-of-requires-2
-flat-of-requires-2 c κs = search needs
+flat-of-requires-2 c κs = tt
 
 turn-for-requires : tie.Need-turn-for-requires
 turn-for-requires c κs = search needs
 
 same-length : tie.Need-same-length
-same-length c = search needs
+same-length c = c .before .before .before .before .before .before .before .before .before .turn-for .kept .1 .1 .1 .0
 
 same-length-2 : tie.Need-same-length-2
-same-length-2 c = search needs
+same-length-2 c = c .before .before .before .before .before .before .before .before .before .turn-for .kept .1 .1 .1 .1 .0
 
 same-length-3 : tie.Need-same-length-3
-same-length-3 c = search needs
+same-length-3 c = refl
 
 same-length-4 : tie.Need-same-length-4
-same-length-4 c = search needs
+same-length-4 c = c .before .before .before .before .before .before .before .before .before .turn-for .kept .1 .1 .1 .1 .1 .1 .0
 
 same-length-5 : tie.Need-same-length-5
-same-length-5 c = search needs
+same-length-5 c = c .before .before .before .before .before .before .before .before .before .turn-for .kept .1 .1 .1 .1 .1 .1 .1 .0
 
 returns : tie.Need-returns
 returns c =
@@ -55,19 +55,27 @@ store-record-requires c κs =
     (at-flat-of2 .flat-of2 .ensures))) ∙ c .before .before .if1 .left)
 
 same-length-6 : tie.Need-same-length-6
-same-length-6 c = search needs
+same-length-6 c =
+    let at-turn-for = c .before .before .before .before .before .before .before .before .before .before .before .before .before .before in
+    at-turn-for .turn-for .kept .1 .1 .1 .0
 
 same-length-7 : tie.Need-same-length-7
-same-length-7 c = search needs
+same-length-7 c =
+    let at-turn-for = c .before .before .before .before .before .before .before .before .before .before .before .before .before .before in
+    at-turn-for .turn-for .kept .1 .1 .1 .1 .0
 
 same-length-8 : tie.Need-same-length-8
-same-length-8 c = search needs
+same-length-8 c = c .before .before .store-record .kept .0
 
 same-length-9 : tie.Need-same-length-9
-same-length-9 c = search needs
+same-length-9 c =
+    let at-turn-for = c .before .before .before .before .before .before .before .before .before .before .before .before .before .before in
+    at-turn-for .turn-for .kept .1 .1 .1 .1 .1 .1 .0
 
 same-length-10 : tie.Need-same-length-10
-same-length-10 c = search needs
+same-length-10 c =
+    let at-turn-for = c .before .before .before .before .before .before .before .before .before .before .before .before .before .before in
+    at-turn-for .turn-for .kept .1 .1 .1 .1 .1 .1 .1 .0
 
 returns-2 : tie.Need-returns-2
 returns-2 c =

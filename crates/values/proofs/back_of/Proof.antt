@@ -17,16 +17,44 @@ loop-holds : tie.Need-loop-holds Inv-loop μ-loop
 loop-holds c = backing-none _ _ _ _
 
 mul-least : tie.Need-mul-least Inv-loop μ-loop
-mul-least c = omega (arith, c .loop-test .taken, c .before .before .before .pre .0 .dimensions-most, c .before .before .before .pre .0 .distances-most, c .before .before .before .pre .1 .0)
+mul-least c =
+    omega (
+      arith,
+      c .loop-test .taken,
+      c .before .before .before .pre .0 .dimensions-most,
+      c .before .before .before .pre .0 .distances-most,
+      c .before .before .before .pre .1 .0,
+    )
 
 add-least : tie.Need-add-least Inv-loop μ-loop
-add-least c = omega (arith, c .loop-test .taken, c .before .before .before .pre .0 .dimensions-most, c .before .before .before .pre .0 .distances-most, c .before .before .before .pre .1 .0)
+add-least c =
+    omega (
+      arith,
+      c .loop-test .taken,
+      c .before .before .before .pre .0 .dimensions-most,
+      c .before .before .before .pre .0 .distances-most,
+      c .before .before .before .pre .1 .0,
+    )
 
 mul-least-2 : tie.Need-mul-least-2 Inv-loop μ-loop
-mul-least-2 c = omega (arith, c .loop-test .taken, c .before .before .before .pre .0 .dimensions-most, c .before .before .before .pre .0 .distances-most, c .before .before .before .pre .1 .0)
+mul-least-2 c =
+    omega (
+      arith,
+      c .loop-test .taken,
+      c .before .before .before .pre .0 .dimensions-most,
+      c .before .before .before .pre .0 .distances-most,
+      c .before .before .before .pre .1 .0,
+    )
 
 element-copy-out-least : tie.Need-element-copy-out-least Inv-loop μ-loop
-element-copy-out-least c = omega (arith, c .loop-test .taken, c .before .before .before .pre .0 .dimensions-most, c .before .before .before .pre .0 .distances-most, c .before .before .before .pre .1 .0)
+element-copy-out-least c =
+    omega (
+      arith,
+      c .loop-test .taken,
+      c .before .before .before .pre .0 .dimensions-most,
+      c .before .before .before .pre .0 .distances-most,
+      c .before .before .before .pre .1 .0,
+    )
 
 mul-least-3 : tie.Need-mul-least-3 Inv-loop μ-loop
 mul-least-3 c = omega (arith, c .before .loop-test .taken, c .before .before .before .before .pre .0 .dimensions-most)
@@ -44,10 +72,20 @@ array-read-back : tie.Need-array-read-back Inv-loop μ-loop
 array-read-back c = omega (arith, c .before .before .loop-test .taken, c .before .before .before .before .before .pre .0 .dimensions-most)
 
 mul-back-2 : tie.Need-mul-back-2 Inv-loop μ-loop
-mul-back-2 c = omega (arith, backing-fits _ _ _ _ _ _ (c .before .before .before .loop .inv) (c .before .before .loop-test .taken) _ (c .least .ensures) (lengths-countable _ (c .before .before .before .before .before .pre .0)))
+mul-back-2 c =
+    omega (
+      arith,
+      backing-fits _ _ _ _ _ _ (c .before .before .before .loop .inv) (c .before .before .loop-test .taken) _ (c .least .ensures)
+          (lengths-countable _ (c .before .before .before .before .before .pre .0)),
+    )
 
 add-back : tie.Need-add-back Inv-loop μ-loop
-add-back c = omega (arith, backing-fits _ _ _ _ _ _ (c .before .before .before .loop .inv) (c .before .before .loop-test .taken) _ (c .least .ensures) (lengths-countable _ (c .before .before .before .before .before .pre .0)))
+add-back c =
+    omega (
+      arith,
+      backing-fits _ _ _ _ _ _ (c .before .before .before .loop .inv) (c .before .before .loop-test .taken) _ (c .least .ensures)
+          (lengths-countable _ (c .before .before .before .before .before .pre .0)),
+    )
 
 add-j : tie.Need-add-j Inv-loop μ-loop
 add-j c = omega (arith, c .before .before .loop-test .taken, c .before .before .before .before .before .pre .0 .dimensions-most)

@@ -3,7 +3,7 @@
 use native.Mathlib.Omega.{arith}
 use mathlib.Core.Path.{_∙_, sym}
 use Rattle.values.specs.Waves.{four}
-use Rattle.values.proofs.Waves.{kept, band-mixes, band-stored, wave-fits, tail-fits}
+use Rattle.values.proofs.Waves.{band-mixes, band-stored, wave-fits, tail-fits}
 use borrow.Author.Needs.{needs}
 use Rattle.values.proofs.band.Statement.{statement}
 use Rattle.values.proofs.band.Tie as tie
@@ -39,7 +39,7 @@ line-requires-2 c κs =
     let h1 = c .before .before .before in
     let s = h1 .before .before .before .before in
     let p = s .pre .1 in
-    let k1 = kept _ _ _ _ _ (p .0 .1 .1 .1) (h1 .line .ensures) in
+    let k1 = h1 .line .kept .1 .0 ∙ p .0 .1 .1 .1 in
     band-mixes _ (p .0 .0) (four (s .args .a) (s .args .b) (s .args .c) (s .args .d)) _ _ _ _ _ _ (p .0 .1 .0) 1 _ (omega arith)
     (omega (arith, p .0 .1 .0 .low)) _ _ (p .0 .1 .1 .0) k1
 
@@ -57,8 +57,8 @@ line-requires-3 c κs =
     let h1 = h2 .before .before .before .before in
     let s = h1 .before .before .before .before in
     let p = s .pre .1 in
-    let k1 = kept _ _ _ _ _ (p .0 .1 .1 .1) (h1 .line .ensures) in
-    let k2 = kept _ _ _ _ _ k1 (h2 .line2 .ensures) in
+    let k1 = h1 .line .kept .1 .0 ∙ p .0 .1 .1 .1 in
+    let k2 = h2 .line2 .kept .1 .0 ∙ k1 in
     band-mixes _ (p .0 .0) (four (s .args .a) (s .args .b) (s .args .c) (s .args .d)) _ _ _ _ _ _ (p .0 .1 .0) 2 _ (omega arith)
     (omega (arith, p .0 .1 .0 .low)) _ _ (p .0 .1 .1 .0) k2
 
@@ -78,9 +78,9 @@ line-requires-4 c κs =
     let h1 = h2 .before .before .before .before in
     let s = h1 .before .before .before .before in
     let p = s .pre .1 in
-    let k1 = kept _ _ _ _ _ (p .0 .1 .1 .1) (h1 .line .ensures) in
-    let k2 = kept _ _ _ _ _ k1 (h2 .line2 .ensures) in
-    let k3 = kept _ _ _ _ _ k2 (h3 .line3 .ensures) in
+    let k1 = h1 .line .kept .1 .0 ∙ p .0 .1 .1 .1 in
+    let k2 = h2 .line2 .kept .1 .0 ∙ k1 in
+    let k3 = h3 .line3 .kept .1 .0 ∙ k2 in
     band-mixes _ (p .0 .0) (four (s .args .a) (s .args .b) (s .args .c) (s .args .d)) _ _ _ _ _ _ (p .0 .1 .0) 3 _ (omega arith)
     (omega (arith, p .0 .1 .0 .low)) _ _ (p .0 .1 .1 .0) k3
 
@@ -132,10 +132,10 @@ wave-requires c κs =
     let h1 = h2 .before .before .before .before in
     let s = h1 .before .before .before .before in
     let p = s .pre .1 in
-    let k1 = kept _ _ _ _ _ (p .0 .1 .1 .1) (h1 .line .ensures) in
-    let k2 = kept _ _ _ _ _ k1 (h2 .line2 .ensures) in
-    let k3 = kept _ _ _ _ _ k2 (h3 .line3 .ensures) in
-    let k4 = kept _ _ _ _ _ k3 (h4 .line4 .ensures) in
+    let k1 = h1 .line .kept .1 .0 ∙ p .0 .1 .1 .1 in
+    let k2 = h2 .line2 .kept .1 .0 ∙ k1 in
+    let k3 = h3 .line3 .kept .1 .0 ∙ k2 in
+    let k4 = h4 .line4 .kept .1 .0 ∙ k3 in
     wave-fits _ (p .0 .0) (four (s .args .a) (s .args .b) (s .args .c) (s .args .d)) _ _ _ _ _ _ (p .0 .1 .0) (p .1) _ _ (p .0 .1 .1 .0) k4
 
 sub-row : tie.Need-sub-row
@@ -169,11 +169,11 @@ row-requires c κs =
     let h1 = h2 .before .before .before .before in
     let s = h1 .before .before .before .before in
     let p = s .pre .1 in
-    let k1 = kept _ _ _ _ _ (p .0 .1 .1 .1) (h1 .line .ensures) in
-    let k2 = kept _ _ _ _ _ k1 (h2 .line2 .ensures) in
-    let k3 = kept _ _ _ _ _ k2 (h3 .line3 .ensures) in
-    let k4 = kept _ _ _ _ _ k3 (h4 .line4 .ensures) in
-    let k5 = kept _ _ _ _ _ k4 (h5 .wave .ensures) in
+    let k1 = h1 .line .kept .1 .0 ∙ p .0 .1 .1 .1 in
+    let k2 = h2 .line2 .kept .1 .0 ∙ k1 in
+    let k3 = h3 .line3 .kept .1 .0 ∙ k2 in
+    let k4 = h4 .line4 .kept .1 .0 ∙ k3 in
+    let k5 = h5 .wave .kept .1 .0 ∙ k4 in
     tail-fits _ (p .0 .0) (four (s .args .a) (s .args .b) (s .args .c) (s .args .d)) _ _ _ _ _ _ (p .0 .1 .0) 1 1 _ _ (omega arith) (omega arith)
     (omega arith) (p .0 .1 .1 .0) k5
 
@@ -211,12 +211,12 @@ row-requires-2 c κs =
     let h1 = h2 .before .before .before .before in
     let s = h1 .before .before .before .before in
     let p = s .pre .1 in
-    let k1 = kept _ _ _ _ _ (p .0 .1 .1 .1) (h1 .line .ensures) in
-    let k2 = kept _ _ _ _ _ k1 (h2 .line2 .ensures) in
-    let k3 = kept _ _ _ _ _ k2 (h3 .line3 .ensures) in
-    let k4 = kept _ _ _ _ _ k3 (h4 .line4 .ensures) in
-    let k5 = kept _ _ _ _ _ k4 (h5 .wave .ensures) in
-    let k6 = kept _ _ _ _ _ k5 (h6 .row .ensures) in
+    let k1 = h1 .line .kept .1 .0 ∙ p .0 .1 .1 .1 in
+    let k2 = h2 .line2 .kept .1 .0 ∙ k1 in
+    let k3 = h3 .line3 .kept .1 .0 ∙ k2 in
+    let k4 = h4 .line4 .kept .1 .0 ∙ k3 in
+    let k5 = h5 .wave .kept .1 .0 ∙ k4 in
+    let k6 = h6 .row .kept .1 .0 ∙ k5 in
     tail-fits _ (p .0 .0) (four (s .args .a) (s .args .b) (s .args .c) (s .args .d)) _ _ _ _ _ _ (p .0 .1 .0) 2 2 _ _ (omega arith) (omega arith)
     (omega arith) (p .0 .1 .1 .0) k6
 
@@ -257,13 +257,13 @@ row-requires-3 c κs =
     let h1 = h2 .before .before .before .before in
     let s = h1 .before .before .before .before in
     let p = s .pre .1 in
-    let k1 = kept _ _ _ _ _ (p .0 .1 .1 .1) (h1 .line .ensures) in
-    let k2 = kept _ _ _ _ _ k1 (h2 .line2 .ensures) in
-    let k3 = kept _ _ _ _ _ k2 (h3 .line3 .ensures) in
-    let k4 = kept _ _ _ _ _ k3 (h4 .line4 .ensures) in
-    let k5 = kept _ _ _ _ _ k4 (h5 .wave .ensures) in
-    let k6 = kept _ _ _ _ _ k5 (h6 .row .ensures) in
-    let k7 = kept _ _ _ _ _ k6 (h7 .row2 .ensures) in
+    let k1 = h1 .line .kept .1 .0 ∙ p .0 .1 .1 .1 in
+    let k2 = h2 .line2 .kept .1 .0 ∙ k1 in
+    let k3 = h3 .line3 .kept .1 .0 ∙ k2 in
+    let k4 = h4 .line4 .kept .1 .0 ∙ k3 in
+    let k5 = h5 .wave .kept .1 .0 ∙ k4 in
+    let k6 = h6 .row .kept .1 .0 ∙ k5 in
+    let k7 = h7 .row2 .kept .1 .0 ∙ k6 in
     tail-fits _ (p .0 .0) (four (s .args .a) (s .args .b) (s .args .c) (s .args .d)) _ _ _ _ _ _ (p .0 .1 .0) 3 3 _ _ (omega arith) (omega arith)
     (omega arith) (p .0 .1 .1 .0) k7
 
@@ -279,14 +279,14 @@ same-length c =
     let h1 = h2 .before .before .before .before in
     let s = h1 .before .before .before .before in
     let p = s .pre .1 in
-    let k1 = kept _ _ _ _ _ (p .0 .1 .1 .1) (h1 .line .ensures) in
-    let k2 = kept _ _ _ _ _ k1 (h2 .line2 .ensures) in
-    let k3 = kept _ _ _ _ _ k2 (h3 .line3 .ensures) in
-    let k4 = kept _ _ _ _ _ k3 (h4 .line4 .ensures) in
-    let k5 = kept _ _ _ _ _ k4 (h5 .wave .ensures) in
-    let k6 = kept _ _ _ _ _ k5 (h6 .row .ensures) in
-    let k7 = kept _ _ _ _ _ k6 (h7 .row2 .ensures) in
-    let k8 = kept _ _ _ _ _ k7 (h8 .row3 .ensures) in
+    let k1 = h1 .line .kept .1 .0 ∙ p .0 .1 .1 .1 in
+    let k2 = h2 .line2 .kept .1 .0 ∙ k1 in
+    let k3 = h3 .line3 .kept .1 .0 ∙ k2 in
+    let k4 = h4 .line4 .kept .1 .0 ∙ k3 in
+    let k5 = h5 .wave .kept .1 .0 ∙ k4 in
+    let k6 = h6 .row .kept .1 .0 ∙ k5 in
+    let k7 = h7 .row2 .kept .1 .0 ∙ k6 in
+    let k8 = h8 .row3 .kept .1 .0 ∙ k7 in
     k8 ∙ sym (p .0 .1 .1 .1)
 
 returns : tie.Need-returns

@@ -1,7 +1,9 @@
--- `values::four_rows` meets its contract, by one way or the other.
+-- `values::four_rows` meets its contract: the rows go side by side, or one by one.
+use Prim.Native.Nat.{_-_}
 use native.Mathlib.Omega.{arith}
+use mathlib.Core.Path.{refl}
 use borrow.Author.Tests.{not-false}
-use Rattle.values.proofs.Margins.{margin-most, fours-banded}
+use Rattle.values.proofs.Rows.{given-ranked, given-inside, given-margin, given-small, given-band, given-moved, given-four, stored-rows}
 use borrow.Author.Needs.{needs}
 use Rattle.values.proofs.four_rows.Statement.{statement}
 use Rattle.values.proofs.four_rows.Tie as tie
@@ -9,75 +11,195 @@ use Rattle.values.proofs.four_rows.Tie as tie
 sub-last : tie.Need-sub-last
 sub-last c = search needs
 
+mul-width : tie.Need-mul-width
+mul-width c = search needs
+
+element-copy-out-width : tie.Need-element-copy-out-width
+element-copy-out-width c = search needs
+
 mul-component : tie.Need-mul-component
 mul-component c = search needs
 
-array-read-component : tie.Need-array-read-component
-array-read-component c = search needs
+element-copy-out-component : tie.Need-element-copy-out-component
+element-copy-out-component c = search needs
 
 mul-start-of : tie.Need-mul-start-of
 mul-start-of c = search needs
 
-array-read-start-of : tie.Need-array-read-start-of
-array-read-start-of c = search needs
+element-copy-out-start-of : tie.Need-element-copy-out-start-of
+element-copy-out-start-of c = search needs
 
 start-of-requires : tie.Need-start-of-requires
 start-of-requires c κs =
-    let p = c .before .before .before .before .pre .1 in
-    margin-most _ (p .0 .0) _ (p .0 .1 .0 .margins)
+    given-margin _ _ _ _ _ _ (c .before .before .before .before .before .args .source .now) (c .before .before .before .before .before .args .memory .now) _
+    _ _ _ _ (c .before .before .before .before .before .pre .1 .0)
 
 together-requires : tie.Need-together-requires
 together-requires c κs =
-    let p = c .before .before .before .before .before .pre .1 in (
-      omega (arith, p .0 .0 .dimensions-most),
-      (
-        c .start-of .ensures .1 .1,
-        (omega (arith, p .1 .then-two), (omega (arith, p .1 .then-three), omega (arith, p .1 .then-fourth))),
-      ),
-    )
+    let g = c .before .before .before .before .before .before .before .pre .1 .0 in
+    let i = given-inside _ _ _ _ _ _ (c .before .before .before .before .before .before .before .args .source .now)
+    (c .before .before .before .before .before .before .before .args .memory .now) _ _ _ _ _ g in
+    (omega (arith, g .0 .0 .dimensions-most), (c .before .start-of .ensures .1 .1, i .1))
 
-rows-singly-requires : tie.Need-rows-singly-requires
-rows-singly-requires c κs = c .before .before .before .before .before .before .before .before .pre
+add-box-rows : tie.Need-add-box-rows
+add-box-rows c =
+    omega (arith, c .before .before .before .before .before .before .before .before .before .before .before .pre .1 .1)
+
+box-rows-requires : tie.Need-box-rows-requires
+box-rows-requires c κs =
+    let p = c .before .before .before .before .before .before .before .before .before .before .before .pre in
+    (p .0, (p .1 .0, (omega arith, p .1 .1)))
 
 same-length : tie.Need-same-length
 same-length c = search needs
 
 returns : tie.Need-returns
-returns c = c .before .before .rows-singly .ensures
+returns c =
+    λ x g. stored-rows _ _ _ _ _ _ _ _ _ _ (omega arith) (c .before .before .box-rows .ensures x g)
+
+mul-stride : tie.Need-mul-stride
+mul-stride c = search needs
+
+element-copy-out-stride : tie.Need-element-copy-out-stride
+element-copy-out-stride c = search needs
+
+rank-of-requires : tie.Need-rank-of-requires
+rank-of-requires c κs =
+    given-ranked _ _ _ _ _ _ (c .before .before .before .before .before .before .before .before .before .before .before .args .source .now)
+    (c .before .before .before .before .before .before .before .before .before .before .before .args .memory .now) _ _ _ _ _
+    (c .before .before .before .before .before .before .before .before .before .before .before .pre .1 .0)
+
+add-b : tie.Need-add-b
+add-b c =
+    let q = given-small _ _ _ _ _ _ (c .before .before .before .before .before .before .before .before .before .before .before .before .args .source .now)
+    (c .before .before .before .before .before .before .before .before .before .before .before .before .args .memory .now) _ _ _ _ _
+    (c .before .before .before .before .before .before .before .before .before .before .before .before .pre .1 .0) _ (c .rank-of .ensures) in
+    omega (arith, q .0, q .1)
+
+add-c : tie.Need-add-c
+add-c c =
+    let q = given-small _ _ _ _ _ _ (c .before .before .before .before .before .before .before .before .before .before .before .before .args .source .now)
+    (c .before .before .before .before .before .before .before .before .before .before .before .before .args .memory .now) _ _ _ _ _
+    (c .before .before .before .before .before .before .before .before .before .before .before .before .pre .1 .0) _ (c .rank-of .ensures) in
+    omega (arith, q .0, q .1)
+
+add-band : tie.Need-add-band
+add-band c =
+    let q = given-small _ _ _ _ _ _ (c .before .before .before .before .before .before .before .before .before .before .before .before .before .args .source
+    .now) (c .before .before .before .before .before .before .before .before .before .before .before .before .before .args .memory .now) _ _ _ _ _
+    (c .before .before .before .before .before .before .before .before .before .before .before .before .before .pre .1 .0) _ (c .before .rank-of .ensures) in
+    omega (arith, q .0, q .1)
 
 band-requires : tie.Need-band-requires
 band-requires c κs =
-    let s = c .before .before .before .before .before .before .before .before .pre in
-    let p = s .1 in
-    let t = c .before .before .together .ensures (not-false _ (c .before .if1 .left)) in
-    let m = c .before .before .before .start-of .ensures in
-    (s .0, ((p .0 .0, (fours-banded _ (p .0 .0) _ _ _ _ _ (p .1) _ _ _ _ _ (p .0 .1 .0) _ m (t .0) (t .1 .0), p .0 .1 .1)), t .1 .1))
+    let p = c .before .before .before .before .before .before .before .before .before .before .before .before .before .pre in
+    let t = c .before .before .before .before .before .together .ensures (not-false _ (c .before .before .before .before .if1 .left)) in (
+      p .0,
+      given-band _ _ _ _ _ _ (c .before .before .before .before .before .before .before .before .before .before .before .before .before .args .source
+          .now) (c .before .before .before .before .before .before .before .before .before .before .before .before .before .args .memory .now) _ _ _ _ _ (p
+          .1 .0)
+          _ (c .before .rank-of .ensures) (t .1) _ _ _ refl refl refl _ (c .before .before .before .before .before .before .before .start-of .ensures) (t .0),
+    )
+
+sub-at : tie.Need-sub-at
+sub-at c =
+    let t = c .before .before .before .before .before .before .before .before .together .ensures
+    (not-false _ (c .before .before .before .before .before .before .before .if1 .left)) in
+    omega (arith, t .1 .0)
+
+mul-at : tie.Need-mul-at
+mul-at c =
+    let g = c .before .before .before .before .before .before .before .before .before .before .before .before .before .before .before .before .pre .1 .0 in
+    omega (arith, g .0 .0 .dimensions-most)
+
+element-copy-out-at : tie.Need-element-copy-out-at
+element-copy-out-at c =
+    let g = c .before .before .before .before .before .before .before .before .before .before .before .before .before .before .before .before .pre .1 .0 in
+    omega (arith, g .1 .1 .1 .long, g .0 .0 .dimensions-most)
+
+add-at : tie.Need-add-at
+add-at c =
+    let g = c .before .before .before .before .before .before .before .before .before .before .before .before .before .before .before .before .before .pre .1
+    .0 in
+    let t = c .before .before .before .before .before .before .before .before .before .together .ensures
+    (not-false _ (c .before .before .before .before .before .before .before .before .if1 .left)) in
+    let i = given-inside _ _ _ _ _ _ (c .before .before .before .before .before .before .before .before .before .before .before .before .before .before
+    .before .before .before .args .source .now)
+    (c .before .before .before .before .before .before .before .before .before .before .before .before .before .before .before .before .before .args .memory
+    .now) _ _ _ _ _ g in
+    omega (
+      arith,
+      t .1 .0,
+      t .1 .1 .1,
+      i .1 .0 .small (c .before .before .before .before .before .before .before .before .before .before .before .before .before .before .before .before .before
+          .args .body .dimensions - 1 - 1) (omega (arith, t .1 .0)),
+    )
+
+element-write-at : tie.Need-element-write-at
+element-write-at c =
+    let g = c .before .before .before .before .before .before .before .before .before .before .before .before .before .before .before .before .before .pre .1
+    .0 in
+    omega (arith, g .1 .1 .1 .long, g .0 .0 .dimensions-most)
+
+advance-requires : tie.Need-advance-requires
+advance-requires c κs =
+    let t = c .before .before .before .before .before .before .before .before .before .before .together .ensures
+    (not-false _ (c .before .before .before .before .before .before .before .before .before .if1 .left)) in
+    given-moved _ _ _ _ _ _ (c .before .before .before .before .before .before .before .before .before .before .before .before .before .before .before
+    .before .before .before .args .source .now)
+    (c .before .before .before .before .before .before .before .before .before .before .before .before .before .before .before .before .before .before .args
+    .memory .now) _ _ _ _ _ (c .before .before .before .before .before .before .before .before .before .before .before .before .before .before .before
+    .before .before .before .pre .1 .0) _ (c .before .before .before .before .before .before .rank-of .ensures) (t .1) _ _ _ refl refl refl
 
 same-length-2 : tie.Need-same-length-2
 same-length-2 c = search needs
 
 returns-2 : tie.Need-returns-2
 returns-2 c =
-    let t = c .before .before .before .before .before .together .ensures (not-false _ (c .before .before .before .before .if1 .left)) in
-    let m = c .before .before .before .before .before .before .start-of .ensures in
-    λ x p.
-    c .before .before .band .ensures x
-    ((p .0 .0, (fours-banded _ (p .0 .0) _ _ _ _ _ (p .1) _ _ _ _ _ (p .0 .1 .0) _ m (t .0) (t .1 .0), p .0 .1 .1)), t .1 .1)
+    λ x g.
+    let t = c .before .before .before .before .before .before .before .before .before .before .before .together .ensures
+    (not-false _ (c .before .before .before .before .before .before .before .before .before .before .if1 .left)) in
+    given-four _ _ _ _ _ _ (c .before .before .before .before .before .before .before .before .before .before .before .before .before .before .before .before
+    .before .before .before .args .source .now)
+    (c .before .before .before .before .before .before .before .before .before .before .before .before .before .before .before .before .before .before
+    .before .args .memory .now) _ _ _ _ _ g _ (c .before .before .before .before .before .before .before .rank-of .ensures) (t .1) _ _ _ refl refl refl _ _
+    (c .before .before .before .before .before .band .ensures x
+    (given-band _ _ _ _ _ _ (c .before .before .before .before .before .before .before .before .before .before .before .before .before .before .before
+    .before .before .before .before .args .source .now)
+    (c .before .before .before .before .before .before .before .before .before .before .before .before .before .before .before .before .before .before
+    .before .args .memory .now) _ _ _ _ _ g _ (c .before .before .before .before .before .before .before .rank-of .ensures) (t .1) _ _ _ refl refl refl _
+    (c .before .before .before .before .before .before .before .before .before .before .before .before .before .start-of .ensures) (t .0)))
+    (c .advance .ensures)
 
 pub four-rows-spec : {M : Type 1} → statement M
 four-rows-spec =
     tie.close
     (tie.spec
     sub-last
+    mul-width
+    element-copy-out-width
     mul-component
-    array-read-component
+    element-copy-out-component
     mul-start-of
-    array-read-start-of
+    element-copy-out-start-of
     start-of-requires
     together-requires
-    rows-singly-requires
+    add-box-rows
+    box-rows-requires
     same-length
     returns
+    mul-stride
+    element-copy-out-stride
+    rank-of-requires
+    add-b
+    add-c
+    add-band
     band-requires
+    sub-at
+    mul-at
+    element-copy-out-at
+    add-at
+    element-write-at
+    advance-requires
     same-length-2
     returns-2)

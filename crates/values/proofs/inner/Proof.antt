@@ -12,40 +12,49 @@ use Rattle.values.proofs.inner.Statement.{statement}
 use Rattle.values.proofs.inner.Tie as tie
 
 abbrev Inv-loop : tie.InvT-loop
-Inv-loop last margin at j₀ j = Sofar (λ q. leb (getD margin q 0) (getD at q 0)) last j
+Inv-loop margin at last j₀ j = Sofar (λ q. leb (getD margin q 0) (getD at q 0)) last j
 
 abbrev μ-loop : tie.MeasureT-loop
-μ-loop last margin at j₀ j = last - j
+μ-loop margin at last j₀ j = last - j
 
 loop-holds : tie.Need-loop-holds Inv-loop μ-loop
-loop-holds c = sofar-none _ _
+loop-holds c =
+    sofar-none _ _
 
 mul-if1 : tie.Need-mul-if1 Inv-loop μ-loop
-mul-if1 c = omega (arith, c .loop-test .taken, c .before .before .pre)
+mul-if1 c =
+    omega (arith, c .loop-test .taken, c .before .before .pre)
 
-array-read-if1 : tie.Need-array-read-if1 Inv-loop μ-loop
-array-read-if1 c = omega (arith, c .loop-test .taken, c .before .before .pre)
+element-copy-out-if1 : tie.Need-element-copy-out-if1 Inv-loop μ-loop
+element-copy-out-if1 c =
+    omega (arith, c .loop-test .taken, c .before .before .pre)
 
 mul-if1-2 : tie.Need-mul-if1-2 Inv-loop μ-loop
-mul-if1-2 c = omega (arith, c .loop-test .taken, c .before .before .pre)
+mul-if1-2 c =
+    omega (arith, c .before .loop-test .taken, c .before .before .before .pre)
 
-array-read-if1-2 : tie.Need-array-read-if1-2 Inv-loop μ-loop
-array-read-if1-2 c = omega (arith, c .loop-test .taken, c .before .before .pre)
+element-copy-out-if1-2 : tie.Need-element-copy-out-if1-2 Inv-loop μ-loop
+element-copy-out-if1-2 c =
+    omega (arith, c .before .loop-test .taken, c .before .before .before .pre)
 
 returns : tie.Need-returns Inv-loop μ-loop
-returns c = sym (every-not _ _ (c .before .before .loop .j) (c .before .loop-test .taken) (lt-leb _ _ (c .if1 .taken)))
+returns c =
+    sym (every-not _ _ (c .before .before .before .before .loop .j) (c .before .before .before .loop-test .taken) (lt-leb _ _ (c .if1 .taken)))
 
 add-j : tie.Need-add-j Inv-loop μ-loop
-add-j c = omega (arith, c .before .loop-test .taken, c .before .before .before .pre)
+add-j c =
+    omega (arith, c .before .before .before .loop-test .taken, c .before .before .before .before .before .pre)
 
 loop-less : tie.Need-loop-less Inv-loop μ-loop
 loop-less c = search needs
 
 loop-again : tie.Need-loop-again Inv-loop μ-loop
-loop-again c = sofar-more _ _ _ (c .before .before .loop .inv) (c .before .loop-test .taken) (le-leb _ _ (c .if1 .left))
+loop-again c =
+    sofar-more _ _ _ (c .before .before .before .before .loop .inv) (c .before .before .before .loop-test .taken) (le-leb _ _ (c .if1 .left))
 
 returns-2 : tie.Need-returns-2 Inv-loop μ-loop
-returns-2 c = sym (sofar-end _ _ _ (c .before .loop .inv) (c .loop-test .left))
+returns-2 c =
+    sym (sofar-end _ _ _ (c .before .loop .inv) (c .loop-test .left))
 
 pub inner-spec : {M : Type 1} → statement M
 inner-spec =
@@ -55,9 +64,9 @@ inner-spec =
     μ-loop
     loop-holds
     mul-if1
-    array-read-if1
+    element-copy-out-if1
     mul-if1-2
-    array-read-if1-2
+    element-copy-out-if1-2
     returns
     add-j
     loop-less

@@ -16,16 +16,20 @@ loop-holds : tie.Need-loop-holds Inv-loop μ-loop
 loop-holds c = mosting-none _ _ _
 
 mul-greater : tie.Need-mul-greater Inv-loop μ-loop
-mul-greater c = omega (arith, c .loop-test .taken, c .before .before .pre .0 .dimensions-most, c .before .before .pre .0 .distances-most, c .before .before .pre .1 .0)
+mul-greater c =
+    omega (arith, c .loop-test .taken, c .before .before .pre .0 .dimensions-most, c .before .before .pre .0 .distances-most, c .before .before .pre .1 .0)
 
 add-greater : tie.Need-add-greater Inv-loop μ-loop
-add-greater c = omega (arith, c .loop-test .taken, c .before .before .pre .0 .dimensions-most, c .before .before .pre .0 .distances-most, c .before .before .pre .1 .0)
+add-greater c =
+    omega (arith, c .loop-test .taken, c .before .before .pre .0 .dimensions-most, c .before .before .pre .0 .distances-most, c .before .before .pre .1 .0)
 
 mul-greater-2 : tie.Need-mul-greater-2 Inv-loop μ-loop
-mul-greater-2 c = omega (arith, c .loop-test .taken, c .before .before .pre .0 .dimensions-most, c .before .before .pre .0 .distances-most, c .before .before .pre .1 .0)
+mul-greater-2 c =
+    omega (arith, c .loop-test .taken, c .before .before .pre .0 .dimensions-most, c .before .before .pre .0 .distances-most, c .before .before .pre .1 .0)
 
 element-copy-out-greater : tie.Need-element-copy-out-greater Inv-loop μ-loop
-element-copy-out-greater c = omega (arith, c .loop-test .taken, c .before .before .pre .0 .dimensions-most, c .before .before .pre .0 .distances-most, c .before .before .pre .1 .0)
+element-copy-out-greater c =
+    omega (arith, c .loop-test .taken, c .before .before .pre .0 .dimensions-most, c .before .before .pre .0 .distances-most, c .before .before .pre .1 .0)
 
 greater-requires : tie.Need-greater-requires Inv-loop μ-loop
 greater-requires c κs = search needs

@@ -25,9 +25,11 @@ returns-4 c =
 
 returns-5 : tie.Need-returns-5
 returns-5 c =
-    let A = c .before .before .before .before .args in
-    S.by-offsets (A .sides) (A .bounded) (A .earlier) (A .slopes) (A .offsets) (c .before .before .before .if1 .left) (c .before .before .if2 .left)
-    (c .before .if3 .left) (c .if4 .left)
+    let at-if1 = c .before .before .before in
+    let start = at-if1 .before in
+    let A = start .args in
+    S.by-offsets (A .sides) (A .bounded) (A .earlier) (A .slopes) (A .offsets) (at-if1 .if1 .left) (c .before .before .if2 .left) (c .before .if3 .left)
+    (c .if4 .left)
 
 pub bounds-spec : {M : Type 1} → statement M
 bounds-spec =

@@ -29,7 +29,9 @@ loop-holds : tie.Need-loop-holds Inv-loop μ-loop
 loop-holds c = (omega arith, N.filled-start 272 _)
 
 record-of-requires : tie.Need-record-of-requires Inv-loop μ-loop
-record-of-requires c κs = (c .before .before .before .before .pre .0, (c .before .before .before .before .pre .1, omega (arith, c .loop-test .taken)))
+record-of-requires c κs =
+    let start = c .before .before .before .before in
+    (start .pre .0, (start .pre .1, omega (arith, c .loop-test .taken)))
 
 mul-put-record : tie.Need-mul-put-record Inv-loop μ-loop
 mul-put-record c =

@@ -30,13 +30,20 @@ loop-less : tie.Need-loop-less Inv-loop μ-loop
 loop-less c = search needs
 
 loop-again : tie.Need-loop-again Inv-loop μ-loop
-loop-again c = (omega arith, length-set (c .before .loop .space) _ _ ∙ c .before .loop .inv .1, S.copy-next (c .before .loop .space) (c .before .before .args .t1) (c .before .loop .i) (omega arith) (c .before .loop .inv .2))
+loop-again c = (
+  omega arith,
+  length-set (c .before .loop .space) _ _ ∙ c .before .loop .inv .1,
+  S.copy-next (c .before .loop .space) (c .before .before .args .t1)
+      (c .before .loop .i) (omega arith) (c .before .loop .inv .2),
+)
 
 same-length : tie.Need-same-length Inv-loop μ-loop
 same-length c = c .before .loop .inv .1
 
 returns : tie.Need-returns Inv-loop μ-loop
-returns c = S.copy-end (c .before .before .args .space .now) _ (c .before .before .args .t1) (c .before .loop .i) (c .before .loop .inv .1) (c .loop-test .left) (c .before .loop .inv .2)
+returns c =
+    S.copy-end (c .before .before .args .space .now) _ (c .before .before .args .t1) (c .before .loop .i) (c .before .loop .inv .1) (c .loop-test .left)
+    (c .before .loop .inv .2)
 
 pub copy-spec : {M : Type 1} → statement M
 copy-spec =

@@ -22,8 +22,9 @@ fits-in-requires-2 : tie.Need-fits-in-requires-2
 fits-in-requires-2 c κs = search needs
 
 returns-2 : tie.Need-returns-2
-returns-2 c = S.unfit (c .before .before .before .before .before .before .before .before .args .nest) _ (λ q. q .tiling)
-    (sym (c .before .fits-in2 .ensures) ∙ not-true _ (c .if2 .taken))
+returns-2 c =
+    let start = c .before .before .before .before .before .before .before .before in
+    S.unfit (start .args .nest) _ (λ q. q .tiling) (sym (c .before .fits-in2 .ensures) ∙ not-true _ (c .if2 .taken))
 
 slice-aggregate-fits-in-3 : tie.Need-slice-aggregate-fits-in-3
 slice-aggregate-fits-in-3 c = search needs
@@ -32,8 +33,9 @@ fits-in-requires-3 : tie.Need-fits-in-requires-3
 fits-in-requires-3 c κs = search needs
 
 returns-3 : tie.Need-returns-3
-returns-3 c = S.unfit (c .before .before .before .before .before .before .before .before .before .before .before .before .args .nest) _
-    (λ q. q .counts) (sym (c .before .fits-in3 .ensures) ∙ not-true _ (c .if3 .taken))
+returns-3 c =
+    let start = c .before .before .before .before .before .before .before .before .before .before .before .before in
+    S.unfit (start .args .nest) _ (λ q. q .counts) (sym (c .before .fits-in3 .ensures) ∙ not-true _ (c .if3 .taken))
 
 slice-aggregate-fits-in-4 : tie.Need-slice-aggregate-fits-in-4
 slice-aggregate-fits-in-4 c = search needs
@@ -46,7 +48,8 @@ fits-in-requires-4 c κs = search needs
 
 returns-4 : tie.Need-returns-4
 returns-4 c =
-    let A = c .before .before .before .before .before .before .before .before .before .before .before .before .before .before .before .before .args in
+    let start = c .before .before .before .before .before .before .before .before .before .before .before .before .before .before .before .before in
+    let A = start .args in
     S.unfit (A .nest) _ (λ q. q .components) (sym (c .before .fits-in4 .ensures) ∙ not-true _ (c .if4 .taken))
 
 slice-aggregate-weights-fit : tie.Need-slice-aggregate-weights-fit
@@ -57,43 +60,50 @@ weights-fit-requires c κs = search needs
 
 returns-5 : tie.Need-returns-5
 returns-5 c =
-    let A = c .before .before .before .before .before .before .before .before .before .before .before .before .before .before .before .before .before
-    .before .before .before .args in
+    let start = c .before .before .before .before .before .before .before .before .before .before .before .before .before .before .before .before .before
+    .before .before .before in
+    let A = start .args in
     S.unfit (A .nest) _ (λ q. q .weights) (sym (c .before .weights-fit .ensures) ∙ not-true _ (c .if5 .taken))
 
 returns-6 : tie.Need-returns-6
 returns-6 c =
-    let A = c .before .before .before .before .before .before .before .before .before .before .before .before .before .before .before .before .before
-    .before .before .before .before .before .args in
+    let start = c .before .before .before .before .before .before .before .before .before .before .before .before .before .before .before .before .before
+    .before .before .before .before .before in
+    let A = start .args in
     S.unfit (A .nest) _ (λ q. q .shift) (le-ltb _ _ (c .if6 .taken))
 
 returns-7 : tie.Need-returns-7
 returns-7 c =
-    let A = c .before .before .before .before .before .before .before .before .before .before .before .before .before .before .before .before .before
-    .before .before .before .before .before .before .before .args in
+    let start = c .before .before .before .before .before .before .before .before .before .before .before .before .before .before .before .before .before
+    .before .before .before .before .before .before .before in
+    let A = start .args in
     S.unfit (A .nest) _ (λ q. q .boundary) (le-ltb _ _ (c .if7 .taken))
 
 spread-of-requires : tie.Need-spread-of-requires
-spread-of-requires c κs = c .before .before .before .before .before .before .before .before .before .before .before .before .before .before .before
-    .before .before .before .before .before .before .before .before .before .pre .0
+spread-of-requires c κs =
+    let start = c .before .before .before .before .before .before .before .before .before .before .before .before .before .before .before .before .before
+    .before .before .before .before .before .before .before in
+    start .pre .0
 
 returns-8 : tie.Need-returns-8
 returns-8 c =
-    let A = c .before .before .before .before .before .before .before .before .before .before .before .before .before .before .before .before .before
-    .before .before .before .before .before .before .before .before .before .args in
-    S.fit-all (A .nest) _ (sym (c .before .before .before .before .before .before .before .before .before .before .before .before .before .before
-    .before .before .before .before .before .before .before .before .before .fits-in .ensures) ∙ not-false _
-    (c .before .before .before .before .before .before .before .before .before .before .before .before .before .before .before .before .before .before
-    .before .before .before .before .if1 .left)) (sym (c .before .before .before .before .before .before .before .before .before .before .before
-    .before .before .before .before .before .before .before .before .fits-in2 .ensures) ∙ not-false _
-    (c .before .before .before .before .before .before .before .before .before .before .before .before .before .before .before .before .before .before
-    .if2 .left)) (sym (c .before .before .before .before .before .before .before .before .before .before .before .before .before .before .before
-    .fits-in3 .ensures) ∙ not-false _ (c .before .before .before .before .before .before .before .before .before .before .before .before .before
-    .before .if3 .left)) (sym (c .before .before .before .before .before .before .before .before .before .before .before .fits-in4 .ensures) ∙
-    not-false _ (c .before .before .before .before .before .before .before .before .before .before .if4 .left))
-    (sym (c .before .before .before .before .before .before .before .weights-fit .ensures) ∙ not-false _
-    (c .before .before .before .before .before .before .if5 .left)) (c .before .before .before .before .if6 .left) (c .before .before .if7 .left)
-    (c .before .spread-of .ensures)
+    let at-if6 = c .before .before .before .before in
+    let at-if5 = at-if6 .before .before in
+    let at-weights-fit = at-if5 .before in
+    let at-if4 = at-weights-fit .before .before .before in
+    let at-fits-in4 = at-if4 .before in
+    let at-if3 = at-fits-in4 .before .before .before in
+    let at-fits-in3 = at-if3 .before in
+    let at-if2 = at-fits-in3 .before .before .before in
+    let at-fits-in2 = at-if2 .before in
+    let at-if1 = at-fits-in2 .before .before .before in
+    let at-fits-in = at-if1 .before in
+    let start = at-fits-in .before .before .before in
+    let A = start .args in
+    S.fit-all (A .nest) _ (sym (at-fits-in .fits-in .ensures) ∙ not-false _ (at-if1 .if1 .left)) (sym (at-fits-in2 .fits-in2 .ensures)
+    ∙ not-false _ (at-if2 .if2 .left)) (sym (at-fits-in3 .fits-in3 .ensures) ∙ not-false _ (at-if3 .if3 .left)) (sym (at-fits-in4 .fits-in4 .ensures)
+    ∙ not-false _ (at-if4 .if4 .left)) (sym (at-weights-fit .weights-fit .ensures) ∙ not-false _ (at-if5 .if5 .left)) (at-if6 .if6 .left)
+    (c .before .before .if7 .left) (c .before .spread-of .ensures)
 
 pub fits-spec : {M : Type 1} → statement M
 fits-spec =

@@ -26,7 +26,12 @@ limit-requires : tie.Need-limit-requires Inv-loop μ-loop
 limit-requires c κs = search needs
 
 returns : tie.Need-returns Inv-loop μ-loop
-returns c = S.without (c .before .before .before .before .before .before .args .n) (c .before .before .before .before .before .before .args .bound) (c .before .before .before .before .before .before .args .values .now) (c .before .before .before .before .loop .i) _ (c .before .before .before .loop-test .taken) (c .before .limit .ensures) (c .if1 .taken)
+returns c =
+    let at-loop-test = c .before .before .before in
+    let at-loop = at-loop-test .before in
+    let start = at-loop .before .before in
+    S.without (start .args .n) (start .args .bound) (start .args .values .now) (at-loop .loop .i) _ (at-loop-test .loop-test .taken)
+    (c .before .limit .ensures) (c .if1 .taken)
 
 add-i : tie.Need-add-i Inv-loop μ-loop
 add-i c = search needs
@@ -35,10 +40,18 @@ loop-less : tie.Need-loop-less Inv-loop μ-loop
 loop-less c = search needs
 
 loop-again : tie.Need-loop-again Inv-loop μ-loop
-loop-again c = (omega arith, S.within-next (c .before .before .before .before .before .before .args .n) (c .before .before .before .before .before .before .args .bound) (c .before .before .before .before .before .before .args .values .now) (c .before .before .before .before .loop .i) _ (c .before .before .before .before .loop .inv .1) (c .before .limit .ensures) (c .if1 .left))
+loop-again c =
+    let at-loop = c .before .before .before .before in
+    let start = at-loop .before .before in (
+      omega arith,
+      S.within-next (start .args .n) (start .args .bound) (start .args .values .now) (at-loop .loop .i) _ (at-loop .loop .inv .1)
+          (c .before .limit .ensures) (c .if1 .left),
+    )
 
 returns-2 : tie.Need-returns-2 Inv-loop μ-loop
-returns-2 c = S.within-end (c .before .before .before .args .n) (c .before .before .before .args .bound) (c .before .before .before .args .values .now) (c .before .loop .i) (c .before .loop .inv .0) (c .loop-test .left) (c .before .loop .inv .1)
+returns-2 c =
+    S.within-end (c .before .before .before .args .n) (c .before .before .before .args .bound) (c .before .before .before .args .values .now)
+    (c .before .loop .i) (c .before .loop .inv .0) (c .loop-test .left) (c .before .loop .inv .1)
 
 pub fits-in-spec : {M : Type 1} → statement M
 fits-in-spec =

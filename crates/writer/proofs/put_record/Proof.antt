@@ -32,10 +32,16 @@ loop-less : tie.Need-loop-less Inv-loop μ-loop
 loop-less c = search needs
 
 loop-again : tie.Need-loop-again Inv-loop μ-loop
-loop-again c = (omega arith, S.laid-next (c .before .before .args .at) (c .before .before .args .t1) (c .before .before .args .t3) (c .before .loop .i) (c .before .loop .bytes) (c .before .before .pre) (c .loop-test .taken) (c .before .loop .inv .1))
+loop-again c = (
+  omega arith,
+  S.laid-next (c .before .before .args .at) (c .before .before .args .t1) (c .before .before .args .t3) (c .before .loop .i)
+      (c .before .loop .bytes) (c .before .before .pre) (c .loop-test .taken) (c .before .loop .inv .1),
+)
 
 returns : tie.Need-returns Inv-loop μ-loop
-returns c = S.laid-end (c .before .before .args .at) (c .before .before .args .t1) (c .before .before .args .t3) (c .before .loop .i) (c .before .loop .bytes) (c .before .loop .inv .0) (c .loop-test .left) (c .before .loop .inv .1)
+returns c =
+    S.laid-end (c .before .before .args .at) (c .before .before .args .t1) (c .before .before .args .t3) (c .before .loop .i) (c .before .loop .bytes)
+    (c .before .loop .inv .0) (c .loop-test .left) (c .before .loop .inv .1)
 
 pub put-record-spec : {M : Type 1} → statement M
 put-record-spec =

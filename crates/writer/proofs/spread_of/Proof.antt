@@ -36,7 +36,13 @@ loop-less : tie.Need-loop-less Inv-loop μ-loop
 loop-less c = omega arith
 
 loop-again : tie.Need-loop-again Inv-loop μ-loop
-loop-again c = (omega arith, ⊎-elim (λ w. w .1 ∙ N.kept-more _ _ _ (c .before .before .loop .inv .1) (lt-ltb _ _ (w .0 .taken))) (λ w. w .1 ∙ N.kept-none _ _ _ (c .before .before .loop .inv .1) (le-ltb _ _ (w .0 .left))) (c .if1 .came), ⊎-elim (λ w. omega arith) (λ w. omega arith) (c .if1 .came))
+loop-again c = (
+  omega arith,
+  ⊎-elim (λ w. w .1 ∙ N.kept-more _ _ _ (c .before .before .loop .inv .1) (lt-ltb _ _ (w .0 .taken)))
+      (λ w. w .1 ∙ N.kept-none _ _ _ (c .before .before .loop .inv .1) (le-ltb _ _ (w .0 .left))) (c .if1 .came),
+  ⊎-elim (λ w. omega arith) (λ w. omega arith)
+      (c .if1 .came),
+)
 
 returns : tie.Need-returns Inv-loop μ-loop
 returns c = N.kept-end _ _ (c .before .loop .j) _ (c .before .loop .inv .0) (c .loop-test .left) (c .before .loop .inv .1)

@@ -15,7 +15,7 @@ use Rattle.engine.proofs.core.fresh.Statement.{statement}
 use Rattle.engine.proofs.core.fresh.Tie as tie
 
 read-for-requires : tie.Need-read-for-requires
-read-for-requires c κs = search needs
+read-for-requires c κs = tt
 
 returns : tie.Need-returns
 returns c =
@@ -26,7 +26,7 @@ returns c =
     (c .if1 .taken)
 
 route-of-requires : tie.Need-route-of-requires
-route-of-requires c κs = search needs
+route-of-requires c κs = tt
 
 sizes-of-requires : tie.Need-sizes-of-requires
 sizes-of-requires c κs =
@@ -48,13 +48,13 @@ areas-fit-requires : tie.Need-areas-fit-requires
 areas-fit-requires c κs = search needs
 
 same-length : tie.Need-same-length
-same-length c = search needs
+same-length c = refl
 
 same-length-2 : tie.Need-same-length-2
-same-length-2 c = search needs
+same-length-2 c = refl
 
 same-length-3 : tie.Need-same-length-3
-same-length-3 c = search needs
+same-length-3 c = refl
 
 returns-2 : tie.Need-returns-2
 returns-2 c =
@@ -77,22 +77,22 @@ returns-2 c =
     ∙ route-of .ensures)) (sym (areas-fit .ensures .0 l h) ∙ not-true _ (if2 .taken))
 
 zero-words-requires : tie.Need-zero-words-requires
-zero-words-requires c κs = search needs
+zero-words-requires c κs = tt
 
 zero-words-requires-2 : tie.Need-zero-words-requires-2
-zero-words-requires-2 c κs = search needs
+zero-words-requires-2 c κs = tt
 
 zero-bytes-requires : tie.Need-zero-bytes-requires
-zero-bytes-requires c κs = search needs
+zero-bytes-requires c κs = tt
 
 same-length-4 : tie.Need-same-length-4
-same-length-4 c = search needs
+same-length-4 c = c .before .before .before .before .before .before .before .before .before .before .zero-words .kept .0
 
 same-length-5 : tie.Need-same-length-5
-same-length-5 c = search needs
+same-length-5 c = c .before .before .before .before .before .before .zero-words2 .kept .0
 
 same-length-6 : tie.Need-same-length-6
-same-length-6 c = search needs
+same-length-6 c = c .before .before .zero-bytes .kept .0
 
 returns-3 : tie.Need-returns-3
 returns-3 c =

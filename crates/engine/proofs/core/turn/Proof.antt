@@ -16,10 +16,10 @@ use Rattle.engine.proofs.core.turn.Statement.{statement}
 use Rattle.engine.proofs.core.turn.Tie as tie
 
 read-for-requires : tie.Need-read-for-requires
-read-for-requires c κs = search needs
+read-for-requires c κs = tt
 
 refused-requires : tie.Need-refused-requires
-refused-requires c κs = search needs
+refused-requires c κs = tt
 
 returns : tie.Need-returns
 returns c =
@@ -33,7 +33,7 @@ returns c =
     (A .status .now)) (A .processor) (read .result .number) (read .ensures .number) (if1 .taken))
 
 route-of-requires : tie.Need-route-of-requires
-route-of-requires c κs = search needs
+route-of-requires c κs = tt
 
 sizes-of-requires : tie.Need-sizes-of-requires
 sizes-of-requires c κs =
@@ -55,16 +55,16 @@ unfit-requires : tie.Need-unfit-requires
 unfit-requires c κs = search needs
 
 refused-requires-2 : tie.Need-refused-requires-2
-refused-requires-2 c κs = search needs
+refused-requires-2 c κs = tt
 
 same-length : tie.Need-same-length
-same-length c = search needs
+same-length c = refl
 
 same-length-2 : tie.Need-same-length-2
-same-length-2 c = search needs
+same-length-2 c = refl
 
 same-length-3 : tie.Need-same-length-3
-same-length-3 c = search needs
+same-length-3 c = refl
 
 returns-2 : tie.Need-returns-2
 returns-2 c =
@@ -88,16 +88,16 @@ returns-2 c =
     (unfit .result) (unfit .ensures .0 l h) (if2 .taken))
 
 refused-requires-3 : tie.Need-refused-requires-3
-refused-requires-3 c κs = search needs
+refused-requires-3 c κs = tt
 
 same-length-4 : tie.Need-same-length-4
-same-length-4 c = search needs
+same-length-4 c = refl
 
 same-length-5 : tie.Need-same-length-5
-same-length-5 c = search needs
+same-length-5 c = refl
 
 same-length-6 : tie.Need-same-length-6
-same-length-6 c = search needs
+same-length-6 c = refl
 
 returns-3 : tie.Need-returns-3
 returns-3 c =
@@ -170,13 +170,13 @@ step-requires c κs =
     )
 
 same-length-7 : tie.Need-same-length-7
-same-length-7 c = search needs
+same-length-7 c = c .before .before .before .before .before .before .step .kept .1 .1 .1 .1 .0
 
 same-length-8 : tie.Need-same-length-8
-same-length-8 c = search needs
+same-length-8 c = c .before .before .before .before .before .before .step .kept .1 .1 .1 .1 .1 .0
 
 same-length-9 : tie.Need-same-length-9
-same-length-9 c = search needs
+same-length-9 c = c .before .before .before .before .before .before .step .kept .1 .1 .1 .1 .1 .1 .1 .0
 
 returns-4 : tie.Need-returns-4
 returns-4 c =

@@ -35,46 +35,53 @@ sizes-of-requires c κs = accepted-for _ _ _ (c .before .before .before .read-fo
 
 fill-requires : tie.Need-fill-requires
 fill-requires c κs =
+    let at-if1 = c .before .before .before .before in
+    let at-read-for = at-if1 .before in
     let sizes-of = c .before .sizes-of in
-    let read-for = c .before .before .before .before .before .read-for in (
+    let read-for = at-read-for .read-for in (
       sizes-of .ensures .0,
       (
-        lines.routed _ (read-for .result) (read-for .ensures) (c .before .before .before .before .if1 .left)
+        lines.routed _ (read-for .result) (read-for .ensures) (at-if1 .if1 .left)
             (sizes-of .ensures .1 ∙ c .before .before .route-of .ensures),
         refl,
       ),
     )
 
 unasked-requires : tie.Need-unasked-requires
-unasked-requires c κs = (
-  (c .before .before .before .sizes-of .ensures .0, c .before .fill .ensures),
-  c .before .before .before .before .before .before .before .before .before .before .before .before .pre,
-)
+unasked-requires c κs =
+    let at-sizes-of = c .before .before .before in
+    let start = at-sizes-of .before .before .before .before .before .before .before .before .before in
+    ((at-sizes-of .sizes-of .ensures .0, c .before .fill .ensures), start .pre)
 
 returns-2 : tie.Need-returns-2
 returns-2 c =
-    let S = c .before .before .before .before .before .before .before .before .before .before .before .before .before .before in
-    let sizes-of = c .before .before .before .before .before .sizes-of in
-    let read-for = c .before .before .before .before .before .before .before .before .before .read-for in
+    let at-sizes-of = c .before .before .before .before .before in
+    let at-route-of = at-sizes-of .before in
+    let at-if1 = at-route-of .before .before in
+    let at-read-for = at-if1 .before in
+    let S = at-read-for .before .before .before .before .before in
+    let sizes-of = at-sizes-of .sizes-of in
+    let read-for = at-read-for .read-for in
     let unasked = c .before .unasked in
     λ l h. answers.awaited-unasked (S .args .encoded .now) (S .args .route) (stateOf [] [] l (S .args .status .now)) (S .args .processor)
     (waitsOf (S .args .marks .now) (S .args .out .now)) (planOf (sizes-of .result .route) (read-for .result .nest))
-    (lines.opened (S .args .encoded .now) (read-for .result) (read-for .ensures)
-    (c .before .before .before .before .before .before .before .before .if1 .left)
-    (sizes-of .ensures .1 ∙ c .before .before .before .before .before .before .route-of .ensures))
+    (lines.opened (S .args .encoded .now) (read-for .result) (read-for .ensures) (at-if1 .if1 .left) (sizes-of .ensures .1 ∙ at-route-of .route-of .ensures))
     (unasked .result) (unasked .ensures .0 l (S .args .marks .now) (S .args .out .now) h refl refl) (c .if2 .taken)
 
 returns-3 : tie.Need-returns-3
 returns-3 c =
-    let S = c .before .before .before .before .before .before .before .before .before .before .before .before .before .before .before .before in
-    let sizes-of = c .before .before .before .before .before .before .before .sizes-of in
-    let read-for = c .before .before .before .before .before .before .before .before .before .before .before .read-for in
-    let unasked = c .before .before .before .unasked in
+    let at-unasked = c .before .before .before in
+    let at-sizes-of = at-unasked .before .before .before .before in
+    let at-route-of = at-sizes-of .before in
+    let at-if1 = at-route-of .before .before in
+    let at-read-for = at-if1 .before in
+    let S = at-read-for .before .before .before .before .before in
+    let sizes-of = at-sizes-of .sizes-of in
+    let read-for = at-read-for .read-for in
+    let unasked = at-unasked .unasked in
     λ l h. answers.awaited-beyond (S .args .encoded .now) (S .args .route) (stateOf [] [] l (S .args .status .now)) (S .args .processor)
     (waitsOf (S .args .marks .now) (S .args .out .now)) (planOf (sizes-of .result .route) (read-for .result .nest))
-    (lines.opened (S .args .encoded .now) (read-for .result) (read-for .ensures)
-    (c .before .before .before .before .before .before .before .before .before .before .if1 .left)
-    (sizes-of .ensures .1 ∙ c .before .before .before .before .before .before .before .before .route-of .ensures))
+    (lines.opened (S .args .encoded .now) (read-for .result) (read-for .ensures) (at-if1 .if1 .left) (sizes-of .ensures .1 ∙ at-route-of .route-of .ensures))
     (unasked .result) (unasked .ensures .0 l (S .args .marks .now) (S .args .out .now) h refl refl) (c .before .before .if2 .left)
     (omega (arith, sizes-of .ensures .0 .processors, c .if3 .taken))
 
@@ -86,33 +93,36 @@ part-tell-awaited-start c = search needs
 
 part-tell-awaited-end : tie.Need-part-tell-awaited-end
 part-tell-awaited-end c =
-    let S = c .before .before .before .before .before .before .before .before .before .before .before .before .before .before .before .before .before
-    .before .before in
+    let at-if2 = c .before .before .before .before .before in
+    let at-unasked = at-if2 .before in
+    let at-sizes-of = at-unasked .before .before .before .before in
+    let S = at-sizes-of .before .before .before .before .before .before .before .before .before in
     omega (
       arith,
       S .pre,
-      (reading.few-words _ _ (c .before .before .before .before .before .before .before .before .before .before .sizes-of .ensures .0)
-          (S .args .progress .count) (c .before .before .before .before .before .before .unasked .ensures .1
-          (c .before .before .before .before .before .if2 .left))),
+      (reading.few-words _ _ (at-sizes-of .sizes-of .ensures .0) (S .args .progress .count)
+          (at-unasked .unasked .ensures .1 (at-if2 .if2 .left))),
     )
 
 tell-awaited-requires : tie.Need-tell-awaited-requires
 tell-awaited-requires c κs =
-    let sizes-of = c .before .before .before .before .before .before .before .before .before .before .before .before .before .sizes-of in
-    let S = c .before .before .before .before .before .before .before .before .before .before .before .before .before .before .before .before .before
-    .before .before .before .before .before in
-    let unasked = c .before .before .before .before .before .before .before .before .before .unasked in
-    let if2 = c .before .before .before .before .before .before .before .before .if2 in (
-      (sizes-of .ensures .0, c .before .before .before .before .before .before .before .before .before .before .before .fill .ensures),
-      waiting.may-ask
-          (planOf (sizes-of .result .route) (c .before .before .before .before .before .before .before .before .before .before .before .before .before
-          .before .before .before .before .read-for .result .nest))
+    let at-if3 = c .before .before .before .before .before .before in
+    let at-if2 = at-if3 .before .before in
+    let at-unasked = at-if2 .before in
+    let at-fill = at-unasked .before .before in
+    let at-sizes-of = at-fill .before .before in
+    let at-read-for = at-sizes-of .before .before .before .before in
+    let S = at-read-for .before .before .before .before .before in
+    let sizes-of = at-sizes-of .sizes-of in
+    let unasked = at-unasked .unasked in
+    let if2 = at-if2 .if2 in (
+      (sizes-of .ensures .0, at-fill .fill .ensures),
+      waiting.may-ask (planOf (sizes-of .result .route) (at-read-for .read-for .result .nest))
           (stateOf [] [] (take (S .args .progress .count - 0) (drop 0 (S .args .progress .words))) (S .args .status .now))
           (waitsOf (S .args .marks .now) (S .args .out .now)) (unasked .result)
           (unasked .ensures .0 (take (S .args .progress .count - 0) (drop 0 (S .args .progress .words))) (S .args .marks .now) (S .args .out .now)
           (reading.part-carries (S .args .progress) (S .pre) (reading.few-words _ _ (sizes-of .ensures .0) (S .args .progress .count)
-          (unasked .ensures .1 (if2 .left)))) refl refl)
-          (if2 .left) (S .args .processor) (omega (arith, sizes-of .ensures .0 .processors, c .before .before .before .before .before .before .if3 .left)),
+          (unasked .ensures .1 (if2 .left)))) refl refl) (if2 .left) (S .args .processor) (omega (arith, sizes-of .ensures .0 .processors, at-if3 .if3 .left)),
     )
 
 same-length : tie.Need-same-length
@@ -123,27 +133,27 @@ same-length-2 c = search needs
 
 returns-4 : tie.Need-returns-4
 returns-4 c =
-    let S = c .before .before .before .before .before .before .before .before .before .before .before .before .before .before .before .before .before
-    .before .before .before .before .before .before .before .before .before .before in
-    let sizes-of = c .before .before .before .before .before .before .before .before .before .before .before .before .before .before .before .before
-    .before .before .sizes-of in
-    let read-for = c .before .before .before .before .before .before .before .before .before .before .before .before .before .before .before .before
-    .before .before .before .before .before .before .read-for in
-    let unasked = c .before .before .before .before .before .before .before .before .before .before .before .before .before .before .unasked in
-    let if2 = c .before .before .before .before .before .before .before .before .before .before .before .before .before .if2 in
+    let at-tell-awaited = c .before .before .before .before in
+    let at-if3 = at-tell-awaited .before .before .before .before .before .before .before in
+    let at-if2 = at-if3 .before .before in
+    let at-unasked = at-if2 .before in
+    let at-sizes-of = at-unasked .before .before .before .before in
+    let at-route-of = at-sizes-of .before in
+    let at-if1 = at-route-of .before .before in
+    let at-read-for = at-if1 .before in
+    let S = at-read-for .before .before .before .before .before in
+    let sizes-of = at-sizes-of .sizes-of in
+    let read-for = at-read-for .read-for in
+    let unasked = at-unasked .unasked in
+    let if2 = at-if2 .if2 in
     λ l h. answers.awaited-told (S .args .encoded .now) (S .args .route) (stateOf [] [] l (S .args .status .now)) (S .args .processor)
     (waitsOf (S .args .marks .now) (S .args .out .now)) (planOf (sizes-of .result .route) (read-for .result .nest))
-    (lines.opened (S .args .encoded .now) (read-for .result) (read-for .ensures)
-    (c .before .before .before .before .before .before .before .before .before .before .before .before .before .before .before .before .before .before
-    .before .before .before .if1 .left) (sizes-of .ensures .1 ∙ c .before .before .before .before .before .before .before .before .before .before
-    .before .before .before .before .before .before .before .before .before .route-of .ensures))
+    (lines.opened (S .args .encoded .now) (read-for .result) (read-for .ensures) (at-if1 .if1 .left) (sizes-of .ensures .1 ∙ at-route-of .route-of .ensures))
     (unasked .result) (unasked .ensures .0 l (S .args .marks .now) (S .args .out .now) h refl refl) (if2 .left)
-    (omega (arith, sizes-of .ensures .0 .processors, c .before .before .before .before .before .before .before .before .before .before .before .if3 .left))
-    _
-    (c .before .before .before .before .tell-awaited .ensures ∙ ap (λ (k : List ℕ). waitedOr13
-    (planOf (sizes-of .result .route) (read-for .result .nest)) (stateOf [] [] k (S .args .status .now)) (S .args .processor)
-    (waitsOf (S .args .marks .now) (S .args .out .now))) (reading.part-is (S .args .progress) l
-    (reading.few-words _ _ (sizes-of .ensures .0) (S .args .progress .count) (unasked .ensures .1 (if2 .left))) h))
+    (omega (arith, sizes-of .ensures .0 .processors, at-if3 .if3 .left)) _ (at-tell-awaited .tell-awaited .ensures
+    ∙ ap (λ (k : List ℕ). waitedOr13 (planOf (sizes-of .result .route) (read-for .result .nest)) (stateOf [] [] k (S .args .status .now))
+    (S .args .processor) (waitsOf (S .args .marks .now) (S .args .out .now)))
+    (reading.part-is (S .args .progress) l (reading.few-words _ _ (sizes-of .ensures .0) (S .args .progress .count) (unasked .ensures .1 (if2 .left))) h))
 
 pub awaited-spec : {M : Type 1} → statement M
 awaited-spec =

@@ -45,21 +45,27 @@ slice-write-marks c =
     omega (arith, nth-at .ensures .number, nth-at .ensures .low, c .before .before .before .before .loop .inv .long)
 
 add-j : tie.Need-add-j Inv-loop μ-loop
-add-j c = omega (arith, c .before .before .before .loop-test .taken, c .before .before .before .before .before .count-at .ensures .1)
+add-j c =
+    let at-loop-test = c .before .before .before in
+    let at-count-at = at-loop-test .before .before in
+    omega (arith, at-loop-test .loop-test .taken, at-count-at .count-at .ensures .1)
 
 loop-less : tie.Need-loop-less Inv-loop μ-loop
 loop-less c = omega (arith, c .before .before .before .loop-test .taken)
 
 loop-again : tie.Need-loop-again Inv-loop μ-loop
 loop-again c =
-    let S = c .before .before .before .before .before .before .before .before in
-    let loop = c .before .before .before .before .loop in
+    let at-loop-test = c .before .before .before in
+    let at-loop = at-loop-test .before in
+    let at-count-at = at-loop .before in
+    let S = at-count-at .before .before .before in
+    let loop = at-loop .loop in
     let nth-at = c .before .before .nth-at in
     let if1 = c .if1 in
-    waiting.mark-next (planOf (S .args .sizes .route) (S .args .nest)) (S .args .status .now) (S .args .tile) (loop .marks)
-    (c .before .before .before .before .before .count-at .result) (loop .j) (loop .inv) (c .before .before .before .loop-test .taken)
-    (nth-at .result .number) (nth-at .ensures .number) (omega (arith, nth-at .ensures .number, nth-at .ensures .low)) (if1 .marks)
-    (⊎-elim (λ w. inl (w .0 .taken, w .1)) (λ w. inr (w .0 .left, w .1)) (if1 .came))
+    waiting.mark-next (planOf (S .args .sizes .route) (S .args .nest)) (S .args .status .now) (S .args .tile) (loop .marks) (at-count-at .count-at .result)
+    (loop .j) (loop .inv) (at-loop-test .loop-test .taken) (nth-at .result .number) (nth-at .ensures .number)
+    (omega (arith, nth-at .ensures .number, nth-at .ensures .low)) (if1 .marks) (⊎-elim (λ w. inl (w .0 .taken, w .1)) (λ w. inr (w .0 .left, w .1))
+    (if1 .came))
 
 same-length : tie.Need-same-length Inv-loop μ-loop
 same-length c =

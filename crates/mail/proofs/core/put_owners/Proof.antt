@@ -62,40 +62,50 @@ span-requires c κs = (framed _ (c .before .before .before .before .before .befo
 
 tile-of-requires : tie.Need-tile-of-requires Inv-loop μ-loop
 tile-of-requires c κs =
-    let S = c .before .before .before .before .before .before .before .before in
-    let row-count = c .before .before .before .before .row-count in (
+    let at-loop = c .before .before .before in
+    let at-row-count = at-loop .before in
+    let S = at-row-count .before .before .before .before in
+    let row-count = at-row-count .row-count in (
       S .pre .0,
       omega (
         arith,
-        (owners.row-ends (S .args .t1) (S .pre .0 .accepted) (row-count .result) (c .before .before .before .loop .q) _ refl (row-count .ensures)
+        (owners.row-ends (S .args .t1) (S .pre .0 .accepted) (row-count .result) (at-loop .loop .q) _ refl (row-count .ensures)
             (c .before .before .loop-test .taken)),
         owners.wide-some (S .args .t1) (S .pre .0 .accepted),
       ),
     )
 
 processor-of-requires : tie.Need-processor-of-requires Inv-loop μ-loop
-processor-of-requires c κs = (c .before .before .before .before .before .before .before .before .before .pre .0, c .tile-of .ensures .1)
+processor-of-requires c κs =
+    let start = c .before .before .before .before .before .before .before .before .before in
+    (start .pre .0, c .tile-of .ensures .1)
 
 add-end : tie.Need-add-end Inv-loop μ-loop
 add-end c =
-    let S = c .before .before .before .before .before .before .before .before .before .before in
-    let row-count = c .before .before .before .before .before .before .row-count in
+    let at-loop-test = c .before .before .before .before in
+    let at-loop = at-loop-test .before in
+    let at-row-count = at-loop .before in
+    let S = at-row-count .before .before .before .before in
+    let row-count = at-row-count .row-count in
     omega (
       arith,
-      (owners.row-ends (S .args .t1) (S .pre .0 .accepted) (row-count .result) (c .before .before .before .before .before .loop .q) _ refl
-          (row-count .ensures) (c .before .before .before .before .loop-test .taken)),
+      (owners.row-ends (S .args .t1) (S .pre .0 .accepted) (row-count .result) (at-loop .loop .q) _ refl (row-count .ensures)
+          (at-loop-test .loop-test .taken)),
       S .pre .0 .accepted .cells-most,
     )
 
 mul-owner-row : tie.Need-mul-owner-row Inv-loop μ-loop
 mul-owner-row c =
-    let S = c .before .before .before .before .before .before .before .before .before .before in
-    let row-count = c .before .before .before .before .before .before .row-count in
-    let loop = c .before .before .before .before .before .loop in
+    let at-loop-test = c .before .before .before .before in
+    let at-loop = at-loop-test .before in
+    let at-row-count = at-loop .before in
+    let S = at-row-count .before .before .before .before in
+    let row-count = at-row-count .row-count in
+    let loop = at-loop .loop in
     omega (
       arith,
       (owners.row-ends (S .args .t1) (S .pre .0 .accepted) (row-count .result) (loop .q) _ refl (row-count .ensures)
-          (c .before .before .before .before .loop-test .taken)),
+          (at-loop-test .loop-test .taken)),
       loop .inv .1 .long,
       S .pre .1,
       S .pre .0 .accepted .cells-most,
@@ -109,13 +119,16 @@ part-owner-row-start c = omega arith
 
 part-owner-row-end : tie.Need-part-owner-row-end Inv-loop μ-loop
 part-owner-row-end c =
-    let S = c .before .before .before .before .before .before .before .before .before .before in
-    let row-count = c .before .before .before .before .before .before .row-count in
-    let loop = c .before .before .before .before .before .loop in
+    let at-loop-test = c .before .before .before .before in
+    let at-loop = at-loop-test .before in
+    let at-row-count = at-loop .before in
+    let S = at-row-count .before .before .before .before in
+    let row-count = at-row-count .row-count in
+    let loop = at-loop .loop in
     omega (
       arith,
       (owners.row-ends (S .args .t1) (S .pre .0 .accepted) (row-count .result) (loop .q) _ refl (row-count .ensures)
-          (c .before .before .before .before .loop-test .taken)),
+          (at-loop-test .loop-test .taken)),
       loop .inv .1 .long,
       S .pre .1,
       S .pre .0 .accepted .cells-most,
@@ -123,22 +136,22 @@ part-owner-row-end c =
 
 cast-owner-row : tie.Need-cast-owner-row Inv-loop μ-loop
 cast-owner-row c =
-    omega (
-      arith,
-      c .before .processor-of .ensures .1,
-      c .before .before .before .before .before .before .before .before .before .before .before .pre .0 .accepted .processors-most,
-    )
+    let start = c .before .before .before .before .before .before .before .before .before .before .before in
+    omega (arith, c .before .processor-of .ensures .1, start .pre .0 .accepted .processors-most)
 
 owner-row-requires : tie.Need-owner-row-requires Inv-loop μ-loop
 owner-row-requires c κs =
-    let loop = c .before .before .before .before .before .before .loop in
-    let S = c .before .before .before .before .before .before .before .before .before .before .before in
-    let row-count = c .before .before .before .before .before .before .before .row-count in
+    let at-loop-test = c .before .before .before .before .before in
+    let at-loop = at-loop-test .before in
+    let at-row-count = at-loop .before in
+    let S = at-row-count .before .before .before .before in
+    let loop = at-loop .loop in
+    let row-count = at-row-count .row-count in
     owners.mid-few (loop .out) (loop .q * lengthOf (S .args .t1) (last (S .args .t1))) (lengthOf (S .args .t1) (last (S .args .t1)))
     (omega (
       arith,
       (owners.row-ends (S .args .t1) (S .pre .0 .accepted) (row-count .result) (loop .q) _ refl (row-count .ensures)
-          (c .before .before .before .before .before .loop-test .taken)),
+          (at-loop-test .loop-test .taken)),
       loop .inv .1 .long,
       S .pre .1,
       S .pre .0 .accepted .cells-most,
@@ -147,34 +160,42 @@ owner-row-requires c κs =
 
 add-q : tie.Need-add-q Inv-loop μ-loop
 add-q c =
-    let S = c .before .before .before .before .before .before .before .before .before .before .before .before .before .before in
-    let row-count = c .before .before .before .before .before .before .before .before .before .before .row-count in
-    omega (
-      arith,
-      owners.rows-few (S .args .t1) (S .pre .0 .accepted) (row-count .result) (row-count .ensures),
-      c .before .before .before .before .before .before .before .before .loop-test .taken,
-    )
+    let at-loop-test = c .before .before .before .before .before .before .before .before in
+    let at-row-count = at-loop-test .before .before in
+    let S = at-row-count .before .before .before .before in
+    let row-count = at-row-count .row-count in
+    omega (arith, owners.rows-few (S .args .t1) (S .pre .0 .accepted) (row-count .result) (row-count .ensures), at-loop-test .loop-test .taken)
 
 loop-less : tie.Need-loop-less Inv-loop μ-loop
-loop-less c = omega (arith, c .before .before .before .before .before .before .before .before .loop-test .taken)
+loop-less c =
+    let at-loop-test = c .before .before .before .before .before .before .before .before in
+    omega (arith, at-loop-test .loop-test .taken)
 
 loop-again : tie.Need-loop-again Inv-loop μ-loop
 loop-again c =
-    let loop-test = c .before .before .before .before .before .before .before .before .loop-test in
-    let S = c .before .before .before .before .before .before .before .before .before .before .before .before .before .before in
-    let loop = c .before .before .before .before .before .before .before .before .before .loop in
-    let row-place = c .before .before .before .before .before .before .before .row-place in
-    let span = c .before .before .before .before .before .before .span in
-    let tile-of = c .before .before .before .before .before .tile-of in
-    let processor-of = c .before .before .before .before .processor-of in
+    let at-processor-of = c .before .before .before .before in
+    let at-tile-of = at-processor-of .before in
+    let at-span = at-tile-of .before in
+    let at-row-place = at-span .before in
+    let at-loop-test = at-row-place .before in
+    let at-loop = at-loop-test .before in
+    let at-row-count = at-loop .before in
+    let S = at-row-count .before .before .before .before in
+    let loop-test = at-loop-test .loop-test in
+    let loop = at-loop .loop in
+    let row-place = at-row-place .row-place in
+    let span = at-span .span in
+    let tile-of = at-tile-of .tile-of in
+    let processor-of = at-processor-of .processor-of in
     let owner-row = c .before .before .owner-row in
-    let row-count = c .before .before .before .before .before .before .before .before .before .before .row-count in (
+    let row-count = at-row-count .row-count in (
       omega (arith, loop-test .taken),
-      owners.row-stored (S .args .t1) (S .pre .0 .accepted) (loop .q) (row-place .result) (row-place .ensures) (span .result) (span .ensures)
-          (tile-of .result) (processor-of .result) _ (tile-of .ensures .0) (processor-of .ensures .0) (S .pre .0 .processors) (S .args .out .now)
+      owners.row-stored (S .args .t1) (S .pre .0 .accepted) (loop .q) (row-place .result) (row-place .ensures) (span .result)
+          (span .ensures) (tile-of .result) (processor-of .result) _ (tile-of .ensures .0) (processor-of .ensures .0) (S .pre .0 .processors)
+          (S .args .out .now)
           (loop .out) (owner-row .last .0) _ _ refl refl (loop .inv .1)
-          (owners.row-ends (S .args .t1) (S .pre .0 .accepted) (row-count .result) (loop .q) _ refl (row-count .ensures) (loop-test .taken)) (S .pre .1)
-          (owner-row .kept .0) (owner-row .ensures),
+          (owners.row-ends (S .args .t1) (S .pre .0 .accepted) (row-count .result) (loop .q) _ refl
+          (row-count .ensures) (loop-test .taken)) (S .pre .1) (owner-row .kept .0) (owner-row .ensures),
     )
 
 same-length : tie.Need-same-length Inv-loop μ-loop

@@ -59,16 +59,18 @@ half-index-requires c κs = search needs
 
 put-row-requires : tie.Need-put-row-requires Inv-loop μ-loop
 put-row-requires c κs =
-    let S = c .before .before .before .before .before .before .before .before .before in
-    let loop = c .before .before .before .before .before .loop in
-    let tiles-of = c .before .before .before .before .before .before .before .tiles-of in
+    let at-loop-test = c .before .before .before .before in
+    let at-loop = at-loop-test .before in
+    let at-tiles-of = at-loop .before .before in
+    let S = at-tiles-of .before .before in
+    let loop = at-loop .loop in
+    let tiles-of = at-tiles-of .tiles-of in
     let half-index = c .before .before .half-index in (
       (
         S .pre .0,
         rows.here (S .args .sizes .route) (S .args .nest) (S .args .lens .now) _ (S .args .out .now) (loop .out) (loop .slot) (loop .number)
-            (loop .offset) (loop .inv)
-            (rows.slotted (S .args .nest) (S .args .sizes) (S .pre .0 .0) (S .args .lens .now) (S .pre .0 .1) (tiles-of .result) (tiles-of .ensures .0))
-            (c .before .before .before .before .loop-test .taken) (half-index .result) (half-index .ensures) (c .before .if1 .taken),
+            (loop .offset) (loop .inv) (rows.slotted (S .args .nest) (S .args .sizes) (S .pre .0 .0) (S .args .lens .now) (S .pre .0 .1) (tiles-of .result)
+            (tiles-of .ensures .0)) (at-loop-test .loop-test .taken) (half-index .result) (half-index .ensures) (c .before .if1 .taken),
       ),
       (
         loop .inv .told .long ∙ S .pre .1,
@@ -77,8 +79,8 @@ put-row-requires c κs =
             arith,
             loop .inv .few,
             loop .inv .low,
-            (rows.slotted (S .args .nest) (S .args .sizes) (S .pre .0 .0) (S .args .lens .now) (S .pre .0 .1) (tiles-of .result)
-                (tiles-of .ensures .0)) .sheet .few,
+            (rows.slotted (S .args .nest) (S .args .sizes) (S .pre .0 .0) (S .args .lens .now) (S .pre .0 .1)
+                (tiles-of .result) (tiles-of .ensures .0)) .sheet .few,
           ),
           omega (
             arith,
@@ -93,39 +95,50 @@ put-row-requires c κs =
 
 add-number : tie.Need-add-number Inv-loop μ-loop
 add-number c =
-    let S = c .before .before .before .before .before .before .before .before .before .before .before .before in
-    let tiles-of = c .before .before .before .before .before .before .before .before .before .before .tiles-of in
+    let at-loop-test = c .before .before .before .before .before .before .before in
+    let at-loop = at-loop-test .before in
+    let at-tiles-of = at-loop .before .before in
+    let S = at-tiles-of .before .before in
+    let tiles-of = at-tiles-of .tiles-of in
     omega (
       arith,
-      c .before .before .before .before .before .before .before .before .loop .inv .few,
-      c .before .before .before .before .before .before .before .loop-test .taken,
-      (rows.slotted (S .args .nest) (S .args .sizes) (S .pre .0 .0) (S .args .lens .now) (S .pre .0 .1) (tiles-of .result) (tiles-of .ensures .0)) .sheet .few,
+      at-loop .loop .inv .few,
+      at-loop-test .loop-test .taken,
+      (rows.slotted (S .args .nest) (S .args .sizes) (S .pre .0 .0) (S .args .lens .now)
+          (S .pre .0 .1) (tiles-of .result) (tiles-of .ensures .0)) .sheet .few,
     )
 
 add-offset : tie.Need-add-offset Inv-loop μ-loop
 add-offset c =
-    let loop = c .before .before .before .before .loop in
-    let loop-test = c .before .before .before .loop-test in
-    let S = c .before .before .before .before .before .before .before .before in
-    let tiles-of = c .before .before .before .before .before .before .tiles-of in
+    let at-loop-test = c .before .before .before in
+    let at-loop = at-loop-test .before in
+    let at-tiles-of = at-loop .before .before in
+    let S = at-tiles-of .before .before in
+    let loop = at-loop .loop in
+    let loop-test = at-loop-test .loop-test in
+    let tiles-of = at-tiles-of .tiles-of in
     omega (
       arith,
       loop .inv .small,
       loop-test .taken,
-      (rows.slotted (S .args .nest) (S .args .sizes) (S .pre .0 .0) (S .args .lens .now) (S .pre .0 .1) (tiles-of .result) (tiles-of .ensures .0)) .sheet .few,
+      (rows.slotted (S .args .nest) (S .args .sizes) (S .pre .0 .0) (S .args .lens .now) (S .pre .0 .1)
+          (tiles-of .result) (tiles-of .ensures .0)) .sheet .few,
       c .before .half-index .ensures,
-      (rows.slotted (S .args .nest) (S .args .sizes) (S .pre .0 .0) (S .args .lens .now) (S .pre .0 .1) (tiles-of .result) (tiles-of .ensures .0)) .sheet .short
-          (loop .slot) (loop-test .taken),
+      (rows.slotted (S .args .nest) (S .args .sizes) (S .pre .0 .0) (S .args .lens .now) (S .pre .0 .1) (tiles-of .result) (tiles-of .ensures .0)) .sheet
+          .short (loop .slot) (loop-test .taken),
     )
 
 add-slot : tie.Need-add-slot Inv-loop μ-loop
 add-slot c =
-    let S = c .before .before .before .before .before .before .before .before in
-    let tiles-of = c .before .before .before .before .before .before .tiles-of in
+    let at-loop-test = c .before .before .before in
+    let at-tiles-of = at-loop-test .before .before .before in
+    let S = at-tiles-of .before .before in
+    let tiles-of = at-tiles-of .tiles-of in
     omega (
       arith,
-      c .before .before .before .loop-test .taken,
-      (rows.slotted (S .args .nest) (S .args .sizes) (S .pre .0 .0) (S .args .lens .now) (S .pre .0 .1) (tiles-of .result) (tiles-of .ensures .0)) .sheet .few,
+      at-loop-test .loop-test .taken,
+      (rows.slotted (S .args .nest) (S .args .sizes) (S .pre .0 .0) (S .args .lens .now) (S .pre .0 .1)
+          (tiles-of .result) (tiles-of .ensures .0)) .sheet .few,
     )
 
 loop-less : tie.Need-loop-less Inv-loop μ-loop
@@ -133,15 +146,17 @@ loop-less c = omega (arith, c .before .before .before .loop-test .taken)
 
 loop-again : tie.Need-loop-again Inv-loop μ-loop
 loop-again c =
-    let S = c .before .before .before .before .before .before .before .before in
-    let loop = c .before .before .before .before .loop in
-    let tiles-of = c .before .before .before .before .before .before .tiles-of in
+    let at-loop-test = c .before .before .before in
+    let at-loop = at-loop-test .before in
+    let at-tiles-of = at-loop .before .before in
+    let S = at-tiles-of .before .before in
+    let loop = at-loop .loop in
+    let tiles-of = at-tiles-of .tiles-of in
     let half-index = c .before .half-index in
     let if1 = c .if1 in
-    rows.pass-next (S .args .sizes .route) (S .args .nest) (S .args .lens .now) _ (S .args .out .now) (loop .out) (loop .slot) (loop .number)
-    (loop .offset) (loop .inv)
-    (rows.slotted (S .args .nest) (S .args .sizes) (S .pre .0 .0) (S .args .lens .now) (S .pre .0 .1) (tiles-of .result) (tiles-of .ensures .0))
-    (c .before .before .before .loop-test .taken) (half-index .result) (half-index .ensures) (if1 .out) (if1 .number) (S .pre .1)
+    rows.pass-next (S .args .sizes .route) (S .args .nest) (S .args .lens .now) _ (S .args .out .now) (loop .out) (loop .slot) (loop .number) (loop .offset)
+    (loop .inv) (rows.slotted (S .args .nest) (S .args .sizes) (S .pre .0 .0) (S .args .lens .now) (S .pre .0 .1) (tiles-of .result) (tiles-of .ensures .0))
+    (at-loop-test .loop-test .taken) (half-index .result) (half-index .ensures) (if1 .out) (if1 .number) (S .pre .1)
     (⊎-elim (λ w. inl (w .0 .taken, (w .5 ∙ w .2 .ensures, w .6))) (λ w. inr (w .0 .left, (w .1, w .2))) (if1 .came))
 
 same-length : tie.Need-same-length Inv-loop μ-loop

@@ -42,12 +42,15 @@ slice-read-if3 c = omega (arith, c .before .before .before .before .before .if1 
 
 returns-3 : tie.Need-returns-3
 returns-3 c =
-    let S = c .before .before .before .before .before .before .before .before .before .before in
-    let line-at = c .before .before .before .before .line-at in
+    let at-line-at = c .before .before .before .before in
+    let at-nth = at-line-at .before in
+    let at-if1 = at-nth .before in
+    let S = at-if1 .before .before .before .before in
+    let line-at = at-line-at .line-at in
     λ ms l. taking.came-before (planOf (S .args .sizes .route) (S .args .nest)) (stateOf ms (S .args .buffer .now) l (S .args .status .now))
     (S .args .processor) (S .args .m) (S .args .words .now) (line-at .result)
-    (line-at .ensures ∙ ap (lineOf (planOf (S .args .sizes .route) (S .args .nest))) (c .before .before .before .before .before .nth .ensures .number))
-    (omega (arith, c .before .before .before .before .before .before .if1 .left, S .pre .1 .status)) (c .before .before .if2 .left) (c .if3 .taken)
+    (line-at .ensures ∙ ap (lineOf (planOf (S .args .sizes .route) (S .args .nest))) (at-nth .nth .ensures .number))
+    (omega (arith, at-if1 .if1 .left, S .pre .1 .status)) (c .before .before .if2 .left) (c .if3 .taken)
 
 add-end : tie.Need-add-end
 add-end c =
@@ -81,15 +84,18 @@ part-copy-words-end c =
 
 copy-words-requires : tie.Need-copy-words-requires
 copy-words-requires c κs =
-    let S = c .before .before .before .before .before .before .before .before .before .before .before .before in
-    let nth = c .before .before .before .before .before .before .before .nth in
+    let at-nth = c .before .before .before .before .before .before .before in
+    let at-if1 = at-nth .before in
+    let S = at-if1 .before .before .before .before in
+    let nth = at-nth .nth in
     taking.place-long (S .args .sizes .route) (S .args .nest) (S .args .m) (nth .result) (nth .ensures) (S .args .buffer .now) (S .pre .1 .buffer)
-    ∙ sym
-    (taking.long-here (planOf (S .args .sizes .route) (S .args .nest)) (S .args .m) (S .args .words .now)
-    (omega (arith, c .before .before .before .before .before .before .before .before .if1 .left, S .pre .1 .status)) (S .pre .1 .long))
+    ∙ sym (taking.long-here (planOf (S .args .sizes .route) (S .args .nest)) (S .args .m) (S .args .words .now)
+    (omega (arith, at-if1 .if1 .left, S .pre .1 .status)) (S .pre .1 .long))
 
 slice-write-status : tie.Need-slice-write-status
-slice-write-status c = omega (arith, c .before .before .before .before .before .before .before .before .before .before .before .if1 .left)
+slice-write-status c =
+    let at-if1 = c .before .before .before .before .before .before .before .before .before .before .before in
+    omega (arith, at-if1 .if1 .left)
 
 same-length : tie.Need-same-length
 same-length c = search needs
@@ -99,17 +105,21 @@ same-length-2 c = search needs
 
 returns-4 : tie.Need-returns-4
 returns-4 c =
-    let S = c .before .before .before .before .before .before .before .before .before .before .before .before .before .before .before in
-    let line-at = c .before .before .before .before .before .before .before .before .before .line-at in
-    let nth = c .before .before .before .before .before .before .before .before .before .before .nth in
+    let at-if3 = c .before .before .before .before .before in
+    let at-if2 = at-if3 .before .before in
+    let at-line-at = at-if2 .before .before in
+    let at-nth = at-line-at .before in
+    let at-if1 = at-nth .before in
+    let S = at-if1 .before .before .before .before in
+    let line-at = at-line-at .line-at in
+    let nth = at-nth .nth in
     let copy-words = c .before .before .copy-words in
     λ ms l. taking.taken-in (planOf (S .args .sizes .route) (S .args .nest)) (stateOf ms (S .args .buffer .now) l (S .args .status .now))
     (S .args .processor) (S .args .m) (S .args .words .now) (line-at .result)
     (line-at .ensures ∙ ap (lineOf (planOf (S .args .sizes .route) (S .args .nest))) (nth .ensures .number))
-    (omega (arith, c .before .before .before .before .before .before .before .before .before .before .before .if1 .left, S .pre .1 .status))
-    (c .before .before .before .before .before .before .before .if2 .left) (c .before .before .before .before .before .if3 .left) _
-    (taking.put-in (S .args .sizes .route) (S .args .nest) (S .args .m) (nth .result) (nth .ensures) (S .args .buffer .now) (S .pre .1 .buffer)
-    (S .args .words .now) (copy-words .last .0) (copy-words .kept .0) (copy-words .ensures))
+    (omega (arith, at-if1 .if1 .left, S .pre .1 .status)) (at-if2 .if2 .left) (at-if3 .if3 .left) _ (taking.put-in (S .args .sizes .route) (S .args .nest)
+    (S .args .m) (nth .result) (nth .ensures) (S .args .buffer .now) (S .pre .1 .buffer) (S .args .words .now) (copy-words .last .0) (copy-words .kept .0)
+    (copy-words .ensures))
 
 pub receive-spec : {M : Type 1} → statement M
 receive-spec =

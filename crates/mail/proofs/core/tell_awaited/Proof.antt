@@ -72,10 +72,10 @@ zero-bytes-requires c κs = search needs
 
 mark-undelivered-requires : tie.Need-mark-undelivered-requires
 mark-undelivered-requires c κs =
-    let S = c .before .before .before .before .before .before .before .before .before .before .before .before .before .before .before .before in (
-      (S .pre .0, c .before .before .before .before .before .before .tile-at .ensures .1),
-      (S .pre .1 .status, c .before .before .before .before .zero-bytes .ensures ∙ ap (λ (n : ℕ). replicate n 0) (S .pre .1 .marks)),
-    )
+    let at-zero-bytes = c .before .before .before .before in
+    let at-tile-at = at-zero-bytes .before .before in
+    let S = at-tile-at .before .before .before .before .before .before .before .before .before .before in
+    ((S .pre .0, at-tile-at .tile-at .ensures .1), (S .pre .1 .status, at-zero-bytes .zero-bytes .ensures ∙ ap (λ (n : ℕ). replicate n 0) (S .pre .1 .marks)))
 
 cast-out : tie.Need-cast-out
 cast-out c =
@@ -88,10 +88,8 @@ cast-out c =
 
 slice-write-out : tie.Need-slice-write-out
 slice-write-out c =
-    omega (
-      arith,
-      c .before .before .before .before .before .before .before .before .before .before .before .before .before .before .before .pre .1 .out,
-    )
+    let start = c .before .before .before .before .before .before .before .before .before .before .before .before .before .before .before in
+    omega (arith, start .pre .1 .out)
 
 same-length : tie.Need-same-length
 same-length c =
@@ -103,25 +101,23 @@ same-length-2 c = search needs
 
 returns-2 : tie.Need-returns-2
 returns-2 c =
-    let S = c .before .before .before .before .before .before .before .before .before .before .before .before .before .before .before in
-    let tile-at = c .before .before .before .before .before .tile-at in
+    let at-zero-bytes = c .before .before .before in
+    let at-tile-at = at-zero-bytes .before .before in
+    let at-if1 = at-tile-at .before in
+    let at-tile-count = at-if1 .before in
+    let at-word-index = at-tile-count .before .before in
+    let S = at-word-index .before .before .before .before .before .before in
+    let tile-at = at-tile-at .tile-at in
     let if2 = c .if2 in
-    let word-index = c .before .before .before .before .before .before .before .before .before .word-index in
+    let word-index = at-word-index .word-index in
     waiting.told (planOf (S .args .sizes .route) (S .args .nest)) (stateOf [] [] (S .args .progress .now) (S .args .status .now)) (S .args .b)
     (waitsOf (S .args .marks .now) (S .args .out .now)) (tile-at .result) (if2 .marks)
-    (omega (
-      arith,
-      c .before .before .before .before .before .before .if1 .left,
-      c .before .before .before .before .before .before .before .tile-count
-          .ensures .0,
-      word-index .ensures,
-    ))
-    (S .pre .1 .out)
+    (omega (arith, at-if1 .if1 .left, at-tile-count .tile-count .ensures .0, word-index .ensures)) (S .pre .1 .out)
     (tile-at .ensures .0 ∙ ap (λ (i : ℕ). getD (tilesOf (planOf (S .args .sizes .route) (S .args .nest)) (S .args .b)) i 0) (word-index .ensures))
     (⊎-elim (λ w. inl (w .0 .taken, w .5 ∙ w .2 .ensures)) (λ w. inr (
       w .0 .left,
-      w .1 ∙ c .before .before .before .zero-bytes .ensures ∙ ap
-          (λ (n : ℕ). replicate n 0) (S .pre .1 .marks),
+      w .1 ∙ at-zero-bytes .zero-bytes .ensures ∙ ap (λ (n : ℕ). replicate n 0)
+          (S .pre .1 .marks),
     )) (if2 .came))
 
 pub tell-awaited-spec : {M : Type 1} → statement M

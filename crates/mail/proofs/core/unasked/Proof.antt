@@ -87,18 +87,21 @@ fit-records-requires c κs =
 
 returns-5 : tie.Need-returns-5
 returns-5 c =
-    let S = c .before .before .before .before .before .before .before .before .before .before .before .before .before .before in
-    let if1 = c .before .before .before .before .before .before .before .before .before .if1 in
-    let totals = c .before .before .before .before .before .before .before .before .before .before .before .before .totals in (
+    let at-if4 = c .before .before .before .before in
+    let at-if3 = at-if4 .before in
+    let at-if2 = at-if3 .before .before in
+    let at-if1 = at-if2 .before .before in
+    let at-totals = at-if1 .before .before .before in
+    let S = at-totals .before .before in
+    let if1 = at-if1 .if1 in
+    let totals = at-totals .totals in (
       λ l ms os h a b. waiting.unasked-10 (planOf (S .args .sizes .route) (S .args .nest)) (stateOf [] [] l (S .args .status .now)) (waitsOf ms os)
-          (sym (h .counted) ∙ if1 .left ∙ lines.records-are (S .args .nest) (S .args .sizes) (S .pre .0 .0))
-          (c .before .before .before .before .before .before .before .if2 .left ∙ totals .ensures .0)
-          (sym a ∙ c .before .before .before .before .before .if3 .left ∙ totals .ensures .0) (sym b ∙ c .before .before .before .before .if4 .left)
-          (lines.unfit-record (planOf (S .args .sizes .route) (S .args .nest)) (stateOf [] [] l (S .args .status .now))
-          (reading.fits-as (planOf (S .args .sizes .route) (S .args .nest)) _ l
+          (sym (h .counted) ∙ if1 .left ∙ lines.records-are (S .args .nest) (S .args .sizes) (S .pre .0 .0)) (at-if2 .if2 .left ∙ totals .ensures .0)
+          (sym a ∙ at-if3 .if3 .left ∙ totals .ensures .0) (sym b ∙ at-if4 .if4 .left) (lines.unfit-record (planOf (S .args .sizes .route) (S .args .nest))
+          (stateOf [] [] l (S .args .status .now)) (reading.fits-as (planOf (S .args .sizes .route) (S .args .nest)) _ l
           (reading.part-is (S .args .progress) l (reading.few-words (S .args .nest) (S .args .sizes) (S .pre .0 .0) (S .args .progress .count)
-          (if1 .left ∙ lines.records-are (S .args .nest) (S .args .sizes) (S .pre .0 .0))) h) ∙ sym (c .before .fit-records .ensures) ∙ not-true _
-          (c .if5 .taken))),
+          (if1 .left ∙ lines.records-are (S .args .nest) (S .args .sizes) (S .pre .0 .0))) h) ∙ sym (c .before .fit-records .ensures)
+          ∙ not-true _ (c .if5 .taken))),
       λ q. absurd (omega arith),
     )
 
@@ -107,35 +110,42 @@ fit-status-requires c κs = search needs
 
 returns-6 : tie.Need-returns-6
 returns-6 c =
-    let S = c .before .before .before .before .before .before .before .before .before .before .before .before .before .before .before .before in
-    let if2 = c .before .before .before .before .before .before .before .before .before .if2 in
-    let totals = c .before .before .before .before .before .before .before .before .before .before .before .before .before .before .totals in (
+    let at-if4 = c .before .before .before .before .before .before in
+    let at-if3 = at-if4 .before in
+    let at-if2 = at-if3 .before .before in
+    let at-if1 = at-if2 .before .before in
+    let at-totals = at-if1 .before .before .before in
+    let S = at-totals .before .before in
+    let if2 = at-if2 .if2 in
+    let totals = at-totals .totals in (
       λ l ms os h a b. waiting.unasked-10 (planOf (S .args .sizes .route) (S .args .nest)) (stateOf [] [] l (S .args .status .now)) (waitsOf ms os)
-          (sym (h .counted) ∙ c .before .before .before .before .before .before .before .before .before .before .before .if1 .left ∙ lines.records-are
-          (S .args .nest) (S .args .sizes) (S .pre .0 .0))
-          (if2 .left ∙ totals .ensures .0) (sym a ∙ c .before .before .before .before .before .before .before .if3 .left ∙ totals .ensures .0)
-          (sym b ∙ c .before .before .before .before .before .before .if4 .left)
-          (lines.unfit-status (planOf (S .args .sizes .route) (S .args .nest)) (stateOf [] [] l (S .args .status .now))
-          (if2 .left ∙ totals .ensures .0) (sym (c .before .fit-status .ensures) ∙ not-true _ (c .if6 .taken))),
+          (sym (h .counted) ∙ at-if1 .if1 .left ∙ lines.records-are (S .args .nest) (S .args .sizes) (S .pre .0 .0)) (if2 .left ∙ totals .ensures .0)
+          (sym a ∙ at-if3 .if3 .left ∙ totals .ensures .0) (sym b ∙ at-if4 .if4 .left) (lines.unfit-status (planOf (S .args .sizes .route) (S .args .nest))
+          (stateOf [] [] l (S .args .status .now)) (if2 .left ∙ totals .ensures .0) (sym (c .before .fit-status .ensures) ∙ not-true _ (c .if6 .taken))),
       λ q. absurd (omega arith),
     )
 
 returns-7 : tie.Need-returns-7
 returns-7 c =
-    let S = c .before .before .before .before .before .before .before .before .before .before .before .before .before .before .before .before in
-    let if1 = c .before .before .before .before .before .before .before .before .before .before .before .if1 in
-    let if2 = c .before .before .before .before .before .before .before .before .before .if2 in
-    let totals = c .before .before .before .before .before .before .before .before .before .before .before .before .before .before .totals in (
+    let at-fit-records = c .before .before .before in
+    let at-if4 = at-fit-records .before .before .before in
+    let at-if3 = at-if4 .before in
+    let at-if2 = at-if3 .before .before in
+    let at-if1 = at-if2 .before .before in
+    let at-totals = at-if1 .before .before .before in
+    let S = at-totals .before .before in
+    let if1 = at-if1 .if1 in
+    let if2 = at-if2 .if2 in
+    let totals = at-totals .totals in (
       λ l ms os h a b. waiting.unasked-0 (planOf (S .args .sizes .route) (S .args .nest)) (stateOf [] [] l (S .args .status .now)) (waitsOf ms os)
           (sym (h .counted) ∙ if1 .left ∙ lines.records-are (S .args .nest) (S .args .sizes) (S .pre .0 .0)) (if2 .left ∙ totals .ensures .0)
-          (sym a ∙ c .before .before .before .before .before .before .before .if3 .left ∙ totals .ensures .0)
-          (sym b ∙ c .before .before .before .before .before .before .if4 .left)
-          (lines.fit-both (planOf (S .args .sizes .route) (S .args .nest)) (stateOf [] [] l (S .args .status .now)) (if2 .left ∙ totals .ensures .0)
-          (reading.fits-as (planOf (S .args .sizes .route) (S .args .nest)) _ l
+          (sym a ∙ at-if3 .if3 .left ∙ totals .ensures .0) (sym b ∙ at-if4 .if4 .left) (lines.fit-both (planOf (S .args .sizes .route) (S .args .nest))
+          (stateOf [] [] l (S .args .status .now)) (if2 .left ∙ totals .ensures .0) (reading.fits-as (planOf (S .args .sizes .route) (S .args .nest)) _ l
           (reading.part-is (S .args .progress) l (reading.few-words (S .args .nest) (S .args .sizes) (S .pre .0 .0) (S .args .progress .count)
-          (if1 .left ∙ lines.records-are (S .args .nest) (S .args .sizes) (S .pre .0 .0))) h) ∙ sym (c .before .before .before .fit-records .ensures)
+          (if1 .left ∙ lines.records-are (S .args .nest) (S .args .sizes) (S .pre .0 .0))) h) ∙ sym (at-fit-records .fit-records .ensures)
           ∙ not-false _ (c .before .before .if5 .left)) (sym (c .before .fit-status .ensures) ∙ not-false _ (c .if6 .left))),
-      λ _. if1 .left ∙ lines.records-are (S .args .nest) (S .args .sizes) (S .pre .0 .0),
+      λ _. if1 .left ∙ lines.records-are
+          (S .args .nest) (S .args .sizes) (S .pre .0 .0),
     )
 
 pub unasked-spec : {M : Type 1} → statement M

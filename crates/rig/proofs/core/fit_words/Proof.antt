@@ -10,7 +10,7 @@ use Rattle.base.proofs.Tests.{every-not}
 use borrow.Author.Needs.{needs}
 use Rattle.machine.specs.Machine.{progressOnly}
 use Rattle.offices.specs.Offices.{lentOf, stageAgrees, fitWord}
-use Rattle.stages.proofs.Parts as parts
+use Rattle.base.proofs.Loops as loops
 use Rattle.rig.proofs.Tests as tests
 use Rattle.rig.proofs.core.fit_words.Statement.{statement}
 use Rattle.rig.proofs.core.fit_words.Tie as tie
@@ -30,7 +30,7 @@ loop-holds : tie.Need-loop-holds Inv-loop μ-loop
 loop-holds c =
     let A = c .before .before .before .before .args in
     let f = fitWord (A .office) (lentOf (progressOnly (A .progress .now)) (A .engaged .now)) (A .theirs .now) in
-    (omega arith, parts.every-start f)
+    (omega arith, loops.every-start f)
 
 mul-holder : tie.Need-mul-holder Inv-loop μ-loop
 mul-holder c = search needs
@@ -139,7 +139,7 @@ loop-again c =
     let A = start .args in
     let f = fitWord (A .office) (lentOf (progressOnly (A .progress .now)) (A .engaged .now)) (A .theirs .now) in (
       omega (arith, loop-test .taken),
-      parts.every-next f (loop .b) (loop .inv .1) (tests.word-fits (A .office) (A .progress .now) (A .engaged .now)
+      loops.every-step f (loop .b) (loop .inv .1) (tests.word-fits (A .office) (A .progress .now) (A .engaged .now)
           (A .theirs .now) (loop .b) (omega (arith, if1 .left)) (sym (stage-agrees .ensures) ∙ not-false _ (if2 .left))
           (ap (λ (k : ℕ). stageAgrees (getD (A .engaged .now) (loop .b) 0) k (getD (A .theirs .now) (3 * loop .b + 1) 0)) (sym (other .ensures))
           ∙ sym (stage-agrees2 .ensures) ∙ not-false _ (if3 .left))),
@@ -151,7 +151,7 @@ returns-4 c =
     let loop-test = c .loop-test in
     let A = c .before .before .before .before .before .before .args in
     let f = fitWord (A .office) (lentOf (progressOnly (A .progress .now)) (A .engaged .now)) (A .theirs .now) in
-    parts.every-done f (loop .b) (length (A .engaged .now)) (loop .inv .0) (omega (arith, loop-test .left)) (loop .inv .1)
+    sym (loops.every-end f (length (A .engaged .now)) (loop .b) (loop .inv .0) (omega (arith, loop-test .left)) (loop .inv .1))
 
 pub fit-words-spec : {M : Type 1} → statement M
 fit-words-spec =

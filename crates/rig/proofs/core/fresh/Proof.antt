@@ -153,27 +153,36 @@ free-all-requires c κs = tt
 
 same-length-16 : tie.Need-same-length-16
 same-length-16 c =
-    let at-clear = c .before .before .before .before .before .before .before .before .before .before .before .before .before .before .before .before .before .before .before .before in
+    let at-clear = c .before .before .before .before .before .before .before .before .before .before .before .before .before .before .before .before .before
+    .before .before .before in
     at-clear .clear .kept .0
 
 same-length-17 : tie.Need-same-length-17
 same-length-17 c =
-    let at-clear = c .before .before .before .before .before .before .before .before .before .before .before .before .before .before .before .before .before .before .before .before in
+    let at-clear = c .before .before .before .before .before .before .before .before .before .before .before .before .before .before .before .before .before
+    .before .before .before in
     at-clear .clear .kept .1 .0
 
 same-length-18 : tie.Need-same-length-18
 same-length-18 c =
-    let at-clear = c .before .before .before .before .before .before .before .before .before .before .before .before .before .before .before .before .before .before .before .before in
+    let at-clear = c .before .before .before .before .before .before .before .before .before .before .before .before .before .before .before .before .before
+    .before .before .before in
     at-clear .clear .kept .1 .1 .0
 
 same-length-19 : tie.Need-same-length-19
-same-length-19 c = c .before .before .before .before .before .before .before .before .before .before .clear2 .kept .0
+same-length-19 c =
+    let at-clear2 = c .before .before .before .before .before .before .before .before .before .before in
+    at-clear2 .clear2 .kept .0
 
 same-length-20 : tie.Need-same-length-20
-same-length-20 c = c .before .before .before .before .before .before .before .before .before .before .clear2 .kept .1 .0
+same-length-20 c =
+    let at-clear2 = c .before .before .before .before .before .before .before .before .before .before in
+    at-clear2 .clear2 .kept .1 .0
 
 same-length-21 : tie.Need-same-length-21
-same-length-21 c = c .before .before .before .before .before .before .before .before .before .before .clear2 .kept .1 .1 .0
+same-length-21 c =
+    let at-clear2 = c .before .before .before .before .before .before .before .before .before .before in
+    at-clear2 .clear2 .kept .1 .1 .0
 
 same-length-22 : tie.Need-same-length-22
 same-length-22 c = c .before .before .free-all .kept .0

@@ -320,13 +320,19 @@ engage-requires c κs =
     omega (arith, lengths .engaged, opens .sized .processors, if3 .left)
 
 same-length-13 : tie.Need-same-length-13
-same-length-13 c = c .before .before .before .before .before .before .before .before .before .before .step .kept .1 .1 .1 .1 .0
+same-length-13 c =
+    let at-step = c .before .before .before .before .before .before .before .before .before .before in
+    at-step .step .kept .1 .1 .1 .1 .0
 
 same-length-14 : tie.Need-same-length-14
-same-length-14 c = c .before .before .before .before .before .before .before .before .before .before .step .kept .1 .1 .1 .1 .1 .0
+same-length-14 c =
+    let at-step = c .before .before .before .before .before .before .before .before .before .before in
+    at-step .step .kept .1 .1 .1 .1 .1 .0
 
 same-length-15 : tie.Need-same-length-15
-same-length-15 c = c .before .before .before .before .before .before .before .before .before .before .step .kept .1 .1 .1 .1 .1 .1 .1 .0
+same-length-15 c =
+    let at-step = c .before .before .before .before .before .before .before .before .before .before in
+    at-step .step .kept .1 .1 .1 .1 .1 .1 .1 .0
 
 same-length-16 : tie.Need-same-length-16
 same-length-16 c = c .before .before .engage .kept .0

@@ -46,20 +46,18 @@ spot-requires c κs =
     (S .pre .0 .0, (S .pre .0 .1 .0, omega (arith, c .loop-test .taken, c .before .loop .inv .1)))
 
 end-of-requires : tie.Need-end-of-requires Inv-loop μ-loop
-end-of-requires c κs = (
-  c .before .before .before .before .before .before .pre .0 .0,
-  (
-    c .before .before .before .before .before .steps-of .ensures,
-    telling.found-self _
-        _ _ _ (c .spot .ensures),
-  ),
-)
+end-of-requires c κs =
+    let at-steps-of = c .before .before .before .before .before in
+    let start = at-steps-of .before in
+    (start .pre .0 .0, (at-steps-of .steps-of .ensures, telling.found-self _ _ _ _ (c .spot .ensures)))
 
 link-requires : tie.Need-link-requires Inv-loop μ-loop
 link-requires c κs =
-    let loop = c .before .before .before .before .loop in
-    let S = c .before .before .before .before .before .before .before .before in
-    (loop .inv .0 .long, (omega (arith, c .before .before .before .loop-test .taken, loop .inv .1, S .pre .0 .1 .0 .few), c .before .end-of .ensures .1))
+    let at-loop-test = c .before .before .before in
+    let at-loop = at-loop-test .before in
+    let S = at-loop .before .before .before .before in
+    let loop = at-loop .loop in
+    (loop .inv .0 .long, (omega (arith, at-loop-test .loop-test .taken, loop .inv .1, S .pre .0 .1 .0 .few), c .before .end-of .ensures .1))
 
 loop-less : tie.Need-loop-less Inv-loop μ-loop
 loop-less c =
@@ -67,13 +65,17 @@ loop-less c =
 
 loop-again : tie.Need-loop-again Inv-loop μ-loop
 loop-again c =
-    let S = c .before .before .before .before .before .before .before .before .before in
-    let loop = c .before .before .before .before .before .loop in
+    let at-spot = c .before .before .before in
+    let at-loop-test = at-spot .before in
+    let at-loop = at-loop-test .before in
+    let S = at-loop .before .before .before .before in
+    let loop = at-loop .loop in
     let end-of = c .before .before .end-of in (
-      chains.chain-more (endOf (S .args .side) (planOf (S .args .sizes .route) (S .args .nest)))
-          (count (planOf (S .args .sizes .route) (S .args .nest))) _ _ (loop .inv .0) (c .before .before .before .before .loop-test .taken) (loop .inv .1)
-          (S .pre .0 .1 .0 .few) _ (end-of .ensures .0 ∙ ap (endOf (S .args .side) (planOf (S .args .sizes .route) (S .args .nest)))
-          (c .before .before .before .spot .ensures .number)) (end-of .ensures .1) _ (c .link .ensures),
+      chains.chain-more (endOf (S .args .side) (planOf (S .args .sizes .route) (S .args .nest))) (count (planOf (S .args .sizes .route) (S .args .nest))) _ _
+          (loop .inv .0) (at-loop-test .loop-test .taken) (loop .inv .1) (S .pre .0 .1 .0 .few) _
+          (end-of .ensures .0 ∙ ap (endOf (S .args .side) (planOf (S .args .sizes .route) (S .args .nest))) (at-spot .spot .ensures .number))
+          (end-of .ensures .1)
+          _ (c .link .ensures),
       omega (arith, loop .inv .1),
     )
 

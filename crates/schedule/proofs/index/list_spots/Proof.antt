@@ -170,9 +170,11 @@ element-write-spots-2 c =
 
 add-number : tie.Need-add-number Inv-loop μ-loop
 add-number c =
-    let loop-test = c .before .before .before .loop-test in
-    let loop = c .before .before .before .before .loop in
-    let S = c .before .before .before .before .before in
+    let at-loop-test = c .before .before .before in
+    let at-loop = at-loop-test .before in
+    let S = at-loop .before in
+    let loop-test = at-loop-test .loop-test in
+    let loop = at-loop .loop in
     omega (
       arith,
       loop-test .taken,
@@ -182,16 +184,17 @@ add-number c =
       loop .inv .long,
       S .pre .0 .few,
       S .pre .0 .long,
-      c .before
-          .half-index .ensures,
+      c .before .half-index .ensures,
       S .pre .0 .short (loop .slot) (loop-test .taken),
     )
 
 add-offset : tie.Need-add-offset Inv-loop μ-loop
 add-offset c =
-    let loop-test = c .before .before .before .loop-test in
-    let loop = c .before .before .before .before .loop in
-    let S = c .before .before .before .before .before in
+    let at-loop-test = c .before .before .before in
+    let at-loop = at-loop-test .before in
+    let S = at-loop .before in
+    let loop-test = at-loop-test .loop-test in
+    let loop = at-loop .loop in
     omega (
       arith,
       loop-test .taken,
@@ -201,16 +204,17 @@ add-offset c =
       loop .inv .long,
       S .pre .0 .few,
       S .pre .0 .long,
-      c .before
-          .half-index .ensures,
+      c .before .half-index .ensures,
       S .pre .0 .short (loop .slot) (loop-test .taken),
     )
 
 add-slot : tie.Need-add-slot Inv-loop μ-loop
 add-slot c =
-    let loop-test = c .before .before .before .loop-test in
-    let loop = c .before .before .before .before .loop in
-    let S = c .before .before .before .before .before in
+    let at-loop-test = c .before .before .before in
+    let at-loop = at-loop-test .before in
+    let S = at-loop .before in
+    let loop-test = at-loop-test .loop-test in
+    let loop = at-loop .loop in
     omega (
       arith,
       loop-test .taken,
@@ -220,8 +224,7 @@ add-slot c =
       loop .inv .long,
       S .pre .0 .few,
       S .pre .0 .long,
-      c .before
-          .half-index .ensures,
+      c .before .half-index .ensures,
       S .pre .0 .short (loop .slot) (loop-test .taken),
     )
 
@@ -231,11 +234,14 @@ loop-less c =
 
 loop-again : tie.Need-loop-again Inv-loop μ-loop
 loop-again c =
-    let loop = c .before .before .before .before .loop in
+    let at-loop-test = c .before .before .before in
+    let at-loop = at-loop-test .before in
+    let start = at-loop .before in
+    let loop = at-loop .loop in
     let half-index = c .before .half-index in
     let if1 = c .if1 in
-    L.list-next _ _ _ _ _ _ (loop .inv) (c .before .before .before .loop-test .taken) (c .before .before .before .before .before .pre .0)
-    (half-index .result) (half-index .ensures) (if1 .number) (⊎-elim (λ w. inl (w .0 .taken, w .1)) (λ w. inr (w .0 .left, w .1)) (if1 .came)) _ refl
+    L.list-next _ _ _ _ _ _ (loop .inv) (at-loop-test .loop-test .taken) (start .pre .0) (half-index .result) (half-index .ensures) (if1 .number)
+    (⊎-elim (λ w. inl (w .0 .taken, w .1)) (λ w. inr (w .0 .left, w .1)) (if1 .came)) _ refl
 
 returns : tie.Need-returns Inv-loop μ-loop
 returns c =

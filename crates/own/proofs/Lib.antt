@@ -1,0 +1,5 @@
+pub mod Marks
+pub mod Slots
+pub mod Handling
+pub mod Owned
+pub mod Brought

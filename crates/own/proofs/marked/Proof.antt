@@ -1,0 +1,66 @@
+-- `marked` meets its contract: the cells passed.
+use native.Mathlib.Omega.{arith}
+use Prim.Native.Nat.{_-_}
+use mathlib.Core.Logic.{⊎-elim, inl, inr}
+use lib.ListN.{length}
+use Rattle.own.proofs.Marks as marked
+use Rattle.own.proofs.marked.Statement.{statement}
+use Rattle.own.proofs.marked.Tie as tie
+
+abbrev Inv-loop : tie.InvT-loop
+Inv-loop marks c₀ n₀ c n = marked.Counted marks c n
+
+abbrev μ-loop : tie.MeasureT-loop
+μ-loop marks c₀ n₀ c n = length marks - c
+
+loop-holds : tie.Need-loop-holds Inv-loop μ-loop
+loop-holds c = marked.count-start (c .args .marks .now)
+
+mul-if1 : tie.Need-mul-if1 Inv-loop μ-loop
+mul-if1 c = omega (arith, c .loop-test .taken)
+
+shared-slice-read-if1 : tie.Need-shared-slice-read-if1 Inv-loop μ-loop
+shared-slice-read-if1 c = omega (arith, c .before .loop-test .taken)
+
+add-n : tie.Need-add-n Inv-loop μ-loop
+add-n c =
+    let loop = c .before .before .before .loop in
+    omega (
+      arith,
+      marked.few (c .before .before .before .before .args .marks .now) (loop .c) (loop .n) (loop .inv),
+      c .before .before .loop-test .taken,
+    )
+
+add-c : tie.Need-add-c Inv-loop μ-loop
+add-c c = omega (arith, c .before .before .loop-test .taken)
+
+loop-less : tie.Need-loop-less Inv-loop μ-loop
+loop-less c = omega (arith, c .before .before .loop-test .taken)
+
+loop-again : tie.Need-loop-again Inv-loop μ-loop
+loop-again c =
+    let S = c .before .before .before .before in
+    let loop = c .before .before .before .loop in
+    let if1 = c .if1 in
+    marked.count-next (S .args .marks .now) (loop .c) (loop .n) (loop .inv) (if1 .n) (c .before .before .loop-test .taken)
+    (⊎-elim (λ w. inl (w .0 .taken, w .1)) (λ w. inr (w .0 .left, w .1)) (if1 .came))
+
+returns : tie.Need-returns Inv-loop μ-loop
+returns c =
+    let loop = c .before .loop in
+    marked.count-done (c .before .before .args .marks .now) (loop .c) (loop .n) (loop .inv) (c .loop-test .left)
+
+pub marked-spec : {M : Type 1} → statement M
+marked-spec =
+    tie.close
+    (tie.spec
+    Inv-loop
+    μ-loop
+    loop-holds
+    mul-if1
+    shared-slice-read-if1
+    add-n
+    add-c
+    loop-less
+    loop-again
+    returns)

@@ -1,0 +1,48 @@
+-- One processor's own part as it is lent: the words of its kept cells, its mail, the three words of its record, its marks; and how long each is.
+-- Renders document 01, "The machine", for a board with memory for nothing else; what the part is of the machine's areas says apart/specs/Own.
+use Prim.Native.Nat.{ℕ, _+_}
+use mathlib.Core.Bool.{Bool}
+use mathlib.Core.List.{List, [], _∷_}
+use lib.ListN.{length, getD}
+use lib.Dec.{eqb}
+use Rattle.base.specs.Tests.{_and_, keep}
+use Rattle.machine.specs.Plan.{Plan, heldBy}
+use Rattle.machine.specs.Machine.{State, stateOf, finishedOf, stageOf, sentOf}
+use Rattle.apart.specs.Own.{Own, keptCells, handles, handled}
+
+-- the part that these four areas are, and the areas that a part is: of one processor, so its record is the first
+unfoldable pub partOf : State → Own
+partOf s =
+    record {
+      memory = s .memories;
+      finished = finishedOf s 0;
+      stage = stageOf s 0;
+      sent = sentOf s 0;
+      mail = s .buffer;
+      marks = s .status;
+    }
+
+unfoldable pub lentOf : Own → State
+lentOf o = stateOf (o .memory) (o .mail) (o .finished ∷ o .stage ∷ o .sent ∷ []) (o .marks)
+
+-- how many words these messages have
+unfoldable pub wordsOf : Plan → List ℕ → ℕ
+wordsOf p [] = 0
+wordsOf p (m ∷ ms) = length (heldBy p m) + wordsOf p ms
+
+-- where message m stands among those that processor b handles, and where its words begin in b's mail: what comes before it
+abbrev pub rankOf : Plan → ℕ → ℕ → ℕ
+rankOf p b m = length (keep (handles p b) m)
+
+abbrev pub mailAt : Plan → ℕ → ℕ → ℕ
+mailAt p b m = wordsOf p (keep (handles p b) m)
+
+-- each lent area of processor b has exactly its length
+unfoldable pub partFits : Plan → ℕ → State → Bool
+partFits p b s =
+    eqb (length (s .memories)) (length (keptCells p b))
+    and (eqb (length (s .buffer)) (wordsOf p (handled p b)) and (eqb (length (s .progress)) 3 and eqb (length (s .status)) (length (handled p b))))
+
+-- a mark says that its cell is kept
+abbrev pub markedAt : List ℕ → ℕ → Bool
+markedAt marks c = eqb (getD marks c 0) 1

@@ -1,0 +1,45 @@
+-- `core::arrive_part` meets its contract.
+use mathlib.Core.Path.{refl}
+use borrow.Author.Needs.{needs}
+use Rattle.own_calls.proofs.core.arrive_part.Statement.{statement}
+use Rattle.own_calls.proofs.core.arrive_part.Tie as tie
+
+slice-aggregate-prepare : tie.Need-slice-aggregate-prepare
+slice-aggregate-prepare c = search needs
+
+prepare-requires : tie.Need-prepare-requires
+prepare-requires c κs =
+    let S = c .before .before .before .before .before .before .before .before in
+    ((S .pre .0, (S .pre .1 .0, S .pre .1 .1 .0)), (refl, (refl, (refl, refl))))
+
+slice-aggregate-arrive-in : tie.Need-slice-aggregate-arrive-in
+slice-aggregate-arrive-in c = search needs
+
+arrive-in-requires : tie.Need-arrive-in-requires
+arrive-in-requires c κs =
+    let prepare = c .before .before .before .before .before .before .before .prepare in
+    let S = c .before .before .before .before .before .before .before .before .before .before .before .before .before .before .before .before in
+    (prepare .ensures, S .pre .1 .1 .1)
+
+same-length : tie.Need-same-length
+same-length c = search needs
+
+same-length-2 : tie.Need-same-length-2
+same-length-2 c = search needs
+
+returns : tie.Need-returns
+returns c =
+    let arrive-in = c .before .before .before .before .arrive-in in
+    arrive-in .ensures
+
+pub arrive-part-spec : {M : Type 1} → statement M
+arrive-part-spec =
+    tie.close
+    (tie.spec
+    slice-aggregate-prepare
+    prepare-requires
+    slice-aggregate-arrive-in
+    arrive-in-requires
+    same-length
+    same-length-2
+    returns)

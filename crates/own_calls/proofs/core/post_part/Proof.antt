@@ -1,0 +1,85 @@
+-- `core::post_part` meets its contract: each return by the line that counts.
+use mathlib.Core.Path.{refl}
+use Rattle.machine.specs.Machine.{stateOf}
+use Rattle.plan.specs.Shaped.{planOf}
+use Rattle.own_calls.proofs.Answers as answers
+use borrow.Author.Needs.{needs}
+use Rattle.own_calls.proofs.core.post_part.Statement.{statement}
+use Rattle.own_calls.proofs.core.post_part.Tie as tie
+
+slice-aggregate-prepare : tie.Need-slice-aggregate-prepare
+slice-aggregate-prepare c = search needs
+
+prepare-requires : tie.Need-prepare-requires
+prepare-requires c κs =
+    let S = c .before .before .before .before .before .before .before in
+    ((S .pre .0, (S .pre .1 .0, S .pre .1 .1 .0)), (refl, (refl, (refl, refl))))
+
+slice-aggregate-unfit : tie.Need-slice-aggregate-unfit
+slice-aggregate-unfit c = search needs
+
+unfit-requires : tie.Need-unfit-requires
+unfit-requires c κs =
+    let prepare = c .before .before .before .before .before .before .prepare in
+    let S = c .before .before .before .before .before .before .before .before .before .before .before .before .before .before in
+    (prepare .ensures, S .pre .1 .1 .1)
+
+same-length : tie.Need-same-length
+same-length c = search needs
+
+returns : tie.Need-returns
+returns c =
+    let S = c .before .before .before .before .before .before .before .before .before .before .before .before .before .before .before .before in
+    let unfit = c .before .unfit in
+    let if1 = c .if1 in
+    let A = S .args in
+    let p = planOf (A .sizes .route) (A .nest) in
+    λ l h. answers.post-unfit p (A .b) (S .pre .1 .1 .0) (stateOf (A .memory .now) (A .mail .now) l (A .marks .now)) (unfit .result) (unfit .ensures .0 l h)
+    (A .m) (if1 .taken)
+
+slice-aggregate-hand-over : tie.Need-slice-aggregate-hand-over
+slice-aggregate-hand-over c = search needs
+
+hand-over-requires : tie.Need-hand-over-requires
+hand-over-requires c κs =
+    let S = c .before .before .before .before .before .before .before .before .before .before .before .before .before .before .before .before .before .before
+    .before .before .before in
+    let prepare = c .before .before .before .before .before .before .before .before .before .before .before .before .before .prepare in
+    let unfit = c .before .before .before .before .before .before .unfit in
+    let if1 = c .before .before .before .before .before .if1 in
+    let A = S .args in
+    let p = planOf (A .sizes .route) (A .nest) in (
+      prepare .ensures,
+      answers.marks-lent p (A .b) (A .memory .now) (A .mail .now) (A .marks .now) (A .progress) (S .pre .1 .1 .1) (unfit .result)
+          (unfit .ensures) (if1 .left),
+    )
+
+same-length-2 : tie.Need-same-length-2
+same-length-2 c = search needs
+
+returns-2 : tie.Need-returns-2
+returns-2 c =
+    let S = c .before .before .before .before .before .before .before .before .before .before .before .before .before .before .before .before .before .before
+    .before .before .before .before .before .before in
+    let unfit = c .before .before .before .before .before .before .before .before .before .unfit in
+    let if1 = c .before .before .before .before .before .before .before .before .if1 in
+    let hand-over = c .before .before .hand-over in
+    let A = S .args in
+    let p = planOf (A .sizes .route) (A .nest) in
+    λ l h. answers.post-over p (A .b) (S .pre .1 .1 .0) (stateOf (A .memory .now) (A .mail .now) l (A .marks .now)) (unfit .result) (unfit .ensures .0 l h)
+    (A .m) (if1 .left) _ (hand-over .ensures (A .memory .now) (A .mail .now) l)
+
+pub post-part-spec : {M : Type 1} → statement M
+post-part-spec =
+    tie.close
+    (tie.spec
+    slice-aggregate-prepare
+    prepare-requires
+    slice-aggregate-unfit
+    unfit-requires
+    same-length
+    returns
+    slice-aggregate-hand-over
+    hand-over-requires
+    same-length-2
+    returns-2)

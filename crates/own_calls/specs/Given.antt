@@ -1,0 +1,112 @@
+-- What the code below the calls for one processor is given and gives: the nest of an accepted recipe, its table, the processor's cells and messages found once.
+-- No sentence of document 01; the contracts of the functions below the offered calls cite it.
+use Prim.Native.Nat.{ℕ, _*_, _≤_, _<_}
+use mathlib.Core.Path.{_≡_}
+use mathlib.Core.Bool.{true}
+use mathlib.Core.List.{List, [], _∷_}
+use lib.ListN.{length, getD, take, set}
+use lib.Dec.{ltb, eqb}
+use Rattle.base.specs.Tests.{_and_, not, pick, one, tabulate}
+use Rattle.base.specs.Lists.{put}
+use Rattle.base.specs.Numbers.{Line, line, firstOf}
+use Rattle.machine.specs.Plan.{Plan, count}
+use Rattle.machine.specs.Machine.{State, stateOf, tilesLeft, fitRecord, fit, Answered, answered, deliverLines, fresh}
+use Rattle.nest.specs.declared.Nest.{Nest}
+use Rattle.nest.specs.Nest.{cells, processors}
+use Rattle.plan.specs.Shaped.{planOf}
+use Rattle.layout.specs.declared.Sizes.{Sizes}
+use Rattle.layout.specs.Sizes.{Sized}
+use Rattle.tables.specs.Tables.{Routed}
+use Rattle.engine.specs.Calls.{recipe}
+use Rattle.apart.specs.Apart.{marked, received}
+use Rattle.apart.specs.Own.{keeps, handles, handled}
+use Rattle.mail.specs.Calls.{takes, asLong}
+use Rattle.mail.specs.Given.{Planned}
+use Rattle.own.specs.Part.{wordsOf, rankOf, mailAt, partFits}
+use Rattle.own_calls.specs.Calls.{wide, narrow, boardLines, ownRows, ownCollected, collectFits}
+use Rattle.own_calls.specs.declared.core.Board.{Board}
+
+-- the first lines of a call; where none is true, the recipe's nest, and the processor is one of its
+pub record Opens (bytes : List ℕ) (route b : ℕ) (r : Board) : Type 0 where
+  pub number : r .number ≡ firstOf (boardLines bytes route b)
+  pub sized : r .number ≡ 0 → Sized (r .nest) (r .sizes)
+  pub routed : r .number ≡ 0 → Routed (r .nest) (r .sizes)
+  pub plan : r .number ≡ 0 → planOf (r .sizes .route) (r .nest) ≡ recipe bytes route
+  pub low : r .number ≡ 0 → b < processors (r .nest)
+
+-- the table; the cells that processor b keeps words of, marked; for each message, and behind the last, how many it handles before it and their words
+pub record Known (x : Nest) (z : Sizes) (b : ℕ) (lens kept rank place : List ℕ) : Type 0 where
+  pub planned : Planned x z lens
+  pub low : b < processors x
+  pub room : length kept ≡ 16384
+  pub cells : take (cells x) kept ≡ tabulate (λ c. one (keeps (planOf (z .route) x) b c)) (cells x)
+  pub ranks : (m : ℕ) → m ≤ count (planOf (z .route) x) → getD rank m 0 ≡ rankOf (planOf (z .route) x) b m
+  pub places : (m : ℕ) → m ≤ count (planOf (z .route) x) → getD place m 0 ≡ mailAt (planOf (z .route) x) b m
+
+-- lines 9 and 10 of a lent part
+abbrev pub unfitLines : Plan → ℕ → State → List Line
+unfitLines p b s = line 9 (not (partFits p b s)) ∷ line 10 (not (fit p (wide p b s))) ∷ []
+
+-- ---- past the first lines
+
+abbrev pub freshOr : Plan → ℕ → State → Answered State
+freshOr p b s = answered (firstOf (line 9 (not (partFits p b s)) ∷ [])) (narrow p b (fresh p)) s
+
+abbrev pub postLines : Plan → ℕ → State → ℕ → List Line
+postLines p b s m = line 9 (not (partFits p b s)) ∷ deliverLines p (wide p b s) m
+
+abbrev pub postedOr : Plan → ℕ → State → ℕ → Answered State
+postedOr p b s m = answered (firstOf (postLines p b s m)) (narrow p b (marked (wide p b s) m)) s
+
+abbrev pub arriveLines : Plan → ℕ → State → ℕ → List ℕ → List Line
+arriveLines p b s m words =
+    line 9 (not (partFits p b s and asLong p m words))
+    ∷ line 10 (not (fit p (wide p b s)))
+    ∷ line 11 (not (takes p b m))
+    ∷ line 14 (not (eqb (getD (wide p b s .status) m 0) 0)) ∷ []
+
+abbrev pub arrivesOr : Plan → ℕ → State → ℕ → List ℕ → Answered State
+arrivesOr p b s m words = answered (firstOf (arriveLines p b s m words)) (narrow p b (received p (wide p b s) m words)) s
+
+-- ---- past the lines before, by the part's own words
+
+-- the mark of message m, 0 where the processor handles no such message
+abbrev pub markIn : Plan → ℕ → List ℕ → ℕ → ℕ
+markIn p b marks m = pick (handles p b m) (getD marks (rankOf p b m) 0) 0
+
+-- 11, 14, or the message is handed over
+abbrev pub handedOver : Plan → ℕ → State → ℕ → Answered State
+handedOver p b s m =
+    answered (firstOf (line 11 (not (ltb m (count p))) ∷ line 14 (not (eqb (markIn p b (s .status) m) 1)) ∷ []))
+    (stateOf (s .memories) (s .buffer) (s .progress) (set (s .status) (rankOf p b m) 2)) s
+
+-- the areas in which a message arrives, and its words
+pub record MayArrive (p : Plan) (b : ℕ) (mail marks : List ℕ) (m : ℕ) (words : List ℕ) : Type 0 where
+  pub mail-long : length mail ≡ wordsOf p (handled p b)
+  pub marks-long : length marks ≡ length (handled p b)
+  pub long : asLong p m words ≡ true
+
+-- 11, 14, or the message is there
+abbrev pub arrivedOr : Plan → ℕ → State → ℕ → List ℕ → Answered State
+arrivedOr p b s m words =
+    answered (firstOf (line 11 (not (takes p b m)) ∷ line 14 (not (eqb (markIn p b (s .status) m) 0)) ∷ []))
+    (stateOf (s .memories) (put (s .buffer) (mailAt p b m) words) (s .progress) (set (s .status) (rankOf p b m) 2)) s
+
+-- ---- collecting
+
+-- a cell's word: outside the shape the boundary's, of an own cell the memory's, else as it was
+abbrev pub gridWord : List ℕ → List ℕ → ℕ → ℕ → ℕ → List ℕ → ℕ → ℕ
+gridWord owners memory b none boundary grid c =
+    pick (eqb (getD owners c 0) none) boundary (pick (eqb (getD owners c 0) b) (getD memory c 0) (getD grid c 0))
+
+abbrev pub collectLines : Plan → ℕ → State → List ℕ → List Line
+collectLines p b s grid =
+    line 9 (not (collectFits p b s grid)) ∷ line 10 (not (fitRecord p (wide p b s) b)) ∷ line 15 (tilesLeft p (wide p b s) b) ∷ []
+
+abbrev pub collectedOr : Plan → ℕ → State → List ℕ → Answered (List ℕ)
+collectedOr p b s grid = answered (firstOf (collectLines p b s grid)) (ownCollected p b s grid) grid
+
+-- ---- its messages
+
+abbrev pub rowsOr : Plan → ℕ → List ℕ → Answered (List ℕ)
+rowsOr p b out = answered (firstOf (line 9 (not (eqb (length out) (7 * length (handled p b)))) ∷ [])) (ownRows p b (handled p b)) out

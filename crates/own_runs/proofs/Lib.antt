@@ -1,0 +1,3 @@
+pub mod OnePart
+pub mod Steps
+pub mod Demands

@@ -1,0 +1,4 @@
+pub mod After
+pub mod Working
+pub mod Stage
+pub mod Turned

@@ -1,0 +1,215 @@
+-- `values::box_values` meets its contract: by fours, then the rows that are left.
+use Prim.Native.Nat.{_*_, _-_}
+use native.Mathlib.Omega.{arith}
+use mathlib.Core.Path.{refl}
+use Rattle.values.proofs.Boxes.{box-countable, stored-all}
+use Rattle.values.proofs.Rows.{given-box, given-next, given-more}
+use borrow.Author.Needs.{needs}
+use Rattle.values.proofs.box_values.Statement.{statement}
+use Rattle.values.proofs.box_values.Tie as tie
+
+backs-of-requires : tie.Need-backs-of-requires
+backs-of-requires c κs =
+    ((c .before .before .before .before .before .before .pre .0), record { is = refl })
+
+margins-of-requires : tie.Need-margins-of-requires
+margins-of-requires c κs =
+    ((c .before .before .before .before .before .before .before .before .pre .0), record { is = refl })
+
+lasts-of-requires : tie.Need-lasts-of-requires
+lasts-of-requires c κs =
+    ((c .before .before .before .before .before .before .before .before .before .before .pre .0), record { is = refl })
+
+least-of-requires : tie.Need-least-of-requires
+least-of-requires c κs =
+    c .before .before .before .before .before .before .before .before .before .before .before .before .pre .0
+
+sub-last : tie.Need-sub-last
+sub-last c =
+    omega (arith, c .before .before .before .before .before .before .before .before .before .before .before .before .before .before .pre .0 .dimensions-least)
+
+product-requires : tie.Need-product-requires
+product-requires c κs =
+    box-countable _ (c .before .before .before .before .before .before .before .before .before .before .before .before .before .before .pre .0) _ _
+    (c .before .before .before .before .before .before .before .before .before .before .before .before .before .before .pre .1 .0)
+
+mul-by-fours : tie.Need-mul-by-fours
+mul-by-fours c = search needs
+
+array-read-by-fours : tie.Need-array-read-by-fours
+array-read-by-fours c = search needs
+
+by-fours-requires : tie.Need-by-fours-requires
+by-fours-requires c κs = search needs
+
+box-fours-requires : tie.Need-box-fours-requires
+box-fours-requires c κs =
+    let s = c .before .before .before .before .before .before .before .before .before .before .before .before .before .before .before .before .before .before
+    .before .before .before .before .before .before .before .before in
+    let p = s .pre in
+    let g = given-box (s .args .nest) _ _ _ _ _ (s .args .source .now) (s .args .memory .now) (s .args .t4) (s .args .t5) (p .0)
+    (record {
+      given = record { is = refl };
+      backs = c .before .before .before .before .before .before .before .before .before .before .before .before .before
+          .before .before .before .before .before .before .backs-of .ensures;
+      weights-are = refl;
+      firsts =
+          c .before .before .before .before .before .before .before .before .before .before .before .before .before .before .before .lasts-of .ensures;
+      margins =
+          c .before .before .before .before .before .before .before .before .before .before .before .before .before .before .before .before .before .margins-of
+          .ensures;
+    }) (p .1 .1) (p .1 .0)
+    (search (needs, s .good .1 .1 .1 .1 .0)) in (
+      s .args .nest,
+      (
+        g,
+        omega (
+          arith,
+          c .before .before .before .before .before .before .before .before .before .before .by-fours .ensures,
+          c .before .before .before .before .before .before .before .before .before .before .before .product .ensures,
+          box-countable _ (p .0) _ _ (p .1 .0) .few,
+        ),
+      ),
+    )
+
+mul-box-rows : tie.Need-mul-box-rows
+mul-box-rows c =
+    omega (
+      arith,
+      c .before .before .before .before .before .before .before .before .before .before .before .before .before .before .before .before .before
+          .before .before .before .before .before .before .by-fours .ensures,
+      c .before .before .before .before .before .before .before .before .before .before .before .before .before .before .before .before .before .before .before
+          .before .before .before .before .before .product .ensures,
+      box-countable _ (c .before .before .before .before .before .before .before .before .before .before .before .before .before .before .before .before
+          .before .before .before .before .before .before .before .before .before .before .before .before .before .before .before .before .before .before
+          .before
+          .before .before .before .before .pre .0) _ _
+          (c .before .before .before .before .before .before .before .before .before .before .before .before .before .before .before .before .before .before
+          .before .before .before .before .before .before .before .before .before .before .before .before .before .before .before .before .before .before
+          .before
+          .before .before .pre .1 .0) .few,
+    )
+
+box-rows-requires : tie.Need-box-rows-requires
+box-rows-requires c κs =
+    let s = c .before .before .before .before .before .before .before .before .before .before .before .before .before .before .before .before .before .before
+    .before .before .before .before .before .before .before .before .before .before .before .before .before .before .before .before .before .before .before
+    .before .before in
+    let p = s .pre in
+    let g = given-box (s .args .nest) _ _ _ _ _ (s .args .source .now) (s .args .memory .now) (s .args .t4) (s .args .t5) (p .0)
+    (record {
+      given = record { is = refl };
+      backs = c .before .before .before .before .before .before .before .before .before .before .before .before .before
+          .before .before .before .before .before .before .before .before .before .before .before .before .before .before .before .before .before .before
+          .before
+          .backs-of .ensures;
+      weights-are = refl;
+      firsts = c .before .before .before .before .before .before .before .before .before .before .before .before
+          .before .before .before .before .before .before .before .before .before .before .before .before .before .before .before .before .lasts-of .ensures;
+      margins = c .before .before .before .before .before .before .before .before .before .before .before .before .before .before .before .before .before
+          .before .before .before .before .before .before .before .before .before .before .before .before .before .margins-of .ensures;
+    }) (p .1 .1) (p .1 .0)
+    (search (needs, s .good .1 .1 .1 .1 .0)) in (
+      s .args .nest,
+      (
+        given-next _ _ _ _ _ _ (c .before .before .before .before .before .before .before .before .before .before .before .before .before .before .before
+            .before .before .before .before .before .before .before .before .before .before .before .before .before .before .before .before .before .before
+            .before .before .before .before .before .before .args .source .now)
+            (c .before .before .before .before .before .before .before .before .before .before .before .before .before .before .before .before .before .before
+            .before .before .before .before .before .before .before .before .before .before .before .before .before .before .before .before .before .before
+            .before .before .before .args .memory .now) _ _ _ _ _ g _ _ _
+            (c .before .before .before .before .before .before .before .before .before .before .before .before .box-fours .ensures (s .args .nest) g)
+            (4 * c .before .before .before .before .before .before .before .before .before .before .before .before .before .before .before .before .before
+            .before .before .before .before .before .before .by-fours .result) (omega arith),
+        (
+          c .before .before .before .before .before .before .before .before .before .before .before .before .before .before .before .before .before .before
+              .before .before .before .before .before .by-fours .ensures,
+          omega (
+            arith,
+            c .before .before .before .before .before .before .before .before .before .before .before .before .before .before .before .before
+                .before .before .before .before .before .before .before .before .product .ensures,
+            box-countable _ (p .0) _ _ (p .1 .0) .few,
+          ),
+        ),
+      ),
+    )
+
+same-length : tie.Need-same-length
+same-length c = search needs
+
+returns : tie.Need-returns
+returns c =
+    let s = c .before .before .before .before .before .before .before .before .before .before .before .before .before .before .before .before .before .before
+    .before .before .before .before .before .before .before .before .before .before .before .before .before .before .before .before .before .before .before
+    .before .before .before .before .before in
+    let p = s .pre in
+    let g = given-box (s .args .nest) _ _ _ _ _ (s .args .source .now) (s .args .memory .now) (s .args .t4) (s .args .t5) (p .0)
+    (record {
+      given = record { is = refl };
+      backs = c .before .before .before .before .before .before .before .before .before .before .before .before .before
+          .before .before .before .before .before .before .before .before .before .before .before .before .before .before .before .before .before .before
+          .before
+          .before .before .before .backs-of .ensures;
+      weights-are = refl;
+      firsts = c .before .before .before .before .before .before .before .before .before
+          .before .before .before .before .before .before .before .before .before .before .before .before .before .before .before .before .before .before
+          .before
+          .before .before .before .lasts-of .ensures;
+      margins = c .before .before .before .before .before .before .before .before .before .before .before .before
+          .before .before .before .before .before .before .before .before .before .before .before .before .before .before .before .before .before .before
+          .before
+          .before .before .margins-of .ensures;
+    }) (p .1 .1) (p .1 .0)
+    (search (needs, s .good .1 .1 .1 .1 .0)) in
+    let f = c .before .before .before .before .before .before .before .before .before .before .before .before .before .before .before .box-fours .ensures
+    (s .args .nest) g in
+    stored-all _ _ _ _ _ _ _ _ _
+    (given-more _ _ _ _ _ _ (c .before .before .before .before .before .before .before .before .before .before .before .before .before .before .before
+    .before .before .before .before .before .before .before .before .before .before .before .before .before .before .before .before .before .before .before
+    .before .before .before .before .before .before .before .before .args .source .now)
+    (c .before .before .before .before .before .before .before .before .before .before .before .before .before .before .before .before .before .before
+    .before .before .before .before .before .before .before .before .before .before .before .before .before .before .before .before .before .before .before
+    .before .before .before .before .before .args .memory .now) _ _ _ _ _ g _ _ _ f
+    (4 * c .before .before .before .before .before .before .before .before .before .before .before .before .before .before .before .before .before .before
+    .before .before .before .before .before .before .before .before .by-fours .result)
+    (c .before .before .before .before .before .before .before .before .before .before .before .before .before .before .before .before .before .before
+    .before .before .before .before .before .before .before .before .before .product .result - 4
+    * c .before .before .before .before .before .before .before .before .before .before .before .before .before .before .before .before .before .before
+    .before .before .before .before .before .before .before .before .by-fours .result)
+    (c .before .before .before .before .before .before .before .before .before .before .before .before .before .before .before .before .before .before
+    .before .before .before .before .before .before .before .before .before .product .result) (omega arith)
+    (omega (
+      arith,
+      c .before .before .before .before .before .before .before .before .before .before .before .before .before .before .before .before .before
+          .before .before .before .before .before .before .before .before .before .by-fours .ensures,
+    )) _ _
+    (c .before .before .box-rows .ensures (s .args .nest)
+    (given-next _ _ _ _ _ _ (c .before .before .before .before .before .before .before .before .before .before .before .before .before .before .before
+    .before .before .before .before .before .before .before .before .before .before .before .before .before .before .before .before .before .before .before
+    .before .before .before .before .before .before .before .before .args .source .now)
+    (c .before .before .before .before .before .before .before .before .before .before .before .before .before .before .before .before .before .before
+    .before .before .before .before .before .before .before .before .before .before .before .before .before .before .before .before .before .before .before
+    .before .before .before .before .before .args .memory .now) _ _ _ _ _ g _ _ _ f
+    (4 * c .before .before .before .before .before .before .before .before .before .before .before .before .before .before .before .before .before .before
+    .before .before .before .before .before .before .before .before .by-fours .result) (omega arith))))
+    (c .before .before .before .before .before .before .before .before .before .before .before .before .before .before .before .before .before .before
+    .before .before .before .before .before .before .before .before .before .product .ensures)
+
+pub box-values-spec : {M : Type 1} → statement M
+box-values-spec =
+    tie.close
+    (tie.spec
+    backs-of-requires
+    margins-of-requires
+    lasts-of-requires
+    least-of-requires
+    sub-last
+    product-requires
+    mul-by-fours
+    array-read-by-fours
+    by-fours-requires
+    box-fours-requires
+    mul-box-rows
+    box-rows-requires
+    same-length
+    returns)
