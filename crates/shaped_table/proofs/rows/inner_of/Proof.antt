@@ -1,10 +1,10 @@
--- `shaped_table::inner_of` meets its contract: what the first k bounds leave.
+-- `shaped_table::rows::inner_of` meets its contract: what the first k bounds leave.
 use Prim.Native.Nat.{_-_, _≤_}
 use native.Mathlib.Omega.{arith}
 use Rattle.shaped_table.specs.Lines.{Inner}
 use Rattle.shaped_table.proofs.Lines as L
-use Rattle.shaped_table.proofs.inner_of.Statement.{statement}
-use Rattle.shaped_table.proofs.inner_of.Tie as tie
+use Rattle.shaped_table.proofs.rows.inner_of.Statement.{statement}
+use Rattle.shaped_table.proofs.rows.inner_of.Tie as tie
 
 abbrev Inv-loop : tie.InvT-loop
 Inv-loop nest area n left₀ k₀ left k = Inner nest area k left × (k ≤ n)

@@ -1,12 +1,12 @@
--- `shaped_table::area_of` meets its contract: the first j dimensions.
+-- `shaped_table::rows::area_of` meets its contract: the first j dimensions.
 use Prim.Native.Nat.{_+_, _*_, _-_}
 use mathlib.Core.Path.{refl}
 use native.Mathlib.Omega.{arith}
 use lib.ListN.{getD}
 use Rattle.layout.proofs.Loops.{Filled, filled-none, filled-more}
 use Rattle.shaped_table.proofs.Lines as L
-use Rattle.shaped_table.proofs.area_of.Statement.{statement}
-use Rattle.shaped_table.proofs.area_of.Tie as tie
+use Rattle.shaped_table.proofs.rows.area_of.Statement.{statement}
+use Rattle.shaped_table.proofs.rows.area_of.Tie as tie
 
 abbrev Inv-loop : tie.InvT-loop
 Inv-loop most at tiling n low₀ high₀ j₀ low high j =

@@ -1,7 +1,7 @@
--- `shaped_table::cut_by` meets its contract.
+-- `shaped_table::rows::cut_by` meets its contract.
 use native.Mathlib.Omega.{arith}
-use Rattle.shaped_table.proofs.cut_by.Statement.{statement}
-use Rattle.shaped_table.proofs.cut_by.Tie as tie
+use Rattle.shaped_table.proofs.rows.cut_by.Statement.{statement}
+use Rattle.shaped_table.proofs.rows.cut_by.Tie as tie
 
 element-copy-out-if1 : tie.Need-element-copy-out-if1
 element-copy-out-if1 c = omega (arith, c .pre .1 .0, c .pre .0 .bounds-most)

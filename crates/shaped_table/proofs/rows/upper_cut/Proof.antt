@@ -1,9 +1,9 @@
--- `shaped_table::upper_cut` meets its contract.
+-- `shaped_table::rows::upper_cut` meets its contract.
 use native.Mathlib.Omega.{arith}
 use Rattle.shaped_table.proofs.Lines as L
 use borrow.Author.Needs.{needs}
-use Rattle.shaped_table.proofs.upper_cut.Statement.{statement}
-use Rattle.shaped_table.proofs.upper_cut.Tie as tie
+use Rattle.shaped_table.proofs.rows.upper_cut.Statement.{statement}
+use Rattle.shaped_table.proofs.rows.upper_cut.Tie as tie
 
 element-copy-out-j : tie.Need-element-copy-out-j
 element-copy-out-j c = search needs

@@ -1,9 +1,9 @@
--- `shaped_table::places_in` meets its contract.
+-- `shaped_table::rows::places_in` meets its contract.
 use native.Mathlib.Omega.{arith}
 use Rattle.shaped_table.proofs.Lines as L
 use borrow.Author.Needs.{needs}
-use Rattle.shaped_table.proofs.places_in.Statement.{statement}
-use Rattle.shaped_table.proofs.places_in.Tie as tie
+use Rattle.shaped_table.proofs.rows.places_in.Statement.{statement}
+use Rattle.shaped_table.proofs.rows.places_in.Tie as tie
 
 div-whole : tie.Need-div-whole
 div-whole c = search needs
