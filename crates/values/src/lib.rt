@@ -243,7 +243,7 @@ fn band(
     };
     let lag = b - a - 1;
     let rest = width - from;
-    wave(source, memory, rule, n, back, weights, a + from, lag, rest);
+    wave(source, memory, shift, n, back, weights, a + from, lag, rest);
     kernels::row(source, memory, rule, n, back, weights, b + (width - 1), 1);
     kernels::row(source, memory, rule, n, back, weights, c + (width - 2), 2);
     kernels::row(source, memory, rule, n, back, weights, d + (width - 3), 3);
@@ -332,13 +332,9 @@ fn beside(
         component,
         few,
     );
-    let rule = Rule {
-        outside: 0,
-        shift: shift,
-    };
     let lag = b - a;
     let rest = width - few;
-    wave(source, memory, rule, n, back, weights, a + few, lag, rest);
+    wave(source, memory, shift, n, back, weights, a + few, lag, rest);
 }
 
 // The values of four rows, by whichever way is faster.
