@@ -1,3 +1,4 @@
+pub mod Ranks
 pub mod Marks
 pub mod Slots
 pub mod Handling
