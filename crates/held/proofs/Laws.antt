@@ -9,7 +9,7 @@ use lib.Seq.{take-suc, getD-drop, drop-drop, sets, sets-eq}
 use Rattle.base.specs.Tests.{tabulate}
 use Rattle.base.specs.Lists.{part, put, pack, unpack}
 use Rattle.base.proofs.Tests.{length-tabulate, tabulate-at}
-use Rattle.base.proofs.Lists.{AllBelow, part-length, pack-append, pack-right}
+use Rattle.base.proofs.Lists.{part-length, pack-append, pack-right}
 use Rattle.machine.specs.Plan.{count, heldBy}
 use Rattle.nest.specs.declared.Nest.{Nest}
 use Rattle.nest.specs.Accepted.{Accepted}
@@ -18,8 +18,6 @@ use Rattle.plan.specs.declared.Route.{Route}
 use Rattle.plan.specs.Shaped.{planOf}
 use Rattle.plan.proofs.ShapedSound.{sound}
 use Rattle.layout.specs.CellRows.{rowOf}
-use Rattle.parcels.specs.declared.Sending.{Sending}
-use Rattle.parcels.specs.declared.Row.{Row}
 use Rattle.parcels.specs.Windows.{Leading, rowParcel, RowPacked}
 use Rattle.parcels.proofs.Packing.{row-run}
 use Rattle.runs.specs.Runs.{cellsFrom, Room}

@@ -1,6 +1,6 @@
 // The cells of a message, listed in the order of its words: without bounds by the rows of its box, with bounds by the runs of its rows.
 ghost use mathlib.Core.Path.{_≡_};
-ghost use Prim.Native.Nat.{ℕ, _+_, _<_};
+ghost use Prim.Native.Nat.{_+_, _<_};
 ghost use lib.ListN.{length};
 ghost use Rattle.base.specs.Lists.{part, pack, unpack};
 ghost use Rattle.machine.specs.Plan.{heldBy};

@@ -1,5 +1,5 @@
 -- `held::cells_of` meets its contract.
-use mathlib.Core.Path.{refl, sym, ap, _∙_}
+use mathlib.Core.Path.{sym, ap, _∙_}
 use Rattle.base.specs.Lists.{pack}
 use Rattle.tables.proofs.Laws as L
 use Rattle.held.specs.Numbers.{numbers}
