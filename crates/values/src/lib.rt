@@ -462,7 +462,66 @@ fn box_fours(
     }
 }
 
-// The values of the cells of a box, in index order, row by row.
+// The values of all rows of a box: in groups of four, then those that are left, one by one.
+fn all_rows(
+    body: Body,
+    source: &[u32],
+    memory: &mut [u32],
+    components: &[usize; 32],
+    lasts: &[usize; 8],
+    back: &[usize; 8],
+    weights: &[u64; 8],
+    margin: &[usize; 4],
+    grid: &[usize; 4],
+    lengths: &[usize; 4],
+    corner: [usize; 4],
+    rows: usize,
+    groups: usize,
+    own: bool,
+)
+    requires { ⌜ ((x : Nest) × (RowsGiven (withBody x body) (now components) (now lasts) (now back) (now weights) (now margin) (now source) (now memory)
+        (now grid) (now lengths) corner corner 0 × ((4 * groups ≤ rows) × (rows ≤ 16384)))) ⌝ }
+    ensures { λ _. ⌜ ((x : Nest) → RowsGiven (withBody x body) (now (components .entry)) (now (lasts .entry)) (now (back .entry)) (now (weights .entry))
+        (now (margin .entry)) (now (source .entry)) (now (memory .entry)) (now (grid .entry)) (now (lengths .entry)) corner corner 0
+        → now (memory .exit) ≡ storeAll (value (withBody x body) (now (source .entry))) (now (memory .entry))
+        (rowsOf (rowAt (withBody x body) (now (lengths .entry)) corner) (getD (now (lengths .entry)) (body .dimensions - 1) 0) rows)) ⌝ }
+{
+    let mut at = corner;
+    box_fours(
+        body,
+        source,
+        memory,
+        components,
+        lasts,
+        back,
+        weights,
+        margin,
+        grid,
+        lengths,
+        &corner,
+        &mut at,
+        groups,
+        own,
+    );
+    box_rows(
+        body,
+        source,
+        memory,
+        components,
+        lasts,
+        back,
+        weights,
+        margin,
+        grid,
+        lengths,
+        &corner,
+        &mut at,
+        4 * groups,
+        rows,
+    );
+}
+
+// The values of the cells of a box, in index order, row by row; `own` if no distance reads another row.
 fn box_values(
     nest: Nest,
     source: &[u32],
@@ -482,8 +541,8 @@ fn box_values(
     let lasts = lasts_of(nest, &components);
     let least = least_of(nest, &back);
     let last = nest.dimensions - 1;
-    let rows = layout::product(lengths, last);
-    let groups = by_fours(rows, lengths[last], least);
+    let count = layout::product(lengths, last);
+    let groups = by_fours(count, lengths[last], least);
     let origin = [0; 4];
     let own = inner(&margin, &origin, last);
     let body = Body {
@@ -492,8 +551,7 @@ fn box_values(
         shift: nest.shift,
         boundary: nest.boundary,
     };
-    let mut at = corner;
-    box_fours(
+    all_rows(
         body,
         source,
         memory,
@@ -504,26 +562,10 @@ fn box_values(
         &margin,
         &grid,
         &lengths,
-        &corner,
-        &mut at,
+        corner,
+        count,
         groups,
         own,
-    );
-    box_rows(
-        body,
-        source,
-        memory,
-        &components,
-        &lasts,
-        &back,
-        &weights,
-        &margin,
-        &grid,
-        &lengths,
-        &corner,
-        &mut at,
-        4 * groups,
-        rows,
     );
 }
 
