@@ -10,8 +10,8 @@ ghost use Rattle.nest.specs.declared.Nest.{Nest};
 ghost use Rattle.plan.specs.Geometry.{value};
 ghost use Rattle.bands.specs.Bands.{four, rowsOf, numbered, BandGiven};
 use kernels::Rule;
-use kernels::line;
 use kernels::wave;
+use lines::line;
 
 // The values of four rows: the first columns row by row, then side by side, then what is left of each row.
 fn band(

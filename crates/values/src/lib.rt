@@ -22,10 +22,10 @@ ghost use Rattle.values.specs.Given.{withBody, ReadsBy, RowGiven};
 ghost use Rattle.values.specs.Boxes.{Boxed, rowAt, Standing, RowsGiven, Stored};
 ghost use Rattle.values.specs.Reads.{firstRead, stepBack, Firsts, Backs};
 use bands::side_by_side;
-use kernels::line;
-use kernels::short_line;
 use layout::Bounds;
 use layout::Sizes;
+use lines::line;
+use lines::short_line;
 use nest::Nest;
 
 // The numbers of a nest that its rows go by. A nest itself is large, and handed on by value for each row it would be copied as often.
