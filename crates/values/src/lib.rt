@@ -1,7 +1,4 @@
 // Values in code: rows, a tile, and the sequential sweep of the whole grid.
-//
-// The cells of a row wait for each other. So four rows go side by side, each one column behind the row before it: what a cell
-// reads has a lower number and stands in no later column, so it is stored by then, and the words are those of index order.
 ghost use mathlib.Core.Path.{_≡_};
 ghost use Prim.Native.Nat.{_+_, _*_, _-_, _/_, _%_, _^_, _≤_, _<_};
 ghost use lib.ListN.{length, getD};
@@ -19,16 +16,16 @@ ghost use Rattle.layout.specs.Sizes.{Sized};
 ghost use Rattle.layout.specs.Places.{nth, Has, Places, Inside, Follows};
 ghost use Rattle.layout.specs.CellRows.{Given, rowOf};
 ghost use Rattle.nest.specs.declared.Nest.{Nest};
-ghost use Rattle.values.specs.Waves.{four, rowsOf, mostOf, Lasts, Inner};
-ghost use Rattle.values.specs.Given.{withBody, ReadsBy, RowGiven, BandGiven};
+ghost use Rattle.bands.specs.Bands.{four, rowsOf};
+ghost use Rattle.values.specs.Waves.{mostOf, Lasts, Inner};
+ghost use Rattle.values.specs.Given.{withBody, ReadsBy, RowGiven};
 ghost use Rattle.values.specs.Boxes.{Boxed, rowAt, Standing, RowsGiven, Stored};
 ghost use Rattle.values.specs.Reads.{firstRead, stepBack, Firsts, Backs};
-use kernels::Rule;
-use kernels::line;
-use kernels::short_line;
-use kernels::wave;
+use bands::side_by_side;
 use layout::Bounds;
 use layout::Sizes;
+use lines::line;
+use lines::short_line;
 use nest::Nest;
 
 // The numbers of a nest that its rows go by. A nest itself is large, and handed on by value for each row it would be copied as often.
@@ -152,244 +149,6 @@ fn row(
         from,
         first,
         component,
-        width,
-    );
-}
-
-// The values of four rows: the first columns row by row, then side by side, then what is left of each row.
-fn band(
-    body: Body,
-    source: &[u32],
-    memory: &mut [u32],
-    first: &[usize; 8],
-    back: &[usize; 8],
-    weights: &[u64; 8],
-    a: usize,
-    b: usize,
-    c: usize,
-    d: usize,
-    component: usize,
-    from: usize,
-    width: usize,
-)
-    requires { ⌜ ((x : Nest) × BandGiven (withBody x body) (now first) (now back) (now weights) (now source) (now memory) a b c d component from width) ⌝ }
-    ensures { λ _. ⌜ ((x : Nest) → BandGiven (withBody x body) (now (first .entry)) (now (back .entry)) (now (weights .entry)) (now (source .entry))
-        (now (memory .entry)) a b c d component from width
-        → now (memory .exit) ≡ storeAll (value (withBody x body) (now (source .entry))) (now (memory .entry)) (rowsOf (four a b c d) width 4)) ⌝ }
-{
-    let shift = body.shift;
-    let boundary = body.boundary;
-    let n = body.distances;
-    let full = component + (from - 3);
-    line(
-        source,
-        memory,
-        shift,
-        boundary,
-        n,
-        first,
-        back,
-        weights,
-        full,
-        a,
-        component,
-        from,
-    );
-    line(
-        source,
-        memory,
-        shift,
-        boundary,
-        n,
-        first,
-        back,
-        weights,
-        full,
-        b,
-        component,
-        from - 1,
-    );
-    line(
-        source,
-        memory,
-        shift,
-        boundary,
-        n,
-        first,
-        back,
-        weights,
-        full,
-        c,
-        component,
-        from - 2,
-    );
-    line(
-        source,
-        memory,
-        shift,
-        boundary,
-        n,
-        first,
-        back,
-        weights,
-        full,
-        d,
-        component,
-        from - 3,
-    );
-    let rule = Rule {
-        outside: 0,
-        shift: shift,
-    };
-    let lag = b - a - 1;
-    let rest = width - from;
-    wave(source, memory, shift, n, back, weights, a + from, lag, rest);
-    kernels::row(source, memory, rule, n, back, weights, b + (width - 1), 1);
-    kernels::row(source, memory, rule, n, back, weights, c + (width - 2), 2);
-    kernels::row(source, memory, rule, n, back, weights, d + (width - 3), 3);
-}
-
-// The same where rows read no row but themselves, in the same columns: no row need be ahead of another for its words to be made
-// beside theirs, and no columns are left.
-fn beside(
-    body: Body,
-    source: &[u32],
-    memory: &mut [u32],
-    first: &[usize; 8],
-    back: &[usize; 8],
-    weights: &[u64; 8],
-    a: usize,
-    b: usize,
-    c: usize,
-    d: usize,
-    component: usize,
-    from: usize,
-    width: usize,
-)
-    requires { ⌜ ((x : Nest) × BandGiven (withBody x body) (now first) (now back) (now weights) (now source) (now memory) a b c d component from width) ⌝ }
-    ensures { λ _. ⌜ ((x : Nest) → BandGiven (withBody x body) (now (first .entry)) (now (back .entry)) (now (weights .entry)) (now (source .entry))
-        (now (memory .entry)) a b c d component from width
-        → now (memory .exit) ≡ storeAll (value (withBody x body) (now (source .entry))) (now (memory .entry)) (rowsOf (four a b c d) width 4)) ⌝ }
-{
-    let shift = body.shift;
-    let boundary = body.boundary;
-    let n = body.distances;
-    let few = from - 3;
-    let full = component + few;
-    line(
-        source,
-        memory,
-        shift,
-        boundary,
-        n,
-        first,
-        back,
-        weights,
-        full,
-        a,
-        component,
-        few,
-    );
-    line(
-        source,
-        memory,
-        shift,
-        boundary,
-        n,
-        first,
-        back,
-        weights,
-        full,
-        b,
-        component,
-        few,
-    );
-    line(
-        source,
-        memory,
-        shift,
-        boundary,
-        n,
-        first,
-        back,
-        weights,
-        full,
-        c,
-        component,
-        few,
-    );
-    line(
-        source,
-        memory,
-        shift,
-        boundary,
-        n,
-        first,
-        back,
-        weights,
-        full,
-        d,
-        component,
-        few,
-    );
-    let lag = b - a;
-    let rest = width - few;
-    wave(source, memory, shift, n, back, weights, a + few, lag, rest);
-}
-
-// The values of four rows, by whichever way is faster.
-fn side_by_side(
-    body: Body,
-    source: &[u32],
-    memory: &mut [u32],
-    first: &[usize; 8],
-    back: &[usize; 8],
-    weights: &[u64; 8],
-    a: usize,
-    b: usize,
-    c: usize,
-    d: usize,
-    component: usize,
-    from: usize,
-    width: usize,
-    own: bool,
-)
-    requires { ⌜ ((x : Nest) × BandGiven (withBody x body) (now first) (now back) (now weights) (now source) (now memory) a b c d component from width) ⌝ }
-    ensures { λ _. ⌜ ((x : Nest) → BandGiven (withBody x body) (now (first .entry)) (now (back .entry)) (now (weights .entry)) (now (source .entry))
-        (now (memory .entry)) a b c d component from width
-        → now (memory .exit) ≡ storeAll (value (withBody x body) (now (source .entry))) (now (memory .entry)) (rowsOf (four a b c d) width 4)) ⌝ }
-{
-    if own {
-        beside(
-            body,
-            source,
-            memory,
-            first,
-            back,
-            weights,
-            a,
-            b,
-            c,
-            d,
-            component,
-            from,
-            width,
-        );
-        return;
-    }
-    band(
-        body,
-        source,
-        memory,
-        first,
-        back,
-        weights,
-        a,
-        b,
-        c,
-        d,
-        component,
-        from,
         width,
     );
 }
@@ -638,9 +397,11 @@ fn four_rows(
     let b = a + stride;
     let c = b + stride;
     side_by_side(
-        body,
         source,
         memory,
+        body.shift,
+        body.boundary,
+        body.distances,
         lasts,
         back,
         weights,
@@ -701,7 +462,66 @@ fn box_fours(
     }
 }
 
-// The values of the cells of a box, in index order, row by row.
+// The values of all rows of a box: in groups of four, then those that are left, one by one.
+fn all_rows(
+    body: Body,
+    source: &[u32],
+    memory: &mut [u32],
+    components: &[usize; 32],
+    lasts: &[usize; 8],
+    back: &[usize; 8],
+    weights: &[u64; 8],
+    margin: &[usize; 4],
+    grid: &[usize; 4],
+    lengths: &[usize; 4],
+    corner: [usize; 4],
+    rows: usize,
+    groups: usize,
+    own: bool,
+)
+    requires { ⌜ ((x : Nest) × (RowsGiven (withBody x body) (now components) (now lasts) (now back) (now weights) (now margin) (now source) (now memory)
+        (now grid) (now lengths) corner corner 0 × ((4 * groups ≤ rows) × (rows ≤ 16384)))) ⌝ }
+    ensures { λ _. ⌜ ((x : Nest) → RowsGiven (withBody x body) (now (components .entry)) (now (lasts .entry)) (now (back .entry)) (now (weights .entry))
+        (now (margin .entry)) (now (source .entry)) (now (memory .entry)) (now (grid .entry)) (now (lengths .entry)) corner corner 0
+        → now (memory .exit) ≡ storeAll (value (withBody x body) (now (source .entry))) (now (memory .entry))
+        (rowsOf (rowAt (withBody x body) (now (lengths .entry)) corner) (getD (now (lengths .entry)) (body .dimensions - 1) 0) rows)) ⌝ }
+{
+    let mut at = corner;
+    box_fours(
+        body,
+        source,
+        memory,
+        components,
+        lasts,
+        back,
+        weights,
+        margin,
+        grid,
+        lengths,
+        &corner,
+        &mut at,
+        groups,
+        own,
+    );
+    box_rows(
+        body,
+        source,
+        memory,
+        components,
+        lasts,
+        back,
+        weights,
+        margin,
+        grid,
+        lengths,
+        &corner,
+        &mut at,
+        4 * groups,
+        rows,
+    );
+}
+
+// The values of the cells of a box, in index order, row by row; `own` if no distance reads another row.
 fn box_values(
     nest: Nest,
     source: &[u32],
@@ -721,8 +541,8 @@ fn box_values(
     let lasts = lasts_of(nest, &components);
     let least = least_of(nest, &back);
     let last = nest.dimensions - 1;
-    let rows = layout::product(lengths, last);
-    let groups = by_fours(rows, lengths[last], least);
+    let count = layout::product(lengths, last);
+    let groups = by_fours(count, lengths[last], least);
     let origin = [0; 4];
     let own = inner(&margin, &origin, last);
     let body = Body {
@@ -731,8 +551,7 @@ fn box_values(
         shift: nest.shift,
         boundary: nest.boundary,
     };
-    let mut at = corner;
-    box_fours(
+    all_rows(
         body,
         source,
         memory,
@@ -743,26 +562,10 @@ fn box_values(
         &margin,
         &grid,
         &lengths,
-        &corner,
-        &mut at,
+        corner,
+        count,
         groups,
         own,
-    );
-    box_rows(
-        body,
-        source,
-        memory,
-        &components,
-        &lasts,
-        &back,
-        &weights,
-        &margin,
-        &grid,
-        &lengths,
-        &corner,
-        &mut at,
-        4 * groups,
-        rows,
     );
 }
 

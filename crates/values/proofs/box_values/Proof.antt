@@ -1,9 +1,14 @@
--- `values::box_values` meets its contract: by fours, then the rows that are left.
-use Prim.Native.Nat.{_*_, _-_}
+-- `values::box_values` meets its contract: what is made once, then all rows.
+use Prim.Native.Nat.{ℕ, _-_}
 use native.Mathlib.Omega.{arith}
-use mathlib.Core.Path.{refl}
-use Rattle.values.proofs.Boxes.{box-countable, stored-all}
-use Rattle.values.proofs.Rows.{given-box, given-next, given-more}
+use mathlib.Core.Path.{refl, ap, _∙_}
+use lib.ListN.{getD}
+use Rattle.base.specs.Lists.{storeAll}
+use Rattle.plan.specs.Geometry.{value}
+use Rattle.bands.specs.Bands.{rowsOf}
+use Rattle.values.specs.Boxes.{rowAt}
+use Rattle.values.proofs.Boxes.{box-countable}
+use Rattle.values.proofs.Rows.{given-box}
 use borrow.Author.Needs.{needs}
 use Rattle.values.proofs.box_values.Statement.{statement}
 use Rattle.values.proofs.box_values.Tie as tie
@@ -49,88 +54,48 @@ by-fours-requires c κs = search needs
 inner-requires : tie.Need-inner-requires
 inner-requires c κs = search needs
 
-box-fours-requires : tie.Need-box-fours-requires
-box-fours-requires c κs =
-    let at-by-fours = c .before .before .before .before .before .before .before .before .before .before .before .before .before in
-    let at-product = at-by-fours .before in
-    let at-lasts-of = at-product .before .before .before .before in
-    let at-margins-of = at-lasts-of .before .before in
-    let at-backs-of = at-margins-of .before .before in
-    let s = at-backs-of .before .before .before .before .before .before .before in
+all-rows-requires : tie.Need-all-rows-requires
+all-rows-requires c κs =
+    let counted = c .before .before .before .before .before .before .before .before .before .before .before .before in
+    let lasts = counted .before .before .before .before in
+    let margins = lasts .before .before in
+    let backs = margins .before .before in
+    let s = backs .before .before .before .before .before .before .before in
     let p = s .pre in
-    let g = given-box (s .args .nest) _ _ _ _ _ (s .args .source .now) (s .args .memory .now) (s .args .t4) (s .args .t5) (p .0)
+    let g = given-box (s .args .nest) _ _ _ _ _ (s .args .source .now) (s .args .memory .now) (s .args .t4) (s .args .corner) (p .0)
     (record {
       given = record { is = refl };
-      backs = at-backs-of .backs-of .ensures;
+      backs = backs .backs-of .ensures;
       weights-are = refl;
-      firsts = at-lasts-of .lasts-of .ensures;
-      margins =
-          at-margins-of .margins-of .ensures;
+      firsts = lasts .lasts-of .ensures;
+      margins = margins .margins-of .ensures;
     }) (p .1 .1) (p .1 .0) (search (needs, s .good .1 .1 .1 .1 .0)) in
-    (s .args .nest, (g, omega (arith, at-by-fours .by-fours .ensures, at-product .product .ensures, box-countable _ (p .0) _ _ (p .1 .0) .few)))
-
-mul-box-rows : tie.Need-mul-box-rows
-mul-box-rows c =
-    let at-by-fours = c .before .before .before .before .before .before .before .before .before .before .before .before .before .before .before .before
-    .before .before .before .before .before .before .before .before .before .before in
-    let at-product = at-by-fours .before in
-    let start = at-product .before .before .before .before .before .before .before .before .before .before .before .before .before .before .before in
-    omega (arith, at-by-fours .by-fours .ensures, at-product .product .ensures, box-countable _ (start .pre .0) _ _ (start .pre .1 .0) .few)
-
-box-rows-requires : tie.Need-box-rows-requires
-box-rows-requires c κs =
-    let at-box-fours = c .before .before .before .before .before .before .before .before .before .before .before .before in
-    let at-by-fours = at-box-fours .before .before .before .before .before .before .before .before .before .before .before .before .before .before in
-    let at-product = at-by-fours .before in
-    let at-lasts-of = at-product .before .before .before .before in
-    let at-margins-of = at-lasts-of .before .before in
-    let at-backs-of = at-margins-of .before .before in
-    let s = at-backs-of .before .before .before .before .before .before .before in
-    let p = s .pre in
-    let g = given-box (s .args .nest) _ _ _ _ _ (s .args .source .now) (s .args .memory .now) (s .args .t4) (s .args .t5) (p .0)
-    (record {
-      given = record { is = refl };
-      backs = at-backs-of .backs-of .ensures;
-      weights-are = refl;
-      firsts = at-lasts-of .lasts-of .ensures;
-      margins =
-          at-margins-of .margins-of .ensures;
-    }) (p .1 .1) (p .1 .0) (search (needs, s .good .1 .1 .1 .1 .0)) in (
-      s .args .nest,
-      (
-        given-next _ _ _ _ _ _ (s .args .source .now) (s .args .memory .now) _ _ _ _ _ g _ _ _ (at-box-fours .box-fours .ensures (s .args .nest)
-            g) (4 * at-by-fours .by-fours .result) (omega arith),
-        (at-by-fours .by-fours .ensures, omega (arith, at-product .product .ensures, box-countable _ (p .0) _ _ (p .1 .0) .few)),
-      ),
-    )
+    let few = box-countable _ (p .0) _ _ (p .1 .0) .few in
+    (s .args .nest, (g, (c .before .before .before .before .before .before .before .before .before .before .before .by-fours .ensures, omega (arith, counted .product .ensures, few))))
 
 same-length : tie.Need-same-length
 same-length c = search needs
 
 returns : tie.Need-returns
 returns c =
-    let at-box-fours = c .before .before .before .before .before .before .before .before .before .before .before .before .before .before .before in
-    let at-by-fours = at-box-fours .before .before .before .before .before .before .before .before .before .before .before .before .before .before in
-    let at-product = at-by-fours .before in
-    let at-lasts-of = at-product .before .before .before .before in
-    let at-margins-of = at-lasts-of .before .before in
-    let at-backs-of = at-margins-of .before .before in
-    let s = at-backs-of .before .before .before .before .before .before .before in
+    let counted = c .before .before .before .before .before .before .before .before .before .before .before .before .before .before .before in
+    let lasts = counted .before .before .before .before in
+    let margins = lasts .before .before in
+    let backs = margins .before .before in
+    let s = backs .before .before .before .before .before .before .before in
     let p = s .pre in
-    let g = given-box (s .args .nest) _ _ _ _ _ (s .args .source .now) (s .args .memory .now) (s .args .t4) (s .args .t5) (p .0)
+    let g = given-box (s .args .nest) _ _ _ _ _ (s .args .source .now) (s .args .memory .now) (s .args .t4) (s .args .corner) (p .0)
     (record {
       given = record { is = refl };
-      backs = at-backs-of .backs-of .ensures;
+      backs = backs .backs-of .ensures;
       weights-are = refl;
-      firsts = at-lasts-of .lasts-of .ensures;
-      margins =
-          at-margins-of .margins-of .ensures;
+      firsts = lasts .lasts-of .ensures;
+      margins = margins .margins-of .ensures;
     }) (p .1 .1) (p .1 .0) (search (needs, s .good .1 .1 .1 .1 .0)) in
-    let f = at-box-fours .box-fours .ensures (s .args .nest) g in
-    stored-all _ _ _ _ _ _ _ _ _ (given-more _ _ _ _ _ _ (s .args .source .now) (s .args .memory .now) _ _ _ _ _ g _ _ _ f
-    (4 * at-by-fours .by-fours .result) (at-product .product .result - 4 * at-by-fours .by-fours .result) (at-product .product .result) (omega arith)
-    (omega (arith, at-by-fours .by-fours .ensures)) _ _ (c .before .before .box-rows .ensures (s .args .nest) (given-next _ _ _ _ _ _ (s .args .source .now)
-    (s .args .memory .now) _ _ _ _ _ g _ _ _ f (4 * at-by-fours .by-fours .result) (omega arith)))) (at-product .product .ensures)
+    c .before .before .all-rows .ensures (s .args .nest) g
+    ∙ ap
+    (λ (n : ℕ). storeAll (value (s .args .nest) (s .args .source .now)) (s .args .memory .now)
+    (rowsOf (rowAt (s .args .nest) (s .args .t4) (s .args .corner)) (getD (s .args .t4) (s .args .nest .dimensions - 1) 0) n)) (counted .product .ensures)
 
 pub box-values-spec : {M : Type 1} → statement M
 box-values-spec =
@@ -146,8 +111,6 @@ box-values-spec =
     array-read-by-fours
     by-fours-requires
     inner-requires
-    box-fours-requires
-    mul-box-rows
-    box-rows-requires
+    all-rows-requires
     same-length
     returns)

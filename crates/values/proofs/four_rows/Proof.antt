@@ -5,6 +5,7 @@ use mathlib.Core.Path.{refl}
 use borrow.Author.Tests.{not-false}
 use Rattle.values.proofs.Rows.{given-ranked, given-inside, given-margin, given-small, given-band, given-moved, given-four, stored-rows}
 use borrow.Author.Needs.{needs}
+use Rattle.values.specs.Given.{withBody}
 use Rattle.values.proofs.four_rows.Statement.{statement}
 use Rattle.values.proofs.four_rows.Tie as tie
 
@@ -96,7 +97,7 @@ side-by-side-requires c κs =
     let start = at-start-of .before .before .before .before .before .before in
     let p = start .pre in
     let t = at-together .together .ensures (not-false _ (at-if1 .if1 .left)) in (
-      p .0,
+      withBody (p .0) (start .args .body),
       given-band _ _ _ _ _ _ (start .args .source .now) (start .args .memory .now) _ _ _ _ _ (p .1 .0) _ (c .before .rank-of .ensures) (t .1) _ _ _ refl
           refl refl _ (at-start-of .start-of .ensures) (t .0),
     )
@@ -159,7 +160,7 @@ returns-2 c =
     let start = at-start-of .before .before .before .before .before .before in
     λ x g. let t = at-together .together .ensures (not-false _ (at-if1 .if1 .left)) in given-four _ _ _ _ _ _ (start .args .source .now)
     (start .args .memory .now) _ _ _ _ _ g _ (at-rank-of .rank-of .ensures) (t .1) _ _ _ refl refl refl _ _
-    (at-side-by-side .side-by-side .ensures x (given-band _ _ _ _ _ _ (start .args .source .now) (start .args .memory .now) _ _ _ _ _ g _
+    (at-side-by-side .side-by-side .ensures (withBody x (start .args .body)) (given-band _ _ _ _ _ _ (start .args .source .now) (start .args .memory .now) _ _ _ _ _ g _
     (at-rank-of .rank-of .ensures) (t .1) _ _ _ refl refl refl _ (at-start-of .start-of .ensures) (t .0))) (c .advance .ensures)
 
 pub four-rows-spec : {M : Type 1} → statement M

@@ -1,12 +1,12 @@
--- `kernels::short_line` meets its contract: the first cells, and then those at which all taps read that read anywhere.
+-- `lines::short_line` meets its contract: the first cells, and then those at which all taps read that read anywhere.
 use mathlib.Core.Path.{_∙_, ap}
 use native.Mathlib.Omega.{arith}
 use lib.ListN.{length}
 use Rattle.base.proofs.Lists.{store-length}
 use Rattle.kernels.proofs.Sums.{mixes-first, line-stored, rest-line, rest-fits}
 use borrow.Author.Needs.{needs}
-use Rattle.kernels.proofs.short_line.Statement.{statement}
-use Rattle.kernels.proofs.short_line.Tie as tie
+use Rattle.lines.proofs.short_line.Statement.{statement}
+use Rattle.lines.proofs.short_line.Tie as tie
 
 before-requires : tie.Need-before-requires
 before-requires c κs = search needs

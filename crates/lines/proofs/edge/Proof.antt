@@ -1,10 +1,10 @@
--- `kernels::edge` meets its contract: the first y cells are stored.
+-- `lines::edge` meets its contract: the first y cells are stored.
 use Prim.Native.Nat.{_-_}
 use native.Mathlib.Omega.{arith}
 use Rattle.kernels.specs.Taps.{inLine}
 use Rattle.kernels.proofs.Sums.{Rowing, rowing-none, rowing-long, rowing-more, rowing-end, mixes-at, in-line}
-use Rattle.kernels.proofs.edge.Statement.{statement}
-use Rattle.kernels.proofs.edge.Tie as tie
+use Rattle.lines.proofs.edge.Statement.{statement}
+use Rattle.lines.proofs.edge.Tie as tie
 
 abbrev Inv-loop : tie.InvT-loop
 Inv-loop source memory₀ shift boundary n firsts backs weights cell component width y₀ memory y =

@@ -1,7 +1,7 @@
--- `values::side_by_side` meets its contract, by one way or the other.
+-- `bands::side_by_side` meets its contract, by one way or the other.
 use borrow.Author.Needs.{needs}
-use Rattle.values.proofs.side_by_side.Statement.{statement}
-use Rattle.values.proofs.side_by_side.Tie as tie
+use Rattle.bands.proofs.side_by_side.Statement.{statement}
+use Rattle.bands.proofs.side_by_side.Tie as tie
 
 beside-requires : tie.Need-beside-requires
 beside-requires c κs = search needs

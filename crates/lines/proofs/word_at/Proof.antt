@@ -1,12 +1,12 @@
--- `kernels::word_at` meets its contract.
+-- `lines::word_at` meets its contract.
 use native.Mathlib.Omega.{arith}
 use Prim.Native.Nat.{_-_}
 use mathlib.Core.Path.{sym}
 use borrow.Author.Tests.{lt-leb, le-leb}
 use Rattle.base.proofs.Tests.{pick-true, pick-false}
 use borrow.Author.Needs.{needs}
-use Rattle.kernels.proofs.word_at.Statement.{statement}
-use Rattle.kernels.proofs.word_at.Tie as tie
+use Rattle.lines.proofs.word_at.Statement.{statement}
+use Rattle.lines.proofs.word_at.Tie as tie
 
 returns : tie.Need-returns
 returns c = (sym (pick-false _ _ _ (lt-leb _ _ (c .if1 .taken))), c .before .pre .1 .0)

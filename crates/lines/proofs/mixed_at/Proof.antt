@@ -1,13 +1,13 @@
--- `kernels::mixed_at` meets its contract: the sum of the first k taps, which fits 64 bits.
+-- `lines::mixed_at` meets its contract: the sum of the first k taps, which fits 64 bits.
 use Prim.Native.Nat.{_-_}
 use native.Mathlib.Omega.{arith}
 use lib.ListN.{getD}
 use lib.Dec.{leb}
 use borrow.Author.Needs.{needs}
 use Rattle.base.specs.Tests.{pick}
 use Rattle.kernels.proofs.Sums.{Mixing, mixing-none, mixing-fits, mixing-more, mixing-end}
-use Rattle.kernels.proofs.mixed_at.Statement.{statement}
-use Rattle.kernels.proofs.mixed_at.Tie as tie
+use Rattle.lines.proofs.mixed_at.Statement.{statement}
+use Rattle.lines.proofs.mixed_at.Tie as tie
 
 abbrev Inv-loop : tie.InvT-loop
 Inv-loop source memory shift boundary n firsts backs weights cell component total₀ k₀ total k =

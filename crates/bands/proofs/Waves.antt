@@ -26,12 +26,10 @@ use Rattle.plan.proofs.Sound.{reads-at, value-local}
 use Rattle.plan.proofs.Tiles.{read-back, read-before}
 use Rattle.layout.specs.CellRows.{rowOf}
 use Rattle.kernels.specs.Taps.{made, inLine, waveOf, Fits, Mixes, All}
-use Rattle.kernels.proofs.Orders.{store-same}
-use Rattle.values.specs.Waves.{four, rowsOf, Band, Spaced, Banded}
-use Rattle.values.specs.Reads.{InRow}
-use Rattle.values.proofs.Orders.{Right, store-other, Causal, store-fixed, right-store, right-end}
-use Rattle.values.proofs.Stores.{store-append, store-row}
-use Rattle.values.proofs.Words.{in-row-of, row-mixes, row-values}
+use Rattle.kernels.proofs.Orders.{store-append, store-same}
+use Rattle.bands.specs.Bands.{InRow, four, rowsOf, Band, Spaced, Banded}
+use Rattle.bands.proofs.Orders.{Right, store-other, Causal, store-fixed, right-store, right-end}
+use Rattle.bands.proofs.Words.{store-row, in-row-of, row-mixes, row-values}
 
 -- ---- who is in a row, and in rows
 

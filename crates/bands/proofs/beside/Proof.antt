@@ -1,13 +1,13 @@
--- `values::beside` meets its contract: the first columns, then all others. In a proof h1 to h5 are what is known after each
+-- `bands::beside` meets its contract: the first columns, then all others. In a proof h1 to h5 are what is known after each
 -- call, and k1 to k4 say that it kept the memory's length.
 use native.Mathlib.Omega.{arith}
 use mathlib.Core.Path.{_∙_}
-use Rattle.values.specs.Waves.{four}
-use Rattle.values.proofs.Waves.{band-mixes}
-use Rattle.values.proofs.Columns.{columns-fit, beside-stored}
+use Rattle.bands.specs.Bands.{four}
+use Rattle.bands.proofs.Waves.{band-mixes}
+use Rattle.bands.proofs.Columns.{columns-fit, beside-stored}
 use borrow.Author.Needs.{needs}
-use Rattle.values.proofs.beside.Statement.{statement}
-use Rattle.values.proofs.beside.Tie as tie
+use Rattle.bands.proofs.beside.Statement.{statement}
+use Rattle.bands.proofs.beside.Tie as tie
 
 sub-few : tie.Need-sub-few
 sub-few c =

@@ -1,10 +1,10 @@
--- `kernels::rest_of` meets its contract: the first k taps.
+-- `lines::rest_of` meets its contract: the first k taps.
 use Prim.Native.Nat.{_-_}
 use native.Mathlib.Omega.{arith}
 use borrow.Author.Needs.{needs}
 use Rattle.kernels.proofs.Sums.{Resting, resting-none, resting-fits, resting-skip, resting-take, resting-end}
-use Rattle.kernels.proofs.rest_of.Statement.{statement}
-use Rattle.kernels.proofs.rest_of.Tie as tie
+use Rattle.lines.proofs.rest_of.Statement.{statement}
+use Rattle.lines.proofs.rest_of.Tie as tie
 
 abbrev Inv-loop : tie.InvT-loop
 Inv-loop boundary n firsts backs weights outside₀ left-backs₀ left-weights₀ k₀ outside left-backs left-weights k =

@@ -1,12 +1,12 @@
--- `kernels::line` meets its contract: the first cells, and then those at which all taps read.
+-- `lines::line` meets its contract: the first cells, and then those at which all taps read.
 use mathlib.Core.Path.{_∙_, ap}
 use native.Mathlib.Omega.{arith}
 use lib.ListN.{length}
 use Rattle.base.proofs.Lists.{store-length}
 use Rattle.kernels.proofs.Sums.{mixes-first, mixes-fits, line-stored, made-line}
 use borrow.Author.Needs.{needs}
-use Rattle.kernels.proofs.line.Statement.{statement}
-use Rattle.kernels.proofs.line.Tie as tie
+use Rattle.lines.proofs.line.Statement.{statement}
+use Rattle.lines.proofs.line.Tie as tie
 
 before-requires : tie.Need-before-requires
 before-requires c κs = search needs
