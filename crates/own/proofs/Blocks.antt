@@ -1,13 +1,13 @@
 -- Laws of the counts before blocks: the marks of a part of the cells, the blocks passed, a cell's rank by them; and words put in and out by ranks.
-use Prim.Native.Nat.{ℕ, zero, suc, _+_, _*_, _-_, _/_, _%_, _≤_, _<_}
+use Prim.Native.Nat.{ℕ, zero, suc, _+_, _*_, _-_, _/_, _≤_, _<_}
 use mathlib.Core.Path.{_≡_, refl, sym, ap, _∙_}
-use mathlib.Core.Logic.{_⊎_, inl, inr, _≢_}
+use mathlib.Core.Logic.{_⊎_, inl, inr}
 use mathlib.Core.Bool.{Bool, true, false}
-use mathlib.Core.List.{List, [], _∷_}
-use native.Mathlib.Nat.{eq-or-lt-of-le, zero-mul}
+use mathlib.Core.List.{List}
+use native.Mathlib.Nat.{eq-or-lt-of-le}
 use native.Mathlib.Numerals.{add-one}
 use native.Mathlib.Omega.{arith}
-use lib.ListN.{length, getD, take, drop, set, length-set, length-take, length-drop, drop-of-length-le}
+use lib.ListN.{length, getD, take, drop, set, length-set, length-drop, drop-of-length-le}
 use lib.Seq.{getD-set-same, getD-set-other, getD-take, getD-drop, length-take-le, drop-cons, ext-getD}
 use lib.Dec.{eqb}
 use Rattle.base.specs.Tests.{keep}
@@ -159,7 +159,8 @@ module _ (marks : List ℕ) where
           let long : length now ≡ length (markedCells marks) = t .long ∙ g .part-long in
           let stored : set (spreadOut marks now) c w ≡ spreadOut marks (set now r w) =
           ranks.spread-set marks now long c (cell-low i c l e) (cell-marked i c l e) w ∙ ap (λ (k : ℕ). spreadOut marks (set now k w)) (sym q) in
-          let one-more : unpack (spreadOut marks now) (drop i cells) (drop i words) ≡ unpack (set (spreadOut marks now) c w) (drop (suc i) cells) (drop (suc i) words) =
+          let one-more : unpack (spreadOut marks now) (drop i cells) (drop i words) ≡ unpack (set (spreadOut marks now) c w) (drop (suc i) cells)
+          (drop (suc i) words) =
           rw (drop-cons cells i 0 l, drop-cons words i 0 (omega (arith, g .words-long, l)), e) refl in
           record {
             long = length-set now r w ∙ t .long;

@@ -1,7 +1,6 @@
 -- Laws of ranks, the places of marked cells among all marked: a cell's word in the part, cells side by side, a word stored, words spread out and back.
 use Prim.Native.Nat.{ℕ, zero, suc, _+_, _≤_, _<_}
 use mathlib.Core.Path.{_≡_, refl, sym, ap, _∙_}
-use mathlib.Core.Logic.{_⊎_, inl, inr, _≢_}
 use mathlib.Core.Bool.{Bool, true, false}
 use mathlib.Core.List.{List}
 use native.Mathlib.Decide.{ℕ-discrete}
@@ -9,15 +8,15 @@ use native.Mathlib.Omega.{arith}
 use lib.ListN.{length, getD, replicate, set, length-set, length-replicate, getD-replicate}
 use lib.Seq.{getD-set-same, getD-set-other, ext-getD}
 use lib.Dec.{eqb}
-use borrow.Author.Tests.{eq-eqb, ne-eqb, eqb-true}
+use borrow.Author.Tests.{eq-eqb, ne-eqb}
 use Rattle.base.specs.Tests.{one, keep, tabulate}
-use Rattle.base.specs.Lists.{In, unpack, pack}
+use Rattle.base.specs.Lists.{unpack, pack}
 use Rattle.base.proofs.Tests.{one-true, one-false, length-tabulate, tabulate-at, never-both}
 use Rattle.base.proofs.Lists.{AllBelow, unpack-length, pack-length}
 use Rattle.base.proofs.Entries.{pack-at, unpack-at, unpack-other}
-use Rattle.base.proofs.Select.{keep-in, keep-rising, keep-more, keep-few, keep-mono, keep-lt, keep-at, at-keep, keep-same}
+use Rattle.base.proofs.Select.{keep-in, keep-rising, keep-more, keep-few, keep-mono, keep-lt, keep-at, keep-same}
 use Rattle.machine.specs.Plan.{Plan}
-use Rattle.apart.specs.Own.{owns, keeps, ownCells, keptCells, sourceOf}
+use Rattle.apart.specs.Own.{owns, keeps, sourceOf}
 use Rattle.own.specs.Part.{markedAt, markedCells, rankAt, spreadOut, allOf}
 
 module _ (marks : List ℕ) where

@@ -2,7 +2,6 @@
 use native.Mathlib.Omega.{arith}
 use Rattle.own.proofs.Ranks as ranks
 use Prim.Native.Nat.{_-_}
-use mathlib.Core.Path.{refl}
 use lib.ListN.{length}
 use Rattle.own.proofs.Blocks as blocks
 use Rattle.own.proofs.give.Statement.{statement}
@@ -34,7 +33,8 @@ rank-by-requires c κs =
     let loop = c .before .before .before .loop in
     let test = c .before .before .loop-test .taken in
     let half-index = c .half-index in
-    let low = blocks.cell-low (S .args .marks .now) (S .args .counts .now) (S .args .cells .now) (S .args .memory .now) (S .args .words .now) (S .pre) (loop .i) (half-index .result) test (half-index .ensures) in
+    let low = blocks.cell-low (S .args .marks .now) (S .args .counts .now) (S .args .cells .now) (S .args .memory .now) (S .args .words .now) (S .pre)
+    (loop .i) (half-index .result) test (half-index .ensures) in
     ((S .pre .counted, (omega (arith, low), S .pre .few)), loop .inv .rank)
 
 mul-words : tie.Need-mul-words Inv-loop μ-loop
@@ -44,8 +44,10 @@ mul-words c =
     let test = c .before .before .before .loop-test .taken in
     let half-index = c .before .half-index in
     let rank-by = c .rank-by in
-    let low = blocks.cell-low (S .args .marks .now) (S .args .counts .now) (S .args .cells .now) (S .args .memory .now) (S .args .words .now) (S .pre) (loop .i) (half-index .result) test (half-index .ensures) in
-    let room = blocks.at-room (S .args .marks .now) (S .args .counts .now) (S .args .cells .now) (S .args .memory .now) (S .args .words .now) (S .pre) (loop .i) (half-index .result) test (half-index .ensures) (rank-by .result) (rank-by .ensures) in
+    let low = blocks.cell-low (S .args .marks .now) (S .args .counts .now) (S .args .cells .now) (S .args .memory .now) (S .args .words .now) (S .pre)
+    (loop .i) (half-index .result) test (half-index .ensures) in
+    let room = blocks.at-room (S .args .marks .now) (S .args .counts .now) (S .args .cells .now) (S .args .memory .now) (S .args .words .now) (S .pre)
+    (loop .i) (half-index .result) test (half-index .ensures) (rank-by .result) (rank-by .ensures) in
     let few = ranks.rank-most (S .args .marks .now) (length (S .args .marks .now)) in
     omega (arith, test, room, low, S .pre .few, S .pre .part-long, S .pre .words-long, few)
 
@@ -56,8 +58,10 @@ shared-slice-read-words c =
     let test = c .before .before .before .before .loop-test .taken in
     let half-index = c .before .before .half-index in
     let rank-by = c .before .rank-by in
-    let low = blocks.cell-low (S .args .marks .now) (S .args .counts .now) (S .args .cells .now) (S .args .memory .now) (S .args .words .now) (S .pre) (loop .i) (half-index .result) test (half-index .ensures) in
-    let room = blocks.at-room (S .args .marks .now) (S .args .counts .now) (S .args .cells .now) (S .args .memory .now) (S .args .words .now) (S .pre) (loop .i) (half-index .result) test (half-index .ensures) (rank-by .result) (rank-by .ensures) in
+    let low = blocks.cell-low (S .args .marks .now) (S .args .counts .now) (S .args .cells .now) (S .args .memory .now) (S .args .words .now) (S .pre)
+    (loop .i) (half-index .result) test (half-index .ensures) in
+    let room = blocks.at-room (S .args .marks .now) (S .args .counts .now) (S .args .cells .now) (S .args .memory .now) (S .args .words .now) (S .pre)
+    (loop .i) (half-index .result) test (half-index .ensures) (rank-by .result) (rank-by .ensures) in
     let few = ranks.rank-most (S .args .marks .now) (length (S .args .marks .now)) in
     omega (arith, test, room, low, loop .inv .stored .long, S .pre .few, S .pre .part-long, S .pre .words-long, few)
 
@@ -68,8 +72,10 @@ mul-words-2 c =
     let test = c .before .before .before .before .loop-test .taken in
     let half-index = c .before .before .half-index in
     let rank-by = c .before .rank-by in
-    let low = blocks.cell-low (S .args .marks .now) (S .args .counts .now) (S .args .cells .now) (S .args .memory .now) (S .args .words .now) (S .pre) (loop .i) (half-index .result) test (half-index .ensures) in
-    let room = blocks.at-room (S .args .marks .now) (S .args .counts .now) (S .args .cells .now) (S .args .memory .now) (S .args .words .now) (S .pre) (loop .i) (half-index .result) test (half-index .ensures) (rank-by .result) (rank-by .ensures) in
+    let low = blocks.cell-low (S .args .marks .now) (S .args .counts .now) (S .args .cells .now) (S .args .memory .now) (S .args .words .now) (S .pre)
+    (loop .i) (half-index .result) test (half-index .ensures) in
+    let room = blocks.at-room (S .args .marks .now) (S .args .counts .now) (S .args .cells .now) (S .args .memory .now) (S .args .words .now) (S .pre)
+    (loop .i) (half-index .result) test (half-index .ensures) (rank-by .result) (rank-by .ensures) in
     let few = ranks.rank-most (S .args .marks .now) (length (S .args .marks .now)) in
     omega (arith, test, room, low, loop .inv .stored .long, S .pre .few, S .pre .part-long, S .pre .words-long, few)
 
@@ -80,8 +86,10 @@ slice-write-words c =
     let test = c .before .before .before .before .loop-test .taken in
     let half-index = c .before .before .half-index in
     let rank-by = c .before .rank-by in
-    let low = blocks.cell-low (S .args .marks .now) (S .args .counts .now) (S .args .cells .now) (S .args .memory .now) (S .args .words .now) (S .pre) (loop .i) (half-index .result) test (half-index .ensures) in
-    let room = blocks.at-room (S .args .marks .now) (S .args .counts .now) (S .args .cells .now) (S .args .memory .now) (S .args .words .now) (S .pre) (loop .i) (half-index .result) test (half-index .ensures) (rank-by .result) (rank-by .ensures) in
+    let low = blocks.cell-low (S .args .marks .now) (S .args .counts .now) (S .args .cells .now) (S .args .memory .now) (S .args .words .now) (S .pre)
+    (loop .i) (half-index .result) test (half-index .ensures) in
+    let room = blocks.at-room (S .args .marks .now) (S .args .counts .now) (S .args .cells .now) (S .args .memory .now) (S .args .words .now) (S .pre)
+    (loop .i) (half-index .result) test (half-index .ensures) (rank-by .result) (rank-by .ensures) in
     let few = ranks.rank-most (S .args .marks .now) (length (S .args .marks .now)) in
     omega (arith, test, room, low, loop .inv .stored .long, S .pre .few, S .pre .part-long, S .pre .words-long, few)
 
@@ -92,8 +100,10 @@ add-known c =
     let test = c .before .before .before .before .loop-test .taken in
     let half-index = c .before .before .half-index in
     let rank-by = c .before .rank-by in
-    let low = blocks.cell-low (S .args .marks .now) (S .args .counts .now) (S .args .cells .now) (S .args .memory .now) (S .args .words .now) (S .pre) (loop .i) (half-index .result) test (half-index .ensures) in
-    let room = blocks.at-room (S .args .marks .now) (S .args .counts .now) (S .args .cells .now) (S .args .memory .now) (S .args .words .now) (S .pre) (loop .i) (half-index .result) test (half-index .ensures) (rank-by .result) (rank-by .ensures) in
+    let low = blocks.cell-low (S .args .marks .now) (S .args .counts .now) (S .args .cells .now) (S .args .memory .now) (S .args .words .now) (S .pre)
+    (loop .i) (half-index .result) test (half-index .ensures) in
+    let room = blocks.at-room (S .args .marks .now) (S .args .counts .now) (S .args .cells .now) (S .args .memory .now) (S .args .words .now) (S .pre)
+    (loop .i) (half-index .result) test (half-index .ensures) (rank-by .result) (rank-by .ensures) in
     let few = ranks.rank-most (S .args .marks .now) (length (S .args .marks .now)) in
     omega (arith, test, room, low, loop .inv .stored .long, S .pre .few, S .pre .part-long, S .pre .words-long, few)
 
@@ -104,8 +114,10 @@ add-at c =
     let test = c .before .before .before .before .loop-test .taken in
     let half-index = c .before .before .half-index in
     let rank-by = c .before .rank-by in
-    let low = blocks.cell-low (S .args .marks .now) (S .args .counts .now) (S .args .cells .now) (S .args .memory .now) (S .args .words .now) (S .pre) (loop .i) (half-index .result) test (half-index .ensures) in
-    let room = blocks.at-room (S .args .marks .now) (S .args .counts .now) (S .args .cells .now) (S .args .memory .now) (S .args .words .now) (S .pre) (loop .i) (half-index .result) test (half-index .ensures) (rank-by .result) (rank-by .ensures) in
+    let low = blocks.cell-low (S .args .marks .now) (S .args .counts .now) (S .args .cells .now) (S .args .memory .now) (S .args .words .now) (S .pre)
+    (loop .i) (half-index .result) test (half-index .ensures) in
+    let room = blocks.at-room (S .args .marks .now) (S .args .counts .now) (S .args .cells .now) (S .args .memory .now) (S .args .words .now) (S .pre)
+    (loop .i) (half-index .result) test (half-index .ensures) (rank-by .result) (rank-by .ensures) in
     let few = ranks.rank-most (S .args .marks .now) (length (S .args .marks .now)) in
     omega (arith, test, room, low, loop .inv .stored .long, S .pre .few, S .pre .part-long, S .pre .words-long, few)
 
@@ -116,8 +128,10 @@ add-i c =
     let test = c .before .before .before .before .loop-test .taken in
     let half-index = c .before .before .half-index in
     let rank-by = c .before .rank-by in
-    let low = blocks.cell-low (S .args .marks .now) (S .args .counts .now) (S .args .cells .now) (S .args .memory .now) (S .args .words .now) (S .pre) (loop .i) (half-index .result) test (half-index .ensures) in
-    let room = blocks.at-room (S .args .marks .now) (S .args .counts .now) (S .args .cells .now) (S .args .memory .now) (S .args .words .now) (S .pre) (loop .i) (half-index .result) test (half-index .ensures) (rank-by .result) (rank-by .ensures) in
+    let low = blocks.cell-low (S .args .marks .now) (S .args .counts .now) (S .args .cells .now) (S .args .memory .now) (S .args .words .now) (S .pre)
+    (loop .i) (half-index .result) test (half-index .ensures) in
+    let room = blocks.at-room (S .args .marks .now) (S .args .counts .now) (S .args .cells .now) (S .args .memory .now) (S .args .words .now) (S .pre)
+    (loop .i) (half-index .result) test (half-index .ensures) (rank-by .result) (rank-by .ensures) in
     let few = ranks.rank-most (S .args .marks .now) (length (S .args .marks .now)) in
     omega (arith, test, room, low, loop .inv .stored .long, S .pre .few, S .pre .part-long, S .pre .words-long, few)
 
@@ -131,7 +145,8 @@ loop-again c =
     let test = c .before .before .before .before .loop-test .taken in
     let half-index = c .before .before .half-index in
     let rank-by = c .before .rank-by in
-    blocks.give-next (S .args .marks .now) (S .args .counts .now) (S .args .cells .now) (S .args .memory .now) (S .args .words .now) (S .pre) (loop .words) (loop .known) (loop .at) (loop .i) (loop .inv) (half-index .result) (rank-by .result)
+    blocks.give-next (S .args .marks .now) (S .args .counts .now) (S .args .cells .now) (S .args .memory .now) (S .args .words .now) (S .pre)
+    (loop .words) (loop .known) (loop .at) (loop .i) (loop .inv) (half-index .result) (rank-by .result)
     test (half-index .ensures) (rank-by .ensures)
 
 same-length : tie.Need-same-length Inv-loop μ-loop
@@ -141,7 +156,8 @@ returns : tie.Need-returns Inv-loop μ-loop
 returns c =
     let S = c .before .before .before .before .before .before in
     let loop = c .before .loop in
-    blocks.give-done (S .args .marks .now) (S .args .counts .now) (S .args .cells .now) (S .args .memory .now) (S .args .words .now) (S .pre) (loop .words) (loop .known) (loop .at) (loop .i) (loop .inv) (c .loop-test .left)
+    blocks.give-done (S .args .marks .now) (S .args .counts .now) (S .args .cells .now) (S .args .memory .now) (S .args .words .now) (S .pre)
+    (loop .words) (loop .known) (loop .at) (loop .i) (loop .inv) (c .loop-test .left)
 
 pub give-spec : {M : Type 1} → statement M
 give-spec =

@@ -1,5 +1,4 @@
 -- `rank_by` meets its contract: known, or by its block.
-use native.Mathlib.Omega.{arith}
 use mathlib.Core.Path.{sym, ap, _∙_}
 use Rattle.own.specs.Part.{rankAt}
 use borrow.Author.Needs.{needs}
