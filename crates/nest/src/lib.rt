@@ -369,9 +369,9 @@ fn met(lower: bool, level: usize, raised: usize) -> bool
 }
 
 // What a bound leaves of a row: of the last dimension its part below or above, of another dimension all or nothing.
-fn cut(nest: Nest, at: [usize; 4], k: usize, s: Interval) -> Interval
-    requires { ⌜ Framed nest × ((k < nest .bounds) × Narrow nest at) ⌝ }
-    ensures { λ r. ⌜ Cuts nest at k s r ⌝ }
+fn cut(nest: Nest, at: &[usize; 4], k: usize, s: Interval) -> Interval
+    requires { ⌜ Framed nest × ((k < nest .bounds) × Narrow nest (now at)) ⌝ }
+    ensures { λ r. ⌜ Cuts nest (now (at .entry)) k s r ⌝ }
 {
     let sides = nest.sides;
     let bounded = nest.bounded;
@@ -405,7 +405,7 @@ pub fn span(nest: Nest, at: [usize; 4]) -> Interval
         to: lengths[last],
     };
     for k in 0..n {
-        left = cut(nest, at, k, left);
+        left = cut(nest, &at, k, left);
     }
     left
 }

@@ -16,28 +16,30 @@ abbrev μ-loop : tie.MeasureT-loop
 sub-last : tie.Need-sub-last Inv-loop μ-loop
 sub-last c = c .before .pre .0 .dimensions-least
 
-mul-t8 : tie.Need-mul-t8 Inv-loop μ-loop
-mul-t8 c = omega (arith, c .before .before .pre .0 .dimensions-most)
+mul-t9 : tie.Need-mul-t9 Inv-loop μ-loop
+mul-t9 c = omega (arith, c .before .before .pre .0 .dimensions-most)
 
-array-read-t11 : tie.Need-array-read-t11 Inv-loop μ-loop
-array-read-t11 c = omega (arith, c .before .before .pre .0 .dimensions-most)
+array-read-t12 : tie.Need-array-read-t12 Inv-loop μ-loop
+array-read-t12 c = omega (arith, c .before .before .pre .0 .dimensions-most)
 
 loop-holds : tie.Need-loop-holds Inv-loop μ-loop
 loop-holds c = C.cutting-start _ _
 
 cut-requires : tie.Need-cut-requires Inv-loop μ-loop
 cut-requires c κs =
-    let start = c .before .before .before .before in
-    (start .pre .0, (c .loop-test .taken, start .pre .1))
+    let start = c .before .before .before .before .before in
+    (start .pre .0, (c .before .loop-test .taken, start .pre .1))
 
 add-k : tie.Need-add-k Inv-loop μ-loop
-add-k c = omega (arith, c .before .loop-test .taken, c .before .before .before .before .before .pre .0 .bounds-most)
+add-k c =
+    let start = c .before .before .before .before .before .before in
+    omega (arith, c .before .before .loop-test .taken, start .pre .0 .bounds-most)
 
 loop-less : tie.Need-loop-less Inv-loop μ-loop
-loop-less c = omega (arith, c .before .loop-test .taken)
+loop-less c = omega (arith, c .before .before .loop-test .taken)
 
 loop-again : tie.Need-loop-again Inv-loop μ-loop
-loop-again c = C.cutting-next _ _ _ _ _ (c .before .before .loop .inv) (c .before .loop-test .taken) (c .cut .ensures)
+loop-again c = C.cutting-next _ _ _ _ _ (c .before .before .before .loop .inv) (c .before .before .loop-test .taken) (c .cut .ensures)
 
 returns : tie.Need-returns Inv-loop μ-loop
 returns c = C.cutting-end _ _ _ _ (c .before .loop .inv) (c .loop-test .left)
@@ -49,8 +51,8 @@ span-spec =
     Inv-loop
     μ-loop
     sub-last
-    mul-t8
-    array-read-t11
+    mul-t9
+    array-read-t12
     loop-holds
     cut-requires
     add-k
