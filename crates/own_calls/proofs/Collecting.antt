@@ -1,11 +1,11 @@
 -- Laws of collecting one processor's cells: the grid's words one after the other, what they are, and the lines before.
-use Prim.Native.Nat.{ℕ, _+_, _*_, _≤_, _<_}
+use Prim.Native.Nat.{ℕ, _+_, _≤_, _<_}
 use mathlib.Core.Path.{_≡_, refl, sym, ap, _∙_}
 use mathlib.Core.Logic.{_≢_}
 use mathlib.Core.Bool.{Bool, true, false}
-use mathlib.Core.List.{List, [], _∷_, _++_}
+use mathlib.Core.List.{List, [], _∷_}
 use native.Mathlib.Omega.{arith}
-use lib.ListN.{length, getD, take, drop, set, replicate, length-replicate}
+use lib.ListN.{length, getD, take, set, replicate, length-replicate}
 use lib.Seq.{getD-set-other}
 use lib.Dec.{ltb, eqb}
 use borrow.Author.Tests.{eq-eqb, ne-eqb, lt-ltb, le-ltb}
@@ -22,22 +22,21 @@ use Rattle.plan.specs.declared.Route.the-variants.{Direct}
 use Rattle.plan.specs.Shaped.{planOf}
 use Rattle.plan.proofs.ShapedSound.{sound}
 use Rattle.layout.specs.declared.Sizes.{Sizes}
-use Rattle.layout.specs.Sizes.{Sized}
-use Rattle.tables.specs.Tables.{Routed}
 use Rattle.records.specs.declared.Flat.{Flat}
 use Rattle.records.specs.Records.{Carries}
-use Rattle.stages.proofs.Parts.{Stored, store-start, store-next, stored-all}
+use Rattle.stages.proofs.Parts.{Stored, store-start, store-next}
 use Rattle.engine.specs.Calls.{answer}
 use Rattle.engine.proofs.Turns.{answered-no, answered-yes}
 use Rattle.apart.specs.Own.{owns, keptCells, handled, widened}
 use Rattle.mail.specs.Calls.{ownerOf}
 use Rattle.own.specs.Part.{partOf, wordsOf, markedAt}
 use Rattle.own.proofs.Owned.{owner-owns, owner-same}
-use Rattle.own_calls.specs.Calls.{wide, ownCollected, collectFits}
-use Rattle.own_calls.specs.Given.{Known, gridWord, collectLines, collectedOr}
-use Rattle.own_calls.specs.Step.{PartLengths}
-use Rattle.own_calls.proofs.Front.{carried-word, front-long, front-back, kept-marks}
-use Rattle.own_calls.proofs.Wide.{part-zeros, wide-memory, wide-finished, wide-stage, wide-sent}
+use Rattle.own_front.specs.Calls.{wide, ownCollected, collectFits}
+use Rattle.own_front.specs.Given.{Known}
+use Rattle.own_calls.specs.Given.{gridWord, collectLines, collectedOr}
+use Rattle.own_front.specs.Given.{PartLengths}
+use Rattle.own_front.proofs.Front.{carried-word, kept-marks}
+use Rattle.own_front.proofs.Wide.{part-zeros, wide-memory, wide-finished, wide-stage, wide-sent}
 
 -- ---- one cell's word
 

@@ -33,11 +33,12 @@ use Rattle.scans.specs.declared.Place.{Place}
 use Rattle.tables.specs.Tables.{FoundIn}
 use Rattle.apart.specs.Own.{handles, keeps, keptCells, handled}
 use Rattle.own.specs.Part.{wordsOf, markedAt}
-use Rattle.own_calls.specs.Calls.{wide, narrow}
-use Rattle.own_calls.specs.Given.{Known}
-use Rattle.own_calls.specs.Step.{PartLengths, Lengths, Tables, Ranked, Placed, allOf, unpackFrom, Stands}
-use Rattle.own_calls.proofs.Part.{words-room}
-use Rattle.own_calls.proofs.Wide.{dues-handled, sends-handled}
+use Rattle.own_front.specs.Calls.{wide, narrow}
+use Rattle.own_front.specs.Given.{Known}
+use Rattle.own_front.specs.Given.{PartLengths}
+use Rattle.own_turn.specs.Step.{Lengths, Tables, Ranked, Placed, allOf, unpackFrom, Stands}
+use Rattle.own_front.proofs.Part.{words-room}
+use Rattle.own_front.proofs.Wide.{dues-handled, sends-handled}
 use Rattle.own_turn.proofs.Working.{front-zeros, spread-is, picked-is}
 use Rattle.own_turn.proofs.After as after
 

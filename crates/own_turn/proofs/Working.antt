@@ -24,9 +24,9 @@ use Rattle.tables.specs.Tables.{FoundIn}
 use Rattle.stages.proofs.Parts.{mid-is, back}
 use Rattle.apart.specs.Own.{ownCells, sourceOf}
 use Rattle.own.specs.Part.{markedAt}
-use Rattle.own_calls.specs.Step.{Ranked, Placed, unpackFrom}
-use Rattle.own_calls.proofs.Wide.{part-zeros}
-use Rattle.own_calls.proofs.Front.{marks-keep}
+use Rattle.own_turn.specs.Step.{Ranked, Placed, unpackFrom}
+use Rattle.own_front.proofs.Wide.{part-zeros}
+use Rattle.own_front.proofs.Front.{marks-keep}
 
 -- ---- marked cells
 

@@ -1,5 +1,5 @@
 -- The front of marks and room, for all cells; the record is the first three words.
-use Rattle.own_calls.proofs.Front as front
+use Rattle.own_front.proofs.Front as front
 use Rattle.own_turn.proofs.Stage as stage
 use borrow.Author.Needs.{needs}
 use Rattle.own_turn.proofs.step_in.Statement.{statement}

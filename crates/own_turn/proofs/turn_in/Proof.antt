@@ -7,7 +7,7 @@ use Rattle.machine.specs.Machine.{State, stateOf}
 use Rattle.plan.specs.Shaped.{planOf}
 use Rattle.engine.specs.Calls.{answer}
 use Rattle.engine.specs.Given.{recordsAfter}
-use Rattle.own_calls.specs.Step.{turnedOr}
+use Rattle.own_turn.specs.Step.{turnedOr}
 use Rattle.engine.proofs.Reading as reading
 use Rattle.own_turn.proofs.Turned as turned
 use borrow.Author.Needs.{needs}

@@ -2,7 +2,7 @@
 use mathlib.Core.Path.{refl, ap, _∙_}
 use native.Mathlib.Omega.{arith}
 use lib.ListN.{length, getD, set, length-set}
-use Rattle.own_calls.proofs.Front as front
+use Rattle.own_front.proofs.Front as front
 use borrow.Author.Needs.{needs}
 use Rattle.own_calls.proofs.core.put_sizes.Statement.{statement}
 use Rattle.own_calls.proofs.core.put_sizes.Tie as tie

@@ -1,0 +1,52 @@
+-- What the calls for one processor share: the nest of an accepted recipe, its table, the processor's cells and messages found once, lines 9 and 10.
+-- No sentence of document 01; the contracts of the functions below the offered calls cite it.
+use Prim.Native.Nat.{ℕ, _≤_, _<_}
+use mathlib.Core.Path.{_≡_}
+use mathlib.Core.Bool.{true}
+use mathlib.Core.List.{List, [], _∷_}
+use lib.ListN.{length, getD, take}
+use Rattle.base.specs.Tests.{_and_, not, one, tabulate}
+use Rattle.base.specs.Numbers.{Line, line, firstOf}
+use Rattle.machine.specs.Plan.{Plan, count}
+use Rattle.machine.specs.Machine.{State, fit}
+use Rattle.nest.specs.declared.Nest.{Nest}
+use Rattle.nest.specs.Nest.{cells, processors}
+use Rattle.plan.specs.Shaped.{planOf}
+use Rattle.layout.specs.declared.Sizes.{Sizes}
+use Rattle.layout.specs.Sizes.{Sized}
+use Rattle.tables.specs.Tables.{Routed}
+use Rattle.engine.specs.Calls.{recipe}
+use Rattle.apart.specs.Apart.{marked}
+use Rattle.apart.specs.Own.{keeps, keptCells, handled}
+use Rattle.mail.specs.Given.{Planned}
+use Rattle.own.specs.Part.{wordsOf, rankOf, mailAt, partFits}
+use Rattle.own_front.specs.Calls.{wide, boardLines}
+use Rattle.own_front.specs.declared.Board.{Board}
+
+-- the first lines of a call; where none is true, the recipe's nest, and the processor is one of its
+pub record Opens (bytes : List ℕ) (route b : ℕ) (r : Board) : Type 0 where
+  pub number : r .number ≡ firstOf (boardLines bytes route b)
+  pub sized : r .number ≡ 0 → Sized (r .nest) (r .sizes)
+  pub routed : r .number ≡ 0 → Routed (r .nest) (r .sizes)
+  pub plan : r .number ≡ 0 → planOf (r .sizes .route) (r .nest) ≡ recipe bytes route
+  pub low : r .number ≡ 0 → b < processors (r .nest)
+
+-- the table; the cells that processor b keeps words of, marked; for each message, and behind the last, how many it handles before it and their words
+pub record Known (x : Nest) (z : Sizes) (b : ℕ) (lens kept rank place : List ℕ) : Type 0 where
+  pub planned : Planned x z lens
+  pub low : b < processors x
+  pub room : length kept ≡ 16384
+  pub cells : take (cells x) kept ≡ tabulate (λ c. one (keeps (planOf (z .route) x) b c)) (cells x)
+  pub ranks : (m : ℕ) → m ≤ count (planOf (z .route) x) → getD rank m 0 ≡ rankOf (planOf (z .route) x) b m
+  pub places : (m : ℕ) → m ≤ count (planOf (z .route) x) → getD place m 0 ≡ mailAt (planOf (z .route) x) b m
+
+-- each lent area of processor b has exactly its length
+pub record PartLengths (p : Plan) (b : ℕ) (s : State) : Type 0 where
+  pub memory : length (s .memories) ≡ length (keptCells p b)
+  pub mail : length (s .buffer) ≡ wordsOf p (handled p b)
+  pub progress : length (s .progress) ≡ 3
+  pub marks : length (s .status) ≡ length (handled p b)
+
+-- lines 9 and 10 of a lent part
+abbrev pub unfitLines : Plan → ℕ → State → List Line
+unfitLines p b s = line 9 (not (partFits p b s)) ∷ line 10 (not (fit p (wide p b s))) ∷ []
