@@ -3,7 +3,7 @@ use native.Mathlib.Omega.{arith}
 use Prim.Native.Nat.{_*_, _-_}
 use mathlib.Core.Logic.{⊎-elim, inl, inr}
 use Rattle.plan.specs.Shaped.{planOf}
-use Rattle.mail.proofs.Rows as rows
+use Rattle.own.proofs.Slotted as rows
 use Rattle.own.proofs.Slots as pass
 use Rattle.own.proofs.Handling as handling
 use borrow.Author.Needs.{needs}

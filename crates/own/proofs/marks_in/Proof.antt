@@ -1,23 +1,20 @@
--- `marked` meets its contract: the cells passed.
+-- `marks_in` meets its contract: the marked ones passed.
 use native.Mathlib.Omega.{arith}
 use Prim.Native.Nat.{_-_}
 use mathlib.Core.Logic.{⊎-elim, inl, inr}
 use lib.ListN.{length}
 use Rattle.own.proofs.Marks as marked
-use Rattle.own.proofs.marked.Statement.{statement}
-use Rattle.own.proofs.marked.Tie as tie
+use Rattle.own.proofs.marks_in.Statement.{statement}
+use Rattle.own.proofs.marks_in.Tie as tie
 
 abbrev Inv-loop : tie.InvT-loop
-Inv-loop marks c₀ n₀ c n = marked.Counted marks c n
+Inv-loop marks c₀ n₀ c n = marked.Passed marks c n
 
 abbrev μ-loop : tie.MeasureT-loop
 μ-loop marks c₀ n₀ c n = length marks - c
 
 loop-holds : tie.Need-loop-holds Inv-loop μ-loop
 loop-holds c = marked.count-start (c .args .marks .now)
-
-mul-if1 : tie.Need-mul-if1 Inv-loop μ-loop
-mul-if1 c = omega (arith, c .loop-test .taken)
 
 shared-slice-read-if1 : tie.Need-shared-slice-read-if1 Inv-loop μ-loop
 shared-slice-read-if1 c = omega (arith, c .before .loop-test .taken)
@@ -50,14 +47,13 @@ returns c =
     let loop = c .before .loop in
     marked.count-done (c .before .before .args .marks .now) (loop .c) (loop .n) (loop .inv) (c .loop-test .left)
 
-pub marked-spec : {M : Type 1} → statement M
-marked-spec =
+pub marks-in-spec : {M : Type 1} → statement M
+marks-in-spec =
     tie.close
     (tie.spec
     Inv-loop
     μ-loop
     loop-holds
-    mul-if1
     shared-slice-read-if1
     add-n
     add-c
