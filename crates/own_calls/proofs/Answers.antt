@@ -1,5 +1,5 @@
 -- Each call for one processor by the line that counts.
-use Prim.Native.Nat.{ℕ, zero, suc, _+_, _*_, _-_, _≤_, _<_}
+use Prim.Native.Nat.{ℕ, _+_, _*_, _-_, _≤_, _<_}
 use mathlib.Core.Path.{_≡_, refl, sym, ap, _∙_}
 use mathlib.Core.Logic.{inl, inr, _≢_}
 use mathlib.Core.Bool.{Bool, true, false}
@@ -9,19 +9,17 @@ use native.Mathlib.Decide.{decLt}
 use native.Mathlib.Numerals.{add-one}
 use lib.ListN.{length, getD, take, drop, set, replicate, replicate-append-replicate}
 use lib.Dec.{ltb, eqb}
-use borrow.Rule.Slice.PartMut.{putMid}
 use borrow.Author.Tests.{eqb-true, eq-eqb, ne-eqb, lt-ltb, le-ltb, ltb-true}
-use Rattle.base.specs.Tests.{_and_, _or_, not, keep}
+use Rattle.base.specs.Tests.{_and_, _or_, not}
 use Rattle.base.specs.Lists.{In, put, pack}
 use Rattle.base.specs.Numbers.{Line, line, firstOf}
 use Rattle.base.proofs.Tests.{both, never-both, and-true, and-false, and-no, or-right, not-true, not-false, true-not, pick-true, pick-false}
 use Rattle.base.proofs.Numbers.{first-true, first-false, none-first, first-some}
-use Rattle.base.proofs.Select.{keep-hit, keep-more, keep-none, keep-lt}
+use Rattle.base.proofs.Select.{keep-more, keep-none, keep-lt}
 use Rattle.machine.specs.Plan.{Plan, count, heldBy, offset, words}
 use Rattle.machine.specs.Machine.{State, stateOf, finishedOf, stageOf, sentOf, placeOf, fit, Answered, answered, deliverLines, fresh}
 use Rattle.machine.proofs.Values.{offset-apart}
 use Rattle.plan.specs.Shaped.{planOf}
-use Rattle.stages.proofs.Parts.{back, mid-length}
 use Rattle.engine.specs.Calls.{answer}
 use Rattle.engine.specs.Given.{zerosAfter}
 use Rattle.engine.proofs.Lines.{and-right}
@@ -36,7 +34,6 @@ use Rattle.apart.specs.Own.{handles, keptCells, handled, mailOf}
 use Rattle.mail.specs.Calls.{takes, asLong}
 use Rattle.mail.proofs.Taking.{long-here}
 use Rattle.own.specs.Part.{wordsOf, rankOf, mailAt, partFits}
-use Rattle.own.proofs.Handling.{words-append}
 use Rattle.own_front.specs.Calls.{wide, narrow, lengthsOf, ownSizesCall, ownFreshCall, ownPostCall, ownArriveCall}
 use Rattle.own_front.specs.Calls.{ownRows, ownMessagesCall, ownCollected, ownCollectCall}
 use Rattle.own_front.specs.declared.Board.{Board}
@@ -316,38 +313,11 @@ module _ (p : Plan) (b : ℕ) (s : State) (m : ℕ) (ws : List ℕ) where
             ap (answer 0) (state-is refl k refl (ap (λ (i : ℕ). set (s .status) i 2) q))
             ∙ answered-yes _ came s (come-behind ∙ first-false 14 (not (eqb (markIn p b (s .status) m) 0)) [] (not-true (eq-eqb _ _ (come-mark ∙ h))))
 
--- the handled messages have no more words than all
-mail-small : (p : Plan) (b n : ℕ) → n ≤ count p → mailAt p b n ≤ offset (p .messages) n
-unfolding keep wordsOf
-mail-small p b zero h = omega arith
-mail-small p b (suc n) h = go (mail-small p b n (omega (arith, h))) (handles p b n) refl
-  where
-    go : mailAt p b n ≤ offset (p .messages) n → (t : Bool) → handles p b n ≡ t → mailAt p b (suc n) ≤ offset (p .messages) (suc n)
-    go before true e =
-        omega (
-          arith,
-          ap (wordsOf p) (keep-hit (handles p b) n e) ∙ words-append p (keep (handles p b) n) (n ∷ []),
-          before,
-          offset-apart (p .messages) n (suc n) (omega arith) (omega (arith, h)),
-        )
-    go before false e =
-        omega (arith, ap (wordsOf p) (keep-none (handles p b) n e), before, offset-apart (p .messages) n (suc n) (omega arith) (omega (arith, h)))
-
 -- its words in the mail
 module _ (p : Plan) (b m from n : ℕ) (mail : List ℕ) (long : length mail ≡ wordsOf p (handled p b)) (lo : m < count p) (h : handles p b m ≡ true)
     (at : from ≡ mailAt p b m) (e : n ≡ length (heldBy p m)) where
   pub room : from + n ≤ length mail
   room = omega (arith, long, at, e, words-room p (handles p b) m lo h)
-
-  pub few : from + n ≤ words p
-  few = omega (arith, at, e, mail-small p b m (omega (arith, lo)), offset-apart (p .messages) m (count p) lo lo)
-
-  pub place-long : length (take (from + n - from) (drop from mail)) ≡ length (heldBy p m)
-  place-long = mid-length mail from n room ∙ e
-
-  pub put-in : (ws ys : List ℕ) → length ys ≡ length (take (from + n - from) (drop from mail)) → ys ≡ ws
-      → putMid from (from + n - from) mail ys ≡ put mail (mailAt p b m) ws
-  put-in ws ys k q = back mail ys (λ _. ws) from n room k q ∙ ap (λ (i : ℕ). put mail i ws) at
 
 -- ---- past lines 9 and 10
 

@@ -1,21 +1,22 @@
 -- What the code below the calls for one processor gives past their first lines: a fresh start, a message handed over or arrived, cells collected, rows.
 -- No sentence of document 01; the contracts of the functions below the offered calls cite it.
-use Prim.Native.Nat.{ℕ, _*_}
+use Prim.Native.Nat.{ℕ, _*_, _≤_, _<_}
 use mathlib.Core.Path.{_≡_}
 use mathlib.Core.Bool.{true}
 use mathlib.Core.List.{List, [], _∷_}
 use lib.ListN.{length, getD, set}
 use lib.Dec.{ltb, eqb}
-use Rattle.base.specs.Tests.{_and_, not, pick, one}
+use Rattle.base.specs.Tests.{_and_, not, pick}
 use Rattle.base.specs.Lists.{put}
 use Rattle.base.specs.Numbers.{Line, line, firstOf}
 use Rattle.machine.specs.Plan.{Plan, count}
 use Rattle.machine.specs.Machine.{State, stateOf, tilesLeft, fitRecord, fit, Answered, answered, deliverLines, fresh}
-use Rattle.nest.specs.Nest.{cells}
+use Rattle.nest.specs.declared.Nest.{Nest}
+use Rattle.nest.specs.Shape.{inShape}
 use Rattle.apart.specs.Apart.{marked, received}
 use Rattle.apart.specs.Own.{handles, handled}
 use Rattle.mail.specs.Calls.{takes, asLong}
-use Rattle.own.specs.Part.{wordsOf, rankOf, mailAt, partFits}
+use Rattle.own.specs.Part.{wordsOf, rankOf, mailAt, partFits, markedAt, markedCells, rankAt}
 use Rattle.own_front.specs.Calls.{wide, narrow, ownRows, ownCollected, collectFits}
 
 -- ---- past the first lines
@@ -65,10 +66,20 @@ arrivedOr p b s m words =
 
 -- ---- collecting
 
--- a cell's word: outside the shape the boundary's, of an own cell the memory's, else as it was
-abbrev pub gridWord : List ℕ → List ℕ → ℕ → ℕ → ℕ → List ℕ → ℕ → ℕ
-gridWord owners memory b none boundary grid c =
-    pick (eqb (getD owners c 0) none) boundary (pick (eqb (getD owners c 0) b) (getD memory c 0) (getD grid c 0))
+-- a cell's word: outside the shape the boundary's, else as it was; of an own cell the part's, else as it was
+abbrev pub outsideWord : Nest → List ℕ → ℕ → ℕ
+outsideWord x grid c = pick (inShape x c) (getD grid c 0) (x .boundary)
+
+abbrev pub gridWord : List ℕ → List ℕ → List ℕ → List ℕ → ℕ → ℕ
+gridWord owned kept memory grid c = pick (markedAt owned c) (getD memory (rankAt kept c) 0) (getD grid c 0)
+
+-- a mark for each cell of the grid: own cells are kept, and the part has a word for each kept cell
+pub record Within (owned kept memory grid : List ℕ) : Type 0 where
+  pub few : length grid ≤ 16384
+  pub owned-long : length owned ≡ length grid
+  pub kept-long : length kept ≡ length grid
+  pub memory-long : length memory ≡ length (markedCells kept)
+  pub inner : (c : ℕ) → c < length grid → markedAt owned c ≡ true → markedAt kept c ≡ true
 
 abbrev pub collectLines : Plan → ℕ → State → List ℕ → List Line
 collectLines p b s grid =

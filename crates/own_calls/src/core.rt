@@ -2,10 +2,12 @@
 // carries, since code has no other way to name the caller's record.
 ghost use mathlib.Core.Path.{_≡_};
 ghost use mathlib.Core.List.{List, []};
-ghost use Prim.Native.Nat.{ℕ, _<_};
+ghost use Prim.Native.Nat.{ℕ, _+_, _≤_, _<_};
 ghost use lib.ListN.{length};
+ghost use Rattle.base.specs.Lists.{put};
+ghost use Rattle.machine.specs.Plan.{count};
 ghost use Rattle.machine.specs.Machine.{stateOf};
-ghost use Rattle.nest.specs.Nest.{cells, processors};
+ghost use Rattle.nest.specs.Nest.{processors};
 ghost use Rattle.plan.specs.Shaped.{planOf};
 ghost use Rattle.layout.specs.Sizes.{Sized};
 ghost use Rattle.tables.specs.Tables.{Routed};
@@ -14,7 +16,7 @@ ghost use Rattle.engine.specs.Given.{zerosAfter};
 ghost use Rattle.engine.specs.Calls.{answer};
 ghost use Rattle.apart.specs.Own.{handled};
 ghost use Rattle.own_front.specs.Calls.{lengthsOf, ownFreshCall, ownPostCall, ownArriveCall, ownCollectCall};
-ghost use Rattle.own_front.specs.Given.{Known};
+ghost use Rattle.own_front.specs.Given.{Known, Many};
 ghost use Rattle.own_calls.specs.Given.{freshOr, handedOver, postedOr, MayArrive, arrivedOr, arrivesOr};
 use crate::grid::collect_part;
 use base::word_index;
@@ -22,6 +24,7 @@ use layout::Sizes;
 use mail::core::as_long;
 use mail::core::copy_words;
 use nest::Nest;
+use own_front::kept_count;
 use own_front::open;
 use own_front::own_count;
 use own_front::part_fits;
@@ -31,7 +34,6 @@ use records::Flat;
 use stages::zero_bytes;
 use stages::zero_words;
 use tables::nth;
-use tables::totals;
 
 // ---- how long the areas are
 
@@ -40,26 +42,14 @@ pub fn put_sizes(nest: Nest, sizes: Sizes, b: usize, out: &mut [u32])
     requires { ⌜ Sized nest sizes × (Routed nest sizes × ((b < processors nest) × (length (now out) ≡ 4))) ⌝ }
     ensures { λ _. ⌜ now (out .exit) ≡ lengthsOf (planOf (sizes .route) nest) b ⌝ }
 {
-    let cells = sizes.cells;
     let mut lens = [0u16; 9217];
-    let mut kept = [0u32; 16384];
     let mut ranks = [0u32; 7169];
     let mut places = [0u32; 7169];
-    prepare(
-        nest,
-        sizes,
-        b,
-        &mut lens,
-        &mut kept,
-        &mut ranks,
-        &mut places,
-    );
-    let t = totals(nest, sizes, &lens);
-    let last = t.messages;
+    let messages = prepare(nest, sizes, b, &mut lens, &mut ranks, &mut places);
     out[0] = own_count(nest, sizes, b) as u32;
-    out[1] = own::marked(&kept[..cells]) as u32;
-    out[2] = places[last];
-    out[3] = ranks[last];
+    out[1] = kept_count(nest, sizes, &lens, b) as u32;
+    out[2] = places[messages];
+    out[3] = ranks[messages];
 }
 
 // ---- a fresh start
@@ -80,25 +70,18 @@ fn fresh_part(
         ≡ freshOr (planOf (sizes .route) nest) b (stateOf (now (memory .entry)) (now (mail .entry)) records (now (marks .entry)))) ⌝ }
 {
     let mut lens = [0u16; 9217];
-    let mut kept = [0u32; 16384];
     let mut ranks = [0u32; 7169];
     let mut places = [0u32; 7169];
-    prepare(
-        nest,
-        sizes,
-        b,
-        &mut lens,
-        &mut kept,
-        &mut ranks,
-        &mut places,
-    );
+    let messages = prepare(nest, sizes, b, &mut lens, &mut ranks, &mut places);
+    let many = kept_count(nest, sizes, &lens, b);
     if !part_fits(
         nest,
         sizes,
         &lens,
-        &kept,
         &ranks,
         &places,
+        messages,
+        many,
         memory,
         mail,
         words,
@@ -150,19 +133,19 @@ fn hand_over(
     nest: Nest,
     sizes: Sizes,
     lens: &[u16; 9217],
-    kept: &[u32],
     ranks: &[u32; 7169],
     places: &[u32; 7169],
+    messages: usize,
     marks: &mut [u8],
     b: usize,
     m: usize,
 ) -> u32
-    requires { ⌜ Known nest sizes b (now lens) (now kept) (now ranks) (now places) × (length (now marks) ≡ length (handled (planOf (sizes .route) nest) b)) ⌝ }
+    requires { ⌜ Known nest sizes b (now lens) (now ranks) (now places)
+        × ((messages ≡ count (planOf (sizes .route) nest)) × (length (now marks) ≡ length (handled (planOf (sizes .route) nest) b))) ⌝ }
     ensures { λ r. ⌜ ((memory mail records : List ℕ) → answer r (stateOf memory mail records (now (marks .exit)))
         ≡ handedOver (planOf (sizes .route) nest) b (stateOf memory mail records (now (marks .entry))) m) ⌝ }
 {
-    let t = totals(nest, sizes, lens);
-    if m >= t.messages {
+    if m >= messages {
         return 11;
     }
     let at = word_index(ranks[m]);
@@ -194,25 +177,18 @@ fn post_part(
         ≡ postedOr (planOf (sizes .route) nest) b (stateOf (now (memory .entry)) (now (mail .entry)) records (now (marks .entry))) m) ⌝ }
 {
     let mut lens = [0u16; 9217];
-    let mut kept = [0u32; 16384];
     let mut ranks = [0u32; 7169];
     let mut places = [0u32; 7169];
-    prepare(
-        nest,
-        sizes,
-        b,
-        &mut lens,
-        &mut kept,
-        &mut ranks,
-        &mut places,
-    );
+    let messages = prepare(nest, sizes, b, &mut lens, &mut ranks, &mut places);
+    let many = kept_count(nest, sizes, &lens, b);
     let n = unfit(
         nest,
         sizes,
         &lens,
-        &kept,
         &ranks,
         &places,
+        messages,
+        many,
         memory,
         mail,
         progress,
@@ -222,7 +198,7 @@ fn post_part(
     if n != 0 {
         return n;
     }
-    hand_over(nest, sizes, &lens, &kept, &ranks, &places, marks, b, m)
+    hand_over(nest, sizes, &lens, &ranks, &places, messages, marks, b, m)
 }
 
 // A message is handed over to a transport; its words lie in the mail.
@@ -253,28 +229,36 @@ pub fn post(
 
 // ---- a message arrives
 
+// The words to where they begin in the mail.
+fn store_words(mail: &mut [u32], from: usize, words: &[u32])
+    requires { ⌜ from + length (now words) ≤ length (now mail) ⌝ }
+    ensures { λ _. ⌜ now (mail .exit) ≡ put (now (mail .entry)) from (now (words .entry)) ⌝ }
+{
+    let end = from + words.len();
+    copy_words(&mut mail[from..end], words);
+}
+
 // Line 11, line 14, then the words into their place and the mark.
 fn receive(
     nest: Nest,
     sizes: Sizes,
     lens: &[u16; 9217],
-    kept: &[u32],
     ranks: &[u32; 7169],
     places: &[u32; 7169],
+    messages: usize,
     mail: &mut [u32],
     marks: &mut [u8],
     b: usize,
     m: usize,
     words: &[u32],
 ) -> u32
-    requires { ⌜ Known nest sizes b (now lens) (now kept) (now ranks) (now places) ⌝ }
-    requires { ⌜ MayArrive (planOf (sizes .route) nest) b (now mail) (now marks) m (now words) ⌝ }
+    requires { ⌜ Known nest sizes b (now lens) (now ranks) (now places) ⌝ }
+    requires { ⌜ (messages ≡ count (planOf (sizes .route) nest)) × MayArrive (planOf (sizes .route) nest) b (now mail) (now marks) m (now words) ⌝ }
     ensures { λ r. ⌜ ((memory records : List ℕ)
         → answer r (stateOf memory (now (mail .exit)) records (now (marks .exit)))
         ≡ arrivedOr (planOf (sizes .route) nest) b (stateOf memory (now (mail .entry)) records (now (marks .entry))) m (now (words .entry))) ⌝ }
 {
-    let t = totals(nest, sizes, lens);
-    if m >= t.messages {
+    if m >= messages {
         return 11;
     }
     let place = nth(nest, sizes, lens, m);
@@ -286,9 +270,7 @@ fn receive(
     if marks[at] != 0 {
         return 14;
     }
-    let from = word_index(places[m]);
-    let end = from + place.words;
-    copy_words(&mut mail[from..end], words);
+    store_words(mail, word_index(places[m]), words);
     marks[at] = 2;
     0
 }
@@ -298,9 +280,10 @@ fn arrive_in(
     nest: Nest,
     sizes: Sizes,
     lens: &[u16; 9217],
-    kept: &[u32],
     ranks: &[u32; 7169],
     places: &[u32; 7169],
+    messages: usize,
+    many: usize,
     memory: &[u32],
     mail: &mut [u32],
     progress: Flat,
@@ -309,7 +292,7 @@ fn arrive_in(
     m: usize,
     words: &[u32],
 ) -> u32
-    requires { ⌜ Known nest sizes b (now lens) (now kept) (now ranks) (now places) × (length (progress .words) ≡ 192) ⌝ }
+    requires { ⌜ Known nest sizes b (now lens) (now ranks) (now places) × (Many nest sizes b messages many × (length (progress .words) ≡ 192)) ⌝ }
     ensures { λ r. ⌜ ((records : List ℕ) → Carries progress records
         → answer r (stateOf (now (memory .entry)) (now (mail .exit)) records (now (marks .exit)))
         ≡ arrivesOr (planOf (sizes .route) nest) b (stateOf (now (memory .entry)) (now (mail .entry)) records (now (marks .entry))) m
@@ -322,9 +305,10 @@ fn arrive_in(
         nest,
         sizes,
         lens,
-        kept,
         ranks,
         places,
+        messages,
+        many,
         memory,
         mail,
         progress,
@@ -338,9 +322,9 @@ fn arrive_in(
         nest,
         sizes,
         lens,
-        kept,
         ranks,
         places,
+        messages,
         mail,
         marks,
         b,
@@ -368,25 +352,18 @@ fn arrive_part(
         (now (words .entry))) ⌝ }
 {
     let mut lens = [0u16; 9217];
-    let mut kept = [0u32; 16384];
     let mut ranks = [0u32; 7169];
     let mut places = [0u32; 7169];
-    prepare(
-        nest,
-        sizes,
-        b,
-        &mut lens,
-        &mut kept,
-        &mut ranks,
-        &mut places,
-    );
+    let messages = prepare(nest, sizes, b, &mut lens, &mut ranks, &mut places);
+    let many = kept_count(nest, sizes, &lens, b);
     arrive_in(
         nest,
         sizes,
         &lens,
-        &kept,
         &ranks,
         &places,
+        messages,
+        many,
         memory,
         mail,
         progress,

@@ -1,7 +1,7 @@
 // The messages that a processor handles: a row of seven words for each.
 ghost use mathlib.Core.Path.{_≡_};
 ghost use mathlib.Core.List.{[], _∷_};
-ghost use Prim.Native.Nat.{_*_, _≤_, _<_};
+ghost use Prim.Native.Nat.{_*_, _<_};
 ghost use lib.ListN.{length};
 ghost use Rattle.base.specs.Tests.{pick};
 ghost use Rattle.base.specs.Lists.{put};
@@ -22,7 +22,6 @@ use nest::Nest;
 use own_front::prepare;
 use table::MessageLine;
 use tables::nth;
-use tables::totals;
 
 // A row's words: the message's number, its line, and where its words begin in the mail.
 fn store_row(row: &mut [u32], number: u32, line: MessageLine, at: u32)
@@ -43,15 +42,13 @@ fn put_row(
     nest: Nest,
     sizes: Sizes,
     lens: &[u16; 9217],
-    kept: &[u32],
     ranks: &[u32; 7169],
     places: &[u32; 7169],
     b: usize,
     m: usize,
     out: &mut [u32],
 )
-    requires { ⌜ Known nest sizes b (now lens) (now kept) (now ranks) (now places)
-        × ((m < count (planOf (sizes .route) nest)) × (count (planOf (sizes .route) nest) ≤ 7168)) ⌝ }
+    requires { ⌜ Known nest sizes b (now lens) (now ranks) (now places) × (m < count (planOf (sizes .route) nest)) ⌝ }
     requires { ⌜ length (now out) ≡ 7 * length (handled (planOf (sizes .route) nest) b) ⌝ }
     ensures { λ _. ⌜ now (out .exit)
         ≡ pick (handles (planOf (sizes .route) nest) b m)
@@ -73,21 +70,19 @@ fn put_rows(
     nest: Nest,
     sizes: Sizes,
     lens: &[u16; 9217],
-    kept: &[u32],
     ranks: &[u32; 7169],
     places: &[u32; 7169],
+    messages: usize,
     b: usize,
     out: &mut [u32],
 )
-    requires { ⌜ Known nest sizes b (now lens) (now kept) (now ranks) (now places) ⌝ }
+    requires { ⌜ Known nest sizes b (now lens) (now ranks) (now places) × (messages ≡ count (planOf (sizes .route) nest)) ⌝ }
     requires { ⌜ length (now out) ≡ 7 * length (handled (planOf (sizes .route) nest) b) ⌝ }
     ensures { λ _. ⌜ now (out .exit) ≡ ownRows (planOf (sizes .route) nest) b (handled (planOf (sizes .route) nest) b) ⌝ }
 {
-    let t = totals(nest, sizes, lens);
-    let messages = t.messages;
     let mut m = 0;
     while m < messages {
-        put_row(nest, sizes, lens, kept, ranks, places, b, m, out);
+        put_row(nest, sizes, lens, ranks, places, b, m, out);
         m += 1;
     }
 }
@@ -98,23 +93,12 @@ pub fn messages_part(nest: Nest, sizes: Sizes, b: usize, out: &mut [u32]) -> u32
     ensures { λ r. ⌜ answer r (now (out .exit)) ≡ rowsOr (planOf (sizes .route) nest) b (now (out .entry)) ⌝ }
 {
     let mut lens = [0u16; 9217];
-    let mut kept = [0u32; 16384];
     let mut ranks = [0u32; 7169];
     let mut places = [0u32; 7169];
-    prepare(
-        nest,
-        sizes,
-        b,
-        &mut lens,
-        &mut kept,
-        &mut ranks,
-        &mut places,
-    );
-    let t = totals(nest, sizes, &lens);
-    let last = t.messages;
-    if out.len() != 7 * word_index(ranks[last]) {
+    let messages = prepare(nest, sizes, b, &mut lens, &mut ranks, &mut places);
+    if out.len() != 7 * word_index(ranks[messages]) {
         return 9;
     }
-    put_rows(nest, sizes, &lens, &kept, &ranks, &places, b, out);
+    put_rows(nest, sizes, &lens, &ranks, &places, messages, b, out);
     0
 }

@@ -11,9 +11,9 @@ use lib.Dec.{ltb, leb, eqb}
 use borrow.Author.Tests.{eq-eqb, ne-eqb, lt-ltb, le-ltb}
 use Rattle.base.specs.Tests.{_and_, not, one, every, keep, tabulate}
 use Rattle.base.specs.Numbers.{line, firstOf}
-use Rattle.base.proofs.Tests.{and-true, and-left, and-false, and-no, not-true, not-false, true-not, length-tabulate, tabulate-at}
+use Rattle.base.proofs.Tests.{and-true, and-left, and-false, and-no, not-true, not-false, true-not}
 use Rattle.base.proofs.Numbers.{first-true, first-false, none-first, first-some, first-behind}
-use Rattle.base.proofs.Select.{keep-few, keep-same}
+use Rattle.base.proofs.Select.{keep-few}
 use Rattle.machine.specs.Plan.{Plan, count}
 use Rattle.machine.specs.Machine.{State, stateOf, finishedOf, stageOf, sentOf, progressOnly, fitRecord, tilesLeft, fit}
 use Rattle.nest.specs.declared.Nest.{Nest}
@@ -29,8 +29,9 @@ use Rattle.records.specs.Records.{Carries}
 use Rattle.routes.proofs.Laws.{numbered-for}
 use Rattle.engine.specs.Calls.{recipe}
 use Rattle.engine.proofs.Lines.{Opened, opened, routed}
-use Rattle.apart.specs.Own.{owns, keeps, ownCells, keptCells, handled}
-use Rattle.own.specs.Part.{wordsOf, rankOf, mailAt, markedAt, partFits}
+use Rattle.apart.specs.Own.{ownCells, keptCells, handled}
+use Rattle.own.specs.Part.{wordsOf, rankOf, mailAt, rankAt, partFits}
+use Rattle.own.proofs.Ranks.{marks-long, rank-is}
 use Rattle.own_front.specs.Calls.{wide, boardLines, lengthsOf}
 use Rattle.own_front.specs.declared.Board.{Board}
 use Rattle.own_front.specs.Given.{Opens, Known, unfitLines}
@@ -99,20 +100,6 @@ module _ (n : ℕ) (l ys : List ℕ) (h : n ≤ length l) (e : length ys ≡ len
 pub front-at : (n : ℕ) (l : List ℕ) (i : ℕ) → i < n → getD (take n l) i 0 ≡ getD l i 0
 front-at n l i h = getD-take n l i 0 h
 
--- ---- marks tell the kept cells
-
-one-test : (t : Bool) → eqb (one t) 1 ≡ t
-unfolding one
-one-test true = refl
-one-test false = refl
-
-pub marks-keep : (f : ℕ → Bool) (n : ℕ) (marks : List ℕ) → marks ≡ tabulate (λ c. one (f c)) n → keep (markedAt marks) (length marks) ≡ keep f n
-marks-keep f n marks e =
-    ap (λ (l : List ℕ). keep (markedAt l) (length l)) e
-    ∙ ap (keep (markedAt (tabulate (λ c. one (f c)) n))) (length-tabulate (λ c. one (f c)) n)
-    ∙ keep-same (markedAt (tabulate (λ c. one (f c)) n)) f n
-    (λ i h. ap (λ (w : ℕ). eqb w 1) (tabulate-at (λ c. one (f c)) n i h) ∙ one-test (f i))
-
 -- four words stored one after the other
 pub four : (l : List ℕ) → length l ≡ 4 → (w x y z : ℕ) → set (set (set (set l 0 w) 1 x) 2 y) 3 z ≡ w ∷ x ∷ y ∷ z ∷ []
 four [] e w x y z = absurd (omega arith)
@@ -142,48 +129,44 @@ module _ (x : Nest) (z : Sizes) (b : ℕ) where
     pub lent-long : length (take (z .cells) kept) ≡ cells x
     lent-long = sym lent-cells ∙ g .cells
 
-    pub known : (lens rank place marks : List ℕ) → Tabled x z lens → b < processors x → marks ≡ tabulate (λ c. one (keeps q b c)) (cells x)
-        → ((m : ℕ) → m ≤ count q → (getD rank m 0 ≡ rankOf q b m) × (getD place m 0 ≡ mailAt q b m))
-        → Known x z b lens (marks ++ drop (z .cells) kept) rank place
-    known lens rank place marks t low is h =
-        let n = ap length is ∙ length-tabulate (λ c. one (keeps q b c)) (cells x) ∙ sym lent-long in
-        record {
-          planned = (g, t);
-          low = low;
-          room = same-long (z .cells) kept marks (cells-fit g kept e) n ∙ e;
-          cells = front-back (z .cells) kept marks (cells-fit g kept e) n (cells x) (g .cells) ∙ is;
-          ranks = λ m k. h m k .0;
-          places = λ m k. h m k .1;
-        }
+  -- by what the code finds: n messages
+  pub known : (lens rank place : List ℕ) (n : ℕ) → Sized x z → Tabled x z lens → b < processors x → n ≡ count q → n ≤ 7168
+      → ((m : ℕ) → m ≤ count q → (getD rank m 0 ≡ rankOf q b m) × (getD place m 0 ≡ mailAt q b m)) → Known x z b lens rank place
+  known lens rank place n g t low e few h =
+      record { planned = (g, t); low = low; few = omega (arith, e, few); ranks = λ m k. h m k .0; places = λ m k. h m k .1 }
 
-  module _ (lens kept rank place : List ℕ) (k : Known x z b lens kept rank place) where
-    pub kept-marks : keep (markedAt (take (z .cells) kept)) (length (take (z .cells) kept)) ≡ keptCells q b
-    kept-marks = marks-keep (keeps q b) (cells x) (take (z .cells) kept) (ap (λ (n : ℕ). take n kept) (k .planned .0 .cells) ∙ k .cells)
+  -- marked cells: few enough, and before the last of them all
+  module _ (g : Sized x z) (f : ℕ → Bool) where
+    pub marks-few : (marks : List ℕ) → length marks ≡ cells x → length marks ≤ 16384
+    marks-few marks e = omega (arith, e, g .accepted .cells-most)
 
-    pub kept-lent : z .cells ≡ length (take (z .cells) kept)
-    kept-lent = lent-cells (k .planned .0) kept (k .room)
+    module _ (marks : List ℕ) (is : marks ≡ tabulate (λ c. one (f c)) (cells x)) where
+      pub cells-below : z .cells ≤ length marks
+      cells-below = omega (arith, g .cells, marks-long marks f (cells x) is)
 
-    pub all-handled : (n : ℕ) → n ≡ count q → getD rank n 0 ≡ length (handled q b)
-    all-handled n e = k .ranks n (omega (arith, e)) ∙ ap (rankOf q b) e
+      pub all-marked : (n : ℕ) → n ≡ rankAt marks (z .cells) → n ≡ length (keep f (cells x))
+      all-marked n e = e ∙ ap (rankAt marks) (g .cells) ∙ rank-is marks f (cells x) is (cells x) (omega arith)
 
-    pub all-mail : (n : ℕ) → n ≡ count q → getD place n 0 ≡ wordsOf q (handled q b)
-    all-mail n e = k .places n (omega (arith, e)) ∙ ap (mailAt q b) e
+    pub cells-few : (n : ℕ) → n ≡ length (keep f (cells x)) → (n ≡ length (keep f (cells x))) × (n ≤ 16384)
+    cells-few n e = (e, omega (arith, e, keep-few f (cells x), g .accepted .cells-most))
 
-    pub kept-room : z .cells ≤ length kept
-    kept-room = cells-fit (k .planned .0) kept (k .room)
+  module _ (lens rank place : List ℕ) (k : Known x z b lens rank place) (n : ℕ) (e : n ≡ count q) where
+    pub last-low : n < 7169
+    last-low = omega (arith, e, k .few)
 
-    pub kept-low : (n : ℕ) → n ≡ length (keep (markedAt (take (z .cells) kept)) (length (take (z .cells) kept))) → n ≤ 16384
-    kept-low n e = omega (arith, e ∙ ap length kept-marks, keep-few (keeps q b) (cells x), k .planned .0 .accepted .cells-most)
+    pub all-handled : getD rank n 0 ≡ length (handled q b)
+    all-handled = k .ranks n (omega (arith, e)) ∙ ap (rankOf q b) e
+
+    pub all-mail : getD place n 0 ≡ wordsOf q (handled q b)
+    all-mail = k .places n (omega (arith, e)) ∙ ap (mailAt q b) e
 
     -- the four lengths, stored one after the other
-    pub sizes-are : (out : List ℕ) → length out ≡ 4 → (i : ℕ) → i ≡ length (ownCells q b) → (j : ℕ)
-        → j ≡ length (keep (markedAt (take (z .cells) kept)) (length (take (z .cells) kept))) → (n : ℕ) → n ≡ count q
+    pub sizes-are : (out : List ℕ) → length out ≡ 4 → (i : ℕ) → i ≡ length (ownCells q b) → (j : ℕ) → j ≡ length (keptCells q b)
         → set (set (set (set out 0 i) 1 j) 2 (getD place n 0)) 3 (getD rank n 0) ≡ lengthsOf q b
     unfolding lengthsOf
-    sizes-are out long i f j h n e =
-        let c = h ∙ ap length kept-marks in
-        let d = all-mail n e in
-        let r = all-handled n e in
+    sizes-are out long i f j h =
+        let d = all-mail in
+        let r = all-handled in
         four out long i j (getD place n 0) (getD rank n 0)
         ∙ (let w : i ∷ j ∷ getD place n 0 ∷ getD rank n 0 ∷ []
         ≡ length (ownCells q b) ∷ length (keptCells q b) ∷ wordsOf q (handled q b) ∷ length (handled q b) ∷ [] = cc in w)
@@ -198,24 +181,6 @@ module _ (x : Nest) (z : Sizes) (b : ℕ) where
 
     pub back-is : take (z .cells) (ys ++ drop (z .cells) old) ≡ ys
     back-is = front-back (z .cells) old ys (cells-fit g old e) n (z .cells) refl
-
-  -- the marks of its own cells, in an array's front
-  module _ (g : Sized x z) (old marks : List ℕ) (e : length old ≡ 16384) (is : marks ≡ tabulate (λ c. one (owns q b c)) (cells x)) where
-    own-long : length marks ≡ length (take (z .cells) old)
-    own-long = ap length is ∙ length-tabulate (λ c. one (owns q b c)) (cells x) ∙ sym (lent-long g old e)
-
-    pub marks-room : z .cells ≤ length (marks ++ drop (z .cells) old)
-    marks-room = back-room g old marks e own-long
-
-    pub marks-lent : z .cells ≡ length (take (z .cells) (marks ++ drop (z .cells) old))
-    marks-lent = back-lent g old marks e own-long
-
-    pub own-many : (n : ℕ) → n ≡ length (keep (markedAt (take (z .cells) (marks ++ drop (z .cells) old)))
-        (length (take (z .cells) (marks ++ drop (z .cells) old)))) → (n ≡ length (ownCells q b)) × (n ≤ 16384)
-    own-many n k =
-        let f : n ≡ length (ownCells q b) =
-        k ∙ ap length (marks-keep (owns q b) (cells x) _ (back-is g old marks e own-long ∙ is)) in
-        (f, omega (arith, f, keep-few (owns q b) (cells x), g .accepted .cells-most))
 
 -- ---- line 9
 

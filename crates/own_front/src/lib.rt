@@ -14,9 +14,9 @@ ghost use Rattle.layout.specs.Sizes.{Sized};
 ghost use Rattle.tables.specs.Tables.{Routed};
 ghost use Rattle.records.specs.Records.{Carries};
 ghost use Rattle.mail.specs.Given.{Planned};
-ghost use Rattle.apart.specs.Own.{ownCells};
+ghost use Rattle.apart.specs.Own.{owns, keeps, ownCells, keptCells};
 ghost use Rattle.own.specs.Part.{partFits};
-ghost use Rattle.own_front.specs.Given.{Opens, Known, unfitLines};
+ghost use Rattle.own_front.specs.Given.{Opens, Known, Cells, Many, unfitLines};
 use base::word_index;
 use layout::Sizes;
 use layout::route_of;
@@ -82,24 +82,81 @@ pub fn open(encoded: &[u8], route: u32, processor: u32) -> Board
 
 // ---- what is found once in a call
 
-// The table, the kept cells' marks, and where each message stands in the part.
+// The table, and where each message stands in the part; how many messages there are.
 pub fn prepare(
     nest: Nest,
     sizes: Sizes,
     b: usize,
     lens: &mut [u16; 9217],
-    kept: &mut [u32],
     ranks: &mut [u32; 7169],
     places: &mut [u32; 7169],
-)
+) -> usize
     requires { ⌜ Sized nest sizes × (Routed nest sizes × (b < processors nest)) ⌝ }
-    requires { ⌜ (length (now lens) ≡ 9217) × ((length (now kept) ≡ 16384) × ((length (now ranks) ≡ 7169) × (length (now places) ≡ 7169))) ⌝ }
-    ensures { λ _. ⌜ Known nest sizes b (now (lens .exit)) (now (kept .exit)) (now (ranks .exit)) (now (places .exit)) ⌝ }
+    requires { ⌜ (length (now lens) ≡ 9217) × ((length (now ranks) ≡ 7169) × (length (now places) ≡ 7169)) ⌝ }
+    ensures { λ r. ⌜ Known nest sizes b (now (lens .exit)) (now (ranks .exit)) (now (places .exit)) × (r ≡ count (planOf (sizes .route) nest)) ⌝ }
+{
+    fill(nest, sizes, lens);
+    own::fill_handled(nest, sizes, lens, b, ranks, places);
+    let t = totals(nest, sizes, lens);
+    t.messages
+}
+
+// The cells that processor b keeps words of, marked, and their counts; how many they are.
+pub fn keep_cells(
+    nest: Nest,
+    sizes: Sizes,
+    lens: &[u16; 9217],
+    b: usize,
+    kept: &mut [u8],
+    counts: &mut [u32; 257],
+) -> usize
+    requires { ⌜ Planned nest sizes (now lens) × ((b < processors nest) × ((length (now kept) ≡ cells nest) × (length (now counts) ≡ 257))) ⌝ }
+    ensures { λ r. ⌜ Cells nest (keeps (planOf (sizes .route) nest) b) (now (kept .exit)) (now (counts .exit))
+        × (r ≡ length (keptCells (planOf (sizes .route) nest) b)) ⌝ }
+{
+    own::mark_kept(nest, sizes, lens, b, kept);
+    own::fill_counts(kept, counts);
+    own::rank(kept, counts, sizes.cells)
+}
+
+// The cells of its tiles.
+pub fn own_cells(
+    nest: Nest,
+    sizes: Sizes,
+    b: usize,
+    owned: &mut [u8],
+    counts: &mut [u32; 257],
+) -> usize
+    requires { ⌜ Sized nest sizes × (Routed nest sizes × (b < processors nest)) ⌝ }
+    requires { ⌜ (length (now owned) ≡ cells nest) × (length (now counts) ≡ 257) ⌝ }
+    ensures { λ r. ⌜ Cells nest (owns (planOf (sizes .route) nest) b) (now (owned .exit)) (now (counts .exit))
+        × (r ≡ length (ownCells (planOf (sizes .route) nest) b)) ⌝ }
+{
+    own::mark_own(nest, sizes, b, owned);
+    own::fill_counts(owned, counts);
+    own::rank(owned, counts, sizes.cells)
+}
+
+// How many cells the processor keeps: the words of its memory.
+pub fn kept_count(nest: Nest, sizes: Sizes, lens: &[u16; 9217], b: usize) -> usize
+    requires { ⌜ Planned nest sizes (now lens) × (b < processors nest) ⌝ }
+    ensures { λ r. ⌜ (r ≡ length (keptCells (planOf (sizes .route) nest) b)) × (r ≤ 16384) ⌝ }
 {
     let cells = sizes.cells;
-    fill(nest, sizes, lens);
-    own::mark_kept(nest, sizes, lens, b, &mut kept[..cells]);
-    own::fill_handled(nest, sizes, lens, b, ranks, places);
+    let mut kept = [0u8; 16384];
+    let mut counts = [0u32; 257];
+    keep_cells(nest, sizes, lens, b, &mut kept[..cells], &mut counts)
+}
+
+// How many cells the processor's tiles have: the words of its source.
+pub fn own_count(nest: Nest, sizes: Sizes, b: usize) -> usize
+    requires { ⌜ Sized nest sizes × (Routed nest sizes × (b < processors nest)) ⌝ }
+    ensures { λ r. ⌜ (r ≡ length (ownCells (planOf (sizes .route) nest) b)) × (r ≤ 16384) ⌝ }
+{
+    let cells = sizes.cells;
+    let mut owned = [0u8; 16384];
+    let mut counts = [0u32; 257];
+    own_cells(nest, sizes, b, &mut owned[..cells], &mut counts)
 }
 
 // ---- lines 9 and 10
@@ -109,32 +166,30 @@ pub fn part_fits(
     nest: Nest,
     sizes: Sizes,
     lens: &[u16; 9217],
-    kept: &[u32],
     ranks: &[u32; 7169],
     places: &[u32; 7169],
+    messages: usize,
+    many: usize,
     memory: &[u32],
     mail: &[u32],
     words: usize,
     marks: &[u8],
     b: usize,
 ) -> bool
-    requires { ⌜ Known nest sizes b (now lens) (now kept) (now ranks) (now places) ⌝ }
+    requires { ⌜ Known nest sizes b (now lens) (now ranks) (now places) × Many nest sizes b messages many ⌝ }
     ensures { λ r. ⌜ ((records : List ℕ) → words ≡ length records
         → r ≡ partFits (planOf (sizes .route) nest) b (stateOf (now (memory .entry)) (now (mail .entry)) records (now (marks .entry)))) ⌝ }
 {
-    let t = totals(nest, sizes, lens);
-    let last = t.messages;
-    let cells = sizes.cells;
-    if memory.len() != own::marked(&kept[..cells]) {
+    if memory.len() != many {
         return false;
     }
-    if mail.len() != word_index(places[last]) {
+    if mail.len() != word_index(places[messages]) {
         return false;
     }
     if words != 3 {
         return false;
     }
-    marks.len() == word_index(ranks[last])
+    marks.len() == word_index(ranks[messages])
 }
 
 // The record of processor b is fit: so many tiles finished, its stage, so many messages sent.
@@ -179,16 +234,17 @@ pub fn unfit(
     nest: Nest,
     sizes: Sizes,
     lens: &[u16; 9217],
-    kept: &[u32],
     ranks: &[u32; 7169],
     places: &[u32; 7169],
+    messages: usize,
+    many: usize,
     memory: &[u32],
     mail: &[u32],
     progress: Flat,
     marks: &[u8],
     b: usize,
 ) -> u32
-    requires { ⌜ Known nest sizes b (now lens) (now kept) (now ranks) (now places) × (length (progress .words) ≡ 192) ⌝ }
+    requires { ⌜ Known nest sizes b (now lens) (now ranks) (now places) × (Many nest sizes b messages many × (length (progress .words) ≡ 192)) ⌝ }
     ensures { λ r. ⌜ ((records : List ℕ) → Carries progress records
         → r ≡ firstOf (unfitLines (planOf (sizes .route) nest) b (stateOf (now (memory .entry)) (now (mail .entry)) records (now (marks .entry)))))
         × (r ≡ 0 → progress .count ≡ 3) ⌝ }
@@ -198,9 +254,10 @@ pub fn unfit(
         nest,
         sizes,
         lens,
-        kept,
         ranks,
         places,
+        messages,
+        many,
         memory,
         mail,
         count,
@@ -217,17 +274,4 @@ pub fn unfit(
         return 10;
     }
     0
-}
-
-// ---- how long the areas are
-
-// How many cells the processor's tiles have: the words of its source.
-pub fn own_count(nest: Nest, sizes: Sizes, b: usize) -> usize
-    requires { ⌜ Sized nest sizes × (Routed nest sizes × (b < processors nest)) ⌝ }
-    ensures { λ r. ⌜ (r ≡ length (ownCells (planOf (sizes .route) nest) b)) × (r ≤ 16384) ⌝ }
-{
-    let cells = sizes.cells;
-    let mut marks = [0u32; 16384];
-    own::mark_own(nest, sizes, b, &mut marks[..cells]);
-    own::marked(&marks[..cells])
 }

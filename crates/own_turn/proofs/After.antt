@@ -17,10 +17,10 @@ use Rattle.machine.specs.Machine.{gather, calculate, send, carryOut}
 use Rattle.machine.proofs.Values.{gathered-length}
 use Rattle.machine.proofs.Records.{finished-same, stage-same, sent-same}
 use Rattle.apart.specs.Own.{handles, keptCells}
-use Rattle.own.specs.Part.{rankOf, mailAt}
+use Rattle.own.specs.Part.{rankOf, mailAt, allOf}
 use Rattle.own_front.specs.Calls.{wide, narrow}
 use Rattle.own_front.specs.Given.{PartLengths}
-use Rattle.own_turn.specs.Step.{allOf, unpackFrom}
+use Rattle.own_turn.specs.Step.{unpackFrom}
 use Rattle.own_front.proofs.Part.{ranks-set, ranks-all}
 use Rattle.own_front.proofs.Wide as has
 use Rattle.own_front.proofs.Wide.{sends-handled, dues-handled, three-set, state-is}

@@ -4,9 +4,9 @@ use Prim.Native.Nat.{ℕ, _+_, _≤_, _<_}
 use mathlib.Core.Path.{_≡_}
 use mathlib.Core.Bool.{true}
 use mathlib.Core.List.{List, [], _∷_}
-use lib.ListN.{length, getD, replicate}
+use lib.ListN.{length, getD}
 use lib.Dec.{eqb}
-use Rattle.base.specs.Tests.{_and_, not, one, tabulate}
+use Rattle.base.specs.Tests.{_and_, not}
 use Rattle.base.specs.Lists.{In, part, unpack}
 use Rattle.base.specs.Numbers.{line, firstOf}
 use Rattle.machine.specs.Plan.{Plan, count, heldBy, tilesOf}
@@ -16,10 +16,9 @@ use Rattle.nest.specs.Nest.{cells, processors}
 use Rattle.plan.specs.Shaped.{planOf}
 use Rattle.layout.specs.declared.Sizes.{Sizes}
 use Rattle.apart.specs.Own.{keeps, ownCells, keptCells, handled}
-use Rattle.mail.specs.Given.{Planned}
-use Rattle.own.specs.Part.{wordsOf, rankOf, mailAt, partFits}
+use Rattle.own.specs.Part.{wordsOf, partFits}
 use Rattle.own_front.specs.Calls.{wide, narrow, stepped}
-use Rattle.own_front.specs.Given.{PartLengths}
+use Rattle.own_front.specs.Given.{Known, Cells, PartLengths}
 
 -- each lent area of processor b has exactly its length, but for the record
 pub record Lengths (p : Plan) (b : ℕ) (words letters bytes : List ℕ) : Type 0 where
@@ -27,14 +26,10 @@ pub record Lengths (p : Plan) (b : ℕ) (words letters bytes : List ℕ) : Type 
   pub mail : length letters ≡ wordsOf p (handled p b)
   pub marks : length bytes ≡ length (handled p b)
 
--- the table, processor b's kept cells marked, and what two tables tell of each message: its mark's place, and where its words begin in the mail
-pub record Tables (x : Nest) (z : Sizes) (b : ℕ) (lens kept rank place : List ℕ) : Type 0 where
-  pub planned : Planned x z lens
-  pub low : b < processors x
-  pub cells : kept ≡ tabulate (λ c. one (keeps (planOf (z .route) x) b c)) (cells x)
-  pub few : count (planOf (z .route) x) ≤ 7168
-  pub ranks : (m : ℕ) → m ≤ count (planOf (z .route) x) → getD rank m 0 ≡ rankOf (planOf (z .route) x) b m
-  pub places : (m : ℕ) → m ≤ count (planOf (z .route) x) → getD place m 0 ≡ mailAt (planOf (z .route) x) b m
+-- what is found once of processor b's messages, and its kept cells
+pub record Tables (x : Nest) (z : Sizes) (b : ℕ) (lens kept counts rank place : List ℕ) : Type 0 where
+  pub known : Known x z b lens rank place
+  pub cells : Cells x (keeps (planOf (z .route) x) b) kept counts
 
 -- the marks of these messages are among n, their words among n words
 pub record Ranked (p : Plan) (ranks ms : List ℕ) (n : ℕ) : Type 0 where
@@ -45,9 +40,9 @@ pub record Placed (p : Plan) (places ms : List ℕ) (n : ℕ) : Type 0 where
   pub few : count p ≤ 7168
   pub low : (m : ℕ) → In m ms → getD places m 0 + length (heldBy p m) ≤ n
 
--- a memory of all cells that has the kept cells' words, and zeros else
-abbrev pub allOf : Plan → ℕ → List ℕ → List ℕ
-allOf p b words = unpack (replicate (p .cells) 0) (keptCells p b) words
+-- processor b keeps words of all cells of message m
+abbrev pub Keeping : Plan → ℕ → ℕ → Type 0
+Keeping p b m = (c : ℕ) → In c (heldBy p m) → keeps p b c ≡ true
 
 -- the words of these messages out of a mail, where their places are told, into a memory
 unfoldable pub unpackFrom : Plan → List ℕ → List ℕ → List ℕ → List ℕ → List ℕ

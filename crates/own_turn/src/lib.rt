@@ -3,10 +3,9 @@ ghost use mathlib.Core.Path.{_≡_};
 ghost use mathlib.Core.Logic.{_≢_};
 ghost use mathlib.Core.List.{List};
 ghost use Prim.Native.Nat.{ℕ, _<_};
-ghost use lib.ListN.{length, getD, take, replicate};
-ghost use Rattle.base.specs.Lists.{part};
+ghost use lib.ListN.{length, getD};
 ghost use Rattle.machine.specs.Machine.{stateOf};
-ghost use Rattle.nest.specs.Nest.{cells, processors};
+ghost use Rattle.nest.specs.Nest.{processors};
 ghost use Rattle.plan.specs.Shaped.{planOf};
 ghost use Rattle.layout.specs.Sizes.{Sized};
 ghost use Rattle.tables.specs.Tables.{Routed};
@@ -15,13 +14,14 @@ ghost use Rattle.engine.specs.Given.{recordsAfter};
 ghost use Rattle.engine.specs.Calls.{answer};
 ghost use Rattle.apart.specs.Own.{ownCells};
 ghost use Rattle.own_front.specs.Calls.{ownTurnCall};
-ghost use Rattle.own_front.specs.Given.{Known, PartLengths};
+ghost use Rattle.own_front.specs.Given.{Many, PartLengths};
 ghost use Rattle.own_turn.specs.Step.{Tables, Stands, MayStep, steppedOr, turnedOr};
 
 pub mod on_part; // on_part.rt: the stages
 
 use base::word_index;
 use engine::core::Turned;
+use engine::core::done;
 use engine::core::refused;
 use layout::Sizes;
 use nest::Nest;
@@ -29,41 +29,32 @@ use on_part::calculate_stage;
 use on_part::gather_stage;
 use on_part::ready;
 use on_part::send_stage;
+use own_front::keep_cells;
 use own_front::open;
 use own_front::own_count;
 use own_front::prepare;
 use own_front::unfit;
 use records::Flat;
-use records::Progress;
 use tables::tile_at;
 use tables::tile_count;
-
-fn done(progress: Progress) -> Turned
-    ensures { λ r. ⌜ (r .number ≡ 0) × (r .progress ≡ progress) ⌝ }
-{
-    Turned {
-        number: 0,
-        progress: progress,
-    }
-}
 
 // Stage 0: 12 where a message due is not delivered.
 fn first_stage(
     nest: Nest,
     sizes: Sizes,
     lens: &[u16; 9217],
-    kept: &[u32],
+    kept: &[u8],
+    counts: &[u32; 257],
     ranks: &[u32; 7169],
     places: &[u32; 7169],
     memory: &mut [u32],
     mail: &[u32],
     progress: &[u32],
     marks: &mut [u8],
-    all: &mut [u32],
     b: usize,
     tile: usize,
 ) -> Turned
-    requires { ⌜ Tables nest sizes b (now lens) (now kept) (now ranks) (now places) × (now all ≡ replicate (cells nest) 0) ⌝ }
+    requires { ⌜ Tables nest sizes b (now lens) (now kept) (now counts) (now ranks) (now places) ⌝ }
     requires { ⌜ PartLengths (planOf (sizes .route) nest) b (stateOf (now memory) (now mail) (now progress) (now marks))
         × Stands (planOf (sizes .route) nest) (now progress) b tile ⌝ }
     ensures { λ r. ⌜ ((source : List ℕ)
@@ -82,12 +73,12 @@ fn first_stage(
         sizes,
         lens,
         kept,
+        counts,
         ranks,
         places,
         memory,
         mail,
         marks,
-        all,
         b,
         tile,
         finished,
@@ -100,7 +91,8 @@ fn later_stage(
     nest: Nest,
     sizes: Sizes,
     lens: &[u16; 9217],
-    kept: &[u32],
+    kept: &[u8],
+    counts: &[u32; 257],
     ranks: &[u32; 7169],
     places: &[u32; 7169],
     source: &[u32],
@@ -108,11 +100,10 @@ fn later_stage(
     mail: &mut [u32],
     progress: &[u32],
     marks: &mut [u8],
-    all: &mut [u32],
     b: usize,
     tile: usize,
 ) -> Turned
-    requires { ⌜ Tables nest sizes b (now lens) (now kept) (now ranks) (now places) × (now all ≡ replicate (cells nest) 0) ⌝ }
+    requires { ⌜ Tables nest sizes b (now lens) (now kept) (now counts) (now ranks) (now places) ⌝ }
     requires { ⌜ MayStep (planOf (sizes .route) nest) (now source) (stateOf (now memory) (now mail) (now progress) (now marks)) b
         × (Stands (planOf (sizes .route) nest) (now progress) b tile × (getD (now progress) 1 0 ≢ 0)) ⌝ }
     ensures { λ r. ⌜ answer (r .number) (stateOf (now (memory .exit)) (now (mail .exit)) (recordsAfter (now (progress .entry)) 0 r) (now (marks .exit)))
@@ -126,11 +117,11 @@ fn later_stage(
             sizes,
             lens,
             kept,
+            counts,
             ranks,
             places,
             source,
             memory,
-            all,
             b,
             tile,
             finished,
@@ -143,12 +134,12 @@ fn later_stage(
         sizes,
         lens,
         kept,
+        counts,
         ranks,
         places,
         memory,
         mail,
         marks,
-        all,
         b,
         tile,
         finished,
@@ -162,7 +153,8 @@ fn step(
     nest: Nest,
     sizes: Sizes,
     lens: &[u16; 9217],
-    kept: &[u32],
+    kept: &[u8],
+    counts: &[u32; 257],
     ranks: &[u32; 7169],
     places: &[u32; 7169],
     source: &[u32],
@@ -170,10 +162,9 @@ fn step(
     mail: &mut [u32],
     progress: &[u32],
     marks: &mut [u8],
-    all: &mut [u32],
     b: usize,
 ) -> Turned
-    requires { ⌜ Tables nest sizes b (now lens) (now kept) (now ranks) (now places) × (now all ≡ replicate (cells nest) 0) ⌝ }
+    requires { ⌜ Tables nest sizes b (now lens) (now kept) (now counts) (now ranks) (now places) ⌝ }
     requires { ⌜ MayStep (planOf (sizes .route) nest) (now source) (stateOf (now memory) (now mail) (now progress) (now marks)) b ⌝ }
     ensures { λ r. ⌜ answer (r .number) (stateOf (now (memory .exit)) (now (mail .exit)) (recordsAfter (now (progress .entry)) 0 r) (now (marks .exit)))
         ≡ steppedOr (planOf (sizes .route) nest) (now (source .entry))
@@ -190,13 +181,13 @@ fn step(
             sizes,
             lens,
             kept,
+            counts,
             ranks,
             places,
             memory,
             mail,
             progress,
             marks,
-            all,
             b,
             tile,
         );
@@ -206,6 +197,7 @@ fn step(
         sizes,
         lens,
         kept,
+        counts,
         ranks,
         places,
         source,
@@ -213,49 +205,8 @@ fn step(
         mail,
         progress,
         marks,
-        all,
         b,
         tile,
-    )
-}
-
-// The same with marks and room for as many cells as any recipe has, none of them written yet; `words` begins with the record.
-fn step_in(
-    nest: Nest,
-    sizes: Sizes,
-    lens: &[u16; 9217],
-    kept: &[u32],
-    ranks: &[u32; 7169],
-    places: &[u32; 7169],
-    source: &[u32],
-    memory: &mut [u32],
-    mail: &mut [u32],
-    words: &[u32],
-    marks: &mut [u8],
-    all: &mut [u32],
-    b: usize,
-) -> Turned
-    requires { ⌜ Known nest sizes b (now lens) (now kept) (now ranks) (now places) × ((now all ≡ replicate 16384 0) × (length (now words) ≡ 192)) ⌝ }
-    requires { ⌜ MayStep (planOf (sizes .route) nest) (now source) (stateOf (now memory) (now mail) (take 3 (now words)) (now marks)) b ⌝ }
-    ensures { λ r. ⌜ answer (r .number) (stateOf (now (memory .exit)) (now (mail .exit)) (recordsAfter (take 3 (now (words .entry))) 0 r) (now (marks .exit)))
-        ≡ steppedOr (planOf (sizes .route) nest) (now (source .entry))
-        (stateOf (now (memory .entry)) (now (mail .entry)) (take 3 (now (words .entry))) (now (marks .entry))) b ⌝ }
-{
-    let cells = sizes.cells;
-    step(
-        nest,
-        sizes,
-        lens,
-        &kept[..cells],
-        ranks,
-        places,
-        source,
-        memory,
-        mail,
-        &words[..3],
-        marks,
-        &mut all[..cells],
-        b,
     )
 }
 
@@ -264,9 +215,12 @@ fn turn_in(
     nest: Nest,
     sizes: Sizes,
     lens: &[u16; 9217],
-    kept: &[u32],
+    kept: &[u8],
+    counts: &[u32; 257],
     ranks: &[u32; 7169],
     places: &[u32; 7169],
+    messages: usize,
+    many: usize,
     source: &[u32],
     memory: &mut [u32],
     mail: &mut [u32],
@@ -274,7 +228,8 @@ fn turn_in(
     marks: &mut [u8],
     b: usize,
 ) -> Turned
-    requires { ⌜ Known nest sizes b (now lens) (now kept) (now ranks) (now places) × (length (progress .words) ≡ 192) ⌝ }
+    requires { ⌜ Tables nest sizes b (now lens) (now kept) (now counts) (now ranks) (now places)
+        × (Many nest sizes b messages many × (length (progress .words) ≡ 192)) ⌝ }
     requires { ⌜ length (now source) ≡ length (ownCells (planOf (sizes .route) nest) b) ⌝ }
     ensures { λ r. ⌜ ((records : List ℕ) → Carries progress records
         → answer (r .number) (stateOf (now (memory .exit)) (now (mail .exit)) (recordsAfter records 0 r) (now (marks .exit)))
@@ -284,9 +239,10 @@ fn turn_in(
         nest,
         sizes,
         lens,
-        kept,
         ranks,
         places,
+        messages,
+        many,
         memory,
         mail,
         progress,
@@ -297,20 +253,19 @@ fn turn_in(
         return refused(n);
     }
     let words = progress.words;
-    let mut all = [0u32; 16384];
-    step_in(
+    step(
         nest,
         sizes,
         lens,
         kept,
+        counts,
         ranks,
         places,
         source,
         memory,
         mail,
-        &words,
+        &words[..3],
         marks,
-        &mut all,
         b,
     )
 }
@@ -335,26 +290,24 @@ fn take_turn(
     if source.len() != own_count(nest, sizes, b) {
         return refused(9);
     }
+    let cells = sizes.cells;
     let mut lens = [0u16; 9217];
-    let mut kept = [0u32; 16384];
+    let mut kept = [0u8; 16384];
+    let mut counts = [0u32; 257];
     let mut ranks = [0u32; 7169];
     let mut places = [0u32; 7169];
-    prepare(
-        nest,
-        sizes,
-        b,
-        &mut lens,
-        &mut kept,
-        &mut ranks,
-        &mut places,
-    );
+    let messages = prepare(nest, sizes, b, &mut lens, &mut ranks, &mut places);
+    let many = keep_cells(nest, sizes, &lens, b, &mut kept[..cells], &mut counts);
     turn_in(
         nest,
         sizes,
         &lens,
-        &kept,
+        &kept[..cells],
+        &counts,
         &ranks,
         &places,
+        messages,
+        many,
         source,
         memory,
         mail,

@@ -1,125 +1,108 @@
 -- `grid::uncollected` meets its contract: each return by the line that counts.
-use mathlib.Core.Path.{sym, ap, _∙_}
+use mathlib.Core.Path.{sym, _∙_}
 use native.Mathlib.Omega.{arith}
-use lib.ListN.{length}
 use borrow.Author.Tests.{not-true, not-false}
 use Rattle.plan.specs.Shaped.{planOf}
-use Rattle.own_front.proofs.Front as front
 use Rattle.own_calls.proofs.Collecting as collecting
 use borrow.Author.Needs.{needs}
 use Rattle.own_calls.proofs.grid.uncollected.Statement.{statement}
 use Rattle.own_calls.proofs.grid.uncollected.Tie as tie
 
-slice-aggregate-marked : tie.Need-slice-aggregate-marked
-slice-aggregate-marked c =
-    let S = c .before .before .before .before .before in
-    let A = S .args in
-    front.kept-lent (A .nest) (A .sizes) (A .b) (A .lens .now) (A .kept .now) (A .ranks .now) (A .places .now) (S .pre .0)
-
-marked-requires : tie.Need-marked-requires
-marked-requires c κs = search needs
-
 returns : tie.Need-returns
 returns c =
-    let S = c .before .before .before .before .before .before .before in
-    let marked = c .before .marked in
-    let if1 = c .if1 in
+    let S = c .before .before .before .before in
     let A = S .args in
-    let kept-many = marked .ensures ∙ ap length (front.kept-marks (A .nest) (A .sizes) (A .b) (A .lens .now) (A .kept .now) (A .ranks .now) (A .places .now)
-    (S .pre .0)) in (
-      λ l h. collecting.no-memory (planOf (A .sizes .route) (A .nest)) (A .b) (S .pre .0 .low) (A .memory .now) l (A .grid .now)
+    let if1 = c .if1 in
+    let kept-many = S .pre .1 .1 .0 in (
+      λ l h. collecting.no-memory (planOf (A .sizes .route) (A .nest)) (A .b) (S .pre .1 .0) (A .memory .now) l (A .grid .now)
           (λ q. if1 .taken (q ∙ sym kept-many)),
       λ z. absurd (omega (arith, z)),
     )
 
 returns-2 : tie.Need-returns-2
 returns-2 c =
-    let S = c .before .before .before .before .before .before .before .before .before in
-    let if2 = c .if2 in
-    let A = S .args in (
-      λ l h. collecting.no-record (planOf (A .sizes .route) (A .nest)) (A .b) (S .pre .0 .low) (A .memory .now) l (A .grid .now)
+    let S = c .before .before .before .before .before .before in
+    let A = S .args in
+    let if2 = c .if2 in (
+      λ l h. collecting.no-record (planOf (A .sizes .route) (A .nest)) (A .b) (S .pre .1 .0) (A .memory .now) l (A .grid .now)
           (λ q. if2 .taken (h .counted ∙ q)),
       λ z. absurd (omega (arith, z)),
     )
 
 returns-3 : tie.Need-returns-3
 returns-3 c =
-    let S = c .before .before .before .before .before .before .before .before .before .before in
-    let if3 = c .if3 in
-    let A = S .args in (
-      λ l h. collecting.no-grid (planOf (A .sizes .route) (A .nest)) (A .b) (S .pre .0 .low) (A .memory .now) l (A .grid .now)
-          (λ q. if3 .taken (q ∙ sym (S .pre .0 .planned .0 .cells))),
+    let S = c .before .before .before .before .before .before .before .before in
+    let A = S .args in
+    let if3 = c .if3 in (
+      λ l h. collecting.no-grid (planOf (A .sizes .route) (A .nest)) (A .b) (S .pre .1 .0) (A .memory .now) l (A .grid .now)
+          (λ q. if3 .taken (q ∙ sym (S .pre .0 .0 .cells))),
       λ z. absurd (omega (arith, z)),
     )
 
 array-read-fit-own : tie.Need-array-read-fit-own
 array-read-fit-own c =
-    let S = c .before .before .before .before .before .before .before .before .before .before in
-    omega (arith, S .pre .1)
+    let S = c .before .before .before .before .before .before .before .before in
+    omega (arith, S .pre .1 .1 .1)
 
 array-read-fit-own-2 : tie.Need-array-read-fit-own-2
 array-read-fit-own-2 c =
-    let S = c .before .before .before .before .before .before .before .before .before .before in
-    omega (arith, S .pre .1)
+    let S = c .before .before .before .before .before .before .before .before in
+    omega (arith, S .pre .1 .1 .1)
 
 array-read-fit-own-3 : tie.Need-array-read-fit-own-3
 array-read-fit-own-3 c =
-    let S = c .before .before .before .before .before .before .before .before .before .before in
-    omega (arith, S .pre .1)
+    let S = c .before .before .before .before .before .before .before .before in
+    omega (arith, S .pre .1 .1 .1)
 
 fit-own-requires : tie.Need-fit-own-requires
 fit-own-requires c κs =
-    let S = c .before .before .before .before .before .before .before .before .before .before in
-    S .pre .0 .planned
+    let S = c .before .before .before .before .before .before .before .before in
+    S .pre .0
 
 returns-4 : tie.Need-returns-4
 returns-4 c =
-    let S = c .before .before .before .before .before .before .before .before .before .before .before .before in
-    let marked = c .before .before .before .before .before .before .marked in
-    let if1 = c .before .before .before .before .before .if1 in
-    let if2 = c .before .before .before .if2 in
+    let S = c .before .before .before .before .before .before .before .before .before .before in
+    let A = S .args in
+    let if1 = c .before .before .before .before .before .before .if1 in
+    let if2 = c .before .before .before .before .if2 in
     let if3 = c .before .before .if3 in
     let fit-own = c .before .fit-own in
     let if4 = c .if4 in
-    let A = S .args in
-    let kept-many = marked .ensures ∙ ap length (front.kept-marks (A .nest) (A .sizes) (A .b) (A .lens .now) (A .kept .now) (A .ranks .now) (A .places .now)
-    (S .pre .0)) in (
-      λ l h. collecting.unfit (planOf (A .sizes .route) (A .nest)) (A .b) (S .pre .0 .low) (A .memory .now) l (A .grid .now) (if1 .left ∙ kept-many)
-          (sym (h .counted) ∙ if2 .left) (if3 .left ∙ S .pre .0 .planned .0 .cells) (A .progress) h
+    let kept-many = S .pre .1 .1 .0 in (
+      λ l h. collecting.unfit (planOf (A .sizes .route) (A .nest)) (A .b) (S .pre .1 .0) (A .memory .now) l (A .grid .now) (if1 .left ∙ kept-many)
+          (sym (h .counted) ∙ if2 .left) (if3 .left ∙ S .pre .0 .0 .cells) (A .progress) h
           (fit-own .result) (fit-own .ensures) (not-true _ (if4 .taken)),
       λ z. absurd (omega (arith, z)),
     )
 
 array-read-word-index : tie.Need-array-read-word-index
 array-read-word-index c =
-    let S = c .before .before .before .before .before .before .before .before .before .before .before .before in
-    omega (arith, S .pre .1)
+    let S = c .before .before .before .before .before .before .before .before .before .before in
+    omega (arith, S .pre .1 .1 .1)
 
 word-index-requires : tie.Need-word-index-requires
 word-index-requires c κs = search needs
 
 tile-count-requires : tie.Need-tile-count-requires
 tile-count-requires c κs =
-    let S = c .before .before .before .before .before .before .before .before .before .before .before .before .before in
-    S .pre .0 .planned
+    let S = c .before .before .before .before .before .before .before .before .before .before .before in
+    S .pre .0
 
 returns-5 : tie.Need-returns-5
 returns-5 c =
-    let S = c .before .before .before .before .before .before .before .before .before .before .before .before .before .before .before in
-    let marked = c .before .before .before .before .before .before .before .before .before .marked in
-    let if1 = c .before .before .before .before .before .before .before .before .if1 in
-    let if2 = c .before .before .before .before .before .before .if2 in
+    let S = c .before .before .before .before .before .before .before .before .before .before .before .before .before in
+    let A = S .args in
+    let if1 = c .before .before .before .before .before .before .before .before .before .if1 in
+    let if2 = c .before .before .before .before .before .before .before .if2 in
     let if3 = c .before .before .before .before .before .if3 in
     let fit-own = c .before .before .before .before .fit-own in
     let if4 = c .before .before .before .if4 in
     let word-index = c .before .before .word-index in
     let tile-count = c .before .tile-count in
     let if5 = c .if5 in
-    let A = S .args in
-    let kept-many = marked .ensures ∙ ap length (front.kept-marks (A .nest) (A .sizes) (A .b) (A .lens .now) (A .kept .now) (A .ranks .now) (A .places .now)
-    (S .pre .0)) in (
-      λ l h. collecting.left (planOf (A .sizes .route) (A .nest)) (A .b) (S .pre .0 .low) (A .memory .now) l (A .grid .now) (if1 .left ∙ kept-many)
-          (sym (h .counted) ∙ if2 .left) (if3 .left ∙ S .pre .0 .planned .0 .cells) (A .progress) h
+    let kept-many = S .pre .1 .1 .0 in (
+      λ l h. collecting.left (planOf (A .sizes .route) (A .nest)) (A .b) (S .pre .1 .0) (A .memory .now) l (A .grid .now) (if1 .left ∙ kept-many)
+          (sym (h .counted) ∙ if2 .left) (if3 .left ∙ S .pre .0 .0 .cells) (A .progress) h
           (fit-own .result) (fit-own .ensures) (not-false _ (if4 .left))
           (word-index .result) (tile-count .result) (word-index .ensures) (tile-count .ensures .0) (if5 .taken),
       λ z. absurd (omega (arith, z)),
@@ -127,32 +110,28 @@ returns-5 c =
 
 returns-6 : tie.Need-returns-6
 returns-6 c =
-    let S = c .before .before .before .before .before .before .before .before .before .before .before .before .before .before .before in
-    let marked = c .before .before .before .before .before .before .before .before .before .marked in
-    let if1 = c .before .before .before .before .before .before .before .before .if1 in
-    let if2 = c .before .before .before .before .before .before .if2 in
+    let S = c .before .before .before .before .before .before .before .before .before .before .before .before .before in
+    let A = S .args in
+    let if1 = c .before .before .before .before .before .before .before .before .before .if1 in
+    let if2 = c .before .before .before .before .before .before .before .if2 in
     let if3 = c .before .before .before .before .before .if3 in
     let fit-own = c .before .before .before .before .fit-own in
     let if4 = c .before .before .before .if4 in
     let word-index = c .before .before .word-index in
     let tile-count = c .before .tile-count in
     let if5 = c .if5 in
-    let A = S .args in
-    let kept-many = marked .ensures ∙ ap length (front.kept-marks (A .nest) (A .sizes) (A .b) (A .lens .now) (A .kept .now) (A .ranks .now) (A .places .now)
-    (S .pre .0)) in (
-      λ l h. collecting.none (planOf (A .sizes .route) (A .nest)) (A .b) (S .pre .0 .low) (A .memory .now) l (A .grid .now) (if1 .left ∙ kept-many)
-          (sym (h .counted) ∙ if2 .left) (if3 .left ∙ S .pre .0 .planned .0 .cells) (A .progress) h
+    let kept-many = S .pre .1 .1 .0 in (
+      λ l h. collecting.none (planOf (A .sizes .route) (A .nest)) (A .b) (S .pre .1 .0) (A .memory .now) l (A .grid .now) (if1 .left ∙ kept-many)
+          (sym (h .counted) ∙ if2 .left) (if3 .left ∙ S .pre .0 .0 .cells) (A .progress) h
           (fit-own .result) (fit-own .ensures) (not-false _ (if4 .left))
           (word-index .result) (tile-count .result) (word-index .ensures) (tile-count .ensures .0) (if5 .left),
-      λ z. (if1 .left ∙ kept-many, if3 .left ∙ S .pre .0 .planned .0 .cells),
+      λ z. (if1 .left ∙ kept-many, if3 .left ∙ S .pre .0 .0 .cells),
     )
 
 pub uncollected-spec : {M : Type 1} → statement M
 uncollected-spec =
     tie.close
     (tie.spec
-    slice-aggregate-marked
-    marked-requires
     returns
     returns-2
     returns-3
