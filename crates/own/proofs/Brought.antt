@@ -1,22 +1,20 @@
 -- Laws of the cells that messages bring: a message's cells marked, and the cells kept once so many messages are looked at.
 use Prim.Native.Nat.{ℕ, suc, _+_, _≤_, _<_}
 use mathlib.Core.Path.{_≡_, refl, sym, ap, _∙_}
-use mathlib.Core.Logic.{_⊎_, inl, inr, _≢_}
+use mathlib.Core.Logic.{_⊎_, inl, inr}
 use mathlib.Core.Bool.{Bool, true, false}
 use mathlib.Core.List.{List}
 use native.Mathlib.Numerals.{add-one}
 use native.Mathlib.Omega.{arith}
 use lib.ListN.{length, getD, drop, set, length-set, drop-of-length-le}
 use lib.Seq.{ext-getD, drop-cons}
-use lib.Dec.{eqb}
-use borrow.Author.Tests.{eq-eqb, ne-eqb}
+use lib.Dec.{eqb, leb}
+use borrow.Author.Tests.{le-leb, lt-leb}
 use Rattle.base.specs.Tests.{_and_, _or_, one, pick, some, tabulate}
 use Rattle.base.specs.Lists.{In, member, setAll}
 use Rattle.base.proofs.Tests.{and-true, and-false, and-no, or-right, pick-true, pick-false, one-true, never-both, length-tabulate, tabulate-at}
 use Rattle.base.proofs.Lists.{in-member, member-in, setAll-length, setAll-other, setAll-same}
 use Rattle.machine.specs.Plan.{Plan, Sound, count, heldBy}
-use Rattle.table.specs.declared.MessageLine.{MessageLine}
-use Rattle.table.specs.Summary.{lineOf}
 use Rattle.apart.specs.Apart.{takerAt}
 use Rattle.apart.specs.Own.{owns, keeps}
 
@@ -56,14 +54,13 @@ held-below p so m low cells marks e long c i = rw long (so .held-low m c low (rw
 
 -- ---- one message
 
-module _ (p : Plan) (b m : ℕ) (r : MessageLine) (is : r ≡ lineOf p m) where
-  pub brought : (marks marks′ : List ℕ) → r .to ≡ b → marks′ ≡ setAll marks (heldBy p m) 1
+module _ (p : Plan) (b m v : ℕ) (is : leb 2 v ≡ eqb (takerAt p m) b) where
+  pub brought : (marks marks′ : List ℕ) → 2 ≤ v → marks′ ≡ setAll marks (heldBy p m) 1
       → marks′ ≡ pick (eqb (takerAt p m) b) (setAll marks (heldBy p m) 1) marks
-  brought marks marks′ e q =
-      q ∙ sym (pick-true _ _ _ (eq-eqb _ _ (sym (ap (λ (l : MessageLine). l .to) is) ∙ e)))
+  brought marks marks′ h q = q ∙ sym (pick-true _ _ _ (sym is ∙ le-leb 2 v h))
 
-  pub elsewhere : (marks new : List ℕ) → r .to ≢ b → marks ≡ pick (eqb (takerAt p m) b) new marks
-  elsewhere marks new k = sym (pick-false _ _ _ (ne-eqb _ _ (λ e. k (ap (λ (l : MessageLine). l .to) is ∙ e))))
+  pub elsewhere : (marks new : List ℕ) → v < 2 → marks ≡ pick (eqb (takerAt p m) b) new marks
+  elsewhere marks new h = sym (pick-false _ _ _ (sym is ∙ lt-leb 2 v h))
 
 -- ---- all of them
 

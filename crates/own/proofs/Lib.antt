@@ -4,6 +4,7 @@ pub mod Marks
 pub mod Slotted
 pub mod Slots
 pub mod Handling
+pub mod Chains
 pub mod Rows
 pub mod Owned
 pub mod Brought

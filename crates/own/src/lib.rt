@@ -1,22 +1,24 @@
 // One processor's own part of the machine's areas, by the table: which cells it keeps words of, which messages it handles, where these stand in its
 // part, and its words put into a memory of all cells and taken out of it.
 ghost use mathlib.Core.Path.{_≡_};
-ghost use Prim.Native.Nat.{ℕ, _+_, _*_, _≤_, _<_};
+ghost use Prim.Native.Nat.{ℕ, _+_, _*_, _/_, _%_, _≤_, _<_};
 ghost use lib.ListN.{length, getD};
 ghost use lib.Dec.{eqb};
 ghost use Rattle.base.specs.Tests.{one, pick, tabulate};
 ghost use Rattle.base.specs.Lists.{In, setAll, unpack, pack};
 ghost use Rattle.machine.specs.Plan.{count, heldBy};
 ghost use Rattle.nest.specs.Accepted.{Accepted};
-ghost use Rattle.nest.specs.Nest.{cells, processors};
+ghost use Rattle.nest.specs.Nest.{processorCount, cells, boxTiles, processors};
+ghost use Rattle.nest.specs.Places.{rank};
 ghost use Rattle.nest.specs.Spans.{Marked};
-ghost use Rattle.plan.specs.Shaped.{planOf};
+ghost use Rattle.plan.specs.Messages.{ways};
+ghost use Rattle.plan.specs.Shaped.{boxTile, planOf};
 ghost use Rattle.layout.specs.Sizes.{Sized};
 ghost use Rattle.tables.specs.Tables.{Routed, Tabled, FoundIn};
 ghost use Rattle.apart.specs.Apart.{takerAt};
 ghost use Rattle.apart.specs.Own.{owns, keeps, handles};
 ghost use Rattle.own.specs.Part.{rankOf, mailAt, markedCells, rankAt, spreadOut, Counted, Listed};
-ghost use Rattle.own.specs.Marking.{wide, Shown, Alike};
+ghost use Rattle.own.specs.Marking.{wide, Shown, Alike, sideOf, Sided, Repeated};
 use base::half_index;
 use base::word_index;
 use held::cells_of;
@@ -25,7 +27,6 @@ use layout::least;
 use nest::Nest;
 use scans::Place;
 use stages::zero_bytes;
-use table::line_at;
 use tables::tiles_of;
 
 // ---- cells
@@ -95,6 +96,95 @@ pub fn mark_own(nest: Nest, sizes: Sizes, b: usize, marks: &mut [u8])
     }
 }
 
+// ---- the processors at the ends of a slot's message, by chains: tiles that differ in the last dimension alone, which is not spread
+
+// The processor at a way's end from a tile's place, as if there were a tile.
+fn ahead_of(nest: Nest, at: [usize; 4], along: [usize; 4]) -> usize
+    requires { ⌜ Accepted nest × ((j : ℕ) → j < nest .spread → getD at j 0 + getD along j 0 < 65536) ⌝ }
+    ensures { λ r. ⌜ r ≡ rank (processorCount nest) (λ j. (getD at j 0 + getD along j 0) % processorCount nest j) (nest .spread) ⌝ }
+{
+    let counts = nest.counts;
+    let n = nest.spread;
+    let mut to = [0; 4];
+    for j in 0..n {
+        to[j] = (at[j] + along[j]) % counts[j];
+    }
+    layout::rank(counts, to, n)
+}
+
+// Whether they are the same, as a byte.
+fn same_as(a: usize, b: usize) -> u8
+    ensures { λ r. ⌜ r ≡ one (eqb a b) ⌝ }
+{
+    if a == b { 1 } else { 0 }
+}
+
+// The bytes of a tile's slots.
+fn put_sides(nest: Nest, sizes: Sizes, b: usize, tile: usize, row: &mut [u8])
+    requires { ⌜ Sized nest sizes × ((tile < boxTiles nest) × (length (now row) ≡ ways (sizes .route) nest)) ⌝ }
+    ensures { λ _. ⌜ now (row .exit) ≡ tabulate (sideOf (sizes .route) nest b tile) (ways (sizes .route) nest) ⌝ }
+{
+    let at = layout::place_of_tile(nest, sizes, tile);
+    let from = same_as(layout::processor_of(nest, sizes, tile), b);
+    let mut w = 0;
+    while w < row.len() {
+        let along = layout::along_of(nest, sizes, w);
+        row[w] = from + 2 * same_as(ahead_of(nest, at, along), b);
+        w += 1;
+    }
+}
+
+// Those of the tile before it.
+fn copy_sides(sides: &mut [u8], at: usize, n: usize)
+    requires { ⌜ (n ≤ at) × ((at + n ≤ length (now sides)) × (length (now sides) ≤ 16384)) ⌝ }
+    ensures { λ _. ⌜ Repeated at n (now (sides .entry)) (now (sides .exit)) ⌝ }
+{
+    let before = at - n;
+    let mut w = 0;
+    while w < n {
+        sides[at + w] = sides[before + w];
+        w += 1;
+    }
+}
+
+// A tile's number in the box.
+fn box_tile(nest: Nest, sizes: Sizes, lens: &[u16; 9217], tile: usize) -> usize
+    requires { ⌜ (Sized nest sizes × Tabled nest sizes (now lens)) × (tile < planOf (sizes .route) nest .tiles) ⌝ }
+    ensures { λ r. ⌜ (r ≡ boxTile nest tile) × (r < boxTiles nest) ⌝ }
+{
+    if nest.bounds == 0 {
+        return tile;
+    }
+    shaped_table::box_of(nest, lens, tile)
+}
+
+// For each slot which of its ends are the processor's, looked up once a chain.
+fn fill_sides(nest: Nest, sizes: Sizes, lens: &[u16; 9217], b: usize, sides: &mut [u8])
+    requires { ⌜ (Sized nest sizes × Tabled nest sizes (now lens)) × (length (now sides) ≡ 7168) ⌝ }
+    ensures { λ _. ⌜ Sided (sizes .route) nest b (planOf (sizes .route) nest .tiles * sizes .ways) (now (sides .exit)) ⌝ }
+{
+    let ways = sizes.ways;
+    let across = sizes.across[nest.dimensions - 1];
+    let tiles = tiles_of(nest, sizes, lens);
+    let mut known = sizes.tiles;
+    let mut tile = 0;
+    while tile < tiles {
+        let number = box_tile(nest, sizes, lens, tile);
+        let chain = number / across;
+        let from = tile * ways;
+        if chain == known {
+            copy_sides(sides, from, ways);
+        } else {
+            let end = from + ways;
+            put_sides(nest, sizes, b, number, &mut sides[from..end]);
+        }
+        known = chain;
+        tile += 1;
+    }
+}
+
+// ---- cells that messages bring
+
 // Marks these cells.
 fn mark_cells(marks: &mut [u8], cells: &[u16])
     requires { ⌜ ((c : ℕ) → In c (now cells) → c < length (now marks)) ⌝ }
@@ -125,24 +215,25 @@ fn mark_held(
     mark_cells(marks, list);
 }
 
-// The same where one of the processor's tiles takes the message; the list has room for all of a message's cells.
+// The same where one of the processor's tiles takes the message, by its slot's byte; the list has room for all of a message's cells.
 fn mark_brought(
     nest: Nest,
     sizes: Sizes,
     lens: &[u16; 9217],
     place: Place,
-    b: u32,
+    b: usize,
+    side: u8,
     list: &mut [u16],
     marks: &mut [u8],
 )
     requires { ⌜ (Sized nest sizes × Tabled nest sizes (now lens)) × FoundIn (sizes .route) nest (place .number) place ⌝ }
+    requires { ⌜ side ≡ sideOf (sizes .route) nest b (boxTile nest (place .slot / ways (sizes .route) nest)) (place .slot % ways (sizes .route) nest) ⌝ }
     requires { ⌜ (place .words ≤ length (now list)) × (length (now marks) ≡ cells nest) ⌝ }
     ensures { λ _. ⌜ now (marks .exit)
         ≡ pick (eqb (takerAt (planOf (sizes .route) nest) (place .number)) b)
         (setAll (now (marks .entry)) (heldBy (planOf (sizes .route) nest) (place .number)) 1) (now (marks .entry)) ⌝ }
 {
-    let ends = line_at(nest, sizes, lens, place);
-    if ends.to == b {
+    if side >= 2 {
         let words = place.words;
         mark_held(nest, sizes, lens, place, &mut list[0..words], marks);
     }
@@ -154,10 +245,12 @@ fn mark_messages(
     sizes: Sizes,
     lens: &[u16; 9217],
     b: usize,
+    sides: &[u8],
     list: &mut [u16],
     marks: &mut [u8],
 )
-    requires { ⌜ (Sized nest sizes × Tabled nest sizes (now lens)) × ((b < processors nest) × (length (now list) ≡ 16384)) ⌝ }
+    requires { ⌜ (Sized nest sizes × Tabled nest sizes (now lens)) × (length (now list) ≡ 16384) ⌝ }
+    requires { ⌜ (length (now sides) ≡ 7168) × Sided (sizes .route) nest b (planOf (sizes .route) nest .tiles * sizes .ways) (now sides) ⌝ }
     requires { ⌜ now marks ≡ tabulate (λ c. one (owns (planOf (sizes .route) nest) b c)) (cells nest) ⌝ }
     ensures { λ _. ⌜ now (marks .exit) ≡ tabulate (λ c. one (keeps (planOf (sizes .route) nest) b c)) (cells nest) ⌝ }
 {
@@ -174,7 +267,7 @@ fn mark_messages(
                 offset: offset,
                 words: words,
             };
-            mark_brought(nest, sizes, lens, place, b as u32, list, marks);
+            mark_brought(nest, sizes, lens, place, b, sides[slot], list, marks);
             number += 1;
         }
         offset += words;
@@ -188,8 +281,10 @@ pub fn mark_kept(nest: Nest, sizes: Sizes, lens: &[u16; 9217], b: usize, marks: 
     ensures { λ _. ⌜ now (marks .exit) ≡ tabulate (λ c. one (keeps (planOf (sizes .route) nest) b c)) (cells nest) ⌝ }
 {
     mark_own(nest, sizes, b, marks);
+    let mut sides = [0u8; 7168];
+    fill_sides(nest, sizes, lens, b, &mut sides);
     let mut list = [0u16; 16384];
-    mark_messages(nest, sizes, lens, b, &mut list, marks);
+    mark_messages(nest, sizes, lens, b, &sides, &mut list, marks);
 }
 
 // ---- ranks: where the marked cells' words stand in the part
@@ -291,31 +386,27 @@ pub fn give(marks: &[u8], counts: &[u32; 257], cells: &[u16], memory: &[u32], wo
 
 // ---- messages
 
-// Whether the processor sends or takes the message, as a word.
-fn handled_one(nest: Nest, sizes: Sizes, lens: &[u16; 9217], place: Place, b: u32) -> u32
-    requires { ⌜ (Sized nest sizes × Tabled nest sizes (now lens)) × FoundIn (sizes .route) nest (place .number) place ⌝ }
+// Whether the processor sends or takes the message, as a word, by its slot's byte.
+fn handled_one(nest: Nest, sizes: Sizes, place: Place, b: usize, side: u8) -> u32
+    requires { ⌜ (Sized nest sizes × Routed nest sizes) × FoundIn (sizes .route) nest (place .number) place ⌝ }
+    requires { ⌜ side ≡ sideOf (sizes .route) nest b (boxTile nest (place .slot / ways (sizes .route) nest)) (place .slot % ways (sizes .route) nest) ⌝ }
     ensures { λ r. ⌜ r ≡ one (handles (planOf (sizes .route) nest) b (place .number)) ⌝ }
 {
-    let line = line_at(nest, sizes, lens, place);
-    if line.from == b {
-        return 1;
-    }
-    if line.to == b {
-        return 1;
-    }
-    0
+    if side == 0 { 0 } else { 1 }
 }
 
-// For each message, and behind the last one, how many messages the processor handles before it, and how many words they have.
-pub fn fill_handled(
+// For each message, and behind the last one, how many messages the processor handles before it, and how many words they have, by the slots' bytes.
+fn fill_ranks(
     nest: Nest,
     sizes: Sizes,
     lens: &[u16; 9217],
     b: usize,
+    sides: &[u8],
     ranks: &mut [u32; 7169],
     places: &mut [u32; 7169],
 )
-    requires { ⌜ (Sized nest sizes × Tabled nest sizes (now lens)) × (b < processors nest) ⌝ }
+    requires { ⌜ (Sized nest sizes × Tabled nest sizes (now lens)) × ((length (now sides) ≡ 7168)
+        × Sided (sizes .route) nest b (planOf (sizes .route) nest .tiles * sizes .ways) (now sides)) ⌝ }
     requires { ⌜ (length (now ranks) ≡ 7169) × (length (now places) ≡ 7169) ⌝ }
     ensures { λ _. ⌜ ((m : ℕ) → m ≤ count (planOf (sizes .route) nest) → (getD (now (ranks .exit)) m 0 ≡ rankOf (planOf (sizes .route) nest) b m)
         × (getD (now (places .exit)) m 0 ≡ mailAt (planOf (sizes .route) nest) b m)) ⌝ }
@@ -337,7 +428,7 @@ pub fn fill_handled(
                 offset: offset,
                 words: words,
             };
-            let own = handled_one(nest, sizes, lens, place, b as u32);
+            let own = handled_one(nest, sizes, place, b, sides[slot]);
             number += 1;
             rank += own;
             at += own * (words as u32);
@@ -347,4 +438,23 @@ pub fn fill_handled(
     }
     ranks[number] = rank;
     places[number] = at;
+}
+
+// The same of the table.
+pub fn fill_handled(
+    nest: Nest,
+    sizes: Sizes,
+    lens: &[u16; 9217],
+    b: usize,
+    ranks: &mut [u32; 7169],
+    places: &mut [u32; 7169],
+)
+    requires { ⌜ (Sized nest sizes × Tabled nest sizes (now lens)) × (b < processors nest) ⌝ }
+    requires { ⌜ (length (now ranks) ≡ 7169) × (length (now places) ≡ 7169) ⌝ }
+    ensures { λ _. ⌜ ((m : ℕ) → m ≤ count (planOf (sizes .route) nest) → (getD (now (ranks .exit)) m 0 ≡ rankOf (planOf (sizes .route) nest) b m)
+        × (getD (now (places .exit)) m 0 ≡ mailAt (planOf (sizes .route) nest) b m)) ⌝ }
+{
+    let mut sides = [0u8; 7168];
+    fill_sides(nest, sizes, lens, b, &mut sides);
+    fill_ranks(nest, sizes, lens, b, &sides, ranks, places);
 }
