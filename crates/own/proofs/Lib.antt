@@ -1,3 +1,5 @@
+pub mod Ranks
+pub mod Blocks
 pub mod Marks
 pub mod Slots
 pub mod Handling

@@ -25,7 +25,7 @@ module _ (marks : List ℕ) where
   all = keep f (length marks)
 
   -- of the first c cells n are marked
-  pub record Counted (c n : ℕ) : Type 0 where
+  pub record Passed (c n : ℕ) : Type 0 where
     pub low : c ≤ length marks
     pub is : n ≡ length (keep f c)
 
@@ -33,15 +33,15 @@ module _ (marks : List ℕ) where
   abbrev pub Looked : ℕ → ℕ → ℕ → Type 0
   Looked c n n′ = ((getD marks c 0 ≡ 1) × (n′ ≡ n + 1)) ⊎ ((getD marks c 0 ≢ 1) × (n′ ≡ n))
 
-  pub count-start : Counted 0 0
+  pub count-start : Passed 0 0
   unfolding keep
   count-start = record { low = omega arith; is = refl }
 
-  module _ (c n : ℕ) (g : Counted c n) where
+  module _ (c n : ℕ) (g : Passed c n) where
     pub few : n ≤ c
     few = omega (arith, g .is, keep-few f c)
 
-    pub count-next : (n′ : ℕ) → c < length marks → Looked c n n′ → Counted (c + 1) n′
+    pub count-next : (n′ : ℕ) → c < length marks → Looked c n n′ → Passed (c + 1) n′
     count-next n′ l (inl (e, q)) =
         record {
           low = omega arith;
@@ -63,7 +63,7 @@ module _ (marks : List ℕ) where
   -- ---- into a memory
 
   pub record Widening (words old new : List ℕ) (c n : ℕ) : Type 0 where
-    pub counted : Counted c n
+    pub counted : Passed c n
     pub long : length new ≡ length old
     pub is : new ≡ unpack old (keep f c) (take n words)
 
@@ -113,7 +113,7 @@ module _ (marks : List ℕ) where
   -- ---- out of it
 
   pub record Narrowing (memory old new : List ℕ) (c n : ℕ) : Type 0 where
-    pub counted : Counted c n
+    pub counted : Passed c n
     pub stored : Stored (λ j. getD memory (getD all j 0) 0) old new n
 
   module _ (memory old : List ℕ) where

@@ -14,8 +14,9 @@ ghost use Rattle.tables.specs.Tables.{Routed, FoundIn};
 ghost use Rattle.apart.specs.Apart.{takerAt};
 ghost use Rattle.apart.specs.Own.{owns, keeps, handles};
 ghost use Rattle.mail.specs.Given.{Planned};
-ghost use Rattle.own.specs.Part.{rankOf, mailAt, markedAt};
+ghost use Rattle.own.specs.Part.{rankOf, mailAt, markedAt, markedCells, rankAt, spreadOut, Counted, Listed};
 use base::half_index;
+use base::word_index;
 use layout::Sizes;
 use mail::core::put_owners;
 use nest::Nest;
@@ -145,6 +146,103 @@ pub fn narrow(marks: &[u32], memory: &[u32], words: &mut [u32])
             n += 1;
         }
         c += 1;
+    }
+}
+
+// ---- ranks: where the marked cells' words stand in the part
+
+// How many of the bytes are marks.
+fn marks_in(marks: &[u8]) -> u32
+    requires { ⌜ length (now marks) ≤ 16384 ⌝ }
+    ensures { λ r. ⌜ r ≡ rankAt (now (marks .entry)) (length (now (marks .entry))) ⌝ }
+{
+    let mut c = 0;
+    let mut n = 0;
+    while c < marks.len() {
+        if marks[c] == 1 {
+            n += 1;
+        }
+        c += 1;
+    }
+    n
+}
+
+// How many cells are marked before each block of 64.
+pub fn fill_counts(marks: &[u8], counts: &mut [u32; 257])
+    requires { ⌜ (length (now marks) ≤ 16384) × (length (now counts) ≡ 257) ⌝ }
+    ensures { λ _. ⌜ Counted (now (marks .entry)) (now (counts .exit)) ⌝ }
+{
+    let blocks = marks.len() / 64;
+    let mut n = 0;
+    let mut q = 0;
+    while q < blocks {
+        counts[q] = n;
+        let from = q * 64;
+        let end = from + 64;
+        n += marks_in(&marks[from..end]);
+        q += 1;
+    }
+    counts[q] = n;
+}
+
+// How many cells are marked before this one; before the length, how many there are.
+pub fn rank(marks: &[u8], counts: &[u32; 257], c: usize) -> usize
+    requires { ⌜ Counted (now marks) (now counts) × ((c ≤ length (now marks)) × (length (now marks) ≤ 16384)) ⌝ }
+    ensures { λ r. ⌜ r ≡ rankAt (now (marks .entry)) c ⌝ }
+{
+    let q = c / 64;
+    let from = q * 64;
+    let n = counts[q] + marks_in(&marks[from..c]);
+    word_index(n)
+}
+
+// The same, where the rank of another cell is known: cells of a list mostly lie side by side.
+fn rank_by(marks: &[u8], counts: &[u32; 257], known: usize, at: usize, c: usize) -> usize
+    requires { ⌜ Counted (now marks) (now counts) × ((c ≤ length (now marks)) × (length (now marks) ≤ 16384)) ⌝ }
+    requires { ⌜ at ≡ rankAt (now marks) known ⌝ }
+    ensures { λ r. ⌜ r ≡ rankAt (now (marks .entry)) c ⌝ }
+{
+    if c == known {
+        return at;
+    }
+    rank(marks, counts, c)
+}
+
+// The words of these cells into the part.
+pub fn take(marks: &[u8], counts: &[u32; 257], cells: &[u16], memory: &mut [u32], words: &[u32])
+    requires { ⌜ Listed (now marks) (now counts) (now cells) (now memory) (now words) ⌝ }
+    ensures { λ _. ⌜ now (memory .exit)
+        ≡ pack (unpack (spreadOut (now (marks .entry)) (now (memory .entry))) (now (cells .entry)) (now (words .entry)))
+        (markedCells (now (marks .entry))) ⌝ }
+{
+    let mut known = 0;
+    let mut at = 0;
+    let mut i = 0;
+    while i < cells.len() {
+        let c = half_index(cells[i]);
+        at = rank_by(marks, counts, known, at, c);
+        memory[at] = words[i];
+        known = c + 1;
+        at += 1;
+        i += 1;
+    }
+}
+
+// And out of it.
+pub fn give(marks: &[u8], counts: &[u32; 257], cells: &[u16], memory: &[u32], words: &mut [u32])
+    requires { ⌜ Listed (now marks) (now counts) (now cells) (now memory) (now words) ⌝ }
+    ensures { λ _. ⌜ now (words .exit) ≡ pack (spreadOut (now (marks .entry)) (now (memory .entry))) (now (cells .entry)) ⌝ }
+{
+    let mut known = 0;
+    let mut at = 0;
+    let mut i = 0;
+    while i < cells.len() {
+        let c = half_index(cells[i]);
+        at = rank_by(marks, counts, known, at, c);
+        words[i] = memory[at];
+        known = c + 1;
+        at += 1;
+        i += 1;
     }
 }
 

@@ -416,13 +416,13 @@ module _ (x : Nest) (ok : Accepted x) (c : ℕ → ℕ) (a from w : ℕ) (first 
 
   module _ (source m₀ : List ℕ) (long : length m₀ ≡ cells x) where
     module _ (m : List ℕ) (h₀ h₁ h₂ h₃ : ℕ) (s : Front x source m₀ c w 4 m (four h₀ h₁ h₂ h₃)) (p t : ℕ) where
-      row-0 : p ≡ c 0 + h₀ → h₀ + t ≤ w → Front x source m₀ c w 4 (storeAll (value x source) m (rowOf p t)) (four (h₀ + t) h₁ h₂ h₃)
+      pub row-0 : p ≡ c 0 + h₀ → h₀ + t ≤ w → Front x source m₀ c w 4 (storeAll (value x source) m (rowOf p t)) (four (h₀ + t) h₁ h₂ h₃)
       row-0 e i =
           front-row x ok source m₀ long c w 4 (g .rows) m (four h₀ h₁ h₂ h₃) s 0 (omega arith) p e t i (λ j q. absurd (omega arith))
           (four (h₀ + t) h₁ h₂ h₃) (omega arith) (each-four (λ j. j ≢ 0 → four (h₀ + t) h₁ h₂ h₃ j ≤ four h₀ h₁ h₂ h₃ j) (λ q. absurd (q refl))
           (λ q. omega arith) (λ q. omega arith) (λ q. omega arith))
 
-      row-1 : p ≡ c 1 + h₁ → h₁ + t ≤ w → h₁ + t ≤ h₀ → Front x source m₀ c w 4 (storeAll (value x source) m (rowOf p t)) (four h₀ (h₁ + t) h₂ h₃)
+      pub row-1 : p ≡ c 1 + h₁ → h₁ + t ≤ w → h₁ + t ≤ h₀ → Front x source m₀ c w 4 (storeAll (value x source) m (rowOf p t)) (four h₀ (h₁ + t) h₂ h₃)
       row-1 e i a₀ =
           front-row x ok source m₀ long c w 4 (g .rows) m (four h₀ h₁ h₂ h₃) s 1 (omega arith) p e t i
           (λ j q. each-four (λ j. j < 1 → h₁ + t ≤ four h₀ h₁ h₂ h₃ j) (λ q. a₀) (λ q. absurd (omega arith)) (λ q. absurd (omega arith))
@@ -430,7 +430,8 @@ module _ (x : Nest) (ok : Accepted x) (c : ℕ → ℕ) (a from w : ℕ) (first 
           (four h₀ (h₁ + t) h₂ h₃) (omega arith) (each-four (λ j. j ≢ 1 → four h₀ (h₁ + t) h₂ h₃ j ≤ four h₀ h₁ h₂ h₃ j) (λ q. omega arith)
           (λ q. absurd (q refl)) (λ q. omega arith) (λ q. omega arith))
 
-      row-2 : p ≡ c 2 + h₂ → h₂ + t ≤ w → h₂ + t ≤ h₀ → h₂ + t ≤ h₁ → Front x source m₀ c w 4 (storeAll (value x source) m (rowOf p t)) (four h₀ h₁ (h₂ + t) h₃)
+      pub row-2 : p ≡ c 2 + h₂ → h₂ + t ≤ w → h₂ + t ≤ h₀ → h₂ + t ≤ h₁ → Front x source m₀ c w 4 (storeAll (value x source) m (rowOf p t))
+          (four h₀ h₁ (h₂ + t) h₃)
       row-2 e i a₀ a₁ =
           front-row x ok source m₀ long c w 4 (g .rows) m (four h₀ h₁ h₂ h₃) s 2 (omega arith) p e t i
           (λ j q. each-four (λ j. j < 2 → h₂ + t ≤ four h₀ h₁ h₂ h₃ j) (λ q. a₀) (λ q. a₁) (λ q. absurd (omega arith)) (λ q. absurd (omega arith)) j
@@ -438,7 +439,7 @@ module _ (x : Nest) (ok : Accepted x) (c : ℕ → ℕ) (a from w : ℕ) (first 
           (four h₀ h₁ (h₂ + t) h₃) (omega arith) (each-four (λ j. j ≢ 2 → four h₀ h₁ (h₂ + t) h₃ j ≤ four h₀ h₁ h₂ h₃ j) (λ q. omega arith)
           (λ q. omega arith) (λ q. absurd (q refl)) (λ q. omega arith))
 
-      row-3 : p ≡ c 3 + h₃ → h₃ + t ≤ w → h₃ + t ≤ h₀ → h₃ + t ≤ h₁ → h₃ + t ≤ h₂ → Front x source m₀ c w 4 (storeAll (value x source) m (rowOf p t))
+      pub row-3 : p ≡ c 3 + h₃ → h₃ + t ≤ w → h₃ + t ≤ h₀ → h₃ + t ≤ h₁ → h₃ + t ≤ h₂ → Front x source m₀ c w 4 (storeAll (value x source) m (rowOf p t))
           (four h₀ h₁ h₂ (h₃ + t))
       row-3 e i a₀ a₁ a₂ =
           front-row x ok source m₀ long c w 4 (g .rows) m (four h₀ h₁ h₂ h₃) s 3 (omega arith) p e t i

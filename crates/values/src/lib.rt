@@ -243,10 +243,155 @@ fn band(
     };
     let lag = b - a - 1;
     let rest = width - from;
-    wave(source, memory, rule, n, back, weights, a + from, lag, rest);
+    wave(source, memory, shift, n, back, weights, a + from, lag, rest);
     kernels::row(source, memory, rule, n, back, weights, b + (width - 1), 1);
     kernels::row(source, memory, rule, n, back, weights, c + (width - 2), 2);
     kernels::row(source, memory, rule, n, back, weights, d + (width - 3), 3);
+}
+
+// The same where rows read no row but themselves, in the same columns: no row need be ahead of another for its words to be made
+// beside theirs, and no columns are left.
+fn beside(
+    body: Body,
+    source: &[u32],
+    memory: &mut [u32],
+    first: &[usize; 8],
+    back: &[usize; 8],
+    weights: &[u64; 8],
+    a: usize,
+    b: usize,
+    c: usize,
+    d: usize,
+    component: usize,
+    from: usize,
+    width: usize,
+)
+    requires { ⌜ ((x : Nest) × BandGiven (withBody x body) (now first) (now back) (now weights) (now source) (now memory) a b c d component from width) ⌝ }
+    ensures { λ _. ⌜ ((x : Nest) → BandGiven (withBody x body) (now (first .entry)) (now (back .entry)) (now (weights .entry)) (now (source .entry))
+        (now (memory .entry)) a b c d component from width
+        → now (memory .exit) ≡ storeAll (value (withBody x body) (now (source .entry))) (now (memory .entry)) (rowsOf (four a b c d) width 4)) ⌝ }
+{
+    let shift = body.shift;
+    let boundary = body.boundary;
+    let n = body.distances;
+    let few = from - 3;
+    let full = component + few;
+    line(
+        source,
+        memory,
+        shift,
+        boundary,
+        n,
+        first,
+        back,
+        weights,
+        full,
+        a,
+        component,
+        few,
+    );
+    line(
+        source,
+        memory,
+        shift,
+        boundary,
+        n,
+        first,
+        back,
+        weights,
+        full,
+        b,
+        component,
+        few,
+    );
+    line(
+        source,
+        memory,
+        shift,
+        boundary,
+        n,
+        first,
+        back,
+        weights,
+        full,
+        c,
+        component,
+        few,
+    );
+    line(
+        source,
+        memory,
+        shift,
+        boundary,
+        n,
+        first,
+        back,
+        weights,
+        full,
+        d,
+        component,
+        few,
+    );
+    let lag = b - a;
+    let rest = width - few;
+    wave(source, memory, shift, n, back, weights, a + few, lag, rest);
+}
+
+// The values of four rows, by whichever way is faster.
+fn side_by_side(
+    body: Body,
+    source: &[u32],
+    memory: &mut [u32],
+    first: &[usize; 8],
+    back: &[usize; 8],
+    weights: &[u64; 8],
+    a: usize,
+    b: usize,
+    c: usize,
+    d: usize,
+    component: usize,
+    from: usize,
+    width: usize,
+    own: bool,
+)
+    requires { ⌜ ((x : Nest) × BandGiven (withBody x body) (now first) (now back) (now weights) (now source) (now memory) a b c d component from width) ⌝ }
+    ensures { λ _. ⌜ ((x : Nest) → BandGiven (withBody x body) (now (first .entry)) (now (back .entry)) (now (weights .entry)) (now (source .entry))
+        (now (memory .entry)) a b c d component from width
+        → now (memory .exit) ≡ storeAll (value (withBody x body) (now (source .entry))) (now (memory .entry)) (rowsOf (four a b c d) width 4)) ⌝ }
+{
+    if own {
+        beside(
+            body,
+            source,
+            memory,
+            first,
+            back,
+            weights,
+            a,
+            b,
+            c,
+            d,
+            component,
+            from,
+            width,
+        );
+        return;
+    }
+    band(
+        body,
+        source,
+        memory,
+        first,
+        back,
+        weights,
+        a,
+        b,
+        c,
+        d,
+        component,
+        from,
+        width,
+    );
 }
 
 // The shortest way back.
@@ -440,6 +585,7 @@ fn box_rows(
 }
 
 // The values of four rows of a box from row `first` on, whose place is `at`: side by side where they go together, else one by one.
+// `own` says which way side by side; either is right.
 fn four_rows(
     body: Body,
     source: &[u32],
@@ -454,6 +600,7 @@ fn four_rows(
     corner: &[usize; 4],
     at: &mut [usize; 4],
     first: usize,
+    own: bool,
 )
     requires { ⌜ ((x : Nest) × (RowsGiven (withBody x body) (now components) (now lasts) (now back) (now weights) (now margin) (now source) (now memory)
         (now grid) (now lengths) (now corner) (now at) first × (first + 4 ≤ 16384))) ⌝ }
@@ -490,7 +637,7 @@ fn four_rows(
     let a = layout::rank_of(grid, at, n);
     let b = a + stride;
     let c = b + stride;
-    band(
+    side_by_side(
         body,
         source,
         memory,
@@ -504,12 +651,13 @@ fn four_rows(
         component,
         from,
         width,
+        own,
     );
     at[last - 1] += 3;
     advance(lengths, corner, at, last);
 }
 
-// The values of the rows of a box in groups of four, from its first row on.
+// The values of the rows of a box in groups of four, from its first row on; `own` if no distance reads another row.
 fn box_fours(
     body: Body,
     source: &[u32],
@@ -524,6 +672,7 @@ fn box_fours(
     corner: &[usize; 4],
     at: &mut [usize; 4],
     groups: usize,
+    own: bool,
 )
     requires { ⌜ ((x : Nest) × (RowsGiven (withBody x body) (now components) (now lasts) (now back) (now weights) (now margin) (now source) (now memory)
         (now grid) (now lengths) (now corner) (now at) 0 × (4 * groups ≤ 16384))) ⌝ }
@@ -547,6 +696,7 @@ fn box_fours(
             corner,
             at,
             4 * g,
+            own,
         );
     }
 }
@@ -573,6 +723,8 @@ fn box_values(
     let last = nest.dimensions - 1;
     let rows = layout::product(lengths, last);
     let groups = by_fours(rows, lengths[last], least);
+    let origin = [0; 4];
+    let own = inner(&margin, &origin, last);
     let body = Body {
         dimensions: nest.dimensions,
         distances: nest.distances,
@@ -594,6 +746,7 @@ fn box_values(
         &corner,
         &mut at,
         groups,
+        own,
     );
     box_rows(
         body,

@@ -8,7 +8,7 @@ use Rattle.own.proofs.marked.Statement.{statement}
 use Rattle.own.proofs.marked.Tie as tie
 
 abbrev Inv-loop : tie.InvT-loop
-Inv-loop marks c₀ n₀ c n = marked.Counted marks c n
+Inv-loop marks c₀ n₀ c n = marked.Passed marks c n
 
 abbrev μ-loop : tie.MeasureT-loop
 μ-loop marks c₀ n₀ c n = length marks - c
