@@ -1,5 +1,5 @@
 // One processor's own part of the machine's areas, by the table: which cells it keeps words of, which messages it handles, where these stand in its
-// part, and its words put into a memory of all cells and taken out of it.
+// part, and its words put in and taken out by a list of cells.
 ghost use mathlib.Core.Path.{_≡_};
 ghost use Prim.Native.Nat.{ℕ, _+_, _*_, _/_, _%_, _≤_, _<_};
 ghost use lib.ListN.{length, getD};
