@@ -3,7 +3,6 @@
 
 #include <inttypes.h>
 #include <stdbool.h>
-#include <stddef.h>
 #include <stdlib.h>
 
 #include "clock.h"
@@ -24,12 +23,13 @@ struct board {
   const struct plan *plan;
   struct transport *transport;
   uint32_t me;
-  struct areas *areas;
-  uint32_t *grid; /* at board 0 */
+  struct areas areas;
+  struct areas *joined;
   struct outbox outbox;
   struct peer *peers; /* one a board; its own is not used */
   uint32_t finished;  /* peers that are */
   uint64_t taken;     /* messages taken in */
+  uint8_t *marks;     /* room for one byte a message */
   double said;        /* when it last said that it is there */
   uint32_t tile_cells;
 };
@@ -41,12 +41,11 @@ static enum status not_due(const struct packet *packet) {
               packet->length);
 }
 
-/* the engine tests taker, length and mark; who sent it only the message's row can tell */
+/* the engine tests taker, length and status; who sent it only the plan's row can tell */
 static enum status take_in(struct board *b, const struct packet *packet) {
   const uint32_t m = packet->number;
-  const uint32_t *row = areas_find(b->areas, m);
-  if (row != NULL && row[ROLWYDDAC_OWN_ROW_SENDING_PROCESSOR] != packet->from) return not_due(packet);
-  const uint32_t number = areas_arrive(b->areas, m, packet->words, packet->length);
+  if (m < plan_messages(b->plan) && plan_message(b->plan, m)[ROLWYDDAC_ROW_SENDING_PROCESSOR] != packet->from) return not_due(packet);
+  const uint32_t number = areas_take_in(&b->areas, b->me, m, packet->words, packet->length);
   switch (number) {
     case ROLWYDDAC_DONE: b->taken++; return STATUS_DONE;
     case ROLWYDDAC_NO_MAIL: return tell(STATUS_DONE, "message %" PRIu32 " of board %" PRIu32 " came again: turned away", m, packet->from);
@@ -56,13 +55,18 @@ static enum status take_in(struct board *b, const struct packet *packet) {
   }
 }
 
+/* the areas to join in are made when the first part is there: at the start all others wait for board 0's first tile */
+static enum status make_joined(struct board *b) { return b->joined->plan != NULL ? STATUS_DONE : areas_make(b->joined, b->plan, b->areas.source); }
+
 static enum status join_part(struct board *b, const struct packet *packet) {
-  if (b->me != 0 || !join_fits(b->plan, packet->from, packet->length))
+  if (b->me != 0 || packet->length != join_length(b->plan))
     return tell(STATUS_DAMAGED, "mail of board %" PRIu32 ": a part that is not due here", packet->from);
   if (b->peers[packet->from].joined) return tell(STATUS_DONE, "the part of board %" PRIu32 " came again: turned away", packet->from);
-  const uint32_t number = join_put(b->plan, packet->from, packet->words, packet->length, b->grid);
-  b->peers[packet->from].joined = number == ROLWYDDAC_DONE;
-  return number == ROLWYDDAC_DONE ? STATUS_DONE : tell_refusal("collecting", number);
+  const enum status status = make_joined(b);
+  if (status != STATUS_DONE) return status;
+  b->peers[packet->from].joined = true;
+  join_put(b->joined, packet->from, packet->words);
+  return STATUS_DONE;
 }
 
 static enum status take_farewell(struct board *b, uint32_t from) {
@@ -123,26 +127,15 @@ static enum status look(struct board *b, double seconds) {
 
 /* ---- turns */
 
-/* the tile at which a message is due that has not come; none: no tile has this number */
-enum { NO_TILE = ROLWYDDAC_MOST_TILES };
-static uint32_t missed_at(const struct board *b, uint32_t at) {
-  enum { UNSENT = 0 };
-  const uint32_t *row = areas_row(b->areas, at);
-  const bool missing = row[ROLWYDDAC_OWN_ROW_TAKING_PROCESSOR] == b->me && b->areas->marks[at] == UNSENT;
-  return missing ? row[ROLWYDDAC_OWN_ROW_TAKING_TILE] : NO_TILE;
-}
-
-/* which messages of which boards it waits for, and at which tile: the first that misses one, since what was due before it was taken */
-static void tell_awaited(const struct board *b) {
-  uint32_t tile = NO_TILE;
-  for (uint32_t at = 0; at < areas_messages(b->areas); at++)
-    if (missed_at(b, at) < tile) tile = missed_at(b, at);
-  for (uint32_t at = 0; at < areas_messages(b->areas) && tile != NO_TILE; at++) {
-    const uint32_t *row = areas_row(b->areas, at);
-    if (missed_at(b, at) == tile)
-      tell(STATUS_TIMEOUT, "waits at tile %" PRIu32 " for message %" PRIu32 " of board %" PRIu32, tile, row[ROLWYDDAC_OWN_ROW_MESSAGE],
-           row[ROLWYDDAC_OWN_ROW_SENDING_PROCESSOR]);
-  }
+/* which messages of which boards it waits for, and at which tile */
+static void tell_awaited(struct board *b) {
+  uint32_t tile = 0;
+  const uint32_t number = areas_awaited(&b->areas, b->me, &tile, b->marks);
+  if (number != ROLWYDDAC_DONE) tell_refusal("asking what is awaited", number);
+  for (uint32_t m = 0; m < plan_messages(b->plan) && number == ROLWYDDAC_DONE; m++)
+    if (b->marks[m] != 0)
+      tell(STATUS_TIMEOUT, "waits at tile %" PRIu32 " for message %" PRIu32 " of board %" PRIu32, tile, m,
+           plan_message(b->plan, m)[ROLWYDDAC_ROW_SENDING_PROCESSOR]);
 }
 
 /* until a message is taken in */
@@ -173,15 +166,15 @@ static enum status after_turn(struct board *b, uint32_t number, bool calculates)
   if (number == ROLWYDDAC_WAITING) return await_mail(b);
   if (number != ROLWYDDAC_DONE) return tell_refusal("turn", number);
   if (calculates) work_on(b->tile_cells, b->options->work);
-  const enum status status = outbox_post_messages(&b->outbox);
+  const enum status status = outbox_post_messages(&b->outbox, &b->areas);
   return status == STATUS_DONE ? look_now_and_then(b) : status;
 }
 
 static enum status take_turns(struct board *b) {
   enum { CALCULATE = 1 };
   for (;;) {
-    const bool calculates = b->areas->progress->stage == CALCULATE;
-    const uint32_t number = areas_turn(b->areas);
+    const bool calculates = b->areas.progress[b->me].stage == CALCULATE;
+    const uint32_t number = areas_turn(&b->areas, b->me);
     if (number == ROLWYDDAC_FINISHED) return STATUS_DONE;
     const enum status status = after_turn(b, number, calculates);
     if (status != STATUS_DONE) return status;
@@ -222,9 +215,10 @@ static enum status see_mail_off(struct board *b) {
 }
 
 static enum status hand_in(struct board *b) {
-  if (b->me != 0) return outbox_post_part(&b->outbox);
-  const uint32_t number = join_own(b->areas, b->grid);
-  return number == ROLWYDDAC_DONE ? STATUS_DONE : tell_refusal("collecting", number);
+  if (b->me != 0) return outbox_post_part(&b->outbox, &b->areas);
+  const enum status status = make_joined(b);
+  if (status == STATUS_DONE) join_own(b->joined, &b->areas, 0);
+  return status;
 }
 
 /* hands its part in, and stays until all others have finished: their last mail is heeded, if it is a repeat */
@@ -247,30 +241,33 @@ static void end_early(struct board *b, enum status status) {
   while (!transport_settled(b->transport) && now() < until) (void)transport_receive(b->transport, 0.01, &ignored);
 }
 
-static enum status make(struct board *b, uint32_t run) {
-  const enum status status = outbox_make(&b->outbox, b->transport, b->areas, run);
+static enum status make(struct board *b, const struct job *job) {
+  const enum status status = outbox_make(&b->outbox, b->transport, b->plan, job->run);
   if (status != STATUS_DONE) return status;
   b->peers = calloc(plan_boards(b->plan), sizeof *b->peers);
-  return b->peers == NULL ? tell_no_memory() : STATUS_DONE;
+  b->marks = malloc((size_t)plan_messages(b->plan) + 1);
+  if (b->peers == NULL || b->marks == NULL) return tell_no_memory();
+  return areas_make(&b->areas, b->plan, job->source);
 }
 
-enum status board_run(const struct options *options, struct areas *areas, uint32_t run, struct transport *transport, uint32_t *grid) {
+enum status board_run(const struct options *options, const struct job *job, struct transport *transport, struct areas *joined) {
   struct board b = {
       .options = options,
-      .plan = areas->plan,
+      .plan = &job->plan,
       .transport = transport,
-      .me = areas->board,
-      .areas = areas,
-      .grid = grid,
+      .me = transport_me(transport),
+      .joined = joined,
       .said = now(),
-      .tile_cells = work_cells(areas->plan),
+      .tile_cells = work_cells(&job->plan),
   };
-  enum status status = make(&b, run);
+  enum status status = make(&b, job);
   const bool made = status == STATUS_DONE;
   if (made) status = take_turns(&b);
   if (status == STATUS_DONE) status = finish(&b);
   if (made && status != STATUS_DONE) end_early(&b, status);
   outbox_free(&b.outbox);
+  areas_free(&b.areas);
   free(b.peers);
+  free(b.marks);
   return status;
 }

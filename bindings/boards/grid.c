@@ -5,6 +5,13 @@
 
 #include "tell.h"
 
+enum status grid_collect(const struct areas *joined, uint32_t **grid) {
+  *grid = calloc(joined->plan->sizes.grid, sizeof **grid);
+  if (*grid == NULL) return tell_no_memory();
+  const uint32_t number = areas_collect(joined, *grid);
+  return number == ROLWYDDAC_DONE ? STATUS_DONE : tell_refusal("collecting", number);
+}
+
 static enum status compare(const uint32_t *grid, const uint32_t *swept, uint32_t cells) {
   for (uint32_t c = 0; c < cells; c++)
     if (grid[c] != swept[c])

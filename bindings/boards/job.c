@@ -75,12 +75,8 @@ enum status job_read(struct job *out, const struct options *options, struct tran
   return STATUS_DONE;
 }
 
-void job_forget_source(struct job *job) {
-  free(job->source);
-  job->source = NULL;
-}
-
 void job_free(struct job *job) {
+  plan_free(&job->plan);
   free(job->recipe.at);
   free(job->source);
 }

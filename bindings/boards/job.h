@@ -1,4 +1,4 @@
-/* What is to be done: the recipe's plan, the source and the run's number. One process reads the files, and every board begins with all of it. */
+/* What is to be done: the recipe's plan, the source and the run's number. One process reads the files; every board has all of it. */
 #ifndef BOARDS_JOB_H
 #define BOARDS_JOB_H
 
@@ -19,9 +19,6 @@ struct job {
 
 /* Reads the job, or has it from the process that does. What is wrong is told by that process alone. job_free is called in any case. */
 enum status job_read(struct job *out, const struct options *options, struct transport *transport);
-
-/* The source goes: a board that has its own words of it needs no other. */
-void job_forget_source(struct job *job);
 
 void job_free(struct job *job);
 

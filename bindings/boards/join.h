@@ -1,28 +1,24 @@
-/* Board 0 puts the grid together: a board posts its memory and its record, and the engine's collecting puts the words of its cells into the
- * grid, in whatever order the parts come. */
+/* Board 0 joins the boards' parts: into areas with a fresh start go each board's own part of its memories and its record. Collecting on
+ * these areas gives the grid (crates/apart, `joined-grid`). */
 #ifndef BOARDS_JOIN_H
 #define BOARDS_JOIN_H
 
-#include <stdbool.h>
 #include <stddef.h>
 #include <stdint.h>
 
 #include "areas.h"
-#include "plan.h"
+#include "status.h"
 
-/* The words of a board's part as it is sent: its memory, and the record's three. */
-size_t join_length(const struct areas *areas);
+/* The words of a part as it is sent: one a cell, and the record's three. */
+size_t join_length(const struct plan *plan);
 
 /* Writes a board's part as it is sent. */
-void join_write(const struct areas *areas, uint32_t *words);
+void join_write(const struct areas *areas, uint32_t board, uint32_t *words);
 
-/* Has the part of that board so many words? */
-bool join_fits(const struct plan *plan, uint32_t board, size_t length);
+/* Puts the part of a board, as it was sent, into the joined areas. */
+void join_put(struct areas *joined, uint32_t board, const uint32_t *words);
 
-/* Collects the part of a board, as it was sent, into the grid: so many words, which fit. Returns the engine's number. */
-uint32_t join_put(const struct plan *plan, uint32_t board, const uint32_t *words, size_t length, uint32_t *grid);
-
-/* Collects the part of the board that joins, from its own areas. */
-uint32_t join_own(const struct areas *own, uint32_t *grid);
+/* Puts the part of the board that joins, from its own areas. */
+void join_own(struct areas *joined, const struct areas *own, uint32_t board);
 
 #endif

@@ -40,31 +40,26 @@ static void print_done(const struct options *options, const struct job *job) {
          options->verify ? ", equal to the sweep" : "", options->grid != NULL ? ", grid in " : "", options->grid != NULL ? options->grid : "");
 }
 
-/* what board 0 does once it has all parts in the grid */
-static enum status harvest(const struct options *options, const struct job *job, const uint32_t *grid, double start) {
-  enum status status = STATUS_DONE;
+/* what board 0 does once it has all parts */
+static enum status harvest(const struct options *options, const struct job *job, const struct areas *joined, double start) {
+  uint32_t *grid = NULL;
+  enum status status = grid_collect(joined, &grid);
   const double run = now() - start;
-  if (options->verify) status = grid_verify(job, grid);
+  if (status == STATUS_DONE && options->verify) status = grid_verify(job, grid);
   if (status == STATUS_DONE && options->grid != NULL) status = grid_write(&job->plan, grid, options->grid);
   if (status == STATUS_DONE && options->times) status = print_times(options, job, run);
   if (status == STATUS_DONE) print_done(options, job);
+  free(grid);
   return status;
 }
 
-static enum status be_a_board(const struct options *options, struct job *job, struct transport *transport) {
+static enum status be_a_board(const struct options *options, const struct job *job, struct transport *transport) {
   const double start = now();
-  const uint32_t me = transport_me(transport);
-  struct areas areas;
-  tell_as(me);
-  enum status status = areas_make(&areas, &job->plan, me, job->source);
-  uint32_t *grid = me == 0 ? calloc(job->plan.sizes.grid, sizeof *grid) : NULL;
-  if (me == 0 && grid == NULL && status == STATUS_DONE) status = tell_no_memory();
-  /* board 0 sweeps the whole nest to verify; the others need their own words alone */
-  if (me != 0) job_forget_source(job);
-  if (status == STATUS_DONE) status = board_run(options, &areas, job->run, transport, grid);
-  if (status == STATUS_DONE && me == 0) status = harvest(options, job, grid, start);
-  areas_free(&areas);
-  free(grid);
+  struct areas joined = {0};
+  tell_as(transport_me(transport));
+  enum status status = board_run(options, job, transport, &joined);
+  if (status == STATUS_DONE && transport_me(transport) == 0) status = harvest(options, job, &joined, start);
+  areas_free(&joined);
   return status;
 }
 

@@ -12,20 +12,23 @@
 
 struct outbox {
   struct transport *transport;
-  struct areas *areas; /* the board's own */
+  const struct plan *plan;
   struct packet_key key;
-  uint32_t next;  /* the row of the message that is posted next, or one before it that the board takes */
+  uint32_t me;
+  uint32_t *mine; /* the messages this board sends, in the order in which it does */
+  size_t sends;   /* how many they are */
+  size_t posted;  /* and how many of them are posted */
   uint32_t *room; /* for all packets of the run */
   size_t used;
 };
 
-enum status outbox_make(struct outbox *out, struct transport *transport, struct areas *areas, uint32_t run);
+enum status outbox_make(struct outbox *out, struct transport *transport, const struct plan *plan, uint32_t run);
 
-/* Posts each message that is in flight in the board's own areas, which are then told of it. */
-enum status outbox_post_messages(struct outbox *out);
+/* Posts each message that is in flight in the board's own areas, which are then told of its delivery. */
+enum status outbox_post_messages(struct outbox *out, struct areas *areas);
 
-/* Posts the board's memory and its record to board 0. */
-enum status outbox_post_part(struct outbox *out);
+/* Posts the board's part of the memories and its record to board 0. */
+enum status outbox_post_part(struct outbox *out, const struct areas *areas);
 
 /* Posts a packet without words of its own to all other boards: of PACKET_ALIVE any number of times, of another kind once. */
 enum status outbox_post_all(struct outbox *out, enum packet_kind kind, uint32_t number);

@@ -9,7 +9,7 @@
 
 enum packet_kind {
   PACKET_MESSAGE = 1, /* the words of the message that its number names */
-  PACKET_PART,        /* the board's memory, and its record: three words */
+  PACKET_PART,        /* the board's own part of the memories, and its record: three words */
   PACKET_ALIVE,       /* the board is there */
   PACKET_FAREWELL,    /* its last packet: it has finished */
   PACKET_ENDED        /* its last packet: it has ended with the status that the number is, and the run with it */
