@@ -112,7 +112,8 @@ module _ (x : Nest) (z : Sizes) (b : ℕ) (lens kept counts ranks places : List 
         → stateOf memory′ mail (setProgress l 0 finished 1 0) marks′
         ≡ narrow p b (carryOut p [] (wide p b (stateOf memory mail l marks)) b (gather tile))
     gather-leaves tile mine memory′ marks′ w m =
-        after.gathered p b (stateOf memory mail l marks) (t .known .low) lengths ranks places (t .known .ranks) (t .known .places) tile mine memory′ marks′ _ w m
+        after.gathered p b (stateOf memory mail l marks) (t .known .low) lengths ranks places (t .known .ranks) (t .known .places) tile mine memory′ marks′
+        _ w m
         (ap (λ (k : ℕ). setProgress l 0 k 1 0) f)
 
     pub calculate-leaves : (tile n : ℕ) (source memory′ l′ : List ℕ)

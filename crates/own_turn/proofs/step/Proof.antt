@@ -76,7 +76,8 @@ returns-2 : tie.Need-returns-2
 returns-2 c =
     let first-stage = c .before .before .before .before .first-stage in
     let S =
-    c .before .before .before .before .before .before .before .before .before .before .before .before .before .before .before .before .before .before .before .before .before in
+    c .before .before .before .before .before .before .before .before .before .before .before .before .before .before .before .before .before .before
+    .before .before .before in
     let A = S .args in
     let if2 = c .before .before .before .before .before .before .before .before .if2 in
     first-stage .ensures (A .source .now) (S .pre .1) (if2 .taken)

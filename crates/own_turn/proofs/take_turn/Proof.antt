@@ -84,14 +84,16 @@ slice-aggregate-turn-in c =
 turn-in-requires : tie.Need-turn-in-requires
 turn-in-requires c κs =
     let S =
-    c .before .before .before .before .before .before .before .before .before .before .before .before .before .before .before .before .before .before .before .before .before .before .before in
+    c .before .before .before .before .before .before .before .before .before .before .before .before .before .before .before .before .before .before
+    .before .before .before .before .before in
     let A = S .args in
     let keep-cells = c .before .before .before .before .before .before .before .before .before .keep-cells in
     let prepare = c .before .before .before .before .before .before .before .before .before .before .before .before .before .prepare in
     let if1 =
     c .before .before .before .before .before .before .before .before .before .before .before .before .before .before .before .before .before .if1 in
     let own-count =
-    c .before .before .before .before .before .before .before .before .before .before .before .before .before .before .before .before .before .before .own-count in
+    c .before .before .before .before .before .before .before .before .before .before .before .before .before .before .before .before .before
+    .before .own-count in
     let p = planOf (A .sizes .route) (A .nest) in
     let is = front.back-is (A .nest) (A .sizes) (A .b) (S .pre .0 .0) (replicate {A = ℕ} 16384 0) (keep-cells .last .1 .1 .1 .1 .0) (length-replicate {A =
     ℕ} 16384 0) (keep-cells .kept .1 .1 .1 .1 .0) in (

@@ -79,7 +79,8 @@ same-length-6 c = search needs
 returns-2 : tie.Need-returns-2
 returns-2 c =
     let S =
-    c .before .before .before .before .before .before .before .before .before .before .before .before .before .before .before .before .before .before .before .before .before .before in
+    c .before .before .before .before .before .before .before .before .before .before .before .before .before .before .before .before .before .before
+    .before .before .before .before in
     let A = S .args in
     let step = c .before .before .before .before .before .before .step in
     let unfit = c .before .before .before .before .before .before .before .before .before .before .before .before .before .unfit in

@@ -28,7 +28,7 @@ box-rows-requires c κs =
       (
         given-next _ _ _ _ _ _ (s .args .source .now) (s .args .memory .now) _ _ _ _ _ g _ _ _ (fours .box-fours .ensures (p .0) g)
             (4 * s .args .groups) (omega arith),
-        p .1 .1,
+        (omega (arith, p .1 .1 .0, p .1 .1 .1), omega (arith, p .1 .1 .0, p .1 .1 .1)),
       ),
     )
 

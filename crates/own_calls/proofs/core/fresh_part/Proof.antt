@@ -63,7 +63,8 @@ same-length-6 c = search needs
 
 returns-2 : tie.Need-returns-2
 returns-2 c =
-    let S = c .before .before .before .before .before .before .before .before .before .before .before .before .before .before .before .before .before .before .before .before .before .before .before .before .before .before .before .before .before in
+    let S = c .before .before .before .before .before .before .before .before .before .before .before .before .before .before .before .before .before
+    .before .before .before .before .before .before .before .before .before .before .before .before in
     let A = S .args in
     let part-fits = c .before .before .before .before .before .before .before .before .before .before .before .before .before .part-fits in
     let if1 = c .before .before .before .before .before .before .before .before .before .before .before .before .if1 in

@@ -40,7 +40,8 @@ returns c =
 
 hand-over-requires : tie.Need-hand-over-requires
 hand-over-requires c κs =
-    let S = c .before .before .before .before .before .before .before .before .before .before .before .before .before .before .before .before .before .before .before in
+    let S = c .before .before .before .before .before .before .before .before .before .before .before .before .before .before .before .before .before
+    .before .before in
     let A = S .args in
     let prepare = c .before .before .before .before .before .before .before .before .before .before .before .before .prepare in
     let unfit = c .before .before .before .before .before .unfit in
@@ -59,7 +60,8 @@ same-length-2 c = search needs
 
 returns-2 : tie.Need-returns-2
 returns-2 c =
-    let S = c .before .before .before .before .before .before .before .before .before .before .before .before .before .before .before .before .before .before .before .before .before .before in
+    let S = c .before .before .before .before .before .before .before .before .before .before .before .before .before .before .before .before .before
+    .before .before .before .before .before in
     let A = S .args in
     let unfit = c .before .before .before .before .before .before .before .before .unfit in
     let if1 = c .before .before .before .before .before .before .before .if1 in

@@ -88,7 +88,17 @@ put-own-requires c κs =
     let p = planOf (A .sizes .route) (A .nest) in
     let is = front.back-is (A .nest) (A .sizes) (A .b) (S .pre .0) (replicate {A = ℕ} 16384 0) (keep-cells .last .1 .1 .1 .1 .0)
     (length-replicate {A = ℕ} 16384 0) (keep-cells .kept .1 .1 .1 .1 .0) in (
-      (S .pre .0, (S .pre .1 .0, (S .pre .1 .1 .0, subst (λ (k : List ℕ). Cells (A .nest) (keeps p (A .b)) k (keep-cells .last .1 .1 .1 .1 .1 .0)) (sym is) (keep-cells .ensures .0)))),
+      (
+        S .pre .0,
+        (
+          S .pre .1 .0,
+          (
+            S .pre .1 .1 .0,
+            subst (λ (k : List ℕ). Cells (A .nest) (keeps p (A .b)) k (keep-cells .last .1 .1 .1 .1 .1 .0)) (sym is)
+                (keep-cells .ensures .0),
+          ),
+        ),
+      ),
       uncollected .ensures .1 (if1 .left),
     )
 
@@ -97,7 +107,8 @@ same-length-2 c = search needs
 
 returns-2 : tie.Need-returns-2
 returns-2 c =
-    let S = c .before .before .before .before .before .before .before .before .before .before .before .before .before .before .before .before .before .before .before in
+    let S = c .before .before .before .before .before .before .before .before .before .before .before .before .before .before .before .before .before
+    .before .before in
     let A = S .args in
     let uncollected = c .before .before .before .before .before .before .before .uncollected in
     let if1 = c .before .before .before .before .before .before .if1 in

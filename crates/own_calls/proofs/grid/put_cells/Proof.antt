@@ -39,7 +39,13 @@ mul-own-word c =
     let S = c .before .before .before .before .before .before .before .before .before in
     let A = S .args in
     let loop = c .before .before .before .before .loop in
-    omega (arith, collecting.put-small (A .owned .now) (A .kept .now) (A .memory .now) (A .grid .now) (S .pre) (loop .grid) (loop .c) (loop .n) (loop .inv), loop .inv .filled .stored .low, S .pre .few)
+    omega (
+      arith,
+      collecting.put-small (A .owned .now) (A .kept .now) (A .memory .now) (A .grid .now) (S .pre) (loop .grid) (loop .c) (loop .n)
+          (loop .inv),
+      loop .inv .filled .stored .low,
+      S .pre .few,
+    )
 
 shared-slice-read-own-word-2 : tie.Need-shared-slice-read-own-word-2 Inv-loop μ-loop
 shared-slice-read-own-word-2 c =
@@ -85,7 +91,13 @@ add-n c =
     let S = c .before .before .before .before .before .before .before .before .before .before .before .before in
     let A = S .args in
     let loop = c .before .before .before .before .before .before .before .loop in
-    omega (arith, collecting.put-small (A .owned .now) (A .kept .now) (A .memory .now) (A .grid .now) (S .pre) (loop .grid) (loop .c) (loop .n) (loop .inv), loop .inv .filled .stored .low, S .pre .few)
+    omega (
+      arith,
+      collecting.put-small (A .owned .now) (A .kept .now) (A .memory .now) (A .grid .now) (S .pre) (loop .grid) (loop .c) (loop .n)
+          (loop .inv),
+      loop .inv .filled .stored .low,
+      S .pre .few,
+    )
 
 add-c : tie.Need-add-c Inv-loop μ-loop
 add-c c =

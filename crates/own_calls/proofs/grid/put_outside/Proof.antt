@@ -55,7 +55,11 @@ mul-c c =
     let row-count = c .before .before .row-count in
     let loop = c .before .loop in
     let loop-test = c .loop-test in
-    omega (arith, owners.row-ends (A .t1) (S .pre .0 .accepted) (row-count .result) (loop .q) _ refl (row-count .ensures) (loop-test .taken), S .pre .0 .accepted .cells-most)
+    omega (
+      arith,
+      owners.row-ends (A .t1) (S .pre .0 .accepted) (row-count .result) (loop .q) _ refl (row-count .ensures) (loop-test .taken),
+      S .pre .0 .accepted .cells-most,
+    )
 
 row-place-requires : tie.Need-row-place-requires Inv-loop μ-loop
 row-place-requires c κs =
@@ -75,7 +79,11 @@ add-end c =
     let row-count = c .before .before .before .before .row-count in
     let loop = c .before .before .before .loop in
     let loop-test = c .before .before .loop-test in
-    omega (arith, owners.row-ends (A .t1) (S .pre .0 .accepted) (row-count .result) (loop .q) _ refl (row-count .ensures) (loop-test .taken), S .pre .0 .accepted .cells-most)
+    omega (
+      arith,
+      owners.row-ends (A .t1) (S .pre .0 .accepted) (row-count .result) (loop .q) _ refl (row-count .ensures) (loop-test .taken),
+      S .pre .0 .accepted .cells-most,
+    )
 
 mul-outside-row : tie.Need-mul-outside-row Inv-loop μ-loop
 mul-outside-row c =
@@ -84,7 +92,13 @@ mul-outside-row c =
     let row-count = c .before .before .before .before .row-count in
     let loop = c .before .before .before .loop in
     let loop-test = c .before .before .loop-test in
-    omega (arith, owners.row-ends (A .t1) (S .pre .0 .accepted) (row-count .result) (loop .q) _ refl (row-count .ensures) (loop-test .taken), loop .inv .1 .stored .long, S .pre .1, S .pre .0 .accepted .cells-most)
+    omega (
+      arith,
+      owners.row-ends (A .t1) (S .pre .0 .accepted) (row-count .result) (loop .q) _ refl (row-count .ensures) (loop-test .taken),
+      loop .inv .1 .stored .long,
+      S .pre .1,
+      S .pre .0 .accepted .cells-most,
+    )
 
 sub-outside-row : tie.Need-sub-outside-row Inv-loop μ-loop
 sub-outside-row c = omega arith
@@ -99,7 +113,12 @@ part-outside-row-end c =
     let row-count = c .before .before .before .before .row-count in
     let loop = c .before .before .before .loop in
     let loop-test = c .before .before .loop-test in
-    omega (arith, owners.row-ends (A .t1) (S .pre .0 .accepted) (row-count .result) (loop .q) _ refl (row-count .ensures) (loop-test .taken), loop .inv .1 .stored .long, S .pre .1)
+    omega (
+      arith,
+      owners.row-ends (A .t1) (S .pre .0 .accepted) (row-count .result) (loop .q) _ refl (row-count .ensures) (loop-test .taken),
+      loop .inv .1 .stored .long,
+      S .pre .1,
+    )
 
 outside-row-requires : tie.Need-outside-row-requires Inv-loop μ-loop
 outside-row-requires c κs =
@@ -109,7 +128,12 @@ outside-row-requires c κs =
     let row-count = c .before .before .before .before .before .row-count in
     let loop-test = c .before .before .before .loop-test in
     owners.mid-few (loop .grid) (loop .q * lengthOf (A .t1) (last (A .t1))) (lengthOf (A .t1) (last (A .t1)))
-    (omega (arith, owners.row-ends (A .t1) (S .pre .0 .accepted) (row-count .result) (loop .q) _ refl (row-count .ensures) (loop-test .taken), loop .inv .1 .stored .long, S .pre .1))
+    (omega (
+      arith,
+      owners.row-ends (A .t1) (S .pre .0 .accepted) (row-count .result) (loop .q) _ refl (row-count .ensures) (loop-test .taken),
+      loop .inv .1 .stored .long,
+      S .pre .1,
+    ))
     (omega (arith, loop .inv .1 .stored .long, S .pre .1, S .pre .0 .accepted .cells-most))
 
 add-q : tie.Need-add-q Inv-loop μ-loop

@@ -63,7 +63,8 @@ put-cells-requires c κs =
     let put-outside = c .before .before .before .before .put-outside in
     let is = front.back-is (A .nest) (A .sizes) (A .b) (S .pre .0 .0) (replicate {A = ℕ} 16384 0) (mark-own .last .1 .1 .1 .0)
     (length-replicate {A = ℕ} 16384 0) (mark-own .kept .1 .1 .1 .0) ∙ mark-own .ensures in
-    collecting.within-marks (A .nest) (A .sizes) (A .b) (S .pre .0 .0) (S .pre .0 .1 .0) (S .pre .0 .1 .1 .0) _ (A .kept .now) (A .memory .now) (put-outside .last .1 .1 .0) is
+    collecting.within-marks (A .nest) (A .sizes) (A .b) (S .pre .0 .0) (S .pre .0 .1 .0) (S .pre .0 .1 .1 .0) _ (A .kept .now) (A .memory .now)
+    (put-outside .last .1 .1 .0) is
     (S .pre .0 .1 .1 .1 .are) (S .pre .1 .0) (put-outside .kept .1 .1 .0 ∙ S .pre .1 .1)
 
 same-length : tie.Need-same-length
@@ -78,7 +79,8 @@ returns c =
     let put-cells = c .before .before .put-cells in
     let is = front.back-is (A .nest) (A .sizes) (A .b) (S .pre .0 .0) (replicate {A = ℕ} 16384 0) (mark-own .last .1 .1 .1 .0)
     (length-replicate {A = ℕ} 16384 0) (mark-own .kept .1 .1 .1 .0) ∙ mark-own .ensures in
-    λ l. collecting.own-grid (A .nest) (A .sizes) (A .b) (S .pre .0 .0) (S .pre .0 .1 .0) (S .pre .0 .1 .1 .0) _ (A .kept .now) (A .memory .now) (A .grid .now) is
+    λ l. collecting.own-grid (A .nest) (A .sizes) (A .b) (S .pre .0 .0) (S .pre .0 .1 .0) (S .pre .0 .1 .1 .0) _ (A .kept .now) (A .memory .now)
+    (A .grid .now) is
     (S .pre .0 .1 .1 .1 .are) (S .pre .1 .0) (S .pre .1 .1) (put-outside .last .1 .1 .0) _ l (put-outside .ensures) (put-cells .ensures)
 
 pub put-own-spec : {M : Type 1} → statement M

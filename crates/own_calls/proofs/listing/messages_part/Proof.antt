@@ -40,7 +40,8 @@ mul-if1 c =
     let p = planOf (A .sizes .route) (A .nest) in
     omega (
       arith,
-      rows.rank-few p (A .b) _ (word-index .result) (word-index .ensures ∙ front.all-handled (A .nest) (A .sizes) (A .b) _ _ _ (prepare .ensures .0) (prepare .result) (prepare .ensures .1)),
+      rows.rank-few p (A .b) _ (word-index .result) (word-index .ensures ∙ front.all-handled (A .nest) (A .sizes) (A .b) _ _ _ (prepare .ensures .0)
+          (prepare .result) (prepare .ensures .1)),
       prepare .ensures .1,
       prepare .ensures .0 .few,
     )
@@ -53,7 +54,8 @@ returns c =
     let prepare = c .before .before .prepare in
     let if1 = c .if1 in
     let p = planOf (A .sizes .route) (A .nest) in
-    rows.rows-nine p (A .b) (A .out .now) (word-index .result) (word-index .ensures ∙ front.all-handled (A .nest) (A .sizes) (A .b) _ _ _ (prepare .ensures .0) (prepare .result) (prepare .ensures .1)) (if1 .taken)
+    rows.rows-nine p (A .b) (A .out .now) (word-index .result) (word-index .ensures ∙ front.all-handled (A .nest) (A .sizes) (A .b) _ _ _
+    (prepare .ensures .0) (prepare .result) (prepare .ensures .1)) (if1 .taken)
 
 put-rows-requires : tie.Need-put-rows-requires
 put-rows-requires c κs =
@@ -63,7 +65,8 @@ put-rows-requires c κs =
     let S = c .before .before .before .before .before .before .before .before .before .before .before in
     let A = S .args in (
       (prepare .ensures .0, prepare .ensures .1),
-      if1 .left ∙ ap (λ (n : ℕ). 7 * n) (word-index .ensures ∙ front.all-handled (A .nest) (A .sizes) (A .b) _ _ _ (prepare .ensures .0) (prepare .result) (prepare .ensures .1)),
+      if1 .left ∙ ap (λ (n : ℕ). 7 * n) (word-index .ensures ∙ front.all-handled (A .nest) (A .sizes) (A .b) _ _ _ (prepare .ensures .0) (prepare .result)
+          (prepare .ensures .1)),
     )
 
 same-length : tie.Need-same-length
@@ -78,7 +81,8 @@ returns-2 c =
     let if1 = c .before .before .before .before .before .before .before .if1 in
     let put-rows = c .before .before .put-rows in
     let p = planOf (A .sizes .route) (A .nest) in
-    rows.rows-done p (A .b) (A .out .now) (word-index .result) (word-index .ensures ∙ front.all-handled (A .nest) (A .sizes) (A .b) _ _ _ (prepare .ensures .0) (prepare .result) (prepare .ensures .1)) (if1 .left) _ (put-rows .ensures)
+    rows.rows-done p (A .b) (A .out .now) (word-index .result) (word-index .ensures ∙ front.all-handled (A .nest) (A .sizes) (A .b) _ _ _
+    (prepare .ensures .0) (prepare .result) (prepare .ensures .1)) (if1 .left) _ (put-rows .ensures)
 
 pub messages-part-spec : {M : Type 1} → statement M
 messages-part-spec =

@@ -1,9 +1,8 @@
 -- The cells as a list, and the read part where the message's words begin.
-use Prim.Native.Nat.{_-_}
+use Prim.Native.Nat.{ℕ, _-_}
 use mathlib.Core.Path.{sym, ap, _∙_}
 use native.Mathlib.Omega.{arith}
 use mathlib.Core.List.{List}
-use Prim.Native.Nat.{ℕ}
 use lib.ListN.{take}
 use Rattle.base.specs.Lists.{unpack, pack}
 use Rattle.machine.specs.Plan.{heldBy}
