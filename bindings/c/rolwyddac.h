@@ -407,7 +407,7 @@ uint32_t rolwyddac_take_in(const uint8_t *encoded, size_t encoded_length, uint32
  *
  * rolwyddac_own_sizes tells their lengths, rolwyddac_own_messages which messages they are. Each call gives the number, and leaves the words of
  * the part, that the call on all areas would: rolwyddac_fresh, rolwyddac_turn, rolwyddac_deliver for a post and rolwyddac_take_in for an
- * arrival. While one runs it has up to some 430 kilobytes of its own on the stack. */
+ * arrival. While one runs it has up to some 180 kilobytes of its own on the stack. */
 
 /* Writes four words to out: how many words source, memory and mail of the processor have, and how many messages it handles.
  * Numbers: 1 to 8, 16 to 18, 20, 21; 11; 9 if out has not 4 words. A refusal leaves out as it was. */

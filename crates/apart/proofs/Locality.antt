@@ -137,11 +137,11 @@ shape-of p source s le f =
     }
 
 -- ---- the cells that a processor keeps
-keeps-low : (p : Plan) → Sound p → (b c : ℕ) → Keeps p b c → c < p .cells
+pub keeps-low : (p : Plan) → Sound p → (b c : ℕ) → Keeps p b c → c < p .cells
 keeps-low p so b c (Keeps.own t l e i) = so .cell-low t c l i
 keeps-low p so b c (Keeps.brought m l e i) = so .held-low m c l i
 
-known-kept : (p : Plan) (b t : ℕ) → t < p .tiles → p .processorOf t ≡ b → (c : ℕ) → In c (p .cellsOf t) ⊎ Knows p (p .processorOf t) t c → Keeps p b c
+pub known-kept : (p : Plan) (b t : ℕ) → t < p .tiles → p .processorOf t ≡ b → (c : ℕ) → In c (p .cellsOf t) ⊎ Knows p (p .processorOf t) t c → Keeps p b c
 known-kept p b t low e c (inl i) = Keeps.own t low e i
 known-kept p b t low e c (inr (Knows.calculated u l q i)) = Keeps.own u (omega arith) (q ∙ e) i
 known-kept p b t low e c (inr (Knows.taken m l k q i)) = Keeps.brought m l (q ∙ e) i

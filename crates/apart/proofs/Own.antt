@@ -54,7 +54,7 @@ module _ (p : Plan) (b : ℕ) where
           let q = both (k .2) in
           Keeps.brought (k .0) (k .1) (eqb-true _ _ (q .0)) (member-in c _ (q .1))
 
-  test-keep : (c : ℕ) → Keeps p b c → keeps p b c ≡ true
+  pub test-keep : (c : ℕ) → Keeps p b c → keeps p b c ≡ true
   unfolding keeps
   test-keep c (Keeps.own t l e i) = or-left _ (test-own c t l e i)
   test-keep c (Keeps.brought m l e i) =

@@ -1,6 +1,7 @@
 pub mod Shared
 pub mod Walking
 pub mod Lending
+pub mod Orders
 pub mod Params
 pub mod OverRecords
 pub mod PlanCalls

@@ -17,9 +17,9 @@ use Rattle.records.proofs.Words.{length-words}
 use Rattle.engine.specs.Calls.{answer, recipe}
 use Rattle.apart.specs.Own.{ownCells}
 use Rattle.own.specs.Part.{partFits}
-use Rattle.own_calls.specs.Calls.{wide, boardLines, ownTurnCall}
-use Rattle.own_calls.proofs.Answers.{behind-board}
-use Rattle.own_calls.proofs.Wide.{fits-are}
+use Rattle.own_front.specs.Calls.{wide, boardLines, ownTurnCall}
+use Rattle.own_front.proofs.Answers.{behind-board}
+use Rattle.own_front.proofs.Wide.{fits-are}
 
 pub own-there : (l : List ℕ) (route : ℕ) (source m u t : List ℕ) (rs : List Progress) (b n : ℕ) (x : State)
     → answer n x ≡ ownTurnCall l route source (stateOf m u (flatWords rs) t) b → n ≡ 0 → 0 < length rs

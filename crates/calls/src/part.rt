@@ -5,7 +5,7 @@ ghost use mathlib.Core.List.{[]};
 ghost use Rattle.machine.specs.Machine.{stateOf};
 ghost use Rattle.engine.specs.Calls.{answer};
 ghost use Rattle.records.specs.Records.{flatWords};
-ghost use Rattle.own_calls.specs.Calls.{ownSizesCall, ownMessagesCall, ownFreshCall, ownTurnCall, ownPostCall, ownArriveCall, ownCollectCall};
+ghost use Rattle.own_front.specs.Calls.{ownSizesCall, ownMessagesCall, ownFreshCall, ownTurnCall, ownPostCall, ownArriveCall, ownCollectCall};
 use records::Progress;
 
 // How long its areas are, four words: the cells of its tiles, the cells that it keeps, the words of the messages that it handles, and how many these are.

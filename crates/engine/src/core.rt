@@ -124,7 +124,7 @@ pub fn refused(number: u32) -> Turned
     }
 }
 
-fn done(progress: Progress) -> Turned
+pub fn done(progress: Progress) -> Turned
     ensures { λ r. ⌜ (r .number ≡ 0) × (r .progress ≡ progress) ⌝ }
 {
     Turned {

@@ -9,6 +9,7 @@ use lib.Dec.{eqb, leb}
 use Rattle.base.specs.Tests.{pick, sum}
 use Rattle.kernels.specs.declared.Tap.{Tap}
 use Rattle.kernels.specs.declared.Rule.{Rule}
+use Rattle.kernels.specs.declared.Column.{Column}
 
 -- the word of cell c: what is added besides, the source's word and n taps, divided by 2 to the shift, modulo 2^32
 unfoldable pub made : ℕ → List ℕ → List ℕ → ℕ → ℕ → List ℕ → List ℕ → ℕ → ℕ
@@ -88,3 +89,18 @@ madeBy r ts source memory c = made (countOf ts) (backsOf ts) (weightsOf ts) (r .
 
 abbrev pub FitsBy : Rule → List Tap → ℕ → ℕ → List ℕ → List ℕ → Type 0
 FitsBy r ts c span source memory = Fits (countOf ts) (backsOf ts) (weightsOf ts) (r .outside) (r .shift) c span (length source) (length memory)
+
+-- v is word c of a memory
+abbrev pub Word : List ℕ → ℕ → ℕ → Type 0
+Word memory c v = (v ≡ getD memory c 0) × (v < 4294967296)
+
+-- the cells of a column of four rows side by side
+abbrev pub columnOf : ℕ → ℕ → List ℕ
+columnOf c t = c ∷ (c + t) ∷ (c + t + t) ∷ (c + t + t + t) ∷ []
+
+-- and their words
+pub record Stands (memory : List ℕ) (c t : ℕ) (k : Column) : Type 0 where
+  pub one : Word memory c (k .first)
+  pub two : Word memory (c + t) (k .second)
+  pub three : Word memory (c + t + t) (k .third)
+  pub four : Word memory (c + t + t + t) (k .fourth)

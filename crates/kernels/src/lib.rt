@@ -5,10 +5,9 @@ ghost use mathlib.Core.Path.{_≡_};
 ghost use mathlib.Core.List.{[], _∷_};
 ghost use Prim.Native.Nat.{_+_, _*_, _-_, _/_, _%_, _^_, _≤_, _<_};
 ghost use lib.ListN.{length, getD, set};
-ghost use lib.Dec.{eqb, leb};
-ghost use Rattle.base.specs.Tests.{pick, tabulate};
+ghost use Rattle.base.specs.Tests.{tabulate};
 ghost use Rattle.base.specs.Lists.{storeAll};
-ghost use Rattle.kernels.specs.Taps.{made, madeBy, mixed, inLine, waveOf, Fits, FitsBy, Mixes, All, AllOrNone, Light, Rested};
+ghost use Rattle.kernels.specs.Taps.{made, madeBy, waveOf, Fits, FitsBy, Word, columnOf, Stands};
 
 // How far back, and its weight.
 struct Tap {
@@ -23,7 +22,7 @@ pub struct Rule {
 }
 
 // A word of a list, wide.
-fn word_of(words: &[u32], i: usize) -> u64
+pub fn word_of(words: &[u32], i: usize) -> u64
     requires { ⌜ (i < length (now words)) × (length (now words) ≤ 16384) ⌝ }
     ensures { λ r. ⌜ (r ≡ getD (now (words .entry)) i 0) × (r < 4294967296) ⌝ }
 {
@@ -41,7 +40,7 @@ fn with_tap(total: u64, tap: Tap, memory: &[u32], c: usize) -> u64
 }
 
 // The word that a sum closes to.
-fn closed(total: u64, shift: u64) -> u32
+pub fn closed(total: u64, shift: u64) -> u32
     requires { ⌜ shift < 64 ⌝ }
     ensures { λ r. ⌜ r ≡ total / 2 ^ shift % 4294967296 ⌝ }
 {
@@ -57,6 +56,18 @@ fn store_one(source: &[u32], memory: &mut [u32], rule: Rule, p: Tap, c: usize)
     let t = rule.outside + word_of(source, c);
     let tp = with_tap(t, p, memory, c);
     memory[c] = closed(tp, rule.shift);
+}
+
+// The word of cell c of one tap, whose word v is at hand: it is given back too, for the cell that reads it next.
+fn store_after(source: &[u32], memory: &mut [u32], rule: Rule, p: Tap, v: u64, c: usize) -> u64
+    requires { ⌜ FitsBy rule (p ∷ []) c 1 (now source) (now memory) × Word (now memory) (c - p .back) v ⌝ }
+    ensures { λ r. ⌜ (now (memory .exit) ≡ set (now (memory .entry)) c
+        (madeBy rule (p ∷ []) (now (source .entry)) (now (memory .entry)) c)) × Word (now (memory .exit)) c r ⌝ }
+{
+    let t = rule.outside + word_of(source, c);
+    let word = closed(t + p.weight * v, rule.shift);
+    memory[c] = word;
+    word as u64
 }
 
 // The word of cell c, of two taps.
@@ -130,7 +141,7 @@ fn store_many(
 }
 
 // The words of a row: `width` cells from one on.
-fn row_one(source: &[u32], memory: &mut [u32], rule: Rule, p: Tap, cell: usize, width: usize)
+fn row_tap(source: &[u32], memory: &mut [u32], rule: Rule, p: Tap, cell: usize, width: usize)
     requires { ⌜ FitsBy rule (p ∷ []) cell width (now source) (now memory) ⌝ }
     ensures { λ _. ⌜ now (memory .exit) ≡ storeAll (madeBy rule (p ∷ []) (now (source .entry))) (now (memory .entry))
         (tabulate (λ y. cell + y) width) ⌝ }
@@ -138,6 +149,23 @@ fn row_one(source: &[u32], memory: &mut [u32], rule: Rule, p: Tap, cell: usize, 
     for y in 0..width {
         store_one(source, memory, rule, p, cell + y);
     }
+}
+
+// The same where mostly nothing is added besides: saying so lets the compiler leave the addition out.
+fn row_one(source: &[u32], memory: &mut [u32], rule: Rule, p: Tap, cell: usize, width: usize)
+    requires { ⌜ FitsBy rule (p ∷ []) cell width (now source) (now memory) ⌝ }
+    ensures { λ _. ⌜ now (memory .exit) ≡ storeAll (madeBy rule (p ∷ []) (now (source .entry))) (now (memory .entry))
+        (tabulate (λ y. cell + y) width) ⌝ }
+{
+    if rule.outside == 0 {
+        let bare = Rule {
+            outside: 0,
+            shift: rule.shift,
+        };
+        row_tap(source, memory, bare, p, cell, width);
+        return;
+    }
+    row_tap(source, memory, rule, p, cell, width);
 }
 
 fn row_two(
@@ -217,7 +245,7 @@ fn row_many(
 }
 
 // Four rows side by side: `width` cells of each, the first row's from a on, each other row's t further on than those of the row before.
-fn wave_one(
+fn wave_tap(
     source: &[u32],
     memory: &mut [u32],
     rule: Rule,
@@ -238,6 +266,95 @@ fn wave_one(
         store_one(source, memory, rule, p, c);
         store_one(source, memory, rule, p, d);
     }
+}
+
+// The words of a column: of four cells, each t further on than the one before.
+struct Column {
+    first: u64,
+    second: u64,
+    third: u64,
+    fourth: u64,
+}
+
+// Those that are stored, from cell c on.
+fn column_at(memory: &[u32], c: usize, t: usize) -> Column
+    requires { ⌜ (c + 3 * t < length (now memory)) × (length (now memory) ≤ 16384) ⌝ }
+    ensures { λ r. ⌜ Stands (now (memory .entry)) c t r ⌝ }
+{
+    let b = c + t;
+    let d = b + t;
+    Column {
+        first: word_of(memory, c),
+        second: word_of(memory, b),
+        third: word_of(memory, d),
+        fourth: word_of(memory, d + t),
+    }
+}
+
+// Those of the column that starts at cell c, made of the column's before.
+fn store_column(
+    source: &[u32],
+    memory: &mut [u32],
+    rule: Rule,
+    p: Tap,
+    last: Column,
+    c: usize,
+    t: usize,
+) -> Column
+    requires { ⌜ FitsBy rule (p ∷ []) c (3 * t + 1) (now source) (now memory) × ((p .back ≡ 1) × ((2 ≤ t) × Stands (now memory) (c - 1) t last)) ⌝ }
+    ensures { λ r. ⌜ (now (memory .exit) ≡ storeAll (madeBy rule (p ∷ []) (now (source .entry))) (now (memory .entry)) (columnOf c t))
+        × Stands (now (memory .exit)) c t r ⌝ }
+{
+    let b = c + t;
+    let d = b + t;
+    let first = store_after(source, memory, rule, p, last.first, c);
+    let second = store_after(source, memory, rule, p, last.second, b);
+    let third = store_after(source, memory, rule, p, last.third, d);
+    let fourth = store_after(source, memory, rule, p, last.fourth, d + t);
+    Column {
+        first: first,
+        second: second,
+        third: third,
+        fourth: fourth,
+    }
+}
+
+// Four rows where the tap reads the cell before: its word is at hand, so that no cell waits for a word to be stored and read again.
+fn wave_after(
+    source: &[u32],
+    memory: &mut [u32],
+    rule: Rule,
+    p: Tap,
+    a: usize,
+    t: usize,
+    width: usize,
+)
+    requires { ⌜ FitsBy rule (p ∷ []) a (3 * t + width) (now source) (now memory) × ((p .back ≡ 1) × (2 ≤ t)) ⌝ }
+    ensures { λ _. ⌜ now (memory .exit) ≡ storeAll (madeBy rule (p ∷ []) (now (source .entry))) (now (memory .entry)) (waveOf a t width) ⌝ }
+{
+    let mut last = column_at(memory, a - 1, t);
+    for y in 0..width {
+        last = store_column(source, memory, rule, p, last, a + y, t);
+    }
+}
+
+fn wave_one(
+    source: &[u32],
+    memory: &mut [u32],
+    rule: Rule,
+    p: Tap,
+    a: usize,
+    t: usize,
+    width: usize,
+)
+    requires { ⌜ FitsBy rule (p ∷ []) a (3 * t + width) (now source) (now memory) ⌝ }
+    ensures { λ _. ⌜ now (memory .exit) ≡ storeAll (madeBy rule (p ∷ []) (now (source .entry))) (now (memory .entry)) (waveOf a t width) ⌝ }
+{
+    if p.back == 1 && 1 < t {
+        wave_after(source, memory, rule, p, a, t, width);
+        return;
+    }
+    wave_tap(source, memory, rule, p, a, t, width);
 }
 
 fn wave_two(
@@ -399,7 +516,7 @@ pub fn row(
 pub fn wave(
     source: &[u32],
     memory: &mut [u32],
-    rule: Rule,
+    shift: u64,
     n: usize,
     backs: &[usize; 8],
     weights: &[u64; 8],
@@ -407,11 +524,15 @@ pub fn wave(
     t: usize,
     width: usize,
 )
-    requires { ⌜ Fits n (now backs) (now weights) (rule .outside) (rule .shift) a (3 * t + width) (length (now source))
+    requires { ⌜ Fits n (now backs) (now weights) 0 shift a (3 * t + width) (length (now source))
         (length (now memory)) ⌝ }
-    ensures { λ _. ⌜ now (memory .exit) ≡ storeAll (made n (now (backs .entry)) (now (weights .entry)) (rule .outside) (rule .shift)
+    ensures { λ _. ⌜ now (memory .exit) ≡ storeAll (made n (now (backs .entry)) (now (weights .entry)) 0 shift
         (now (source .entry))) (now (memory .entry)) (waveOf a t width) ⌝ }
 {
+    let rule = Rule {
+        outside: 0,
+        shift: shift,
+    };
     let p = tap_at(backs, weights, 0);
     if n == 1 {
         wave_one(source, memory, rule, p, a, t, width);
@@ -433,246 +554,4 @@ pub fn wave(
         return;
     }
     wave_many(source, memory, rule, n, backs, weights, a, t, width);
-}
-
-// The word that a tap reads at a cell, or the boundary's.
-fn word_at(
-    memory: &[u32],
-    cell: usize,
-    component: usize,
-    first: usize,
-    back: usize,
-    boundary: u64,
-) -> u64
-    requires { ⌜ (cell < length (now memory)) × ((boundary < 4294967296)
-        × ((length (now memory) ≤ 16384) × (first ≤ component → back ≤ cell))) ⌝ }
-    ensures { λ r. ⌜ (r ≡ pick (leb first component) (getD (now (memory .entry)) (cell - back) 0) boundary) × (r < 4294967296) ⌝ }
-{
-    if component < first {
-        return boundary;
-    }
-    memory[cell - back] as u64
-}
-
-// The word of a cell at which some taps may read the boundary's.
-fn mixed_at(
-    source: &[u32],
-    memory: &[u32],
-    shift: u64,
-    boundary: u64,
-    n: usize,
-    firsts: &[usize; 8],
-    backs: &[usize; 8],
-    weights: &[u64; 8],
-    cell: usize,
-    component: usize,
-) -> u32
-    requires { ⌜ Mixes n (now firsts) (now backs) (now weights) boundary shift cell component 1 (length (now source))
-        (length (now memory)) ⌝ }
-    ensures { λ r. ⌜ r ≡ mixed n (now (firsts .entry)) (now (backs .entry)) (now (weights .entry)) boundary shift
-        (now (source .entry)) component (now (memory .entry)) cell ⌝ }
-{
-    let mut total = word_of(source, cell);
-    for k in 0..n {
-        let w = word_at(memory, cell, component, firsts[k], backs[k], boundary);
-        total += weights[k] * w;
-    }
-    closed(total, shift)
-}
-
-// The first cells of a row.
-fn edge(
-    source: &[u32],
-    memory: &mut [u32],
-    shift: u64,
-    boundary: u64,
-    n: usize,
-    firsts: &[usize; 8],
-    backs: &[usize; 8],
-    weights: &[u64; 8],
-    cell: usize,
-    component: usize,
-    width: usize,
-)
-    requires { ⌜ Mixes n (now firsts) (now backs) (now weights) boundary shift cell component width (length (now source))
-        (length (now memory)) ⌝ }
-    ensures { λ _. ⌜ now (memory .exit) ≡ storeAll (inLine n (now (firsts .entry)) (now (backs .entry))
-        (now (weights .entry)) boundary shift (now (source .entry)) cell component) (now (memory .entry))
-        (tabulate (λ y. cell + y) width) ⌝ }
-{
-    for y in 0..width {
-        let v = mixed_at(
-            source,
-            memory,
-            shift,
-            boundary,
-            n,
-            firsts,
-            backs,
-            weights,
-            cell + y,
-            component + y,
-        );
-        memory[cell + y] = v;
-    }
-}
-
-// How many cells of a row stand before component `from`.
-fn before(from: usize, component: usize, width: usize) -> usize
-    ensures { λ r. ⌜ (r ≤ width) × (r < width → from ≤ component + r) ⌝ }
-{
-    if from <= component {
-        return 0;
-    }
-    if width < from - component {
-        return width;
-    }
-    from - component
-}
-
-// A row whose taps all read from component `from` on.
-pub fn line(
-    source: &[u32],
-    memory: &mut [u32],
-    shift: u64,
-    boundary: u64,
-    n: usize,
-    firsts: &[usize; 8],
-    backs: &[usize; 8],
-    weights: &[u64; 8],
-    from: usize,
-    cell: usize,
-    component: usize,
-    width: usize,
-)
-    requires { ⌜ Mixes n (now firsts) (now backs) (now weights) boundary shift cell component width (length (now source))
-        (length (now memory)) × All n (now firsts) from ⌝ }
-    ensures { λ _. ⌜ now (memory .exit) ≡ storeAll (inLine n (now (firsts .entry)) (now (backs .entry))
-        (now (weights .entry)) boundary shift (now (source .entry)) cell component) (now (memory .entry))
-        (tabulate (λ y. cell + y) width) ⌝ }
-{
-    let few = before(from, component, width);
-    edge(
-        source,
-        memory,
-        shift,
-        boundary,
-        n,
-        firsts,
-        backs,
-        weights,
-        cell,
-        component,
-        few,
-    );
-    if few == width {
-        return;
-    }
-    let rule = Rule {
-        outside: 0,
-        shift: shift,
-    };
-    row(
-        source,
-        memory,
-        rule,
-        n,
-        backs,
-        weights,
-        cell + few,
-        width - few,
-    );
-}
-
-// What is left of the taps in a row where some read nowhere, which `first` 1024 says: those weigh nothing, and what they add is besides.
-struct Rest {
-    outside: u64,
-    backs: [usize; 8],
-    weights: [u64; 8],
-}
-
-fn rest_of(
-    boundary: u64,
-    n: usize,
-    firsts: &[usize; 8],
-    backs: &[usize; 8],
-    weights: &[u64; 8],
-) -> Rest
-    requires { ⌜ (n ≤ 8) × ((boundary < 4294967296) × Light n (now weights)) ⌝ }
-    ensures { λ r. ⌜ Rested n (now (firsts .entry)) (now (backs .entry)) (now (weights .entry)) boundary (r .backs) (r .weights)
-        (r .outside) ⌝ }
-{
-    let mut outside = 0;
-    let mut left_backs = [0; 8];
-    let mut left_weights = [0; 8];
-    for k in 0..n {
-        if firsts[k] == 1024 {
-            outside += weights[k] * boundary;
-            continue;
-        }
-        left_backs[k] = backs[k];
-        left_weights[k] = weights[k];
-    }
-    Rest {
-        outside: outside,
-        backs: left_backs,
-        weights: left_weights,
-    }
-}
-
-// A row whose taps all read from component `from` on, but for those that read nowhere.
-pub fn short_line(
-    source: &[u32],
-    memory: &mut [u32],
-    shift: u64,
-    boundary: u64,
-    n: usize,
-    firsts: &[usize; 8],
-    backs: &[usize; 8],
-    weights: &[u64; 8],
-    from: usize,
-    cell: usize,
-    component: usize,
-    width: usize,
-)
-    requires { ⌜ Mixes n (now firsts) (now backs) (now weights) boundary shift cell component width (length (now source))
-        (length (now memory)) × AllOrNone n (now firsts) from ⌝ }
-    ensures { λ _. ⌜ now (memory .exit) ≡ storeAll (inLine n (now (firsts .entry)) (now (backs .entry))
-        (now (weights .entry)) boundary shift (now (source .entry)) cell component) (now (memory .entry))
-        (tabulate (λ y. cell + y) width) ⌝ }
-{
-    let few = before(from, component, width);
-    edge(
-        source,
-        memory,
-        shift,
-        boundary,
-        n,
-        firsts,
-        backs,
-        weights,
-        cell,
-        component,
-        few,
-    );
-    if few == width {
-        return;
-    }
-    let rest = rest_of(boundary, n, firsts, backs, weights);
-    let left_backs = rest.backs;
-    let left_weights = rest.weights;
-    let rule = Rule {
-        outside: rest.outside,
-        shift: shift,
-    };
-    row(
-        source,
-        memory,
-        rule,
-        n,
-        &left_backs,
-        &left_weights,
-        cell + few,
-        width - few,
-    );
 }

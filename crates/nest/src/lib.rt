@@ -4,7 +4,7 @@ ghost use mathlib.Core.Path.{_≡_};
 ghost use mathlib.Core.List.{[]};
 ghost use mathlib.Core.Bool.{false};
 ghost use Prim.Native.Nat.{ℕ, _+_, _*_, _-_, _/_, _%_, _<_, _≤_};
-ghost use lib.ListN.{length, getD};
+ghost use lib.ListN.{length, getD, replicate};
 ghost use lib.Dec.{eqb, ltb, leb};
 ghost use Rattle.base.specs.Tests.{_and_, pick, every, some, keep, product};
 ghost use Rattle.base.specs.Lists.{Bytes};
@@ -369,9 +369,9 @@ fn met(lower: bool, level: usize, raised: usize) -> bool
 }
 
 // What a bound leaves of a row: of the last dimension its part below or above, of another dimension all or nothing.
-fn cut(nest: Nest, at: [usize; 4], k: usize, s: Interval) -> Interval
-    requires { ⌜ Framed nest × ((k < nest .bounds) × Narrow nest at) ⌝ }
-    ensures { λ r. ⌜ Cuts nest at k s r ⌝ }
+fn cut(nest: Nest, at: &[usize; 4], k: usize, s: Interval) -> Interval
+    requires { ⌜ Framed nest × ((k < nest .bounds) × Narrow nest (now at)) ⌝ }
+    ensures { λ r. ⌜ Cuts nest (now (at .entry)) k s r ⌝ }
 {
     let sides = nest.sides;
     let bounded = nest.bounded;
@@ -393,9 +393,9 @@ fn cut(nest: Nest, at: [usize; 4], k: usize, s: Interval) -> Interval
 }
 
 // The cells of a row that are in the shape: one span.
-pub fn span(nest: Nest, at: [usize; 4]) -> Interval
-    requires { ⌜ Framed nest × Narrow nest at ⌝ }
-    ensures { λ r. ⌜ Spans nest at r ⌝ }
+fn span_of(nest: Nest, at: &[usize; 4]) -> Interval
+    requires { ⌜ Framed nest × Narrow nest (now at) ⌝ }
+    ensures { λ r. ⌜ Spans nest (now (at .entry)) r ⌝ }
 {
     let last = nest.dimensions - 1;
     let n = nest.bounds;
@@ -410,13 +410,20 @@ pub fn span(nest: Nest, at: [usize; 4]) -> Interval
     left
 }
 
-// The place of a row's first cell.
-pub fn row_place(nest: Nest, q: usize) -> [usize; 4]
-    requires { ⌜ Framed nest ⌝ }
-    ensures { λ r. ⌜ Row nest q r ⌝ }
+// The same, of a place by value.
+pub fn span(nest: Nest, at: [usize; 4]) -> Interval
+    requires { ⌜ Framed nest × Narrow nest at ⌝ }
+    ensures { λ r. ⌜ Spans nest at r ⌝ }
+{
+    span_of(nest, &at)
+}
+
+// Writes the place of a row's first cell, over zeros.
+fn put_row(nest: Nest, q: usize, at: &mut [usize; 4])
+    requires { ⌜ Framed nest × (now at ≡ replicate 4 0) ⌝ }
+    ensures { λ _. ⌜ Row nest q (now (at .exit)) ⌝ }
 {
     let lengths = nest.lengths;
-    let mut at = [0usize; 4];
     let mut rest = q;
     let mut j = nest.dimensions - 1;
     while j > 0 {
@@ -425,6 +432,15 @@ pub fn row_place(nest: Nest, q: usize) -> [usize; 4]
         at[j] = rest % length;
         rest = rest / length;
     }
+}
+
+// The place of a row's first cell.
+pub fn row_place(nest: Nest, q: usize) -> [usize; 4]
+    requires { ⌜ Framed nest ⌝ }
+    ensures { λ r. ⌜ Row nest q r ⌝ }
+{
+    let mut at = [0usize; 4];
+    put_row(nest, q, &mut at);
     at
 }
 
@@ -473,9 +489,9 @@ fn box_tiles(nest: Nest) -> usize
 }
 
 // The box's number of the tile at a place of a cell.
-fn tile_at(nest: Nest, at: [usize; 4]) -> usize
-    requires { ⌜ (Framed nest × Tiled nest) × InBox nest at ⌝ }
-    ensures { λ r. ⌜ r ≡ tileAt nest (λ j. spot at j / tileLength nest j) ⌝ }
+fn tile_at(nest: Nest, at: &[usize; 4]) -> usize
+    requires { ⌜ (Framed nest × Tiled nest) × InBox nest (now at) ⌝ }
+    ensures { λ r. ⌜ r ≡ tileAt nest (λ j. spot (now (at .entry)) j / tileLength nest j) ⌝ }
 {
     let n = nest.dimensions;
     let lengths = nest.lengths;
@@ -502,10 +518,11 @@ pub fn mark_row(nest: Nest, q: usize, marks: &mut [u8])
     requires { ⌜ (Framed nest × Tiled nest) × ((q * lengthOf nest (last nest) < cells nest) × (boxTiles nest ≤ length (now marks))) ⌝ }
     ensures { λ _. ⌜ RowMarked nest q (now (marks .entry)) (now (marks .exit)) ⌝ }
 {
-    let at = row_place(nest, q);
-    let s = span(nest, at);
+    let mut at = [0usize; 4];
+    put_row(nest, q, &mut at);
+    let s = span_of(nest, &at);
     if s.from < s.to {
-        let first = tile_at(nest, at);
+        let first = tile_at(nest, &at);
         let tiling = nest.tiling;
         let length = tiling[nest.dimensions - 1];
         mark(

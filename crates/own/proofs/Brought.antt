@@ -1,61 +1,66 @@
 -- Laws of the cells that messages bring: a message's cells marked, and the cells kept once so many messages are looked at.
-use Prim.Native.Nat.{ℕ, zero, suc, _+_, _-_, _≤_, _<_}
+use Prim.Native.Nat.{ℕ, suc, _+_, _≤_, _<_}
 use mathlib.Core.Path.{_≡_, refl, sym, ap, _∙_}
-use mathlib.Core.Logic.{_⊎_, inl, inr, _≢_}
+use mathlib.Core.Logic.{_⊎_, inl, inr}
 use mathlib.Core.Bool.{Bool, true, false}
-use mathlib.Core.List.{List, [], _∷_, map}
-use native.Mathlib.Nat.{le-of-suc-le-suc}
+use mathlib.Core.List.{List}
 use native.Mathlib.Numerals.{add-one}
 use native.Mathlib.Omega.{arith}
-use lib.ListN.{length, getD, take, drop, replicate, length-replicate}
-use lib.Seq.{ext-getD}
-use lib.Dec.{eqb}
-use borrow.Author.Tests.{eq-eqb, ne-eqb}
+use lib.ListN.{length, getD, drop, set, length-set, drop-of-length-le}
+use lib.Seq.{ext-getD, drop-cons}
+use lib.Dec.{eqb, leb}
+use borrow.Author.Tests.{le-leb, lt-leb}
 use Rattle.base.specs.Tests.{_and_, _or_, one, pick, some, tabulate}
-use Rattle.base.specs.Lists.{In, member, unpack}
+use Rattle.base.specs.Lists.{In, member, setAll}
 use Rattle.base.proofs.Tests.{and-true, and-false, and-no, or-right, pick-true, pick-false, one-true, never-both, length-tabulate, tabulate-at}
-use Rattle.base.proofs.Lists.{in-member, member-in, unpack-length, unpack-gives}
-use Rattle.base.proofs.Entries.{unpack-other}
+use Rattle.base.proofs.Lists.{in-member, member-in, setAll-length, setAll-other, setAll-same}
 use Rattle.machine.specs.Plan.{Plan, Sound, count, heldBy}
-use Rattle.table.specs.declared.MessageLine.{MessageLine}
-use Rattle.table.specs.Summary.{lineOf}
 use Rattle.apart.specs.Apart.{takerAt}
 use Rattle.apart.specs.Own.{owns, keeps}
 
--- ---- words that are all 1
+-- ---- these cells marked
 
-take-same : (w n v : ℕ) → w ≤ n → take w (replicate n v) ≡ replicate w v
-take-same zero n v h = refl
-take-same (suc w) zero v h = absurd (omega arith)
-take-same (suc w) (suc n) v h = ap (λ (l : List ℕ). v ∷ l) (take-same w n v (le-of-suc-le-suc h))
+-- what is left gives the same
+pub record MarkingList (old cells new : List ℕ) (i : ℕ) : Type 0 where
+  pub long : length new ≡ length old
+  pub low : i ≤ length cells
+  pub is : setAll new (drop i cells) 1 ≡ setAll old cells 1
 
-map-same : (cs : List ℕ) (v : ℕ) → replicate (length cs) v ≡ map (λ c. v) cs
-map-same [] v = refl
-map-same (c ∷ cs) v = ap (λ (l : List ℕ). v ∷ l) (map-same cs v)
+module _ (old cells : List ℕ) where
+  pub list-start : MarkingList old cells old 0
+  list-start = record { long = refl; low = omega arith; is = refl }
 
-module _ (ones : List ℕ) (n : ℕ) (is : ones ≡ replicate n 1) where
-  pub ones-long : length ones ≡ n
-  ones-long = ap length is ∙ length-replicate n 1
+  module _ (new : List ℕ) (i : ℕ) (g : MarkingList old cells new i) where
+    pub list-next : i < length cells → (c : ℕ) → c ≡ getD cells i 0 → MarkingList old cells (set new c 1) (i + 1)
+    unfolding setAll
+    list-next l c e =
+        record {
+          long = length-set new c 1 ∙ g .long;
+          low = omega arith;
+          is = ap (λ (k : ℕ). setAll (set new c 1) (drop k cells) 1) (add-one i)
+              ∙ ap (λ (k : ℕ). setAll (set new k 1) (drop (suc i) cells) 1) e
+              ∙ ap (λ (cs : List ℕ). setAll new cs 1) (sym (drop-cons cells i 0 l))
+              ∙ g .is;
+        }
 
-  -- the first w of them, as code lends them
-  pub ones-part : (w : ℕ) → w ≤ n → take (w - 0) (drop 0 ones) ≡ replicate w 1
-  ones-part w h = let e : w - 0 ≡ w = omega arith in rw (e, is) (take-same w n 1 h)
+    pub list-done : length cells ≤ i → new ≡ setAll old cells 1
+    unfolding setAll
+    list-done h = ap (λ (cs : List ℕ). setAll new cs 1) (sym (drop-of-length-le cells h)) ∙ g .is
 
-  pub ones-some : (w : ℕ) → w ≤ n → length (take (w - 0) (drop 0 ones)) ≡ w
-  ones-some w h = ap length (ones-part w h) ∙ length-replicate w 1
+-- the cells of a message are cells
+pub held-below : (p : Plan) → Sound p → (m : ℕ) → m < count p → (cells marks : List ℕ) → cells ≡ heldBy p m → length marks ≡ p .cells
+    → (c : ℕ) → In c cells → c < length marks
+held-below p so m low cells marks e long c i = rw long (so .held-low m c low (rw e at i))
 
 -- ---- one message
 
-module _ (p : Plan) (b m : ℕ) (r : MessageLine) (is : r ≡ lineOf p m) where
-  pub brought : (marks marks′ ones : List ℕ) (n w : ℕ) → ones ≡ replicate n 1 → w ≤ n → r .to ≡ b
-      → marks′ ≡ unpack marks (heldBy p m) (take (w - 0) (drop 0 ones))
-      → marks′ ≡ pick (eqb (takerAt p m) b) (unpack marks (heldBy p m) (replicate w 1)) marks
-  brought marks marks′ ones n w all h e q =
-      q ∙ ap (unpack marks (heldBy p m)) (ones-part ones n all w h)
-      ∙ sym (pick-true _ _ _ (eq-eqb _ _ (sym (ap (λ (l : MessageLine). l .to) is) ∙ e)))
+module _ (p : Plan) (b m v : ℕ) (is : leb 2 v ≡ eqb (takerAt p m) b) where
+  pub brought : (marks marks′ : List ℕ) → 2 ≤ v → marks′ ≡ setAll marks (heldBy p m) 1
+      → marks′ ≡ pick (eqb (takerAt p m) b) (setAll marks (heldBy p m) 1) marks
+  brought marks marks′ h q = q ∙ sym (pick-true _ _ _ (sym is ∙ le-leb 2 v h))
 
-  pub elsewhere : (marks new : List ℕ) → r .to ≢ b → marks ≡ pick (eqb (takerAt p m) b) new marks
-  elsewhere marks new k = sym (pick-false _ _ _ (ne-eqb _ _ (λ e. k (ap (λ (l : MessageLine). l .to) is ∙ e))))
+  pub elsewhere : (marks new : List ℕ) → v < 2 → marks ≡ pick (eqb (takerAt p m) b) new marks
+  elsewhere marks new h = sym (pick-false _ _ _ (sym is ∙ lt-leb 2 v h))
 
 -- ---- all of them
 
@@ -94,25 +99,20 @@ module _ (p : Plan) (b : ℕ) where
       }
 
   module _ (so : Sound p) (marks : List ℕ) (m : ℕ) (g : Keeping marks m) where
-    module _ (low : m < count p) (w : ℕ) (words : w ≡ length (heldBy p m)) where
+    module _ (low : m < count p) where
       abbrev cs : List ℕ
       cs = heldBy p m
 
       abbrev new : List ℕ
-      new = unpack marks cs (replicate w 1)
-
-      marked-in : (c : ℕ) → In c cs → getD new c 0 ≡ 1
-      marked-in c i =
-          unpack-gives (λ d. 1) cs (replicate w 1) marks c (ap (λ (n : ℕ). replicate n 1) words ∙ map-same cs 1)
-          (λ d k. rw (g .long) (so .held-low m d low k)) i
+      new = setAll marks cs 1
 
       taken : eqb (takerAt p m) b ≡ true → (c : ℕ) → c < p .cells → getD new c 0 ≡ one (keptBy (suc m) c)
       taken e c l = go (member c cs) refl
         where
           go : (t : Bool) → member c cs ≡ t → getD new c 0 ≡ one (keptBy (suc m) c)
-          go true q = marked-in c (member-in c cs q) ∙ sym (one-true (now-brought m c (and-true e q)))
+          go true q = setAll-same cs marks 1 c (omega (arith, l, g .long)) (member-in c cs q) ∙ sym (one-true (now-brought m c (and-true e q)))
           go false q =
-              unpack-other cs (replicate w 1) marks c (λ i. never-both (in-member c cs i) q) ∙ g .each c l
+              setAll-other cs marks 1 c (λ i. never-both (in-member c cs i) q) ∙ g .each c l
               ∙ ap one (sym (not-brought m c (and-no _ _ q)))
 
       pub keep-next : (marks′ : List ℕ) → marks′ ≡ pick (eqb (takerAt p m) b) new marks → Keeping marks′ (m + 1)
@@ -121,20 +121,17 @@ module _ (p : Plan) (b : ℕ) where
           go : (t : Bool) → eqb (takerAt p m) b ≡ t → Keeping marks′ (suc m)
           go true q =
               let z : marks′ ≡ new = e ∙ pick-true _ _ _ q in
-              rw z (record { long = unpack-length cs (replicate w 1) marks ∙ g .long; each = λ c l. taken q c l })
+              rw z (record { long = setAll-length cs marks 1 ∙ g .long; each = λ c l. taken q c l })
           go false q =
               let z : marks′ ≡ marks = e ∙ pick-false _ _ _ q in
               rw z (record { long = g .long; each = λ c l. g .each c l ∙ ap one (sym (not-brought m c (and-false _ _ q))) })
 
     -- a message looked at, or none
-    pub keep-turn : (marks′ : List ℕ) (m′ w : ℕ)
-        → ((m < count p)
-        × (w ≡ length (heldBy p m))
-        × (marks′ ≡ pick (eqb (takerAt p m) b) (unpack marks (heldBy p m) (replicate w 1)) marks)
-        × (m′ ≡ m + 1))
-        ⊎ ((marks′ ≡ marks) × (m′ ≡ m)) → Keeping marks′ m′
-    keep-turn marks′ m′ w (inl q) = rw (q .3) (keep-next (q .0) w (q .1) marks′ (q .2))
-    keep-turn marks′ m′ w (inr q) = rw (q .0, q .1) g
+    pub keep-turn : (marks′ : List ℕ) (m′ : ℕ)
+        → ((m < count p) × (marks′ ≡ pick (eqb (takerAt p m) b) (setAll marks (heldBy p m) 1) marks) × (m′ ≡ m + 1)) ⊎ ((marks′ ≡ marks) × (m′ ≡ m))
+        → Keeping marks′ m′
+    keep-turn marks′ m′ (inl q) = rw (q .2) (keep-next (q .0) marks′ (q .1))
+    keep-turn marks′ m′ (inr q) = rw (q .0, q .1) g
 
     pub keep-done : m ≡ count p → marks ≡ tabulate (λ c. one (keeps p b c)) (p .cells)
     unfolding keeps

@@ -1,7 +1,7 @@
--- Laws of the messages that a processor handles: the test by a message's line, and how many, with how many words, come before each.
+-- Laws of the messages that a processor handles: the test by a message's ends, and how many, with how many words, come before each.
 use Prim.Native.Nat.{ℕ, suc, _+_, _*_, _≤_, _<_}
 use mathlib.Core.Path.{_≡_, refl, sym, ap, _∙_}
-use mathlib.Core.Logic.{_⊎_, inl, inr, _≢_}
+use mathlib.Core.Logic.{_⊎_, inl, inr}
 use mathlib.Core.Bool.{Bool, true, false}
 use mathlib.Core.List.{List, [], _∷_, _++_}
 use native.Mathlib.Nat.{eq-or-lt-of-le, zero-mul, one-mul}
@@ -9,31 +9,26 @@ use native.Mathlib.Numerals.{add-one}
 use native.Mathlib.Omega.{arith}
 use lib.ListN.{length, getD, set, length-set}
 use lib.Seq.{getD-set-same, getD-set-other}
-use borrow.Author.Tests.{eq-eqb, ne-eqb}
+use lib.Dec.{eqb}
 use Rattle.base.specs.Tests.{one, keep}
 use Rattle.base.proofs.Tests.{or-left, or-right, or-false, one-true, one-false}
 use Rattle.base.proofs.Select.{keep-hit, keep-none, keep-more, keep-few}
 use Rattle.machine.specs.Plan.{Plan, heldBy}
-use Rattle.table.specs.declared.MessageLine.{MessageLine}
-use Rattle.table.specs.Summary.{lineOf}
+use Rattle.apart.specs.Apart.{senderAt, takerAt}
 use Rattle.apart.specs.Own.{handles}
 use Rattle.own.specs.Part.{wordsOf, rankOf, mailAt}
 
 -- ---- the test
 
-module _ (p : Plan) (b m : ℕ) (r : MessageLine) (is : r ≡ lineOf p m) where
-  pub sent-here : r .from ≡ b → 1 ≡ one (handles p b m)
+module _ (p : Plan) (b m : ℕ) where
+  pub some-end : (eqb (senderAt p m) b ≡ true) ⊎ (eqb (takerAt p m) b ≡ true) → 1 ≡ one (handles p b m)
   unfolding handles
-  sent-here e = sym (one-true (or-left _ (eq-eqb _ _ (sym (ap (λ (l : MessageLine). l .from) is) ∙ e))))
+  some-end (inl e) = sym (one-true (or-left _ e))
+  some-end (inr e) = sym (one-true (or-right _ e))
 
-  pub taken-here : r .to ≡ b → 1 ≡ one (handles p b m)
+  pub no-end : eqb (senderAt p m) b ≡ false → eqb (takerAt p m) b ≡ false → 0 ≡ one (handles p b m)
   unfolding handles
-  taken-here e = sym (one-true (or-right _ (eq-eqb _ _ (sym (ap (λ (l : MessageLine). l .to) is) ∙ e))))
-
-  pub elsewhere : r .from ≢ b → r .to ≢ b → 0 ≡ one (handles p b m)
-  unfolding handles
-  elsewhere n k =
-      sym (one-false (or-false (ne-eqb _ _ (λ e. n (ap (λ (l : MessageLine). l .from) is ∙ e))) (ne-eqb _ _ (λ e. k (ap (λ (l : MessageLine). l .to) is ∙ e)))))
+  no-end e k = sym (one-false (or-false e k))
 
 -- ---- one more message
 

@@ -1,5 +1,10 @@
+pub mod Ranks
+pub mod Blocks
 pub mod Marks
+pub mod Slotted
 pub mod Slots
 pub mod Handling
+pub mod Chains
+pub mod Rows
 pub mod Owned
 pub mod Brought

@@ -1,129 +1,193 @@
--- Laws of the cells of a processor's tiles: the words that are equal to a number marked, and a cell's processor by its tile, on either route.
-use Prim.Native.Nat.{ℕ, suc, _+_, _≤_, _<_}
+-- Laws of the cells of a processor's tiles: the test by a cell's tile, rows that have one processor, and the cells of the rows passed.
+use Prim.Native.Nat.{ℕ, _+_, _*_, _-_, _/_, _%_, _≤_, _<_}
 use mathlib.Core.Path.{_≡_, refl, sym, ap, _∙_}
 use mathlib.Core.Logic.{_⊎_, inl, inr, _≢_}
 use mathlib.Core.Bool.{Bool, true, false}
 use mathlib.Core.List.{List}
-use native.Mathlib.Nat.{eq-or-lt-of-le, le-of-suc-le-suc}
-use native.Mathlib.Decide.{ℕ-discrete}
+use native.Mathlib.Nat.{zero-mul, div-add-mod', mod-lt, mul-le-mul-right, div-lt-iff-lt-mul}
+use native.Mathlib.Decide.{decLt, ℕ-discrete}
 use native.Mathlib.Omega.{arith}
-use lib.ListN.{length, getD, set, length-set}
-use lib.Seq.{getD-set-same, getD-set-other, ext-getD}
+use lib.ListN.{length, getD, replicate, length-replicate, getD-replicate}
+use lib.Seq.{ext-getD}
 use lib.Dec.{eqb}
 use borrow.Author.Tests.{eq-eqb, ne-eqb, eqb-true}
 use Rattle.base.specs.Tests.{_and_, one, some, tabulate}
 use Rattle.base.specs.Lists.{member}
-use Rattle.base.proofs.Tests.{both, and-true, same-test, some-at, some-one, pick-true, pick-false, one-true, one-false}
-use Rattle.base.proofs.Tests.{length-tabulate, tabulate-at, tabulate-same}
+use Rattle.base.proofs.Tests.{both, and-true, and-false, same-test, some-at, some-one, pick-true, pick-false, one-true, one-false, is-false}
+use Rattle.base.proofs.Tests.{length-tabulate, tabulate-at}
 use Rattle.base.proofs.Lists.{in-member, member-in}
 use Rattle.machine.specs.Plan.{Plan, Sound}
 use Rattle.nest.specs.declared.Nest.{Nest}
-use Rattle.nest.specs.Nest.{cells, processors}
+use Rattle.nest.specs.Nest.{cells, tileLength}
 use Rattle.nest.specs.Accepted.{Accepted}
+use Rattle.nest.specs.Places.{boxTileOf}
+use Rattle.nest.specs.Shape.{inShape}
+use Rattle.nest.specs.Spans.{last}
+use Rattle.nest.proofs.Shapes.{framed, cellPlace-row}
 use Rattle.plan.specs.declared.Route.{Route}
 use Rattle.plan.specs.declared.Route.the-variants.{Direct}
+use Rattle.plan.specs.Geometry.{processorOf}
 use Rattle.plan.specs.Shaped.{planOf}
 use Rattle.plan.proofs.ShapedBox.{planOf-box}
 use Rattle.plan.proofs.ShapedSound.{sound}
+use Rattle.plan.proofs.ShapedTiles.{boxTile-tileOf}
+use Rattle.plan.proofs.Tiles.{tilePlace-boxTileOf, processorOf-same}
 use Rattle.layout.specs.declared.Sizes.{Sizes}
 use Rattle.layout.specs.Sizes.{Sized}
 use Rattle.tables.specs.Tables.{Routed}
 use Rattle.apart.specs.Own.{owns}
-use Rattle.mail.specs.Calls.{ownerOf}
+use Rattle.own.specs.Marking.{wide, Shown, Alike}
+use Rattle.own.proofs.Rows.{wide-some}
 
--- ---- words that are equal to a number
+-- ---- the test
 
--- the first c words say whether they were b, the others are as before
-pub record Marking (b : ℕ) (old new : List ℕ) (c : ℕ) : Type 0 where
-  pub long : length new ≡ length old
-  pub low : c ≤ length old
-  pub each : (j : ℕ) → j < c → getD new j 0 ≡ one (eqb (getD old j 0) b)
-  pub rest : (j : ℕ) → c ≤ j → getD new j 0 ≡ getD old j 0
-
-module _ (b : ℕ) (old : List ℕ) where
-  pub mark-start : Marking b old old 0
-  mark-start = record { long = refl; low = omega arith; each = λ j h. absurd (omega arith); rest = λ j h. refl }
-
-  module _ (new : List ℕ) (c : ℕ) (g : Marking b old new c) where
-    pub mark-next : (new′ : List ℕ) → c < length old
-        → ((getD new c 0 ≡ b) × (new′ ≡ set new c 1)) ⊎ ((getD new c 0 ≢ b) × (new′ ≡ set new c 0)) → Marking b old new′ (c + 1)
-    mark-next new′ l h = go h
-      where
-        stored : (v : ℕ) → v ≡ one (eqb (getD old c 0) b) → Marking b old (set new c v) (c + 1)
-        stored v e =
-            record {
-              long = length-set new c v ∙ g .long;
-              low = omega arith;
-              each = λ j k. at j (eq-or-lt-of-le (le-of-suc-le-suc (below j k)));
-              rest = λ j k. getD-set-other new c j v 0 (λ q. omega arith) ∙ g .rest j (omega arith);
-            }
-          where
-            below : (j : ℕ) → j < c + 1 → suc j ≤ suc c
-            below j k = omega arith
-
-            at : (j : ℕ) → (j ≡ c) ⊎ (j < c) → getD (set new c v) j 0 ≡ one (eqb (getD old j 0) b)
-            at j (inl q) =
-                ap (λ (i : ℕ). getD (set new c v) i 0) q ∙ getD-set-same new c v 0 (omega (arith, g .long)) ∙ e
-                ∙ ap (λ (i : ℕ). one (eqb (getD old i 0) b)) (sym q)
-            at j (inr k) = getD-set-other new c j v 0 (λ q. omega arith) ∙ g .each j k
-
-        same : getD new c 0 ≡ getD old c 0
-        same = g .rest c (omega arith)
-
-        go : ((getD new c 0 ≡ b) × (new′ ≡ set new c 1)) ⊎ ((getD new c 0 ≢ b) × (new′ ≡ set new c 0)) → Marking b old new′ (c + 1)
-        go (inl (e, q)) = rw q (stored 1 (sym (one-true (eq-eqb _ _ (sym same ∙ e)))))
-        go (inr (n, q)) = rw q (stored 0 (sym (one-false (ne-eqb _ _ (λ e. n (same ∙ e))))))
-
-    pub mark-done : length old ≤ c → new ≡ tabulate (λ j. one (eqb (getD old j 0) b)) (length old)
-    mark-done k =
-        ext-getD 0 new (tabulate (λ j. one (eqb (getD old j 0) b)) (length old)) (g .long ∙ sym (length-tabulate _ (length old)))
-        (λ j l. g .each j (omega (arith, g .long)) ∙ sym (tabulate-at (λ j. one (eqb (getD old j 0) b)) (length old) j (omega (arith, g .long))))
-
--- ---- a cell's processor
-
-module _ (p : Plan) (so : Sound p) (b : ℕ) (low : b < p .processors) where
-  -- a cell is the processor's where its tile is
-  pub owner-owns : (c : ℕ) → c < p .cells → eqb (ownerOf p c) b ≡ owns p b c
+-- a cell is the processor's where its tile is
+module _ (p : Plan) (so : Sound p) (b c : ℕ) (low : c < p .cells) where
+  owned : owns p b c ≡ (p .inside c and eqb (p .processorOf (p .tileOf c)) b)
   unfolding owns
-  owner-owns c l = same-test there back
+  owned = same-test there back
     where
-      here : (t : Bool) → p .inside c ≡ t → ownerOf p c ≡ b → some (λ t. eqb (p .processorOf t) b and member c (p .cellsOf t)) (p .tiles) ≡ true
-      here true i e =
-          some-one _ (p .tiles) (p .tileOf c) (so .tile-low c l i)
-          (and-true (eq-eqb _ _ (sym (pick-true _ _ _ i) ∙ e)) (in-member c _ (so .cell-in c l i)))
-      here false i e = absurd (omega (arith, low, sym (pick-false _ _ _ i) ∙ e))
-
-      there : eqb (ownerOf p c) b ≡ true → some (λ t. eqb (p .processorOf t) b and member c (p .cellsOf t)) (p .tiles) ≡ true
-      there e = here (p .inside c) refl (eqb-true _ _ e)
-
-      back : some (λ t. eqb (p .processorOf t) b and member c (p .cellsOf t)) (p .tiles) ≡ true → eqb (ownerOf p c) b ≡ true
-      back e =
+      there : some (λ t. eqb (p .processorOf t) b and member c (p .cellsOf t)) (p .tiles) ≡ true
+          → (p .inside c and eqb (p .processorOf (p .tileOf c)) b) ≡ true
+      there e =
           let k = some-at (λ t. eqb (p .processorOf t) b and member c (p .cellsOf t)) (p .tiles) e in
           let q = both (k .2) in
           let i = member-in c _ (q .1) in
-          eq-eqb _ _
-          (pick-true _ _ _ (so .cell-inside (k .0) c (k .1) i) ∙ ap (p .processorOf) (so .cell-of (k .0) c (k .1) i) ∙ eqb-true _ _ (q .0))
+          and-true (so .cell-inside (k .0) c (k .1) i)
+          (eq-eqb _ _ (ap (p .processorOf) (so .cell-of (k .0) c (k .1) i) ∙ eqb-true _ _ (q .0)))
+
+      back : (p .inside c and eqb (p .processorOf (p .tileOf c)) b) ≡ true
+          → some (λ t. eqb (p .processorOf t) b and member c (p .cellsOf t)) (p .tiles) ≡ true
+      back e =
+          let q = both e in
+          some-one _ (p .tiles) (p .tileOf c) (so .tile-low c low (q .0)) (and-true (q .1) (in-member c _ (so .cell-in c low (q .0))))
 
 -- without bounds the tiles are the box's on either route, with bounds there is one route
-pub owner-same : (x : Nest) (z : Sizes) → Accepted x → Routed x z → (c : ℕ) → ownerOf (planOf Direct x) c ≡ ownerOf (planOf (z .route) x) c
-owner-same x z ok routed c = go (ℕ-discrete (x .bounds) 0)
+owns-same : (x : Nest) (z : Sizes) → Accepted x → Routed x z → (b c : ℕ) → owns (planOf (z .route) x) b c ≡ owns (planOf Direct x) b c
+unfolding owns
+owns-same x z ok routed b c = go (ℕ-discrete (x .bounds) 0)
   where
-    go : Dec (x .bounds ≡ 0) → ownerOf (planOf Direct x) c ≡ ownerOf (planOf (z .route) x) c
-    go (yes e) =
-        ap (λ (p : Plan). ownerOf p c) (planOf-box Direct x ok e)
-        ∙ sym (ap (λ (p : Plan). ownerOf p c) (planOf-box (z .route) x ok e))
-    go (no n) = ap (λ (r : Route). ownerOf (planOf r x) c) (sym (routed n))
+    go : Dec (x .bounds ≡ 0) → owns (planOf (z .route) x) b c ≡ owns (planOf Direct x) b c
+    go (yes e) = ap (λ (p : Plan). owns p b c) (planOf-box (z .route) x ok e) ∙ sym (ap (λ (p : Plan). owns p b c) (planOf-box Direct x ok e))
+    go (no n) = ap (λ (r : Route). owns (planOf r x) b c) (routed n)
 
--- the cells' processors marked: by the words of the code
-pub owners-marked : (x : Nest) (z : Sizes) → Sized x z → Routed x z → (b : ℕ) → b < processors x → (owners marks : List ℕ)
-    → owners ≡ tabulate (ownerOf (planOf Direct x)) (cells x)
-    → marks ≡ tabulate (λ c. one (eqb (getD owners c 0) b)) (length owners)
-    → marks ≡ tabulate (λ c. one (owns (planOf (z .route) x) b c)) (cells x)
-owners-marked x z s routed b low owners marks is e =
-    e ∙ ap (tabulate (λ c. one (eqb (getD owners c 0) b))) (ap length is ∙ length-tabulate (ownerOf (planOf Direct x)) (cells x))
-    ∙ tabulate-same (λ c. one (eqb (getD owners c 0) b)) (λ c. one (owns (planOf (z .route) x) b c)) (cells x)
-    (λ c l.
-    ap one
-    (ap (λ (i : ℕ). eqb i b)
-    (ap (λ (ws : List ℕ). getD ws c 0) is ∙ tabulate-at (ownerOf (planOf Direct x)) (cells x) c l ∙ owner-same x z (s .accepted) routed c)
-    ∙ owner-owns (planOf (z .route) x) (sound (z .route) x (s .accepted)) b low c l))
+module _ (x : Nest) (z : Sizes) (s : Sized x z) (routed : Routed x z) (b c : ℕ) (low : c < cells x) where
+  direct : owns (planOf (z .route) x) b c ≡ (inShape x c and eqb (planOf Direct x .processorOf (planOf Direct x .tileOf c)) b)
+  direct = owns-same x z (s .accepted) routed b c ∙ owned (planOf Direct x) (sound Direct x (s .accepted)) b c low
+
+  -- outside the shape it is nobody's; in it, that of its tile of the box
+  pub owned-none : inShape x c ≡ false → owns (planOf (z .route) x) b c ≡ false
+  owned-none e = direct ∙ and-false _ _ e
+
+  in-shape : (v : ℕ) → inShape x c ≡ true → processorOf x (boxTileOf x c) ≡ v → planOf Direct x .processorOf (planOf Direct x .tileOf c) ≡ v
+  in-shape v i e = ap (processorOf x) (boxTile-tileOf x (s .accepted) c low i) ∙ e
+
+  pub owned-here : inShape x c ≡ true → processorOf x (boxTileOf x c) ≡ b → owns (planOf (z .route) x) b c ≡ true
+  owned-here i e = direct ∙ and-true i (eq-eqb _ _ (in-shape b i e))
+
+  pub owned-elsewhere : (v : ℕ) → inShape x c ≡ true → processorOf x (boxTileOf x c) ≡ v → v ≢ b → owns (planOf (z .route) x) b c ≡ false
+  owned-elsewhere v i e n =
+      direct ∙ is-false (λ q. n (sym (in-shape v i e) ∙ eqb-true _ _ (both q .1)))
+
+-- ---- the rows passed
+
+-- the cells before c are told, the others not marked
+pub record OwnTo (p : Plan) (b : ℕ) (marks : List ℕ) (c : ℕ) : Type 0 where
+  pub long : length marks ≡ p .cells
+  pub told : (j : ℕ) → j < c → getD marks j 0 ≡ one (owns p b j)
+  pub rest : (j : ℕ) → c ≤ j → j < p .cells → getD marks j 0 ≡ 0
+
+pub own-start : (p : Plan) (b n : ℕ) (marks : List ℕ) → n ≡ p .cells → marks ≡ replicate n 0 → (w : ℕ) → OwnTo p b marks (0 * w)
+own-start p b n marks e is w =
+    rw (zero-mul w) (record {
+      long = ap length is ∙ length-replicate n 0 ∙ e;
+      told = λ j h. absurd (omega arith);
+      rest = λ j h l. ap (λ (ws : List ℕ). getD ws j 0) is ∙ getD-replicate n j 0 0 (omega (arith, l, e));
+    })
+
+module _ (x : Nest) (z : Sizes) (s : Sized x z) (routed : Routed x z) (b : ℕ) where
+  abbrev ok : Accepted x
+  ok = s .accepted
+
+  abbrev p : Plan
+  p = planOf (z .route) x
+
+  some-wide : 1 ≤ wide x
+  some-wide = wide-some x ok
+
+  module _ (q n : ℕ) (alike : Alike x q n) (t v : ℕ) (tile : t ≡ boxTileOf x (q * wide x)) (own : v ≡ processorOf x t) where
+    -- a cell of these rows
+    row-of : (c : ℕ) → q * wide x ≤ c → c < (q + n) * wide x → (y : ℕ) × (y < n) × (c ≡ (q + y) * wide x + c % wide x)
+    row-of c h l =
+        let up : q ≤ c / wide x = at-least (decLt (c / wide x) q) in
+        let k : c / wide x < q + n = div-lt-iff-lt-mul {k = wide x} some-wide .1 l in
+        let e : q + (c / wide x - q) ≡ c / wide x = omega arith in
+        (c / wide x - q, omega arith, rw e (sym (div-add-mod' c (wide x))))
+      where
+        at-least : Dec (c / wide x < q) → q ≤ c / wide x
+        at-least (yes k) = let l = div-lt-iff-lt-mul {k = wide x} some-wide .0 k in omega (arith, l, h)
+        at-least (no k) = omega arith
+
+    one-processor : (c : ℕ) → q * wide x ≤ c → c < (q + n) * wide x → processorOf x (boxTileOf x c) ≡ v
+    one-processor c h l =
+        let r = row-of c h l in
+        ap (λ (i : ℕ). processorOf x (boxTileOf x i)) (r .2)
+        ∙ processorOf-same x ok (boxTileOf x ((q + r .0) * wide x + c % wide x)) (boxTileOf x (q * wide x))
+        (λ j k.
+        let d : j < x .dimensions = omega (arith, ok .spread-low) in
+        tilePlace-boxTileOf x ok ((q + r .0) * wide x + c % wide x) j d
+        ∙ ap (λ (a : ℕ). a / tileLength x j)
+        (cellPlace-row x (framed x ok) (q + r .0) (c % wide x) j (mod-lt c some-wide) d
+        ∙ pick-false _ _ _ (ne-eqb j (last x) (λ e. omega (arith, ok .spread-low))))
+        ∙ alike .same (r .0) j (r .1) k ∙ sym (tilePlace-boxTileOf x ok (q * wide x) j d))
+        ∙ ap (processorOf x) (sym tile) ∙ sym own
+
+    module _ (marks : List ℕ) (g : OwnTo p b marks (q * wide x)) (room : (q + n) * wide x ≤ cells x) where
+      -- marked where the processor is this one, or left
+      pub own-next : (marks′ : List ℕ)
+          → ((v ≡ b) × Shown x (q * wide x) ((q + n) * wide x) marks marks′) ⊎ ((v ≢ b) × (marks′ ≡ marks)) → OwnTo p b marks′ ((q + n) * wide x)
+      own-next marks′ (inl (e, sh)) =
+          record {
+            long = sh .long ∙ g .long;
+            told = λ j l. go j l (decLt j (q * wide x)) (inShape x j) refl;
+            rest = λ j h l. sh .others j (inr h) ∙ g .rest j (omega (arith, h, up)) l;
+          }
+        where
+          up : q * wide x ≤ (q + n) * wide x
+          up = mul-le-mul-right (wide x) (omega arith)
+
+          go : (j : ℕ) → j < (q + n) * wide x → Dec (j < q * wide x) → (i : Bool) → inShape x j ≡ i → getD marks′ j 0 ≡ one (owns p b j)
+          go j l (yes k) i f = sh .others j (inl k) ∙ g .told j k
+          go j l (no k) true f =
+              sh .each j (omega arith) l ∙ pick-true _ _ _ f
+              ∙ sym (one-true (owned-here x z s routed b j (omega (arith, l, room)) f (one-processor j (omega arith) l ∙ e)))
+          go j l (no k) false f =
+              sh .each j (omega arith) l ∙ pick-false _ _ _ f ∙ g .rest j (omega arith) (omega (arith, l, room))
+              ∙ sym (one-false (owned-none x z s routed b j (omega (arith, l, room)) f))
+      own-next marks′ (inr (ne, e)) =
+          rw e (record {
+            long = g .long;
+            told = λ j l. go j l (decLt j (q * wide x)) (inShape x j) refl;
+            rest = λ j h l. g .rest j (omega (arith, h, up)) l;
+          })
+        where
+          up : q * wide x ≤ (q + n) * wide x
+          up = mul-le-mul-right (wide x) (omega arith)
+
+          go : (j : ℕ) → j < (q + n) * wide x → Dec (j < q * wide x) → (i : Bool) → inShape x j ≡ i → getD marks j 0 ≡ one (owns p b j)
+          go j l (yes k) i f = g .told j k
+          go j l (no k) true f =
+              g .rest j (omega arith) (omega (arith, l, room))
+              ∙ sym (one-false (owned-elsewhere x z s routed b j (omega (arith, l, room)) v f (one-processor j (omega arith) l) ne))
+          go j l (no k) false f =
+              g .rest j (omega arith) (omega (arith, l, room)) ∙ sym (one-false (owned-none x z s routed b j (omega (arith, l, room)) f))
+
+  pub own-done : (rows q : ℕ) (marks : List ℕ) → rows * wide x ≡ cells x → q ≤ rows → rows ≤ q → OwnTo p b marks (q * wide x)
+      → marks ≡ tabulate (λ c. one (owns p b c)) (cells x)
+  own-done rows q marks all h k g =
+      let e : q ≡ rows = omega arith in
+      let m : q * wide x ≡ cells x = ap (λ (a : ℕ). a * wide x) e ∙ all in
+      ext-getD 0 marks (tabulate (λ c. one (owns p b c)) (cells x)) (g .long ∙ sym (length-tabulate (λ c. one (owns p b c)) (cells x)))
+      (λ j l.
+      g .told j (omega (arith, l, m, g .long))
+      ∙ sym (tabulate-at (λ c. one (owns p b c)) (cells x) j (omega (arith, l, g .long))))

@@ -13,7 +13,7 @@ use Rattle.plan.specs.Shaped.{planOf}
 use Rattle.scans.specs.Scans.{Lengths, Summing}
 use Rattle.scans.proofs.Laws as scans
 use Rattle.tables.specs.Tables.{FoundIn}
-use Rattle.mail.proofs.Rows.{Slotted}
+use Rattle.own.proofs.Slotted.{Slotted}
 
 -- the slots before s are passed: so many messages with so many words
 pub record Past (lens : List ℕ) (n s m o : ℕ) : Type 0 where

@@ -1,5 +1,5 @@
 -- Each call for one processor by the line that counts.
-use Prim.Native.Nat.{ℕ, zero, suc, _+_, _*_, _-_, _≤_, _<_}
+use Prim.Native.Nat.{ℕ, _+_, _*_, _-_, _≤_, _<_}
 use mathlib.Core.Path.{_≡_, refl, sym, ap, _∙_}
 use mathlib.Core.Logic.{inl, inr, _≢_}
 use mathlib.Core.Bool.{Bool, true, false}
@@ -9,25 +9,20 @@ use native.Mathlib.Decide.{decLt}
 use native.Mathlib.Numerals.{add-one}
 use lib.ListN.{length, getD, take, drop, set, replicate, replicate-append-replicate}
 use lib.Dec.{ltb, eqb}
-use borrow.Rule.Slice.PartMut.{putMid}
 use borrow.Author.Tests.{eqb-true, eq-eqb, ne-eqb, lt-ltb, le-ltb, ltb-true}
-use Rattle.base.specs.Tests.{_and_, _or_, not, pick, keep}
+use Rattle.base.specs.Tests.{_and_, _or_, not}
 use Rattle.base.specs.Lists.{In, put, pack}
 use Rattle.base.specs.Numbers.{Line, line, firstOf}
-use Rattle.base.proofs.Tests.{both, either, never-both, and-true, and-false, and-no, and-left, or-right, not-true, not-false, true-not, pick-true, pick-false}
-use Rattle.base.proofs.Numbers.{Numbered, first-true, first-false, none-first, none-behind, first-some, first-behind}
-use Rattle.base.proofs.Select.{keep-hit, keep-more, keep-none, keep-lt}
+use Rattle.base.proofs.Tests.{both, never-both, and-true, and-false, and-no, or-right, not-true, not-false, true-not, pick-true, pick-false}
+use Rattle.base.proofs.Numbers.{first-true, first-false, none-first, first-some}
+use Rattle.base.proofs.Select.{keep-more, keep-none, keep-lt}
 use Rattle.machine.specs.Plan.{Plan, count, heldBy, offset, words}
-use Rattle.machine.specs.Machine.{State, stateOf, finishedOf, stageOf, sentOf, memoryOf, placeOf, fit, Answered, answered, deliverLines, fresh}
+use Rattle.machine.specs.Machine.{State, stateOf, finishedOf, stageOf, sentOf, placeOf, fit, Answered, answered, deliverLines, fresh}
 use Rattle.machine.proofs.Values.{offset-apart}
 use Rattle.plan.specs.Shaped.{planOf}
-use Rattle.layout.specs.Sizes.{routeOf}
-use Rattle.routes.specs.Routes.{linesFor}
-use Rattle.routes.proofs.Laws.{numbered-for}
-use Rattle.stages.proofs.Parts.{back, mid-length}
-use Rattle.engine.specs.Calls.{answer, recipe}
+use Rattle.engine.specs.Calls.{answer}
 use Rattle.engine.specs.Given.{zerosAfter}
-use Rattle.engine.proofs.Lines.{call-read, and-right}
+use Rattle.engine.proofs.Lines.{and-right}
 use Rattle.engine.proofs.Reading.{zeros-after-no, zeros-after-yes, part-carries}
 use Rattle.engine.proofs.Turns.{answered-no, answered-yes}
 use Rattle.records.specs.declared.Flat.{Flat}
@@ -35,56 +30,26 @@ use Rattle.records.specs.Records.{Carries}
 use Rattle.table.specs.declared.MessageLine.{MessageLine}
 use Rattle.table.specs.Summary.{lineOf}
 use Rattle.apart.specs.Apart.{takerAt, marked, received}
-use Rattle.apart.specs.Own.{handles, keptCells, handled, mailOf, narrowed}
+use Rattle.apart.specs.Own.{handles, keptCells, handled, mailOf}
 use Rattle.mail.specs.Calls.{takes, asLong}
 use Rattle.mail.proofs.Taking.{long-here}
-use Rattle.own.specs.Part.{lentOf, wordsOf, rankOf, mailAt, partFits}
-use Rattle.own.proofs.Handling.{words-append}
-use Rattle.own_calls.specs.Calls.{wide, narrow, boardLines, lengthsOf, ownSizesCall, ownFreshCall, ownPostCall, ownArriveCall}
-use Rattle.own_calls.specs.Calls.{ownRows, ownMessagesCall, ownCollected, ownCollectCall}
-use Rattle.own_calls.specs.declared.core.Board.{Board}
-use Rattle.own_calls.specs.Given.{Opens, unfitLines, freshOr, postLines, postedOr, arriveLines, arrivesOr, markIn, handedOver, MayArrive, arrivedOr}
+use Rattle.own.specs.Part.{wordsOf, rankOf, mailAt, partFits}
+use Rattle.own_front.specs.Calls.{wide, narrow, lengthsOf, ownSizesCall, ownFreshCall, ownPostCall, ownArriveCall}
+use Rattle.own_front.specs.Calls.{ownRows, ownMessagesCall, ownCollected, ownCollectCall}
+use Rattle.own_front.specs.declared.Board.{Board}
+use Rattle.own_front.specs.Given.{Opens, unfitLines}
+use Rattle.own_calls.specs.Given.{freshOr, postLines, postedOr, arriveLines, arrivesOr, markIn, handedOver, MayArrive, arrivedOr}
 use Rattle.own_calls.specs.Given.{collectLines, collectedOr, rowsOr}
-use Rattle.own_calls.specs.Step.{PartLengths}
-use Rattle.own_calls.proofs.Part.{words-room}
-use Rattle.own_calls.proofs.Front.{unfit-none}
-use Rattle.own_calls.proofs.Wide.{fits-are, handled-low, part-zeros, zeros-at, zero-memory, state-is, narrow-is, wide-memory, words-back, wide-mail}
-use Rattle.own_calls.proofs.Wide.{wide-finished, wide-stage, wide-sent, wide-marks, mark-at, mark-room, mark-set, words-put, mark-none, mail-room, three}
+use Rattle.own_front.specs.Given.{PartLengths}
+use Rattle.own_front.proofs.Part.{words-room}
+use Rattle.own_front.proofs.Front.{unfit-none}
+use Rattle.own_front.proofs.Answers.{closed, opened}
+use Rattle.own_front.proofs.Wide.{fits-are, handled-low, part-zeros, zeros-at, zero-memory, state-is, narrow-is, wide-memory, words-back, wide-mail}
+use Rattle.own_front.proofs.Wide.{wide-finished, wide-stage, wide-sent, mark-at, mark-set, words-put, mark-none, three}
 
 -- ---- past the first lines
 
-both-numbered : (a b : List Line) → Numbered a → Numbered b → Numbered (a ++ b)
-both-numbered [] b n m = m
-both-numbered (l ∷ a) b n m = (n .0, both-numbered a b (n .1) m)
-
-module _ (bytes : List ℕ) (route b : ℕ) where
-  numbered-board : Numbered (boardLines bytes route b)
-  numbered-board =
-      both-numbered (linesFor (routeOf route) bytes) (line 11 (not (ltb b (recipe bytes route .processors))) ∷ []) (numbered-for (routeOf route) bytes)
-      (λ q. omega arith, tt)
-
-  pub behind-board : (more : List Line) → firstOf (boardLines bytes route b ++ more) ≡ 0 → firstOf more ≡ 0
-  behind-board more e = none-behind (boardLines bytes route b) more numbered-board e
-
 module _ (bytes : List ℕ) (route b : ℕ) (r : Board) (o : Opens bytes route b r) where
-  module _ {A : Type 0} (lines : Plan → List Line) (new : Plan → A) (old : A) where
-    -- a call whose lines and words are made of the plan
-    abbrev called : Answered A
-    called = answered (firstOf (boardLines bytes route b ++ lines (recipe bytes route))) (new (recipe bytes route)) old
-
-    pub closed : r .number ≢ 0 → answer (r .number) old ≡ called
-    closed h =
-        call-read (boardLines bytes route b) (numbered-board bytes route b) (lines (recipe bytes route)) (r .number) (new (recipe bytes route)) old
-        (o .number) h
-
-    pub opened : r .number ≡ 0 → (a : Answered A)
-        → a ≡ answered (firstOf (lines (planOf (r .sizes .route) (r .nest)))) (new (planOf (r .sizes .route) (r .nest))) old → a ≡ called
-    opened z a e =
-        e
-        ∙ ap (λ (n : ℕ). answered n (new (planOf (r .sizes .route) (r .nest))) old)
-        (sym (first-behind (boardLines bytes route b) (lines (planOf (r .sizes .route) (r .nest))) (numbered-board bytes route b) (sym (o .number) ∙ z)))
-        ∙ ap (λ (q : Plan). answered (firstOf (boardLines bytes route b ++ lines q)) (new q) old) (o .plan z)
-
   -- how long the areas are
   module _ (out : List ℕ) where
     abbrev sizeLines : Plan → List Line
@@ -92,12 +57,12 @@ module _ (bytes : List ℕ) (route b : ℕ) (r : Board) (o : Opens bytes route b
 
     pub sizes-read : r .number ≢ 0 → answer (r .number) out ≡ ownSizesCall bytes route b out
     unfolding ownSizesCall
-    sizes-read h = closed sizeLines (λ p. lengthsOf p b) out h
+    sizes-read h = closed bytes route b r o sizeLines (λ p. lengthsOf p b) out h
 
     pub sizes-area : r .number ≡ 0 → length out ≢ 4 → answer 9 out ≡ ownSizesCall bytes route b out
     unfolding ownSizesCall
     sizes-area z h =
-        opened sizeLines (λ p. lengthsOf p b) out z (answer 9 out)
+        opened bytes route b r o sizeLines (λ p. lengthsOf p b) out z (answer 9 out)
         (answered-no 9 (lengthsOf (planOf (r .sizes .route) (r .nest)) b) out (λ q. omega arith)
         ∙ ap (λ (n : ℕ). answered n (lengthsOf (planOf (r .sizes .route) (r .nest)) b) out) (sym (first-true 9 _ [] (not-false (ne-eqb _ _ h)))))
 
@@ -106,36 +71,36 @@ module _ (bytes : List ℕ) (route b : ℕ) (r : Board) (o : Opens bytes route b
     unfolding ownSizesCall firstOf
     sizes-done z h new e =
         ap (answer 0) e
-        ∙ opened sizeLines (λ p. lengthsOf p b) out z (answer 0 (lengthsOf (planOf (r .sizes .route) (r .nest)) b))
+        ∙ opened bytes route b r o sizeLines (λ p. lengthsOf p b) out z (answer 0 (lengthsOf (planOf (r .sizes .route) (r .nest)) b))
         (answered-yes _ (lengthsOf (planOf (r .sizes .route) (r .nest)) b) out (first-false 9 _ [] (not-true (eq-eqb _ _ h))))
 
   module _ (s : State) where
     pub fresh-read : r .number ≢ 0 → answer (r .number) s ≡ ownFreshCall bytes route s b
     unfolding ownFreshCall
-    fresh-read h = closed (λ p. line 9 (not (partFits p b s)) ∷ []) (λ p. narrow p b (fresh p)) s h
+    fresh-read h = closed bytes route b r o (λ p. line 9 (not (partFits p b s)) ∷ []) (λ p. narrow p b (fresh p)) s h
 
     pub fresh-past : r .number ≡ 0 → (a : Answered State) → a ≡ freshOr (planOf (r .sizes .route) (r .nest)) b s → a ≡ ownFreshCall bytes route s b
     unfolding ownFreshCall
-    fresh-past z a e = opened (λ p. line 9 (not (partFits p b s)) ∷ []) (λ p. narrow p b (fresh p)) s z a e
+    fresh-past z a e = opened bytes route b r o (λ p. line 9 (not (partFits p b s)) ∷ []) (λ p. narrow p b (fresh p)) s z a e
 
     module _ (m : ℕ) where
       pub post-read : r .number ≢ 0 → answer (r .number) s ≡ ownPostCall bytes route s b m
       unfolding ownPostCall
-      post-read h = closed (λ p. postLines p b s m) (λ p. narrow p b (marked (wide p b s) m)) s h
+      post-read h = closed bytes route b r o (λ p. postLines p b s m) (λ p. narrow p b (marked (wide p b s) m)) s h
 
       pub post-past : r .number ≡ 0 → (a : Answered State) → a ≡ postedOr (planOf (r .sizes .route) (r .nest)) b s m → a ≡ ownPostCall bytes route s b m
       unfolding ownPostCall
-      post-past z a e = opened (λ p. postLines p b s m) (λ p. narrow p b (marked (wide p b s) m)) s z a e
+      post-past z a e = opened bytes route b r o (λ p. postLines p b s m) (λ p. narrow p b (marked (wide p b s) m)) s z a e
 
       module _ (ws : List ℕ) where
         pub arrive-read : r .number ≢ 0 → answer (r .number) s ≡ ownArriveCall bytes route s b m ws
         unfolding ownArriveCall
-        arrive-read h = closed (λ p. arriveLines p b s m ws) (λ p. narrow p b (received p (wide p b s) m ws)) s h
+        arrive-read h = closed bytes route b r o (λ p. arriveLines p b s m ws) (λ p. narrow p b (received p (wide p b s) m ws)) s h
 
         pub arrive-past : r .number ≡ 0 → (a : Answered State) → a ≡ arrivesOr (planOf (r .sizes .route) (r .nest)) b s m ws
             → a ≡ ownArriveCall bytes route s b m ws
         unfolding ownArriveCall
-        arrive-past z a e = opened (λ p. arriveLines p b s m ws) (λ p. narrow p b (received p (wide p b s) m ws)) s z a e
+        arrive-past z a e = opened bytes route b r o (λ p. arriveLines p b s m ws) (λ p. narrow p b (received p (wide p b s) m ws)) s z a e
 
 -- ---- answers of the same number, and of the same words where that is 0
 
@@ -348,38 +313,11 @@ module _ (p : Plan) (b : ℕ) (s : State) (m : ℕ) (ws : List ℕ) where
             ap (answer 0) (state-is refl k refl (ap (λ (i : ℕ). set (s .status) i 2) q))
             ∙ answered-yes _ came s (come-behind ∙ first-false 14 (not (eqb (markIn p b (s .status) m) 0)) [] (not-true (eq-eqb _ _ (come-mark ∙ h))))
 
--- the handled messages have no more words than all
-mail-small : (p : Plan) (b n : ℕ) → n ≤ count p → mailAt p b n ≤ offset (p .messages) n
-unfolding keep wordsOf
-mail-small p b zero h = omega arith
-mail-small p b (suc n) h = go (mail-small p b n (omega (arith, h))) (handles p b n) refl
-  where
-    go : mailAt p b n ≤ offset (p .messages) n → (t : Bool) → handles p b n ≡ t → mailAt p b (suc n) ≤ offset (p .messages) (suc n)
-    go before true e =
-        omega (
-          arith,
-          ap (wordsOf p) (keep-hit (handles p b) n e) ∙ words-append p (keep (handles p b) n) (n ∷ []),
-          before,
-          offset-apart (p .messages) n (suc n) (omega arith) (omega (arith, h)),
-        )
-    go before false e =
-        omega (arith, ap (wordsOf p) (keep-none (handles p b) n e), before, offset-apart (p .messages) n (suc n) (omega arith) (omega (arith, h)))
-
 -- its words in the mail
 module _ (p : Plan) (b m from n : ℕ) (mail : List ℕ) (long : length mail ≡ wordsOf p (handled p b)) (lo : m < count p) (h : handles p b m ≡ true)
     (at : from ≡ mailAt p b m) (e : n ≡ length (heldBy p m)) where
   pub room : from + n ≤ length mail
   room = omega (arith, long, at, e, words-room p (handles p b) m lo h)
-
-  pub few : from + n ≤ words p
-  few = omega (arith, at, e, mail-small p b m (omega (arith, lo)), offset-apart (p .messages) m (count p) lo lo)
-
-  pub place-long : length (take (from + n - from) (drop from mail)) ≡ length (heldBy p m)
-  place-long = mid-length mail from n room ∙ e
-
-  pub put-in : (ws ys : List ℕ) → length ys ≡ length (take (from + n - from) (drop from mail)) → ys ≡ ws
-      → putMid from (from + n - from) mail ys ≡ put mail (mailAt p b m) ws
-  put-in ws ys k q = back mail ys (λ _. ws) from n room k q ∙ ap (λ (i : ℕ). put mail i ws) at
 
 -- ---- past lines 9 and 10
 

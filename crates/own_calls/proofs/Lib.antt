@@ -1,6 +1,3 @@
-pub mod Part
-pub mod Wide
-pub mod Front
 pub mod Answers
 pub mod OwnRows
 pub mod Collecting

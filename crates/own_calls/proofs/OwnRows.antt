@@ -20,7 +20,7 @@ use Rattle.layout.specs.Sizes.{routeOf}
 use Rattle.engine.specs.Calls.{recipe}
 use Rattle.apart.specs.Own.{owns, keeps, handles, handled, mailOf, putMail, narrowed, widened, sourceOf}
 use Rattle.own.specs.Part.{partOf, lentOf, wordsOf}
-use Rattle.own_calls.specs.Calls.{wide, narrow, lengthsOf, ownRow, ownRows, stepped}
+use Rattle.own_front.specs.Calls.{wide, narrow, lengthsOf, ownRow, ownRows, stepped}
 use Rattle.own_calls.specs.OwnRows.{before, came, gathered, calculated, OwnRows}
 
 plan-D : recipe rowD 0 ≡ planOf Direct nestD

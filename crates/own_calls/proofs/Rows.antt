@@ -1,19 +1,18 @@
 -- Laws of the messages' rows: seven words each, in the order of their numbers, one after the other.
-use Prim.Native.Nat.{ℕ, zero, suc, _+_, _*_, _-_, _≤_, _<_}
+use Prim.Native.Nat.{ℕ, suc, _+_, _*_, _-_, _≤_, _<_}
 use mathlib.Core.Path.{_≡_, refl, sym, ap, _∙_}
 use mathlib.Core.Logic.{_≢_}
 use mathlib.Core.Bool.{Bool, true, false}
 use mathlib.Core.List.{List, [], _∷_, _++_, append-assoc}
 use native.Mathlib.Omega.{arith}
 use native.Mathlib.Numerals.{add-one}
-use lib.ListN.{length, getD, take, drop, set, length-append}
+use lib.ListN.{length, take, drop, set, length-append}
 use lib.Seq.{take-at, length-take-le}
-use lib.Dec.{eqb}
 use borrow.Author.Tests.{eq-eqb, ne-eqb}
 use borrow.Rule.Slice.PartMut.{putMid}
-use Rattle.base.specs.Tests.{not, pick, keep}
+use Rattle.base.specs.Tests.{pick, keep}
 use Rattle.base.specs.Lists.{put}
-use Rattle.base.specs.Numbers.{line, firstOf}
+use Rattle.base.specs.Numbers.{firstOf}
 use Rattle.base.proofs.Tests.{not-true, not-false, pick-true, pick-false}
 use Rattle.base.proofs.Numbers.{first-true, first-false}
 use Rattle.base.proofs.Select.{keep-few, keep-hit, keep-none, keep-lt, keep-mono}
@@ -27,7 +26,7 @@ use Rattle.table.specs.declared.MessageLine.{MessageLine}
 use Rattle.table.specs.Summary.{lineOf}
 use Rattle.apart.specs.Own.{handles, handled}
 use Rattle.own.specs.Part.{rankOf, mailAt}
-use Rattle.own_calls.specs.Calls.{ownRow, ownRows}
+use Rattle.own_front.specs.Calls.{ownRow, ownRows}
 use Rattle.own_calls.specs.Given.{rowsOr}
 
 -- seven words stored one after the other

@@ -1,51 +1,23 @@
--- What the code below the calls for one processor is given and gives: the nest of an accepted recipe, its table, the processor's cells and messages found once.
+-- What the code below the calls for one processor gives past their first lines: a fresh start, a message handed over or arrived, cells collected, rows.
 -- No sentence of document 01; the contracts of the functions below the offered calls cite it.
 use Prim.Native.Nat.{ℕ, _*_, _≤_, _<_}
 use mathlib.Core.Path.{_≡_}
 use mathlib.Core.Bool.{true}
 use mathlib.Core.List.{List, [], _∷_}
-use lib.ListN.{length, getD, take, set}
+use lib.ListN.{length, getD, set}
 use lib.Dec.{ltb, eqb}
-use Rattle.base.specs.Tests.{_and_, not, pick, one, tabulate}
+use Rattle.base.specs.Tests.{_and_, not, pick}
 use Rattle.base.specs.Lists.{put}
 use Rattle.base.specs.Numbers.{Line, line, firstOf}
 use Rattle.machine.specs.Plan.{Plan, count}
 use Rattle.machine.specs.Machine.{State, stateOf, tilesLeft, fitRecord, fit, Answered, answered, deliverLines, fresh}
 use Rattle.nest.specs.declared.Nest.{Nest}
-use Rattle.nest.specs.Nest.{cells, processors}
-use Rattle.plan.specs.Shaped.{planOf}
-use Rattle.layout.specs.declared.Sizes.{Sizes}
-use Rattle.layout.specs.Sizes.{Sized}
-use Rattle.tables.specs.Tables.{Routed}
-use Rattle.engine.specs.Calls.{recipe}
+use Rattle.nest.specs.Shape.{inShape}
 use Rattle.apart.specs.Apart.{marked, received}
-use Rattle.apart.specs.Own.{keeps, handles, handled}
+use Rattle.apart.specs.Own.{handles, handled}
 use Rattle.mail.specs.Calls.{takes, asLong}
-use Rattle.mail.specs.Given.{Planned}
-use Rattle.own.specs.Part.{wordsOf, rankOf, mailAt, partFits}
-use Rattle.own_calls.specs.Calls.{wide, narrow, boardLines, ownRows, ownCollected, collectFits}
-use Rattle.own_calls.specs.declared.core.Board.{Board}
-
--- the first lines of a call; where none is true, the recipe's nest, and the processor is one of its
-pub record Opens (bytes : List ℕ) (route b : ℕ) (r : Board) : Type 0 where
-  pub number : r .number ≡ firstOf (boardLines bytes route b)
-  pub sized : r .number ≡ 0 → Sized (r .nest) (r .sizes)
-  pub routed : r .number ≡ 0 → Routed (r .nest) (r .sizes)
-  pub plan : r .number ≡ 0 → planOf (r .sizes .route) (r .nest) ≡ recipe bytes route
-  pub low : r .number ≡ 0 → b < processors (r .nest)
-
--- the table; the cells that processor b keeps words of, marked; for each message, and behind the last, how many it handles before it and their words
-pub record Known (x : Nest) (z : Sizes) (b : ℕ) (lens kept rank place : List ℕ) : Type 0 where
-  pub planned : Planned x z lens
-  pub low : b < processors x
-  pub room : length kept ≡ 16384
-  pub cells : take (cells x) kept ≡ tabulate (λ c. one (keeps (planOf (z .route) x) b c)) (cells x)
-  pub ranks : (m : ℕ) → m ≤ count (planOf (z .route) x) → getD rank m 0 ≡ rankOf (planOf (z .route) x) b m
-  pub places : (m : ℕ) → m ≤ count (planOf (z .route) x) → getD place m 0 ≡ mailAt (planOf (z .route) x) b m
-
--- lines 9 and 10 of a lent part
-abbrev pub unfitLines : Plan → ℕ → State → List Line
-unfitLines p b s = line 9 (not (partFits p b s)) ∷ line 10 (not (fit p (wide p b s))) ∷ []
+use Rattle.own.specs.Part.{wordsOf, rankOf, mailAt, partFits, markedAt, markedCells, rankAt}
+use Rattle.own_front.specs.Calls.{wide, narrow, ownRows, ownCollected, collectFits}
 
 -- ---- past the first lines
 
@@ -94,10 +66,20 @@ arrivedOr p b s m words =
 
 -- ---- collecting
 
--- a cell's word: outside the shape the boundary's, of an own cell the memory's, else as it was
-abbrev pub gridWord : List ℕ → List ℕ → ℕ → ℕ → ℕ → List ℕ → ℕ → ℕ
-gridWord owners memory b none boundary grid c =
-    pick (eqb (getD owners c 0) none) boundary (pick (eqb (getD owners c 0) b) (getD memory c 0) (getD grid c 0))
+-- a cell's word: outside the shape the boundary's, else as it was; of an own cell the part's, else as it was
+abbrev pub outsideWord : Nest → List ℕ → ℕ → ℕ
+outsideWord x grid c = pick (inShape x c) (getD grid c 0) (x .boundary)
+
+abbrev pub gridWord : List ℕ → List ℕ → List ℕ → List ℕ → ℕ → ℕ
+gridWord owned kept memory grid c = pick (markedAt owned c) (getD memory (rankAt kept c) 0) (getD grid c 0)
+
+-- a mark for each cell of the grid: own cells are kept, and the part has a word for each kept cell
+pub record Within (owned kept memory grid : List ℕ) : Type 0 where
+  pub few : length grid ≤ 16384
+  pub owned-long : length owned ≡ length grid
+  pub kept-long : length kept ≡ length grid
+  pub memory-long : length memory ≡ length (markedCells kept)
+  pub inner : (c : ℕ) → c < length grid → markedAt owned c ≡ true → markedAt kept c ≡ true
 
 abbrev pub collectLines : Plan → ℕ → State → List ℕ → List Line
 collectLines p b s grid =

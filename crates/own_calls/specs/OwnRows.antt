@@ -7,7 +7,7 @@ use Rattle.machine.specs.Machine.{State, stateOf, turnLines}
 use Rattle.nest.specs.Recipes.{rowD}
 use Rattle.engine.specs.Calls.{recipe}
 use Rattle.apart.specs.Own.{handled}
-use Rattle.own_calls.specs.Calls.{wide, narrow, lengthsOf, ownRows, stepped}
+use Rattle.own_front.specs.Calls.{wide, narrow, lengthsOf, ownRows, stepped}
 
 -- the second processor's part: its memory, mail, record and marks
 abbrev pub before : State  -- at a fresh start

@@ -5,9 +5,11 @@ ghost use mathlib.Core.Path.{_≡_};
 ghost use mathlib.Core.List.{[]};
 ghost use Rattle.machine.specs.Machine.{stateOf};
 ghost use Rattle.engine.specs.Calls.{answer};
-ghost use Rattle.own_calls.specs.Calls.{ownSizesCall, ownMessagesCall, ownFreshCall, ownPostCall, ownArriveCall, ownCollectCall};
+ghost use Rattle.own_front.specs.Calls.{ownSizesCall, ownMessagesCall, ownFreshCall, ownPostCall, ownArriveCall, ownCollectCall};
 
-pub mod core; // core.rt: what the calls share, and the calls without the form of the record
+pub mod core; // core.rt: the calls without the form of the record
+pub mod grid; // grid.rt: its cells into the grid
+pub mod listing; // listing.rt: the rows of its messages
 
 use records::flat_of;
 
@@ -15,7 +17,7 @@ use records::flat_of;
 pub fn sizes(encoded: &[u8], route: u32, processor: u32, out: &mut [u32]) -> u32
     ensures { λ r. ⌜ answer r (now (out .exit)) ≡ ownSizesCall (now (encoded .entry)) route processor (now (out .entry)) ⌝ }
 {
-    let board = core::open(encoded, route, processor);
+    let board = own_front::open(encoded, route, processor);
     let number = board.number;
     if number != 0 {
         return number;
@@ -31,12 +33,12 @@ pub fn sizes(encoded: &[u8], route: u32, processor: u32, out: &mut [u32]) -> u32
 pub fn messages(encoded: &[u8], route: u32, processor: u32, out: &mut [u32]) -> u32
     ensures { λ r. ⌜ answer r (now (out .exit)) ≡ ownMessagesCall (now (encoded .entry)) route processor (now (out .entry)) ⌝ }
 {
-    let board = core::open(encoded, route, processor);
+    let board = own_front::open(encoded, route, processor);
     let number = board.number;
     if number != 0 {
         return number;
     }
-    core::messages_part(board.nest, board.sizes, processor as usize, out)
+    listing::messages_part(board.nest, board.sizes, processor as usize, out)
 }
 
 // A fresh start.

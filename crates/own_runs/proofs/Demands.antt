@@ -38,7 +38,7 @@ use Rattle.apart.proofs.Own.{own-test, test-own}
 use Rattle.apart_calls.proofs.AsNetwork.{own-word}
 use Rattle.apart_calls.proofs.Demands.{apart-demands}
 use Rattle.own.specs.Part.{partFits}
-use Rattle.own_calls.specs.Calls.{wide, narrow, ownCollected, ownCollectCall}
+use Rattle.own_front.specs.Calls.{wide, narrow, ownCollected, ownCollectCall}
 use Rattle.own_runs.specs.Runs.{OwnSources, ownStart, actsOnParts, collectedTo}
 use Rattle.own_runs.specs.Demands.{BegunApart, ownAfter, stepsTaken, OwnDemand3, OwnDemands}
 use Rattle.own_runs.proofs.OnePart.{part-fits, fresh-gives, fresh-leaves, collect-on-part, own-word-in}

@@ -30,9 +30,9 @@ use Rattle.apart.proofs.Own.{narrowed-same, wide-same, wide-lent, wide-fit, own
 use Rattle.apart.proofs.OwnRuns.{Beside, marked-same, received-same}
 use Rattle.mail.specs.Calls.{takes, asLong}
 use Rattle.own.specs.Part.{partOf, lentOf, wordsOf, mailAt, partFits}
-use Rattle.own_calls.specs.Calls.{wide, narrow, boardLines, ownFreshCall, stepped, ownTurnCall, ownPostCall, ownArriveCall, collectFits, ownCollected}
-use Rattle.own_calls.specs.Calls.{ownCollectCall}
-use Rattle.own_calls.proofs.Part.{mail-long, mail-part}
+use Rattle.own_front.specs.Calls.{wide, narrow, boardLines, ownFreshCall, stepped, ownTurnCall, ownPostCall, ownArriveCall, collectFits, ownCollected}
+use Rattle.own_front.specs.Calls.{ownCollectCall}
+use Rattle.own_front.proofs.Part.{mail-long, mail-part}
 
 -- the same number, and the same left
 answer-is : {A : Type 0} {x y : ℕ} {o q : A} → x ≡ y → o ≡ q → _≡_ {A = Answered A} (record { number = x; after = o }) (record { number = y; after = q })

@@ -28,7 +28,7 @@ use Rattle.apart.proofs.Letters.{replaced-same, replaced-other}
 use Rattle.apart.proofs.Together.{turn-here, turn-nowhere}
 use Rattle.apart.proofs.Network.{Follows}
 use Rattle.apart.proofs.OwnRuns.{lent-here, fit-here, from-low, to-low}
-use Rattle.own_calls.specs.Calls.{narrow}
+use Rattle.own_front.specs.Calls.{narrow}
 use Rattle.own_runs.specs.Runs.{OwnSources, turned, turnOnPart, packetIn, handedOver, postOnPart, takenIn, arriveOnPart, actsOnParts}
 use Rattle.own_runs.proofs.OnePart.{turn-on-part, post-on-part, arrive-on-part, words-in}
 

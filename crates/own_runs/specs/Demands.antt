@@ -16,7 +16,7 @@ use Rattle.apart.specs.Apart.{Areas}
 use Rattle.apart.specs.Packets.{Network, NetworkEvent, actNetwork, startNetwork, stepsBeside, lastNetwork, MachineByPackets}
 use Rattle.apart.specs.Own.{ownCells}
 use Rattle.own.specs.Part.{partFits}
-use Rattle.own_calls.specs.Calls.{narrow, ownFreshCall, ownCollectCall}
+use Rattle.own_front.specs.Calls.{narrow, ownFreshCall, ownCollectCall}
 use Rattle.own_runs.specs.Runs.{OwnSources, ownStart, actsOnParts, collectedTo}
 
 -- one recipe and one route for all; each processor's source has the words of its own cells, in index order, and its fresh start gave 0

@@ -12,7 +12,7 @@ use Rattle.engine.specs.Calls.{recipe}
 use Rattle.apart.specs.Apart.{Areas, replaced, senderAt, takerAt}
 use Rattle.apart.specs.Packets.{Packet, Network, networkOf, packetAt, NetworkEvent, turnBy, postOf, arrivalOf}
 use Rattle.own.specs.Part.{mailAt}
-use Rattle.own_calls.specs.Calls.{ownFreshCall, ownTurnCall, ownPostCall, ownArriveCall, ownCollectCall}
+use Rattle.own_front.specs.Calls.{ownFreshCall, ownTurnCall, ownPostCall, ownArriveCall, ownCollectCall}
 
 -- a network as apart/specs/Packets has it, but here `areas b` is what processor b is lent: its own part
 

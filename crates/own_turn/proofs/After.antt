@@ -17,12 +17,13 @@ use Rattle.machine.specs.Machine.{gather, calculate, send, carryOut}
 use Rattle.machine.proofs.Values.{gathered-length}
 use Rattle.machine.proofs.Records.{finished-same, stage-same, sent-same}
 use Rattle.apart.specs.Own.{handles, keptCells}
-use Rattle.own.specs.Part.{rankOf, mailAt}
-use Rattle.own_calls.specs.Calls.{wide, narrow}
-use Rattle.own_calls.specs.Step.{PartLengths, allOf, unpackFrom}
-use Rattle.own_calls.proofs.Part.{ranks-set, ranks-all}
-use Rattle.own_calls.proofs.Wide as has
-use Rattle.own_calls.proofs.Wide.{sends-handled, dues-handled, three-set, state-is}
+use Rattle.own.specs.Part.{rankOf, mailAt, allOf}
+use Rattle.own_front.specs.Calls.{wide, narrow}
+use Rattle.own_front.specs.Given.{PartLengths}
+use Rattle.own_turn.specs.Step.{unpackFrom}
+use Rattle.own_front.proofs.Part.{ranks-set, ranks-all}
+use Rattle.own_front.proofs.Wide as has
+use Rattle.own_front.proofs.Wide.{sends-handled, dues-handled, three-set, state-is}
 
 module _ (p : Plan) (b : ℕ) (s : State) (low : b < p .processors) (g : PartLengths p b s) where
   abbrev w : State

@@ -1,3 +1,4 @@
+pub mod Kept
 pub mod After
 pub mod Working
 pub mod Stage

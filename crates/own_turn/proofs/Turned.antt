@@ -26,14 +26,14 @@ use Rattle.engine.proofs.Turns as turns
 use Rattle.engine.proofs.Turns.{answered-no, answered-yes}
 use Rattle.apart.specs.Own.{ownCells, sourceOf}
 use Rattle.own.specs.Part.{rankOf, mailAt, partFits}
-use Rattle.own_calls.specs.declared.core.Board.{Board}
-use Rattle.own_calls.specs.Calls.{wide, narrow, stepped, ownTurnCall}
-use Rattle.own_calls.specs.Given.{Opens, unfitLines}
-use Rattle.own_calls.specs.Step.{MayStep, steppedOr, turnedOr}
-use Rattle.own_calls.proofs.Wide as has
+use Rattle.own_front.specs.declared.Board.{Board}
+use Rattle.own_front.specs.Calls.{wide, narrow, stepped, ownTurnCall}
+use Rattle.own_front.specs.Given.{Opens, unfitLines}
+use Rattle.own_turn.specs.Step.{MayStep, steppedOr, turnedOr}
+use Rattle.own_front.proofs.Wide as has
 use Rattle.own_turn.proofs.After as after
-use Rattle.own_calls.proofs.Front.{unfit-none}
-use Rattle.own_calls.proofs.Answers.{closed, opened}
+use Rattle.own_front.proofs.Front.{unfit-none}
+use Rattle.own_front.proofs.Answers.{closed, opened}
 
 -- ---- past line 9: the machine's turn
 module _ (p : Plan) (b : ℕ) (source : List ℕ) (s : State) (may : MayStep p source s b) where

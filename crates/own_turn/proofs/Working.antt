@@ -1,19 +1,19 @@
--- Laws of the loops over a tile's messages by the two tables, of marked cells and of lent parts.
+-- Laws of the loops over a tile's messages by the two tables, and of lent parts.
 use Prim.Native.Nat.{ℕ, _+_, _-_, _≤_, _<_}
 use mathlib.Core.Path.{_≡_, refl, sym, ap, _∙_}
 use mathlib.Core.Logic.{_≢_}
-use mathlib.Core.Bool.{Bool, true, false}
+use mathlib.Core.Bool.{true, false}
 use mathlib.Core.List.{List, [], _∷_}
 use native.Mathlib.Numerals.{add-one}
 use native.Mathlib.Omega.{arith}
-use lib.ListN.{length, getD, take, drop, set, replicate, length-set, drop-of-length-le}
+use lib.ListN.{length, getD, take, drop, set, length-set, drop-of-length-le}
 use lib.Seq.{drop-cons}
 use lib.Dec.{eqb}
 use borrow.Author.Tests.{eq-eqb, ne-eqb}
 use borrow.Rule.Slice.PartMut.{putMid}
-use Rattle.base.specs.Tests.{_and_, one, keep, tabulate}
-use Rattle.base.specs.Lists.{In, part, put, setAll, allAt, unpack, pack, storeAll}
-use Rattle.base.proofs.Tests.{and-left, and-false, length-tabulate}
+use Rattle.base.specs.Tests.{_and_, one}
+use Rattle.base.specs.Lists.{In, part, put, setAll, allAt, unpack, pack}
+use Rattle.base.proofs.Tests.{and-left, and-false}
 use Rattle.base.proofs.Entries.{at-in}
 use Rattle.machine.specs.Plan.{Plan, count, heldBy, duesOf}
 use Rattle.nest.specs.declared.Nest.{Nest}
@@ -21,63 +21,15 @@ use Rattle.plan.specs.declared.Route.{Route}
 use Rattle.plan.specs.Shaped.{planOf}
 use Rattle.scans.specs.declared.Place.{Place}
 use Rattle.tables.specs.Tables.{FoundIn}
-use Rattle.stages.proofs.Parts.{mid-is, back}
-use Rattle.apart.specs.Own.{ownCells, sourceOf}
-use Rattle.own.specs.Part.{markedAt}
-use Rattle.own_calls.specs.Step.{Ranked, Placed, unpackFrom}
-use Rattle.own_calls.proofs.Wide.{part-zeros}
-use Rattle.own_calls.proofs.Front.{marks-keep}
-
--- ---- marked cells
-
-module _ (f : ℕ → Bool) (n : ℕ) (kept : List ℕ) (e : kept ≡ tabulate (λ c. one (f c)) n) where
-  pub marks-long : length kept ≡ n
-  marks-long = ap length e ∙ length-tabulate (λ c. one (f c)) n
-
-  pub marked-many : (m : ℕ) → m ≡ length (keep f n) → m ≡ length (keep (markedAt kept) (length kept))
-  marked-many m q = q ∙ ap length (sym (marks-keep f n kept e))
-
-  pub many-marked : (m : ℕ) → m ≡ length (keep (markedAt kept) (length kept)) → m ≡ length (keep f n)
-  many-marked m q = q ∙ ap length (marks-keep f n kept e)
-
-  -- what the words of the marked cells ask for, to be put into a memory or taken out of it
-  pub lent-room : (all words : List ℕ) → length all ≡ n → length words ≡ length (keep f n)
-      → (length all ≡ length kept) × (length words ≡ length (keep (markedAt kept) (length kept)))
-  lent-room all words a w = (a ∙ sym marks-long, marked-many (length words) w)
-
-  pub spread-is : (zeros ws all : List ℕ) → zeros ≡ replicate n 0 → all ≡ unpack zeros (keep (markedAt kept) (length kept)) ws
-      → all ≡ unpack (replicate n 0) (keep f n) ws
-  spread-is zeros ws all z q =
-      q ∙ ap (λ (k : List ℕ). unpack zeros k ws) (marks-keep f n kept e) ∙ ap (λ (k : List ℕ). unpack k (keep f n) ws) z
-
-  pub picked-is : (all ws : List ℕ) → ws ≡ pack all (keep (markedAt kept) (length kept)) → ws ≡ pack all (keep f n)
-  picked-is all ws q = q ∙ ap (pack all) (marks-keep f n kept e)
+use Rattle.stages.proofs.Parts.{back}
+use Rattle.own_turn.specs.Step.{Ranked, Placed, unpackFrom}
 
 -- ---- lent parts
-
--- the first words of zeros
-pub front-zeros : (k n : ℕ) → k ≤ n → take {A = ℕ} k (replicate n 0) ≡ replicate k 0
-unfolding part
-front-zeros k n h = part-zeros n 0 k (omega arith)
 
 -- a lent part that comes back as these words
 pub put-back : (l ys ws : List ℕ) (a k : ℕ) → a + k ≤ length l → length ys ≡ length (take (a + k - a) (drop a l)) → ys ≡ ws
     → putMid a (a + k - a) l ys ≡ put l a ws
 put-back l ys ws a k h n e = back l ys (λ z. ws) a k h n e
-
--- a part that is read
-pub taken-is : (memory cells mail ys : List ℕ) (a k : ℕ) → ys ≡ unpack memory cells (take (a + k - a) (drop a mail)) → ys ≡ unpack memory cells (part mail a k)
-taken-is memory cells mail ys a k e = e ∙ ap (unpack memory cells) (mid-is mail a k)
-
--- ---- the source of all cells
-
-pub source-is : (p : Plan) (b : ℕ) (source words : List ℕ) → words ≡ unpack (replicate (p .cells) 0) (ownCells p b) source → words ≡ sourceOf p b source
-unfolding sourceOf
-source-is p b source words e = e
-
-pub with-source : (p : Plan) (b tile : ℕ) (source words memory memory′ : List ℕ) → words ≡ sourceOf p b source
-    → memory′ ≡ storeAll (p .value words) memory (p .cellsOf tile) → memory′ ≡ storeAll (p .value (sourceOf p b source)) memory (p .cellsOf tile)
-with-source p b tile source words memory memory′ e q = q ∙ ap (λ (k : List ℕ). storeAll (p .value k) memory (p .cellsOf tile)) e
 
 -- ---- a list of messages, one after the other, by the tables
 module _ (ms : List ℕ) (j : ℕ) where

@@ -1,386 +1,60 @@
-// A turn of the processor on its part. The words of its kept cells stand in a memory of all cells while a stage works there; mail and marks are looked up
-// where its two tables say. The part after is that of the machine's areas after the machine's turn.
+// A turn of the processor on its part: its lines, then the stage at which it stands. The part after is that of the machine's areas after the machine's turn.
 ghost use mathlib.Core.Path.{_≡_};
 ghost use mathlib.Core.Logic.{_≢_};
-ghost use mathlib.Core.List.{List, []};
-ghost use Prim.Native.Nat.{ℕ, _+_, _≤_, _<_};
-ghost use lib.ListN.{length, getD, set, take, replicate};
-ghost use lib.Dec.{ltb};
-ghost use Rattle.base.specs.Tests.{pick};
-ghost use Rattle.base.specs.Lists.{part, put, setAll, allAt, unpack, pack, storeAll};
-ghost use Rattle.machine.specs.Plan.{heldBy, sendsOf, duesOf};
-ghost use Rattle.machine.specs.Machine.{stateOf, setProgress, carryOut, gather, calculate, send};
-ghost use Rattle.nest.specs.Nest.{cells, processors};
+ghost use mathlib.Core.List.{List};
+ghost use Prim.Native.Nat.{ℕ, _<_};
+ghost use lib.ListN.{length, getD};
+ghost use Rattle.machine.specs.Machine.{stateOf};
+ghost use Rattle.nest.specs.Nest.{processors};
 ghost use Rattle.plan.specs.Shaped.{planOf};
 ghost use Rattle.layout.specs.Sizes.{Sized};
-ghost use Rattle.tables.specs.Tables.{Routed, FoundIn};
+ghost use Rattle.tables.specs.Tables.{Routed};
 ghost use Rattle.records.specs.Records.{Carries};
-ghost use Rattle.stages.specs.Progress.{setRecord};
 ghost use Rattle.engine.specs.Given.{recordsAfter};
 ghost use Rattle.engine.specs.Calls.{answer};
-ghost use Rattle.apart.specs.Own.{ownCells, keptCells, sourceOf};
-ghost use Rattle.mail.specs.Given.{Planned};
-ghost use Rattle.own_calls.specs.Calls.{wide, narrow, ownTurnCall};
-ghost use Rattle.own_calls.specs.Given.{Known};
-ghost use Rattle.own_calls.specs.Step.{PartLengths, Lengths, Tables, Ranked, Placed, unpackFrom, Stands, MayStep, steppedOr, turnedOr};
+ghost use Rattle.apart.specs.Own.{ownCells};
+ghost use Rattle.own_front.specs.Calls.{ownTurnCall};
+ghost use Rattle.own_front.specs.Given.{Many, PartLengths};
+ghost use Rattle.own_turn.specs.Step.{Tables, Stands, MayStep, steppedOr, turnedOr};
+
+pub mod on_part; // on_part.rt: the stages
+
 use base::word_index;
 use engine::core::Turned;
+use engine::core::done;
 use engine::core::refused;
 use layout::Sizes;
 use nest::Nest;
-use own::mark_own;
-use own::narrow;
-use own::widen;
-use own_calls::core::open;
-use own_calls::core::own_count;
-use own_calls::core::prepare;
-use own_calls::core::unfit;
+use on_part::calculate_stage;
+use on_part::gather_stage;
+use on_part::ready;
+use on_part::send_stage;
+use own_front::keep_cells;
+use own_front::open;
+use own_front::own_count;
+use own_front::prepare;
+use own_front::unfit;
 use records::Flat;
-use records::Progress;
-use scans::Place;
-use stages::calculate;
-use tables::count_at;
-use tables::nth_at;
-use tables::pack;
 use tables::tile_at;
 use tables::tile_count;
-use tables::unpack;
-
-// ---- messages by the two tables
-
-// All messages due at the tile are delivered.
-fn ready(
-    nest: Nest,
-    sizes: Sizes,
-    lens: &[u16; 9217],
-    ranks: &[u32; 7169],
-    marks: &[u8],
-    tile: usize,
-) -> bool
-    requires { ⌜ Planned nest sizes (now lens) × (tile < planOf (sizes .route) nest .tiles) ⌝ }
-    requires { ⌜ Ranked (planOf (sizes .route) nest) (now ranks) (duesOf (planOf (sizes .route) nest) tile) (length (now marks)) ⌝ }
-    ensures { λ r. ⌜ r ≡ allAt (now (marks .entry)) 2 (pack (now (ranks .entry)) (duesOf (planOf (sizes .route) nest) tile)) ⌝ }
-{
-    let n = count_at(nest, sizes, lens, tile, 1);
-    let mut j = 0;
-    while j < n {
-        let place = nth_at(nest, sizes, lens, tile, 1, j);
-        let number = place.number;
-        let rank = word_index(ranks[number]);
-        if marks[rank] != 2 {
-            return false;
-        }
-        j += 1;
-    }
-    true
-}
-
-// One message, from where its words begin in the mail, into a memory of all cells.
-fn take_from(
-    nest: Nest,
-    sizes: Sizes,
-    lens: &[u16; 9217],
-    place: Place,
-    at: usize,
-    memory: &mut [u32],
-    mail: &[u32],
-)
-    requires { ⌜ Planned nest sizes (now lens) × FoundIn (sizes .route) nest (place .number) place ⌝ }
-    requires { ⌜ (length (now memory) ≡ cells nest) × (at + place .words ≤ length (now mail)) ⌝ }
-    ensures { λ _. ⌜ now (memory .exit)
-        ≡ unpack (now (memory .entry)) (heldBy (planOf (sizes .route) nest) (place .number)) (part (now (mail .entry)) at (place .words)) ⌝ }
-{
-    let end = at + place.words;
-    unpack(nest, sizes, lens, place, memory, &mail[at..end]);
-}
-
-// All messages due at the tile, into a memory of all cells; each is then taken.
-fn gather(
-    nest: Nest,
-    sizes: Sizes,
-    lens: &[u16; 9217],
-    ranks: &[u32; 7169],
-    places: &[u32; 7169],
-    memory: &mut [u32],
-    mail: &[u32],
-    marks: &mut [u8],
-    tile: usize,
-)
-    requires { ⌜ Planned nest sizes (now lens) × ((tile < planOf (sizes .route) nest .tiles) × (length (now memory) ≡ cells nest)) ⌝ }
-    requires { ⌜ Ranked (planOf (sizes .route) nest) (now ranks) (duesOf (planOf (sizes .route) nest) tile) (length (now marks))
-        × Placed (planOf (sizes .route) nest) (now places) (duesOf (planOf (sizes .route) nest) tile) (length (now mail)) ⌝ }
-    ensures { λ _. ⌜ (now (memory .exit)
-        ≡ unpackFrom (planOf (sizes .route) nest) (now (places .entry)) (now (mail .entry)) (now (memory .entry)) (duesOf (planOf (sizes .route) nest) tile))
-        × (now (marks .exit) ≡ setAll (now (marks .entry)) (pack (now (ranks .entry)) (duesOf (planOf (sizes .route) nest) tile)) 3) ⌝ }
-{
-    let n = count_at(nest, sizes, lens, tile, 1);
-    let mut j = 0;
-    while j < n {
-        let place = nth_at(nest, sizes, lens, tile, 1, j);
-        let number = place.number;
-        let at = word_index(places[number]);
-        take_from(nest, sizes, lens, place, at, memory, mail);
-        let rank = word_index(ranks[number]);
-        marks[rank] = 3;
-        j += 1;
-    }
-}
-
-// One message, from a memory of all cells to where its words begin in the mail.
-fn put_in(
-    nest: Nest,
-    sizes: Sizes,
-    lens: &[u16; 9217],
-    place: Place,
-    at: usize,
-    memory: &[u32],
-    mail: &mut [u32],
-)
-    requires { ⌜ Planned nest sizes (now lens) × FoundIn (sizes .route) nest (place .number) place ⌝ }
-    requires { ⌜ (length (now memory) ≡ cells nest) × (at + place .words ≤ length (now mail)) ⌝ }
-    ensures { λ _. ⌜ now (mail .exit) ≡ put (now (mail .entry)) at (pack (now (memory .entry)) (heldBy (planOf (sizes .route) nest) (place .number))) ⌝ }
-{
-    let end = at + place.words;
-    pack(nest, sizes, lens, place, &mut mail[at..end], memory);
-}
-
-// ---- the stages
-
-// Stage 0, all messages due being delivered; `all` is a memory of all cells, none of them written yet.
-fn gather_stage(
-    nest: Nest,
-    sizes: Sizes,
-    lens: &[u16; 9217],
-    kept: &[u32],
-    ranks: &[u32; 7169],
-    places: &[u32; 7169],
-    memory: &mut [u32],
-    mail: &[u32],
-    marks: &mut [u8],
-    all: &mut [u32],
-    b: usize,
-    tile: usize,
-    finished: u32,
-) -> Progress
-    requires { ⌜ Tables nest sizes b (now lens) (now kept) (now ranks) (now places)
-        × Lengths (planOf (sizes .route) nest) b (now memory) (now mail) (now marks) ⌝ }
-    requires { ⌜ (tile < planOf (sizes .route) nest .tiles) × ((planOf (sizes .route) nest .processorOf tile ≡ b) × (now all ≡ replicate (cells nest) 0)) ⌝ }
-    ensures { λ r. ⌜ ((l : List ℕ) → length l ≡ 3 → finished ≡ getD l 0 0
-        → stateOf (now (memory .exit)) (now (mail .entry)) (setRecord l 0 r) (now (marks .exit))
-        ≡ narrow (planOf (sizes .route) nest) b (carryOut (planOf (sizes .route) nest) []
-        (wide (planOf (sizes .route) nest) b (stateOf (now (memory .entry)) (now (mail .entry)) l (now (marks .entry)))) b (gather tile))) ⌝ }
-{
-    widen(kept, memory, all);
-    gather(nest, sizes, lens, ranks, places, all, mail, marks, tile);
-    narrow(kept, all, memory);
-    Progress {
-        finished: finished,
-        stage: 1,
-        sent: 0,
-    }
-}
-
-// The tile's cells in a memory of all cells; `own` and `words` have room for all cells, the words being none written yet.
-fn calculate_with(
-    nest: Nest,
-    sizes: Sizes,
-    lens: &[u16; 9217],
-    source: &[u32],
-    memory: &mut [u32],
-    own: &mut [u32],
-    words: &mut [u32],
-    b: usize,
-    tile: usize,
-)
-    requires { ⌜ Planned nest sizes (now lens) × ((b < processors nest) × (tile < planOf (sizes .route) nest .tiles)) ⌝ }
-    requires { ⌜ (length (now source) ≡ length (ownCells (planOf (sizes .route) nest) b)) × ((length (now memory) ≡ cells nest)
-        × ((length (now own) ≡ cells nest) × (now words ≡ replicate (cells nest) 0))) ⌝ }
-    ensures { λ _. ⌜ now (memory .exit) ≡ storeAll (planOf (sizes .route) nest .value (sourceOf (planOf (sizes .route) nest) b (now (source .entry))))
-        (now (memory .entry)) (planOf (sizes .route) nest .cellsOf tile) ⌝ }
-{
-    mark_own(nest, sizes, b, own);
-    widen(own, source, words);
-    calculate(nest, sizes, lens, words, memory, tile);
-}
-
-// The same with room for as many cells as any recipe has, none of them written yet.
-fn calculate_in(
-    nest: Nest,
-    sizes: Sizes,
-    lens: &[u16; 9217],
-    source: &[u32],
-    memory: &mut [u32],
-    own: &mut [u32],
-    words: &mut [u32],
-    b: usize,
-    tile: usize,
-)
-    requires { ⌜ Planned nest sizes (now lens) × ((b < processors nest) × (tile < planOf (sizes .route) nest .tiles)) ⌝ }
-    requires { ⌜ (length (now source) ≡ length (ownCells (planOf (sizes .route) nest) b)) × ((length (now memory) ≡ cells nest)
-        × ((length (now own) ≡ 16384) × (now words ≡ replicate 16384 0))) ⌝ }
-    ensures { λ _. ⌜ now (memory .exit) ≡ storeAll (planOf (sizes .route) nest .value (sourceOf (planOf (sizes .route) nest) b (now (source .entry))))
-        (now (memory .entry)) (planOf (sizes .route) nest .cellsOf tile) ⌝ }
-{
-    let cells = sizes.cells;
-    calculate_with(
-        nest,
-        sizes,
-        lens,
-        source,
-        memory,
-        &mut own[..cells],
-        &mut words[..cells],
-        b,
-        tile,
-    );
-}
-
-// The same with that room on the stack.
-fn calculate_own(
-    nest: Nest,
-    sizes: Sizes,
-    lens: &[u16; 9217],
-    source: &[u32],
-    memory: &mut [u32],
-    b: usize,
-    tile: usize,
-)
-    requires { ⌜ Planned nest sizes (now lens) × ((b < processors nest) × (tile < planOf (sizes .route) nest .tiles)) ⌝ }
-    requires { ⌜ (length (now source) ≡ length (ownCells (planOf (sizes .route) nest) b)) × (length (now memory) ≡ cells nest) ⌝ }
-    ensures { λ _. ⌜ now (memory .exit) ≡ storeAll (planOf (sizes .route) nest .value (sourceOf (planOf (sizes .route) nest) b (now (source .entry))))
-        (now (memory .entry)) (planOf (sizes .route) nest .cellsOf tile) ⌝ }
-{
-    let mut own = [0u32; 16384];
-    let mut words = [0u32; 16384];
-    calculate_in(
-        nest,
-        sizes,
-        lens,
-        source,
-        memory,
-        &mut own,
-        &mut words,
-        b,
-        tile,
-    );
-}
-
-// The record once `sent` of the tile's n messages are sent.
-fn next_record(finished: u32, sent: usize, n: usize) -> Progress
-    requires { ⌜ (finished < 16384) × (n ≤ 7168) ⌝ }
-    ensures { λ r. ⌜ ((l : List ℕ) (b : ℕ) → setRecord l b r ≡ pick (ltb sent n) (setProgress l b finished 2 sent) (setProgress l b (finished + 1) 0 0)) ⌝ }
-{
-    if sent < n {
-        return Progress {
-            finished: finished,
-            stage: 2,
-            sent: sent as u32,
-        };
-    }
-    Progress {
-        finished: finished + 1,
-        stage: 0,
-        sent: 0,
-    }
-}
-
-// Stage 1.
-fn calculate_stage(
-    nest: Nest,
-    sizes: Sizes,
-    lens: &[u16; 9217],
-    kept: &[u32],
-    ranks: &[u32; 7169],
-    places: &[u32; 7169],
-    source: &[u32],
-    memory: &mut [u32],
-    all: &mut [u32],
-    b: usize,
-    tile: usize,
-    finished: u32,
-) -> Progress
-    requires { ⌜ Tables nest sizes b (now lens) (now kept) (now ranks) (now places)
-        × (length (now memory) ≡ length (keptCells (planOf (sizes .route) nest) b)) ⌝ }
-    requires { ⌜ (tile < planOf (sizes .route) nest .tiles) × ((now all ≡ replicate (cells nest) 0) × (finished < 16384)) ⌝ }
-    requires { ⌜ length (now source) ≡ length (ownCells (planOf (sizes .route) nest) b) ⌝ }
-    ensures { λ r. ⌜ ((mail l marks : List ℕ) → Lengths (planOf (sizes .route) nest) b (now (memory .entry)) mail marks → length l ≡ 3 → finished ≡ getD l 0 0
-        → stateOf (now (memory .exit)) mail (setRecord l 0 r) marks
-        ≡ narrow (planOf (sizes .route) nest) b (carryOut (planOf (sizes .route) nest) (sourceOf (planOf (sizes .route) nest) b (now (source .entry)))
-        (wide (planOf (sizes .route) nest) b (stateOf (now (memory .entry)) mail l marks)) b (calculate tile))) ⌝ }
-{
-    widen(kept, memory, all);
-    calculate_own(nest, sizes, lens, source, all, b, tile);
-    narrow(kept, all, memory);
-    let n = count_at(nest, sizes, lens, tile, 0);
-    next_record(finished, 0, n)
-}
-
-// Stage 2: the next message of the tile.
-fn send_stage(
-    nest: Nest,
-    sizes: Sizes,
-    lens: &[u16; 9217],
-    kept: &[u32],
-    ranks: &[u32; 7169],
-    places: &[u32; 7169],
-    memory: &[u32],
-    mail: &mut [u32],
-    marks: &mut [u8],
-    all: &mut [u32],
-    b: usize,
-    tile: usize,
-    finished: u32,
-    sent: usize,
-) -> Progress
-    requires { ⌜ Tables nest sizes b (now lens) (now kept) (now ranks) (now places)
-        × Lengths (planOf (sizes .route) nest) b (now memory) (now mail) (now marks) ⌝ }
-    requires { ⌜ (tile < planOf (sizes .route) nest .tiles) × ((planOf (sizes .route) nest .processorOf tile ≡ b) × (now all ≡ replicate (cells nest) 0)) ⌝ }
-    requires { ⌜ (finished < 16384) × (sent < length (sendsOf (planOf (sizes .route) nest) tile)) ⌝ }
-    ensures { λ r. ⌜ ((l : List ℕ) → length l ≡ 3 → finished ≡ getD l 0 0 → sent ≡ getD l 2 0
-        → stateOf (now (memory .entry)) (now (mail .exit)) (setRecord l 0 r) (now (marks .exit))
-        ≡ narrow (planOf (sizes .route) nest) b (carryOut (planOf (sizes .route) nest) []
-        (wide (planOf (sizes .route) nest) b (stateOf (now (memory .entry)) (now (mail .entry)) l (now (marks .entry)))) b
-        (send (getD (sendsOf (planOf (sizes .route) nest) tile) sent 0)))) ⌝ }
-{
-    widen(kept, memory, all);
-    let place = nth_at(nest, sizes, lens, tile, 0, sent);
-    let number = place.number;
-    let at = word_index(places[number]);
-    put_in(nest, sizes, lens, place, at, all, mail);
-    let rank = word_index(ranks[number]);
-    marks[rank] = 1;
-    let n = count_at(nest, sizes, lens, tile, 0);
-    next_record(finished, sent + 1, n)
-}
-
-// ---- the turn
-
-fn done(progress: Progress) -> Turned
-    ensures { λ r. ⌜ (r .number ≡ 0) × (r .progress ≡ progress) ⌝ }
-{
-    Turned {
-        number: 0,
-        progress: progress,
-    }
-}
 
 // Stage 0: 12 where a message due is not delivered.
 fn first_stage(
     nest: Nest,
     sizes: Sizes,
     lens: &[u16; 9217],
-    kept: &[u32],
+    kept: &[u8],
+    counts: &[u32; 257],
     ranks: &[u32; 7169],
     places: &[u32; 7169],
     memory: &mut [u32],
     mail: &[u32],
     progress: &[u32],
     marks: &mut [u8],
-    all: &mut [u32],
     b: usize,
     tile: usize,
 ) -> Turned
-    requires { ⌜ Tables nest sizes b (now lens) (now kept) (now ranks) (now places) × (now all ≡ replicate (cells nest) 0) ⌝ }
+    requires { ⌜ Tables nest sizes b (now lens) (now kept) (now counts) (now ranks) (now places) ⌝ }
     requires { ⌜ PartLengths (planOf (sizes .route) nest) b (stateOf (now memory) (now mail) (now progress) (now marks))
         × Stands (planOf (sizes .route) nest) (now progress) b tile ⌝ }
     ensures { λ r. ⌜ ((source : List ℕ)
@@ -399,12 +73,12 @@ fn first_stage(
         sizes,
         lens,
         kept,
+        counts,
         ranks,
         places,
         memory,
         mail,
         marks,
-        all,
         b,
         tile,
         finished,
@@ -417,7 +91,8 @@ fn later_stage(
     nest: Nest,
     sizes: Sizes,
     lens: &[u16; 9217],
-    kept: &[u32],
+    kept: &[u8],
+    counts: &[u32; 257],
     ranks: &[u32; 7169],
     places: &[u32; 7169],
     source: &[u32],
@@ -425,11 +100,10 @@ fn later_stage(
     mail: &mut [u32],
     progress: &[u32],
     marks: &mut [u8],
-    all: &mut [u32],
     b: usize,
     tile: usize,
 ) -> Turned
-    requires { ⌜ Tables nest sizes b (now lens) (now kept) (now ranks) (now places) × (now all ≡ replicate (cells nest) 0) ⌝ }
+    requires { ⌜ Tables nest sizes b (now lens) (now kept) (now counts) (now ranks) (now places) ⌝ }
     requires { ⌜ MayStep (planOf (sizes .route) nest) (now source) (stateOf (now memory) (now mail) (now progress) (now marks)) b
         × (Stands (planOf (sizes .route) nest) (now progress) b tile × (getD (now progress) 1 0 ≢ 0)) ⌝ }
     ensures { λ r. ⌜ answer (r .number) (stateOf (now (memory .exit)) (now (mail .exit)) (recordsAfter (now (progress .entry)) 0 r) (now (marks .exit)))
@@ -443,11 +117,11 @@ fn later_stage(
             sizes,
             lens,
             kept,
+            counts,
             ranks,
             places,
             source,
             memory,
-            all,
             b,
             tile,
             finished,
@@ -460,12 +134,12 @@ fn later_stage(
         sizes,
         lens,
         kept,
+        counts,
         ranks,
         places,
         memory,
         mail,
         marks,
-        all,
         b,
         tile,
         finished,
@@ -479,7 +153,8 @@ fn step(
     nest: Nest,
     sizes: Sizes,
     lens: &[u16; 9217],
-    kept: &[u32],
+    kept: &[u8],
+    counts: &[u32; 257],
     ranks: &[u32; 7169],
     places: &[u32; 7169],
     source: &[u32],
@@ -487,10 +162,9 @@ fn step(
     mail: &mut [u32],
     progress: &[u32],
     marks: &mut [u8],
-    all: &mut [u32],
     b: usize,
 ) -> Turned
-    requires { ⌜ Tables nest sizes b (now lens) (now kept) (now ranks) (now places) × (now all ≡ replicate (cells nest) 0) ⌝ }
+    requires { ⌜ Tables nest sizes b (now lens) (now kept) (now counts) (now ranks) (now places) ⌝ }
     requires { ⌜ MayStep (planOf (sizes .route) nest) (now source) (stateOf (now memory) (now mail) (now progress) (now marks)) b ⌝ }
     ensures { λ r. ⌜ answer (r .number) (stateOf (now (memory .exit)) (now (mail .exit)) (recordsAfter (now (progress .entry)) 0 r) (now (marks .exit)))
         ≡ steppedOr (planOf (sizes .route) nest) (now (source .entry))
@@ -507,13 +181,13 @@ fn step(
             sizes,
             lens,
             kept,
+            counts,
             ranks,
             places,
             memory,
             mail,
             progress,
             marks,
-            all,
             b,
             tile,
         );
@@ -523,6 +197,7 @@ fn step(
         sizes,
         lens,
         kept,
+        counts,
         ranks,
         places,
         source,
@@ -530,49 +205,8 @@ fn step(
         mail,
         progress,
         marks,
-        all,
         b,
         tile,
-    )
-}
-
-// The same with marks and room for as many cells as any recipe has, none of them written yet; `words` begins with the record.
-fn step_in(
-    nest: Nest,
-    sizes: Sizes,
-    lens: &[u16; 9217],
-    kept: &[u32],
-    ranks: &[u32; 7169],
-    places: &[u32; 7169],
-    source: &[u32],
-    memory: &mut [u32],
-    mail: &mut [u32],
-    words: &[u32],
-    marks: &mut [u8],
-    all: &mut [u32],
-    b: usize,
-) -> Turned
-    requires { ⌜ Known nest sizes b (now lens) (now kept) (now ranks) (now places) × ((now all ≡ replicate 16384 0) × (length (now words) ≡ 192)) ⌝ }
-    requires { ⌜ MayStep (planOf (sizes .route) nest) (now source) (stateOf (now memory) (now mail) (take 3 (now words)) (now marks)) b ⌝ }
-    ensures { λ r. ⌜ answer (r .number) (stateOf (now (memory .exit)) (now (mail .exit)) (recordsAfter (take 3 (now (words .entry))) 0 r) (now (marks .exit)))
-        ≡ steppedOr (planOf (sizes .route) nest) (now (source .entry))
-        (stateOf (now (memory .entry)) (now (mail .entry)) (take 3 (now (words .entry))) (now (marks .entry))) b ⌝ }
-{
-    let cells = sizes.cells;
-    step(
-        nest,
-        sizes,
-        lens,
-        &kept[..cells],
-        ranks,
-        places,
-        source,
-        memory,
-        mail,
-        &words[..3],
-        marks,
-        &mut all[..cells],
-        b,
     )
 }
 
@@ -581,9 +215,12 @@ fn turn_in(
     nest: Nest,
     sizes: Sizes,
     lens: &[u16; 9217],
-    kept: &[u32],
+    kept: &[u8],
+    counts: &[u32; 257],
     ranks: &[u32; 7169],
     places: &[u32; 7169],
+    messages: usize,
+    many: usize,
     source: &[u32],
     memory: &mut [u32],
     mail: &mut [u32],
@@ -591,7 +228,8 @@ fn turn_in(
     marks: &mut [u8],
     b: usize,
 ) -> Turned
-    requires { ⌜ Known nest sizes b (now lens) (now kept) (now ranks) (now places) × (length (progress .words) ≡ 192) ⌝ }
+    requires { ⌜ Tables nest sizes b (now lens) (now kept) (now counts) (now ranks) (now places)
+        × (Many nest sizes b messages many × (length (progress .words) ≡ 192)) ⌝ }
     requires { ⌜ length (now source) ≡ length (ownCells (planOf (sizes .route) nest) b) ⌝ }
     ensures { λ r. ⌜ ((records : List ℕ) → Carries progress records
         → answer (r .number) (stateOf (now (memory .exit)) (now (mail .exit)) (recordsAfter records 0 r) (now (marks .exit)))
@@ -601,9 +239,10 @@ fn turn_in(
         nest,
         sizes,
         lens,
-        kept,
         ranks,
         places,
+        messages,
+        many,
         memory,
         mail,
         progress,
@@ -614,20 +253,19 @@ fn turn_in(
         return refused(n);
     }
     let words = progress.words;
-    let mut all = [0u32; 16384];
-    step_in(
+    step(
         nest,
         sizes,
         lens,
         kept,
+        counts,
         ranks,
         places,
         source,
         memory,
         mail,
-        &words,
+        &words[..3],
         marks,
-        &mut all,
         b,
     )
 }
@@ -652,26 +290,24 @@ fn take_turn(
     if source.len() != own_count(nest, sizes, b) {
         return refused(9);
     }
+    let cells = sizes.cells;
     let mut lens = [0u16; 9217];
-    let mut kept = [0u32; 16384];
+    let mut kept = [0u8; 16384];
+    let mut counts = [0u32; 257];
     let mut ranks = [0u32; 7169];
     let mut places = [0u32; 7169];
-    prepare(
-        nest,
-        sizes,
-        b,
-        &mut lens,
-        &mut kept,
-        &mut ranks,
-        &mut places,
-    );
+    let messages = prepare(nest, sizes, b, &mut lens, &mut ranks, &mut places);
+    let many = keep_cells(nest, sizes, &lens, b, &mut kept[..cells], &mut counts);
     turn_in(
         nest,
         sizes,
         &lens,
-        &kept,
+        &kept[..cells],
+        &counts,
         &ranks,
         &places,
+        messages,
+        many,
         source,
         memory,
         mail,

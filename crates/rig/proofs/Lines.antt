@@ -7,7 +7,7 @@ use mathlib.Core.List.{List, [], _∷_, _++_}
 use native.Mathlib.Omega.{arith}
 use lib.ListN.{length, getD, set}
 use lib.Dec.{ltb, leb, eqb}
-use borrow.Author.Tests.{eqb-true, eq-eqb, ne-eqb, lt-ltb, le-ltb}
+use borrow.Author.Tests.{eqb-true, eq-eqb, ne-eqb, ltb-true, lt-ltb, le-ltb}
 use Rattle.base.specs.Tests.{_and_, not, pick, every, some}
 use Rattle.base.specs.Numbers.{Line, line, firstOf}
 use Rattle.base.proofs.Tests.{both, and-true, and-left, and-false, and-no, not-true, not-false, true-not, pick-false}
@@ -28,7 +28,7 @@ use Rattle.engine.specs.Given.{recordsAfter, handedOver}
 use Rattle.engine.specs.declared.core.Turned.{Turned}
 use Rattle.engine.proofs.Lines.{Opened, areas-are, and-right, call-read, call-later, call-done, handed}
 use Rattle.rig.specs.Calls.{areasFor, areaLinesFor, turnCallFor, deliverCallFor, collectCallFor}
-use Rattle.rig.specs.Given.{LengthsFor, unfitLinesFor, wordsAfter}
+use Rattle.rig.specs.Given.{LengthsFor, unfitLinesFor, barredLinesFor, wordsAfter}
 
 -- ---- lengths
 
@@ -118,6 +118,51 @@ module _ (p : Plan) (source : List ℕ) (o : ℕ) (l : Lent) (theirs : List ℕ)
       let q = unfit-none r e z in
       first-false 9 _ _ (not-true (q .0)) ∙ first-false 11 _ _ (not-true (q .1 .office)) ∙ first-false 10 _ ls (not-true (q .1 .fits))
 
+-- ---- the lines up to the machine's
+
+-- none of them holds
+pub record Free (p : Plan) (source : List ℕ) (o : ℕ) (l : Lent) (theirs : List ℕ) (b : ℕ) : Type 0 where
+  pub unfit : 0 ≡ firstOf (unfitLinesFor p source o l theirs)
+  pub lengths : LengthsFor p source l theirs
+  pub fits : fitFor p o l theirs ≡ true
+  pub low : b < p .processors
+  pub free : heldByOther p o l b ≡ false
+
+module _ (p : Plan) (source : List ℕ) (o : ℕ) (l : Lent) (theirs : List ℕ) (b : ℕ) where
+  pub barred-none : (r : ℕ) → r ≡ firstOf (barredLinesFor p source o l theirs b) → r ≡ 0 → Free p source o l theirs b
+  barred-none r e z =
+      let u = none-first 9 _ _ (λ q. omega arith) (sym e ∙ z) in
+      let v = none-first 11 _ _ (λ q. omega arith) (u .1) in
+      let w = none-first 10 _ _ (λ q. omega arith) (v .1) in
+      let x = none-first 11 _ _ (λ q. omega arith) (w .1) in
+      let y = none-first 19 _ _ (λ q. omega arith) (x .1) in
+      record {
+        unfit = unfit-0 p source o l theirs (true-not (u .0)) (true-not (v .0)) (true-not (w .0));
+        lengths = lengths-are p source l theirs (true-not (u .0));
+        fits = true-not (w .0);
+        low = ltb-true b (p .processors) (true-not (x .0));
+        free = y .0;
+      }
+
+  module _ (r : ℕ) (e : r ≡ firstOf (unfitLinesFor p source o l theirs)) where
+    pub barred-unfit : r ≢ 0 → r ≡ firstOf (barredLinesFor p source o l theirs b)
+    barred-unfit h = e ∙ sym (first-some (unfitLinesFor p source o l theirs) _ (λ q. h (e ∙ q)))
+
+    module _ (z : r ≡ 0) where
+      pub barred-beyond : p .processors ≤ b → 11 ≡ firstOf (barredLinesFor p source o l theirs b)
+      barred-beyond h = sym (clear-lines p source o l theirs r e z _ ∙ first-true 11 _ _ (not-false (le-ltb b (p .processors) h)))
+
+      module _ (low : b < p .processors) where
+        past : firstOf (barredLinesFor p source o l theirs b) ≡ firstOf (line 19 (heldByOther p o l b) ∷ [])
+        past = clear-lines p source o l theirs r e z _ ∙ first-false 11 _ _ (not-true (lt-ltb b (p .processors) low))
+
+        pub barred-held : heldByOther p o l b ≡ true → 19 ≡ firstOf (barredLinesFor p source o l theirs b)
+        barred-held h = sym (past ∙ first-true 19 _ _ h)
+
+        pub barred-0 : heldByOther p o l b ≡ false → 0 ≡ firstOf (barredLinesFor p source o l theirs b)
+        unfolding firstOf
+        barred-0 h = sym (past ∙ first-false 19 (heldByOther p o l b) [] h)
+
 -- ---- what a turn makes of the records and the shared words
 
 module _ (r : Turned) (n : ℕ) (e : r .number ≡ n) (h : n ≢ 0) (l : Lent) (b : ℕ) (x : Answered Lent) where
@@ -175,52 +220,30 @@ module _ (bytes : List ℕ) (route : ℕ) (source : List ℕ) (o : ℕ) (l : Len
         (sym (past-lengths bytes route p source l theirs (op .none) a (turnLinesFor p o l theirs b)))
         ∙ turn-at
 
-    module _ (r : ℕ) (e : r ≡ firstOf (unfitLinesFor p source o l theirs)) where
-      pub turn-unfit : r ≢ 0 → answer r l ≡ turnCallFor bytes route source o l theirs b
-      turn-unfit h =
-          call-later (linesFor (routeOf route) bytes) (numbered-for (routeOf route) bytes) _ r _ l (op .none)
-          (e ∙ sym (first-some (unfitLinesFor p source o l theirs) _ (λ q. h (e ∙ q)))) h ∙ turn-at
+    pub turn-barred : (r : ℕ) → r ≡ firstOf (barredLinesFor p source o l theirs b) → r ≢ 0 → answer r l ≡ turnCallFor bytes route source o l theirs b
+    turn-barred r e h =
+        call-later (linesFor (routeOf route) bytes) (numbered-for (routeOf route) bytes) _ r _ l (op .none)
+        (e ∙ sym (first-some (barredLinesFor p source o l theirs b) _ (λ q. h (e ∙ q)))) h ∙ turn-at
 
-      module _ (z : r ≡ 0) where
-        long : areasFor p source l theirs ≡ true
-        long = unfit-none p source o l theirs r e z .0
+    -- the machine's turn on the own areas, and the shared word by the stage that it left
+    pub turn-steps : Free p source o l theirs b → (r : Turned) (m u t engaged : List ℕ) → engaged ≡ wordsAfter (l .engaged) o b r
+        → answer (r .number) (stateOf m u (recordsAfter (l .own .progress) b r) t) ≡ turn p source (l .own) b
+        → answer (r .number) (lentOf (stateOf m u (recordsAfter (l .own .progress) b r) t) engaged)
+        ≡ turnCallFor bytes route source o l theirs b
+    turn-steps f r m u t engaged w a =
+        ap (λ (ws : List ℕ). answer (r .number) (lentOf (stateOf m u (recordsAfter (l .own .progress) b r) t) ws))
+        (w ∙ words-by (l .own .progress) (l .engaged) o b (p .processors) r (f .lengths .own .progress) (f .low))
+        ∙ ap whole a
+        ∙ sym (turn-by p source o l theirs b (none .1) (f .free) (f .lengths .own .progress) (f .lengths .engaged))
+        ∙ as-turn (none .0)
+      where
+        none : (areasFor p source l theirs ≡ true) × Admits p o l theirs
+        none = unfit-none p source o l theirs 0 (f .unfit) refl
 
-        admits : Admits p o l theirs
-        admits = unfit-none p source o l theirs r e z .1
-
-        pub turn-beyond : p .processors ≤ b → answer 11 l ≡ turnCallFor bytes route source o l theirs b
-        turn-beyond h =
-            call-later (linesFor (routeOf route) bytes) (numbered-for (routeOf route) bytes) _ 11 _ l (op .none)
-            (sym (clear-lines p source o l theirs r e z _ ∙ first-true 11 _ _ (not-false (le-ltb b (p .processors) h)))) (λ k. omega arith)
-            ∙ turn-at
-
-        module _ (low : b < p .processors) where
-          pub turn-held : heldByOther p o l b ≡ true → answer 19 l ≡ turnCallFor bytes route source o l theirs b
-          turn-held h =
-              call-later (linesFor (routeOf route) bytes) (numbered-for (routeOf route) bytes) _ 19 _ l (op .none)
-              (sym (clear-lines p source o l theirs r e z _ ∙ first-false 11 _ _ (not-true (lt-ltb b (p .processors) low)) ∙ first-true 19 _ _ h))
-              (λ k. omega arith)
-              ∙ turn-at
-
-          -- the machine's turn on the own areas, and the shared word by the stage that it left
-          pub turn-steps : heldByOther p o l b ≡ false → (r : Turned) (m u t engaged : List ℕ) → engaged ≡ wordsAfter (l .engaged) o b r
-              → answer (r .number) (stateOf m u (recordsAfter (l .own .progress) b r) t) ≡ turn p source (l .own) b
-              → answer (r .number) (lentOf (stateOf m u (recordsAfter (l .own .progress) b r) t) engaged)
-              ≡ turnCallFor bytes route source o l theirs b
-          turn-steps free r m u t engaged w a =
-              ap (λ (ws : List ℕ). answer (r .number) (lentOf (stateOf m u (recordsAfter (l .own .progress) b r) t) ws))
-              (w ∙ words-by (l .own .progress) (l .engaged) o b (p .processors) r (k .own .progress) low)
-              ∙ ap whole a
-              ∙ sym (turn-by p source o l theirs b admits free (k .own .progress) (k .engaged))
-              ∙ as-turn long
-            where
-              k : LengthsFor p source l theirs
-              k = lengths-are p source l theirs long
-
-              whole : Answered State → Answered Lent
-              whole x =
-                  answer (x .number)
-                  (lentOf (x .after) (pick (eqb (x .number) 0) (set (l .engaged) b (wordFor o (stageOf (x .after) b))) (l .engaged)))
+        whole : Answered State → Answered Lent
+        whole x =
+            answer (x .number)
+            (lentOf (x .after) (pick (eqb (x .number) 0) (set (l .engaged) b (wordFor o (stageOf (x .after) b))) (l .engaged)))
 
 -- the same for the lists that the words read stand for
 pub turn-as : (bytes : List ℕ) (route : ℕ) (source : List ℕ) (o : ℕ) (m u t e own l other q : List ℕ) (b : ℕ) → own ≡ l → other ≡ q

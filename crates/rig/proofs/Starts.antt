@@ -6,11 +6,11 @@ use mathlib.Core.Bool.{true, false}
 use mathlib.Core.List.{List, [], _∷_, _++_}
 use native.Mathlib.Omega.{arith}
 use lib.ListN.{length, replicate}
-use borrow.Author.Tests.{eq-eqb, ne-eqb, ltb-true}
+use borrow.Author.Tests.{eqb-true, eq-eqb, ne-eqb, ltb-true}
 use Rattle.base.specs.Tests.{not}
 use Rattle.base.specs.Numbers.{line, firstOf}
 use Rattle.base.proofs.Tests.{both, and-true, and-false, and-no, not-true, not-false, true-not, pick-true, pick-false}
-use Rattle.base.proofs.Numbers.{first-true, first-false, none-first, none-behind}
+use Rattle.base.proofs.Numbers.{first-true, first-false, first-some, first-behind, none-first, none-behind}
 use Rattle.machine.specs.Plan.{Plan}
 use Rattle.machine.specs.Machine.{State, stateOf, Answered, answered, fresh}
 use Rattle.offices.specs.Offices.{Lent, lentOf, Rig, rigOf, Sources, freshRig, turnLinesFor}
@@ -21,9 +21,10 @@ use Rattle.stages.specs.Progress.{setRecord}
 use Rattle.engine.specs.Calls.{answer, recipe, areas}
 use Rattle.engine.specs.Given.{recordsAfter, zerosAfter}
 use Rattle.engine.specs.declared.core.Turned.{Turned}
-use Rattle.engine.proofs.Lines.{Opened, areas-are, call-read, call-later, call-done}
+use Rattle.engine.proofs.Turns.{answered-no, answered-yes}
+use Rattle.engine.proofs.Lines.{Opened, areas-are}
 use Rattle.engine.proofs.Reading.{zeros-after-no, zeros-after-yes}
-use Rattle.rig.specs.Calls.{areaLinesFor, turnCallFor, rigAreas, freshRigCall}
+use Rattle.rig.specs.Calls.{areaLinesFor, turnCallFor, rigAreas, freshRigLines, freshRigCall}
 use Rattle.rig.proofs.Lines.{lengths-are}
 
 -- ---- lengths
@@ -46,6 +47,27 @@ module _ (p : Plan) (sources : Sources) (r : Rig) where
   unfolding rigAreas
   all-there a b c = and-true a (and-true b (eq-eqb _ _ c))
 
+-- ---- the number of a fresh start
+
+module _ (bytes : List ℕ) (route : ℕ) (sources : Sources) (r : Rig) where
+  pub number-read : (n : ℕ) → n ≡ firstOf (linesFor (routeOf route) bytes) → n ≢ 0 → n ≡ firstOf (freshRigLines bytes route sources r)
+  number-read n e h = e ∙ sym (first-some (linesFor (routeOf route) bytes) _ (λ q. h (e ∙ q)))
+
+  module _ (p : Plan) (op : Opened bytes route p) where
+    number-at : firstOf (line 9 (not (rigAreas p sources r)) ∷ []) ≡ firstOf (freshRigLines bytes route sources r)
+    number-at =
+        ap (λ (q : Plan). firstOf (line 9 (not (rigAreas q sources r)) ∷ [])) (op .is)
+        ∙ sym
+        (first-behind (linesFor (routeOf route) bytes) (line 9 (not (rigAreas (recipe bytes route) sources r)) ∷ []) (numbered-for (routeOf route) bytes)
+        (op .none))
+
+    pub number-area : rigAreas p sources r ≡ false → 9 ≡ firstOf (freshRigLines bytes route sources r)
+    number-area h = sym (first-true 9 (not (rigAreas p sources r)) [] (not-false h)) ∙ number-at
+
+    pub number-none : rigAreas p sources r ≡ true → 0 ≡ firstOf (freshRigLines bytes route sources r)
+    unfolding firstOf
+    number-none h = sym (first-false 9 (not (rigAreas p sources r)) [] (not-true h)) ∙ number-at
+
 -- ---- the fresh start
 
 -- one office's areas set to zero are the machine's
@@ -57,52 +79,45 @@ zeros-are p source s e m u k t a b c d =
     let l = areas-are p source s e in
     rw (a, b, c, d, l .memories, l .buffer, l .progress, l .status)
 
-module _ (bytes : List ℕ) (route : ℕ) (sources : Sources) (r : Rig) where
-  pub fresh-read : (n : ℕ) → n ≡ firstOf (linesFor (routeOf route) bytes) → n ≢ 0 → answer n r ≡ freshRigCall bytes route sources r
+module _ (bytes : List ℕ) (route : ℕ) (sources : Sources) (r : Rig) (n : ℕ) (is : n ≡ firstOf (freshRigLines bytes route sources r)) where
+  pub fresh-refused : n ≢ 0 → answer n r ≡ freshRigCall bytes route sources r
   unfolding freshRigCall
-  fresh-read n e h = call-read (linesFor (routeOf route) bytes) (numbered-for (routeOf route) bytes) _ n _ r e h
+  fresh-refused h = answered-no n (freshRig (recipe bytes route)) r h ∙ ap (λ (k : ℕ). answered k (freshRig (recipe bytes route)) r) is
 
-  module _ (p : Plan) (op : Opened bytes route p) where
-    fresh-at : answered (firstOf (linesFor (routeOf route) bytes ++ (line 9 (not (rigAreas p sources r)) ∷ []))) (freshRig p) r
-        ≡ freshRigCall bytes route sources r
-    unfolding freshRigCall
-    fresh-at =
-        ap (λ (q : Plan). answered (firstOf (linesFor (routeOf route) bytes ++ (line 9 (not (rigAreas q sources r)) ∷ []))) (freshRig q) r) (op .is)
+  all-long : n ≡ 0 → rigAreas (recipe bytes route) sources r ≡ true
+  all-long z =
+      true-not
+      (none-first 9 (not (rigAreas (recipe bytes route) sources r)) [] (λ q. omega arith)
+      (none-behind (linesFor (routeOf route) bytes) (line 9 (not (rigAreas (recipe bytes route) sources r)) ∷ []) (numbered-for (routeOf route) bytes)
+      (sym is ∙ z))
+      .0)
 
-    pub fresh-area : rigAreas p sources r ≡ false → answer 9 r ≡ freshRigCall bytes route sources r
-    fresh-area h =
-        call-later (linesFor (routeOf route) bytes) (numbered-for (routeOf route) bytes) _ 9 _ r (op .none)
-        (sym (first-true 9 _ _ (not-false h))) (λ q. omega arith)
-        ∙ fresh-at
-
-    nothing : rigAreas p sources r ≡ true → firstOf (line 9 (not (rigAreas p sources r)) ∷ []) ≡ 0
-    unfolding firstOf
-    nothing h = first-false 9 (not (rigAreas p sources r)) [] (not-true h)
-
-    done : rigAreas p sources r ≡ true → (first second : State) (engaged : List ℕ) → first ≡ fresh p → second ≡ fresh p
-        → engaged ≡ replicate (p .processors) 2 → answer 0 (rigOf first second engaged) ≡ freshRigCall bytes route sources r
-    unfolding freshRig
-    done h first second engaged a b c =
-        ap (answer 0) (rw (a, b, c)) ∙ call-done (linesFor (routeOf route) bytes) (numbered-for (routeOf route) bytes)
-        (line 9 (not (rigAreas p sources r)) ∷ []) 0 (freshRig p) r (op .none) (nothing h) ∙ fresh-at
+  done : n ≡ 0 → (first second : State) (engaged : List ℕ) → first ≡ fresh (recipe bytes route) → second ≡ fresh (recipe bytes route)
+      → engaged ≡ replicate (recipe bytes route .processors) 2 → answer 0 (rigOf first second engaged) ≡ freshRigCall bytes route sources r
+  unfolding freshRig freshRigCall
+  done z first second engaged a b c =
+      ap (answer 0) (rw (a, b, c))
+      ∙ answered-yes (firstOf (freshRigLines bytes route sources r)) (freshRig (recipe bytes route)) r (sym is ∙ z)
 
 -- over the words of all areas, the records' zeros yet to be stored
-module _ (bytes : List ℕ) (route : ℕ) (sources : Sources) (p : Plan) (op : Opened bytes route p) (s t : State) (engaged : List ℕ)
-    (a : areas p (sources .first) s ≡ true) (b : areas p (sources .second) t ≡ true) (c : length engaged ≡ p .processors) where
-  pub fresh-done : (m u k m′ u′ k′ e : List ℕ)
-      → (m ≡ replicate (length (s .memories)) 0) × ((u ≡ replicate (length (s .buffer)) 0) × (k ≡ replicate (length (s .status)) 0))
-      → (m′ ≡ replicate (length (t .memories)) 0) × ((u′ ≡ replicate (length (t .buffer)) 0) × (k′ ≡ replicate (length (t .status)) 0))
-      → e ≡ replicate (length engaged) 2
-      → answer 0 (rigOf (stateOf m u (zerosAfter (s .progress) 0) k) (stateOf m′ u′ (zerosAfter (t .progress) 0) k′) e)
-      ≡ freshRigCall bytes route sources (rigOf s t engaged)
-  fresh-done m u k m′ u′ k′ e x y z =
-      done bytes route sources (rigOf s t engaged) p op (all-there p sources (rigOf s t engaged) a b c) _ _ e
-      (zeros-are p (sources .first) s a m u _ k (x .0) (x .1 .0) (zeroed (s .progress)) (x .1 .1))
-      (zeros-are p (sources .second) t b m′ u′ _ k′ (y .0) (y .1 .0) (zeroed (t .progress)) (y .1 .1))
-      (z ∙ ap (λ (n : ℕ). replicate n 2) c)
-    where
-      zeroed : (l : List ℕ) → zerosAfter l 0 ≡ replicate (length l) 0
-      zeroed l = sym (zeros-after-yes l)
+pub fresh-done : (bytes : List ℕ) (route : ℕ) (sources : Sources) (s t : State) (engaged : List ℕ) (n : ℕ)
+    → n ≡ firstOf (freshRigLines bytes route sources (rigOf s t engaged)) → n ≡ 0 → (m u k m′ u′ k′ e : List ℕ)
+    → (m ≡ replicate (length (s .memories)) 0) × ((u ≡ replicate (length (s .buffer)) 0) × (k ≡ replicate (length (s .status)) 0))
+    → (m′ ≡ replicate (length (t .memories)) 0) × ((u′ ≡ replicate (length (t .buffer)) 0) × (k′ ≡ replicate (length (t .status)) 0))
+    → e ≡ replicate (length engaged) 2
+    → answer 0 (rigOf (stateOf m u (zerosAfter (s .progress) 0) k) (stateOf m′ u′ (zerosAfter (t .progress) 0) k′) e)
+    ≡ freshRigCall bytes route sources (rigOf s t engaged)
+unfolding rigAreas
+fresh-done bytes route sources s t engaged n is z m u k m′ u′ k′ e x y w =
+    let a = both (all-long bytes route sources (rigOf s t engaged) n is z) in
+    let b = both (a .1) in
+    done bytes route sources (rigOf s t engaged) n is z _ _ e
+    (zeros-are (recipe bytes route) (sources .first) s (a .0) m u _ k (x .0) (x .1 .0) (zeroed (s .progress)) (x .1 .1))
+    (zeros-are (recipe bytes route) (sources .second) t (b .0) m′ u′ _ k′ (y .0) (y .1 .0) (zeroed (t .progress)) (y .1 .1))
+    (w ∙ ap (λ (i : ℕ). replicate i 2) (eqb-true (length engaged) (recipe bytes route .processors) (b .1)))
+  where
+    zeroed : (l : List ℕ) → zerosAfter l 0 ≡ replicate (length l) 0
+    zeroed l = sym (zeros-after-yes l)
 
 module _ (n : ℕ) (m u t m′ u′ t′ l q e : List ℕ) (x : Answered Rig) where
   -- a refusal sets no record
@@ -110,33 +125,30 @@ module _ (n : ℕ) (m u t m′ u′ t′ l q e : List ℕ) (x : Answered Rig) wh
       → answer n (rigOf (stateOf m u (zerosAfter l n) t) (stateOf m′ u′ (zerosAfter q n) t′) e) ≡ x
   zeros-kept h y = rw (sym (zeros-after-no l n h), sym (zeros-after-no q n h)) y
 
-  pub not-cleared : n ≢ 0 → answer n (rigOf (stateOf m u (zerosAfter l n) t) (stateOf m′ u′ (zerosAfter q n) t′) e) ≡ x
-      → answer n (rigOf (stateOf m u l t) (stateOf m′ u′ q t′) e) ≡ x
-  not-cleared h y =
-      ap (λ (k : List ℕ). answer n (rigOf (stateOf m u k t) (stateOf m′ u′ q t′) e)) (zeros-after-no l n h)
-      ∙ ap (λ (k : List ℕ). answer n (rigOf (stateOf m u (zerosAfter l n) t) (stateOf m′ u′ k t′) e)) (zeros-after-no q n h) ∙ y
-
-  pub all-cleared : n ≡ 0 → (k k′ : List ℕ) → k ≡ replicate (length l) 0 → k′ ≡ replicate (length q) 0
+  -- the records' words stored
+  pub both-stored : (k k′ : List ℕ) → k ≡ zerosAfter l n → k′ ≡ zerosAfter q n
       → answer n (rigOf (stateOf m u (zerosAfter l n) t) (stateOf m′ u′ (zerosAfter q n) t′) e) ≡ x
-      → answer 0 (rigOf (stateOf m u k t) (stateOf m′ u′ k′ t′) e) ≡ x
-  all-cleared z k k′ a b y =
-      ap (λ (i : List ℕ). answer 0 (rigOf (stateOf m u i t) (stateOf m′ u′ k′ t′) e)) (a ∙ zeros-after-yes l)
-      ∙ ap (λ (i : List ℕ). answer 0 (rigOf (stateOf m u (zerosAfter l 0) t) (stateOf m′ u′ i t′) e)) (b ∙ zeros-after-yes q)
-      ∙ ap (λ (i : ℕ). answer i (rigOf (stateOf m u (zerosAfter l i) t) (stateOf m′ u′ (zerosAfter q i) t′) e)) (sym z) ∙ y
+      → answer n (rigOf (stateOf m u k t) (stateOf m′ u′ k′ t′) e) ≡ x
+  both-stored k k′ a b y = rw (a, b) y
 
--- ---- a turn's record stored
+-- ---- the records' words after a call
 
-module _ (r : Turned) (m u l t e : List ℕ) (b : ℕ) (x : Answered Lent)
-    (q : answer (r .number) (lentOf (stateOf m u (recordsAfter l b r) t) e) ≡ x) where
-  pub left-out : r .number ≢ 0 → answer (r .number) (lentOf (stateOf m u l t) e) ≡ x
+pub cleared : (l : List ℕ) (n : ℕ) → n ≡ 0 → (k : List ℕ) → k ≡ replicate (length l) 0 → k ≡ zerosAfter l n
+cleared l n z k e = e ∙ zeros-after-yes l ∙ ap (zerosAfter l) (sym z)
+
+module _ (r : Turned) (l : List ℕ) (b : ℕ) where
+  pub not-stored : r .number ≢ 0 → l ≡ recordsAfter l b r
   unfolding recordsAfter
-  left-out h = ap (λ (k : List ℕ). answer (r .number) (lentOf (stateOf m u k t) e)) (sym (pick-false _ _ _ (ne-eqb (r .number) 0 h))) ∙ q
+  not-stored h = sym (pick-false _ _ _ (ne-eqb (r .number) 0 h))
 
-  pub written-in : r .number ≡ 0 → (l′ : List ℕ) → l′ ≡ setRecord l b (r .progress) → answer 0 (lentOf (stateOf m u l′ t) e) ≡ x
+  pub stored-in : r .number ≡ 0 → (k : List ℕ) → k ≡ setRecord l b (r .progress) → k ≡ recordsAfter l b r
   unfolding recordsAfter
-  written-in h l′ w =
-      ap (λ (k : List ℕ). answer 0 (lentOf (stateOf m u k t) e)) (w ∙ sym (pick-true _ _ _ (eq-eqb (r .number) 0 h)))
-      ∙ ap (λ (k : ℕ). answer k (lentOf (stateOf m u (recordsAfter l b r) t) e)) (sym h) ∙ q
+  stored-in z k e = e ∙ sym (pick-true _ _ _ (eq-eqb (r .number) 0 z))
+
+-- a turn's answer over the records stored
+pub turn-stored : (r : Turned) (m u l t e : List ℕ) (b : ℕ) (x : Answered Lent) → answer (r .number) (lentOf (stateOf m u (recordsAfter l b r) t) e) ≡ x
+    → (k : List ℕ) → k ≡ recordsAfter l b r → answer (r .number) (lentOf (stateOf m u k t) e) ≡ x
+turn-stored r m u l t e b x q k w = ap (λ (i : List ℕ). answer (r .number) (lentOf (stateOf m u i t) e)) w ∙ q
 
 -- a turn that gives 0 has a record there
 pub turn-inside : (bytes : List ℕ) (route : ℕ) (source : List ℕ) (o : ℕ) (l : Lent) (theirs : List ℕ) (b : ℕ)

@@ -4,11 +4,11 @@ use Prim.Native.Nat.{ℕ, _+_, _*_, _≤_, _<_}
 use mathlib.Core.Path.{_≡_}
 use mathlib.Core.List.{List, [], _∷_, _++_}
 use lib.ListN.{length, set}
-use lib.Dec.{leb, eqb}
+use lib.Dec.{ltb, leb, eqb}
 use Rattle.base.specs.Tests.{not, pick}
 use Rattle.base.specs.Numbers.{Line, line, firstOf}
 use Rattle.machine.specs.Plan.{Plan}
-use Rattle.offices.specs.Offices.{Lent, wordFor, fitFor}
+use Rattle.offices.specs.Offices.{Lent, wordFor, fitFor, heldByOther}
 use Rattle.plan.specs.Shaped.{planOf}
 use Rattle.layout.specs.Sizes.{Sized, routeOf}
 use Rattle.routes.specs.Routes.{linesFor}
@@ -37,6 +37,11 @@ pub record LengthsFor (p : Plan) (source : List ℕ) (l : Lent) (others : List �
 abbrev pub unfitLinesFor : Plan → List ℕ → ℕ → Lent → List ℕ → List Line
 unfitLinesFor p source o l theirs =
     areaLinesFor p source l theirs ++ (line 11 (not (leb o 1)) ∷ line 10 (not (fitFor p o l theirs)) ∷ [])
+
+-- and those of a turn up to the machine's: no such processor, held by the other office
+abbrev pub barredLinesFor : Plan → List ℕ → ℕ → Lent → List ℕ → ℕ → List Line
+barredLinesFor p source o l theirs b =
+    unfitLinesFor p source o l theirs ++ (line 11 (not (ltb b (p .processors))) ∷ line 19 (heldByOther p o l b) ∷ [])
 
 -- the shared words after a turn of processor b for office o that gave r
 unfoldable pub wordsAfter : List ℕ → ℕ → ℕ → Turned → List ℕ

@@ -8,7 +8,7 @@ ghost use lib.ListN.{length, replicate};
 ghost use Rattle.base.specs.Tests.{every};
 ghost use Rattle.base.specs.Numbers.{firstOf};
 ghost use Rattle.machine.specs.Plan.{count};
-ghost use Rattle.machine.specs.Machine.{stateOf, progressOnly};
+ghost use Rattle.machine.specs.Machine.{stateOf, progressOnly, turn};
 ghost use Rattle.plan.specs.Shaped.{planOf};
 ghost use Rattle.nest.specs.Nest.{processors};
 ghost use Rattle.layout.specs.Sizes.{Sized, routeOf};
@@ -16,15 +16,16 @@ ghost use Rattle.routes.specs.Routes.{linesFor};
 ghost use Rattle.tables.specs.Tables.{Tabled};
 ghost use Rattle.records.specs.Records.{Carries};
 ghost use Rattle.engine.specs.Calls.{answer, recipe};
-ghost use Rattle.engine.specs.Given.{recordsAfter, zerosAfter};
+ghost use Rattle.engine.specs.Given.{MayTurn, recordsAfter, zerosAfter};
 ghost use Rattle.offices.specs.Offices.{lentOf, rigOf, sourcesOf, stageAgrees, fitWord, fitFor, heldByOther, wordFor};
-ghost use Rattle.rig.specs.Calls.{turnCallFor, deliverCallFor, collectCallFor, freshRigCall, lookNumber};
-ghost use Rattle.rig.specs.Given.{Opens, unfitLinesFor, wordsAfter, SeenAt};
+ghost use Rattle.rig.specs.Calls.{turnCallFor, deliverCallFor, collectCallFor, freshRigLines, freshRigCall, lookNumber};
+ghost use Rattle.rig.specs.Given.{Opens, unfitLinesFor, barredLinesFor, wordsAfter, SeenAt};
 use engine::core::Turned;
 use engine::core::areas_fit;
 use engine::core::hand_over;
 use engine::core::refused;
 use engine::core::step;
+use engine::store_record;
 use layout::Sizes;
 use layout::route_of;
 use layout::sizes_of;
@@ -246,6 +247,92 @@ pub fn engage(engaged: &mut [u32], office: u32, b: usize, after: Turned)
     }
 }
 
+// Lines 9, 11 for the office, 10, 11 for the processor, and 19.
+fn barred(
+    nest: Nest,
+    sizes: Sizes,
+    lens: &[u16; 9217],
+    source: &[u32],
+    memories: &[u32],
+    buffer: &[u32],
+    progress: Flat,
+    status: &[u8],
+    engaged: &[u32],
+    theirs: Flat,
+    office: u32,
+    b: usize,
+) -> u32
+    requires { ⌜ Sized nest sizes × Tabled nest sizes (now lens) ⌝ }
+    requires { ⌜ (length (progress .words) ≡ 192) × (length (theirs .words) ≡ 192) ⌝ }
+    ensures { λ r. ⌜ ((records others : List ℕ) → Carries progress records → Carries theirs others
+        → r ≡ firstOf (barredLinesFor (planOf (sizes .route) nest) (now (source .entry)) office
+        (lentOf (stateOf (now (memories .entry)) (now (buffer .entry)) records (now (status .entry))) (now (engaged .entry))) others b))
+        × (r ≡ 0 → (progress .count ≡ 3 * processors nest) × (theirs .count ≡ 3 * processors nest)) ⌝ }
+{
+    let n = unfit(
+        nest,
+        sizes,
+        lens,
+        source,
+        memories,
+        buffer,
+        progress,
+        status,
+        engaged,
+        theirs,
+        office,
+    );
+    if n != 0 {
+        return n;
+    }
+    if b >= sizes.processors {
+        return 11;
+    }
+    let words = progress.words;
+    let count = progress.count;
+    if held(nest, sizes, lens, &words[0..count], engaged, office, b) {
+        return 19;
+    }
+    0
+}
+
+// The stage at which processor b stands, and the shared word after it.
+pub fn step_for(
+    nest: Nest,
+    sizes: Sizes,
+    lens: &[u16; 9217],
+    source: &[u32],
+    memories: &mut [u32],
+    buffer: &mut [u32],
+    progress: &[u32],
+    status: &mut [u8],
+    engaged: &mut [u32],
+    office: u32,
+    b: usize,
+) -> Turned
+    requires { ⌜ Sized nest sizes × Tabled nest sizes (now lens) ⌝ }
+    requires { ⌜ MayTurn (planOf (sizes .route) nest) (now source) (stateOf (now memories) (now buffer) (now progress) (now status)) b ⌝ }
+    requires { ⌜ b < length (now engaged) ⌝ }
+    ensures { λ r. ⌜ (now (engaged .exit) ≡ wordsAfter (now (engaged .entry)) office b r)
+        × (answer (r .number) (stateOf (now (memories .exit)) (now (buffer .exit)) (recordsAfter (now (progress .entry)) b r) (now (status .exit)))
+        ≡ turn (planOf (sizes .route) nest) (now (source .entry))
+        (stateOf (now (memories .entry)) (now (buffer .entry)) (now (progress .entry)) (now (status .entry))) b) ⌝ }
+{
+    let after = step(
+        nest,
+        sizes,
+        lens,
+        source,
+        memories,
+        buffer,
+        progress,
+        status,
+        b,
+    );
+    engage(engaged, office, b, after);
+    after
+}
+
 // One turn of a processor for an office.
 pub fn turn(
     encoded: &[u8],
@@ -278,7 +365,7 @@ pub fn turn(
     let nest = opening.nest;
     let sizes = opening.sizes;
     let b = processor as usize;
-    let n = unfit(
+    let n = barred(
         nest,
         sizes,
         &lens,
@@ -290,19 +377,14 @@ pub fn turn(
         engaged,
         theirs,
         office,
+        b,
     );
     if n != 0 {
         return refused(n);
     }
-    if b >= sizes.processors {
-        return refused(11);
-    }
     let words = progress.words;
     let count = progress.count;
-    if held(nest, sizes, &lens, &words[0..count], engaged, office, b) {
-        return refused(19);
-    }
-    let after = step(
+    step_for(
         nest,
         sizes,
         &lens,
@@ -311,10 +393,21 @@ pub fn turn(
         buffer,
         &words[0..count],
         status,
+        engaged,
+        office,
         b,
-    );
-    engage(engaged, office, b, after);
-    after
+    )
+}
+
+// The words of the records after a turn of a processor: its record stored, where the turn gave 0.
+pub fn store_after(progress: &mut [u32], processor: u32, after: Turned)
+    requires { ⌜ (after .number ≡ 0 → 3 * processor + 2 < length (now progress)) ⌝ }
+    ensures { λ _. ⌜ now (progress .exit) ≡ recordsAfter (now (progress .entry)) processor after ⌝ }
+{
+    let p = after.progress;
+    if after.number == 0 {
+        store_record(progress, processor as usize, p);
+    }
 }
 
 // The delivery of a message for an office.
@@ -444,28 +537,26 @@ fn clear(memories: &mut [u32], buffer: &mut [u32], status: &mut [u8])
     zero_bytes(status);
 }
 
-// A fresh start of both offices together, but for the records, which have `words0` and `words1` words.
-pub fn fresh(
+// The number of a fresh start: the recipe's lines, then 9 where an area of an office or the shared words have another length.
+fn unfit_both(
     encoded: &[u8],
     route: u32,
     source0: &[u32],
-    memories0: &mut [u32],
-    buffer0: &mut [u32],
+    memories0: &[u32],
+    buffer0: &[u32],
     words0: usize,
-    status0: &mut [u8],
+    status0: &[u8],
     source1: &[u32],
-    memories1: &mut [u32],
-    buffer1: &mut [u32],
+    memories1: &[u32],
+    buffer1: &[u32],
     words1: usize,
-    status1: &mut [u8],
-    engaged: &mut [u32],
+    status1: &[u8],
+    shared: usize,
 ) -> u32
-    ensures { λ r. ⌜ ((records others : List ℕ) → words0 ≡ length records → words1 ≡ length others
-        → answer r (rigOf (stateOf (now (memories0 .exit)) (now (buffer0 .exit)) (zerosAfter records r) (now (status0 .exit)))
-        (stateOf (now (memories1 .exit)) (now (buffer1 .exit)) (zerosAfter others r) (now (status1 .exit))) (now (engaged .exit)))
-        ≡ freshRigCall (now (encoded .entry)) route (sourcesOf (now (source0 .entry)) (now (source1 .entry)))
+    ensures { λ r. ⌜ ((records others engaged : List ℕ) → words0 ≡ length records → words1 ≡ length others → shared ≡ length engaged
+        → r ≡ firstOf (freshRigLines (now (encoded .entry)) route (sourcesOf (now (source0 .entry)) (now (source1 .entry)))
         (rigOf (stateOf (now (memories0 .entry)) (now (buffer0 .entry)) records (now (status0 .entry)))
-        (stateOf (now (memories1 .entry)) (now (buffer1 .entry)) others (now (status1 .entry))) (now (engaged .entry)))) ⌝ }
+        (stateOf (now (memories1 .entry)) (now (buffer1 .entry)) others (now (status1 .entry))) engaged))) ⌝ }
 {
     let mut lens = [0u16; 9217];
     let opening = open_recipe(encoded, route, &mut lens);
@@ -499,13 +590,66 @@ pub fn fresh(
     ) {
         return 9;
     }
-    if engaged.len() != sizes.processors {
+    if shared != sizes.processors {
         return 9;
+    }
+    0
+}
+
+// A fresh start of both offices together, but for the records, which have `words0` and `words1` words.
+pub fn fresh(
+    encoded: &[u8],
+    route: u32,
+    source0: &[u32],
+    memories0: &mut [u32],
+    buffer0: &mut [u32],
+    words0: usize,
+    status0: &mut [u8],
+    source1: &[u32],
+    memories1: &mut [u32],
+    buffer1: &mut [u32],
+    words1: usize,
+    status1: &mut [u8],
+    engaged: &mut [u32],
+) -> u32
+    ensures { λ r. ⌜ ((records others : List ℕ) → words0 ≡ length records → words1 ≡ length others
+        → answer r (rigOf (stateOf (now (memories0 .exit)) (now (buffer0 .exit)) (zerosAfter records r) (now (status0 .exit)))
+        (stateOf (now (memories1 .exit)) (now (buffer1 .exit)) (zerosAfter others r) (now (status1 .exit))) (now (engaged .exit)))
+        ≡ freshRigCall (now (encoded .entry)) route (sourcesOf (now (source0 .entry)) (now (source1 .entry)))
+        (rigOf (stateOf (now (memories0 .entry)) (now (buffer0 .entry)) records (now (status0 .entry)))
+        (stateOf (now (memories1 .entry)) (now (buffer1 .entry)) others (now (status1 .entry))) (now (engaged .entry)))) ⌝ }
+{
+    let number = unfit_both(
+        encoded,
+        route,
+        source0,
+        memories0,
+        buffer0,
+        words0,
+        status0,
+        source1,
+        memories1,
+        buffer1,
+        words1,
+        status1,
+        engaged.len(),
+    );
+    if number != 0 {
+        return number;
     }
     clear(memories0, buffer0, status0);
     clear(memories1, buffer1, status1);
     free_all(engaged);
     0
+}
+
+// The words of an office's records after a fresh start that gave this number.
+pub fn clear_records(progress: &mut [u32], number: u32)
+    ensures { λ _. ⌜ now (progress .exit) ≡ zerosAfter (now (progress .entry)) number ⌝ }
+{
+    if number == 0 {
+        zero_words(progress);
+    }
 }
 
 // Where a look finds its part: the number and, where that is 0, where the part begins and how many words it has.

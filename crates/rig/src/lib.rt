@@ -7,9 +7,7 @@ ghost use Rattle.rig.specs.Calls.{turnCallFor, deliverCallFor, collectCa
 
 pub mod core; // core.rt: the calls without the stores into the records
 
-use engine::store_record;
 use records::flat_of;
-use stages::zero_words;
 
 // A fresh start of both offices together: each one's areas, and the shared words.
 pub fn fresh(
@@ -49,12 +47,9 @@ pub fn fresh(
         status1,
         engaged,
     );
-    if number != 0 {
-        return number;
-    }
-    zero_words(progress0);
-    zero_words(progress1);
-    0
+    core::clear_records(progress0, number);
+    core::clear_records(progress1, number);
+    number
 }
 
 // One turn of a processor for an office; `theirs` are the other office's records.
@@ -90,13 +85,8 @@ pub fn turn(
         office,
         processor,
     );
-    let number = after.number;
-    if number != 0 {
-        return number;
-    }
-    let p = after.progress;
-    store_record(progress, processor as usize, p);
-    0
+    core::store_after(progress, processor, after);
+    after.number
 }
 
 // The delivery of a message for an office.

@@ -178,6 +178,25 @@ fn show_bytes(bytes: &[u8]) {
 
 // ---- records: what each does
 
+// A record: what to do, on which area (0 for a call), by which rule, and two words.
+struct Record {
+    op: u8,
+    area: u32,
+    rule: u8,
+    a: u32,
+    b: u32,
+}
+
+fn record_of(bytes: [u8; 16]) -> Record {
+    Record {
+        op: bytes[0],
+        area: parts::of_byte(bytes[1]),
+        rule: bytes[2],
+        a: parts::word(&bytes, 4),
+        b: parts::word(&bytes, 8),
+    }
+}
+
 // Records 1 and 3: a case begins with nothing lent; the first words of an area are lent.
 fn lend_nothing(lent: &mut [u32]) {
     let mut i: usize = 0;
@@ -199,19 +218,79 @@ fn read_recipe(fd: i32, recipe: &mut [u8], lent: &mut [u32], length: u32) {
 }
 
 // Records 4, 5 and 11, on one area.
-fn change_words(words: &mut [u32], op: u8, rule: u8, a: u32, b: u32) {
+fn change_words(words: &mut [u32], record: Record) {
+    let op = record.op;
     match op {
-        4 => fill_words(words, rule, a),
-        5 => poke_word(words, a, b),
+        4 => fill_words(words, record.rule, record.a),
+        5 => poke_word(words, record.a, record.b),
         _ => show_words(words),
     }
 }
 
-fn change_bytes(bytes: &mut [u8], op: u8, rule: u8, a: u32, b: u32) {
+fn change_bytes(bytes: &mut [u8], record: Record) {
+    let op = record.op;
     match op {
-        4 => fill_bytes(bytes, rule, a),
-        5 => poke_byte(bytes, a, b),
+        4 => fill_bytes(bytes, record.rule, record.a),
+        5 => poke_byte(bytes, record.a, record.b),
         _ => show_bytes(bytes),
+    }
+}
+
+// On one of areas 1 to 3.
+fn change_first(source: &mut [u32], memories: &mut [u32], buffer: &mut [u32], record: Record) {
+    let area = record.area;
+    match area {
+        1 => change_words(source, record),
+        2 => change_words(memories, record),
+        _ => change_words(buffer, record),
+    }
+}
+
+// On one of areas 4 to 6.
+fn change_last(progress: &mut [u32], status: &mut [u8], grid: &mut [u32], record: Record) {
+    let area = record.area;
+    match area {
+        4 => change_words(progress, record),
+        5 => change_bytes(status, record),
+        _ => change_words(grid, record),
+    }
+}
+
+// Records 8 to 10, which leave memories, buffer and records as they are.
+fn tell(
+    encoded: &[u8],
+    route: u32,
+    source: &[u32],
+    memories: &[u32],
+    buffer: &[u32],
+    progress: &[u32],
+    status: &mut [u8],
+    grid: &mut [u32],
+    op: u8,
+    a: u32,
+) -> u32 {
+    match op {
+        8 => engine::deliver(
+            encoded,
+            route,
+            source,
+            memories,
+            buffer,
+            progress,
+            status,
+            a,
+        ),
+        9 => engine::collect(
+            encoded,
+            route,
+            source,
+            memories,
+            buffer,
+            progress,
+            status,
+            grid,
+        ),
+        _ => engine::sweep(encoded, source, grid),
     }
 }
 
@@ -240,17 +319,7 @@ fn answer(
             status,
             a,
         ),
-        8 => engine::deliver(
-            encoded,
-            route,
-            source,
-            memories,
-            buffer,
-            progress,
-            status,
-            a,
-        ),
-        9 => engine::collect(
+        _ => tell(
             encoded,
             route,
             source,
@@ -259,9 +328,40 @@ fn answer(
             progress,
             status,
             grid,
+            op,
+            a,
         ),
-        _ => engine::sweep(encoded, source, grid),
     }
+}
+
+// A call, and the line that tells of it.
+fn call(
+    encoded: &[u8],
+    route: u32,
+    source: &[u32],
+    memories: &mut [u32],
+    buffer: &mut [u32],
+    progress: &mut [u32],
+    status: &mut [u8],
+    grid: &mut [u32],
+    record: Record,
+) {
+    let number = answer(
+        encoded,
+        route,
+        source,
+        memories,
+        buffer,
+        progress,
+        status,
+        grid,
+        record.op,
+        record.a,
+    );
+    print_answer(
+        number,
+        checksum(source, memories, buffer, progress, status, grid),
+    );
 }
 
 // One record on the parts that are lent.
@@ -274,18 +374,10 @@ fn act(
     progress: &mut [u32],
     status: &mut [u8],
     grid: &mut [u32],
-    record: &[u8],
+    record: Record,
 ) {
-    if record.len() != 16 {
-        return;
-    }
-    let op = record[0];
-    let area = record[1];
-    let rule = record[2];
-    let a = parts::word(record, 4);
-    let b = parts::word(record, 8);
-    if area == 0 {
-        let number = answer(
+    if record.area == 0 {
+        call(
             encoded,
             route,
             source,
@@ -294,24 +386,47 @@ fn act(
             progress,
             status,
             grid,
-            op,
-            a,
+            record,
         );
-        let sum = checksum(source, memories, buffer, progress, status, grid);
-        print_answer(number, sum);
         return;
     }
-    match area {
-        1 => change_words(source, op, rule, a, b),
-        2 => change_words(memories, op, rule, a, b),
-        3 => change_words(buffer, op, rule, a, b),
-        4 => change_words(progress, op, rule, a, b),
-        5 => change_bytes(status, op, rule, a, b),
-        _ => change_words(grid, op, rule, a, b),
+    if record.area < 4 {
+        change_first(source, memories, buffer, record);
+        return;
     }
+    change_last(progress, status, grid, record);
 }
 
-// The parts lent of the whole areas.
+// The parts lent of the recipe, the records, the marks and the grid.
+fn act_on_rest(
+    recipe: &[u8],
+    source: &mut [u32],
+    memories: &mut [u32],
+    buffer: &mut [u32],
+    progress: &mut [u32],
+    status: &mut [u8],
+    grid: &mut [u32],
+    lent: &[u32],
+    record: Record,
+) {
+    let e = front_bytes(recipe, lent, 0);
+    let p = front(progress, lent, 4);
+    let t = front_bytes(status, lent, 5);
+    let g = front(grid, lent, 6);
+    act(
+        &recipe[..e],
+        route_in(lent),
+        source,
+        memories,
+        buffer,
+        &mut progress[..p],
+        &mut status[..t],
+        &mut grid[..g],
+        record,
+    );
+}
+
+// The parts lent of the whole areas, source, memories and buffer first.
 fn act_on_lent(
     recipe: &[u8],
     source: &mut [u32],
@@ -321,36 +436,28 @@ fn act_on_lent(
     status: &mut [u8],
     grid: &mut [u32],
     lent: &[u32],
-    record: &[u8],
+    record: Record,
 ) {
-    let e = front_bytes(recipe, lent, 0);
     let s = front(source, lent, 1);
     let m = front(memories, lent, 2);
     let b = front(buffer, lent, 3);
-    let p = front(progress, lent, 4);
-    let t = front_bytes(status, lent, 5);
-    let g = front(grid, lent, 6);
-    act(
-        &recipe[..e],
-        route_in(lent),
+    act_on_rest(
+        recipe,
         &mut source[..s],
         &mut memories[..m],
         &mut buffer[..b],
-        &mut progress[..p],
-        &mut status[..t],
-        &mut grid[..g],
+        progress,
+        status,
+        grid,
+        lent,
         record,
     );
 }
 
 // Records 1 to 3 and 12, which change what is lent and the route; whether the record was one of them.
-fn arrange(fd: i32, recipe: &mut [u8], lent: &mut [u32], record: &[u8]) -> bool {
-    if record.len() != 16 {
-        return true;
-    }
-    let op = record[0];
-    let area = parts::of_byte(record[1]);
-    let a = parts::word(record, 4);
+fn arrange(fd: i32, recipe: &mut [u8], lent: &mut [u32], record: Record) -> bool {
+    let op = record.op;
+    let a = record.a;
     if op == 1 {
         lend_nothing(lent);
         print_case(a);
@@ -361,7 +468,7 @@ fn arrange(fd: i32, recipe: &mut [u8], lent: &mut [u32], record: &[u8]) -> bool 
         return true;
     }
     if op == 3 {
-        poke_word(lent, area, a);
+        poke_word(lent, record.area, a);
         return true;
     }
     if op == 12 {
@@ -382,14 +489,15 @@ fn run(fd: i32) {
     let mut status = [0u8; 7168];
     let mut grid = [0u32; 1024];
     let mut lent = [0u32; 8];
-    let mut record = [0u8; 16];
+    let mut bytes = [0u8; 16];
     let mut records = u64::MAX;
     while records > 0 {
         records -= 1;
-        if io::read_full(fd, &mut record) < 16 {
+        if io::read_full(fd, &mut bytes) < 16 {
             return;
         }
-        if arrange(fd, &mut recipe, &mut lent, &record) {
+        let record = record_of(bytes);
+        if arrange(fd, &mut recipe, &mut lent, record) {
             continue;
         }
         act_on_lent(
@@ -401,7 +509,7 @@ fn run(fd: i32) {
             &mut status,
             &mut grid,
             &lent,
-            &record,
+            record,
         );
     }
 }

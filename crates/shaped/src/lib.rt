@@ -27,11 +27,11 @@ use parcels::Sending;
 use parcels::Window;
 
 // A row: the place of its first cell, and the runs in it that hold a slot's cells, each from one last component on, below another.
-struct Reached {
-    place: [usize; 4],
-    starts: [usize; 8],
-    ends: [usize; 8],
-    runs: usize,
+pub struct Reached {
+    pub place: [usize; 4],
+    pub starts: [usize; 8],
+    pub ends: [usize; 8],
+    pub runs: usize,
 }
 
 // The greater of two.
@@ -134,7 +134,7 @@ fn runs_of(
 }
 
 // Row r of a slot's rows.
-fn row_of(nest: Nest, components: &[usize; 32], rows: Sending, r: usize) -> Reached
+pub fn row_of(nest: Nest, components: &[usize; 32], rows: Sending, r: usize) -> Reached
     requires { ⌜ Accepted nest × (Given nest (now components) × (Shaped nest rows × (r < rows .rows))) ⌝ }
     requires { ⌜ getD (rows .window .high) (last nest) 0 ≤ lengthOf nest (last nest) ⌝ }
     ensures { λ q. ⌜ RowRuns nest rows r (q .place) (q .runs) (q .starts) (q .ends) ⌝ }
@@ -242,7 +242,7 @@ pub fn count_of(
 }
 
 // The rows that hold the cells of a tile of the box and a way, whose place and distances are looked at here.
-fn rows_at(nest: Nest, sizes: Sizes, tile: usize, way: usize) -> Sending
+pub fn rows_at(nest: Nest, sizes: Sizes, tile: usize, way: usize) -> Sending
     requires { ⌜ Sized nest sizes × ((sizes .route ≡ Direct) × ((tile < boxTiles nest) × (way < ways Direct nest))) ⌝ }
     ensures { λ r. ⌜ Rows nest tile (way + 1) r ⌝ }
 {

@@ -1,4 +1,4 @@
--- Laws of the table of a nest with bounds: its tiles, their processors, the lengths of parcels, processors' tiles, ends of messages.
+-- Laws of the table of a nest with bounds: the lengths of parcels, processors' tiles, ends of messages.
 use Prim.Native.Nat.{ℕ, zero, suc, _+_, _*_, _-_, _/_, _%_, _≤_, _<_}
 use mathlib.Core.Path.{_≡_, refl, sym, ap, _∙_, subst}
 use mathlib.Core.Logic.{_⊎_, inl, inr, _≢_}
@@ -9,22 +9,21 @@ use native.Mathlib.Nat.{div-lt-iff-lt-mul}
 use native.Mathlib.Numerals.{add-one}
 use native.Mathlib.Decide.{decLt}
 use native.Mathlib.Omega.{arith}
-use lib.ListN.{length, getD, set, replicate, length-set, length-replicate}
-use lib.Seq.{getD-set-same, getD-set-other}
+use lib.ListN.{length, getD, set, length-set}
+use lib.Seq.{getD-set-same}
 use lib.Dec.{eqb, ltb, leb}
 use borrow.Author.Tests.{eq-eqb, ne-eqb, lt-ltb, le-ltb, leb-true}
 use Rattle.base.specs.Tests.{_and_, pick, one, some, keep, those}
 use Rattle.base.specs.Lists.{In}
 use Rattle.base.proofs.Tests.{pick-true, pick-false, never-both, some-at, some-same}
-use Rattle.base.proofs.Select.{keep-few, keep-none, keep-more, those-more, those-none, those-few, those-at}
+use Rattle.base.proofs.Select.{keep-few, those-more, those-none, those-few, those-at}
 use Rattle.machine.specs.Plan.{count, words, tilesOf, noMessage}
 use Rattle.nest.specs.declared.Nest.{Nest}
 use Rattle.nest.specs.Accepted.{Accepted}
-use Rattle.nest.specs.Nest.{lengthOf, tileCount, component, cells, boxTiles}
+use Rattle.nest.specs.Nest.{tileCount, component, cells, boxTiles}
 use Rattle.nest.specs.Places.{cellPlace, tileAt, tilePlace}
-use Rattle.nest.specs.Shape.{exists, existing, tiles}
-use Rattle.nest.specs.Spans.{last, holds}
-use Rattle.nest.proofs.Shapes.{Counting, box-tiles-most}
+use Rattle.nest.specs.Shape.{tiles}
+use Rattle.nest.proofs.Shapes.{box-tiles-most}
 use Rattle.plan.specs.declared.Route.{Route}
 use Rattle.plan.specs.declared.Route.the-variants.{Direct}
 use Rattle.plan.specs.Geometry.{processorOf}
@@ -36,7 +35,7 @@ use Rattle.plan.proofs.Slots.{full-in}
 use Rattle.plan.proofs.Homes.{slotParcel-is}
 use Rattle.plan.proofs.Parcels.{ahead-low, slot-low, slot-tile, slot-way}
 use Rattle.plan.proofs.Tiles.{quotient-low, boxTileOf-low, tilePlace-low}
-use Rattle.plan.proofs.ShapedTiles.{boxTile-lt, number-low, boxTile-number}
+use Rattle.plan.proofs.ShapedTiles.{boxTile-lt, number-low}
 use Rattle.plan.proofs.ShapedParcels.{parcel-crossed, shapedTaker-low}
 use Rattle.plan.proofs.ShapedTaker.{stepOf, taker-step}
 use Rattle.plan.proofs.ShapedSlots.{in-box, slotAt-tile, slotAt-direction, shapedTile-low}
@@ -48,114 +47,12 @@ use Rattle.layout.proofs.Cells.{count-most}
 use Rattle.parcels.proofs.Sendings.{hop, alone-no, alone-yes}
 use Rattle.scans.specs.Scans.{Sheet, Lengths, Summing, Found}
 use Rattle.scans.proofs.Laws.{seen, seen-start, seen-none, seen-hit, seen-miss, found}
-use Rattle.shaped_table.specs.Table.{Marks, Numbered, Tiles, Owned, LikeBefore, Filling, ShapedTable, Steps, endOf, Ranged, atEnd}
-
--- ---- which tiles exist
-
-pub marks-all : (x : Nest) (q rows : ℕ) (marks : List ℕ) → Counting x q marks → q ≤ rows → rows ≤ q → rows * lengthOf x (last x) ≡ cells x → Marks x marks
-unfolding exists
-marks-all x q rows marks c h k e =
-    let z : q ≡ rows = omega arith in
-    record { long = c .long; each = λ u l. c .marked u ∙ ap (some (holds x u)) (ap (λ (a : ℕ). a * lengthOf x (last x)) z ∙ e) }
-
-pub zeros-long : (l : List ℕ) → l ≡ replicate 16384 0 → length l ≡ 16384
-zeros-long l e = rw e (length-replicate {A = ℕ} 16384 0)
-
--- a number of the array that is not the one set
-other : (l : List ℕ) (i j v : ℕ) → j ≢ i → getD (set l i v) j 0 ≡ getD l j 0
-other l i j v h = getD-set-other l i j v 0 h
-
-pub record Listing (x : Nest) (lens : List ℕ) (n u : ℕ) : Type 0 where
-  pub low : u ≤ boxTiles x
-  pub tiled : Numbered x lens n
-  pub is : n ≡ length (keep (exists x) u)
+use Rattle.shaped_table.specs.Table.{Owned, Like, Filling, ShapedTable, Steps, endOf, Ranged, atEnd}
+use Rattle.shaped_table.proofs.Existing.{other}
+pub use Rattle.shaped_table.proofs.Existing.{marks-all, zeros-long, Listing, listing-none, listing-room, listing-turn, listing-end}
+pub use Rattle.shaped_table.proofs.Existing.{owned-none, owned-more, owned-end}
 
 module _ (x : Nest) (ok : Accepted x) where
-  -- ---- the tiles listed
-
-  pub listing-none : (lens : List ℕ) → length lens ≡ 9217 → Listing x lens 0 0
-  unfolding keep
-  listing-none lens h =
-      record { low = omega arith; tiled = record { long = h; low = omega arith; boxes = λ t l. absurd (omega arith) }; is = refl }
-
-  module _ (lens : List ℕ) (n u : ℕ) (f : Listing x lens n u) (l : u < boxTiles x) where
-    pub listing-room : exists x u ≡ true → n < 1024
-    listing-room e = omega (arith, f .is, number-low x u l e, ok .tiles-most)
-
-    pub listing-turn : (t : Bool) → t ≡ exists x u → (lens′ : List ℕ) (n′ : ℕ)
-        → ((t ≡ true) × (lens′ ≡ set lens (7168 + n) u) × (n′ ≡ n + 1)) ⊎ ((t ≡ false) × (lens′ ≡ lens) × (n′ ≡ n)) → Listing x lens′ n′ (u + 1)
-    listing-turn t e lens′ n′ (inl (h, q, k)) =
-        rw (q, k) (record {
-          low = omega arith;
-          tiled = record {
-            long = length-set lens (7168 + n) u ∙ f .tiled .long;
-            low = omega (arith, f .is, number-low x u l (sym e ∙ h));
-            boxes = λ i m. go i (eq-or-lt-of-le (below i m));
-          };
-          is = rw (add-one u) (omega (arith, f .is, keep-more (exists x) u (sym e ∙ h)));
-        })
-      where
-        below : (i : ℕ) → i < n + 1 → i ≤ n
-        below i m = omega arith
-
-        go : (i : ℕ) → (i ≡ n) ⊎ (i < n) → getD (set lens (7168 + n) u) (7168 + i) 0 ≡ boxTile x i
-        go i (inl z) =
-            rw z (getD-set-same lens (7168 + n) u 0 (omega (arith, f .tiled .long, listing-room (sym e ∙ h)))
-            ∙ sym (boxTile-number x u l (sym e ∙ h)) ∙ ap (boxTile x) (sym (f .is)))
-        go i (inr z) = other lens (7168 + n) (7168 + i) u (λ m. omega arith) ∙ f .tiled .boxes i z
-    listing-turn t e lens′ n′ (inr (h, q, k)) =
-        rw (q, k) (record {
-          low = omega arith;
-          tiled = f .tiled;
-          is = f .is ∙ rw (add-one u) (ap length (sym (keep-none (exists x) u (sym e ∙ h))));
-        })
-
-  pub listing-end : (lens : List ℕ) (n u k : ℕ) → Listing x lens n u → k ≡ boxTiles x → k ≤ u → (n ≤ 1024) × Tiles x (set lens 9216 n)
-  unfolding tiles existing
-  listing-end lens n u k f e h =
-      let z : u ≡ boxTiles x = omega (arith, f .low) in
-      let m : n ≡ tiles x = f .is ∙ ap (λ (a : ℕ). length (keep (exists x) a)) z in (
-        omega (arith, ok .tiles-most),
-        record {
-          numbers = record {
-            long = length-set lens 9216 n ∙ f .tiled .long;
-            low = omega arith;
-            boxes = λ t l. other lens 9216 (7168 + t) n (λ q. omega (arith, ok .tiles-most)) ∙ f .tiled .boxes t (omega arith);
-          };
-          count = getD-set-same lens 9216 n 0 (omega (arith, f .tiled .long)) ∙ m;
-        },
-      )
-
-  -- ---- the processors of the first t tiles
-
-  module _ (lens : List ℕ) where
-    pub owned-none : Tiles x lens → Owned x lens 0
-    owned-none f = record { tiled = f; owners = λ t l. absurd (omega arith) }
-
-    pub owned-more : (t v : ℕ) → Owned x lens t → t < tiles x → v ≡ processorOf x (boxTile x t) → Owned x (set lens (8192 + t) v) (t + 1)
-    owned-more t v f l e =
-        record {
-          tiled = record {
-            numbers = record {
-              long = length-set lens (8192 + t) v ∙ f .tiled .numbers .long;
-              low = omega arith;
-              boxes = λ i h. other lens (8192 + t) (7168 + i) v (λ q. omega (arith, ok .tiles-most)) ∙ f .tiled .numbers .boxes i h;
-            };
-            count = other lens (8192 + t) 9216 v (λ q. omega (arith, ok .tiles-most)) ∙ f .tiled .count;
-          };
-          owners = λ i h. go i (eq-or-lt-of-le (below i h));
-        }
-      where
-        below : (i : ℕ) → i < t + 1 → i ≤ t
-        below i h = omega arith
-
-        go : (i : ℕ) → (i ≡ t) ⊎ (i < t) → getD (set lens (8192 + t) v) (8192 + i) 0 ≡ processorOf x (boxTile x i)
-        go i (inl z) = rw z (getD-set-same lens (8192 + t) v 0 (omega (arith, f .tiled .numbers .long, ok .tiles-most)) ∙ e)
-        go i (inr z) = other lens (8192 + t) (8192 + i) v (λ m. omega arith) ∙ f .owners i z
-
-    pub owned-end : (t : ℕ) → Owned x lens t → tiles x ≤ t → Owned x lens (tiles x)
-    owned-end t f h = record { tiled = f .tiled; owners = λ i l. f .owners i (omega arith) }
-
   -- ---- the lengths
 
   pub slots-few : shapedSlots x ≤ 7168
@@ -223,6 +120,18 @@ module _ (x : Nest) (ok : Accepted x) where
 
     way-is : s % directions x ≡ w
     way-is = let d = slot-is .1 in omega arith
+
+    -- it depends on the way, and on how many cells the tile sends along it
+    pub slot-length : length (shapedSlotParcel x (t * directions x + w)) ≡ pick (eqb (hops x (w + 1)) 0) 0 (length (shapedParcel x u (w + 1)))
+    unfolding s pick
+    slot-length =
+        ap length parcel-is
+        ∙ picked (alone Direct x s) (shapedParcel x u (w + 1))
+        ∙ ap (λ (i : ℕ). pick (eqb (hops x i) 0) 0 (length (shapedParcel x u (w + 1)))) (slot-is .1)
+      where
+        picked : (b : Bool) (l : List ℕ) → length (pick b [] l) ≡ pick b 0 (length l)
+        picked true l = refl
+        picked false l = refl
 
     -- a tile with the box's parcels: its slot's is that of the box's slot
     pub whole-slot : u < boxTiles x → shapedParcel x u (w + 1) ≡ parcel x u (w + 1)
@@ -296,22 +205,16 @@ module _ (x : Nest) (ok : Accepted x) where
         none (yes k) = let f = full-in (shapedParcel x u (w + 1)) k in absurd (go (f .0) (f .1))
         none (no k) = omega arith
 
-  -- ---- the lengths of a tile like the one before it
+  -- ---- the lengths of a tile like an earlier one
 
-  pub copied : (lens : List ℕ) (t n w v : ℕ) → n ≡ directions x → Filling x lens (t * directions x + w) → LikeBefore x t → w < n
-      → v ≡ getD lens ((t - 1) * n + w) 0 → v ≡ length (shapedSlotParcel x (t * directions x + w))
-  copied lens t n w v e f g l is =
-      is ∙ rw e (f .each ((t - 1) * directions x + w) (below (t - 1) t (directions x) w (omega (arith, g .later)) (omega arith))
+  pub copied : (lens : List ℕ) (t p n w v : ℕ) → n ≡ directions x → Filling x lens (t * directions x + w) → Like x t p → w < n
+      → v ≡ getD lens (p * n + w) 0 → v ≡ length (shapedSlotParcel x (t * directions x + w))
+  copied lens t p n w v e f g l is =
+      is ∙ rw e (f .each (p * directions x + w) (omega (arith, mul-le-mul-right (directions x) (g .later), suc-mul p (directions x)))
       ∙ sym (g .same w (omega arith)))
-    where
-      below : (a b d w : ℕ) → a + 1 ≡ b → w < d → a * d + w < b * d + w
-      below a b d w e l = omega (arith, mul-le-mul-right d (up a b e), suc-mul a d)
-        where
-          up : (a b : ℕ) → a + 1 ≡ b → suc a ≤ b
-          up a b e = omega arith
 
-  pub before-place : (t n w : ℕ) → n ≡ directions x → LikeBefore x t → t < tiles x → w < n → ((t - 1) * n ≤ 7168) × ((t - 1) * n + w < 7168)
-  before-place t n w e g h l = slot-place′ (t - 1) (omega arith)
+  pub like-place : (t p n w : ℕ) → n ≡ directions x → Like x t p → t < tiles x → w < n → (p * n ≤ 7168) × (p * n + w < 7168)
+  like-place t p n w e g h l = slot-place′ p (omega (arith, g .later))
     where
       slot-place′ : (a : ℕ) → a < tiles x → (a * n ≤ 7168) × (a * n + w < 7168)
       slot-place′ a k =

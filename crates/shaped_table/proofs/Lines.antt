@@ -38,7 +38,7 @@ use Rattle.parcels.specs.declared.Window.{Window}
 use Rattle.shaped.specs.Runs.{inPlace}
 use Rattle.shaped.specs.Parcels.{Farthest}
 use Rattle.shaped.proofs.Runs.{shape-cell, shape-at}
-use Rattle.shaped_table.specs.Table.{LikeBefore}
+use Rattle.shaped_table.specs.Table.{Like}
 use Rattle.shaped_table.specs.Lines.{Held, Area, Few, Among, Cut, Inner, PlacesIn, Lined}
 use Rattle.shaped_table.proofs.Laws.{whole-slot}
 
@@ -379,7 +379,36 @@ module _ (x : Nest) (ok : Accepted x) (most : List ℕ) (far : Farthest x most) 
           let r = some-at (reaches x u v c) (x .distances) (b .1) in
           and-true (cell-in v c own) (and-true (b .0) (some-one (reachesShape x u v c) (x .distances) (r .0) (r .1) (reached-in v c own (r .0) (r .1) (r .2))))
 
--- ---- the row of tile u: its tiles at the places found
+-- ---- the row of tile u: its tile at place a
+
+-- a place with a whole one after it is one of the dimension's
+pub whole-low : (x : Nest) → Accepted x → (j : ℕ) → j < x .dimensions → (a : ℕ) → (a + 2) * tileLength x j ≤ lengthOf x j → a < tileCount x j
+unfolding tileCount
+whole-low x ok j l a h =
+    let q : a * tileLength x j ≤ lengthOf x j - 1 = omega (arith, add-mul a 2 (tileLength x j), ok .tiled j l) in
+    let e : a ≤ (lengthOf x j - 1) / tileLength x j = le-div-iff-mul-le (ok .tiled j l) .1 q in
+    omega (arith, e)
+
+module _ (x : Nest) (ok : Accepted x) (u : ℕ) (at : List ℕ) (here : Has at (tilePlace x u) (x .dimensions)) (first : ℕ)
+    (begins : first ≡ u - getD at (last x) 0) where
+  first-is : first ≡ u / count x ok * count x ok
+  first-is = omega (arith, begins, here .each (last x) (inner x ok), row-last x ok u, div-add-mod' u (count x ok))
+
+  module _ (v a : ℕ) (is : v ≡ first + a) (low : a < count x ok) where
+    quotient : v / count x ok ≡ u / count x ok
+    quotient = same-quotient (count x ok) u v (count-pos x ok) (omega (arith, first-is)) (omega (arith, first-is))
+
+    pub at-last : tilePlace x v (last x) ≡ a
+    at-last =
+        row-last x ok v
+        ∙ ap (λ (q : ℕ). q % count x ok) {x = v} {y = u / count x ok * count x ok + a} (omega (arith, first-is))
+        ∙ mul-add-mod-self-right (u / count x ok) (count x ok) a
+        ∙ mod-eq-of-lt low
+
+    pub at-before : (j : ℕ) → j < last x → tilePlace x v j ≡ getD at j 0
+    at-before j h = row-place x ok u v j quotient h ∙ sym (here .each j (omega (arith, inner x ok)))
+
+-- ---- its tiles at the places found
 
 module _ (x : Nest) (ok : Accepted x) (u : ℕ) (at most : List ℕ) (here : Has at (tilePlace x u) (x .dimensions)) (far : Farthest x most)
     (w : Window) (area : Area x at most w) (left : Interval) (all : Inner x w (x .bounds) left) (r : Interval)
@@ -391,41 +420,26 @@ module _ (x : Nest) (ok : Accepted x) (u : ℕ) (at most : List ℕ) (here : Has
   abbrev n : ℕ
   n = tileCount x (last x)
 
-  first-is : first ≡ u / n * n
-  first-is = omega (arith, begins, here .each (last x) (inner x ok), row-last x ok u, div-add-mod' u n)
-
-  -- a place with a whole one after it is one of the row
   place-low : (a : ℕ) → (a + 2) * k ≤ lengthOf x (last x) → a < n
-  unfolding tileCount
-  place-low a h =
-      let q : a * k ≤ lengthOf x (last x) - 1 = omega (arith, add-mul a 2 k, ok .tiled (last x) (inner x ok)) in
-      let e : a ≤ (lengthOf x (last x) - 1) / k = le-div-iff-mul-le (ok .tiled (last x) (inner x ok)) .1 q in
-      omega (arith, e)
+  place-low = whole-low x ok (last x) (inner x ok)
+
+  ends-at : (v a : ℕ) → v ≡ first + a → a < n → tilePlace x v (last x) ≡ a
+  ends-at = at-last x ok u at here first begins
+
+  stands-at : (v a : ℕ) → v ≡ first + a → a < n → (j : ℕ) → j < last x → tilePlace x v j ≡ getD at j 0
+  stands-at = at-before x ok u at here first begins
 
   module _ (v a : ℕ) (is : v ≡ first + a) (low : a < n) where
-    quotient : v / n ≡ u / n
-    quotient = same-quotient n u v (count-pos x ok) (omega (arith, first-is)) (omega (arith, first-is))
-
-    at-last : tilePlace x v (last x) ≡ a
-    at-last =
-        row-last x ok v
-        ∙ ap (λ (q : ℕ). q % n) {x = v} {y = u / n * n + a} (omega (arith, first-is))
-        ∙ mul-add-mod-self-right (u / n) n a
-        ∙ mod-eq-of-lt low
-
-    at-before : (j : ℕ) → j < last x → tilePlace x v j ≡ getD at j 0
-    at-before j h = row-place x ok u v j quotient h ∙ sym (here .each j (omega (arith, inner x ok)))
-
     -- its cells, and those that distances take them to, are in the shape
     tile-in : left .from ≤ a * k → a * k + k + getD most (last x) 0 ≤ left .to → (v′ : ℕ) → shapedParcel x v v′ ≡ parcel x v v′
     unfolding inPlace
     tile-in f t = whole-parcel x ok most far v (λ i b. all .is i (among i b) (starts i b) (stops i b))
       where
         same : (j : ℕ) → j < last x → tilePlace x v j * tileLength x j ≡ getD at j 0 * tileLength x j
-        same j h = ap (λ (b : ℕ). b * tileLength x j) (at-before j h)
+        same j h = ap (λ (b : ℕ). b * tileLength x j) (stands-at v a is low j h)
 
         ends : tilePlace x v (last x) * k ≡ a * k
-        ends = ap (λ (b : ℕ). b * k) at-last
+        ends = ap (λ (b : ℕ). b * k) (ends-at v a is low)
 
         among : (i : ℕ → ℕ) → Near x most v i → Among x w i
         among i b j h =
@@ -438,8 +452,8 @@ module _ (x : Nest) (ok : Accepted x) (u : ℕ) (at most : List ℕ) (here : Has
         stops : (i : ℕ → ℕ) → Near x most v i → i (last x) < left .to
         stops i b = omega (arith, ends, b (last x) (inner x ok) .1)
 
-  module _ (t : ℕ) (later : 0 < t) (h : t < tiles x) (from : first + r .from ≤ boxTile x t) (to : boxTile x t < first + r .to)
-      (follows : boxTile x (t - 1) + 1 ≡ boxTile x t) where
+  module _ (t p : ℕ) (later : p < t) (h : t < tiles x) (from : first + r .from ≤ boxTile x t) (to : boxTile x t < first + r .to)
+      (follows : boxTile x p + 1 ≡ boxTile x t) where
     abbrev a : ℕ
     a = boxTile x t - first
 
@@ -452,7 +466,7 @@ module _ (x : Nest) (ok : Accepted x) (u : ℕ) (at most : List ℕ) (here : Has
     own : boxTile x t ≡ first + a
     own = omega arith
 
-    before : boxTile x (t - 1) ≡ first + (a - 1)
+    before : boxTile x p ≡ first + (a - 1)
     before = omega (arith, found .0)
 
     steps : a * k ≡ (a - 1) * k + k
@@ -463,31 +477,34 @@ module _ (x : Nest) (ok : Accepted x) (u : ℕ) (at most : List ℕ) (here : Has
 
     whole : suc (suc (tilePlace x (boxTile x t) (last x))) * k ≤ lengthOf x (last x)
     whole =
-        let e : suc (suc (tilePlace x (boxTile x t) (last x))) ≡ a + 2 = omega (arith, at-last (boxTile x t) a own a-low) in
+        let e : suc (suc (tilePlace x (boxTile x t) (last x))) ≡ a + 2 = omega (arith, ends-at (boxTile x t) a own a-low) in
         rw e (found .1 .1 .1)
 
-    line-tile : LikeBefore x t
+    line-tile : Like x t p
     line-tile =
         record {
           later = later;
           same = λ i l.
               ap length (whole-slot x ok t i (boxTile x t) h l refl (boxTile-low x t h)
               (tile-in (boxTile x t) a own a-low (omega (arith, found .1 .0)) (found .1 .1 .0) (i + 1)))
-              ∙ twin x ok (boxTile x t) (boxTile x (t - 1)) (last x) (boxTile-low x t h) (boxTile-low x (t - 1) (omega arith)) (inner x ok)
-              (omega (arith, at-last (boxTile x t) a own a-low, at-last (boxTile x (t - 1)) (a - 1) before (omega (arith, a-low)), found .0))
+              ∙ twin x ok (boxTile x t) (boxTile x p) (last x) (boxTile-low x t h) (boxTile-low x p (omega arith)) (inner x ok)
+              (omega (arith, ends-at (boxTile x t) a own a-low, ends-at (boxTile x p) (a - 1) before (omega (arith, a-low)), found .0))
               elsewhere whole Direct i l (λ e s. absurd (omega (arith, ok .spread-low))) .1
-              ∙ ap length (sym (whole-slot x ok (t - 1) i (boxTile x (t - 1)) (omega arith) l refl (boxTile-low x (t - 1) (omega arith))
-              (tile-in (boxTile x (t - 1)) (a - 1) before (omega (arith, a-low)) (omega (arith, steps, found .1 .0)) (omega (arith, steps, found .1 .1 .0))
+              ∙ ap length (sym (whole-slot x ok p i (boxTile x p) (omega arith) l refl (boxTile-low x p (omega arith))
+              (tile-in (boxTile x p) (a - 1) before (omega (arith, a-low)) (omega (arith, steps, found .1 .0)) (omega (arith, steps, found .1 .1 .0))
               (i + 1))));
         }
       where
-        elsewhere : (j : ℕ) → j < x .dimensions → (j ≡ last x → ⊥) → tilePlace x (boxTile x t) j ≡ tilePlace x (boxTile x (t - 1)) j
+        elsewhere : (j : ℕ) → j < x .dimensions → (j ≡ last x → ⊥) → tilePlace x (boxTile x t) j ≡ tilePlace x (boxTile x p) j
         elsewhere j d e =
             let g : j < last x = omega arith in
-            at-before (boxTile x t) a own a-low j g ∙ sym (at-before (boxTile x (t - 1)) (a - 1) before (omega (arith, a-low)) j g)
+            stands-at (boxTile x t) a own a-low j g ∙ sym (stands-at (boxTile x p) (a - 1) before (omega (arith, a-low)) j g)
 
-  pub line-is : Lined x (first + r .from) (first + r .to)
-  line-is = record { each = line-tile }
+  pub line-is : Lined x 1 (first + r .from) (first + r .to)
+  line-is = record { few = omega arith; each = line-tile }
 
-pub lined-none : (x : Nest) → Lined x 0 0
-lined-none x = record { each = λ t h l f g. absurd (omega arith) }
+pub lined-none : (x : Nest) → Lined x 0 0 0
+lined-none x = record { few = omega arith; each = λ t p h l f g. absurd (omega arith) }
+
+pub lined-as : (x : Nest) (far from to far′ from′ to′ : ℕ) → Lined x far from to → far′ ≡ far → from′ ≡ from → to′ ≡ to → Lined x far′ from′ to′
+lined-as x far from to far′ from′ to′ l a b c = rw (a, b, c) l

@@ -1,6 +1,6 @@
 -- Rows of the box's tiles along the last dimension: one processor, and where all that is near a tile lies in the shape.
 -- No sentence of document 02: contracts of functions below the calls cite it.
-use Prim.Native.Nat.{ℕ, _+_, _*_, _-_, _≤_, _<_}
+use Prim.Native.Nat.{ℕ, _+_, _*_, _≤_, _<_}
 use mathlib.Core.Path.{_≡_}
 use mathlib.Core.Bool.{true}
 use mathlib.Core.List.{List}
@@ -14,7 +14,7 @@ use Rattle.nest.specs.Spans.{last}
 use Rattle.plan.specs.Geometry.{processorOf}
 use Rattle.plan.specs.Shaped.{boxTile}
 use Rattle.parcels.specs.declared.Window.{Window}
-use Rattle.shaped_table.specs.Table.{LikeBefore}
+use Rattle.shaped_table.specs.Table.{Like}
 
 -- from tile u of the box on, below `end`, tiles have processor p
 pub record Held (x : Nest) (u p end : ℕ) : Type 0 where
@@ -52,6 +52,7 @@ pub record PlacesIn (inner : Interval) (tiling length most : ℕ) (r : Interval)
   pub each : (a : ℕ) → r .from ≤ a → a < r .to
       → (1 ≤ a) × ((inner .from + tiling ≤ a * tiling) × ((a * tiling + tiling + most ≤ inner .to) × ((a + 2) * tiling ≤ length)))
 
--- a tile from one number of the box on, below another, that in the box follows the tile before it, is like that one
-pub record Lined (x : Nest) (from to : ℕ) : Type 0 where
-  pub each : (t : ℕ) → 0 < t → t < tiles x → from ≤ boxTile x t → boxTile x t < to → boxTile x (t - 1) + 1 ≡ boxTile x t → LikeBefore x t
+-- a tile from one number of the box on, below another, is like the tile that is so far before it in the box
+pub record Lined (x : Nest) (far from to : ℕ) : Type 0 where
+  pub few : far ≤ 65536
+  pub each : (t p : ℕ) → p < t → t < tiles x → from ≤ boxTile x t → boxTile x t < to → boxTile x p + far ≡ boxTile x t → Like x t p

@@ -45,10 +45,10 @@ pub record Filling (x : Nest) (lens : List ℕ) (n : ℕ) : Type 0 where
   pub low : n ≤ shapedSlots x
   pub each : (s : ℕ) → s < n → getD lens s 0 ≡ length (shapedSlotParcel x s)
 
--- tile t has one before it, and along each way its parcel is as long as that one's
-pub record LikeBefore (x : Nest) (t : ℕ) : Type 0 where
-  pub later : 0 < t
-  pub same : (w : ℕ) → w < directions x → length (shapedSlotParcel x (t * directions x + w)) ≡ length (shapedSlotParcel x ((t - 1) * directions x + w))
+-- tile p is an earlier one, and along each way its parcel is as long as that of tile t
+pub record Like (x : Nest) (t p : ℕ) : Type 0 where
+  pub later : p < t
+  pub same : (w : ℕ) → w < directions x → length (shapedSlotParcel x (t * directions x + w)) ≡ length (shapedSlotParcel x (p * directions x + w))
 
 abbrev pub ShapedTable : Nest → List ℕ → Type 0
 ShapedTable x lens = Filling x lens (shapedSlots x)

@@ -8,7 +8,7 @@ ghost use lib.ListN.{length, getD, replicate};
 ghost use lib.Dec.{eqb};
 ghost use Rattle.machine.specs.Plan.{count, words, tilesOf};
 ghost use Rattle.nest.specs.Accepted.{Accepted};
-ghost use Rattle.nest.specs.Nest.{side, boxTiles, processors};
+ghost use Rattle.nest.specs.Nest.{boxTiles, processors};
 ghost use Rattle.nest.specs.Places.{tilePlace};
 ghost use Rattle.nest.specs.Shape.{exists, tiles};
 ghost use Rattle.plan.specs.declared.Route.the-variants.{Direct};
@@ -19,12 +19,18 @@ ghost use Rattle.layout.specs.Sizes.{Sized};
 ghost use Rattle.layout.specs.Places.{Has};
 ghost use Rattle.scans.specs.Scans.{Found};
 ghost use Rattle.shaped.specs.Parcels.{Farthest};
-ghost use Rattle.shaped_table.specs.Table.{Marks, Tiles, Owned, LikeBefore, Filling, ShapedTable, Steps, endOf, Ranged, atEnd};
-ghost use Rattle.shaped_table.specs.Lines.{Held, Area, Few, Cut, Inner, PlacesIn, Lined};
+ghost use Rattle.shaped_table.specs.Table.{Marks, Tiles, Owned, Like, Filling, ShapedTable, Steps, endOf, Ranged, atEnd};
+ghost use Rattle.shaped_table.specs.Lines.{Held, Lined};
+ghost use Rattle.shaped_table.specs.Moves.{Moves};
+
+mod rows; // rows.rt: rows of tiles, and which of their tiles are like an earlier one
+
 use layout::Sizes;
-use nest::Interval;
 use nest::Nest;
-use parcels::Window;
+use rows::Line;
+use rows::Move;
+use rows::line_of;
+use rows::move_of;
 use scans::Place;
 use scans::Total;
 
@@ -37,14 +43,6 @@ struct Range {
 // A processor, and where in the box a row of its tiles along the last dimension ends.
 struct Owner {
     number: usize,
-    end: usize,
-}
-
-// Of a row of the box's tiles along the last dimension: those, from one number on, below another, that are like the tile before them;
-// and where the row ends.
-struct Line {
-    from: usize,
-    to: usize,
     end: usize,
 }
 
@@ -179,177 +177,53 @@ fn count_tile(nest: Nest, sizes: Sizes, lens: &mut [u16; 9217], most: [usize; 4]
     }
 }
 
-// The components of the cells of a tile at a place and of those that a distance takes them to, from the least to the greatest.
-fn area_of(nest: Nest, most: [usize; 4], at: [usize; 4]) -> Window
-    requires { ⌜ Accepted nest × (Farthest nest most × ((j : ℕ) → j < nest .dimensions → getD at j 0 ≤ 1024)) ⌝ }
-    ensures { λ r. ⌜ Area nest at most r ⌝ }
-{
-    let tiling = nest.tiling;
-    let n = nest.dimensions;
-    let mut low = [0; 4];
-    let mut high = [0; 4];
-    for j in 0..n {
-        let first = at[j] * tiling[j];
-        low[j] = first;
-        high[j] = first + (tiling[j] - 1) + most[j];
-    }
-    Window {
-        low: low,
-        high: high,
-    }
-}
-
-// Of two components of the earlier dimension, at which one a bound leaves less: where its slope is not negative, the second.
-fn worst(slope: usize, a: usize, b: usize) -> usize
-    ensures { λ r. ⌜ (slope ≡ 0 → r ≡ a) × (0 < slope → r ≡ b) ⌝ }
-{
-    if slope == 0 {
-        return a;
-    }
-    b
-}
-
-// What lower bound k leaves of an interval of the last dimension, all over an area in the dimensions before it.
-fn lower_cut(nest: Nest, area: Window, left: Interval, k: usize) -> Interval
-    requires { ⌜ Accepted nest × ((k < nest .bounds) × ((side nest k ≡ 0) × (Few nest area × ((left .from ≤ 8388608) × (left .to ≤ 1024))))) ⌝ }
-    ensures { λ r. ⌜ Cut nest area k left r ⌝ }
-{
-    let low = area.low;
-    let high = area.high;
-    let j = nest.bounded[k] as usize;
-    let e = nest.earlier[k] as usize;
-    let slope = nest.slopes[k] as usize;
-    let offset = nest.offsets[k] as usize;
-    let at = worst(slope, low[e], high[e]);
-    let level = slope * at + offset;
-    if j + 1 < nest.dimensions {
-        if level <= low[j] + at + 32768 {
-            return left;
-        }
-        return Interval { from: 0, to: 0 };
-    }
-    if level <= left.from + at + 32768 {
-        return left;
-    }
-    Interval {
-        from: level - at - 32768,
-        to: left.to,
-    }
-}
-
-// What upper bound k leaves.
-fn upper_cut(nest: Nest, area: Window, left: Interval, k: usize) -> Interval
-    requires { ⌜ Accepted nest × ((k < nest .bounds) × ((side nest k ≢ 0) × (Few nest area × ((left .from ≤ 8388608) × (left .to ≤ 1024))))) ⌝ }
-    ensures { λ r. ⌜ Cut nest area k left r ⌝ }
-{
-    let low = area.low;
-    let high = area.high;
-    let j = nest.bounded[k] as usize;
-    let e = nest.earlier[k] as usize;
-    let slope = nest.slopes[k] as usize;
-    let offset = nest.offsets[k] as usize;
-    let at = worst(slope, high[e], low[e]);
-    let level = slope * at + offset;
-    if j + 1 < nest.dimensions {
-        if high[j] + at + 32768 <= level {
-            return left;
-        }
-        return Interval { from: 0, to: 0 };
-    }
-    if level < at + 32768 {
-        return Interval { from: 0, to: 0 };
-    }
-    Interval {
-        from: left.from,
-        to: layout::least(left.to, level + 1 - at - 32768),
-    }
-}
-
-// What a bound leaves.
-fn cut_by(nest: Nest, area: Window, left: Interval, k: usize) -> Interval
-    requires { ⌜ Accepted nest × ((k < nest .bounds) × (Few nest area × ((left .from ≤ 8388608) × (left .to ≤ 1024)))) ⌝ }
-    ensures { λ r. ⌜ Cut nest area k left r ⌝ }
-{
-    if nest.sides[k] == 0 {
-        return lower_cut(nest, area, left, k);
-    }
-    upper_cut(nest, area, left, k)
-}
-
-// Where along the last dimension all of an area in the dimensions before it is in the shape.
-fn inner_of(nest: Nest, area: Window) -> Interval
-    requires { ⌜ Accepted nest × Few nest area ⌝ }
-    ensures { λ r. ⌜ Inner nest area (nest .bounds) r ⌝ }
-{
-    let n = nest.bounds;
-    let lengths = nest.lengths;
-    let mut left = Interval {
-        from: 0,
-        to: lengths[nest.dimensions - 1],
-    };
-    for k in 0..n {
-        left = cut_by(nest, area, left, k);
-    }
-    left
-}
-
-// The places of a dimension that have one before them and after them another of full length, where the cells of both tiles, and those
-// at most so far after, lie in an interval.
-fn places_in(inner: Interval, tiling: usize, length: usize, most: usize) -> Interval
-    requires { ⌜ (1 ≤ tiling) × ((tiling ≤ 1024) × ((length ≤ 1024) × ((most ≤ 1024) × (inner .from ≤ 8388608)))) ⌝ }
-    ensures { λ r. ⌜ PlacesIn inner tiling length most r ⌝ }
-{
-    let whole = length / tiling;
-    if whole == 0 {
-        return Interval { from: 0, to: 0 };
-    }
-    if inner.to < most {
-        return Interval { from: 0, to: 0 };
-    }
-    Interval {
-        from: (inner.from + tiling - 1) / tiling + 1,
-        to: layout::least(whole - 1, (inner.to - most) / tiling),
-    }
-}
-
-// The row of a tile of the box along the last dimension: tiles that lie, with all that is near, wholly inside the shape.
-fn line_of(nest: Nest, sizes: Sizes, most: [usize; 4], tile: usize) -> Line
-    requires { ⌜ Sized nest sizes × ((tile < boxTiles nest) × Farthest nest most) ⌝ }
-    ensures { λ r. ⌜ Lined nest (r .from) (r .to) ⌝ }
-{
-    let at = layout::place_of_tile(nest, sizes, tile);
-    let area = area_of(nest, most, at);
-    let inner = inner_of(nest, area);
-    let last = nest.dimensions - 1;
-    let tiling = nest.tiling;
-    let lengths = nest.lengths;
-    let across = sizes.across;
-    let places = places_in(inner, tiling[last], lengths[last], most[last]);
-    let first = tile - at[last];
-    Line {
-        from: first + places.from,
-        to: first + places.to,
-        end: first + across[last],
-    }
-}
-
 // The row of a tile of the box: the old one, where it is not at its end.
-fn line_at(nest: Nest, sizes: Sizes, most: [usize; 4], old: Line, tile: usize) -> Line
-    requires { ⌜ Sized nest sizes × ((tile < boxTiles nest) × (Farthest nest most × Lined nest (old .from) (old .to))) ⌝ }
-    ensures { λ r. ⌜ Lined nest (r .from) (r .to) ⌝ }
+fn line_at(nest: Nest, sizes: Sizes, most: [usize; 4], by: Move, old: Line, tile: usize) -> Line
+    requires { ⌜ Sized nest sizes × ((tile < boxTiles nest) × (Farthest nest most × Moves nest (by .steps) (by .far))) ⌝ }
+    requires { ⌜ Lined nest (old .far) (old .from) (old .to) ⌝ }
+    ensures { λ r. ⌜ Lined nest (r .far) (r .from) (r .to) ⌝ }
 {
     if tile < old.end {
         return old;
     }
-    line_of(nest, sizes, most, tile)
+    line_of(nest, sizes, most, by, tile)
 }
 
-// Whether a tile's parcels are known to be as long as those of the tile before it: in the box it follows that one, and its row says so.
-fn like_before(nest: Nest, lens: &[u16; 9217], line: Line, tile: usize) -> bool
-    requires { ⌜ Accepted nest × ((tile < tiles nest) × (Tiles nest (now lens) × Lined nest (line .from) (line .to))) ⌝ }
-    ensures { λ r. ⌜ (r ≡ true → LikeBefore nest tile) ⌝ }
+// The first tile from one on, before another, that is not further before it in the box than so far; the other, if there is none.
+fn back_of(nest: Nest, lens: &[u16; 9217], far: usize, from: usize, tile: usize) -> usize
+    requires { ⌜ Accepted nest × ((tile < tiles nest) × (Tiles nest (now lens) × ((far ≤ 65536) × (from ≤ tile)))) ⌝ }
+    ensures { λ r. ⌜ r ≤ tile ⌝ }
 {
+    let number = box_of(nest, lens, tile);
+    for p in from..tile {
+        let before = box_of(nest, lens, p);
+        if before + far >= number {
+            return p;
+        }
+    }
+    tile
+}
+
+// The tile that a tile may be like: the one before it, where its row goes by that one, else the one a move before it.
+fn model_of(far: usize, tile: usize, back: usize) -> usize
+    requires { ⌜ back ≤ tile ⌝ }
+    ensures { λ r. ⌜ r ≤ tile ⌝ }
+{
+    if far != 1 {
+        return back;
+    }
     if tile == 0 {
+        return 0;
+    }
+    tile - 1
+}
+
+// Whether a tile's parcels are known to be as long as those of tile p: its row says so of the tile so far before it.
+fn is_like(nest: Nest, lens: &[u16; 9217], line: Line, tile: usize, p: usize) -> bool
+    requires { ⌜ Accepted nest × ((tile < tiles nest) × (Tiles nest (now lens) × (Lined nest (line .far) (line .from) (line .to) × (p ≤ tile)))) ⌝ }
+    ensures { λ r. ⌜ (r ≡ true → Like nest tile p) ⌝ }
+{
+    if p == tile {
         return false;
     }
     let number = box_of(nest, lens, tile);
@@ -359,27 +233,28 @@ fn like_before(nest: Nest, lens: &[u16; 9217], line: Line, tile: usize) -> bool
     if number >= line.to {
         return false;
     }
-    box_of(nest, lens, tile - 1) + 1 == number
+    let before = box_of(nest, lens, p);
+    before + line.far == number
 }
 
-// The length of a tile's parcel along a way, as that of the tile before it, which is in the table.
-fn length_before(nest: Nest, sizes: Sizes, lens: &[u16; 9217], tile: usize, way: usize) -> u16
-    requires { ⌜ Sized nest sizes × ((sizes .route ≡ Direct) × LikeBefore nest tile) ⌝ }
+// The length of a tile's parcel along a way, as that of tile p, which is in the table.
+fn length_as(nest: Nest, sizes: Sizes, lens: &[u16; 9217], tile: usize, p: usize, way: usize) -> u16
+    requires { ⌜ Sized nest sizes × ((sizes .route ≡ Direct) × Like nest tile p) ⌝ }
     requires { ⌜ (tile < tiles nest) × ((way < directions nest) × Filling nest (now lens) (tile * directions nest + way)) ⌝ }
     ensures { λ r. ⌜ r ≡ length (shapedSlotParcel nest (tile * directions nest + way)) ⌝ }
 {
-    lens[(tile - 1) * sizes.ways + way]
+    lens[p * sizes.ways + way]
 }
 
-// The lengths of a tile's parcels, as those of the tile before it.
-fn copy_tile(nest: Nest, sizes: Sizes, lens: &mut [u16; 9217], tile: usize)
-    requires { ⌜ Sized nest sizes × ((sizes .route ≡ Direct) × LikeBefore nest tile) ⌝ }
+// The lengths of a tile's parcels, as those of tile p.
+fn copy_tile(nest: Nest, sizes: Sizes, lens: &mut [u16; 9217], tile: usize, p: usize)
+    requires { ⌜ Sized nest sizes × ((sizes .route ≡ Direct) × Like nest tile p) ⌝ }
     requires { ⌜ (tile < tiles nest) × Filling nest (now lens) (tile * directions nest) ⌝ }
     ensures { λ _. ⌜ Filling nest (now (lens .exit)) ((tile + 1) * directions nest) ⌝ }
 {
     let n = sizes.ways;
     for way in 0..n {
-        lens[tile * n + way] = length_before(nest, sizes, lens, tile, way);
+        lens[tile * n + way] = length_as(nest, sizes, lens, tile, p, way);
     }
 }
 
@@ -391,13 +266,15 @@ fn fill_tile(
     most: [usize; 4],
     line: Line,
     tile: usize,
+    back: usize,
 )
-    requires { ⌜ Sized nest sizes × ((sizes .route ≡ Direct) × (Farthest nest most × Lined nest (line .from) (line .to))) ⌝ }
-    requires { ⌜ (tile < tiles nest) × Filling nest (now lens) (tile * directions nest) ⌝ }
+    requires { ⌜ Sized nest sizes × ((sizes .route ≡ Direct) × (Farthest nest most × Lined nest (line .far) (line .from) (line .to))) ⌝ }
+    requires { ⌜ (tile < tiles nest) × ((back ≤ tile) × Filling nest (now lens) (tile * directions nest)) ⌝ }
     ensures { λ _. ⌜ Filling nest (now (lens .exit)) ((tile + 1) * directions nest) ⌝ }
 {
-    if like_before(nest, lens, line, tile) {
-        copy_tile(nest, sizes, lens, tile);
+    let p = model_of(line.far, tile, back);
+    if is_like(nest, lens, line, tile, p) {
+        copy_tile(nest, sizes, lens, tile, p);
         return;
     }
     count_tile(nest, sizes, lens, most, tile);
@@ -414,15 +291,19 @@ pub fn fill(nest: Nest, sizes: Sizes, lens: &mut [u16; 9217])
     fill_owners(nest, sizes, lens);
     let most = shaped::farthest(nest);
     let n = tiles_of(nest, lens);
+    let by = move_of(nest, sizes);
     let mut line = Line {
         from: 0,
         to: 0,
+        far: 0,
         end: 0,
     };
+    let mut back = 0;
     for tile in 0..n {
         let number = box_of(nest, lens, tile);
-        line = line_at(nest, sizes, most, line, number);
-        fill_tile(nest, sizes, lens, most, line, tile);
+        line = line_at(nest, sizes, most, by, line, number);
+        back = back_of(nest, lens, by.far, back, tile);
+        fill_tile(nest, sizes, lens, most, line, tile, back);
     }
 }
 

@@ -44,19 +44,19 @@ at-part l i n k h = getD-take n (drop i l) k 0 h ∙ getD-drop i l k 0
 
 -- ---- a sum closed
 
-pub mixing-end : (n : ℕ) (firsts ends backs weights : List ℕ) (boundary shift : ℕ) (source memory : List ℕ) (c a total k : ℕ)
-    → Mixing n weights (λ i. pick (between (getD firsts i 0) (getD ends i 0) a) (getD memory (c - getD backs i 0) 0) boundary) (getD source c 0) total k → n ≤ k
-    → (r : ℕ) → r ≡ total / 2 ^ shift % 4294967296 → r ≡ mixedWord n firsts ends backs weights boundary shift source a memory c
+pub mixing-end : (n : ℕ) (firsts ends backs weights : List ℕ) (boundary shift : ℕ) (source memory : List ℕ) (s c a total k : ℕ)
+    → Mixing n weights (λ i. pick (between (getD firsts i 0) (getD ends i 0) a) (getD memory (c - getD backs i 0) 0) boundary) (getD source s 0) total k → n ≤ k
+    → (r : ℕ) → r ≡ total / 2 ^ shift % 4294967296 → r ≡ mixedWord n firsts ends backs weights boundary shift source s a memory c
 unfolding mixedWord
-mixing-end n firsts ends backs weights boundary shift source memory c a total k s h r e =
-    let z : k ≡ n = omega (arith, s .low) in
-    e ∙ ap (λ (b : ℕ). b / 2 ^ shift % 4294967296) (rw z at (s .is))
+mixing-end n firsts ends backs weights boundary shift source memory s c a total k m h r e =
+    let z : k ≡ n = omega (arith, m .low) in
+    e ∙ ap (λ (b : ℕ). b / 2 ^ shift % 4294967296) (rw z at (m .is))
 
 -- one cell of those that can be made
-pub readable-at : {n : ℕ} {firsts ends backs weights : List ℕ} {boundary shift c a span sources words : ℕ} → Readable n firsts ends backs weights boundary
-    shift c a span sources words
-    → (y words′ : ℕ) → y < span → words′ ≡ words → Readable n firsts ends backs weights boundary shift (c + y) (a + y) 1 sources words′
-readable-at {n} {firsts} {ends} {backs} {weights} {boundary} {shift} {c} {a} p y words′ h e =
+pub readable-at : {n : ℕ} {firsts ends backs weights : List ℕ} {boundary shift s c a span sources words : ℕ} → Readable n firsts ends backs weights boundary
+    shift s c a span sources words
+    → (y words′ : ℕ) → y < span → words′ ≡ words → Readable n firsts ends backs weights boundary shift (s + y) (c + y) (a + y) 1 sources words′
+readable-at {n} {firsts} {ends} {backs} {weights} {boundary} {shift} {s} {c} {a} p y words′ h e =
     record {
       few = p .few;
       back = λ k z i j t. first k z i j t;
@@ -64,8 +64,9 @@ readable-at {n} {firsts} {ends} {backs} {weights} {boundary} {shift} {c} {a} p y
       beyond = p .beyond;
       divides = p .divides;
       inner = omega (arith, p .inner);
-      same = omega (arith, p .same);
+      given = omega (arith, p .given);
       small = omega (arith, p .small);
+      few-given = p .few-given;
       narrow = omega (arith, p .narrow);
     }
   where
@@ -74,17 +75,19 @@ readable-at {n} {firsts} {ends} {backs} {weights} {boundary} {shift} {c} {a} p y
         let o : a + y + z ≡ a + y = omega arith in
         omega (arith, p .back k y i h (rw o at t))
 
-pub first-back : {n : ℕ} {firsts ends backs weights : List ℕ} {boundary shift c a sources words : ℕ} → Readable n firsts ends backs weights boundary shift c
-    a 1 sources words
+pub first-back : {n : ℕ} {firsts ends backs weights : List ℕ} {boundary shift s c a sources words : ℕ} → Readable n firsts ends backs weights boundary shift
+    s c a 1 sources words
     → (k : ℕ) → k < n → between (getD firsts k 0) (getD ends k 0) a ≡ true → getD backs k 0 ≤ c
-first-back {n} {firsts} {ends} {backs} {weights} {boundary} {shift} {c} {a} p k h t =
+first-back {n} {firsts} {ends} {backs} {weights} {boundary} {shift} {s} {c} {a} p k h t =
     let z : a + 0 ≡ a = omega arith in
     omega (arith, p .back k 0 h (omega arith) (rw z t))
 
-pub along-at : (n : ℕ) (firsts ends backs weights : List ℕ) (boundary shift : ℕ) (source memory : List ℕ) (c a y v : ℕ)
-    → v ≡ mixedWord n firsts ends backs weights boundary shift source (a + y) memory (c + y)
-    → set memory (c + y) v ≡ set memory (c + y) (mixedAlong n firsts ends backs weights boundary shift source c a memory (c + y))
-along-at n firsts ends backs weights boundary shift source memory c a y v e = let z : a + (c + y - c) ≡ a + y = omega arith in rw z (ap (set memory (c + y)) e)
+pub along-at : (n : ℕ) (firsts ends backs weights : List ℕ) (boundary shift : ℕ) (source memory : List ℕ) (s c a y v : ℕ)
+    → v ≡ mixedWord n firsts ends backs weights boundary shift source (s + y) (a + y) memory (c + y)
+    → set memory (c + y) v ≡ set memory (c + y) (mixedAlong n firsts ends backs weights boundary shift source s c a memory (c + y))
+along-at n firsts ends backs weights boundary shift source memory s c a y v e =
+    let z : c + y - c ≡ y = omega arith in
+    rw z (ap (set memory (c + y)) e)
 
 module _ (x : Nest) (ok : Accepted x) where
   -- ---- the word of a cell
@@ -92,18 +95,18 @@ module _ (x : Nest) (ok : Accepted x) where
   module _ (at firsts ends back weights : List ℕ) (runs : ReadsRuns x at firsts ends) (backs : Backs x back) (is : weights ≡ x .weights) (c a : ℕ)
       (l : Along x at c)
       (k : a ≡ cellPlace x c (last x)) where
-    reads : (e : ℕ) → e < x .distances → between (getD firsts e 0) (getD ends e 0) a ≡ readsShape x c e
+    pub reads : (e : ℕ) → e < x .distances → between (getD firsts e 0) (getD ends e 0) a ≡ readsShape x c e
     reads e h = ap (between (getD firsts e 0) (getD ends e 0)) k ∙ runs .each e h .is c l
 
-    found : (e : ℕ) → e < x .distances → readsShape x c e ≡ true → getD back e 0 + readAt x c e ≡ c
+    pub found : (e : ℕ) → e < x .distances → readsShape x c e ≡ true → getD back e 0 + readAt x c e ≡ c
     unfolding readsShape
     found e h t = ap (λ (b : ℕ). b + readAt x c e) (backs .each e h) ∙ back-is x ok c e (l .low) h (both t .0)
 
     back-low : (e : ℕ) → e < x .distances → between (getD firsts e 0) (getD ends e 0) a ≡ true → getD back e 0 ≤ c
     back-low e h t = omega (arith, found e h (sym (reads e h) ∙ t))
 
-    mixed-is : (source memory : List ℕ) → mixedWord (x .distances) firsts ends back weights (x .boundary) (x .shift) source a memory c ≡ shapedValue x source
-        memory c
+    mixed-is : (source memory : List ℕ)
+        → mixedWord (x .distances) firsts ends back weights (x .boundary) (x .shift) source c a memory c ≡ shapedValue x source memory c
     unfolding mixedWord shapedValue
     mixed-is source memory =
         ap (λ (b : ℕ). (getD source c 0 + b) / 2 ^ x .shift % 4294967296)
@@ -184,14 +187,14 @@ module _ (x : Nest) (ok : Accepted x) where
       after : (y : ℕ) → skipped + kept ≤ y → y < w → inShape x (r .number + y) ≡ false
       after y h i = shape-at y i ∙ out-run (k .from) (k .to) (start + y) (inr (omega (arith, cut .least, cut .rises)))
 
-      inner : (y : ℕ) → y < kept → inShape x (r .number + skipped + y) ≡ true
+      pub inner : (y : ℕ) → y < kept → inShape x (r .number + skipped + y) ≡ true
       inner y h =
           let z : r .number + skipped + y ≡ r .number + (skipped + y) = omega arith in
           rw z (shape-at (skipped + y) (omega (arith, cut-fits)) ∙ in-run (k .from) (k .to) (start + (skipped + y)) (omega (arith, cut .least))
           (omega (arith, cut .least)))
 
       -- the m-th cell that is kept
-      along : (y : ℕ) → y < kept → Along x (r .place) (r .number + skipped + y) × (k .from + y ≡ cellPlace x (r .number + skipped + y) (last x))
+      pub along : (y : ℕ) → y < kept → Along x (r .place) (r .number + skipped + y) × (k .from + y ≡ cellPlace x (r .number + skipped + y) (last x))
       along y h =
           let z : r .number + skipped + y ≡ r .number + (skipped + y) = omega arith in
           let q : start + (skipped + y) < lengthOf x (last x) = omega (arith, cut-fits, fits) in
@@ -199,7 +202,7 @@ module _ (x : Nest) (ok : Accepted x) where
 
       module _ (firsts ends back weights : List ℕ) (runs : ReadsRuns x (r .place) firsts ends) (backs : Backs x back) (is : weights ≡ x .weights) where
         pub row-readable : (sources words : ℕ) → sources ≡ cells x → words ≡ cells x
-            → Readable (x .distances) firsts ends back weights (x .boundary) (x .shift) (r .number + skipped) (k .from) kept sources words
+            → Readable (x .distances) firsts ends back weights (x .boundary) (x .shift) (r .number + skipped) (r .number + skipped) (k .from) kept sources words
         row-readable sources words e g =
             record {
               few = ok .distances-most;
@@ -210,26 +213,28 @@ module _ (x : Nest) (ok : Accepted x) where
               beyond = ok .boundary-most;
               divides = omega (arith, ok .shift-most);
               inner = cut-low′ g;
-              same = e ∙ sym g;
+              given = cut-low′ e;
               small = omega (arith, ok .cells-most);
+              few-given = omega (arith, ok .cells-most);
               narrow = omega (arith, ok .length-most (last x), cut .least, cut .rises, cut .most, fits);
             }
           where
-            cut-low′ : words ≡ cells x → r .number + skipped + kept ≤ words
+            cut-low′ : {n : ℕ} → n ≡ cells x → r .number + skipped + kept ≤ n
             cut-low′ g = omega (arith, cut-low)
 
         pub row-values : (source memory memory′ : List ℕ)
-            → memory′ ≡ storeAll (mixedAlong (x .distances) firsts ends back weights (x .boundary) (x .shift) source (r .number + skipped) (k .from)) memory
-            (rowOf (r .number + skipped) kept)
+            → memory′ ≡ storeAll (mixedAlong (x .distances) firsts ends back weights (x .boundary) (x .shift) source (r .number + skipped) (r .number + skipped)
+            (k .from)) memory (rowOf (r .number + skipped) kept)
             → memory′ ≡ storeAll (insideOnly x (shapedValue x source)) memory (rowOf (r .number) w)
         row-values source memory memory′ e =
             row-cut x (shapedValue x source) _ memory memory′ (r .number) skipped kept w cut-fits before after (λ m y h. (inner y h, word m y h)) e
           where
             word : (m : List ℕ) (y : ℕ) → y < kept
-                → mixedAlong (x .distances) firsts ends back weights (x .boundary) (x .shift) source (r .number + skipped) (k .from) m (r .number + skipped + y)
+                → mixedAlong (x .distances) firsts ends back weights (x .boundary) (x .shift) source (r .number + skipped) (r .number + skipped) (k .from) m
+                (r .number + skipped + y)
                 ≡ shapedValue x source m (r .number + skipped + y)
             word m y h =
-                let z : k .from + (r .number + skipped + y - (r .number + skipped)) ≡ k .from + y = omega arith in
+                let z : r .number + skipped + y - (r .number + skipped) ≡ y = omega arith in
                 let a = along y h in
                 rw z (mixed-is (r .place) firsts ends back weights runs backs is (r .number + skipped + y) (k .from + y) (a .0) (a .1) source m)
 

@@ -48,25 +48,27 @@ pub record ReadsRun (x : Nest) (at : List ℕ) (e low high : ℕ) : Type 0 where
 pub record ReadsRuns (x : Nest) (at firsts ends : List ℕ) : Type 0 where
   pub each : (e : ℕ) → e < x .distances → ReadsRun x at e (getD firsts e 0) (getD ends e 0)
 
--- the word of cell c, whose last component is a: distance k gives the word so far back, or the boundary's where it reads none
-unfoldable pub mixedWord : ℕ → List ℕ → List ℕ → List ℕ → List ℕ → ℕ → ℕ → List ℕ → ℕ → List ℕ → ℕ → ℕ
-mixedWord n firsts ends backs weights boundary shift source a memory c =
-    (getD source c 0 + sum (λ k. getD weights k 0 * pick (between (getD firsts k 0) (getD ends k 0) a) (getD memory (c - getD backs k 0) 0) boundary) n)
+-- the word of cell c, whose source is at s and whose last component is a: distance k gives the word so far back, or the boundary's where it reads none
+unfoldable pub mixedWord : ℕ → List ℕ → List ℕ → List ℕ → List ℕ → ℕ → ℕ → List ℕ → ℕ → ℕ → List ℕ → ℕ → ℕ
+mixedWord n firsts ends backs weights boundary shift source s a memory c =
+    (getD source s 0 + sum (λ k. getD weights k 0 * pick (between (getD firsts k 0) (getD ends k 0) a) (getD memory (c - getD backs k 0) 0) boundary) n)
     / 2 ^ shift % 4294967296
 
--- the same along a row, whose cell c₀ has component a
-abbrev pub mixedAlong : ℕ → List ℕ → List ℕ → List ℕ → List ℕ → ℕ → ℕ → List ℕ → ℕ → ℕ → List ℕ → ℕ → ℕ
-mixedAlong n firsts ends backs weights boundary shift source c₀ a memory c =
-    mixedWord n firsts ends backs weights boundary shift source (a + (c - c₀)) memory c
+-- the same along a row, whose cell c₀ has its source at s and component a
+abbrev pub mixedAlong : ℕ → List ℕ → List ℕ → List ℕ → List ℕ → ℕ → ℕ → List ℕ → ℕ → ℕ → ℕ → List ℕ → ℕ → ℕ
+mixedAlong n firsts ends backs weights boundary shift source s c₀ a memory c =
+    mixedWord n firsts ends backs weights boundary shift source (s + (c - c₀)) (a + (c - c₀)) memory c
 
--- the words of the cells from c on, whose component is a, `span` of them, can be made: each distance that reads a cell finds it, no sum is too large
-pub record Readable (n : ℕ) (firsts ends backs weights : List ℕ) (boundary shift c a span sources words : ℕ) : Type 0 where
+-- the words of the cells from c on, whose source is from s on and whose component is a, `span` of them, can be made: each distance that reads a cell
+-- finds it, no sum is too large
+pub record Readable (n : ℕ) (firsts ends backs weights : List ℕ) (boundary shift s c a span sources words : ℕ) : Type 0 where
   pub few : n ≤ 8
   pub back : (k y : ℕ) → k < n → y < span → between (getD firsts k 0) (getD ends k 0) (a + y) ≡ true → getD backs k 0 ≤ c + y
   pub light : (k : ℕ) → k < n → getD weights k 0 < 65536
   pub beyond : boundary < 4294967296
   pub divides : shift < 64
   pub inner : c + span ≤ words
-  pub same : sources ≡ words
+  pub given : s + span ≤ sources
   pub small : words ≤ 16384
+  pub few-given : sources ≤ 16384
   pub narrow : a + span ≤ 1024

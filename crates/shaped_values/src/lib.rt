@@ -27,9 +27,9 @@ use nest::Nest;
 use values::Body;
 
 // Where each distance reads in a row: last components from one number on, below another.
-struct Reads {
-    firsts: [usize; 8],
-    ends: [usize; 8],
+pub struct Reads {
+    pub firsts: [usize; 8],
+    pub ends: [usize; 8],
 }
 
 // ---- words
@@ -73,7 +73,7 @@ fn closed(total: u64, shift: u64) -> u32
     ((total >> shift) % 4294967296) as u32
 }
 
-// The word of a cell.
+// The word of a cell, whose source is at `from`.
 fn value_at(
     source: &[u32],
     memory: &[u32],
@@ -84,15 +84,16 @@ fn value_at(
     ends: &[usize; 8],
     backs: &[usize; 8],
     weights: &[u64; 8],
+    from: usize,
     cell: usize,
     component: usize,
 ) -> u32
-    requires { ⌜ Readable n (now firsts) (now ends) (now backs) (now weights) boundary shift cell component 1 (length (now source))
+    requires { ⌜ Readable n (now firsts) (now ends) (now backs) (now weights) boundary shift from cell component 1 (length (now source))
         (length (now memory)) ⌝ }
     ensures { λ r. ⌜ r ≡ mixedWord n (now (firsts .entry)) (now (ends .entry)) (now (backs .entry)) (now (weights .entry)) boundary shift
-        (now (source .entry)) component (now (memory .entry)) cell ⌝ }
+        (now (source .entry)) from component (now (memory .entry)) cell ⌝ }
 {
-    let mut total = word_of(source, cell);
+    let mut total = word_of(source, from);
     for k in 0..n {
         let w = word_at(
             memory,
@@ -108,8 +109,8 @@ fn value_at(
     closed(total, shift)
 }
 
-// The words of `width` cells of a row.
-fn store_row(
+// The words of `width` cells of a row, whose source is from `from` on.
+pub fn store_row(
     source: &[u32],
     memory: &mut [u32],
     shift: u64,
@@ -119,14 +120,15 @@ fn store_row(
     ends: &[usize; 8],
     backs: &[usize; 8],
     weights: &[u64; 8],
+    from: usize,
     cell: usize,
     component: usize,
     width: usize,
 )
-    requires { ⌜ Readable n (now firsts) (now ends) (now backs) (now weights) boundary shift cell component width (length (now source))
+    requires { ⌜ Readable n (now firsts) (now ends) (now backs) (now weights) boundary shift from cell component width (length (now source))
         (length (now memory)) ⌝ }
     ensures { λ _. ⌜ now (memory .exit) ≡ storeAll (mixedAlong n (now (firsts .entry)) (now (ends .entry)) (now (backs .entry))
-        (now (weights .entry)) boundary shift (now (source .entry)) cell component) (now (memory .entry)) (rowOf cell width) ⌝ }
+        (now (weights .entry)) boundary shift (now (source .entry)) from cell component) (now (memory .entry)) (rowOf cell width) ⌝ }
 {
     for y in 0..width {
         let v = value_at(
@@ -139,6 +141,7 @@ fn store_row(
             ends,
             backs,
             weights,
+            from + y,
             cell + y,
             component + y,
         );
@@ -189,7 +192,7 @@ fn read_of(nest: Nest, components: &[usize; 32], at: [usize; 4], e: usize) -> In
 }
 
 // The same of each distance.
-fn reads_of(nest: Nest, components: &[usize; 32], at: [usize; 4]) -> Reads
+pub fn reads_of(nest: Nest, components: &[usize; 32], at: [usize; 4]) -> Reads
     requires { ⌜ Accepted nest × (Given nest (now components) × Narrow nest at) ⌝ }
     ensures { λ r. ⌜ ReadsRuns nest at (r .firsts) (r .ends) ⌝ }
 {
@@ -208,7 +211,7 @@ fn reads_of(nest: Nest, components: &[usize; 32], at: [usize; 4]) -> Reads
 }
 
 // What an interval has of `width` components from `first` on.
-fn overlap(s: Interval, first: usize, width: usize) -> Interval
+pub fn overlap(s: Interval, first: usize, width: usize) -> Interval
     requires { ⌜ first + width ≤ 1024 ⌝ }
     ensures { λ r. ⌜ Overlaps s first width r ⌝ }
 {
@@ -277,6 +280,7 @@ fn row(
         &ends,
         back,
         weights,
+        first,
         first,
         from,
         few,

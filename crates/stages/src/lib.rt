@@ -135,7 +135,7 @@ pub fn gather_stage(
 }
 
 // The record once `sent` of the tile's n messages are sent.
-fn next_record(finished: u32, sent: usize, n: usize) -> Progress
+pub fn next_record(finished: u32, sent: usize, n: usize) -> Progress
     requires { ⌜ (finished < 16384) × (n ≤ 7168) ⌝ }
     ensures { λ r. ⌜ ((l : List ℕ) (b : ℕ) → setRecord l b r ≡ pick (ltb sent n) (setProgress l b finished 2 sent) (setProgress l b (finished + 1) 0 0)) ⌝ }
 {

@@ -13,7 +13,7 @@ use Rattle.base.specs.Numbers.{Line, line, firstOf}
 use Rattle.base.proofs.Tests.{both, and-no, or-left, or-right, or-false, neither, none-some, not-true, not-false, true-not}
 use Rattle.base.proofs.Numbers.{Numbered, first-nil, first-true, first-false, first-cons, none-first, first-some, first-behind, none-behind}
 use Rattle.machine.specs.Plan.{Plan}
-use Rattle.machine.specs.Machine.{State, fit, tilesLeft, waiting, carryOut, nextAction, Answered, answered}
+use Rattle.machine.specs.Machine.{State, stateOf, fit, tilesLeft, waiting, carryOut, nextAction, Answered, answered}
 use Rattle.machine.proofs.RunLaws.{number-of}
 use Rattle.offices.specs.Offices.{Lent, fitFor, heldByOther, carryOutFor}
 use Rattle.hours.specs.declared.Opening.{Opening}
@@ -27,14 +27,16 @@ use Rattle.layout.specs.Sizes.{routeOf}
 use Rattle.routes.specs.Routes.{linesFor}
 use Rattle.routes.proofs.Laws.{numbered-for, reads-for}
 use Rattle.engine.specs.Calls.{answer, recipe, areas, turnCall}
-use Rattle.engine.specs.Given.{unfitLines}
+use Rattle.engine.specs.Given.{unfitLines, recordsAfter}
+use Rattle.engine.specs.declared.core.Turned.{Turned}
 use Rattle.engine.proofs.Lines.{Opened, and-right, call-read, call-later, call-done}
 use Rattle.engine.proofs.Reading as reading
 use Rattle.rig.specs.Calls.{areasFor, turnCallFor}
 use Rattle.rig.specs.Given.{unfitLinesFor}
+use Rattle.rig.proofs.Lines.{Free, unfit-0, lengths-are}
 use Rattle.rig.proofs.Starts as starts
 use Rattle.timed.specs.Calls.{tableLong, turnCallAt, turnCallAtFor, opensCall}
-use Rattle.timed.specs.Given.{hourLines}
+use Rattle.timed.specs.Given.{hourLines, awayLines, awayLinesFor}
 
 -- ---- lines 25, 11 and 24
 
@@ -90,29 +92,6 @@ module _ (n : ℕ) (h : Hours) (b : ℕ) where
       let w = none-first 24 _ _ (λ q. omega arith) (y .1) in
       record { fair = x .0; low = ltb-true b n (true-not (y .0)); open-then = w .0 }
 
--- ---- line 9 for the areas (a) and the table (t), lines in between, those of the hours, the rest
-module _ {A : Type 0} (first : List Line) (named : Numbered first) (a t : Bool) (mid hours rest : List Line) (new old : A)
-    (none : firstOf first ≡ 0) where
-  abbrev all : List Line
-  all = line 9 (not (a and t)) ∷ (mid ++ (hours ++ rest))
-
-  gate-long : t ≡ false → answer 9 old ≡ answered (firstOf (first ++ all)) new old
-  gate-long e = call-later first named all 9 new old none (sym (first-true 9 _ _ (not-false (and-no a t e)))) (λ q. omega arith)
-
-  module _ (long : t ≡ true) (n : ℕ) (e : n ≡ firstOf (line 9 (not a) ∷ mid)) where
-    gate-unfit : n ≢ 0 → answer n old ≡ answered (firstOf (first ++ all)) new old
-    gate-unfit h =
-        call-later first named all n new old none
-        (e ∙ sym (first-some (line 9 (not a) ∷ mid) (hours ++ rest) (λ q. h (e ∙ q)))
-        ∙ ap (λ (k : Bool). firstOf (line 9 (not k) ∷ (mid ++ (hours ++ rest)))) (sym (and-right a t long))) h
-
-    gate-shut : Numbered mid → n ≡ 0 → (m : ℕ) → m ≡ firstOf hours → m ≢ 0 → answer m old ≡ answered (firstOf (first ++ all)) new old
-    gate-shut nm z m q h =
-        let x = none-first 9 (not a) mid (λ k. omega arith) (sym e ∙ z) in
-        call-later first named all m new old none
-        (q ∙ sym (first-some hours rest (λ k. h (q ∙ k))) ∙ sym (first-behind mid (hours ++ rest) nm (x .1))
-        ∙ sym (first-false 9 (not (a and t)) (mid ++ (hours ++ rest)) (ap not (and-right a t long) ∙ x .0))) h
-
 -- one list of lines behind the same others
 pub first-front : (a xs ys : List Line) → firstOf xs ≡ firstOf ys → firstOf (a ++ xs) ≡ firstOf (a ++ ys)
 unfolding firstOf
@@ -122,6 +101,129 @@ first-front (l ∷ a) xs ys e = ap (λ (n : ℕ). pick (l .holds) (l .number) n)
 -- line 9 where the table is long
 pub nine : (a t : Bool) (ls : List Line) → t ≡ true → firstOf (line 9 (not (a and t)) ∷ ls) ≡ firstOf (line 9 (not a) ∷ ls)
 nine a t ls e = ap (λ (k : Bool). firstOf (line 9 (not k) ∷ ls)) (and-right a t e)
+
+-- ---- line 9 for the areas (a) and the table (t), lines in between, those of the hours, the rest
+module _ (a t : Bool) (mid hours rest : List Line) where
+  abbrev all : List Line
+  all = line 9 (not (a and t)) ∷ (mid ++ (hours ++ rest))
+
+  gate-long : t ≡ false → 9 ≡ firstOf all
+  gate-long e = sym (first-true 9 (not (a and t)) (mid ++ (hours ++ rest)) (not-false (and-no a t e)))
+
+  module _ (long : t ≡ true) (n : ℕ) (e : n ≡ firstOf (line 9 (not a) ∷ mid)) where
+    gate-unfit : n ≢ 0 → n ≡ firstOf all
+    gate-unfit h =
+        e ∙ sym (first-some (line 9 (not a) ∷ mid) (hours ++ rest) (λ q. h (e ∙ q))) ∙ sym (nine a t (mid ++ (hours ++ rest)) long)
+
+    gate-past : Numbered mid → n ≡ 0 → firstOf all ≡ firstOf (hours ++ rest)
+    gate-past named z =
+        let x = none-first 9 (not a) mid (λ k. omega arith) (sym e ∙ z) in
+        first-false 9 (not (a and t)) (mid ++ (hours ++ rest)) (ap not (and-right a t long) ∙ x .0)
+        ∙ first-behind mid (hours ++ rest) named (x .1)
+
+-- ---- the lines of one office's turn up to the machine's
+
+-- none of them holds
+pub record Open (p : Plan) (source : List ℕ) (h : Hours) (s : State) (b : ℕ) : Type 0 where
+  pub long : length (h .table) ≡ tableWords p
+  pub unfit : 0 ≡ firstOf (unfitLines p source s)
+  pub hours : OpenHours (p .processors) h b
+
+module _ (p : Plan) (source : List ℕ) (h : Hours) (s : State) (b : ℕ) where
+  pub away-none : (r : ℕ) → r ≡ firstOf (awayLines p source h s b) → r ≡ 0 → Open p source h s b
+  away-none r e z =
+      let x = none-first 9 _ _ (λ q. omega arith) (sym e ∙ z) in
+      let y = none-first 10 _ _ (λ q. omega arith) (x .1) in
+      let both-long = both (true-not (x .0)) in
+      record {
+        long = eqb-true (length (h .table)) (tableWords p) (both-long .1);
+        unfit = sym
+            (first-false 9 (not (areas p source s)) (line 10 (not (fit p s)) ∷ []) (not-true (both-long .0)) ∙ first-false 10 (not (fit p s)) [] (y .0)
+            ∙ first-nil);
+        hours = hours-none (p .processors) h b 0 (sym (y .1)) refl;
+      }
+
+  pub away-nine : length (h .table) ≢ tableWords p → 9 ≡ firstOf (awayLines p source h s b)
+  away-nine n =
+      gate-long (areas p source s) (tableLong p h) (line 10 (not (fit p s)) ∷ []) (hourLines (p .processors) h b) [] (ne-eqb _ _ n)
+
+  module _ (long : length (h .table) ≡ tableWords p) (r : ℕ) (e : r ≡ firstOf (unfitLines p source s)) where
+    pub away-unfit : r ≢ 0 → r ≡ firstOf (awayLines p source h s b)
+    away-unfit k =
+        gate-unfit (areas p source s) (tableLong p h) (line 10 (not (fit p s)) ∷ []) (hourLines (p .processors) h b) [] (eq-eqb _ _ long) r e k
+
+    pub away-shut : r ≡ 0 → (m : ℕ) → m ≡ firstOf (hourLines (p .processors) h b) → m ≡ firstOf (awayLines p source h s b)
+    away-shut z m q =
+        q ∙ sym
+        (gate-past (areas p source s) (tableLong p h) (line 10 (not (fit p s)) ∷ []) (hourLines (p .processors) h b) [] (eq-eqb _ _ long) r e
+        ((λ i. omega arith), tt) z)
+
+-- ---- and those of the turn of one of two offices
+
+pub record OpenFor (p : Plan) (source : List ℕ) (o : ℕ) (h : Hours) (l : Lent) (theirs : List ℕ) (b : ℕ) : Type 0 where
+  pub long : length (h .table) ≡ tableWords p
+  pub free : Free p source o l theirs b
+  pub hours : OpenHours (p .processors) h b
+
+module _ (p : Plan) (source : List ℕ) (o : ℕ) (h : Hours) (l : Lent) (theirs : List ℕ) (b : ℕ) where
+  abbrev held : List Line
+  held = line 19 (heldByOther p o l b) ∷ []
+
+  abbrev middle : List Line
+  middle = line 11 (not (leb o 1)) ∷ line 10 (not (fitFor p o l theirs)) ∷ []
+
+  pub away-none-for : (r : ℕ) → r ≡ firstOf (awayLinesFor p source o h l theirs b) → r ≡ 0 → OpenFor p source o h l theirs b
+  away-none-for r e z =
+      let x = none-first 9 _ _ (λ q. omega arith) (sym e ∙ z) in
+      let y = none-first 11 _ _ (λ q. omega arith) (x .1) in
+      let w = none-first 10 _ _ (λ q. omega arith) (y .1) in
+      let fair = none-first 25 _ _ (λ q. omega arith) (w .1) in
+      let low = none-first 11 _ _ (λ q. omega arith) (fair .1) in
+      let shut = none-first 24 _ _ (λ q. omega arith) (low .1) in
+      let free = none-first 19 _ _ (λ q. omega arith) (shut .1) in
+      let both-long = both (true-not (x .0)) in
+      record {
+        long = eqb-true (length (h .table)) (tableWords p) (both-long .1);
+        free = record {
+          unfit = unfit-0 p source o l theirs (both-long .0) (true-not (y .0)) (true-not (w .0));
+          lengths = lengths-are p source l theirs (both-long .0);
+          fits = true-not (w .0);
+          low = ltb-true b (p .processors) (true-not (low .0));
+          free = free .0;
+        };
+        hours = record {
+          fair = fair .0;
+          low = ltb-true b (p .processors) (true-not (low .0));
+          open-then = shut .0;
+        };
+      }
+
+  pub away-nine-for : length (h .table) ≢ tableWords p → 9 ≡ firstOf (awayLinesFor p source o h l theirs b)
+  away-nine-for n = gate-long (areasFor p source l theirs) (tableLong p h) middle (hourLines (p .processors) h b) held (ne-eqb _ _ n)
+
+  module _ (long : length (h .table) ≡ tableWords p) (r : ℕ) (e : r ≡ firstOf (unfitLinesFor p source o l theirs)) where
+    pub away-unfit-for : r ≢ 0 → r ≡ firstOf (awayLinesFor p source o h l theirs b)
+    away-unfit-for k = gate-unfit (areasFor p source l theirs) (tableLong p h) middle (hourLines (p .processors) h b) held (eq-eqb _ _ long) r e k
+
+    module _ (z : r ≡ 0) (m : ℕ) (q : m ≡ firstOf (hourLines (p .processors) h b)) where
+      past-unfit : firstOf (awayLinesFor p source o h l theirs b) ≡ firstOf (hourLines (p .processors) h b ++ held)
+      past-unfit =
+          gate-past (areasFor p source l theirs) (tableLong p h) middle (hourLines (p .processors) h b) held (eq-eqb _ _ long) r e
+          ((λ i. omega arith), ((λ i. omega arith), tt)) z
+
+      pub away-shut-for : m ≢ 0 → m ≡ firstOf (awayLinesFor p source o h l theirs b)
+      away-shut-for k = q ∙ sym (first-some (hourLines (p .processors) h b) held (λ i. k (q ∙ i))) ∙ sym past-unfit
+
+      past-shut : m ≡ 0 → firstOf (awayLinesFor p source o h l theirs b) ≡ firstOf held
+      past-shut k =
+          past-unfit
+          ∙ first-behind (hourLines (p .processors) h b) held ((λ i. omega arith), ((λ i. omega arith), ((λ i. omega arith), tt))) (sym q ∙ k)
+
+      pub away-held : m ≡ 0 → heldByOther p o l b ≡ true → 19 ≡ firstOf (awayLinesFor p source o h l theirs b)
+      away-held k i = sym (past-shut k ∙ first-true 19 (heldByOther p o l b) [] i)
+
+      pub away-0 : m ≡ 0 → heldByOther p o l b ≡ false → 0 ≡ firstOf (awayLinesFor p source o h l theirs b)
+      away-0 k i = sym (past-shut k ∙ first-false 19 (heldByOther p o l b) [] i ∙ first-nil)
 
 -- ---- one office's turn
 module _ (bytes : List ℕ) (route : ℕ) (source : List ℕ) (h : Hours) (s : State) (b : ℕ) where
@@ -173,27 +275,11 @@ module _ (bytes : List ℕ) (route : ℕ) (source : List ℕ) (h : Hours) (s : S
     abbrev later : List Line
     later = line 12 (waiting p s b) ∷ line 13 (not (tilesLeft p s b)) ∷ []
 
-    pub turn-nine : length (h .table) ≢ tableWords p → answer 9 s ≡ turnCallAt bytes route source h s b
-    turn-nine n =
-        gate-long (linesFor (routeOf route) bytes) (numbered-for (routeOf route) bytes) (areas p source s) (tableLong p h) (line 10 (not (fit p s)) ∷ [])
-        (hourLines (p .processors) h b) later
-        (carryOut p source s b (nextAction p s b)) s (op .none) (ne-eqb _ _ n)
+    pub turn-away : (r : ℕ) → r ≡ firstOf (awayLines p source h s b) → r ≢ 0 → answer r s ≡ turnCallAt bytes route source h s b
+    turn-away r e k =
+        call-later (linesFor (routeOf route) bytes) (numbered-for (routeOf route) bytes) _ r _ s (op .none)
+        (e ∙ sym (first-some (awayLines p source h s b) later (λ q. k (e ∙ q)))) k
         ∙ turn-at
-
-    module _ (long : length (h .table) ≡ tableWords p) (r : ℕ) (e : r ≡ firstOf (unfitLines p source s)) where
-      pub turn-unfit : r ≢ 0 → answer r s ≡ turnCallAt bytes route source h s b
-      turn-unfit k =
-          gate-unfit (linesFor (routeOf route) bytes) (numbered-for (routeOf route) bytes) (areas p source s) (tableLong p h) (line 10 (not (fit p s)) ∷ [])
-          (hourLines (p .processors) h b) later
-          (carryOut p source s b (nextAction p s b)) s (op .none) (eq-eqb _ _ long) r e k
-          ∙ turn-at
-
-      pub turn-shut : r ≡ 0 → (m : ℕ) → m ≡ firstOf (hourLines (p .processors) h b) → m ≢ 0 → answer m s ≡ turnCallAt bytes route source h s b
-      turn-shut z m q k =
-          gate-shut (linesFor (routeOf route) bytes) (numbered-for (routeOf route) bytes) (areas p source s) (tableLong p h) (line 10 (not (fit p s)) ∷ [])
-          (hourLines (p .processors) h b) later
-          (carryOut p source s b (nextAction p s b)) s (op .none) (eq-eqb _ _ long) r e ((λ i. omega arith), tt) z m q k
-          ∙ turn-at
 
     -- where the hours allow it, it is the turn without
     pub plainly : length (h .table) ≡ tableWords p → Allowed p (turnAt h b) → turnCall bytes route source s b ≡ turnCallAt bytes route source h s b
@@ -249,38 +335,24 @@ module _ (bytes : List ℕ) (route : ℕ) (source : List ℕ) (o : ℕ) (h : Hou
         (carryOutFor q source o l b (nextAction q (l .own) b)) l)
         (op .is)
 
-    abbrev middle : List Line
-    middle = line 11 (not (leb o 1)) ∷ line 10 (not (fitFor p o l theirs)) ∷ []
-
     abbrev behind : List Line
-    behind = line 19 (heldByOther p o l b) ∷ line 12 (waiting p (l .own) b) ∷ line 13 (not (tilesLeft p (l .own) b)) ∷ []
+    behind = line 12 (waiting p (l .own) b) ∷ line 13 (not (tilesLeft p (l .own) b)) ∷ []
 
-    pub turn-nine-for : length (h .table) ≢ tableWords p → answer 9 l ≡ turnCallAtFor bytes route source o h l theirs b
-    turn-nine-for n =
-        gate-long (linesFor (routeOf route) bytes) (numbered-for (routeOf route) bytes) (areasFor p source l theirs) (tableLong p h) middle
-        (hourLines (p .processors) h b) behind
-        (carryOutFor p source o l b (nextAction p (l .own) b)) l (op .none) (ne-eqb _ _ n)
+    pub turn-away-for : (r : ℕ) → r ≡ firstOf (awayLinesFor p source o h l theirs b) → r ≢ 0
+        → answer r l ≡ turnCallAtFor bytes route source o h l theirs b
+    turn-away-for r e k =
+        call-later (linesFor (routeOf route) bytes) (numbered-for (routeOf route) bytes) _ r _ l (op .none)
+        (e ∙ sym (first-some (awayLinesFor p source o h l theirs b) behind (λ q. k (e ∙ q)))) k
         ∙ turn-at-for
-
-    module _ (long : length (h .table) ≡ tableWords p) (r : ℕ) (e : r ≡ firstOf (unfitLinesFor p source o l theirs)) where
-      pub turn-unfit-for : r ≢ 0 → answer r l ≡ turnCallAtFor bytes route source o h l theirs b
-      turn-unfit-for k =
-          gate-unfit (linesFor (routeOf route) bytes) (numbered-for (routeOf route) bytes) (areasFor p source l theirs) (tableLong p h) middle
-          (hourLines (p .processors) h b) behind
-          (carryOutFor p source o l b (nextAction p (l .own) b)) l (op .none) (eq-eqb _ _ long) r e k
-          ∙ turn-at-for
-
-      pub turn-shut-for : r ≡ 0 → (m : ℕ) → m ≡ firstOf (hourLines (p .processors) h b) → m ≢ 0
-          → answer m l ≡ turnCallAtFor bytes route source o h l theirs b
-      turn-shut-for z m q k =
-          gate-shut (linesFor (routeOf route) bytes) (numbered-for (routeOf route) bytes) (areasFor p source l theirs) (tableLong p h) middle
-          (hourLines (p .processors) h b) behind
-          (carryOutFor p source o l b (nextAction p (l .own) b)) l (op .none) (eq-eqb _ _ long) r e ((λ i. omega arith), ((λ i. omega arith), tt)) z m q k
-          ∙ turn-at-for
 
     pub plainly-for : length (h .table) ≡ tableWords p → Allowed p (turnAt h b)
         → turnCallFor bytes route source o l theirs b ≡ turnCallAtFor bytes route source o h l theirs b
     plainly-for e a = sym (as-plain-for (rw (op .is) at e) (rw (op .is) at a))
+
+-- a turn's answer over the records stored
+pub turn-stored : (r : Turned) (m u l t : List ℕ) (b : ℕ) (x : Answered State) → answer (r .number) (stateOf m u (recordsAfter l b r) t) ≡ x
+    → (k : List ℕ) → k ≡ recordsAfter l b r → answer (r .number) (stateOf m u k t) ≡ x
+turn-stored r m u l t b x q k w = ap (λ (i : List ℕ). answer (r .number) (stateOf m u i t)) w ∙ q
 
 -- ---- the question when a processor opens
 

@@ -6,23 +6,29 @@ ghost use Prim.Native.Nat.{ℕ, _*_, _≤_};
 ghost use lib.ListN.{length};
 ghost use Rattle.base.specs.Numbers.{firstOf};
 ghost use Rattle.machine.specs.Machine.{stateOf};
+ghost use Rattle.plan.specs.Shaped.{planOf};
+ghost use Rattle.nest.specs.Nest.{processors};
+ghost use Rattle.layout.specs.Sizes.{Sized};
+ghost use Rattle.tables.specs.Tables.{Tabled};
 ghost use Rattle.records.specs.Records.{Carries};
 ghost use Rattle.engine.specs.Calls.{answer};
 ghost use Rattle.engine.specs.Given.{recordsAfter};
 ghost use Rattle.offices.specs.Offices.{lentOf};
 ghost use Rattle.hours.specs.Hours.{hoursOf, faultyFor};
 ghost use Rattle.timed.specs.Calls.{turnCallAt, turnCallAtFor};
-ghost use Rattle.timed.specs.Given.{hourLines};
+ghost use Rattle.timed.specs.Given.{hourLines, awayLines, awayLinesFor};
 use engine::core::Turned;
 use engine::core::refused;
 use engine::core::step;
 use engine::core::unfit;
 use hours::faulty_table;
 use hours::open_at;
+use layout::Sizes;
+use nest::Nest;
 use records::Flat;
-use rig::core::engage;
 use rig::core::held;
 use rig::core::open_recipe;
+use rig::core::step_for;
 
 // Line 25: a faulty window of any of n processors, or a faulty minute.
 pub fn faulty(table: &[u32], n: usize, minute: u32) -> bool
@@ -52,6 +58,47 @@ fn shut(table: &[u32], n: usize, minute: u32, b: usize) -> u32
     0
 }
 
+// Line 9 with the table of hours, then 10, 25, 11 and 24.
+fn away(
+    nest: Nest,
+    sizes: Sizes,
+    lens: &[u16; 9217],
+    source: &[u32],
+    memories: &[u32],
+    buffer: &[u32],
+    progress: Flat,
+    status: &[u8],
+    hours: &[u32],
+    minute: u32,
+    b: usize,
+) -> u32
+    requires { ⌜ Sized nest sizes × Tabled nest sizes (now lens) ⌝ }
+    requires { ⌜ length (progress .words) ≡ 192 ⌝ }
+    ensures { λ r. ⌜ ((records : List ℕ) → Carries progress records
+        → r ≡ firstOf (awayLines (planOf (sizes .route) nest) (now (source .entry)) (hoursOf (now (hours .entry)) minute)
+        (stateOf (now (memories .entry)) (now (buffer .entry)) records (now (status .entry))) b))
+        × (r ≡ 0 → progress .count ≡ 3 * processors nest) ⌝ }
+{
+    let n = sizes.processors;
+    if hours.len() != 28 * n {
+        return 9;
+    }
+    let bad = unfit(
+        nest,
+        sizes,
+        lens,
+        source,
+        memories,
+        buffer,
+        progress,
+        status,
+    );
+    if bad != 0 {
+        return bad;
+    }
+    shut(hours, n, minute, b)
+}
+
 // One turn of a processor at a minute of the week.
 pub fn turn(
     encoded: &[u8],
@@ -79,12 +126,8 @@ pub fn turn(
     }
     let nest = recipe.nest;
     let sizes = recipe.sizes;
-    let n = sizes.processors;
     let b = processor as usize;
-    if hours.len() != 28 * n {
-        return refused(9);
-    }
-    let bad = unfit(
+    let n = away(
         nest,
         sizes,
         &lens,
@@ -93,13 +136,12 @@ pub fn turn(
         buffer,
         progress,
         status,
+        hours,
+        minute,
+        b,
     );
-    if bad != 0 {
-        return refused(bad);
-    }
-    let away = shut(hours, n, minute, b);
-    if away != 0 {
-        return refused(away);
+    if n != 0 {
+        return refused(n);
     }
     let words = progress.words;
     let count = progress.count;
@@ -114,6 +156,62 @@ pub fn turn(
         status,
         b,
     )
+}
+
+// Line 9 with the table of hours, then 11 for the office, 10, 25, 11, 24 and 19.
+fn away_for(
+    nest: Nest,
+    sizes: Sizes,
+    lens: &[u16; 9217],
+    source: &[u32],
+    memories: &[u32],
+    buffer: &[u32],
+    progress: Flat,
+    status: &[u8],
+    engaged: &[u32],
+    theirs: Flat,
+    hours: &[u32],
+    minute: u32,
+    office: u32,
+    b: usize,
+) -> u32
+    requires { ⌜ Sized nest sizes × Tabled nest sizes (now lens) ⌝ }
+    requires { ⌜ (length (progress .words) ≡ 192) × (length (theirs .words) ≡ 192) ⌝ }
+    ensures { λ r. ⌜ ((records others : List ℕ) → Carries progress records → Carries theirs others
+        → r ≡ firstOf (awayLinesFor (planOf (sizes .route) nest) (now (source .entry)) office (hoursOf (now (hours .entry)) minute)
+        (lentOf (stateOf (now (memories .entry)) (now (buffer .entry)) records (now (status .entry))) (now (engaged .entry))) others b))
+        × (r ≡ 0 → (progress .count ≡ 3 * processors nest) × (theirs .count ≡ 3 * processors nest)) ⌝ }
+{
+    let n = sizes.processors;
+    if hours.len() != 28 * n {
+        return 9;
+    }
+    let bad = rig::core::unfit(
+        nest,
+        sizes,
+        lens,
+        source,
+        memories,
+        buffer,
+        progress,
+        status,
+        engaged,
+        theirs,
+        office,
+    );
+    if bad != 0 {
+        return bad;
+    }
+    let closed = shut(hours, n, minute, b);
+    if closed != 0 {
+        return closed;
+    }
+    let words = progress.words;
+    let count = progress.count;
+    if held(nest, sizes, lens, &words[0..count], engaged, office, b) {
+        return 19;
+    }
+    0
 }
 
 // One turn of a processor for an office at a minute of the week.
@@ -149,12 +247,8 @@ pub fn turn_for(
     }
     let nest = recipe.nest;
     let sizes = recipe.sizes;
-    let n = sizes.processors;
     let b = processor as usize;
-    if hours.len() != 28 * n {
-        return refused(9);
-    }
-    let bad = rig::core::unfit(
+    let n = away_for(
         nest,
         sizes,
         &lens,
@@ -165,21 +259,17 @@ pub fn turn_for(
         status,
         engaged,
         theirs,
+        hours,
+        minute,
         office,
+        b,
     );
-    if bad != 0 {
-        return refused(bad);
-    }
-    let away = shut(hours, n, minute, b);
-    if away != 0 {
-        return refused(away);
+    if n != 0 {
+        return refused(n);
     }
     let words = progress.words;
     let count = progress.count;
-    if held(nest, sizes, &lens, &words[0..count], engaged, office, b) {
-        return refused(19);
-    }
-    let after = step(
+    step_for(
         nest,
         sizes,
         &lens,
@@ -188,8 +278,8 @@ pub fn turn_for(
         buffer,
         &words[0..count],
         status,
+        engaged,
+        office,
         b,
-    );
-    engage(engaged, office, b, after);
-    after
+    )
 }

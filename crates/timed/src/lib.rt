@@ -10,13 +10,13 @@ ghost use Rattle.timed.specs.Calls.{turnCallAt, turnCallAtFor, opensCall
 
 pub mod core; // core.rt: the calls without the stores into the records
 
-use engine::store_record;
 use hours::Opening;
 use hours::minutes;
 use layout::sizes_of;
 use nest::read;
 use plan::Route;
 use records::flat_of;
+use rig::core::store_after;
 
 // One turn of a processor.
 pub fn turn(
@@ -47,13 +47,8 @@ pub fn turn(
         minute,
         processor,
     );
-    let number = after.number;
-    if number != 0 {
-        return number;
-    }
-    let p = after.progress;
-    store_record(progress, processor as usize, p);
-    0
+    store_after(progress, processor, after);
+    after.number
 }
 
 // One turn of a processor for an office; `theirs` are the other office's records.
@@ -93,13 +88,8 @@ pub fn turn_for(
         office,
         processor,
     );
-    let number = after.number;
-    if number != 0 {
-        return number;
-    }
-    let p = after.progress;
-    store_record(progress, processor as usize, p);
-    0
+    store_after(progress, processor, after);
+    after.number
 }
 
 // What the question tells: its number and when the processor next opens; at a refusal in 0 minutes.

@@ -35,10 +35,12 @@ use Rattle.layout.specs.CellRows.{rowOf}
 use Rattle.layout.proofs.Cells.{zeros, box-places, lengths-countable, lengths-places}
 use Rattle.layout.proofs.CellRows.{row-before, row-last, box-all, fewer}
 use Rattle.layout.proofs.Advance.{rows-places, placed-inside}
-use Rattle.values.specs.Waves.{four, rowsOf, Spaced, Inner, Inners, Fours}
+use Rattle.bands.specs.Bands.{four, rowsOf, Spaced}
+use Rattle.values.specs.Waves.{Inner, Inners, Fours}
 use Rattle.values.specs.Boxes.{Boxed, rowAt, Standing, Stored}
-use Rattle.values.proofs.Waves.{each-four}
-use Rattle.values.proofs.Stores.{store-append, Calculating, calculating-none, calculating-turn, calculated, Sweeping, sweeping-none}
+use Rattle.bands.proofs.Waves.{each-four}
+use Rattle.kernels.proofs.Orders.{store-append}
+use Rattle.values.proofs.Stores.{Calculating, calculating-none, calculating-turn, calculated, Sweeping, sweeping-none}
 use Rattle.values.proofs.Stores.{sweeping-turn, sweep-all, sweep-in, swept}
 
 -- ---- lists of rows

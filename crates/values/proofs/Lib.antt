@@ -1,7 +1,5 @@
 pub mod Words
 pub mod Stores
-pub mod Orders
-pub mod Waves
 pub mod Margins
 pub mod Boxes
 pub mod Rows

@@ -21,11 +21,12 @@ use Rattle.layout.specs.CellRows.{Given, rowOf}
 use Rattle.layout.proofs.CellRows.{row-last, row-low}
 use Rattle.base.specs.Lists.{storeAll}
 use Rattle.nest.specs.Places.{place, cellPlace}
-use Rattle.values.specs.Waves.{four, rowsOf, Band, Banded, mostIn, mostOf, Lasts, Lent, Inner, Inners, Fours}
-use Rattle.values.specs.Reads.{firstRead, Firsts, Backs, InRow}
-use Rattle.values.proofs.Stores.{store-append}
+use Rattle.bands.specs.Bands.{four, rowsOf, Band, Banded, InRow}
+use Rattle.values.specs.Waves.{mostIn, mostOf, Lasts, Lent, Inner, Inners, Fours}
+use Rattle.values.specs.Reads.{firstRead, Firsts, Backs}
+use Rattle.kernels.proofs.Orders.{store-append}
 use Rattle.values.proofs.Words.{in-row}
-use Rattle.values.proofs.Waves.{each-four}
+use Rattle.bands.proofs.Waves.{each-four}
 
 -- the greater of two
 pub greater-is : (t : Bool) (a b : ℕ) → leb a b ≡ t → (a ≤ pick t b a) × (b ≤ pick t b a)

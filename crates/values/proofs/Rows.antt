@@ -13,8 +13,9 @@ use Rattle.plan.specs.Geometry.{value}
 use Rattle.layout.specs.Places.{nth, Ranked, Places, Inside, Follows}
 use Rattle.layout.specs.CellRows.{rowOf}
 use Rattle.layout.proofs.Advance.{placed-start}
-use Rattle.values.specs.Waves.{four, rowsOf, Lent, Inner}
-use Rattle.values.specs.Given.{RowGiven, BandGiven}
+use Rattle.bands.specs.Bands.{four, rowsOf, BandGiven}
+use Rattle.values.specs.Waves.{Lent, Inner}
+use Rattle.values.specs.Given.{RowGiven}
 use Rattle.values.specs.Boxes.{Boxed, Standing, RowsGiven, Stored}
 use Rattle.values.proofs.Margins.{margin-most, fours-banded}
 use Rattle.values.proofs.Boxes.{wide, row-inside, row-ranked, row-number, row-fits, row-located, moved, standing-moved, box-fours, box-spaced}

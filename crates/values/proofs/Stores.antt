@@ -26,16 +26,8 @@ use Rattle.layout.specs.CellRows.{rowOf}
 use Rattle.layout.proofs.Cells.{four, lengths-places, placed-cell}
 use Rattle.layout.proofs.Advance.{placed-row, placed-inside, rows-places}
 use Rattle.layout.proofs.CellRows.{product-last, row-in, row-next, box-in, box-row}
-
-pub store-append : (f : List ℕ → ℕ → ℕ) (l a b : List ℕ) → storeAll f l (a ++ b) ≡ storeAll f (storeAll f l a) b
-unfolding storeAll
-store-append f l [] b = refl
-store-append f l (p ∷ a) b = store-append f (set l p (f l p)) a b
-
-pub store-row : (f : List ℕ → ℕ → ℕ) (l : List ℕ) (c n : ℕ) → storeAll f l (rowOf c (suc n)) ≡ set (storeAll f l (rowOf c n)) (c + n)
-    (f (storeAll f l (rowOf c n)) (c + n))
-unfolding tabulate storeAll
-store-row f l c n = store-append f l (rowOf c n) ((c + n) ∷ [])
+use Rattle.kernels.proofs.Orders.{store-append}
+use Rattle.bands.proofs.Words.{store-row}
 
 -- one word more at the front
 push : (k o : List ℕ) (v : ℕ) → length k < length o → set (k ++ drop (length k) o) (length k) v ≡ (k ++ (v ∷ [])) ++ drop (length k + 1) o

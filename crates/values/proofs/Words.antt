@@ -1,4 +1,4 @@
--- What the distances read in a row: from which cell on, how far back; the value as a sum of it.
+-- What the distances read in a row: from which cell on, how far back.
 use Prim.Native.Nat.{ℕ, zero, suc, _+_, _*_, _-_, _/_, _%_, _^_, _≤_, _<_, min}
 use mathlib.Core.Path.{_≡_, refl, sym, ap, _∙_}
 use mathlib.Core.Logic.{_⊎_, inl, inr}
@@ -13,8 +13,6 @@ use lib.Dec.{leb}
 use borrow.Author.Tests.{le-leb, lt-leb, leb-true}
 use Rattle.base.specs.Tests.{_and_, pick, every, sum, product, tabulate}
 use Rattle.base.proofs.Tests.{every-at, every-not, sum-same, pick-true, pick-false}
-use Rattle.base.specs.Lists.{In, storeAll}
-use Rattle.base.proofs.Select.{in-append}
 use Rattle.nest.specs.declared.Nest.{Nest}
 use Rattle.nest.specs.Accepted.{Accepted}
 use Rattle.nest.specs.Nest.{lengthOf, component, weight, cells}
@@ -28,9 +26,9 @@ use Rattle.layout.specs.CellRows.{Given, rowOf}
 use Rattle.layout.proofs.Dims.{rank-add, rank-most, product-prefix}
 use Rattle.layout.proofs.Loops.{every-same, Sofar, sofar-end}
 use Rattle.layout.proofs.CellRows.{row-before, row-last, row-low, every-last}
-use Rattle.kernels.specs.Taps.{mixed, inLine, Mixes}
-use Rattle.kernels.proofs.Orders.{store-same}
-use Rattle.values.specs.Reads.{firstRead, stepBack, Firsts, Backs, Reads, InRow}
+use Rattle.bands.specs.Bands.{Reads, InRow}
+use Rattle.values.specs.Reads.{firstRead, stepBack, Firsts, Backs}
+pub use Rattle.bands.proofs.Words.{in-row-of}
 
 -- ---- how far back distance e reads: the rank of its first j components
 
@@ -76,19 +74,12 @@ backing-end x components e back j g s h =
     s .is ∙ ap (rank (nth (x .lengths)) (stepOf (x .lengths) components e)) z ∙ ap (λ (l : List ℕ). rank (nth (x .lengths)) (stepOf (x .lengths) l e)
     (x .dimensions)) (g .is)
 
--- ---- tests and picks
+-- ---- a test
 
 first-test : (t : Bool) (d a : ℕ) → a < 1024 → leb (pick t d 1024) a ≡ (t and leb d a)
 unfolding pick _and_
 first-test true d a h = refl
 first-test false d a h = lt-leb 1024 a h
-
-pick-same : {A : Type 0} (t u : Bool) (a b c : A) → t ≡ u → (u ≡ true → a ≡ b) → pick t a c ≡ pick u b c
-unfolding pick
-pick-same true true a b c e h = h refl
-pick-same false false a b c e h = refl
-pick-same true false a b c e h = absurd (let z : _≡_ {A = Bool} true false = e in (let y : _≡_ {A = ℕ} 0 1 = cc in omega arith))
-pick-same false true a b c e h = absurd (let z : _≡_ {A = Bool} false true = e in (let y : _≡_ {A = ℕ} 0 1 = cc in omega arith))
 
 -- ---- from where a distance reads
 
@@ -106,59 +97,9 @@ module _ (x : Nest) (components i : List ℕ) (e : ℕ) (g : Given x components)
       let a : every (λ j. leb (component x e j) (getD i j 0)) (x .dimensions - 1) ≡ true = rw (g .is) at (sofar-end _ _ j s h) in
       ap (λ (l : List ℕ). getD l (4 * e + (x .dimensions - 1)) 0) (g .is) ∙ sym (pick-true _ _ _ a)
 
--- ---- who is in a row
-
-pub in-row-of : (c n z : ℕ) → In z (rowOf c n) → (c ≤ z) × (z < c + n)
-unfolding tabulate
-in-row-of c zero z i = absurd i
-in-row-of c (suc n) z i = go (in-append z (rowOf c n) ((c + n) ∷ []) i) (in-row-of c n z)
-  where
-    go : In z (rowOf c n) ⊎ In z ((c + n) ∷ []) → (In z (rowOf c n) → (c ≤ z) × (z < c + n)) → (c ≤ z) × (z < c + suc n)
-    go (inl k) ih = let q = ih k in (q .0, omega arith)
-    go (inr (inl e)) ih = (omega arith, omega arith)
-    go (inr (inr e)) ih = absurd e
-
--- ---- the value as what the kernels make of it
+-- ---- what the distances read in a row
 
 module _ (x : Nest) (ok : Accepted x) where
-  back-low : (first back weights : List ℕ) (c a : ℕ) → Reads x c a first back weights → (e : ℕ) → e < x .distances → getD first e 0 ≤ a → getD back e 0 ≤ c
-  back-low first back weights c a r e h l = omega (arith, r .backs e h (sym (r .firsts e h) ∙ le-leb _ _ l))
-
-  module _ (source memory first back weights : List ℕ) (c a : ℕ) (r : Reads x c a first back weights) where
-    mixed-is : mixed (x .distances) first back weights (x .boundary) (x .shift) source a memory c ≡ value x source memory c
-    unfolding mixed value
-    mixed-is =
-        ap (λ (b : ℕ). (getD source c 0 + b) / 2 ^ x .shift % 4294967296)
-        (sum-same _ _ (x .distances) (λ e h. ap (λ (l : List ℕ). getD l e 0 * pick (leb (getD first e 0) a) (getD memory (c - getD back e 0) 0)
-        (x .boundary)) (r .weights-are)
-        ∙ ap (λ (b : ℕ). weight x e * b) (pick-same (leb (getD first e 0) a) (hasRead x c e) _ _ (x .boundary) (r .firsts e h)
-        (λ t. let z : c - getD back e 0 ≡ readAt x c e = omega (arith, r .backs e h t) in ap (λ (i : ℕ). getD memory i 0) z))))
-
-  module _ (c a n : ℕ) (first back weights : List ℕ) (r : InRow x c a n first back weights) where
-    pub row-mixes : (sources words : ℕ) → weights ≡ x .weights → sources ≡ cells x → words ≡ cells x → Mixes (x .distances) first back weights (x .boundary)
-        (x .shift) c a n sources words
-    row-mixes sources words w s m =
-        record {
-          few = ok .distances-most;
-          back = λ k y i h l. back-low first back weights (c + y) (a + y) (r .each y h) k i l;
-          light = λ k i. rw w (ok .weight-most k);
-          beyond = ok .boundary-most;
-          divides = omega (arith, ok .shift-most);
-          within = omega (arith, r .low);
-          same = s ∙ sym m;
-          small = omega (arith, ok .cells-most);
-          narrow = r .few;
-        }
-
-    pub row-values : (source memory memory′ : List ℕ) → memory′ ≡ storeAll (inLine (x .distances) first back weights (x .boundary) (x .shift) source c a)
-        memory (rowOf c n)
-        → memory′ ≡ storeAll (value x source) memory (rowOf c n)
-    row-values source memory memory′ e = e ∙ store-same _ _ (rowOf c n) memory (λ m z i. let q = in-row-of c n z i in
-        let y : c + (z - c) ≡ z = omega (arith, q .0) in
-        rw y at (mixed-is source m first back weights (c + (z - c)) (a + (z - c)) (r .each (z - c) (omega (arith, q .0, q .1)))))
-
-  -- ---- what the distances read in a row
-
   pub back-is : (c e : ℕ) → c < cells x → e < x .distances → hasRead x c e ≡ true → stepBack x e + readAt x c e ≡ c
   unfolding stepBack readAt cellAt hasRead
   back-is c e l h t =

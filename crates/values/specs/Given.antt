@@ -10,7 +10,7 @@ use Rattle.nest.specs.Nest.{cells}
 use Rattle.layout.specs.Places.{Located}
 use Rattle.layout.specs.CellRows.{Given}
 use Rattle.values.specs.declared.Body.{Body}
-use Rattle.values.specs.Waves.{four, Spaced, Banded, Lent}
+use Rattle.values.specs.Waves.{Lent}
 
 -- the nest that has these numbers, and all else as x: code is handed no nest, so its contracts speak of every nest that has the numbers
 abbrev pub withBody : Nest → Body → Nest
@@ -48,9 +48,3 @@ abbrev pub RowGiven : Nest → List ℕ → List ℕ → List ℕ → List ℕ �
 RowGiven x components lasts back weights margin source memory at first width =
     RowsLent x components lasts back weights margin source memory
     × (Located x first (record { number = first; place = at }) × (getD at (x .dimensions - 1) 0 + width ≤ getD (x .lengths) (x .dimensions - 1) 0))
-
--- four rows that go side by side from column `from` on
-abbrev pub BandGiven : Nest → List ℕ → List ℕ → List ℕ → List ℕ → List ℕ → ℕ → ℕ → ℕ → ℕ → ℕ → ℕ → ℕ → Type 0
-BandGiven x first back weights source memory a b c d component from width =
-    (Accepted x × (Banded x (four a b c d) component from width first back weights × ((length source ≡ cells x) × (length memory ≡ cells x))))
-    × Spaced a b c d

@@ -2,15 +2,13 @@
 -- No sentence of document 01: contracts of functions below the calls cite it.
 use Prim.Native.Nat.{ℕ, _+_, _-_, _≤_, _<_, min}
 use mathlib.Core.Path.{_≡_}
-use mathlib.Core.Bool.{true}
 use mathlib.Core.List.{List}
 use lib.ListN.{getD}
 use lib.Dec.{leb}
 use Rattle.base.specs.Tests.{pick, every}
 use Rattle.nest.specs.declared.Nest.{Nest}
-use Rattle.nest.specs.Nest.{lengthOf, component, cells}
+use Rattle.nest.specs.Nest.{lengthOf, component}
 use Rattle.nest.specs.Places.{rank}
-use Rattle.plan.specs.Geometry.{hasRead, readAt}
 
 -- from which last component on distance e reads a cell, in the row of a place; 1024 is above all
 unfoldable pub firstRead : Nest → List ℕ → ℕ → ℕ
@@ -27,16 +25,3 @@ pub record Firsts (x : Nest) (i first : List ℕ) : Type 0 where
 
 pub record Backs (x : Nest) (back : List ℕ) : Type 0 where
   pub each : (e : ℕ) → e < x .distances → getD back e 0 ≡ stepBack x e
-
--- where the distances read at cell c, whose last component is a
-pub record Reads (x : Nest) (c a : ℕ) (first back weights : List ℕ) : Type 0 where
-  pub low : c < cells x
-  pub weights-are : weights ≡ x .weights
-  pub firsts : (e : ℕ) → e < x .distances → leb (getD first e 0) a ≡ hasRead x c e
-  pub backs : (e : ℕ) → e < x .distances → hasRead x c e ≡ true → getD back e 0 + readAt x c e ≡ c
-
--- and at the n cells of a row from there on
-pub record InRow (x : Nest) (c a n : ℕ) (first back weights : List ℕ) : Type 0 where
-  pub few : a + n ≤ 1024
-  pub low : c + n ≤ cells x
-  pub each : (y : ℕ) → y < n → Reads x (c + y) (a + y) first back weights

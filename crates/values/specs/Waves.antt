@@ -1,45 +1,18 @@
--- Four rows calculated side by side, each one column behind the row before it.
+-- What is made once in a call and lent to every row; rows where all distances read, and four of them.
 -- No sentence of document 01: contracts of functions below the calls cite it.
 use Prim.Native.Nat.{ℕ, zero, suc, _+_, _*_, _-_, _≤_, _<_}
 use mathlib.Core.Path.{_≡_}
 use mathlib.Core.Bool.{true}
-use mathlib.Core.List.{List, [], _∷_, _++_}
+use mathlib.Core.List.{List}
 use lib.ListN.{getD}
 use lib.Dec.{leb}
 use Rattle.base.specs.Tests.{pick, every}
 use Rattle.nest.specs.declared.Nest.{Nest}
-use Rattle.nest.specs.Nest.{cells, component}
-use Rattle.nest.specs.Places.{cellPlace}
+use Rattle.nest.specs.Nest.{component}
 use Rattle.layout.specs.declared.Cell.{Cell}
 use Rattle.layout.specs.Places.{Has, Located}
-use Rattle.layout.specs.CellRows.{Given, rowOf}
-use Rattle.values.specs.Reads.{Backs, InRow}
-
-abbrev pub four : ℕ → ℕ → ℕ → ℕ → ℕ → ℕ
-four a b c d k = getD (a ∷ b ∷ c ∷ d ∷ []) k 0
-
--- the cells of the first n rows, w of each
-unfoldable pub rowsOf : (ℕ → ℕ) → ℕ → ℕ → List ℕ
-rowsOf c w zero = []
-rowsOf c w (suc n) = rowsOf c w n ++ rowOf (c n) w
-
--- n rows of the same columns, w of each, one after the other
-pub record Band (x : Nest) (c : ℕ → ℕ) (w n : ℕ) : Type 0 where
-  pub low : (k y : ℕ) → k < n → y < w → c k + y < cells x
-  pub apart : (j k : ℕ) → j < k → k < n → c j + w ≤ c k
-  pub column : (k y : ℕ) → k < n → y < w → cellPlace x (c k + y) (x .dimensions - 1) ≡ cellPlace x (c 0) (x .dimensions - 1) + y
-
--- each number as far from the one before it as the second from the first
-abbrev pub Spaced : ℕ → ℕ → ℕ → ℕ → Type 0
-Spaced a b c d = (c ≡ b + (b - a)) × (d ≡ c + (b - a))
-
--- four rows from their first cells, whose last component is a; from column `from` on all distances read, also three columns before
-pub record Banded (x : Nest) (c : ℕ → ℕ) (a from w : ℕ) (first back weights : List ℕ) : Type 0 where
-  pub rows : Band x c w 4
-  pub each : (k : ℕ) → k < 4 → InRow x (c k) a w first back weights
-  pub three : 3 ≤ from
-  pub low : from ≤ w
-  pub reads : (e : ℕ) → e < x .distances → getD first e 0 + 3 ≤ a + from
+use Rattle.layout.specs.CellRows.{Given}
+use Rattle.values.specs.Reads.{Backs}
 
 -- the most that the first e distances have in dimension j
 unfoldable pub mostIn : List ℕ → ℕ → ℕ → ℕ

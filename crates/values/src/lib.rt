@@ -1,7 +1,4 @@
 // Values in code: rows, a tile, and the sequential sweep of the whole grid.
-//
-// The cells of a row wait for each other. So four rows go side by side, each one column behind the row before it: what a cell
-// reads has a lower number and stands in no later column, so it is stored by then, and the words are those of index order.
 ghost use mathlib.Core.Path.{_≡_};
 ghost use Prim.Native.Nat.{_+_, _*_, _-_, _/_, _%_, _^_, _≤_, _<_};
 ghost use lib.ListN.{length, getD};
@@ -19,16 +16,16 @@ ghost use Rattle.layout.specs.Sizes.{Sized};
 ghost use Rattle.layout.specs.Places.{nth, Has, Places, Inside, Follows};
 ghost use Rattle.layout.specs.CellRows.{Given, rowOf};
 ghost use Rattle.nest.specs.declared.Nest.{Nest};
-ghost use Rattle.values.specs.Waves.{four, rowsOf, mostOf, Lasts, Inner};
-ghost use Rattle.values.specs.Given.{withBody, ReadsBy, RowGiven, BandGiven};
+ghost use Rattle.bands.specs.Bands.{four, rowsOf};
+ghost use Rattle.values.specs.Waves.{mostOf, Lasts, Inner};
+ghost use Rattle.values.specs.Given.{withBody, ReadsBy, RowGiven};
 ghost use Rattle.values.specs.Boxes.{Boxed, rowAt, Standing, RowsGiven, Stored};
 ghost use Rattle.values.specs.Reads.{firstRead, stepBack, Firsts, Backs};
-use kernels::Rule;
-use kernels::line;
-use kernels::short_line;
-use kernels::wave;
+use bands::side_by_side;
 use layout::Bounds;
 use layout::Sizes;
+use lines::line;
+use lines::short_line;
 use nest::Nest;
 
 // The numbers of a nest that its rows go by. A nest itself is large, and handed on by value for each row it would be copied as often.
@@ -154,99 +151,6 @@ fn row(
         component,
         width,
     );
-}
-
-// The values of four rows: the first columns row by row, then side by side, then what is left of each row.
-fn band(
-    body: Body,
-    source: &[u32],
-    memory: &mut [u32],
-    first: &[usize; 8],
-    back: &[usize; 8],
-    weights: &[u64; 8],
-    a: usize,
-    b: usize,
-    c: usize,
-    d: usize,
-    component: usize,
-    from: usize,
-    width: usize,
-)
-    requires { ⌜ ((x : Nest) × BandGiven (withBody x body) (now first) (now back) (now weights) (now source) (now memory) a b c d component from width) ⌝ }
-    ensures { λ _. ⌜ ((x : Nest) → BandGiven (withBody x body) (now (first .entry)) (now (back .entry)) (now (weights .entry)) (now (source .entry))
-        (now (memory .entry)) a b c d component from width
-        → now (memory .exit) ≡ storeAll (value (withBody x body) (now (source .entry))) (now (memory .entry)) (rowsOf (four a b c d) width 4)) ⌝ }
-{
-    let shift = body.shift;
-    let boundary = body.boundary;
-    let n = body.distances;
-    let full = component + (from - 3);
-    line(
-        source,
-        memory,
-        shift,
-        boundary,
-        n,
-        first,
-        back,
-        weights,
-        full,
-        a,
-        component,
-        from,
-    );
-    line(
-        source,
-        memory,
-        shift,
-        boundary,
-        n,
-        first,
-        back,
-        weights,
-        full,
-        b,
-        component,
-        from - 1,
-    );
-    line(
-        source,
-        memory,
-        shift,
-        boundary,
-        n,
-        first,
-        back,
-        weights,
-        full,
-        c,
-        component,
-        from - 2,
-    );
-    line(
-        source,
-        memory,
-        shift,
-        boundary,
-        n,
-        first,
-        back,
-        weights,
-        full,
-        d,
-        component,
-        from - 3,
-    );
-    let rule = Rule {
-        outside: 0,
-        shift: shift,
-    };
-    let lag = b - a - 1;
-    let rest = width - from;
-    wave(source, memory, rule, n, back, weights, a + from, lag, rest);
-    kernels::row(source, memory, rule, n, back, weights, b + (width - 1), 1);
-    kernels::row(source, memory, rule, n, back, weights, c + (width - 2), 2);
-    kernels::row(source, memory, rule, n, back, weights, d + (width - 3), 3);
 }
 
 // The shortest way back.
@@ -440,6 +344,7 @@ fn box_rows(
 }
 
 // The values of four rows of a box from row `first` on, whose place is `at`: side by side where they go together, else one by one.
+// `own` says which way side by side; either is right.
 fn four_rows(
     body: Body,
     source: &[u32],
@@ -454,6 +359,7 @@ fn four_rows(
     corner: &[usize; 4],
     at: &mut [usize; 4],
     first: usize,
+    own: bool,
 )
     requires { ⌜ ((x : Nest) × (RowsGiven (withBody x body) (now components) (now lasts) (now back) (now weights) (now margin) (now source) (now memory)
         (now grid) (now lengths) (now corner) (now at) first × (first + 4 ≤ 16384))) ⌝ }
@@ -490,10 +396,12 @@ fn four_rows(
     let a = layout::rank_of(grid, at, n);
     let b = a + stride;
     let c = b + stride;
-    band(
-        body,
+    side_by_side(
         source,
         memory,
+        body.shift,
+        body.boundary,
+        body.distances,
         lasts,
         back,
         weights,
@@ -504,12 +412,13 @@ fn four_rows(
         component,
         from,
         width,
+        own,
     );
     at[last - 1] += 3;
     advance(lengths, corner, at, last);
 }
 
-// The values of the rows of a box in groups of four, from its first row on.
+// The values of the rows of a box in groups of four, from its first row on; `own` if no distance reads another row.
 fn box_fours(
     body: Body,
     source: &[u32],
@@ -524,6 +433,7 @@ fn box_fours(
     corner: &[usize; 4],
     at: &mut [usize; 4],
     groups: usize,
+    own: bool,
 )
     requires { ⌜ ((x : Nest) × (RowsGiven (withBody x body) (now components) (now lasts) (now back) (now weights) (now margin) (now source) (now memory)
         (now grid) (now lengths) (now corner) (now at) 0 × (4 * groups ≤ 16384))) ⌝ }
@@ -547,11 +457,71 @@ fn box_fours(
             corner,
             at,
             4 * g,
+            own,
         );
     }
 }
 
-// The values of the cells of a box, in index order, row by row.
+// The values of all rows of a box: in groups of four, then those that are left, one by one.
+fn all_rows(
+    body: Body,
+    source: &[u32],
+    memory: &mut [u32],
+    components: &[usize; 32],
+    lasts: &[usize; 8],
+    back: &[usize; 8],
+    weights: &[u64; 8],
+    margin: &[usize; 4],
+    grid: &[usize; 4],
+    lengths: &[usize; 4],
+    corner: [usize; 4],
+    rows: usize,
+    groups: usize,
+    own: bool,
+)
+    requires { ⌜ ((x : Nest) × (RowsGiven (withBody x body) (now components) (now lasts) (now back) (now weights) (now margin) (now source) (now memory)
+        (now grid) (now lengths) corner corner 0 × ((4 * groups ≤ rows) × (rows ≤ 16384)))) ⌝ }
+    ensures { λ _. ⌜ ((x : Nest) → RowsGiven (withBody x body) (now (components .entry)) (now (lasts .entry)) (now (back .entry)) (now (weights .entry))
+        (now (margin .entry)) (now (source .entry)) (now (memory .entry)) (now (grid .entry)) (now (lengths .entry)) corner corner 0
+        → now (memory .exit) ≡ storeAll (value (withBody x body) (now (source .entry))) (now (memory .entry))
+        (rowsOf (rowAt (withBody x body) (now (lengths .entry)) corner) (getD (now (lengths .entry)) (body .dimensions - 1) 0) rows)) ⌝ }
+{
+    let mut at = corner;
+    box_fours(
+        body,
+        source,
+        memory,
+        components,
+        lasts,
+        back,
+        weights,
+        margin,
+        grid,
+        lengths,
+        &corner,
+        &mut at,
+        groups,
+        own,
+    );
+    box_rows(
+        body,
+        source,
+        memory,
+        components,
+        lasts,
+        back,
+        weights,
+        margin,
+        grid,
+        lengths,
+        &corner,
+        &mut at,
+        4 * groups,
+        rows,
+    );
+}
+
+// The values of the cells of a box, in index order, row by row; `own` if no distance reads another row.
 fn box_values(
     nest: Nest,
     source: &[u32],
@@ -571,16 +541,17 @@ fn box_values(
     let lasts = lasts_of(nest, &components);
     let least = least_of(nest, &back);
     let last = nest.dimensions - 1;
-    let rows = layout::product(lengths, last);
-    let groups = by_fours(rows, lengths[last], least);
+    let count = layout::product(lengths, last);
+    let groups = by_fours(count, lengths[last], least);
+    let origin = [0; 4];
+    let own = inner(&margin, &origin, last);
     let body = Body {
         dimensions: nest.dimensions,
         distances: nest.distances,
         shift: nest.shift,
         boundary: nest.boundary,
     };
-    let mut at = corner;
-    box_fours(
+    all_rows(
         body,
         source,
         memory,
@@ -591,25 +562,10 @@ fn box_values(
         &margin,
         &grid,
         &lengths,
-        &corner,
-        &mut at,
+        corner,
+        count,
         groups,
-    );
-    box_rows(
-        body,
-        source,
-        memory,
-        &components,
-        &lasts,
-        &back,
-        &weights,
-        &margin,
-        &grid,
-        &lengths,
-        &corner,
-        &mut at,
-        4 * groups,
-        rows,
+        own,
     );
 }
 

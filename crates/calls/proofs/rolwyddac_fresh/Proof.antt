@@ -55,7 +55,8 @@ use Rattle.calls.proofs.Walking.{R, word, ref, bytes, words32, records,
 use Rattle.calls.proofs.Params.{Param, number32, number64, reads, changes, Lent, stays, go, spells, tell, values, row, tokens, owning, slices}
 use Rattle.calls.proofs.Params.{had, env, held, comes-back}
 use Rattle.calls.proofs.Lending.{lends-on}
-use Rattle.calls.proofs.Walking.{local, rising, pairs, sepAll, fsepAll, splits, joins, fsplits, fjoins, Clear, clears-at}
+use Rattle.calls.proofs.Orders.{sorts, turned}
+use Rattle.calls.proofs.Walking.{local, sepAll, fsepAll, splits, joins, fsplits, fjoins, Clear, clears-at}
 use Rattle.calls.proofs.rolwyddac_fresh.Key.{name as #calls·fresh}
 use Rattle.calls.proofs.rolwyddac_fresh as fresh
 use Rattle.calls.proofs.rolwyddac_fresh.Statement as stated
@@ -179,7 +180,7 @@ module _ {M : Type 1} (𝓤 : URA M) (H : Heap 𝓤) (A : Atoms 𝓤) (W : Given
         assigns ! (of-opd ! (local ! 22 refl)) (from ! (stop !)) (init ! 40 refl (tt, record { fits = fits })) $
         returns ! (look ! 40 refl) $ forget ! 40 refl $ forget ! 38 refl $ forget ! 36 refl $ forget ! 34 refl $ forget ! 32 refl $
         forget ! 30 refl $ forget ! 28 refl $ forget ! 26 refl $ forget ! 22 refl $ forget ! 4 refl $ forget ! 2 refl $
-        keep ! (pairs 40 20 ++ (42 ∷ 0 ∷ 43 ∷ 44 ∷ 1 ∷ 45 ∷ [])) $
+        sorts ! 2 40 (keep ! (2 ∷ 0 ∷ 3 ∷ 4 ∷ 1 ∷ 5 ∷ [])) $ turned ! 20 $
         free-all ! _ $ by ! (exits r y2 y3 y4 y5 fits e2 e3 e4 e5
         (ap (λ (l : List ℕ). answer r (stateOf y2 y3 l y5)) (ap (λ (l : List Progress). flatWords l) put4 ∙ cleared-after (now x4) r) ∙ said)))
 
@@ -210,7 +211,7 @@ module _ {M : Type 1} (𝓤 : URA M) (H : Heap 𝓤) (A : Atoms 𝓤) (W : Given
         land ! (from ! (stop !)) (init ! 29 refl (uint-lawful 𝓤 H A W w32 .typed r _ is′ .0)) $
         rewrite ! 29 (λ (u : Val). ‵ (fat fullShare word l9 0 u)) (ap only (uint-tells w32 r (w ∷ []) is′)) refl $ forget ! 31 refl $
         forget ! 25 refl $ forget ! 23 refl $ forget ! 21 refl $ forget ! 19 refl $ forget ! 17 refl $ forget ! 15 refl $
-        keep ! (rising 9 40 ++ (1 ∷ 49 ∷ 50 ∷ 4 ∷ 3 ∷ 2 ∷ [])) $
+        sorts ! 9 40 (keep ! (1 ∷ 9 ∷ 10 ∷ 4 ∷ 3 ∷ 2 ∷ [])) $
         cleared known₂ r (is′ .1) (us .1 .1 .1 .0) (us .1 .1 .1 .1 .0) (us .1 .1 .1 .1 .1 .1 .0) e2 e3 e5 (said (flatWords (now x4))
         (sym (length-words (now x4))))))))))
 
@@ -231,7 +232,7 @@ module _ {M : Type 1} (𝓤 : URA M) (H : Heap 𝓤) (A : Atoms 𝓤) (W : Given
       pass1 ! (init ! 26 refl (tt, (tt, (record { fits = g4 .0 }, tt)))) $
       pass1 ! (init ! 24 refl (tt, (tt, (record { fits = g5 .0 }, tt)))) $ pass0 ! $ move ! (41 ∷ []) $ fsplits ! (owning params κs given) $ move ! (47 ∷ []) $
       splits ! Toks $
-      keep ! (rising 13 40 ++ (5 ∷ 4 ∷ 3 ∷ 2 ∷ 1 ∷ 0 ∷ 12 ∷ 10 ∷ 9 ∷ 8 ∷ 7 ∷ 6 ∷ [])) $
+      sorts ! 13 40 (keep ! (5 ∷ 4 ∷ 3 ∷ 2 ∷ 1 ∷ 0 ∷ 12 ∷ 10 ∷ 9 ∷ 8 ∷ 7 ∷ 6 ∷ [])) $
       begun C Λ fm l0 l1 l2 l3 l4 l5 l6 l7 l8 l9 l10 l11 l12 l13 l14 l15 l16 l17 l18 l19 known₁ known₂))))))))))))))))))))
 
 fresh-meets : {M : Type 1} (𝓤 : URA M) (H : Heap 𝓤) (A : Atoms 𝓤) (W : Given 𝓤 H A) (mem : Memory → SProp 𝓤) (run : Routine → Fun 𝓤)

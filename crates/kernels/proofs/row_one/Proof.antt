@@ -1,61 +1,36 @@
--- `kernels::row_one` meets its contract: the first y cells are stored.
-use Prim.Native.Nat.{_-_}
+-- `kernels::row_one` meets its contract: nothing besides is 0 besides.
+use Prim.Native.Nat.{ℕ, _+_}
+use mathlib.Core.Path.{sym, ap, _∙_}
 use mathlib.Core.List.{[], _∷_}
-use native.Mathlib.Omega.{arith}
 use borrow.Author.Needs.{needs}
+use Rattle.base.specs.Tests.{tabulate}
+use Rattle.base.specs.Lists.{storeAll}
 use Rattle.kernels.specs.Taps.{made}
-use Rattle.kernels.proofs.Sums.{fits-at, Rowing, rowing-none, rowing-long, rowing-more, rowing-end}
 use Rattle.kernels.proofs.row_one.Statement.{statement}
 use Rattle.kernels.proofs.row_one.Tie as tie
 
-abbrev Inv-loop : tie.InvT-loop
-Inv-loop source memory₀ rule p cell width y₀ memory y =
-    Rowing (made 1 (p .back ∷ []) (p .weight ∷ []) (rule .outside) (rule .shift) source) memory₀ memory cell width y
+row-tap-requires : tie.Need-row-tap-requires
+row-tap-requires c κs = search needs
 
-abbrev μ-loop : tie.MeasureT-loop
-μ-loop source memory₀ rule p cell width y₀ memory y = width - y
+same-length : tie.Need-same-length
+same-length c = search needs
 
-loop-holds : tie.Need-loop-holds Inv-loop μ-loop
-loop-holds c = rowing-none _ _ _ _
+returns : tie.Need-returns
+returns c =
+    let s = c .before .before .before .before .before .before .before .before in
+    c .before .before .row-tap .ensures
+    ∙ ap
+    (λ (o : ℕ). storeAll (made 1 (s .args .p .back ∷ []) (s .args .p .weight ∷ []) o (s .args .rule .shift) (s .args .source .now)) (s .args .memory .now)
+    (tabulate (λ y. s .args .cell + y) (s .args .width))) (sym (c .before .before .before .before .if1 .taken))
 
-add-store-one : tie.Need-add-store-one Inv-loop μ-loop
-add-store-one c =
-    let s = c .before .before .before .before .before in
-    omega (arith, s .pre .within, s .pre .small, c .before .loop-test .taken)
+row-tap-requires-2 : tie.Need-row-tap-requires-2
+row-tap-requires-2 c κs = search needs
 
-store-one-requires : tie.Need-store-one-requires Inv-loop μ-loop
-store-one-requires c κs =
-    let s = c .before .before .before .before .before in
-    fits-at (s .pre) _ 1 _ (omega arith) (omega (arith, c .before .loop-test .taken)) (rowing-long (c .before .before .loop .inv))
+same-length-2 : tie.Need-same-length-2
+same-length-2 c = search needs
 
-add-y : tie.Need-add-y Inv-loop μ-loop
-add-y c = search needs
-
-loop-less : tie.Need-loop-less Inv-loop μ-loop
-loop-less c = omega (arith, c .before .before .before .before .loop-test .taken)
-
-loop-again : tie.Need-loop-again Inv-loop μ-loop
-loop-again c =
-    rowing-more (c .before .before .before .before .before .loop .inv) _ (c .before .before .before .before .loop-test .taken)
-    (c .before .before .store-one .ensures)
-
-same-length : tie.Need-same-length Inv-loop μ-loop
-same-length c = rowing-long (c .before .loop .inv)
-
-returns : tie.Need-returns Inv-loop μ-loop
-returns c = rowing-end (c .before .loop .inv) (c .loop-test .left)
+returns-2 : tie.Need-returns-2
+returns-2 c = search needs
 
 pub row-one-spec : {M : Type 1} → statement M
-row-one-spec =
-    tie.close
-    (tie.spec
-    Inv-loop
-    μ-loop
-    loop-holds
-    add-store-one
-    store-one-requires
-    add-y
-    loop-less
-    loop-again
-    same-length
-    returns)
+row-one-spec = tie.close (tie.spec row-tap-requires same-length returns row-tap-requires-2 same-length-2 returns-2)

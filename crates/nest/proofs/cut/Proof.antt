@@ -24,88 +24,88 @@ array-read-before c =
 cast-before : tie.Need-cast-before
 cast-before c =
     let start = c .before .before .before .before .before in
-    omega (arith, C.before-four (start .args .nest) (start .pre .0) (start .args .t2) (start .args .k) (start .pre .1 .0))
+    omega (arith, C.before-four (start .args .nest) (start .pre .0) (start .args .at .now) (start .args .k) (start .pre .1 .0))
 
 mul-before : tie.Need-mul-before
 mul-before c =
     let start = c .before .before .before .before .before in
-    omega (arith, C.before-four (start .args .nest) (start .pre .0) (start .args .t2) (start .args .k) (start .pre .1 .0))
+    omega (arith, C.before-four (start .args .nest) (start .pre .0) (start .args .at .now) (start .args .k) (start .pre .1 .0))
 
-array-read-before-2 : tie.Need-array-read-before-2
-array-read-before-2 c =
+element-copy-out-before : tie.Need-element-copy-out-before
+element-copy-out-before c =
     let start = c .before .before .before .before .before in
-    omega (arith, C.before-four (start .args .nest) (start .pre .0) (start .args .t2) (start .args .k) (start .pre .1 .0))
+    omega (arith, C.before-four (start .args .nest) (start .pre .0) (start .args .at .now) (start .args .k) (start .pre .1 .0))
 
 array-read-level : tie.Need-array-read-level
 array-read-level c =
-    let start = c .before .before .before .before .before in
+    let start = c .before .before .before .before .before .before in
     omega (arith, start .pre .1 .0, start .pre .0 .bounds-most)
 
 cast-level : tie.Need-cast-level
 cast-level c =
-    let start = c .before .before .before .before .before in
+    let start = c .before .before .before .before .before .before in
     omega (arith, start .pre .0 .slope-most (start .args .k))
 
 mul-level : tie.Need-mul-level
 mul-level c =
-    let start = c .before .before .before .before .before in
-    omega (arith, C.line-room (start .args .nest) (start .pre .0) (start .args .t2) (start .args .k) (start .pre .1 .0) (start .pre .1 .1))
+    let start = c .before .before .before .before .before .before in
+    omega (arith, C.line-room (start .args .nest) (start .pre .0) (start .args .at .now) (start .args .k) (start .pre .1 .0) (start .pre .1 .1))
 
 mul-level-2 : tie.Need-mul-level-2
 mul-level-2 c =
-    let start = c .before .before .before .before .before in
+    let start = c .before .before .before .before .before .before in
     omega (arith, start .pre .1 .0, start .pre .0 .bounds-most)
 
 array-read-level-2 : tie.Need-array-read-level-2
 array-read-level-2 c =
-    let start = c .before .before .before .before .before in
+    let start = c .before .before .before .before .before .before in
     omega (arith, start .pre .1 .0, start .pre .0 .bounds-most)
 
 cast-level-2 : tie.Need-cast-level-2
 cast-level-2 c =
-    let start = c .before .before .before .before .before in
+    let start = c .before .before .before .before .before .before in
     omega (arith, start .pre .0 .offset-most (start .args .k))
 
 add-level : tie.Need-add-level
 add-level c =
-    let start = c .before .before .before .before .before in
+    let start = c .before .before .before .before .before .before in
     omega (
       arith,
-      C.line-room (start .args .nest) (start .pre .0) (start .args .t2) (start .args .k) (start .pre .1 .0) (start .pre .1 .1),
+      C.line-room (start .args .nest) (start .pre .0) (start .args .at .now) (start .args .k) (start .pre .1 .0) (start .pre .1 .1),
       start .pre .0 .offset-most (start .args .k),
     )
 
 add-base : tie.Need-add-base
 add-base c =
-    let start = c .before .before .before .before .before in
-    omega (arith, C.base-room (start .args .nest) (start .pre .0) (start .args .t2) (start .args .k) (start .pre .1 .0) (start .pre .1 .1))
+    let start = c .before .before .before .before .before .before in
+    omega (arith, C.base-room (start .args .nest) (start .pre .0) (start .args .at .now) (start .args .k) (start .pre .1 .0) (start .pre .1 .1))
 
 array-read-lower : tie.Need-array-read-lower
 array-read-lower c =
-    let start = c .before .before .before .before .before in
+    let start = c .before .before .before .before .before .before in
     omega (arith, start .pre .1 .0, start .pre .0 .bounds-most)
 
 add-if1 : tie.Need-add-if1
 add-if1 c =
-    let start = c .before .before .before .before .before in
+    let start = c .before .before .before .before .before .before in
     omega (arith, start .pre .0 .bounded-low (start .args .k) (start .pre .1 .0), start .pre .0 .dimensions-most)
 
 mul-met : tie.Need-mul-met
 mul-met c =
-    let start = c .before .before .before .before .before .before .before in
+    let start = c .before .before .before .before .before .before .before .before in
     omega (arith, c .if1 .taken, start .pre .0 .dimensions-most)
 
-array-read-met : tie.Need-array-read-met
-array-read-met c =
-    let start = c .before .before .before .before .before .before .before in
+element-copy-out-met : tie.Need-element-copy-out-met
+element-copy-out-met c =
+    let start = c .before .before .before .before .before .before .before .before in
     omega (arith, c .if1 .taken, start .pre .0 .dimensions-most)
 
 add-met : tie.Need-add-met
 add-met c =
-    let start = c .before .before .before .before .before .before .before in
+    let start = c .before .before .before .before .before .before .before .before .before in
     omega (
       arith,
-      C.base-room (start .args .nest) (start .pre .0) (start .args .t2) (start .args .k) (start .pre .1 .0) (start .pre .1 .1),
+      C.base-room (start .args .nest) (start .pre .0) (start .args .at .now) (start .args .k) (start .pre .1 .0) (start .pre .1 .1),
       start .pre .1 .1 _ (start .pre .0 .bounded-low _ (start .pre .1 .0)),
     )
 
@@ -117,17 +117,17 @@ kept-requires c κs = search needs
 
 returns : tie.Need-returns
 returns c =
-    let start = c .before .before .before .before .before .before .before .before .before in
-    C.cut-other (start .args .nest) (start .pre .0) (start .args .t2) (start .args .k) (start .pre .1 .0) _ _ _ _
-    (c .before .before .if1 .taken) refl (c .before .met .ensures) (c .kept .ensures)
+    let start = c .before .before .before .before .before .before .before .before .before .before .before in
+    C.cut-other (start .args .nest) (start .pre .0) (start .args .at .now) (start .args .k) (start .pre .1 .0) _ _ _ _
+    (c .before .before .before .if1 .taken) refl (c .before .met .ensures) (c .kept .ensures)
 
 above-requires : tie.Need-above-requires
 above-requires c κs = search needs
 
 returns-2 : tie.Need-returns-2
 returns-2 c =
-    let start = c .before .before .before .before .before .before .before .before .before in
-    C.cut-lower (start .args .nest) (start .pre .0) (start .args .t2) (start .args .k) (start .pre .1 .0) _ _ _
+    let start = c .before .before .before .before .before .before .before .before .before .before in
+    C.cut-lower (start .args .nest) (start .pre .0) (start .args .at .now) (start .args .k) (start .pre .1 .0) _ _ _
     (c .before .before .if1 .left) refl (c .before .if2 .taken) (c .above .ensures)
 
 below-requires : tie.Need-below-requires
@@ -135,8 +135,8 @@ below-requires c κs = search needs
 
 returns-3 : tie.Need-returns-3
 returns-3 c =
-    let start = c .before .before .before .before .before .before .before .before .before in
-    C.cut-upper (start .args .nest) (start .pre .0) (start .args .t2) (start .args .k) (start .pre .1 .0) _ _ _
+    let start = c .before .before .before .before .before .before .before .before .before .before in
+    C.cut-upper (start .args .nest) (start .pre .0) (start .args .at .now) (start .args .k) (start .pre .1 .0) _ _ _
     (c .before .before .if1 .left) refl (c .before .if2 .left) (c .below .ensures)
 
 pub cut-spec : {M : Type 1} → statement M
@@ -148,7 +148,7 @@ cut-spec =
     array-read-before
     cast-before
     mul-before
-    array-read-before-2
+    element-copy-out-before
     array-read-level
     cast-level
     mul-level
@@ -160,7 +160,7 @@ cut-spec =
     array-read-lower
     add-if1
     mul-met
-    array-read-met
+    element-copy-out-met
     add-met
     met-requires
     kept-requires

@@ -61,7 +61,7 @@ mul-number-3 c =
     let start = c .before .before .before .before in
     omega (
       arith,
-      S.number-room (start .args .nest) (start .pre .0 .0) (start .pre .0 .1) (start .args .t2) (start .pre .1)
+      S.number-room (start .args .nest) (start .pre .0 .0) (start .pre .0 .1) (start .args .at .now) (start .pre .1)
           (c .before .loop .j) (c .before .loop .number) (c .loop-test .taken) (c .before .loop .inv .1),
     )
 
@@ -70,46 +70,46 @@ mul-number-4 c =
     let start = c .before .before .before .before in
     omega (arith, c .loop-test .taken, start .pre .0 .0 .dimensions-most)
 
-array-read-number-3 : tie.Need-array-read-number-3 Inv-loop μ-loop
-array-read-number-3 c =
+element-copy-out-number : tie.Need-element-copy-out-number Inv-loop μ-loop
+element-copy-out-number c =
     let start = c .before .before .before .before in
     omega (arith, c .loop-test .taken, start .pre .0 .0 .dimensions-most)
 
 mul-number-5 : tie.Need-mul-number-5 Inv-loop μ-loop
 mul-number-5 c =
-    let start = c .before .before .before .before in
-    omega (arith, c .loop-test .taken, start .pre .0 .0 .dimensions-most)
+    let start = c .before .before .before .before .before in
+    omega (arith, c .before .loop-test .taken, start .pre .0 .0 .dimensions-most)
 
-array-read-number-4 : tie.Need-array-read-number-4 Inv-loop μ-loop
-array-read-number-4 c =
-    let start = c .before .before .before .before in
-    omega (arith, c .loop-test .taken, start .pre .0 .0 .dimensions-most)
+array-read-number-3 : tie.Need-array-read-number-3 Inv-loop μ-loop
+array-read-number-3 c =
+    let start = c .before .before .before .before .before in
+    omega (arith, c .before .loop-test .taken, start .pre .0 .0 .dimensions-most)
 
 div-number-2 : tie.Need-div-number-2 Inv-loop μ-loop
 div-number-2 c =
-    let start = c .before .before .before .before in
-    start .pre .0 .1 _ (c .loop-test .taken)
+    let start = c .before .before .before .before .before in
+    start .pre .0 .1 _ (c .before .loop-test .taken)
 
 add-number-2 : tie.Need-add-number-2 Inv-loop μ-loop
 unfolding tileCount
 add-number-2 c =
-    let start = c .before .before .before .before in
+    let start = c .before .before .before .before .before in
     omega (
       arith,
-      S.number-room (start .args .nest) (start .pre .0 .0) (start .pre .0 .1) (start .args .t2) (start .pre .1)
-          (c .before .loop .j) (c .before .loop .number) (c .loop-test .taken) (c .before .loop .inv .1),
+      S.number-room (start .args .nest) (start .pre .0 .0) (start .pre .0 .1) (start .args .at .now) (start .pre .1)
+          (c .before .before .loop .j) (c .before .before .loop .number) (c .before .loop-test .taken) (c .before .before .loop .inv .1),
     )
 
 add-j : tie.Need-add-j Inv-loop μ-loop
 add-j c =
-    let start = c .before .before .before .before in
-    omega (arith, c .loop-test .taken, start .pre .0 .0 .dimensions-most)
+    let start = c .before .before .before .before .before in
+    omega (arith, c .before .loop-test .taken, start .pre .0 .0 .dimensions-most)
 
 loop-less : tie.Need-loop-less Inv-loop μ-loop
-loop-less c = omega (arith, c .loop-test .taken)
+loop-less c = omega (arith, c .before .loop-test .taken)
 
 loop-again : tie.Need-loop-again Inv-loop μ-loop
-loop-again c = (omega (arith, c .loop-test .taken), S.number-next _ _ _ _ (c .before .loop .inv .1))
+loop-again c = (omega (arith, c .before .loop-test .taken), S.number-next _ _ _ _ (c .before .before .loop .inv .1))
 
 returns : tie.Need-returns Inv-loop μ-loop
 unfolding tileAt tileCount
@@ -131,9 +131,9 @@ tile-at-spec =
     add-number
     mul-number-3
     mul-number-4
-    array-read-number-3
+    element-copy-out-number
     mul-number-5
-    array-read-number-4
+    array-read-number-3
     div-number-2
     add-number-2
     add-j

@@ -1,59 +1,59 @@
--- `mark_brought` meets its contract: by the message's line.
+-- `mark_brought` meets its contract: by the slot's byte.
 use native.Mathlib.Omega.{arith}
 use Rattle.plan.specs.Shaped.{planOf}
+use Rattle.own.proofs.Chains as chains
 use Rattle.own.proofs.Brought as brings
 use borrow.Author.Needs.{needs}
 use Rattle.own.proofs.mark_brought.Statement.{statement}
 use Rattle.own.proofs.mark_brought.Tie as tie
 
-line-at-requires : tie.Need-line-at-requires
-line-at-requires c κs = search needs
+sub-mark-held : tie.Need-sub-mark-held
+sub-mark-held c = search needs
 
-sub-unpack : tie.Need-sub-unpack
-sub-unpack c = search needs
+part-mark-held-start : tie.Need-part-mark-held-start
+part-mark-held-start c = search needs
 
-part-unpack-start : tie.Need-part-unpack-start
-part-unpack-start c = search needs
+part-mark-held-end : tie.Need-part-mark-held-end
+part-mark-held-end c = search needs
 
-part-unpack-end : tie.Need-part-unpack-end
-part-unpack-end c =
-    let S = c .before .before .before .before .before .before in
-    omega (arith, S .pre .1 .1 .1, brings.ones-long (S .args .ones .now) 16384 (S .pre .1 .0))
-
-unpack-requires : tie.Need-unpack-requires
-unpack-requires c κs =
-    let S = c .before .before .before .before .before .before .before in (
-      (S .pre .0 .0 .0, (S .pre .0 .0 .1, S .pre .0 .1)),
-      (S .pre .1 .1 .0, brings.ones-some (S .args .ones .now) 16384 (S .pre .1 .0) (S .args .place .words) (S .pre .1 .1 .1)),
-    )
+mark-held-requires : tie.Need-mark-held-requires
+mark-held-requires c κs = search needs
 
 same-length : tie.Need-same-length
 same-length c = search needs
 
+same-length-2 : tie.Need-same-length-2
+same-length-2 c = search needs
+
 returns : tie.Need-returns
 returns c =
     let S = c .before .before .before .before .before .before .before .before .before .before in
-    let line-at = c .before .before .before .before .before .before .before .line-at in
-    brings.brought (planOf (S .args .sizes .route) (S .args .nest)) (S .args .b) (S .args .place .number) (line-at .result) (line-at .ensures)
-    (S .args .marks .now) _ (S .args .ones .now) 16384 (S .args .place .words) (S .pre .1 .0) (S .pre .1 .1 .1)
-    (c .before .before .before .before .before .if1 .taken) (c .before .before .unpack .ensures)
+    let x = S .args .nest in
+    let z = S .args .sizes in
+    let ends = chains.ends x z (S .pre .0 .0 .0 .accepted) (S .pre .0 .0 .1 .routed) (S .args .place .number) (S .args .place) (S .pre .0 .1) in
+    let takes = chains.side-takes (z .route) x (S .args .b) _ _ (S .args .side) (S .pre .1 .0) _ (ends .1) in
+    brings.brought (planOf (z .route) x) (S .args .b) (S .args .place .number) (S .args .side) takes (S .args .marks .now) _
+    (c .before .before .before .before .before .before .before .if1 .taken) (c .before .before .before .before .mark-held .ensures)
 
 returns-2 : tie.Need-returns-2
 returns-2 c =
-    let S = c .before .before .before .before .before in
-    let line-at = c .before .before .line-at in
-    brings.elsewhere (planOf (S .args .sizes .route) (S .args .nest)) (S .args .b) (S .args .place .number) (line-at .result) (line-at .ensures)
-    (S .args .marks .now) _ (c .if1 .left)
+    let S = c .before .before .before in
+    let x = S .args .nest in
+    let z = S .args .sizes in
+    let ends = chains.ends x z (S .pre .0 .0 .0 .accepted) (S .pre .0 .0 .1 .routed) (S .args .place .number) (S .args .place) (S .pre .0 .1) in
+    let takes = chains.side-takes (z .route) x (S .args .b) _ _ (S .args .side) (S .pre .1 .0) _ (ends .1) in
+    brings.elsewhere (planOf (z .route) x) (S .args .b) (S .args .place .number) (S .args .side) takes (S .args .marks .now) _
+    (omega (arith, c .if1 .left))
 
 pub mark-brought-spec : {M : Type 1} → statement M
 mark-brought-spec =
     tie.close
     (tie.spec
-    line-at-requires
-    sub-unpack
-    part-unpack-start
-    part-unpack-end
-    unpack-requires
+    sub-mark-held
+    part-mark-held-start
+    part-mark-held-end
+    mark-held-requires
     same-length
+    same-length-2
     returns
     returns-2)

@@ -19,8 +19,21 @@ shared-slice-read-if1 c = search needs
 
 calculate-stage-requires : tie.Need-calculate-stage-requires
 calculate-stage-requires c κs =
-    let S = c .before .before .before .before .before .before .before .before .before .before .before .before in
-    ((S .pre .0 .0, S .pre .1 .0 .lengths .memory), ((S .pre .1 .1 .0 .low, (S .pre .0 .1, S .pre .1 .1 .0 .few)), S .pre .1 .0 .own))
+    let S = c .before .before .before .before .before .before .before .before .before .before in
+    let A = S .args in (
+      (S .pre .0, S .pre .1 .0 .lengths .memory),
+      (
+        (
+          S .pre .1 .1 .0 .low,
+          (
+            stage.stands-own (planOf (A .sizes .route) (A .nest)) (A .progress .now) (A .b)
+                (A .tile) (S .pre .1 .1 .0),
+            S .pre .1 .1 .0 .few,
+          ),
+        ),
+        S .pre .1 .0 .own,
+      ),
+    )
 
 done-requires : tie.Need-done-requires
 done-requires c κs = search needs
@@ -28,20 +41,16 @@ done-requires c κs = search needs
 same-length : tie.Need-same-length
 same-length c = search needs
 
-same-length-2 : tie.Need-same-length-2
-same-length-2 c = search needs
-
 returns : tie.Need-returns
 returns c =
-    let at-calculate-stage = c .before .before .before .before .before in
-    let calculate-stage = at-calculate-stage .calculate-stage in
-    let at-if1 = at-calculate-stage .before .before .before in
-    let if1 = at-if1 .if1 in
-    let S = at-if1 .before .before .before .before .before .before .before .before .before .before in
+    let S = c .before .before .before .before .before .before .before .before .before .before .before .before .before .before in
     let A = S .args in
+    let done = c .done in
+    let calculate-stage = c .before .before .before .calculate-stage in
+    let if1 = c .before .before .before .before .before .if1 in
     let p = planOf (A .sizes .route) (A .nest) in
     let s = stateOf (A .memory .now) (A .mail .now) (A .progress .now) (A .marks .now) in
-    reading.does (c .done .result) (calculate-stage .result) (c .done .ensures) _ _ _ _ 0 _ (turned.calculates p (A .b) (A .source .now) s (S .pre .1 .0)
+    reading.does (done .result) (calculate-stage .result) (done .ensures) _ _ _ _ 0 _ (turned.calculates p (A .b) (A .source .now) s (S .pre .1 .0)
     (getD (A .progress .now) 0 0) (length (tilesOf p (A .b))) refl refl (A .tile) (getD (A .progress .now) 1 0) ((S .pre .1 .1 .0) .left)
     ((S .pre .1 .1 .0) .tile) refl (if1 .taken) _ (calculate-stage .ensures (A .mail .now) (A .progress .now) (A .marks .now)
     (record { memory = S .pre .1 .0 .lengths .memory; mail = S .pre .1 .0 .lengths .mail; marks = S .pre .1 .0 .lengths .marks })
@@ -55,17 +64,15 @@ word-index-requires c κs = search needs
 
 send-stage-requires : tie.Need-send-stage-requires
 send-stage-requires c κs =
-    let at-word-index = c .before .before .before .before in
-    let word-index = at-word-index .word-index in
-    let at-if1 = at-word-index .before .before in
-    let if1 = at-if1 .if1 in
-    let S = at-if1 .before .before .before .before .before .before .before .before .before .before in
+    let S = c .before .before .before .before .before .before .before .before .before .before .before .before .before .before in
     let A = S .args in
+    let word-index = c .before .before .before .word-index in
+    let if1 = c .before .before .before .before .before .if1 in
     let p = planOf (A .sizes .route) (A .nest) in
     let s = stateOf (A .memory .now) (A .mail .now) (A .progress .now) (A .marks .now) in (
-      (S .pre .0 .0, record { memory = S .pre .1 .0 .lengths .memory; mail = S .pre .1 .0 .lengths .mail; marks = S .pre .1 .0 .lengths .marks }),
+      (S .pre .0, record { memory = S .pre .1 .0 .lengths .memory; mail = S .pre .1 .0 .lengths .mail; marks = S .pre .1 .0 .lengths .marks }),
       (
-        (S .pre .1 .1 .0 .low, (stage.stands-own p (A .progress .now) (A .b) (A .tile) (S .pre .1 .1 .0), S .pre .0 .1)),
+        (S .pre .1 .1 .0 .low, stage.stands-own p (A .progress .now) (A .b) (A .tile) (S .pre .1 .1 .0)),
         (
           S .pre .1 .1 .0 .few,
           turned.sends-left p (A .b) (A .source .now) s (S .pre .1 .0) (getD (A .progress .now) 0 0) (length (tilesOf p (A .b))) refl refl
@@ -78,31 +85,28 @@ send-stage-requires c κs =
 done-requires-2 : tie.Need-done-requires-2
 done-requires-2 c κs = search needs
 
+same-length-2 : tie.Need-same-length-2
+same-length-2 c = search needs
+
 same-length-3 : tie.Need-same-length-3
 same-length-3 c = search needs
 
 same-length-4 : tie.Need-same-length-4
 same-length-4 c = search needs
 
-same-length-5 : tie.Need-same-length-5
-same-length-5 c = search needs
-
-same-length-6 : tie.Need-same-length-6
-same-length-6 c = search needs
-
 returns-2 : tie.Need-returns-2
 returns-2 c =
-    let at-send-stage = c .before .before .before .before .before .before .before in
-    let send-stage = at-send-stage .send-stage in
-    let at-word-index = at-send-stage .before .before .before .before .before in
-    let word-index = at-word-index .word-index in
-    let at-if1 = at-word-index .before .before in
-    let if1 = at-if1 .if1 in
-    let S = at-if1 .before .before .before .before .before .before .before .before .before .before in
+    let S =
+    c .before .before .before .before .before .before .before .before .before .before .before .before .before .before .before .before .before .before
+    .before .before in
     let A = S .args in
+    let done2 = c .done2 in
+    let send-stage = c .before .before .before .before .before .send-stage in
+    let word-index = c .before .before .before .before .before .before .before .before .before .word-index in
+    let if1 = c .before .before .before .before .before .before .before .before .before .before .before .if1 in
     let p = planOf (A .sizes .route) (A .nest) in
     let s = stateOf (A .memory .now) (A .mail .now) (A .progress .now) (A .marks .now) in
-    reading.does (c .done2 .result) (send-stage .result) (c .done2 .ensures) _ _ _ _ 0 _ (turned.sends p (A .b) (A .source .now) s (S .pre .1 .0)
+    reading.does (done2 .result) (send-stage .result) (done2 .ensures) _ _ _ _ 0 _ (turned.sends p (A .b) (A .source .now) s (S .pre .1 .0)
     (getD (A .progress .now) 0 0) (length (tilesOf p (A .b))) refl refl (A .tile) (getD (A .progress .now) 1 0) ((S .pre .1 .1 .0) .left)
     ((S .pre .1 .1 .0) .tile) refl (word-index .result) (word-index .ensures) (S .pre .1 .1 .1) (if1 .left) _
     (send-stage .ensures (A .progress .now) (S .pre .1 .0 .lengths .progress) refl (word-index .ensures)))
@@ -116,14 +120,12 @@ later-stage-spec =
     calculate-stage-requires
     done-requires
     same-length
-    same-length-2
     returns
     shared-slice-read-word-index
     word-index-requires
     send-stage-requires
     done-requires-2
+    same-length-2
     same-length-3
     same-length-4
-    same-length-5
-    same-length-6
     returns-2)

@@ -16,48 +16,44 @@ word-index-requires : tie.Need-word-index-requires
 word-index-requires c κs = search needs
 
 tile-count-requires : tie.Need-tile-count-requires
-tile-count-requires c κs = search needs
+tile-count-requires c κs =
+    let S = c .before .before .before .before .before .before .before .before in
+    S .pre .0 .known .planned
 
 refused-requires : tie.Need-refused-requires
 refused-requires c κs = search needs
 
 returns : tie.Need-returns
 returns c =
-    let at-if1 = c .before in
-    let if1 = at-if1 .if1 in
-    let at-tile-count = at-if1 .before in
-    let tile-count = at-tile-count .tile-count in
-    let at-word-index = at-tile-count .before in
-    let word-index = at-word-index .word-index in
-    let S = at-word-index .before .before .before .before .before .before .before .before .before in
+    let S = c .before .before .before .before .before .before .before .before .before .before .before in
     let A = S .args in
+    let refused = c .refused in
+    let word-index = c .before .before .before .word-index in
+    let tile-count = c .before .before .tile-count in
+    let if1 = c .before .if1 in
     let p = planOf (A .sizes .route) (A .nest) in
     let s = stateOf (A .memory .now) (A .mail .now) (A .progress .now) (A .marks .now) in
-    reading.refuses (c .refused .result) 13 (c .refused .ensures) (λ q. omega arith) s 0 _ (turned.stops-over p (A .b) (A .source .now) s (S .pre .1)
+    reading.refuses (refused .result) 13 (refused .ensures) (λ q. omega arith) s 0 _ (turned.stops-over p (A .b) (A .source .now) s (S .pre .1)
     (word-index .result) (tile-count .result) (word-index .ensures) (tile-count .ensures .0) (if1 .taken))
 
 tile-at-requires : tie.Need-tile-at-requires
 tile-at-requires c κs =
-    let at-tile-count = c .before in
-    let tile-count = at-tile-count .tile-count in
-    let S = at-tile-count .before .before .before .before .before .before .before .before .before .before in
-    (S .pre .0 .0 .planned .0, (S .pre .0 .0 .planned .1, omega (arith, tile-count .ensures .0, c .if1 .left)))
+    let S = c .before .before .before .before .before .before .before .before .before .before in
+    let tile-count = c .before .tile-count in
+    let if1 = c .if1 in
+    (S .pre .0 .known .planned .0, (S .pre .0 .known .planned .1, omega (arith, tile-count .ensures .0, if1 .left)))
 
 shared-slice-read-if2 : tie.Need-shared-slice-read-if2
 shared-slice-read-if2 c = search needs
 
 first-stage-requires : tie.Need-first-stage-requires
 first-stage-requires c κs =
-    let at-tile-at = c .before .before .before .before .before .before in
-    let tile-at = at-tile-at .tile-at in
-    let at-if1 = at-tile-at .before in
-    let if1 = at-if1 .if1 in
-    let at-tile-count = at-if1 .before in
-    let tile-count = at-tile-count .tile-count in
-    let at-word-index = at-tile-count .before in
-    let word-index = at-word-index .word-index in
-    let S = at-word-index .before .before .before .before .before .before .before .before .before in
+    let S = c .before .before .before .before .before .before .before .before .before .before .before .before .before .before .before .before in
     let A = S .args in
+    let tile-at = c .before .before .before .before .before .tile-at in
+    let word-index = c .before .before .before .before .before .before .before .before .word-index in
+    let tile-count = c .before .before .before .before .before .before .before .tile-count in
+    let if1 = c .before .before .before .before .before .before .if1 in
     let p = planOf (A .sizes .route) (A .nest) in (
       S .pre .0,
       (
@@ -76,33 +72,25 @@ same-length-2 c = search needs
 same-length-3 : tie.Need-same-length-3
 same-length-3 c = search needs
 
-same-length-4 : tie.Need-same-length-4
-same-length-4 c = search needs
-
 returns-2 : tie.Need-returns-2
 returns-2 c =
-    let at-first-stage = c .before .before .before .before .before .before in
-    let first-stage = at-first-stage .first-stage in
-    let at-if2 = at-first-stage .before .before .before .before .before in
-    let if2 = at-if2 .if2 in
-    let S = at-if2 .before .before .before .before .before .before .before .before .before .before .before .before .before .before in
+    let first-stage = c .before .before .before .before .first-stage in
+    let S =
+    c .before .before .before .before .before .before .before .before .before .before .before .before .before .before .before .before .before .before
+    .before .before .before in
     let A = S .args in
+    let if2 = c .before .before .before .before .before .before .before .before .if2 in
     first-stage .ensures (A .source .now) (S .pre .1) (if2 .taken)
 
 later-stage-requires : tie.Need-later-stage-requires
 later-stage-requires c κs =
-    let at-if2 = c .before .before .before .before in
-    let if2 = at-if2 .if2 in
-    let at-tile-at = at-if2 .before .before in
-    let tile-at = at-tile-at .tile-at in
-    let at-if1 = at-tile-at .before in
-    let if1 = at-if1 .if1 in
-    let at-tile-count = at-if1 .before in
-    let tile-count = at-tile-count .tile-count in
-    let at-word-index = at-tile-count .before in
-    let word-index = at-word-index .word-index in
-    let S = at-word-index .before .before .before .before .before .before .before .before .before in
+    let S = c .before .before .before .before .before .before .before .before .before .before .before .before .before .before .before .before in
     let A = S .args in
+    let tile-at = c .before .before .before .before .before .tile-at in
+    let word-index = c .before .before .before .before .before .before .before .before .word-index in
+    let tile-count = c .before .before .before .before .before .before .before .tile-count in
+    let if1 = c .before .before .before .before .before .before .if1 in
+    let if2 = c .before .before .before .if2 in
     let p = planOf (A .sizes .route) (A .nest) in (
       S .pre .0,
       (
@@ -115,17 +103,14 @@ later-stage-requires c κs =
       ),
     )
 
+same-length-4 : tie.Need-same-length-4
+same-length-4 c = search needs
+
 same-length-5 : tie.Need-same-length-5
 same-length-5 c = search needs
 
 same-length-6 : tie.Need-same-length-6
 same-length-6 c = search needs
-
-same-length-7 : tie.Need-same-length-7
-same-length-7 c = search needs
-
-same-length-8 : tie.Need-same-length-8
-same-length-8 c = search needs
 
 returns-3 : tie.Need-returns-3
 returns-3 c = search needs
@@ -145,11 +130,9 @@ step-spec =
     same-length
     same-length-2
     same-length-3
-    same-length-4
     returns-2
     later-stage-requires
+    same-length-4
     same-length-5
     same-length-6
-    same-length-7
-    same-length-8
     returns-3)

@@ -7,14 +7,14 @@ use Rattle.run_cases.proofs.run.Statement.{statement}
 use Rattle.run_cases.proofs.run.Tie as tie
 
 abbrev Inv-loop : tie.InvT-loop
-Inv-loop fd recipe₀ source₀ memories₀ buffer₀ progress₀ status₀ grid₀ lent₀ record₀ records₀
-    recipe source memories buffer progress status grid lent «record» records =
+Inv-loop fd recipe₀ source₀ memories₀ buffer₀ progress₀ status₀ grid₀ lent₀ bytes₀ records₀
+    recipe source memories buffer progress status grid lent bytes records =
     (length recipe ≡ 512) × (length source ≡ 1024) × (length memories ≡ 4096) × (length buffer ≡ 7168) × (length progress ≡ 192)
-    × (length status ≡ 7168) × (length grid ≡ 1024) × (length lent ≡ 8) × (length «record» ≡ 16)
+    × (length status ≡ 7168) × (length grid ≡ 1024) × (length lent ≡ 8) × (length bytes ≡ 16)
 
 abbrev μ-loop : tie.MeasureT-loop
-μ-loop fd recipe₀ source₀ memories₀ buffer₀ progress₀ status₀ grid₀ lent₀ record₀ records₀
-    recipe source memories buffer progress status grid lent «record» records =
+μ-loop fd recipe₀ source₀ memories₀ buffer₀ progress₀ status₀ grid₀ lent₀ bytes₀ records₀
+    recipe source memories buffer progress status grid lent bytes records =
     records
 
 loop-holds : tie.Need-loop-holds Inv-loop μ-loop
@@ -32,14 +32,14 @@ read-full-requires c κs = search needs
 returns : tie.Need-returns Inv-loop μ-loop
 returns c = search needs
 
+record-of-requires : tie.Need-record-of-requires Inv-loop μ-loop
+record-of-requires c κs = search needs
+
 slice-aggregate-arrange : tie.Need-slice-aggregate-arrange Inv-loop μ-loop
 slice-aggregate-arrange c = search needs
 
 slice-aggregate-arrange-2 : tie.Need-slice-aggregate-arrange-2 Inv-loop μ-loop
 slice-aggregate-arrange-2 c = search needs
-
-slice-aggregate-arrange-3 : tie.Need-slice-aggregate-arrange-3 Inv-loop μ-loop
-slice-aggregate-arrange-3 c = search needs
 
 arrange-requires : tie.Need-arrange-requires Inv-loop μ-loop
 arrange-requires c κs = search needs
@@ -74,9 +74,6 @@ slice-aggregate-act-on-lent-7 c = search needs
 slice-aggregate-act-on-lent-8 : tie.Need-slice-aggregate-act-on-lent-8 Inv-loop μ-loop
 slice-aggregate-act-on-lent-8 c = search needs
 
-slice-aggregate-act-on-lent-9 : tie.Need-slice-aggregate-act-on-lent-9 Inv-loop μ-loop
-slice-aggregate-act-on-lent-9 c = search needs
-
 act-on-lent-requires : tie.Need-act-on-lent-requires Inv-loop μ-loop
 act-on-lent-requires c κs = search needs
 
@@ -100,9 +97,9 @@ run-spec =
     slice-aggregate-read-full
     read-full-requires
     returns
+    record-of-requires
     slice-aggregate-arrange
     slice-aggregate-arrange-2
-    slice-aggregate-arrange-3
     arrange-requires
     loop-less
     loop-again
@@ -114,7 +111,6 @@ run-spec =
     slice-aggregate-act-on-lent-6
     slice-aggregate-act-on-lent-7
     slice-aggregate-act-on-lent-8
-    slice-aggregate-act-on-lent-9
     act-on-lent-requires
     loop-less-2
     loop-again-2

@@ -11,16 +11,16 @@ use Rattle.shaped_table.proofs.copy_tile.Statement.{statement}
 use Rattle.shaped_table.proofs.copy_tile.Tie as tie
 
 abbrev Inv-loop : tie.InvT-loop
-Inv-loop nest sizes lens₀ tile n way₀ lens way = Filling nest lens (tile * directions nest + way) × (way ≤ n)
+Inv-loop nest sizes lens₀ tile p n way₀ lens way = Filling nest lens (tile * directions nest + way) × (way ≤ n)
 
 abbrev μ-loop : tie.MeasureT-loop
-μ-loop nest sizes lens₀ tile n way₀ lens way = n - way
+μ-loop nest sizes lens₀ tile p n way₀ lens way = n - way
 
 loop-holds : tie.Need-loop-holds Inv-loop μ-loop
 loop-holds c = (rw (add-zero (c .args .tile * directions (c .args .nest))) (c .pre .1 .1), omega arith)
 
-length-before-requires : tie.Need-length-before-requires Inv-loop μ-loop
-length-before-requires c κs =
+length-as-requires : tie.Need-length-as-requires Inv-loop μ-loop
+length-as-requires c κs =
     let start = c .before .before .before in (
       start .pre .0,
       (
@@ -128,7 +128,7 @@ loop-again c =
       L.fill-step _ (start .pre .0 .0 .accepted) _ _ _ _ _
           (L.ways-are (start .args .nest) (start .pre .0 .0 .accepted) (start .args .sizes .ways) (start .args .sizes .route) (start .pre .0 .0 .ways)
           (start .pre .0 .1 .0))
-          (c .before .before .before .loop .inv .0) (start .pre .1 .0) (loop-test .taken) (c .length-before .ensures),
+          (c .before .before .before .loop .inv .0) (start .pre .1 .0) (loop-test .taken) (c .length-as .ensures),
       omega (arith, loop-test .taken),
     )
 
@@ -148,7 +148,7 @@ copy-tile-spec =
     Inv-loop
     μ-loop
     loop-holds
-    length-before-requires
+    length-as-requires
     mul-lens
     add-lens
     mul-lens-2

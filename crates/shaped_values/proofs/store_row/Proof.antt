@@ -8,11 +8,11 @@ use Rattle.shaped_values.proofs.store_row.Statement.{statement}
 use Rattle.shaped_values.proofs.store_row.Tie as tie
 
 abbrev Inv-loop : tie.InvT-loop
-Inv-loop source memory₀ shift boundary n firsts ends backs weights cell component width y₀ memory y =
-    Rowing (mixedAlong n firsts ends backs weights boundary shift source cell component) memory₀ memory cell width y
+Inv-loop source memory₀ shift boundary n firsts ends backs weights from cell component width y₀ memory y =
+    Rowing (mixedAlong n firsts ends backs weights boundary shift source from cell component) memory₀ memory cell width y
 
 abbrev μ-loop : tie.MeasureT-loop
-μ-loop source memory₀ shift boundary n firsts ends backs weights cell component width y₀ memory y = width - y
+μ-loop source memory₀ shift boundary n firsts ends backs weights from cell component width y₀ memory y = width - y
 
 loop-holds : tie.Need-loop-holds Inv-loop μ-loop
 loop-holds c = rowing-none _ _ _ _
@@ -20,10 +20,15 @@ loop-holds c = rowing-none _ _ _ _
 add-value-at : tie.Need-add-value-at Inv-loop μ-loop
 add-value-at c =
     let s = c .before .before .before .before .before in
-    omega (arith, s .pre .inner, s .pre .small, c .before .loop-test .taken)
+    omega (arith, s .pre .given, s .pre .few-given, c .before .loop-test .taken)
 
 add-value-at-2 : tie.Need-add-value-at-2 Inv-loop μ-loop
-add-value-at-2 c = omega (arith, c .before .before .before .before .before .pre .narrow, c .before .loop-test .taken)
+add-value-at-2 c =
+    let s = c .before .before .before .before .before in
+    omega (arith, s .pre .inner, s .pre .small, c .before .loop-test .taken)
+
+add-value-at-3 : tie.Need-add-value-at-3 Inv-loop μ-loop
+add-value-at-3 c = omega (arith, c .before .before .before .before .before .pre .narrow, c .before .loop-test .taken)
 
 value-at-requires : tie.Need-value-at-requires Inv-loop μ-loop
 value-at-requires c κs =
@@ -53,7 +58,7 @@ loop-less c = omega (arith, c .before .before .loop-test .taken)
 
 loop-again : tie.Need-loop-again Inv-loop μ-loop
 loop-again c =
-    rowing-more (c .before .before .before .loop .inv) _ (c .before .before .loop-test .taken) (along-at _ _ _ _ _ _ _ _ _ _ _ _ _ (c .value-at .ensures))
+    rowing-more (c .before .before .before .loop .inv) _ (c .before .before .loop-test .taken) (along-at _ _ _ _ _ _ _ _ _ _ _ _ _ _ (c .value-at .ensures))
 
 same-length : tie.Need-same-length Inv-loop μ-loop
 same-length c = rowing-long (c .before .loop .inv)
@@ -70,6 +75,7 @@ store-row-spec =
     loop-holds
     add-value-at
     add-value-at-2
+    add-value-at-3
     value-at-requires
     add-memory
     mul-memory

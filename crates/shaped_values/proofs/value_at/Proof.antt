@@ -10,17 +10,17 @@ use Rattle.shaped_values.proofs.value_at.Statement.{statement}
 use Rattle.shaped_values.proofs.value_at.Tie as tie
 
 abbrev Inv-loop : tie.InvT-loop
-Inv-loop source memory shift boundary n firsts ends backs weights cell component total₀ k₀ total k =
-    Mixing n weights (λ i. pick (between (getD firsts i 0) (getD ends i 0) component) (getD memory (cell - getD backs i 0) 0) boundary) (getD source cell 0)
+Inv-loop source memory shift boundary n firsts ends backs weights from cell component total₀ k₀ total k =
+    Mixing n weights (λ i. pick (between (getD firsts i 0) (getD ends i 0) component) (getD memory (cell - getD backs i 0) 0) boundary) (getD source from 0)
     total k
 
 abbrev μ-loop : tie.MeasureT-loop
-μ-loop source memory shift boundary n firsts ends backs weights cell component total₀ k₀ total k = n - k
+μ-loop source memory shift boundary n firsts ends backs weights from cell component total₀ k₀ total k = n - k
 
 word-of-requires : tie.Need-word-of-requires Inv-loop μ-loop
 word-of-requires c κs =
     let s = c .before .before in
-    (omega (arith, s .pre .inner, s .pre .same), omega (arith, s .pre .small, s .pre .same))
+    (omega (arith, s .pre .given), s .pre .few-given)
 
 loop-holds : tie.Need-loop-holds Inv-loop μ-loop
 loop-holds c = mixing-none _ _ _ _ _ (c .word-of .ensures)
@@ -105,7 +105,7 @@ closed-requires : tie.Need-closed-requires Inv-loop μ-loop
 closed-requires c κs = c .before .before .before .before .before .pre .divides
 
 returns : tie.Need-returns Inv-loop μ-loop
-returns c = mixing-end _ _ _ _ _ _ _ _ _ _ _ _ _ (c .before .before .loop .inv) (c .before .loop-test .left) _ (c .closed .ensures)
+returns c = mixing-end _ _ _ _ _ _ _ _ _ _ _ _ _ _ (c .before .before .loop .inv) (c .before .loop-test .left) _ (c .closed .ensures)
 
 pub value-at-spec : {M : Type 1} → statement M
 value-at-spec =

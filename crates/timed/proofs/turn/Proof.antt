@@ -1,7 +1,7 @@
-use mathlib.Core.Path.{refl, sym, ap, _∙_}
+-- The call without the record's store, and the records as it says.
+use mathlib.Core.Path.{sym, ap, _∙_}
 use Rattle.machine.specs.Machine.{State, stateOf, Answered}
 use Rattle.hours.specs.Hours.{hoursOf}
-use Rattle.engine.proofs.Reading as reading
 use Rattle.timed.proofs.Lines as lines
 use borrow.Author.Needs.{needs}
 use Rattle.timed.proofs.turn.Statement.{statement}
@@ -13,58 +13,35 @@ flat-of-requires c κs = tt
 turn-requires : tie.Need-turn-requires
 turn-requires c κs = search needs
 
+store-after-requires : tie.Need-store-after-requires
+store-after-requires c κs =
+    let at-turn = c .before .before .before .before .before .before .before in
+    let at-flat-of = at-turn .before .before in
+    let A = at-flat-of .before .before .before .before .before .before .before .before .before .before .before .args in
+    let done = at-turn .turn .ensures (A .progress .now) (at-flat-of .flat-of .ensures) in
+    λ z. lines.turn-inside (A .encoded .now) (A .route) (A .source .now) (hoursOf (A .hours .now) (A .minute))
+    (stateOf (A .memories .now) (A .buffer .now) (A .progress .now) (A .status .now)) (A .processor)
+    (ap (λ (x : Answered State). x .number) (sym done) ∙ z)
+
 same-length : tie.Need-same-length
-same-length c = c .before .before .before .before .before .before .before .turn .kept .1 .1 .1 .0
+same-length c = c .before .before .before .before .before .before .before .before .before .before .turn .kept .1 .1 .1 .0
 
 same-length-2 : tie.Need-same-length-2
-same-length-2 c = c .before .before .before .before .before .before .before .turn .kept .1 .1 .1 .1 .0
+same-length-2 c = c .before .before .before .before .before .before .before .before .before .before .turn .kept .1 .1 .1 .1 .0
 
 same-length-3 : tie.Need-same-length-3
-same-length-3 c = refl
+same-length-3 c = c .before .before .store-after .kept .0
 
 same-length-4 : tie.Need-same-length-4
-same-length-4 c = c .before .before .before .before .before .before .before .turn .kept .1 .1 .1 .1 .1 .1 .0
+same-length-4 c = c .before .before .before .before .before .before .before .before .before .before .turn .kept .1 .1 .1 .1 .1 .1 .0
 
 returns : tie.Need-returns
 returns c =
-    let at-turn = c .before .before .before .before .before .before .before in
+    let at-turn = c .before .before .before .before .before .before .before .before .before .before in
     let at-flat-of = at-turn .before .before in
-    let start = at-flat-of .before .before .before .before .before .before .before .before .before .before .before in
-    let A = start .args in
-    reading.left-out (at-turn .turn .result) _ _ (A .progress .now) _ (A .processor) _ (at-turn .turn .ensures (A .progress .now)
-    (at-flat-of .flat-of .ensures)) (c .if1 .taken)
-
-store-record-requires : tie.Need-store-record-requires
-store-record-requires c κs =
-    let at-turn = c .before .before .before .before .before .before .before .before .before in
-    let at-flat-of = at-turn .before .before in
-    let start = at-flat-of .before .before .before .before .before .before .before .before .before .before .before in
-    let A = start .args in
-    lines.turn-inside (A .encoded .now) (A .route) (A .source .now) (hoursOf (A .hours .now) (A .minute)) (stateOf (A .memories .now) (A .buffer .now)
-    (A .progress .now) (A .status .now)) (A .processor) (ap (λ (z : Answered State). z .number) (sym (at-turn .turn .ensures (A .progress .now)
-    (at-flat-of .flat-of .ensures))) ∙ c .before .before .if1 .left)
-
-same-length-5 : tie.Need-same-length-5
-same-length-5 c = c .before .before .before .before .before .before .before .before .before .before .before .before .turn .kept .1 .1 .1 .0
-
-same-length-6 : tie.Need-same-length-6
-same-length-6 c = c .before .before .before .before .before .before .before .before .before .before .before .before .turn .kept .1 .1 .1 .1 .0
-
-same-length-7 : tie.Need-same-length-7
-same-length-7 c = c .before .before .store-record .kept .0
-
-same-length-8 : tie.Need-same-length-8
-same-length-8 c = c .before .before .before .before .before .before .before .before .before .before .before .before .turn .kept .1 .1 .1 .1 .1 .1 .0
-
-returns-2 : tie.Need-returns-2
-returns-2 c =
-    let at-if1 = c .before .before .before .before .before in
-    let at-turn = at-if1 .before .before .before .before .before .before .before in
-    let at-flat-of = at-turn .before .before in
-    let start = at-flat-of .before .before .before .before .before .before .before .before .before .before .before in
-    let A = start .args in
-    reading.written-in (at-turn .turn .result) _ _ (A .progress .now) _ (A .processor) _ (at-turn .turn .ensures (A .progress .now)
-    (at-flat-of .flat-of .ensures)) (at-if1 .if1 .left) _ (c .before .before .store-record .ensures)
+    let A = at-flat-of .before .before .before .before .before .before .before .before .before .before .before .args in
+    let done = at-turn .turn .ensures (A .progress .now) (at-flat-of .flat-of .ensures) in
+    lines.turn-stored (at-turn .turn .result) _ _ (A .progress .now) _ (A .processor) _ done _ (c .before .before .store-after .ensures)
 
 pub turn-spec : {M : Type 1} → statement M
 turn-spec =
@@ -72,14 +49,9 @@ turn-spec =
     (tie.spec
     flat-of-requires
     turn-requires
+    store-after-requires
     same-length
     same-length-2
     same-length-3
     same-length-4
-    returns
-    store-record-requires
-    same-length-5
-    same-length-6
-    same-length-7
-    same-length-8
-    returns-2)
+    returns)

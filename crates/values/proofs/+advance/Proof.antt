@@ -40,12 +40,12 @@ advance-element-copy-out-component t c =
 
 advance-add-component : (t : ℕ) → advance-lts.Need-add-component (advance-below t, advance.Post) (advance-at t) advance.Post
 advance-add-component t c =
+    let start = c .before .before in
     record {
       fits = omega (
         arith,
-        inside-fits (c .before .before .args .lengths .now) (c .before .before .args .from .now) (c .before .before .args .at .now)
-            (c .before .before .args .left) (c .before .if1 .left) (omega (arith, c .before .before .pre .1 .0, c .before .before .pre .1 .1 .0 .low))
-            (c .before .before .pre .1 .1 .0) (c .before .before .pre .1 .1 .1),
+        inside-fits (start .args .lengths .now) (start .args .from .now) (start .args .at .now) (start .args .left)
+            (c .before .if1 .left) (omega (arith, start .pre .1 .0, start .pre .1 .1 .0 .low)) (start .pre .1 .1 .0) (start .pre .1 .1 .1),
       );
     }
 
@@ -67,7 +67,8 @@ advance-element-copy-out-if2-2 t c =
 
 advance-add-if2 : (t : ℕ) → advance-lts.Need-add-if2 (advance-below t, advance.Post) (advance-at t) advance.Post
 advance-add-if2 t c =
-    record { fits = omega (arith, c .before .before .before .before .pre .1 .1 .0 .small (c .before .before .before .before .args .left - 1) (omega arith)) }
+    let start = c .before .before .before .before in
+    record { fits = omega (arith, start .pre .1 .1 .0 .small (start .args .left - 1) (omega arith)) }
 
 advance-mul-at : (t : ℕ) → advance-lts.Need-mul-at (advance-below t, advance.Post) (advance-at t) advance.Post
 advance-mul-at t c =
@@ -78,14 +79,12 @@ advance-element-write-at t c =
     search needs
 
 advance-returns-2 : (t : ℕ) → advance-lts.Need-returns-2 (advance-below t, advance.Post) (advance-at t) advance.Post
-advance-returns-2 t c = (
-  length-set (c .before .before .before .before .before .args .at .now) _ _ ∙ c .before .before .before .before .before .pre .1 .0,
-  follows-step _ _ _ _ (c .before .before .before .before .if1 .left) (omega (
-    arith,
-    c .before .before .before .before .before .pre .1 .0,
-    c .before .before .before .before .before .pre .1 .1 .0 .low,
-  )) (c .if2 .taken),
-)
+advance-returns-2 t c =
+    let start = c .before .before .before .before .before in (
+      length-set (start .args .at .now) _ _ ∙ start .pre .1 .0,
+      follows-step _ _ _ _ (c .before .before .before .before .if1 .left)
+          (omega (arith, start .pre .1 .0, start .pre .1 .1 .0 .low)) (c .if2 .taken),
+    )
 
 advance-mul-at-2 : (t : ℕ) → advance-lts.Need-mul-at-2 (advance-below t, advance.Post) (advance-at t) advance.Post
 advance-mul-at-2 t c =
@@ -104,40 +103,27 @@ advance-element-write-at-2 t c =
     search needs
 
 advance-advance-requires : (t : ℕ) → advance-lts.Need-advance-requires (advance-below t, advance.Post) (advance-at t) advance.Post
-advance-advance-requires t c κs = (
-  omega arith,
-  (
-    length-set (c .before .before .before .before .before .before .before .args .at .now) _ _
-        ∙ c .before .before .before .before .before .before .before .pre .1 .0,
-    (
-      places-fewer _ _ (c .before .before .before .before .before .before .before .args .at .now) _
-          (c .before .before .before .before .before .before .if1 .left) (omega (
-            arith,
-            c .before .before .before .before .before .before .before .pre .1 .0,
-            c .before .before .before .before .before .before .before .pre .1 .1 .0 .low,
-          )) (c .before .before .before .before .before .before .before .pre .1 .1 .0),
-      inside-fewer _ _ _ _ (c .before .before .before .before .before .before .if1 .left)
-          (omega (
-            arith,
-            c .before .before .before .before .before .before .before .pre .1 .0,
-            c .before .before .before .before .before .before .before .pre .1 .1 .0 .low,
-          )) _
-          (c .before .before .before .before .before .before .before .pre .1 .1 .1),
-    ),
-  ),
-)
+advance-advance-requires t c κs =
+    let start = c .before .before .before .before .before .before .before in (
+      omega arith,
+      (
+        length-set (start .args .at .now) _ _ ∙ start .pre .1 .0,
+        (
+          places-fewer _ _ (start .args .at .now) _ (c .before .before .before .before .before .before .if1 .left)
+              (omega (arith, start .pre .1 .0, start .pre .1 .1 .0 .low)) (start .pre .1 .1 .0),
+          inside-fewer _ _ _ _ (c .before .before .before .before .before .before .if1 .left) (omega (arith, start .pre .1 .0, start .pre .1 .1 .0 .low)) _
+              (start .pre .1 .1 .1),
+        ),
+      ),
+    )
 
 advance-returns-3 : (t : ℕ) → advance-lts.Need-returns-3 (advance-below t, advance.Post) (advance-at t) advance.Post
-advance-returns-3 t c = (
-  c .advance .ensures .0,
-  follows-carry _ _ _ _ _ (c .before .before .before .before .before .before .before .if1 .left)
-      (omega (
-        arith,
-        c .before .before .before .before .before .before .before .before .pre .1 .0,
-        c .before .before .before .before .before .before .before .before .pre .1 .1 .0 .low,
-      ))
-      (c .before .before .before .before .before .before .before .before .pre .1 .1 .0) (c .before .before .before .if2 .left) (c .advance .ensures .1),
-)
+advance-returns-3 t c =
+    let start = c .before .before .before .before .before .before .before .before in (
+      c .advance .ensures .0,
+      follows-carry _ _ _ _ _ (c .before .before .before .before .before .before .before .if1 .left)
+          (omega (arith, start .pre .1 .0, start .pre .1 .1 .0 .low)) (start .pre .1 .1 .0) (c .before .before .before .if2 .left) (c .advance .ensures .1),
+    )
 
 pub +advance-spec : {M : Type 1} → statement M
 +advance-spec =

@@ -73,18 +73,22 @@ array-read-back c = omega (arith, c .before .before .loop-test .taken, c .before
 
 mul-back-2 : tie.Need-mul-back-2 Inv-loop μ-loop
 mul-back-2 c =
+    let at-loop = c .before .before .before in
+    let start = at-loop .before .before in
     omega (
       arith,
-      backing-fits _ _ _ _ _ _ (c .before .before .before .loop .inv) (c .before .before .loop-test .taken) _ (c .least .ensures)
-          (lengths-countable _ (c .before .before .before .before .before .pre .0)),
+      backing-fits _ _ _ _ _ _ (at-loop .loop .inv) (c .before .before .loop-test .taken) _ (c .least .ensures)
+          (lengths-countable _ (start .pre .0)),
     )
 
 add-back : tie.Need-add-back Inv-loop μ-loop
 add-back c =
+    let at-loop = c .before .before .before in
+    let start = at-loop .before .before in
     omega (
       arith,
-      backing-fits _ _ _ _ _ _ (c .before .before .before .loop .inv) (c .before .before .loop-test .taken) _ (c .least .ensures)
-          (lengths-countable _ (c .before .before .before .before .before .pre .0)),
+      backing-fits _ _ _ _ _ _ (at-loop .loop .inv) (c .before .before .loop-test .taken) _ (c .least .ensures)
+          (lengths-countable _ (start .pre .0)),
     )
 
 add-j : tie.Need-add-j Inv-loop μ-loop

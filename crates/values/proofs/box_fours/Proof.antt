@@ -11,12 +11,12 @@ use Rattle.values.proofs.box_fours.Statement.{statement}
 use Rattle.values.proofs.box_fours.Tie as tie
 
 abbrev Inv-loop : tie.InvT-loop
-Inv-loop body source memory₀ components lasts back weights margin grid lengths corner at₀ groups g₀ memory at g =
+Inv-loop body source memory₀ components lasts back weights margin grid lengths corner at₀ groups own g₀ memory at g =
     (g ≤ groups) × ((x : Nest) → RowsGiven (withBody x body) components lasts back weights margin source memory₀ grid lengths corner at₀ 0
     → Stored (withBody x body) source lengths corner memory₀ memory at 0 (4 * g))
 
 abbrev μ-loop : tie.MeasureT-loop
-μ-loop body source memory₀ components lasts back weights margin grid lengths corner at₀ groups g₀ memory at g = groups - g
+μ-loop body source memory₀ components lasts back weights margin grid lengths corner at₀ groups own g₀ memory at g = groups - g
 
 loop-holds : tie.Need-loop-holds Inv-loop μ-loop
 loop-holds c =
@@ -28,41 +28,38 @@ mul-four-rows c =
 
 four-rows-requires : tie.Need-four-rows-requires Inv-loop μ-loop
 four-rows-requires c κs =
-    let p = c .before .before .before .before .before .before .pre in (
+    let at-loop = c .before .before .before in
+    let start = at-loop .before .before .before in
+    let p = start .pre in (
       p .0,
       (
-        given-next _ _ _ _ _ _ (c .before .before .before .before .before .before .args .source .now)
-            (c .before .before .before .before .before .before .args .memory .now) _ _ _ _ _ (p .1 .0) _ _ _ (c .before .before .before .loop .inv .1 (p .0)
-            (p .1 .0)) (4 * c .before .before .before .loop .g) (omega arith),
+        given-next _ _ _ _ _ _ (start .args .source .now) (start .args .memory .now) _ _ _ _ _ (p .1 .0) _ _ _ (at-loop .loop .inv .1 (p .0) (p .1 .0))
+            (4 * at-loop .loop .g) (omega arith),
         omega (arith, c .before .before .loop-test .taken, p .1 .1),
       ),
     )
 
 add-g : tie.Need-add-g Inv-loop μ-loop
 add-g c =
-    omega (
-      arith,
-      c .before .before .before .before .before .loop-test .taken,
-      c .before .before .before .before .before .before .before .before .before .pre .1 .1,
-    )
+    let at-loop-test = c .before .before .before .before .before in
+    let start = at-loop-test .before .before .before .before in
+    omega (arith, at-loop-test .loop-test .taken, start .pre .1 .1)
 
 loop-less : tie.Need-loop-less Inv-loop μ-loop
 loop-less c =
     omega (arith, c .before .before .before .before .before .loop-test .taken)
 
 loop-again : tie.Need-loop-again Inv-loop μ-loop
-loop-again c = (
-  omega (arith, c .before .before .before .before .before .loop-test .taken),
-  λ x p.
-      let s = c .before .before .before .before .before .before .loop .inv .1 x p in
-      given-more _ _ _ _ _ _ (c .before .before .before .before .before .before .before .before .before .args .source .now)
-      (c .before .before .before .before .before .before .before .before .before .args .memory .now) _ _ _ _ _ p _ _ _ s
-      (4 * c .before .before .before .before .before .before .loop .g) 4 _ (omega arith) (omega arith) _ _
-      (c .before .before .four-rows .ensures x
-      (given-next _ _ _ _ _ _ (c .before .before .before .before .before .before .before .before .before .args .source .now)
-      (c .before .before .before .before .before .before .before .before .before .args .memory .now) _ _ _ _ _ p _ _ _ s
-      (4 * c .before .before .before .before .before .before .loop .g) (omega arith))),
-)
+loop-again c =
+    let at-loop-test = c .before .before .before .before .before in
+    let at-loop = at-loop-test .before in
+    let start = at-loop .before .before .before in (
+      omega (arith, at-loop-test .loop-test .taken),
+      λ x p. let s = at-loop .loop .inv .1 x p in given-more _ _ _ _ _ _ (start .args .source .now)
+          (start .args .memory .now) _ _ _ _ _ p _ _ _ s (4 * at-loop .loop .g) 4 _ (omega arith) (omega arith) _ _
+          (c .before .before .four-rows .ensures x (given-next _ _ _ _ _ _ (start .args .source .now) (start .args .memory .now) _ _ _ _ _ p _ _ _ s
+          (4 * at-loop .loop .g) (omega arith))),
+    )
 
 same-length : tie.Need-same-length Inv-loop μ-loop
 same-length c =

@@ -39,72 +39,61 @@ loop-holds c = (
 
 rank-of-requires : tie.Need-rank-of-requires Inv-loop μ-loop
 rank-of-requires c κs =
-    let p = c .before .before .before .before .before .before .pre in
-    let g = given-next _ _ _ _ _ _ (c .before .before .before .before .before .before .args .source .now)
-    (c .before .before .before .before .before .before .args .memory .now) _ _ _ _ _ (p .1 .0) _ _ _ (c .before .before .loop .inv .1 .1 (p .0) (p .1 .0))
-    (c .before .before .loop .r) (omega (arith, c .before .before .loop .inv .0)) in
-    given-ranked _ _ _ _ _ _ (c .before .before .before .before .before .before .args .source .now) (c .before .before .loop .memory) _ _ _ _ _ g
+    let at-loop = c .before .before in
+    let start = at-loop .before .before .before .before in
+    let p = start .pre in
+    let g = given-next _ _ _ _ _ _ (start .args .source .now) (start .args .memory .now) _ _ _ _ _ (p .1 .0) _ _ _
+    (at-loop .loop .inv .1 .1 (p .0) (p .1 .0)) (at-loop .loop .r) (omega (arith, at-loop .loop .inv .0)) in
+    given-ranked _ _ _ _ _ _ (start .args .source .now) (at-loop .loop .memory) _ _ _ _ _ g
 
 row-requires : tie.Need-row-requires Inv-loop μ-loop
 row-requires c κs =
-    let p = c .before .before .before .before .before .before .before .before .before .pre in
-    let g = given-next _ _ _ _ _ _ (c .before .before .before .before .before .before .before .before .before .args .source .now)
-    (c .before .before .before .before .before .before .before .before .before .args .memory .now) _ _ _ _ _ (p .1 .0) _ _ _
-    (c .before .before .before .before .before .loop .inv .1 .1 (p .0) (p .1 .0)) (c .before .before .before .before .before .loop .r)
-    (omega (arith, c .before .before .before .before .before .loop .inv .0)) in (
-      p .0,
-      given-row _ _ _ _ _ _ (c .before .before .before .before .before .before .before .before .before .args .source .now)
-          (c .before .before .before .before .before .loop .memory) _ _ _ _ _ g _ (c .before .before .rank-of .ensures),
-    )
+    let at-loop = c .before .before .before .before .before in
+    let start = at-loop .before .before .before .before in
+    let p = start .pre in
+    let g = given-next _ _ _ _ _ _ (start .args .source .now) (start .args .memory .now) _ _ _ _ _ (p .1 .0) _ _ _
+    (at-loop .loop .inv .1 .1 (p .0) (p .1 .0)) (at-loop .loop .r) (omega (arith, at-loop .loop .inv .0)) in
+    (p .0, given-row _ _ _ _ _ _ (start .args .source .now) (at-loop .loop .memory) _ _ _ _ _ g _ (c .before .before .rank-of .ensures))
 
 advance-requires : tie.Need-advance-requires Inv-loop μ-loop
 advance-requires c κs =
-    let p = c .before .before .before .before .before .before .before .before .before .before .before .before .before .pre in
-    let g = given-next _ _ _ _ _ _ (c .before .before .before .before .before .before .before .before .before .before .before .before .before .args .source
-    .now) (c .before .before .before .before .before .before .before .before .before .before .before .before .before .args .memory .now) _ _ _ _ _ (p .1 .0)
-    _ _ _ (c .before .before .before .before .before .before .before .before .before .loop .inv .1 .1 (p .0) (p .1 .0))
-    (c .before .before .before .before .before .before .before .before .before .loop .r)
-    (omega (arith, c .before .before .before .before .before .before .before .before .before .loop .inv .0)) in
-    given-inside _ _ _ _ _ _ (c .before .before .before .before .before .before .before .before .before .before .before .before .before .args .source .now)
-    (c .before .before .before .before .before .before .before .before .before .loop .memory) _ _ _ _ _ g
+    let at-loop = c .before .before .before .before .before .before .before .before .before in
+    let start = at-loop .before .before .before .before in
+    let p = start .pre in
+    let g = given-next _ _ _ _ _ _ (start .args .source .now) (start .args .memory .now) _ _ _ _ _ (p .1 .0) _ _ _
+    (at-loop .loop .inv .1 .1 (p .0) (p .1 .0)) (at-loop .loop .r) (omega (arith, at-loop .loop .inv .0)) in
+    given-inside _ _ _ _ _ _ (start .args .source .now) (at-loop .loop .memory) _ _ _ _ _ g
 
 add-r : tie.Need-add-r Inv-loop μ-loop
 add-r c =
-    omega (
-      arith,
-      c .before .before .before .before .before .before .before .before .before .loop-test .taken,
-      c .before .before .before .before .before .before .before .before .before .before .before .before .before .before .pre .1 .1 .1,
-    )
+    let at-loop-test = c .before .before .before .before .before .before .before .before .before in
+    let start = at-loop-test .before .before .before .before .before in
+    omega (arith, at-loop-test .loop-test .taken, start .pre .1 .1 .1)
 
 loop-less : tie.Need-loop-less Inv-loop μ-loop
 loop-less c =
-    omega (arith, c .before .before .before .before .before .before .before .before .before .loop-test .taken)
+    let at-loop-test = c .before .before .before .before .before .before .before .before .before in
+    omega (arith, at-loop-test .loop-test .taken)
 
 loop-again : tie.Need-loop-again Inv-loop μ-loop
-loop-again c = (
-  omega (arith, c .before .before .before .before .before .before .before .before .before .before .loop .inv .0),
-  (
-    omega (arith, c .before .before .before .before .before .before .before .before .before .loop-test .taken),
-    λ x p.
-        let s = c .before .before .before .before .before .before .before .before .before .before .loop .inv .1 .1 x p in
-        let g = given-next _ _ _ _ _ _ (c .before .before .before .before .before .before .before .before .before .before .before .before .before .before
-        .args .source .now) (c .before .before .before .before .before .before .before .before .before .before .before .before .before .before .args .memory
-        .now) _ _ _ _ _ p _ _ _ s (c .before .before .before .before .before .before .before .before .before .before .loop .r)
-        (omega (arith, c .before .before .before .before .before .before .before .before .before .before .loop .inv .0)) in
-        let h = given-row _ _ _ _ _ _ (c .before .before .before .before .before .before .before .before .before .before .before .before .before .before
-        .args .source .now) (c .before .before .before .before .before .before .before .before .before .before .loop .memory) _ _ _ _ _ g _
-        (c .before .before .before .before .before .before .before .rank-of .ensures) in
-        given-more _ _ _ _ _ _ (c .before .before .before .before .before .before .before .before .before .before .before .before .before .before .args
-        .source .now) (c .before .before .before .before .before .before .before .before .before .before .before .before .before .before .args .memory .now)
-        _ _ _ _ _ p _ _ _ s (c .before .before .before .before .before .before .before .before .before .before .loop .r) 1 _
-        (omega (arith, c .before .before .before .before .before .before .before .before .before .before .loop .inv .0))
-        (omega (arith, c .before .before .before .before .before .before .before .before .before .before .loop .inv .0)) _ _
-        (given-one _ _ _ _ _ _ (c .before .before .before .before .before .before .before .before .before .before .before .before .before .before .args
-        .source .now) (c .before .before .before .before .before .before .before .before .before .before .loop .memory) _ _ _ _ _ g _
-        (c .before .before .before .before .before .before .before .rank-of .ensures) _ _ (c .before .before .before .before .row .ensures x h)
-        (c .advance .ensures)),
-  ),
-)
+loop-again c =
+    let at-row = c .before .before .before .before in
+    let at-rank-of = at-row .before .before .before in
+    let at-loop-test = at-rank-of .before .before in
+    let at-loop = at-loop-test .before in
+    let start = at-loop .before .before .before .before in (
+      omega (arith, at-loop .loop .inv .0),
+      (
+        omega (arith, at-loop-test .loop-test .taken),
+        λ x p. let s = at-loop .loop .inv .1 .1 x p in
+            let g = given-next _ _ _ _ _ _ (start .args .source .now) (start .args .memory .now) _ _ _ _ _ p _ _ _ s (at-loop .loop .r)
+            (omega (arith, at-loop .loop .inv .0)) in let h = given-row _ _ _ _ _ _ (start .args .source .now) (at-loop .loop .memory) _ _ _ _ _ g _
+            (at-rank-of .rank-of .ensures) in given-more _ _ _ _ _ _ (start .args .source .now) (start .args .memory .now) _ _ _ _ _ p _ _ _ s
+            (at-loop .loop .r) 1 _
+            (omega (arith, at-loop .loop .inv .0)) (omega (arith, at-loop .loop .inv .0)) _ _ (given-one _ _ _ _ _ _ (start .args .source .now)
+            (at-loop .loop .memory) _ _ _ _ _ g _ (at-rank-of .rank-of .ensures) _ _ (at-row .row .ensures x h) (c .advance .ensures)),
+      ),
+    )
 
 same-length : tie.Need-same-length Inv-loop μ-loop
 same-length c =

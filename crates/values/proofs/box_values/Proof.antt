@@ -1,9 +1,14 @@
--- `values::box_values` meets its contract: by fours, then the rows that are left.
-use Prim.Native.Nat.{_*_, _-_}
+-- `values::box_values` meets its contract: what is made once, then all rows.
+use Prim.Native.Nat.{ℕ, _-_}
 use native.Mathlib.Omega.{arith}
-use mathlib.Core.Path.{refl}
-use Rattle.values.proofs.Boxes.{box-countable, stored-all}
-use Rattle.values.proofs.Rows.{given-box, given-next, given-more}
+use mathlib.Core.Path.{refl, ap, _∙_}
+use lib.ListN.{getD}
+use Rattle.base.specs.Lists.{storeAll}
+use Rattle.plan.specs.Geometry.{value}
+use Rattle.bands.specs.Bands.{rowsOf}
+use Rattle.values.specs.Boxes.{rowAt}
+use Rattle.values.proofs.Boxes.{box-countable}
+use Rattle.values.proofs.Rows.{given-box}
 use borrow.Author.Needs.{needs}
 use Rattle.values.proofs.box_values.Statement.{statement}
 use Rattle.values.proofs.box_values.Tie as tie
@@ -14,24 +19,28 @@ backs-of-requires c κs =
 
 margins-of-requires : tie.Need-margins-of-requires
 margins-of-requires c κs =
-    ((c .before .before .before .before .before .before .before .before .pre .0), record { is = refl })
+    let start = c .before .before .before .before .before .before .before .before in
+    ((start .pre .0), record { is = refl })
 
 lasts-of-requires : tie.Need-lasts-of-requires
 lasts-of-requires c κs =
-    ((c .before .before .before .before .before .before .before .before .before .before .pre .0), record { is = refl })
+    let start = c .before .before .before .before .before .before .before .before .before .before in
+    ((start .pre .0), record { is = refl })
 
 least-of-requires : tie.Need-least-of-requires
 least-of-requires c κs =
-    c .before .before .before .before .before .before .before .before .before .before .before .before .pre .0
+    let start = c .before .before .before .before .before .before .before .before .before .before .before .before in
+    start .pre .0
 
 sub-last : tie.Need-sub-last
 sub-last c =
-    omega (arith, c .before .before .before .before .before .before .before .before .before .before .before .before .before .before .pre .0 .dimensions-least)
+    let start = c .before .before .before .before .before .before .before .before .before .before .before .before .before .before in
+    omega (arith, start .pre .0 .dimensions-least)
 
 product-requires : tie.Need-product-requires
 product-requires c κs =
-    box-countable _ (c .before .before .before .before .before .before .before .before .before .before .before .before .before .before .pre .0) _ _
-    (c .before .before .before .before .before .before .before .before .before .before .before .before .before .before .pre .1 .0)
+    let start = c .before .before .before .before .before .before .before .before .before .before .before .before .before .before in
+    box-countable _ (start .pre .0) _ _ (start .pre .1 .0)
 
 mul-by-fours : tie.Need-mul-by-fours
 mul-by-fours c = search needs
@@ -42,158 +51,51 @@ array-read-by-fours c = search needs
 by-fours-requires : tie.Need-by-fours-requires
 by-fours-requires c κs = search needs
 
-box-fours-requires : tie.Need-box-fours-requires
-box-fours-requires c κs =
-    let s = c .before .before .before .before .before .before .before .before .before .before .before .before .before .before .before .before .before .before
-    .before .before .before .before .before .before .before .before in
+inner-requires : tie.Need-inner-requires
+inner-requires c κs = search needs
+
+all-rows-requires : tie.Need-all-rows-requires
+all-rows-requires c κs =
+    let counted = c .before .before .before .before .before .before .before .before .before .before .before .before in
+    let lasts = counted .before .before .before .before in
+    let margins = lasts .before .before in
+    let backs = margins .before .before in
+    let s = backs .before .before .before .before .before .before .before in
     let p = s .pre in
-    let g = given-box (s .args .nest) _ _ _ _ _ (s .args .source .now) (s .args .memory .now) (s .args .t4) (s .args .t5) (p .0)
+    let g = given-box (s .args .nest) _ _ _ _ _ (s .args .source .now) (s .args .memory .now) (s .args .t4) (s .args .corner) (p .0)
     (record {
       given = record { is = refl };
-      backs = c .before .before .before .before .before .before .before .before .before .before .before .before .before
-          .before .before .before .before .before .before .backs-of .ensures;
+      backs = backs .backs-of .ensures;
       weights-are = refl;
-      firsts =
-          c .before .before .before .before .before .before .before .before .before .before .before .before .before .before .before .lasts-of .ensures;
-      margins =
-          c .before .before .before .before .before .before .before .before .before .before .before .before .before .before .before .before .before .margins-of
-          .ensures;
-    }) (p .1 .1) (p .1 .0)
-    (search (needs, s .good .1 .1 .1 .1 .0)) in (
-      s .args .nest,
-      (
-        g,
-        omega (
-          arith,
-          c .before .before .before .before .before .before .before .before .before .before .by-fours .ensures,
-          c .before .before .before .before .before .before .before .before .before .before .before .product .ensures,
-          box-countable _ (p .0) _ _ (p .1 .0) .few,
-        ),
-      ),
-    )
-
-mul-box-rows : tie.Need-mul-box-rows
-mul-box-rows c =
-    omega (
-      arith,
-      c .before .before .before .before .before .before .before .before .before .before .before .before .before .before .before .before .before
-          .before .before .before .before .before .before .by-fours .ensures,
-      c .before .before .before .before .before .before .before .before .before .before .before .before .before .before .before .before .before .before .before
-          .before .before .before .before .before .product .ensures,
-      box-countable _ (c .before .before .before .before .before .before .before .before .before .before .before .before .before .before .before .before
-          .before .before .before .before .before .before .before .before .before .before .before .before .before .before .before .before .before .before
-          .before
-          .before .before .before .before .pre .0) _ _
-          (c .before .before .before .before .before .before .before .before .before .before .before .before .before .before .before .before .before .before
-          .before .before .before .before .before .before .before .before .before .before .before .before .before .before .before .before .before .before
-          .before
-          .before .before .pre .1 .0) .few,
-    )
-
-box-rows-requires : tie.Need-box-rows-requires
-box-rows-requires c κs =
-    let s = c .before .before .before .before .before .before .before .before .before .before .before .before .before .before .before .before .before .before
-    .before .before .before .before .before .before .before .before .before .before .before .before .before .before .before .before .before .before .before
-    .before .before in
-    let p = s .pre in
-    let g = given-box (s .args .nest) _ _ _ _ _ (s .args .source .now) (s .args .memory .now) (s .args .t4) (s .args .t5) (p .0)
-    (record {
-      given = record { is = refl };
-      backs = c .before .before .before .before .before .before .before .before .before .before .before .before .before
-          .before .before .before .before .before .before .before .before .before .before .before .before .before .before .before .before .before .before
-          .before
-          .backs-of .ensures;
-      weights-are = refl;
-      firsts = c .before .before .before .before .before .before .before .before .before .before .before .before
-          .before .before .before .before .before .before .before .before .before .before .before .before .before .before .before .before .lasts-of .ensures;
-      margins = c .before .before .before .before .before .before .before .before .before .before .before .before .before .before .before .before .before
-          .before .before .before .before .before .before .before .before .before .before .before .before .before .margins-of .ensures;
-    }) (p .1 .1) (p .1 .0)
-    (search (needs, s .good .1 .1 .1 .1 .0)) in (
-      s .args .nest,
-      (
-        given-next _ _ _ _ _ _ (c .before .before .before .before .before .before .before .before .before .before .before .before .before .before .before
-            .before .before .before .before .before .before .before .before .before .before .before .before .before .before .before .before .before .before
-            .before .before .before .before .before .before .args .source .now)
-            (c .before .before .before .before .before .before .before .before .before .before .before .before .before .before .before .before .before .before
-            .before .before .before .before .before .before .before .before .before .before .before .before .before .before .before .before .before .before
-            .before .before .before .args .memory .now) _ _ _ _ _ g _ _ _
-            (c .before .before .before .before .before .before .before .before .before .before .before .before .box-fours .ensures (s .args .nest) g)
-            (4 * c .before .before .before .before .before .before .before .before .before .before .before .before .before .before .before .before .before
-            .before .before .before .before .before .before .by-fours .result) (omega arith),
-        (
-          c .before .before .before .before .before .before .before .before .before .before .before .before .before .before .before .before .before .before
-              .before .before .before .before .before .by-fours .ensures,
-          omega (
-            arith,
-            c .before .before .before .before .before .before .before .before .before .before .before .before .before .before .before .before
-                .before .before .before .before .before .before .before .before .product .ensures,
-            box-countable _ (p .0) _ _ (p .1 .0) .few,
-          ),
-        ),
-      ),
-    )
+      firsts = lasts .lasts-of .ensures;
+      margins = margins .margins-of .ensures;
+    }) (p .1 .1) (p .1 .0) (search (needs, s .good .1 .1 .1 .1 .0)) in
+    let few = box-countable _ (p .0) _ _ (p .1 .0) .few in
+    (s .args .nest, (g, (c .before .before .before .before .before .before .before .before .before .before .before .by-fours .ensures, omega (arith, counted .product .ensures, few))))
 
 same-length : tie.Need-same-length
 same-length c = search needs
 
 returns : tie.Need-returns
 returns c =
-    let s = c .before .before .before .before .before .before .before .before .before .before .before .before .before .before .before .before .before .before
-    .before .before .before .before .before .before .before .before .before .before .before .before .before .before .before .before .before .before .before
-    .before .before .before .before .before in
+    let counted = c .before .before .before .before .before .before .before .before .before .before .before .before .before .before .before in
+    let lasts = counted .before .before .before .before in
+    let margins = lasts .before .before in
+    let backs = margins .before .before in
+    let s = backs .before .before .before .before .before .before .before in
     let p = s .pre in
-    let g = given-box (s .args .nest) _ _ _ _ _ (s .args .source .now) (s .args .memory .now) (s .args .t4) (s .args .t5) (p .0)
+    let g = given-box (s .args .nest) _ _ _ _ _ (s .args .source .now) (s .args .memory .now) (s .args .t4) (s .args .corner) (p .0)
     (record {
       given = record { is = refl };
-      backs = c .before .before .before .before .before .before .before .before .before .before .before .before .before
-          .before .before .before .before .before .before .before .before .before .before .before .before .before .before .before .before .before .before
-          .before
-          .before .before .before .backs-of .ensures;
+      backs = backs .backs-of .ensures;
       weights-are = refl;
-      firsts = c .before .before .before .before .before .before .before .before .before
-          .before .before .before .before .before .before .before .before .before .before .before .before .before .before .before .before .before .before
-          .before
-          .before .before .before .lasts-of .ensures;
-      margins = c .before .before .before .before .before .before .before .before .before .before .before .before
-          .before .before .before .before .before .before .before .before .before .before .before .before .before .before .before .before .before .before
-          .before
-          .before .before .margins-of .ensures;
-    }) (p .1 .1) (p .1 .0)
-    (search (needs, s .good .1 .1 .1 .1 .0)) in
-    let f = c .before .before .before .before .before .before .before .before .before .before .before .before .before .before .before .box-fours .ensures
-    (s .args .nest) g in
-    stored-all _ _ _ _ _ _ _ _ _
-    (given-more _ _ _ _ _ _ (c .before .before .before .before .before .before .before .before .before .before .before .before .before .before .before
-    .before .before .before .before .before .before .before .before .before .before .before .before .before .before .before .before .before .before .before
-    .before .before .before .before .before .before .before .before .args .source .now)
-    (c .before .before .before .before .before .before .before .before .before .before .before .before .before .before .before .before .before .before
-    .before .before .before .before .before .before .before .before .before .before .before .before .before .before .before .before .before .before .before
-    .before .before .before .before .before .args .memory .now) _ _ _ _ _ g _ _ _ f
-    (4 * c .before .before .before .before .before .before .before .before .before .before .before .before .before .before .before .before .before .before
-    .before .before .before .before .before .before .before .before .by-fours .result)
-    (c .before .before .before .before .before .before .before .before .before .before .before .before .before .before .before .before .before .before
-    .before .before .before .before .before .before .before .before .before .product .result - 4
-    * c .before .before .before .before .before .before .before .before .before .before .before .before .before .before .before .before .before .before
-    .before .before .before .before .before .before .before .before .by-fours .result)
-    (c .before .before .before .before .before .before .before .before .before .before .before .before .before .before .before .before .before .before
-    .before .before .before .before .before .before .before .before .before .product .result) (omega arith)
-    (omega (
-      arith,
-      c .before .before .before .before .before .before .before .before .before .before .before .before .before .before .before .before .before
-          .before .before .before .before .before .before .before .before .before .by-fours .ensures,
-    )) _ _
-    (c .before .before .box-rows .ensures (s .args .nest)
-    (given-next _ _ _ _ _ _ (c .before .before .before .before .before .before .before .before .before .before .before .before .before .before .before
-    .before .before .before .before .before .before .before .before .before .before .before .before .before .before .before .before .before .before .before
-    .before .before .before .before .before .before .before .before .args .source .now)
-    (c .before .before .before .before .before .before .before .before .before .before .before .before .before .before .before .before .before .before
-    .before .before .before .before .before .before .before .before .before .before .before .before .before .before .before .before .before .before .before
-    .before .before .before .before .before .args .memory .now) _ _ _ _ _ g _ _ _ f
-    (4 * c .before .before .before .before .before .before .before .before .before .before .before .before .before .before .before .before .before .before
-    .before .before .before .before .before .before .before .before .by-fours .result) (omega arith))))
-    (c .before .before .before .before .before .before .before .before .before .before .before .before .before .before .before .before .before .before
-    .before .before .before .before .before .before .before .before .before .product .ensures)
+      firsts = lasts .lasts-of .ensures;
+      margins = margins .margins-of .ensures;
+    }) (p .1 .1) (p .1 .0) (search (needs, s .good .1 .1 .1 .1 .0)) in
+    c .before .before .all-rows .ensures (s .args .nest) g
+    ∙ ap
+    (λ (n : ℕ). storeAll (value (s .args .nest) (s .args .source .now)) (s .args .memory .now)
+    (rowsOf (rowAt (s .args .nest) (s .args .t4) (s .args .corner)) (getD (s .args .t4) (s .args .nest .dimensions - 1) 0) n)) (counted .product .ensures)
 
 pub box-values-spec : {M : Type 1} → statement M
 box-values-spec =
@@ -208,8 +110,7 @@ box-values-spec =
     mul-by-fours
     array-read-by-fours
     by-fours-requires
-    box-fours-requires
-    mul-box-rows
-    box-rows-requires
+    inner-requires
+    all-rows-requires
     same-length
     returns)

@@ -11,16 +11,20 @@ bounds-of-requires c κs =
 
 box-values-requires : tie.Need-box-values-requires
 box-values-requires c κs =
-    let p = c .before .before .before .before .before .before .pre in
-    (p .0 .accepted, (tile-boxed _ (p .0 .accepted) _ (c .before .before .before .bounds-of .ensures .0), p .1 .1))
+    let at-bounds-of = c .before .before .before in
+    let start = at-bounds-of .before .before .before in
+    let p = start .pre in
+    (p .0 .accepted, (tile-boxed _ (p .0 .accepted) _ (at-bounds-of .bounds-of .ensures .0), p .1 .1))
 
 same-length : tie.Need-same-length
 same-length c = search needs
 
 returns : tie.Need-returns
 returns c =
-    let p = c .before .before .before .before .before .before .before .before .before .pre in
-    let b = c .before .before .before .before .before .before .bounds-of .ensures in
+    let at-bounds-of = c .before .before .before .before .before .before in
+    let start = at-bounds-of .before .before .before in
+    let p = start .pre in
+    let b = at-bounds-of .bounds-of .ensures in
     tile-stored _ (p .0 .accepted) _ (b .0) _ (b .1) _ _ (p .1 .0) _ (c .before .before .box-values .ensures)
 
 pub calculate-spec : {M : Type 1} → statement M

@@ -5,6 +5,7 @@ use mathlib.Core.Path.{refl}
 use borrow.Author.Tests.{not-false}
 use Rattle.values.proofs.Rows.{given-ranked, given-inside, given-margin, given-small, given-band, given-moved, given-four, stored-rows}
 use borrow.Author.Needs.{needs}
+use Rattle.values.specs.Given.{withBody}
 use Rattle.values.proofs.four_rows.Statement.{statement}
 use Rattle.values.proofs.four_rows.Tie as tie
 
@@ -31,23 +32,25 @@ element-copy-out-start-of c = search needs
 
 start-of-requires : tie.Need-start-of-requires
 start-of-requires c κs =
-    given-margin _ _ _ _ _ _ (c .before .before .before .before .before .args .source .now) (c .before .before .before .before .before .args .memory .now) _
-    _ _ _ _ (c .before .before .before .before .before .pre .1 .0)
+    let start = c .before .before .before .before .before in
+    given-margin _ _ _ _ _ _ (start .args .source .now) (start .args .memory .now) _ _ _ _ _ (start .pre .1 .0)
 
 together-requires : tie.Need-together-requires
 together-requires c κs =
-    let g = c .before .before .before .before .before .before .before .pre .1 .0 in
-    let i = given-inside _ _ _ _ _ _ (c .before .before .before .before .before .before .before .args .source .now)
-    (c .before .before .before .before .before .before .before .args .memory .now) _ _ _ _ _ g in
+    let start = c .before .before .before .before .before .before .before in
+    let g = start .pre .1 .0 in
+    let i = given-inside _ _ _ _ _ _ (start .args .source .now) (start .args .memory .now) _ _ _ _ _ g in
     (omega (arith, g .0 .0 .dimensions-most), (c .before .start-of .ensures .1 .1, i .1))
 
 add-box-rows : tie.Need-add-box-rows
 add-box-rows c =
-    omega (arith, c .before .before .before .before .before .before .before .before .before .before .before .pre .1 .1)
+    let start = c .before .before .before .before .before .before .before .before .before .before .before in
+    omega (arith, start .pre .1 .1)
 
 box-rows-requires : tie.Need-box-rows-requires
 box-rows-requires c κs =
-    let p = c .before .before .before .before .before .before .before .before .before .before .before .pre in
+    let start = c .before .before .before .before .before .before .before .before .before .before .before in
+    let p = start .pre in
     (p .0, (p .1 .0, (omega arith, p .1 .1)))
 
 same-length : tie.Need-same-length
@@ -65,111 +68,100 @@ element-copy-out-stride c = search needs
 
 rank-of-requires : tie.Need-rank-of-requires
 rank-of-requires c κs =
-    given-ranked _ _ _ _ _ _ (c .before .before .before .before .before .before .before .before .before .before .before .args .source .now)
-    (c .before .before .before .before .before .before .before .before .before .before .before .args .memory .now) _ _ _ _ _
-    (c .before .before .before .before .before .before .before .before .before .before .before .pre .1 .0)
+    let start = c .before .before .before .before .before .before .before .before .before .before .before in
+    given-ranked _ _ _ _ _ _ (start .args .source .now) (start .args .memory .now) _ _ _ _ _ (start .pre .1 .0)
 
 add-b : tie.Need-add-b
 add-b c =
-    let q = given-small _ _ _ _ _ _ (c .before .before .before .before .before .before .before .before .before .before .before .before .args .source .now)
-    (c .before .before .before .before .before .before .before .before .before .before .before .before .args .memory .now) _ _ _ _ _
-    (c .before .before .before .before .before .before .before .before .before .before .before .before .pre .1 .0) _ (c .rank-of .ensures) in
+    let start = c .before .before .before .before .before .before .before .before .before .before .before .before in
+    let q = given-small _ _ _ _ _ _ (start .args .source .now) (start .args .memory .now) _ _ _ _ _ (start .pre .1 .0) _ (c .rank-of .ensures) in
     omega (arith, q .0, q .1)
 
 add-c : tie.Need-add-c
 add-c c =
-    let q = given-small _ _ _ _ _ _ (c .before .before .before .before .before .before .before .before .before .before .before .before .args .source .now)
-    (c .before .before .before .before .before .before .before .before .before .before .before .before .args .memory .now) _ _ _ _ _
-    (c .before .before .before .before .before .before .before .before .before .before .before .before .pre .1 .0) _ (c .rank-of .ensures) in
+    let start = c .before .before .before .before .before .before .before .before .before .before .before .before in
+    let q = given-small _ _ _ _ _ _ (start .args .source .now) (start .args .memory .now) _ _ _ _ _ (start .pre .1 .0) _ (c .rank-of .ensures) in
     omega (arith, q .0, q .1)
 
-add-band : tie.Need-add-band
-add-band c =
-    let q = given-small _ _ _ _ _ _ (c .before .before .before .before .before .before .before .before .before .before .before .before .before .args .source
-    .now) (c .before .before .before .before .before .before .before .before .before .before .before .before .before .args .memory .now) _ _ _ _ _
-    (c .before .before .before .before .before .before .before .before .before .before .before .before .before .pre .1 .0) _ (c .before .rank-of .ensures) in
+add-side-by-side : tie.Need-add-side-by-side
+add-side-by-side c =
+    let start = c .before .before .before .before .before .before .before .before .before .before .before .before .before in
+    let q = given-small _ _ _ _ _ _ (start .args .source .now) (start .args .memory .now) _ _ _ _ _ (start .pre .1 .0) _ (c .before .rank-of .ensures) in
     omega (arith, q .0, q .1)
 
-band-requires : tie.Need-band-requires
-band-requires c κs =
-    let p = c .before .before .before .before .before .before .before .before .before .before .before .before .before .pre in
-    let t = c .before .before .before .before .before .together .ensures (not-false _ (c .before .before .before .before .if1 .left)) in (
-      p .0,
-      given-band _ _ _ _ _ _ (c .before .before .before .before .before .before .before .before .before .before .before .before .before .args .source
-          .now) (c .before .before .before .before .before .before .before .before .before .before .before .before .before .args .memory .now) _ _ _ _ _ (p
-          .1 .0)
-          _ (c .before .rank-of .ensures) (t .1) _ _ _ refl refl refl _ (c .before .before .before .before .before .before .before .start-of .ensures) (t .0),
+side-by-side-requires : tie.Need-side-by-side-requires
+side-by-side-requires c κs =
+    let at-if1 = c .before .before .before .before in
+    let at-together = at-if1 .before in
+    let at-start-of = at-together .before .before in
+    let start = at-start-of .before .before .before .before .before .before in
+    let p = start .pre in
+    let t = at-together .together .ensures (not-false _ (at-if1 .if1 .left)) in (
+      withBody (p .0) (start .args .body),
+      given-band _ _ _ _ _ _ (start .args .source .now) (start .args .memory .now) _ _ _ _ _ (p .1 .0) _ (c .before .rank-of .ensures) (t .1) _ _ _ refl
+          refl refl _ (at-start-of .start-of .ensures) (t .0),
     )
 
 sub-at : tie.Need-sub-at
 sub-at c =
-    let t = c .before .before .before .before .before .before .before .before .together .ensures
-    (not-false _ (c .before .before .before .before .before .before .before .if1 .left)) in
+    let at-if1 = c .before .before .before .before .before .before .before in
+    let at-together = at-if1 .before in
+    let t = at-together .together .ensures (not-false _ (at-if1 .if1 .left)) in
     omega (arith, t .1 .0)
 
 mul-at : tie.Need-mul-at
 mul-at c =
-    let g = c .before .before .before .before .before .before .before .before .before .before .before .before .before .before .before .before .pre .1 .0 in
+    let start = c .before .before .before .before .before .before .before .before .before .before .before .before .before .before .before .before in
+    let g = start .pre .1 .0 in
     omega (arith, g .0 .0 .dimensions-most)
 
 element-copy-out-at : tie.Need-element-copy-out-at
 element-copy-out-at c =
-    let g = c .before .before .before .before .before .before .before .before .before .before .before .before .before .before .before .before .pre .1 .0 in
+    let start = c .before .before .before .before .before .before .before .before .before .before .before .before .before .before .before .before in
+    let g = start .pre .1 .0 in
     omega (arith, g .1 .1 .1 .long, g .0 .0 .dimensions-most)
 
 add-at : tie.Need-add-at
 add-at c =
-    let g = c .before .before .before .before .before .before .before .before .before .before .before .before .before .before .before .before .before .pre .1
-    .0 in
-    let t = c .before .before .before .before .before .before .before .before .before .together .ensures
-    (not-false _ (c .before .before .before .before .before .before .before .before .if1 .left)) in
-    let i = given-inside _ _ _ _ _ _ (c .before .before .before .before .before .before .before .before .before .before .before .before .before .before
-    .before .before .before .args .source .now)
-    (c .before .before .before .before .before .before .before .before .before .before .before .before .before .before .before .before .before .args .memory
-    .now) _ _ _ _ _ g in
-    omega (
-      arith,
-      t .1 .0,
-      t .1 .1 .1,
-      i .1 .0 .small (c .before .before .before .before .before .before .before .before .before .before .before .before .before .before .before .before .before
-          .args .body .dimensions - 1 - 1) (omega (arith, t .1 .0)),
-    )
+    let at-if1 = c .before .before .before .before .before .before .before .before in
+    let at-together = at-if1 .before in
+    let start = at-together .before .before .before .before .before .before .before .before in
+    let g = start .pre .1 .0 in
+    let t = at-together .together .ensures (not-false _ (at-if1 .if1 .left)) in
+    let i = given-inside _ _ _ _ _ _ (start .args .source .now) (start .args .memory .now) _ _ _ _ _ g in
+    omega (arith, t .1 .0, t .1 .1 .1, i .1 .0 .small (start .args .body .dimensions - 1 - 1) (omega (arith, t .1 .0)))
 
 element-write-at : tie.Need-element-write-at
 element-write-at c =
-    let g = c .before .before .before .before .before .before .before .before .before .before .before .before .before .before .before .before .before .pre .1
-    .0 in
+    let start = c .before .before .before .before .before .before .before .before .before .before .before .before .before .before .before .before .before in
+    let g = start .pre .1 .0 in
     omega (arith, g .1 .1 .1 .long, g .0 .0 .dimensions-most)
 
 advance-requires : tie.Need-advance-requires
 advance-requires c κs =
-    let t = c .before .before .before .before .before .before .before .before .before .before .together .ensures
-    (not-false _ (c .before .before .before .before .before .before .before .before .before .if1 .left)) in
-    given-moved _ _ _ _ _ _ (c .before .before .before .before .before .before .before .before .before .before .before .before .before .before .before
-    .before .before .before .args .source .now)
-    (c .before .before .before .before .before .before .before .before .before .before .before .before .before .before .before .before .before .before .args
-    .memory .now) _ _ _ _ _ (c .before .before .before .before .before .before .before .before .before .before .before .before .before .before .before
-    .before .before .before .pre .1 .0) _ (c .before .before .before .before .before .before .rank-of .ensures) (t .1) _ _ _ refl refl refl
+    let at-rank-of = c .before .before .before .before .before .before in
+    let at-if1 = at-rank-of .before .before .before in
+    let at-together = at-if1 .before in
+    let start = at-together .before .before .before .before .before .before .before .before in
+    let t = at-together .together .ensures (not-false _ (at-if1 .if1 .left)) in
+    given-moved _ _ _ _ _ _ (start .args .source .now) (start .args .memory .now) _ _ _ _ _ (start .pre .1 .0) _ (at-rank-of .rank-of .ensures) (t .1) _ _ _
+    refl refl refl
 
 same-length-2 : tie.Need-same-length-2
 same-length-2 c = search needs
 
 returns-2 : tie.Need-returns-2
 returns-2 c =
-    λ x g.
-    let t = c .before .before .before .before .before .before .before .before .before .before .before .together .ensures
-    (not-false _ (c .before .before .before .before .before .before .before .before .before .before .if1 .left)) in
-    given-four _ _ _ _ _ _ (c .before .before .before .before .before .before .before .before .before .before .before .before .before .before .before .before
-    .before .before .before .args .source .now)
-    (c .before .before .before .before .before .before .before .before .before .before .before .before .before .before .before .before .before .before
-    .before .args .memory .now) _ _ _ _ _ g _ (c .before .before .before .before .before .before .before .rank-of .ensures) (t .1) _ _ _ refl refl refl _ _
-    (c .before .before .before .before .before .band .ensures x
-    (given-band _ _ _ _ _ _ (c .before .before .before .before .before .before .before .before .before .before .before .before .before .before .before
-    .before .before .before .before .args .source .now)
-    (c .before .before .before .before .before .before .before .before .before .before .before .before .before .before .before .before .before .before
-    .before .args .memory .now) _ _ _ _ _ g _ (c .before .before .before .before .before .before .before .rank-of .ensures) (t .1) _ _ _ refl refl refl _
-    (c .before .before .before .before .before .before .before .before .before .before .before .before .before .start-of .ensures) (t .0)))
-    (c .advance .ensures)
+    let at-side-by-side = c .before .before .before .before .before in
+    let at-rank-of = at-side-by-side .before .before in
+    let at-if1 = at-rank-of .before .before .before in
+    let at-together = at-if1 .before in
+    let at-start-of = at-together .before .before in
+    let start = at-start-of .before .before .before .before .before .before in
+    λ x g. let t = at-together .together .ensures (not-false _ (at-if1 .if1 .left)) in given-four _ _ _ _ _ _ (start .args .source .now)
+    (start .args .memory .now) _ _ _ _ _ g _ (at-rank-of .rank-of .ensures) (t .1) _ _ _ refl refl refl _ _
+    (at-side-by-side .side-by-side .ensures (withBody x (start .args .body)) (given-band _ _ _ _ _ _ (start .args .source .now) (start .args .memory .now) _ _ _ _ _ g _
+    (at-rank-of .rank-of .ensures) (t .1) _ _ _ refl refl refl _ (at-start-of .start-of .ensures) (t .0))) (c .advance .ensures)
 
 pub four-rows-spec : {M : Type 1} → statement M
 four-rows-spec =
@@ -193,8 +185,8 @@ four-rows-spec =
     rank-of-requires
     add-b
     add-c
-    add-band
-    band-requires
+    add-side-by-side
+    side-by-side-requires
     sub-at
     mul-at
     element-copy-out-at

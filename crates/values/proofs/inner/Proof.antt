@@ -39,18 +39,24 @@ element-copy-out-if1-2 c =
 
 returns : tie.Need-returns Inv-loop μ-loop
 returns c =
-    sym (every-not _ _ (c .before .before .before .before .loop .j) (c .before .before .before .loop-test .taken) (lt-leb _ _ (c .if1 .taken)))
+    let at-loop-test = c .before .before .before in
+    let at-loop = at-loop-test .before in
+    sym (every-not _ _ (at-loop .loop .j) (at-loop-test .loop-test .taken) (lt-leb _ _ (c .if1 .taken)))
 
 add-j : tie.Need-add-j Inv-loop μ-loop
 add-j c =
-    omega (arith, c .before .before .before .loop-test .taken, c .before .before .before .before .before .pre)
+    let at-loop-test = c .before .before .before in
+    let start = at-loop-test .before .before in
+    omega (arith, at-loop-test .loop-test .taken, start .pre)
 
 loop-less : tie.Need-loop-less Inv-loop μ-loop
 loop-less c = search needs
 
 loop-again : tie.Need-loop-again Inv-loop μ-loop
 loop-again c =
-    sofar-more _ _ _ (c .before .before .before .before .loop .inv) (c .before .before .before .loop-test .taken) (le-leb _ _ (c .if1 .left))
+    let at-loop-test = c .before .before .before in
+    let at-loop = at-loop-test .before in
+    sofar-more _ _ _ (at-loop .loop .inv) (at-loop-test .loop-test .taken) (le-leb _ _ (c .if1 .left))
 
 returns-2 : tie.Need-returns-2 Inv-loop μ-loop
 returns-2 c =

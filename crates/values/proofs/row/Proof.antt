@@ -1,7 +1,7 @@
 -- `values::row` meets its contract: the distances read in the row as its first cell's place says.
 use mathlib.Core.Path.{_∙_, sym}
 use native.Mathlib.Omega.{arith}
-use Rattle.values.proofs.Words.{row-mixes, row-values}
+use Rattle.bands.proofs.Words.{row-mixes, row-values}
 use Rattle.values.proofs.Margins.{inner-row, any-row, first-most, firsts-all, firsts-copied}
 use borrow.Author.Needs.{needs}
 use Rattle.values.proofs.row.Statement.{statement}
@@ -27,7 +27,8 @@ inner-requires c κs = search needs
 
 line-requires : tie.Need-line-requires
 line-requires c κs =
-    let p = c .before .before .before .before .before .before .before .before .pre .1 in
+    let start = c .before .before .before .before .before .before .before .before in
+    let p = start .pre .1 in
     let q = p .0 .1 .0 in
     let i = sym (c .before .before .inner .ensures) ∙ c .before .if1 .taken in
     let r = inner-row _ (p .0 .0) _ (p .1 .0) _ (p .1 .1) _ _ _ _ _ q i in
@@ -38,7 +39,9 @@ same-length c = search needs
 
 returns : tie.Need-returns
 returns c =
-    let i = sym (c .before .before .before .before .before .inner .ensures) ∙ c .before .before .before .before .if1 .taken in
+    let at-if1 = c .before .before .before .before in
+    let at-inner = at-if1 .before in
+    let i = sym (at-inner .inner .ensures) ∙ at-if1 .if1 .taken in
     λ x p. row-values _ (p .0 .0) _ _ _ _ _ _ (inner-row _ (p .0 .0) _ (p .1 .0) _ (p .1 .1) _ _ _ _ _ (p .0 .1 .0) i) _ _ _ (c .before .before .line .ensures)
 
 element-copy-out-t20 : tie.Need-element-copy-out-t20
@@ -55,12 +58,14 @@ element-copy-out-t39 c = search needs
 
 firsts-of-requires : tie.Need-firsts-of-requires
 firsts-of-requires c κs =
-    let p = c .before .before .before .before .before .before .before .before .before .before .before .pre in
+    let start = c .before .before .before .before .before .before .before .before .before .before .before in
+    let p = start .pre in
     (p .0, (p .1 .0 .0, p .1 .0 .1 .0 .given))
 
 short-line-requires : tie.Need-short-line-requires
 short-line-requires c κs =
-    let s = c .before .before .before .before .before .before .before .before .before .before .before .before .before .before .pre in
+    let start = c .before .before .before .before .before .before .before .before .before .before .before .before .before .before in
+    let s = start .pre in
     let p = s .1 in
     let q = p .0 .1 .0 in
     let f = firsts-copied _ (p .0 .0) _ _ (c .before .before .firsts-of .ensures (s .0) (p .0 .0) (q .given)) in

@@ -35,11 +35,8 @@ element-copy-out-if3-2 c = search needs
 
 add-if3 : tie.Need-add-if3
 add-if3 c =
-    omega (
-      arith,
-      c .before .before .before .before .pre .1 .1 .0 .small (c .before .before .before .before .args .last - 1)
-          (omega (arith, c .before .before .if2 .left)),
-    )
+    let start = c .before .before .before .before in
+    omega (arith, start .pre .1 .1 .0 .small (start .args .last - 1) (omega (arith, c .before .before .if2 .left)))
 
 mul-if3-3 : tie.Need-mul-if3-3
 mul-if3-3 c = search needs
@@ -49,12 +46,13 @@ element-copy-out-if3-3 c = search needs
 
 add-if3-2 : tie.Need-add-if3-2
 add-if3-2 c =
+    let at-if2 = c .before .before .before in
+    let start = at-if2 .before .before in
     omega (
       arith,
-      c .before .before .before .before .before .pre .1 .1 .1 .each (c .before .before .before .before .before .args .last - 1)
-          (omega (arith, c .before .before .before .if2 .left)),
-      c .before .before .before .before .before .pre .1 .1 .0 .small (c .before .before .before .before .before .args .last - 1)
-          (omega (arith, c .before .before .before .if2 .left)),
+      start .pre .1 .1 .1 .each (start .args .last - 1) (omega (arith, at-if2 .if2 .left)),
+      start .pre .1 .1 .0 .small (start .args .last - 1)
+          (omega (arith, at-if2 .if2 .left)),
     )
 
 returns-3 : tie.Need-returns-3
@@ -66,13 +64,9 @@ inner-requires c κs = search needs
 
 returns-4 : tie.Need-returns-4
 returns-4 c =
-    λ z. (
-      omega (arith, c .before .before .before .before .before .before .if1 .left),
-      (
-        omega (arith, c .before .before .before .before .before .if2 .left),
-        (sym (c .inner .ensures) ∙ z, omega (arith, c .before .if3 .left)),
-      ),
-    )
+    let at-if2 = c .before .before .before .before .before in
+    let at-if1 = at-if2 .before in
+    λ z. (omega (arith, at-if1 .if1 .left), (omega (arith, at-if2 .if2 .left), (sym (c .inner .ensures) ∙ z, omega (arith, c .before .if3 .left))))
 
 pub together-spec : {M : Type 1} → statement M
 together-spec =

@@ -66,7 +66,8 @@ use Rattle.calls.proofs.Walking.{R, F, E, low, high, progress-is, numbe
 use Rattle.calls.proofs.Params.{Param, number32, flat, reads, changes, Lent, stays, go, spells, tell, values, row, tokens, owning, slices}
 use Rattle.calls.proofs.Params.{had, env, held, comes-back}
 use Rattle.calls.proofs.Lending.{lends-on}
-use Rattle.calls.proofs.Walking.{local, rising, pairs, sepAll, fsepAll, splits, joins, fsplits, fjoins, Flatten, Put, flattens, flattens-lent, puts-at}
+use Rattle.calls.proofs.Orders.{sorts, turned}
+use Rattle.calls.proofs.Walking.{local, sepAll, fsepAll, splits, joins, fsplits, fjoins, Flatten, Put, flattens, flattens-lent, puts-at}
 use Rattle.calls.proofs.office.rolwyddac_office_turn.Key.{name as #calls·turn}
 use Rattle.calls.proofs.office.rolwyddac_office_turn as turn
 use Rattle.calls.proofs.office.rolwyddac_office_turn.Statement as stated
@@ -208,7 +209,7 @@ module _ {M : Type 1} (𝓤 : URA M) (H : Heap 𝓤) (A : Atoms 𝓤) (W : Given
         returns ! (look ! 56 refl) $ forget ! 56 refl $ forget ! 54 refl $ forget ! 52 refl $ forget ! 50 refl $ forget ! 48 refl $
         forget ! 46 refl $ forget ! 44 refl $ forget ! 42 refl $ forget ! 40 refl $ forget ! 38 refl $ forget ! 36 refl $ forget ! 34 refl $
         forget ! 28 refl $ forget ! 6 refl $ forget ! 4 refl $ forget ! 2 refl $
-        keep ! (pairs 56 28 ++ (58 ∷ 0 ∷ 59 ∷ 60 ∷ 61 ∷ 1 ∷ 62 ∷ 63 ∷ [])) $
+        sorts ! 2 56 (keep ! (2 ∷ 0 ∷ 3 ∷ 4 ∷ 5 ∷ 1 ∷ 6 ∷ 7 ∷ [])) $ turned ! 28 $
         free-all ! _ $ by ! (exits (r .number) y2 y3 y4 y5 y6 (number-fits r is) e2 e3 e4 e5 e6
         (ap (λ (l : List Progress). answer (r .number) (lentOf (stateOf y2 y3 (flatWords l) y5) y6)) put ∙ ap (λ (l : List ℕ). answer (r .number)
         (lentOf (stateOf y2 y3 l y5) y6)) (stored-after (now x4) processor r) ∙ said)))
@@ -249,7 +250,7 @@ module _ {M : Type 1} (𝓤 : URA M) (H : Heap 𝓤) (A : Atoms 𝓤) (W : Given
         rewrite ! 39 (λ (u : Val). ‵ (fat fullShare U′.mir l14 0 u)) (ap only (LL.tells U.the-type U′.the-laws r (w ∷ []) is′)) refl $
         forget ! 43 refl $ forget ! 41 refl $ forget ! 33 refl $ forget ! 31 refl $ forget ! 29 refl $ forget ! 27 refl $ forget ! 25 refl $
         forget ! 23 refl $ forget ! 21 refl $ forget ! 19 refl $
-        keep ! (rising 13 56 ++ (1 ∷ 69 ∷ 70 ∷ 71 ∷ 5 ∷ 4 ∷ 3 ∷ 2 ∷ [])) $
+        sorts ! 13 56 (keep ! (1 ∷ 13 ∷ 14 ∷ 15 ∷ 5 ∷ 4 ∷ 3 ∷ 2 ∷ [])) $
         stored-part known₂ r (subst (λ (us : List Val). Is E r us) (LL.tells U.the-type U′.the-laws r (w ∷ []) is′) is′)
         (us .1 .1 .1 .0) (us .1 .1 .1 .1 .0) (us .1 .1 .1 .1 .1 .1 .0) (us .1 .1 .1 .1 .1 .1 .1 .0) e2 e3 e5 e6 (said (flatWords (now x4))
         (flatWords (now x7)) e-f e-g))))))))
@@ -266,7 +267,7 @@ module _ {M : Type 1} (𝓤 : URA M) (H : Heap 𝓤) (A : Atoms 𝓤) (W : Given
         forget ! 24 refl $ move ! (64 ∷ 71 ∷ []) $
         flattens mem run κ7 q7 x7 ! fm known₀ (named 7) (and-then ! (local ! 39 refl) (no-more !)) (λ g is-g e-g.
         land ! (from ! (stop !)) (init ! 31 refl (LL.lawful S.the-type S′.the-laws 𝓤 H A W .typed g _ is-g .0)) $
-        keep ! (rising 3 60 ++ (2 ∷ 63 ∷ 64 ∷ 0 ∷ 65 ∷ 66 ∷ 67 ∷ 68 ∷ 1 ∷ 69 ∷ 70 ∷ [])) $
+        sorts ! 3 60 (keep ! (2 ∷ 3 ∷ 4 ∷ 0 ∷ 5 ∷ 6 ∷ 7 ∷ 8 ∷ 1 ∷ 9 ∷ 10 ∷ [])) $
         worded known₁ known₂ f is-f e-f g is-g e-g))
 
   walk : (C : Calls 𝓤 H) (Λ : Loops 𝓤 H) → FmC 𝓤 H (W .laws) C
@@ -291,7 +292,7 @@ module _ {M : Type 1} (𝓤 : URA M) (H : Heap 𝓤) (A : Atoms 𝓤) (W : Given
       pass1 ! (init ! 36 refl (tt, (tt, (record { fits = g7 .0 }, tt)))) $ pass1 ! (init ! 34 refl (tt, record { fits = office-fits })) $
       pass1 ! (init ! 32 refl (tt, record { fits = processor-fits })) $ pass0 ! $ move ! (57 ∷ []) $ fsplits ! (owning params κs given) $ move ! (67 ∷ []) $
       splits ! Toks $
-      keep ! (rising 19 56 ++ (7 ∷ 6 ∷ 5 ∷ 4 ∷ 3 ∷ 2 ∷ 1 ∷ 0 ∷ 18 ∷ 16 ∷ 15 ∷ 14 ∷ 13 ∷ 12 ∷ 11 ∷ 10 ∷ [])) $
+      sorts ! 19 56 (keep ! (7 ∷ 6 ∷ 5 ∷ 4 ∷ 3 ∷ 2 ∷ 1 ∷ 0 ∷ 18 ∷ 16 ∷ 15 ∷ 14 ∷ 13 ∷ 12 ∷ 11 ∷ 10 ∷ [])) $
       begun C Λ fm l0 l1 l2 l3 l4 l5 l6 l7 l8 l9 l10 l11 l12 l13 l14 l15 l16 l17 l18 l19 l20 l21 l22 l23 l24 l25 l26 l27 known₀ known₁
       known₂))))))))))))))))))))))))))))
 

@@ -4,22 +4,23 @@ use borrow.Author.Needs.{needs}
 use Rattle.own_calls.proofs.core.arrive_part.Statement.{statement}
 use Rattle.own_calls.proofs.core.arrive_part.Tie as tie
 
-slice-aggregate-prepare : tie.Need-slice-aggregate-prepare
-slice-aggregate-prepare c = search needs
-
 prepare-requires : tie.Need-prepare-requires
 prepare-requires c κs =
-    let S = c .before .before .before .before .before .before .before .before in
-    ((S .pre .0, (S .pre .1 .0, S .pre .1 .1 .0)), (refl, (refl, (refl, refl))))
+    let S = c .before .before .before .before .before .before .before in
+    ((S .pre .0, (S .pre .1 .0, S .pre .1 .1 .0)), (refl, (refl, refl)))
 
-slice-aggregate-arrive-in : tie.Need-slice-aggregate-arrive-in
-slice-aggregate-arrive-in c = search needs
+kept-count-requires : tie.Need-kept-count-requires
+kept-count-requires c κs =
+    let prepare = c .before .prepare in
+    let S = c .before .before .before .before .before .before .before .before .before in
+    (prepare .ensures .0 .planned, S .pre .1 .1 .0)
 
 arrive-in-requires : tie.Need-arrive-in-requires
 arrive-in-requires c κs =
     let prepare = c .before .before .before .before .before .before .before .prepare in
-    let S = c .before .before .before .before .before .before .before .before .before .before .before .before .before .before .before .before in
-    (prepare .ensures, S .pre .1 .1 .1)
+    let kept-count = c .before .before .before .before .before .kept-count in
+    let S = c .before .before .before .before .before .before .before .before .before .before .before .before .before .before .before in
+    (prepare .ensures .0, (record { messages = prepare .ensures .1; kept = kept-count .ensures .0 }, S .pre .1 .1 .1))
 
 same-length : tie.Need-same-length
 same-length c = search needs
@@ -36,9 +37,8 @@ pub arrive-part-spec : {M : Type 1} → statement M
 arrive-part-spec =
     tie.close
     (tie.spec
-    slice-aggregate-prepare
     prepare-requires
-    slice-aggregate-arrive-in
+    kept-count-requires
     arrive-in-requires
     same-length
     same-length-2

@@ -7,21 +7,22 @@ use borrow.Author.Needs.{needs}
 use Rattle.own_calls.proofs.core.fresh_part.Statement.{statement}
 use Rattle.own_calls.proofs.core.fresh_part.Tie as tie
 
-slice-aggregate-prepare : tie.Need-slice-aggregate-prepare
-slice-aggregate-prepare c = search needs
-
 prepare-requires : tie.Need-prepare-requires
 prepare-requires c κs =
-    let S = c .before .before .before .before .before .before .before in
-    (S .pre, (refl, (refl, (refl, refl))))
+    let S = c .before .before .before .before .before .before in
+    (S .pre, (refl, (refl, refl)))
 
-slice-aggregate-part-fits : tie.Need-slice-aggregate-part-fits
-slice-aggregate-part-fits c = search needs
+kept-count-requires : tie.Need-kept-count-requires
+kept-count-requires c κs =
+    let prepare = c .before .prepare in
+    let S = c .before .before .before .before .before .before .before .before in
+    (prepare .ensures .0 .planned, S .pre .1 .1)
 
 part-fits-requires : tie.Need-part-fits-requires
 part-fits-requires c κs =
     let prepare = c .before .before .before .before .before .before .before .before .prepare in
-    prepare .ensures
+    let kept-count = c .before .before .before .before .before .before .kept-count in
+    (prepare .ensures .0, record { messages = prepare .ensures .1; kept = kept-count .ensures .0 })
 
 same-length : tie.Need-same-length
 same-length c = search needs
@@ -34,10 +35,10 @@ same-length-3 c = search needs
 
 returns : tie.Need-returns
 returns c =
-    let S = c .before .before .before .before .before .before .before .before .before .before .before .before .before .before .before .before .before .before in
+    let S = c .before .before .before .before .before .before .before .before .before .before .before .before .before .before .before .before .before in
+    let A = S .args in
     let part-fits = c .before .part-fits in
     let if1 = c .if1 in
-    let A = S .args in
     let p = planOf (A .sizes .route) (A .nest) in
     λ l h. answers.fresh-nine p (A .b) (S .pre .1 .1) (A .memory .now) (A .mail .now) l (A .marks .now) (part-fits .result) (part-fits .ensures l h)
     (not-true _ (if1 .taken))
@@ -62,14 +63,14 @@ same-length-6 c = search needs
 
 returns-2 : tie.Need-returns-2
 returns-2 c =
-    let S = c .before .before .before .before .before .before .before .before .before .before .before .before .before .before .before .before .before .before
+    let S = c .before .before .before .before .before .before .before .before .before .before .before .before .before .before .before .before .before
     .before .before .before .before .before .before .before .before .before .before .before .before in
+    let A = S .args in
     let part-fits = c .before .before .before .before .before .before .before .before .before .before .before .before .before .part-fits in
     let if1 = c .before .before .before .before .before .before .before .before .before .before .before .before .if1 in
     let zero-words = c .before .before .before .before .before .before .before .before .before .before .zero-words in
     let zero-words2 = c .before .before .before .before .before .before .zero-words2 in
     let zero-bytes = c .before .before .zero-bytes in
-    let A = S .args in
     let p = planOf (A .sizes .route) (A .nest) in
     λ l h. answers.fresh-done p (A .b) (S .pre .1 .1) (A .memory .now) (A .mail .now) l (A .marks .now) (part-fits .result) (part-fits .ensures l h)
     (not-false _ (if1 .left)) _ _ _ (zero-words .ensures) (zero-words2 .ensures) (zero-bytes .ensures)
@@ -78,9 +79,8 @@ pub fresh-part-spec : {M : Type 1} → statement M
 fresh-part-spec =
     tie.close
     (tie.spec
-    slice-aggregate-prepare
     prepare-requires
-    slice-aggregate-part-fits
+    kept-count-requires
     part-fits-requires
     same-length
     same-length-2

@@ -1,8 +1,9 @@
 -- `core::receive` meets its contract: each return by the line that counts.
-use Prim.Native.Nat.{_<_}
+use Prim.Native.Nat.{ℕ, _<_}
 use mathlib.Core.Path.{sym, ap, _∙_}
 use mathlib.Core.List.{[]}
 use native.Mathlib.Omega.{arith}
+use Rattle.base.specs.Lists.{put}
 use Rattle.machine.specs.Plan.{count}
 use Rattle.machine.specs.Machine.{stateOf}
 use Rattle.plan.specs.Shaped.{planOf}
@@ -14,32 +15,25 @@ use borrow.Author.Needs.{needs}
 use Rattle.own_calls.proofs.core.receive.Statement.{statement}
 use Rattle.own_calls.proofs.core.receive.Tie as tie
 
-totals-requires : tie.Need-totals-requires
-totals-requires c κs =
-    let S = c .before .before .before .before in
-    S .pre .0 .planned
-
 returns : tie.Need-returns
 returns c =
-    let S = c .before .before .before .before .before .before .before in
-    let if1 = c .if1 in
-    let totals = c .before .before .totals in
+    let S = c .before .before .before .before in
     let A = S .args in
+    let if1 = c .if1 in
     let p = planOf (A .sizes .route) (A .nest) in
-    λ ms l. answers.come-beyond p (A .b) (stateOf ms (A .mail .now) l (A .marks .now)) (A .m) (A .words .now) (omega (arith, if1 .taken, totals .ensures .0))
+    λ ms l. answers.come-beyond p (A .b) (stateOf ms (A .mail .now) l (A .marks .now)) (A .m) (A .words .now) (omega (arith, if1 .taken, S .pre .1 .0))
 
 nth-requires : tie.Need-nth-requires
 nth-requires c κs =
-    let S = c .before .before .before .before .before .before .before in
+    let S = c .before .before .before .before in
     let if1 = c .if1 in
-    let totals = c .before .before .totals in
-    (S .pre .0 .planned .0, (S .pre .0 .planned .1, omega (arith, if1 .left, totals .ensures .0)))
+    (S .pre .0 .planned .0, (S .pre .0 .planned .1, omega (arith, if1 .left, S .pre .1 .0)))
 
 line-at-requires : tie.Need-line-at-requires
 line-at-requires c κs =
-    let S = c .before .before .before .before .before .before .before .before in
-    let nth = c .nth in
+    let S = c .before .before .before .before .before in
     let A = S .args in
+    let nth = c .nth in
     (S .pre .0 .planned, parts.placed-self (A .sizes .route) (A .nest) (A .m) (nth .result) (nth .ensures))
 
 word-index-requires : tie.Need-word-index-requires
@@ -47,191 +41,116 @@ word-index-requires c κs = search needs
 
 returns-2 : tie.Need-returns-2
 returns-2 c =
-    let S = c .before .before .before .before .before .before .before .before .before .before .before in
+    let S = c .before .before .before .before .before .before .before .before in
+    let A = S .args in
     let line-at = c .before .before .line-at in
     let nth = c .before .before .before .nth in
     let if2 = c .if2 in
     let word-index = c .before .word-index in
-    let A = S .args in
     let p = planOf (A .sizes .route) (A .nest) in
     λ ms l. answers.come-elsewhere p (A .b) (stateOf ms (A .mail .now) l (A .marks .now)) (A .m) (A .words .now) (line-at .result)
     (line-at .ensures ∙ ap (lineOf p) (nth .ensures .number)) (λ q. if2 .taken (word-index .ensures ∙ q))
 
 mul-word-index : tie.Need-mul-word-index
-mul-word-index c = search needs
+mul-word-index c =
+    let if1 = c .before .before .before .before .if1 in
+    let S = c .before .before .before .before .before .before .before .before in
+    omega (arith, if1 .left, S .pre .1 .0, S .pre .0 .few)
 
 element-copy-out-word-index : tie.Need-element-copy-out-word-index
 element-copy-out-word-index c =
     let if1 = c .before .before .before .before .if1 in
-    let totals = c .before .before .before .before .before .before .totals in
-    omega (arith, if1 .left, totals .ensures .1 .1 .0)
+    let S = c .before .before .before .before .before .before .before .before in
+    omega (arith, if1 .left, S .pre .1 .0, S .pre .0 .few)
 
 word-index-requires-2 : tie.Need-word-index-requires-2
 word-index-requires-2 c κs = search needs
 
 slice-read-if3 : tie.Need-slice-read-if3
 slice-read-if3 c =
-    let S = c .before .before .before .before .before .before .before .before .before .before .before .before .before .before in
+    let S = c .before .before .before .before .before .before .before .before .before .before .before in
+    let A = S .args in
     let if1 = c .before .before .before .before .before .before .before .if1 in
-    let totals = c .before .before .before .before .before .before .before .before .before .totals in
     let word-index = c .before .before .before .before .word-index in
     let if2 = c .before .before .before .if2 in
     let line-at = c .before .before .before .before .before .line-at in
     let nth = c .before .before .before .before .before .before .nth in
     let word-index2 = c .before .word-index2 in
-    let A = S .args in
     let p = planOf (A .sizes .route) (A .nest) in
-    let lo : A .m < count p = omega (arith, if1 .left, totals .ensures .0) in
+    let lo : A .m < count p = omega (arith, if1 .left, S .pre .1 .0) in
     let here = sym (word-index .ensures) ∙ if2 .left in
     let mine = answers.come-handled p (A .b) (stateOf [] (A .mail .now) [] (A .marks .now)) (A .m) (A .words .now) (line-at .result)
     (line-at .ensures ∙ ap (lineOf p) (nth .ensures .number)) lo here in
-    answers.mark-low p (A .b) (A .m) (word-index2 .result) (A .marks .now) (S .pre .1 .marks-long) lo mine (word-index2 .ensures ∙ S .pre .0 .ranks (A .m)
+    answers.mark-low p (A .b) (A .m) (word-index2 .result) (A .marks .now) (S .pre .1 .1 .marks-long) lo mine (word-index2 .ensures ∙ S .pre .0 .ranks (A .m)
     (omega (arith, lo)))
 
 returns-3 : tie.Need-returns-3
 returns-3 c =
-    let S = c .before .before .before .before .before .before .before .before .before .before .before .before .before .before .before in
+    let S = c .before .before .before .before .before .before .before .before .before .before .before .before in
+    let A = S .args in
     let if1 = c .before .before .before .before .before .before .before .before .if1 in
-    let totals = c .before .before .before .before .before .before .before .before .before .before .totals in
     let word-index = c .before .before .before .before .before .word-index in
     let if2 = c .before .before .before .before .if2 in
     let line-at = c .before .before .before .before .before .before .line-at in
     let nth = c .before .before .before .before .before .before .before .nth in
     let word-index2 = c .before .before .word-index2 in
     let if3 = c .if3 in
-    let A = S .args in
     let p = planOf (A .sizes .route) (A .nest) in
-    let lo : A .m < count p = omega (arith, if1 .left, totals .ensures .0) in
+    let lo : A .m < count p = omega (arith, if1 .left, S .pre .1 .0) in
     let here = sym (word-index .ensures) ∙ if2 .left in
     λ ms l. answers.come-again p (A .b) (stateOf ms (A .mail .now) l (A .marks .now)) (A .m) (A .words .now) (line-at .result)
     (line-at .ensures ∙ ap (lineOf p) (nth .ensures .number)) lo here (word-index2 .result) (word-index2 .ensures ∙ S .pre .0 .ranks (A .m)
     (omega (arith, lo))) (if3 .taken)
 
 mul-word-index-2 : tie.Need-mul-word-index-2
-mul-word-index-2 c = search needs
+mul-word-index-2 c =
+    let if1 = c .before .before .before .before .before .before .before .before .before .if1 in
+    let S = c .before .before .before .before .before .before .before .before .before .before .before .before .before in
+    omega (arith, if1 .left, S .pre .1 .0, S .pre .0 .few)
 
 element-copy-out-word-index-2 : tie.Need-element-copy-out-word-index-2
 element-copy-out-word-index-2 c =
-    let if1 = c .before .before .before .before .before .before .before .before .if1 in
-    let totals = c .before .before .before .before .before .before .before .before .before .before .totals in
-    omega (arith, if1 .left, totals .ensures .1 .1 .0)
+    let if1 = c .before .before .before .before .before .before .before .before .before .if1 in
+    let S = c .before .before .before .before .before .before .before .before .before .before .before .before .before in
+    omega (arith, if1 .left, S .pre .1 .0, S .pre .0 .few)
 
 word-index-requires-3 : tie.Need-word-index-requires-3
 word-index-requires-3 c κs = search needs
 
-add-end : tie.Need-add-end
-add-end c =
-    let S = c .before .before .before .before .before .before .before .before .before .before .before .before .before .before .before .before .before .before in
+store-words-requires : tie.Need-store-words-requires
+store-words-requires c κs =
+    let S = c .before .before .before .before .before .before .before .before .before .before .before .before .before .before .before in
+    let A = S .args in
     let if1 = c .before .before .before .before .before .before .before .before .before .before .before .if1 in
-    let totals = c .before .before .before .before .before .before .before .before .before .before .before .before .before .totals in
     let word-index = c .before .before .before .before .before .before .before .before .word-index in
     let if2 = c .before .before .before .before .before .before .before .if2 in
     let line-at = c .before .before .before .before .before .before .before .before .before .line-at in
     let nth = c .before .before .before .before .before .before .before .before .before .before .nth in
-    let word-index3 = c .before .word-index3 in
-    let A = S .args in
+    let word-index3 = c .word-index3 in
     let p = planOf (A .sizes .route) (A .nest) in
-    let lo : A .m < count p = omega (arith, if1 .left, totals .ensures .0) in
+    let lo : A .m < count p = omega (arith, if1 .left, S .pre .1 .0) in
     let here = sym (word-index .ensures) ∙ if2 .left in
     let mine = answers.come-handled p (A .b) (stateOf [] (A .mail .now) [] (A .marks .now)) (A .m) (A .words .now) (line-at .result)
     (line-at .ensures ∙ ap (lineOf p) (nth .ensures .number)) lo here in
-    omega (
-      arith,
-      answers.few p (A .b) (A .m) (word-index3 .result) (nth .result .words) (A .mail .now) (S .pre .1 .mail-long) lo mine
-          (word-index3 .ensures ∙ S .pre .0 .places (A .m) (omega (arith, lo))) (nth .ensures .words),
-      totals .ensures .1 .0,
-      totals .ensures .1 .1 .1,
-    )
-
-mul-copy-words : tie.Need-mul-copy-words
-mul-copy-words c =
-    let S = c .before .before .before .before .before .before .before .before .before .before .before .before .before .before .before .before .before .before in
-    let if1 = c .before .before .before .before .before .before .before .before .before .before .before .if1 in
-    let totals = c .before .before .before .before .before .before .before .before .before .before .before .before .before .totals in
-    let word-index = c .before .before .before .before .before .before .before .before .word-index in
-    let if2 = c .before .before .before .before .before .before .before .if2 in
-    let line-at = c .before .before .before .before .before .before .before .before .before .line-at in
-    let nth = c .before .before .before .before .before .before .before .before .before .before .nth in
-    let word-index3 = c .before .word-index3 in
-    let A = S .args in
-    let p = planOf (A .sizes .route) (A .nest) in
-    let lo : A .m < count p = omega (arith, if1 .left, totals .ensures .0) in
-    let here = sym (word-index .ensures) ∙ if2 .left in
-    let mine = answers.come-handled p (A .b) (stateOf [] (A .mail .now) [] (A .marks .now)) (A .m) (A .words .now) (line-at .result)
-    (line-at .ensures ∙ ap (lineOf p) (nth .ensures .number)) lo here in
-    omega (
-      arith,
-      answers.few p (A .b) (A .m) (word-index3 .result) (nth .result .words) (A .mail .now) (S .pre .1 .mail-long) lo mine
-          (word-index3 .ensures ∙ S .pre .0 .places (A .m) (omega (arith, lo))) (nth .ensures .words),
-      totals .ensures .1 .0,
-      totals .ensures .1 .1 .1,
-    )
-
-sub-copy-words : tie.Need-sub-copy-words
-sub-copy-words c = search needs
-
-part-copy-words-start : tie.Need-part-copy-words-start
-part-copy-words-start c = omega arith
-
-part-copy-words-end : tie.Need-part-copy-words-end
-part-copy-words-end c =
-    let S = c .before .before .before .before .before .before .before .before .before .before .before .before .before .before .before .before .before .before in
-    let if1 = c .before .before .before .before .before .before .before .before .before .before .before .if1 in
-    let totals = c .before .before .before .before .before .before .before .before .before .before .before .before .before .totals in
-    let word-index = c .before .before .before .before .before .before .before .before .word-index in
-    let if2 = c .before .before .before .before .before .before .before .if2 in
-    let line-at = c .before .before .before .before .before .before .before .before .before .line-at in
-    let nth = c .before .before .before .before .before .before .before .before .before .before .nth in
-    let word-index3 = c .before .word-index3 in
-    let A = S .args in
-    let p = planOf (A .sizes .route) (A .nest) in
-    let lo : A .m < count p = omega (arith, if1 .left, totals .ensures .0) in
-    let here = sym (word-index .ensures) ∙ if2 .left in
-    let mine = answers.come-handled p (A .b) (stateOf [] (A .mail .now) [] (A .marks .now)) (A .m) (A .words .now) (line-at .result)
-    (line-at .ensures ∙ ap (lineOf p) (nth .ensures .number)) lo here in
-    answers.room p (A .b) (A .m) (word-index3 .result) (nth .result .words) (A .mail .now) (S .pre .1 .mail-long) lo mine
-    (word-index3 .ensures ∙ S .pre .0 .places (A .m) (omega (arith, lo))) (nth .ensures .words)
-
-copy-words-requires : tie.Need-copy-words-requires
-copy-words-requires c κs =
-    let S = c .before .before .before .before .before .before .before .before .before .before .before .before .before .before .before .before .before .before
-    .before in
-    let if1 = c .before .before .before .before .before .before .before .before .before .before .before .before .if1 in
-    let totals = c .before .before .before .before .before .before .before .before .before .before .before .before .before .before .totals in
-    let word-index = c .before .before .before .before .before .before .before .before .before .word-index in
-    let if2 = c .before .before .before .before .before .before .before .before .if2 in
-    let line-at = c .before .before .before .before .before .before .before .before .before .before .line-at in
-    let nth = c .before .before .before .before .before .before .before .before .before .before .before .nth in
-    let word-index3 = c .before .before .word-index3 in
-    let A = S .args in
-    let p = planOf (A .sizes .route) (A .nest) in
-    let lo : A .m < count p = omega (arith, if1 .left, totals .ensures .0) in
-    let here = sym (word-index .ensures) ∙ if2 .left in
-    let mine = answers.come-handled p (A .b) (stateOf [] (A .mail .now) [] (A .marks .now)) (A .m) (A .words .now) (line-at .result)
-    (line-at .ensures ∙ ap (lineOf p) (nth .ensures .number)) lo here in
-    answers.place-long p (A .b) (A .m) (word-index3 .result) (nth .result .words) (A .mail .now) (S .pre .1 .mail-long) lo mine
-    (word-index3 .ensures ∙ S .pre .0 .places (A .m) (omega (arith, lo))) (nth .ensures .words)
-    ∙ sym (taking.long-here p (A .m) (A .words .now) lo (S .pre .1 .long))
+    answers.room p (A .b) (A .m) (word-index3 .result) _ (A .mail .now) (S .pre .1 .1 .mail-long) lo mine
+    (word-index3 .ensures ∙ S .pre .0 .places (A .m) (omega (arith, lo))) (taking.long-here p (A .m) (A .words .now) lo (S .pre .1 .1 .long))
 
 slice-write-marks : tie.Need-slice-write-marks
 slice-write-marks c =
-    let S = c .before .before .before .before .before .before .before .before .before .before .before .before .before .before .before .before .before .before
-    .before .before .before .before in
-    let if1 = c .before .before .before .before .before .before .before .before .before .before .before .before .before .before .before .if1 in
-    let totals = c .before .before .before .before .before .before .before .before .before .before .before .before .before .before .before .before .before
-    .totals in
-    let word-index = c .before .before .before .before .before .before .before .before .before .before .before .before .word-index in
-    let if2 = c .before .before .before .before .before .before .before .before .before .before .before .if2 in
-    let line-at = c .before .before .before .before .before .before .before .before .before .before .before .before .before .line-at in
-    let nth = c .before .before .before .before .before .before .before .before .before .before .before .before .before .before .nth in
-    let word-index2 = c .before .before .before .before .before .before .before .before .before .word-index2 in
+    let S = c .before .before .before .before .before .before .before .before .before .before .before .before .before .before .before .before .before .before in
     let A = S .args in
+    let if1 = c .before .before .before .before .before .before .before .before .before .before .before .before .before .before .if1 in
+    let word-index = c .before .before .before .before .before .before .before .before .before .before .before .word-index in
+    let if2 = c .before .before .before .before .before .before .before .before .before .before .if2 in
+    let line-at = c .before .before .before .before .before .before .before .before .before .before .before .before .line-at in
+    let nth = c .before .before .before .before .before .before .before .before .before .before .before .before .before .nth in
+    let word-index2 = c .before .before .before .before .before .before .before .before .word-index2 in
     let p = planOf (A .sizes .route) (A .nest) in
-    let lo : A .m < count p = omega (arith, if1 .left, totals .ensures .0) in
+    let lo : A .m < count p = omega (arith, if1 .left, S .pre .1 .0) in
     let here = sym (word-index .ensures) ∙ if2 .left in
     let mine = answers.come-handled p (A .b) (stateOf [] (A .mail .now) [] (A .marks .now)) (A .m) (A .words .now) (line-at .result)
     (line-at .ensures ∙ ap (lineOf p) (nth .ensures .number)) lo here in
-    answers.mark-low p (A .b) (A .m) (word-index2 .result) (A .marks .now) (S .pre .1 .marks-long) lo mine (word-index2 .ensures ∙ S .pre .0 .ranks (A .m)
+    answers.mark-low p (A .b) (A .m) (word-index2 .result) (A .marks .now) (S .pre .1 .1 .marks-long) lo mine (word-index2 .ensures ∙ S .pre .0 .ranks (A .m)
     (omega (arith, lo)))
 
 same-length : tie.Need-same-length
@@ -242,36 +161,31 @@ same-length-2 c = search needs
 
 returns-4 : tie.Need-returns-4
 returns-4 c =
-    let S = c .before .before .before .before .before .before .before .before .before .before .before .before .before .before .before .before .before .before
-    .before .before .before .before in
-    let if1 = c .before .before .before .before .before .before .before .before .before .before .before .before .before .before .before .if1 in
-    let totals = c .before .before .before .before .before .before .before .before .before .before .before .before .before .before .before .before .before
-    .totals in
-    let word-index = c .before .before .before .before .before .before .before .before .before .before .before .before .word-index in
-    let if2 = c .before .before .before .before .before .before .before .before .before .before .before .if2 in
-    let line-at = c .before .before .before .before .before .before .before .before .before .before .before .before .before .line-at in
-    let nth = c .before .before .before .before .before .before .before .before .before .before .before .before .before .before .nth in
-    let word-index2 = c .before .before .before .before .before .before .before .before .before .word-index2 in
-    let if3 = c .before .before .before .before .before .before .before .if3 in
-    let word-index3 = c .before .before .before .before .before .word-index3 in
-    let copy-words = c .before .before .copy-words in
+    let S = c .before .before .before .before .before .before .before .before .before .before .before .before .before .before .before .before .before .before in
     let A = S .args in
+    let if1 = c .before .before .before .before .before .before .before .before .before .before .before .before .before .before .if1 in
+    let word-index = c .before .before .before .before .before .before .before .before .before .before .before .word-index in
+    let if2 = c .before .before .before .before .before .before .before .before .before .before .if2 in
+    let line-at = c .before .before .before .before .before .before .before .before .before .before .before .before .line-at in
+    let nth = c .before .before .before .before .before .before .before .before .before .before .before .before .before .nth in
+    let word-index2 = c .before .before .before .before .before .before .before .before .word-index2 in
+    let if3 = c .before .before .before .before .before .before .if3 in
+    let store-words = c .before .before .store-words in
+    let word-index3 = c .before .before .before .word-index3 in
     let p = planOf (A .sizes .route) (A .nest) in
-    let lo : A .m < count p = omega (arith, if1 .left, totals .ensures .0) in
+    let lo : A .m < count p = omega (arith, if1 .left, S .pre .1 .0) in
     let here = sym (word-index .ensures) ∙ if2 .left in
     let mine = answers.come-handled p (A .b) (stateOf [] (A .mail .now) [] (A .marks .now)) (A .m) (A .words .now) (line-at .result)
     (line-at .ensures ∙ ap (lineOf p) (nth .ensures .number)) lo here in
     λ ms l. answers.come-done p (A .b) (stateOf ms (A .mail .now) l (A .marks .now)) (A .m) (A .words .now) (line-at .result)
     (line-at .ensures ∙ ap (lineOf p) (nth .ensures .number)) lo here (word-index2 .result) (word-index2 .ensures ∙ S .pre .0 .ranks (A .m)
-    (omega (arith, lo))) (if3 .left) _ (answers.put-in p (A .b) (A .m) (word-index3 .result) (nth .result .words) (A .mail .now) (S .pre .1 .mail-long) lo
-    mine (word-index3 .ensures ∙ S .pre .0 .places (A .m) (omega (arith, lo))) (nth .ensures .words) (A .words .now) (copy-words .last .0)
-    (copy-words .kept .0) (copy-words .ensures))
+    (omega (arith, lo))) (if3 .left) _
+    (store-words .ensures ∙ ap (λ (i : ℕ). put (A .mail .now) i (A .words .now)) (word-index3 .ensures ∙ S .pre .0 .places (A .m) (omega (arith, lo))))
 
 pub receive-spec : {M : Type 1} → statement M
 receive-spec =
     tie.close
     (tie.spec
-    totals-requires
     returns
     nth-requires
     line-at-requires
@@ -285,12 +199,7 @@ receive-spec =
     mul-word-index-2
     element-copy-out-word-index-2
     word-index-requires-3
-    add-end
-    mul-copy-words
-    sub-copy-words
-    part-copy-words-start
-    part-copy-words-end
-    copy-words-requires
+    store-words-requires
     slice-write-marks
     same-length
     same-length-2

@@ -1,19 +1,15 @@
 -- Each return is the call by the line that counts.
-use Prim.Native.Nat.{ℕ, _*_, _-_}
-use mathlib.Core.Path.{_≡_, refl, sym, ap, _∙_}
-use mathlib.Core.List.{List}
+use Prim.Native.Nat.{_-_}
+use mathlib.Core.Path.{refl, _∙_}
 use native.Mathlib.Omega.{arith}
 use lib.ListN.{take, drop}
-use Rattle.base.specs.Numbers.{firstOf}
 use Rattle.machine.specs.Machine.{stateOf}
 use Rattle.plan.specs.Shaped.{planOf}
 use Rattle.hours.specs.Hours.{hoursOf}
-use borrow.Author.Tests.{leb-true}
 use Rattle.offices.specs.Offices.{lentOf}
 use Rattle.offices.proofs.OneCall.{own-fits}
 use Rattle.engine.proofs.Reading as reading
 use Rattle.rig.proofs.Lines as plain
-use Rattle.timed.specs.Given.{hourLines}
 use Rattle.timed.proofs.Lines as lines
 use borrow.Author.Needs.{needs}
 use Rattle.timed.proofs.core.turn_for.Statement.{statement}
@@ -27,47 +23,23 @@ refused-requires c κs = tt
 
 returns : tie.Need-returns
 returns c =
-    let S = c .before .before .before .before .before .before .before .before .before .before .before in
-    let A = S .args in
-    λ l q h k.
-    plain.refuses (c .refused .result) (c .before .before .open-recipe .result .number) (c .refused .ensures) (c .before .if1 .taken)
-    (lentOf (stateOf (A .memories .now) (A .buffer .now) l (A .status .now)) (A .engaged .now)) (A .processor) _
-    (lines.turn-read-for (A .encoded .now) (A .route) (A .source .now) (A .office) (hoursOf (A .hours .now) (A .minute))
-    (lentOf (stateOf (A .memories .now) (A .buffer .now) l (A .status .now)) (A .engaged .now)) q (A .processor)
-    (c .before .before .open-recipe .result .number) (c .before .before .open-recipe .ensures .0) (c .before .if1 .taken))
+    let open-recipe = c .before .before .open-recipe in
+    let A = c .before .before .before .before .before .before .before .before .before .before .before .args in
+    λ l q h k. plain.refuses (c .refused .result) (open-recipe .result .number) (c .refused .ensures) (c .before .if1 .taken)
+    (lentOf (stateOf (A .memories .now) (A .buffer .now) l (A .status .now)) (A .engaged .now)) (A .processor) _ (lines.turn-read-for (A .encoded .now)
+    (A .route) (A .source .now) (A .office) (hoursOf (A .hours .now) (A .minute)) (lentOf (stateOf (A .memories .now) (A .buffer .now) l (A .status .now))
+    (A .engaged .now)) q (A .processor)
+    (open-recipe .result .number) (open-recipe .ensures .0) (c .before .if1 .taken))
 
-mul-if2 : tie.Need-mul-if2
-mul-if2 c =
-    let opens = c .before .before .before .open-recipe .ensures .1 (c .before .before .if1 .left) in
-    omega (arith, opens .sized .processors, opens .sized .accepted .processors-most)
+away-for-requires : tie.Need-away-for-requires
+away-for-requires c κs =
+    let at-if1 = c .before .before .before .before .before .before .before in
+    let at-open-recipe = at-if1 .before in
+    let opens = at-open-recipe .open-recipe .ensures .1 (at-if1 .if1 .left) in
+    ((opens .sized, opens .table), at-open-recipe .before .before .before .before .before .before .before .before .before .pre)
 
 refused-requires-2 : tie.Need-refused-requires-2
 refused-requires-2 c κs = tt
-
-returns-2 : tie.Need-returns-2
-returns-2 c =
-    let at-if1 = c .before .before .before .before in
-    let at-open-recipe = at-if1 .before in
-    let S = at-open-recipe .before .before .before .before .before .before .before .before .before in
-    let A = S .args in
-    let opens = at-open-recipe .open-recipe .ensures .1 (at-if1 .if1 .left) in
-    let p = planOf (at-open-recipe .open-recipe .result .sizes .route) (at-open-recipe .open-recipe .result .nest) in
-    λ l q h k. plain.refuses (c .refused2 .result) 9 (c .refused2 .ensures) (λ z. omega arith) (lentOf (stateOf (A .memories .now) (A .buffer .now) l
-    (A .status .now)) (A .engaged .now)) (A .processor) _ (lines.turn-nine-for (A .encoded .now) (A .route) (A .source .now) (A .office)
-    (hoursOf (A .hours .now) (A .minute)) (lentOf (stateOf (A .memories .now) (A .buffer .now) l (A .status .now)) (A .engaged .now)) q (A .processor) p
-    (record { none = opens .none; is = opens .is }) (λ x. c .before .if2 .taken (x ∙ ap (λ (n : ℕ). 28 * n) (sym (opens .sized .processors)))))
-
-unfit-requires : tie.Need-unfit-requires
-unfit-requires c κs =
-    let at-if1 = c .before .before .before .before .before .before .before .before in
-    let at-open-recipe = at-if1 .before in
-    let S = at-open-recipe .before .before .before .before .before .before .before .before .before in
-    let A = S .args in
-    let opens = at-open-recipe .open-recipe .ensures .1 (at-if1 .if1 .left) in
-    ((opens .sized, opens .table), S .pre)
-
-refused-requires-3 : tie.Need-refused-requires-3
-refused-requires-3 c κs = tt
 
 same-length : tie.Need-same-length
 same-length c = refl
@@ -81,284 +53,116 @@ same-length-3 c = refl
 same-length-4 : tie.Need-same-length-4
 same-length-4 c = refl
 
-returns-3 : tie.Need-returns-3
-returns-3 c =
+returns-2 : tie.Need-returns-2
+returns-2 c =
+    let at-if2 = c .before in
+    let at-away-for = at-if2 .before in
+    let at-if1 = at-away-for .before .before .before .before .before .before .before .before in
+    let at-open-recipe = at-if1 .before in
+    let A = at-open-recipe .before .before .before .before .before .before .before .before .before .args in
+    let opens = at-open-recipe .open-recipe .ensures .1 (at-if1 .if1 .left) in
+    let p = planOf (at-open-recipe .open-recipe .result .sizes .route) (at-open-recipe .open-recipe .result .nest) in
+    λ l q h k. plain.refuses (c .refused2 .result) (at-away-for .away-for .result) (c .refused2 .ensures) (at-if2 .if2 .taken)
+    (lentOf (stateOf (A .memories .now) (A .buffer .now) l (A .status .now)) (A .engaged .now)) (A .processor) _ (lines.turn-away-for (A .encoded .now)
+    (A .route) (A .source .now) (A .office) (hoursOf (A .hours .now) (A .minute)) (lentOf (stateOf (A .memories .now) (A .buffer .now) l (A .status .now))
+    (A .engaged .now)) q (A .processor)
+    p (record { none = opens .none; is = opens .is }) (at-away-for .away-for .result) (at-away-for .away-for .ensures .0 l q h k) (at-if2 .if2 .taken))
+
+sub-step-for : tie.Need-sub-step-for
+sub-step-for c = search needs
+
+part-step-for-start : tie.Need-part-step-for-start
+part-step-for-start c = search needs
+
+part-step-for-end : tie.Need-part-step-for-end
+part-step-for-end c =
+    let at-if2 = c .before .before .before .before .before in
+    let at-away-for = at-if2 .before in
+    let at-if1 = at-away-for .before .before .before .before .before .before .before .before in
+    let at-open-recipe = at-if1 .before in
+    let S = at-open-recipe .before .before .before .before .before .before .before .before .before in
+    let A = S .args in
+    let opens = at-open-recipe .open-recipe .ensures .1 (at-if1 .if1 .left) in
+    let counts = at-away-for .away-for .ensures .1 (at-if2 .if2 .left) in
+    let few = reading.few-words _ _ (opens .sized) (A .progress .count) (counts .0) in
+    omega (arith, S .pre .0, few)
+
+step-for-requires : tie.Need-step-for-requires
+step-for-requires c κs =
     let at-if2 = c .before .before .before .before .before .before .before .before in
-    let at-if1 = at-if2 .before .before .before in
+    let at-away-for = at-if2 .before in
+    let at-if1 = at-away-for .before .before .before .before .before .before .before .before in
     let at-open-recipe = at-if1 .before in
     let S = at-open-recipe .before .before .before .before .before .before .before .before .before in
     let A = S .args in
     let opens = at-open-recipe .open-recipe .ensures .1 (at-if1 .if1 .left) in
-    let p = planOf (at-open-recipe .open-recipe .result .sizes .route) (at-open-recipe .open-recipe .result .nest) in
-    let long = at-if2 .if2 .left ∙ ap (λ (n : ℕ). 28 * n) (opens .sized .processors) in
-    λ l q h k. plain.refuses (c .refused3 .result) (c .before .before .unfit .result) (c .refused3 .ensures) (c .before .if3 .taken)
-    (lentOf (stateOf (A .memories .now) (A .buffer .now) l (A .status .now)) (A .engaged .now)) (A .processor) _ (lines.turn-unfit-for (A .encoded .now)
-    (A .route) (A .source .now) (A .office) (hoursOf (A .hours .now) (A .minute)) (lentOf (stateOf (A .memories .now) (A .buffer .now) l (A .status .now))
-    (A .engaged .now)) q (A .processor) p (record { none = opens .none; is = opens .is }) long (c .before .before .unfit .result)
-    (c .before .before .unfit .ensures .0 l q h k) (c .before .if3 .taken))
-
-shut-requires : tie.Need-shut-requires
-shut-requires c κs =
-    let at-if2 = c .before .before .before .before .before .before .before in
-    let at-if1 = at-if2 .before .before .before in
-    let at-open-recipe = at-if1 .before in
-    let opens = at-open-recipe .open-recipe .ensures .1 (at-if1 .if1 .left) in
-    (omega (arith, opens .sized .processors, opens .sized .accepted .processors-most), at-if2 .if2 .left)
-
-refused-requires-4 : tie.Need-refused-requires-4
-refused-requires-4 c κs = tt
-
-same-length-5 : tie.Need-same-length-5
-same-length-5 c = refl
-
-same-length-6 : tie.Need-same-length-6
-same-length-6 c = refl
-
-same-length-7 : tie.Need-same-length-7
-same-length-7 c = refl
-
-same-length-8 : tie.Need-same-length-8
-same-length-8 c = refl
-
-returns-4 : tie.Need-returns-4
-returns-4 c =
-    let at-if3 = c .before .before .before in
-    let at-unfit = at-if3 .before in
-    let at-if2 = at-unfit .before .before .before .before .before .before in
-    let at-if1 = at-if2 .before .before .before in
-    let at-open-recipe = at-if1 .before in
-    let S = at-open-recipe .before .before .before .before .before .before .before .before .before in
-    let A = S .args in
-    let opens = at-open-recipe .open-recipe .ensures .1 (at-if1 .if1 .left) in
-    let p = planOf (at-open-recipe .open-recipe .result .sizes .route) (at-open-recipe .open-recipe .result .nest) in
-    let long = at-if2 .if2 .left ∙ ap (λ (n : ℕ). 28 * n) (opens .sized .processors) in
-    let away = c .before .before .shut .ensures ∙ ap (λ (n : ℕ). firstOf (hourLines n (hoursOf (A .hours .now) (A .minute)) (A .processor)))
-    (opens .sized .processors) in
-    λ l q h k. plain.refuses (c .refused4 .result) (c .before .before .shut .result) (c .refused4 .ensures) (c .before .if4 .taken)
-    (lentOf (stateOf (A .memories .now) (A .buffer .now) l (A .status .now)) (A .engaged .now)) (A .processor) _ (lines.turn-shut-for (A .encoded .now)
-    (A .route) (A .source .now) (A .office) (hoursOf (A .hours .now) (A .minute)) (lentOf (stateOf (A .memories .now) (A .buffer .now) l (A .status .now))
-    (A .engaged .now)) q (A .processor) p (record { none = opens .none; is = opens .is }) long (at-unfit .unfit .result) (at-unfit .unfit .ensures .0 l q h
-    k) (at-if3 .if3 .left) (c .before .before .shut .result) away (c .before .if4 .taken))
-
-sub-held : tie.Need-sub-held
-sub-held c = search needs
-
-part-held-start : tie.Need-part-held-start
-part-held-start c = search needs
-
-part-held-end : tie.Need-part-held-end
-part-held-end c =
-    let at-if3 = c .before .before .before .before .before in
-    let at-unfit = at-if3 .before in
-    let at-if1 = at-unfit .before .before .before .before .before .before .before .before .before in
-    let at-open-recipe = at-if1 .before in
-    let S = at-open-recipe .before .before .before .before .before .before .before .before .before in
-    let A = S .args in
-    let opens = at-open-recipe .open-recipe .ensures .1 (at-if1 .if1 .left) in
-    let counts = at-unfit .unfit .ensures .1 (at-if3 .if3 .left) in
+    let counts = at-away-for .away-for .ensures .1 (at-if2 .if2 .left) in
     let few = reading.few-words _ _ (opens .sized) (A .progress .count) (counts .0) in
-    let few2 = reading.few-words _ _ (opens .sized) (A .theirs .count) (counts .1) in
-    omega (arith, S .pre .0, few)
-
-held-requires : tie.Need-held-requires
-held-requires c κs =
-    let at-if4 = c .before .before .before .before .before in
-    let at-shut = at-if4 .before in
-    let at-if3 = at-shut .before in
-    let at-unfit = at-if3 .before in
-    let at-if1 = at-unfit .before .before .before .before .before .before .before .before .before in
-    let at-open-recipe = at-if1 .before in
-    let S = at-open-recipe .before .before .before .before .before .before .before .before .before in
-    let A = S .args in
-    let opens = at-open-recipe .open-recipe .ensures .1 (at-if1 .if1 .left) in
     let p = planOf (at-open-recipe .open-recipe .result .sizes .route) (at-open-recipe .open-recipe .result .nest) in
     let own = take (A .progress .count - 0) (drop 0 (A .progress .words)) in
     let other = take (A .theirs .count - 0) (drop 0 (A .theirs .words)) in
-    let counts = at-unfit .unfit .ensures .1 (at-if3 .if3 .left) in
-    let few = reading.few-words _ _ (opens .sized) (A .progress .count) (counts .0) in
     let few2 = reading.few-words _ _ (opens .sized) (A .theirs .count) (counts .1) in
-    let away = at-shut .shut .ensures ∙ ap (λ (n : ℕ). firstOf (hourLines n (hoursOf (A .hours .now) (A .minute)) (A .processor))) (opens .sized .processors) in
-    let now = lines.hours-none (p .processors) (hoursOf (A .hours .now) (A .minute)) (A .processor) (at-shut .shut .result) away (at-if4 .if4 .left) in
-    let none = plain.unfit-none p (A .source .now) (A .office) (lentOf (stateOf (A .memories .now) (A .buffer .now) own (A .status .now)) (A .engaged .now))
-    other (at-unfit .unfit .result) (at-unfit .unfit .ensures .0 own other (reading.part-carries (A .progress) (S .pre .0) few)
-    (reading.part-carries (A .theirs) (S .pre .1) few2)) (at-if3 .if3 .left) in
-    let lengths = plain.lengths-are p (A .source .now) (lentOf (stateOf (A .memories .now) (A .buffer .now) own (A .status .now)) (A .engaged .now)) other
-    (none .0) in
-    ((opens .sized, opens .table), ((lengths .own .progress, lengths .engaged), (now .low, leb-true _ _ (none .1 .office))))
-
-refused-requires-5 : tie.Need-refused-requires-5
-refused-requires-5 c κs = tt
-
-same-length-9 : tie.Need-same-length-9
-same-length-9 c = refl
-
-same-length-10 : tie.Need-same-length-10
-same-length-10 c = refl
-
-same-length-11 : tie.Need-same-length-11
-same-length-11 c = refl
-
-same-length-12 : tie.Need-same-length-12
-same-length-12 c = refl
-
-returns-5 : tie.Need-returns-5
-returns-5 c =
-    let at-if4 = c .before .before .before .before .before .before .before .before in
-    let at-shut = at-if4 .before in
-    let at-if3 = at-shut .before in
-    let at-unfit = at-if3 .before in
-    let at-if2 = at-unfit .before .before .before .before .before .before in
-    let at-if1 = at-if2 .before .before .before in
-    let at-open-recipe = at-if1 .before in
-    let S = at-open-recipe .before .before .before .before .before .before .before .before .before in
-    let A = S .args in
-    let opens = at-open-recipe .open-recipe .ensures .1 (at-if1 .if1 .left) in
-    let p = planOf (at-open-recipe .open-recipe .result .sizes .route) (at-open-recipe .open-recipe .result .nest) in
-    let own = take (A .progress .count - 0) (drop 0 (A .progress .words)) in
-    let other = take (A .theirs .count - 0) (drop 0 (A .theirs .words)) in
-    let counts = at-unfit .unfit .ensures .1 (at-if3 .if3 .left) in
-    let few = reading.few-words _ _ (opens .sized) (A .progress .count) (counts .0) in
-    let few2 = reading.few-words _ _ (opens .sized) (A .theirs .count) (counts .1) in
-    let long = at-if2 .if2 .left ∙ ap (λ (n : ℕ). 28 * n) (opens .sized .processors) in
-    let away = at-shut .shut .ensures ∙ ap (λ (n : ℕ). firstOf (hourLines n (hoursOf (A .hours .now) (A .minute)) (A .processor))) (opens .sized .processors) in
-    let now = lines.hours-none (p .processors) (hoursOf (A .hours .now) (A .minute)) (A .processor) (at-shut .shut .result) away (at-if4 .if4 .left) in
-    λ l q h k. plain.refuses (c .refused5 .result) 19 (c .refused5 .ensures) (λ z. omega arith) (lentOf (stateOf (A .memories .now) (A .buffer .now) l
-    (A .status .now)) (A .engaged .now)) (A .processor) _ (plain.turn-held (A .encoded .now) (A .route) (A .source .now) (A .office)
-    (lentOf (stateOf (A .memories .now) (A .buffer .now) l (A .status .now)) (A .engaged .now)) q (A .processor) p
-    (record { none = opens .none; is = opens .is }) (at-unfit .unfit .result) (at-unfit .unfit .ensures .0 l q h k) (at-if3 .if3 .left) (now .low)
-    (plain.held-as p (A .office) (A .memories .now) (A .buffer .now) own l (A .status .now) (A .engaged .now) (A .processor) (reading.part-is (A .progress) l
-    few h) ∙ sym (c .before .before .held .ensures) ∙ c .before .if5 .taken) ∙ lines.plainly-for (A .encoded .now) (A .route) (A .source .now) (A .office)
-    (hoursOf (A .hours .now) (A .minute)) (lentOf (stateOf (A .memories .now) (A .buffer .now) l (A .status .now)) (A .engaged .now)) q (A .processor) p
-    (record { none = opens .none; is = opens .is }) long (now .fair, now .open-then))
-
-sub-step : tie.Need-sub-step
-sub-step c = search needs
-
-part-step-start : tie.Need-part-step-start
-part-step-start c = search needs
-
-part-step-end : tie.Need-part-step-end
-part-step-end c =
-    let at-if3 = c .before .before .before .before .before .before .before .before .before .before .before .before .before in
-    let at-unfit = at-if3 .before in
-    let at-if1 = at-unfit .before .before .before .before .before .before .before .before .before in
-    let at-open-recipe = at-if1 .before in
-    let S = at-open-recipe .before .before .before .before .before .before .before .before .before in
-    let A = S .args in
-    let opens = at-open-recipe .open-recipe .ensures .1 (at-if1 .if1 .left) in
-    let counts = at-unfit .unfit .ensures .1 (at-if3 .if3 .left) in
-    let few = reading.few-words _ _ (opens .sized) (A .progress .count) (counts .0) in
-    let few2 = reading.few-words _ _ (opens .sized) (A .theirs .count) (counts .1) in
-    omega (arith, S .pre .0, few)
-
-step-requires : tie.Need-step-requires
-step-requires c κs =
-    let at-if4 = c .before .before .before .before .before .before .before .before .before .before .before .before .before in
-    let at-shut = at-if4 .before in
-    let at-if3 = at-shut .before in
-    let at-unfit = at-if3 .before in
-    let at-if1 = at-unfit .before .before .before .before .before .before .before .before .before in
-    let at-open-recipe = at-if1 .before in
-    let S = at-open-recipe .before .before .before .before .before .before .before .before .before in
-    let A = S .args in
-    let opens = at-open-recipe .open-recipe .ensures .1 (at-if1 .if1 .left) in
-    let p = planOf (at-open-recipe .open-recipe .result .sizes .route) (at-open-recipe .open-recipe .result .nest) in
-    let own = take (A .progress .count - 0) (drop 0 (A .progress .words)) in
-    let other = take (A .theirs .count - 0) (drop 0 (A .theirs .words)) in
-    let counts = at-unfit .unfit .ensures .1 (at-if3 .if3 .left) in
-    let few = reading.few-words _ _ (opens .sized) (A .progress .count) (counts .0) in
-    let few2 = reading.few-words _ _ (opens .sized) (A .theirs .count) (counts .1) in
-    let away = at-shut .shut .ensures ∙ ap (λ (n : ℕ). firstOf (hourLines n (hoursOf (A .hours .now) (A .minute)) (A .processor))) (opens .sized .processors) in
-    let now = lines.hours-none (p .processors) (hoursOf (A .hours .now) (A .minute)) (A .processor) (at-shut .shut .result) away (at-if4 .if4 .left) in
-    let none = plain.unfit-none p (A .source .now) (A .office) (lentOf (stateOf (A .memories .now) (A .buffer .now) own (A .status .now)) (A .engaged .now))
-    other (at-unfit .unfit .result) (at-unfit .unfit .ensures .0 own other (reading.part-carries (A .progress) (S .pre .0) few)
-    (reading.part-carries (A .theirs) (S .pre .1) few2)) (at-if3 .if3 .left) in
-    let lengths = plain.lengths-are p (A .source .now) (lentOf (stateOf (A .memories .now) (A .buffer .now) own (A .status .now)) (A .engaged .now)) other
-    (none .0) in (
+    let opened = lines.away-none-for p (A .source .now) (A .office) (hoursOf (A .hours .now) (A .minute))
+    (lentOf (stateOf (A .memories .now) (A .buffer .now) own (A .status .now)) (A .engaged .now))
+    other (A .processor) (at-away-for .away-for .result) (at-away-for .away-for .ensures .0 own other (reading.part-carries (A .progress) (S .pre .0) few)
+    (reading.part-carries (A .theirs) (S .pre .1) few2)) (at-if2 .if2 .left) in (
       (opens .sized, opens .table),
-      record {
-        areas = lengths .own;
-        fit = own-fits p (A .office) (lentOf (stateOf (A .memories .now) (A .buffer .now) own
-            (A .status .now)) (A .engaged .now)) other (none .1 .fits);
-        processor = now .low;
-      },
+      (
+        record {
+          areas = opened .free .lengths .own;
+          fit = own-fits p (A .office) (lentOf (stateOf (A .memories .now) (A .buffer .now) own (A .status .now)) (A .engaged .now)) other (opened .free .fits);
+          processor = opened .free .low;
+        },
+        omega (arith, opened .free .lengths .engaged, opened .free .low),
+      ),
     )
 
-engage-requires : tie.Need-engage-requires
-engage-requires c κs =
-    let at-if4 = c .before .before .before .before .before .before .before .before .before .before .before .before .before .before .before .before .before
-    .before .before .before .before in
-    let at-shut = at-if4 .before in
-    let at-if3 = at-shut .before in
-    let at-unfit = at-if3 .before in
-    let at-if1 = at-unfit .before .before .before .before .before .before .before .before .before in
+same-length-5 : tie.Need-same-length-5
+same-length-5 c = c .before .before .before .before .before .before .before .before .step-for .kept .1 .1 .1 .1 .0
+
+same-length-6 : tie.Need-same-length-6
+same-length-6 c = c .before .before .before .before .before .before .before .before .step-for .kept .1 .1 .1 .1 .1 .0
+
+same-length-7 : tie.Need-same-length-7
+same-length-7 c = c .before .before .before .before .before .before .before .before .step-for .kept .1 .1 .1 .1 .1 .1 .1 .0
+
+same-length-8 : tie.Need-same-length-8
+same-length-8 c = c .before .before .before .before .before .before .before .before .step-for .kept .1 .1 .1 .1 .1 .1 .1 .1 .0
+
+returns-3 : tie.Need-returns-3
+returns-3 c =
+    let step-for = c .before .before .before .before .before .before .before .before .step-for in
+    let at-if2 = c .before .before .before .before .before .before .before .before .before .before .before .before .before .before .before .before .before in
+    let at-away-for = at-if2 .before in
+    let at-if1 = at-away-for .before .before .before .before .before .before .before .before in
     let at-open-recipe = at-if1 .before in
     let S = at-open-recipe .before .before .before .before .before .before .before .before .before in
     let A = S .args in
     let opens = at-open-recipe .open-recipe .ensures .1 (at-if1 .if1 .left) in
+    let counts = at-away-for .away-for .ensures .1 (at-if2 .if2 .left) in
+    let few = reading.few-words _ _ (opens .sized) (A .progress .count) (counts .0) in
     let p = planOf (at-open-recipe .open-recipe .result .sizes .route) (at-open-recipe .open-recipe .result .nest) in
     let own = take (A .progress .count - 0) (drop 0 (A .progress .words)) in
     let other = take (A .theirs .count - 0) (drop 0 (A .theirs .words)) in
-    let counts = at-unfit .unfit .ensures .1 (at-if3 .if3 .left) in
-    let few = reading.few-words _ _ (opens .sized) (A .progress .count) (counts .0) in
     let few2 = reading.few-words _ _ (opens .sized) (A .theirs .count) (counts .1) in
-    let away = at-shut .shut .ensures ∙ ap (λ (n : ℕ). firstOf (hourLines n (hoursOf (A .hours .now) (A .minute)) (A .processor))) (opens .sized .processors) in
-    let now = lines.hours-none (p .processors) (hoursOf (A .hours .now) (A .minute)) (A .processor) (at-shut .shut .result) away (at-if4 .if4 .left) in
-    let none = plain.unfit-none p (A .source .now) (A .office) (lentOf (stateOf (A .memories .now) (A .buffer .now) own (A .status .now)) (A .engaged .now))
-    other (at-unfit .unfit .result) (at-unfit .unfit .ensures .0 own other (reading.part-carries (A .progress) (S .pre .0) few)
-    (reading.part-carries (A .theirs) (S .pre .1) few2)) (at-if3 .if3 .left) in
-    let lengths = plain.lengths-are p (A .source .now) (lentOf (stateOf (A .memories .now) (A .buffer .now) own (A .status .now)) (A .engaged .now)) other
-    (none .0) in
-    omega (arith, lengths .engaged, now .low)
-
-same-length-13 : tie.Need-same-length-13
-same-length-13 c = c .before .before .before .before .before .before .before .before .before .before .step .kept .1 .1 .1 .1 .0
-
-same-length-14 : tie.Need-same-length-14
-same-length-14 c = c .before .before .before .before .before .before .before .before .before .before .step .kept .1 .1 .1 .1 .1 .0
-
-same-length-15 : tie.Need-same-length-15
-same-length-15 c = c .before .before .before .before .before .before .before .before .before .before .step .kept .1 .1 .1 .1 .1 .1 .1 .0
-
-same-length-16 : tie.Need-same-length-16
-same-length-16 c = c .before .before .engage .kept .0
-
-returns-6 : tie.Need-returns-6
-returns-6 c =
-    let at-step = c .before .before .before .before .before .before .before .before .before .before in
-    let at-if5 = at-step .before .before .before .before .before .before .before in
-    let at-held = at-if5 .before in
-    let at-if4 = at-held .before .before .before .before .before .before in
-    let at-shut = at-if4 .before in
-    let at-if3 = at-shut .before in
-    let at-unfit = at-if3 .before in
-    let at-if2 = at-unfit .before .before .before .before .before .before in
-    let at-if1 = at-if2 .before .before .before in
-    let at-open-recipe = at-if1 .before in
-    let S = at-open-recipe .before .before .before .before .before .before .before .before .before in
-    let A = S .args in
-    let opens = at-open-recipe .open-recipe .ensures .1 (at-if1 .if1 .left) in
-    let p = planOf (at-open-recipe .open-recipe .result .sizes .route) (at-open-recipe .open-recipe .result .nest) in
-    let own = take (A .progress .count - 0) (drop 0 (A .progress .words)) in
-    let other = take (A .theirs .count - 0) (drop 0 (A .theirs .words)) in
-    let counts = at-unfit .unfit .ensures .1 (at-if3 .if3 .left) in
-    let few = reading.few-words _ _ (opens .sized) (A .progress .count) (counts .0) in
-    let few2 = reading.few-words _ _ (opens .sized) (A .theirs .count) (counts .1) in
-    let long = at-if2 .if2 .left ∙ ap (λ (n : ℕ). 28 * n) (opens .sized .processors) in
-    let away = at-shut .shut .ensures ∙ ap (λ (n : ℕ). firstOf (hourLines n (hoursOf (A .hours .now) (A .minute)) (A .processor))) (opens .sized .processors) in
-    let now = lines.hours-none (p .processors) (hoursOf (A .hours .now) (A .minute)) (A .processor) (at-shut .shut .result) away (at-if4 .if4 .left) in
+    let opened = lines.away-none-for p (A .source .now) (A .office) (hoursOf (A .hours .now) (A .minute))
+    (lentOf (stateOf (A .memories .now) (A .buffer .now) own (A .status .now)) (A .engaged .now))
+    other (A .processor) (at-away-for .away-for .result) (at-away-for .away-for .ensures .0 own other (reading.part-carries (A .progress) (S .pre .0) few)
+    (reading.part-carries (A .theirs) (S .pre .1) few2)) (at-if2 .if2 .left) in
     λ l q h k. plain.turn-as (A .encoded .now) (A .route) (A .source .now) (A .office) (A .memories .now) (A .buffer .now) (A .status .now) (A .engaged .now)
-    own l other q (A .processor) (reading.part-is (A .progress) l few h) (reading.part-is (A .theirs) q few2 k) (at-step .step .result)
-    (at-step .step .last .1 .1 .1 .1 .0) (at-step .step .last .1 .1 .1 .1 .1 .0) (at-step .step .last .1 .1 .1 .1 .1 .1 .1 .0)
-    (c .before .before .engage .last .0) (plain.turn-steps (A .encoded .now) (A .route) (A .source .now) (A .office)
-    (lentOf (stateOf (A .memories .now) (A .buffer .now) own (A .status .now)) (A .engaged .now)) other (A .processor) p
-    (record { none = opens .none; is = opens .is }) (at-unfit .unfit .result) (at-unfit .unfit .ensures .0 own other (reading.part-carries (A .progress)
-    (S .pre .0) few) (reading.part-carries (A .theirs) (S .pre .1) few2)) (at-if3 .if3 .left) (now .low) (plain.held-as p (A .office) (A .memories .now)
-    (A .buffer .now) own own (A .status .now) (A .engaged .now) (A .processor) refl ∙ sym (at-held .held .ensures) ∙ at-if5 .if5 .left)
-    (at-step .step .result) (at-step .step .last .1 .1 .1 .1 .0) (at-step .step .last .1 .1 .1 .1 .1 .0) (at-step .step .last .1 .1 .1 .1 .1 .1 .1 .0)
-    (c .before .before .engage .last .0) (c .before .before .engage .ensures) (at-step .step .ensures)) ∙ lines.plainly-for (A .encoded .now) (A .route)
-    (A .source .now) (A .office) (hoursOf (A .hours .now) (A .minute)) (lentOf (stateOf (A .memories .now) (A .buffer .now) l (A .status .now))
-    (A .engaged .now)) q (A .processor) p (record { none = opens .none; is = opens .is }) long (now .fair, now .open-then)
+    own l other q (A .processor) (reading.part-is (A .progress) l few h) (reading.part-is (A .theirs) q few2 k) (step-for .result)
+    (step-for .last .1 .1 .1 .1 .0) (step-for .last .1 .1 .1 .1 .1 .0)
+    (step-for .last .1 .1 .1 .1 .1 .1 .1 .0) (step-for .last .1 .1 .1 .1 .1 .1 .1 .1 .0)
+    (plain.turn-steps (A .encoded .now) (A .route) (A .source .now) (A .office) (lentOf (stateOf (A .memories .now) (A .buffer .now) own (A .status .now))
+    (A .engaged .now)) other
+    (A .processor) p (record { none = opens .none; is = opens .is }) (opened .free) (step-for .result) (step-for .last .1 .1 .1 .1 .0)
+    (step-for .last .1 .1 .1 .1 .1 .0)
+    (step-for .last .1 .1 .1 .1 .1 .1 .1 .0) (step-for .last .1 .1 .1 .1 .1 .1 .1 .1 .0)
+    (step-for .ensures .0) (step-for .ensures .1)) ∙ lines.plainly-for (A .encoded .now) (A .route) (A .source .now) (A .office)
+    (hoursOf (A .hours .now) (A .minute))
+    (lentOf (stateOf (A .memories .now) (A .buffer .now) l (A .status .now)) (A .engaged .now)) q (A .processor) p
+    (record { none = opens .none; is = opens .is })
+    (opened .long) (opened .hours .fair, opened .hours .open-then)
 
 pub turn-for-spec : {M : Type 1} → statement M
 turn-for-spec =
@@ -367,40 +171,19 @@ turn-for-spec =
     open-recipe-requires
     refused-requires
     returns
-    mul-if2
+    away-for-requires
     refused-requires-2
-    returns-2
-    unfit-requires
-    refused-requires-3
     same-length
     same-length-2
     same-length-3
     same-length-4
-    returns-3
-    shut-requires
-    refused-requires-4
+    returns-2
+    sub-step-for
+    part-step-for-start
+    part-step-for-end
+    step-for-requires
     same-length-5
     same-length-6
     same-length-7
     same-length-8
-    returns-4
-    sub-held
-    part-held-start
-    part-held-end
-    held-requires
-    refused-requires-5
-    same-length-9
-    same-length-10
-    same-length-11
-    same-length-12
-    returns-5
-    sub-step
-    part-step-start
-    part-step-end
-    step-requires
-    engage-requires
-    same-length-13
-    same-length-14
-    same-length-15
-    same-length-16
-    returns-6)
+    returns-3)

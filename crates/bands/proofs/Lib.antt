@@ -1,0 +1,4 @@
+pub mod Words
+pub mod Orders
+pub mod Waves
+pub mod Columns

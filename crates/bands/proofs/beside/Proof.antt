@@ -1,0 +1,138 @@
+-- `bands::beside` meets its contract: the first columns, then all others. In a proof h1 to h5 are what is known after each
+-- call, and k1 to k4 say that it kept the memory's length.
+use native.Mathlib.Omega.{arith}
+use mathlib.Core.Path.{_∙_}
+use Rattle.bands.specs.Bands.{four}
+use Rattle.bands.proofs.Waves.{band-mixes}
+use Rattle.bands.proofs.Columns.{columns-fit, beside-stored}
+use borrow.Author.Needs.{needs}
+use Rattle.bands.proofs.beside.Statement.{statement}
+use Rattle.bands.proofs.beside.Tie as tie
+
+sub-few : tie.Need-sub-few
+sub-few c =
+    let s = c .before .before in
+    let p = s .pre .1 in
+    omega (arith, p .0 .1 .0 .three)
+
+add-full : tie.Need-add-full
+add-full c =
+    let s = c .before .before in
+    let p = s .pre .1 in
+    omega (arith, p .0 .1 .0 .each 0 (omega arith) .few, p .0 .1 .0 .three, p .0 .1 .0 .low)
+
+line-requires : tie.Need-line-requires
+line-requires c κs =
+    let s = c .before .before .before in
+    let p = s .pre .1 in
+    band-mixes _ (p .0 .0) (four (s .args .a) (s .args .b) (s .args .c) (s .args .d)) _ _ _ _ _ _ (p .0 .1 .0) 0 _ (omega arith)
+    (omega (arith, p .0 .1 .0 .low)) _ _ (p .0 .1 .1 .0) (p .0 .1 .1 .1)
+
+line-requires-2 : tie.Need-line-requires-2
+line-requires-2 c κs =
+    let h1 = c .before .before .before in
+    let s = h1 .before .before .before .before in
+    let p = s .pre .1 in
+    let k1 = h1 .line .kept .1 .0 ∙ p .0 .1 .1 .1 in
+    band-mixes _ (p .0 .0) (four (s .args .a) (s .args .b) (s .args .c) (s .args .d)) _ _ _ _ _ _ (p .0 .1 .0) 1 _ (omega arith)
+    (omega (arith, p .0 .1 .0 .low)) _ _ (p .0 .1 .1 .0) k1
+
+line-requires-3 : tie.Need-line-requires-3
+line-requires-3 c κs =
+    let h2 = c .before .before .before in
+    let h1 = h2 .before .before .before .before in
+    let s = h1 .before .before .before .before in
+    let p = s .pre .1 in
+    let k1 = h1 .line .kept .1 .0 ∙ p .0 .1 .1 .1 in
+    let k2 = h2 .line2 .kept .1 .0 ∙ k1 in
+    band-mixes _ (p .0 .0) (four (s .args .a) (s .args .b) (s .args .c) (s .args .d)) _ _ _ _ _ _ (p .0 .1 .0) 2 _ (omega arith)
+    (omega (arith, p .0 .1 .0 .low)) _ _ (p .0 .1 .1 .0) k2
+
+line-requires-4 : tie.Need-line-requires-4
+line-requires-4 c κs =
+    let h3 = c .before .before .before in
+    let h2 = h3 .before .before .before .before in
+    let h1 = h2 .before .before .before .before in
+    let s = h1 .before .before .before .before in
+    let p = s .pre .1 in
+    let k1 = h1 .line .kept .1 .0 ∙ p .0 .1 .1 .1 in
+    let k2 = h2 .line2 .kept .1 .0 ∙ k1 in
+    let k3 = h3 .line3 .kept .1 .0 ∙ k2 in
+    band-mixes _ (p .0 .0) (four (s .args .a) (s .args .b) (s .args .c) (s .args .d)) _ _ _ _ _ _ (p .0 .1 .0) 3 _ (omega arith)
+    (omega (arith, p .0 .1 .0 .low)) _ _ (p .0 .1 .1 .0) k3
+
+sub-lag : tie.Need-sub-lag
+sub-lag c =
+    let h4 = c .before .before in
+    let h3 = h4 .before .before .before .before in
+    let h2 = h3 .before .before .before .before in
+    let h1 = h2 .before .before .before .before in
+    let s = h1 .before .before .before .before in
+    let p = s .pre .1 in
+    omega (arith, p .0 .1 .0 .rows .apart 0 1 (omega arith) (omega arith), p .0 .1 .0 .three, p .0 .1 .0 .low)
+
+sub-rest : tie.Need-sub-rest
+sub-rest c =
+    let h4 = c .before .before in
+    let h3 = h4 .before .before .before .before in
+    let h2 = h3 .before .before .before .before in
+    let h1 = h2 .before .before .before .before in
+    let s = h1 .before .before .before .before in
+    let p = s .pre .1 in
+    omega (arith, p .0 .1 .0 .rows .apart 0 1 (omega arith) (omega arith), p .0 .1 .0 .three, p .0 .1 .0 .low)
+
+add-wave : tie.Need-add-wave
+add-wave c =
+    let h4 = c .before .before .before in
+    let h3 = h4 .before .before .before .before in
+    let h2 = h3 .before .before .before .before in
+    let h1 = h2 .before .before .before .before in
+    let s = h1 .before .before .before .before in
+    let p = s .pre .1 in
+    omega (arith, p .0 .1 .0 .each 0 (omega arith) .low, p .0 .1 .0 .low, p .0 .0 .cells-most)
+
+wave-requires : tie.Need-wave-requires
+wave-requires c κs =
+    let h4 = c .before .before .before in
+    let h3 = h4 .before .before .before .before in
+    let h2 = h3 .before .before .before .before in
+    let h1 = h2 .before .before .before .before in
+    let s = h1 .before .before .before .before in
+    let p = s .pre .1 in
+    let k1 = h1 .line .kept .1 .0 ∙ p .0 .1 .1 .1 in
+    let k2 = h2 .line2 .kept .1 .0 ∙ k1 in
+    let k3 = h3 .line3 .kept .1 .0 ∙ k2 in
+    let k4 = h4 .line4 .kept .1 .0 ∙ k3 in
+    columns-fit _ (p .0 .0) (four (s .args .a) (s .args .b) (s .args .c) (s .args .d)) _ _ _ _ _ _ (p .0 .1 .0) (p .1) _ _ (p .0 .1 .1 .0) k4
+
+same-length : tie.Need-same-length
+same-length c = search needs
+
+returns : tie.Need-returns
+returns c =
+    let h5 = c .before .before in
+    let h4 = h5 .before .before .before .before in
+    let h3 = h4 .before .before .before .before in
+    let h2 = h3 .before .before .before .before in
+    let h1 = h2 .before .before .before .before in
+    let s = h1 .before .before .before .before in
+    λ x p.
+    beside-stored _ (p .0 .0) (four (s .args .a) (s .args .b) (s .args .c) (s .args .d)) _ _ _ _ _ _ (p .0 .1 .0) _ _ (p .0 .1 .1 .1) (p .1) _ _ _ _ _
+    (h1 .line .ensures) (h2 .line2 .ensures) (h3 .line3 .ensures) (h4 .line4 .ensures) (h5 .wave .ensures)
+
+pub beside-spec : {M : Type 1} → statement M
+beside-spec =
+    tie.close
+    (tie.spec
+    sub-few
+    add-full
+    line-requires
+    line-requires-2
+    line-requires-3
+    line-requires-4
+    sub-lag
+    sub-rest
+    add-wave
+    wave-requires
+    same-length
+    returns)

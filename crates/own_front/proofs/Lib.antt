@@ -1,0 +1,4 @@
+pub mod Part
+pub mod Wide
+pub mod Front
+pub mod Answers

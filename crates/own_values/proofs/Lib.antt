@@ -1,0 +1,3 @@
+pub mod InPart
+pub mod RowsIn
+pub mod Tiles
