@@ -12,7 +12,7 @@ ghost use Rattle.plan.specs.Geometry.{processorOf};
 ghost use Rattle.plan.specs.Messages.{ways, slots, boxPlan};
 ghost use Rattle.plan.specs.Box.{boxCell};
 ghost use Rattle.layout.specs.Sizes.{routeOf, Sized, along, endAt, Stepped};
-ghost use Rattle.layout.specs.Places.{nth, Has, Countable, Ranked, Places, Placed, Inside, Follows, Splits, Shared, Located, Bounded};
+ghost use Rattle.layout.specs.Places.{nth, Has, Countable, Ranked, Places, Placed, Splits, Shared, Located, Bounded};
 use nest::Nest;
 use plan::Route;
 
@@ -393,25 +393,6 @@ pub fn cell_in(nest: Nest, bounds: Bounds, q: usize) -> Cell
         number: number,
         place: at,
     }
-}
-
-// The place after `at` in index order, counted from the place `from`: after the last one comes the first.
-pub fn next_place(lengths: [usize; 4], from: [usize; 4], at: [usize; 4], left: usize) -> [usize; 4]
-    requires { ⌜ Places lengths from left × Inside lengths from left at ⌝ }
-    ensures { λ r. ⌜ Follows lengths from left at r ⌝ }
-{
-    if left == 0 {
-        return at;
-    }
-    let j = left - 1;
-    let mut next = at;
-    let component = at[j] + 1;
-    if component < from[j] + lengths[j] {
-        next[j] = component;
-        return next;
-    }
-    next[j] = from[j];
-    next_place(lengths, from, next, j)
 }
 
 // How a way moves a tile's place: by a direction's components, or by one in a spread dimension.
