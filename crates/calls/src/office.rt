@@ -189,7 +189,7 @@ pub extern "C" fn rolwyddac_look(
     ensures { λ r. ⌜ answer r (now (out .exit))
         ≡ lookCall (now (encoded .entry)) (now (first .entry)) (now (second .entry)) office processor (now (out .entry)) ⌝ }
 {
-    let reading = nest::read(encoded);
+    let reading = reader::read(encoded);
     let read = reading.number;
     if read != 0 {
         return read;

@@ -197,7 +197,7 @@ fn measured(nest: Nest, grid: &[u32], x: i32, y: i32, cell_size: u32) -> Told
 pub fn length_of(encoded: &[u8], grid: &[u32], x: i32, y: i32, cell_size: u32) -> Told
     ensures { λ r. ⌜ r ≡ lengthCall (now (encoded .entry)) (now (grid .entry)) x y «cell_size» ⌝ }
 {
-    let reading = nest::read(encoded);
+    let reading = reader::read(encoded);
     let number = reading.number;
     if number != 0 {
         return tell(number, 0);
@@ -209,7 +209,7 @@ pub fn length_of(encoded: &[u8], grid: &[u32], x: i32, y: i32, cell_size: u32) -
 pub fn write(encoded: &[u8], grid: &[u32], x: i32, y: i32, cell_size: u32, space: &mut [u8]) -> Told
     ensures { λ r. ⌜ written r (now (space .exit)) ≡ writeCall (now (encoded .entry)) (now (grid .entry)) x y «cell_size» (now (space .entry)) ⌝ }
 {
-    let reading = nest::read(encoded);
+    let reading = reader::read(encoded);
     let number = reading.number;
     if number != 0 {
         return tell(number, 0);

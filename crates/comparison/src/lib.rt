@@ -320,7 +320,7 @@ pub fn put_lines(space: &mut [u8], encoded: &[u8]) -> usize
     if encoded.len() > 512 {
         return plan_text::put_refused(space, 1);
     }
-    let reading = nest::read(encoded);
+    let reading = reader::read(encoded);
     let number = reading.number;
     if number != 0 {
         return plan_text::put_refused(space, number);

@@ -6,7 +6,7 @@ ghost use lib.ListN.{length};
 
 // One line: the label, then the number that reading the recipe gives.
 fn show(label: &[u8], encoded: &[u8]) {
-    let reading = nest::read(encoded);
+    let reading = reader::read(encoded);
     io::write_all(STDOUT_FILENO, label);
     io::write_all(STDOUT_FILENO, b" ");
     io::print_decimal(STDOUT_FILENO, base::word_wide(reading.number));

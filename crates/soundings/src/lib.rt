@@ -128,7 +128,7 @@ pub fn fill(encoded: &[u8], file: &[u8], value: u32, source: &mut [u32]) -> u32
     if ragged(file) {
         return 1;
     }
-    let reading = nest::read(encoded);
+    let reading = reader::read(encoded);
     let number = reading.number;
     if number != 0 {
         return number;

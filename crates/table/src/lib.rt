@@ -237,7 +237,7 @@ fn hops_at(nest: Nest, sizes: Sizes, lens: &[u16; 9217], m: usize) -> u32
 pub fn hops(encoded: &[u8], m: u32) -> HopCount
     ensures { λ r. ⌜ r ≡ hopsOf (now (encoded .entry)) m ⌝ }
 {
-    let reading = nest::read(encoded);
+    let reading = reader::read(encoded);
     let number = reading.number;
     if number != 0 {
         return no_hops(number);

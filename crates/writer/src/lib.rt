@@ -52,7 +52,7 @@ fn number_of(bytes: [u8; 272], length: usize) -> u32
     requires { ⌜ length ≤ 272 ⌝ }
     ensures { λ r. ⌜ r ≡ firstOf (readLines (take length bytes)) ⌝ }
 {
-    let reading = nest::read(&bytes[0..length]);
+    let reading = reader::read(&bytes[0..length]);
     reading.number
 }
 
