@@ -197,7 +197,7 @@ pub extern "C" fn rolwyddac_look(
     if out.len() != 2 {
         return 9;
     }
-    let seen = rig::core::look_at(encoded, first.len(), second.len(), office, processor);
+    let seen = look::core::look_at(encoded, first.len(), second.len(), office, processor);
     let number = seen.number;
     if number != 0 {
         return number;

@@ -31,8 +31,8 @@ use Rattle.table.specs.declared.MessageLine.{MessageLine}
 use Rattle.table.specs.Summary.{lineOf}
 use Rattle.apart.specs.Apart.{takerAt, marked, received}
 use Rattle.apart.specs.Own.{handles, keptCells, handled, mailOf}
-use Rattle.mail.specs.Calls.{takes, asLong}
-use Rattle.mail.proofs.Taking.{long-here}
+use Rattle.arrivals.specs.Taking.{takes, asLong}
+use Rattle.arrivals.proofs.Taking.{long-here}
 use Rattle.own.specs.Part.{wordsOf, rankOf, mailAt, partFits}
 use Rattle.own_front.specs.Calls.{wide, narrow, lengthsOf, ownSizesCall, ownFreshCall, ownPostCall, ownArriveCall}
 use Rattle.own_front.specs.Calls.{ownRows, ownMessagesCall, ownCollected, ownCollectCall}

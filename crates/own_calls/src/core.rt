@@ -19,10 +19,10 @@ ghost use Rattle.own_front.specs.Calls.{lengthsOf, ownFreshCall, ownPostCall, o
 ghost use Rattle.own_front.specs.Given.{Known, Many};
 ghost use Rattle.own_calls.specs.Given.{freshOr, handedOver, postedOr, MayArrive, arrivedOr, arrivesOr};
 use crate::grid::collect_part;
+use arrivals::copy_words;
 use base::word_index;
 use layout::Sizes;
 use mail::core::as_long;
-use mail::core::copy_words;
 use nest::Nest;
 use own_front::kept_count;
 use own_front::open;

@@ -9,7 +9,7 @@ use Rattle.machine.specs.Machine.{stateOf}
 use Rattle.plan.specs.Shaped.{planOf}
 use Rattle.table.specs.Summary.{lineOf}
 use Rattle.stages.proofs.Parts as parts
-use Rattle.mail.proofs.Taking as taking
+use Rattle.arrivals.proofs.Taking as taking
 use Rattle.own_calls.proofs.Answers as answers
 use borrow.Author.Needs.{needs}
 use Rattle.own_calls.proofs.core.receive.Statement.{statement}

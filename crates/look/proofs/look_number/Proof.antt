@@ -1,7 +1,7 @@
 use mathlib.Core.Path.{refl}
 use borrow.Author.Needs.{needs}
-use Rattle.rig.proofs.look_number.Statement.{statement}
-use Rattle.rig.proofs.look_number.Tie as tie
+use Rattle.look.proofs.look_number.Statement.{statement}
+use Rattle.look.proofs.look_number.Tie as tie
 
 look-at-requires : tie.Need-look-at-requires
 look-at-requires c κs = search needs

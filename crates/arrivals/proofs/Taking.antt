@@ -1,18 +1,18 @@
 -- Laws of taking a message in: its length, its taker, its words into their place.
-use Prim.Native.Nat.{ℕ, _+_, _*_, _-_, _≤_, _<_}
+use Prim.Native.Nat.{ℕ, _+_, _-_, _≤_, _<_}
 use mathlib.Core.Path.{_≡_, refl, sym, ap, _∙_}
 use mathlib.Core.Logic.{_≢_}
 use mathlib.Core.Bool.{Bool, true, false}
 use mathlib.Core.List.{List, [], _∷_}
 use native.Mathlib.Omega.{arith}
 use lib.ListN.{length, getD, set, take, drop}
-use lib.Dec.{ltb, eqb}
+use lib.Dec.{eqb}
 use borrow.Author.Tests.{eqb-true, eq-eqb, ne-eqb, lt-ltb, le-ltb}
 use borrow.Rule.Slice.PartMut.{putMid}
 use Rattle.base.specs.Tests.{_and_, _or_, not}
 use Rattle.base.specs.Lists.{put}
 use Rattle.base.specs.Numbers.{line, firstOf}
-use Rattle.base.proofs.Tests.{both, either, never-both, and-true, and-false, and-no, or-left, not-true, not-false}
+use Rattle.base.proofs.Tests.{and-true, and-false, and-no, or-left, not-true, not-false}
 use Rattle.base.proofs.Numbers.{first-true, first-false}
 use Rattle.machine.specs.Plan.{Plan, count, words, heldBy, offset}
 use Rattle.machine.specs.Machine.{State, stateOf, answered}
@@ -29,8 +29,7 @@ use Rattle.engine.specs.Calls.{answer}
 use Rattle.engine.specs.Given.{unfitLines}
 use Rattle.engine.proofs.Lines.{areas-are, unfit-none}
 use Rattle.engine.proofs.Turns.{answered-no, answered-yes}
-use Rattle.mail.specs.Calls.{takes, asLong}
-use Rattle.mail.specs.Given.{MayTake, receivedOr}
+use Rattle.arrivals.specs.Taking.{takes, asLong, MayTake, receivedOr}
 
 -- ---- as many words as the message has
 

@@ -1,12 +1,12 @@
--- `core::copy_words` meets its contract: the words passed.
+-- `copy_words` meets its contract: the words passed.
 use native.Mathlib.Omega.{arith}
 use Prim.Native.Nat.{_-_}
 use mathlib.Core.Path.{refl}
 use lib.ListN.{length, getD}
 use Rattle.stages.proofs.Parts as parts
 use borrow.Author.Needs.{needs}
-use Rattle.mail.proofs.core.copy_words.Statement.{statement}
-use Rattle.mail.proofs.core.copy_words.Tie as tie
+use Rattle.arrivals.proofs.copy_words.Statement.{statement}
+use Rattle.arrivals.proofs.copy_words.Tie as tie
 
 abbrev Inv-loop : tie.InvT-loop
 Inv-loop to₀ words i₀ to i = parts.Stored (λ j. getD words j 0) to₀ to i

@@ -1,4 +1,4 @@
--- `core::receive` meets its contract: each return by the line that counts.
+-- `receive` meets its contract: each return by the line that counts.
 use native.Mathlib.Omega.{arith}
 use Prim.Native.Nat.{ℕ}
 use mathlib.Core.Path.{refl, sym, ap, _∙_}
@@ -6,10 +6,10 @@ use Rattle.plan.specs.Shaped.{planOf}
 use Rattle.machine.specs.Machine.{stateOf}
 use Rattle.table.specs.Summary.{lineOf}
 use Rattle.stages.proofs.Parts as parts
-use Rattle.mail.proofs.Taking as taking
+use Rattle.arrivals.proofs.Taking as taking
 use borrow.Author.Needs.{needs}
-use Rattle.mail.proofs.core.receive.Statement.{statement}
-use Rattle.mail.proofs.core.receive.Tie as tie
+use Rattle.arrivals.proofs.receive.Statement.{statement}
+use Rattle.arrivals.proofs.receive.Tie as tie
 
 returns : tie.Need-returns
 returns c =

@@ -7,10 +7,10 @@ use Rattle.plan.specs.Shaped.{planOf}
 use Rattle.engine.proofs.Lines as lines
 use Rattle.engine.proofs.Lines.{Opened}
 use Rattle.engine.specs.Calls.{recipe}
-use Rattle.rig.proofs.Seeing as seeing
+use Rattle.look.proofs.Seeing as seeing
 use borrow.Author.Needs.{needs}
-use Rattle.rig.proofs.core.look_at.Statement.{statement}
-use Rattle.rig.proofs.core.look_at.Tie as tie
+use Rattle.look.proofs.core.look_at.Statement.{statement}
+use Rattle.look.proofs.core.look_at.Tie as tie
 
 read-requires : tie.Need-read-requires
 read-requires c κs = search needs

@@ -22,9 +22,9 @@ use Rattle.layout.specs.Sizes.{routeOf}
 use Rattle.routes.proofs.Laws.{reads-for}
 use Rattle.engine.specs.Calls.{recipe}
 use Rattle.engine.proofs.Lines.{Opened}
 use Rattle.rig.specs.Calls.{memoriesLong, lookNumber, lookPart}
-use Rattle.rig.specs.Given.{SeenAt}
-use Rattle.rig.specs.declared.core.Seen.{Seen}
+use Rattle.look.specs.Given.{SeenAt}
+use Rattle.look.specs.declared.core.Seen.{Seen}
 
 module _ (bytes a c : List ℕ) (o b : ℕ) where
   pub look-read : (n : ℕ) → n ≡ firstOf (readLines bytes) → n ≢ 0 → n ≡ lookNumber bytes a c o b

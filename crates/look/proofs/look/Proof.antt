@@ -1,10 +1,10 @@
 -- At a refusal nothing of either; else the part that begins where `look_at` says.
 use mathlib.Core.Path.{refl}
 use native.Mathlib.Omega.{arith}
-use Rattle.rig.proofs.Seeing as seeing
+use Rattle.look.proofs.Seeing as seeing
 use borrow.Author.Needs.{needs}
-use Rattle.rig.proofs.look.Statement.{statement}
-use Rattle.rig.proofs.look.Tie as tie
+use Rattle.look.proofs.look.Statement.{statement}
+use Rattle.look.proofs.look.Tie as tie
 
 look-at-requires : tie.Need-look-at-requires
 look-at-requires c κs = search needs
