@@ -23,6 +23,7 @@ use arrivals::copy_words;
 use base::word_index;
 use layout::Sizes;
 use mail::core::as_long;
+use marks::arrived;
 use nest::Nest;
 use own_front::kept_count;
 use own_front::open;
@@ -267,12 +268,13 @@ fn receive(
         return 11;
     }
     let at = word_index(ranks[m]);
-    if marks[at] != 0 {
-        return 14;
+    let from = word_index(places[m]);
+    if arrived(marks, at) {
+        store_words(mail, from, words);
+        0
+    } else {
+        14
     }
-    store_words(mail, word_index(places[m]), words);
-    marks[at] = 2;
-    0
 }
 
 // Lines 9 and 10, then these.

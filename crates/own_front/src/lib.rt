@@ -23,6 +23,8 @@ use layout::route_of;
 use layout::sizes_of;
 use nest::Nest;
 use plan::Route;
+use ranks::fill_counts;
+use ranks::rank;
 use records::Flat;
 use routes::read_for;
 use stages::fit_status;
@@ -115,8 +117,8 @@ pub fn keep_cells(
         × (r ≡ length (keptCells (planOf (sizes .route) nest) b)) ⌝ }
 {
     own::mark_kept(nest, sizes, lens, b, kept);
-    own::fill_counts(kept, counts);
-    own::rank(kept, counts, sizes.cells)
+    fill_counts(kept, counts);
+    rank(kept, counts, sizes.cells)
 }
 
 // The cells of its tiles.
@@ -133,8 +135,8 @@ pub fn own_cells(
         × (r ≡ length (ownCells (planOf (sizes .route) nest) b)) ⌝ }
 {
     own::mark_own(nest, sizes, b, owned);
-    own::fill_counts(owned, counts);
-    own::rank(owned, counts, sizes.cells)
+    fill_counts(owned, counts);
+    rank(owned, counts, sizes.cells)
 }
 
 // How many cells the processor keeps: the words of its memory.

@@ -3,9 +3,9 @@ use native.Mathlib.Omega.{arith}
 use Prim.Native.Nat.{_-_}
 use mathlib.Core.Logic.{⊎-elim, inl, inr}
 use lib.ListN.{length}
-use Rattle.own.proofs.Marks as marked
-use Rattle.own.proofs.marks_in.Statement.{statement}
-use Rattle.own.proofs.marks_in.Tie as tie
+use Rattle.ranks.proofs.Marks as marked
+use Rattle.ranks.proofs.marks_in.Statement.{statement}
+use Rattle.ranks.proofs.marks_in.Tie as tie
 
 abbrev Inv-loop : tie.InvT-loop
 Inv-loop marks c₀ n₀ c n = marked.Passed marks c n

@@ -15,9 +15,7 @@ use Rattle.base.proofs.Tests.{one-true, one-false, length-tabulate, tabulate-at
 use Rattle.base.proofs.Lists.{AllBelow, unpack-length, pack-length}
 use Rattle.base.proofs.Entries.{pack-at, unpack-at, unpack-other}
 use Rattle.base.proofs.Select.{keep-in, keep-rising, keep-more, keep-few, keep-mono, keep-lt, keep-at, keep-same}
-use Rattle.machine.specs.Plan.{Plan}
-use Rattle.apart.specs.Own.{owns, keeps, sourceOf}
-use Rattle.own.specs.Part.{markedAt, markedCells, rankAt, spreadOut, allOf}
+use Rattle.ranks.specs.Ranks.{markedAt, markedCells, rankAt, spreadOut}
 
 module _ (marks : List ℕ) where
   abbrev f : ℕ → Bool
@@ -139,14 +137,3 @@ module _ (marks : List ℕ) (g : ℕ → Bool) (n : ℕ) (is : marks ≡ tabulat
   pub spread-is : (ws : List ℕ) → spreadOut marks ws ≡ unpack (replicate n 0) (keep g n) ws
   spread-is ws =
       ap (λ (cs : List ℕ). unpack (replicate (length marks) 0) cs ws) marked-are ∙ ap (λ (k : ℕ). unpack (replicate k 0) (keep g n) ws) marks-long
-
--- a processor's kept cells, and its own
-
-pub all-is : (p : Plan) (b : ℕ) (marks : List ℕ) → marks ≡ tabulate (λ c. one (keeps p b c)) (p .cells) → (ws : List ℕ)
-    → spreadOut marks ws ≡ allOf p b ws
-all-is p b marks is ws = spread-is marks (keeps p b) (p .cells) is ws
-
-pub source-is : (p : Plan) (b : ℕ) (marks : List ℕ) → marks ≡ tabulate (λ c. one (owns p b c)) (p .cells) → (ws : List ℕ)
-    → spreadOut marks ws ≡ sourceOf p b ws
-unfolding sourceOf
-source-is p b marks is ws = spread-is marks (owns p b) (p .cells) is ws

@@ -1,11 +1,11 @@
--- `held::list_run` meets its contract: the first y cells are listed.
+-- `list_run` meets its contract: the first y cells are listed.
 use Prim.Native.Nat.{_-_}
 use native.Mathlib.Omega.{arith}
 use Rattle.runs.proofs.Laws.{Copies, copies-none, copies-long, copies-end}
-use Rattle.held.specs.Numbers.{numbers}
-use Rattle.held.proofs.Laws as L
-use Rattle.held.proofs.list_run.Statement.{statement}
-use Rattle.held.proofs.list_run.Tie as tie
+use Rattle.listed.specs.Numbers.{numbers}
+use Rattle.listed.proofs.Numbers as L
+use Rattle.listed.proofs.list_run.Statement.{statement}
+use Rattle.listed.proofs.list_run.Tie as tie
 
 abbrev Inv-loop : tie.InvT-loop
 Inv-loop cells₀ at first n y₀ cells y = Copies cells₀ numbers at first n cells y

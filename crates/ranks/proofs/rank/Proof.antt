@@ -1,11 +1,11 @@
 -- `rank` meets its contract: the count before its block and the marks from there on.
 use native.Mathlib.Omega.{arith}
 use mathlib.Core.Path.{_∙_}
-use Rattle.own.proofs.Ranks as ranks
-use Rattle.own.proofs.Blocks as blocks
+use Rattle.ranks.proofs.Ranks as ranks
+use Rattle.ranks.proofs.Blocks as blocks
 use borrow.Author.Needs.{needs}
-use Rattle.own.proofs.rank.Statement.{statement}
-use Rattle.own.proofs.rank.Tie as tie
+use Rattle.ranks.proofs.rank.Statement.{statement}
+use Rattle.ranks.proofs.rank.Tie as tie
 
 mul-from : tie.Need-mul-from
 mul-from c = search needs

@@ -1,9 +1,9 @@
 -- `fill_counts` meets its contract: the blocks passed.
 use native.Mathlib.Omega.{arith}
 use Prim.Native.Nat.{_-_, _+_, _*_}
-use Rattle.own.proofs.Blocks as laws
-use Rattle.own.proofs.fill_counts.Statement.{statement}
-use Rattle.own.proofs.fill_counts.Tie as tie
+use Rattle.ranks.proofs.Blocks as laws
+use Rattle.ranks.proofs.fill_counts.Statement.{statement}
+use Rattle.ranks.proofs.fill_counts.Tie as tie
 
 abbrev Inv-loop : tie.InvT-loop
 Inv-loop marks counts₀ blocks n₀ q₀ counts n q = laws.Filled marks counts q n

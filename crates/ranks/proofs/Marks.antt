@@ -10,7 +10,7 @@ use lib.ListN.{length, getD}
 use borrow.Author.Tests.{eq-eqb, ne-eqb}
 use Rattle.base.specs.Tests.{keep}
 use Rattle.base.proofs.Select.{keep-none, keep-more, keep-few}
-use Rattle.own.specs.Part.{markedAt, markedCells}
+use Rattle.ranks.specs.Ranks.{markedAt, markedCells}
 
 module _ (marks : List ℕ) where
   abbrev f : ℕ → Bool
