@@ -1,10 +1,13 @@
-// The records of a recipe, sixteen bytes each, from a nest's fields.
+// The records of a recipe, sixteen bytes each, from a nest: the numbers of each, spelled.
 use nest::Nest;
+use spelling::bound_record;
+use spelling::close_record;
+use spelling::dimension_record;
+use spelling::narrow_record;
+use spelling::wide_record;
 ghost use mathlib.Core.Path.{_≡_};
-ghost use mathlib.Core.Bool.{true};
-ghost use Prim.Native.Nat.{ℕ, _+_, _*_, _%_, _<_, _≤_};
-ghost use lib.ListN.{length, getD};
-ghost use Rattle.nest.specs.Encode.{low, high, dimensionRecord, narrowRecord, wideRecord, boundRecord, closeRecord};
+ghost use Prim.Native.Nat.{ℕ, _+_, _*_, _<_, _≤_};
+ghost use lib.ListN.{getD};
 ghost use Rattle.nest.specs.Encode.{dimensionOf, boundOf, narrow, distanceOf, encode};
 
 pub fn wide(x: usize) -> u64
@@ -23,96 +26,6 @@ fn half_wide(x: u16) -> u64
     ensures { λ r. ⌜ r ≡ x ⌝ }
 {
     x as u64
-}
-
-fn low(v: u64) -> u8
-    ensures { λ r. ⌜ r ≡ low v ⌝ }
-{
-    (v % 256) as u8
-}
-
-fn high(v: u64) -> u8
-    ensures { λ r. ⌜ r ≡ high v ⌝ }
-{
-    (v / 256 % 256) as u8
-}
-
-fn dimension_record(length: u64, tile: u64, count: u64) -> [u8; 16]
-    ensures { λ r. ⌜ r ≡ dimensionRecord length tile count ⌝ }
-{
-    let mut row = [0u8; 16];
-    row[0] = 1;
-    row[2] = low(length);
-    row[3] = high(length);
-    row[4] = low(tile);
-    row[5] = high(tile);
-    row[6] = low(count);
-    row[7] = high(count);
-    row
-}
-
-// A distance of kind 2: a byte a component.
-fn narrow_record(d1: u64, d2: u64, d3: u64, d4: u64, weight: u64) -> [u8; 16]
-    ensures { λ r. ⌜ r ≡ narrowRecord d1 d2 d3 d4 weight ⌝ }
-{
-    let mut row = [0u8; 16];
-    row[0] = 2;
-    row[2] = low(d1);
-    row[3] = low(d2);
-    row[4] = low(d3);
-    row[5] = low(d4);
-    row[6] = low(weight);
-    row[7] = high(weight);
-    row
-}
-
-// A distance of kind 4: two bytes a component.
-fn wide_record(d1: u64, d2: u64, d3: u64, d4: u64, weight: u64) -> [u8; 16]
-    ensures { λ r. ⌜ r ≡ wideRecord d1 d2 d3 d4 weight ⌝ }
-{
-    let mut row = [0u8; 16];
-    row[0] = 4;
-    row[2] = low(d1);
-    row[3] = high(d1);
-    row[4] = low(d2);
-    row[5] = high(d2);
-    row[6] = low(d3);
-    row[7] = high(d3);
-    row[8] = low(d4);
-    row[9] = high(d4);
-    row[10] = low(weight);
-    row[11] = high(weight);
-    row
-}
-
-// A bound, of slope + 1 and offset + 32,768.
-fn bound_record(side: u64, dimension: u64, earlier: u64, slope: u64, offset: u64) -> [u8; 16]
-    ensures { λ r. ⌜ r ≡ boundRecord side dimension earlier slope offset ⌝ }
-{
-    let signed = offset % 65536 + 32768;
-    let mut row = [0u8; 16];
-    row[0] = 5;
-    row[1] = low(side);
-    row[2] = low(dimension);
-    row[3] = low(earlier);
-    row[4] = low(slope % 256 + 255);
-    row[6] = low(signed);
-    row[7] = high(signed);
-    row
-}
-
-fn close_record(shift: u64, boundary: u64) -> [u8; 16]
-    ensures { λ r. ⌜ r ≡ closeRecord shift boundary ⌝ }
-{
-    let top = boundary / 65536;
-    let mut row = [0u8; 16];
-    row[0] = 3;
-    row[1] = low(shift);
-    row[4] = low(boundary);
-    row[5] = high(boundary);
-    row[6] = low(top);
-    row[7] = high(top);
-    row
 }
 
 fn dimension_of(nest: Nest, j: usize) -> [u8; 16]

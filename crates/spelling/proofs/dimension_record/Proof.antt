@@ -1,8 +1,8 @@
--- `writer::dimension_record` meets its contract: one law over plain variables.
-use Rattle.writer.proofs.Records as L
+-- `spelling::dimension_record` meets its contract: one law over plain variables.
+use Rattle.spelling.proofs.Records as L
 use borrow.Author.Needs.{needs}
-use Rattle.writer.proofs.spelling.dimension_record.Statement.{statement}
-use Rattle.writer.proofs.spelling.dimension_record.Tie as tie
+use Rattle.spelling.proofs.dimension_record.Statement.{statement}
+use Rattle.spelling.proofs.dimension_record.Tie as tie
 
 array-write-row : tie.Need-array-write-row
 array-write-row c = search needs

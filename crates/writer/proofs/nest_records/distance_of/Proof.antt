@@ -1,8 +1,8 @@
 -- `writer::distance_of` meets its contract: its record over the nest's numbers.
 use Rattle.writer.proofs.Records as L
 use borrow.Author.Needs.{needs}
-use Rattle.writer.proofs.spelling.distance_of.Statement.{statement}
-use Rattle.writer.proofs.spelling.distance_of.Tie as tie
+use Rattle.writer.proofs.nest_records.distance_of.Statement.{statement}
+use Rattle.writer.proofs.nest_records.distance_of.Tie as tie
 
 mul-at : tie.Need-mul-at
 mul-at c = search needs

@@ -3,8 +3,8 @@ use Rattle.writer.proofs.Records as L
 use mathlib.Core.Path.{refl}
 use native.Mathlib.Omega.{arith}
 use borrow.Author.Needs.{needs}
-use Rattle.writer.proofs.spelling.record_of.Statement.{statement}
-use Rattle.writer.proofs.spelling.record_of.Tie as tie
+use Rattle.writer.proofs.nest_records.record_of.Statement.{statement}
+use Rattle.writer.proofs.nest_records.record_of.Tie as tie
 
 dimension-of-requires : tie.Need-dimension-of-requires
 dimension-of-requires c κs = omega (arith, c .if1 .taken, c .before .before .pre .0 .0)

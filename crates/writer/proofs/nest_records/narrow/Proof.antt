@@ -11,8 +11,8 @@ use Rattle.base.specs.Tests.{every}
 use Rattle.nest.specs.Nest.{component}
 use Rattle.nest.proofs.Laws.{every-start, every-step}
 use Rattle.writer.proofs.Records as L
-use Rattle.writer.proofs.spelling.narrow.Statement.{statement}
-use Rattle.writer.proofs.spelling.narrow.Tie as tie
+use Rattle.writer.proofs.nest_records.narrow.Statement.{statement}
+use Rattle.writer.proofs.nest_records.narrow.Tie as tie
 
 abbrev Inv-loop : tie.InvT-loop
 Inv-loop e components j₀ j = (j ≤ 4) × (every (λ i. ltb (getD components (4 * e + i) 0) 256) j ≡ true)

@@ -1,8 +1,8 @@
--- `writer::bound_record` meets its contract: one law over plain variables.
-use Rattle.writer.proofs.Records as L
+-- `spelling::bound_record` meets its contract: one law over plain variables.
+use Rattle.spelling.proofs.Records as L
 use borrow.Author.Needs.{needs}
-use Rattle.writer.proofs.spelling.bound_record.Statement.{statement}
-use Rattle.writer.proofs.spelling.bound_record.Tie as tie
+use Rattle.spelling.proofs.bound_record.Statement.{statement}
+use Rattle.spelling.proofs.bound_record.Tie as tie
 
 add-signed : tie.Need-add-signed
 add-signed c = search needs

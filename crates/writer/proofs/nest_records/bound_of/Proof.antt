@@ -2,8 +2,8 @@
 use Rattle.writer.proofs.Records as L
 use native.Mathlib.Omega.{arith}
 use borrow.Author.Needs.{needs}
-use Rattle.writer.proofs.spelling.bound_of.Statement.{statement}
-use Rattle.writer.proofs.spelling.bound_of.Tie as tie
+use Rattle.writer.proofs.nest_records.bound_of.Statement.{statement}
+use Rattle.writer.proofs.nest_records.bound_of.Tie as tie
 
 array-read-byte-wide : tie.Need-array-read-byte-wide
 array-read-byte-wide c = omega (arith, c .before .before .before .before .before .pre)

@@ -1,8 +1,8 @@
 -- `writer::dimension_of` meets its contract: its record over the nest's numbers.
 use Rattle.writer.proofs.Records as L
 use borrow.Author.Needs.{needs}
-use Rattle.writer.proofs.spelling.dimension_of.Statement.{statement}
-use Rattle.writer.proofs.spelling.dimension_of.Tie as tie
+use Rattle.writer.proofs.nest_records.dimension_of.Statement.{statement}
+use Rattle.writer.proofs.nest_records.dimension_of.Tie as tie
 
 mul-wide : tie.Need-mul-wide
 mul-wide c = search needs
