@@ -48,13 +48,10 @@ fn word_at(
         × ((length (now memory) ≤ 16384) × (between first end component ≡ true → back ≤ cell))) ⌝ }
     ensures { λ r. ⌜ (r ≡ pick (between first end component) (getD (now (memory .entry)) (cell - back) 0) boundary) × (r < 4294967296) ⌝ }
 {
-    if component < first {
-        return boundary;
+    if intervals::has(first, end, component) {
+        return memory[cell - back] as u64;
     }
-    if end <= component {
-        return boundary;
-    }
-    memory[cell - back] as u64
+    boundary
 }
 
 // A word of a list, wide.
