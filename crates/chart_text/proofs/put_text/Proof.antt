@@ -2,11 +2,11 @@ use native.Mathlib.Omega.{arith}
 use mathlib.Core.Path.{refl, sym, _∙_}
 use Rattle.nest.specs.Nest.{lengthOf}
 use Rattle.nest.specs.Shape.{inShape}
-use Rattle.chart.proofs.Lengths.{cells-are, text-most, text-end}
-use Rattle.chart.proofs.Steps.{text-head, text-rows, text-done}
+use Rattle.chart_text.proofs.Lengths.{cells-are, text-most, text-end}
+use Rattle.chart_text.proofs.Steps.{text-head, text-rows, text-done}
 use borrow.Author.Needs.{needs}
-use Rattle.chart.proofs.put_text.Statement.{statement}
-use Rattle.chart.proofs.put_text.Tie as tie
+use Rattle.chart_text.proofs.put_text.Statement.{statement}
+use Rattle.chart_text.proofs.put_text.Tie as tie
 
 array-read-rows : tie.Need-array-read-rows
 array-read-rows c = search needs

@@ -1,10 +1,10 @@
 use native.Mathlib.Omega.{arith}
 use mathlib.Core.Path.{sym, _∙_}
 use Rattle.nest.specs.Spans.{within}
-use Rattle.chart.proofs.Steps.{in-room, in-done, out-room, out-done}
+use Rattle.chart_text.proofs.Steps.{in-room, in-done, out-room, out-done}
 use borrow.Author.Needs.{needs}
-use Rattle.chart.proofs.put_cell.Statement.{statement}
-use Rattle.chart.proofs.put_cell.Tie as tie
+use Rattle.chart_text.proofs.put_cell.Statement.{statement}
+use Rattle.chart_text.proofs.put_cell.Tie as tie
 
 has-requires : tie.Need-has-requires
 has-requires c κs = search needs

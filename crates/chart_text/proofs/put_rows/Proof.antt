@@ -6,10 +6,10 @@ use native.Mathlib.Nat.{zero-mul}
 use borrow.Author.Needs.{needs}
 use Rattle.text.specs.Grid.{rowsFrom}
 use Rattle.text.proofs.Steps.{Going}
-use Rattle.chart.proofs.Steps.{rows-start, rows-fit, rows-place, rows-room, rows-next, rows-done}
-use Rattle.chart.proofs.Rows.{row-fits, row-wrote}
-use Rattle.chart.proofs.put_rows.Statement.{statement}
-use Rattle.chart.proofs.put_rows.Tie as tie
+use Rattle.chart_text.proofs.Steps.{rows-start, rows-fit, rows-place, rows-room, rows-next, rows-done}
+use Rattle.chart_text.proofs.Rows.{row-fits, row-wrote}
+use Rattle.chart_text.proofs.put_rows.Statement.{statement}
+use Rattle.chart_text.proofs.put_rows.Tie as tie
 
 abbrev Inv-loop : tie.InvT-loop
 Inv-loop space₀ at grid nest n k place₀ c₀ i₀ space place c i =

@@ -1,9 +1,9 @@
--- `chart::has` meets its contract.
+-- `chart_text::has` meets its contract.
 use mathlib.Core.Path.{sym}
 use borrow.Author.Tests.{lt-leb, le-leb}
 use Rattle.base.proofs.Tests.{and-false, and-left}
-use Rattle.chart.proofs.has.Statement.{statement}
-use Rattle.chart.proofs.has.Tie as tie
+use Rattle.chart_text.proofs.has.Statement.{statement}
+use Rattle.chart_text.proofs.has.Tie as tie
 
 returns : tie.Need-returns
 returns c = sym (and-false _ _ (lt-leb _ _ (c .if1 .taken)))

@@ -21,7 +21,7 @@ use Rattle.nest.specs.Nest.{lengthOf, cells}
 use Rattle.nest.specs.Shape.{inShape}
 use Rattle.text.specs.Grid.{frame, ncols, nrows, xllcorner, yllcorner, cellsize, nodata, missing}
 use Rattle.text.specs.Grid.{headLine, header, cell, more, row, rowsFrom, gridText}
-use Rattle.chart.specs.Text.{chartText}
+use Rattle.chart_text.specs.Text.{chartText}
 
 -- a list of words
 abbrev pub Words : List ℕ → Type 0

@@ -20,7 +20,7 @@ use Rattle.nest.specs.Shape.{inShape}
 use Rattle.nest.specs.Spans.{last, within, Spans, Row}
 use Rattle.nest.proofs.Shapes.{framed, span-row}
 use Rattle.text.specs.Grid.{missing, cell, more, row}
-use Rattle.chart.specs.Rows.{Shown}
+use Rattle.chart_text.specs.Rows.{Shown}
 
 -- ---- the interval of the row whose first cell is c
 

@@ -1,9 +1,9 @@
--- `chart::shown` meets its contract.
+-- `chart_text::shown` meets its contract.
 use native.Mathlib.Omega.{arith}
 use Rattle.nest.proofs.Shapes.{framed}
-use Rattle.chart.proofs.Rows as rows
-use Rattle.chart.proofs.shown.Statement.{statement}
-use Rattle.chart.proofs.shown.Tie as tie
+use Rattle.chart_text.proofs.Rows as rows
+use Rattle.chart_text.proofs.shown.Statement.{statement}
+use Rattle.chart_text.proofs.shown.Tie as tie
 
 row-place-requires : tie.Need-row-place-requires
 row-place-requires c κs = framed (c .args .nest) (c .pre .0)

@@ -6,9 +6,9 @@ use mathlib.Core.Path.{_∙_}
 use lib.ListN.{length, drop}
 use Rattle.text.specs.Grid.{more, cell}
 use Rattle.text.proofs.Steps.{Going}
-use Rattle.chart.proofs.Steps.{more-start, more-first, more-second, more-next, more-feed, more-done}
-use Rattle.chart.proofs.put_more.Statement.{statement}
-use Rattle.chart.proofs.put_more.Tie as tie
+use Rattle.chart_text.proofs.Steps.{more-start, more-first, more-second, more-next, more-feed, more-done}
+use Rattle.chart_text.proofs.put_more.Statement.{statement}
+use Rattle.chart_text.proofs.put_more.Tie as tie
 
 abbrev Inv-loop : tie.InvT-loop
 Inv-loop space₀ at grid s c n place₀ j₀ space place j = (j ≤ n) × Going space₀ at (more grid (within s) c n) space place (more grid (within s) (c + j) (n - j))

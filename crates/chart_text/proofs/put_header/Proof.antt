@@ -1,7 +1,7 @@
 use borrow.Author.Needs.{needs}
-use Rattle.chart.proofs.Steps.{head-1, head-2, head-3, head-4, head-5, head-6, head-done}
-use Rattle.chart.proofs.put_header.Statement.{statement}
-use Rattle.chart.proofs.put_header.Tie as tie
+use Rattle.chart_text.proofs.Steps.{head-1, head-2, head-3, head-4, head-5, head-6, head-done}
+use Rattle.chart_text.proofs.put_header.Statement.{statement}
+use Rattle.chart_text.proofs.put_header.Tie as tie
 
 slice-aggregate-put-line : tie.Need-slice-aggregate-put-line
 slice-aggregate-put-line c = search needs

@@ -2,9 +2,9 @@ use Rattle.nest.specs.Spans.{within}
 use borrow.Author.Needs.{needs}
 use mathlib.Core.Path.{_≡_}
 use native.Mathlib.Omega.{arith}
-use Rattle.chart.proofs.Steps.{row-feed, row-over, row-cell, row-more, row-done}
-use Rattle.chart.proofs.put_row.Statement.{statement}
-use Rattle.chart.proofs.put_row.Tie as tie
+use Rattle.chart_text.proofs.Steps.{row-feed, row-over, row-cell, row-more, row-done}
+use Rattle.chart_text.proofs.put_row.Statement.{statement}
+use Rattle.chart_text.proofs.put_row.Tie as tie
 
 put-requires : tie.Need-put-requires
 put-requires c κs =
