@@ -7,8 +7,8 @@ ghost use Rattle.engine.specs.Calls.{recipe};
 ghost use Rattle.rig.specs.Calls.{lookNumber};
 ghost use Rattle.look.specs.Given.{SeenAt};
 use layout::sizes_of;
-use nest::read;
 use plan::Route;
+use reader::read;
 
 // Where a look finds its part: the number and, where that is 0, where the part begins and how many words it has.
 pub struct Seen {

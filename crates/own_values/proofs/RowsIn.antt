@@ -17,7 +17,7 @@ use Rattle.plan.specs.Shaped.{shapedValue}
 use Rattle.layout.specs.declared.Cell.{Cell}
 use Rattle.layout.specs.Places.{Located}
 use Rattle.layout.specs.CellRows.{rowOf}
-use Rattle.values.specs.Reads.{Backs}
+use Rattle.row_values.specs.Reads.{Backs}
 use Rattle.shaped_values.specs.Rows.{insideOnly, Overlaps, ReadsRuns, mixedAlong, Readable}
 use Rattle.shaped_values.proofs.Words.{reads, found, cut-fits, cut-low, inner, along, row-values, row-none}
 use Rattle.ranks.specs.Ranks.{markedAt, markedCells, rankAt, spreadOut}

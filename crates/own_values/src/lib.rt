@@ -15,7 +15,7 @@ ghost use Rattle.layout.specs.Sizes.{Sized};
 ghost use Rattle.layout.specs.Places.{Located};
 ghost use Rattle.layout.specs.CellRows.{rowOf};
 ghost use Rattle.tables.specs.Tables.{Tabled};
-ghost use Rattle.values.specs.Reads.{Backs};
+ghost use Rattle.row_values.specs.Reads.{Backs};
 ghost use Rattle.shaped_values.specs.Rows.{mixedAlong, Readable};
 ghost use Rattle.apart.specs.Own.{keptCells, sourceOf};
 ghost use Rattle.ranks.specs.Ranks.{spreadOut};
@@ -233,7 +233,7 @@ fn calculate_box(
 {
     let bounds = layout::bounds_of(nest, sizes, tile);
     let components = nest.components;
-    let back = values::backs_of(nest, &components);
+    let back = row_values::backs_of(nest, &components);
     let last = nest.dimensions - 1;
     let lengths = bounds.lengths;
     let rows = layout::product(lengths, last);
