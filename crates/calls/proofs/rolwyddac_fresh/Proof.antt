@@ -55,7 +55,7 @@ use Rattle.calls.proofs.Walking.{R, word, ref, bytes, words32, records,
 use Rattle.calls.proofs.Params.{Param, number32, number64, reads, changes, Lent, stays, go, spells, tell, values, row, tokens, owning, slices}
 use Rattle.calls.proofs.Params.{had, env, held, comes-back}
 use Rattle.calls.proofs.Lending.{lends-on}
-use Rattle.calls.proofs.Orders.{sorts, turned}
+use Rattle.calls.proofs.Orders.{forgets, sorts, turned}
 use Rattle.calls.proofs.Walking.{local, sepAll, fsepAll, splits, joins, fsplits, fjoins, Clear, clears-at}
 use Rattle.calls.proofs.rolwyddac_fresh.Key.{name as #calls·fresh}
 use Rattle.calls.proofs.rolwyddac_fresh as fresh
@@ -178,8 +178,9 @@ module _ {M : Type 1} (𝓤 : URA M) (H : Heap 𝓤) (A : Atoms 𝓤) (W : Given
         clears-at mem run κ4 q4 x4 ! fm known₂ (named 4) r fits (and-then ! (local ! 1 refl) (and-then ! (local ! 21 refl) (no-more !))) (λ y4 e4 put4.
         land ! (from ! (stop !)) (init ! 6 refl (tt, tt)) $ forget ! 6 refl $
         assigns ! (of-opd ! (local ! 22 refl)) (from ! (stop !)) (init ! 40 refl (tt, record { fits = fits })) $
-        returns ! (look ! 40 refl) $ forget ! 40 refl $ forget ! 38 refl $ forget ! 36 refl $ forget ! 34 refl $ forget ! 32 refl $
-        forget ! 30 refl $ forget ! 28 refl $ forget ! 26 refl $ forget ! 22 refl $ forget ! 4 refl $ forget ! 2 refl $
+        returns ! (look ! 40 refl) $
+        forgets ! 26 (((_, _), _) ∷ ((_, _), _) ∷ ((_, _), _) ∷ ((_, _), _) ∷ ((_, _), _) ∷ ((_, _), _) ∷ ((_, _), _) ∷ ((_, _), _) ∷ []) refl $
+        forget ! 22 refl $ forgets ! 2 (((_, _), _) ∷ ((_, _), _) ∷ []) refl $
         sorts ! 2 40 (keep ! (2 ∷ 0 ∷ 3 ∷ 4 ∷ 1 ∷ 5 ∷ [])) $ turned ! 20 $
         free-all ! _ $ by ! (exits r y2 y3 y4 y5 fits e2 e3 e4 e5
         (ap (λ (l : List ℕ). answer r (stateOf y2 y3 l y5)) (ap (λ (l : List Progress). flatWords l) put4 ∙ cleared-after (now x4) r) ∙ said)))
@@ -209,8 +210,8 @@ module _ {M : Type 1} (𝓤 : URA M) (H : Heap 𝓤) (A : Atoms 𝓤) (W : Given
         feqL ! (λ e3. move ! (2 ∷ []) $ split ! $ move ! (1 ∷ []) $ feqL ! (λ e5. move ! (7 ∷ []) $ split ! $ move ! (1 ∷ []) $
         peeks ! u32 (Is u32) (shows 𝓤 H A u32) r (w ∷ []) (λ is′.
         land ! (from ! (stop !)) (init ! 29 refl (uint-lawful 𝓤 H A W w32 .typed r _ is′ .0)) $
-        rewrite ! 29 (λ (u : Val). ‵ (fat fullShare word l9 0 u)) (ap only (uint-tells w32 r (w ∷ []) is′)) refl $ forget ! 31 refl $
-        forget ! 25 refl $ forget ! 23 refl $ forget ! 21 refl $ forget ! 19 refl $ forget ! 17 refl $ forget ! 15 refl $
+        rewrite ! 29 (λ (u : Val). ‵ (fat fullShare word l9 0 u)) (ap only (uint-tells w32 r (w ∷ []) is′)) refl $
+        forget ! 31 refl $ forgets ! 15 (((_, _), _) ∷ ((_, _), _) ∷ ((_, _), _) ∷ ((_, _), _) ∷ ((_, _), _) ∷ ((_, _), _) ∷ []) refl $
         sorts ! 9 40 (keep ! (1 ∷ 9 ∷ 10 ∷ 4 ∷ 3 ∷ 2 ∷ [])) $
         cleared known₂ r (is′ .1) (us .1 .1 .1 .0) (us .1 .1 .1 .1 .0) (us .1 .1 .1 .1 .1 .1 .0) e2 e3 e5 (said (flatWords (now x4))
         (sym (length-words (now x4))))))))))

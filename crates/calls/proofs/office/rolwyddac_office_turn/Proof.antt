@@ -66,7 +66,7 @@ use Rattle.calls.proofs.Walking.{R, F, E, low, high, progress-is, numbe
 use Rattle.calls.proofs.Params.{Param, number32, flat, reads, changes, Lent, stays, go, spells, tell, values, row, tokens, owning, slices}
 use Rattle.calls.proofs.Params.{had, env, held, comes-back}
 use Rattle.calls.proofs.Lending.{lends-on}
-use Rattle.calls.proofs.Orders.{sorts, turned}
+use Rattle.calls.proofs.Orders.{forgets, sorts, turned}
 use Rattle.calls.proofs.Walking.{local, sepAll, fsepAll, splits, joins, fsplits, fjoins, Flatten, Put, flattens, flattens-lent, puts-at}
 use Rattle.calls.proofs.office.rolwyddac_office_turn.Key.{name as #calls·turn}
 use Rattle.calls.proofs.office.rolwyddac_office_turn as turn
@@ -206,9 +206,10 @@ module _ {M : Type 1} (𝓤 : URA M) (H : Heap 𝓤) (A : Atoms 𝓤) (W : Given
         land ! (from ! (stop !)) (init ! 6 refl (tt, tt)) $
         assigns ! (of-opd ! (load ! (from ! (fld ! refl (stop !))) (look-in ! 28 (sub ! 0 refl (whole !))))) (from ! (stop !))
         (init ! 56 refl (tt, record { fits = number-fits r is })) $
-        returns ! (look ! 56 refl) $ forget ! 56 refl $ forget ! 54 refl $ forget ! 52 refl $ forget ! 50 refl $ forget ! 48 refl $
-        forget ! 46 refl $ forget ! 44 refl $ forget ! 42 refl $ forget ! 40 refl $ forget ! 38 refl $ forget ! 36 refl $ forget ! 34 refl $
-        forget ! 28 refl $ forget ! 6 refl $ forget ! 4 refl $ forget ! 2 refl $
+        returns ! (look ! 56 refl) $
+        forgets ! 34 (((_, _), _) ∷ ((_, _), _) ∷ ((_, _), _) ∷ ((_, _), _) ∷ ((_, _), _) ∷ ((_, _), _) ∷ ((_, _), _) ∷ ((_, _), _) ∷ ((_, _), _)
+        ∷ ((_, _), _) ∷ ((_, _), _) ∷ ((_, _), _) ∷ []) refl $
+        forget ! 28 refl $ forgets ! 2 (((_, _), _) ∷ ((_, _), _) ∷ ((_, _), _) ∷ []) refl $
         sorts ! 2 56 (keep ! (2 ∷ 0 ∷ 3 ∷ 4 ∷ 5 ∷ 1 ∷ 6 ∷ 7 ∷ [])) $ turned ! 28 $
         free-all ! _ $ by ! (exits (r .number) y2 y3 y4 y5 y6 (number-fits r is) e2 e3 e4 e5 e6
         (ap (λ (l : List Progress). answer (r .number) (lentOf (stateOf y2 y3 (flatWords l) y5) y6)) put ∙ ap (λ (l : List ℕ). answer (r .number)
@@ -248,8 +249,8 @@ module _ {M : Type 1} (𝓤 : URA M) (H : Heap 𝓤) (A : Atoms 𝓤) (W : Given
         feqL ! (λ e6. move ! (11 ∷ []) $ split ! $ move ! (1 ∷ []) $ peeks ! E (Is E) (shows 𝓤 H A E) r (w ∷ []) (λ is′.
         land ! (from ! (stop !)) (init ! 39 refl (LL.lawful U.the-type U′.the-laws 𝓤 H A W .typed r _ is′ .0)) $
         rewrite ! 39 (λ (u : Val). ‵ (fat fullShare U′.mir l14 0 u)) (ap only (LL.tells U.the-type U′.the-laws r (w ∷ []) is′)) refl $
-        forget ! 43 refl $ forget ! 41 refl $ forget ! 33 refl $ forget ! 31 refl $ forget ! 29 refl $ forget ! 27 refl $ forget ! 25 refl $
-        forget ! 23 refl $ forget ! 21 refl $ forget ! 19 refl $
+        forgets ! 41 (((_, _), _) ∷ ((_, _), _) ∷ []) refl $
+        forgets ! 19 (((_, _), _) ∷ ((_, _), _) ∷ ((_, _), _) ∷ ((_, _), _) ∷ ((_, _), _) ∷ ((_, _), _) ∷ ((_, _), _) ∷ ((_, _), _) ∷ []) refl $
         sorts ! 13 56 (keep ! (1 ∷ 13 ∷ 14 ∷ 15 ∷ 5 ∷ 4 ∷ 3 ∷ 2 ∷ [])) $
         stored-part known₂ r (subst (λ (us : List Val). Is E r us) (LL.tells U.the-type U′.the-laws r (w ∷ []) is′) is′)
         (us .1 .1 .1 .0) (us .1 .1 .1 .1 .0) (us .1 .1 .1 .1 .1 .1 .0) (us .1 .1 .1 .1 .1 .1 .1 .0) e2 e3 e5 e6 (said (flatWords (now x4))

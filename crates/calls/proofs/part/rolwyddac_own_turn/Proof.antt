@@ -67,7 +67,8 @@ use Rattle.calls.proofs.Walking.{R, F, E, low, high, progress-is, numbe
 use Rattle.calls.proofs.Params.{Param, number32, flat, reads, changes, Lent, stays, go, spells, tell, values, row, tokens, owning, slices}
 use Rattle.calls.proofs.Params.{had, env, held, comes-back}
 use Rattle.calls.proofs.Lending.{lends-on}
-use Rattle.calls.proofs.Walking.{local, rising, pairs, sepAll, fsepAll, splits, joins, fsplits, fjoins, Flatten, Put, flattens-lent, puts-at}
+use Rattle.calls.proofs.Orders.{forgets, sorts, turned}
+use Rattle.calls.proofs.Walking.{local, sepAll, fsepAll, splits, joins, fsplits, fjoins, Flatten, Put, flattens-lent, puts-at}
 use Rattle.calls.proofs.part.rolwyddac_own_turn.Key.{name as #call}
 use Rattle.calls.proofs.part.rolwyddac_own_turn as turn
 use Rattle.calls.proofs.part.rolwyddac_own_turn.Statement as stated
@@ -195,10 +196,10 @@ module _ {M : Type 1} (𝓤 : URA M) (H : Heap 𝓤) (A : Atoms 𝓤) (W : Given
         land ! (from ! (stop !)) (init ! 6 refl (tt, tt)) $
         assigns ! (of-opd ! (load ! (from ! (fld ! refl (stop !))) (look-in ! 24 (sub ! 0 refl (whole !))))) (from ! (stop !))
         (init ! 44 refl (tt, record { fits = number-fits r is })) $
-        returns ! (look ! 44 refl) $ forget ! 44 refl $ forget ! 42 refl $ forget ! 40 refl $ forget ! 38 refl $ forget ! 36 refl $
-        forget ! 34 refl $ forget ! 32 refl $ forget ! 30 refl $ forget ! 28 refl $ forget ! 24 refl $ forget ! 6 refl $ forget ! 4 refl $
-        forget ! 2 refl $
-        keep ! (pairs 44 22 ++ (46 ∷ 0 ∷ 47 ∷ 48 ∷ 1 ∷ 49 ∷ [])) $
+        returns ! (look ! 44 refl) $
+        forgets ! 28 (((_, _), _) ∷ ((_, _), _) ∷ ((_, _), _) ∷ ((_, _), _) ∷ ((_, _), _) ∷ ((_, _), _) ∷ ((_, _), _) ∷ ((_, _), _) ∷ ((_, _), _) ∷ []) refl $
+        forget ! 24 refl $ forgets ! 2 (((_, _), _) ∷ ((_, _), _) ∷ ((_, _), _) ∷ []) refl $
+        sorts ! 2 44 (keep ! (2 ∷ 0 ∷ 3 ∷ 4 ∷ 1 ∷ 5 ∷ [])) $ turned ! 22 $
         free-all ! _ $ by ! (exits (r .number) y2 y3 y4 y5 (number-fits r is) e2 e3 e4 e5
         (ap (λ (l : List Progress). answer (r .number) (stateOf y2 y3 (flatWords l) y5)) put ∙ ap (λ (l : List ℕ). answer (r .number) (stateOf y2 y3 l y5))
         (stored-after (now x4) 0 r) ∙ said)))
@@ -228,8 +229,8 @@ module _ {M : Type 1} (𝓤 : URA M) (H : Heap 𝓤) (A : Atoms 𝓤) (W : Given
         peeks ! E (Is E) (shows 𝓤 H A E) r (w ∷ []) (λ is′.
         land ! (from ! (stop !)) (init ! 32 refl (LL.lawful U.the-type U′.the-laws 𝓤 H A W .typed r _ is′ .0)) $
         rewrite ! 32 (λ (u : Val). ‵ (fat fullShare U′.mir l10 0 u)) (ap only (LL.tells U.the-type U′.the-laws r (w ∷ []) is′)) refl $
-        forget ! 34 refl $ forget ! 26 refl $ forget ! 24 refl $ forget ! 22 refl $ forget ! 20 refl $ forget ! 18 refl $ forget ! 16 refl $
-        keep ! (rising 10 44 ++ (1 ∷ 54 ∷ 55 ∷ 4 ∷ 3 ∷ 2 ∷ [])) $
+        forget ! 34 refl $ forgets ! 16 (((_, _), _) ∷ ((_, _), _) ∷ ((_, _), _) ∷ ((_, _), _) ∷ ((_, _), _) ∷ ((_, _), _) ∷ []) refl $
+        sorts ! 10 44 (keep ! (1 ∷ 10 ∷ 11 ∷ 4 ∷ 3 ∷ 2 ∷ [])) $
         stored-part known₂ r (subst (λ (us : List Val). Is E r us) (LL.tells U.the-type U′.the-laws r (w ∷ []) is′) is′)
         (us .1 .1 .1 .0) (us .1 .1 .1 .1 .0) (us .1 .1 .1 .1 .1 .1 .0) e2 e3 e5 (said (flatWords (now x4)) e-f)))))))
 
@@ -243,7 +244,7 @@ module _ {M : Type 1} (𝓤 : URA M) (H : Heap 𝓤) (A : Atoms 𝓤) (W : Given
         flattens-lent mem run κ4 q4 x4 ! fm known₀ (named 4) g4 (λ ν δ. (and-then ! (local ! 20 refl) (no-more !))) (λ f is-f e-f.
         land ! (from ! (stop !)) (init ! 26 refl (LL.lawful S.the-type S′.the-laws 𝓤 H A W .typed f _ is-f .0)) $ forget ! 22 refl $
         forget ! 20 refl $
-        keep ! (rising 2 48 ++ (1 ∷ 50 ∷ 51 ∷ 52 ∷ 53 ∷ 54 ∷ 0 ∷ 55 ∷ [])) $
+        sorts ! 2 48 (keep ! (1 ∷ 2 ∷ 3 ∷ 4 ∷ 5 ∷ 6 ∷ 0 ∷ 7 ∷ [])) $
         worded known₁ known₂ f is-f e-f)
 
   walk : (C : Calls 𝓤 H) (Λ : Loops 𝓤 H) → FmC 𝓤 H (W .laws) C
@@ -264,7 +265,7 @@ module _ {M : Type 1} (𝓤 : URA M) (H : Heap 𝓤) (A : Atoms 𝓤) (W : Given
       pass1 ! (init ! 30 refl (tt, (tt, (record { fits = g4 .0 }, tt)))) $
       pass1 ! (init ! 28 refl (tt, (tt, (record { fits = g5 .0 }, tt)))) $ pass1 ! (init ! 26 refl (tt, record { fits = processor-fits })) $
       pass0 ! $ move ! (45 ∷ []) $ fsplits ! (owning params κs given) $ move ! (52 ∷ []) $ splits ! Toks $
-      keep ! (rising 14 44 ++ (5 ∷ 4 ∷ 3 ∷ 2 ∷ 1 ∷ 0 ∷ 13 ∷ 11 ∷ 10 ∷ 9 ∷ 8 ∷ 7 ∷ [])) $
+      sorts ! 14 44 (keep ! (5 ∷ 4 ∷ 3 ∷ 2 ∷ 1 ∷ 0 ∷ 13 ∷ 11 ∷ 10 ∷ 9 ∷ 8 ∷ 7 ∷ [])) $
       begun C Λ fm l0 l1 l2 l3 l4 l5 l6 l7 l8 l9 l10 l11 l12 l13 l14 l15 l16 l17 l18 l19 l20 l21 known₀ known₁ known₂))))))))))))))))))))))
 
 turn-meets : {M : Type 1} (𝓤 : URA M) (H : Heap 𝓤) (A : Atoms 𝓤) (W : Given 𝓤 H A) (mem : Memory → SProp 𝓤) (run : Routine → Fun 𝓤)
