@@ -183,15 +183,14 @@ pub fn part_fits(
         → r ≡ partFits (planOf (sizes .route) nest) b (stateOf (now (memory .entry)) (now (mail .entry)) records (now (marks .entry)))) ⌝ }
 {
     if memory.len() != many {
-        return false;
+        false
+    } else if mail.len() != word_index(places[messages]) {
+        false
+    } else if words != 3 {
+        false
+    } else {
+        marks.len() == word_index(ranks[messages])
     }
-    if mail.len() != word_index(places[messages]) {
-        return false;
-    }
-    if words != 3 {
-        return false;
-    }
-    marks.len() == word_index(ranks[messages])
 }
 
 // The record of processor b is fit: so many tiles finished, its stage, so many messages sent.
@@ -266,14 +265,15 @@ pub fn unfit(
         marks,
         b,
     ) {
-        return 9;
+        9
+    } else {
+        let words = progress.words;
+        if !fit_own(nest, sizes, lens, b, words[0], words[1], words[2]) {
+            10
+        } else if !fit_status(marks) {
+            10
+        } else {
+            0
+        }
     }
-    let words = progress.words;
-    if !fit_own(nest, sizes, lens, b, words[0], words[1], words[2]) {
-        return 10;
-    }
-    if !fit_status(marks) {
-        return 10;
-    }
-    0
 }

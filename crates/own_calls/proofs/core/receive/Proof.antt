@@ -177,11 +177,9 @@ pub receive-spec : {M : Type 1} → statement M
 receive-spec =
     tie.close
     (tie.spec
-    returns
     nth-requires
     line-at-requires
     word-index-requires
-    returns-2
     mul-word-index
     element-copy-out-word-index
     word-index-requires-2
@@ -190,6 +188,8 @@ receive-spec =
     word-index-requires-3
     arrived-requires
     store-words-requires
+    returns
+    returns-2
     same-length
     same-length-2
     returns-3
