@@ -5,7 +5,7 @@
 --     spells, tell     their machine values are functions of their values.       values      these, for a call;  row      all in one list
 --     tokens           the lifetimes' tokens.       owning     what each parameter owns.       slices      of those that are slices
 --     After, had, lasting     their last values; what is had of them at exit; what a callee says of them
---     env, held        the locals that take them, and what a context says of these
+--     env, held        the locals that take them, and what a context says of these.       taken      the same in their order
 --     comes-back       what a walk has when the call over words, which these are passed to, has come back
 use mathlib.Core.Path.{_≡_, refl}
 use Prim.Native.Nat.{ℕ, zero, suc}
@@ -142,6 +142,12 @@ module _ {n : ℕ} where
   held [] κs a ls more = more
   held (p ∷ ps) κs a [] more = more
   held (p ∷ ps) κs a (l ∷ ls) more = held ps κs (a .1) ls (((localType p, l), only (spell p κs (a .0))) ∷ more)
+
+  -- in the order of the locals
+  abbrev pub taken : (ps : List (Param n)) (κs : Lfts n) → Lent κs ps → List ℕ → List ((Ty × ℕ) × Val)
+  taken [] κs a ls = []
+  taken (p ∷ ps) κs a [] = []
+  taken (p ∷ ps) κs a (l ∷ ls) = ((localType p, l), only (spell p κs (a .0))) ∷ taken ps κs (a .1) ls
 
 module _ {M : Type 1} (𝓤 : URA M) where
   abbrev pub tokens : (n : ℕ) → Lfts n → Shares n → List (Item 𝓤)
