@@ -1,7 +1,7 @@
 -- The locals of a walked function allocated, and its arguments stored, each in one step. It says nothing of one call. Assumes `Given`.
 --     Spots, placed     where locals lie, a number for each; the locals at these.       Curried     for all such numbers, one after the other
 --     allots            `alloc1` for each local, and `alloc0`
---     AllFit            values that locals can hold.       takes-in     `params1`, and `pass1` for each parameter: these come first, the last before
+--     AllFit            values that locals can hold.       takes-all     `params1`, and `pass1` for each parameter: these come first, the last before
 --                       all, and the result behind them
 use Prim.Native.Nat.{ℕ, zero}
 use mathlib.Core.Path.{refl}
@@ -113,6 +113,6 @@ module _ {M : Type 1} {𝓤 : URA M} {H : Heap 𝓤} {A : Atoms 𝓤} {K : Type 
       lowers t (‵ (fat fullShare (p .0 .0) (p .0 .1) zero (p .1))) (‵ (fdies (p .0 .0) (p .0 .1))) (spots P) Γ $
       passes-in t P (fit .1) E (‵ (fat fullShare (p .0 .0) (p .0 .1) zero (p .1)) ∷ ‵ (fdies (p .0 .0) (p .0 .1)) ∷ Γ) g $ s)
 
-  pub takes-in : (P : List ((Ty × ℕ) × Val)) → K → AllFit P → (E : Env 𝓤 H) (Γ : List (Item 𝓤)) {e : Ty × ℕ} {i j : Item 𝓤} {g : Goal 𝓤 H}
+  pub takes-all : (P : List ((Ty × ℕ) × Val)) → K → AllFit P → (E : Env 𝓤 H) (Γ : List (Item 𝓤)) {e : Ty × ℕ} {i j : Item 𝓤} {g : Goal 𝓤 H}
       → Step K W (stored 𝓤 P (i ∷ j ∷ Γ)) g (i ∷ j ∷ rooms 𝓤 (spots P) Γ) (params′ (e ∷ spots P ++ E) (valued P) g)
-  takes-in P t fit E Γ {e} {i} {j} {g} = step (λ s. params1 t $ lowers t i j (spots P) Γ $ passes-in t P fit E (i ∷ j ∷ Γ) g $ s)
+  takes-all P t fit E Γ {e} {i} {j} {g} = step (λ s. params1 t $ lowers t i j (spots P) Γ $ passes-in t P fit E (i ∷ j ∷ Γ) g $ s)

@@ -54,10 +54,10 @@ use Rattle.rig.proofs.core.fresh.Symbol.{name as #rig·core·fresh}
 use Rattle.rig.proofs.core.fresh.Met as words-thm
 use Rattle.calls.proofs.Walking.{R, word, ref, bytes, words32, records, slice}
 use Rattle.calls.proofs.Params.{Param, number32, number64, reads, changes, Lent, stays, go, spells, tell, values, row, tokens, owning, slices}
-use Rattle.calls.proofs.Params.{had, env, held, taken, comes-back}
+use Rattle.calls.proofs.Params.{had, env, held, takes-in, comes-back}
 use Rattle.calls.proofs.Lending.{lends-on}
 use Rattle.calls.proofs.Orders.{forgets, sorts, fronts, turned}
-use Rattle.calls.proofs.Entering.{allots, takes-in}
+use Rattle.calls.proofs.Entering.{allots}
 use Rattle.calls.proofs.Walking.{local, sepAll, fsepAll, splits, joins, fsplits, fjoins, Clear, clears-at}
 use Rattle.calls.proofs.office.rolwyddac_fresh_both.Key.{name as #calls·fresh}
 use Rattle.calls.proofs.office.rolwyddac_fresh_both as fresh
@@ -279,43 +279,8 @@ module _ {M : Type 1} (𝓤 : URA M) (H : Heap 𝓤) (A : Atoms 𝓤) (W : Given
       enter ! C Λ code.function (row params κs given) _ $
       allots ! _ (λ l0 l1 l2 l3 l4 l5 l6 l7 l8 l9 l10 l11 l12 l13 l14 l15 l16 l17 l18 l19 l20 l21 l22 l23 l24 l25 l26 l27 l28 l29 l30 l31 l32 l33 l34
       l35 l36.
-      takes-in (taken params κs given (l1 ∷ l2 ∷ l3 ∷ l4 ∷ l5 ∷ l6 ∷ l7 ∷ l8 ∷ l9 ∷ l10 ∷ l11 ∷ l12 ∷ l13 ∷ [])) ! (
-        (tt, (tt, (record { fits = g0 .0 }, tt))),
-        (
-          (tt, record { fits = route-fits }),
-          (
-            (tt, (tt, (record { fits = g1 .0 }, tt))),
-            (
-              (tt, (tt, (record { fits = g2 .0 }, tt))),
-              (
-                (tt, (tt, (record { fits = g3 .0 }, tt))),
-                (
-                  (tt, (tt, (record { fits = g4 .0 }, tt))),
-                  (
-                    (tt, (tt, (record { fits = g5 .0 }, tt))),
-                    (
-                      (tt, (tt, (record { fits = g6 .0 }, tt))),
-                      (
-                        (tt, (tt, (record { fits = g7 .0 }, tt))),
-                        (
-                          (tt, (tt, (record { fits = g8 .0 }, tt))),
-                          (
-                            (tt, (tt, (record { fits = g9 .0 }, tt))),
-                            (
-                              (tt, (tt, (record { fits = g10 .0 }, tt))),
-                              ((tt, (tt, (record { fits = g11 .0 }, tt))), tt),
-                            ),
-                          ),
-                        ),
-                      ),
-                    ),
-                  ),
-                ),
-              ),
-            ),
-          ),
-        ),
-      ) _ _ $
+      takes-in params κs given (l1 ∷ l2 ∷ l3 ∷ l4 ∷ l5 ∷ l6 ∷ l7 ∷ l8 ∷ l9 ∷ l10 ∷ l11 ∷ l12 ∷ l13 ∷ []) !
+      (g0 .0, (route-fits, (g1 .0, (g2 .0, (g3 .0, (g4 .0, (g5 .0, (g6 .0, (g7 .0, (g8 .0, (g9 .0, (g10 .0, (g11 .0, tt))))))))))))) _ _ $
       fronts ! 28 46 $ turned ! 23 $ move ! (75 ∷ []) $ fsplits ! (owning params κs given) $ move ! (87 ∷ []) $
       splits ! Toks $
       sorts ! 25 74 (keep ! (11 ∷ 10 ∷ 9 ∷ 8 ∷ 7 ∷ 6 ∷ 5 ∷ 4 ∷ 3 ∷ 2 ∷ 1 ∷ 0 ∷ 24 ∷ 22 ∷ 21 ∷ 20 ∷ 19 ∷ 18 ∷ 17 ∷ 16 ∷ 15 ∷ 14 ∷ 13 ∷ 12 ∷ [])) $

@@ -53,10 +53,10 @@ use Rattle.own_calls.proofs.core.collect.Symbol.{name as #words}
 use Rattle.own_calls.proofs.core.collect.Met as words-thm
 use Rattle.calls.proofs.Walking.{R, F, low, word, words32, records}
 use Rattle.calls.proofs.Params.{Param, number32, flat, reads, changes, Lent, stays, go, spells, tell, values, row, tokens, owning, slices}
-use Rattle.calls.proofs.Params.{had, env, held, taken, comes-back}
+use Rattle.calls.proofs.Params.{had, env, held, takes-in, comes-back}
 use Rattle.calls.proofs.Lending.{lends-on}
 use Rattle.calls.proofs.Orders.{forgets, sorts, fronts, turned}
-use Rattle.calls.proofs.Entering.{allots, takes-in}
+use Rattle.calls.proofs.Entering.{allots}
 use Rattle.calls.proofs.Walking.{local, sepAll, fsepAll, splits, joins, fsplits, fjoins, Flatten, flattens}
 use Rattle.calls.proofs.part.rolwyddac_own_collect.Key.{name as #call}
 use Rattle.calls.proofs.part.rolwyddac_own_collect as collect
@@ -204,16 +204,8 @@ module _ {M : Type 1} (𝓤 : URA M) (H : Heap 𝓤) (A : Atoms 𝓤) (W : Given
       qed W (sepAll 𝓤 Toks ∷ ‵ (fsepAll (owning params κs given)) ∷ []) ∵
       enter ! C Λ code.function (row params κs given) _ $
       allots ! _ (λ l0 l1 l2 l3 l4 l5 l6 l7 l8 l9.
-      takes-in (taken params κs given (l1 ∷ l2 ∷ l3 ∷ l4 ∷ l5 ∷ l6 ∷ [])) ! (
-        (tt, (tt, (record { fits = g0 .0 }, tt))),
-        (
-          (tt, record { fits = route-fits }),
-          (
-            (tt, (tt, (record { fits = g1 .0 }, tt))),
-            ((tt, (tt, (record { fits = g2 .0 }, tt))), ((tt, record { fits = processor-fits }), ((tt, (tt, (record { fits = g3 .0 }, tt))), tt))),
-          ),
-        ),
-      ) _ _ $
+      takes-in params κs given (l1 ∷ l2 ∷ l3 ∷ l4 ∷ l5 ∷ l6 ∷ []) !
+      (g0 .0, (route-fits, (g1 .0, (g2 .0, (processor-fits, (g3 .0, tt)))))) _ _ $
       fronts ! 14 6 $ turned ! 3 $ move ! (21 ∷ []) $ fsplits ! (owning params κs given) $ move ! (26 ∷ []) $ splits ! Toks $
       sorts ! 10 20 (keep ! (3 ∷ 2 ∷ 1 ∷ 0 ∷ 9 ∷ 7 ∷ 6 ∷ 4 ∷ [])) $
       begun C Λ fm l0 l1 l2 l3 l4 l5 l6 l7 l8 l9 known₀ known₁)
