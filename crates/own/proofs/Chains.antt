@@ -28,9 +28,9 @@ use Rattle.plan.specs.declared.Route.{Route}
 use Rattle.plan.specs.declared.Route.the-variants.{Direct, Indirect}
 use Rattle.plan.specs.Geometry.{processorOf}
 use Rattle.plan.specs.Messages.{ways, slots, slotTile, slotTaker, slotDirection, slotParcel}
-use Rattle.plan.specs.Exact.{stepBy}
+use Rattle.report.specs.Exact.{stepBy}
 use Rattle.plan.specs.Shaped.{boxTile, slotBox, shapedTaker, shapedSlotTaker, shapedSlotParcel, planOf}
-use Rattle.plan.proofs.Ways.{wayOf, slot-cells, slot-to, taker-at}
+use Rattle.report.proofs.Ways.{wayOf, slot-cells, slot-to, taker-at}
 use Rattle.plan.proofs.Slots.{full-in, parcel-cells, unless-in}
 use Rattle.plan.proofs.Parcels.{slotTile-low, ahead-low}
 use Rattle.plan.proofs.Tiles.{tilePlace-low}

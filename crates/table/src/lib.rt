@@ -9,7 +9,7 @@ ghost use Rattle.plan.specs.declared.Route.the-variants.{Direct};
 ghost use Rattle.plan.specs.Messages.{two};
 ghost use Rattle.plan.specs.Shaped.{planOf};
 ghost use Rattle.plan.specs.Hops.{hops};
-ghost use Rattle.plan.specs.Rows.{refused};
+ghost use Rattle.rows.specs.Rows.{refused};
 ghost use Rattle.layout.specs.Sizes.{routeOf, Sized};
 ghost use Rattle.tables.specs.Tables.{Tabled, FoundIn};
 ghost use Rattle.table.specs.Summary.{asFigures, figuresOf, summaryOf, lineOf, noLine, messageLineOf, directionOf, many, noHops, hopsOf};
