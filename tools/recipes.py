@@ -1,19 +1,17 @@
 #!/usr/bin/env python3
 """Test recipes for the reader, with the numbers that document 01 and the requests W-201, W-203, W-205, W-207 and W-209 give them.
 
-    python3 tools/recipes.py          write crates/nest_cases/data/cases and crates/nest_cases/stdout
-    python3 tools/recipes.py check    compare both with a fresh generation, and every number with tools/model.py
+    python3 tools/recipes.py check    compare every number with tools/model.py
+
+tools/vectors.py stores them: crates/cases/data/numbers, and the first lines of crates/cases/stdout.
 
 The number of every case is written here by hand or, for damaged bytes, by `number`, which is made from those papers alone; both are
 held against each other where a case has both.
 
-The file `cases` is a sequence of cases: the label's length (1 byte), the label, the recipe's length (2 bytes, low one first), the recipe.
+The file `numbers` is a sequence of cases: the label's length (1 byte), the label, the recipe's length (2 bytes, low one first), the recipe.
 """
-import os
 import re
 import sys
-
-ROOT = os.path.join(os.path.dirname(os.path.abspath(__file__)), "..", "crates", "nest_cases")
 
 
 # ---- the format
@@ -435,35 +433,29 @@ for at in range(len(WHOLE)):
         case("byte-%d-cleared" % at, splice(WHOLE, at, 0))
 
 
-def files():
-    data = b"".join(bytes([len(l)]) + l.encode() + two(len(b)) + b for l, b, _ in CASES)
+def data():
+    """The file `numbers`."""
+    content = b"".join(bytes([len(l)]) + l.encode() + two(len(b)) + b for l, b, _ in CASES)
     # the room of the program that reads it whole
-    assert len(data) <= 120000, len(data)
+    assert len(content) <= 120000, len(content)
     assert len({l for l, _, _ in CASES}) == len(CASES)
-    return {"data/cases": data, "stdout": "".join("%s %d\n" % (l, n) for l, _, n in CASES).encode()}
+    return content
 
 
-def write():
-    os.makedirs(os.path.join(ROOT, "data"), exist_ok=True)
-    for name, content in files().items():
-        with open(os.path.join(ROOT, name), "wb") as f:
-            f.write(content)
-    counts = {n: sum(1 for c in CASES if c[2] == n) for n in sorted({c[2] for c in CASES})}
-    print(len(CASES), "cases,", len(files()["data/cases"]), "bytes;", counts)
+def text():
+    """What the program prints for it."""
+    return "".join("%s %d\n" % (l, n) for l, _, n in CASES).encode()
 
 
 def check():
     import model
     wrong = ["%s: %d, the model %d" % (l, n, model.read(b)[0]) for l, b, n in CASES if n != model.read(b)[0]]
-    for name, content in files().items():
-        with open(os.path.join(ROOT, name), "rb") as f:
-            if f.read() != content:
-                wrong.append("crates/nest_cases/%s: DIFFERS" % name)
-    print("\n".join(wrong) or "%d cases as generated, each number as the model has it" % len(CASES))
+    counts = {n: sum(1 for c in CASES if c[2] == n) for n in sorted({c[2] for c in CASES})}
+    print("\n".join(wrong) or "%d cases, %d bytes, each number as the model has it: %s" % (len(CASES), len(data()), counts))
     sys.exit(1 if wrong else 0)
 
 
 if __name__ == "__main__":
-    if sys.argv[1:] not in ([], ["check"]):
+    if sys.argv[1:] != ["check"]:
         sys.exit(__doc__)
-    check() if sys.argv[1:] else write()
+    check()

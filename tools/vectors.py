@@ -3,7 +3,7 @@
     python3 tools/vectors.py          write every stored file anew
     python3 tools/vectors.py check    compare every stored file with a fresh generation
     python3 tools/vectors.py explain [NAME]
-                                      print a script in words, each call with its line: that of run_cases unless named
+                                      print a script in words, each call with its line: that of cases unless named
 
 README.md beside this file has the formats.
 """
@@ -317,7 +317,7 @@ def rows():
     return [model.ROWS[row] for row in 'ABCDEFGH']
 
 
-# Files of recipes: plan_cases and sweep_cases
+# Files of recipes: those of cases that are planned, and those that are swept both ways
 
 # added to the length of a recipe that is planned with indirect passing (W-204)
 INDIRECT_MARK = 32768
@@ -432,7 +432,7 @@ def wide_recipes():
 
 
 def indirect_recipes():
-    """Those of plan_cases that are planned with indirect passing."""
+    """Those that are planned with indirect passing."""
     draw = Draw(6)
     recipes = rows() + route_recipes() + chosen_recipes()
     for n in (3, 4):
@@ -511,7 +511,7 @@ def sweep_recipes():
     return recipes + [drawn_shape(draw, 100, most_words=800, n=n, m=m) for n in (2, 3, 4) for m in range(1, n)]
 
 
-# The script of run_cases
+# The script of cases
 
 AREAS = ['', 'source', 'memories', 'buffer', 'progress', 'status', 'grid']
 ROOM = {'source': 1024, 'memories': 4096, 'buffer': 7168, 'progress': 192, 'status': 7168, 'grid': 1024}
@@ -590,6 +590,9 @@ class Script:
         for name in ROOM:
             setattr(areas, name, self.arrays[name][:self.lent[name]])
         return areas
+
+    def text(self):
+        return ''.join(line + '\n' for line in self.lines).encode()
 
     def checksum(self):
         h = 2166136261
@@ -1086,6 +1089,7 @@ def all_files():
     """Name to content, in a fixed order."""
     import desk
     import foreman
+    import recipes
     import rigs
     model.check_paper()
     plans = plan_recipes()
@@ -1093,16 +1097,16 @@ def all_files():
     sweeps = sweep_recipes()
     script = run_script()
     return {
-        'crates/plan_cases/data/cases': cases_file(plans, indirect),
-        'crates/plan_cases/stdout': plans_text(plans, indirect),
-        'crates/sweep_cases/data/cases': cases_file(sweeps),
-        'crates/sweep_cases/stdout': cases_text(sweeps, model.compare_text),
+        'crates/cases/data/numbers': recipes.data(),
+        'crates/cases/data/plans': cases_file(plans, indirect),
+        'crates/cases/data/sweeps': cases_file(sweeps),
+        'crates/cases/data/script': b''.join(script.records),
+        # file by file, in the order in which the program takes them
+        'crates/cases/stdout': recipes.text() + plans_text(plans, indirect) + cases_text(sweeps, model.compare_text) + script.text(),
         'crates/print_plan/stdin': model.ROWS['D'],
         'crates/print_plan/stdout': model.plan_text(model.ROWS['D']).encode(),
         'crates/compare_sweeps/stdin': model.ROWS['D'],
         'crates/compare_sweeps/stdout': model.compare_text(model.ROWS['D']).encode(),
-        'crates/run_cases/data/script': b''.join(script.records),
-        'crates/run_cases/stdout': ''.join(line + '\n' for line in script.lines).encode(),
         'bindings/row_a.stdout': row_a_text().encode(),
         **rigs.files(rigs.office_script(), 'offices'),
         **rigs.files(rigs.hours_script(), 'hours'),
@@ -1136,7 +1140,7 @@ def check_all():
 def scripts():
     """Name of the program to what makes its script."""
     import rigs
-    return {'run_cases': run_script, 'offices': rigs.office_script, 'hours': rigs.hours_script}
+    return {'cases': run_script, 'offices': rigs.office_script, 'hours': rigs.hours_script}
 
 
 if __name__ == '__main__':
@@ -1146,6 +1150,6 @@ if __name__ == '__main__':
     elif words == ['check']:
         check_all()
     elif words[:1] == ['explain'] and len(words) < 3 and words[-1] in ['explain'] + list(scripts()):
-        print('\n'.join(scripts()['run_cases' if words[1:] == [] else words[1]]().words))
+        print('\n'.join(scripts()['cases' if words[1:] == [] else words[1]]().words))
     else:
         sys.exit(__doc__)

@@ -385,6 +385,18 @@ fn stored(name: &str) -> Vec<u8> {
     std::fs::read(&path).unwrap_or_else(|error| panic!("{}: {error}", path.display()))
 }
 
+/// what the program `cases` prints for one of its files: the numbers of file 0, then of each file from `case 0` on
+fn expected(file: usize) -> String {
+    let text = String::from_utf8(stored("cases/stdout")).expect("text");
+    let parts: Vec<&str> = text.split("case 0\n").collect();
+    assert_eq!(parts.len(), 4, "the files of cases");
+    if file == 0 {
+        parts[0].to_string()
+    } else {
+        format!("case 0\n{}", parts[file])
+    }
+}
+
 /// all but the naive model, which takes long over large recipes
 fn quick_engines() -> impl Iterator<Item = Box<dyn Engine>> {
     engines().into_iter().filter(|engine| engine.name() != "naive")
@@ -424,8 +436,7 @@ fn is_for(engine: &dyn Engine, encoded: &[u8]) -> bool {
 /// The stored cases come from the models in tools/, which share nothing with those here.
 #[test]
 fn stored_plans() {
-    let (cases, expected) = (stored("plan_cases/data/cases"), stored("plan_cases/stdout"));
-    let expected = String::from_utf8(expected).expect("text");
+    let (cases, expected) = (stored("cases/data/plans"), expected(1));
     for engine in quick_engines() {
         let (mut rest, mut wanted, mut number) = (&cases[..], &expected[..], 0);
         while let [low, high, tail @ ..] = rest {
@@ -445,8 +456,7 @@ fn stored_plans() {
 
 #[test]
 fn stored_recipes() {
-    let (cases, expected) = (stored("nest_cases/data/cases"), stored("nest_cases/stdout"));
-    let expected = String::from_utf8(expected).expect("text");
+    let (cases, expected) = (stored("cases/data/numbers"), expected(0));
     for engine in quick_engines() {
         let (mut rest, mut wanted) = (&cases[..], expected.lines());
         while let [label, tail @ ..] = rest {

@@ -2,6 +2,7 @@ pub mod Shared
 pub mod Walking
 pub mod Lending
 pub mod Orders
+pub mod Entering
 pub mod Params
 pub mod OverRecords
 pub mod PlanCalls

@@ -1,6 +1,6 @@
 -- A context in another order, at a cost linear in its length: `keep` takes each of n places out of what is left of the whole, n² in all.
 -- It says nothing of one call. Assumes `Given`.
---     sorts       the n entries from the place a on go first; then what the rest becomes by a step, as `keep`
+--     sorts       the n entries from the place a on go first; then what the rest becomes by a step, as `keep`.       fronts      the rest as it was
 --     turned      the first n pairs, from the last on; then the rest
 --     forgets     the locals that lie from the place a on, which hold these values, hold nothing
 use mathlib.Core.Path.{_≡_, subst}
@@ -48,7 +48,7 @@ module _ {M : Type 1} (𝓤 : URA M) (H : Heap 𝓤) (A : Atoms 𝓤) where
   abbrev star : List (Item 𝓤) → SProp 𝓤
   star Γ = ⋆ 𝓤 H A Γ
 
-  swap∗ : (P Q R : SProp 𝓤) → ent 𝓤 (sep 𝓤 P (sep 𝓤 Q R)) (sep 𝓤 Q (sep 𝓤 P R))
+  pub swap∗ : (P Q R : SProp 𝓤) → ent 𝓤 (sep 𝓤 P (sep 𝓤 Q R)) (sep 𝓤 Q (sep 𝓤 P R))
   swap∗ P Q R =
       via 𝓤 (sep 𝓤 (sep 𝓤 P Q) R) (assoc′ 𝓤 P Q R)
       (via 𝓤 (sep 𝓤 (sep 𝓤 Q P) R) (monoL 𝓤 R (comm∗ 𝓤 P Q)) (assoc∗ 𝓤 Q P R))
@@ -112,6 +112,10 @@ module _ {M : Type 1} {𝓤 : URA M} {H : Heap 𝓤} {A : Atoms 𝓤} {K : Type 
       → Step K W (takes 𝓤 n (drops 𝓤 a Γ) ++ Δ) G Γ G
   sorts t a n {Δ} rest =
       step (λ s. by t (via 𝓤 (⋆ 𝓤 H A (takes 𝓤 n (drops 𝓤 a Γ) ++ Δ)) (sorted 𝓤 H A a n Γ Δ ((rest $ done t) .prf)) (s .prf)))
+
+  -- the rest as it was
+  pub fronts : K → (a n : ℕ) → Step K W (takes 𝓤 n (drops 𝓤 a Γ) ++ (takes 𝓤 a Γ ++ drops 𝓤 n (drops 𝓤 a Γ))) G Γ G
+  fronts t a n = sorts t a n (step (λ s. s))
 
   pub turned : K → (n : ℕ) → Step K W (backwards 𝓤 n [] Γ) G Γ G
   turned t n =

@@ -19,7 +19,7 @@ use Rattle.nest.specs.Reader.{readLines, nestOf, readingOf}
 use Rattle.plan.specs.declared.Route.the-variants.{Direct}
 use Rattle.plan.specs.Shaped.{planOf}
 use Rattle.plan.specs.Hops.{hops}
-use Rattle.plan.specs.Rows.{figuresIf}
+use Rattle.rows.specs.Rows.{figuresIf}
 use Rattle.layout.specs.Sizes.{routeOf}
 use Rattle.routes.specs.Routes.{linesFor, ReadFor}
 use Rattle.routes.proofs.Laws.{numbered-for}

@@ -18,8 +18,8 @@ use Rattle.nest.specs.Nest.{cells}
 use Rattle.nest.specs.Shape.{inShape}
 use Rattle.nest.specs.Reader.{nestOf, readLines}
 use Rattle.plan.specs.Hops.{hops}
-use Rattle.plan.specs.Exact.{sequential, runNest}
-use Rattle.plan.specs.ExactShape.{shapeOf}
+use Rattle.report.specs.Exact.{sequential, runNest}
+use Rattle.report.specs.ExactShape.{shapeOf}
 use Rattle.table.specs.Summary.{directionOf}
 use Rattle.records.specs.declared.Progress.{Progress}
 use Rattle.records.specs.Records.{flatWords}

@@ -120,7 +120,7 @@ pub extern "C" fn rolwyddac_opens(
     ensures { λ r. ⌜ answer r (now (out .exit))
         ≡ opensWordsCall (now (encoded .entry)) (hoursOf (now (hours .entry)) minute) processor (now (out .entry)) ⌝ }
 {
-    let reading = nest::read(encoded);
+    let reading = reader::read(encoded);
     let read = reading.number;
     if read != 0 {
         return read;

@@ -178,7 +178,7 @@ pub extern "C" fn rolwyddac_message(encoded: &[u8], route: u32, m: u32, out: &mu
 pub extern "C" fn rolwyddac_hops(encoded: &[u8], m: u32, out: &mut [u32]) -> u32
     ensures { λ r. ⌜ answer r (now (out .exit)) ≡ hopsCall (now (encoded .entry)) m (now (out .entry)) ⌝ }
 {
-    let reading = nest::read(encoded);
+    let reading = reader::read(encoded);
     let read = reading.number;
     if read != 0 {
         return read;

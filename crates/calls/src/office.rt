@@ -189,7 +189,7 @@ pub extern "C" fn rolwyddac_look(
     ensures { λ r. ⌜ answer r (now (out .exit))
         ≡ lookCall (now (encoded .entry)) (now (first .entry)) (now (second .entry)) office processor (now (out .entry)) ⌝ }
 {
-    let reading = nest::read(encoded);
+    let reading = reader::read(encoded);
     let read = reading.number;
     if read != 0 {
         return read;
@@ -197,7 +197,7 @@ pub extern "C" fn rolwyddac_look(
     if out.len() != 2 {
         return 9;
     }
-    let seen = rig::core::look_at(encoded, first.len(), second.len(), office, processor);
+    let seen = look::core::look_at(encoded, first.len(), second.len(), office, processor);
     let number = seen.number;
     if number != 0 {
         return number;

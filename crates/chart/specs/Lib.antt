@@ -1,5 +1,3 @@
-pub mod Text
-pub mod Rows
 pub mod Call
 pub mod Apart
 pub mod Longest

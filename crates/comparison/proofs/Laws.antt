@@ -6,7 +6,7 @@ use mathlib.Core.Bool.{Bool, true, false}
 use mathlib.Core.List.{List, [], _++_}
 use native.Mathlib.Nat.{mul-comm, eq-or-lt-of-le}
 use native.Mathlib.Omega.{arith}
-use lib.ListN.{length, getD, take, drop, set}
+use lib.ListN.{length, getD, take, drop, set, length-append, length-replicate}
 use lib.Dec.{eqb, ltb}
 use lib.Seq.{ext-getD, length-take-le, take-at, getD-set-same, getD-set-other}
 use borrow.Author.Tests.{eqb-true, eq-eqb, ne-eqb, lt-ltb, le-ltb, ltb-false}
@@ -41,8 +41,9 @@ use Rattle.routes.specs.Routes.{linesFor}
 use Rattle.routes.proofs.Laws.{numbered-for, open-direct}
 use Rattle.drive.proofs.Whole.{ended}
 use Rattle.comparison.specs.declared.Extent.{Extent}
-use Rattle.comparison.specs.Agreement.{isBeyond, sourceOf, driven, ran, Outcome, outcome, agreeing, compared, ranAndCompared}
-use Rattle.comparison.specs.Agreement.{orderOf, fronts, Within, Roomy, Agreed}
+use Rattle.comparison.specs.Agreement.{isBeyond, sourceOf, driven, ran, outcome, agreeing, compared, ranAndCompared}
+use Rattle.comparison.specs.Agreement.{Within}
+use Rattle.comparison.specs.Lines.{zeros}
 use Rattle.comparison.proofs.Most.{messages-most, words-most}
 
 -- ---- a fresh start
@@ -101,6 +102,10 @@ pub then-compared : (bytes source : List ℕ) (o : Order) (n : ℕ) (s t : State
 then-compared bytes source o n s t g h g′ h′ b e f = f ∙ ap (λ (t : State). compared bytes source t g h) e
 
 -- ---- a recipe within the limits never differs
+
+-- the order of a recipe's processors and messages
+abbrev pub orderOf : Extent → Bool → Order
+orderOf x falling = record { processors = x .processors; messages = x .messages; falling = falling }
 
 module _ (bytes source : List ℕ) (x : Extent) (falling : Bool) (s : State) (w : Within bytes x) (b : Bytes bytes) where
   abbrev start : State
@@ -183,6 +188,23 @@ not-beyond c p r is e =
     let n = neither {a = ltb 1024 c} {b = ltb 4096 (c * p)} (sym is ∙ e) in
     (omega (arith, ltb-false 1024 c (n .0)), omega (arith, ltb-false 4096 (c * p) (n .1)))
 
+-- ---- the first words of an area
+
+pub counted : (k : ℕ) (l : List ℕ) → k ≤ length l → k ≡ length (take k l)
+counted k l h = sym (length-take-le k l h)
+
+-- of n zeros
+room : (k n : ℕ) → k ≤ n → k ≤ length (zeros n)
+room k n h = omega (arith, length-replicate {A = ℕ} n 0)
+
+-- what a call left of the first k words, lent as a part: it stands first when the part is back
+module _ (k : ℕ) (l new : List ℕ) (h : k ≤ length l) (q : length new ≡ length (take k l)) where
+  pub back-room : k ≤ length (new ++ drop k l)
+  back-room = omega (arith, length-append new (drop k l), length-take-le k l h)
+
+  pub back-is : take k (new ++ drop k l) ≡ new
+  back-is = take-at new (drop k l) k (q ∙ length-take-le k l h)
+
 -- ---- the areas of a recipe within the limits
 
 module _ (bytes : List ℕ) (x : Extent) (b : Bytes bytes) (w : Within bytes x) where
@@ -195,18 +217,26 @@ module _ (bytes : List ℕ) (x : Extent) (b : Bytes bytes) (w : Within bytes x) 
   pub words-low : x .words ≤ 7168
   words-low = omega (arith, w .measured .words, w .measured .cells, w .cells, words-most (nestOf bytes) (accepted bytes b (w .read)))
 
-  pub roomy : (a m v p s g h : List ℕ) → length a ≡ 1024 → length m ≡ 4096 → length v ≡ 7168 → length p ≡ 192 → length s ≡ 7168
-      → length g ≡ 1024 → length h ≡ 1024 → Roomy x a m v p s g h
-  roomy a m v p s g h e1 e2 e3 e4 e5 e6 e7 =
-      record {
-        source = omega (arith, w .cells);
-        memories = omega (arith, w .memories);
-        buffer = omega (arith, words-low);
-        progress = omega (arith, processors-low);
-        status = omega (arith, messages-low);
-        grid = omega (arith, w .cells);
-        swept = omega (arith, w .cells);
-      }
+  pub low-within : isBeyond (recipe bytes 0 .cells) (recipe bytes 0 .processors) ≡ false
+  low-within =
+      sym (ap (λ (c : ℕ). isBeyond c (recipe bytes 0 .processors)) (w .measured .cells)) ∙ sym (ap (isBeyond (x .cells)) (w .measured .processors))
+      ∙ sym (many-words (x .cells) (x .processors) (x .cells * x .processors) (w .cells) refl) ∙ le-ltb 4096 (x .cells * x .processors) (w .memories)
+
+  -- each part of an area of zeros is within it
+  pub cells-room : (k : ℕ) → k ≡ x .cells → k ≤ length (zeros 1024)
+  cells-room k e = room k 1024 (omega (arith, w .cells))
+
+  pub memories-room : (k : ℕ) → k ≡ x .cells * x .processors → k ≤ length (zeros 4096)
+  memories-room k e = room k 4096 (omega (arith, w .memories))
+
+  pub words-room : (k : ℕ) → k ≡ x .words → k ≤ length (zeros 7168)
+  words-room k e = room k 7168 (omega (arith, words-low))
+
+  pub progress-room : (k : ℕ) → k ≡ x .processors → 3 * k ≤ length (zeros 192)
+  progress-room k e = room (3 * k) 192 (omega (arith, processors-low))
+
+  pub messages-room : (k : ℕ) → k ≡ x .messages → k ≤ length (zeros 7168)
+  messages-room k e = room k 7168 (omega (arith, messages-low))
 
   pub starts : (source m v p s : List ℕ) → length source ≡ x .cells → length m ≡ x .cells * x .processors → length v ≡ x .words
       → length p ≡ 3 * x .processors → length s ≡ x .messages → freshCall bytes 0 source (stateOf m v p s) .number ≡ 0
@@ -215,65 +245,6 @@ module _ (bytes : List ℕ) (x : Extent) (b : Bytes bytes) (w : Within bytes x) 
       fresh-goes bytes source (stateOf m v p s) (w .read) (e1 ∙ q .cells)
       (e2 ∙ mul-comm (x .cells) (x .processors) ∙ rw (q .cells, q .processors) refl) (e3 ∙ q .words) (e4 ∙ ap (λ (k : ℕ). 3 * k) (q .processors))
       (e5 ∙ q .messages)
-
--- ---- the first words of an area
-
-pub counted : (k n : ℕ) (l : List ℕ) → k ≡ n → n ≤ length l → k ≡ length (take k l)
-counted k n l e h = sym (length-take-le k l (omega arith))
-
-pub front : (k n : ℕ) (l : List ℕ) → k ≡ n → n ≤ length l → length (take k l) ≡ n
-front k n l e h = length-take-le k l (omega arith) ∙ e
-
--- what a call left of the first k words, lent as a part, is what stands first when the part is back
-pub front-back : (k n : ℕ) (l new : List ℕ) → k ≡ n → n ≤ length l → length new ≡ length (take k l) → take n (new ++ drop k l) ≡ new
-front-back k n l new e h q = take-at new (drop k l) n (q ∙ front k n l e h)
-
-module _ (bytes : List ℕ) (x : Extent) (falling : Bool) (a m w p s g h : List ℕ) (room : Roomy x a m w p s g h) where
-  -- the equation over the parts is the one over the areas' first words
-  pub on-fronts : (kc km kw kp ks : ℕ) (m′ w′ p′ s′ g′ h′ : List ℕ) (b : Bool) → kc ≡ x .cells → km ≡ x .cells * x .processors
-      → kw ≡ x .words → kp ≡ 3 * x .processors → ks ≡ x .messages → length m′ ≡ length (take km m) → length w′ ≡ length (take kw w)
-      → length p′ ≡ length (take kp p) → length s′ ≡ length (take ks s) → length g′ ≡ length (take kc g) → length h′ ≡ length (take kc h)
-      → outcome (stateOf m′ w′ p′ s′) g′ h′ b
-      ≡ ranAndCompared bytes (take kc a) (orderOf x falling) (x .steps) (stateOf (take km m) (take kw w) (take kp p) (take ks s)) (take kc g) (take kc h)
-      → outcome (fronts x (m′ ++ drop km m) (w′ ++ drop kw w) (p′ ++ drop kp p) (s′ ++ drop ks s)) (take (x .cells) (g′ ++ drop kc g))
-      (take (x .cells) (h′ ++ drop kc h)) b
-      ≡ ranAndCompared bytes (take (x .cells) a) (orderOf x falling) (x .steps) (fronts x m w p s) (take (x .cells) g) (take (x .cells) h)
-  on-fronts kc km kw kp ks m′ w′ p′ s′ g′ h′ b ec em ew ep es lm lw lp ls lg lh is =
-      rw (
-        front-back km (x .cells * x .processors) m m′ em (room .memories) lm,
-        front-back kw (x .words) w w′ ew (room .buffer) lw,
-        front-back kp (3 * x .processors) p p′ ep (room .progress) lp,
-        front-back ks (x .messages) s s′ es (room .status) ls,
-        front-back kc (x .cells) g g′ ec (room .grid) lg,
-        front-back kc (x .cells) h h′ ec (room .swept) lh,
-      )
-      (rw (ec, em, ew, ep, es) at is)
-
-  module _ (kc : ℕ) (e : kc ≡ x .cells) (filled : List ℕ) (l : length filled ≡ length (take kc a)) where
-    pub agreed : (counting : Bool) (o : Outcome) → Bytes bytes → Within bytes x → filled ≡ sourceOf counting (length (take kc a))
-        → o ≡ ranAndCompared bytes (take (x .cells) (filled ++ drop kc a)) (orderOf x falling) (x .steps) (fronts x m w p s) (take (x .cells) g)
-        (take (x .cells) h)
-        → Agreed bytes x counting falling (fronts x m w p s) (take (x .cells) g) (take (x .cells) h) (take (x .cells) (filled ++ drop kc a)) o
-    agreed counting o b i f is =
-        let long : length (take kc a) ≡ x .cells = front kc (x .cells) a e (room .source) in
-        let source : take (x .cells) (filled ++ drop kc a) ≡ sourceOf counting (x .cells) =
-        front-back kc (x .cells) a filled e (room .source) l ∙ f ∙ ap (sourceOf counting) long in
-        let same : o ≡ ranAndCompared bytes (sourceOf counting (x .cells)) (orderOf x falling) (x .steps) (fronts x m w p s) (take (x .cells) g)
-        (take (x .cells) h) =
-        rw source at is in
-        record {
-          source = source;
-          outcome = same;
-          always =
-              ap (λ (o : Outcome). o .agree) same
-              ∙ never-differs bytes (sourceOf counting (x .cells)) x falling (fronts x m w p s) i b
-              (starts bytes x b i (sourceOf counting (x .cells)) (take (x .cells * x .processors) m) (take (x .words) w) (take (3 * x .processors) p)
-              (take (x .messages) s) (source-long counting (x .cells))
-              (length-take-le _ m (room .memories)) (length-take-le _ w (room .buffer)) (length-take-le _ p (room .progress))
-              (length-take-le _ s (room .status)))
-              (take (x .cells) g) (take (x .cells) h) (length-take-le _ g (room .grid) ∙ i .measured .cells)
-              (length-take-le _ h (room .swept) ∙ i .measured .cells);
-        }
 
 -- ---- the figures that the program gives
 

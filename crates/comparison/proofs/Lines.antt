@@ -5,7 +5,7 @@ use mathlib.Core.Logic.{_≢_}
 use mathlib.Core.Bool.{Bool, true, false}
 use mathlib.Core.List.{List, [], _∷_, _++_}
 use native.Mathlib.Omega.{arith}
-use lib.ListN.{length, take, replicate, length-replicate}
+use lib.ListN.{length, take, drop, replicate, length-replicate}
 use borrow.Author.Tests.{lt-ltb, le-ltb}
 use Rattle.base.specs.Lists.{Bytes}
 use Rattle.base.specs.Tests.{pick}
@@ -26,10 +26,11 @@ use Rattle.engine.specs.Calls.{recipe}
 use Rattle.drive.specs.declared.Order.{Order}
 use Rattle.plan_text.specs.PlanText.{refusedText}
 use Rattle.comparison.specs.declared.Extent.{Extent}
-use Rattle.comparison.specs.Agreement.{isBeyond, sourceOf, Outcome, ranAndCompared, fronts, Within, Agreed}
+use Rattle.comparison.specs.Agreement.{isBeyond, sourceOf, Outcome, ranAndCompared, Within}
 use Rattle.comparison.specs.Lines.{agreeLine, differLine, beyondLine, verdictLine, zeros, blank}
 use Rattle.comparison.specs.Lines.{turnOrder, planAgrees, agreesFor, fourLines, comparedIf, comparisonText, NeverDiffers}
-use Rattle.comparison.proofs.Laws.{not-beyond, processors-low, messages-low, words-low, starts, source-long, never-differs}
+use Rattle.comparison.proofs.Laws.{not-beyond, processors-low, messages-low, words-low, low-within, cells-room, counted, back-is}
+use Rattle.comparison.proofs.Laws.{orderOf, starts, source-long, never-differs}
 
 -- ---- the areas of zeros
 
@@ -37,6 +38,9 @@ front-zeros : (n m : ℕ) → n ≤ m → take n (zeros m) ≡ zeros n
 front-zeros zero m h = refl
 front-zeros (suc n) zero h = absurd (omega arith)
 front-zeros (suc n) (suc m) h = ap (λ (l : List ℕ). 0 ∷ l) (front-zeros n m (omega arith))
+
+zeros-front : (k n m : ℕ) → k ≡ n → n ≤ m → take k (zeros m) ≡ zeros n
+zeros-front k n m e h = front-zeros k m (omega arith) ∙ ap zeros e
 
 -- what a comparison says from such areas of c cells, q processors, m messages and v words
 said : List ℕ → Bool → Bool → (c q m v t : ℕ) → Bool
@@ -54,17 +58,23 @@ same-figures : (bytes : List ℕ) (counting falling : Bool) (c c′ q q′ m m�
 same-figures bytes counting falling c c′ q q′ m m′ v v′ t t′ a b d e f = rw (a, b, d, e, f)
 
 module _ (bytes : List ℕ) (x : Extent) (b : Bytes bytes) (w : Within bytes x) (counting falling : Bool) where
-  pub told : (o : Outcome) (filled : List ℕ)
-      → Agreed bytes x counting falling (fronts x (zeros 4096) (zeros 7168) (zeros 192) (zeros 7168)) (take (x .cells) (zeros 1024))
-      (take (x .cells) (zeros 1024)) filled o
+  -- what is compared in the first words of areas of zeros, the source written in those of another
+  pub told : (kc km kw kp ks : ℕ) → kc ≡ x .cells → km ≡ x .cells * x .processors → kw ≡ x .words → kp ≡ x .processors → ks ≡ x .messages
+      → (filled : List ℕ) → length filled ≡ length (take kc (zeros 1024)) → filled ≡ sourceOf counting (length (take kc (zeros 1024)))
+      → (o : Outcome)
+      → o ≡ ranAndCompared bytes (take kc (filled ++ drop kc (zeros 1024))) (orderOf x falling) (x .steps)
+      (stateOf (take km (zeros 4096)) (take kw (zeros 7168)) (take (3 * kp) (zeros 192)) (take ks (zeros 7168))) (take kc (zeros 1024)) (take kc (zeros 1024))
       → o .agree ≡ agreesFor bytes counting falling
   unfolding said planAgrees
-  told o filled a =
-      ap (λ (z : Outcome). z .agree) (a .outcome)
-      ∙ same-areas bytes (sourceOf counting (x .cells)) _ (x .steps) _ _ _ _ _ _ _ _ _ _ _ _
-      (front-zeros (x .cells * x .processors) 4096 (w .memories)) (front-zeros (x .words) 7168 (words-low bytes x b w))
-      (front-zeros (3 * x .processors) 192 (omega (arith, processors-low bytes x b w))) (front-zeros (x .messages) 7168 (messages-low bytes x b w))
-      (front-zeros (x .cells) 1024 (w .cells)) (front-zeros (x .cells) 1024 (w .cells))
+  told kc km kw kp ks ec em ew ep es filled long is o e =
+      let source : take kc (filled ++ drop kc (zeros 1024)) ≡ sourceOf counting (x .cells) =
+      back-is kc (zeros 1024) filled (cells-room bytes x b w kc ec) long ∙ is
+      ∙ ap (sourceOf counting) (sym (counted kc (zeros 1024) (cells-room bytes x b w kc ec)) ∙ ec) in
+      ap (λ (z : Outcome). z .agree) (rw source at e)
+      ∙ same-areas bytes (sourceOf counting (x .cells)) (orderOf x falling) (x .steps) _ _ _ _ _ _ _ _ _ _ _ _
+      (zeros-front km _ 4096 em (w .memories)) (zeros-front kw _ 7168 ew (words-low bytes x b w))
+      (zeros-front (3 * kp) _ 192 (ap (λ (k : ℕ). 3 * k) ep) (omega (arith, processors-low bytes x b w)))
+      (zeros-front ks _ 7168 es (messages-low bytes x b w)) (zeros-front kc _ 1024 ec (w .cells)) (zeros-front kc _ 1024 ec (w .cells))
       ∙ same-figures bytes counting falling _ _ _ _ _ _ _ _ _ _ (w .measured .cells) (w .measured .processors) (w .measured .messages)
       (w .measured .words) (w .measured .steps)
 
@@ -168,6 +178,10 @@ module _ (bytes : List ℕ) (b : Bytes bytes) (z : firstOf (readLines bytes) ≡
   unfolding comparisonText
   four-agree h =
       pick-false _ _ _ (le-ltb _ _ h) ∙ accepted-is (firstOf (readLines bytes)) bytes z ∙ pick-false _ beyondLine (fourLines bytes) low ∙ all-agree
+
+-- of one within them every verdict is true
+pub verdict-true : (bytes : List ℕ) → Bytes bytes → (x : Extent) → Within bytes x → (counting falling : Bool) → agreesFor bytes counting falling ≡ true
+verdict-true bytes b x w counting falling = always bytes b (w .read) (low-within bytes x b w) counting falling
 
 pub never-differ : NeverDiffers
 never-differ = record { lines = λ bytes b h z low. four-agree bytes b z low h }

@@ -2,15 +2,14 @@
 -- Renders document 01, "Recipes to be met": the second program's two sources, its two orders, `agree`, `differ` and `beyond`.
 use Prim.Native.Nat.{ℕ, _+_, _*_, _≤_}
 use mathlib.Core.Path.{_≡_}
-use mathlib.Core.Bool.{Bool, true}
+use mathlib.Core.Bool.{Bool}
 use mathlib.Core.List.{List}
-use lib.ListN.{length, take}
 use lib.Dec.{eqb, ltb}
 use Rattle.base.specs.Tests.{_and_, _or_, pick, tabulate}
 use Rattle.base.specs.Alike.{sameWords}
 use Rattle.base.specs.Numbers.{firstOf}
 use Rattle.machine.specs.Plan.{count, words}
-use Rattle.machine.specs.Machine.{State, Answered, stateOf}
+use Rattle.machine.specs.Machine.{State, Answered}
 use Rattle.machine.specs.Runs.{stateAfter, total}
 use Rattle.nest.specs.Reader.{readLines}
 use Rattle.engine.specs.Calls.{recipe, freshCall, collectCall, sweepCall}
@@ -74,29 +73,3 @@ pub record Within (bytes : List ℕ) (x : Extent) : Type 0 where
   pub measured : Measured bytes x
   pub cells : x .cells ≤ 1024
   pub memories : x .cells * x .processors ≤ 4096
-
--- each area has room
-pub record Roomy (x : Extent) (a m w p s g h : List ℕ) : Type 0 where
-  pub source : x .cells ≤ length a
-  pub memories : x .cells * x .processors ≤ length m
-  pub buffer : x .words ≤ length w
-  pub progress : 3 * x .processors ≤ length p
-  pub status : x .messages ≤ length s
-  pub grid : x .cells ≤ length g
-  pub swept : x .cells ≤ length h
-
--- the order of a recipe's processors and messages
-abbrev pub orderOf : Extent → Bool → Order
-orderOf x falling = record { processors = x .processors; messages = x .messages; falling = falling }
-
--- the first words of the areas, as many as the recipe has
-abbrev pub fronts : Extent → List ℕ → List ℕ → List ℕ → List ℕ → State
-fronts x m w p s =
-    stateOf (take (x .cells * x .processors) m) (take (x .words) w) (take (3 * x .processors) p) (take (x .messages) s)
-
--- one run of an accepted recipe within the limits: the source and what stands in the areas at the end, the comparison of the two grids,
--- and that it never says that they differ
-pub record Agreed (bytes : List ℕ) (x : Extent) (counting falling : Bool) (s : State) (g h filled : List ℕ) (o : Outcome) : Type 0 where
-  pub source : filled ≡ sourceOf counting (x .cells)
-  pub outcome : o ≡ ranAndCompared bytes (sourceOf counting (x .cells)) (orderOf x falling) (x .steps) s g h
-  pub always : o .agree ≡ true

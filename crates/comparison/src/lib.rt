@@ -4,13 +4,14 @@ use drive::Order;
 use libc::STDOUT_FILENO;
 use plan::Route;
 ghost use mathlib.Core.Path.{_≡_};
+ghost use mathlib.Core.Bool.{true};
 ghost use Prim.Native.Nat.{_+_, _*_, _≤_, _<_};
 ghost use lib.ListN.{length, take};
 ghost use Rattle.base.specs.Tests.{pick};
 ghost use Rattle.machine.specs.Machine.{stateOf};
 ghost use Rattle.text.specs.Writing.{pen, write};
 ghost use Rattle.comparison.specs.Agreement.{isBeyond, sourceOf, ran, outcome, compared};
-ghost use Rattle.comparison.specs.Agreement.{ranAndCompared, orderOf, fronts, Within, Roomy, Agreed};
+ghost use Rattle.comparison.specs.Agreement.{ranAndCompared, Within};
 ghost use Rattle.comparison.specs.Lines.{verdictLine, agreesFor, fourLines, comparisonText};
 
 // What the areas of a run are made of.
@@ -106,7 +107,7 @@ fn compare(
 }
 
 // One run in the areas lent, collected and compared.
-fn agrees_in(
+fn agrees(
     encoded: &[u8],
     source: &[u32],
     memories: &mut [u32],
@@ -146,34 +147,19 @@ fn agrees_in(
     )
 }
 
-// The same in the first words of the areas lent, as many as the recipe has.
-fn agrees_on(
-    encoded: &[u8],
-    source: &[u32],
-    memories: &mut [u32],
-    buffer: &mut [u32],
-    progress: &mut [u32],
-    status: &mut [u8],
-    grid: &mut [u32],
-    swept: &mut [u32],
-    extent: Extent,
-    falling: bool,
-) -> bool
-    requires { ⌜ Roomy extent (now source) (now memories) (now buffer) (now progress) (now status) (now grid) (now swept) ⌝ }
-    ensures { λ r. ⌜ outcome (fronts extent (now (memories .exit)) (now (buffer .exit)) (now (progress .exit)) (now (status .exit)))
-        (take (extent .cells) (now (grid .exit))) (take (extent .cells) (now (swept .exit))) r
-        ≡ ranAndCompared (now (encoded .entry)) (take (extent .cells) (now (source .entry))) (orderOf extent falling) (extent .steps)
-        (fronts extent (now (memories .entry)) (now (buffer .entry)) (now (progress .entry)) (now (status .entry)))
-        (take (extent .cells) (now (grid .entry))) (take (extent .cells) (now (swept .entry))) ⌝ }
+// Whether they agree, in areas of zeros, of which the first words are lent, as many as the recipe has. The areas hold every recipe of at most
+// 1,024 cells with at most 4,096 words of memories: a message is a tile and one of at most 7 directions, and a cell is at most once in each.
+fn verdict(encoded: &[u8], extent: Extent, counting: bool, falling: bool) -> bool
+    requires { ⌜ Within (now encoded) extent ⌝ }
+    ensures { λ r. ⌜ r ≡ agreesFor (now (encoded .entry)) counting falling ⌝ }
+    ensures { λ r. ⌜ r ≡ true ⌝ }
 {
     let cells = extent.cells;
     let processors = extent.processors;
-    let words = extent.words;
     let messages = extent.messages;
-    let steps = extent.steps;
     let c = parts::wide(cells);
     let m = memory_words(cells, processors) as usize;
-    let w = parts::wide(words);
+    let w = parts::wide(extent.words);
     let p = 3 * parts::wide(processors);
     let s = parts::wide(messages);
     let order = Order {
@@ -181,7 +167,15 @@ fn agrees_on(
         messages: messages,
         falling: falling,
     };
-    agrees_in(
+    let mut source = [0u32; 1024];
+    fill_source(&mut source[..c], counting);
+    let mut memories = [0u32; 4096];
+    let mut buffer = [0u32; 7168];
+    let mut progress = [0u32; 192];
+    let mut status = [0u8; 7168];
+    let mut grid = [0u32; 1024];
+    let mut swept = [0u32; 1024];
+    agrees(
         encoded,
         &source[..c],
         &mut memories[..m],
@@ -191,75 +185,7 @@ fn agrees_on(
         &mut grid[..c],
         &mut swept[..c],
         order,
-        steps,
-    )
-}
-
-// The source is written, then the run and the sweep over it are compared.
-fn agrees(
-    encoded: &[u8],
-    source: &mut [u32],
-    memories: &mut [u32],
-    buffer: &mut [u32],
-    progress: &mut [u32],
-    status: &mut [u8],
-    grid: &mut [u32],
-    swept: &mut [u32],
-    extent: Extent,
-    counting: bool,
-    falling: bool,
-) -> bool
-    requires { ⌜ Within (now encoded) extent ⌝ }
-    requires { ⌜ Roomy extent (now source) (now memories) (now buffer) (now progress) (now status) (now grid) (now swept) ⌝ }
-    ensures { λ r. ⌜ Agreed (now (encoded .entry)) extent counting falling
-        (fronts extent (now (memories .entry)) (now (buffer .entry)) (now (progress .entry)) (now (status .entry)))
-        (take (extent .cells) (now (grid .entry))) (take (extent .cells) (now (swept .entry)))
-        (take (extent .cells) (now (source .exit)))
-        (outcome (fronts extent (now (memories .exit)) (now (buffer .exit)) (now (progress .exit)) (now (status .exit)))
-        (take (extent .cells) (now (grid .exit))) (take (extent .cells) (now (swept .exit))) r) ⌝ }
-{
-    let cells = extent.cells;
-    let c = parts::wide(cells);
-    fill_source(&mut source[..c], counting);
-    agrees_on(
-        encoded,
-        source,
-        memories,
-        buffer,
-        progress,
-        status,
-        grid,
-        swept,
-        extent,
-        falling,
-    )
-}
-
-// Whether they agree, in areas of zeros. These hold every recipe of at most 1,024 cells with at most 4,096 words of memories: a message is
-// a tile and one of at most 7 directions, and a cell is at most once in each.
-fn verdict(encoded: &[u8], extent: Extent, counting: bool, falling: bool) -> bool
-    requires { ⌜ Within (now encoded) extent ⌝ }
-    ensures { λ r. ⌜ r ≡ agreesFor (now (encoded .entry)) counting falling ⌝ }
-{
-    let mut source = [0u32; 1024];
-    let mut memories = [0u32; 4096];
-    let mut buffer = [0u32; 7168];
-    let mut progress = [0u32; 192];
-    let mut status = [0u8; 7168];
-    let mut grid = [0u32; 1024];
-    let mut swept = [0u32; 1024];
-    agrees(
-        encoded,
-        &mut source,
-        &mut memories,
-        &mut buffer,
-        &mut progress,
-        &mut status,
-        &mut grid,
-        &mut swept,
-        extent,
-        counting,
-        falling,
+        extent.steps,
     )
 }
 
@@ -320,7 +246,7 @@ pub fn put_lines(space: &mut [u8], encoded: &[u8]) -> usize
     if encoded.len() > 512 {
         return plan_text::put_refused(space, 1);
     }
-    let reading = nest::read(encoded);
+    let reading = reader::read(encoded);
     let number = reading.number;
     if number != 0 {
         return plan_text::put_refused(space, number);

@@ -23,14 +23,14 @@ use Rattle.plan.specs.declared.Route.{Route}
 use Rattle.plan.specs.declared.Route.the-variants.{Direct, Indirect}
 use Rattle.plan.specs.Shaped.{planOf}
 use Rattle.plan.specs.Hops.{hops}
-use Rattle.plan.specs.Rows.{figuresIf}
-use Rattle.plan.specs.Exact.{sequential, runNest}
-use Rattle.plan.proofs.Plans.{not-empty}
+use Rattle.rows.specs.Rows.{figuresIf}
+use Rattle.report.specs.Exact.{sequential, runNest}
+use Rattle.report.proofs.Plans.{not-empty}
 use Rattle.plan.proofs.ShapedBox.{planOf-box}
-use Rattle.plan.proofs.ShapedExact.{exact-shape}
+use Rattle.report.proofs.ShapedExact.{exact-shape}
 use Rattle.plan.proofs.ShapedSound.{sound}
-use Rattle.plan.proofs.Report.{report-agrees}
-use Rattle.plan.proofs.Exact.{exact}
+use Rattle.report.proofs.Report.{report-agrees}
+use Rattle.report.proofs.Exact.{exact}
 use Rattle.layout.specs.Sizes.{routeOf}
 use Rattle.routes.specs.Routes.{linesFor}
 use Rattle.routes.proofs.Laws.{reads-for, indirect-box}

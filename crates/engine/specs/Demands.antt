@@ -18,9 +18,9 @@ use Rattle.nest.specs.Shape.{inShape}
 use Rattle.nest.specs.Reader.{nestOf, readLines}
 use Rattle.plan.specs.Messages.{boxPlan}
 use Rattle.plan.specs.Hops.{hops}
-use Rattle.plan.specs.Report.{ReportAgrees}
-use Rattle.plan.specs.Exact.{Exact, sequential, runNest}
-use Rattle.plan.specs.ExactShape.{ExactShape, shapeOf}
+use Rattle.report.specs.Report.{ReportAgrees}
+use Rattle.report.specs.Exact.{Exact, sequential, runNest}
+use Rattle.report.specs.ExactShape.{ExactShape, shapeOf}
 use Rattle.layout.specs.Sizes.{routeOf}
 use Rattle.routes.specs.Routes.{linesFor}
 use Rattle.table.specs.Summary.{figuresOf, noFigures, summaryOf, lineOf, noLine, messageLines, messageLineOf, directionOf, Directed, hopsLines, noHops, hopsOf}

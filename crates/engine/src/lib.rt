@@ -9,8 +9,8 @@ ghost use Rattle.engine.specs.Calls.{answer, freshCall, turnCall, delive
 pub mod core; // core.rt: the calls without the stores into the records
 
 use layout::sizes_of;
-use nest::read;
 use plan::Route;
+use reader::read;
 use records::Progress;
 use records::flat_of;
 use stages::zero_words;

@@ -1,6 +1,6 @@
 -- Cells listed are packed from their own numbers: the numbers, cells side by side put into a list, a row's room.
 use Prim.Native.Nat.{ℕ, zero, suc, _+_, _≤_, _<_}
-use mathlib.Core.Path.{_≡_, refl, sym, ap, _∙_, subst}
+use mathlib.Core.Path.{_≡_, refl, sym, ap, _∙_}
 use mathlib.Core.List.{List, [], _∷_, _++_, map, append-assoc}
 use native.Mathlib.Nat.{add-zero}
 use native.Mathlib.Omega.{arith}
@@ -8,7 +8,7 @@ use lib.ListN.{length, getD, take, drop, set, length-drop}
 use lib.Seq.{take-suc, getD-drop, drop-drop, sets, sets-eq}
 use Rattle.base.specs.Tests.{tabulate}
 use Rattle.base.specs.Lists.{part, put, pack, unpack}
-use Rattle.base.proofs.Tests.{length-tabulate, tabulate-at}
+use Rattle.base.proofs.Tests.{length-tabulate}
 use Rattle.base.proofs.Lists.{part-length, pack-append, pack-right}
 use Rattle.machine.specs.Plan.{count, heldBy}
 use Rattle.nest.specs.declared.Nest.{Nest}
@@ -21,18 +21,10 @@ use Rattle.layout.specs.CellRows.{rowOf}
 use Rattle.parcels.specs.Windows.{Leading, rowParcel, RowPacked}
 use Rattle.parcels.proofs.Packing.{row-run}
 use Rattle.runs.specs.Runs.{cellsFrom, Room}
-use Rattle.runs.proofs.Laws.{Copies, copies-more}
-use Rattle.held.specs.Numbers.{numbers}
+use Rattle.listed.specs.Numbers.{numbers}
+use Rattle.listed.proofs.Numbers.{numbers-long, numbers-at}
 
 -- ---- numbers
-
-pub numbers-long : length numbers ≡ 16384
-unfolding numbers
-numbers-long = length-tabulate (λ c. c) 16384
-
-numbers-at : (c : ℕ) → c < 16384 → getD numbers c 0 ≡ c
-unfolding numbers
-numbers-at c h = tabulate-at (λ c. c) 16384 c h
 
 map-self : (l : List ℕ) → map (λ c. c) l ≡ l
 map-self [] = refl
@@ -46,13 +38,6 @@ held-listed r x ok m h =
     ∙ map-self (heldBy (planOf r x) m)
 
 -- ---- cells side by side
-
--- one more cell listed
-pub listed-more : (l : List ℕ) (at first n : ℕ) (k : List ℕ) (y : ℕ) → Copies l numbers at first n k y → y < n → first + n ≤ 16384
-    → Copies l numbers at first n (set k (at + y) (first + y)) (y + 1)
-listed-more l at first n k y p h f =
-    subst (λ (v : ℕ). Copies l numbers at first n (set k (at + y) v) (y + 1)) (numbers-at (first + y) (omega arith))
-    (copies-more l numbers at first n k y p h (rw numbers-long f))
 
 -- the words of a part are those of cells side by side
 part-row : (l : List ℕ) (c n : ℕ) → c + n ≤ length l → part l c n ≡ pack l (rowOf c n)

@@ -2,29 +2,20 @@
 ghost use mathlib.Core.Path.{_≡_};
 ghost use Prim.Native.Nat.{_+_, _<_};
 ghost use lib.ListN.{length};
-ghost use Rattle.base.specs.Lists.{part, pack, unpack};
+ghost use Rattle.base.specs.Lists.{pack};
 ghost use Rattle.machine.specs.Plan.{heldBy};
 ghost use Rattle.nest.specs.Nest.{boxTiles};
 ghost use Rattle.plan.specs.declared.Route.the-variants.{Direct};
 ghost use Rattle.plan.specs.Messages.{ways, slots, slotParcel};
 ghost use Rattle.plan.specs.Shaped.{shapedParcel, planOf};
 ghost use Rattle.layout.specs.Sizes.{Sized};
-ghost use Rattle.runs.specs.Runs.{cellsFrom, Fits, Room, Packed};
+ghost use Rattle.runs.specs.Runs.{Room, Packed};
 ghost use Rattle.tables.specs.Tables.{Tabled, FoundIn};
-ghost use Rattle.held.specs.Numbers.{numbers};
+ghost use Rattle.listed.specs.Numbers.{numbers};
 use layout::Sizes;
+use listed::list_run;
 use nest::Nest;
 use scans::Place;
-
-// The n cells from `first` on, to the list from `at` on.
-fn list_run(cells: &mut [u16], at: usize, first: usize, n: usize)
-    requires { ⌜ Fits (length (now cells)) 16384 at first n ⌝ }
-    ensures { λ _. ⌜ now (cells .exit) ≡ unpack (now (cells .entry)) (cellsFrom at n) (part numbers first n) ⌝ }
-{
-    for y in 0..n {
-        cells[at + y] = (first + y) as u16;
-    }
-}
 
 // A row's cells that lie in one of the runs, behind those listed before: each piece at once.
 fn list_row(

@@ -7,3 +7,5 @@ pub mod Nested
 pub mod Shares
 pub mod Advance
 pub mod Steps
+pub mod Regions
+pub mod Twins

@@ -12,7 +12,7 @@ use Rattle.base.specs.Tests.{product}
 use Rattle.base.proofs.Tests.{pick-true, pick-false}
 use Rattle.nest.specs.declared.Nest.{Nest}
 use Rattle.nest.specs.Places.{place}
-use Rattle.plan.specs.Report.{values, doLoop, tileLoop, forEach, extend, loops}
+use Rattle.plan.specs.Loops.{values, doLoop, tileLoop, forEach, extend, loops}
 use Rattle.nest.proofs.Rank.{place-last, place-before}
 
 -- ---- loops over lists

@@ -21,7 +21,7 @@ use Rattle.nest.specs.Places.{rank, place, tileAt}
 use Rattle.plan.specs.Geometry.{processorOf}
 use Rattle.plan.specs.declared.Route.{Route}
 use Rattle.plan.specs.Messages.{boxPlan}
-use Rattle.plan.specs.Report.{values, tileLoop, loops}
+use Rattle.plan.specs.Loops.{values, tileLoop, loops}
 use Rattle.nest.proofs.Rank.{Positive, place-last, place-before, place-low, rank-same, div-le}
 use Rattle.plan.proofs.Tiles.{processorOf-low}
 use Rattle.plan.proofs.Grid.{keep-nothing}

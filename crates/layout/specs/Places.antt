@@ -11,7 +11,6 @@ use Rattle.nest.specs.Places.{place, cellPlace, tilePlace}
 use Rattle.plan.specs.Box.{boxLength, boxSize}
 use Rattle.layout.specs.declared.Cell.{Cell}
 use Rattle.layout.specs.declared.Bounds.{Bounds}
-use Rattle.layout.specs.declared.Divided.{Divided}
 use Rattle.layout.specs.declared.Share.{Share}
 
 abbrev pub nth : List ℕ → ℕ → ℕ
@@ -48,11 +47,6 @@ pub record Inside (N from : List ℕ) (left : ℕ) (at : List ℕ) : Type 0 wher
 -- the next place: that of the number one more
 pub record Follows (N from : List ℕ) (left : ℕ) (at r : List ℕ) : Type 0 where
   pub next : (n : ℕ) → Placed N from n left at → Placed N from (n + 1) left r
-
--- a component's tile, and its place there
-pub record Splits (a k : ℕ) (r : Divided) : Type 0 where
-  pub tile : r .tile ≡ a / k
-  pub rest : r .rest ≡ a % k
 
 -- a processor's share of the tiles along a dimension, as the report's DO loop has it, and its number over the dimensions before
 pub record Shared (across stride processor : ℕ) (r : Share) : Type 0 where

@@ -12,7 +12,8 @@ ghost use Rattle.plan.specs.Geometry.{processorOf};
 ghost use Rattle.plan.specs.Messages.{ways, slots, boxPlan};
 ghost use Rattle.plan.specs.Box.{boxCell};
 ghost use Rattle.layout.specs.Sizes.{routeOf, Sized, along, endAt, Stepped};
-ghost use Rattle.layout.specs.Places.{nth, Has, Countable, Ranked, Places, Placed, Inside, Follows, Splits, Shared, Located, Bounded};
+ghost use Rattle.layout.specs.Places.{nth, Has, Countable, Ranked, Places, Placed, Shared, Located, Bounded};
+use division::tile_along;
 use nest::Nest;
 use plan::Route;
 
@@ -24,12 +25,6 @@ pub struct Sizes {
     pub route: Route,
     pub ways: usize,
     pub across: [usize; 4],
-}
-
-// A component's tile, and the place in it.
-pub struct Divided {
-    pub tile: u16,
-    pub rest: u16,
 }
 
 // A processor's share of the tiles along a dimension.
@@ -118,27 +113,6 @@ pub fn product(counts: [usize; 4], left: usize) -> usize
     ensures { λ r. ⌜ r ≡ product (nth counts) left ⌝ }
 {
     product_of(&counts, left)
-}
-
-// A component's tile and its place there: the one division of a component, in 16-bit numbers, which small processors divide in short
-// code. (The reader divides a length, to count tiles for line 8.)
-pub fn split(component: u16, length: u16) -> Divided
-    requires { ⌜ (component < 1024) × (1 ≤ length) ⌝ }
-    ensures { λ r. ⌜ Splits component length r ⌝ }
-{
-    Divided {
-        tile: component / length,
-        rest: component % length,
-    }
-}
-
-// The tile of a component along a dimension.
-fn tile_along(component: usize, length: usize) -> usize
-    requires { ⌜ (component < 1024) × ((1 ≤ length) × (length ≤ 1024)) ⌝ }
-    ensures { λ r. ⌜ r ≡ component / length ⌝ }
-{
-    let s = split(component as u16, length as u16);
-    base::half_index(s.tile)
 }
 
 // Tiles along each dimension: up to the one that holds the last cell.
@@ -393,25 +367,6 @@ pub fn cell_in(nest: Nest, bounds: Bounds, q: usize) -> Cell
         number: number,
         place: at,
     }
-}
-
-// The place after `at` in index order, counted from the place `from`: after the last one comes the first.
-pub fn next_place(lengths: [usize; 4], from: [usize; 4], at: [usize; 4], left: usize) -> [usize; 4]
-    requires { ⌜ Places lengths from left × Inside lengths from left at ⌝ }
-    ensures { λ r. ⌜ Follows lengths from left at r ⌝ }
-{
-    if left == 0 {
-        return at;
-    }
-    let j = left - 1;
-    let mut next = at;
-    let component = at[j] + 1;
-    if component < from[j] + lengths[j] {
-        next[j] = component;
-        return next;
-    }
-    next[j] = from[j];
-    next_place(lengths, from, next, j)
 }
 
 // How a way moves a tile's place: by a direction's components, or by one in a spread dimension.

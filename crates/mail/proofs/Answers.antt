@@ -1,6 +1,6 @@
 -- Each call by the line that counts.
 use Prim.Native.Nat.{ℕ, _*_, _≤_, _<_}
-use mathlib.Core.Path.{_≡_, refl, sym, ap, _∙_}
+use mathlib.Core.Path.{_≡_, sym, ap, _∙_}
 use mathlib.Core.Logic.{_≢_}
 use mathlib.Core.Bool.{Bool, true, false}
 use mathlib.Core.List.{List, [], _∷_, _++_}
@@ -23,8 +23,9 @@ use Rattle.apart.specs.Apart.{received}
 use Rattle.engine.specs.Given.{unfitLines}
 use Rattle.engine.specs.Calls.{answer, areas}
 use Rattle.engine.proofs.Lines.{Opened, unfit-none, call-read, call-later, call-done, and-right}
-use Rattle.mail.specs.Calls.{rowsTo, messagesCall, ownerOf, ownersCall, Waits, waited, waitAreas, awaitedCall, takes, asLong, takeInCall}
-use Rattle.mail.specs.Given.{unaskedLines, waitedOr13, receivedOr}
+use Rattle.arrivals.specs.Taking.{takes, asLong, receivedOr}
+use Rattle.mail.specs.Calls.{rowsTo, messagesCall, ownerOf, ownersCall, Waits, waited, waitAreas, awaitedCall, takeInCall}
+use Rattle.mail.specs.Given.{unaskedLines, waitedOr13}
 use Rattle.mail.proofs.Waiting.{lines-none}
 
 none : (n : ℕ) (t : Bool) → t ≡ false → firstOf (line n t ∷ []) ≡ 0

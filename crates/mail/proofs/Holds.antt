@@ -3,30 +3,29 @@ use Prim.Native.Nat.{ℕ, _<_}
 use mathlib.Core.Path.{_≡_, refl, sym, ap, _∙_}
 use mathlib.Core.Logic.{_≢_}
 use mathlib.Core.Bool.{Bool, true, false}
-use mathlib.Core.List.{List, [], _∷_, _++_}
-use native.Mathlib.Omega.{arith}
+use mathlib.Core.List.{List, [], _∷_}
 use lib.ListN.{length, getD}
 use lib.Dec.{ltb, eqb}
 use borrow.Author.Tests.{eqb-true, eq-eqb, ne-eqb, lt-ltb}
 use Rattle.base.specs.Tests.{_and_, not, pick, some}
 use Rattle.base.specs.Lists.{In, allAt}
 use Rattle.base.specs.Numbers.{Line, line, firstOf}
-use Rattle.base.proofs.Tests.{both, and-true, and-left, not-true, not-false, false-not, is-true, never-both, same-test, some-at, some-one, pick-true}
+use Rattle.base.proofs.Tests.{both, and-true, not-true, not-false, false-not, never-both, same-test, some-at, some-one, pick-true}
 use Rattle.base.proofs.Lists.{allAt-in, allAt-out}
 use Rattle.base.proofs.Select.{in-those, those-in}
 use Rattle.base.proofs.Numbers.{first-false, first-behind}
-use Rattle.machine.specs.Plan.{Plan, count, takerOf, heldBy, duesOf}
-use Rattle.machine.specs.Machine.{State, stageOf, tilesLeft, currentTile, fit, waiting, answered}
+use Rattle.machine.specs.Plan.{Plan, count, takerOf, duesOf}
+use Rattle.machine.specs.Machine.{State, tilesLeft, currentTile, fit, waiting}
 use Rattle.layout.specs.Sizes.{routeOf}
 use Rattle.routes.specs.Routes.{linesFor}
 use Rattle.routes.proofs.Laws.{numbered-for}
 use Rattle.engine.specs.Calls.{recipe, areas}
-use Rattle.engine.proofs.Lines.{and-right}
-use Rattle.apart.specs.Apart.{Areas, takerAt, received, replaced, arrived}
+use Rattle.apart.specs.Apart.{received, replaced, arrived}
 use Rattle.apart.specs.Packets.{Network, networkOf, arrive}
-use Rattle.mail.specs.Calls.{awaits, takes, asLong, takeInCall}
-use Rattle.mail.specs.Holds.{WaitsAsTurns, comingMessage, comingWords, comesTo, Comes, takenIn, ArrivesAsTaken, MailHolds}
-use Rattle.mail.proofs.Taking.{long-is}
+use Rattle.arrivals.specs.Taking.{takes, asLong}
+use Rattle.mail.specs.Calls.{awaits, takeInCall}
+use Rattle.mail.specs.Holds.{WaitsAsTurns, comingMessage, comingWords, comesTo, Comes, takenIn, MailHolds}
+use Rattle.arrivals.proofs.Taking.{long-is}
 use Rattle.mail.proofs.Rows.{rows-at}
 
 -- ---- what is waited for

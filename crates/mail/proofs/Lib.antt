@@ -1,7 +1,6 @@
 pub mod Rows
 pub mod RowOwners
 pub mod Waiting
-pub mod Taking
 pub mod Answers
 pub mod Holds
 pub mod MailRows

@@ -16,8 +16,8 @@ use Rattle.plan.specs.declared.Route.the-variants.{Direct}
 use Rattle.plan.specs.Geometry.{processorOf, inside}
 use Rattle.plan.specs.Messages.{directions, ahead, reaches, taker, messagesOf}
 use Rattle.plan.specs.Shaped.{boxTile, tileOf, reachesShape, shapedParcel, follows, shapedTaker, shapedSlotTaker, shapedHome, shapedSlotParcel, planOf}
-use Rattle.plan.specs.ShapedRows.{rowTriangle}
-use Rattle.plan.proofs.RowNests.{nestB, nestD, isB, isD}
+use Rattle.rows.specs.ShapedRows.{rowTriangle}
+use Rattle.rows.proofs.RowNests.{nestB, nestD, isB, isD}
 use Rattle.layout.specs.Sizes.{routeOf}
 use Rattle.engine.specs.Calls.{recipe}
 use Rattle.mail.specs.Calls.{rowOf, rowsTo, ownerOf, awaits, waitsOf, waited}

@@ -13,7 +13,8 @@ use Rattle.nest.specs.Reader.{readLines}
 use Rattle.layout.specs.Sizes.{routeOf}
 use Rattle.routes.specs.Routes.{linesFor}
 use Rattle.engine.specs.Calls.{recipe, areas}
-use Rattle.apart.specs.Apart.{takerAt, received}
+use Rattle.apart.specs.Apart.{received}
+use Rattle.arrivals.specs.Taking.{takes, asLong}
 
 -- ---- all messages: a row of six words for each, in the order of their numbers
 
@@ -80,14 +81,6 @@ unfoldable pub awaitedCall : List ℕ → ℕ → State → ℕ → Waits → An
 awaitedCall bytes route s b w = answered (firstOf (awaitedLines bytes route s b w)) (waited (recipe bytes route) s b) w
 
 -- ---- a message is taken in at its taker's, whose own areas are lent: `words` came with its number
-
--- a message of this number is taken by processor b
-abbrev pub takes : Plan → ℕ → ℕ → Bool
-takes p b m = ltb m (count p) and eqb (takerAt p m) b
-
--- where there is such a message, as many words came as it has
-abbrev pub asLong : Plan → ℕ → List ℕ → Bool
-asLong p m words = not (ltb m (count p)) or eqb (length words) (length (heldBy p m))
 
 -- 14 where it came before, or was sent from here
 abbrev pub takeInLines : List ℕ → ℕ → List ℕ → State → ℕ → ℕ → List ℕ → List Line

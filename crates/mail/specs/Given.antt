@@ -2,20 +2,18 @@
 -- No sentence of document 01; the contracts of the functions below the offered calls cite it.
 use Prim.Native.Nat.{ℕ, _*_, _<_}
 use mathlib.Core.Path.{_≡_}
-use mathlib.Core.Bool.{true}
 use mathlib.Core.List.{List, [], _∷_}
 use lib.ListN.{length, getD}
 use lib.Dec.{eqb}
 use Rattle.base.specs.Tests.{_and_, not, one, tabulate}
 use Rattle.base.specs.Numbers.{Line, line, firstOf}
-use Rattle.machine.specs.Plan.{Plan, count, words, takerOf}
+use Rattle.machine.specs.Plan.{Plan, count, takerOf}
 use Rattle.machine.specs.Machine.{State, tilesLeft, fit, Answered, answered}
 use Rattle.nest.specs.declared.Nest.{Nest}
 use Rattle.layout.specs.declared.Sizes.{Sizes}
 use Rattle.layout.specs.Sizes.{Sized}
 use Rattle.tables.specs.Tables.{Tabled}
-use Rattle.apart.specs.Apart.{received}
-use Rattle.mail.specs.Calls.{Waits, waitAreas, waited, takes, asLong}
+use Rattle.mail.specs.Calls.{Waits, waitAreas, waited}
 
 abbrev pub Planned : Nest → Sizes → List ℕ → Type 0
 Planned x z lens = Sized x z × Tabled x z lens
@@ -39,14 +37,3 @@ unaskedLines p s w = line 9 (not (waitAreas p s w)) ∷ line 10 (not (fit p s)) 
 -- past the lines before it: 13, or what is waited for
 abbrev pub waitedOr13 : Plan → State → ℕ → Waits → Answered Waits
 waitedOr13 p s b w = answered (firstOf (line 13 (not (tilesLeft p s b)) ∷ [])) (waited p s b) w
-
--- the areas into which a message is taken, and its words
-pub record MayTake (p : Plan) (mail marks : List ℕ) (m : ℕ) (new : List ℕ) : Type 0 where
-  pub buffer : length mail ≡ words p
-  pub status : length marks ≡ count p
-  pub long : asLong p m new ≡ true
-
--- past the lines before it: 11, 14, or the message taken in
-abbrev pub receivedOr : Plan → State → ℕ → ℕ → List ℕ → Answered State
-receivedOr p s b m new =
-    answered (firstOf (line 11 (not (takes p b m)) ∷ line 14 (not (eqb (getD (s .status) m 0) 0)) ∷ [])) (received p s m new) s

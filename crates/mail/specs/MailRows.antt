@@ -5,7 +5,7 @@ use mathlib.Core.List.{[], _∷_}
 use Rattle.base.specs.Tests.{tabulate}
 use Rattle.machine.specs.Machine.{fresh}
 use Rattle.nest.specs.Recipes.{rowB, rowD}
-use Rattle.plan.specs.ShapedRows.{rowTriangle}
+use Rattle.rows.specs.ShapedRows.{rowTriangle}
 use Rattle.engine.specs.Calls.{recipe}
 use Rattle.mail.specs.Calls.{rowsTo, ownerOf, waitsOf, waited}
 

@@ -17,8 +17,10 @@ ghost use Rattle.layout.specs.Sizes.{Sized};
 ghost use Rattle.tables.specs.Tables.{FoundIn};
 ghost use Rattle.records.specs.Records.{Carries};
 ghost use Rattle.engine.specs.Calls.{answer};
-ghost use Rattle.mail.specs.Calls.{rowOf, rowsTo, ownerOf, waitsOf, awaitedCall, asLong, takeInCall};
-ghost use Rattle.mail.specs.Given.{Planned, undelivered, unaskedLines, MayAsk, waitedOr13, MayTake, receivedOr};
+ghost use Rattle.arrivals.specs.Taking.{asLong};
+ghost use Rattle.mail.specs.Calls.{rowOf, rowsTo, ownerOf, waitsOf, awaitedCall, takeInCall};
+ghost use Rattle.mail.specs.Given.{Planned, undelivered, unaskedLines, MayAsk, waitedOr13};
+use arrivals::receive;
 use base::word_index;
 use layout::Sizes;
 use layout::route_of;
@@ -289,52 +291,6 @@ pub fn as_long(nest: Nest, sizes: Sizes, lens: &[u16; 9217], m: usize, words: us
     }
     let place = nth(nest, sizes, lens, m);
     words == place.words
-}
-
-// Words to words, one after the other.
-pub fn copy_words(to: &mut [u32], words: &[u32])
-    requires { ⌜ length (now to) ≡ length (now words) ⌝ }
-    ensures { λ _. ⌜ now (to .exit) ≡ now (words .entry) ⌝ }
-{
-    let mut i = 0;
-    while i < to.len() {
-        to[i] = words[i];
-        i += 1;
-    }
-}
-
-// Line 11, line 14, then the words into their place and the mark.
-fn receive(
-    nest: Nest,
-    sizes: Sizes,
-    lens: &[u16; 9217],
-    buffer: &mut [u32],
-    status: &mut [u8],
-    processor: u32,
-    m: usize,
-    words: &[u32],
-) -> u32
-    requires { ⌜ Planned nest sizes (now lens) × MayTake (planOf (sizes .route) nest) (now buffer) (now status) m (now words) ⌝ }
-    ensures { λ r. ⌜ ((memories records : List ℕ)
-        → answer r (stateOf memories (now (buffer .exit)) records (now (status .exit)))
-        ≡ receivedOr (planOf (sizes .route) nest) (stateOf memories (now (buffer .entry)) records (now (status .entry))) processor m (now (words .entry))) ⌝ }
-{
-    if m >= status.len() {
-        return 11;
-    }
-    let place = nth(nest, sizes, lens, m);
-    let line = table::line_at(nest, sizes, lens, place);
-    if line.to != processor {
-        return 11;
-    }
-    if status[m] != 0 {
-        return 14;
-    }
-    let offset = place.offset;
-    let end = offset + place.words;
-    copy_words(&mut buffer[offset..end], words);
-    status[m] = 2;
-    0
 }
 
 // A message taken in at its taker's.

@@ -10,8 +10,8 @@ pub mod core; // core.rt: the work of the calls, and those that are lent records
 
 use layout::route_of;
 use layout::sizes_of;
-use nest::read;
 use plan::Route;
+use reader::read;
 use records::flat_of;
 use routes::read_for;
 use tables::fill;

@@ -8,8 +8,7 @@ use native.Mathlib.Numerals.{add-one}
 use native.Mathlib.Omega.{arith}
 use lib.ListN.{length, getD, drop, set, length-set, drop-of-length-le}
 use lib.Seq.{ext-getD, drop-cons}
-use lib.Dec.{eqb, leb}
-use borrow.Author.Tests.{le-leb, lt-leb}
+use lib.Dec.{eqb}
 use Rattle.base.specs.Tests.{_and_, _or_, one, pick, some, tabulate}
 use Rattle.base.specs.Lists.{In, member, setAll}
 use Rattle.base.proofs.Tests.{and-true, and-false, and-no, or-right, pick-true, pick-false, one-true, never-both, length-tabulate, tabulate-at}
@@ -54,13 +53,13 @@ held-below p so m low cells marks e long c i = rw long (so .held-low m c low (rw
 
 -- ---- one message
 
-module _ (p : Plan) (b m v : ℕ) (is : leb 2 v ≡ eqb (takerAt p m) b) where
-  pub brought : (marks marks′ : List ℕ) → 2 ≤ v → marks′ ≡ setAll marks (heldBy p m) 1
+module _ (p : Plan) (b m : ℕ) (taken : Bool) (is : taken ≡ eqb (takerAt p m) b) where
+  pub brought : (marks marks′ : List ℕ) → taken ≡ true → marks′ ≡ setAll marks (heldBy p m) 1
       → marks′ ≡ pick (eqb (takerAt p m) b) (setAll marks (heldBy p m) 1) marks
-  brought marks marks′ h q = q ∙ sym (pick-true _ _ _ (sym is ∙ le-leb 2 v h))
+  brought marks marks′ h q = q ∙ sym (pick-true _ _ _ (sym is ∙ h))
 
-  pub elsewhere : (marks new : List ℕ) → v < 2 → marks ≡ pick (eqb (takerAt p m) b) new marks
-  elsewhere marks new h = sym (pick-false _ _ _ (sym is ∙ lt-leb 2 v h))
+  pub elsewhere : (marks new : List ℕ) → taken ≡ false → marks ≡ pick (eqb (takerAt p m) b) new marks
+  elsewhere marks new h = sym (pick-false _ _ _ (sym is ∙ h))
 
 -- ---- all of them
 

@@ -9,8 +9,7 @@ use native.Mathlib.Decide.{decLt, ℕ-discrete}
 use native.Mathlib.Omega.{arith}
 use lib.ListN.{length, getD, take, drop, set, length-set}
 use lib.Seq.{getD-set-same, getD-set-other}
-use lib.Dec.{eqb, leb}
-use borrow.Author.Tests.{le-leb, lt-leb}
+use lib.Dec.{eqb}
 use borrow.Rule.Slice.PartMut.{putMid}
 use Rattle.base.specs.Tests.{one, tabulate}
 use Rattle.base.specs.Lists.{In, put}
@@ -29,9 +28,9 @@ use Rattle.plan.specs.declared.Route.{Route}
 use Rattle.plan.specs.declared.Route.the-variants.{Direct, Indirect}
 use Rattle.plan.specs.Geometry.{processorOf}
 use Rattle.plan.specs.Messages.{ways, slots, slotTile, slotTaker, slotDirection, slotParcel}
-use Rattle.plan.specs.Exact.{stepBy}
+use Rattle.report.specs.Exact.{stepBy}
 use Rattle.plan.specs.Shaped.{boxTile, slotBox, shapedTaker, shapedSlotTaker, shapedSlotParcel, planOf}
-use Rattle.plan.proofs.Ways.{wayOf, slot-cells, slot-to, taker-at}
+use Rattle.report.proofs.Ways.{wayOf, slot-cells, slot-to, taker-at}
 use Rattle.plan.proofs.Slots.{full-in, parcel-cells, unless-in}
 use Rattle.plan.proofs.Parcels.{slotTile-low, ahead-low}
 use Rattle.plan.proofs.Tiles.{tilePlace-low}
@@ -125,15 +124,9 @@ ends x z ok routed m p f = go (ℕ-discrete (x .bounds) 0)
 -- ---- what a slot's byte says
 
 module _ (r : Route) (x : Nest) (b t w v : ℕ) (is : v ≡ sideOf r x b t w) where
-  pub side-takes : (u : ℕ) → u ≡ aheadOf r x t w → leb 2 v ≡ eqb u b
-  unfolding sideOf one
-  side-takes u e = go (eqb (processorOf x t) b) (eqb (aheadOf r x t w) b) refl refl
-    where
-      go : (f g : Bool) → eqb (processorOf x t) b ≡ f → eqb (aheadOf r x t w) b ≡ g → leb 2 v ≡ eqb u b
-      go true true p q = le-leb 2 v (omega (arith, is, ap one p, ap one q)) ∙ sym (ap (λ (i : ℕ). eqb i b) e ∙ q)
-      go false true p q = le-leb 2 v (omega (arith, is, ap one p, ap one q)) ∙ sym (ap (λ (i : ℕ). eqb i b) e ∙ q)
-      go true false p q = lt-leb 2 v (omega (arith, is, ap one p, ap one q)) ∙ sym (ap (λ (i : ℕ). eqb i b) e ∙ q)
-      go false false p q = lt-leb 2 v (omega (arith, is, ap one p, ap one q)) ∙ sym (ap (λ (i : ℕ). eqb i b) e ∙ q)
+  pub side-ends : v ≡ one (eqb (processorOf x t) b) + 2 * one (eqb (aheadOf r x t w) b)
+  unfolding sideOf
+  side-ends = is
 
   pub side-none : v ≡ 0 → (eqb (processorOf x t) b ≡ false) × (eqb (aheadOf r x t w) b ≡ false)
   unfolding sideOf one

@@ -1,6 +1,4 @@
-pub mod Ranks
-pub mod Blocks
-pub mod Marks
+pub mod Words
 pub mod Slotted
 pub mod Slots
 pub mod Handling

@@ -1,16 +1,17 @@
 -- One processor's own part as it is lent: the words of its kept cells, its mail, the three words of its record, its marks; and how long each is.
 -- Renders document 01, "The machine", for a board with memory for nothing else; what the part is of the machine's areas says apart/specs/Own.
-use Prim.Native.Nat.{ℕ, _+_, _*_, _≤_, _<_}
+use Prim.Native.Nat.{ℕ, _+_, _≤_, _<_}
 use mathlib.Core.Path.{_≡_}
 use mathlib.Core.Bool.{Bool, true}
 use mathlib.Core.List.{List, [], _∷_}
-use lib.ListN.{length, getD, replicate}
+use lib.ListN.{length, replicate}
 use lib.Dec.{eqb}
 use Rattle.base.specs.Tests.{_and_, keep}
 use Rattle.base.specs.Lists.{In, unpack}
 use Rattle.machine.specs.Plan.{Plan, heldBy}
 use Rattle.machine.specs.Machine.{State, stateOf, finishedOf, stageOf, sentOf}
 use Rattle.apart.specs.Own.{Own, keptCells, handles, handled}
+use Rattle.ranks.specs.Ranks.{markedAt, markedCells, Counted}
 
 -- the part that these four areas are, and the areas that a part is: of one processor, so its record is the first
 unfoldable pub partOf : State → Own
@@ -45,28 +46,9 @@ partFits p b s =
     eqb (length (s .memories)) (length (keptCells p b))
     and (eqb (length (s .buffer)) (wordsOf p (handled p b)) and (eqb (length (s .progress)) 3 and eqb (length (s .status)) (length (handled p b))))
 
--- a mark says that its cell is kept
-abbrev pub markedAt : List ℕ → ℕ → Bool
-markedAt marks c = eqb (getD marks c 0) 1
-
--- the marked cells, how many of them come before a cell, and a memory of all cells that has their words, and zeros else
-abbrev pub markedCells : List ℕ → List ℕ
-markedCells marks = keep (markedAt marks) (length marks)
-
-abbrev pub rankAt : List ℕ → ℕ → ℕ
-rankAt marks c = length (keep (markedAt marks) c)
-
-abbrev pub spreadOut : List ℕ → List ℕ → List ℕ
-spreadOut marks words = unpack (replicate (length marks) 0) (markedCells marks) words
-
--- such a memory of the cells that processor b keeps
+-- a memory of all cells that has the words of the cells that processor b keeps, and zeros else
 abbrev pub allOf : Plan → ℕ → List ℕ → List ℕ
 allOf p b words = unpack (replicate (p .cells) 0) (keptCells p b) words
-
--- for each block of 64 cells how many are marked before it
-pub record Counted (marks counts : List ℕ) : Type 0 where
-  pub long : length counts ≡ 257
-  pub at : (q : ℕ) → q * 64 ≤ length marks → getD counts q 0 ≡ rankAt marks (q * 64)
 
 -- a list of marked cells, a part, and words that go between them
 pub record Listed (marks counts cells memory words : List ℕ) : Type 0 where

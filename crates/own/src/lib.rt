@@ -17,14 +17,16 @@ ghost use Rattle.layout.specs.Sizes.{Sized};
 ghost use Rattle.tables.specs.Tables.{Routed, Tabled, FoundIn};
 ghost use Rattle.apart.specs.Apart.{takerAt};
 ghost use Rattle.apart.specs.Own.{owns, keeps, handles};
-ghost use Rattle.own.specs.Part.{rankOf, mailAt, markedCells, rankAt, spreadOut, Counted, Listed};
+ghost use Rattle.ranks.specs.Ranks.{markedCells, rankAt, spreadOut, Counted};
+ghost use Rattle.own.specs.Part.{rankOf, mailAt, Listed};
 ghost use Rattle.own.specs.Marking.{wide, Shown, Alike, sideOf, Sided, Repeated};
 use base::half_index;
-use base::word_index;
 use held::cells_of;
 use layout::Sizes;
 use layout::least;
+use marks::takes;
 use nest::Nest;
+use ranks::rank;
 use scans::Place;
 use stages::zero_bytes;
 use tables::tiles_of;
@@ -233,7 +235,7 @@ fn mark_brought(
         ≡ pick (eqb (takerAt (planOf (sizes .route) nest) (place .number)) b)
         (setAll (now (marks .entry)) (heldBy (planOf (sizes .route) nest) (place .number)) 1) (now (marks .entry)) ⌝ }
 {
-    if side >= 2 {
+    if takes(side) {
         let words = place.words;
         mark_held(nest, sizes, lens, place, &mut list[0..words], marks);
     }
@@ -287,54 +289,9 @@ pub fn mark_kept(nest: Nest, sizes: Sizes, lens: &[u16; 9217], b: usize, marks: 
     mark_messages(nest, sizes, lens, b, &sides, &mut list, marks);
 }
 
-// ---- ranks: where the marked cells' words stand in the part
+// ---- words, where the marked cells' ranks say
 
-// How many of the bytes are marks.
-fn marks_in(marks: &[u8]) -> u32
-    requires { ⌜ length (now marks) ≤ 16384 ⌝ }
-    ensures { λ r. ⌜ r ≡ rankAt (now (marks .entry)) (length (now (marks .entry))) ⌝ }
-{
-    let mut c = 0;
-    let mut n = 0;
-    while c < marks.len() {
-        if marks[c] == 1 {
-            n += 1;
-        }
-        c += 1;
-    }
-    n
-}
-
-// How many cells are marked before each block of 64.
-pub fn fill_counts(marks: &[u8], counts: &mut [u32; 257])
-    requires { ⌜ (length (now marks) ≤ 16384) × (length (now counts) ≡ 257) ⌝ }
-    ensures { λ _. ⌜ Counted (now (marks .entry)) (now (counts .exit)) ⌝ }
-{
-    let blocks = marks.len() / 64;
-    let mut n = 0;
-    let mut q = 0;
-    while q < blocks {
-        counts[q] = n;
-        let from = q * 64;
-        let end = from + 64;
-        n += marks_in(&marks[from..end]);
-        q += 1;
-    }
-    counts[q] = n;
-}
-
-// How many cells are marked before this one; before the length, how many there are.
-pub fn rank(marks: &[u8], counts: &[u32; 257], c: usize) -> usize
-    requires { ⌜ Counted (now marks) (now counts) × ((c ≤ length (now marks)) × (length (now marks) ≤ 16384)) ⌝ }
-    ensures { λ r. ⌜ r ≡ rankAt (now (marks .entry)) c ⌝ }
-{
-    let q = c / 64;
-    let from = q * 64;
-    let n = counts[q] + marks_in(&marks[from..c]);
-    word_index(n)
-}
-
-// The same, where the rank of another cell is known: cells of a list mostly lie side by side.
+// How many cells are marked before this one, where the rank of another is known: cells of a list mostly lie side by side.
 fn rank_by(marks: &[u8], counts: &[u32; 257], known: usize, at: usize, c: usize) -> usize
     requires { ⌜ Counted (now marks) (now counts) × ((c ≤ length (now marks)) × (length (now marks) ≤ 16384)) ⌝ }
     requires { ⌜ at ≡ rankAt (now marks) known ⌝ }

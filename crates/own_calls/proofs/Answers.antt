@@ -31,8 +31,8 @@ use Rattle.table.specs.declared.MessageLine.{MessageLine}
 use Rattle.table.specs.Summary.{lineOf}
 use Rattle.apart.specs.Apart.{takerAt, marked, received}
 use Rattle.apart.specs.Own.{handles, keptCells, handled, mailOf}
-use Rattle.mail.specs.Calls.{takes, asLong}
-use Rattle.mail.proofs.Taking.{long-here}
+use Rattle.arrivals.specs.Taking.{takes, asLong}
+use Rattle.arrivals.proofs.Taking.{long-here}
 use Rattle.own.specs.Part.{wordsOf, rankOf, mailAt, partFits}
 use Rattle.own_front.specs.Calls.{wide, narrow, lengthsOf, ownSizesCall, ownFreshCall, ownPostCall, ownArriveCall}
 use Rattle.own_front.specs.Calls.{ownRows, ownMessagesCall, ownCollected, ownCollectCall}
@@ -299,19 +299,21 @@ module _ (p : Plan) (b : ℕ) (s : State) (m : ℕ) (ws : List ℕ) where
       come-behind : firstOf comingLines ≡ firstOf (line 14 (not (eqb (markIn p b (s .status) m) 0)) ∷ [])
       come-behind = first-false 11 _ _ (not-true (and-true (lt-ltb m (count p) lo) (eq-eqb _ _ (sym taker-is ∙ here))))
 
-      module _ (at : ℕ) (q : at ≡ rankOf p b m) where
-        come-mark : markIn p b (s .status) m ≡ getD (s .status) at 0
-        come-mark = mark p b s m lo come-handled at q
+      -- and whether it did not come before
+      module _ (at : ℕ) (q : at ≡ rankOf p b m) (new : Bool) (is : new ≡ eqb (getD (s .status) at 0) 0) where
+        come-new : eqb (markIn p b (s .status) m) 0 ≡ new
+        come-new = ap (λ (v : ℕ). eqb v 0) (mark p b s m lo come-handled at q) ∙ sym is
 
-        pub come-again : getD (s .status) at 0 ≢ 0 → answer 14 s ≡ arrivedOr p b s m ws
-        come-again h = refuse 14 _ came s (λ z. omega arith) (sym (come-behind ∙ first-true 14 _ _ (not-false (ne-eqb _ _ (λ z. h (sym come-mark ∙ z))))))
+        pub come-again : new ≡ false → (same : State) → same ≡ s → answer 14 same ≡ arrivedOr p b s m ws
+        come-again h same e =
+            ap (answer 14) e ∙ refuse 14 _ came s (λ z. omega arith) (sym (come-behind ∙ first-true 14 _ _ (not-false (come-new ∙ h))))
 
-        pub come-done : getD (s .status) at 0 ≡ 0 → (mail : List ℕ) → mail ≡ put (s .buffer) (mailAt p b m) ws
-            → answer 0 (stateOf (s .memories) mail (s .progress) (set (s .status) at 2)) ≡ arrivedOr p b s m ws
+        pub come-done : new ≡ true → (mail marks : List ℕ) → mail ≡ put (s .buffer) (mailAt p b m) ws → marks ≡ set (s .status) at 2
+            → answer 0 (stateOf (s .memories) mail (s .progress) marks) ≡ arrivedOr p b s m ws
         unfolding firstOf
-        come-done h mail k =
-            ap (answer 0) (state-is refl k refl (ap (λ (i : ℕ). set (s .status) i 2) q))
-            ∙ answered-yes _ came s (come-behind ∙ first-false 14 (not (eqb (markIn p b (s .status) m) 0)) [] (not-true (eq-eqb _ _ (come-mark ∙ h))))
+        come-done h mail marks k t =
+            ap (answer 0) (state-is refl k refl (t ∙ ap (λ (i : ℕ). set (s .status) i 2) q))
+            ∙ answered-yes _ came s (come-behind ∙ first-false 14 (not (eqb (markIn p b (s .status) m) 0)) [] (not-true (come-new ∙ h)))
 
 -- its words in the mail
 module _ (p : Plan) (b m from n : ℕ) (mail : List ℕ) (long : length mail ≡ wordsOf p (handled p b)) (lo : m < count p) (h : handles p b m ≡ true)

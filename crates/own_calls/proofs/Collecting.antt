@@ -46,8 +46,10 @@ use Rattle.stages.proofs.Parts.{Stored, store-start, store-next, stored-all, ba
 use Rattle.engine.specs.Calls.{answer}
 use Rattle.engine.proofs.Turns.{answered-no, answered-yes}
 use Rattle.apart.specs.Own.{owns, keeps, keptCells, handled, widened}
-use Rattle.own.specs.Part.{partOf, wordsOf, markedAt, markedCells, rankAt, spreadOut}
-use Rattle.own.proofs.Ranks.{rank-most, rank-low, spread-at, marks-long, mark-is, marked-are, all-is}
+use Rattle.ranks.specs.Ranks.{markedAt, markedCells, rankAt, spreadOut}
+use Rattle.ranks.proofs.Ranks.{rank-most, rank-low, spread-at, marks-long, mark-is, marked-are}
+use Rattle.own.specs.Part.{partOf, wordsOf}
+use Rattle.own.proofs.Words.{all-is}
 use Rattle.own_front.specs.Calls.{wide, ownCollected, collectFits}
 use Rattle.own_front.specs.Given.{PartLengths}
 use Rattle.own_calls.specs.Given.{outsideWord, gridWord, Within, collectLines, collectedOr}

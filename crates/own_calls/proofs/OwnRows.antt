@@ -15,7 +15,7 @@ use Rattle.plan.specs.Geometry.{processorOf, inside, hasRead, readAt}
 use Rattle.plan.specs.Messages.{directions, ahead, reaches, taker, messagesOf}
 use Rattle.plan.specs.Shaped.{boxTile, reachesShape, shapedParcel, follows, shapedTaker, shapedSlotTaker, shapedHome, shapedSlotParcel, planOf}
 use Rattle.plan.specs.Shaped.{shapedCells, readsShape, shapedValue}
-use Rattle.plan.proofs.RowNests.{nestD, isD}
+use Rattle.rows.proofs.RowNests.{nestD, isD}
 use Rattle.layout.specs.Sizes.{routeOf}
 use Rattle.engine.specs.Calls.{recipe}
 use Rattle.apart.specs.Own.{owns, keeps, handles, handled, mailOf, putMail, narrowed, widened, sourceOf}

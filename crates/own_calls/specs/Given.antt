@@ -15,8 +15,9 @@ use Rattle.nest.specs.declared.Nest.{Nest}
 use Rattle.nest.specs.Shape.{inShape}
 use Rattle.apart.specs.Apart.{marked, received}
 use Rattle.apart.specs.Own.{handles, handled}
-use Rattle.mail.specs.Calls.{takes, asLong}
-use Rattle.own.specs.Part.{wordsOf, rankOf, mailAt, partFits, markedAt, markedCells, rankAt}
+use Rattle.arrivals.specs.Taking.{takes, asLong}
+use Rattle.ranks.specs.Ranks.{markedAt, markedCells, rankAt}
+use Rattle.own.specs.Part.{wordsOf, rankOf, mailAt, partFits}
 use Rattle.own_front.specs.Calls.{wide, narrow, ownRows, ownCollected, collectFits}
 
 -- ---- past the first lines

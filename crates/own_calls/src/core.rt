@@ -19,10 +19,11 @@ ghost use Rattle.own_front.specs.Calls.{lengthsOf, ownFreshCall, ownPostCall, o
 ghost use Rattle.own_front.specs.Given.{Known, Many};
 ghost use Rattle.own_calls.specs.Given.{freshOr, handedOver, postedOr, MayArrive, arrivedOr, arrivesOr};
 use crate::grid::collect_part;
+use arrivals::copy_words;
 use base::word_index;
 use layout::Sizes;
 use mail::core::as_long;
-use mail::core::copy_words;
+use marks::arrived;
 use nest::Nest;
 use own_front::kept_count;
 use own_front::open;
@@ -88,12 +89,13 @@ fn fresh_part(
         marks,
         b,
     ) {
-        return 9;
+        9
+    } else {
+        zero_words(memory);
+        zero_words(mail);
+        zero_bytes(marks);
+        0
     }
-    zero_words(memory);
-    zero_words(mail);
-    zero_bytes(marks);
-    0
 }
 
 // A fresh start of all but the record, which has so many words.
@@ -113,17 +115,18 @@ pub fn fresh(
     let board = open(encoded, route, processor);
     let number = board.number;
     if number != 0 {
-        return number;
+        number
+    } else {
+        fresh_part(
+            board.nest,
+            board.sizes,
+            memory,
+            mail,
+            words,
+            marks,
+            processor as usize,
+        )
     }
-    fresh_part(
-        board.nest,
-        board.sizes,
-        memory,
-        mail,
-        words,
-        marks,
-        processor as usize,
-    )
 }
 
 // ---- a message handed over to a transport
@@ -146,18 +149,19 @@ fn hand_over(
         ≡ handedOver (planOf (sizes .route) nest) b (stateOf memory mail records (now (marks .entry))) m) ⌝ }
 {
     if m >= messages {
-        return 11;
+        11
+    } else {
+        let at = word_index(ranks[m]);
+        let next = word_index(ranks[m + 1]);
+        if next == at {
+            14
+        } else if marks[at] != 1 {
+            14
+        } else {
+            marks[at] = 2;
+            0
+        }
     }
-    let at = word_index(ranks[m]);
-    let next = word_index(ranks[m + 1]);
-    if next == at {
-        return 14;
-    }
-    if marks[at] != 1 {
-        return 14;
-    }
-    marks[at] = 2;
-    0
 }
 
 // Lines 9 and 10, then these.
@@ -196,9 +200,10 @@ fn post_part(
         b,
     );
     if n != 0 {
-        return n;
+        n
+    } else {
+        hand_over(nest, sizes, &lens, &ranks, &places, messages, marks, b, m)
     }
-    hand_over(nest, sizes, &lens, &ranks, &places, messages, marks, b, m)
 }
 
 // A message is handed over to a transport; its words lie in the mail.
@@ -220,11 +225,12 @@ pub fn post(
     let board = open(encoded, route, processor);
     let number = board.number;
     if number != 0 {
-        return number;
+        number
+    } else {
+        let b = processor as usize;
+        let m = message as usize;
+        post_part(board.nest, board.sizes, memory, mail, progress, marks, b, m)
     }
-    let b = processor as usize;
-    let m = message as usize;
-    post_part(board.nest, board.sizes, memory, mail, progress, marks, b, m)
 }
 
 // ---- a message arrives
@@ -259,20 +265,23 @@ fn receive(
         ≡ arrivedOr (planOf (sizes .route) nest) b (stateOf memory (now (mail .entry)) records (now (marks .entry))) m (now (words .entry))) ⌝ }
 {
     if m >= messages {
-        return 11;
+        11
+    } else {
+        let place = nth(nest, sizes, lens, m);
+        let line = table::line_at(nest, sizes, lens, place);
+        if word_index(line.to) != b {
+            11
+        } else {
+            let at = word_index(ranks[m]);
+            let from = word_index(places[m]);
+            if arrived(marks, at) {
+                store_words(mail, from, words);
+                0
+            } else {
+                14
+            }
+        }
     }
-    let place = nth(nest, sizes, lens, m);
-    let line = table::line_at(nest, sizes, lens, place);
-    if word_index(line.to) != b {
-        return 11;
-    }
-    let at = word_index(ranks[m]);
-    if marks[at] != 0 {
-        return 14;
-    }
-    store_words(mail, word_index(places[m]), words);
-    marks[at] = 2;
-    0
 }
 
 // Lines 9 and 10, then these.
@@ -299,38 +308,40 @@ fn arrive_in(
         (now (words .entry))) ⌝ }
 {
     if !as_long(nest, sizes, lens, m, words.len()) {
-        return 9;
+        9
+    } else {
+        let n = unfit(
+            nest,
+            sizes,
+            lens,
+            ranks,
+            places,
+            messages,
+            many,
+            memory,
+            mail,
+            progress,
+            marks,
+            b,
+        );
+        if n != 0 {
+            n
+        } else {
+            receive(
+                nest,
+                sizes,
+                lens,
+                ranks,
+                places,
+                messages,
+                mail,
+                marks,
+                b,
+                m,
+                words,
+            )
+        }
     }
-    let n = unfit(
-        nest,
-        sizes,
-        lens,
-        ranks,
-        places,
-        messages,
-        many,
-        memory,
-        mail,
-        progress,
-        marks,
-        b,
-    );
-    if n != 0 {
-        return n;
-    }
-    receive(
-        nest,
-        sizes,
-        lens,
-        ranks,
-        places,
-        messages,
-        mail,
-        marks,
-        b,
-        m,
-        words,
-    )
 }
 
 // The same, what is known of the part found first.
@@ -395,21 +406,22 @@ pub fn arrive(
     let board = open(encoded, route, processor);
     let number = board.number;
     if number != 0 {
-        return number;
+        number
+    } else {
+        let b = processor as usize;
+        let m = message as usize;
+        arrive_part(
+            board.nest,
+            board.sizes,
+            memory,
+            mail,
+            progress,
+            marks,
+            b,
+            m,
+            words,
+        )
     }
-    let b = processor as usize;
-    let m = message as usize;
-    arrive_part(
-        board.nest,
-        board.sizes,
-        memory,
-        mail,
-        progress,
-        marks,
-        b,
-        m,
-        words,
-    )
 }
 
 // ---- collecting
@@ -431,14 +443,15 @@ pub fn collect(
     let board = open(encoded, route, processor);
     let number = board.number;
     if number != 0 {
-        return number;
+        number
+    } else {
+        collect_part(
+            board.nest,
+            board.sizes,
+            memory,
+            progress,
+            processor as usize,
+            grid,
+        )
     }
-    collect_part(
-        board.nest,
-        board.sizes,
-        memory,
-        progress,
-        processor as usize,
-        grid,
-    )
 }

@@ -145,21 +145,18 @@ fn uncollected(
 {
     let words = progress.words;
     if memory.len() != many {
-        return 9;
+        9
+    } else if progress.count != 3 {
+        9
+    } else if grid.len() != sizes.cells {
+        9
+    } else if !fit_own(nest, sizes, lens, b, words[0], words[1], words[2]) {
+        10
+    } else if word_index(words[0]) < tile_count(nest, sizes, lens, b) {
+        15
+    } else {
+        0
     }
-    if progress.count != 3 {
-        return 9;
-    }
-    if grid.len() != sizes.cells {
-        return 9;
-    }
-    if !fit_own(nest, sizes, lens, b, words[0], words[1], words[2]) {
-        return 10;
-    }
-    if word_index(words[0]) < tile_count(nest, sizes, lens, b) {
-        return 15;
-    }
-    0
 }
 
 // These lines, then the words.
@@ -184,8 +181,9 @@ pub fn collect_part(
     let many = keep_cells(nest, sizes, &lens, b, &mut kept[..cells], &mut counts);
     let n = uncollected(nest, sizes, &lens, many, memory, progress, b, grid);
     if n != 0 {
-        return n;
+        n
+    } else {
+        put_own(nest, sizes, &kept[..cells], &counts, memory, b, grid);
+        0
     }
-    put_own(nest, sizes, &kept[..cells], &counts, memory, b, grid);
-    0
 }

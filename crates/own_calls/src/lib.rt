@@ -20,13 +20,13 @@ pub fn sizes(encoded: &[u8], route: u32, processor: u32, out: &mut [u32]) -> u32
     let board = own_front::open(encoded, route, processor);
     let number = board.number;
     if number != 0 {
-        return number;
+        number
+    } else if out.len() != 4 {
+        9
+    } else {
+        core::put_sizes(board.nest, board.sizes, processor as usize, out);
+        0
     }
-    if out.len() != 4 {
-        return 9;
-    }
-    core::put_sizes(board.nest, board.sizes, processor as usize, out);
-    0
 }
 
 // The messages that it handles, seven words each: number, sending tile, taking tile, sending processor, taking processor, words, their place in its mail.
@@ -36,9 +36,10 @@ pub fn messages(encoded: &[u8], route: u32, processor: u32, out: &mut [u32]) -> 
     let board = own_front::open(encoded, route, processor);
     let number = board.number;
     if number != 0 {
-        return number;
+        number
+    } else {
+        listing::messages_part(board.nest, board.sizes, processor as usize, out)
     }
-    listing::messages_part(board.nest, board.sizes, processor as usize, out)
 }
 
 // A fresh start.
@@ -65,10 +66,11 @@ pub fn fresh(
         processor,
     );
     if number != 0 {
-        return number;
+        number
+    } else {
+        stages::zero_words(progress);
+        0
     }
-    stages::zero_words(progress);
-    0
 }
 
 // A message is handed over to a transport: its mark from 1 to 2.

@@ -97,8 +97,9 @@ pub fn messages_part(nest: Nest, sizes: Sizes, b: usize, out: &mut [u32]) -> u32
     let mut places = [0u32; 7169];
     let messages = prepare(nest, sizes, b, &mut lens, &mut ranks, &mut places);
     if out.len() != 7 * word_index(ranks[messages]) {
-        return 9;
+        9
+    } else {
+        put_rows(nest, sizes, &lens, &ranks, &places, messages, b, out);
+        0
     }
-    put_rows(nest, sizes, &lens, &ranks, &places, messages, b, out);
-    0
 }

@@ -30,8 +30,9 @@ use Rattle.routes.proofs.Laws.{numbered-for}
 use Rattle.engine.specs.Calls.{recipe}
 use Rattle.engine.proofs.Lines.{Opened, opened, routed}
 use Rattle.apart.specs.Own.{ownCells, keptCells, handled}
-use Rattle.own.specs.Part.{wordsOf, rankOf, mailAt, rankAt, partFits}
-use Rattle.own.proofs.Ranks.{marks-long, rank-is}
+use Rattle.ranks.specs.Ranks.{rankAt}
+use Rattle.ranks.proofs.Ranks.{marks-long, rank-is}
+use Rattle.own.specs.Part.{wordsOf, rankOf, mailAt, partFits}
 use Rattle.own_front.specs.Calls.{wide, boardLines, lengthsOf}
 use Rattle.own_front.specs.declared.Board.{Board}
 use Rattle.own_front.specs.Given.{Opens, Known, unfitLines}

@@ -15,7 +15,7 @@ use Rattle.routes.specs.Routes.{linesFor}
 use Rattle.engine.specs.Calls.{recipe}
 use Rattle.apart.specs.Apart.{senderAt, takerAt, marked, received}
 use Rattle.apart.specs.Own.{owns, ownCells, keptCells, handled, narrowed, widened, sourceOf}
-use Rattle.mail.specs.Calls.{takes, asLong}
+use Rattle.arrivals.specs.Taking.{takes, asLong}
 use Rattle.own.specs.Part.{partOf, lentOf, wordsOf, mailAt, partFits}
 
 -- the machine's areas that have the lent part, and are else as a fresh start; the lent part of the machine's areas

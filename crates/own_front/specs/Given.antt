@@ -18,7 +18,8 @@ use Rattle.tables.specs.Tables.{Routed}
 use Rattle.engine.specs.Calls.{recipe}
 use Rattle.apart.specs.Own.{keptCells, handled}
 use Rattle.mail.specs.Given.{Planned}
-use Rattle.own.specs.Part.{wordsOf, rankOf, mailAt, partFits, Counted}
+use Rattle.ranks.specs.Ranks.{Counted}
+use Rattle.own.specs.Part.{wordsOf, rankOf, mailAt, partFits}
 use Rattle.own_front.specs.Calls.{wide, boardLines}
 use Rattle.own_front.specs.declared.Board.{Board}
 

@@ -23,6 +23,8 @@ use layout::route_of;
 use layout::sizes_of;
 use nest::Nest;
 use plan::Route;
+use ranks::fill_counts;
+use ranks::rank;
 use records::Flat;
 use routes::read_for;
 use stages::fit_status;
@@ -115,8 +117,8 @@ pub fn keep_cells(
         × (r ≡ length (keptCells (planOf (sizes .route) nest) b)) ⌝ }
 {
     own::mark_kept(nest, sizes, lens, b, kept);
-    own::fill_counts(kept, counts);
-    own::rank(kept, counts, sizes.cells)
+    fill_counts(kept, counts);
+    rank(kept, counts, sizes.cells)
 }
 
 // The cells of its tiles.
@@ -133,8 +135,8 @@ pub fn own_cells(
         × (r ≡ length (ownCells (planOf (sizes .route) nest) b)) ⌝ }
 {
     own::mark_own(nest, sizes, b, owned);
-    own::fill_counts(owned, counts);
-    own::rank(owned, counts, sizes.cells)
+    fill_counts(owned, counts);
+    rank(owned, counts, sizes.cells)
 }
 
 // How many cells the processor keeps: the words of its memory.
@@ -181,15 +183,14 @@ pub fn part_fits(
         → r ≡ partFits (planOf (sizes .route) nest) b (stateOf (now (memory .entry)) (now (mail .entry)) records (now (marks .entry)))) ⌝ }
 {
     if memory.len() != many {
-        return false;
+        false
+    } else if mail.len() != word_index(places[messages]) {
+        false
+    } else if words != 3 {
+        false
+    } else {
+        marks.len() == word_index(ranks[messages])
     }
-    if mail.len() != word_index(places[messages]) {
-        return false;
-    }
-    if words != 3 {
-        return false;
-    }
-    marks.len() == word_index(ranks[messages])
 }
 
 // The record of processor b is fit: so many tiles finished, its stage, so many messages sent.
@@ -264,14 +265,15 @@ pub fn unfit(
         marks,
         b,
     ) {
-        return 9;
+        9
+    } else {
+        let words = progress.words;
+        if !fit_own(nest, sizes, lens, b, words[0], words[1], words[2]) {
+            10
+        } else if !fit_status(marks) {
+            10
+        } else {
+            0
+        }
     }
-    let words = progress.words;
-    if !fit_own(nest, sizes, lens, b, words[0], words[1], words[2]) {
-        return 10;
-    }
-    if !fit_status(marks) {
-        return 10;
-    }
-    0
 }

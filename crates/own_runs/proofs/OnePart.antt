@@ -28,7 +28,7 @@ use Rattle.apart.specs.Own.{handles, ownCells, keptCells, handled, Own, narrowe
 use Rattle.apart.proofs.Network.{zero-answer}
 use Rattle.apart.proofs.Own.{narrowed-same, wide-same, wide-lent, wide-fit, own-turn}
 use Rattle.apart.proofs.OwnRuns.{Beside, marked-same, received-same}
-use Rattle.mail.specs.Calls.{takes, asLong}
+use Rattle.arrivals.specs.Taking.{takes, asLong}
 use Rattle.own.specs.Part.{partOf, lentOf, wordsOf, mailAt, partFits}
 use Rattle.own_front.specs.Calls.{wide, narrow, boardLines, ownFreshCall, stepped, ownTurnCall, ownPostCall, ownArriveCall, collectFits, ownCollected}
 use Rattle.own_front.specs.Calls.{ownCollectCall}

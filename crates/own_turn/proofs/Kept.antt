@@ -22,8 +22,10 @@ use Rattle.apart.specs.Locality.{Keeps}
 use Rattle.apart.specs.Own.{keeps, keptCells}
 use Rattle.apart.proofs.Locality.{known-kept}
 use Rattle.apart.proofs.Own.{test-keep}
-use Rattle.own.specs.Part.{markedAt, markedCells, rankAt, spreadOut, allOf, Counted, Listed}
-use Rattle.own.proofs.Ranks.{set-long, spread-set, pack-spread, marks-long, mark-is, marked-are, all-is}
+use Rattle.ranks.specs.Ranks.{markedAt, markedCells, rankAt, spreadOut, Counted}
+use Rattle.ranks.proofs.Ranks.{set-long, spread-set, pack-spread, marks-long, mark-is, marked-are}
+use Rattle.own.specs.Part.{allOf, Listed}
+use Rattle.own.proofs.Words.{all-is}
 use Rattle.own_front.proofs.Front.{front-long, front-back, same-long}
 use Rattle.own_turn.specs.Step.{Keeping}
 

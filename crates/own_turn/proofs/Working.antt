@@ -140,11 +140,12 @@ module _ (route : Route) (x : Nest) where
     pub gather-start : m ≡ length (duesOf p tile) → Gathering tile ranks places mail memory₀ marks₀ memory₀ marks₀ m 0
     gather-start e = record { low = omega arith; all = e; long = refl; long-marks = refl; memories = refl; marked = refl }
 
-    pub gather-again : (memory memory′ marks : List ℕ) (j : ℕ) (r : Place) (at rank : ℕ) → Gathering tile ranks places mail memory₀ marks₀ memory marks m j
-        → j < m → FoundIn route x (getD (duesOf p tile) j 0) r → at ≡ getD places (r .number) 0 → rank ≡ getD ranks (r .number) 0
-        → length memory′ ≡ length memory → memory′ ≡ unpack memory (heldBy p (r .number)) (part mail at (r .words))
-        → Gathering tile ranks places mail memory₀ marks₀ memory′ (set marks rank 3) m (j + 1)
-    gather-again memory memory′ marks j r at rank g l q a k n e =
+    pub gather-again : (memory memory′ marks marks′ : List ℕ) (j : ℕ) (r : Place) (at rank : ℕ)
+        → Gathering tile ranks places mail memory₀ marks₀ memory marks m j → j < m → FoundIn route x (getD (duesOf p tile) j 0) r
+        → at ≡ getD places (r .number) 0 → rank ≡ getD ranks (r .number) 0
+        → length memory′ ≡ length memory → memory′ ≡ unpack memory (heldBy p (r .number)) (part mail at (r .words)) → marks′ ≡ set marks rank 3
+        → Gathering tile ranks places mail memory₀ marks₀ memory′ marks′ m (j + 1)
+    gather-again memory memory′ marks marks′ j r at rank g l q a k n e t =
         let d = duesOf p tile in
         let h : j < length (duesOf p tile) = omega (arith, g .all) in
         let e′ : memory′ ≡ unpack memory (heldBy p (r .number)) (part mail (getD places (r .number) 0) (length (heldBy p (r .number)))) =
@@ -155,13 +156,14 @@ module _ (route : Route) (x : Nest) where
           low = omega arith;
           all = g .all;
           long = n ∙ g .long;
-          long-marks = length-set marks rank 3 ∙ g .long-marks;
+          long-marks = ap length t ∙ length-set marks rank 3 ∙ g .long-marks;
           memories =
               ap (λ (z : List ℕ). unpackFrom p places mail z (drop (j + 1) d))
               (e′ ∙ ap (λ (i : ℕ). unpack memory (heldBy p i) (part mail (getD places i 0) (length (heldBy p i)))) (q .number))
               ∙ from-turn d j p places mail memory h ∙ g .memories;
           marked =
-              ap (λ (i : ℕ). setAll (set marks i 3) (pack ranks (drop (j + 1) d)) 3) (k ∙ ap (λ (i : ℕ). getD ranks i 0) (q .number))
+              ap (λ (z : List ℕ). setAll z (pack ranks (drop (j + 1) d)) 3) t
+              ∙ ap (λ (i : ℕ). setAll (set marks i 3) (pack ranks (drop (j + 1) d)) 3) (k ∙ ap (λ (i : ℕ). getD ranks i 0) (q .number))
               ∙ set-turn d j ranks marks 3 h ∙ g .marked;
         }
 

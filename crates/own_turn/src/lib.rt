@@ -65,25 +65,26 @@ fn first_stage(
         (stateOf (now (memory .entry)) (now (mail .entry)) (now (progress .entry)) (now (marks .entry))) b) ⌝ }
 {
     if !ready(nest, sizes, lens, ranks, marks, tile) {
-        return refused(12);
+        refused(12)
+    } else {
+        let finished = progress[0];
+        let gathered = gather_stage(
+            nest,
+            sizes,
+            lens,
+            kept,
+            counts,
+            ranks,
+            places,
+            memory,
+            mail,
+            marks,
+            b,
+            tile,
+            finished,
+        );
+        done(gathered)
     }
-    let finished = progress[0];
-    let gathered = gather_stage(
-        nest,
-        sizes,
-        lens,
-        kept,
-        counts,
-        ranks,
-        places,
-        memory,
-        mail,
-        marks,
-        b,
-        tile,
-        finished,
-    );
-    done(gathered)
 }
 
 // Stages 1 and 2.
@@ -126,26 +127,27 @@ fn later_stage(
             tile,
             finished,
         );
-        return done(calculated);
+        done(calculated)
+    } else {
+        let sent = word_index(progress[2]);
+        let left = send_stage(
+            nest,
+            sizes,
+            lens,
+            kept,
+            counts,
+            ranks,
+            places,
+            memory,
+            mail,
+            marks,
+            b,
+            tile,
+            finished,
+            sent,
+        );
+        done(left)
     }
-    let sent = word_index(progress[2]);
-    let left = send_stage(
-        nest,
-        sizes,
-        lens,
-        kept,
-        counts,
-        ranks,
-        places,
-        memory,
-        mail,
-        marks,
-        b,
-        tile,
-        finished,
-        sent,
-    );
-    done(left)
 }
 
 // The stage at which the processor stands; 13 where it has no tiles left.
@@ -176,7 +178,7 @@ fn step(
     }
     let tile = tile_at(nest, sizes, lens, b, finished);
     if progress[1] == 0 {
-        return first_stage(
+        first_stage(
             nest,
             sizes,
             lens,
@@ -190,24 +192,25 @@ fn step(
             marks,
             b,
             tile,
-        );
+        )
+    } else {
+        later_stage(
+            nest,
+            sizes,
+            lens,
+            kept,
+            counts,
+            ranks,
+            places,
+            source,
+            memory,
+            mail,
+            progress,
+            marks,
+            b,
+            tile,
+        )
     }
-    later_stage(
-        nest,
-        sizes,
-        lens,
-        kept,
-        counts,
-        ranks,
-        places,
-        source,
-        memory,
-        mail,
-        progress,
-        marks,
-        b,
-        tile,
-    )
 }
 
 // Lines 9 and 10 of its part, then the stage; its source has a word for each cell of its tiles.
@@ -250,24 +253,25 @@ fn turn_in(
         b,
     );
     if n != 0 {
-        return refused(n);
+        refused(n)
+    } else {
+        let words = progress.words;
+        step(
+            nest,
+            sizes,
+            lens,
+            kept,
+            counts,
+            ranks,
+            places,
+            source,
+            memory,
+            mail,
+            &words[..3],
+            marks,
+            b,
+        )
     }
-    let words = progress.words;
-    step(
-        nest,
-        sizes,
-        lens,
-        kept,
-        counts,
-        ranks,
-        places,
-        source,
-        memory,
-        mail,
-        &words[..3],
-        marks,
-        b,
-    )
 }
 
 // Line 9 of its source; then what is found once, and the rest.
@@ -288,33 +292,34 @@ fn take_turn(
         ≡ turnedOr (planOf (sizes .route) nest) (now (source .entry)) (stateOf (now (memory .entry)) (now (mail .entry)) records (now (marks .entry))) b) ⌝ }
 {
     if source.len() != own_count(nest, sizes, b) {
-        return refused(9);
+        refused(9)
+    } else {
+        let cells = sizes.cells;
+        let mut lens = [0u16; 9217];
+        let mut kept = [0u8; 16384];
+        let mut counts = [0u32; 257];
+        let mut ranks = [0u32; 7169];
+        let mut places = [0u32; 7169];
+        let messages = prepare(nest, sizes, b, &mut lens, &mut ranks, &mut places);
+        let many = keep_cells(nest, sizes, &lens, b, &mut kept[..cells], &mut counts);
+        turn_in(
+            nest,
+            sizes,
+            &lens,
+            &kept[..cells],
+            &counts,
+            &ranks,
+            &places,
+            messages,
+            many,
+            source,
+            memory,
+            mail,
+            progress,
+            marks,
+            b,
+        )
     }
-    let cells = sizes.cells;
-    let mut lens = [0u16; 9217];
-    let mut kept = [0u8; 16384];
-    let mut counts = [0u32; 257];
-    let mut ranks = [0u32; 7169];
-    let mut places = [0u32; 7169];
-    let messages = prepare(nest, sizes, b, &mut lens, &mut ranks, &mut places);
-    let many = keep_cells(nest, sizes, &lens, b, &mut kept[..cells], &mut counts);
-    turn_in(
-        nest,
-        sizes,
-        &lens,
-        &kept[..cells],
-        &counts,
-        &ranks,
-        &places,
-        messages,
-        many,
-        source,
-        memory,
-        mail,
-        progress,
-        marks,
-        b,
-    )
 }
 
 // One turn of the processor.
@@ -337,16 +342,17 @@ pub fn turn(
     let board = open(encoded, route, processor);
     let number = board.number;
     if number != 0 {
-        return refused(number);
+        refused(number)
+    } else {
+        take_turn(
+            board.nest,
+            board.sizes,
+            source,
+            memory,
+            mail,
+            progress,
+            marks,
+            processor as usize,
+        )
     }
-    take_turn(
-        board.nest,
-        board.sizes,
-        source,
-        memory,
-        mail,
-        progress,
-        marks,
-        processor as usize,
-    )
 }

@@ -20,6 +20,7 @@ ghost use Rattle.own_turn.specs.Step.{Lengths, Tables, Ranked, Keeping, 
 use base::word_index;
 use held::cells_of;
 use layout::Sizes;
+use marks::gathered;
 use nest::Nest;
 use own::give;
 use own::take;
@@ -117,7 +118,7 @@ fn gather(
         let at = word_index(places[number]);
         take_from(nest, sizes, lens, kept, counts, place, at, memory, mail, b);
         let rank = word_index(ranks[number]);
-        marks[rank] = 3;
+        gathered(marks, rank);
         j += 1;
     }
 }

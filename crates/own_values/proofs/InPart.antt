@@ -17,8 +17,8 @@ use Rattle.layout.specs.CellRows.{rowOf}
 use Rattle.kernels.proofs.Orders.{store-append}
 use Rattle.shaped_values.specs.Rows.{between, Overlaps, mixedWord}
 use Rattle.shaped_values.proofs.Runs.{in-run, run-in}
-use Rattle.own.specs.Part.{markedAt, markedCells, rankAt, spreadOut}
-use Rattle.own.proofs.Ranks.{rank-most, rank-mono, rank-beside, spread-at, spread-set}
+use Rattle.ranks.specs.Ranks.{markedAt, markedCells, rankAt, spreadOut}
+use Rattle.ranks.proofs.Ranks.{rank-mono, rank-beside, spread-at, spread-set}
 use Rattle.own_values.specs.Rows.{KeptRow, KeptBehind, Behind, Behinds}
 
 -- ---- how far back: told at the first cell where the distance reads
@@ -49,30 +49,24 @@ module _ (marks : List ℕ) (c a few back : ℕ) (s k : Interval) (cut : Overlap
     pub back-low : back ≤ c + skip
     back-low = read-at skip (omega arith) (omega (arith, cut .least)) .0
 
-    pub near-small : first + skip ≤ 32768
-    near-small = omega (arith, skip-low, row .place, rank-most marks c, row .low, row .small)
+    pub near-row : c + skip ≤ length marks
+    near-row = omega (arith, skip-low, row .low)
 
-    pub near-low : rankAt marks (c + skip - back) ≤ first + skip
-    near-low =
-        omega (
-          arith,
-          rank-mono marks (c + skip - back) (c + skip) (omega arith),
-          rank-beside marks c skip (λ i l. row .each i (omega (arith, skip-low))),
-          row .place,
-        )
+    pub near-place : first + skip ≡ rankAt marks (c + skip)
+    near-place = omega (arith, rank-beside marks c skip (λ i l. row .each i (omega (arith, skip-low))), row .place)
 
-    pub behind-some : (r : ℕ) → r ≡ rankAt marks (c + skip - back) → Behind marks c a few (s .from) (s .to) back (first + skip - r)
-    behind-some r e = record { is = λ y l t. let q = in-cut y l t in at y l (q .0) (q .1) }
+    pub behind-some : (near : ℕ) → near + rankAt marks (c + skip - back) ≡ rankAt marks (c + skip) → Behind marks c a few (s .from) (s .to) back near
+    behind-some near e = record { is = λ y l t. let q = in-cut y l t in at y l (q .0) (q .1) }
       where
         side : (y : ℕ) → a + y < k .to → (i : ℕ) → i < y - skip → markedAt marks (c + skip - back + i) ≡ true
         side y m i o =
             let z : c + skip - back + i ≡ c + (skip + i) - back = omega (arith, back-low) in
             rw z (read-at (skip + i) (omega arith) (omega (arith, o, m)) .1)
 
-        at : (y : ℕ) → y < few → k .from ≤ a + y → a + y < k .to → first + skip - r + rankAt marks (c + y - back) ≡ rankAt marks c + y
+        at : (y : ℕ) → y < few → k .from ≤ a + y → a + y < k .to → near + rankAt marks (c + y - back) ≡ rankAt marks c + y
         at y l h m =
             let z : c + y - back ≡ c + skip - back + (y - skip) = omega (arith, back-low, cut .least) in
-            rw z (omega (arith, rank-beside marks (c + skip - back) (y - skip) (side y m), near-low, e, row .place, cut .least))
+            rw z (omega (arith, rank-beside marks (c + skip - back) (y - skip) (side y m), near-place, e, row .place, cut .least))
 
 -- the first e distances
 pub record Filling (marks : List ℕ) (c a few n : ℕ) (firsts ends back near : List ℕ) (e : ℕ) : Type 0 where

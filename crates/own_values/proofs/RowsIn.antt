@@ -17,11 +17,11 @@ use Rattle.plan.specs.Shaped.{shapedValue}
 use Rattle.layout.specs.declared.Cell.{Cell}
 use Rattle.layout.specs.Places.{Located}
 use Rattle.layout.specs.CellRows.{rowOf}
-use Rattle.values.specs.Reads.{Backs}
+use Rattle.row_values.specs.Reads.{Backs}
 use Rattle.shaped_values.specs.Rows.{insideOnly, Overlaps, ReadsRuns, mixedAlong, Readable}
 use Rattle.shaped_values.proofs.Words.{reads, found, cut-fits, cut-low, inner, along, row-values, row-none}
-use Rattle.own.specs.Part.{markedAt, markedCells, rankAt, spreadOut}
-use Rattle.own.proofs.Ranks.{rank-most}
+use Rattle.ranks.specs.Ranks.{markedAt, markedCells, rankAt, spreadOut}
+use Rattle.ranks.proofs.Ranks.{rank-most}
 use Rattle.own_values.specs.declared.Row.{Row}
 use Rattle.own_values.specs.Rows.{Marks, Worked, WorkedIn, KeptRow, KeptBehind, Behinds, WorkedRow, RowAt, StoresRow}
 use Rattle.own_values.proofs.InPart.{row-room, in-place, word-in}

@@ -39,8 +39,10 @@ use Rattle.apart.specs.Locality.{Keeps}
 use Rattle.apart.specs.Own.{owns, keeps, keptCells, sourceOf}
 use Rattle.apart.proofs.Locality.{keeps-low, known-kept}
 use Rattle.apart.proofs.Own.{test-own, test-keep}
-use Rattle.own.specs.Part.{markedAt, markedCells, spreadOut, allOf}
-use Rattle.own.proofs.Ranks.{pack-spread, marks-long, mark-is, marked-are, all-is, source-is}
+use Rattle.ranks.specs.Ranks.{markedAt, markedCells, spreadOut}
+use Rattle.ranks.proofs.Ranks.{pack-spread, marks-long, mark-is, marked-are}
+use Rattle.own.specs.Part.{allOf}
+use Rattle.own.proofs.Words.{all-is, source-is}
 use Rattle.own_values.specs.Rows.{Worked, WorkedIn, GivenBox, GivenTile}
 
 -- ---- rows of a tile of the box

@@ -20,7 +20,7 @@ use Rattle.layout.specs.CellRows.{rowOf}
 use Rattle.tables.specs.Tables.{Tabled}
 use Rattle.shaped_values.specs.Rows.{insideOnly, Along, between, ReadsRuns, mixedAlong, Readable}
 use Rattle.apart.specs.Own.{owns, keeps, ownCells, keptCells}
-use Rattle.own.specs.Part.{markedAt, markedCells, rankAt, spreadOut, Counted}
+use Rattle.ranks.specs.Ranks.{markedAt, markedCells, rankAt, spreadOut, Counted}
 use Rattle.own_values.specs.declared.Row.{Row}
 
 -- ---- what is kept

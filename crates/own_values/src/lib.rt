@@ -15,16 +15,18 @@ ghost use Rattle.layout.specs.Sizes.{Sized};
 ghost use Rattle.layout.specs.Places.{Located};
 ghost use Rattle.layout.specs.CellRows.{rowOf};
 ghost use Rattle.tables.specs.Tables.{Tabled};
-ghost use Rattle.values.specs.Reads.{Backs};
+ghost use Rattle.row_values.specs.Reads.{Backs};
 ghost use Rattle.shaped_values.specs.Rows.{mixedAlong, Readable};
 ghost use Rattle.apart.specs.Own.{keptCells, sourceOf};
-ghost use Rattle.own.specs.Part.{spreadOut, allOf};
+ghost use Rattle.ranks.specs.Ranks.{spreadOut};
+ghost use Rattle.own.specs.Part.{allOf};
 ghost use Rattle.own_values.specs.Rows.{Marks, WorkedIn, KeptRow, KeptBehind, Behind, Behinds, WorkedRow, RowAt, StoresRow, GivenBox, GivenTile};
 use layout::Cell;
 use layout::Sizes;
 use nest::Interval;
 use nest::Nest;
-use own::rank;
+use ranks::behind;
+use ranks::rank;
 use shaped_values::Reads;
 use shaped_values::overlap;
 use shaped_values::reads_of;
@@ -61,8 +63,7 @@ fn back_in(
         return 0;
     }
     let ahead = cut.from - component;
-    let read = rank(kept, counts, cell + ahead - back);
-    first + ahead - read
+    behind(kept, counts, first, cell, ahead, back)
 }
 
 // The same of each distance.
@@ -232,7 +233,7 @@ fn calculate_box(
 {
     let bounds = layout::bounds_of(nest, sizes, tile);
     let components = nest.components;
-    let back = values::backs_of(nest, &components);
+    let back = row_values::backs_of(nest, &components);
     let last = nest.dimensions - 1;
     let lengths = bounds.lengths;
     let rows = layout::product(lengths, last);

@@ -17,7 +17,7 @@ use Rattle.nest.specs.declared.Nest.{Nest}
 use Rattle.nest.specs.Accepted.{Accepted}
 use Rattle.nest.specs.Nest.{component}
 use Rattle.nest.specs.Places.{rank}
-use Rattle.plan.specs.Regions.{Region, among}
+use Rattle.layout.specs.Regions.{Region, among}
 use Rattle.layout.specs.Places.{nth, Placed}
 use Rattle.layout.specs.CellRows.{rowOf, Given}
 use Rattle.layout.proofs.Loops.{every-same}

@@ -18,7 +18,7 @@ use Rattle.base.proofs.Lists.{length-put, put-none, pack-length}
 use Rattle.nest.specs.declared.Nest.{Nest}
 use Rattle.nest.specs.Accepted.{Accepted}
 use Rattle.nest.specs.Nest.{cells}
-use Rattle.plan.specs.Regions.{comesInto}
+use Rattle.layout.specs.Regions.{comesInto}
 use Rattle.plan.proofs.Grid.{map-append, keep-add, keep-nothing, keep-run, map-tabulate}
 use Rattle.layout.specs.CellRows.{rowOf}
 use Rattle.parcels.specs.declared.Sending.{Sending}

@@ -11,7 +11,7 @@ use Rattle.nest.specs.declared.Nest.{Nest}
 use Rattle.nest.specs.Accepted.{Accepted}
 use Rattle.nest.specs.Nest.{lengthOf, cells}
 use Rattle.nest.specs.Places.{rank, place, cellAt}
-use Rattle.plan.specs.Regions.{side, regionPlace, regionCell}
+use Rattle.layout.specs.Regions.{side, regionPlace, regionCell}
 use Rattle.nest.proofs.Rank.{Within, place-low, place-before, rank-same}
 use Rattle.plan.proofs.Tiles.{cellAt-low}
 use Rattle.plan.proofs.Box.{quotient-is}

@@ -20,7 +20,7 @@ use Rattle.plan.specs.declared.Route.the-variants.{Direct, Indirect}
 use Rattle.nest.specs.Places.{place, cellAt, tilePlace}
 use Rattle.plan.specs.Messages.{ways, slots, slotTile, slotDirection, slotDimension, slotCells, slotParcel}
 use Rattle.plan.specs.Hops.{hops, alone}
-use Rattle.plan.specs.Regions.{Region, among, side, regionSize, regionPlace, regionCell, slotBox, slotWindow, comesInto}
+use Rattle.layout.specs.Regions.{Region, among, side, regionSize, regionPlace, regionCell, slotBox, slotWindow, comesInto}
 use Rattle.nest.proofs.Rank.{rank-same}
 use Rattle.plan.proofs.Tiles.{quotient-low, tile-inside, tilePlace-low}
 use Rattle.plan.proofs.Box.{quotient-is}
@@ -28,7 +28,7 @@ use Rattle.plan.proofs.Grid.{keep-nothing}
 use Rattle.plan.proofs.Homes.{hop-in, in-hop, hops-pos, hops-some, slotParcel-is}
 use Rattle.plan.proofs.Parcels.{ahead-low, slotDimension-low}
 use Rattle.plan.proofs.Slots.{full-away}
-use Rattle.plan.proofs.Regions.{among-at, comes-at, slot-region, slotBox-fits}
+use Rattle.layout.proofs.Regions.{among-at, comes-at, slot-region, slotBox-fits}
 use Rattle.layout.specs.Sizes.{along}
 use Rattle.layout.specs.Places.{nth, Has, Countable}
 use Rattle.layout.proofs.Dims.{product-same, place-lengths}

@@ -22,7 +22,7 @@ use Rattle.nest.specs.Places.{place, tilePlace}
 use Rattle.nest.proofs.Rank.{Positive, place-last, place-before}
 use Rattle.plan.proofs.Tiles.{tileCount-pos}
 use Rattle.plan.proofs.Box.{quotient-is}
-use Rattle.plan.proofs.Twins.{twin}
+use Rattle.layout.proofs.Twins.{twin}
 use Rattle.layout.specs.Places.{nth, Has}
 use Rattle.layout.proofs.Dims.{product-pos, place-lengths}
 use Rattle.layout.proofs.Cells.{across-product, box-few}

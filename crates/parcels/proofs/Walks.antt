@@ -13,7 +13,7 @@ use Rattle.base.proofs.Select.{keep-hit, keep-none, keep-few, keep-mono}
 use Rattle.base.proofs.Lists.{unpack-length}
 pub use Rattle.base.proofs.Lists.{pack-append, unpack-append}
 use Rattle.nest.specs.declared.Nest.{Nest}
-use Rattle.plan.specs.Regions.{comesInto}
+use Rattle.layout.specs.Regions.{comesInto}
 use Rattle.plan.proofs.Grid.{map-append}
 use Rattle.parcels.specs.declared.Sending.{Sending}
 use Rattle.parcels.specs.Windows.{windowOf}

@@ -19,7 +19,7 @@ use Rattle.base.proofs.Lists.{unpack-length}
 use Rattle.nest.specs.declared.Nest.{Nest}
 use Rattle.nest.specs.Accepted.{Accepted}
 use Rattle.nest.specs.Nest.{component}
-use Rattle.plan.specs.Regions.{Region, among}
+use Rattle.layout.specs.Regions.{Region, among}
 use Rattle.layout.specs.CellRows.{rowOf, Given}
 use Rattle.layout.proofs.Loops.{Sofar, sofar-end}
 use Rattle.layout.proofs.CellRows.{every-last}

@@ -13,7 +13,7 @@ use Rattle.plan.specs.declared.Route.{Route}
 use Rattle.plan.specs.declared.Route.the-variants.{Direct, Indirect}
 use Rattle.nest.specs.Places.{tilePlace}
 use Rattle.plan.specs.Messages.{ways, slots, slotTile, slotCells, slotParcel}
-use Rattle.plan.specs.Regions.{Region, among, side, regionPlace, regionCell, tilesBox, tilesWindow, slotBox, slotWindow, comesInto}
+use Rattle.layout.specs.Regions.{Region, among, side, regionPlace, regionCell, tilesBox, tilesWindow, slotBox, slotWindow, comesInto}
 use Rattle.layout.specs.Sizes.{along}
 use Rattle.layout.specs.Places.{nth, Has}
 use Rattle.parcels.specs.declared.Block.{Block}

@@ -10,7 +10,7 @@ use Rattle.base.specs.Tests.{_and_, some, keep}
 use Rattle.base.specs.Lists.{put, pack}
 use Rattle.nest.specs.declared.Nest.{Nest}
 use Rattle.nest.specs.Nest.{component}
-use Rattle.plan.specs.Regions.{Region, among}
+use Rattle.layout.specs.Regions.{Region, among}
 use Rattle.layout.specs.Places.{nth}
 use Rattle.parcels.specs.declared.Block.{Block}
 use Rattle.parcels.specs.declared.Window.{Window}

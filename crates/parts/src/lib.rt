@@ -166,7 +166,7 @@ pub fn tell_refusal(encoded: &[u8]) {
     if encoded.len() > 512 {
         return tell_first(1);
     }
-    let reading = nest::read(encoded);
+    let reading = reader::read(encoded);
     let number = reading.number;
     tell_first(number);
     tell_later(number);

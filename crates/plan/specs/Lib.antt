@@ -3,9 +3,4 @@ pub mod Messages
 pub mod Shaped
 pub mod Hops
 pub mod Box
-pub mod Regions
-pub mod Report
-pub mod Exact
-pub mod ExactShape
-pub mod Rows
-pub mod ShapedRows
+pub mod Loops

@@ -1,6 +1,5 @@
 pub mod Tests
 pub mod Lines
 pub mod Starts
-pub mod Seeing
 pub mod AsRuns
 pub mod Demands

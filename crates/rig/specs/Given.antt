@@ -1,6 +1,6 @@
 -- What the code below the calls for an office is given: an opened recipe, lengths, lines 9 to 10; and the shared words after a turn.
 -- No sentence of a paper; the contracts of the functions below the offered calls cite it.
-use Prim.Native.Nat.{ℕ, _+_, _*_, _≤_, _<_}
+use Prim.Native.Nat.{ℕ, _*_}
 use mathlib.Core.Path.{_≡_}
 use mathlib.Core.List.{List, [], _∷_, _++_}
 use lib.ListN.{length, set}
@@ -18,7 +18,6 @@ use Rattle.engine.specs.Given.{AreaLengths}
 use Rattle.engine.specs.declared.core.Turned.{Turned}
 use Rattle.rig.specs.Calls.{areaLinesFor}
 use Rattle.rig.specs.declared.core.Opening.{Opening}
-use Rattle.rig.specs.declared.core.Seen.{Seen}
 
 -- a recipe read for a route, with the table of its messages' lengths
 pub record Opens (bytes : List ℕ) (route : ℕ) (r : Opening) (lens : List ℕ) : Type 0 where
@@ -46,11 +45,3 @@ barredLinesFor p source o l theirs b =
 -- the shared words after a turn of processor b for office o that gave r
 unfoldable pub wordsAfter : List ℕ → ℕ → ℕ → Turned → List ℕ
 wordsAfter engaged o b r = pick (eqb (r .number) 0) (set engaged b (wordFor o (r .progress .stage))) engaged
-
--- processor b's part lies within memories of these lengths; where it begins and what it has fit in a word
-pub record SeenAt (p : Plan) (first second b : ℕ) (r : Seen) : Type 0 where
-  pub start : r .start ≡ b * p .cells
-  pub words : r .words ≡ p .cells
-  pub in-first : r .start + r .words ≤ first
-  pub in-second : r .start + r .words ≤ second
-  pub word : r .start + r .words < 4294967296

@@ -15,11 +15,11 @@ ghost use Rattle.layout.specs.Sizes.{Sized, routeOf};
 ghost use Rattle.routes.specs.Routes.{linesFor};
 ghost use Rattle.tables.specs.Tables.{Tabled};
 ghost use Rattle.records.specs.Records.{Carries};
-ghost use Rattle.engine.specs.Calls.{answer, recipe};
+ghost use Rattle.engine.specs.Calls.{answer};
 ghost use Rattle.engine.specs.Given.{MayTurn, recordsAfter, zerosAfter};
 ghost use Rattle.offices.specs.Offices.{lentOf, rigOf, sourcesOf, stageAgrees, fitWord, fitFor, heldByOther, wordFor};
-ghost use Rattle.rig.specs.Calls.{turnCallFor, deliverCallFor, collectCallFor, freshRigLines, freshRigCall, lookNumber};
-ghost use Rattle.rig.specs.Given.{Opens, unfitLinesFor, barredLinesFor, wordsAfter, SeenAt};
+ghost use Rattle.rig.specs.Calls.{turnCallFor, deliverCallFor, collectCallFor, freshRigLines, freshRigCall};
+ghost use Rattle.rig.specs.Given.{Opens, unfitLinesFor, barredLinesFor, wordsAfter};
 use engine::core::Turned;
 use engine::core::areas_fit;
 use engine::core::hand_over;
@@ -30,9 +30,9 @@ use layout::Sizes;
 use layout::route_of;
 use layout::sizes_of;
 use nest::Nest;
-use nest::read;
 use offices::other;
 use plan::Route;
+use reader::read;
 use records::Flat;
 use routes::read_for;
 use stages::copy_cells;
@@ -649,57 +649,5 @@ pub fn clear_records(progress: &mut [u32], number: u32)
 {
     if number == 0 {
         zero_words(progress);
-    }
-}
-
-// Where a look finds its part: the number and, where that is 0, where the part begins and how many words it has.
-pub struct Seen {
-    pub number: u32,
-    pub start: usize,
-    pub words: usize,
-}
-
-fn unseen(number: u32) -> Seen
-    ensures { λ r. ⌜ r .number ≡ number ⌝ }
-{
-    Seen {
-        number: number,
-        start: 0,
-        words: 0,
-    }
-}
-
-// A look at a processor's memory, by the lengths of both offices' memories.
-pub fn look_at(encoded: &[u8], first: usize, second: usize, office: u32, processor: u32) -> Seen
-    ensures { λ r. ⌜ ((a b : List ℕ) → first ≡ length a → second ≡ length b
-        → r .number ≡ lookNumber (now (encoded .entry)) a b office processor)
-        × (r .number ≡ 0 → SeenAt (recipe (now (encoded .entry)) 0) first second processor r) ⌝ }
-{
-    let reading = read(encoded);
-    let number = reading.number;
-    if number != 0 {
-        return unseen(number);
-    }
-    let nest = reading.nest;
-    let sizes = sizes_of(nest, Route::Direct);
-    let cells = sizes.cells;
-    let all = sizes.processors * cells;
-    if first != all {
-        return unseen(9);
-    }
-    if second != all {
-        return unseen(9);
-    }
-    if office > 1 {
-        return unseen(11);
-    }
-    let b = processor as usize;
-    if b >= sizes.processors {
-        return unseen(11);
-    }
-    Seen {
-        number: 0,
-        start: b * cells,
-        words: cells,
     }
 }

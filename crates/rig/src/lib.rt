@@ -1,9 +1,9 @@
-// The calls for an office, for programs, which keep the records as words, three a processor; and the look at a processor's memory.
+// The calls for an office, for programs, which keep the records as words, three a processor.
 ghost use mathlib.Core.Path.{_≡_};
 ghost use Rattle.machine.specs.Machine.{stateOf};
 ghost use Rattle.offices.specs.Offices.{lentOf, rigOf, sourcesOf};
 ghost use Rattle.engine.specs.Calls.{answer};
-ghost use Rattle.rig.specs.Calls.{turnCallFor, deliverCallFor, collectCallFor, freshRigCall, lookNumber, lookPart};
+ghost use Rattle.rig.specs.Calls.{turnCallFor, deliverCallFor, collectCallFor, freshRigCall};
 
 pub mod core; // core.rt: the calls without the stores into the records
 
@@ -156,40 +156,4 @@ pub fn collect(
         office,
         grid,
     )
-}
-
-// The number of a look at a processor's memory.
-pub fn look_number(
-    encoded: &[u8],
-    first: &[u32],
-    second: &[u32],
-    office: u32,
-    processor: u32,
-) -> u32
-    ensures { λ r. ⌜ r ≡ lookNumber (now (encoded .entry)) (now (first .entry)) (now (second .entry)) office processor ⌝ }
-{
-    let seen = core::look_at(encoded, first.len(), second.len(), office, processor);
-    seen.number
-}
-
-// The part of the named office's memories that is the processor's; empty at any refusal.
-pub fn look<'a>(
-    encoded: &[u8],
-    first: &'a [u32],
-    second: &'a [u32],
-    office: u32,
-    processor: u32,
-) -> &'a [u32]
-    ensures { λ r. ⌜ now r ≡ lookPart (now (encoded .entry)) (now (first .entry)) (now (second .entry)) office processor ⌝ }
-{
-    let seen = core::look_at(encoded, first.len(), second.len(), office, processor);
-    let start = seen.start;
-    let words = seen.words;
-    if seen.number != 0 {
-        return &first[0..0];
-    }
-    if office == 0 {
-        return &first[start..start + words];
-    }
-    &second[start..start + words]
 }

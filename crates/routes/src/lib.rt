@@ -2,7 +2,7 @@
 ghost use Rattle.layout.specs.Sizes.{routeOf};
 ghost use Rattle.routes.specs.Routes.{ReadFor};
 use nest::Reading;
-use nest::read;
+use reader::read;
 
 // The number of the first line that is true of the bytes and the route, or 0 and the nest.
 pub fn read_for(encoded: &[u8], route: u32) -> Reading

@@ -219,7 +219,7 @@ tile-now r x source s b t f k e lent low fin ys bs l st h q y u v w =
     (setProgress (s .progress) b (f + 1) 0 0)) w
     ∙ sym (done-is (planOf r x) source s b t f lent low fin)
 
--- ---- next_tiles: after the first b processors
+-- ---- round: after the first b processors
 pub record TilesLoop (p : Plan) (source : List ℕ) (s x : State) (n b : ℕ) : Type 0 where
   pub low : b ≤ n
   pub memories : length (x .memories) ≡ length (s .memories)
@@ -312,7 +312,7 @@ module _ (before : List ℕ) where
         let k : m ≡ length before = omega (arith, x .low, x .long) in
         x .state ∙ ap (λ (c : ℕ). setAll before (keep (λ i. eqb (getD before i 0) 1) c) 2) k
 
--- ---- round
+-- ---- round: then the mail
 pub round-done : (p : Plan) (source : List ℕ) (s x : State) (st : List ℕ) → x ≡ afterTiles p source s (p .processors) → st ≡ delivered (x .status)
     → stateOf (x .memories) (x .buffer) (x .progress) st ≡ afterRound p source s
 unfolding afterRound

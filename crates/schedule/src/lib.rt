@@ -9,7 +9,7 @@ ghost use Rattle.machine.specs.Machine.{stateOf, unpackAll, fresh};
 ghost use Rattle.nest.specs.Nest.{cells, processors};
 ghost use Rattle.plan.specs.Shaped.{planOf};
 ghost use Rattle.tables.specs.Tables.{FoundIn};
-ghost use Rattle.rounds.specs.ByState.{Lent, afterTile, afterTiles, delivered, afterRound};
+ghost use Rattle.rounds.specs.ByState.{Lent, afterTile, delivered, afterRound};
 ghost use Rattle.rounds.specs.Rounds.{told, rounds, afterRounds, tileRound, roundsTo};
 ghost use Rattle.engine.specs.Calls.{answer};
 ghost use Rattle.schedule.specs.Index.{Listed};
@@ -30,8 +30,8 @@ use layout::Sizes;
 use layout::route_of;
 use layout::sizes_of;
 use nest::Nest;
-use nest::read;
 use plan::Route;
+use reader::read;
 use records::Progress;
 use routes::read_for;
 use scans::Place;
@@ -198,8 +198,26 @@ fn next_tile(
     store_record(progress, b, after);
 }
 
-// The tiles of a round.
-fn next_tiles(
+// A mark once its mail is delivered.
+fn mark_then(mark: u8) -> u8
+    ensures { λ r. ⌜ r ≡ markThen mark ⌝ }
+{
+    if mark == 1 { 2 } else { mark }
+}
+
+// All mail in flight delivered: every mark is stored, so that no test is waited for.
+fn deliver_mail(status: &mut [u8])
+    ensures { λ _. ⌜ now (status .exit) ≡ delivered (now (status .entry)) ⌝ }
+{
+    let mut m = 0;
+    while m < status.len() {
+        status[m] = mark_then(status[m]);
+        m += 1;
+    }
+}
+
+// A round: each processor's tile when its place comes, then the mail.
+fn round(
     nest: Nest,
     sizes: Sizes,
     lens: &[u16; 9217],
@@ -215,8 +233,8 @@ fn next_tiles(
     requires { ⌜ Indexed nest sizes (now lens) (now spots) (now sends) (now dues) × (length (now source) ≡ cells nest) ⌝ }
     requires { ⌜ Lent (planOf (sizes .route) nest) (stateOf (now memories) (now buffer) (now progress) (now status)) ⌝ }
     ensures { λ _. ⌜ stateOf (now (memories .exit)) (now (buffer .exit)) (now (progress .exit)) (now (status .exit))
-        ≡ afterTiles (planOf (sizes .route) nest) (now (source .entry))
-        (stateOf (now (memories .entry)) (now (buffer .entry)) (now (progress .entry)) (now (status .entry))) (processors nest) ⌝ }
+        ≡ afterRound (planOf (sizes .route) nest) (now (source .entry))
+        (stateOf (now (memories .entry)) (now (buffer .entry)) (now (progress .entry)) (now (status .entry))) ⌝ }
 {
     let n = sizes.processors;
     let mut b = 0;
@@ -237,59 +255,6 @@ fn next_tiles(
         );
         b += 1;
     }
-}
-
-// A mark once its mail is delivered.
-fn mark_then(mark: u8) -> u8
-    ensures { λ r. ⌜ r ≡ markThen mark ⌝ }
-{
-    if mark == 1 { 2 } else { mark }
-}
-
-// All mail in flight delivered: every mark is stored, so that no test is waited for.
-fn deliver_mail(status: &mut [u8])
-    ensures { λ _. ⌜ now (status .exit) ≡ delivered (now (status .entry)) ⌝ }
-{
-    let mut m = 0;
-    while m < status.len() {
-        status[m] = mark_then(status[m]);
-        m += 1;
-    }
-}
-
-// A round.
-fn round(
-    nest: Nest,
-    sizes: Sizes,
-    lens: &[u16; 9217],
-    spots: &[u32; 14336],
-    sends: &[u16; 8192],
-    dues: &[u16; 8192],
-    source: &[u32],
-    memories: &mut [u32],
-    buffer: &mut [u32],
-    progress: &mut [u32],
-    status: &mut [u8],
-)
-    requires { ⌜ Indexed nest sizes (now lens) (now spots) (now sends) (now dues) × (length (now source) ≡ cells nest) ⌝ }
-    requires { ⌜ Lent (planOf (sizes .route) nest) (stateOf (now memories) (now buffer) (now progress) (now status)) ⌝ }
-    ensures { λ _. ⌜ stateOf (now (memories .exit)) (now (buffer .exit)) (now (progress .exit)) (now (status .exit))
-        ≡ afterRound (planOf (sizes .route) nest) (now (source .entry))
-        (stateOf (now (memories .entry)) (now (buffer .entry)) (now (progress .entry)) (now (status .entry))) ⌝ }
-{
-    next_tiles(
-        nest,
-        sizes,
-        lens,
-        spots,
-        sends,
-        dues,
-        source,
-        memories,
-        buffer,
-        progress,
-        status,
-    );
     deliver_mail(status);
 }
 

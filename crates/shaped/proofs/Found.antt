@@ -24,13 +24,13 @@ use Rattle.nest.specs.Spans.{last}
 use Rattle.plan.specs.declared.Route.the-variants.{Direct}
 use Rattle.plan.specs.Geometry.{inside}
 use Rattle.plan.specs.Messages.{ahead, reaches, slots, slotTile, slotDirection}
-use Rattle.plan.specs.Regions.{Region, among, regionSize, regionCell, directBox, directWindow, slotBox, slotWindow}
+use Rattle.layout.specs.Regions.{Region, among, regionSize, regionCell, directBox, directWindow, slotBox, slotWindow}
 use Rattle.plan.specs.Shaped.{reachesShape, shapedParcel}
 use Rattle.plan.proofs.Grid.{map-append, keep-both}
 use Rattle.plan.proofs.Box.{boxTileOf-is}
 use Rattle.plan.proofs.Tiles.{cellAt-low, cellPlace-low, cellPlace-cellAt, tilePlace-boxTileOf}
 use Rattle.plan.proofs.Parcels.{slotTile-low}
-use Rattle.plan.proofs.Regions.{among-at, among-all, box-at, box-all, window-stays, window-at, window-all, region-cells}
+use Rattle.layout.proofs.Regions.{among-at, among-all, box-at, box-all, window-stays, window-at, window-all, region-cells}
 use Rattle.parcels.specs.declared.Sending.{Sending}
 use Rattle.parcels.specs.declared.Window.{Window}
 use Rattle.parcels.specs.Windows.{windowOf}

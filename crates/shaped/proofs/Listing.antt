@@ -18,7 +18,7 @@ use Rattle.plan.specs.declared.Route.the-variants.{Direct}
 use Rattle.plan.specs.Messages.{ahead, ways, slots, slotTile, slotDirection}
 use Rattle.plan.specs.Shaped.{shapedParcel}
 use Rattle.plan.proofs.Parcels.{slot-low, slot-tile, slot-way}
-use Rattle.plan.proofs.Regions.{high-rest}
+use Rattle.layout.proofs.Regions.{high-rest}
 use Rattle.layout.specs.Sizes.{along}
 use Rattle.layout.specs.Places.{nth, Has}
 use Rattle.layout.proofs.Steps.{ways-few}

@@ -21,8 +21,8 @@ use Rattle.nest.specs.Shape.{meets, inShape}
 use Rattle.nest.specs.Spans.{last, rowPlace, meetsFirst, spot, Narrow, Spans}
 use Rattle.nest.proofs.Rank.{Within}
 use Rattle.nest.proofs.Shapes.{meets-same, every-same, framed}
-use Rattle.plan.specs.Regions.{Region, among}
-use Rattle.plan.proofs.Regions.{among-at}
+use Rattle.layout.specs.Regions.{Region, among}
+use Rattle.layout.proofs.Regions.{among-at}
 use Rattle.plan.proofs.Tiles.{cellPlace-cellAt}
 use Rattle.layout.specs.Places.{nth}
 use Rattle.layout.specs.CellRows.{Given}

@@ -10,7 +10,7 @@ use Rattle.nest.specs.declared.Nest.{Nest}
 use Rattle.nest.specs.Nest.{lengthOf, component}
 use Rattle.nest.specs.Shape.{meets}
 use Rattle.nest.specs.Spans.{last}
-use Rattle.plan.specs.Regions.{Region, among}
+use Rattle.layout.specs.Regions.{Region, among}
 use Rattle.runs.specs.Runs.{within, isHit}
 
 -- place i is in the shape

@@ -10,7 +10,7 @@ ghost use Rattle.nest.specs.Places.{tilePlace};
 ghost use Rattle.nest.specs.Spans.{last, Narrow, Spans};
 ghost use Rattle.plan.specs.declared.Route.the-variants.{Direct};
 ghost use Rattle.plan.specs.Messages.{ways};
-ghost use Rattle.plan.specs.Regions.{Region};
+ghost use Rattle.layout.specs.Regions.{Region};
 ghost use Rattle.plan.specs.Shaped.{shapedParcel};
 ghost use Rattle.layout.specs.Sizes.{Sized};
 ghost use Rattle.layout.specs.Places.{nth, Has};

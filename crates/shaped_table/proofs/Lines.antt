@@ -25,12 +25,12 @@ use Rattle.nest.proofs.Rank.{rank-same, place-last, place-before}
 use Rattle.plan.specs.declared.Route.the-variants.{Direct}
 use Rattle.plan.specs.Geometry.{processorOf, inside}
 use Rattle.plan.specs.Messages.{reaches, crosses, parcel}
-use Rattle.plan.specs.Regions.{directBox}
+use Rattle.layout.specs.Regions.{directBox}
 use Rattle.plan.specs.Shaped.{boxTile, reachesShape, shapedParcel}
 use Rattle.plan.proofs.Tiles.{cellPlace-low, tileCount-pos, tilePlace-low, tilePlace-boxTileOf}
-use Rattle.plan.proofs.Regions.{among-at, box-all}
+use Rattle.layout.proofs.Regions.{among-at, box-all}
 use Rattle.plan.proofs.ShapedTiles.{boxTile-low, boxTile-lt}
-use Rattle.plan.proofs.Twins.{twin}
+use Rattle.layout.proofs.Twins.{twin}
 use Rattle.layout.specs.Places.{Has}
 use Rattle.layout.proofs.Cells.{count-most, box-few}
 use Rattle.layout.proofs.Loops.{Filled}

@@ -26,7 +26,7 @@ use Rattle.plan.specs.Shaped.{readsShape}
 use Rattle.plan.proofs.Tiles.{cellPlace-low, cellPlace-cellAt}
 use Rattle.layout.specs.CellRows.{Given}
 use Rattle.layout.proofs.Loops.{Changed}
-use Rattle.values.specs.Reads.{firstRead}
+use Rattle.row_values.specs.Reads.{firstRead}
 use Rattle.shaped_values.specs.Rows.{Along, between, Overlaps, ReadsRun, ReadsRuns}
 
 -- ---- intervals

@@ -28,7 +28,7 @@ use Rattle.layout.specs.CellRows.{rowOf}
 use Rattle.layout.proofs.CellRows.{row-next}
 use Rattle.kernels.proofs.Orders.{store-append}
 use Rattle.kernels.proofs.Sums.{rows-join}
-use Rattle.values.proofs.Words.{in-row-of}
+use Rattle.row_values.proofs.Words.{in-row-of}
 use Rattle.shaped_values.specs.Rows.{insideOnly, heldWord}
 
 -- ---- cells outside stay as they are

@@ -32,8 +32,8 @@ use Rattle.layout.specs.CellRows.{rowOf}
 use Rattle.layout.proofs.Cells.{box-countable}
 use Rattle.layout.proofs.CellRows.{row-before, row-last, row-low, row-start, row-in, box-row, box-all}
 use Rattle.kernels.proofs.Sums.{Mixing}
-use Rattle.values.specs.Reads.{Backs}
-use Rattle.values.proofs.Words.{back-is}
+use Rattle.row_values.specs.Reads.{Backs}
+use Rattle.row_values.proofs.Words.{back-is}
 use Rattle.shaped_values.specs.Rows.{insideOnly, heldWord, Along, between, Overlaps, ReadsRuns, mixedWord, mixedAlong, Readable}
 use Rattle.shaped_values.proofs.Runs.{in-run, out-run, span-cell}
 use Rattle.shaped_values.proofs.Stores.{row-cut, row-out}

@@ -18,13 +18,13 @@ ghost use Rattle.plan.specs.Shaped.{planOf, shapedCells, shapedValue};
 ghost use Rattle.layout.specs.Sizes.{Sized};
 ghost use Rattle.layout.specs.Places.{Located};
 ghost use Rattle.layout.specs.CellRows.{Given, rowOf};
-ghost use Rattle.values.specs.Reads.{Backs};
+ghost use Rattle.row_values.specs.Reads.{Backs};
 ghost use Rattle.shaped_values.specs.Rows.{insideOnly, heldWord, between, Overlaps, ReadsRun, ReadsRuns, mixedWord, mixedAlong, Readable};
 use layout::Cell;
 use layout::Sizes;
 use nest::Interval;
 use nest::Nest;
-use values::Body;
+use row_values::Body;
 
 // Where each distance reads in a row: last components from one number on, below another.
 pub struct Reads {
@@ -48,13 +48,10 @@ fn word_at(
         × ((length (now memory) ≤ 16384) × (between first end component ≡ true → back ≤ cell))) ⌝ }
     ensures { λ r. ⌜ (r ≡ pick (between first end component) (getD (now (memory .entry)) (cell - back) 0) boundary) × (r < 4294967296) ⌝ }
 {
-    if component < first {
-        return boundary;
+    if intervals::has(first, end, component) {
+        return memory[cell - back] as u64;
     }
-    if end <= component {
-        return boundary;
-    }
-    memory[cell - back] as u64
+    boundary
 }
 
 // A word of a list, wide.
@@ -176,7 +173,7 @@ fn read_of(nest: Nest, components: &[usize; 32], at: [usize; 4], e: usize) -> In
         shift: nest.shift,
         boundary: nest.boundary,
     };
-    let d = values::first_of(body, components, at, e);
+    let d = row_values::first_of(body, components, at, e);
     if d == 1024 {
         return Interval { from: 0, to: 0 };
     }
@@ -297,7 +294,7 @@ pub fn calculate(nest: Nest, sizes: Sizes, source: &[u32], memory: &mut [u32], t
     let bounds = layout::bounds_of(nest, sizes, tile);
     let components = nest.components;
     let weights = nest.weights;
-    let back = values::backs_of(nest, &components);
+    let back = row_values::backs_of(nest, &components);
     let last = nest.dimensions - 1;
     let lengths = bounds.lengths;
     let rows = layout::product(lengths, last);
@@ -357,7 +354,7 @@ pub fn sweep(nest: Nest, sizes: Sizes, source: &[u32], grid: &mut [u32])
     fill(grid, boundary_of(nest));
     let components = nest.components;
     let weights = nest.weights;
-    let back = values::backs_of(nest, &components);
+    let back = row_values::backs_of(nest, &components);
     let lengths = nest.lengths;
     let width = lengths[nest.dimensions - 1];
     let rows = nest::row_count(nest);

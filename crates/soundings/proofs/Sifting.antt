@@ -11,7 +11,7 @@ use native.Mathlib.Numerals.{add-one}
 use lib.ListN.{length, getD, set, length-set}
 use lib.Seq.{ext-getD, getD-set-same, getD-set-other}
 use lib.Dec.{eqb, leb}
-use borrow.Author.Tests.{le-leb, lt-leb, eq-eqb, ne-eqb}
+use borrow.Author.Tests.{leb-true, leb-false, eq-eqb, ne-eqb}
 use Rattle.base.specs.Tests.{not, some, tabulate}
 use Rattle.base.specs.Lists.{Bytes}
 use Rattle.base.proofs.Tests.{is-false, some-one, or-false, not-true, not-false, pick-true, pick-false, length-tabulate, tabulate-at, tabulate-same}
@@ -192,18 +192,23 @@ module _ (file : List ℕ) where
         go (yes h) = rw (n .taken h) (taken h)
         go (no h) = let k : keyOf file q < keyIn best cell = omega arith in rw (n .passed k) (passed k)
 
-module _ (file : List ℕ) (r cell : ℕ) (best : List ℕ) (day survey old new : ℕ) (d : day ≡ word file (16 * r + 4))
-    (s : survey ≡ word file (16 * r + 8)) (o : old ≡ keyIn best cell) (n : new ≡ 4294967296 * day + survey) where
-  new-is : new ≡ keyOf file r
+module _ (file : List ℕ) (r cell : ℕ) (best : List ℕ) (day survey : ℕ) (counts : Bool) (d : day ≡ word file (16 * r + 4))
+    (s : survey ≡ word file (16 * r + 8)) (o : counts ≡ leb (keyIn best cell) (4294967296 * day + survey)) where
+  new-is : 4294967296 * day + survey ≡ keyOf file r
   unfolding keyOf dayOf surveyOf
-  new-is = rw (d, s) at n
+  new-is = rw (d, s)
 
-  pub noted-taken : (depth : ℕ) → depth ≡ word file (16 * r + 12) → old ≤ new → Noted file r cell best (three best cell survey day depth)
+  pub noted-taken : (depth : ℕ) → depth ≡ word file (16 * r + 12) → counts ≡ true
+      → Noted file r cell best (three best cell survey day depth)
   unfolding dayOf surveyOf depthOf
-  noted-taken depth e h = record { passed = λ l. absurd (omega (arith, new-is)); taken = λ l. rw (d, s, e) }
+  noted-taken depth e h =
+      let k = leb-true (keyIn best cell) (4294967296 * day + survey) (sym o ∙ h) in
+      record { passed = λ l. absurd (omega (arith, new-is, k)); taken = λ l. rw (d, s, e) }
 
-  pub noted-passed : new < old → Noted file r cell best best
-  noted-passed h = record { passed = λ l. refl; taken = λ l. absurd (omega (arith, new-is)) }
+  pub noted-passed : counts ≡ false → Noted file r cell best best
+  noted-passed h =
+      let k = leb-false (keyIn best cell) (4294967296 * day + survey) (sym o ∙ h) in
+      record { passed = λ l. refl; taken = λ l. absurd (omega (arith, new-is, k)) }
 
 -- ---- cells outside the box
 
@@ -215,13 +220,13 @@ module _ (size : ℕ) (file : List ℕ) where
   unfolding some
   off-none = refl
 
-  pub off-more : (r a : ℕ) → some offAt r ≡ false → a ≡ cellOf file r → a < size → some offAt (r + 1) ≡ false
+  pub off-more : (r a : ℕ) → some offAt r ≡ false → a ≡ cellOf file r → leb size a ≡ false → some offAt (r + 1) ≡ false
   unfolding some
-  off-more r a h e l = rw (add-one r) (or-false h (lt-leb _ _ (rw e at l)))
+  off-more r a h e l = rw (add-one r) (or-false h (rw e at l))
 
-  pub off-yes : (r a : ℕ) → r < records file → a ≡ cellOf file r → size ≤ a → true ≡ offBox size file
+  pub off-yes : (r a : ℕ) → r < records file → a ≡ cellOf file r → leb size a ≡ true → true ≡ offBox size file
   unfolding offBox
-  off-yes r a l e h = sym (some-one offAt (records file) r l (le-leb _ _ (rw e at h)))
+  off-yes r a l e h = sym (some-one offAt (records file) r l (rw e at h))
 
   pub off-end : (r : ℕ) → r ≡ records file → some offAt r ≡ false → false ≡ offBox size file
   unfolding offBox

@@ -31,13 +31,6 @@ fn word_at(file: &[u8], at: usize) -> u32
     low + 65536 * high
 }
 
-// Day before survey number, in one number.
-fn joined(day: u32, survey: u32) -> u64
-    ensures { λ r. ⌜ r ≡ 4294967296 * day + survey ⌝ }
-{
-    4294967296 * base::word_wide(day) + base::word_wide(survey)
-}
-
 fn cell_of(file: &[u8], r: usize) -> usize
     requires { ⌜ r < records (now file) ⌝ }
     ensures { λ o. ⌜ o ≡ cellOf (now (file .entry)) r ⌝ }
@@ -70,8 +63,7 @@ fn note(file: &[u8], r: usize, cell: usize, best: &mut [u32; 49152])
     let at = 3 * cell;
     let day = word_at(file, 16 * r + 4);
     let survey = word_at(file, 16 * r + 8);
-    let old = joined(best[at + 1], best[at]);
-    if old <= joined(day, survey) {
+    if surveys::counts(day, survey, best[at + 1], best[at]) {
         best[at] = survey;
         best[at + 1] = day;
         best[at + 2] = word_at(file, 16 * r + 12);
@@ -87,7 +79,7 @@ fn sift(file: &[u8], size: usize, best: &mut [u32; 49152]) -> bool
     let n = file.len() / 16;
     for r in 0..n {
         let cell = cell_of(file, r);
-        if cell >= size {
+        if surveys::outside(cell, size) {
             return true;
         }
         note(file, r, cell, best);
@@ -128,7 +120,7 @@ pub fn fill(encoded: &[u8], file: &[u8], value: u32, source: &mut [u32]) -> u32
     if ragged(file) {
         return 1;
     }
-    let reading = nest::read(encoded);
+    let reading = reader::read(encoded);
     let number = reading.number;
     if number != 0 {
         return number;

@@ -26,12 +26,12 @@ use Rattle.plan.specs.declared.Route.the-variants.{Direct}
 use Rattle.plan.specs.Geometry.{processorOf}
 use Rattle.plan.specs.Messages.{two, directions, ahead, ways, slotTile, slotDirection, slotTaker, slotParcel, boxPlan}
 use Rattle.plan.specs.Shaped.{boxTile, shapedParcel, slotBox, shapedSlotTaker, shapedHome, shapedSlotParcel, planOf}
-use Rattle.plan.specs.ExactShape.{standsAt}
+use Rattle.report.specs.ExactShape.{standsAt}
 use Rattle.plan.specs.Hops.{hops}
-use Rattle.plan.specs.Rows.{refused, figuresIf}
+use Rattle.rows.specs.Rows.{refused, figuresIf}
 use Rattle.plan.proofs.Slots.{full-in, parcel-cells, unless-in}
 use Rattle.plan.proofs.Parcels.{slotTile-low, slotDirection-low, slotDirection-pos}
-use Rattle.plan.proofs.Ways.{slot-cells, slot-to, taker-at}
+use Rattle.report.proofs.Ways.{slot-cells, slot-to, taker-at}
 use Rattle.plan.proofs.ShapedParcels.{parcel-crossed, shapedTaker-column}
 use Rattle.plan.proofs.ShapedSlots.{shapedDirection-low}
 use Rattle.plan.proofs.ShapedBox.{boxTile-is, planOf-box}

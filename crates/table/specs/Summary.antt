@@ -17,10 +17,10 @@ use Rattle.nest.specs.Nest.{processorCount}
 use Rattle.nest.specs.Places.{rank}
 use Rattle.plan.specs.Messages.{two}
 use Rattle.plan.specs.Shaped.{planOf}
-use Rattle.plan.specs.ExactShape.{standsAt, CarriesShape}
+use Rattle.report.specs.ExactShape.{standsAt, CarriesShape}
 use Rattle.plan.specs.Hops.{hops}
-use Rattle.plan.specs.Rows as rows
-use Rattle.plan.specs.Rows.{accepted, refused, figuresIf}
+use Rattle.rows.specs.Rows as rows
+use Rattle.rows.specs.Rows.{accepted, refused, figuresIf}
 use Rattle.routes.specs.Routes.{linesFor}
 use Rattle.table.specs.declared.Figures.{Figures}
 use Rattle.table.specs.declared.MessageLine.{MessageLine}

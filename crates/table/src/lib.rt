@@ -9,7 +9,7 @@ ghost use Rattle.plan.specs.declared.Route.the-variants.{Direct};
 ghost use Rattle.plan.specs.Messages.{two};
 ghost use Rattle.plan.specs.Shaped.{planOf};
 ghost use Rattle.plan.specs.Hops.{hops};
-ghost use Rattle.plan.specs.Rows.{refused};
+ghost use Rattle.rows.specs.Rows.{refused};
 ghost use Rattle.layout.specs.Sizes.{routeOf, Sized};
 ghost use Rattle.tables.specs.Tables.{Tabled, FoundIn};
 ghost use Rattle.table.specs.Summary.{asFigures, figuresOf, summaryOf, lineOf, noLine, messageLineOf, directionOf, many, noHops, hopsOf};
@@ -237,7 +237,7 @@ fn hops_at(nest: Nest, sizes: Sizes, lens: &[u16; 9217], m: usize) -> u32
 pub fn hops(encoded: &[u8], m: u32) -> HopCount
     ensures { λ r. ⌜ r ≡ hopsOf (now (encoded .entry)) m ⌝ }
 {
-    let reading = nest::read(encoded);
+    let reading = reader::read(encoded);
     let number = reading.number;
     if number != 0 {
         return no_hops(number);

@@ -13,8 +13,8 @@ pub mod core; // core.rt: the calls without the stores into the records
 use hours::Opening;
 use hours::minutes;
 use layout::sizes_of;
-use nest::read;
 use plan::Route;
+use reader::read;
 use records::flat_of;
 use rig::core::store_after;
 

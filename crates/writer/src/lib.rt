@@ -13,10 +13,10 @@ ghost use Rattle.nest.specs.Encode.{encode};
 ghost use Rattle.writer.specs.Fields.{fields, counted, bounds, agree, nestFrom};
 ghost use Rattle.writer.specs.Writing.{written, fitsIn, fits, boundsFit, writeNestCall, writeCall};
 
-mod spelling; // spelling.rt: the sixteen bytes of each record
+mod nest_records; // nest_records.rt: a nest's records, sixteen bytes each
 
-use spelling::record_of;
-use spelling::wide;
+use nest_records::record_of;
+use nest_records::wide;
 
 // ---- the recipe
 
@@ -52,7 +52,7 @@ fn number_of(bytes: [u8; 272], length: usize) -> u32
     requires { ⌜ length ≤ 272 ⌝ }
     ensures { λ r. ⌜ r ≡ firstOf (readLines (take length bytes)) ⌝ }
 {
-    let reading = nest::read(&bytes[0..length]);
+    let reading = reader::read(&bytes[0..length]);
     reading.number
 }
 

@@ -19,7 +19,7 @@ use contract.Running.{givenOf, tables, tablesOf}
 use contract.Lifetimes.{Lfts, Shares, AllOutlive}
 use types.Kit.{Given, Item, ‵, raw, runs, atRet, Sq, _⊛_, ⋆, _$_, _∵_, !, qed, by, move, keep, use2, split, rewrite, feqL, suffices, frame, done}
 use types.Part.{whole, sub}
-use types.Run.{look, init, forget, stop, from, and-then, no-more, land, returns, enter, alloc1, alloc0, params1, pass1, pass0}
+use types.Run.{look, init, forget, stop, from, and-then, no-more, land, returns, enter}
 use sound.WpLaws.{FmC, fmOf, WpFn-mono}
 use denote.Laws.{Is, shows}
 use denote.Plain.{uint-tells, uint-makes, uint-lawful}
@@ -52,9 +52,10 @@ use Rattle.engine.proofs.core.collect.Symbol.{name as #engine·core·collect}
 use Rattle.engine.proofs.core.collect.Met as words-thm
 use Rattle.calls.proofs.Walking.{R, F, low, word, words32, records}
 use Rattle.calls.proofs.Params.{Param, number32, flat, reads, changes, Lent, stays, go, spells, tell, values, row, tokens, owning, slices}
-use Rattle.calls.proofs.Params.{had, env, held, comes-back}
+use Rattle.calls.proofs.Params.{had, env, held, takes-in, comes-back}
 use Rattle.calls.proofs.Lending.{lends-on}
-use Rattle.calls.proofs.Orders.{sorts, turned}
+use Rattle.calls.proofs.Orders.{forgets, sorts, fronts, turned}
+use Rattle.calls.proofs.Entering.{allots}
 use Rattle.calls.proofs.Walking.{local, sepAll, fsepAll, splits, joins, fsplits, fjoins, Flatten, flattens}
 use Rattle.calls.proofs.rolwyddac_collect.Key.{name as #calls·collect}
 use Rattle.calls.proofs.rolwyddac_collect as collect
@@ -177,8 +178,9 @@ module _ {M : Type 1} (𝓤 : URA M) (H : Heap 𝓤) (A : Atoms 𝓤) (W : Given
         peeks ! u32 (Is u32) (shows 𝓤 H A u32) r (w ∷ []) (λ is′.
         land ! (from ! (stop !)) (init ! 32 refl (uint-lawful 𝓤 H A W w32 .typed r _ is′ .0)) $
         rewrite ! 32 (λ (u : Val). ‵ (fat fullShare word l0 0 u)) (ap only (uint-tells w32 r (w ∷ []) is′)) refl $
-        returns ! (look ! 32 refl) $ forget ! 32 refl $ forget ! 30 refl $ forget ! 28 refl $ forget ! 26 refl $ forget ! 24 refl $
-        forget ! 22 refl $ forget ! 20 refl $ forget ! 18 refl $ forget ! 16 refl $ forget ! 14 refl $ forget ! 12 refl $ forget ! 10 refl $
+        returns ! (look ! 32 refl) $
+        forgets ! 10 (((_, _), _) ∷ ((_, _), _) ∷ ((_, _), _) ∷ ((_, _), _) ∷ ((_, _), _) ∷ ((_, _), _) ∷ ((_, _), _) ∷ ((_, _), _) ∷ ((_, _), _)
+        ∷ ((_, _), _) ∷ ((_, _), _) ∷ ((_, _), _) ∷ []) refl $
         sorts ! 10 24 (keep ! (1 ∷ 10 ∷ 2 ∷ [])) $ turned ! 12 $
         free-all ! _ $ by ! (exits r (us .1 .1 .1 .1 .1 .1 .1 .0) (is′ .1) e6 (said (flatWords (now x4)) e-f))))))
 
@@ -199,18 +201,13 @@ module _ {M : Type 1} (𝓤 : URA M) (H : Heap 𝓤) (A : Atoms 𝓤) (W : Given
   walk C Λ fm known₀ known₁ =
       qed W (sepAll 𝓤 Toks ∷ ‵ (fsepAll (owning params κs given)) ∷ []) ∵
       enter ! C Λ code.function (row params κs given) _ $
-      alloc1 ! (λ l0. alloc1 ! (λ l1. alloc1 ! (λ l2. alloc1 ! (λ l3. alloc1 ! (λ l4. alloc1 ! (λ l5. alloc1 ! (λ l6. alloc1 ! (λ l7.
-      alloc1 ! (λ l8. alloc1 ! (λ l9. alloc1 ! (λ l10. alloc1 ! (λ l11. alloc0 ! $ params1 ! $
-      pass1 ! (init ! 20 refl (tt, (tt, (record { fits = g0 .0 }, tt)))) $ pass1 ! (init ! 18 refl (tt, record { fits = route-fits })) $
-      pass1 ! (init ! 16 refl (tt, (tt, (record { fits = g1 .0 }, tt)))) $
-      pass1 ! (init ! 14 refl (tt, (tt, (record { fits = g2 .0 }, tt)))) $
-      pass1 ! (init ! 12 refl (tt, (tt, (record { fits = g3 .0 }, tt)))) $
-      pass1 ! (init ! 10 refl (tt, (tt, (record { fits = g4 .0 }, tt)))) $
-      pass1 ! (init ! 8 refl (tt, (tt, (record { fits = g5 .0 }, tt)))) $
-      pass1 ! (init ! 6 refl (tt, (tt, (record { fits = g6 .0 }, tt)))) $ pass0 ! $ move ! (25 ∷ []) $ fsplits ! (owning params κs given) $ move ! (32 ∷ []) $
+      allots ! _ (λ l0 l1 l2 l3 l4 l5 l6 l7 l8 l9 l10 l11.
+      takes-in params κs given (l1 ∷ l2 ∷ l3 ∷ l4 ∷ l5 ∷ l6 ∷ l7 ∷ l8 ∷ []) !
+      (g0 .0, (route-fits, (g1 .0, (g2 .0, (g3 .0, (g4 .0, (g5 .0, (g6 .0, tt)))))))) _ _ $
+      fronts ! 18 6 $ turned ! 3 $ move ! (25 ∷ []) $ fsplits ! (owning params κs given) $ move ! (32 ∷ []) $
       splits ! Toks $
       sorts ! 15 24 (keep ! (6 ∷ 5 ∷ 4 ∷ 3 ∷ 2 ∷ 1 ∷ 0 ∷ 14 ∷ 12 ∷ 11 ∷ 10 ∷ 9 ∷ 8 ∷ 7 ∷ [])) $
-      begun C Λ fm l0 l1 l2 l3 l4 l5 l6 l7 l8 l9 l10 l11 known₀ known₁))))))))))))
+      begun C Λ fm l0 l1 l2 l3 l4 l5 l6 l7 l8 l9 l10 l11 known₀ known₁)
 
 collect-meets : {M : Type 1} (𝓤 : URA M) (H : Heap 𝓤) (A : Atoms 𝓤) (W : Given 𝓤 H A) (mem : Memory → SProp 𝓤) (run : Routine → Fun 𝓤)
     (𝓣 : Tables 𝓤 H)

@@ -5,7 +5,7 @@ use Rattle.calls.proofs.rolwyddac_hops.Statement.{statement}
 use Rattle.calls.proofs.rolwyddac_hops.Tie as tie
 use Rattle.calls.proofs.rolwyddac_hops.Reads as reads
 use Rattle.calls.proofs.rolwyddac_hops.Lts as lts
-use Rattle.nest.proofs.read.Reads as read-reads
+use Rattle.reader.proofs.read.Reads as read-reads
 use Rattle.table.proofs.hops.Reads as hops-reads
 
 read-requires : tie.Need-read-requires

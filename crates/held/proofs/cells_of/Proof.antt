@@ -2,7 +2,7 @@
 use mathlib.Core.Path.{sym, ap, _∙_}
 use Rattle.base.specs.Lists.{pack}
 use Rattle.tables.proofs.Laws as L
-use Rattle.held.specs.Numbers.{numbers}
+use Rattle.listed.specs.Numbers.{numbers}
 use Rattle.held.proofs.Laws.{held-listed}
 use borrow.Author.Needs.{needs}
 use Rattle.held.proofs.cells_of.Statement.{statement}

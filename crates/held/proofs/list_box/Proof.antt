@@ -11,7 +11,7 @@ use Rattle.parcels.proofs.Packing.{PackedTo, packed-none, packed-end}
 use Rattle.parcels.proofs.Rows.{size-few, rows-few, row-ranked}
 use Rattle.parcels.proofs.Alike.{row-first, packed-over, packed-next}
 use Rattle.parcels.proofs.Sendings.{headed, full-found, words-found}
-use Rattle.held.specs.Numbers.{numbers}
+use Rattle.listed.specs.Numbers.{numbers}
 use Rattle.held.proofs.Laws.{run-listed}
 use Rattle.held.proofs.list_box.Statement.{statement}
 use Rattle.held.proofs.list_box.Tie as tie

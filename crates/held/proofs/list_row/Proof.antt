@@ -2,8 +2,8 @@
 use Prim.Native.Nat.{_-_}
 use native.Mathlib.Omega.{arith}
 use Rattle.runs.proofs.Laws as runs
-use Rattle.held.specs.Numbers.{numbers}
-use Rattle.held.proofs.Laws.{numbers-long}
+use Rattle.listed.specs.Numbers.{numbers}
+use Rattle.listed.proofs.Numbers.{numbers-long}
 use Rattle.held.proofs.list_row.Statement.{statement}
 use Rattle.held.proofs.list_row.Tie as tie
 

@@ -5,7 +5,7 @@ use native.Mathlib.Omega.{arith}
 use Rattle.parcels.proofs.Rows.{rows-few, row-ranked, row-number}
 use Rattle.shaped.proofs.Found.{Packing, packing-none, packing-row}
 use Rattle.shaped.proofs.Listing as L
-use Rattle.held.specs.Numbers.{numbers}
+use Rattle.listed.specs.Numbers.{numbers}
 use Rattle.held.proofs.Laws.{room-numbers}
 use Rattle.held.proofs.list_shaped.Statement.{statement}
 use Rattle.held.proofs.list_shaped.Tie as tie

@@ -1,6 +1,6 @@
 -- `rank_by` meets its contract: known, or by its block.
 use mathlib.Core.Path.{sym, ap, _∙_}
-use Rattle.own.specs.Part.{rankAt}
+use Rattle.ranks.specs.Ranks.{rankAt}
 use borrow.Author.Needs.{needs}
 use Rattle.own.proofs.rank_by.Statement.{statement}
 use Rattle.own.proofs.rank_by.Tie as tie

@@ -55,11 +55,11 @@ fresh-spec =
     tie.close
     (tie.spec
     fresh-requires
+    zero-words-requires
     same-length
     same-length-2
     same-length-3
     returns
-    zero-words-requires
     same-length-4
     same-length-5
     same-length-6

@@ -38,7 +38,7 @@ messages-spec =
     tie.close
     (tie.spec
     open-requires
-    returns
     messages-part-requires
+    returns
     same-length
     returns-2)

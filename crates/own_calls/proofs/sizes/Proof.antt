@@ -46,4 +46,10 @@ returns-3 c =
 
 pub sizes-spec : {M : Type 1} → statement M
 sizes-spec =
-    tie.close (tie.spec open-requires returns returns-2 put-sizes-requires same-length returns-3)
+    tie.close (tie.spec
+    open-requires
+    put-sizes-requires
+    returns
+    returns-2
+    same-length
+    returns-3)

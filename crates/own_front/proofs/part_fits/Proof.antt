@@ -88,13 +88,13 @@ pub part-fits-spec : {M : Type 1} → statement M
 part-fits-spec =
     tie.close
     (tie.spec
-    returns
     mul-word-index
     element-copy-out-word-index
     word-index-requires
-    returns-2
-    returns-3
     mul-word-index-2
     element-copy-out-word-index-2
     word-index-requires-2
+    returns
+    returns-2
+    returns-3
     returns-4)

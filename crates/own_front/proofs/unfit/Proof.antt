@@ -106,12 +106,12 @@ unfit-spec =
     tie.close
     (tie.spec
     part-fits-requires
-    returns
     array-read-fit-own
     array-read-fit-own-2
     array-read-fit-own-3
     fit-own-requires
-    returns-2
     fit-status-requires
+    returns
+    returns-2
     returns-3
     returns-4)

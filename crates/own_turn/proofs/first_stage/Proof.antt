@@ -84,11 +84,11 @@ first-stage-spec =
     (tie.spec
     ready-requires
     refused-requires
-    same-length
-    returns
     shared-slice-read-finished
     gather-stage-requires
     done-requires
+    same-length
+    returns
     same-length-2
     same-length-3
     returns-2)

@@ -119,12 +119,12 @@ later-stage-spec =
     shared-slice-read-if1
     calculate-stage-requires
     done-requires
-    same-length
-    returns
     shared-slice-read-word-index
     word-index-requires
     send-stage-requires
     done-requires-2
+    same-length
+    returns
     same-length-2
     same-length-3
     same-length-4

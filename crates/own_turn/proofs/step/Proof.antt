@@ -127,11 +127,11 @@ step-spec =
     tile-at-requires
     shared-slice-read-if2
     first-stage-requires
+    later-stage-requires
     same-length
     same-length-2
     same-length-3
     returns-2
-    later-stage-requires
     same-length-4
     same-length-5
     same-length-6

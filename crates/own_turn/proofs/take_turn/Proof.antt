@@ -125,7 +125,6 @@ take-turn-spec =
     (tie.spec
     own-count-requires
     refused-requires
-    returns
     prepare-requires
     array-borrow-prefix-kept
     slice-aggregate-keep-cells
@@ -133,6 +132,7 @@ take-turn-spec =
     array-share-prefix-kept
     slice-aggregate-turn-in
     turn-in-requires
+    returns
     same-length
     same-length-2
     same-length-3

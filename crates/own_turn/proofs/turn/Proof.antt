@@ -64,8 +64,8 @@ turn-spec =
     (tie.spec
     open-requires
     refused-requires
-    returns
     take-turn-requires
+    returns
     same-length
     same-length-2
     same-length-3

@@ -99,13 +99,13 @@ turn-in-spec =
     (tie.spec
     unfit-requires
     refused-requires
+    array-share-prefix-words
+    slice-aggregate-step
+    step-requires
     same-length
     same-length-2
     same-length-3
     returns
-    array-share-prefix-words
-    slice-aggregate-step
-    step-requires
     same-length-4
     same-length-5
     same-length-6

@@ -11,7 +11,7 @@ use Rattle.plan.specs.Shaped.{shapedValue}
 use Rattle.shaped_values.specs.Rows.{insideOnly}
 use Rattle.shaped_values.proofs.Stores.{Storing, storing-start, storing-turn, tile-stored}
 use Rattle.shaped_values.proofs.Words.{tile-row, tile-end, tile-few}
-use Rattle.own.specs.Part.{spreadOut}
+use Rattle.ranks.specs.Ranks.{spreadOut}
 use Rattle.own_values.proofs.Tiles.{row-worked}
 use Rattle.own_values.proofs.calculate_box.Statement.{statement}
 use Rattle.own_values.proofs.calculate_box.Tie as tie

@@ -1,6 +1,5 @@
 -- `soundings::note` meets its contract: one law for each way.
 use Rattle.soundings.proofs.Sifting as S
-use native.Mathlib.Omega.{arith}
 use borrow.Author.Needs.{needs}
 use Rattle.soundings.proofs.note.Statement.{statement}
 use Rattle.soundings.proofs.note.Tie as tie
@@ -26,26 +25,23 @@ add-word-at-2 c = search needs
 word-at-requires-2 : tie.Need-word-at-requires-2
 word-at-requires-2 c κs = search needs
 
-add-joined : tie.Need-add-joined
-add-joined c = search needs
+add-counts : tie.Need-add-counts
+add-counts c = search needs
 
-mul-joined : tie.Need-mul-joined
-mul-joined c = search needs
+mul-counts : tie.Need-mul-counts
+mul-counts c = search needs
 
-element-copy-out-joined : tie.Need-element-copy-out-joined
-element-copy-out-joined c = search needs
+element-copy-out-counts : tie.Need-element-copy-out-counts
+element-copy-out-counts c = search needs
 
-mul-joined-2 : tie.Need-mul-joined-2
-mul-joined-2 c = search needs
+mul-counts-2 : tie.Need-mul-counts-2
+mul-counts-2 c = search needs
 
-element-copy-out-joined-2 : tie.Need-element-copy-out-joined-2
-element-copy-out-joined-2 c = search needs
+element-copy-out-counts-2 : tie.Need-element-copy-out-counts-2
+element-copy-out-counts-2 c = search needs
 
-joined-requires : tie.Need-joined-requires
-joined-requires c κs = search needs
-
-joined-requires-2 : tie.Need-joined-requires-2
-joined-requires-2 c κs = search needs
+counts-requires : tie.Need-counts-requires
+counts-requires c κs = search needs
 
 mul-best : tie.Need-mul-best
 mul-best c = search needs
@@ -82,18 +78,19 @@ element-write-best-3 c = search needs
 
 returns : tie.Need-returns
 returns c =
-    let at-joined = c .before .before .before in
-    let at-word-at2 = at-joined .before .before .before in
+    let at-counts = c .before .before in
+    let at-word-at2 = at-counts .before .before .before in
     let at-word-at = at-word-at2 .before in
-    S.noted-taken _ _ _ _ _ _ _ _ (at-word-at .word-at .ensures) (at-word-at2 .word-at2 .ensures) (at-joined .joined .ensures)
-    (c .before .before .joined2 .ensures) _ (c .word-at3 .ensures) (omega (arith, c .before .if1 .taken))
+    S.noted-taken _ _ _ _ _ _ _ (at-word-at .word-at .ensures) (at-word-at2 .word-at2 .ensures) (at-counts .counts .ensures) _
+    (c .word-at3 .ensures) (c .before .if1 .taken)
 
 returns-2 : tie.Need-returns-2
 returns-2 c =
-    let at-word-at2 = c .before .before .before .before .before in
+    let at-counts = c .before in
+    let at-word-at2 = at-counts .before .before .before in
     let at-word-at = at-word-at2 .before in
-    S.noted-passed _ _ _ _ _ _ _ _ (at-word-at .word-at .ensures) (at-word-at2 .word-at2 .ensures) (c .before .before .joined .ensures)
-    (c .before .joined2 .ensures) (c .if1 .left)
+    S.noted-passed _ _ _ _ _ _ _ (at-word-at .word-at .ensures) (at-word-at2 .word-at2 .ensures) (at-counts .counts .ensures)
+    (c .if1 .left)
 
 pub note-spec : {M : Type 1} → statement M
 note-spec =
@@ -106,13 +103,12 @@ note-spec =
     mul-word-at-2
     add-word-at-2
     word-at-requires-2
-    add-joined
-    mul-joined
-    element-copy-out-joined
-    mul-joined-2
-    element-copy-out-joined-2
-    joined-requires
-    joined-requires-2
+    add-counts
+    mul-counts
+    element-copy-out-counts
+    mul-counts-2
+    element-copy-out-counts-2
+    counts-requires
     mul-best
     element-write-best
     add-best

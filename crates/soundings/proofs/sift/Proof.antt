@@ -1,12 +1,13 @@
 -- `soundings::sift` meets its contract: the records passed name cells of the box, and are noted.
 use Prim.Native.Nat.{_-_}
-use mathlib.Core.Path.{_≡_}
+use mathlib.Core.Path.{_≡_, sym, _∙_}
 use mathlib.Core.Bool.{true≢false}
 use native.Mathlib.Omega.{arith}
 use Rattle.nest.specs.Reader.{records}
 use Rattle.soundings.specs.Sifting.{depthIn}
 use Rattle.soundings.proofs.Sifting as S
 use borrow.Author.Needs.{needs}
+use borrow.Author.Tests.{leb-false}
 use Rattle.soundings.proofs.sift.Statement.{statement}
 use Rattle.soundings.proofs.sift.Tie as tie
 
@@ -22,18 +23,26 @@ loop-holds c = record { few = omega arith; in-box = S.off-none _ _; sifted = c .
 cell-of-requires : tie.Need-cell-of-requires Inv-loop μ-loop
 cell-of-requires c κs = search needs
 
+outside-requires : tie.Need-outside-requires Inv-loop μ-loop
+outside-requires c κs = search needs
+
 returns : tie.Need-returns Inv-loop μ-loop
-returns c = (
-  S.off-yes _ _ (c .before .before .before .loop .r) _ (c .before .before .loop-test .taken) (c .before .cell-of .ensures) (c .if1 .taken),
-  λ e. absurd (true≢false e),
-)
+returns c =
+    let at-cell-of = c .before .before in (
+      S.off-yes _ _ (at-cell-of .before .before .loop .r) _ (at-cell-of .before .loop-test .taken) (at-cell-of .cell-of .ensures)
+          (sym (c .before .outside .ensures) ∙ c .if1 .taken),
+      λ e. absurd (true≢false e),
+    )
 
 note-requires : tie.Need-note-requires Inv-loop μ-loop
 note-requires c κs =
-    let at-loop-test = c .before .before .before in
+    let at-outside = c .before .before in
+    let at-cell-of = at-outside .before in
+    let at-loop-test = at-cell-of .before in
     let at-loop = at-loop-test .before in
     let start = at-loop .before .before in
-    (at-loop-test .loop-test .taken, (omega (arith, start .pre .0), at-loop .loop .inv .sifted .long))
+    let inside = leb-false (start .args .size) (at-cell-of .cell-of .result) (sym (at-outside .outside .ensures) ∙ c .before .if1 .left) in
+    (at-loop-test .loop-test .taken, (omega (arith, start .pre .0, inside), at-loop .loop .inv .sifted .long))
 
 add-r : tie.Need-add-r Inv-loop μ-loop
 add-r c = search needs
@@ -43,17 +52,19 @@ loop-less c = search needs
 
 loop-again : tie.Need-loop-again Inv-loop μ-loop
 loop-again c =
-    let at-cell-of = c .before .before .before in
+    let at-if = c .before .before in
+    let at-cell-of = at-if .before .before in
     let at-loop = at-cell-of .before .before in
     let at-shared-slice-known = at-loop .before in
     let start = at-shared-slice-known .before in
     let x = at-loop .loop .inv in
+    let inside = sym (at-if .before .outside .ensures) ∙ at-if .if1 .left in
     record {
       few = omega arith;
-      in-box = S.off-more _ _ _ _ (x .in-box) (at-cell-of .cell-of .ensures) (c .before .before .if1 .left);
+      in-box = S.off-more _ _ _ _ (x .in-box) (at-cell-of .cell-of .ensures) inside;
       sifted = S.sifted-more
           _ (λ i. omega (arith, at-shared-slice-known .shared-slice-known .given i)) _ _ _ _ _ (x .sifted) (at-cell-of .cell-of .ensures)
-          (c .before .before .if1 .left) (start .pre .0) _ (c .note .ensures);
+          (leb-false _ _ inside) (start .pre .0) _ (c .note .ensures);
     }
 
 returns-2 : tie.Need-returns-2 Inv-loop μ-loop
@@ -70,6 +81,7 @@ sift-spec =
     μ-loop
     loop-holds
     cell-of-requires
+    outside-requires
     returns
     note-requires
     add-r

@@ -6,9 +6,9 @@ use lib.ListN.{getD}
 use Rattle.base.specs.Lists.{storeAll}
 use Rattle.plan.specs.Geometry.{value}
 use Rattle.bands.specs.Bands.{rowsOf}
-use Rattle.values.specs.Boxes.{rowAt}
-use Rattle.values.proofs.Boxes.{box-countable}
-use Rattle.values.proofs.Rows.{given-box}
+use Rattle.row_values.specs.Boxes.{rowAt}
+use Rattle.row_values.proofs.Boxes.{box-countable}
+use Rattle.row_values.proofs.Rows.{given-box}
 use borrow.Author.Needs.{needs}
 use Rattle.values.proofs.box_values.Statement.{statement}
 use Rattle.values.proofs.box_values.Tie as tie
@@ -71,7 +71,8 @@ all-rows-requires c κs =
       margins = margins .margins-of .ensures;
     }) (p .1 .1) (p .1 .0) (search (needs, s .good .1 .1 .1 .1 .0)) in
     let few = box-countable _ (p .0) _ _ (p .1 .0) .few in
-    (s .args .nest, (g, (c .before .before .before .before .before .before .before .before .before .before .before .by-fours .ensures, omega (arith, counted .product .ensures, few))))
+    let groups = c .before .before .before .before .before .before .before .before .before .before .before in
+    (s .args .nest, (g, (groups .by-fours .ensures, omega (arith, counted .product .ensures, few))))
 
 same-length : tie.Need-same-length
 same-length c = search needs

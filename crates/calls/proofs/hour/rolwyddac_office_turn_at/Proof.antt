@@ -21,8 +21,7 @@ use contract.Lifetimes.{Lfts, Shares, AllOutlive}
 use types.Kit.{Given, Item, ‵, raw, runs, atRet, Sq, _⊛_, ⋆, _$_, _∵_, !, qed, by, move, keep, use2, split, rewrite, feqL}
 use types.Kit.{suffices, frame, done}
 use types.Part.{whole, sub, look-in}
-use types.Run.{look, init, forget, stop, fld, from, load, of-opd, and-then, no-more, assigns, land, returns, enter, alloc1, alloc0}
-use types.Run.{params1, pass1, pass0}
+use types.Run.{look, init, forget, stop, fld, from, load, of-opd, and-then, no-more, assigns, land, returns, enter}
 use sound.WpLaws.{FmC, fmOf, WpFn-mono}
 use denote.Laws.{Is, shows}
 use denote.Plain.{uint-makes}
@@ -67,9 +66,10 @@ use Rattle.timed.specs.Calls.{turnCallAtFor}
 use Rattle.calls.proofs.HourCalls.{record-there-at-for}
 use Rattle.calls.proofs.Walking.{R, F, E, low, high, progress-is, number-fits, word, ref, bytes, words32, records, slice}
 use Rattle.calls.proofs.Params.{Param, number32, flat, reads, changes, Lent, stays, go, spells, tell, values, row, tokens, owning, slices}
-use Rattle.calls.proofs.Params.{had, env, held, comes-back}
+use Rattle.calls.proofs.Params.{had, env, held, takes-in, comes-back}
 use Rattle.calls.proofs.Lending.{lends-on}
-use Rattle.calls.proofs.Orders.{sorts, turned}
+use Rattle.calls.proofs.Orders.{forgets, sorts, fronts, turned}
+use Rattle.calls.proofs.Entering.{allots}
 use Rattle.calls.proofs.Walking.{local, sepAll, fsepAll, splits, joins, fsplits, fjoins, Flatten, Put, flattens, flattens-lent, puts-at}
 use Rattle.calls.proofs.hour.rolwyddac_office_turn_at.Key.{name as #calls·turn}
 use Rattle.calls.proofs.hour.rolwyddac_office_turn_at as turn
@@ -215,9 +215,10 @@ module _ {M : Type 1} (𝓤 : URA M) (H : Heap 𝓤) (A : Atoms 𝓤) (W : Given
         land ! (from ! (stop !)) (init ! 6 refl (tt, tt)) $
         assigns ! (of-opd ! (load ! (from ! (fld ! refl (stop !))) (look-in ! 28 (sub ! 0 refl (whole !))))) (from ! (stop !))
         (init ! 60 refl (tt, record { fits = number-fits r is })) $
-        returns ! (look ! 60 refl) $ forget ! 60 refl $ forget ! 58 refl $ forget ! 56 refl $ forget ! 54 refl $ forget ! 52 refl $
-        forget ! 50 refl $ forget ! 48 refl $ forget ! 46 refl $ forget ! 44 refl $ forget ! 42 refl $ forget ! 40 refl $ forget ! 38 refl $
-        forget ! 36 refl $ forget ! 34 refl $ forget ! 28 refl $ forget ! 6 refl $ forget ! 4 refl $ forget ! 2 refl $
+        returns ! (look ! 60 refl) $
+        forgets ! 34 (((_, _), _) ∷ ((_, _), _) ∷ ((_, _), _) ∷ ((_, _), _) ∷ ((_, _), _) ∷ ((_, _), _) ∷ ((_, _), _) ∷ ((_, _), _) ∷ ((_, _), _)
+        ∷ ((_, _), _) ∷ ((_, _), _) ∷ ((_, _), _) ∷ ((_, _), _) ∷ ((_, _), _) ∷ []) refl $
+        forget ! 28 refl $ forgets ! 2 (((_, _), _) ∷ ((_, _), _) ∷ ((_, _), _) ∷ []) refl $
         sorts ! 2 60 (keep ! (2 ∷ 0 ∷ 3 ∷ 4 ∷ 5 ∷ 1 ∷ 6 ∷ 7 ∷ [])) $ turned ! 30 $
         free-all ! _ $ by ! (exits (r .number) y2 y3 y4 y5 y6 (number-fits r is) e2 e3 e4 e5 e6
         (ap (λ (l : List Progress). answer (r .number) (lentOf (stateOf y2 y3 (flatWords l) y5) y6)) put ∙ ap
@@ -268,8 +269,8 @@ module _ {M : Type 1} (𝓤 : URA M) (H : Heap 𝓤) (A : Atoms 𝓤) (W : Given
         feqL ! (λ e6. move ! (13 ∷ []) $ split ! $ move ! (1 ∷ []) $ peeks ! E (Is E) (shows 𝓤 H A E) r (w ∷ []) (λ is′.
         land ! (from ! (stop !)) (init ! 41 refl (LL.lawful U.the-type U′.the-laws 𝓤 H A W .typed r _ is′ .0)) $
         rewrite ! 41 (λ (u : Val). ‵ (fat fullShare U′.mir l16 0 u)) (ap only (LL.tells U.the-type U′.the-laws r (w ∷ []) is′)) refl $
-        forget ! 45 refl $ forget ! 43 refl $ forget ! 35 refl $ forget ! 33 refl $ forget ! 31 refl $ forget ! 29 refl $ forget ! 27 refl $
-        forget ! 25 refl $ forget ! 23 refl $ forget ! 21 refl $
+        forgets ! 43 (((_, _), _) ∷ ((_, _), _) ∷ []) refl $
+        forgets ! 21 (((_, _), _) ∷ ((_, _), _) ∷ ((_, _), _) ∷ ((_, _), _) ∷ ((_, _), _) ∷ ((_, _), _) ∷ ((_, _), _) ∷ ((_, _), _) ∷ []) refl $
         sorts ! 15 60 (keep ! (1 ∷ 15 ∷ 16 ∷ 17 ∷ 5 ∷ 4 ∷ 3 ∷ 2 ∷ [])) $
         stored-part known₂ r (subst (λ (us : List Val). Is E r us) (LL.tells U.the-type U′.the-laws r (w ∷ []) is′) is′)
         (us .1 .1 .1 .0) (us .1 .1 .1 .1 .0) (us .1 .1 .1 .1 .1 .1 .0) (us .1 .1 .1 .1 .1 .1 .1 .0) e2 e3 e5 e6
@@ -299,24 +300,13 @@ module _ {M : Type 1} (𝓤 : URA M) (H : Heap 𝓤) (A : Atoms 𝓤) (W : Given
   walk C Λ fm known₀ known₁ known₂ =
       qed W (sepAll 𝓤 Toks ∷ ‵ (fsepAll (owning params κs given)) ∷ []) ∵
       enter ! C Λ code.function (row params κs given) _ $
-      alloc1 ! (λ l0. alloc1 ! (λ l1. alloc1 ! (λ l2. alloc1 ! (λ l3. alloc1 ! (λ l4. alloc1 ! (λ l5. alloc1 ! (λ l6. alloc1 ! (λ l7.
-      alloc1 ! (λ l8. alloc1 ! (λ l9. alloc1 ! (λ l10. alloc1 ! (λ l11. alloc1 ! (λ l12. alloc1 ! (λ l13. alloc1 ! (λ l14. alloc1 ! (λ l15.
-      alloc1 ! (λ l16. alloc1 ! (λ l17. alloc1 ! (λ l18. alloc1 ! (λ l19. alloc1 ! (λ l20. alloc1 ! (λ l21. alloc1 ! (λ l22.
-      alloc1 ! (λ l23. alloc1 ! (λ l24. alloc1 ! (λ l25. alloc1 ! (λ l26. alloc1 ! (λ l27. alloc1 ! (λ l28. alloc1 ! (λ l29. alloc0 ! $
-      params1 ! $ pass1 ! (init ! 56 refl (tt, (tt, (record { fits = g0 .0 }, tt)))) $
-      pass1 ! (init ! 54 refl (tt, record { fits = route-fits })) $ pass1 ! (init ! 52 refl (tt, (tt, (record { fits = g1 .0 }, tt)))) $
-      pass1 ! (init ! 50 refl (tt, (tt, (record { fits = g2 .0 }, tt)))) $
-      pass1 ! (init ! 48 refl (tt, (tt, (record { fits = g3 .0 }, tt)))) $
-      pass1 ! (init ! 46 refl (tt, (tt, (record { fits = g4 .0 }, tt)))) $
-      pass1 ! (init ! 44 refl (tt, (tt, (record { fits = g5 .0 }, tt)))) $
-      pass1 ! (init ! 42 refl (tt, (tt, (record { fits = g6 .0 }, tt)))) $
-      pass1 ! (init ! 40 refl (tt, (tt, (record { fits = g7 .0 }, tt)))) $
-      pass1 ! (init ! 38 refl (tt, (tt, (record { fits = g8 .0 }, tt)))) $ pass1 ! (init ! 36 refl (tt, record { fits = minute-fits })) $
-      pass1 ! (init ! 34 refl (tt, record { fits = office-fits })) $ pass1 ! (init ! 32 refl (tt, record { fits = processor-fits })) $
-      pass0 ! $ move ! (61 ∷ []) $ fsplits ! (owning params κs given) $ move ! (73 ∷ []) $ splits ! Toks $
+      allots ! _ (λ l0 l1 l2 l3 l4 l5 l6 l7 l8 l9 l10 l11 l12 l13 l14 l15 l16 l17 l18 l19 l20 l21 l22 l23 l24 l25 l26 l27 l28 l29.
+      takes-in params κs given (l1 ∷ l2 ∷ l3 ∷ l4 ∷ l5 ∷ l6 ∷ l7 ∷ l8 ∷ l9 ∷ l10 ∷ l11 ∷ l12 ∷ l13 ∷ []) !
+      (g0 .0, (route-fits, (g1 .0, (g2 .0, (g3 .0, (g4 .0, (g5 .0, (g6 .0, (g7 .0, (g8 .0, (minute-fits, (office-fits, (processor-fits, tt))))))))))))) _ _ $
+      fronts ! 28 32 $ turned ! 16 $ move ! (61 ∷ []) $ fsplits ! (owning params κs given) $ move ! (73 ∷ []) $ splits ! Toks $
       sorts ! 22 60 (keep ! (8 ∷ 7 ∷ 6 ∷ 5 ∷ 4 ∷ 3 ∷ 2 ∷ 1 ∷ 0 ∷ 21 ∷ 19 ∷ 18 ∷ 17 ∷ 16 ∷ 15 ∷ 14 ∷ 13 ∷ 12 ∷ [])) $
       begun C Λ fm l0 l1 l2 l3 l4 l5 l6 l7 l8 l9 l10 l11 l12 l13 l14 l15 l16 l17 l18 l19 l20 l21 l22 l23 l24 l25 l26 l27 l28 l29 known₀ known₁
-      known₂))))))))))))))))))))))))))))))
+      known₂)
 
 turn-meets : {M : Type 1} (𝓤 : URA M) (H : Heap 𝓤) (A : Atoms 𝓤) (W : Given 𝓤 H A) (mem : Memory → SProp 𝓤) (run : Routine → Fun 𝓤)
     (𝓣 : Tables 𝓤 H)

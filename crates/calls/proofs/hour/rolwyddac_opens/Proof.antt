@@ -7,7 +7,7 @@ use Rattle.calls.proofs.hour.rolwyddac_opens.Tie as tie
 use Rattle.calls.proofs.hour.rolwyddac_opens.Reads as reads
 use Rattle.calls.proofs.hour.rolwyddac_opens.Lts as lts
 use Rattle.calls.proofs.hour.store_opening.Reads as store-opening-reads
-use Rattle.nest.proofs.read.Reads as read-reads
+use Rattle.reader.proofs.read.Reads as read-reads
 use Rattle.timed.proofs.opens.Reads as opens-reads
 
 read-requires : tie.Need-read-requires

@@ -19,8 +19,7 @@ use contract.Running.{givenOf, tables, tablesOf}
 use contract.Lifetimes.{Lfts, Shares, AllOutlive}
 use types.Kit.{Given, Item, ‵, raw, runs, atRet, Sq, _⊛_, ⋆, _$_, _∵_, !, qed, by, move, keep, use2, split, join, rewrite, feqL, suffices, frame, done}
 use types.Part.{whole, sub, look-in}
-use types.Run.{look, init, forget, stop, fld, from, load, lit, bin, of-opd, and-then, no-more, assigns, land, returns, enter, alloc1, alloc0, params1}
-use types.Run.{pass1, pass0}
+use types.Run.{look, init, forget, stop, fld, from, load, lit, bin, of-opd, and-then, no-more, assigns, land, returns, enter}
 use sound.WpLaws.{FmC, fmOf, WpFn-mono}
 use denote.Laws.{Is, shows}
 use denote.Plain.{uint-tells, uint-makes, uint-lawful}
@@ -55,9 +54,10 @@ use Rattle.rig.proofs.core.fresh.Symbol.{name as #rig·core·fresh}
 use Rattle.rig.proofs.core.fresh.Met as words-thm
 use Rattle.calls.proofs.Walking.{R, word, ref, bytes, words32, records, slice}
 use Rattle.calls.proofs.Params.{Param, number32, number64, reads, changes, Lent, stays, go, spells, tell, values, row, tokens, owning, slices}
-use Rattle.calls.proofs.Params.{had, env, held, comes-back}
+use Rattle.calls.proofs.Params.{had, env, held, takes-in, comes-back}
 use Rattle.calls.proofs.Lending.{lends-on}
-use Rattle.calls.proofs.Orders.{sorts, turned, forgets}
+use Rattle.calls.proofs.Orders.{forgets, sorts, fronts, turned}
+use Rattle.calls.proofs.Entering.{allots}
 use Rattle.calls.proofs.Walking.{local, sepAll, fsepAll, splits, joins, fsplits, fjoins, Clear, clears-at}
 use Rattle.calls.proofs.office.rolwyddac_fresh_both.Key.{name as #calls·fresh}
 use Rattle.calls.proofs.office.rolwyddac_fresh_both as fresh
@@ -277,27 +277,15 @@ module _ {M : Type 1} (𝓤 : URA M) (H : Heap 𝓤) (A : Atoms 𝓤) (W : Given
   walk C Λ fm known₁ known₂ =
       qed W (sepAll 𝓤 Toks ∷ ‵ (fsepAll (owning params κs given)) ∷ []) ∵
       enter ! C Λ code.function (row params κs given) _ $
-      alloc1 ! (λ l0. alloc1 ! (λ l1. alloc1 ! (λ l2. alloc1 ! (λ l3. alloc1 ! (λ l4. alloc1 ! (λ l5. alloc1 ! (λ l6. alloc1 ! (λ l7.
-      alloc1 ! (λ l8. alloc1 ! (λ l9. alloc1 ! (λ l10. alloc1 ! (λ l11. alloc1 ! (λ l12. alloc1 ! (λ l13. alloc1 ! (λ l14. alloc1 ! (λ l15.
-      alloc1 ! (λ l16. alloc1 ! (λ l17. alloc1 ! (λ l18. alloc1 ! (λ l19. alloc1 ! (λ l20. alloc1 ! (λ l21. alloc1 ! (λ l22.
-      alloc1 ! (λ l23. alloc1 ! (λ l24. alloc1 ! (λ l25. alloc1 ! (λ l26. alloc1 ! (λ l27. alloc1 ! (λ l28. alloc1 ! (λ l29.
-      alloc1 ! (λ l30. alloc1 ! (λ l31. alloc1 ! (λ l32. alloc1 ! (λ l33. alloc1 ! (λ l34. alloc1 ! (λ l35. alloc1 ! (λ l36. alloc0 ! $
-      params1 ! $ pass1 ! (init ! 70 refl (tt, (tt, (record { fits = g0 .0 }, tt)))) $
-      pass1 ! (init ! 68 refl (tt, record { fits = route-fits })) $ pass1 ! (init ! 66 refl (tt, (tt, (record { fits = g1 .0 }, tt)))) $
-      pass1 ! (init ! 64 refl (tt, (tt, (record { fits = g2 .0 }, tt)))) $
-      pass1 ! (init ! 62 refl (tt, (tt, (record { fits = g3 .0 }, tt)))) $
-      pass1 ! (init ! 60 refl (tt, (tt, (record { fits = g4 .0 }, tt)))) $
-      pass1 ! (init ! 58 refl (tt, (tt, (record { fits = g5 .0 }, tt)))) $
-      pass1 ! (init ! 56 refl (tt, (tt, (record { fits = g6 .0 }, tt)))) $
-      pass1 ! (init ! 54 refl (tt, (tt, (record { fits = g7 .0 }, tt)))) $
-      pass1 ! (init ! 52 refl (tt, (tt, (record { fits = g8 .0 }, tt)))) $
-      pass1 ! (init ! 50 refl (tt, (tt, (record { fits = g9 .0 }, tt)))) $
-      pass1 ! (init ! 48 refl (tt, (tt, (record { fits = g10 .0 }, tt)))) $
-      pass1 ! (init ! 46 refl (tt, (tt, (record { fits = g11 .0 }, tt)))) $ pass0 ! $ move ! (75 ∷ []) $ fsplits ! (owning params κs given) $ move ! (87 ∷ []) $
+      allots ! _ (λ l0 l1 l2 l3 l4 l5 l6 l7 l8 l9 l10 l11 l12 l13 l14 l15 l16 l17 l18 l19 l20 l21 l22 l23 l24 l25 l26 l27 l28 l29 l30 l31 l32 l33 l34
+      l35 l36.
+      takes-in params κs given (l1 ∷ l2 ∷ l3 ∷ l4 ∷ l5 ∷ l6 ∷ l7 ∷ l8 ∷ l9 ∷ l10 ∷ l11 ∷ l12 ∷ l13 ∷ []) !
+      (g0 .0, (route-fits, (g1 .0, (g2 .0, (g3 .0, (g4 .0, (g5 .0, (g6 .0, (g7 .0, (g8 .0, (g9 .0, (g10 .0, (g11 .0, tt))))))))))))) _ _ $
+      fronts ! 28 46 $ turned ! 23 $ move ! (75 ∷ []) $ fsplits ! (owning params κs given) $ move ! (87 ∷ []) $
       splits ! Toks $
       sorts ! 25 74 (keep ! (11 ∷ 10 ∷ 9 ∷ 8 ∷ 7 ∷ 6 ∷ 5 ∷ 4 ∷ 3 ∷ 2 ∷ 1 ∷ 0 ∷ 24 ∷ 22 ∷ 21 ∷ 20 ∷ 19 ∷ 18 ∷ 17 ∷ 16 ∷ 15 ∷ 14 ∷ 13 ∷ 12 ∷ [])) $
       begun C Λ fm l0 l1 l2 l3 l4 l5 l6 l7 l8 l9 l10 l11 l12 l13 l14 l15 l16 l17 l18 l19 l20 l21 l22 l23 l24 l25 l26 l27 l28 l29 l30 l31 l32 l33 l34 l35 l36
-      known₁ known₂)))))))))))))))))))))))))))))))))))))
+      known₁ known₂)
 
 fresh-meets : {M : Type 1} (𝓤 : URA M) (H : Heap 𝓤) (A : Atoms 𝓤) (W : Given 𝓤 H A) (mem : Memory → SProp 𝓤) (run : Routine → Fun 𝓤)
     (𝓣 : Tables 𝓤 H)

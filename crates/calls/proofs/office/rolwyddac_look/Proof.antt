@@ -8,8 +8,8 @@ use Rattle.calls.proofs.office.rolwyddac_look.Statement.{statement}
 use Rattle.calls.proofs.office.rolwyddac_look.Tie as tie
 use Rattle.calls.proofs.office.rolwyddac_look.Reads as reads
 use Rattle.calls.proofs.office.rolwyddac_look.Lts as lts
-use Rattle.nest.proofs.read.Reads as read-reads
-use Rattle.rig.proofs.core.look_at.Reads as look-at-reads
+use Rattle.reader.proofs.read.Reads as read-reads
+use Rattle.look.proofs.core.look_at.Reads as look-at-reads
 
 read-requires : tie.Need-read-requires
 read-requires c κs = search needs

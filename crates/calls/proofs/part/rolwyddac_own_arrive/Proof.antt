@@ -19,7 +19,7 @@ use contract.Running.{givenOf, tables, tablesOf}
 use contract.Lifetimes.{Lfts, Shares, AllOutlive}
 use types.Kit.{Given, Item, ‵, raw, runs, atRet, Sq, _⊛_, ⋆, _$_, _∵_, !, qed, by, move, keep, use2, split, rewrite, feqL, suffices, frame, done}
 use types.Part.{whole, sub}
-use types.Run.{look, init, forget, stop, from, and-then, no-more, land, returns, enter, alloc1, alloc0, params1, pass1, pass0}
+use types.Run.{look, init, forget, stop, from, and-then, no-more, land, returns, enter}
 use sound.WpLaws.{FmC, fmOf, WpFn-mono}
 use denote.Laws.{Is, shows}
 use denote.Plain.{uint-tells, uint-makes, uint-lawful}
@@ -53,9 +53,11 @@ use Rattle.own_calls.proofs.core.arrive.Symbol.{name as #words}
 use Rattle.own_calls.proofs.core.arrive.Met as words-thm
 use Rattle.calls.proofs.Walking.{R, F, low, word, bytes, words32, records}
 use Rattle.calls.proofs.Params.{Param, number32, flat, reads, changes, Lent, stays, go, spells, tell, values, row, tokens, owning, slices}
-use Rattle.calls.proofs.Params.{had, env, held, comes-back}
+use Rattle.calls.proofs.Params.{had, env, held, takes-in, comes-back}
 use Rattle.calls.proofs.Lending.{lends-on}
-use Rattle.calls.proofs.Walking.{local, rising, pairs, sepAll, fsepAll, splits, joins, fsplits, fjoins, Flatten, flattens}
+use Rattle.calls.proofs.Orders.{forgets, sorts, fronts, turned}
+use Rattle.calls.proofs.Entering.{allots}
+use Rattle.calls.proofs.Walking.{local, sepAll, fsepAll, splits, joins, fsplits, fjoins, Flatten, flattens}
 use Rattle.calls.proofs.part.rolwyddac_own_arrive.Key.{name as #call}
 use Rattle.calls.proofs.part.rolwyddac_own_arrive as arrive
 use Rattle.calls.proofs.part.rolwyddac_own_arrive.Statement as stated
@@ -190,10 +192,10 @@ module _ {M : Type 1} (𝓤 : URA M) (H : Heap 𝓤) (A : Atoms 𝓤) (W : Given
         peeks ! u32 (Is u32) (shows 𝓤 H A u32) r (w ∷ []) (λ is′.
         land ! (from ! (stop !)) (init ! 39 refl (uint-lawful 𝓤 H A W w32 .typed r _ is′ .0)) $
         rewrite ! 39 (λ (u : Val). ‵ (fat fullShare word l0 0 u)) (ap only (uint-tells w32 r (w ∷ []) is′)) refl $
-        returns ! (look ! 39 refl) $ forget ! 39 refl $ forget ! 37 refl $ forget ! 35 refl $ forget ! 33 refl $ forget ! 31 refl $ forget ! 29 refl $
-        forget ! 27 refl $ forget ! 25 refl $ forget ! 23 refl $ forget ! 21 refl $ forget ! 19 refl $ forget ! 17 refl $ forget ! 15 refl $
-        forget ! 13 refl $ forget ! 11 refl $
-        keep ! (pairs 39 15 ++ (1 ∷ 41 ∷ 3 ∷ 2 ∷ [])) $
+        returns ! (look ! 39 refl) $
+        forgets ! 11 (((_, _), _) ∷ ((_, _), _) ∷ ((_, _), _) ∷ ((_, _), _) ∷ ((_, _), _) ∷ ((_, _), _) ∷ ((_, _), _) ∷ ((_, _), _) ∷ ((_, _), _)
+        ∷ ((_, _), _) ∷ ((_, _), _) ∷ ((_, _), _) ∷ ((_, _), _) ∷ ((_, _), _) ∷ ((_, _), _) ∷ []) refl $
+        sorts ! 11 30 (keep ! (1 ∷ 11 ∷ 3 ∷ 2 ∷ [])) $ turned ! 15 $
         free-all ! _ $ by ! (exits r (us .1 .1 .1 .0) (us .1 .1 .1 .1 .1 .0) (is′ .1) e2 e4 (said (flatWords (now x3)) e-f)))))))
 
     begun : Triple 𝓤 (C #records·flatten) (Flatten 𝓤 H A mem run) → Triple 𝓤 (C #words) (Words 𝓤 H A mem run)
@@ -203,7 +205,7 @@ module _ {M : Type 1} (𝓤 : URA M) (H : Heap 𝓤) (A : Atoms 𝓤) (W : Given
         move ! (33 ∷ 39 ∷ []) $
         flattens mem run κ3 q3 x3 ! fm known₀ (named 3) (and-then ! (local ! 19 refl) (no-more !)) (λ f is-f e-f.
         land ! (from ! (stop !)) (init ! 9 refl (LL.lawful S.the-type S′.the-laws 𝓤 H A W .typed f _ is-f .0)) $
-        keep ! (rising 1 33 ++ (0 ∷ 34 ∷ 35 ∷ 36 ∷ 37 ∷ 38 ∷ 39 ∷ 40 ∷ [])) $
+        sorts ! 1 33 (keep ! (0 ∷ 1 ∷ 2 ∷ 3 ∷ 4 ∷ 5 ∷ 6 ∷ 7 ∷ [])) $
         worded known₁ f is-f e-f)
 
   walk : (C : Calls 𝓤 H) (Λ : Loops 𝓤 H) → FmC 𝓤 H (W .laws) C
@@ -213,23 +215,12 @@ module _ {M : Type 1} (𝓤 : URA M) (H : Heap 𝓤) (A : Atoms 𝓤) (W : Given
   walk C Λ fm known₀ known₁ =
       qed W (sepAll 𝓤 Toks ∷ ‵ (fsepAll (owning params κs given)) ∷ []) ∵
       enter ! C Λ code.function (row params κs given) _ $
-      alloc1 ! (λ l0. alloc1
-      ! (λ l1. alloc1 ! (λ l2. alloc1
-      ! (λ l3. alloc1 ! (λ l4. alloc1
-      ! (λ l5. alloc1 ! (λ l6. alloc1
-      ! (λ l7. alloc1 ! (λ l8. alloc1 ! (λ l9. alloc1 ! (λ l10. alloc1 ! (λ l11. alloc1 ! (λ l12. alloc1 ! (λ l13. alloc1 ! (λ l14. alloc0 ! $ params1 ! $
-      pass1 ! (init ! 26 refl (tt, (tt, (record { fits = g0 .0 }, tt)))) $
-      pass1 ! (init ! 24 refl (tt, record { fits = route-fits })) $
-      pass1 ! (init ! 22 refl (tt, (tt, (record { fits = g1 .0 }, tt)))) $
-      pass1 ! (init ! 20 refl (tt, (tt, (record { fits = g2 .0 }, tt)))) $
-      pass1 ! (init ! 18 refl (tt, (tt, (record { fits = g3 .0 }, tt)))) $
-      pass1 ! (init ! 16 refl (tt, (tt, (record { fits = g4 .0 }, tt)))) $
-      pass1 ! (init ! 14 refl (tt, record { fits = processor-fits })) $
-      pass1 ! (init ! 12 refl (tt, record { fits = message-fits })) $
-      pass1 ! (init ! 10 refl (tt, (tt, (record { fits = g5 .0 }, tt)))) $
-      pass0 ! $ move ! (31 ∷ []) $ fsplits ! (owning params κs given) $ move ! (39 ∷ []) $ splits ! Toks $
-      keep ! (rising 15 30 ++ (5 ∷ 4 ∷ 3 ∷ 2 ∷ 1 ∷ 0 ∷ 14 ∷ 12 ∷ 11 ∷ 10 ∷ 9 ∷ 6 ∷ [])) $
-      begun C Λ fm l0 l1 l2 l3 l4 l5 l6 l7 l8 l9 l10 l11 l12 l13 l14 known₀ known₁)))))))))))))))
+      allots ! _ (λ l0 l1 l2 l3 l4 l5 l6 l7 l8 l9 l10 l11 l12 l13 l14.
+      takes-in params κs given (l1 ∷ l2 ∷ l3 ∷ l4 ∷ l5 ∷ l6 ∷ l7 ∷ l8 ∷ l9 ∷ []) !
+      (g0 .0, (route-fits, (g1 .0, (g2 .0, (g3 .0, (g4 .0, (processor-fits, (message-fits, (g5 .0, tt))))))))) _ _ $
+      fronts ! 20 10 $ turned ! 5 $ move ! (31 ∷ []) $ fsplits ! (owning params κs given) $ move ! (39 ∷ []) $ splits ! Toks $
+      sorts ! 15 30 (keep ! (5 ∷ 4 ∷ 3 ∷ 2 ∷ 1 ∷ 0 ∷ 14 ∷ 12 ∷ 11 ∷ 10 ∷ 9 ∷ 6 ∷ [])) $
+      begun C Λ fm l0 l1 l2 l3 l4 l5 l6 l7 l8 l9 l10 l11 l12 l13 l14 known₀ known₁)
 
 arrive-meets : {M : Type 1} (𝓤 : URA M) (H : Heap 𝓤) (A : Atoms 𝓤) (W : Given 𝓤 H A) (mem : Memory → SProp 𝓤) (run : Routine → Fun 𝓤)
     (𝓣 : Tables 𝓤 H)

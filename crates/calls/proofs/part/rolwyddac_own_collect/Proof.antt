@@ -19,7 +19,7 @@ use contract.Running.{givenOf, tables, tablesOf}
 use contract.Lifetimes.{Lfts, Shares, AllOutlive}
 use types.Kit.{Given, Item, ‵, raw, runs, atRet, Sq, _⊛_, ⋆, _$_, _∵_, !, qed, by, move, keep, use2, split, rewrite, feqL, suffices, frame, done}
 use types.Part.{whole, sub}
-use types.Run.{look, init, forget, stop, from, and-then, no-more, land, returns, enter, alloc1, alloc0, params1, pass1, pass0}
+use types.Run.{look, init, forget, stop, from, and-then, no-more, land, returns, enter}
 use sound.WpLaws.{FmC, fmOf, WpFn-mono}
 use denote.Laws.{Is, shows}
 use denote.Plain.{uint-tells, uint-makes, uint-lawful}
@@ -53,9 +53,11 @@ use Rattle.own_calls.proofs.core.collect.Symbol.{name as #words}
 use Rattle.own_calls.proofs.core.collect.Met as words-thm
 use Rattle.calls.proofs.Walking.{R, F, low, word, words32, records}
 use Rattle.calls.proofs.Params.{Param, number32, flat, reads, changes, Lent, stays, go, spells, tell, values, row, tokens, owning, slices}
-use Rattle.calls.proofs.Params.{had, env, held, comes-back}
+use Rattle.calls.proofs.Params.{had, env, held, takes-in, comes-back}
 use Rattle.calls.proofs.Lending.{lends-on}
-use Rattle.calls.proofs.Walking.{local, rising, pairs, sepAll, fsepAll, splits, joins, fsplits, fjoins, Flatten, flattens}
+use Rattle.calls.proofs.Orders.{forgets, sorts, fronts, turned}
+use Rattle.calls.proofs.Entering.{allots}
+use Rattle.calls.proofs.Walking.{local, sepAll, fsepAll, splits, joins, fsplits, fjoins, Flatten, flattens}
 use Rattle.calls.proofs.part.rolwyddac_own_collect.Key.{name as #call}
 use Rattle.calls.proofs.part.rolwyddac_own_collect as collect
 use Rattle.calls.proofs.part.rolwyddac_own_collect.Statement as stated
@@ -178,9 +180,10 @@ module _ {M : Type 1} (𝓤 : URA M) (H : Heap 𝓤) (A : Atoms 𝓤) (W : Given
         peeks ! u32 (Is u32) (shows 𝓤 H A u32) r (w ∷ []) (λ is′.
         land ! (from ! (stop !)) (init ! 26 refl (uint-lawful 𝓤 H A W w32 .typed r _ is′ .0)) $
         rewrite ! 26 (λ (u : Val). ‵ (fat fullShare word l0 0 u)) (ap only (uint-tells w32 r (w ∷ []) is′)) refl $
-        returns ! (look ! 26 refl) $ forget ! 26 refl $ forget ! 24 refl $ forget ! 22 refl $ forget ! 20 refl $ forget ! 18 refl $ forget ! 16 refl $
-        forget ! 14 refl $ forget ! 12 refl $ forget ! 10 refl $ forget ! 8 refl $
-        keep ! (pairs 26 10 ++ (1 ∷ 28 ∷ 2 ∷ [])) $
+        returns ! (look ! 26 refl) $
+        forgets ! 8 (((_, _), _) ∷ ((_, _), _) ∷ ((_, _), _) ∷ ((_, _), _) ∷ ((_, _), _) ∷ ((_, _), _) ∷ ((_, _), _) ∷ ((_, _), _) ∷ ((_, _), _)
+        ∷ ((_, _), _) ∷ []) refl $
+        sorts ! 8 20 (keep ! (1 ∷ 8 ∷ 2 ∷ [])) $ turned ! 10 $
         free-all ! _ $ by ! (exits r (us .1 .1 .1 .1 .1 .0) (is′ .1) e3 (said (flatWords (now x2)) e-f))))))
 
     begun : Triple 𝓤 (C #records·flatten) (Flatten 𝓤 H A mem run) → Triple 𝓤 (C #words) (Words 𝓤 H A mem run)
@@ -190,7 +193,7 @@ module _ {M : Type 1} (𝓤 : URA M) (H : Heap 𝓤) (A : Atoms 𝓤) (W : Given
         move ! (22 ∷ 26 ∷ []) $
         flattens mem run κ2 q2 x2 ! fm known₀ (named 2) (and-then ! (local ! 11 refl) (no-more !)) (λ f is-f e-f.
         land ! (from ! (stop !)) (init ! 5 refl (LL.lawful S.the-type S′.the-laws 𝓤 H A W .typed f _ is-f .0)) $
-        keep ! (rising 1 22 ++ (0 ∷ 23 ∷ 24 ∷ 25 ∷ 26 ∷ [])) $
+        sorts ! 1 22 (keep ! (0 ∷ 1 ∷ 2 ∷ 3 ∷ 4 ∷ [])) $
         worded known₁ f is-f e-f)
 
   walk : (C : Calls 𝓤 H) (Λ : Loops 𝓤 H) → FmC 𝓤 H (W .laws) C
@@ -200,18 +203,12 @@ module _ {M : Type 1} (𝓤 : URA M) (H : Heap 𝓤) (A : Atoms 𝓤) (W : Given
   walk C Λ fm known₀ known₁ =
       qed W (sepAll 𝓤 Toks ∷ ‵ (fsepAll (owning params κs given)) ∷ []) ∵
       enter ! C Λ code.function (row params κs given) _ $
-      alloc1 ! (λ l0. alloc1
-      ! (λ l1. alloc1 ! (λ l2. alloc1
-      ! (λ l3. alloc1 ! (λ l4. alloc1 ! (λ l5. alloc1 ! (λ l6. alloc1 ! (λ l7. alloc1 ! (λ l8. alloc1 ! (λ l9. alloc0 ! $ params1 ! $
-      pass1 ! (init ! 16 refl (tt, (tt, (record { fits = g0 .0 }, tt)))) $
-      pass1 ! (init ! 14 refl (tt, record { fits = route-fits })) $
-      pass1 ! (init ! 12 refl (tt, (tt, (record { fits = g1 .0 }, tt)))) $
-      pass1 ! (init ! 10 refl (tt, (tt, (record { fits = g2 .0 }, tt)))) $
-      pass1 ! (init ! 8 refl (tt, record { fits = processor-fits })) $
-      pass1 ! (init ! 6 refl (tt, (tt, (record { fits = g3 .0 }, tt)))) $
-      pass0 ! $ move ! (21 ∷ []) $ fsplits ! (owning params κs given) $ move ! (26 ∷ []) $ splits ! Toks $
-      keep ! (rising 10 20 ++ (3 ∷ 2 ∷ 1 ∷ 0 ∷ 9 ∷ 7 ∷ 6 ∷ 4 ∷ [])) $
-      begun C Λ fm l0 l1 l2 l3 l4 l5 l6 l7 l8 l9 known₀ known₁))))))))))
+      allots ! _ (λ l0 l1 l2 l3 l4 l5 l6 l7 l8 l9.
+      takes-in params κs given (l1 ∷ l2 ∷ l3 ∷ l4 ∷ l5 ∷ l6 ∷ []) !
+      (g0 .0, (route-fits, (g1 .0, (g2 .0, (processor-fits, (g3 .0, tt)))))) _ _ $
+      fronts ! 14 6 $ turned ! 3 $ move ! (21 ∷ []) $ fsplits ! (owning params κs given) $ move ! (26 ∷ []) $ splits ! Toks $
+      sorts ! 10 20 (keep ! (3 ∷ 2 ∷ 1 ∷ 0 ∷ 9 ∷ 7 ∷ 6 ∷ 4 ∷ [])) $
+      begun C Λ fm l0 l1 l2 l3 l4 l5 l6 l7 l8 l9 known₀ known₁)
 
 collect-meets : {M : Type 1} (𝓤 : URA M) (H : Heap 𝓤) (A : Atoms 𝓤) (W : Given 𝓤 H A) (mem : Memory → SProp 𝓤) (run : Routine → Fun 𝓤)
     (𝓣 : Tables 𝓤 H)

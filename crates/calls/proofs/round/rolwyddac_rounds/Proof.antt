@@ -60,6 +60,7 @@ use Rattle.calls.proofs.round.drive.Symbol as words-def
 use Rattle.calls.proofs.round.drive.Symbol.{name as #calls·round·drive}
 use Rattle.calls.proofs.round.drive.Met as words-thm
 use Rattle.calls.proofs.Walking.{R, F, low, word, ref, bytes, words32, records, slice, sepAll, fsepAll, splits, joins, fsplits, fjoins}
+use Rattle.calls.proofs.Orders.{forgets, sorts, turned}
 use Rattle.calls.proofs.Storing.{PutAll, stores-at}
 use Rattle.calls.proofs.RoundCalls.{stored-words}
 use Rattle.calls.proofs.round.rolwyddac_rounds.Key.{name as #calls·rounds}
@@ -267,19 +268,9 @@ module _ {M : Type 1} (𝓤 : URA M) (H : Heap 𝓤) (A : Atoms 𝓤) (W : Given
         assigns ! (of-opd ! (load ! (from ! (fld ! refl (stop !))) (look-in ! 26 (sub ! 0 refl (whole !))))) (from ! (stop !))
         (init ! 44 refl (tt, record { fits = number-fits r is })) $
         returns ! (look ! 44 refl) $
-        forget ! 44 refl $
-        forget ! 42 refl $
-        forget ! 40 refl $
-        forget ! 38 refl $
-        forget ! 36 refl $
-        forget ! 34 refl $
-        forget ! 32 refl $
-        forget ! 30 refl $
-        forget ! 26 refl $
-        forget ! 4 refl $
-        forget ! 2 refl $
-        keep ! (44 ∷ 45 ∷ 42 ∷ 43 ∷ 40 ∷ 41 ∷ 38 ∷ 39 ∷ 36 ∷ 37 ∷ 34 ∷ 35 ∷ 32 ∷ 33 ∷ 30 ∷ 31 ∷ 28 ∷ 29 ∷ 26 ∷ 27 ∷ 24 ∷ 25 ∷ 22 ∷ 23 ∷ 20 ∷ 21 ∷ 18 ∷
-        19 ∷ 16 ∷ 17 ∷ 14 ∷ 15 ∷ 12 ∷ 13 ∷ 10 ∷ 11 ∷ 8 ∷ 9 ∷ 6 ∷ 7 ∷ 4 ∷ 5 ∷ 2 ∷ 3 ∷ 46 ∷ 0 ∷ 47 ∷ 48 ∷ 1 ∷ 49 ∷ 50 ∷ []) $
+        forgets ! 30 (((_, _), _) ∷ ((_, _), _) ∷ ((_, _), _) ∷ ((_, _), _) ∷ ((_, _), _) ∷ ((_, _), _) ∷ ((_, _), _) ∷ ((_, _), _) ∷ []) refl $
+        forget ! 26 refl $ forgets ! 2 (((_, _), _) ∷ ((_, _), _) ∷ []) refl $
+        sorts ! 2 44 (keep ! (2 ∷ 0 ∷ 3 ∷ 4 ∷ 1 ∷ 5 ∷ 6 ∷ [])) $ turned ! 22 $
         free-all ! _ $
         by ! (exits (r .number) y2 y3 y4 y5 y6 (number-fits r is) e2 e3 e4 e5 e6
         (ap (λ (l : List ℕ). answer (r .number) (lentRounds (stateOf y2 y3 l y5) y6))
@@ -362,16 +353,8 @@ module _ {M : Type 1} (𝓤 : URA M) (H : Heap 𝓤) (A : Atoms 𝓤) (W : Given
         land ! (from ! (stop !)) (init ! 33 refl (LL.lawful U.the-type U′.the-laws 𝓤 H A W .typed r _ is′ .0)) $
         rewrite ! 33 (λ (u : Val). ‵ (fat fullShare U′.mir l9 0 u)) (ap only (LL.tells U.the-type U′.the-laws r (w ∷ []) is′)) refl $
         forget ! 35 refl $
-        forget ! 29 refl $
-        forget ! 27 refl $
-        forget ! 25 refl $
-        forget ! 23 refl $
-        forget ! 21 refl $
-        forget ! 19 refl $
-        forget ! 17 refl $
-        forget ! 15 refl $
-        keep ! (9 ∷ 10 ∷ 11 ∷ 12 ∷ 13 ∷ 14 ∷ 15 ∷ 16 ∷ 17 ∷ 18 ∷ 19 ∷ 20 ∷ 21 ∷ 22 ∷ 23 ∷ 24 ∷ 25 ∷ 26 ∷ 27 ∷ 28 ∷ 29 ∷ 30 ∷ 31 ∷ 32 ∷ 33 ∷ 34 ∷ 35 ∷
-        36 ∷ 37 ∷ 38 ∷ 39 ∷ 40 ∷ 41 ∷ 42 ∷ 43 ∷ 44 ∷ 45 ∷ 46 ∷ 47 ∷ 48 ∷ 49 ∷ 50 ∷ 51 ∷ 52 ∷ 1 ∷ 53 ∷ 54 ∷ 5 ∷ 4 ∷ 3 ∷ 2 ∷ []) $
+        forgets ! 15 (((_, _), _) ∷ ((_, _), _) ∷ ((_, _), _) ∷ ((_, _), _) ∷ ((_, _), _) ∷ ((_, _), _) ∷ ((_, _), _) ∷ ((_, _), _) ∷ []) refl $
+        sorts ! 9 44 (keep ! (1 ∷ 9 ∷ 10 ∷ 5 ∷ 4 ∷ 3 ∷ 2 ∷ [])) $
         stored known₂ r (subst (λ (vs : List Val). Is E r vs) (LL.tells U.the-type U′.the-laws r (w ∷ []) is′) is′)
         (us .1 .1 .0) (us .1 .1 .1 .0) (us .1 .1 .1 .1 .1 .0) (us .1 .1 .1 .1 .1 .1 .0) e2 e3 e5 e6 said)))))))))
 
@@ -401,8 +384,7 @@ module _ {M : Type 1} (𝓤 : URA M) (H : Heap 𝓤) (A : Atoms 𝓤) (W : Given
       fsplits ! Own $
       move ! (51 ∷ []) $
       splits ! Toks $
-      keep ! (14 ∷ 15 ∷ 16 ∷ 17 ∷ 18 ∷ 19 ∷ 20 ∷ 21 ∷ 22 ∷ 23 ∷ 24 ∷ 25 ∷ 26 ∷ 27 ∷ 28 ∷ 29 ∷ 30 ∷ 31 ∷ 32 ∷ 33 ∷ 34 ∷ 35 ∷ 36 ∷ 37 ∷ 38 ∷ 39 ∷ 40 ∷
-      41 ∷ 42 ∷ 43 ∷ 44 ∷ 45 ∷ 46 ∷ 47 ∷ 48 ∷ 49 ∷ 50 ∷ 51 ∷ 52 ∷ 53 ∷ 54 ∷ 55 ∷ 56 ∷ 57 ∷ 6 ∷ 5 ∷ 4 ∷ 3 ∷ 2 ∷ 1 ∷ 0 ∷ 13 ∷ 12 ∷ 11 ∷ 10 ∷ 9 ∷ 8 ∷ 7 ∷ []) $
+      sorts ! 14 44 (keep ! (6 ∷ 5 ∷ 4 ∷ 3 ∷ 2 ∷ 1 ∷ 0 ∷ 13 ∷ 12 ∷ 11 ∷ 10 ∷ 9 ∷ 8 ∷ 7 ∷ [])) $
       begun C Λ fm l0 l1 l2 l3 l4 l5 l6 l7 l8 l9 l10 l11 l12 l13 l14 l15 l16 l17 l18 l19 l20 l21 known₁ known₂))))))))))))))))))))))
 
 module _ {M : Type 1} (𝓤 : URA M) (H : Heap 𝓤) (A : Atoms 𝓤) (W : Given 𝓤 H A) (mem : Memory → SProp 𝓤) (run : Routine → Fun 𝓤) where

@@ -56,6 +56,7 @@ use Rattle.mail.proofs.core.awaited.Symbol.{name as #mail·core·awaited}
 use Rattle.mail.proofs.core.awaited.Met as words-thm
 use Rattle.calls.proofs.Walking.{R, F, low, word, bytes, words32, records, slice}
 use Rattle.calls.proofs.Walking.{sepAll, fsepAll, splits, joins, fsplits, fjoins, Flatten, flattens}
+use Rattle.calls.proofs.Orders.{forgets, sorts, turned}
 use Rattle.calls.proofs.transport.rolwyddac_awaited.Key.{name as #calls·asking}
 use Rattle.calls.proofs.transport.rolwyddac_awaited as asking
 use Rattle.calls.proofs.transport.rolwyddac_awaited.Statement as stated
@@ -256,10 +257,10 @@ module _ {M : Type 1} (𝓤 : URA M) (H : Heap 𝓤) (A : Atoms 𝓤) (W : Given
         peeks ! u32 (Is u32) (shows 𝓤 H A u32) r (w ∷ []) (λ is′.
         land ! (from ! (stop !)) (init ! 33 refl (uint-lawful 𝓤 H A W w32 .typed r _ is′ .0)) $
         rewrite ! 33 (λ (u : Val). ‵ (fat fullShare word l0 0 u)) (ap only (uint-tells w32 r (w ∷ []) is′)) refl $
-        returns ! (look ! 33 refl) $ forget ! 33 refl $ forget ! 31 refl $ forget ! 29 refl $ forget ! 27 refl $ forget ! 25 refl $ forget ! 23 refl $
-        forget ! 21 refl $ forget ! 19 refl $ forget ! 17 refl $ forget ! 15 refl $ forget ! 13 refl $ forget ! 11 refl $ forget ! 9 refl $
-        keep ! (33 ∷ 34 ∷ 31 ∷ 32 ∷ 29 ∷ 30 ∷ 27 ∷ 28 ∷ 25 ∷ 26 ∷ 23 ∷ 24 ∷ 21 ∷ 22 ∷ 19 ∷ 20 ∷ 17 ∷ 18 ∷ 15 ∷ 16 ∷ 13 ∷ 14 ∷ 11 ∷ 12 ∷ 9 ∷ 10 ∷ 1 ∷
-        35 ∷ 3 ∷ 2 ∷ []) $
+        returns ! (look ! 33 refl) $
+        forgets ! 9 (((_, _), _) ∷ ((_, _), _) ∷ ((_, _), _) ∷ ((_, _), _) ∷ ((_, _), _) ∷ ((_, _), _) ∷ ((_, _), _) ∷ ((_, _), _) ∷ ((_, _), _)
+        ∷ ((_, _), _) ∷ ((_, _), _) ∷ ((_, _), _) ∷ ((_, _), _) ∷ []) refl $
+        sorts ! 9 26 (keep ! (1 ∷ 9 ∷ 3 ∷ 2 ∷ [])) $ turned ! 13 $
         free-all ! _ $ by ! (exits r (us .1 .1 .1 .1 .1 .0) (us .1 .1 .1 .1 .1 .1 .0) (is′ .1) e3 e4 (said (flatWords (now x1)) e-f)))))))))
 
     begun : Triple 𝓤 (C #records·flatten) (Flatten 𝓤 H A mem run) → Triple 𝓤 (C #mail·core·awaited) (Words 𝓤 H A mem run)
@@ -272,8 +273,7 @@ module _ {M : Type 1} (𝓤 : URA M) (H : Heap 𝓤) (A : Atoms 𝓤) (W : Given
         move ! (27 ∷ 32 ∷ []) $
         flattens mem run κ1 q1 x1 ! fm known₀ (named 1) (and-then ! (load ! (from ! (stop !)) (look ! 19 refl)) (no-more !)) (λ f is-f e-f.
         land ! (from ! (stop !)) (init ! 9 refl (LL.lawful S.the-type S′.the-laws 𝓤 H A W .typed f _ is-f .0)) $
-        keep ! (1 ∷ 2 ∷ 3 ∷ 4 ∷ 5 ∷ 6 ∷ 7 ∷ 8 ∷ 9 ∷ 10 ∷ 11 ∷ 12 ∷ 13 ∷ 14 ∷ 15 ∷ 16 ∷ 17 ∷ 18 ∷ 19 ∷ 20 ∷ 21 ∷ 22 ∷ 23 ∷ 24 ∷ 25 ∷ 26 ∷ 27 ∷ 0 ∷ 28 ∷
-        29 ∷ 30 ∷ 31 ∷ 32 ∷ 33 ∷ 34 ∷ []) $
+        sorts ! 1 27 (keep ! (0 ∷ 1 ∷ 2 ∷ 3 ∷ 4 ∷ 5 ∷ 6 ∷ 7 ∷ [])) $
         worded known₁ f is-f e-f)
 
   walk : (C : Calls 𝓤 H) (Λ : Loops 𝓤 H) → FmC 𝓤 H (W .laws) C
@@ -296,8 +296,7 @@ module _ {M : Type 1} (𝓤 : URA M) (H : Heap 𝓤) (A : Atoms 𝓤) (W : Given
       pass1 ! (init ! 12 refl (tt, (tt, (record { fits = g3 .0 }, tt)))) $
       pass1 ! (init ! 10 refl (tt, (tt, (record { fits = g4 .0 }, tt)))) $
       pass0 ! $ move ! (27 ∷ []) $ fsplits ! Own $ move ! (33 ∷ []) $ splits ! Toks $
-      keep ! (12 ∷ 13 ∷ 14 ∷ 15 ∷ 16 ∷ 17 ∷ 18 ∷ 19 ∷ 20 ∷ 21 ∷ 22 ∷ 23 ∷ 24 ∷ 25 ∷ 26 ∷ 27 ∷ 28 ∷ 29 ∷ 30 ∷ 31 ∷ 32 ∷ 33 ∷ 34 ∷ 35 ∷ 36 ∷ 37 ∷ 4 ∷ 3
-      ∷ 2 ∷ 1 ∷ 0 ∷ 11 ∷ 9 ∷ 8 ∷ 6 ∷ 5 ∷ []) $
+      sorts ! 12 26 (keep ! (4 ∷ 3 ∷ 2 ∷ 1 ∷ 0 ∷ 11 ∷ 9 ∷ 8 ∷ 6 ∷ 5 ∷ [])) $
       begun C Λ fm l0 l1 l2 l3 l4 l5 l6 l7 l8 l9 l10 l11 l12 known₀ known₁)))))))))))))
 
 module _ {M : Type 1} (𝓤 : URA M) (H : Heap 𝓤) (A : Atoms 𝓤) (W : Given 𝓤 H A) (mem : Memory → SProp 𝓤) (run : Routine → Fun 𝓤) where

@@ -56,6 +56,7 @@ use Rattle.mail.proofs.core.take_in.Symbol.{name as #mail·core·taken}
 use Rattle.mail.proofs.core.take_in.Met as words-thm
 use Rattle.calls.proofs.Walking.{R, F, low, word, bytes, words32, records, slice}
 use Rattle.calls.proofs.Walking.{sepAll, fsepAll, splits, joins, fsplits, fjoins, Flatten, flattens}
+use Rattle.calls.proofs.Orders.{forgets, sorts, turned}
 use Rattle.calls.proofs.transport.rolwyddac_take_in.Key.{name as #calls·taking}
 use Rattle.calls.proofs.transport.rolwyddac_take_in as taking
 use Rattle.calls.proofs.transport.rolwyddac_take_in.Statement as stated
@@ -330,11 +331,10 @@ module _ {M : Type 1} (𝓤 : URA M) (H : Heap 𝓤) (A : Atoms 𝓤) (W : Given
         peeks ! u32 (Is u32) (shows 𝓤 H A u32) r (w ∷ []) (λ is′.
         land ! (from ! (stop !)) (init ! 42 refl (uint-lawful 𝓤 H A W w32 .typed r _ is′ .0)) $
         rewrite ! 42 (λ (u : Val). ‵ (fat fullShare word l0 0 u)) (ap only (uint-tells w32 r (w ∷ []) is′)) refl $
-        returns ! (look ! 42 refl) $ forget ! 42 refl $ forget ! 40 refl $ forget ! 38 refl $ forget ! 36 refl $ forget ! 34 refl $ forget ! 32 refl $
-        forget ! 30 refl $ forget ! 28 refl $ forget ! 26 refl $ forget ! 24 refl $ forget ! 22 refl $ forget ! 20 refl $ forget ! 18 refl $ forget !
-        16 refl $ forget ! 14 refl $ forget ! 12 refl $
-        keep ! (42 ∷ 43 ∷ 40 ∷ 41 ∷ 38 ∷ 39 ∷ 36 ∷ 37 ∷ 34 ∷ 35 ∷ 32 ∷ 33 ∷ 30 ∷ 31 ∷ 28 ∷ 29 ∷ 26 ∷ 27 ∷ 24 ∷ 25 ∷ 22 ∷ 23 ∷ 20 ∷ 21 ∷ 18 ∷ 19 ∷ 16 ∷
-        17 ∷ 14 ∷ 15 ∷ 12 ∷ 13 ∷ 1 ∷ 44 ∷ 3 ∷ 2 ∷ []) $
+        returns ! (look ! 42 refl) $
+        forgets ! 12 (((_, _), _) ∷ ((_, _), _) ∷ ((_, _), _) ∷ ((_, _), _) ∷ ((_, _), _) ∷ ((_, _), _) ∷ ((_, _), _) ∷ ((_, _), _) ∷ ((_, _), _)
+        ∷ ((_, _), _) ∷ ((_, _), _) ∷ ((_, _), _) ∷ ((_, _), _) ∷ ((_, _), _) ∷ ((_, _), _) ∷ ((_, _), _) ∷ []) refl $
+        sorts ! 12 32 (keep ! (1 ∷ 12 ∷ 3 ∷ 2 ∷ [])) $ turned ! 16 $
         free-all ! _ $ by ! (exits r (us .1 .1 .1 .1 .0) (us .1 .1 .1 .1 .1 .1 .0) (is′ .1) e3 e5 (said (flatWords (now x4)) e-f)))))))))
 
     begun : Triple 𝓤 (C #records·flatten) (Flatten 𝓤 H A mem run) → Triple 𝓤 (C #mail·core·taken) (Words 𝓤 H A mem run)
@@ -348,8 +348,7 @@ module _ {M : Type 1} (𝓤 : URA M) (H : Heap 𝓤) (A : Atoms 𝓤) (W : Given
         move ! (36 ∷ 43 ∷ []) $
         flattens mem run κ4 q4 x4 ! fm known₀ (named 4) (and-then ! (load ! (from ! (stop !)) (look ! 19 refl)) (no-more !)) (λ f is-f e-f.
         land ! (from ! (stop !)) (init ! 9 refl (LL.lawful S.the-type S′.the-laws 𝓤 H A W .typed f _ is-f .0)) $
-        keep ! (1 ∷ 2 ∷ 3 ∷ 4 ∷ 5 ∷ 6 ∷ 7 ∷ 8 ∷ 9 ∷ 10 ∷ 11 ∷ 12 ∷ 13 ∷ 14 ∷ 15 ∷ 16 ∷ 17 ∷ 18 ∷ 19 ∷ 20 ∷ 21 ∷ 22 ∷ 23 ∷ 24 ∷ 25 ∷ 26 ∷ 27 ∷ 28 ∷ 29
-        ∷ 30 ∷ 31 ∷ 32 ∷ 33 ∷ 34 ∷ 35 ∷ 36 ∷ 0 ∷ 37 ∷ 38 ∷ 39 ∷ 40 ∷ 41 ∷ 42 ∷ 43 ∷ 44 ∷ []) $
+        sorts ! 1 36 (keep ! (0 ∷ 1 ∷ 2 ∷ 3 ∷ 4 ∷ 5 ∷ 6 ∷ 7 ∷ 8 ∷ [])) $
         worded known₁ f is-f e-f)
 
   walk : (C : Calls 𝓤 H) (Λ : Loops 𝓤 H) → FmC 𝓤 H (W .laws) C
@@ -377,8 +376,7 @@ module _ {M : Type 1} (𝓤 : URA M) (H : Heap 𝓤) (A : Atoms 𝓤) (W : Given
       pass1 ! (init ! 12 refl (tt, record { fits = message-fits })) $
       pass1 ! (init ! 10 refl (tt, (tt, (record { fits = g6 .0 }, tt)))) $
       pass0 ! $ move ! (33 ∷ []) $ fsplits ! Own $ move ! (42 ∷ []) $ splits ! Toks $
-      keep ! (17 ∷ 18 ∷ 19 ∷ 20 ∷ 21 ∷ 22 ∷ 23 ∷ 24 ∷ 25 ∷ 26 ∷ 27 ∷ 28 ∷ 29 ∷ 30 ∷ 31 ∷ 32 ∷ 33 ∷ 34 ∷ 35 ∷ 36 ∷ 37 ∷ 38 ∷ 39 ∷ 40 ∷ 41 ∷ 42 ∷ 43 ∷
-      44 ∷ 45 ∷ 46 ∷ 47 ∷ 48 ∷ 6 ∷ 5 ∷ 4 ∷ 3 ∷ 2 ∷ 1 ∷ 0 ∷ 16 ∷ 14 ∷ 13 ∷ 12 ∷ 11 ∷ 10 ∷ 7 ∷ []) $
+      sorts ! 17 32 (keep ! (6 ∷ 5 ∷ 4 ∷ 3 ∷ 2 ∷ 1 ∷ 0 ∷ 16 ∷ 14 ∷ 13 ∷ 12 ∷ 11 ∷ 10 ∷ 7 ∷ [])) $
       begun C Λ fm l0 l1 l2 l3 l4 l5 l6 l7 l8 l9 l10 l11 l12 l13 l14 l15 known₀ known₁))))))))))))))))
 
 module _ {M : Type 1} (𝓤 : URA M) (H : Heap 𝓤) (A : Atoms 𝓤) (W : Given 𝓤 H A) (mem : Memory → SProp 𝓤) (run : Routine → Fun 𝓤) where

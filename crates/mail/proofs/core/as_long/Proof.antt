@@ -2,7 +2,7 @@
 use native.Mathlib.Omega.{arith}
 use mathlib.Core.Path.{_∙_}
 use Rattle.plan.specs.Shaped.{planOf}
-use Rattle.mail.proofs.Taking as taking
+use Rattle.arrivals.proofs.Taking as taking
 use borrow.Author.Needs.{needs}
 use Rattle.mail.proofs.core.as_long.Statement.{statement}
 use Rattle.mail.proofs.core.as_long.Tie as tie

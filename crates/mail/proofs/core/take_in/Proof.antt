@@ -1,8 +1,6 @@
 -- `core::take_in` meets its contract: each return by the line that counts.
-use native.Mathlib.Omega.{arith}
-use Prim.Native.Nat.{ℕ, _-_}
+use Prim.Native.Nat.{_-_}
 use mathlib.Core.Path.{refl, sym, _∙_}
-use mathlib.Core.List.{List}
 use lib.ListN.{take, drop}
 use borrow.Author.Tests.{not-true, not-false}
 use Rattle.routes.proofs.Laws.{accepted-for}
@@ -11,7 +9,7 @@ use Rattle.machine.specs.Machine.{stateOf}
 use Rattle.engine.proofs.Lines as lines
 use Rattle.engine.proofs.Reading as reading
 use Rattle.mail.proofs.Answers as answers
-use Rattle.mail.proofs.Taking as taking
+use Rattle.arrivals.proofs.Taking as taking
 use borrow.Author.Needs.{needs}
 use Rattle.mail.proofs.core.take_in.Statement.{statement}
 use Rattle.mail.proofs.core.take_in.Tie as tie

@@ -43,4 +43,10 @@ returns-2 c =
 pub arrive-spec : {M : Type 1} → statement M
 arrive-spec =
     tie.close
-    (tie.spec open-requires returns arrive-part-requires same-length same-length-2 returns-2)
+    (tie.spec
+    open-requires
+    arrive-part-requires
+    returns
+    same-length
+    same-length-2
+    returns-2)

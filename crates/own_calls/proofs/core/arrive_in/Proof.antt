@@ -87,12 +87,12 @@ arrive-in-spec =
     tie.close
     (tie.spec
     as-long-requires
-    returns
     unfit-requires
+    receive-requires
+    returns
     same-length
     same-length-2
     returns-2
-    receive-requires
     same-length-3
     same-length-4
     returns-3)

@@ -43,7 +43,7 @@ collect-spec =
     tie.close
     (tie.spec
     open-requires
-    returns
     collect-part-requires
+    returns
     same-length
     returns-2)

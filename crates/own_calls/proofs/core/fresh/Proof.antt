@@ -54,8 +54,8 @@ fresh-spec =
     tie.close
     (tie.spec
     open-requires
-    returns
     fresh-part-requires
+    returns
     same-length
     same-length-2
     same-length-3

@@ -82,13 +82,13 @@ fresh-part-spec =
     prepare-requires
     kept-count-requires
     part-fits-requires
+    zero-words-requires
+    zero-words-requires-2
+    zero-bytes-requires
     same-length
     same-length-2
     same-length-3
     returns
-    zero-words-requires
-    zero-words-requires-2
-    zero-bytes-requires
     same-length-4
     same-length-5
     same-length-6

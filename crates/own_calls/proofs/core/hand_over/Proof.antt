@@ -137,7 +137,6 @@ pub hand-over-spec : {M : Type 1} → statement M
 hand-over-spec =
     tie.close
     (tie.spec
-    returns
     mul-word-index
     element-copy-out-word-index
     word-index-requires
@@ -145,9 +144,10 @@ hand-over-spec =
     mul-word-index-2
     element-copy-out-word-index-2
     word-index-requires-2
-    returns-2
     slice-read-if3
-    returns-3
     slice-write-marks
+    returns
+    returns-2
+    returns-3
     same-length
     returns-4)

@@ -38,4 +38,9 @@ returns-2 c =
     (A .marks .now)) (A .message) (if1 .left) _ (post-part .ensures l h)
 
 pub post-spec : {M : Type 1} → statement M
-post-spec = tie.close (tie.spec open-requires returns post-part-requires same-length returns-2)
+post-spec = tie.close (tie.spec
+    open-requires
+    post-part-requires
+    returns
+    same-length
+    returns-2)

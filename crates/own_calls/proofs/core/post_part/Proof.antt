@@ -77,8 +77,8 @@ post-part-spec =
     prepare-requires
     kept-count-requires
     unfit-requires
+    hand-over-requires
     same-length
     returns
-    hand-over-requires
     same-length-2
     returns-2)

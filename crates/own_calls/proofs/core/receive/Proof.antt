@@ -1,15 +1,17 @@
 -- `core::receive` meets its contract: each return by the line that counts.
 use Prim.Native.Nat.{ℕ, _<_}
-use mathlib.Core.Path.{sym, ap, _∙_}
+use mathlib.Core.Path.{refl, sym, ap, _∙_}
 use mathlib.Core.List.{[]}
 use native.Mathlib.Omega.{arith}
 use Rattle.base.specs.Lists.{put}
+use Rattle.base.proofs.Tests.{pick-true, pick-false}
 use Rattle.machine.specs.Plan.{count}
 use Rattle.machine.specs.Machine.{stateOf}
 use Rattle.plan.specs.Shaped.{planOf}
 use Rattle.table.specs.Summary.{lineOf}
 use Rattle.stages.proofs.Parts as parts
-use Rattle.mail.proofs.Taking as taking
+use Rattle.arrivals.proofs.Taking as taking
+use Rattle.own_front.proofs.Wide.{state-is}
 use Rattle.own_calls.proofs.Answers as answers
 use borrow.Author.Needs.{needs}
 use Rattle.own_calls.proofs.core.receive.Statement.{statement}
@@ -66,16 +68,31 @@ element-copy-out-word-index c =
 word-index-requires-2 : tie.Need-word-index-requires-2
 word-index-requires-2 c κs = search needs
 
-slice-read-if3 : tie.Need-slice-read-if3
-slice-read-if3 c =
-    let S = c .before .before .before .before .before .before .before .before .before .before .before in
+mul-word-index-2 : tie.Need-mul-word-index-2
+mul-word-index-2 c =
+    let if1 = c .before .before .before .before .before .before .if1 in
+    let S = c .before .before .before .before .before .before .before .before .before .before in
+    omega (arith, if1 .left, S .pre .1 .0, S .pre .0 .few)
+
+element-copy-out-word-index-2 : tie.Need-element-copy-out-word-index-2
+element-copy-out-word-index-2 c =
+    let if1 = c .before .before .before .before .before .before .if1 in
+    let S = c .before .before .before .before .before .before .before .before .before .before in
+    omega (arith, if1 .left, S .pre .1 .0, S .pre .0 .few)
+
+word-index-requires-3 : tie.Need-word-index-requires-3
+word-index-requires-3 c κs = search needs
+
+arrived-requires : tie.Need-arrived-requires
+arrived-requires c κs =
+    let S = c .before .before .before .before .before .before .before .before .before .before .before .before .before in
     let A = S .args in
-    let if1 = c .before .before .before .before .before .before .before .if1 in
-    let word-index = c .before .before .before .before .word-index in
-    let if2 = c .before .before .before .if2 in
-    let line-at = c .before .before .before .before .before .line-at in
-    let nth = c .before .before .before .before .before .before .nth in
-    let word-index2 = c .before .word-index2 in
+    let if1 = c .before .before .before .before .before .before .before .before .before .if1 in
+    let nth = c .before .before .before .before .before .before .before .before .nth in
+    let line-at = c .before .before .before .before .before .before .before .line-at in
+    let word-index = c .before .before .before .before .before .before .word-index in
+    let if2 = c .before .before .before .before .before .if2 in
+    let word-index2 = c .before .before .before .word-index2 in
     let p = planOf (A .sizes .route) (A .nest) in
     let lo : A .m < count p = omega (arith, if1 .left, S .pre .1 .0) in
     let here = sym (word-index .ensures) ∙ if2 .left in
@@ -84,49 +101,17 @@ slice-read-if3 c =
     answers.mark-low p (A .b) (A .m) (word-index2 .result) (A .marks .now) (S .pre .1 .1 .marks-long) lo mine (word-index2 .ensures ∙ S .pre .0 .ranks (A .m)
     (omega (arith, lo)))
 
-returns-3 : tie.Need-returns-3
-returns-3 c =
-    let S = c .before .before .before .before .before .before .before .before .before .before .before .before in
-    let A = S .args in
-    let if1 = c .before .before .before .before .before .before .before .before .if1 in
-    let word-index = c .before .before .before .before .before .word-index in
-    let if2 = c .before .before .before .before .if2 in
-    let line-at = c .before .before .before .before .before .before .line-at in
-    let nth = c .before .before .before .before .before .before .before .nth in
-    let word-index2 = c .before .before .word-index2 in
-    let if3 = c .if3 in
-    let p = planOf (A .sizes .route) (A .nest) in
-    let lo : A .m < count p = omega (arith, if1 .left, S .pre .1 .0) in
-    let here = sym (word-index .ensures) ∙ if2 .left in
-    λ ms l. answers.come-again p (A .b) (stateOf ms (A .mail .now) l (A .marks .now)) (A .m) (A .words .now) (line-at .result)
-    (line-at .ensures ∙ ap (lineOf p) (nth .ensures .number)) lo here (word-index2 .result) (word-index2 .ensures ∙ S .pre .0 .ranks (A .m)
-    (omega (arith, lo))) (if3 .taken)
-
-mul-word-index-2 : tie.Need-mul-word-index-2
-mul-word-index-2 c =
-    let if1 = c .before .before .before .before .before .before .before .before .before .if1 in
-    let S = c .before .before .before .before .before .before .before .before .before .before .before .before .before in
-    omega (arith, if1 .left, S .pre .1 .0, S .pre .0 .few)
-
-element-copy-out-word-index-2 : tie.Need-element-copy-out-word-index-2
-element-copy-out-word-index-2 c =
-    let if1 = c .before .before .before .before .before .before .before .before .before .if1 in
-    let S = c .before .before .before .before .before .before .before .before .before .before .before .before .before in
-    omega (arith, if1 .left, S .pre .1 .0, S .pre .0 .few)
-
-word-index-requires-3 : tie.Need-word-index-requires-3
-word-index-requires-3 c κs = search needs
-
 store-words-requires : tie.Need-store-words-requires
 store-words-requires c κs =
-    let S = c .before .before .before .before .before .before .before .before .before .before .before .before .before .before .before in
+    let at-if = c .before in
+    let S = at-if .before .before .before .before .before .before .before .before .before .before .before .before .before .before .before .before .before in
     let A = S .args in
-    let if1 = c .before .before .before .before .before .before .before .before .before .before .before .if1 in
-    let word-index = c .before .before .before .before .before .before .before .before .word-index in
-    let if2 = c .before .before .before .before .before .before .before .if2 in
-    let line-at = c .before .before .before .before .before .before .before .before .before .line-at in
-    let nth = c .before .before .before .before .before .before .before .before .before .before .nth in
-    let word-index3 = c .word-index3 in
+    let if1 = at-if .before .before .before .before .before .before .before .before .before .before .before .before .before .if1 in
+    let nth = at-if .before .before .before .before .before .before .before .before .before .before .before .before .nth in
+    let line-at = at-if .before .before .before .before .before .before .before .before .before .before .before .line-at in
+    let word-index = at-if .before .before .before .before .before .before .before .before .before .before .word-index in
+    let if2 = at-if .before .before .before .before .before .before .before .before .before .if2 in
+    let word-index3 = at-if .before .before .before .before .before .word-index3 in
     let p = planOf (A .sizes .route) (A .nest) in
     let lo : A .m < count p = omega (arith, if1 .left, S .pre .1 .0) in
     let here = sym (word-index .ensures) ∙ if2 .left in
@@ -135,72 +120,78 @@ store-words-requires c κs =
     answers.room p (A .b) (A .m) (word-index3 .result) _ (A .mail .now) (S .pre .1 .1 .mail-long) lo mine
     (word-index3 .ensures ∙ S .pre .0 .places (A .m) (omega (arith, lo))) (taking.long-here p (A .m) (A .words .now) lo (S .pre .1 .1 .long))
 
-slice-write-marks : tie.Need-slice-write-marks
-slice-write-marks c =
-    let S = c .before .before .before .before .before .before .before .before .before .before .before .before .before .before .before .before .before .before in
-    let A = S .args in
-    let if1 = c .before .before .before .before .before .before .before .before .before .before .before .before .before .before .if1 in
-    let word-index = c .before .before .before .before .before .before .before .before .before .before .before .word-index in
-    let if2 = c .before .before .before .before .before .before .before .before .before .before .if2 in
-    let line-at = c .before .before .before .before .before .before .before .before .before .before .before .before .line-at in
-    let nth = c .before .before .before .before .before .before .before .before .before .before .before .before .before .nth in
-    let word-index2 = c .before .before .before .before .before .before .before .before .word-index2 in
-    let p = planOf (A .sizes .route) (A .nest) in
-    let lo : A .m < count p = omega (arith, if1 .left, S .pre .1 .0) in
-    let here = sym (word-index .ensures) ∙ if2 .left in
-    let mine = answers.come-handled p (A .b) (stateOf [] (A .mail .now) [] (A .marks .now)) (A .m) (A .words .now) (line-at .result)
-    (line-at .ensures ∙ ap (lineOf p) (nth .ensures .number)) lo here in
-    answers.mark-low p (A .b) (A .m) (word-index2 .result) (A .marks .now) (S .pre .1 .1 .marks-long) lo mine (word-index2 .ensures ∙ S .pre .0 .ranks (A .m)
-    (omega (arith, lo)))
-
 same-length : tie.Need-same-length
 same-length c = search needs
 
 same-length-2 : tie.Need-same-length-2
 same-length-2 c = search needs
 
-returns-4 : tie.Need-returns-4
-returns-4 c =
-    let S = c .before .before .before .before .before .before .before .before .before .before .before .before .before .before .before .before .before .before in
+returns-3 : tie.Need-returns-3
+returns-3 c =
+    let at-if = c .before .before .before .before in
+    let S = at-if .before .before .before .before .before .before .before .before .before .before .before .before .before .before .before .before .before in
     let A = S .args in
-    let if1 = c .before .before .before .before .before .before .before .before .before .before .before .before .before .before .if1 in
-    let word-index = c .before .before .before .before .before .before .before .before .before .before .before .word-index in
-    let if2 = c .before .before .before .before .before .before .before .before .before .before .if2 in
-    let line-at = c .before .before .before .before .before .before .before .before .before .before .before .before .line-at in
-    let nth = c .before .before .before .before .before .before .before .before .before .before .before .before .before .nth in
-    let word-index2 = c .before .before .before .before .before .before .before .before .word-index2 in
-    let if3 = c .before .before .before .before .before .before .if3 in
+    let if1 = at-if .before .before .before .before .before .before .before .before .before .before .before .before .before .if1 in
+    let nth = at-if .before .before .before .before .before .before .before .before .before .before .before .before .nth in
+    let line-at = at-if .before .before .before .before .before .before .before .before .before .before .before .line-at in
+    let word-index = at-if .before .before .before .before .before .before .before .before .before .before .word-index in
+    let if2 = at-if .before .before .before .before .before .before .before .before .before .if2 in
+    let word-index2 = at-if .before .before .before .before .before .before .before .word-index2 in
+    let word-index3 = at-if .before .before .before .before .before .word-index3 in
+    let arrived = at-if .before .before .before .arrived in
+    let if3 = at-if .if3 in
     let store-words = c .before .before .store-words in
-    let word-index3 = c .before .before .before .word-index3 in
     let p = planOf (A .sizes .route) (A .nest) in
     let lo : A .m < count p = omega (arith, if1 .left, S .pre .1 .0) in
     let here = sym (word-index .ensures) ∙ if2 .left in
-    let mine = answers.come-handled p (A .b) (stateOf [] (A .mail .now) [] (A .marks .now)) (A .m) (A .words .now) (line-at .result)
-    (line-at .ensures ∙ ap (lineOf p) (nth .ensures .number)) lo here in
     λ ms l. answers.come-done p (A .b) (stateOf ms (A .mail .now) l (A .marks .now)) (A .m) (A .words .now) (line-at .result)
     (line-at .ensures ∙ ap (lineOf p) (nth .ensures .number)) lo here (word-index2 .result) (word-index2 .ensures ∙ S .pre .0 .ranks (A .m)
-    (omega (arith, lo))) (if3 .left) _
+    (omega (arith, lo))) (arrived .result) (arrived .ensures .0) (if3 .taken) _ _
     (store-words .ensures ∙ ap (λ (i : ℕ). put (A .mail .now) i (A .words .now)) (word-index3 .ensures ∙ S .pre .0 .places (A .m) (omega (arith, lo))))
+    (arrived .ensures .1 ∙ pick-true _ _ _ (if3 .taken))
+
+same-length-3 : tie.Need-same-length-3
+same-length-3 c = search needs
+
+returns-4 : tie.Need-returns-4
+returns-4 c =
+    let S = c .before .before .before .before .before .before .before .before .before .before .before .before .before .before .before .before .before in
+    let A = S .args in
+    let if1 = c .before .before .before .before .before .before .before .before .before .before .before .before .before .if1 in
+    let nth = c .before .before .before .before .before .before .before .before .before .before .before .before .nth in
+    let line-at = c .before .before .before .before .before .before .before .before .before .before .before .line-at in
+    let word-index = c .before .before .before .before .before .before .before .before .before .before .word-index in
+    let if2 = c .before .before .before .before .before .before .before .before .before .if2 in
+    let word-index2 = c .before .before .before .before .before .before .before .word-index2 in
+    let arrived = c .before .before .before .arrived in
+    let if3 = c .if3 in
+    let p = planOf (A .sizes .route) (A .nest) in
+    let lo : A .m < count p = omega (arith, if1 .left, S .pre .1 .0) in
+    let here = sym (word-index .ensures) ∙ if2 .left in
+    λ ms l. answers.come-again p (A .b) (stateOf ms (A .mail .now) l (A .marks .now)) (A .m) (A .words .now) (line-at .result)
+    (line-at .ensures ∙ ap (lineOf p) (nth .ensures .number)) lo here (word-index2 .result) (word-index2 .ensures ∙ S .pre .0 .ranks (A .m)
+    (omega (arith, lo))) (arrived .result) (arrived .ensures .0) (if3 .left) _
+    (state-is refl refl refl (arrived .ensures .1 ∙ pick-false _ _ _ (if3 .left)))
 
 pub receive-spec : {M : Type 1} → statement M
 receive-spec =
     tie.close
     (tie.spec
-    returns
     nth-requires
     line-at-requires
     word-index-requires
-    returns-2
     mul-word-index
     element-copy-out-word-index
     word-index-requires-2
-    slice-read-if3
-    returns-3
     mul-word-index-2
     element-copy-out-word-index-2
     word-index-requires-3
+    arrived-requires
     store-words-requires
-    slice-write-marks
+    returns
+    returns-2
     same-length
     same-length-2
+    returns-3
+    same-length-3
     returns-4)

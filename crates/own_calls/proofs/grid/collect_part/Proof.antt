@@ -126,10 +126,10 @@ collect-part-spec =
     slice-aggregate-keep-cells
     keep-cells-requires
     uncollected-requires
-    same-length
-    returns
     array-share-prefix-kept
     slice-aggregate-put-own
     put-own-requires
+    same-length
+    returns
     same-length-2
     returns-2)

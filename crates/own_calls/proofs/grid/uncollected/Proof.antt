@@ -132,16 +132,16 @@ pub uncollected-spec : {M : Type 1} → statement M
 uncollected-spec =
     tie.close
     (tie.spec
-    returns
-    returns-2
-    returns-3
     array-read-fit-own
     array-read-fit-own-2
     array-read-fit-own-3
     fit-own-requires
-    returns-4
     array-read-word-index
     word-index-requires
     tile-count-requires
+    returns
+    returns-2
+    returns-3
+    returns-4
     returns-5
     returns-6)

@@ -93,7 +93,7 @@ messages-part-spec =
     array-read-word-index
     word-index-requires
     mul-if1
-    returns
     put-rows-requires
+    returns
     same-length
     returns-2)

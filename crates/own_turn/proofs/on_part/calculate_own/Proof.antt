@@ -3,7 +3,7 @@ use Prim.Native.Nat.{ℕ}
 use mathlib.Core.Path.{refl, sym, subst, _∙_}
 use mathlib.Core.List.{List}
 use lib.ListN.{replicate, length-replicate}
-use Rattle.own.specs.Part.{Counted}
+use Rattle.ranks.specs.Ranks.{Counted}
 use Rattle.own_front.proofs.Front as front
 use borrow.Author.Needs.{needs}
 use Rattle.own_turn.proofs.on_part.calculate_own.Statement.{statement}

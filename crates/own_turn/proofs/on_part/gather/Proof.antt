@@ -126,14 +126,14 @@ element-copy-out-word-index-2 c =
 word-index-requires-2 : tie.Need-word-index-requires-2 Inv-loop μ-loop
 word-index-requires-2 c κs = search needs
 
-slice-write-marks : tie.Need-slice-write-marks Inv-loop μ-loop
-slice-write-marks c =
-    let loop = c .before .before .before .before .before .before .before .before .before .before .loop in
-    let S = c .before .before .before .before .before .before .before .before .before .before .before .before .before .before .before .before in
+gathered-requires : tie.Need-gathered-requires Inv-loop μ-loop
+gathered-requires c κs =
+    let loop = c .before .before .before .before .before .before .before .before .before .before .before .loop in
+    let S = c .before .before .before .before .before .before .before .before .before .before .before .before .before .before .before .before .before in
     let A = S .args in
-    let nth-at = c .before .before .before .before .before .before .before .before .nth-at in
-    let loop-test = c .before .before .before .before .before .before .before .before .before .loop-test in
-    let word-index2 = c .word-index2 in
+    let nth-at = c .before .before .before .before .before .before .before .before .before .nth-at in
+    let loop-test = c .before .before .before .before .before .before .before .before .before .before .loop-test in
+    let word-index2 = c .before .word-index2 in
     omega (
       arith,
       loop .inv .1 .long-marks,
@@ -152,15 +152,17 @@ loop-less c = omega arith
 
 loop-again : tie.Need-loop-again Inv-loop μ-loop
 loop-again c =
-    let S = c .before .before .before .before .before .before .before .before .before .before .before .before .before .before .before .before in
+    let at-index = c .before .before .before .before in
+    let S = at-index .before .before .before .before .before .before .before .before .before .before .before .before .before .before .before .before in
     let A = S .args in
-    let loop = c .before .before .before .before .before .before .before .before .before .before .loop in
-    let nth-at = c .before .before .before .before .before .before .before .before .nth-at in
-    let take-from = c .before .before .before .before .take-from in
-    let count-at = c .before .before .before .before .before .before .before .before .before .before .before .count-at in
-    let word-index = c .before .before .before .before .before .before .word-index in
-    let word-index2 = c .word-index2 in
-    let loop-test = c .before .before .before .before .before .before .before .before .before .loop-test in
+    let loop = at-index .before .before .before .before .before .before .before .before .before .before .loop in
+    let nth-at = at-index .before .before .before .before .before .before .before .before .nth-at in
+    let take-from = at-index .before .before .before .before .take-from in
+    let count-at = at-index .before .before .before .before .before .before .before .before .before .before .before .count-at in
+    let word-index = at-index .before .before .before .before .before .before .word-index in
+    let word-index2 = at-index .word-index2 in
+    let gathered = c .before .before .gathered in
+    let loop-test = at-index .before .before .before .before .before .before .before .before .before .loop-test in
     let p = planOf (A .sizes .route) (A .nest) in
     let so = sound (A .sizes .route) (A .nest) (S .pre .0 .0 .known .planned .0 .accepted) in
     let L = loop in
@@ -169,13 +171,13 @@ loop-again c =
       take-from .kept .1 .1 .1 .1 .1 .1 .1 .0 ∙ L .inv .0,
       working.gather-again (A .sizes .route) (A .nest) (A .tile) (A .ranks .now) (A .places .now) (A .mail .now) (allOf p (A .b) (A .memory .now))
           (A .marks .now)
-          (count-at .result) (allOf p (A .b) (L .memory)) (allOf p (A .b) new) (L .marks) (L .j) (nth-at .result) (word-index .result) (word-index2 .result)
-          (L .inv .1) (loop-test .taken) q (word-index .ensures) (word-index2 .ensures) (kept.all-same p so (A .b) (A .kept .now) (S .pre .0 .0 .cells .are)
-          (L .memory) new)
+          (count-at .result) (allOf p (A .b) (L .memory)) (allOf p (A .b) new) (L .marks) (gathered .last .0) (L .j) (nth-at .result) (word-index .result)
+          (word-index2 .result) (L .inv .1) (loop-test .taken) q (word-index .ensures) (word-index2 .ensures)
+          (kept.all-same p so (A .b) (A .kept .now) (S .pre .0 .0 .cells .are) (L .memory) new)
           (kept.taken-all p so (A .b) (A .kept .now) (S .pre .0 .0 .cells .are) (nth-at .result .number) (omega (arith, q .number, q .low))
           (stage.due-cells (A .nest) (A .sizes) (A .b) (A .lens .now) (A .kept .now) (A .counts .now) (A .ranks .now) (A .places .now) (S .pre .0 .0) (A .tile)
           (S .pre .1 .1) (L .j) (nth-at .result) (omega (arith, loop .inv .1 .all, loop-test .taken)) q)
-          (L .memory) (L .inv .0 ∙ S .pre .0 .1 .memory) _ new (take-from .ensures)),
+          (L .memory) (L .inv .0 ∙ S .pre .0 .1 .memory) _ new (take-from .ensures)) (gathered .ensures),
     )
 
 same-length : tie.Need-same-length Inv-loop μ-loop
@@ -222,7 +224,7 @@ gather-spec =
     mul-word-index-2
     element-copy-out-word-index-2
     word-index-requires-2
-    slice-write-marks
+    gathered-requires
     add-j
     loop-less
     loop-again

@@ -1,0 +1,15 @@
+pub mod Ways
+pub mod Carried
+pub mod Travels
+pub mod Sets
+pub mod Dues
+pub mod Merged
+pub mod Nested
+pub mod Program
+pub mod Tiled
+pub mod Readers
+pub mod Exact
+pub mod Report
+pub mod ShapedNest
+pub mod ShapedExact
+pub mod Plans

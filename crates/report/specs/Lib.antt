@@ -1,0 +1,4 @@
+pub mod Report
+pub mod Travels
+pub mod Exact
+pub mod ExactShape

@@ -1,0 +1,109 @@
+// The records of a recipe, sixteen bytes each, from a nest: the numbers of each, spelled.
+use nest::Nest;
+use spelling::bound_record;
+use spelling::close_record;
+use spelling::dimension_record;
+use spelling::narrow_record;
+use spelling::wide_record;
+ghost use mathlib.Core.Path.{_≡_};
+ghost use Prim.Native.Nat.{ℕ, _+_, _*_, _<_, _≤_};
+ghost use lib.ListN.{getD};
+ghost use Rattle.nest.specs.Encode.{dimensionOf, boundOf, narrow, distanceOf, encode};
+
+pub fn wide(x: usize) -> u64
+    ensures { λ r. ⌜ r ≡ x ⌝ }
+{
+    x as u64
+}
+
+fn byte_wide(x: u8) -> u64
+    ensures { λ r. ⌜ r ≡ x ⌝ }
+{
+    x as u64
+}
+
+fn half_wide(x: u16) -> u64
+    ensures { λ r. ⌜ r ≡ x ⌝ }
+{
+    x as u64
+}
+
+fn dimension_of(nest: Nest, j: usize) -> [u8; 16]
+    requires { ⌜ j < 4 ⌝ }
+    ensures { λ r. ⌜ r ≡ dimensionOf nest j ⌝ }
+{
+    let lengths = nest.lengths;
+    let tiling = nest.tiling;
+    let counts = nest.counts;
+    dimension_record(wide(lengths[j]), wide(tiling[j]), wide(counts[j]))
+}
+
+fn bound_of(nest: Nest, k: usize) -> [u8; 16]
+    requires { ⌜ k < 4 ⌝ }
+    ensures { λ r. ⌜ r ≡ boundOf nest k ⌝ }
+{
+    let sides = nest.sides;
+    let bounded = nest.bounded;
+    let earlier = nest.earlier;
+    let slopes = nest.slopes;
+    let offsets = nest.offsets;
+    bound_record(
+        byte_wide(sides[k]),
+        byte_wide(bounded[k]),
+        byte_wide(earlier[k]),
+        byte_wide(slopes[k]),
+        half_wide(offsets[k]),
+    )
+}
+
+// Each component of distance e fits a byte.
+fn narrow(nest: Nest, e: usize) -> bool
+    requires { ⌜ e < 8 ⌝ }
+    ensures { λ r. ⌜ r ≡ narrow nest e ⌝ }
+{
+    let components = nest.components;
+    for j in 0..4 {
+        if components[4 * e + j] > 255 {
+            return false;
+        }
+    }
+    true
+}
+
+// Kind 4 only where kind 2 can't hold the distance.
+fn distance_of(nest: Nest, e: usize) -> [u8; 16]
+    requires { ⌜ e < 8 ⌝ }
+    ensures { λ r. ⌜ r ≡ distanceOf nest e ⌝ }
+{
+    let d = nest.components;
+    let weights = nest.weights;
+    let at = 4 * e;
+    let d1 = wide(d[at]);
+    let d2 = wide(d[at + 1]);
+    let d3 = wide(d[at + 2]);
+    let d4 = wide(d[at + 3]);
+    if narrow(nest, e) {
+        return narrow_record(d1, d2, d3, d4, weights[e]);
+    }
+    wide_record(d1, d2, d3, d4, weights[e])
+}
+
+// Record r: the dimensions, the bounds, the distances, the close.
+pub fn record_of(nest: Nest, r: usize) -> [u8; 16]
+    requires { ⌜ ((nest .dimensions ≤ 4) × (nest .bounds ≤ 4))
+        × ((nest .distances ≤ 8) × (r ≤ nest .dimensions + nest .bounds + nest .distances)) ⌝ }
+    ensures { λ o. ⌜ ((i : ℕ) → i < 16 → getD o i 0 ≡ getD (encode nest) (16 * r + i) 0) ⌝ }
+{
+    if r < nest.dimensions {
+        return dimension_of(nest, r);
+    }
+    let k = r - nest.dimensions;
+    if k < nest.bounds {
+        return bound_of(nest, k);
+    }
+    let e = k - nest.bounds;
+    if e < nest.distances {
+        return distance_of(nest, e);
+    }
+    close_record(nest.shift, nest.boundary)
+}
