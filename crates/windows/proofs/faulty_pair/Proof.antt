@@ -1,10 +1,10 @@
--- `hours::faulty_pair` meets its contract.
+-- `windows::faulty_pair` meets its contract.
 use borrow.Author.Needs.{needs}
 use Rattle.hours.proofs.Windows as W
-use Rattle.hours.proofs.faulty_pair.Statement.{statement}
-use Rattle.hours.proofs.faulty_pair.Tie as tie
-use Rattle.hours.proofs.faulty_pair.Reads as reads
-use Rattle.hours.proofs.faulty_pair.Lts as lts
+use Rattle.windows.proofs.faulty_pair.Statement.{statement}
+use Rattle.windows.proofs.faulty_pair.Tie as tie
+use Rattle.windows.proofs.faulty_pair.Reads as reads
+use Rattle.windows.proofs.faulty_pair.Lts as lts
 
 returns : tie.Need-returns
 returns c = W.faulty-high _ _ (c .if1 .taken)

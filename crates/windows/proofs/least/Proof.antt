@@ -1,11 +1,11 @@
--- `hours::least` meets its contract.
+-- `windows::least` meets its contract.
 use mathlib.Core.Path.{refl}
 use mathlib.Core.Logic.{inl, inr}
 use native.Mathlib.Omega.{arith}
-use Rattle.hours.proofs.least.Statement.{statement}
-use Rattle.hours.proofs.least.Tie as tie
-use Rattle.hours.proofs.least.Reads as reads
-use Rattle.hours.proofs.least.Lts as lts
+use Rattle.windows.proofs.least.Statement.{statement}
+use Rattle.windows.proofs.least.Tie as tie
+use Rattle.windows.proofs.least.Reads as reads
+use Rattle.windows.proofs.least.Lts as lts
 
 returns : tie.Need-returns
 returns c = record { first = omega arith; second = omega arith; one = inl refl }

@@ -1,4 +1,4 @@
--- `hours::open_at` meets its contract.
+-- `windows::open_at` meets its contract.
 use Prim.Native.Nat.{_-_, _≤_}
 use mathlib.Core.Path.{_≡_, sym, _∙_}
 use mathlib.Core.Bool.{false}
@@ -7,12 +7,12 @@ use borrow.Author.Needs.{needs}
 use Rattle.base.specs.Tests.{some}
 use Rattle.base.proofs.Tests.{some-one}
 use Rattle.base.proofs.Loops.{some-start, some-step, some-end}
 use Rattle.hours.specs.Hours.{inWindow, openAt}
-use Rattle.hours.proofs.open_at.Statement.{statement}
-use Rattle.hours.proofs.open_at.Tie as tie
-use Rattle.hours.proofs.open_at.Reads as reads
-use Rattle.hours.proofs.open_at.Lts as lts
-use Rattle.hours.proofs.covers.Reads as covers-reads
+use Rattle.windows.proofs.open_at.Statement.{statement}
+use Rattle.windows.proofs.open_at.Tie as tie
+use Rattle.windows.proofs.open_at.Reads as reads
+use Rattle.windows.proofs.open_at.Lts as lts
+use Rattle.windows.proofs.covers.Reads as covers-reads
 
 abbrev Inv-loop : tie.InvT-loop
 Inv-loop table b minute w₀ w = (w ≤ 14) × (some (inWindow table b minute) w ≡ false)

@@ -1,10 +1,10 @@
--- `hours::wait` meets its contract: one law for each return.
+-- `windows::wait` meets its contract: one law for each return.
 use Rattle.hours.proofs.Windows as W
 use borrow.Author.Needs.{needs}
-use Rattle.hours.proofs.wait.Statement.{statement}
-use Rattle.hours.proofs.wait.Tie as tie
-use Rattle.hours.proofs.wait.Reads as reads
-use Rattle.hours.proofs.wait.Lts as lts
+use Rattle.windows.proofs.wait.Statement.{statement}
+use Rattle.windows.proofs.wait.Tie as tie
+use Rattle.windows.proofs.wait.Reads as reads
+use Rattle.windows.proofs.wait.Lts as lts
 
 sub-result : tie.Need-sub-result
 sub-result c = search needs

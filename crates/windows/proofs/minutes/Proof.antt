@@ -1,15 +1,15 @@
--- `hours::minutes` meets its contract.
+-- `windows::minutes` meets its contract.
 use Prim.Native.Nat.{_-_, _≤_}
 use native.Mathlib.Omega.{arith}
 use borrow.Author.Needs.{needs}
 use Rattle.hours.proofs.Search as S
 use Rattle.hours.proofs.Windows as W
-use Rattle.hours.proofs.minutes.Statement.{statement}
-use Rattle.hours.proofs.minutes.Tie as tie
-use Rattle.hours.proofs.minutes.Reads as reads
-use Rattle.hours.proofs.minutes.Lts as lts
-use Rattle.hours.proofs.least.Reads as least-reads
-use Rattle.hours.proofs.wait.Reads as wait-reads
+use Rattle.windows.proofs.minutes.Statement.{statement}
+use Rattle.windows.proofs.minutes.Tie as tie
+use Rattle.windows.proofs.minutes.Reads as reads
+use Rattle.windows.proofs.minutes.Lts as lts
+use Rattle.windows.proofs.least.Reads as least-reads
+use Rattle.windows.proofs.wait.Reads as wait-reads
 
 abbrev Inv-loop : tie.InvT-loop
 Inv-loop table b minute soonest₀ w₀ soonest w = (w ≤ 14) × S.Soonest (S.openIn table b minute) w soonest

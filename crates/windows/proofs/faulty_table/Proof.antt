@@ -1,4 +1,4 @@
--- `hours::faulty_table` meets its contract.
+-- `windows::faulty_table` meets its contract.
 use Prim.Native.Nat.{_-_, _≤_}
 use mathlib.Core.Path.{_≡_, sym, _∙_}
 use mathlib.Core.Bool.{false}
@@ -7,12 +7,12 @@ use borrow.Author.Needs.{needs}
 use Rattle.base.specs.Tests.{some}
 use Rattle.base.proofs.Tests.{some-one}
 use Rattle.base.proofs.Loops.{some-start, some-step, some-end}
 use Rattle.hours.specs.Hours.{faultyBoard, faultyTable}
-use Rattle.hours.proofs.faulty_table.Statement.{statement}
-use Rattle.hours.proofs.faulty_table.Tie as tie
-use Rattle.hours.proofs.faulty_table.Reads as reads
-use Rattle.hours.proofs.faulty_table.Lts as lts
-use Rattle.hours.proofs.faulty_board.Reads as faulty-board-reads
+use Rattle.windows.proofs.faulty_table.Statement.{statement}
+use Rattle.windows.proofs.faulty_table.Tie as tie
+use Rattle.windows.proofs.faulty_table.Reads as reads
+use Rattle.windows.proofs.faulty_table.Lts as lts
+use Rattle.windows.proofs.faulty_board.Reads as faulty-board-reads
 
 abbrev Inv-loop : tie.InvT-loop
 Inv-loop table n b₀ b = (b ≤ n) × (some (faultyBoard table) b ≡ false)

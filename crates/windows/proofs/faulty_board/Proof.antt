@@ -1,4 +1,4 @@
--- `hours::faulty_board` meets its contract.
+-- `windows::faulty_board` meets its contract.
 use Prim.Native.Nat.{_-_, _≤_}
 use mathlib.Core.Path.{_≡_, sym, _∙_}
 use mathlib.Core.Bool.{false}
@@ -7,12 +7,12 @@ use borrow.Author.Needs.{needs}
 use Rattle.base.specs.Tests.{some}
 use Rattle.base.proofs.Tests.{some-one}
 use Rattle.base.proofs.Loops.{some-start, some-step, some-end}
 use Rattle.hours.specs.Hours.{faultyPair, faultyBoard}
-use Rattle.hours.proofs.faulty_board.Statement.{statement}
-use Rattle.hours.proofs.faulty_board.Tie as tie
-use Rattle.hours.proofs.faulty_board.Reads as reads
-use Rattle.hours.proofs.faulty_board.Lts as lts
-use Rattle.hours.proofs.faulty_pair.Reads as faulty-pair-reads
+use Rattle.windows.proofs.faulty_board.Statement.{statement}
+use Rattle.windows.proofs.faulty_board.Tie as tie
+use Rattle.windows.proofs.faulty_board.Reads as reads
+use Rattle.windows.proofs.faulty_board.Lts as lts
+use Rattle.windows.proofs.faulty_pair.Reads as faulty-pair-reads
 
 abbrev Inv-loop : tie.InvT-loop
 Inv-loop table b w₀ w = (w ≤ 14) × (some (faultyPair table b) w ≡ false)
