@@ -1,4 +1,4 @@
--- `reader::reached` meets its contract: no place that the loop has passed ends it.
+-- `distances::reached` meets its contract: no place that the loop has passed ends it.
 use Prim.Native.Nat.{_-_, _≤_}
 use mathlib.Core.Path.{_≡_, sym}
 use mathlib.Core.Bool.{false}
@@ -11,8 +11,8 @@ use Rattle.base.proofs.Tests.{some-one}
 use Rattle.nest.specs.Nest.{component}
 use Rattle.nest.specs.Reader.{reached}
 use Rattle.nest.proofs.Laws as L
-use Rattle.reader.proofs.reached.Statement.{statement}
-use Rattle.reader.proofs.reached.Tie as tie
+use Rattle.distances.proofs.reached.Statement.{statement}
+use Rattle.distances.proofs.reached.Tie as tie
 
 abbrev Inv-loop : tie.InvT-loop
 Inv-loop j nest n tile e₀ e = (e ≤ n) × (some (λ i. ltb tile (component nest i j)) e ≡ false)

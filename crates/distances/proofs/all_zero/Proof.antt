@@ -1,4 +1,4 @@
--- `reader::all_zero` meets its contract: no place that the loop has passed ends it.
+-- `distances::all_zero` meets its contract: no place that the loop has passed ends it.
 use Prim.Native.Nat.{_-_, _≤_}
 use mathlib.Core.Path.{_≡_, sym}
 use mathlib.Core.Bool.{true}
@@ -10,8 +10,8 @@ use Rattle.base.specs.Tests.{every}
 use Rattle.base.proofs.Tests.{every-not}
 use Rattle.nest.specs.Nest.{component}
 use Rattle.nest.proofs.Laws as L
-use Rattle.reader.proofs.all_zero.Statement.{statement}
-use Rattle.reader.proofs.all_zero.Tie as tie
+use Rattle.distances.proofs.all_zero.Statement.{statement}
+use Rattle.distances.proofs.all_zero.Tie as tie
 
 abbrev Inv-loop : tie.InvT-loop
 Inv-loop e nest j₀ j = (j ≤ 4) × (every (λ i. eqb (component nest e i) 0) j ≡ true)

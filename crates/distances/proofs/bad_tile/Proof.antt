@@ -1,4 +1,4 @@
--- `reader::bad_tile` meets its contract: no place that the loop has passed ends it.
+-- `distances::bad_tile` meets its contract: no place that the loop has passed ends it.
 use Prim.Native.Nat.{_-_, _≤_}
 use mathlib.Core.Path.{_≡_, sym, _∙_}
 use mathlib.Core.Bool.{false}
@@ -9,8 +9,8 @@ use Rattle.base.proofs.Tests.{some-one, or-left, or-right, or-false}
 use Rattle.nest.specs.Nest.{tileLength}
 use Rattle.nest.specs.Reader.{outside, reached, badTile}
 use Rattle.nest.proofs.Laws as L
-use Rattle.reader.proofs.bad_tile.Statement.{statement}
-use Rattle.reader.proofs.bad_tile.Tie as tie
+use Rattle.distances.proofs.bad_tile.Statement.{statement}
+use Rattle.distances.proofs.bad_tile.Tie as tie
 
 abbrev Inv-loop : tie.InvT-loop
 Inv-loop nest n j₀ j = (j ≤ n) × (some (λ i. outside (tileLength nest i) or reached nest i) j ≡ false)

@@ -1,4 +1,4 @@
--- `reader::beyond` meets its contract: no place that the loop has passed ends it.
+-- `distances::beyond` meets its contract: no place that the loop has passed ends it.
 use Prim.Native.Nat.{_-_, _≤_}
 use mathlib.Core.Path.{_≡_, sym}
 use mathlib.Core.Logic.{⊎-elim}
@@ -12,8 +12,8 @@ use Rattle.base.proofs.Tests.{some-one, and-true, and-false, and-no}
 use Rattle.nest.specs.Nest.{component}
 use Rattle.nest.specs.Reader.{beyond}
 use Rattle.nest.proofs.Laws as L
-use Rattle.reader.proofs.beyond.Statement.{statement}
-use Rattle.reader.proofs.beyond.Tie as tie
+use Rattle.distances.proofs.beyond.Statement.{statement}
+use Rattle.distances.proofs.beyond.Tie as tie
 
 abbrev Inv-loop : tie.InvT-loop
 Inv-loop e nest n j₀ j = (j ≤ 4) × (some (λ i. leb n i and ltb 0 (component nest e i)) j ≡ false)

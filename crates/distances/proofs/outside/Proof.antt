@@ -1,9 +1,9 @@
--- `reader::outside` meets its contract: each return by its branches.
+-- `distances::outside` meets its contract: each return by its branches.
 use borrow.Author.Tests.{eq-eqb, ne-eqb}
 use Rattle.base.specs.Tests.{_or_}
 use Rattle.nest.specs.Reader.{outside}
-use Rattle.reader.proofs.outside.Statement.{statement}
-use Rattle.reader.proofs.outside.Tie as tie
+use Rattle.distances.proofs.outside.Statement.{statement}
+use Rattle.distances.proofs.outside.Tie as tie
 
 returns : tie.Need-returns
 unfolding outside _or_

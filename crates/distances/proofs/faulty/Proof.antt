@@ -1,11 +1,11 @@
--- `reader::faulty` meets its contract: each return by its branches.
+-- `distances::faulty` meets its contract: each return by its branches.
 use mathlib.Core.Path.{sym, _∙_}
 use borrow.Author.Needs.{needs}
 use Rattle.base.proofs.Tests.{or-left, or-right}
 use Rattle.nest.specs.Reader.{beyond, faulty}
 use Rattle.nest.proofs.Laws as L
-use Rattle.reader.proofs.faulty.Statement.{statement}
-use Rattle.reader.proofs.faulty.Tie as tie
+use Rattle.distances.proofs.faulty.Statement.{statement}
+use Rattle.distances.proofs.faulty.Tie as tie
 
 all-zero-requires : tie.Need-all-zero-requires
 all-zero-requires c κs = search needs

@@ -1,4 +1,4 @@
--- `reader::same` meets its contract: no place that the loop has passed ends it.
+-- `distances::same` meets its contract: no place that the loop has passed ends it.
 use Prim.Native.Nat.{_-_, _≤_}
 use mathlib.Core.Path.{_≡_, sym}
 use mathlib.Core.Bool.{true}
@@ -11,8 +11,8 @@ use Rattle.base.proofs.Tests.{every-not}
 use Rattle.nest.specs.Nest.{component}
 use Rattle.nest.specs.Reader.{same}
 use Rattle.nest.proofs.Laws as L
-use Rattle.reader.proofs.same.Statement.{statement}
-use Rattle.reader.proofs.same.Tie as tie
+use Rattle.distances.proofs.same.Statement.{statement}
+use Rattle.distances.proofs.same.Tie as tie
 
 abbrev Inv-loop : tie.InvT-loop
 Inv-loop e f nest j₀ j = (j ≤ 4) × (every (λ i. eqb (component nest e i) (component nest f i)) j ≡ true)

@@ -1,4 +1,4 @@
--- `reader::bad_distance` meets its contract: no place that the loop has passed ends it.
+-- `distances::bad_distance` meets its contract: no place that the loop has passed ends it.
 use Prim.Native.Nat.{_-_, _≤_}
 use mathlib.Core.Path.{_≡_, sym, _∙_}
 use mathlib.Core.Bool.{false}
@@ -8,8 +8,8 @@ use Rattle.base.specs.Tests.{some}
 use Rattle.base.proofs.Tests.{some-one}
 use Rattle.nest.specs.Reader.{faulty, badDistance}
 use Rattle.nest.proofs.Laws as L
-use Rattle.reader.proofs.bad_distance.Statement.{statement}
-use Rattle.reader.proofs.bad_distance.Tie as tie
+use Rattle.distances.proofs.bad_distance.Statement.{statement}
+use Rattle.distances.proofs.bad_distance.Tie as tie
 
 abbrev Inv-loop : tie.InvT-loop
 Inv-loop nest n e₀ e = (e ≤ n) × (some (faulty nest) e ≡ false)
