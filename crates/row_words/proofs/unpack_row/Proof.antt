@@ -1,22 +1,22 @@
--- `runs::pack_row` meets its contract: the pieces before `at` are packed.
+-- `row_words::unpack_row` meets its contract: the words of the pieces before `at` are at their cells.
 use Prim.Native.Nat.{_-_}
 use native.Mathlib.Omega.{arith}
 use Rattle.runs.proofs.Laws as L
-use Rattle.runs.proofs.pack_row.Statement.{statement}
-use Rattle.runs.proofs.pack_row.Tie as tie
+use Rattle.row_words.proofs.unpack_row.Statement.{statement}
+use Rattle.row_words.proofs.unpack_row.Tie as tie
 
 abbrev Inv-loop : tie.InvT-loop
-Inv-loop words₀ memory starts ends n from component width packed to at₀ count₀ words at count =
-    L.Packing starts ends n from component width memory words₀ packed words at count
+Inv-loop memory₀ words starts ends n from component width unpacked to at₀ count₀ memory at count =
+    L.Unpacking starts ends n from component width memory₀ words unpacked memory at count
 
 abbrev μ-loop : tie.MeasureT-loop
-μ-loop words₀ memory starts ends n from component width packed to at₀ count₀ words at count = to - at
+μ-loop memory₀ words starts ends n from component width unpacked to at₀ count₀ memory at count = to - at
 
 add-to : tie.Need-add-to Inv-loop μ-loop
 add-to c = omega (arith, c .before .before .pre .small)
 
 loop-holds : tie.Need-loop-holds Inv-loop μ-loop
-loop-holds c = L.packing-none _ _ _ _ _ _ _ _ _
+loop-holds c = L.unpacking-none _ _ _ _ _ _ _ _ _
 
 piece-of-requires : tie.Need-piece-of-requires Inv-loop μ-loop
 piece-of-requires c κs = (c .before .before .before .before .pre .few, c .loop-test .taken)
@@ -34,8 +34,8 @@ copy-requires : tie.Need-copy-requires Inv-loop μ-loop
 copy-requires c κs =
     let start = c .before .before .before .before .before .before in
     let at-loop = c .before .before .before .loop in
-    rw (at-loop .inv .first .long)
-    (L.packs-fit _ _ _ _ _ _ _ _ _ (start .pre) _ _ (at-loop .inv .from)
+    rw (L.unpacking-long _ _ _ _ _ _ _ _ _ _ _ _ (at-loop .inv))
+    (L.unpacks-fit _ _ _ _ _ _ _ _ _ (start .pre) _ _ (at-loop .inv .from)
     (at-loop .inv .first .count-is) _ _ (c .before .piece-of .ensures))
 
 add-count : tie.Need-add-count Inv-loop μ-loop
@@ -58,17 +58,17 @@ loop-again : tie.Need-loop-again Inv-loop μ-loop
 loop-again c =
     let at-piece = c .before .before .before .before .before in
     let at-loop = at-piece .before .before in
-    L.packing-more _ _ _ _ _ _ _ _ _ _ _ _ (at-loop .loop .inv) (at-loop .before .before .before .pre) _ _ (at-piece .piece-of .ensures) _
+    L.unpacking-more _ _ _ _ _ _ _ _ _ _ _ _ (at-loop .loop .inv) (at-loop .before .before .before .pre) _ _ (at-piece .piece-of .ensures) _
     (c .before .before .before .copy .ensures)
 
 same-length : tie.Need-same-length Inv-loop μ-loop
-same-length c = c .before .loop .inv .first .long
+same-length c = L.unpacking-long _ _ _ _ _ _ _ _ _ _ _ _ (c .before .loop .inv)
 
 returns : tie.Need-returns Inv-loop μ-loop
-returns c = L.packing-end _ _ _ _ _ _ _ _ _ _ _ _ (c .before .loop .inv) (c .loop-test .left)
+returns c = L.unpacking-end _ _ _ _ _ _ _ _ _ _ _ _ (c .before .loop .inv) (c .loop-test .left)
 
-pub pack-row-spec : {M : Type 1} → statement M
-pack-row-spec =
+pub unpack-row-spec : {M : Type 1} → statement M
+unpack-row-spec =
     tie.close
     (tie.spec
     Inv-loop

@@ -1,9 +1,9 @@
--- `runs::copy` meets its contract: the first y words are copied.
+-- `row_words::copy` meets its contract: the first y words are copied.
 use Prim.Native.Nat.{_-_}
 use native.Mathlib.Omega.{arith}
 use Rattle.runs.proofs.Laws as L
-use Rattle.runs.proofs.copy.Statement.{statement}
-use Rattle.runs.proofs.copy.Tie as tie
+use Rattle.row_words.proofs.copy.Statement.{statement}
+use Rattle.row_words.proofs.copy.Tie as tie
 
 abbrev Inv-loop : tie.InvT-loop
 Inv-loop to₀ from at first n y₀ to y = L.Copies to₀ from at first n to y
