@@ -19,7 +19,7 @@ use Rattle.plan.specs.Geometry.{hasRead, readAt, value}
 use Rattle.layout.specs.CellRows.{rowOf}
 use Rattle.kernels.specs.Taps.{mixed, inLine, Mixes}
 use Rattle.kernels.proofs.Orders.{store-append, store-same}
-use Rattle.bands.specs.Bands.{Reads, InRow}
+use Rattle.lagged.specs.Bands.{Reads, InRow}
 
 pub store-row : (f : List ℕ → ℕ → ℕ) (l : List ℕ) (c n : ℕ) → storeAll f l (rowOf c (suc n)) ≡ set (storeAll f l (rowOf c n)) (c + n)
     (f (storeAll f l (rowOf c n)) (c + n))

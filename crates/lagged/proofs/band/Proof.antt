@@ -1,12 +1,12 @@
--- `bands::band` meets its contract: the first columns, the wave, the last columns. In a proof h1 to h8 are what is known after each
+-- `lagged::band` meets its contract: the first columns, the wave, the last columns. In a proof h1 to h8 are what is known after each
 -- call, and k1 to k8 say that it kept the memory's length.
 use native.Mathlib.Omega.{arith}
 use mathlib.Core.Path.{_∙_, sym}
-use Rattle.bands.specs.Bands.{four}
-use Rattle.bands.proofs.Waves.{band-mixes, band-stored, wave-fits, tail-fits}
+use Rattle.lagged.specs.Bands.{four}
+use Rattle.lagged.proofs.Waves.{band-mixes, band-stored, wave-fits, tail-fits}
 use borrow.Author.Needs.{needs}
-use Rattle.bands.proofs.band.Statement.{statement}
-use Rattle.bands.proofs.band.Tie as tie
+use Rattle.lagged.proofs.band.Statement.{statement}
+use Rattle.lagged.proofs.band.Tie as tie
 
 sub-full : tie.Need-sub-full
 sub-full c =

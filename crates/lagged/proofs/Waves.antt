@@ -27,9 +27,9 @@ use Rattle.plan.proofs.Tiles.{read-back, read-before}
 use Rattle.layout.specs.CellRows.{rowOf}
 use Rattle.kernels.specs.Taps.{made, inLine, waveOf, Fits, Mixes, All}
 use Rattle.kernels.proofs.Orders.{store-append, store-same}
-use Rattle.bands.specs.Bands.{InRow, four, rowsOf, Band, Spaced, Banded}
-use Rattle.bands.proofs.Orders.{Right, store-other, Causal, store-fixed, right-store, right-end}
-use Rattle.bands.proofs.Words.{store-row, in-row-of, row-mixes, row-values}
+use Rattle.lagged.specs.Bands.{InRow, four, rowsOf, Band, Spaced, Banded}
+use Rattle.lagged.proofs.Orders.{Right, store-other, Causal, store-fixed, right-store, right-end}
+use Rattle.lagged.proofs.Words.{store-row, in-row-of, row-mixes, row-values}
 
 -- ---- who is in a row, and in rows
 
