@@ -1,5 +1,5 @@
 // The reader: a recipe's bytes to a nest by value, or the number of the first line of document 01's table that refuses it.
-// `read` takes any bytes. Lines 1, 2 and 18 are tested on the bytes (crate `fields`), the others on the nest made of them (5 and 6: crate `distances`).
+// `read` takes any bytes. Lines 1, 2 and 18 test the bytes (crates `fields`, `distance_fields`), the others the nest made of them (5 and 6: crate `distances`).
 ghost use mathlib.Core.Path.{_≡_};
 ghost use mathlib.Core.List.{[]};
 ghost use Prim.Native.Nat.{ℕ, _+_, _*_, _<_, _≤_};
@@ -13,22 +13,22 @@ ghost use Rattle.nest.specs.Shape.{inShape, tiles};
 ghost use Rattle.nest.specs.Spans.{Framed, Tiled, Shaped};
 ghost use Rattle.nest.specs.Reader.{nestBy, badLength, badDistance, badTile, badSpread, lastSpread};
 ghost use Rattle.nest.specs.Reader.{badProcessors, tooManyTiles, nestLines, readingOf};
+use distance_fields::components_of;
+use distance_fields::needlessly_wide;
+use distance_fields::weights_of;
+use distance_fields::wide;
 use distances::bad_distance;
 use distances::bad_tile;
 use distances::outside;
 use fields::bytes_of;
-use fields::components_of;
 use fields::count_distances;
 use fields::count_kind;
 use fields::halves;
-use fields::needlessly_wide;
 use fields::offsets_of;
 use fields::ragged;
 use fields::slopes_of;
 use fields::spread_of;
-use fields::weights_of;
 use fields::well_formed;
-use fields::wide;
 use fields::word_at;
 use nest::Nest;
 use nest::Reading;

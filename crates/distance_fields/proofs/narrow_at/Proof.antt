@@ -1,4 +1,4 @@
--- `fields::narrow_at` meets its contract: no component that the loop has passed ends it.
+-- `distance_fields::narrow_at` meets its contract: no component that the loop has passed ends it.
 use Prim.Native.Nat.{_-_, _≤_}
 use mathlib.Core.Path.{_≡_, sym}
 use mathlib.Core.Bool.{true}
@@ -8,8 +8,8 @@ use lib.Dec.{ltb}
 use Rattle.base.specs.Tests.{every}
 use Rattle.nest.specs.Reader.{componentAt}
 use Rattle.nest.proofs.Laws as L
-use Rattle.fields.proofs.narrow_at.Statement.{statement}
-use Rattle.fields.proofs.narrow_at.Tie as tie
+use Rattle.distance_fields.proofs.narrow_at.Statement.{statement}
+use Rattle.distance_fields.proofs.narrow_at.Tie as tie
 
 abbrev Inv-loop : tie.InvT-loop
 Inv-loop encoded r j₀ j = (j ≤ 4) × (every (λ i. ltb (componentAt encoded r i) 256) j ≡ true)

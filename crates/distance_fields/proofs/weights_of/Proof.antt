@@ -1,12 +1,12 @@
--- `fields::weights_of` meets its contract: the loop has filled the table as far as it came.
+-- `distance_fields::weights_of` meets its contract: the loop has filled the table as far as it came.
 use Prim.Native.Nat.{_+_, _-_, _≤_}
 use mathlib.Core.Path.{_≡_, _∙_}
 use native.Mathlib.Omega.{arith}
 use borrow.Author.Needs.{needs}
 use Rattle.nest.specs.Reader.{weightAt, filled}
 use Rattle.nest.proofs.Laws as L
-use Rattle.fields.proofs.weights_of.Statement.{statement}
-use Rattle.fields.proofs.weights_of.Tie as tie
+use Rattle.distance_fields.proofs.weights_of.Statement.{statement}
+use Rattle.distance_fields.proofs.weights_of.Tie as tie
 
 abbrev Inv-loop : tie.InvT-loop
 Inv-loop encoded r e values₀ i₀ values i = (i ≤ e) × (values ≡ filled 8 i (λ k. weightAt encoded (r + k)))

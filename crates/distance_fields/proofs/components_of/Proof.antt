@@ -1,11 +1,11 @@
--- `fields::components_of` meets its contract: the loop has filled the table as far as it came.
+-- `distance_fields::components_of` meets its contract: the loop has filled the table as far as it came.
 use Prim.Native.Nat.{_+_, _-_, _/_, _%_, _≤_}
 use mathlib.Core.Path.{_≡_}
 use native.Mathlib.Omega.{arith}
 use Rattle.nest.specs.Reader.{componentAt, filled}
 use Rattle.nest.proofs.Laws as L
-use Rattle.fields.proofs.components_of.Statement.{statement}
-use Rattle.fields.proofs.components_of.Tie as tie
+use Rattle.distance_fields.proofs.components_of.Statement.{statement}
+use Rattle.distance_fields.proofs.components_of.Tie as tie
 
 abbrev Inv-loop : tie.InvT-loop
 Inv-loop encoded r e values₀ i₀ i-end values i = (i ≤ i-end) × (values ≡ filled 32 i (λ k. componentAt encoded (r + k / 4) (k % 4)))

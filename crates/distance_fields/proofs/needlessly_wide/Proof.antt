@@ -1,4 +1,4 @@
--- `fields::needlessly_wide` meets its contract: no record that the loop has passed ends it.
+-- `distance_fields::needlessly_wide` meets its contract: no record that the loop has passed ends it.
 use Prim.Native.Nat.{_-_, _≤_}
 use mathlib.Core.Path.{_≡_, sym, _∙_}
 use mathlib.Core.Bool.{false}
@@ -8,8 +8,8 @@ use Rattle.base.specs.Tests.{some}
 use Rattle.base.proofs.Tests.{some-one}
 use Rattle.nest.specs.Reader.{narrowAt, needlesslyWide}
 use Rattle.nest.proofs.Laws as L
-use Rattle.fields.proofs.needlessly_wide.Statement.{statement}
-use Rattle.fields.proofs.needlessly_wide.Tie as tie
+use Rattle.distance_fields.proofs.needlessly_wide.Statement.{statement}
+use Rattle.distance_fields.proofs.needlessly_wide.Tie as tie
 
 abbrev Inv-loop : tie.InvT-loop
 Inv-loop encoded records r₀ r = (r ≤ records) × (some (narrowAt encoded) r ≡ false)
