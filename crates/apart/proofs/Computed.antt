@@ -12,7 +12,7 @@ use Rattle.machine.specs.Plan.{Plan, offset}
 use Rattle.machine.specs.Machine.{setProgress, tilesLeft, fitRecord, fit, unpackAll, afterSends, carryOut, actionAt, waiting, turn, fresh, sweepTo, sweep}
 use Rattle.machine.specs.Machine.{collected, collect}
 use Rattle.machine.specs.Runs.{Event, turnOf, deliveryOf, stateAfter, answersTo, answers}
-use Rattle.machine.proofs.ComputedRun.{rows, ones, total-of}
+use Rattle.example.proofs.ComputedRun.{rows, ones, total-of}
 use Rattle.apart.specs.Apart.{startApart, replaced, turnApart, sentOff, arrived, carried, deliverApart, actApart, assembled, collectApart, joinTo}
 use Rattle.apart.specs.Apart.{joined, lastApart, answersApart}
 use Rattle.apart.specs.Packets.{NetworkEvent, turnBy, postOf, arrivalOf, posted, post, arrive, turnNetwork, actNetwork, startNetwork, lastNetwork}

@@ -11,8 +11,8 @@ use Rattle.machine.specs.Plan.{Sound}
 use Rattle.machine.specs.Machine.{turn, sweep}
 use Rattle.machine.specs.Runs.{Event, total}
 use Rattle.machine.proofs.SoundTest.{allIn, isRising, knows, cellTest, ownTest, tileTest, heldTest, messageTest, soundTest, tested}
-use Rattle.machine.proofs.ComputedRun.{rows, ones, rounds, all-steps, that-is-all}
-use Rattle.machine.proofs.Example.{sound}
+use Rattle.example.proofs.ComputedRun.{rows, ones, rounds, all-steps, that-is-all}
+use Rattle.example.proofs.Example.{sound}
 use Rattle.apart.specs.Apart.{senderAt, takerAt, assembled, startApart, actApart, lastApart, stepsApart, MachineApart}
 use Rattle.apart.specs.Packets.{NetworkEvent, MachineByPackets}
 use Rattle.apart.specs.Locality.{ReadsOwnWord, Local}

@@ -1,32 +1,17 @@
-// A recipe's bytes: its fields, what lines 1, 2 and 18 of document 01's table test of them, and the values that a nest is made of.
+// A recipe's bytes: its fields, what lines 1 and 2 of document 01's table test of them, and the values that a nest is made of (those of a distance:
+// crate `distance_fields`).
 ghost use mathlib.Core.Path.{_≡_};
 ghost use mathlib.Core.Bool.{false};
-ghost use Prim.Native.Nat.{ℕ, _+_, _*_, _-_, _/_, _%_, _<_, _≤_};
+ghost use Prim.Native.Nat.{ℕ, _+_, _*_, _-_, _/_, _<_, _≤_};
 ghost use lib.ListN.{length, getD};
 ghost use lib.Dec.{ltb};
 ghost use Rattle.base.specs.Tests.{_and_, every, keep};
-ghost use Rattle.nest.specs.Reader.{half, word, kind, ofKind, distancesOf, componentAt, weightAt, slopeAt, offsetAt, filled};
-ghost use Rattle.nest.specs.Reader.{ragged, blank, boundFits, checked, mayStand, fitsAt, wellFormed, narrowAt};
-ghost use Rattle.nest.specs.Reader.{needlesslyWide};
+ghost use Rattle.nest.specs.Reader.{half, word, kind, ofKind, distancesOf, slopeAt, offsetAt, filled};
+ghost use Rattle.nest.specs.Reader.{ragged, blank, boundFits, checked, mayStand, fitsAt, wellFormed};
+use distance_fields::half_at;
+use distance_fields::wide;
 
 // ---- fields
-
-pub fn wide(x: usize) -> u64
-    ensures { λ r. ⌜ r ≡ x ⌝ }
-{
-    x as u64
-}
-
-// The number of two bytes.
-fn half_at(encoded: &[u8], at: usize) -> usize
-    requires { ⌜ at + 1 < length (now encoded) ⌝ }
-    ensures { λ r. ⌜ r ≡ half (now (encoded .entry)) at ⌝ }
-    ensures { λ r. ⌜ r < 65536 ⌝ }
-{
-    let low = base::byte_index(encoded[at]);
-    let high = base::byte_index(encoded[at + 1]);
-    low + 256 * high
-}
 
 // The number of four bytes.
 pub fn word_at(encoded: &[u8], at: usize) -> u64
@@ -277,54 +262,6 @@ pub fn spread_of(encoded: &[u8], n: usize) -> usize
     m
 }
 
-// Component j of the distance in record r.
-fn component_at(encoded: &[u8], r: usize, j: usize) -> usize
-    requires { ⌜ (j < 4) × (16 * r + 16 ≤ length (now encoded)) ⌝ }
-    ensures { λ o. ⌜ o ≡ componentAt (now (encoded .entry)) r j ⌝ }
-{
-    let at = 16 * r;
-    if encoded[at] == 4 {
-        return half_at(encoded, at + (2 + 2 * j));
-    }
-    base::byte_index(encoded[at + (2 + j)])
-}
-
-// The components, four a distance, the first in record r.
-pub fn components_of(encoded: &[u8], r: usize, e: usize) -> [usize; 32]
-    requires { ⌜ (r ≤ 8) × ((e ≤ 8) × (16 * (r + e) ≤ length (now encoded))) ⌝ }
-    ensures { λ o. ⌜ o ≡ filled 32 (4 * e) (λ (i : ℕ). componentAt (now (encoded .entry)) (r + i / 4) (i % 4)) ⌝ }
-{
-    let mut values = [0usize; 32];
-    for i in 0..4 * e {
-        values[i] = component_at(encoded, r + i / 4, i % 4);
-    }
-    values
-}
-
-// The weight of the distance in record r.
-fn weight_at(encoded: &[u8], r: usize) -> usize
-    requires { ⌜ 16 * r + 16 ≤ length (now encoded) ⌝ }
-    ensures { λ o. ⌜ o ≡ weightAt (now (encoded .entry)) r ⌝ }
-{
-    let at = 16 * r;
-    if encoded[at] == 4 {
-        return half_at(encoded, at + 10);
-    }
-    half_at(encoded, at + 6)
-}
-
-// The weights, one a distance, the first in record r.
-pub fn weights_of(encoded: &[u8], r: usize, e: usize) -> [u64; 8]
-    requires { ⌜ (r ≤ 8) × ((e ≤ 8) × (16 * (r + e) ≤ length (now encoded))) ⌝ }
-    ensures { λ o. ⌜ o ≡ filled 8 e (λ (i : ℕ). weightAt (now (encoded .entry)) (r + i)) ⌝ }
-{
-    let mut values = [0u64; 8];
-    for i in 0..e {
-        values[i] = wide(weight_at(encoded, r + i));
-    }
-    values
-}
-
 // One byte of each bound, the first in record n.
 pub fn bytes_of(encoded: &[u8], n: usize, b: usize, field: usize) -> [u8; 4]
     requires { ⌜ ((n ≤ 4) × (b ≤ 4)) × ((field < 16) × (16 * (n + b) ≤ length (now encoded))) ⌝ }
@@ -357,34 +294,4 @@ pub fn offsets_of(encoded: &[u8], n: usize, b: usize) -> [u16; 4]
         values[k] = offset_at(encoded, n + k) as u16;
     }
     values
-}
-
-// ---- line 18
-
-// Record r is a distance of kind 4, and each of its components fits a byte.
-fn narrow_at(encoded: &[u8], r: usize) -> bool
-    requires { ⌜ 16 * r + 16 ≤ length (now encoded) ⌝ }
-    ensures { λ o. ⌜ o ≡ narrowAt (now (encoded .entry)) r ⌝ }
-{
-    if encoded[16 * r] != 4 {
-        return false;
-    }
-    for j in 0..4 {
-        if component_at(encoded, r, j) > 255 {
-            return false;
-        }
-    }
-    true
-}
-
-pub fn needlessly_wide(encoded: &[u8]) -> bool
-    ensures { λ o. ⌜ o ≡ needlesslyWide (now (encoded .entry)) ⌝ }
-{
-    let records = encoded.len() / 16;
-    for r in 0..records {
-        if narrow_at(encoded, r) {
-            return true;
-        }
-    }
-    false
 }

@@ -15,8 +15,8 @@ use Rattle.machine.specs.Runs.{total, steps}
 use Rattle.machine.proofs.Fresh.{status-fresh}
 use Rattle.machine.proofs.Turns.{Delivered, delivered}
 use Rattle.machine.proofs.Fresh.{inv-fresh}
-use Rattle.machine.proofs.ComputedRun.{rows}
-use Rattle.machine.proofs.Example.{sound}
+use Rattle.example.proofs.ComputedRun.{rows}
+use Rattle.example.proofs.Example.{sound}
 use Rattle.offices.specs.Offices.{Sources, freshRig, collectOn}
 use Rattle.hours.specs.declared.Opening.the-variants.{Never}
 use Rattle.hours.specs.Hours.{closesAt, isWindow, isFaulty, faultyBoard, faultyTable, faultyWindow, covers, inWindow, openAt, closed, hoursOf}

@@ -1,7 +1,7 @@
 -- The claims are about something: the 16-tile plan of the machine's example is sound, so two offices may share its four processors.
 use mathlib.Core.List.{List}
-use Rattle.machine.proofs.ComputedRun.{rows}
-use Rattle.machine.proofs.Example.{sound}
+use Rattle.example.proofs.ComputedRun.{rows}
+use Rattle.example.proofs.Example.{sound}
 use Rattle.offices.specs.Offices.{Sources, freshRig, Call, actOn, collectOn}
 use Rattle.offices.specs.Demand208.{Demand208}
 use Rattle.offices.proofs.Theorem208.{theorem208}

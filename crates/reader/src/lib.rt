@@ -1,32 +1,34 @@
 // The reader: a recipe's bytes to a nest by value, or the number of the first line of document 01's table that refuses it.
-// `read` takes any bytes. Lines 1, 2 and 18 are tested on the bytes (crate `fields`), the others on the nest made of them.
+// `read` takes any bytes. Lines 1, 2 and 18 test the bytes (crates `fields`, `distance_fields`), the others the nest made of them (5 and 6: crate `distances`).
 ghost use mathlib.Core.Path.{_≡_};
 ghost use mathlib.Core.List.{[]};
 ghost use Prim.Native.Nat.{ℕ, _+_, _*_, _<_, _≤_};
 ghost use lib.ListN.{length, getD};
-ghost use lib.Dec.{eqb, ltb};
-ghost use Rattle.base.specs.Tests.{every, some, keep};
+ghost use lib.Dec.{ltb};
+ghost use Rattle.base.specs.Tests.{some, keep};
 ghost use Rattle.base.specs.Lists.{Bytes};
 ghost use Rattle.base.specs.Numbers.{firstOf};
-ghost use Rattle.nest.specs.Nest.{processorCount, component, cells, boxTiles};
+ghost use Rattle.nest.specs.Nest.{processorCount, cells, boxTiles};
 ghost use Rattle.nest.specs.Shape.{inShape, tiles};
 ghost use Rattle.nest.specs.Spans.{Framed, Tiled, Shaped};
-ghost use Rattle.nest.specs.Reader.{nestBy, outside, badLength};
-ghost use Rattle.nest.specs.Reader.{same, beyond, faulty, badDistance, reached, badTile, badSpread, lastSpread};
+ghost use Rattle.nest.specs.Reader.{nestBy, badLength, badDistance, badTile, badSpread, lastSpread};
 ghost use Rattle.nest.specs.Reader.{badProcessors, tooManyTiles, nestLines, readingOf};
+use distance_fields::components_of;
+use distance_fields::needlessly_wide;
+use distance_fields::weights_of;
+use distance_fields::wide;
+use distances::bad_distance;
+use distances::bad_tile;
+use distances::outside;
 use fields::bytes_of;
-use fields::components_of;
 use fields::count_distances;
 use fields::count_kind;
 use fields::halves;
-use fields::needlessly_wide;
 use fields::offsets_of;
 use fields::ragged;
 use fields::slopes_of;
 use fields::spread_of;
-use fields::weights_of;
 use fields::well_formed;
-use fields::wide;
 use fields::word_at;
 use nest::Nest;
 use nest::Reading;
@@ -91,15 +93,6 @@ fn nest_by(encoded: &[u8], n: usize, b: usize, e: usize) -> Nest
 
 // ---- line 3
 
-fn outside(v: usize) -> bool
-    ensures { λ r. ⌜ r ≡ outside v ⌝ }
-{
-    if v == 0 {
-        return true;
-    }
-    v > 1024
-}
-
 fn bad_length(nest: Nest) -> bool
     requires { ⌜ nest .dimensions ≤ 4 ⌝ }
     ensures { λ r. ⌜ r ≡ badLength nest ⌝ }
@@ -107,120 +100,6 @@ fn bad_length(nest: Nest) -> bool
     let n = nest.dimensions;
     for j in 0..n {
         if outside(nest.lengths[j]) {
-            return true;
-        }
-    }
-    false
-}
-
-// ---- line 5
-
-fn all_zero(nest: Nest, e: usize) -> bool
-    requires { ⌜ e < 8 ⌝ }
-    ensures { λ r. ⌜ r ≡ every (λ (j : ℕ). eqb (component nest e j) 0) 4 ⌝ }
-{
-    for j in 0..4 {
-        if nest.components[4 * e + j] != 0 {
-            return false;
-        }
-    }
-    true
-}
-
-fn same(nest: Nest, e: usize, f: usize) -> bool
-    requires { ⌜ (e < 8) × (f < 8) ⌝ }
-    ensures { λ r. ⌜ r ≡ same nest e f ⌝ }
-{
-    for j in 0..4 {
-        if nest.components[4 * e + j] != nest.components[4 * f + j] {
-            return false;
-        }
-    }
-    true
-}
-
-// The same as an earlier distance.
-fn repeated(nest: Nest, e: usize) -> bool
-    requires { ⌜ e < 8 ⌝ }
-    ensures { λ r. ⌜ r ≡ some (same nest e) e ⌝ }
-{
-    for f in 0..e {
-        if same(nest, e, f) {
-            return true;
-        }
-    }
-    false
-}
-
-// Not zero beyond the dimensions.
-fn beyond(nest: Nest, e: usize) -> bool
-    requires { ⌜ e < 8 ⌝ }
-    ensures { λ r. ⌜ r ≡ beyond nest e ⌝ }
-{
-    let n = nest.dimensions;
-    for j in 0..4 {
-        if n <= j {
-            if 0 < nest.components[4 * e + j] {
-                return true;
-            }
-        }
-    }
-    false
-}
-
-fn faulty(nest: Nest, e: usize) -> bool
-    requires { ⌜ e < 8 ⌝ }
-    ensures { λ r. ⌜ r ≡ faulty nest e ⌝ }
-{
-    if all_zero(nest, e) {
-        return true;
-    }
-    if repeated(nest, e) {
-        return true;
-    }
-    beyond(nest, e)
-}
-
-fn bad_distance(nest: Nest) -> bool
-    requires { ⌜ nest .distances ≤ 8 ⌝ }
-    ensures { λ r. ⌜ r ≡ badDistance nest ⌝ }
-{
-    let n = nest.distances;
-    for e in 0..n {
-        if faulty(nest, e) {
-            return true;
-        }
-    }
-    false
-}
-
-// ---- line 6
-
-// A distance goes as far as the tile or farther.
-fn reached(nest: Nest, j: usize) -> bool
-    requires { ⌜ (j < 4) × (nest .distances ≤ 8) ⌝ }
-    ensures { λ r. ⌜ r ≡ reached nest j ⌝ }
-{
-    let n = nest.distances;
-    let tile = nest.tiling[j];
-    for e in 0..n {
-        if tile < nest.components[4 * e + j] {
-            return true;
-        }
-    }
-    false
-}
-
-fn bad_tile(nest: Nest) -> bool
-    requires { ⌜ (nest .dimensions ≤ 4) × (nest .distances ≤ 8) ⌝ }
-    ensures { λ r. ⌜ r ≡ badTile nest ⌝ }
-{
-    let n = nest.dimensions;
-    for j in 0..n {
-        if outside(nest.tiling[j]) {
-            return true;
-        }
-        if reached(nest, j) {
             return true;
         }
     }

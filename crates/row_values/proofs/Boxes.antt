@@ -35,10 +35,10 @@ use Rattle.layout.specs.CellRows.{rowOf}
 use Rattle.layout.proofs.Cells.{zeros, box-places, lengths-countable, lengths-places}
 use Rattle.layout.proofs.CellRows.{row-before, row-last, box-all, fewer}
 use Rattle.layout.proofs.Advance.{rows-places, placed-inside}
-use Rattle.bands.specs.Bands.{four, rowsOf, Spaced}
+use Rattle.lagged.specs.Bands.{four, rowsOf, Spaced}
 use Rattle.row_values.specs.Waves.{Inner, Inners, Fours}
 use Rattle.row_values.specs.Boxes.{Boxed, rowAt, Standing, Stored}
-use Rattle.bands.proofs.Waves.{each-four}
+use Rattle.lagged.proofs.Waves.{each-four}
 use Rattle.kernels.proofs.Orders.{store-append}
 use Rattle.row_values.proofs.Stores.{Calculating, calculating-none, calculating-turn, calculated, Sweeping, sweeping-none}
 use Rattle.row_values.proofs.Stores.{sweeping-turn, sweep-all, sweep-in, swept}

@@ -21,12 +21,12 @@ use Rattle.layout.specs.CellRows.{Given, rowOf}
 use Rattle.layout.proofs.CellRows.{row-last, row-low}
 use Rattle.base.specs.Lists.{storeAll}
 use Rattle.nest.specs.Places.{place, cellPlace}
-use Rattle.bands.specs.Bands.{four, rowsOf, Band, Banded, InRow}
+use Rattle.lagged.specs.Bands.{four, rowsOf, Band, Banded, InRow}
 use Rattle.row_values.specs.Waves.{mostIn, mostOf, Lasts, Lent, Inner, Inners, Fours}
 use Rattle.row_values.specs.Reads.{firstRead, Firsts, Backs}
 use Rattle.kernels.proofs.Orders.{store-append}
 use Rattle.row_values.proofs.Words.{in-row}
-use Rattle.bands.proofs.Waves.{each-four}
+use Rattle.lagged.proofs.Waves.{each-four}
 
 -- the greater of two
 pub greater-is : (t : Bool) (a b : ℕ) → leb a b ≡ t → (a ≤ pick t b a) × (b ≤ pick t b a)

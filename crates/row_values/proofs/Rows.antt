@@ -13,7 +13,7 @@ use Rattle.plan.specs.Geometry.{value}
 use Rattle.layout.specs.Places.{nth, Ranked, Places, Inside, Follows}
 use Rattle.layout.specs.CellRows.{rowOf}
 use Rattle.layout.proofs.Advance.{placed-start}
-use Rattle.bands.specs.Bands.{four, rowsOf, BandGiven}
+use Rattle.lagged.specs.Bands.{four, rowsOf, BandGiven}
 use Rattle.row_values.specs.Waves.{Lent, Inner}
 use Rattle.row_values.specs.Given.{RowGiven}
 use Rattle.row_values.specs.Boxes.{Boxed, Standing, RowsGiven, Stored}

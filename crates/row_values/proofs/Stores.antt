@@ -27,7 +27,7 @@ use Rattle.layout.proofs.Cells.{four, lengths-places, placed-cell}
 use Rattle.layout.proofs.Advance.{placed-row, placed-inside, rows-places}
 use Rattle.layout.proofs.CellRows.{product-last, row-in, row-next, box-in, box-row}
 use Rattle.kernels.proofs.Orders.{store-append}
-use Rattle.bands.proofs.Words.{store-row}
+use Rattle.lagged.proofs.Words.{store-row}
 
 -- one word more at the front
 push : (k o : List ℕ) (v : ℕ) → length k < length o → set (k ++ drop (length k) o) (length k) v ≡ (k ++ (v ∷ [])) ++ drop (length k + 1) o

@@ -26,9 +26,9 @@ use Rattle.layout.specs.CellRows.{Given, rowOf}
 use Rattle.layout.proofs.Dims.{rank-add, rank-most, product-prefix}
 use Rattle.layout.proofs.Loops.{every-same, Sofar, sofar-end}
 use Rattle.layout.proofs.CellRows.{row-before, row-last, row-low, every-last}
-use Rattle.bands.specs.Bands.{Reads, InRow}
+use Rattle.lagged.specs.Bands.{Reads, InRow}
 use Rattle.row_values.specs.Reads.{firstRead, stepBack, Firsts, Backs}
-pub use Rattle.bands.proofs.Words.{in-row-of}
+pub use Rattle.lagged.proofs.Words.{in-row-of}
 
 -- ---- how far back distance e reads: the rank of its first j components
 

@@ -9,7 +9,7 @@ use Rattle.nest.specs.declared.Nest.{Nest}
 use Rattle.nest.specs.Places.{rank, place}
 use Rattle.plan.specs.Geometry.{value}
 use Rattle.layout.specs.Places.{nth, Places, Placed}
-use Rattle.bands.specs.Bands.{rowsOf}
+use Rattle.lagged.specs.Bands.{rowsOf}
 use Rattle.row_values.specs.Given.{RowsLent}
 
 -- a box of lengths N from a place on, within the nest

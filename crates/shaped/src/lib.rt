@@ -268,7 +268,7 @@ pub fn pack(nest: Nest, sizes: Sizes, tile: usize, way: usize, words: &mut [u32]
         let starts = row.starts;
         let ends = row.ends;
         let number = layout::rank(lengths, place, nest.dimensions);
-        count = runs::pack_row(
+        count = row_words::pack_row(
             words,
             memory,
             &starts,
@@ -300,7 +300,7 @@ pub fn unpack(nest: Nest, sizes: Sizes, tile: usize, way: usize, memory: &mut [u
         let starts = row.starts;
         let ends = row.ends;
         let number = layout::rank(lengths, place, nest.dimensions);
-        count = runs::unpack_row(
+        count = row_words::unpack_row(
             memory,
             words,
             &starts,

@@ -21,14 +21,14 @@ use engine::core::Turned;
 use engine::core::refused;
 use engine::core::step;
 use engine::core::unfit;
-use hours::faulty_table;
-use hours::open_at;
 use layout::Sizes;
 use nest::Nest;
 use records::Flat;
 use rig::core::held;
 use rig::core::open_recipe;
 use rig::core::step_for;
+use windows::faulty_table;
+use windows::open_at;
 
 // Line 25: a faulty window of any of n processors, or a faulty minute.
 pub fn faulty(table: &[u32], n: usize, minute: u32) -> bool

@@ -11,12 +11,12 @@ ghost use Rattle.timed.specs.Calls.{turnCallAt, turnCallAtFor, opensCall
 pub mod core; // core.rt: the calls without the stores into the records
 
 use hours::Opening;
-use hours::minutes;
 use layout::sizes_of;
 use plan::Route;
 use reader::read;
 use records::flat_of;
 use rig::core::store_after;
+use windows::minutes;
 
 // One turn of a processor.
 pub fn turn(

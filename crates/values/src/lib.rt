@@ -13,7 +13,7 @@ ghost use Rattle.plan.specs.Messages.{boxPlan};
 ghost use Rattle.layout.specs.Sizes.{Sized};
 ghost use Rattle.layout.specs.Places.{nth};
 ghost use Rattle.nest.specs.declared.Nest.{Nest};
-ghost use Rattle.bands.specs.Bands.{rowsOf};
+ghost use Rattle.lagged.specs.Bands.{rowsOf};
 ghost use Rattle.row_values.specs.Given.{withBody};
 ghost use Rattle.row_values.specs.Boxes.{Boxed, rowAt, RowsGiven};
 use layout::Sizes;

@@ -1,7 +1,7 @@
 -- `row_values::row` meets its contract: the distances read in the row as its first cell's place says.
 use mathlib.Core.Path.{_∙_, sym}
 use native.Mathlib.Omega.{arith}
-use Rattle.bands.proofs.Words.{row-mixes, row-values}
+use Rattle.lagged.proofs.Words.{row-mixes, row-values}
 use Rattle.row_values.proofs.Margins.{inner-row, any-row, first-most, firsts-all, firsts-copied}
 use borrow.Author.Needs.{needs}
 use Rattle.row_values.proofs.row.Statement.{statement}

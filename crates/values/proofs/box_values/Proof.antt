@@ -5,7 +5,7 @@ use mathlib.Core.Path.{refl, ap, _∙_}
 use lib.ListN.{getD}
 use Rattle.base.specs.Lists.{storeAll}
 use Rattle.plan.specs.Geometry.{value}
-use Rattle.bands.specs.Bands.{rowsOf}
+use Rattle.lagged.specs.Bands.{rowsOf}
 use Rattle.row_values.specs.Boxes.{rowAt}
 use Rattle.row_values.proofs.Boxes.{box-countable}
 use Rattle.row_values.proofs.Rows.{given-box}

@@ -1,0 +1,2 @@
+pub mod ComputedRun
+pub mod Example
