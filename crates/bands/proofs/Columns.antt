@@ -17,10 +17,10 @@ use Rattle.nest.specs.Nest.{cells}
 use Rattle.plan.specs.Geometry.{value}
 use Rattle.layout.specs.CellRows.{rowOf}
 use Rattle.kernels.specs.Taps.{made, inLine, waveOf, Fits}
-use Rattle.lagged.specs.Bands.{four, rowsOf, Band, Spaced, Banded}
+use Rattle.bands.specs.lagged.Bands.{four, rowsOf, Band, Spaced, Banded}
 use Rattle.kernels.proofs.Orders.{store-append}
-use Rattle.lagged.proofs.Waves.{made-is, full-fits, Front, front-start, front-same, front-end, front-word, front-store, each-four, band-full}
-use Rattle.lagged.proofs.Waves.{band-line, row-0, row-1, row-2, row-3}
+use Rattle.bands.proofs.lagged.Waves.{made-is, full-fits, Front, front-start, front-same, front-end, front-word, front-store, each-four, band-full}
+use Rattle.bands.proofs.lagged.Waves.{band-line, row-0, row-1, row-2, row-3}
 
 -- i rows of column y are stored
 unfoldable level : ℕ → ℕ → ℕ → ℕ

@@ -5,10 +5,13 @@ ghost use lib.ListN.{length, getD};
 ghost use Rattle.base.specs.Lists.{storeAll};
 ghost use Rattle.nest.specs.declared.Nest.{Nest};
 ghost use Rattle.plan.specs.Geometry.{value};
-ghost use Rattle.lagged.specs.Bands.{four, rowsOf, numbered, BandGiven};
+ghost use Rattle.bands.specs.lagged.Bands.{four, rowsOf, numbered, BandGiven};
+use crate::lagged::band;
+use crate::lines::line;
 use kernels::wave;
-use lagged::band;
-use lines::line;
+
+pub mod lines; // lines.rt: rows whose first cells read the boundary's word in place of a cell's
+pub mod lagged; // lagged.rt: four rows of a nest side by side, each one column behind the row before it
 
 // The values of four rows that read no row but themselves, in the same columns: no row need be ahead of another for its words to
 // be made beside theirs, and no columns are left.

@@ -21,7 +21,7 @@ use Rattle.engine.specs.Calls.{answer}
 use Rattle.engine.proofs.Turns.{answered-no, answered-yes}
 use Rattle.nest.specs.Reader.{nestOf}
 use Rattle.chart.specs.declared.Told.{Told}
-use Rattle.chart_text.specs.Text.{chartText}
+use Rattle.chart.specs.grid_text.Text.{chartText}
 use Rattle.chart.specs.Call.{lengthLines, lengthCall, writeLines, written, writtenIf, writeCall}
 use Rattle.chart.proofs.Answers as C
 use Rattle.chart.proofs.Apart.{same-text}

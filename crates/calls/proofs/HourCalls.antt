@@ -13,10 +13,10 @@ use Rattle.base.proofs.Tests.{and-no, not-false, pick-true}
 use Rattle.base.proofs.Numbers.{first-true}
 use Rattle.machine.specs.Machine.{stateOf, State, Answered, answered}
 use Rattle.machine.proofs.RunLaws.{number-of, after-of}
-use Rattle.offices.specs.Offices.{Lent, lentOf}
-use Rattle.hours.specs.declared.Opening.{Opening}
-use Rattle.hours.specs.declared.Opening.the-variants.{OpensIn, Never}
-use Rattle.hours.specs.Hours.{Hours, hoursOf, untilOpen}
+use Rattle.tenants.specs.Offices.{Lent, lentOf}
+use Rattle.calendar.specs.declared.Opening.{Opening}
+use Rattle.calendar.specs.declared.Opening.the-variants.{OpensIn, Never}
+use Rattle.calendar.specs.Hours.{Hours, hoursOf, untilOpen}
 use Rattle.nest.specs.declared.Reading.{Reading}
 use Rattle.nest.specs.Reader.{readLines, readingOf}
 use Rattle.nest.proofs.Numbered.{numbered}

@@ -17,3 +17,6 @@ pub mod Storing
 pub mod TransportCalls
 pub mod OverRounds
 pub mod OwnCalls
+pub mod Demands214
+pub mod Gave
+pub mod OverRecords214

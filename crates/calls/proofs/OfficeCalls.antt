@@ -14,7 +14,7 @@ use Rattle.base.proofs.Tests.{both, and-no, not-true, not-false, true-not}
 use Rattle.base.proofs.Numbers.{first-true, first-false, none-first, first-behind, none-front, none-behind}
 use Rattle.machine.specs.Plan.{Plan}
 use Rattle.machine.specs.Machine.{stateOf, Answered}
-use Rattle.offices.specs.Offices.{Lent, lentOf}
+use Rattle.tenants.specs.Offices.{Lent, lentOf}
 use Rattle.nest.specs.declared.Reading.{Reading}
 use Rattle.nest.specs.Reader.{readLines, readingOf}
 use Rattle.nest.proofs.Numbered.{numbered}
@@ -23,8 +23,8 @@ use Rattle.records.specs.Records.{flatWords}
 use Rattle.records.proofs.Words.{length-words}
 use Rattle.engine.specs.Calls.{answer, recipe}
 use Rattle.engine.proofs.Lines.{and-right, call-read, call-later, call-done}
-use Rattle.rig.specs.Calls.{turnCallFor, memoriesLong, lookNumber}
-use Rattle.rig.proofs.Starts.{turn-inside}
+use Rattle.sharing.specs.Calls.{turnCallFor, memoriesLong, lookNumber}
+use Rattle.sharing.proofs.Starts.{turn-inside}
 use Rattle.calls.specs.OfficeCalls.{lookWords, lookCall}
 
 -- ---- a turn that gave 0 has a record there

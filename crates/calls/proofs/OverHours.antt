@@ -8,17 +8,17 @@ use Rattle.base.specs.Lists.{Bytes}
 use Rattle.machine.specs.Machine.{State, tilesLeft}
 use Rattle.machine.specs.Runs.{deliveryOf, stateAfter, answersTo}
 use Rattle.machine.proofs.RunLaws.{number-of, after-of}
-use Rattle.offices.specs.Offices.{Lent, Rig, Sources, sourceFor, lentTo, ownOf, putBack, carryOutFor}
-use Rattle.offices.specs.Demand208.{eventsOf, answersOf}
-use Rattle.hours.specs.Hours.{Hours, Timed, turnAt, mailOf, TimedCall, callOf}
-use Rattle.hours.specs.Demands212.{SomeStep, OnlyHours, SomeCall, OnlyHoursFor, Demand212, Demand212For, IsolatedAt}
-use Rattle.hours.proofs.Telling.{tells}
+use Rattle.tenants.specs.Offices.{Lent, Rig, Sources, sourceFor, lentTo, ownOf, putBack, carryOutFor}
+use Rattle.tenants.specs.Demand208.{eventsOf, answersOf}
+use Rattle.calendar.specs.Hours.{Hours, Timed, turnAt, mailOf, TimedCall, callOf}
+use Rattle.calendar.specs.Demands212.{SomeStep, OnlyHours, SomeCall, OnlyHoursFor, Demand212, Demand212For, IsolatedAt}
+use Rattle.calendar.proofs.Telling.{tells}
 use Rattle.records.specs.declared.Progress.{Progress}
 use Rattle.records.specs.Records.{flatWords}
 use Rattle.records.proofs.Words.{length-words}
 use Rattle.engine.specs.Calls.{answer, recipe, collectCall}
 use Rattle.engine.proofs.Demands as engine
-use Rattle.rig.specs.Calls.{rigCollects}
+use Rattle.sharing.specs.Calls.{rigCollects}
 use Rattle.timed.specs.Calls.{turnCallAt, turnCallAtFor, callsAt, callAtFor, rigCallsAt}
 use Rattle.timed.proofs.Demands.{timed-demands}
 use Rattle.calls.specs.HourCalls.{opensWordsCall}

@@ -16,9 +16,9 @@ use Rattle.machine.specs.Machine as machine
 use Rattle.machine.specs.Machine.{State, Answered}
 use Rattle.machine.specs.Runs.{Event, turnOf, deliveryOf, stateAfter, answersTo}
 use Rattle.machine.proofs.RunLaws.{number-of, after-of}
-use Rattle.offices.specs.Offices.{Lent, lentOf, Rig, rigOf, Sources, sourceFor, ofOffice, ownOf, otherOf, lentTo, returned, putBack}
-use Rattle.offices.specs.Offices.{carryOutFor, freshRig, Call, collectLinesFor}
-use Rattle.offices.specs.Demand208.{eventsOf, answersOf, Demand208, Isolated}
+use Rattle.tenants.specs.Offices.{Lent, lentOf, Rig, rigOf, Sources, sourceFor, ofOffice, ownOf, otherOf, lentTo, returned, putBack}
+use Rattle.tenants.specs.Offices.{carryOutFor, freshRig, Call, collectLinesFor}
+use Rattle.tenants.specs.Demand208.{eventsOf, answersOf, Demand208, Isolated}
 use Rattle.records.specs.declared.Progress.{Progress}
 use Rattle.records.specs.Records.{flatWords}
 use Rattle.records.proofs.Words.{length-words}
@@ -27,9 +27,9 @@ use Rattle.layout.specs.Sizes.{routeOf}
 use Rattle.routes.specs.Routes.{linesFor}
 use Rattle.routes.proofs.Laws.{numbered-for}
 use Rattle.engine.proofs.Demands as engine
-use Rattle.rig.specs.Calls.{areasFor, turnCallFor, deliverCallFor, collectCallFor, freshRigLines, freshRigCall, lookPart, callFor}
-use Rattle.rig.specs.Calls.{rigCalls, rigCollects}
-use Rattle.rig.proofs.Demands.{rig-demands}
+use Rattle.sharing.specs.Calls.{areasFor, turnCallFor, deliverCallFor, collectCallFor, freshRigLines, freshRigCall, lookPart, callFor}
+use Rattle.sharing.specs.Calls.{rigCalls, rigCollects}
+use Rattle.sharing.proofs.Demands.{rig-demands}
 use Rattle.calls.specs.OfficeCalls.{lookCall}
 use Rattle.calls.specs.OverRecords.{Areas, inWords}
 use Rattle.calls.specs.OverRig.{LentAreas, lentWords, RigAreas, rigWords, ownAreas, otherAreas, lentAreas}

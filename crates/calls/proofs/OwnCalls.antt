@@ -15,11 +15,11 @@ use Rattle.records.specs.Records.{flatWords}
 use Rattle.records.specs.declared.Progress.{Progress}
 use Rattle.records.proofs.Words.{length-words}
 use Rattle.engine.specs.Calls.{answer, recipe}
-use Rattle.apart.specs.Own.{ownCells}
-use Rattle.own.specs.Part.{partFits}
-use Rattle.own_front.specs.Calls.{wide, boardLines, ownTurnCall}
-use Rattle.own_front.proofs.Answers.{behind-board}
-use Rattle.own_front.proofs.Wide.{fits-are}
+use Rattle.network.specs.Own.{ownCells}
+use Rattle.part.specs.Part.{partFits}
+use Rattle.part_calls.specs.front.Calls.{wide, boardLines, ownTurnCall}
+use Rattle.part_calls.proofs.front.Answers.{behind-board}
+use Rattle.part_calls.proofs.front.Wide.{fits-are}
 
 pub own-there : (l : List ℕ) (route : ℕ) (source m u t : List ℕ) (rs : List Progress) (b n : ℕ) (x : State)
     → answer n x ≡ ownTurnCall l route source (stateOf m u (flatWords rs) t) b → n ≡ 0 → 0 < length rs

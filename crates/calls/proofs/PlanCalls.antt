@@ -19,14 +19,14 @@ use Rattle.nest.specs.Reader.{readLines, nestOf, readingOf}
 use Rattle.plan.specs.declared.Route.the-variants.{Direct}
 use Rattle.plan.specs.Shaped.{planOf}
 use Rattle.plan.specs.Hops.{hops}
-use Rattle.rows.specs.Rows.{figuresIf}
+use Rattle.conformance.specs.Rows.{figuresIf}
 use Rattle.layout.specs.Sizes.{routeOf}
 use Rattle.routes.specs.Routes.{linesFor, ReadFor}
 use Rattle.routes.proofs.Laws.{numbered-for}
-use Rattle.table.specs.declared.Figures.{Figures}
-use Rattle.table.specs.declared.MessageLine.{MessageLine}
-use Rattle.table.specs.declared.HopCount.{HopCount}
-use Rattle.table.specs.Summary.{summaryOf, lineIf, messageLines, messageLineOf, directionOf, hopsLines, hopsIf, hopsOf}
+use Rattle.summary.specs.declared.Figures.{Figures}
+use Rattle.summary.specs.declared.MessageLine.{MessageLine}
+use Rattle.summary.specs.declared.HopCount.{HopCount}
+use Rattle.summary.specs.Summary.{summaryOf, lineIf, messageLines, messageLineOf, directionOf, hopsLines, hopsIf, hopsOf}
 use Rattle.engine.specs.Calls.{answer, recipe}
 use Rattle.nest.proofs.Numbered.{numbered}
 use Rattle.nest.proofs.Answers.{number-read}

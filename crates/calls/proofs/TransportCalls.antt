@@ -4,8 +4,8 @@ use mathlib.Core.Path.{refl}
 use mathlib.Core.List.{List}
 use Rattle.engine.specs.Calls.{recipe}
 use Rattle.engine.proofs.Demands as engine
-use Rattle.apart.specs.Apart.{received}
-use Rattle.mail.specs.Calls.{rowOf, messagesCall, ownersCall, awaitedCall, takeInLines, takeInCall}
+use Rattle.network.specs.Apart.{received}
+use Rattle.transport.specs.Calls.{rowOf, messagesCall, ownersCall, awaitedCall, takeInLines, takeInCall}
 use Rattle.calls.specs.PlanCalls.{lineWords}
 use Rattle.calls.specs.OverRecords.{inWords}
 use Rattle.calls.specs.TransportCalls.{FixedTransport, RowsAreLines}

@@ -10,7 +10,7 @@ use Rattle.base.specs.Tests.{not}
 use Rattle.base.specs.Numbers.{Line, line, firstOf}
 use Rattle.machine.specs.Machine.{Answered, answered}
 use Rattle.nest.specs.Reader.{nestOf}
-use Rattle.chart_text.specs.Text.{chartText}
+use Rattle.chart.specs.grid_text.Text.{chartText}
 use Rattle.chart.specs.Call.{lengthLines, writeLines}
 use Rattle.chart.specs.Apart.{SameInputs}
 

@@ -7,7 +7,7 @@ use lib.Dec.{eqb, ltb}
 use Rattle.base.specs.Tests.{_and_, not}
 use Rattle.base.specs.Numbers.{Line, line, firstOf}
 use Rattle.machine.specs.Machine.{Answered, answered}
-use Rattle.hours.specs.Hours.{Hours, faultyHours, untilOpen}
+use Rattle.calendar.specs.Hours.{Hours, faultyHours, untilOpen}
 use Rattle.nest.specs.Reader.{readLines}
 use Rattle.engine.specs.Calls.{recipe}
 use Rattle.timed.specs.Calls.{tableLong, openingWords}

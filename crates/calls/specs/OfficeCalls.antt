@@ -10,7 +10,7 @@ use Rattle.machine.specs.Plan.{Plan}
 use Rattle.machine.specs.Machine.{Answered, answered}
 use Rattle.nest.specs.Reader.{readLines}
 use Rattle.engine.specs.Calls.{recipe}
-use Rattle.rig.specs.Calls.{memoriesLong}
+use Rattle.sharing.specs.Calls.{memoriesLong}
 
 -- where processor b's part begins, and its words
 abbrev pub lookWords : Plan → ℕ → List ℕ

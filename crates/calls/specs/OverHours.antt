@@ -10,15 +10,15 @@ use Rattle.base.specs.Lists.{Bytes}
 use Rattle.machine.specs.Machine as machine
 use Rattle.machine.specs.Machine.{carryOut, nextAction, tilesLeft}
 use Rattle.machine.specs.Runs.{last, answers, total}
-use Rattle.offices.specs.Offices.{carryOutFor, Sources, sourceFor}
-use Rattle.offices.specs.Demand208.{eventsOf, answersOf}
-use Rattle.hours.specs.Hours.{week, openAt, Hours, hoursOf, Timed, turnAt, mailOf, TimedCall, callOf, untilOpen}
-use Rattle.hours.specs.Demands212.{TellsOpening, Faultless, OpensSometime, turnBy, mailBy, Demand212, Demand212For}
+use Rattle.tenants.specs.Offices.{carryOutFor, Sources, sourceFor}
+use Rattle.tenants.specs.Demand208.{eventsOf, answersOf}
+use Rattle.calendar.specs.Hours.{week, openAt, Hours, hoursOf, Timed, turnAt, mailOf, TimedCall, callOf, untilOpen}
+use Rattle.calendar.specs.Demands212.{TellsOpening, Faultless, OpensSometime, turnBy, mailBy, Demand212, Demand212For}
 use Rattle.records.specs.declared.Progress.{Progress}
 use Rattle.records.specs.Records.{flatWords}
 use Rattle.engine.specs.Calls.{answer, recipe, deliverCall, collectCall}
 use Rattle.engine.specs.Demands.{Fixed}
-use Rattle.rig.specs.Calls.{deliverCallFor, rigCollects}
+use Rattle.sharing.specs.Calls.{deliverCallFor, rigCollects}
 use Rattle.timed.specs.Calls.{turnCallLinesAt, turnCallAt, turnCallLinesAtFor, turnCallAtFor, openingWords, callsAt, rigCallsAt}
 use Rattle.calls.specs.HourCalls.{opensWordsLines, opensWordsCall}
 use Rattle.calls.specs.OverRecords.{Areas, inWords, Gave, FreshGave, CollectGave, FixedAreas, stepsIn}

@@ -18,9 +18,9 @@ use Rattle.nest.specs.Nest.{cells}
 use Rattle.nest.specs.Shape.{inShape}
 use Rattle.nest.specs.Reader.{nestOf, readLines}
 use Rattle.plan.specs.Hops.{hops}
-use Rattle.report.specs.Exact.{sequential, runNest}
-use Rattle.report.specs.ExactShape.{shapeOf}
-use Rattle.table.specs.Summary.{directionOf}
+use Rattle.conformance.specs.Exact.{sequential, runNest}
+use Rattle.conformance.specs.ExactShape.{shapeOf}
+use Rattle.summary.specs.Summary.{directionOf}
 use Rattle.records.specs.declared.Progress.{Progress}
 use Rattle.records.specs.Records.{flatWords}
 use Rattle.engine.specs.Calls.{answer, recipe, freshCallLines, freshCall, turnCallLines, turnCall, deliverCallLines, deliverCall, collectCallLines}

@@ -10,14 +10,14 @@ use Rattle.base.specs.Numbers.{Line}
 use Rattle.machine.specs.Machine as machine
 use Rattle.machine.specs.Machine.{nextAction, collected}
 use Rattle.machine.specs.Runs.{Event, turnOf, deliveryOf, last, answers, total}
-use Rattle.offices.specs.Offices.{Lent, lentOf, Rig, rigOf, Sources, sourceFor, ofOffice, carryOutFor, deliveredFor, freshRig, Call}
-use Rattle.offices.specs.Demand208.{eventsOf, answersOf, Demand208}
+use Rattle.tenants.specs.Offices.{Lent, lentOf, Rig, rigOf, Sources, sourceFor, ofOffice, carryOutFor, deliveredFor, freshRig, Call}
+use Rattle.tenants.specs.Demand208.{eventsOf, answersOf, Demand208}
 use Rattle.records.specs.declared.Progress.{Progress}
 use Rattle.records.specs.Records.{flatWords}
 use Rattle.engine.specs.Calls.{answer, recipe}
 use Rattle.engine.specs.Demands.{Fixed}
-use Rattle.rig.specs.Calls.{turnCallLinesFor, turnCallFor, deliverCallLinesFor, deliverCallFor, collectCallLinesFor, collectCallFor}
-use Rattle.rig.specs.Calls.{freshRigLines, freshRigCall, lookPart, rigCalls, rigCollects}
+use Rattle.sharing.specs.Calls.{turnCallLinesFor, turnCallFor, deliverCallLinesFor, deliverCallFor, collectCallLinesFor, collectCallFor}
+use Rattle.sharing.specs.Calls.{freshRigLines, freshRigCall, lookPart, rigCalls, rigCollects}
 use Rattle.calls.specs.OfficeCalls.{lookWords, lookCallLines, lookCall}
 use Rattle.calls.specs.OverRecords.{Areas, inWords, Gave, stepsIn}
 

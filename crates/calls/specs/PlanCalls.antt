@@ -15,7 +15,7 @@ use Rattle.plan.specs.Shaped.{planOf}
 use Rattle.plan.specs.Hops.{hops}
 use Rattle.layout.specs.Sizes.{routeOf}
 use Rattle.routes.specs.Routes.{linesFor}
-use Rattle.table.specs.Summary.{directionOf}
+use Rattle.summary.specs.Summary.{directionOf}
 use Rattle.engine.specs.Calls.{recipe}
 
 -- tiles, messages, words, steps

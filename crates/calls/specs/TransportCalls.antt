@@ -9,9 +9,9 @@ use Rattle.machine.specs.Machine.{State, stateOf}
 use Rattle.records.specs.Records.{flatWords}
 use Rattle.engine.specs.Calls.{answer, recipe}
 use Rattle.engine.specs.Demands.{Fixed}
-use Rattle.apart.specs.Apart.{received}
-use Rattle.mail.specs.Calls.{rowOf, rowsTo, messagesLines, messagesCall, ownerOf, ownersLines, ownersCall, Waits, waited, awaitedLines, awaitedCall}
-use Rattle.mail.specs.Calls.{takeInLines, takeInCall}
+use Rattle.network.specs.Apart.{received}
+use Rattle.transport.specs.Calls.{rowOf, rowsTo, messagesLines, messagesCall, ownerOf, ownersLines, ownersCall, Waits, waited, awaitedLines, awaitedCall}
+use Rattle.transport.specs.Calls.{takeInLines, takeInCall}
 use Rattle.calls.specs.PlanCalls.{lineWords}
 use Rattle.calls.specs.OverRecords.{Areas, inWords, FixedAreas}
 

@@ -5,11 +5,11 @@ ghost use lib.ListN.{length};
 ghost use Rattle.machine.specs.Machine.{stateOf};
 ghost use Rattle.engine.specs.Calls.{answer};
 ghost use Rattle.records.specs.Records.{flatWords};
-ghost use Rattle.offices.specs.Offices.{lentOf};
-ghost use Rattle.hours.specs.Hours.{hoursOf};
+ghost use Rattle.tenants.specs.Offices.{lentOf};
+ghost use Rattle.calendar.specs.Hours.{hoursOf};
 ghost use Rattle.timed.specs.Calls.{turnCallAt, turnCallAtFor, openingWords};
 ghost use Rattle.calls.specs.HourCalls.{opensWordsCall};
-use hours::Opening;
+use calendar::Opening;
 use records::Progress;
 
 // One turn of a processor.

@@ -15,8 +15,8 @@ pub mod office; // office.rt: the calls for an office
 pub mod desk; // desk.rt: the calls for the charting desk
 pub mod hour; // hour.rt: the calls with hours
 pub mod round; // round.rt: the calls by rounds
-pub mod transport; // transport.rt: the calls that a transport needs
-pub mod part; // part.rt: the calls for one processor that is lent its own part alone
+pub mod carrier; // carrier.rt: the calls that a transport needs
+pub mod board; // board.rt: the calls for one processor that is lent its own part alone
 
 // One turn of a processor.
 #[no_mangle]
@@ -132,7 +132,7 @@ pub extern "C" fn rolwyddac_sweep(encoded: &[u8], source: &[u32], grid: &mut [u3
 pub extern "C" fn rolwyddac_summary(encoded: &[u8], route: u32, out: &mut [u32]) -> u32
     ensures { λ r. ⌜ answer r (now (out .exit)) ≡ summaryCall (now (encoded .entry)) route (now (out .entry)) ⌝ }
 {
-    let figures = table::summary(encoded, route);
+    let figures = summary::summary(encoded, route);
     let number = figures.number;
     if number != 0 {
         return number;
@@ -160,7 +160,7 @@ pub extern "C" fn rolwyddac_message(encoded: &[u8], route: u32, m: u32, out: &mu
     if out.len() != 5 {
         return 9;
     }
-    let line = table::message(encoded, route, m);
+    let line = summary::message(encoded, route, m);
     let number = line.number;
     if number != 0 {
         return number;
@@ -186,7 +186,7 @@ pub extern "C" fn rolwyddac_hops(encoded: &[u8], m: u32, out: &mut [u32]) -> u32
     if out.len() != 1 {
         return 9;
     }
-    let told = table::hops(encoded, m);
+    let told = summary::hops(encoded, m);
     let number = told.number;
     if number != 0 {
         return number;

@@ -4,8 +4,8 @@ ghost use mathlib.Core.Path.{_≡_};
 ghost use Rattle.machine.specs.Machine.{stateOf};
 ghost use Rattle.engine.specs.Calls.{answer};
 ghost use Rattle.records.specs.Records.{flatWords};
-ghost use Rattle.offices.specs.Offices.{lentOf, rigOf, sourcesOf};
-ghost use Rattle.rig.specs.Calls.{turnCallFor, deliverCallFor, collectCallFor, freshRigCall};
+ghost use Rattle.tenants.specs.Offices.{lentOf, rigOf, sourcesOf};
+ghost use Rattle.sharing.specs.Calls.{turnCallFor, deliverCallFor, collectCallFor, freshRigCall};
 ghost use Rattle.calls.specs.OfficeCalls.{lookCall};
 use records::Progress;
 
@@ -33,7 +33,7 @@ pub extern "C" fn rolwyddac_office_turn(
 {
     let own = records::flatten(progress);
     let theirs = records::flatten(other);
-    let after = rig::core::turn(
+    let after = sharing::core::turn(
         encoded,
         route,
         source,
@@ -74,7 +74,7 @@ pub extern "C" fn rolwyddac_office_deliver(
 {
     let own = records::flatten(progress);
     let theirs = records::flatten(other);
-    rig::core::deliver(
+    sharing::core::deliver(
         encoded,
         route,
         source,
@@ -112,7 +112,7 @@ pub extern "C" fn rolwyddac_office_collect(
 {
     let own = records::flatten(progress);
     let theirs = records::flatten(other);
-    rig::core::collect(
+    sharing::core::collect(
         encoded,
         route,
         source,
@@ -156,7 +156,7 @@ pub extern "C" fn rolwyddac_fresh_both(
 {
     let first_words = 3 * first_progress.len();
     let second_words = 3 * second_progress.len();
-    let number = rig::core::fresh(
+    let number = sharing::core::fresh(
         encoded,
         route,
         first_source,
@@ -197,7 +197,7 @@ pub extern "C" fn rolwyddac_look(
     if out.len() != 2 {
         return 9;
     }
-    let seen = look::core::look_at(encoded, first.len(), second.len(), office, processor);
+    let seen = sharing::look::core::look_at(encoded, first.len(), second.len(), office, processor);
     let number = seen.number;
     if number != 0 {
         return number;

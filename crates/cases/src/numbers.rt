@@ -26,7 +26,7 @@ fn show_case(cases: &[u8], at: usize) -> usize
     let label = at + 1;
     let middle = label + size;
     let from = middle + 2;
-    let count = parts::half(&cases[middle..from]);
+    let count = program_io::half(&cases[middle..from]);
     if end - from < count {
         return end;
     }

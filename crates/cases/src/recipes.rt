@@ -32,7 +32,7 @@ pub fn print_cases(all: &[u8], swept: bool) {
     let mut number = 0;
     while all.len() - at >= 2 {
         let from = at + 2;
-        let head = parts::half(&all[at..from]);
+        let head = program_io::half(&all[at..from]);
         let length = head % 32768;
         if length > all.len() - from {
             return;

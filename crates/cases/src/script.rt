@@ -21,13 +21,13 @@ struct Areas {
 fn front(words: &[u32], lent: u32) -> usize
     ensures { λ r. ⌜ Counts r (now (words .entry)) ⌝ }
 {
-    parts::front(words, parts::wide(lent))
+    program_io::front(words, program_io::wide(lent))
 }
 
 fn front_bytes(bytes: &[u8], lent: u32) -> usize
     ensures { λ r. ⌜ Counts r (now (bytes .entry)) ⌝ }
 {
-    parts::front_bytes(bytes, parts::wide(lent))
+    program_io::front_bytes(bytes, program_io::wide(lent))
 }
 
 // ---- rules by which areas are filled
@@ -71,7 +71,7 @@ fn widened(bytes: [u8; 7168]) -> [u32; 7168] {
     let mut words = [0u32; 7168];
     let mut i: usize = 0;
     while i < 7168 {
-        words[i] = parts::of_byte(bytes[i]);
+        words[i] = program_io::of_byte(bytes[i]);
         i += 1;
     }
     words
@@ -164,10 +164,10 @@ struct Record {
 fn record_of(bytes: [u8; 16]) -> Record {
     Record {
         op: bytes[0],
-        area: parts::of_byte(bytes[1]),
+        area: program_io::of_byte(bytes[1]),
         rule: bytes[2],
-        a: parts::word(&bytes, 4),
-        b: parts::word(&bytes, 8),
+        a: program_io::word(&bytes, 4),
+        b: program_io::word(&bytes, 8),
     }
 }
 
@@ -369,8 +369,8 @@ fn begun(before: Areas, number: u32) -> Areas {
 fn with_recipe(fd: i32, before: Areas, length: u32) -> Areas {
     let mut areas = lend(before, 0, length);
     let mut recipe = before.recipe;
-    let padded = (parts::wide(length) + 15) / 16 * 16;
-    let n = parts::front_bytes(&recipe, padded);
+    let padded = (program_io::wide(length) + 15) / 16 * 16;
+    let n = program_io::front_bytes(&recipe, padded);
     io::read_full(fd, &mut recipe[..n]);
     areas.recipe = recipe;
     areas

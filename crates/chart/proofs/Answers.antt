@@ -27,9 +27,9 @@ use Rattle.nest.specs.Reader.{readLines, nestOf, readingOf}
 use Rattle.nest.proofs.Numbered.{numbered}
 use Rattle.nest.proofs.Answers.{number-read, nest-read}
 use Rattle.chart.specs.declared.Told.{Told}
-use Rattle.chart_text.specs.Text.{chartText}
+use Rattle.chart.specs.grid_text.Text.{chartText}
 use Rattle.chart.specs.Call.{notCharted, wrongGrid, measureLines, toldOf, lengthLines, lengthCall, writeLines, Written, written, writtenIf, writeCall}
-use Rattle.chart_text.proofs.Lengths.{cells-are}
+use Rattle.chart.proofs.grid_text.Lengths.{cells-are}
 
 -- what `tell` promises
 abbrev pub Tells : Told → ℕ → ℕ → Type 0

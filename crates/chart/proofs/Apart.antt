@@ -25,11 +25,11 @@ use Rattle.nest.proofs.Numbered.{numbered}
 use Rattle.nest.specs.Shape.{inShape}
 use Rattle.text.specs.Grid.{Frame, ncols, nrows, xllcorner, yllcorner, cellsize, nodata, missing}
 use Rattle.text.specs.Grid.{headLine, header, cell, more, row, rowsFrom, gridText}
-use Rattle.chart_text.specs.Text.{frameOf, chartText}
+use Rattle.chart.specs.grid_text.Text.{frameOf, chartText}
 use Rattle.chart.specs.Call.{Written, notCharted, wrongGrid, toldOf, writeLines, writtenIf, writeCall}
 use Rattle.chart.specs.Apart.{Same, textOf, SameInputs, Demand211}
 use Rattle.chart.proofs.Splits.{Parted, split, cut-same, head-split}
-use Rattle.chart_text.proofs.Lengths.{cells-are}
+use Rattle.chart.proofs.grid_text.Lengths.{cells-are}
 use Rattle.chart.proofs.Answers.{none-behind}
 
 missing-plain : Plain missing

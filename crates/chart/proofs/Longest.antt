@@ -17,11 +17,11 @@ use Rattle.base.proofs.Numbers.{none-first}
 use Rattle.nest.specs.Reader.{readLines, nestOf}
 use Rattle.nest.proofs.Facts.{accepted}
 use Rattle.nest.proofs.Numbered.{numbered}
-use Rattle.chart_text.specs.Text.{chartText}
+use Rattle.chart.specs.grid_text.Text.{chartText}
 use Rattle.chart.specs.Call.{notCharted, measureLines, toldOf, lengthLines, lengthCall}
 use Rattle.chart.specs.Longest.{Longest}
 use Rattle.text.proofs.Digits.{size-few}
-use Rattle.chart_text.proofs.Lengths.{Words, text-few}
+use Rattle.chart.proofs.grid_text.Lengths.{Words, text-few}
 use Rattle.chart.proofs.Answers.{none-front, none-behind}
 
 module _ (bytes g : List ℕ) (x y : ℤ) (size : ℕ) (b : Bytes bytes) (words : Words g) (fx : SFits w32 x) (fy : SFits w32 y) where

@@ -12,7 +12,7 @@ use Rattle.nest.specs.declared.Nest.{Nest}
 use Rattle.nest.specs.Nest.{cells}
 use Rattle.nest.specs.Reader.{readLines, nestOf}
 use Rattle.chart.specs.declared.Told.{Told}
-use Rattle.chart_text.specs.Text.{chartText}
+use Rattle.chart.specs.grid_text.Text.{chartText}
 
 -- line 23: n is not 2, or the cell size is not 1 to 65,535
 unfoldable pub notCharted : Nest → ℕ → Bool

@@ -1,3 +1,4 @@
 pub mod Call
 pub mod Apart
 pub mod Longest
+pub mod grid_text

@@ -1,11 +1,13 @@
 // A grid's text for the charting desk (document 02, W-211), and its length: the calls, by the line that counts.
-use chart_text::put_text;
+use crate::grid_text::put_text;
 use nest::Nest;
 ghost use mathlib.Core.Path.{_≡_};
 ghost use Rattle.nest.specs.Accepted.{Accepted};
 ghost use Rattle.base.specs.Numbers.{firstOf};
-ghost use Rattle.chart_text.specs.Text.{chartText};
+ghost use Rattle.chart.specs.grid_text.Text.{chartText};
 ghost use Rattle.chart.specs.Call.{measureLines, toldOf, lengthCall, written, writeCall};
+
+pub mod grid_text; // grid_text.rt: a grid's text for the charting desk (document 02, W-211), written to a lent space
 
 // What a call tells: its number, and the text's length in bytes, 0 at a refusal.
 pub struct Told {

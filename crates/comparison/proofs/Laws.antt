@@ -28,18 +28,18 @@ use Rattle.nest.proofs.Facts.{accepted}
 use Rattle.nest.proofs.Answers.{nest-read}
 use Rattle.layout.specs.declared.Sizes.{Sizes}
 use Rattle.layout.specs.Sizes.{Sized, routeOf}
-use Rattle.table.specs.declared.Figures.{Figures}
-use Rattle.table.specs.Summary.{figuresOf, summaryOf}
-use Rattle.table.proofs.Answers.{summary-is}
+use Rattle.summary.specs.declared.Figures.{Figures}
+use Rattle.summary.specs.Summary.{figuresOf, summaryOf}
+use Rattle.summary.proofs.Answers.{summary-is}
 use Rattle.engine.specs.Calls.{answer, recipe, areas, freshCall, collectCall, sweepCall}
 use Rattle.engine.specs.Demands.{calls}
 use Rattle.engine.proofs.Demands.{demands}
-use Rattle.drive.specs.Drive.{roundsOf, Driven}
-use Rattle.drive.specs.declared.Order.{Order}
+use Rattle.comparison.specs.drive.Drive.{roundsOf, Driven}
+use Rattle.comparison.specs.declared.drive.Order.{Order}
 use Rattle.nest.proofs.Numbered.{numbered}
 use Rattle.routes.specs.Routes.{linesFor}
 use Rattle.routes.proofs.Laws.{numbered-for, open-direct}
-use Rattle.drive.proofs.Whole.{ended}
+use Rattle.comparison.proofs.drive.Whole.{ended}
 use Rattle.comparison.specs.declared.Extent.{Extent}
 use Rattle.comparison.specs.Agreement.{isBeyond, sourceOf, driven, ran, outcome, agreeing, compared, ranAndCompared}
 use Rattle.comparison.specs.Agreement.{Within}

@@ -23,7 +23,7 @@ use Rattle.nest.proofs.Answers.{number-read, nest-read}
 use Rattle.layout.specs.declared.Sizes.{Sizes}
 use Rattle.layout.specs.Sizes.{Sized}
 use Rattle.engine.specs.Calls.{recipe}
-use Rattle.drive.specs.declared.Order.{Order}
+use Rattle.comparison.specs.declared.drive.Order.{Order}
 use Rattle.plan_text.specs.PlanText.{refusedText}
 use Rattle.comparison.specs.declared.Extent.{Extent}
 use Rattle.comparison.specs.Agreement.{isBeyond, sourceOf, Outcome, ranAndCompared, Within}

@@ -14,8 +14,8 @@ use Rattle.machine.specs.Runs.{stateAfter, total}
 use Rattle.nest.specs.Reader.{readLines}
 use Rattle.engine.specs.Calls.{recipe, freshCall, collectCall, sweepCall}
 use Rattle.engine.specs.Demands.{calls}
-use Rattle.drive.specs.declared.Order.{Order}
-use Rattle.drive.specs.Drive.{roundsOf}
+use Rattle.comparison.specs.declared.drive.Order.{Order}
+use Rattle.comparison.specs.drive.Drive.{roundsOf}
 use Rattle.comparison.specs.declared.Extent.{Extent}
 
 -- the program's limits: more than 1,024 cells, or more than 4,096 words of memories

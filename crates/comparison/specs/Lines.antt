@@ -14,7 +14,7 @@ use Rattle.machine.specs.Machine.{State, stateOf}
 use Rattle.machine.specs.Runs.{total}
 use Rattle.nest.specs.Reader.{readLines}
 use Rattle.engine.specs.Calls.{recipe}
-use Rattle.drive.specs.declared.Order.{Order}
+use Rattle.comparison.specs.declared.drive.Order.{Order}
 use Rattle.plan_text.specs.PlanText.{refusedText}
 use Rattle.comparison.specs.Agreement.{isBeyond, sourceOf, ranAndCompared}
 

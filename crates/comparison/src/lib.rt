@@ -1,6 +1,6 @@
 // A recipe swept both ways, over two sources and in two orders of turns, messages passed directly: what the second program of document 01
 // writes, made in a lent space and handed to standard output.
-use drive::Order;
+use crate::drive::Order;
 use libc::STDOUT_FILENO;
 use plan::Route;
 ghost use mathlib.Core.Path.{_≡_};
@@ -13,6 +13,8 @@ ghost use Rattle.text.specs.Writing.{pen, write};
 ghost use Rattle.comparison.specs.Agreement.{isBeyond, sourceOf, ran, outcome, compared};
 ghost use Rattle.comparison.specs.Agreement.{ranAndCompared, Within};
 ghost use Rattle.comparison.specs.Lines.{verdictLine, agreesFor, fourLines, comparisonText};
+
+pub mod drive; // drive.rt: drives a run on the direct route to its end by the offered calls
 
 // What the areas of a run are made of.
 pub struct Extent {
@@ -157,11 +159,11 @@ fn verdict(encoded: &[u8], extent: Extent, counting: bool, falling: bool) -> boo
     let cells = extent.cells;
     let processors = extent.processors;
     let messages = extent.messages;
-    let c = parts::wide(cells);
+    let c = program_io::wide(cells);
     let m = memory_words(cells, processors) as usize;
-    let w = parts::wide(extent.words);
-    let p = 3 * parts::wide(processors);
-    let s = parts::wide(messages);
+    let w = program_io::wide(extent.words);
+    let p = 3 * program_io::wide(processors);
+    let s = program_io::wide(messages);
     let order = Order {
         processors: processors,
         messages: messages,
@@ -258,7 +260,7 @@ pub fn put_lines(space: &mut [u8], encoded: &[u8]) -> usize
     if is_beyond(cells, processors) {
         return text::put_bytes(space, 0, b"beyond\n");
     }
-    let figures = table::summary(encoded, 0);
+    let figures = summary::summary(encoded, 0);
     let extent = Extent {
         cells: cells,
         processors: processors,

@@ -23,20 +23,20 @@ use Rattle.plan.specs.declared.Route.{Route}
 use Rattle.plan.specs.declared.Route.the-variants.{Direct, Indirect}
 use Rattle.plan.specs.Shaped.{planOf}
 use Rattle.plan.specs.Hops.{hops}
-use Rattle.rows.specs.Rows.{figuresIf}
-use Rattle.report.specs.Exact.{sequential, runNest}
-use Rattle.report.proofs.Plans.{not-empty}
+use Rattle.conformance.specs.Rows.{figuresIf}
+use Rattle.conformance.specs.Exact.{sequential, runNest}
+use Rattle.conformance.proofs.Plans.{not-empty}
 use Rattle.plan.proofs.ShapedBox.{planOf-box}
-use Rattle.report.proofs.ShapedExact.{exact-shape}
+use Rattle.conformance.proofs.ShapedExact.{exact-shape}
 use Rattle.plan.proofs.ShapedSound.{sound}
-use Rattle.report.proofs.Report.{report-agrees}
-use Rattle.report.proofs.Exact.{exact}
+use Rattle.conformance.proofs.Report.{report-agrees}
+use Rattle.conformance.proofs.Exact.{exact}
 use Rattle.layout.specs.Sizes.{routeOf}
 use Rattle.routes.specs.Routes.{linesFor}
 use Rattle.routes.proofs.Laws.{reads-for, indirect-box}
-use Rattle.table.specs.Summary.{asFigures, figuresOf, noFigures, summaryOf, lineOf, noLine, messageLines, lineIf, messageLineOf, directionOf, hopsLines}
-use Rattle.table.specs.Summary.{noHops, hopsIf, hopsOf}
-use Rattle.table.proofs.Answers.{directed}
+use Rattle.summary.specs.Summary.{asFigures, figuresOf, noFigures, summaryOf, lineOf, noLine, messageLines, lineIf, messageLineOf, directionOf, hopsLines}
+use Rattle.summary.specs.Summary.{noHops, hopsIf, hopsOf}
+use Rattle.summary.proofs.Answers.{directed}
 use Rattle.engine.specs.Calls.{answer, recipe, freshCall, turnCall, deliverCall, collectCall, sweepCallLines, sweepCall}
 use Rattle.engine.specs.Demands.{Fixed, Demand1, Demand2, calls, Demands}
 use Rattle.engine.proofs.Lines.{areas-are}

@@ -18,7 +18,7 @@ use Rattle.machine.proofs.Words.{turn-does}
 use Rattle.nest.specs.Reader.{nestOf}
 use Rattle.nest.specs.Accepted.{Accepted}
 use Rattle.plan.proofs.ShapedSound.{sound}
-use Rattle.report.proofs.Plans.{once}
+use Rattle.conformance.proofs.Plans.{once}
 use Rattle.layout.specs.Sizes.{routeOf}
 use Rattle.routes.specs.Routes.{linesFor}
 use Rattle.routes.proofs.Laws.{numbered-for}

@@ -18,12 +18,12 @@ use Rattle.nest.specs.Shape.{inShape}
 use Rattle.nest.specs.Reader.{nestOf, readLines}
 use Rattle.plan.specs.Messages.{boxPlan}
 use Rattle.plan.specs.Hops.{hops}
-use Rattle.report.specs.Report.{ReportAgrees}
-use Rattle.report.specs.Exact.{Exact, sequential, runNest}
-use Rattle.report.specs.ExactShape.{ExactShape, shapeOf}
+use Rattle.conformance.specs.Report.{ReportAgrees}
+use Rattle.conformance.specs.Exact.{Exact, sequential, runNest}
+use Rattle.conformance.specs.ExactShape.{ExactShape, shapeOf}
 use Rattle.layout.specs.Sizes.{routeOf}
 use Rattle.routes.specs.Routes.{linesFor}
-use Rattle.table.specs.Summary.{figuresOf, noFigures, summaryOf, lineOf, noLine, messageLines, messageLineOf, directionOf, Directed, hopsLines, noHops, hopsOf}
+use Rattle.summary.specs.Summary.{figuresOf, noFigures, summaryOf, lineOf, noLine, messageLines, messageLineOf, directionOf, Directed, hopsLines, noHops, hopsOf}
 use Rattle.engine.specs.Calls.{answer, recipe, freshCallLines, freshCall, turnCallLines, turnCall, deliverCallLines, deliverCall, collectCallLines}
 use Rattle.engine.specs.Calls.{collectCall, sweepCallLines, sweepCall}
 

@@ -165,6 +165,6 @@ pub fn sweep(encoded: &[u8], source: &[u32], grid: &mut [u32]) -> u32
         values::sweep(nest, sizes, source, grid);
         return 0;
     }
-    shaped_values::sweep(nest, sizes, source, grid);
+    values::shaped_values::sweep(nest, sizes, source, grid);
     0
 }

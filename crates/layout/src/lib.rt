@@ -13,9 +13,11 @@ ghost use Rattle.plan.specs.Messages.{ways, slots, boxPlan};
 ghost use Rattle.plan.specs.Box.{boxCell};
 ghost use Rattle.layout.specs.Sizes.{routeOf, Sized, along, endAt, Stepped};
 ghost use Rattle.layout.specs.Places.{nth, Has, Countable, Ranked, Places, Placed, Shared, Located, Bounded};
-use division::tile_along;
+use crate::division::tile_along;
 use nest::Nest;
 use plan::Route;
+
+pub mod division; // division.rt: the one division of a component by a tile length, in 16-bit numbers (W-206), which small processors divide in short code
 
 // A nest's counts on a route, made once in a call: tiles along each dimension, the products, and the ways that a tile's messages go.
 pub struct Sizes {

@@ -1,3 +1,4 @@
 pub mod Twins
 pub mod Windows
 pub mod Sendings
+pub mod shaped

@@ -18,6 +18,8 @@ use layout::Sizes;
 use nest::Nest;
 use plan::Route;
 
+pub mod shaped; // shaped.rt: nests with bounds, by rows and spans
+
 // A box of places, from its first one with its lengths.
 pub struct Block {
     pub corner: [usize; 4],

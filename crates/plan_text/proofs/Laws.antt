@@ -29,16 +29,16 @@ use Rattle.plan.specs.declared.Route.{Route}
 use Rattle.plan.specs.declared.Route.the-variants.{Direct}
 use Rattle.plan.specs.Messages.{slots, directions, boxPlan}
 use Rattle.plan.specs.Shaped.{shapedMessage, shapedSlots, planOf}
-use Rattle.rows.specs.Rows.{messageLine}
+use Rattle.conformance.specs.Rows.{messageLine}
 use Rattle.plan.proofs.Listed.{few as few-listed}
 use Rattle.plan.proofs.Slots.{few}
 use Rattle.plan.proofs.ShapedBox.{planOf-box}
 use Rattle.layout.proofs.Steps.{ways-few}
 use Rattle.routes.specs.Routes.{linesFor, ReadFor}
-use Rattle.boxes.proofs.Scans.{slots-few}
-use Rattle.table.specs.declared.Figures.{Figures}
-use Rattle.table.specs.declared.MessageLine.{MessageLine}
-use Rattle.table.specs.Summary.{figuresOf, lineOf}
+use Rattle.tables.proofs.boxes.Scans.{slots-few}
+use Rattle.summary.specs.declared.Figures.{Figures}
+use Rattle.summary.specs.declared.MessageLine.{MessageLine}
+use Rattle.summary.specs.Summary.{figuresOf, lineOf}
 use Rattle.plan_text.specs.PlanText.{tilesWord, messagesWord, wordsWord, stepsWord, numberThen, field}
 use Rattle.plan_text.specs.PlanText.{figuresText, spaced, linesText, refusedText, planTextIf, planText}
 

@@ -12,7 +12,7 @@ use Rattle.machine.specs.Runs.{total}
 use Rattle.nest.specs.Reader.{nestOf}
 use Rattle.plan.specs.declared.Route.{Route}
 use Rattle.plan.specs.Shaped.{planOf}
-use Rattle.rows.specs.Rows.{messageLine}
+use Rattle.conformance.specs.Rows.{messageLine}
 use Rattle.routes.specs.Routes.{linesFor}
 
 -- "tiles ", "messages ", "words ", "steps ", "refused "

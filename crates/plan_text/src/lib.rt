@@ -12,7 +12,7 @@ ghost use Rattle.plan_text.specs.PlanText.{numberThen, field, figuresTex
 use layout::Sizes;
 use libc::STDOUT_FILENO;
 use nest::Nest;
-use table::MessageLine;
+use summary::MessageLine;
 
 // A number of at most ten digits, and a byte behind it.
 fn put_number(space: &mut [u8], at: usize, number: u32, after: u8) -> usize
@@ -70,14 +70,14 @@ fn put_lines(
             space,
             place,
             m,
-            table::line_of(nest, sizes, lens, m as usize),
+            summary::line_of(nest, sizes, lens, m as usize),
         );
         m += 1;
     }
     place
 }
 
-fn put_figures(space: &mut [u8], of: table::Figures) -> usize
+fn put_figures(space: &mut [u8], of: summary::Figures) -> usize
     ensures { λ r. ⌜ pen r (now (space .exit)) ≡ write (pen 0 (now (space .entry))) (figuresText (of .tiles) (of .messages) (of .words) (of .steps)) ⌝ }
     ensures { λ r. ⌜ r ≤ 71 ⌝ }
 {
@@ -112,7 +112,7 @@ pub fn put_recipe(space: &mut [u8], encoded: &[u8], route: u32) -> usize
     let sizes = layout::sizes_of(nest, layout::route_of(route));
     let mut lens = [0u16; 9217];
     tables::fill(nest, sizes, &mut lens);
-    let figures = table::figures_of(nest, sizes, &lens);
+    let figures = summary::figures_of(nest, sizes, &lens);
     let next = put_figures(space, figures);
     put_lines(space, next, nest, sizes, &lens, figures.messages)
 }
@@ -141,14 +141,14 @@ pub fn print_recipe(encoded: &[u8], route: u32) -> bool {
     print_by(&mut space, encoded, route)
 }
 
-fn print_hop(of: table::HopCount) {
+fn print_hop(of: summary::HopCount) {
     io::write_all(STDOUT_FILENO, b" ");
     io::print_decimal(STDOUT_FILENO, of.hops as u64);
 }
 
 // The hops of each message of the direct plan, in one line; nothing where the recipe is refused.
 pub fn print_hops(encoded: &[u8]) {
-    let figures = table::summary(encoded, 0);
+    let figures = summary::summary(encoded, 0);
     if figures.number != 0 {
         return;
     }
@@ -156,7 +156,7 @@ pub fn print_hops(encoded: &[u8]) {
     io::write_all(STDOUT_FILENO, b"hops");
     let mut m = 0;
     while m < messages {
-        print_hop(table::hops(encoded, m));
+        print_hop(summary::hops(encoded, m));
         m += 1;
     }
     io::write_all(STDOUT_FILENO, b"\n");

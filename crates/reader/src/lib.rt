@@ -13,23 +13,23 @@ ghost use Rattle.nest.specs.Shape.{inShape, tiles};
 ghost use Rattle.nest.specs.Spans.{Framed, Tiled, Shaped};
 ghost use Rattle.nest.specs.Reader.{nestBy, badLength, badDistance, badTile, badSpread, lastSpread};
 ghost use Rattle.nest.specs.Reader.{badProcessors, tooManyTiles, nestLines, readingOf};
-use distance_fields::components_of;
-use distance_fields::needlessly_wide;
-use distance_fields::weights_of;
-use distance_fields::wide;
-use distances::bad_distance;
-use distances::bad_tile;
-use distances::outside;
-use fields::bytes_of;
-use fields::count_distances;
-use fields::count_kind;
-use fields::halves;
-use fields::offsets_of;
-use fields::ragged;
-use fields::slopes_of;
-use fields::spread_of;
-use fields::well_formed;
-use fields::word_at;
+use crate::distance_fields::components_of;
+use crate::distance_fields::needlessly_wide;
+use crate::distance_fields::weights_of;
+use crate::distance_fields::wide;
+use crate::distances::bad_distance;
+use crate::distances::bad_tile;
+use crate::distances::outside;
+use crate::fields::bytes_of;
+use crate::fields::count_distances;
+use crate::fields::count_kind;
+use crate::fields::halves;
+use crate::fields::offsets_of;
+use crate::fields::ragged;
+use crate::fields::slopes_of;
+use crate::fields::spread_of;
+use crate::fields::well_formed;
+use crate::fields::word_at;
 use nest::Nest;
 use nest::Reading;
 use nest::mark_row;
@@ -37,6 +37,10 @@ use nest::product_of;
 use nest::row_count;
 use nest::row_place;
 use nest::span;
+
+pub mod distance_fields; // distance_fields.rt: a distance's record
+pub mod fields; // fields.rt: a recipe's bytes
+pub mod distances; // distances.rt: what lines 5 and 6 of document 01's table test of a nest
 
 // What is read where nothing is accepted.
 pub fn no_nest() -> Nest

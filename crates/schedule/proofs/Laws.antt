@@ -28,7 +28,7 @@ use Rattle.plan.specs.declared.Route.the-variants.{Direct, Indirect}
 use Rattle.plan.specs.Shaped.{planOf}
 use Rattle.layout.specs.declared.Sizes.{Sizes}
 use Rattle.layout.specs.Sizes.{Sized}
-use Rattle.scans.specs.declared.Place.{Place}
+use Rattle.tables.specs.declared.scans.Place.{Place}
 use Rattle.tables.specs.Tables.{FoundIn}
 use Rattle.stages.specs.Progress.{progressOnly}
 use Rattle.stages.proofs.Parts as parts

@@ -22,12 +22,12 @@ use Rattle.plan.proofs.ShapedSound.{sound}
 use Rattle.layout.specs.declared.Sizes.{Sizes}
 use Rattle.layout.specs.Sizes.{Sized, Stepped, endAt}
 use Rattle.layout.proofs.Steps.{ways-few}
-use Rattle.scans.specs.declared.Place.{Place}
-use Rattle.scans.specs.Scans.{Sheet, Lengths, Summing, Found}
-use Rattle.scans.proofs.Laws as scans
-use Rattle.boxes.specs.Table.{endOf}
-use Rattle.boxes.proofs.Scans as boxes
-use Rattle.shaped_table.proofs.Laws as shapes
+use Rattle.tables.specs.declared.scans.Place.{Place}
+use Rattle.tables.specs.scans.Scans.{Sheet, Lengths, Summing, Found}
+use Rattle.tables.proofs.scans.Laws as scans
+use Rattle.tables.specs.boxes.Table.{endOf}
+use Rattle.tables.proofs.boxes.Scans as boxes
+use Rattle.tables.proofs.shaped_table.Laws as shapes
 use Rattle.tables.specs.Tables.{Tabled, FoundIn}
 use Rattle.tables.proofs.Laws as tables
 use Rattle.schedule.specs.Index.{spotOf, Listed}

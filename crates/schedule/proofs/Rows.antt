@@ -13,8 +13,8 @@ use Rattle.nest.specs.Recipes.{rowA, rowB}
 use Rattle.plan.specs.Geometry.{processorOf, inside}
 use Rattle.plan.specs.declared.Route.the-variants.{Direct}
 use Rattle.plan.specs.Messages.{directions, ahead, reaches, crosses, parcel, taker, slotCells, slotTaker, atHome, slotParcel, messagesTo, messagesOf, boxPlan}
-use Rattle.rows.proofs.RowNests.{nestA, nestB, isA, isB}
-use Rattle.rows.proofs.AToH.{numberA, numberB}
+use Rattle.conformance.proofs.RowNests.{nestA, nestB, isA, isB}
+use Rattle.conformance.proofs.AToH.{numberA, numberB}
 use Rattle.plan.proofs.ShapedBox.{recipe-box}
 use Rattle.layout.specs.Sizes.{routeOf}
 use Rattle.rounds.specs.Rounds.{larger, greatest, lastOf, waitsFor, nextRound, extended, roundsTo, tileRound, lastRound, rounds}

@@ -31,7 +31,7 @@ use Rattle.plan.specs.Shaped.{planOf, boxTile}
 use Rattle.plan.proofs.ShapedBox.{planOf-box}
 use Rattle.routes.proofs.Laws.{reads-for}
 use Rattle.layout.specs.Sizes.{routeOf}
-use Rattle.scans.specs.declared.Place.{Place}
+use Rattle.tables.specs.declared.scans.Place.{Place}
 use Rattle.tables.specs.Tables.{FoundIn}
 use Rattle.rounds.specs.Rounds.{larger, greatest, lastOf, waitsFor, roundsTo, tileRound}
 use Rattle.rounds.proofs.Lists.{larger-is, larger-most, larger-join, larger-zero, greatest-append, last-append, map-append, map-map}

@@ -13,7 +13,7 @@ use Rattle.nest.specs.declared.Nest.{Nest}
 use Rattle.plan.specs.Shaped.{planOf}
 use Rattle.layout.specs.declared.Sizes.{Sizes}
 use Rattle.layout.specs.Sizes.{Sized}
-use Rattle.boxes.specs.Table.{endOf}
+use Rattle.tables.specs.boxes.Table.{endOf}
 use Rattle.tables.specs.Tables.{Tabled}
 use Rattle.rounds.specs.Rounds.{greatest, lastOf, tileRound}
 use Rattle.schedule.specs.Index.{Listed, Chained}

@@ -9,7 +9,7 @@ use Rattle.machine.specs.Plan.{count}
 use Rattle.nest.specs.declared.Nest.{Nest}
 use Rattle.plan.specs.declared.Route.{Route}
 use Rattle.plan.specs.Shaped.{planOf}
-use Rattle.scans.specs.declared.Place.{Place}
+use Rattle.tables.specs.declared.scans.Place.{Place}
 use Rattle.tables.specs.Tables.{FoundIn}
 
 -- where message m is by the list: its slot is at m, its offset 7168 further

@@ -9,8 +9,8 @@ ghost use Rattle.machine.specs.Plan.{Message, count};
 ghost use Rattle.plan.specs.Messages.{messagesOf};
 ghost use Rattle.plan.specs.Shaped.{planOf};
 ghost use Rattle.layout.specs.Sizes.{Stepped};
-ghost use Rattle.scans.specs.Scans.{Sheet, Lengths, Found};
-ghost use Rattle.boxes.specs.Table.{endOf, atEnd};
+ghost use Rattle.tables.specs.scans.Scans.{Sheet, Lengths, Found};
+ghost use Rattle.tables.specs.boxes.Table.{endOf, atEnd};
 ghost use Rattle.tables.specs.Tables.{FoundIn};
 ghost use Rattle.schedule.specs.Given.{Planned};
 ghost use Rattle.schedule.specs.Index.{spotOf, Listed, Chained};
@@ -18,7 +18,7 @@ use base::half_index;
 use base::word_index;
 use layout::Sizes;
 use nest::Nest;
-use scans::Place;
+use tables::scans::Place;
 use tables::tiles_of;
 
 // Slot and offset of each message of so many slots: how many there are.
@@ -87,7 +87,7 @@ fn end_of(
     if side == 0 {
         return sender;
     }
-    shaped_table::taker_of(nest, sizes, lens, slot)
+    tables::shaped_table::taker_of(nest, sizes, lens, slot)
 }
 
 // A chain with no message yet.

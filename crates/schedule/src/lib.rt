@@ -34,7 +34,6 @@ use plan::Route;
 use reader::read;
 use records::Progress;
 use routes::read_for;
-use scans::Place;
 use stages::calculate;
 use stages::put_message;
 use stages::take_message;
@@ -42,6 +41,7 @@ use stages::tiles_left;
 use stages::zero_bytes;
 use stages::zero_words;
 use tables::fill;
+use tables::scans::Place;
 use tables::tile_at;
 use tables::tile_count;
 use tables::tiles_of;
@@ -413,7 +413,7 @@ fn processor_at(nest: Nest, sizes: Sizes, lens: &[u16; 9217], tile: usize) -> us
     if nest.bounds == 0 {
         return layout::processor_of(nest, sizes, tile);
     }
-    shaped_table::owner_of(nest, lens, tile)
+    tables::shaped_table::owner_of(nest, lens, tile)
 }
 
 // The tile that sends a message.

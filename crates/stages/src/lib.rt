@@ -12,7 +12,7 @@ ghost use Rattle.nest.specs.Nest.{cells, processors};
 ghost use Rattle.plan.specs.Messages.{boxPlan};
 ghost use Rattle.plan.specs.Shaped.{planOf};
 ghost use Rattle.layout.specs.Sizes.{Sized};
-ghost use Rattle.boxes.specs.Table.{Table};
+ghost use Rattle.tables.specs.boxes.Table.{Table};
 ghost use Rattle.tables.specs.Tables.{Routed, Tabled, FoundIn};
 ghost use Rattle.stages.specs.Progress.{progressOnly, setRecord};
 use base::word_index;
@@ -21,10 +21,10 @@ use layout::processor_of;
 use layout::tile_of;
 use nest::Nest;
 use records::Progress;
-use scans::Place;
 use tables::count_at;
 use tables::nth_at;
 use tables::pack;
+use tables::scans::Place;
 use tables::tile_at;
 use tables::tile_count;
 use tables::unpack;
@@ -171,8 +171,8 @@ pub fn calculate(
         values::calculate(nest, sizes, source, memory, tile);
         return;
     }
-    let number = shaped_table::box_of(nest, lens, tile);
-    shaped_values::calculate(nest, sizes, source, memory, number);
+    let number = tables::shaped_table::box_of(nest, lens, tile);
+    values::shaped_values::calculate(nest, sizes, source, memory, number);
 }
 
 // Stage 1. Only the processor's own part of the memories is lent on.
@@ -322,7 +322,7 @@ fn box_record(
     if finished < n {
         if stage == 2 {
             let tile = layout::tile_at(nest, sizes, processor, finished);
-            let sends = boxes::count_at(nest, sizes, lens, tile, 0);
+            let sends = tables::boxes::count_at(nest, sizes, lens, tile, 0);
             return sent < sends;
         }
         if stage > 2 {
@@ -468,7 +468,7 @@ pub fn copy_cells(nest: Nest, sizes: Sizes, memories: &[u32], grid: &mut [u32])
         copy_box(nest, sizes, memories, grid);
         return;
     }
-    shaped_values::copy_cells(nest, sizes, memories, grid);
+    values::shaped_values::copy_cells(nest, sizes, memories, grid);
 }
 
 pub fn zero_words(words: &mut [u32])

@@ -13,9 +13,9 @@ use Rattle.machine.specs.Machine.{State, finishedOf, stageOf, sentOf, actionAt}
 use Rattle.machine.specs.Runs.{Event, turnOf, deliveryOf, act}
 use Rattle.machine.proofs.Records.{SameRecord}
 use Rattle.machine.proofs.Deeds.{turn-away, delivery-away}
-use Rattle.offices.specs.Offices.{Lent, holderOf, freedAfter, engagedAfter, carryOutFor, Rig, Sources, sourceFor, ownOf, otherOf, lentTo}
-use Rattle.offices.specs.Offices.{returned, actFor, actOn}
-use Rattle.offices.proofs.OneCall.{turn-done, deliver-words}
+use Rattle.tenants.specs.Offices.{Lent, holderOf, freedAfter, engagedAfter, carryOutFor, Rig, Sources, sourceFor, ownOf, otherOf, lentTo}
+use Rattle.tenants.specs.Offices.{returned, actFor, actOn}
+use Rattle.tenants.proofs.OneCall.{turn-done, deliver-words}
 
 -- by the office, the processor, and the office's record there: tiles finished, stage, messages sent
 unfoldable pub touchAt : Plan → ℕ → ℕ → ℕ → ℕ → ℕ → List ℕ → List ℕ

@@ -19,14 +19,14 @@ use Rattle.machine.proofs.Turns.{turn-lines}
 use Rattle.machine.proofs.Records.{SameRecord}
 use Rattle.machine.proofs.RunLaws.{number-of}
 use Rattle.machine.proofs.Guards.{Guards, good-end}
-use Rattle.offices.specs.Offices.{Lent, holderOf, otherThan, heldByOther, turnFor, deliverFor, actFor, Call, actOn}
-use Rattle.offices.specs.Offices.{ofOffice, Rig, Sources, sourceFor, ownOf, otherOf, lentTo, returned, freshRig}
-use Rattle.offices.proofs.OneCall.{call-office, call-number, call-away, returned-same}
-use Rattle.offices.proofs.Engaged.{RigInv, rig-fit, inv-start, inv-next}
-use Rattle.offices.proofs.SharedWords.{free-zero}
-use Rattle.offices.proofs.OfficeTurns.{OpenTurn, turn-open, open-turn, open-mail}
-use Rattle.offices.proofs.OneOffice.{step-own}
-use Rattle.offices.proofs.AnyCalls.{Alike}
+use Rattle.tenants.specs.Offices.{Lent, holderOf, otherThan, heldByOther, turnFor, deliverFor, actFor, Call, actOn}
+use Rattle.tenants.specs.Offices.{ofOffice, Rig, Sources, sourceFor, ownOf, otherOf, lentTo, returned, freshRig}
+use Rattle.tenants.proofs.OneCall.{call-office, call-number, call-away, returned-same}
+use Rattle.tenants.proofs.Engaged.{RigInv, rig-fit, inv-start, inv-next}
+use Rattle.tenants.proofs.SharedWords.{free-zero}
+use Rattle.tenants.proofs.OfficeTurns.{OpenTurn, turn-open, open-turn, open-mail}
+use Rattle.tenants.proofs.OneOffice.{step-own}
+use Rattle.tenants.proofs.AnyCalls.{Alike}
 use Rattle.swaps.specs.Swaps.{CanTake, EitherWay}
 use Rattle.swaps.specs.TwoOffices.{Gathers, TwoGathers, DifferentFor, SwapsFor, Demand214For, wholly}
 use Rattle.swaps.proofs.OneOffice.{either-event}

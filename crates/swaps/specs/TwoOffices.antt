@@ -7,7 +7,7 @@ use mathlib.Core.List.{List}
 use Rattle.machine.specs.Plan.{Plan}
 use Rattle.machine.specs.Machine.{Answered, gather, nextAction}
 use Rattle.machine.specs.Runs.{turnOf, stateAfter}
-use Rattle.offices.specs.Offices.{Rig, ownOf, Call}
+use Rattle.tenants.specs.Offices.{Rig, ownOf, Call}
 use Rattle.swaps.specs.Swaps.{CanTake, Swaps, Rewinds}
 
 -- office o's next action on processor b is a gather

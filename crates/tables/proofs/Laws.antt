@@ -19,12 +19,12 @@ use Rattle.plan.specs.Messages.{ways, directions, slotDirection, slotParcel, sl
 use Rattle.plan.specs.Shaped.{boxTile, slotBox, shapedParcel, shapedHome, shapedSlotParcel, shapedMessage, shapedSlots, planOf}
 use Rattle.plan.proofs.ShapedBox.{planOf-box}
 use Rattle.layout.specs.declared.Sizes.{Sizes}
-use Rattle.scans.specs.declared.Place.{Place}
-use Rattle.scans.specs.Scans.{Sheet, Lengths, Found}
-use Rattle.boxes.specs.Table.{Table, FoundAt, atEnd}
-use Rattle.shaped_table.specs.Table as shaped
-use Rattle.shaped_table.specs.Table.{ShapedTable}
-use Rattle.shaped_table.proofs.Laws as table
+use Rattle.tables.specs.declared.scans.Place.{Place}
+use Rattle.tables.specs.scans.Scans.{Sheet, Lengths, Found}
+use Rattle.tables.specs.boxes.Table.{Table, FoundAt, atEnd}
+use Rattle.tables.specs.shaped_table.Table as shaped
+use Rattle.tables.specs.shaped_table.Table.{ShapedTable}
+use Rattle.tables.proofs.shaped_table.Laws as table
 use Rattle.tables.specs.Tables.{Tabled, FoundIn}
 
 full : (b : Bool) (l : List ℕ) → 0 < length (pick b [] l) → pick b [] l ≡ l

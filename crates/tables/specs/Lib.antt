@@ -1,1 +1,4 @@
 pub mod Tables
+pub mod scans
+pub mod boxes
+pub mod shaped_table

@@ -13,9 +13,9 @@ use Rattle.plan.specs.declared.Route.the-variants.{Direct}
 use Rattle.plan.specs.Messages.{slots, slotMessage}
 use Rattle.plan.specs.Shaped.{shapedSlots, shapedMessage, planOf}
 use Rattle.layout.specs.declared.Sizes.{Sizes}
-use Rattle.scans.specs.declared.Place.{Place}
-use Rattle.boxes.specs.Table.{Table}
-use Rattle.shaped_table.specs.Table.{ShapedTable}
+use Rattle.tables.specs.declared.scans.Place.{Place}
+use Rattle.tables.specs.boxes.Table.{Table}
+use Rattle.tables.specs.shaped_table.Table.{ShapedTable}
 
 -- indirect passing is for nests without bounds
 abbrev pub Routed : Nest → Sizes → Type 0

@@ -8,12 +8,17 @@ ghost use Rattle.machine.specs.Plan.{count, words, heldBy, tilesOf};
 ghost use Rattle.nest.specs.Nest.{cells};
 ghost use Rattle.plan.specs.Shaped.{planOf};
 ghost use Rattle.layout.specs.Sizes.{Sized};
-ghost use Rattle.boxes.specs.Table.{atEnd};
+ghost use Rattle.tables.specs.boxes.Table.{atEnd};
 ghost use Rattle.tables.specs.Tables.{Routed, Tabled, FoundIn};
+use crate::scans::Place;
+use crate::scans::Total;
 use layout::Sizes;
 use nest::Nest;
-use scans::Place;
-use scans::Total;
+
+pub mod scans; // scans.rt: scans of a table of parcel lengths by slot
+pub mod boxes; // boxes.rt: the table of message lengths of a nest without bounds, filled once in a call
+pub mod shaped_table; // shaped_table.rt: the table of a nest with bounds, filled once in a call
+pub mod held; // held.rt: the cells of a message, listed in the order of its words
 
 // The length of each slot's parcel and, with bounds, what else is found once.
 pub fn fill(nest: Nest, sizes: Sizes, lens: &mut [u16; 9217])
@@ -139,7 +144,7 @@ pub fn pack(
         return;
     }
     let tile = shaped_table::box_of(nest, lens, slot / sizes.ways);
-    shaped::pack(nest, sizes, tile, slot % sizes.ways, words, memory);
+    parcels::shaped::pack(nest, sizes, tile, slot % sizes.ways, words, memory);
 }
 
 // The words of a message, into a memory.
@@ -162,5 +167,5 @@ pub fn unpack(
         return;
     }
     let tile = shaped_table::box_of(nest, lens, slot / sizes.ways);
-    shaped::unpack(nest, sizes, tile, slot % sizes.ways, memory, words);
+    parcels::shaped::unpack(nest, sizes, tile, slot % sizes.ways, memory, words);
 }

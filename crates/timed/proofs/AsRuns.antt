@@ -18,22 +18,22 @@ use Rattle.machine.specs.Machine.{State, fresh}
 use Rattle.machine.specs.Runs.{act}
 use Rattle.machine.proofs.Kept.{Inv}
 use Rattle.machine.proofs.Guards.{Guards}
-use Rattle.offices.specs.Offices.{otherThan, ofOffice, Rig, Sources, sourceFor, ownOf, otherOf, lentTo, Lent, returned, putBack, freshRig, actOn, collectOn}
-use Rattle.offices.proofs.OneCall.{returned-same}
-use Rattle.offices.proofs.Engaged.{RigInv, other-is}
-use Rattle.hours.specs.Hours.{tableWords, Timed, turnAt, mailOf, eventOf, TimedCall, callOf}
-use Rattle.hours.specs.Demands212.{Demand212, Demand212For}
-use Rattle.hours.proofs.Allowed.{Allowed, open-allowed}
-use Rattle.hours.proofs.OneOffice as one
-use Rattle.hours.proofs.TwoOffices as two
+use Rattle.tenants.specs.Offices.{otherThan, ofOffice, Rig, Sources, sourceFor, ownOf, otherOf, lentTo, Lent, returned, putBack, freshRig, actOn, collectOn}
+use Rattle.tenants.proofs.OneCall.{returned-same}
+use Rattle.tenants.proofs.Engaged.{RigInv, other-is}
+use Rattle.calendar.specs.Hours.{tableWords, Timed, turnAt, mailOf, eventOf, TimedCall, callOf}
+use Rattle.calendar.specs.Demands212.{Demand212, Demand212For}
+use Rattle.calendar.proofs.Allowed.{Allowed, open-allowed}
+use Rattle.calendar.proofs.OneOffice as one
+use Rattle.calendar.proofs.TwoOffices as two
 use Rattle.layout.specs.Sizes.{routeOf}
 use Rattle.routes.specs.Routes.{linesFor}
 use Rattle.engine.specs.Calls.{recipe, areas, deliverCall, collectCall}
 use Rattle.engine.proofs.Lines.{Opened}
 use Rattle.engine.proofs.AsSteps.{turn-is, deliver-is, collect-is}
-use Rattle.rig.specs.Calls.{areasFor, deliverCallFor, callFor, rigCalls, rigCollects}
-use Rattle.rig.proofs.Lines.{all-long, as-collecting}
-use Rattle.rig.proofs.AsRuns.{alike}
+use Rattle.sharing.specs.Calls.{areasFor, deliverCallFor, callFor, rigCalls, rigCollects}
+use Rattle.sharing.proofs.Lines.{all-long, as-collecting}
+use Rattle.sharing.proofs.AsRuns.{alike}
 use Rattle.timed.specs.Calls.{turnCallAt, turnCallAtFor, callsAt, callAtFor, rigCallsAt}
 use Rattle.timed.proofs.Lines.{as-plain, needs, as-plain-for, needs-for}
 

@@ -5,16 +5,16 @@ use mathlib.Core.List.{List}
 use borrow.Author.Tests.{eq-eqb}
 use Rattle.base.proofs.Tests.{pick-true}
 use Rattle.machine.specs.Machine.{State, fresh}
-use Rattle.hours.specs.Hours.{Hours}
-use Rattle.hours.specs.Demands212.{TellsOpening}
-use Rattle.hours.proofs.Telling.{tells}
-use Rattle.hours.proofs.TwoOffices.{isolated-at}
+use Rattle.calendar.specs.Hours.{Hours}
+use Rattle.calendar.specs.Demands212.{TellsOpening}
+use Rattle.calendar.proofs.Telling.{tells}
+use Rattle.calendar.proofs.TwoOffices.{isolated-at}
 use Rattle.engine.specs.Calls.{recipe, freshCall}
 use Rattle.engine.proofs.Lines.{areas-are}
 use Rattle.engine.proofs.AsSteps.{fresh-gave}
 use Rattle.engine.proofs.Demands.{fixed}
-use Rattle.rig.proofs.AsRuns.{fresh-reads, fresh-sources, fresh-is}
-use Rattle.rig.proofs.Demands.{sound-plan}
+use Rattle.sharing.proofs.AsRuns.{fresh-reads, fresh-sources, fresh-is}
+use Rattle.sharing.proofs.Demands.{sound-plan}
 use Rattle.timed.specs.Calls.{turnCallLinesAt, turnCallAt, turnCallLinesAtFor, turnCallAtFor, opensLines, opensCall, rigCallsAt}
 use Rattle.timed.specs.Demands.{FixedAt, TimedDemands}
 use Rattle.timed.proofs.AsRuns.{run-demand212, guards-for, run-demand212-for}

@@ -15,12 +15,12 @@ use Rattle.base.proofs.Numbers.{Numbered, first-nil, first-true, first-false, f
 use Rattle.machine.specs.Plan.{Plan}
 use Rattle.machine.specs.Machine.{State, stateOf, fit, tilesLeft, waiting, carryOut, nextAction, Answered, answered}
 use Rattle.machine.proofs.RunLaws.{number-of}
-use Rattle.offices.specs.Offices.{Lent, fitFor, heldByOther, carryOutFor}
-use Rattle.hours.specs.declared.Opening.{Opening}
-use Rattle.hours.specs.declared.Opening.the-variants.{OpensIn}
-use Rattle.hours.specs.Hours.{week, tableWords, faultyBoard, faultyTable, faultyMinute, openAt, Hours, hoursOf, faultyFor, closed, turnLinesAt}
-use Rattle.hours.specs.Hours.{turnLinesAtFor, untilOpen, turnAt}
-use Rattle.hours.proofs.Allowed.{Allowed}
+use Rattle.tenants.specs.Offices.{Lent, fitFor, heldByOther, carryOutFor}
+use Rattle.calendar.specs.declared.Opening.{Opening}
+use Rattle.calendar.specs.declared.Opening.the-variants.{OpensIn}
+use Rattle.calendar.specs.Hours.{week, tableWords, faultyBoard, faultyTable, faultyMinute, openAt, Hours, hoursOf, faultyFor, closed, turnLinesAt}
+use Rattle.calendar.specs.Hours.{turnLinesAtFor, untilOpen, turnAt}
+use Rattle.calendar.proofs.Allowed.{Allowed}
 use Rattle.nest.specs.Reader.{readLines}
 use Rattle.nest.proofs.Numbered.{numbered}
 use Rattle.layout.specs.Sizes.{routeOf}
@@ -31,10 +31,10 @@ use Rattle.engine.specs.Given.{unfitLines, recordsAfter}
 use Rattle.engine.specs.declared.core.Turned.{Turned}
 use Rattle.engine.proofs.Lines.{Opened, and-right, call-read, call-later, call-done}
 use Rattle.engine.proofs.Reading as reading
-use Rattle.rig.specs.Calls.{areasFor, turnCallFor}
-use Rattle.rig.specs.Given.{unfitLinesFor}
-use Rattle.rig.proofs.Lines.{Free, unfit-0, lengths-are}
-use Rattle.rig.proofs.Starts as starts
+use Rattle.sharing.specs.Calls.{areasFor, turnCallFor}
+use Rattle.sharing.specs.Given.{unfitLinesFor}
+use Rattle.sharing.proofs.Lines.{Free, unfit-0, lengths-are}
+use Rattle.sharing.proofs.Starts as starts
 use Rattle.timed.specs.Calls.{tableLong, turnCallAt, turnCallAtFor, opensCall}
 use Rattle.timed.specs.Given.{hourLines, awayLines, awayLinesFor}
 

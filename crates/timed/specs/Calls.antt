@@ -9,15 +9,15 @@ use Rattle.base.specs.Tests.{_and_, not}
 use Rattle.base.specs.Numbers.{Line, line, firstOf}
 use Rattle.machine.specs.Plan.{Plan}
 use Rattle.machine.specs.Machine.{State, Answered, answered, carryOut, nextAction}
-use Rattle.offices.specs.Offices.{Lent, carryOutFor, Rig, Sources, sourceFor, otherOf, lentTo, putBack}
-use Rattle.hours.specs.declared.Opening.{Opening}
-use Rattle.hours.specs.declared.Opening.the-variants.{OpensIn, Never}
-use Rattle.hours.specs.Hours.{tableWords, Hours, faultyHours, turnLinesAt, turnLinesAtFor, untilOpen, Timed, turnAt, mailOf, TimedCall}
+use Rattle.tenants.specs.Offices.{Lent, carryOutFor, Rig, Sources, sourceFor, otherOf, lentTo, putBack}
+use Rattle.calendar.specs.declared.Opening.{Opening}
+use Rattle.calendar.specs.declared.Opening.the-variants.{OpensIn, Never}
+use Rattle.calendar.specs.Hours.{tableWords, Hours, faultyHours, turnLinesAt, turnLinesAtFor, untilOpen, Timed, turnAt, mailOf, TimedCall}
 use Rattle.nest.specs.Reader.{readLines}
 use Rattle.layout.specs.Sizes.{routeOf}
 use Rattle.routes.specs.Routes.{linesFor}
 use Rattle.engine.specs.Calls.{recipe, areas, deliverCall}
-use Rattle.rig.specs.Calls.{areasFor, deliverCallFor}
+use Rattle.sharing.specs.Calls.{areasFor, deliverCallFor}
 
 -- the table lent has exactly its length
 abbrev pub tableLong : Plan → Hours → Bool

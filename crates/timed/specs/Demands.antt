@@ -5,13 +5,13 @@ use mathlib.Core.Path.{_≡_}
 use mathlib.Core.List.{List}
 use Rattle.base.specs.Lists.{Bytes}
 use Rattle.machine.specs.Machine.{State, carryOut, nextAction}
-use Rattle.offices.specs.Offices.{Lent, carryOutFor, Rig, Sources, sourceFor}
-use Rattle.hours.specs.declared.Opening.the-variants.{OpensIn}
-use Rattle.hours.specs.Hours.{Hours, Timed, TimedCall, untilOpen}
-use Rattle.hours.specs.Demands212.{TellsOpening, Demand212, Demand212For, IsolatedAt}
+use Rattle.tenants.specs.Offices.{Lent, carryOutFor, Rig, Sources, sourceFor}
+use Rattle.calendar.specs.declared.Opening.the-variants.{OpensIn}
+use Rattle.calendar.specs.Hours.{Hours, Timed, TimedCall, untilOpen}
+use Rattle.calendar.specs.Demands212.{TellsOpening, Demand212, Demand212For, IsolatedAt}
 use Rattle.engine.specs.Calls.{recipe, freshCall, collectCall}
 use Rattle.engine.specs.Demands.{Fixed}
-use Rattle.rig.specs.Calls.{freshRigCall, rigCollects}
+use Rattle.sharing.specs.Calls.{freshRigCall, rigCollects}
 use Rattle.timed.specs.Calls.{turnCallLinesAt, turnCallAt, turnCallLinesAtFor, turnCallAtFor, opensLines, opensCall, callsAt, rigCallsAt}
 
 -- demand 1: the first true line counts; a call does its work, or leaves every lent word as before

@@ -7,10 +7,10 @@ use Rattle.base.specs.Tests.{_and_, not}
 use Rattle.base.specs.Numbers.{Line, line}
 use Rattle.machine.specs.Plan.{Plan}
 use Rattle.machine.specs.Machine.{State, fit}
-use Rattle.offices.specs.Offices.{Lent, fitFor, heldByOther}
-use Rattle.hours.specs.Hours.{Hours, faultyFor, closed}
+use Rattle.tenants.specs.Offices.{Lent, fitFor, heldByOther}
+use Rattle.calendar.specs.Hours.{Hours, faultyFor, closed}
 use Rattle.engine.specs.Calls.{areas}
-use Rattle.rig.specs.Calls.{areasFor}
+use Rattle.sharing.specs.Calls.{areasFor}
 use Rattle.timed.specs.Calls.{tableLong}
 
 -- for n processors

@@ -13,10 +13,12 @@ ghost use Rattle.tables.specs.Tables.{Tabled};
 ghost use Rattle.records.specs.Records.{Carries};
 ghost use Rattle.engine.specs.Calls.{answer};
 ghost use Rattle.engine.specs.Given.{recordsAfter};
-ghost use Rattle.offices.specs.Offices.{lentOf};
-ghost use Rattle.hours.specs.Hours.{hoursOf, faultyFor};
+ghost use Rattle.tenants.specs.Offices.{lentOf};
+ghost use Rattle.calendar.specs.Hours.{hoursOf, faultyFor};
 ghost use Rattle.timed.specs.Calls.{turnCallAt, turnCallAtFor};
 ghost use Rattle.timed.specs.Given.{hourLines, awayLines, awayLinesFor};
+use crate::windows::faulty_table;
+use crate::windows::open_at;
 use engine::core::Turned;
 use engine::core::refused;
 use engine::core::step;
@@ -24,11 +26,9 @@ use engine::core::unfit;
 use layout::Sizes;
 use nest::Nest;
 use records::Flat;
-use rig::core::held;
-use rig::core::open_recipe;
-use rig::core::step_for;
-use windows::faulty_table;
-use windows::open_at;
+use sharing::core::held;
+use sharing::core::open_recipe;
+use sharing::core::step_for;
 
 // Line 25: a faulty window of any of n processors, or a faulty minute.
 pub fn faulty(table: &[u32], n: usize, minute: u32) -> bool
@@ -186,7 +186,7 @@ fn away_for(
     if hours.len() != 28 * n {
         return 9;
     }
-    let bad = rig::core::unfit(
+    let bad = sharing::core::unfit(
         nest,
         sizes,
         lens,

@@ -2,21 +2,22 @@
 // for one of two, and the minutes until a processor next opens. `hours` is the table, 14 pairs of words a processor.
 ghost use mathlib.Core.Path.{_≡_};
 ghost use Rattle.machine.specs.Machine.{stateOf};
-ghost use Rattle.offices.specs.Offices.{lentOf};
-ghost use Rattle.hours.specs.declared.Opening.the-variants.{OpensIn};
-ghost use Rattle.hours.specs.Hours.{hoursOf};
+ghost use Rattle.tenants.specs.Offices.{lentOf};
+ghost use Rattle.calendar.specs.declared.Opening.the-variants.{OpensIn};
+ghost use Rattle.calendar.specs.Hours.{hoursOf};
 ghost use Rattle.engine.specs.Calls.{answer};
 ghost use Rattle.timed.specs.Calls.{turnCallAt, turnCallAtFor, opensCall};
 
 pub mod core; // core.rt: the calls without the stores into the records
+pub mod windows; // windows.rt: code of the hours when processors may run (W-212)
 
-use hours::Opening;
+use crate::windows::minutes;
+use calendar::Opening;
 use layout::sizes_of;
 use plan::Route;
 use reader::read;
 use records::flat_of;
-use rig::core::store_after;
-use windows::minutes;
+use sharing::core::store_after;
 
 // One turn of a processor.
 pub fn turn(

@@ -13,19 +13,23 @@ ghost use Rattle.plan.specs.Messages.{boxPlan};
 ghost use Rattle.layout.specs.Sizes.{Sized};
 ghost use Rattle.layout.specs.Places.{nth};
 ghost use Rattle.nest.specs.declared.Nest.{Nest};
-ghost use Rattle.lagged.specs.Bands.{rowsOf};
-ghost use Rattle.row_values.specs.Given.{withBody};
-ghost use Rattle.row_values.specs.Boxes.{Boxed, rowAt, RowsGiven};
+ghost use Rattle.bands.specs.lagged.Bands.{rowsOf};
+ghost use Rattle.values.specs.row_values.Given.{withBody};
+ghost use Rattle.values.specs.row_values.Boxes.{Boxed, rowAt, RowsGiven};
+use crate::row_values::Body;
+use crate::row_values::backs_of;
+use crate::row_values::box_fours;
+use crate::row_values::box_rows;
+use crate::row_values::inner;
+use crate::row_values::lasts_of;
+use crate::row_values::least_of;
+use crate::row_values::margins_of;
 use layout::Sizes;
 use nest::Nest;
-use row_values::Body;
-use row_values::backs_of;
-use row_values::box_fours;
-use row_values::box_rows;
-use row_values::inner;
-use row_values::lasts_of;
-use row_values::least_of;
-use row_values::margins_of;
+
+pub mod intervals; // intervals.rt: numbers from one on, below another
+pub mod row_values; // row_values.rt: rows in code
+pub mod shaped_values; // shaped_values.rt: values of a nest with bounds
 
 // How many times four rows are taken: none in rows too short for it, nor where no distance reads the row itself, so that no
 // cell waits for another.

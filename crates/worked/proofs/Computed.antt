@@ -18,7 +18,7 @@ use Rattle.plan.specs.Geometry.{cellsOf, processorOf, inside, hasRead, readAt, 
 use Rattle.plan.specs.declared.Route.the-variants.{Direct}
 use Rattle.plan.specs.Messages.{directions, ahead, reaches, crosses, parcel, taker, slotCells, slotTaker, atHome, slotParcel, messagesTo, boxPlan}
 use Rattle.plan.specs.Shaped.{planOf}
-use Rattle.rows.specs.Rows.{accepted, figures, figuresIf, messageLine, linesTo, linesOf}
+use Rattle.conformance.specs.Rows.{accepted, figures, figuresIf, messageLine, linesTo, linesOf}
 use Rattle.nest.proofs.Quick.{quick}
 use Rattle.plan.proofs.ShapedBox.{recipe-box}
 use Rattle.engine.proofs.Demands.{demands}

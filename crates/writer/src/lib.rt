@@ -14,6 +14,7 @@ ghost use Rattle.writer.specs.Fields.{fields, counted, bounds, agree, ne
 ghost use Rattle.writer.specs.Writing.{written, fitsIn, fits, boundsFit, writeNestCall, writeCall};
 
 mod nest_records; // nest_records.rt: a nest's records, sixteen bytes each
+pub mod spelling; // spelling.rt: the sixteen bytes of each record of a recipe, from its numbers
 
 use nest_records::record_of;
 use nest_records::wide;

@@ -1,10 +1,10 @@
 // The records of a recipe, sixteen bytes each, from a nest: the numbers of each, spelled.
+use crate::spelling::bound_record;
+use crate::spelling::close_record;
+use crate::spelling::dimension_record;
+use crate::spelling::narrow_record;
+use crate::spelling::wide_record;
 use nest::Nest;
-use spelling::bound_record;
-use spelling::close_record;
-use spelling::dimension_record;
-use spelling::narrow_record;
-use spelling::wide_record;
 ghost use mathlib.Core.Path.{_≡_};
 ghost use Prim.Native.Nat.{ℕ, _+_, _*_, _<_, _≤_};
 ghost use lib.ListN.{getD};

@@ -2,8 +2,8 @@
 -- call, and k1 to k4 say that it kept the memory's length.
 use native.Mathlib.Omega.{arith}
 use mathlib.Core.Path.{_∙_}
-use Rattle.lagged.specs.Bands.{four}
-use Rattle.lagged.proofs.Waves.{band-mixes}
+use Rattle.bands.specs.lagged.Bands.{four}
+use Rattle.bands.proofs.lagged.Waves.{band-mixes}
 use Rattle.bands.proofs.Columns.{columns-fit, beside-stored}
 use borrow.Author.Needs.{needs}
 use Rattle.bands.proofs.beside.Statement.{statement}

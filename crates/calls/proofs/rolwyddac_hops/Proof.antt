@@ -6,7 +6,7 @@ use Rattle.calls.proofs.rolwyddac_hops.Tie as tie
 use Rattle.calls.proofs.rolwyddac_hops.Reads as reads
 use Rattle.calls.proofs.rolwyddac_hops.Lts as lts
 use Rattle.reader.proofs.read.Reads as read-reads
-use Rattle.table.proofs.hops.Reads as hops-reads
+use Rattle.summary.proofs.hops.Reads as hops-reads
 
 read-requires : tie.Need-read-requires
 read-requires c κs = search needs

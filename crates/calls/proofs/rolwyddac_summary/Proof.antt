@@ -7,7 +7,7 @@ use Rattle.calls.proofs.rolwyddac_summary.Statement.{statement}
 use Rattle.calls.proofs.rolwyddac_summary.Tie as tie
 use Rattle.calls.proofs.rolwyddac_summary.Reads as reads
 use Rattle.calls.proofs.rolwyddac_summary.Lts as lts
-use Rattle.table.proofs.summary.Reads as summary-reads
+use Rattle.summary.proofs.summary.Reads as summary-reads
 
 summary-requires : tie.Need-summary-requires
 summary-requires c κs = search needs

@@ -1,5 +1,5 @@
 use native.Mathlib.Omega.{arith}
-use Rattle.chart_text.proofs.Lengths.{cells-are}
+use Rattle.chart.proofs.grid_text.Lengths.{cells-are}
 use Rattle.chart.proofs.Answers as L
 use borrow.Author.Needs.{needs}
 use Rattle.chart.proofs.measured.Statement.{statement}

@@ -5,7 +5,7 @@ use native.Mathlib.Omega.{arith}
 use mathlib.Core.Path.{refl, ap, _∙_}
 use Rattle.layout.specs.Sizes.{routeOf}
 use Rattle.routes.proofs.Laws.{accepted-for, routed-for}
-use Rattle.table.specs.declared.Figures.{Figures}
+use Rattle.summary.specs.declared.Figures.{Figures}
 use borrow.Author.Needs.{needs}
 use Rattle.plan_text.proofs.put_recipe.Statement.{statement}
 use Rattle.plan_text.proofs.put_recipe.Tie as tie

@@ -4,7 +4,7 @@ use mathlib.Core.Path.{_≡_, sym, ap, _∙_}
 use native.Mathlib.Omega.{arith}
 use Rattle.nest.proofs.Answers.{accepted-read}
 use Rattle.plan.specs.Shaped.{planOf}
-use Rattle.hours.specs.Hours.{hoursOf, faultyFor}
+use Rattle.calendar.specs.Hours.{hoursOf, faultyFor}
 use Rattle.engine.proofs.Lines as plain
 use Rattle.engine.proofs.Lines.{Opened}
 use Rattle.timed.proofs.Lines as lines

@@ -1,7 +1,7 @@
 -- The call without the record's store, and the records as it says.
 use mathlib.Core.Path.{sym, ap, _∙_}
 use Rattle.machine.specs.Machine.{State, stateOf, Answered}
-use Rattle.hours.specs.Hours.{hoursOf}
+use Rattle.calendar.specs.Hours.{hoursOf}
 use Rattle.timed.proofs.Lines as lines
 use borrow.Author.Needs.{needs}
 use Rattle.timed.proofs.turn.Statement.{statement}

@@ -1,9 +1,9 @@
 -- The call without the record's store, and the records as it says.
 use mathlib.Core.Path.{sym, ap, _∙_}
 use Rattle.machine.specs.Machine.{stateOf, Answered}
-use Rattle.offices.specs.Offices.{Lent, lentOf}
-use Rattle.hours.specs.Hours.{hoursOf}
-use Rattle.rig.proofs.Starts as starts
+use Rattle.tenants.specs.Offices.{Lent, lentOf}
+use Rattle.calendar.specs.Hours.{hoursOf}
+use Rattle.sharing.proofs.Starts as starts
 use Rattle.timed.proofs.Lines as lines
 use borrow.Author.Needs.{needs}
 use Rattle.timed.proofs.turn_for.Statement.{statement}

@@ -2,8 +2,8 @@
 use Prim.Native.Nat.{_*_, _-_}
 use native.Mathlib.Omega.{arith}
 use mathlib.Core.Path.{refl}
-use Rattle.row_values.proofs.Boxes.{stored-all}
-use Rattle.row_values.proofs.Rows.{given-next, given-more}
+use Rattle.values.proofs.row_values.Boxes.{stored-all}
+use Rattle.values.proofs.row_values.Rows.{given-next, given-more}
 use borrow.Author.Needs.{needs}
 use Rattle.values.proofs.all_rows.Statement.{statement}
 use Rattle.values.proofs.all_rows.Tie as tie

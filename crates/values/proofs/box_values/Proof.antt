@@ -5,10 +5,10 @@ use mathlib.Core.Path.{refl, ap, _∙_}
 use lib.ListN.{getD}
 use Rattle.base.specs.Lists.{storeAll}
 use Rattle.plan.specs.Geometry.{value}
-use Rattle.lagged.specs.Bands.{rowsOf}
-use Rattle.row_values.specs.Boxes.{rowAt}
-use Rattle.row_values.proofs.Boxes.{box-countable}
-use Rattle.row_values.proofs.Rows.{given-box}
+use Rattle.bands.specs.lagged.Bands.{rowsOf}
+use Rattle.values.specs.row_values.Boxes.{rowAt}
+use Rattle.values.proofs.row_values.Boxes.{box-countable}
+use Rattle.values.proofs.row_values.Rows.{given-box}
 use borrow.Author.Needs.{needs}
 use Rattle.values.proofs.box_values.Statement.{statement}
 use Rattle.values.proofs.box_values.Tie as tie

@@ -1,5 +1,5 @@
 -- `values::calculate` meets its contract: the rows of the tile's box are its cells.
-use Rattle.row_values.proofs.Boxes.{tile-boxed, tile-stored}
+use Rattle.values.proofs.row_values.Boxes.{tile-boxed, tile-stored}
 use borrow.Author.Needs.{needs}
 use Rattle.values.proofs.calculate.Statement.{statement}
 use Rattle.values.proofs.calculate.Tie as tie

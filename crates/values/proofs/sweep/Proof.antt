@@ -1,5 +1,5 @@
 -- `values::sweep` meets its contract: the rows of the grid are the sweep's cells.
-use Rattle.row_values.proofs.Boxes.{grid-boxed, grid-stored}
+use Rattle.values.proofs.row_values.Boxes.{grid-boxed, grid-stored}
 use borrow.Author.Needs.{needs}
 use Rattle.values.proofs.sweep.Statement.{statement}
 use Rattle.values.proofs.sweep.Tie as tie

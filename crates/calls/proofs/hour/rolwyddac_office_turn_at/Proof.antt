@@ -39,7 +39,7 @@ use denote.Triple.Table.{entered, cited}
 use denote.Triple.Walked.{says, Stays, walkOf, ends-at, walked, walk-meets}
 use Rattle.machine.specs.Machine.{stateOf}
 use Rattle.engine.specs.Calls.{answer}
-use Rattle.offices.specs.Offices.{lentOf}
+use Rattle.tenants.specs.Offices.{lentOf}
 use Rattle.records.specs.Records.{flatWords, Carries}
 use Rattle.records.specs.declared.Progress.{Progress}
 use Rattle.records.specs.declared.Flat.{Flat}
@@ -61,7 +61,7 @@ use Rattle.timed.proofs.core.turn_for as words
 use Rattle.timed.proofs.core.turn_for.Symbol as words-def
 use Rattle.timed.proofs.core.turn_for.Symbol.{name as #timed·core·turn_for}
 use Rattle.timed.proofs.core.turn_for.Met as words-thm
-use Rattle.hours.specs.Hours.{hoursOf}
+use Rattle.calendar.specs.Hours.{hoursOf}
 use Rattle.timed.specs.Calls.{turnCallAtFor}
 use Rattle.calls.proofs.HourCalls.{record-there-at-for}
 use Rattle.calls.proofs.Walking.{R, F, E, low, high, progress-is, number-fits, word, ref, bytes, words32, records, slice}

@@ -1,6 +1,6 @@
 -- Each return is the question by the line that counts; the two words are those of the opening.
 use borrow.Author.Needs.{needs}
-use Rattle.hours.specs.Hours.{hoursOf}
+use Rattle.calendar.specs.Hours.{hoursOf}
 use Rattle.calls.proofs.HourCalls as L
 use Rattle.calls.proofs.hour.rolwyddac_opens.Statement.{statement}
 use Rattle.calls.proofs.hour.rolwyddac_opens.Tie as tie

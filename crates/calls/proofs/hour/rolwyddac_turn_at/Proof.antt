@@ -60,7 +60,7 @@ use Rattle.timed.proofs.core.turn as words
 use Rattle.timed.proofs.core.turn.Symbol as words-def
 use Rattle.timed.proofs.core.turn.Symbol.{name as #timed·core·turn}
 use Rattle.timed.proofs.core.turn.Met as words-thm
-use Rattle.hours.specs.Hours.{hoursOf}
+use Rattle.calendar.specs.Hours.{hoursOf}
 use Rattle.timed.specs.Calls.{turnCallAt}
 use Rattle.calls.proofs.HourCalls.{record-there-at}
 use Rattle.calls.proofs.Walking.{R, F, E, low, high, progress-is, number-fits, word, ref, bytes, words32, records, slice}

@@ -36,8 +36,8 @@ use denote.Triple.Table.{entered, cited}
 use denote.Triple.Walked.{says, Stays, walkOf, ends-at, walked, walk-meets}
 use Rattle.machine.specs.Machine.{stateOf}
 use Rattle.engine.specs.Calls.{answer}
-use Rattle.offices.specs.Offices.{rigOf, sourcesOf}
-use Rattle.rig.specs.Calls.{freshRigCall}
+use Rattle.tenants.specs.Offices.{rigOf, sourcesOf}
+use Rattle.sharing.specs.Calls.{freshRigCall}
 use Rattle.records.specs.Records.{flatWords}
 use Rattle.records.specs.declared.Progress.{Progress}
 use Rattle.records.proofs.Laws.{words-fit}
@@ -48,10 +48,10 @@ use Rattle.records.proofs.clear.Symbol.{name as #records·clear}
 use Rattle.records.proofs.clear.Met as clear-thm
 use Rattle.engine.specs.Given.{zerosAfter}
 use Rattle.engine.proofs.Reading.{cleared-after}
-use Rattle.rig.proofs.core.fresh as words
-use Rattle.rig.proofs.core.fresh.Symbol as words-def
-use Rattle.rig.proofs.core.fresh.Symbol.{name as #rig·core·fresh}
-use Rattle.rig.proofs.core.fresh.Met as words-thm
+use Rattle.sharing.proofs.core.fresh as words
+use Rattle.sharing.proofs.core.fresh.Symbol as words-def
+use Rattle.sharing.proofs.core.fresh.Symbol.{name as #sharing·core·fresh}
+use Rattle.sharing.proofs.core.fresh.Met as words-thm
 use Rattle.calls.proofs.Walking.{R, word, ref, bytes, words32, records, slice}
 use Rattle.calls.proofs.Params.{Param, number32, number64, reads, changes, Lent, stays, go, spells, tell, values, row, tokens, owning, slices}
 use Rattle.calls.proofs.Params.{had, env, held, takes-in, comes-back}
@@ -218,7 +218,7 @@ module _ {M : Type 1} (𝓤 : URA M) (H : Heap 𝓤) (A : Atoms 𝓤) (W : Given
         ∙ cleared-after (now x4) r) ∙ ap (λ (l : List ℕ). answer r (rigOf (stateOf y2 y3 (zerosAfter (flatWords (now x4)) r) y5) (stateOf y7 y8 l y10) y11))
         (ap (λ (l : List Progress). flatWords l) put9 ∙ cleared-after (now x9) r) ∙ said))))
 
-    begun : Triple 𝓤 (C #rig·core·fresh) (Words 𝓤 H A mem run) → Triple 𝓤 (C #records·clear) (Clear 𝓤 H A mem run)
+    begun : Triple 𝓤 (C #sharing·core·fresh) (Words 𝓤 H A mem run) → Triple 𝓤 (C #records·clear) (Clear 𝓤 H A mem run)
         → Sq W (At (‵ (froom (tyInt w64) l14 0)) (‵ (froom (tyInt w64) l15 0)) (‵ (froom word l16 0)) (Toks ++ slices 𝓤 params κs given))
         (runs C Λ En mir′.t-1 (atRet En Post))
     begun known₁ known₂ =
@@ -271,7 +271,7 @@ module _ {M : Type 1} (𝓤 : URA M) (H : Heap 𝓤) (A : Atoms 𝓤) (W : Given
         (flatWords (now x9)) (sym (length-words (now x4))) (sym (length-words (now x9))))))))))))))
 
   walk : (C : Calls 𝓤 H) (Λ : Loops 𝓤 H) → FmC 𝓤 H (W .laws) C
-      → Triple 𝓤 (C #rig·core·fresh) (Words 𝓤 H A mem run)
+      → Triple 𝓤 (C #sharing·core·fresh) (Words 𝓤 H A mem run)
       → Triple 𝓤 (C #records·clear) (Clear 𝓤 H A mem run)
       → ent 𝓤 (onEntry 𝓤 H A fresh.signature κs qs given (values params κs given)) (WpFn 𝓤 H C Λ code.function (row params κs given) Post)
   walk C Λ fm known₁ known₂ =
@@ -289,7 +289,7 @@ module _ {M : Type 1} (𝓤 : URA M) (H : Heap 𝓤) (A : Atoms 𝓤) (W : Given
 
 fresh-meets : {M : Type 1} (𝓤 : URA M) (H : Heap 𝓤) (A : Atoms 𝓤) (W : Given 𝓤 H A) (mem : Memory → SProp 𝓤) (run : Routine → Fun 𝓤)
     (𝓣 : Tables 𝓤 H)
-    → Triple 𝓤 (𝓣 .C #rig·core·fresh) (Words 𝓤 H A mem run)
+    → Triple 𝓤 (𝓣 .C #sharing·core·fresh) (Words 𝓤 H A mem run)
     → Triple 𝓤 (𝓣 .C #records·clear) (Clear 𝓤 H A mem run)
     → Meets 𝓤 H A fresh.signature (WpFn 𝓤 H (𝓣 .C) (𝓣 .Λ) code.function) (fresh.spec 𝓤 H A mem run)
 fresh-meets 𝓤 H A W mem run 𝓣 known₁ known₂ =
@@ -319,5 +319,5 @@ rolwyddac-fresh-both-spec 𝓤 H 𝓜 𝓖 𝓡 =
     entered 𝓤 H (tripleOf 𝓤 H (𝓖 .A) fresh.signature (fresh.spec 𝓤 H (𝓖 .A) (𝓜 .mem) (𝓡 .run)))
     (tables 𝓤 H 𝓜 𝓡 code.env .C) (tables 𝓤 H 𝓜 𝓡 code.env .Λ) #calls·fresh code.function (code.unfolded 𝓤 H 𝓜 𝓡)
     (fresh-meets 𝓤 H (𝓖 .A) (givenOf 𝓤 H 𝓜 𝓖) (𝓜 .mem) (𝓡 .run) (tablesOf 𝓤 H 𝓜 (tables 𝓤 H 𝓜 𝓡 code.env))
-    (cited 𝓤 H (Words 𝓤 H (𝓖 .A) (𝓜 .mem) (𝓡 .run)) 𝓜 𝓡 code.env #rig·core·fresh words-def.routine code.calls-rig·core·fresh (words-thm.met 𝓤 H 𝓜 𝓖 𝓡))
+    (cited 𝓤 H (Words 𝓤 H (𝓖 .A) (𝓜 .mem) (𝓡 .run)) 𝓜 𝓡 code.env #sharing·core·fresh words-def.routine code.calls-sharing·core·fresh (words-thm.met 𝓤 H 𝓜 𝓖 𝓡))
     (cited 𝓤 H (Clear 𝓤 H (𝓖 .A) (𝓜 .mem) (𝓡 .run)) 𝓜 𝓡 code.env #records·clear clear-def.routine code.calls-records·clear (clear-thm.met 𝓤 H 𝓜 𝓖 𝓡)))

@@ -9,7 +9,7 @@ use Rattle.calls.proofs.office.rolwyddac_look.Tie as tie
 use Rattle.calls.proofs.office.rolwyddac_look.Reads as reads
 use Rattle.calls.proofs.office.rolwyddac_look.Lts as lts
 use Rattle.reader.proofs.read.Reads as read-reads
-use Rattle.look.proofs.core.look_at.Reads as look-at-reads
+use Rattle.sharing.proofs.look.core.look_at.Reads as look-at-reads
 
 read-requires : tie.Need-read-requires
 read-requires c κs = search needs

@@ -37,8 +37,8 @@ use denote.Triple.Table.{entered, cited}
 use denote.Triple.Walked.{says, Stays, walkOf, ends-at, walked, walk-meets}
 use Rattle.machine.specs.Machine.{stateOf}
 use Rattle.engine.specs.Calls.{answer}
-use Rattle.offices.specs.Offices.{lentOf}
-use Rattle.rig.specs.Calls.{collectCallFor}
+use Rattle.tenants.specs.Offices.{lentOf}
+use Rattle.sharing.specs.Calls.{collectCallFor}
 use Rattle.records.specs.Records.{flatWords, Carries}
 use Rattle.records.specs.declared.Progress.{Progress}
 use Rattle.records.specs.declared.Flat.{Flat}
@@ -48,10 +48,10 @@ use Rattle.records.proofs.Flat.Laws as S′
 use Rattle.records.proofs.flatten.Symbol as flatten-def
 use Rattle.records.proofs.flatten.Symbol.{name as #records·flatten}
 use Rattle.records.proofs.flatten.Met as flatten-thm
-use Rattle.rig.proofs.core.collect as words
-use Rattle.rig.proofs.core.collect.Symbol as words-def
-use Rattle.rig.proofs.core.collect.Symbol.{name as #rig·core·collect}
-use Rattle.rig.proofs.core.collect.Met as words-thm
+use Rattle.sharing.proofs.core.collect as words
+use Rattle.sharing.proofs.core.collect.Symbol as words-def
+use Rattle.sharing.proofs.core.collect.Symbol.{name as #sharing·core·collect}
+use Rattle.sharing.proofs.core.collect.Met as words-thm
 use Rattle.calls.proofs.Walking.{R, F, low, word, words32, records}
 use Rattle.calls.proofs.Params.{Param, number32, flat, reads, changes, Lent, stays, go, spells, tell, values, row, tokens, owning, slices}
 use Rattle.calls.proofs.Params.{had, env, held, takes-in, comes-back}
@@ -166,7 +166,7 @@ module _ {M : Type 1} (𝓤 : URA M) (H : Heap 𝓤) (A : Atoms 𝓤) (W : Given
         (g ∷ ‵ (fdies S′.mir l13) ∷ f ∷ ‵ (fdies S′.mir l12) ∷ holds 𝓤 (held params κs given (l1 ∷ l2 ∷ l3 ∷ l4 ∷ l5 ∷ l6 ∷ l7 ∷ l8 ∷ l9 ∷ l10 ∷ l11 ∷ []) [])
         (rooms 𝓤 ((word, l0) ∷ []) more))
 
-    worded : Triple 𝓤 (C #rig·core·collect) (Words 𝓤 H A mem run)
+    worded : Triple 𝓤 (C #sharing·core·collect) (Words 𝓤 H A mem run)
         → (f : Flat) → Is F f (low f ∷ []) → Carries f (flatWords (now x4)) → (g : Flat) → Is F g (low g ∷ []) → Carries g (flatWords (now x7))
         → Sq W (At (‵ (fat fullShare S′.mir l12 0 (low f))) (‵ (fat fullShare S′.mir l13 0 (low g))) (Toks ++ slices 𝓤 in-words κw (given-words f g)))
         (runs C Λ En mir′.t-3 (atRet En Post))
@@ -196,7 +196,7 @@ module _ {M : Type 1} (𝓤 : URA M) (H : Heap 𝓤) (A : Atoms 𝓤) (W : Given
         sorts ! 13 32 (keep ! (1 ∷ 13 ∷ 14 ∷ 2 ∷ [])) $ turned ! 16 $
         free-all ! _ $ by ! (exits r (us .1 .1 .1 .1 .1 .1 .1 .1 .1 .1 .0) (is′ .1) e8 (said (flatWords (now x4)) (flatWords (now x7)) e-f e-g))))))
 
-    begun : Triple 𝓤 (C #records·flatten) (Flatten 𝓤 H A mem run) → Triple 𝓤 (C #rig·core·collect) (Words 𝓤 H A mem run)
+    begun : Triple 𝓤 (C #records·flatten) (Flatten 𝓤 H A mem run) → Triple 𝓤 (C #sharing·core·collect) (Words 𝓤 H A mem run)
         → Sq W (At (‵ (froom S′.mir l12 0)) (‵ (froom S′.mir l13 0)) (Toks ++ slices 𝓤 params κs given))
         (runs C Λ En mir′.t-1 (atRet En Post))
     begun known₀ known₁ =
@@ -210,7 +210,7 @@ module _ {M : Type 1} (𝓤 : URA M) (H : Heap 𝓤) (A : Atoms 𝓤) (W : Given
 
   walk : (C : Calls 𝓤 H) (Λ : Loops 𝓤 H) → FmC 𝓤 H (W .laws) C
       → Triple 𝓤 (C #records·flatten) (Flatten 𝓤 H A mem run)
-      → Triple 𝓤 (C #rig·core·collect) (Words 𝓤 H A mem run)
+      → Triple 𝓤 (C #sharing·core·collect) (Words 𝓤 H A mem run)
       → ent 𝓤 (onEntry 𝓤 H A collect.signature κs qs given (values params κs given)) (WpFn 𝓤 H C Λ code.function (row params κs given) Post)
   walk C Λ fm known₀ known₁ =
       qed W (sepAll 𝓤 Toks ∷ ‵ (fsepAll (owning params κs given)) ∷ []) ∵
@@ -226,7 +226,7 @@ module _ {M : Type 1} (𝓤 : URA M) (H : Heap 𝓤) (A : Atoms 𝓤) (W : Given
 collect-meets : {M : Type 1} (𝓤 : URA M) (H : Heap 𝓤) (A : Atoms 𝓤) (W : Given 𝓤 H A) (mem : Memory → SProp 𝓤) (run : Routine → Fun 𝓤)
     (𝓣 : Tables 𝓤 H)
     → Triple 𝓤 (𝓣 .C #records·flatten) (Flatten 𝓤 H A mem run)
-    → Triple 𝓤 (𝓣 .C #rig·core·collect) (Words 𝓤 H A mem run)
+    → Triple 𝓤 (𝓣 .C #sharing·core·collect) (Words 𝓤 H A mem run)
     → Meets 𝓤 H A collect.signature (WpFn 𝓤 H (𝓣 .C) (𝓣 .Λ) code.function) (collect.spec 𝓤 H A mem run)
 collect-meets 𝓤 H A W mem run 𝓣 known₀ known₁ =
     walk-meets 𝓤 H A collect.ended stayed W (go 𝓤 H A W params) (collect.clauses 𝓤 H A mem run) (WpFn 𝓤 H (𝓣 .C) (𝓣 .Λ) code.function)
@@ -252,4 +252,4 @@ rolwyddac-office-collect-spec 𝓤 H 𝓜 𝓖 𝓡 =
     (tables 𝓤 H 𝓜 𝓡 code.env .C) (tables 𝓤 H 𝓜 𝓡 code.env .Λ) #calls·collect code.function (code.unfolded 𝓤 H 𝓜 𝓡)
     (collect-meets 𝓤 H (𝓖 .A) (givenOf 𝓤 H 𝓜 𝓖) (𝓜 .mem) (𝓡 .run) (tablesOf 𝓤 H 𝓜 (tables 𝓤 H 𝓜 𝓡 code.env))
     (cited 𝓤 H (Flatten 𝓤 H (𝓖 .A) (𝓜 .mem) (𝓡 .run)) 𝓜 𝓡 code.env #records·flatten flatten-def.routine code.calls-records·flatten (flatten-thm.met 𝓤 H 𝓜 𝓖 𝓡))
-    (cited 𝓤 H (Words 𝓤 H (𝓖 .A) (𝓜 .mem) (𝓡 .run)) 𝓜 𝓡 code.env #rig·core·collect words-def.routine code.calls-rig·core·collect (words-thm.met 𝓤 H 𝓜 𝓖 𝓡)))
+    (cited 𝓤 H (Words 𝓤 H (𝓖 .A) (𝓜 .mem) (𝓡 .run)) 𝓜 𝓡 code.env #sharing·core·collect words-def.routine code.calls-sharing·core·collect (words-thm.met 𝓤 H 𝓜 𝓖 𝓡)))

@@ -38,8 +38,8 @@ use denote.Triple.Table.{entered, cited}
 use denote.Triple.Walked.{says, Stays, walkOf, ends-at, walked, walk-meets}
 use Rattle.machine.specs.Machine.{stateOf}
 use Rattle.engine.specs.Calls.{answer}
-use Rattle.offices.specs.Offices.{lentOf}
-use Rattle.rig.specs.Calls.{turnCallFor}
+use Rattle.tenants.specs.Offices.{lentOf}
+use Rattle.sharing.specs.Calls.{turnCallFor}
 use Rattle.records.specs.Records.{flatWords, Carries}
 use Rattle.records.specs.declared.Progress.{Progress}
 use Rattle.records.specs.declared.Flat.{Flat}
@@ -57,10 +57,10 @@ use Rattle.engine.specs.declared.core.Turned.{Turned}
 use Rattle.engine.proofs.core.Turned as U
 use Rattle.engine.proofs.core.Turned.Laws as U′
 use Rattle.engine.proofs.Reading.{stored-after}
-use Rattle.rig.proofs.core.turn as words
-use Rattle.rig.proofs.core.turn.Symbol as words-def
-use Rattle.rig.proofs.core.turn.Symbol.{name as #rig·core·turn}
-use Rattle.rig.proofs.core.turn.Met as words-thm
+use Rattle.sharing.proofs.core.turn as words
+use Rattle.sharing.proofs.core.turn.Symbol as words-def
+use Rattle.sharing.proofs.core.turn.Symbol.{name as #sharing·core·turn}
+use Rattle.sharing.proofs.core.turn.Met as words-thm
 use Rattle.calls.proofs.OfficeCalls.{record-there-for}
 use Rattle.calls.proofs.Walking.{R, F, E, low, high, progress-is, number-fits, word, ref, bytes, words32, records, slice}
 use Rattle.calls.proofs.Params.{Param, number32, flat, reads, changes, Lent, stays, go, spells, tell, values, row, tokens, owning, slices}
@@ -216,7 +216,7 @@ module _ {M : Type 1} (𝓤 : URA M) (H : Heap 𝓤) (A : Atoms 𝓤) (W : Given
         (ap (λ (l : List Progress). answer (r .number) (lentOf (stateOf y2 y3 (flatWords l) y5) y6)) put ∙ ap (λ (l : List ℕ). answer (r .number)
         (lentOf (stateOf y2 y3 l y5) y6)) (stored-after (now x4) processor r) ∙ said)))
 
-    worded : Triple 𝓤 (C #rig·core·turn) (Words 𝓤 H A mem run) → Triple 𝓤 (C #records·put) (Put 𝓤 H A mem run)
+    worded : Triple 𝓤 (C #sharing·core·turn) (Words 𝓤 H A mem run) → Triple 𝓤 (C #records·put) (Put 𝓤 H A mem run)
         → (f : Flat) → Is F f (low f ∷ []) → Carries f (flatWords (now x4)) → (g : Flat) → Is F g (low g ∷ []) → Carries g (flatWords (now x7))
         → Sq W (At (‵ (fat fullShare S′.mir l12 0 (low f))) (‵ (fat fullShare S′.mir l13 0 (low g))) (‵ (froom U′.mir l14 0)) (‵ (flft κ0 q0)
         ∷ ‵ (flft κ1 q1) ∷ ‵ (flft κ2 q2) ∷ ‵ (flft κ3 q3) ∷ ‵ (flft κ4 q4) ∷ ‵ (flft κ5 q5) ∷ ‵ (flft κ6 q6) ∷ ‵ (flft κ7 q7)
@@ -257,7 +257,7 @@ module _ {M : Type 1} (𝓤 : URA M) (H : Heap 𝓤) (A : Atoms 𝓤) (W : Given
         (us .1 .1 .1 .0) (us .1 .1 .1 .1 .0) (us .1 .1 .1 .1 .1 .1 .0) (us .1 .1 .1 .1 .1 .1 .1 .0) e2 e3 e5 e6 (said (flatWords (now x4))
         (flatWords (now x7)) e-f e-g))))))))
 
-    begun : Triple 𝓤 (C #records·flatten) (Flatten 𝓤 H A mem run) → Triple 𝓤 (C #rig·core·turn) (Words 𝓤 H A mem run) → Triple 𝓤 (C #records·put)
+    begun : Triple 𝓤 (C #records·flatten) (Flatten 𝓤 H A mem run) → Triple 𝓤 (C #sharing·core·turn) (Words 𝓤 H A mem run) → Triple 𝓤 (C #records·put)
         (Put 𝓤 H A mem run)
         → Sq W (At (‵ (froom S′.mir l12 0)) (‵ (froom S′.mir l13 0)) (‵ (froom U′.mir l14 0)) (Toks ++ slices 𝓤 params κs given))
         (runs C Λ En mir′.t-1 (atRet En Post))
@@ -274,7 +274,7 @@ module _ {M : Type 1} (𝓤 : URA M) (H : Heap 𝓤) (A : Atoms 𝓤) (W : Given
 
   walk : (C : Calls 𝓤 H) (Λ : Loops 𝓤 H) → FmC 𝓤 H (W .laws) C
       → Triple 𝓤 (C #records·flatten) (Flatten 𝓤 H A mem run)
-      → Triple 𝓤 (C #rig·core·turn) (Words 𝓤 H A mem run)
+      → Triple 𝓤 (C #sharing·core·turn) (Words 𝓤 H A mem run)
       → Triple 𝓤 (C #records·put) (Put 𝓤 H A mem run)
       → ent 𝓤 (onEntry 𝓤 H A turn.signature κs qs given (values params κs given)) (WpFn 𝓤 H C Λ code.function (row params κs given) Post)
   walk C Λ fm known₀ known₁ known₂ =
@@ -292,7 +292,7 @@ module _ {M : Type 1} (𝓤 : URA M) (H : Heap 𝓤) (A : Atoms 𝓤) (W : Given
 turn-meets : {M : Type 1} (𝓤 : URA M) (H : Heap 𝓤) (A : Atoms 𝓤) (W : Given 𝓤 H A) (mem : Memory → SProp 𝓤) (run : Routine → Fun 𝓤)
     (𝓣 : Tables 𝓤 H)
     → Triple 𝓤 (𝓣 .C #records·flatten) (Flatten 𝓤 H A mem run)
-    → Triple 𝓤 (𝓣 .C #rig·core·turn) (Words 𝓤 H A mem run)
+    → Triple 𝓤 (𝓣 .C #sharing·core·turn) (Words 𝓤 H A mem run)
     → Triple 𝓤 (𝓣 .C #records·put) (Put 𝓤 H A mem run)
     → Meets 𝓤 H A turn.signature (WpFn 𝓤 H (𝓣 .C) (𝓣 .Λ) code.function) (turn.spec 𝓤 H A mem run)
 turn-meets 𝓤 H A W mem run 𝓣 known₀ known₁ known₂ =
@@ -319,5 +319,5 @@ rolwyddac-office-turn-spec 𝓤 H 𝓜 𝓖 𝓡 =
     (tables 𝓤 H 𝓜 𝓡 code.env .C) (tables 𝓤 H 𝓜 𝓡 code.env .Λ) #calls·turn code.function (code.unfolded 𝓤 H 𝓜 𝓡)
     (turn-meets 𝓤 H (𝓖 .A) (givenOf 𝓤 H 𝓜 𝓖) (𝓜 .mem) (𝓡 .run) (tablesOf 𝓤 H 𝓜 (tables 𝓤 H 𝓜 𝓡 code.env))
     (cited 𝓤 H (Flatten 𝓤 H (𝓖 .A) (𝓜 .mem) (𝓡 .run)) 𝓜 𝓡 code.env #records·flatten flatten-def.routine code.calls-records·flatten (flatten-thm.met 𝓤 H 𝓜 𝓖 𝓡))
-    (cited 𝓤 H (Words 𝓤 H (𝓖 .A) (𝓜 .mem) (𝓡 .run)) 𝓜 𝓡 code.env #rig·core·turn words-def.routine code.calls-rig·core·turn (words-thm.met 𝓤 H 𝓜 𝓖 𝓡))
+    (cited 𝓤 H (Words 𝓤 H (𝓖 .A) (𝓜 .mem) (𝓡 .run)) 𝓜 𝓡 code.env #sharing·core·turn words-def.routine code.calls-sharing·core·turn (words-thm.met 𝓤 H 𝓜 𝓖 𝓡))
     (cited 𝓤 H (Put 𝓤 H (𝓖 .A) (𝓜 .mem) (𝓡 .run)) 𝓜 𝓡 code.env #records·put put-def.routine code.calls-records·put (put-thm.met 𝓤 H 𝓜 𝓖 𝓡)))

@@ -4,7 +4,7 @@ use mathlib.Core.Path.{ap, _∙_, subst}
 use Prim.Native.Nat.{ℕ, _≤_}
 use Rattle.plan.specs.Shaped.{planOf}
 use Rattle.machine.specs.Plan.{count}
-use Rattle.boxes.specs.Table.{endOf}
+use Rattle.tables.specs.boxes.Table.{endOf}
 use Rattle.schedule.specs.Index.{ChainedFrom}
 use Rattle.schedule.proofs.Chains as chains
 use Rattle.schedule.proofs.Telling as telling

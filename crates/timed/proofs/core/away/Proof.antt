@@ -5,7 +5,7 @@ use native.Mathlib.Omega.{arith}
 use Rattle.base.specs.Numbers.{firstOf}
 use Rattle.machine.specs.Machine.{stateOf}
 use Rattle.plan.specs.Shaped.{planOf}
-use Rattle.hours.specs.Hours.{hoursOf}
+use Rattle.calendar.specs.Hours.{hoursOf}
 use Rattle.timed.specs.Given.{hourLines}
 use Rattle.timed.proofs.Lines as lines
 use Rattle.timed.proofs.core.away.Statement.{statement}

@@ -7,10 +7,10 @@ use borrow.Author.Tests.{leb-true}
 use Rattle.base.specs.Numbers.{firstOf}
 use Rattle.machine.specs.Machine.{stateOf}
 use Rattle.plan.specs.Shaped.{planOf}
-use Rattle.offices.specs.Offices.{lentOf}
-use Rattle.hours.specs.Hours.{hoursOf}
+use Rattle.tenants.specs.Offices.{lentOf}
+use Rattle.calendar.specs.Hours.{hoursOf}
 use Rattle.engine.proofs.Reading as reading
-use Rattle.rig.proofs.Lines as plain
+use Rattle.sharing.proofs.Lines as plain
 use Rattle.timed.specs.Given.{hourLines}
 use Rattle.timed.proofs.Lines as lines
 use borrow.Author.Needs.{needs}

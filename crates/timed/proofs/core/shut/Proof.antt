@@ -1,6 +1,6 @@
 use borrow.Author.Tests.{not-true, not-false}
 use mathlib.Core.Path.{sym, _∙_}
-use Rattle.hours.specs.Hours.{hoursOf}
+use Rattle.calendar.specs.Hours.{hoursOf}
 use Rattle.timed.proofs.Lines as lines
 use borrow.Author.Needs.{needs}
 use Rattle.timed.proofs.core.shut.Statement.{statement}

@@ -5,11 +5,11 @@ use native.Mathlib.Omega.{arith}
 use lib.ListN.{take, drop}
 use Rattle.machine.specs.Machine.{stateOf}
 use Rattle.plan.specs.Shaped.{planOf}
-use Rattle.hours.specs.Hours.{hoursOf}
-use Rattle.offices.specs.Offices.{lentOf}
-use Rattle.offices.proofs.OneCall.{own-fits}
+use Rattle.calendar.specs.Hours.{hoursOf}
+use Rattle.tenants.specs.Offices.{lentOf}
+use Rattle.tenants.proofs.OneCall.{own-fits}
 use Rattle.engine.proofs.Reading as reading
-use Rattle.rig.proofs.Lines as plain
+use Rattle.sharing.proofs.Lines as plain
 use Rattle.timed.proofs.Lines as lines
 use borrow.Author.Needs.{needs}
 use Rattle.timed.proofs.core.turn_for.Statement.{statement}

@@ -1,3 +1,0 @@
-pub mod Neighbours
-pub mod AsNetwork
-pub mod Demands

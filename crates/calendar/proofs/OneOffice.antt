@@ -1,0 +1,162 @@
+-- Request W-212 for one office: demand 3 of every run with hours, from the run theorem over those of its events that gave 0.
+use Prim.Native.Nat.{ℕ, _<_}
+use mathlib.Core.Path.{_≡_, refl, sym, ap, _∙_}
+use mathlib.Core.Bool.{Bool, true}
+use mathlib.Core.List.{List, [], _∷_, _++_, map}
+use native.Mathlib.Omega.{arith}
+use lib.ListN.{length, take}
+use borrow.Author.Tests.{ltb-true}
+use Rattle.base.specs.Lists.{countIf}
+use Rattle.base.proofs.Tests.{sum-same}
+use Rattle.machine.specs.Plan.{Plan, Sound}
+use Rattle.machine.specs.Machine.{State, Answered, Action, tilesLeft, collect, fresh}
+use Rattle.machine.specs.Runs.{Event, turnOf, deliveryOf, act, stateAfter, answersTo, total, program, turnsOf, timesOf, calculates, sends, takes}
+use Rattle.machine.specs.Runs.{deliveriesOf, CarriedOut, Demand3, answers, last, steps}
+use Rattle.machine.proofs.Turns.{turn-lines}
+use Rattle.machine.proofs.Kept.{Inv}
+use Rattle.machine.proofs.Fresh.{inv-fresh}
+use Rattle.machine.proofs.Along.{next-inv}
+use Rattle.machine.proofs.Theorem.{theorem}
+use Rattle.machine.proofs.RunLaws.{number-of, after-of, Passed, ends, steps-same, turns-same, brings-same}
+use Rattle.machine.proofs.Guards.{Guards, is-plain, plain-zero, guarded-zero, good-end, passes}
+use Rattle.calendar.specs.Hours.{week, openAt, Hours, hoursOf, Timed, turnAt, mailOf, eventOf, actAt}
+use Rattle.calendar.specs.Demands212.{Faultless, OpensSometime, CarriedOutAt, SomeStep, OnlyHours, Demand212}
+use Rattle.calendar.proofs.Allowed.{Allowed, open-allowed, guards}
+
+-- the lines of a turn that gives 0
+turn-facts : (p : Plan) (source : List ℕ) (s : State) (b : ℕ) → act p source s (turnOf b) .number ≡ 0 → (b < p .processors) × (tilesLeft p s b ≡ true)
+unfolding act
+turn-facts p source s b z = let r = turn-lines p source s b z in (ltb-true _ _ (r .0), r .2)
+
+-- for any calls that do as the machine does where they are allowed, are refused elsewhere, and are allowed at open minutes of a faultless table
+module _ (p : Plan) (so : Sound p) (source : List ℕ) (acts : State → Timed → Answered State) (allowed : Timed → Type 0)
+    (gd : Guards (Inv p source) (act p source) acts eventOf allowed)
+    (mail-allowed : (m : ℕ) → allowed (mailOf m))
+    (turn-allowed : (table : List ℕ) (minute b : ℕ) → Faultless p table → minute < week → openAt table b minute ≡ true → allowed
+    (turnAt (hoursOf table minute) b)) where
+  good-next : (s : State) → Inv p source s → (e : Event) → Inv p source (act p source s e .after)
+  good-next s inv e = next-inv p so source s inv e
+
+  module _ (ts : List Timed) where
+    abbrev ended : State
+    ended = last acts (fresh p) ts
+
+    abbrev numbers : List ℕ
+    numbers = answers acts (fresh p) ts
+
+    abbrev events : List Event
+    events = map eventOf ts
+
+    inv : Inv p source ended
+    inv = good-end (Inv p source) (act p source) acts eventOf allowed gd good-next ts (fresh p) (inv-fresh p source)
+
+    -- those that gave 0
+    passed : List Event
+    passed = passes (Inv p source) (act p source) acts eventOf allowed gd good-next ts (fresh p) (inv-fresh p source) .0
+
+    as-single : Passed (act p source) (fresh p) events numbers passed ended
+    unfolding passed
+    as-single = passes (Inv p source) (act p source) acts eventOf allowed gd good-next ts (fresh p) (inv-fresh p source) .1
+
+    led-to : stateAfter (act p source) (fresh p) passed ≡ ended
+    led-to = ends (act p source) as-single
+
+    same-steps : steps (act p source) (fresh p) passed ≡ steps acts (fresh p) ts
+    same-steps = steps-same (act p source) as-single
+
+    same-times : (f : Action → Bool) → timesOf p events numbers f ≡ timesOf p passed (answersTo (act p source) (fresh p) passed) f
+    same-times f = sum-same _ _ (p .processors) (λ b h. ap (λ (k : ℕ). countIf f (take k (program p b))) (turns-same (act p source) b as-single))
+
+    same-brings : (m : ℕ) → deliveriesOf m events numbers ≡ deliveriesOf m passed (answersTo (act p source) (fresh p) passed)
+    same-brings m = brings-same (act p source) m as-single
+
+    single : Demand3 (act p source) (fresh p) passed p source (collect p)
+    single = theorem p so source passed
+
+    -- a turn that gave 0 is the next of its program
+    carried : (h : Hours) (b : ℕ) → acts ended (turnAt h b) .number ≡ 0 → CarriedOutAt p source ended (acts ended (turnAt h b) .after) b
+        (turnsOf b events numbers)
+    unfolding eventOf
+    carried h b z =
+        rw (
+          turns-same (act p source) b as-single,
+          after-of
+              (is-plain (Inv p source) (act p source) acts eventOf allowed gd good-next ended inv (turnAt h b) z),
+          sym led-to,
+        )
+        (record { named = D .named; by-rule = D .by-rule })
+      where
+        D : CarriedOut p source (act p source) (stateAfter (act p source) (fresh p) passed) b (turnsOf b passed (answersTo (act p source) (fresh p) passed))
+        D =
+            theorem p so source (passed ++ (turnOf b ∷ [])) .carried-out passed [] b refl
+            (rw led-to (plain-zero (Inv p source) (act p source) acts eventOf allowed gd good-next ended inv (turnAt h b) z))
+
+    fewer : (x : Timed) → acts ended x .number ≡ 0 → steps acts (fresh p) ts < total p
+    fewer x z =
+        let k = single .then-fewer (eventOf x) (rw led-to (plain-zero (Inv p source) (act p source) acts eventOf allowed gd good-next ended inv x z)) in
+        omega (arith, same-steps)
+
+    -- the machine's event, with hours
+    with-hours : (table : List ℕ) → Faultless p table → (e : Event) → act p source ended e .number ≡ 0 → OnlyHours acts (fresh p) ts p table
+    unfolding eventOf
+    with-hours table f (turnOf b) z =
+        let q = turn-facts p source ended b z in
+        OnlyHours.when-open b (q .0) (q .1)
+        (λ minute low h. guarded-zero (Inv p source) (act p source) acts eventOf allowed gd good-next ended inv (turnAt (hoursOf table minute) b)
+        (turn-allowed table minute b f low h) z)
+    with-hours table f (deliveryOf m) z =
+        OnlyHours.by-mail m (guarded-zero (Inv p source) (act p source) acts eventOf allowed gd good-next ended inv (mailOf m) (mail-allowed m) z)
+
+    only-hours : (table : List ℕ) → Faultless p table → steps acts (fresh p) ts < total p → OnlyHours acts (fresh p) ts p table
+    only-hours table f h =
+        let g = single .goes-on (omega (arith, same-steps)) in
+        with-hours table f (g .0) (rw led-to at g .1)
+
+    at-open : (table : List ℕ) → ((b : ℕ) → b < p .processors → tilesLeft p ended b ≡ true → OpensSometime table b) → OnlyHours acts (fresh p) ts p table
+        → SomeStep acts (fresh p) ts table
+    at-open table opens (OnlyHours.by-mail m z) = SomeStep.by-mail m z
+    at-open table opens (OnlyHours.when-open b low left f) =
+        let w = opens b low left in
+        SomeStep.by-turn b (w .0) (w .1) (w .2) (f (w .0) (w .1) (w .2))
+
+    module _ (collects : State → List ℕ → Answered (List ℕ))
+        (same-grid : (s : State) → Inv p source s → (grid : List ℕ) → length grid ≡ p .cells → collects s grid ≡ collect p s grid) where
+      grid-is : (grid : List ℕ) → length grid ≡ p .cells → collects ended grid ≡ collect p (stateAfter (act p source) (fresh p) passed) grid
+      grid-is grid len = rw led-to (same-grid ended inv grid len)
+
+      -- `carry`: what `carried` says of the lists before a turn
+      demand : ((before : List Timed) (h : Hours) (b : ℕ) → acts (stateAfter acts (fresh p) before) (turnAt h b) .number ≡ 0
+          → CarriedOutAt p source (stateAfter acts (fresh p) before) (acts (stateAfter acts (fresh p) before) (turnAt h b) .after) b
+          (turnsOf b (map eventOf before) (answersTo acts (fresh p) before)))
+          → Demand212 acts (fresh p) ts p source collects
+      demand carry =
+          record {
+            bound = omega (arith, same-steps, single .bound);
+            goes-on = λ table f opens h. at-open table opens (only-hours table f h);
+            then-fewer = fewer;
+            only-hours = only-hours;
+            can-collect = λ e grid len. number-of (grid-is grid len) ∙ single .can-collect (same-steps ∙ e) grid len;
+            then-all = λ grid len z. sym same-steps ∙ single .then-all grid len (sym (number-of (grid-is grid len)) ∙ z);
+            calculated = λ c h. rw (same-times (calculates p c)) (single .calculated c h);
+            not-calculated = λ c h o. rw (same-times (calculates p c)) (single .not-calculated c h o);
+            sent = λ m h. rw (same-times (sends m)) (single .sent m h);
+            delivered = λ m h. rw (same-brings m) (single .delivered m h);
+            taken = λ m h. rw (same-times (takes p m)) (single .taken m h);
+            all-calculated = λ e c h i. same-times (calculates p c) ∙ single .all-calculated (same-steps ∙ e) c h i;
+            all-sent = λ e m h. same-times (sends m) ∙ single .all-sent (same-steps ∙ e) m h;
+            all-delivered = λ e m h. same-brings m ∙ single .all-delivered (same-steps ∙ e) m h;
+            all-taken = λ e m h. same-times (takes p m) ∙ single .all-taken (same-steps ∙ e) m h;
+            carried-out = λ before after h b e z. carry before h b z;
+            no-more = λ b. rw (turns-same (act p source) b as-single) (single .no-more b);
+            grid = λ e old len. after-of (grid-is old len) ∙ single .grid (same-steps ∙ e) old len;
+          }
+
+  pub demand212-for : (ts : List Timed) (collects : State → List ℕ → Answered (List ℕ))
+      → ((s : State) → Inv p source s → (grid : List ℕ) → length grid ≡ p .cells → collects s grid ≡ collect p s grid)
+      → Demand212 acts (fresh p) ts p source collects
+  demand212-for ts collects same-grid = demand ts collects same-grid carried
+
+pub theorem212 : (p : Plan) → Sound p → (source : List ℕ) (events : List Timed) → Demand212 (actAt p source) (fresh p) events p source (collect p)
+theorem212 p so source events =
+    demand212-for p so source (actAt p source) (Allowed p) (guards p source) (λ m. tt) (λ table minute b f low h. open-allowed p table minute b f low h) events
+    (collect p) (λ s inv grid len. refl)

@@ -1,0 +1,78 @@
+// The calls that a transport needs with C linkage, where processors share no memory: all messages, the processor of each cell; over progress
+// records as structs what a processor waits for, and taking a message in.
+ghost use mathlib.Core.Path.{_≡_};
+ghost use mathlib.Core.List.{[]};
+ghost use Rattle.machine.specs.Machine.{stateOf};
+ghost use Rattle.engine.specs.Calls.{answer};
+ghost use Rattle.records.specs.Records.{flatWords};
+ghost use Rattle.transport.specs.Calls.{messagesCall, ownersCall, waitsOf, awaitedCall, takeInCall};
+use records::Progress;
+
+// All messages of the route, six words each: sending tile, taking tile, sending processor, taking processor, words, their place in the buffer.
+#[no_mangle]
+pub extern "C" fn rolwyddac_messages(encoded: &[u8], route: u32, out: &mut [u32]) -> u32
+    ensures { λ r. ⌜ answer r (now (out .exit)) ≡ messagesCall (now (encoded .entry)) route (now (out .entry)) ⌝ }
+{
+    transport::messages(encoded, route, out)
+}
+
+// The processor of each cell, the number of processors for one outside the shape.
+#[no_mangle]
+pub extern "C" fn rolwyddac_owners(encoded: &[u8], out: &mut [u32]) -> u32
+    ensures { λ r. ⌜ answer r (now (out .exit)) ≡ ownersCall (now (encoded .entry)) (now (out .entry)) ⌝ }
+{
+    transport::owners(encoded, out)
+}
+
+// What a processor waits for: a mark for each message, and its tile.
+#[no_mangle]
+pub extern "C" fn rolwyddac_awaited(
+    encoded: &[u8],
+    route: u32,
+    progress: &[Progress],
+    status: &[u8],
+    processor: u32,
+    marks: &mut [u8],
+    out: &mut [u32],
+) -> u32
+    ensures { λ r. ⌜ answer r (waitsOf (now (marks .exit)) (now (out .exit)))
+        ≡ awaitedCall (now (encoded .entry)) route (stateOf [] [] (flatWords (now (progress .entry))) (now (status .entry))) processor
+        (waitsOf (now (marks .entry)) (now (out .entry))) ⌝ }
+{
+    let flat = records::flatten(progress);
+    transport::core::awaited(encoded, route, flat, status, processor, marks, out)
+}
+
+// A message taken in at its taker's: its words into their place, and its status from 0 to 2.
+#[no_mangle]
+pub extern "C" fn rolwyddac_take_in(
+    encoded: &[u8],
+    route: u32,
+    source: &[u32],
+    memories: &[u32],
+    buffer: &mut [u32],
+    progress: &[Progress],
+    status: &mut [u8],
+    processor: u32,
+    message: u32,
+    words: &[u32],
+) -> u32
+    ensures { λ r. ⌜ answer r (stateOf (now (memories .entry)) (now (buffer .exit)) (flatWords (now (progress .entry))) (now (status .exit)))
+        ≡ takeInCall (now (encoded .entry)) route (now (source .entry))
+        (stateOf (now (memories .entry)) (now (buffer .entry)) (flatWords (now (progress .entry))) (now (status .entry))) processor message
+        (now (words .entry)) ⌝ }
+{
+    let flat = records::flatten(progress);
+    transport::core::take_in(
+        encoded,
+        route,
+        source,
+        memories,
+        buffer,
+        flat,
+        status,
+        processor,
+        message,
+        words,
+    )
+}

@@ -1,0 +1,6 @@
+pub mod Report
+pub mod Travels
+pub mod Exact
+pub mod ExactShape
+pub mod Rows
+pub mod ShapedRows

@@ -1,3 +1,0 @@
-pub mod Demands214
-pub mod Gave
-pub mod OverRecords214

@@ -1,2 +1,0 @@
-pub mod Demands214
-pub mod OverRecords214

@@ -1,2 +1,0 @@
-pub mod ComputedRun
-pub mod Example

@@ -1,0 +1,4 @@
+pub mod Neighbours
+pub mod AsNetwork
+pub mod Demands
+pub mod part

@@ -1,0 +1,4 @@
+pub mod Calls
+pub mod Neighbours
+pub mod Demands
+pub mod part

@@ -1,0 +1,5 @@
+pub mod Given
+pub mod OwnRows
+pub mod front
+pub mod tile
+pub mod turn

@@ -1,4 +1,0 @@
-pub mod Report
-pub mod Travels
-pub mod Exact
-pub mod ExactShape

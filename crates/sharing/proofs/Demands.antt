@@ -1,0 +1,78 @@
+-- Request W-208 holds: of the definitions of an office's calls, and of every run of them.
+use Prim.Native.Nat.{ℕ, _*_}
+use mathlib.Core.Path.{_≡_, refl, sym}
+use mathlib.Core.Bool.{Bool, true, false}
+use mathlib.Core.List.{List, []}
+use lib.Dec.{eqb}
+use Rattle.base.specs.Tests.{pick}
+use Rattle.base.specs.Lists.{Bytes, part}
+use Rattle.base.specs.Numbers.{firstOf}
+use Rattle.machine.specs.Plan.{Plan, Sound}
+use Rattle.machine.specs.Machine.{memoryOf}
+use Rattle.tenants.specs.Offices.{Lent, ofOffice, Rig, Sources, ownOf, freshRig}
+use Rattle.tenants.proofs.AnyCalls.{isolated-for}
+use Rattle.nest.specs.Reader.{nestOf}
+use Rattle.nest.proofs.Facts.{accepted}
+use Rattle.plan.proofs.ShapedSound.{sound}
+use Rattle.layout.specs.Sizes.{routeOf}
+use Rattle.routes.specs.Routes.{linesFor}
+use Rattle.routes.proofs.Laws.{reads-for}
+use Rattle.engine.specs.Calls.{recipe}
+use Rattle.engine.specs.Demands.{Fixed}
+use Rattle.engine.proofs.Demands.{fixed}
+use Rattle.sharing.specs.Calls.{turnCallLinesFor, turnCallFor, deliverCallLinesFor, deliverCallFor, collectCallLinesFor, collectCallFor}
+use Rattle.sharing.specs.Calls.{freshRigLines, freshRigCall, lookLines, lookPart, rigCalls}
+use Rattle.sharing.specs.Demands.{FixedFor, Looks, RigDemands}
+use Rattle.sharing.proofs.AsRuns.{alike, run-demand208, fresh-reads, fresh-sources, fresh-is}
+
+fixed-for : (bytes : List ℕ) (route : ℕ) (source : List ℕ) (o : ℕ) (l : Lent) (theirs : List ℕ) → FixedFor bytes route source o l theirs
+unfolding turnCallFor deliverCallFor collectCallFor
+fixed-for bytes route source o l theirs =
+    record {
+      turn = λ b. fixed (turnCallLinesFor bytes route source o l theirs b) _ l;
+      deliver = λ m. fixed (deliverCallLinesFor bytes route source o l theirs m) _ l;
+      collect = λ grid. fixed (collectCallLinesFor bytes route source o l theirs grid) _ grid;
+    }
+
+memory-is : (p : Plan) (r : Rig) (o b : ℕ)
+    → part (ofOffice o (r .first .memories) (r .second .memories)) (b * p .cells) (p .cells) ≡ memoryOf p (ownOf r o) b
+unfolding ofOffice pick
+memory-is p r o b = go (eqb o 0)
+  where
+    go : (t : Bool) → part (pick t (r .first .memories) (r .second .memories)) (b * p .cells) (p .cells) ≡ memoryOf p (pick t (r .first) (r .second)) b
+    go true = refl
+    go false = refl
+
+looks : (bytes : List ℕ) (r : Rig) (o b : ℕ) → Looks bytes r o b
+unfolding lookPart
+looks bytes r o b =
+    record {
+      fixed =
+          rw (sym (memory-is (recipe bytes 0) r o b)) (fixed (lookLines bytes (r .first .memories) (r .second .memories) o b) _ []);
+    }
+
+fresh-fixed : (bytes : List ℕ) (route : ℕ) (sources : Sources) (r : Rig)
+    → Fixed (freshRigCall bytes route sources r) (freshRigLines bytes route sources r) (freshRig (recipe bytes route)) r
+unfolding freshRigCall
+fresh-fixed bytes route sources r = fixed (freshRigLines bytes route sources r) _ r
+
+pub sound-plan : (bytes : List ℕ) (route : ℕ) → Bytes bytes → firstOf (linesFor (routeOf route) bytes) ≡ 0 → Sound (recipe bytes route)
+sound-plan bytes route b z = sound (routeOf route) (nestOf bytes) (accepted bytes b (reads-for (routeOf route) bytes z))
+
+pub rig-demands : RigDemands
+rig-demands =
+    record {
+      calls = fixed-for;
+      fresh = fresh-fixed;
+      looks = looks;
+      runs = λ bytes route sources r b z calls.
+          rw (fresh-is bytes route sources r z)
+          (run-demand208 bytes route sources (fresh-reads bytes route sources r z) (fresh-sources bytes route sources r z)
+          (sound-plan bytes route b (fresh-reads bytes route sources r z)) calls);
+      apart = λ bytes route sources sources′ r r′ b z z′ o low same.
+          rw (fresh-is bytes route sources r z, fresh-is bytes route sources′ r′ z′)
+          (isolated-for (recipe bytes route) (sound-plan bytes route b (fresh-reads bytes route sources r z)) o low sources sources′ same
+          (rigCalls bytes route sources) (rigCalls bytes route sources′)
+          (alike bytes route sources (fresh-reads bytes route sources r z) (fresh-sources bytes route sources r z))
+          (alike bytes route sources′ (fresh-reads bytes route sources′ r′ z′) (fresh-sources bytes route sources′ r′ z′)));
+    }

@@ -1,0 +1,48 @@
+-- Request W-208 for a recipe's bytes and a route, made of the definitions in Calls; each call's contract equates the call with them.
+-- Renders its claims: every call is fixed; each office's run is counted apart; progress; nothing but the numbers tells one of the other.
+use Prim.Native.Nat.{ℕ, _≤_}
+use mathlib.Core.Path.{_≡_}
+use mathlib.Core.List.{List, []}
+use Rattle.base.specs.Lists.{Bytes}
+use Rattle.machine.specs.Machine.{nextAction, collected, memoryOf}
+use Rattle.tenants.specs.Offices.{Lent, carryOutFor, deliveredFor, Rig, Sources, sourceFor, ownOf, freshRig, Call}
+use Rattle.tenants.specs.Demand208.{Demand208, Isolated}
+use Rattle.engine.specs.Calls.{answer, recipe}
+use Rattle.engine.specs.Demands.{Fixed}
+use Rattle.sharing.specs.Calls.{turnCallLinesFor, turnCallFor, deliverCallLinesFor, deliverCallFor, collectCallLinesFor, collectCallFor}
+use Rattle.sharing.specs.Calls.{freshRigLines, freshRigCall, lookLines, lookNumber, lookPart, rigCalls, rigCollects}
+
+-- demand 1 for an office's calls: its first true line counts; it does its work, or leaves every lent word as before
+pub record FixedFor (bytes : List ℕ) (route : ℕ) (source : List ℕ) (o : ℕ) (l : Lent) (theirs : List ℕ) : Type 0 where
+  pub turn : (b : ℕ)
+      → Fixed (turnCallFor bytes route source o l theirs b) (turnCallLinesFor bytes route source o l theirs b)
+      (carryOutFor (recipe bytes route) source o l b (nextAction (recipe bytes route) (l .own) b)) l
+  pub deliver : (m : ℕ)
+      → Fixed (deliverCallFor bytes route source o l theirs m) (deliverCallLinesFor bytes route source o l theirs m) (deliveredFor l m) l
+  pub collect : (grid : List ℕ)
+      → Fixed (collectCallFor bytes route source o l theirs grid) (collectCallLinesFor bytes route source o l theirs grid)
+      (collected (recipe bytes route) (l .own)) grid
+
+-- the look writes nothing: its part is empty at a refusal, else the processor's memory of the office named
+pub record Looks (bytes : List ℕ) (r : Rig) (o b : ℕ) : Type 0 where
+  pub fixed : Fixed
+      (answer (lookNumber bytes (r .first .memories) (r .second .memories) o b) (lookPart bytes (r .first .memories) (r .second .memories) o b))
+      (lookLines bytes (r .first .memories) (r .second .memories) o b)
+      (memoryOf (recipe bytes 0) (ownOf r o) b) []
+
+pub record RigDemands : Type 0 where
+  pub calls : (bytes : List ℕ) (route : ℕ) (source : List ℕ) (o : ℕ) (l : Lent) (theirs : List ℕ) → FixedFor bytes route source o l theirs
+  pub fresh : (bytes : List ℕ) (route : ℕ) (sources : Sources) (r : Rig)
+      → Fixed (freshRigCall bytes route sources r) (freshRigLines bytes route sources r) (freshRig (recipe bytes route)) r
+  pub looks : (bytes : List ℕ) (r : Rig) (o b : ℕ) → Looks bytes r o b
+  -- one recipe, one route, two sources, one fresh start that gave 0, and every list of both offices' turns and deliveries
+  pub runs : (bytes : List ℕ) (route : ℕ) (sources : Sources) (r : Rig) → Bytes bytes → freshRigCall bytes route sources r .number ≡ 0
+      → (calls : List Call)
+      → Demand208 (rigCalls bytes route sources) (freshRigCall bytes route sources r .after) calls (recipe bytes route) sources
+      (rigCollects bytes route sources)
+  -- two such runs of one recipe and one route that have one source for this office
+  pub apart : (bytes : List ℕ) (route : ℕ) (sources sources′ : Sources) (r r′ : Rig) → Bytes bytes
+      → freshRigCall bytes route sources r .number ≡ 0 → freshRigCall bytes route sources′ r′ .number ≡ 0
+      → (o : ℕ) → o ≤ 1 → sourceFor sources o ≡ sourceFor sources′ o
+      → Isolated o (rigCalls bytes route sources) (rigCalls bytes route sources′)
+      (freshRigCall bytes route sources r .after) (freshRigCall bytes route sources′ r′ .after)

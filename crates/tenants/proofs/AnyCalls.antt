@@ -1,0 +1,87 @@
+-- The claims for any calls that answer as the rig of two offices does wherever its invariant holds: what calls on bytes cite.
+use Prim.Native.Nat.{ℕ, _≤_}
+use mathlib.Core.Path.{_≡_, sym, ap, _∙_}
+use mathlib.Core.List.{List}
+use lib.ListN.{length}
+use Rattle.machine.specs.Plan.{Plan, Sound}
+use Rattle.machine.specs.Machine.{Answered}
+use Rattle.machine.specs.Runs.{stateAfter, answersTo}
+use Rattle.machine.proofs.RunLaws.{number-of, after-of, same-end, same-numbers}
+use Rattle.tenants.specs.Offices.{Rig, Sources, sourceFor, freshRig, Call, turnBy, actOn, collectOn}
+use Rattle.tenants.specs.Demand208.{OfficeDemand, Demand208, Isolated}
+use Rattle.tenants.proofs.Engaged.{RigInv, inv-start, inv-next, inv-run}
+use Rattle.tenants.proofs.Theorem208.{theorem208, isolated}
+
+-- the calls answer alike in every rig with the invariant
+abbrev pub Alike : Plan → Sources → (Rig → Call → Answered Rig) → Type 0
+Alike p sources acts = (r : Rig) → RigInv p sources r → (c : Call) → acts r c ≡ actOn p sources r c
+
+module _ (p : Plan) (so : Sound p) (sources : Sources) (acts : Rig → Call → Answered Rig) (alike : Alike p sources acts) where
+  -- a run of them is, rig by rig and number by number, a run of the rig of two offices
+  module _ (cs : List Call) where
+    rig-is : stateAfter acts (freshRig p) cs ≡ stateAfter (actOn p sources) (freshRig p) cs
+    rig-is = same-end (RigInv p sources) acts (actOn p sources) alike (inv-next p so sources) cs (freshRig p) (inv-start p sources)
+
+    answers-are : answersTo acts (freshRig p) cs ≡ answersTo (actOn p sources) (freshRig p) cs
+    answers-are = same-numbers (RigInv p sources) acts (actOn p sources) alike (inv-next p so sources) cs (freshRig p) (inv-start p sources)
+
+    inv-last : RigInv p sources (stateAfter (actOn p sources) (freshRig p) cs)
+    inv-last = inv-run p so sources cs (freshRig p) (inv-start p sources)
+
+    next-is : (c : Call) → acts (stateAfter acts (freshRig p) cs) c ≡ actOn p sources (stateAfter (actOn p sources) (freshRig p) cs) c
+    next-is c = ap (λ (r : Rig). acts r c) rig-is ∙ alike _ inv-last c
+
+  module _ (collects : Rig → ℕ → List ℕ → Answered (List ℕ))
+      (same-grid : (r : Rig) → RigInv p sources r → (o : ℕ) (grid : List ℕ) → length grid ≡ p .cells
+      → collects r o grid ≡ collectOn p r o grid)
+      (cs : List Call) where
+    whole : Demand208 (actOn p sources) (freshRig p) cs p sources (collectOn p)
+    whole = theorem208 p so sources cs
+
+    grid-is : (o : ℕ) (grid : List ℕ) → length grid ≡ p .cells
+        → collects (stateAfter acts (freshRig p) cs) o grid ≡ collectOn p (stateAfter (actOn p sources) (freshRig p) cs) o grid
+    grid-is o grid e = ap (λ (r : Rig). collects r o grid) (rig-is cs) ∙ same-grid _ (inv-last cs) o grid e
+
+    one-office : (o : ℕ) → o ≤ 1 → OfficeDemand acts (freshRig p) cs p o (sourceFor sources o) collects
+    one-office o low =
+        record {
+          bound = rw (answers-are cs) (D .bound);
+          can-collect = λ e grid len. number-of (grid-is o grid len) ∙ D .can-collect (rw (answers-are cs) at e) grid len;
+          then-all = λ grid len z. rw (answers-are cs) (D .then-all grid len (sym (number-of (grid-is o grid len)) ∙ z));
+          calculated = λ c h. rw (answers-are cs) (D .calculated c h);
+          not-calculated = λ c h i. rw (answers-are cs) (D .not-calculated c h i);
+          sent = λ m h. rw (answers-are cs) (D .sent m h);
+          delivered = λ m h. rw (answers-are cs) (D .delivered m h);
+          taken = λ m h. rw (answers-are cs) (D .taken m h);
+          all-calculated = λ e c h i. rw (answers-are cs) (D .all-calculated (rw (answers-are cs) at e) c h i);
+          all-sent = λ e m h. rw (answers-are cs) (D .all-sent (rw (answers-are cs) at e) m h);
+          all-delivered = λ e m h. rw (answers-are cs) (D .all-delivered (rw (answers-are cs) at e) m h);
+          all-taken = λ e m h. rw (answers-are cs) (D .all-taken (rw (answers-are cs) at e) m h);
+          carried-out = λ before after b e z.
+              rw (answers-are before, next-is before (turnBy o b), rig-is before)
+              (D .carried-out before after b e (sym (number-of (next-is before (turnBy o b))) ∙ z));
+          no-more = λ b. rw (answers-are cs) (D .no-more b);
+          grid = λ e old len. after-of (grid-is o old len) ∙ D .grid (rw (answers-are cs) at e) old len;
+        }
+      where
+        D : OfficeDemand (actOn p sources) (freshRig p) cs p o (sourceFor sources o) (collectOn p)
+        D = whole .each o low
+
+    pub demand208-for : Demand208 acts (freshRig p) cs p sources collects
+    demand208-for =
+        record {
+          each = one-office;
+          goes-on = λ h. let g = whole .goes-on (rw (answers-are cs) at h) in (g .0, number-of (next-is cs (g .0)) ∙ g .1);
+          then-fewer = λ c z. rw (answers-are cs) (whole .then-fewer c (sym (number-of (next-is cs c)) ∙ z));
+        }
+
+pub isolated-for : (p : Plan) → Sound p → (o : ℕ) → o ≤ 1 → (sources sources′ : Sources) → sourceFor sources o ≡ sourceFor sources′ o
+    → (acts acts′ : Rig → Call → Answered Rig) → Alike p sources acts → Alike p sources′ acts′
+    → Isolated o acts acts′ (freshRig p) (freshRig p)
+isolated-for p so o low sources sources′ same acts acts′ alike alike′ =
+    record {
+      same-words = λ calls calls′ e1 e2.
+          rw (rig-is p so sources acts alike calls, rig-is p so sources′ acts′ alike′ calls′)
+          (isolated p o low sources sources′ same .same-words calls calls′ e1
+          (rw (answers-are p so sources acts alike calls, answers-are p so sources′ acts′ alike′ calls′) at e2));
+    }

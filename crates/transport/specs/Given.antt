@@ -1,0 +1,39 @@
+-- What the code below the calls is given and gives: the nest's table, areas of their lengths, answers past the first lines.
+-- No sentence of document 01; the contracts of the functions below the offered calls cite it.
+use Prim.Native.Nat.{ℕ, _*_, _<_}
+use mathlib.Core.Path.{_≡_}
+use mathlib.Core.List.{List, [], _∷_}
+use lib.ListN.{length, getD}
+use lib.Dec.{eqb}
+use Rattle.base.specs.Tests.{_and_, not, one, tabulate}
+use Rattle.base.specs.Numbers.{Line, line, firstOf}
+use Rattle.machine.specs.Plan.{Plan, count, takerOf}
+use Rattle.machine.specs.Machine.{State, tilesLeft, fit, Answered, answered}
+use Rattle.nest.specs.declared.Nest.{Nest}
+use Rattle.layout.specs.declared.Sizes.{Sizes}
+use Rattle.layout.specs.Sizes.{Sized}
+use Rattle.tables.specs.Tables.{Tabled}
+use Rattle.transport.specs.Calls.{Waits, waitAreas, waited}
+
+abbrev pub Planned : Nest → Sizes → List ℕ → Type 0
+Planned x z lens = Sized x z × Tabled x z lens
+
+-- the marks of the messages due at tile t that are not delivered
+abbrev pub undelivered : Plan → List ℕ → ℕ → List ℕ
+undelivered p status t = tabulate (λ m. one (eqb (takerOf p m) t and not (eqb (getD status m 0) 2))) (count p)
+
+-- the areas of one who asks what processor b waits for
+pub record MayAsk (p : Plan) (s : State) (b : ℕ) (w : Waits) : Type 0 where
+  pub progress : length (s .progress) ≡ 3 * p .processors
+  pub status : length (s .status) ≡ count p
+  pub marks : length (w .marks) ≡ count p
+  pub out : length (w .out) ≡ 1
+  pub processor : b < p .processors
+
+-- lines 9 and 10 of asking
+abbrev pub unaskedLines : Plan → State → Waits → List Line
+unaskedLines p s w = line 9 (not (waitAreas p s w)) ∷ line 10 (not (fit p s)) ∷ []
+
+-- past the lines before it: 13, or what is waited for
+abbrev pub waitedOr13 : Plan → State → ℕ → Waits → Answered Waits
+waitedOr13 p s b w = answered (firstOf (line 13 (not (tilesLeft p s b)) ∷ [])) (waited p s b) w

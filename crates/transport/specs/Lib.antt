@@ -1,0 +1,5 @@
+pub mod Calls
+pub mod Given
+pub mod Holds
+pub mod MailRows
+pub mod arrivals

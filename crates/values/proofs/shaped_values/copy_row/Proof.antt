@@ -1,0 +1,99 @@
+-- `values::shaped_values::copy_row` meets its contract: the row has one processor; its cells before and behind the span are outside.
+use Prim.Native.Nat.{_-_}
+use native.Mathlib.Omega.{arith}
+use Rattle.nest.proofs.Shapes.{framed}
+use Rattle.values.proofs.shaped_values.Words.{place-narrow, copy-low, copy-room, row-copied}
+use borrow.Author.Needs.{needs}
+use Rattle.values.proofs.shaped_values.copy_row.Statement.{statement}
+use Rattle.values.proofs.shaped_values.copy_row.Tie as tie
+
+span-requires : tie.Need-span-requires
+span-requires c κs =
+    let s = c .before .before .before in
+    (framed _ (s .pre .0 .0 .accepted), place-narrow _ (s .pre .0 .0 .accepted) _ (s .pre .1 .0))
+
+overlap-requires : tie.Need-overlap-requires
+overlap-requires c κs =
+    let s = c .before .before .before .before in
+    omega (arith, s .pre .1 .1 .1, s .pre .0 .0 .accepted .length-most (s .args .nest .dimensions - 1))
+
+tile-of-requires : tie.Need-tile-of-requires
+tile-of-requires c κs = search needs
+
+processor-of-requires : tie.Need-processor-of-requires
+processor-of-requires c κs = search needs
+
+add-first : tie.Need-add-first
+add-first c =
+    let at-overlap = c .before .before .before .before in
+    let at-span = at-overlap .before in
+    let s = at-span .before .before .before .before in
+    omega (
+      arith,
+      copy-low _ (s .pre .0 .0 .accepted) _ (s .pre .1 .0) _ (s .pre .1 .1 .0) (s .pre .1 .1 .1) _ _ (at-span .span .ensures)
+          (at-overlap .overlap .ensures),
+      s .pre .0 .0 .accepted .cells-most,
+    )
+
+mul-copy-words : tie.Need-mul-copy-words
+mul-copy-words c =
+    let at-processor-of = c .before .before .before .before in
+    let at-overlap = at-processor-of .before .before in
+    let at-span = at-overlap .before in
+    let s = at-span .before .before .before .before in
+    let r = copy-room _ (s .pre .0 .0 .accepted) _ _ _ _ _ (at-processor-of .processor-of .ensures .1) (s .pre .0 .0 .cells) (s .pre .0 .1 .0)
+    (copy-low _ (s .pre .0 .0 .accepted) _ (s .pre .1 .0) _ (s .pre .1 .1 .0) (s .pre .1 .1 .1) _ _ (at-span .span .ensures) (at-overlap .overlap .ensures)) in
+    omega (arith, r .0, r .1)
+
+add-copy-words : tie.Need-add-copy-words
+add-copy-words c =
+    let at-processor-of = c .before .before .before .before in
+    let at-overlap = at-processor-of .before .before in
+    let at-span = at-overlap .before in
+    let s = at-span .before .before .before .before in
+    let r = copy-room _ (s .pre .0 .0 .accepted) _ _ _ _ _ (at-processor-of .processor-of .ensures .1) (s .pre .0 .0 .cells) (s .pre .0 .1 .0)
+    (copy-low _ (s .pre .0 .0 .accepted) _ (s .pre .1 .0) _ (s .pre .1 .1 .0) (s .pre .1 .1 .1) _ _ (at-span .span .ensures) (at-overlap .overlap .ensures)) in
+    omega (arith, r .0, r .1)
+
+sub-copy-words : tie.Need-sub-copy-words
+sub-copy-words c = search needs
+
+copy-words-requires : tie.Need-copy-words-requires
+copy-words-requires c κs =
+    let at-processor-of = c .before .before .before .before .before in
+    let at-overlap = at-processor-of .before .before in
+    let at-span = at-overlap .before in
+    let s = at-span .before .before .before .before in
+    let l = copy-low _ (s .pre .0 .0 .accepted) _ (s .pre .1 .0) _ (s .pre .1 .1 .0) (s .pre .1 .1 .1) _ _ (at-span .span .ensures)
+    (at-overlap .overlap .ensures) in
+    let r = copy-room _ (s .pre .0 .0 .accepted) _ _ _ _ _ (at-processor-of .processor-of .ensures .1) (s .pre .0 .0 .cells) (s .pre .0 .1 .0) l in
+    ((r .0, (omega (arith, l, s .pre .0 .1 .1), r .1)), omega (arith, s .pre .0 .1 .1, s .pre .0 .0 .accepted .cells-most))
+
+same-length : tie.Need-same-length
+same-length c = search needs
+
+returns : tie.Need-returns
+returns c =
+    let at-processor-of = c .before .before .before .before .before .before .before .before in
+    let at-tile-of = at-processor-of .before in
+    let at-overlap = at-tile-of .before in
+    let at-span = at-overlap .before in
+    let s = at-span .before .before .before .before in
+    row-copied _ (s .pre .0 .0 .accepted) _ (s .pre .1 .0) _ (s .pre .1 .1 .0) (s .pre .1 .1 .1) _ _ (at-span .span .ensures) (at-overlap .overlap .ensures)
+    _ _ _ _ _ (at-tile-of .tile-of .ensures .0) (at-processor-of .processor-of .ensures .0) _ (s .pre .0 .0 .cells) (c .before .before .copy-words .ensures)
+
+pub copy-row-spec : {M : Type 1} → statement M
+copy-row-spec =
+    tie.close
+    (tie.spec
+    span-requires
+    overlap-requires
+    tile-of-requires
+    processor-of-requires
+    add-first
+    mul-copy-words
+    add-copy-words
+    sub-copy-words
+    copy-words-requires
+    same-length
+    returns)

@@ -1,0 +1,2 @@
+pub mod row_values
+pub mod shaped_values
