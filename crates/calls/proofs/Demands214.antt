@@ -19,7 +19,7 @@ use Rattle.swaps.specs.TwoOffices.{wholly, Demand214For}
 use Rattle.swaps.proofs.OneOffice as single
 use Rattle.swaps.proofs.TwoOffices as both
 use Rattle.layout.specs.Sizes.{routeOf}
-use Rattle.routes.specs.Routes.{linesFor}
+use Rattle.recipe.specs.Routes.{linesFor}
 use Rattle.engine.specs.Calls.{recipe, freshCall}
 use Rattle.engine.specs.Demands.{calls}
 use Rattle.engine.proofs.Lines.{areas-are}

@@ -23,8 +23,8 @@ use Rattle.nest.specs.Reader.{readLines}
 use Rattle.engine.specs.Calls.{answer, recipe, areas, freshCall, turnCall, deliverCall, collectCall}
 use Rattle.engine.specs.Demands.{Fixed, calls, Demand2}
 use Rattle.layout.specs.Sizes.{routeOf}
-use Rattle.routes.specs.Routes.{linesFor}
-use Rattle.routes.proofs.Laws.{numbered-for}
+use Rattle.recipe.specs.Routes.{linesFor}
+use Rattle.recipe.proofs.Laws.{numbered-for}
 use Rattle.engine.proofs.Demands as engine
 use Rattle.records.specs.declared.Progress.{Progress}
 use Rattle.records.specs.Records.{flatWords}

@@ -24,8 +24,8 @@ use Rattle.records.specs.Records.{flatWords}
 use Rattle.records.proofs.Words.{length-words}
 use Rattle.engine.specs.Calls.{answer, recipe}
 use Rattle.layout.specs.Sizes.{routeOf}
-use Rattle.routes.specs.Routes.{linesFor}
-use Rattle.routes.proofs.Laws.{numbered-for}
+use Rattle.recipe.specs.Routes.{linesFor}
+use Rattle.recipe.proofs.Laws.{numbered-for}
 use Rattle.engine.proofs.Demands as engine
 use Rattle.sharing.specs.Calls.{areasFor, turnCallFor, deliverCallFor, collectCallFor, freshRigLines, freshRigCall, lookPart, callFor}
 use Rattle.sharing.specs.Calls.{rigCalls, rigCollects}

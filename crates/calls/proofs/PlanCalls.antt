@@ -21,8 +21,8 @@ use Rattle.plan.specs.Shaped.{planOf}
 use Rattle.plan.specs.Hops.{hops}
 use Rattle.conformance.specs.Rows.{figuresIf}
 use Rattle.layout.specs.Sizes.{routeOf}
-use Rattle.routes.specs.Routes.{linesFor, ReadFor}
-use Rattle.routes.proofs.Laws.{numbered-for}
+use Rattle.recipe.specs.Routes.{linesFor, ReadFor}
+use Rattle.recipe.proofs.Laws.{numbered-for}
 use Rattle.summary.specs.declared.Figures.{Figures}
 use Rattle.summary.specs.declared.MessageLine.{MessageLine}
 use Rattle.summary.specs.declared.HopCount.{HopCount}

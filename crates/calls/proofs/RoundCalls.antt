@@ -19,8 +19,8 @@ use Rattle.machine.proofs.RunLaws.{number-of, after-of}
 use Rattle.nest.specs.declared.Reading.{Reading}
 use Rattle.nest.specs.Nest.{processors}
 use Rattle.layout.specs.Sizes.{routeOf}
-use Rattle.routes.specs.Routes.{linesFor, ReadFor}
-use Rattle.routes.proofs.Laws.{numbered-for, accepted-for}
+use Rattle.recipe.specs.Routes.{linesFor, ReadFor}
+use Rattle.recipe.proofs.Laws.{numbered-for, accepted-for}
 use Rattle.rounds.specs.Rounds.{Told, told}
 use Rattle.records.specs.declared.Progress.{Progress}
 use Rattle.records.specs.declared.Flat.{Flat}

@@ -14,7 +14,7 @@ use Rattle.plan.specs.declared.Route.the-variants.{Direct}
 use Rattle.plan.specs.Shaped.{planOf}
 use Rattle.plan.specs.Hops.{hops}
 use Rattle.layout.specs.Sizes.{routeOf}
-use Rattle.routes.specs.Routes.{linesFor}
+use Rattle.recipe.specs.Routes.{linesFor}
 use Rattle.summary.specs.Summary.{directionOf}
 use Rattle.engine.specs.Calls.{recipe}
 

@@ -8,7 +8,7 @@ use Rattle.base.specs.Tests.{_and_, not, pick}
 use Rattle.base.specs.Numbers.{Line, line, firstOf}
 use Rattle.machine.specs.Machine.{State, Answered, answered}
 use Rattle.layout.specs.Sizes.{routeOf}
-use Rattle.routes.specs.Routes.{linesFor}
+use Rattle.recipe.specs.Routes.{linesFor}
 use Rattle.rounds.specs.Rounds.{Told}
 use Rattle.engine.specs.Calls.{recipe, areas}
 use Rattle.schedule.specs.Calls.{roundsCall}

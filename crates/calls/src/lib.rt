@@ -152,7 +152,7 @@ pub extern "C" fn rolwyddac_summary(encoded: &[u8], route: u32, out: &mut [u32])
 pub extern "C" fn rolwyddac_message(encoded: &[u8], route: u32, m: u32, out: &mut [u32]) -> u32
     ensures { λ r. ⌜ answer r (now (out .exit)) ≡ messageCall (now (encoded .entry)) route m (now (out .entry)) ⌝ }
 {
-    let reading = routes::read_for(encoded, route);
+    let reading = recipe::read_for(encoded, route);
     let read = reading.number;
     if read != 0 {
         return read;

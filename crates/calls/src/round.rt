@@ -61,7 +61,7 @@ fn drive(
         × ((r .number ≡ 0 → words ≤ 192) × (length (r .flat .words) ≡ 192)) ⌝ }
 {
     if !may_drive(words, out.len()) {
-        let reading = routes::read_for(encoded, 0);
+        let reading = recipe::read_for(encoded, 0);
         let number = reading.number;
         if number != 0 {
             return refused(number);

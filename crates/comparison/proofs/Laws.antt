@@ -37,8 +37,8 @@ use Rattle.engine.proofs.Demands.{demands}
 use Rattle.comparison.specs.drive.Drive.{roundsOf, Driven}
 use Rattle.comparison.specs.declared.drive.Order.{Order}
 use Rattle.nest.proofs.Numbered.{numbered}
-use Rattle.routes.specs.Routes.{linesFor}
-use Rattle.routes.proofs.Laws.{numbered-for, open-direct}
+use Rattle.recipe.specs.Routes.{linesFor}
+use Rattle.recipe.proofs.Laws.{numbered-for, open-direct}
 use Rattle.comparison.proofs.drive.Whole.{ended}
 use Rattle.comparison.specs.declared.Extent.{Extent}
 use Rattle.comparison.specs.Agreement.{isBeyond, sourceOf, driven, ran, outcome, agreeing, compared, ranAndCompared}

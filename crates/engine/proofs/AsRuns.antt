@@ -19,7 +19,7 @@ use Rattle.machine.proofs.RunLaws.{number-of, after-of}
 use Rattle.machine.proofs.Theorem.{theorem}
 use Rattle.machine.proofs.Posted.{posted}
 use Rattle.layout.specs.Sizes.{routeOf}
-use Rattle.routes.specs.Routes.{linesFor}
+use Rattle.recipe.specs.Routes.{linesFor}
 use Rattle.engine.specs.Calls.{recipe, areas, collectCall}
 use Rattle.engine.specs.Demands.{calls}
 use Rattle.engine.proofs.AsSteps.{turn-is, deliver-is, collect-is}

@@ -14,8 +14,8 @@ use Rattle.base.proofs.Numbers.{first-false, none-first, first-behind, none-fro
 use Rattle.machine.specs.Plan.{Plan}
 use Rattle.machine.specs.Machine.{State, stateOf, answered, carryOut, nextAction, turnLines, turn, deliverLines, deliver, collectLines, collected, collect}
 use Rattle.layout.specs.Sizes.{routeOf}
-use Rattle.routes.specs.Routes.{linesFor}
-use Rattle.routes.proofs.Laws.{numbered-for}
+use Rattle.recipe.specs.Routes.{linesFor}
+use Rattle.recipe.proofs.Laws.{numbered-for}
 use Rattle.engine.specs.Calls.{recipe, areas, areaLines, freshCall, turnCall, deliverCall, collectCall}
 use Rattle.engine.proofs.Lines.{and-right}
 

@@ -32,8 +32,8 @@ use Rattle.plan.proofs.ShapedSound.{sound}
 use Rattle.conformance.proofs.Report.{report-agrees}
 use Rattle.conformance.proofs.Exact.{exact}
 use Rattle.layout.specs.Sizes.{routeOf}
-use Rattle.routes.specs.Routes.{linesFor}
-use Rattle.routes.proofs.Laws.{reads-for, indirect-box}
+use Rattle.recipe.specs.Routes.{linesFor}
+use Rattle.recipe.proofs.Laws.{reads-for, indirect-box}
 use Rattle.summary.specs.Summary.{asFigures, figuresOf, noFigures, summaryOf, lineOf, noLine, messageLines, lineIf, messageLineOf, directionOf, hopsLines}
 use Rattle.summary.specs.Summary.{noHops, hopsIf, hopsOf}
 use Rattle.summary.proofs.Answers.{directed}

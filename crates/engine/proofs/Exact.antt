@@ -20,8 +20,8 @@ use Rattle.nest.specs.Accepted.{Accepted}
 use Rattle.plan.proofs.ShapedSound.{sound}
 use Rattle.conformance.proofs.Plans.{once}
 use Rattle.layout.specs.Sizes.{routeOf}
-use Rattle.routes.specs.Routes.{linesFor}
-use Rattle.routes.proofs.Laws.{numbered-for}
+use Rattle.recipe.specs.Routes.{linesFor}
+use Rattle.recipe.proofs.Laws.{numbered-for}
 use Rattle.engine.specs.Calls.{recipe, areas, areaLines, turnCall}
 use Rattle.engine.proofs.Lines.{areas-are}
 use Rattle.engine.proofs.AsSteps.{turn-is}

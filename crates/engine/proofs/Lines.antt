@@ -32,8 +32,8 @@ use Rattle.nest.specs.Reader.{readLines, nestOf, readingOf}
 use Rattle.nest.proofs.Numbered.{numbered}
 use Rattle.nest.proofs.Answers.{nest-read}
 pub use Rattle.nest.proofs.Answers.{number-read as read-number}
-use Rattle.routes.specs.Routes.{linesFor, ReadFor}
-use Rattle.routes.proofs.Laws.{numbered-for, reads-for, passed-for, direct-open, routed-for}
+use Rattle.recipe.specs.Routes.{linesFor, ReadFor}
+use Rattle.recipe.proofs.Laws.{numbered-for, reads-for, passed-for, direct-open, routed-for}
 use Rattle.stages.specs.Progress.{progressOnly}
 use Rattle.engine.specs.Given.{AreaLengths, MayTurn, unfitLines, handedOver}
 use Rattle.engine.specs.Calls.{answer, recipe, areas, areaLines, freshCall, turnCall, deliverCall, collectCall, sweepCall}

@@ -17,8 +17,8 @@ use Rattle.machine.specs.Plan.{Plan}
 use Rattle.machine.specs.Machine.{State, stateOf, Answered, setProgress, fitRecord, fit, waiting, tilesLeft, turnLines}
 use Rattle.nest.specs.declared.Nest.{Nest}
 use Rattle.nest.specs.Nest.{processors}
-use Rattle.routes.specs.Routes.{linesFor}
-use Rattle.routes.proofs.Laws.{numbered-for}
+use Rattle.recipe.specs.Routes.{linesFor}
+use Rattle.recipe.proofs.Laws.{numbered-for}
 use Rattle.layout.specs.declared.Sizes.{Sizes}
 use Rattle.layout.specs.Sizes.{Sized, routeOf}
 use Rattle.records.specs.declared.Progress.{Progress}

@@ -13,7 +13,7 @@ use Rattle.machine.specs.Machine.{State, Answered, answered, stateOf, carryOut,
 use Rattle.nest.specs.Reader.{readLines, nestOf}
 use Rattle.plan.specs.Shaped.{planOf}
 use Rattle.layout.specs.Sizes.{routeOf}
-use Rattle.routes.specs.Routes.{linesFor}
+use Rattle.recipe.specs.Routes.{linesFor}
 
 -- what a call answers: its number and the lent words after it
 abbrev pub answer : {A : Type 0} → ℕ → A → Answered A

@@ -22,7 +22,7 @@ use Rattle.conformance.specs.Report.{ReportAgrees}
 use Rattle.conformance.specs.Exact.{Exact, sequential, runNest}
 use Rattle.conformance.specs.ExactShape.{ExactShape, shapeOf}
 use Rattle.layout.specs.Sizes.{routeOf}
-use Rattle.routes.specs.Routes.{linesFor}
+use Rattle.recipe.specs.Routes.{linesFor}
 use Rattle.summary.specs.Summary.{figuresOf, noFigures, summaryOf, lineOf, noLine, messageLines, messageLineOf, directionOf, Directed, hopsLines, noHops, hopsOf}
 use Rattle.engine.specs.Calls.{answer, recipe, freshCallLines, freshCall, turnCallLines, turnCall, deliverCallLines, deliverCall, collectCallLines}
 use Rattle.engine.specs.Calls.{collectCall, sweepCallLines, sweepCall}

@@ -28,8 +28,8 @@ use Rattle.nest.specs.Reader.{nestOf}
 use Rattle.plan.specs.Geometry.{value}
 use Rattle.plan.specs.Shaped.{shapedValue, planOf}
 use Rattle.layout.specs.Sizes.{routeOf}
-use Rattle.routes.specs.Routes.{linesFor}
-use Rattle.routes.proofs.Laws.{numbered-for}
+use Rattle.recipe.specs.Routes.{linesFor}
+use Rattle.recipe.proofs.Laws.{numbered-for}
 use Rattle.network.specs.Apart.{Areas, replaced, senderAt, takerAt, marked, received, sentOff, arrived, carried, turnApart, deliverApart, actApart}
 use Rattle.network.specs.Transport.{copied}
 use Rattle.network.specs.Packets.{Packet, Network, networkOf, packetAt, NetworkEvent, turnBy, postOf, arrivalOf, posted, post, arrivalLines, arrive}

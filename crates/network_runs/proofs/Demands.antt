@@ -21,8 +21,8 @@ use Rattle.plan.specs.declared.Route.the-variants.{Indirect}
 use Rattle.plan.specs.Shaped.{planOf}
 use Rattle.plan.proofs.ShapedSound.{sound}
 use Rattle.layout.specs.Sizes.{routeOf}
-use Rattle.routes.specs.Routes.{linesFor}
-use Rattle.routes.proofs.Laws.{reads-for, numbered-for}
+use Rattle.recipe.specs.Routes.{linesFor}
+use Rattle.recipe.proofs.Laws.{reads-for, numbered-for}
 use Rattle.network.specs.Apart.{Areas, startApart, senderAt, takerAt, Demand3Apart}
 use Rattle.network.specs.Packets.{NetworkEvent, ByPackets}
 use Rattle.network.specs.Locality.{Lent, Local}

@@ -13,7 +13,7 @@ use Rattle.machine.specs.Runs.{Event}
 use Rattle.nest.specs.Reader.{nestOf}
 use Rattle.plan.specs.declared.Route.the-variants.{Indirect}
 use Rattle.layout.specs.Sizes.{routeOf}
-use Rattle.routes.specs.Routes.{linesFor}
+use Rattle.recipe.specs.Routes.{linesFor}
 use Rattle.network.specs.Apart.{Areas, senderAt, takerAt, Demand3Apart}
 use Rattle.network.specs.Packets.{NetworkEvent, mailed, ByPackets}
 use Rattle.network.specs.Locality.{SameSource, Local}

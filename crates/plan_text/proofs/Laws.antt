@@ -34,7 +34,7 @@ use Rattle.plan.proofs.Listed.{few as few-listed}
 use Rattle.plan.proofs.Slots.{few}
 use Rattle.plan.proofs.ShapedBox.{planOf-box}
 use Rattle.layout.proofs.Steps.{ways-few}
-use Rattle.routes.specs.Routes.{linesFor, ReadFor}
+use Rattle.recipe.specs.Routes.{linesFor, ReadFor}
 use Rattle.tables.proofs.boxes.Scans.{slots-few}
 use Rattle.summary.specs.declared.Figures.{Figures}
 use Rattle.summary.specs.declared.MessageLine.{MessageLine}

@@ -13,7 +13,7 @@ use Rattle.nest.specs.Reader.{nestOf}
 use Rattle.plan.specs.declared.Route.{Route}
 use Rattle.plan.specs.Shaped.{planOf}
 use Rattle.conformance.specs.Rows.{messageLine}
-use Rattle.routes.specs.Routes.{linesFor}
+use Rattle.recipe.specs.Routes.{linesFor}
 
 -- "tiles ", "messages ", "words ", "steps ", "refused "
 abbrev pub tilesWord : List ℕ

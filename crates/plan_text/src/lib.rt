@@ -103,7 +103,7 @@ pub fn put_recipe(space: &mut [u8], encoded: &[u8], route: u32) -> usize
     if encoded.len() > 512 {
         return put_refused(space, 1);
     }
-    let reading = routes::read_for(encoded, route);
+    let reading = recipe::read_for(encoded, route);
     let number = reading.number;
     if number != 0 {
         return put_refused(space, number);

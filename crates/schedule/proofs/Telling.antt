@@ -29,7 +29,7 @@ use Rattle.plan.specs.Geometry.{processorOf}
 use Rattle.plan.specs.Messages.{ways}
 use Rattle.plan.specs.Shaped.{planOf, boxTile}
 use Rattle.plan.proofs.ShapedBox.{planOf-box}
-use Rattle.routes.proofs.Laws.{reads-for}
+use Rattle.recipe.proofs.Laws.{reads-for}
 use Rattle.layout.specs.Sizes.{routeOf}
 use Rattle.tables.specs.declared.scans.Place.{Place}
 use Rattle.tables.specs.Tables.{FoundIn}

@@ -21,8 +21,8 @@ use Rattle.tenants.specs.Demand208.{Demand208}
 use Rattle.tenants.proofs.Engaged.{RigInv, other-is}
 use Rattle.tenants.proofs.AnyCalls.{Alike, demand208-for}
 use Rattle.layout.specs.Sizes.{routeOf}
-use Rattle.routes.specs.Routes.{linesFor}
-use Rattle.routes.proofs.Laws.{numbered-for}
+use Rattle.recipe.specs.Routes.{linesFor}
+use Rattle.recipe.proofs.Laws.{numbered-for}
 use Rattle.engine.specs.Calls.{recipe, areas}
 use Rattle.engine.proofs.Lines.{Opened, areas-are}
 use Rattle.sharing.specs.Calls.{areasFor, rigAreas, freshRigCall, callFor, rigCalls, rigCollects}

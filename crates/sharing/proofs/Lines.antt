@@ -20,8 +20,8 @@ use Rattle.tenants.specs.Offices.{deliverLinesFor, deliveredFor, deliverFor, co
 use Rattle.tenants.proofs.OneCall.{Admits}
 use Rattle.tenants.proofs.ByStep.{turn-by}
 use Rattle.layout.specs.Sizes.{routeOf}
-use Rattle.routes.specs.Routes.{linesFor}
-use Rattle.routes.proofs.Laws.{numbered-for}
+use Rattle.recipe.specs.Routes.{linesFor}
+use Rattle.recipe.proofs.Laws.{numbered-for}
 use Rattle.stages.specs.Progress.{setRecord}
 use Rattle.engine.specs.Calls.{answer, areas}
 use Rattle.engine.specs.Given.{recordsAfter, handedOver}

@@ -15,8 +15,8 @@ use Rattle.machine.specs.Plan.{Plan}
 use Rattle.machine.specs.Machine.{State, stateOf, Answered, answered, fresh}
 use Rattle.tenants.specs.Offices.{Lent, lentOf, Rig, rigOf, Sources, freshRig, turnLinesFor}
 use Rattle.layout.specs.Sizes.{routeOf}
-use Rattle.routes.specs.Routes.{linesFor}
-use Rattle.routes.proofs.Laws.{numbered-for}
+use Rattle.recipe.specs.Routes.{linesFor}
+use Rattle.recipe.proofs.Laws.{numbered-for}
 use Rattle.stages.specs.Progress.{setRecord}
 use Rattle.engine.specs.Calls.{answer, recipe, areas}
 use Rattle.engine.specs.Given.{recordsAfter, zerosAfter}

@@ -15,7 +15,7 @@ use Rattle.tenants.specs.Offices.{Lent, turnLinesFor, carryOutFor, deliverLines
 use Rattle.tenants.specs.Offices.{ofOffice, Rig, Sources, sourceFor, otherOf, lentTo, putBack, freshRig, Call}
 use Rattle.nest.specs.Reader.{readLines}
 use Rattle.layout.specs.Sizes.{routeOf}
-use Rattle.routes.specs.Routes.{linesFor}
+use Rattle.recipe.specs.Routes.{linesFor}
 use Rattle.engine.specs.Calls.{recipe, areas}
 
 -- an office's own areas, the shared words and the other's records have exactly their lengths

@@ -11,7 +11,7 @@ use Rattle.machine.specs.Plan.{Plan}
 use Rattle.tenants.specs.Offices.{Lent, wordFor, fitFor, heldByOther}
 use Rattle.plan.specs.Shaped.{planOf}
 use Rattle.layout.specs.Sizes.{Sized, routeOf}
-use Rattle.routes.specs.Routes.{linesFor}
+use Rattle.recipe.specs.Routes.{linesFor}
 use Rattle.tables.specs.Tables.{Tabled}
 use Rattle.engine.specs.Calls.{recipe}
 use Rattle.engine.specs.Given.{AreaLengths}

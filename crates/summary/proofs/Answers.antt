@@ -38,8 +38,8 @@ use Rattle.plan.proofs.ShapedBox.{boxTile-is, planOf-box}
 use Rattle.plan.proofs.ShapedSound.{sound}
 use Rattle.layout.specs.declared.Sizes.{Sizes}
 use Rattle.layout.specs.Sizes.{Sized, endAt}
-use Rattle.routes.specs.Routes.{linesFor}
-use Rattle.routes.proofs.Laws.{numbered-for}
+use Rattle.recipe.specs.Routes.{linesFor}
+use Rattle.recipe.proofs.Laws.{numbered-for}
 use Rattle.tables.specs.declared.scans.Place.{Place}
 use Rattle.tables.proofs.boxes.Scans as boxes
 use Rattle.tables.proofs.shaped_table.Laws as shapes

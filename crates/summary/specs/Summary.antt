@@ -21,7 +21,7 @@ use Rattle.conformance.specs.ExactShape.{standsAt, CarriesShape}
 use Rattle.plan.specs.Hops.{hops}
 use Rattle.conformance.specs.Rows as rows
 use Rattle.conformance.specs.Rows.{accepted, refused, figuresIf}
-use Rattle.routes.specs.Routes.{linesFor}
+use Rattle.recipe.specs.Routes.{linesFor}
 use Rattle.summary.specs.declared.Figures.{Figures}
 use Rattle.summary.specs.declared.MessageLine.{MessageLine}
 use Rattle.summary.specs.declared.HopCount.{HopCount}

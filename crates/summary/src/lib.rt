@@ -163,7 +163,7 @@ fn no_hops(number: u32) -> HopCount
 pub fn summary(encoded: &[u8], route: u32) -> Figures
     ensures { λ r. ⌜ r ≡ summaryOf (routeOf route) (now (encoded .entry)) ⌝ }
 {
-    let reading = routes::read_for(encoded, route);
+    let reading = recipe::read_for(encoded, route);
     let number = reading.number;
     if number != 0 {
         return no_figures(number);
@@ -179,7 +179,7 @@ pub fn summary(encoded: &[u8], route: u32) -> Figures
 pub fn message(encoded: &[u8], route: u32, m: u32) -> MessageLine
     ensures { λ r. ⌜ r ≡ messageLineOf (routeOf route) (now (encoded .entry)) m ⌝ }
 {
-    let reading = routes::read_for(encoded, route);
+    let reading = recipe::read_for(encoded, route);
     let number = reading.number;
     if number != 0 {
         return no_line(number);

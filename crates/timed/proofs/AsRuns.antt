@@ -27,7 +27,7 @@ use Rattle.calendar.proofs.Allowed.{Allowed, open-allowed}
 use Rattle.calendar.proofs.OneOffice as one
 use Rattle.calendar.proofs.TwoOffices as two
 use Rattle.layout.specs.Sizes.{routeOf}
-use Rattle.routes.specs.Routes.{linesFor}
+use Rattle.recipe.specs.Routes.{linesFor}
 use Rattle.engine.specs.Calls.{recipe, areas, deliverCall, collectCall}
 use Rattle.engine.proofs.Lines.{Opened}
 use Rattle.engine.proofs.AsSteps.{turn-is, deliver-is, collect-is}

@@ -24,8 +24,8 @@ use Rattle.calendar.proofs.Allowed.{Allowed}
 use Rattle.nest.specs.Reader.{readLines}
 use Rattle.nest.proofs.Numbered.{numbered}
 use Rattle.layout.specs.Sizes.{routeOf}
-use Rattle.routes.specs.Routes.{linesFor}
-use Rattle.routes.proofs.Laws.{numbered-for, reads-for}
+use Rattle.recipe.specs.Routes.{linesFor}
+use Rattle.recipe.proofs.Laws.{numbered-for, reads-for}
 use Rattle.engine.specs.Calls.{answer, recipe, areas, turnCall}
 use Rattle.engine.specs.Given.{unfitLines, recordsAfter}
 use Rattle.engine.specs.declared.core.Turned.{Turned}

@@ -15,7 +15,7 @@ use Rattle.calendar.specs.declared.Opening.the-variants.{OpensIn, Never}
 use Rattle.calendar.specs.Hours.{tableWords, Hours, faultyHours, turnLinesAt, turnLinesAtFor, untilOpen, Timed, turnAt, mailOf, TimedCall}
 use Rattle.nest.specs.Reader.{readLines}
 use Rattle.layout.specs.Sizes.{routeOf}
-use Rattle.routes.specs.Routes.{linesFor}
+use Rattle.recipe.specs.Routes.{linesFor}
 use Rattle.engine.specs.Calls.{recipe, areas, deliverCall}
 use Rattle.sharing.specs.Calls.{areasFor, deliverCallFor}
 

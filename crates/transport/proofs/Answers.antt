@@ -16,8 +16,8 @@ use Rattle.machine.specs.Plan.{Plan, count}
 use Rattle.machine.specs.Machine.{State, fit, tilesLeft, Answered, answered}
 use Rattle.nest.specs.Reader.{readLines}
 use Rattle.nest.proofs.Numbered.{numbered}
-use Rattle.routes.specs.Routes.{linesFor}
-use Rattle.routes.proofs.Laws.{numbered-for, reads-for}
+use Rattle.recipe.specs.Routes.{linesFor}
+use Rattle.recipe.proofs.Laws.{numbered-for, reads-for}
 use Rattle.layout.specs.Sizes.{routeOf}
 use Rattle.network.specs.Apart.{received}
 use Rattle.engine.specs.Given.{unfitLines}

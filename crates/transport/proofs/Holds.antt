@@ -17,8 +17,8 @@ use Rattle.base.proofs.Numbers.{first-false, first-behind}
 use Rattle.machine.specs.Plan.{Plan, count, takerOf, duesOf}
 use Rattle.machine.specs.Machine.{State, tilesLeft, currentTile, fit, waiting}
 use Rattle.layout.specs.Sizes.{routeOf}
-use Rattle.routes.specs.Routes.{linesFor}
-use Rattle.routes.proofs.Laws.{numbered-for}
+use Rattle.recipe.specs.Routes.{linesFor}
+use Rattle.recipe.proofs.Laws.{numbered-for}
 use Rattle.engine.specs.Calls.{recipe, areas}
 use Rattle.network.specs.Apart.{received, replaced, arrived}
 use Rattle.network.specs.Packets.{Network, networkOf, arrive}

@@ -11,7 +11,7 @@ use Rattle.machine.specs.Plan.{Plan, count, senderOf, takerOf, heldBy, offset}
 use Rattle.machine.specs.Machine.{State, stageOf, tilesLeft, currentTile, fit, Answered, answered}
 use Rattle.nest.specs.Reader.{readLines}
 use Rattle.layout.specs.Sizes.{routeOf}
-use Rattle.routes.specs.Routes.{linesFor}
+use Rattle.recipe.specs.Routes.{linesFor}
 use Rattle.engine.specs.Calls.{recipe, areas}
 use Rattle.network.specs.Apart.{received}
 use Rattle.transport.specs.arrivals.Taking.{takes, asLong}

@@ -12,7 +12,7 @@ use Rattle.base.specs.Numbers.{firstOf}
 use Rattle.machine.specs.Plan.{Plan, count, heldBy, duesOf}
 use Rattle.machine.specs.Machine.{State, tilesLeft, currentTile, fit, waiting, Answered}
 use Rattle.layout.specs.Sizes.{routeOf}
-use Rattle.routes.specs.Routes.{linesFor}
+use Rattle.recipe.specs.Routes.{linesFor}
 use Rattle.engine.specs.Calls.{recipe, areas}
 use Rattle.network.specs.Apart.{takerAt}
 use Rattle.network.specs.Packets.{Network, packetAt, arrive}

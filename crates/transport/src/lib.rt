@@ -13,8 +13,8 @@ use layout::route_of;
 use layout::sizes_of;
 use plan::Route;
 use reader::read;
+use recipe::read_for;
 use records::flat_of;
-use routes::read_for;
 use tables::fill;
 use tables::totals;
 

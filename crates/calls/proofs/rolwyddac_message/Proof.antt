@@ -7,7 +7,7 @@ use Rattle.calls.proofs.rolwyddac_message.Statement.{statement}
 use Rattle.calls.proofs.rolwyddac_message.Tie as tie
 use Rattle.calls.proofs.rolwyddac_message.Reads as reads
 use Rattle.calls.proofs.rolwyddac_message.Lts as lts
-use Rattle.routes.proofs.read_for.Reads as read-for-reads
+use Rattle.recipe.proofs.read_for.Reads as read-for-reads
 use Rattle.summary.proofs.message.Reads as message-reads
 
 read-for-requires : tie.Need-read-for-requires

@@ -17,8 +17,8 @@ use Rattle.machine.specs.Machine.{State, Answered}
 use Rattle.machine.specs.Runs.{Event, turnOf, deliveryOf, stateAfter, answersTo, total, steps, Demand3}
 use Rattle.base.specs.Lists.{Bytes}
 use Rattle.layout.specs.Sizes.{routeOf}
-use Rattle.routes.specs.Routes.{linesFor}
-use Rattle.routes.proofs.Laws.{numbered-for}
+use Rattle.recipe.specs.Routes.{linesFor}
+use Rattle.recipe.proofs.Laws.{numbered-for}
 use Rattle.engine.specs.Calls.{recipe, freshCall, turnCall, deliverCall, collectCall}
 use Rattle.engine.specs.Demands.{calls}
 use Rattle.engine.proofs.Demands.{demands}

@@ -24,8 +24,8 @@ use Rattle.nest.proofs.Facts.{accepted}
 use Rattle.plan.proofs.ShapedSound.{sound}
 use Rattle.layout.specs.Sizes.{routeOf}
 use Rattle.layout.proofs.Dims.{product-pos}
-use Rattle.routes.specs.Routes.{linesFor}
-use Rattle.routes.proofs.Laws.{reads-for}
+use Rattle.recipe.specs.Routes.{linesFor}
+use Rattle.recipe.proofs.Laws.{reads-for}
 use Rattle.engine.specs.Calls.{recipe}
 use Rattle.network.specs.Apart.{Areas, startApart, assembled, collectApart}
 use Rattle.network.specs.Packets.{Network, NetworkEvent, actNetwork, startNetwork, machineEvents, lastNetwork, MachineByPackets}

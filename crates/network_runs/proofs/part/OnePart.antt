@@ -19,8 +19,8 @@ use Rattle.base.proofs.Numbers.{first-nil, first-false, first-behind}
 use Rattle.machine.specs.Plan.{Plan, Sound, count, heldBy, tilesOf}
 use Rattle.machine.specs.Machine.{State, memoryOf, placeOf, tilesLeft, fitRecord, fit, Answered, answered, turnLines, turn, fresh}
 use Rattle.layout.specs.Sizes.{routeOf}
-use Rattle.routes.specs.Routes.{linesFor}
-use Rattle.routes.proofs.Laws.{numbered-for}
+use Rattle.recipe.specs.Routes.{linesFor}
+use Rattle.recipe.proofs.Laws.{numbered-for}
 use Rattle.engine.specs.Calls.{recipe}
 use Rattle.network.specs.Apart.{senderAt, takerAt, marked, received}
 use Rattle.network.specs.Locality.{Lent, Keeps, SameTo, ReadsOwnWord}

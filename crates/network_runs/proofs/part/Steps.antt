@@ -17,7 +17,7 @@ use Rattle.base.proofs.Numbers.{first-true, first-false}
 use Rattle.machine.specs.Plan.{Plan, Sound, count, heldBy}
 use Rattle.machine.specs.Machine.{State, Answered, answered, turn}
 use Rattle.layout.specs.Sizes.{routeOf}
-use Rattle.routes.specs.Routes.{linesFor}
+use Rattle.recipe.specs.Routes.{linesFor}
 use Rattle.engine.specs.Calls.{recipe}
 use Rattle.network.specs.Apart.{Areas, replaced, senderAt, takerAt, marked, received, sentOff, arrived, turnApart}
 use Rattle.network.specs.Packets.{Packet, Network, networkOf, packetAt, statusAt, NetworkEvent, turnBy, postOf, arrivalOf, posted, post, arrive}

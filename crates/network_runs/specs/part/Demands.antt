@@ -10,7 +10,7 @@ use Rattle.base.specs.Numbers.{firstOf}
 use Rattle.machine.specs.Machine.{fresh, sweep}
 use Rattle.machine.specs.Runs.{act, total, last, answers}
 use Rattle.layout.specs.Sizes.{routeOf}
-use Rattle.routes.specs.Routes.{linesFor}
+use Rattle.recipe.specs.Routes.{linesFor}
 use Rattle.engine.specs.Calls.{recipe}
 use Rattle.network.specs.Apart.{Areas}
 use Rattle.network.specs.Packets.{Network, NetworkEvent, actNetwork, startNetwork, stepsBeside, lastNetwork, MachineByPackets}

@@ -12,8 +12,8 @@ use Rattle.machine.specs.Plan.{Plan, words}
 use Rattle.machine.specs.Machine.{Answered, answered}
 use Rattle.plan.specs.Shaped.{planOf}
 use Rattle.layout.specs.Sizes.{routeOf}
-use Rattle.routes.specs.Routes.{linesFor}
-use Rattle.routes.proofs.Laws.{numbered-for}
+use Rattle.recipe.specs.Routes.{linesFor}
+use Rattle.recipe.proofs.Laws.{numbered-for}
 use Rattle.engine.specs.Calls.{answer, recipe}
 use Rattle.engine.proofs.Lines.{call-read}
 use Rattle.part_calls.specs.front.Calls.{boardLines}

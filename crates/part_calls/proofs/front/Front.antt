@@ -22,11 +22,11 @@ use Rattle.nest.specs.Nest.{cells, processors}
 use Rattle.plan.specs.Shaped.{planOf}
 use Rattle.layout.specs.declared.Sizes.{Sizes}
 use Rattle.layout.specs.Sizes.{Sized, routeOf}
-use Rattle.routes.specs.Routes.{linesFor, ReadFor}
+use Rattle.recipe.specs.Routes.{linesFor, ReadFor}
 use Rattle.tables.specs.Tables.{Tabled}
 use Rattle.records.specs.declared.Flat.{Flat}
 use Rattle.records.specs.Records.{Carries}
-use Rattle.routes.proofs.Laws.{numbered-for}
+use Rattle.recipe.proofs.Laws.{numbered-for}
 use Rattle.engine.specs.Calls.{recipe}
 use Rattle.engine.proofs.Lines.{Opened, opened, routed}
 use Rattle.network.specs.Own.{ownCells, keptCells, handled}

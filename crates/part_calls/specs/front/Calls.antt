@@ -11,7 +11,7 @@ use Rattle.base.specs.Numbers.{Line, line, firstOf}
 use Rattle.machine.specs.Plan.{Plan, senderOf, takerOf, heldBy}
 use Rattle.machine.specs.Machine.{State, memoryOf, tilesLeft, fitRecord, fit, Answered, answered, carryOut, nextAction, turnLines, deliverLines, fresh}
 use Rattle.layout.specs.Sizes.{routeOf}
-use Rattle.routes.specs.Routes.{linesFor}
+use Rattle.recipe.specs.Routes.{linesFor}
 use Rattle.engine.specs.Calls.{recipe}
 use Rattle.network.specs.Apart.{senderAt, takerAt, marked, received}
 use Rattle.network.specs.Own.{owns, ownCells, keptCells, handled, narrowed, widened, sourceOf}

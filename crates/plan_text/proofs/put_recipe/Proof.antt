@@ -4,7 +4,7 @@ use Rattle.text.specs.Writing.{pen}
 use native.Mathlib.Omega.{arith}
 use mathlib.Core.Path.{refl, ap, _∙_}
 use Rattle.layout.specs.Sizes.{routeOf}
-use Rattle.routes.proofs.Laws.{accepted-for, routed-for}
+use Rattle.recipe.proofs.Laws.{accepted-for, routed-for}
 use Rattle.summary.specs.declared.Figures.{Figures}
 use borrow.Author.Needs.{needs}
 use Rattle.plan_text.proofs.put_recipe.Statement.{statement}

@@ -5,7 +5,7 @@ use Rattle.plan.specs.Shaped.{planOf}
 use borrow.Author.Tests.{not-true, not-false}
 use Rattle.machine.specs.Machine.{stateOf}
 use Rattle.plan.proofs.ShapedSound.{sound}
-use Rattle.routes.proofs.Laws.{accepted-for}
+use Rattle.recipe.proofs.Laws.{accepted-for}
 use Rattle.engine.proofs.Lines as lines
 use Rattle.schedule.proofs.Called as called
 use borrow.Author.Needs.{needs}

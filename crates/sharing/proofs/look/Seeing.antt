@@ -19,7 +19,7 @@ use Rattle.tenants.specs.Offices.{ofOffice}
 use Rattle.nest.specs.Reader.{readLines}
 use Rattle.nest.proofs.Numbered.{numbered}
 use Rattle.layout.specs.Sizes.{routeOf}
-use Rattle.routes.proofs.Laws.{reads-for}
+use Rattle.recipe.proofs.Laws.{reads-for}
 use Rattle.engine.specs.Calls.{recipe}
 use Rattle.engine.proofs.Lines.{Opened}
 use Rattle.sharing.specs.Calls.{memoriesLong, lookNumber, lookPart}

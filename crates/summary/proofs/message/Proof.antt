@@ -1,7 +1,7 @@
 -- `summary::message` meets its contract.
 use mathlib.Core.Path.{sym, _∙_}
 use native.Mathlib.Omega.{arith}
-use Rattle.routes.proofs.Laws.{accepted-for, routed-for}
+use Rattle.recipe.proofs.Laws.{accepted-for, routed-for}
 use Rattle.summary.proofs.Answers as L
 use borrow.Author.Needs.{needs}
 use Rattle.summary.proofs.message.Statement.{statement}

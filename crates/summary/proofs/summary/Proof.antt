@@ -1,6 +1,6 @@
 -- `summary::summary` meets its contract.
 use mathlib.Core.Path.{sym, _∙_}
-use Rattle.routes.proofs.Laws.{accepted-for, routed-for}
+use Rattle.recipe.proofs.Laws.{accepted-for, routed-for}
 use Rattle.summary.proofs.Answers as L
 use borrow.Author.Needs.{needs}
 use Rattle.summary.proofs.summary.Statement.{statement}

@@ -1,6 +1,6 @@
 -- Each return is the call by the line that counts.
 use mathlib.Core.Path.{refl, _∙_}
-use Rattle.routes.proofs.Laws.{accepted-for}
+use Rattle.recipe.proofs.Laws.{accepted-for}
 use Rattle.machine.specs.Machine.{stateOf}
 use Rattle.plan.specs.Shaped.{planOf}
 use Rattle.engine.proofs.Lines as lines

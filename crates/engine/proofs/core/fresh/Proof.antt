@@ -4,7 +4,7 @@ use mathlib.Core.Path.{refl, sym, ap, _∙_}
 use mathlib.Core.List.{List}
 use native.Mathlib.Omega.{arith}
 use borrow.Author.Tests.{not-true, not-false}
-use Rattle.routes.proofs.Laws.{accepted-for}
+use Rattle.recipe.proofs.Laws.{accepted-for}
 use Rattle.machine.specs.Machine.{stateOf}
 use Rattle.plan.specs.Shaped.{planOf}
 use Rattle.engine.specs.Calls.{answer}

@@ -1,6 +1,6 @@
 -- `part_calls::front::open` meets its contract: the first true line, or the nest.
 use mathlib.Core.Path.{_∙_}
-use Rattle.routes.proofs.Laws.{accepted-for}
+use Rattle.recipe.proofs.Laws.{accepted-for}
 use Rattle.part_calls.proofs.front.Front as front
 use borrow.Author.Needs.{needs}
 use Rattle.part_calls.proofs.front.open.Statement.{statement}

@@ -1,6 +1,6 @@
 -- A recipe that reads is opened with its counts and its table.
 use mathlib.Core.Path.{sym, _∙_}
-use Rattle.routes.proofs.Laws.{accepted-for}
+use Rattle.recipe.proofs.Laws.{accepted-for}
 use Rattle.engine.proofs.Lines as lines
 use borrow.Author.Needs.{needs}
 use Rattle.sharing.proofs.core.open_recipe.Statement.{statement}

@@ -4,7 +4,7 @@ use Prim.Native.Nat.{ℕ, _-_}
 use mathlib.Core.Path.{refl, sym, ap, _∙_}
 use mathlib.Core.List.{List, []}
 use lib.ListN.{take, drop}
-use Rattle.routes.proofs.Laws.{accepted-for}
+use Rattle.recipe.proofs.Laws.{accepted-for}
 use Rattle.plan.specs.Shaped.{planOf}
 use Rattle.machine.specs.Machine.{stateOf}
 use Rattle.engine.proofs.Lines as lines

@@ -3,7 +3,7 @@ use Prim.Native.Nat.{_-_}
 use mathlib.Core.Path.{refl, sym, _∙_}
 use lib.ListN.{take, drop}
 use borrow.Author.Tests.{not-true, not-false}
-use Rattle.routes.proofs.Laws.{accepted-for}
+use Rattle.recipe.proofs.Laws.{accepted-for}
 use Rattle.plan.specs.Shaped.{planOf}
 use Rattle.machine.specs.Machine.{stateOf}
 use Rattle.engine.proofs.Lines as lines

@@ -1,9 +1,9 @@
--- `routes::read_for` meets its contract: one law for each return.
+-- `recipe::read_for` meets its contract: one law for each return.
 use borrow.Author.Needs.{needs}
 use Rattle.layout.proofs.Steps.{route-direct, route-indirect}
-use Rattle.routes.proofs.Laws as L
-use Rattle.routes.proofs.read_for.Statement.{statement}
-use Rattle.routes.proofs.read_for.Tie as tie
+use Rattle.recipe.proofs.Laws as L
+use Rattle.recipe.proofs.read_for.Statement.{statement}
+use Rattle.recipe.proofs.read_for.Tie as tie
 
 read-requires : tie.Need-read-requires
 read-requires c κs = search needs

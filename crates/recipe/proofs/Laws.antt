@@ -22,7 +22,7 @@ use Rattle.nest.proofs.Facts.{accepted}
 use Rattle.plan.specs.declared.Route.{Route}
 use Rattle.plan.specs.declared.Route.the-variants.{Direct, Indirect}
 use Rattle.layout.specs.Sizes.{routeOf}
-use Rattle.routes.specs.Routes.{indirect, routeLines, linesFor, ReadFor}
+use Rattle.recipe.specs.Routes.{indirect, routeLines, linesFor, ReadFor}
 
 both-numbered : (a b : List Line) → Numbered a → Numbered b → Numbered (a ++ b)
 both-numbered [] b n m = m

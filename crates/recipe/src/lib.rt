@@ -1,6 +1,6 @@
 // A recipe read for a route: the one place where a call that is given a route looks at line 21.
 ghost use Rattle.layout.specs.Sizes.{routeOf};
-ghost use Rattle.routes.specs.Routes.{ReadFor};
+ghost use Rattle.recipe.specs.Routes.{ReadFor};
 use nest::Reading;
 use reader::read;
 
