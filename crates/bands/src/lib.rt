@@ -1,4 +1,5 @@
-// Four rows of a nest side by side: each one column behind the row before it, or in the same columns.
+// Rows of a nest over the loops of `kernels`: one by one, and four side by side.
+// Four rows go each one column behind the row before it, or in the same columns where no row reads another.
 ghost use mathlib.Core.Path.{_≡_};
 ghost use Prim.Native.Nat.{_+_, _*_, _-_, _/_, _%_, _^_, _≤_, _<_};
 ghost use lib.ListN.{length, getD};
@@ -10,8 +11,8 @@ use crate::lagged::band;
 use crate::lines::line;
 use kernels::wave;
 
-pub mod lines; // lines.rt: rows whose first cells read the boundary's word in place of a cell's
-pub mod lagged; // lagged.rt: four rows of a nest side by side, each one column behind the row before it
+pub mod lines; // lines.rt: one row, whose first cells read the boundary's word in place of a cell's
+pub mod lagged; // lagged.rt: four rows, each one column behind the row before it
 
 // The values of four rows that read no row but themselves, in the same columns: no row need be ahead of another for its words to
 // be made beside theirs, and no columns are left.

@@ -1,3 +1,4 @@
+-- Read this.
 -- Runs with hours: demand 3 as request W-212 has it, for one office and for two; and what the rig tells of opening.
 -- proofs/ proves the claims for every sound plan, all sources and every list of events.
 use Prim.Native.Nat.{ℕ, _+_, _%_, _≤_, _<_}

@@ -1,3 +1,4 @@
+-- Read this.
 -- Hours when processors may run: the lent table, open and faulty, a turn at its minute, minutes until a processor next opens.
 -- Renders request W-212 over the machine of document 01, for one office and, with W-208, for two.
 use Prim.Native.Nat.{ℕ, zero, suc, _+_, _*_, _%_}

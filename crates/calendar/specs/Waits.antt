@@ -1,3 +1,4 @@
+-- For contracts below the calls: no reader needs it.
 -- What parts of the search for the next opening promise: the wait of one window, the lesser of two.
 -- No sentence of a request; proofs/ ties them to Hours.
 use Prim.Native.Nat.{ℕ, _≤_, _<_}

@@ -1,4 +1,5 @@
-// Runs with hours (W-212) are definitions and theorems: specs/ states them, proofs/ proves them; crate `windows` has the code.
+// Hours when processors may run (W-212), over an abstract plan: definitions in specs/, theorems in proofs/.
+// The code is `timed::windows`; the one type here is its answer.
 
 // When a processor next opens: in so many minutes, 0 while it is open, or never.
 pub enum Opening {

@@ -1,3 +1,4 @@
+-- Read this.
 -- What the calls for the charting desk answer where they write to lent bytes and a lent word; and no two inputs share a text.
 -- Renders document 02, W-211; the lines are those of `crates/chart/specs/Call`, with 9 where not one word is lent for the length.
 use Prim.Native.Nat.{ℕ}

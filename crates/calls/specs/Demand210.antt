@@ -1,3 +1,4 @@
+-- Read this.
 -- What W-210 demands of the exported call that fills a source from soundings, and demand 1 for it.
 -- Renders document 02, W-210, and document 01, "Numbers a call gives".
 use Prim.Native.Nat.{ℕ, _<_}

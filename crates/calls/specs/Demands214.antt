@@ -1,3 +1,4 @@
+-- Read this.
 -- Two steps, either way round, for a recipe's bytes and a route, over the calls for one office and those for two, with hours and without.
 -- Renders request W-214; any word may name the route. Each call's contract equates the call with the definitions used here.
 use Prim.Native.Nat.{ℕ}

@@ -1,3 +1,4 @@
+-- Read this.
 -- What the exported question answers: when a processor next opens, as two words.
 -- Renders request W-212, where the rig tells of opening; line 9 covers the two lent words too.
 use Prim.Native.Nat.{ℕ}

@@ -1,3 +1,4 @@
+-- Read this.
 -- What the exported look answers: where a processor's part begins in the named office's memories, and how many words it has.
 -- Renders request W-208, where a user looks at a processor's memory; line 9 covers the two lent words too.
 use Prim.Native.Nat.{ℕ, _*_}

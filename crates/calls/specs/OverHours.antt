@@ -1,3 +1,4 @@
+-- Read this.
 -- Request W-212 for the calls as exported, board records as structs: what the contracts of src/hour.rt say of the areas lent, the number
 -- given and the areas left; runs with hours, of one office and of both on one rig. Document 01, "Numbers a call gives", "Runs"; W-212.
 use Prim.Native.Nat.{ℕ, _≤_, _<_}

@@ -1,3 +1,4 @@
+-- Read this.
 -- The demands for the calls as exported, board records as structs: what a contract says of the areas lent, the number given and the areas
 -- left; a run as a list of such calls on one route. Document 01, "The machine", "Numbers a call gives", "Runs"; W-204.
 use Prim.Native.Nat.{ℕ, _<_}

@@ -1,3 +1,4 @@
+-- Read this.
 -- Two steps, either way round, for the calls as exported, board records as structs: what the contracts of crates/calls say of two calls.
 -- Renders request W-214. `Step a e n b` says that the call e, lent the areas a, gave n and left b.
 use Prim.Native.Nat.{ℕ}

@@ -1,3 +1,4 @@
+-- Read this.
 -- Request W-208 for the calls as exported, board records as structs: what the contracts of src/office.rt say of the areas lent, the number
 -- given and the areas left; runs of both offices on one rig. Document 01, "Numbers a call gives", "Runs"; W-208.
 use Prim.Native.Nat.{ℕ, _*_, _≤_, _<_}

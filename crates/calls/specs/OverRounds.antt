@@ -1,3 +1,4 @@
+-- Read this.
 -- Request W-213 for the calls as exported, board records as structs: what the contracts of src/round.rt say of the areas lent, the number
 -- given and the areas left; a run by rounds against runs of single calls. Document 01, "Numbers a call gives", "Runs"; W-213.
 use Prim.Native.Nat.{ℕ, _≤_, _<_}

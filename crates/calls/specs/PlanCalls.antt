@@ -1,3 +1,4 @@
+-- Read this.
 -- What the calls about a plan answer where they write to lent words: the plan's figures, the line of one message, its hops.
 -- Renders document 01, "Recipes to be met" (the columns of its table and the plan printer's lines), "Numbers a call gives", W-204 and W-209.
 use Prim.Native.Nat.{ℕ}

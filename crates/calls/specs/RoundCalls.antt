@@ -1,3 +1,4 @@
+-- Read this.
 -- What the exported driver by rounds answers: the areas that a run by rounds leaves, and the rounds in one lent word.
 -- Renders document 02, W-213; the run is `crates/schedule/specs/Calls`, and line 9 covers the lent word too.
 use Prim.Native.Nat.{ℕ}

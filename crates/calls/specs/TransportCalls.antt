@@ -1,3 +1,4 @@
+-- Read this.
 -- The calls for a transport as exported, records as structs: each contract fixes number and lent words; and a message's row is the line that the
 -- call for one message writes, then its place. Renders document 01, "Messages" and "Numbers a call gives", for processors that share no memory.
 use Prim.Native.Nat.{ℕ}

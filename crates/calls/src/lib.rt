@@ -1,6 +1,8 @@
 // The offered calls with C linkage: over progress records as structs a fresh start, a turn, a delivery, collecting;
 // over words the sweep, a plan's figures, a message's line and its hops, a source from soundings; over bytes the recipe writer. The word
 // `route` is 0 for direct passing, any other for indirect.
+// Each call over records is a thin function: it takes the records apart, has covered code work on numbers, and stores what that gives.
+// Two steps, either way round (W-214), have no code: specs/Demands214 states them of the calls on bytes, specs/OverRecords214 of these.
 ghost use mathlib.Core.Path.{_≡_};
 ghost use Rattle.machine.specs.Machine.{stateOf};
 ghost use Rattle.engine.specs.Calls.{answer, freshCall, turnCall, deliverCall, collectCall, sweepCall};
@@ -11,12 +13,12 @@ ghost use Rattle.soundings.specs.Soundings.{fillCall};
 ghost use Rattle.calls.specs.PlanCalls.{summaryCall, messageCall, hopsCall};
 use records::Progress;
 
-pub mod office; // office.rt: the calls for an office
-pub mod desk; // desk.rt: the calls for the charting desk
-pub mod hour; // hour.rt: the calls with hours
-pub mod round; // round.rt: the calls by rounds
-pub mod carrier; // carrier.rt: the calls that a transport needs
-pub mod board; // board.rt: the calls for one processor that is lent its own part alone
+pub mod office; // office.rt: for one of two offices on one rig, and the look
+pub mod desk; // desk.rt: for the charting desk
+pub mod hour; // hour.rt: with hours when processors may run
+pub mod round; // round.rt: the driver by rounds
+pub mod carrier; // carrier.rt: what a transport asks where processors share no memory
+pub mod board; // board.rt: for one processor that is lent its own part alone
 
 // One turn of a processor.
 #[no_mangle]

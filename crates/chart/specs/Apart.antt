@@ -1,3 +1,4 @@
+-- Read this.
 -- What two inputs with one text share.
 -- Renders document 02, W-211: grids of one recipe that differ in a cell of the shape, in a corner or in the cell size never share a text.
 use Prim.Native.Nat.{ℕ, _*_, _<_}

@@ -1,3 +1,4 @@
+-- Read this.
 -- The two calls: a grid's text with its length, and the length alone.
 -- Renders document 02, W-211: 23 before 9, what a call tells is 0 at a refusal, bytes past the text as before.
 use Prim.Native.Nat.{ℕ, zero, suc}

@@ -1,3 +1,4 @@
+-- Read this.
 -- The longest text: 180,322 bytes hold every one, so a caller can size the space once.
 -- Document 02, W-211. 16,384 cells at most, ten digits each and a space or a line feed behind, are 180,224 bytes; the header is 98 at most:
 -- 22 for each corner, 15 for the cell size, 19 for the mark of missing cells, and 20 for the extents, which have six digits together.

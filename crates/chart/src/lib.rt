@@ -7,7 +7,7 @@ ghost use Rattle.base.specs.Numbers.{firstOf};
 ghost use Rattle.chart.specs.grid_text.Text.{chartText};
 ghost use Rattle.chart.specs.Call.{measureLines, toldOf, lengthCall, written, writeCall};
 
-pub mod grid_text; // grid_text.rt: a grid's text for the charting desk (document 02, W-211), written to a lent space
+pub mod grid_text; // grid_text.rt: the text, row by row, put into a lent space; what falls past its end is counted alone
 
 // What a call tells: its number, and the text's length in bytes, 0 at a refusal.
 pub struct Told {

@@ -1,3 +1,4 @@
+-- Read this.
 -- What the second program computes of one source and one order: a run driven to its end, its grid collected, the sweep, their comparison.
 -- Renders document 01, "Recipes to be met": the second program's two sources, its two orders, `agree`, `differ` and `beyond`.
 use Prim.Native.Nat.{ℕ, _+_, _*_, _≤_}

@@ -1,3 +1,4 @@
+-- Read this.
 -- The second program's lines: for each source and order whether run and sweep agree; or `beyond`, or the refusal.
 -- Renders document 01, "Recipes to be met": what the second program prints; each word is spelled by its bytes.
 use Prim.Native.Nat.{ℕ, zero, suc, _*_, _≤_}

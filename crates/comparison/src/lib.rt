@@ -14,7 +14,7 @@ ghost use Rattle.comparison.specs.Agreement.{isBeyond, sourceOf, ran, ou
 ghost use Rattle.comparison.specs.Agreement.{ranAndCompared, Within};
 ghost use Rattle.comparison.specs.Lines.{verdictLine, agreesFor, fourLines, comparisonText};
 
-pub mod drive; // drive.rt: drives a run on the direct route to its end by the offered calls
+pub mod drive; // drive.rt: a run on the direct route, driven to its end by the offered calls
 
 // What the areas of a run are made of.
 pub struct Extent {

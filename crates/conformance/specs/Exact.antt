@@ -1,3 +1,4 @@
+-- Read this.
 -- Demand 2 to the letter, of a whole box: which cells a message holds, which messages there are, index order, the report's programs as loops.
 -- Renders document 002, sections 2 to 4; document 01, "Cells, tiles and boards", "Messages" and "The sweep"; requests W-204, W-205.
 use Prim.Native.Nat.{ℕ, _+_, _*_, _-_, _/_, _^_, _%_, _≤_, _<_, min, max}

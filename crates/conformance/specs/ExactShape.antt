@@ -1,3 +1,4 @@
+-- Read this.
 -- Demand 2 for a nest with bounds, on the direct route: its tiles, which cells a message holds, which messages there are, and the sweep's words.
 -- Renders document 02, W-209. Tile t has the number `boxTile x t` in the box; the column of t plus v are the tiles with its spread components.
 use Prim.Native.Nat.{ℕ, _+_, _≤_, _<_}

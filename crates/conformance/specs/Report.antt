@@ -1,3 +1,4 @@
+-- Read this.
 -- The report TR-CS-93-16 in its own terms, and what it is proved to say of our plan of a box. A vector is a function from the dimension; an
 -- m-vector is 0 from m on. Renders document 002, sections 2 to 4; document 01 cites it in "Messages".
 use Prim.Native.Nat.{ℕ, zero, suc, _+_, _*_, _-_, _≤_, _<_, min, max}

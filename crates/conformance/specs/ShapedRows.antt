@@ -1,3 +1,4 @@
+-- Read this.
 -- Small recipes with bounds, computed: what W-209 changes in tiles, messages and sweep.
 -- Renders document 02, W-209, on examples; the figures and messages are those of a model made of the request's words alone.
 use Prim.Native.Nat.{ℕ}

@@ -1,3 +1,4 @@
+-- Read this.
 -- The way of a cell of a direct set on the indirect route, hop by hop: what is proved of it.
 -- Renders request W-204's way of a message by spread dimensions, and W-205's count of hops.
 use Prim.Native.Nat.{ℕ, suc, _+_, _≤_, _<_}

@@ -1,2 +1,3 @@
-// Statements and theorems alone, no code: what the report says, and which messages and cells a plan has, in specs/, of the plans that the crate
-// plan defines; proved in proofs/.
+// What the papers say of the plans that crate `plan` defines: statements in specs/, proofs in proofs/, no code.
+// Report, Travels, Exact, ExactShape: the report's sets and programs, and exactly which cells and messages a plan has.
+// Rows, ShapedRows: document 01's rows A to H, the requests' rows and small recipes with bounds, computed by the checker.

@@ -1,3 +1,4 @@
+-- Read this.
 -- The offered calls, each from the recipe's bytes, the word that names its route and the lent areas: its number, and what is written.
 -- Renders document 01, "The machine" and "Numbers a call gives", W-204 and W-209: all lines in table order, the first true one counts.
 use Prim.Native.Nat.{ℕ, _*_}

@@ -1,3 +1,4 @@
+-- Read this.
 -- The three demands, for a recipe's bytes and a route, made of the definitions in Calls; each call's contract equates the call with them.
 -- Renders the customer's demands 1, 2 and 3, document 01's "Conditions of acceptance", W-204 and W-209; any word may name the route.
 use Prim.Native.Nat.{ℕ, _<_}
@@ -23,7 +24,8 @@ use Rattle.conformance.specs.Exact.{Exact, sequential, runNest}
 use Rattle.conformance.specs.ExactShape.{ExactShape, shapeOf}
 use Rattle.layout.specs.Sizes.{routeOf}
 use Rattle.recipe.specs.Routes.{linesFor}
-use Rattle.summary.specs.Summary.{figuresOf, noFigures, summaryOf, lineOf, noLine, messageLines, messageLineOf, directionOf, Directed, hopsLines, noHops, hopsOf}
+use Rattle.summary.specs.Summary.{figuresOf, noFigures, summaryOf, lineOf, noLine, messageLines, messageLineOf}
+use Rattle.summary.specs.Summary.{directionOf, Directed, hopsLines, noHops, hopsOf}
 use Rattle.engine.specs.Calls.{answer, recipe, freshCallLines, freshCall, turnCallLines, turnCall, deliverCallLines, deliverCall, collectCallLines}
 use Rattle.engine.specs.Calls.{collectCall, sweepCallLines, sweepCall}
 
@@ -34,7 +36,7 @@ pub record Fixed {A : Type 0} (call : Answered A) (lines : List Line) (done befo
   pub works : call .number ≡ 0 → call .after ≡ done
   pub refuses : call .number ≢ 0 → call .after ≡ before
 
--- demand 1: every call, on every recipe, lent area and event. Its weight lies in the contracts of src/lib.rt and of crates/table:
+-- demand 1: every call, on every recipe, lent area and event. Its weight lies in the contracts of src/lib.rt and of crates/summary:
 -- each equates what is answered, and every lent word at exit, with one of these definitions, for every input, and none has a
 -- `requires`; that a call ends, and does nothing undefined, the language asks of every function.
 pub record Demand1 (bytes : List ℕ) (route : ℕ) (source : List ℕ) (s : State) : Type 0 where

@@ -1,5 +1,6 @@
+-- For contracts below the calls: no reader needs it.
 -- What the code below the calls is given: areas of their lengths, a fit state, a processor.
--- No sentence of document 01; the contracts of the functions below the offered calls cite it.
+-- No sentence of document 01.
 use Prim.Native.Nat.{ℕ, _*_, _<_}
 use mathlib.Core.Path.{_≡_}
 use mathlib.Core.Bool.{true}

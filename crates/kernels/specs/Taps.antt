@@ -1,3 +1,4 @@
+-- For contracts below the calls: no reader needs it.
 -- Words made of taps: so many words of a memory, each a fixed way back from the cell, weighed and summed; the order of four rows side by side.
 -- No sentence of document 01; crates/values ties it to Geometry.
 use Prim.Native.Nat.{ℕ, zero, suc, _+_, _*_, _-_, _/_, _%_, _^_, _≤_, _<_}

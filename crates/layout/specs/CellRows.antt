@@ -1,5 +1,6 @@
+-- For contracts below the calls: no reader needs it.
 -- Rows: cells that differ in the last component alone.
--- No sentence of document 01: contracts of functions below the calls cite it.
+-- No sentence of document 01.
 use Prim.Native.Nat.{ℕ, _+_}
 use mathlib.Core.Path.{_≡_}
 use mathlib.Core.List.{List}

@@ -1,5 +1,6 @@
+-- For contracts below the calls: no reader needs it.
 -- What the functions below hand to each other: places as arrays of four, a processor's share of a dimension, the box of a tile's cells.
--- No sentence of document 01: contracts of functions below the calls cite it.
+-- No sentence of document 01.
 use Prim.Native.Nat.{ℕ, _+_, _*_, _-_, _/_, _%_, _≤_, _<_}
 use mathlib.Core.Path.{_≡_}
 use mathlib.Core.List.{List}

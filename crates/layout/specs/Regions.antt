@@ -1,5 +1,6 @@
+-- For contracts below the calls: no reader needs it.
 -- A slot's cells as those of one box of places that some distance puts into one window, a box too, on either route.
--- No sentence of document 01; contracts of code that counts, packs and unpacks parcels cite it.
+-- No sentence of document 01.
 use Prim.Native.Nat.{ℕ, _+_, _*_, _-_, min}
 use mathlib.Core.Bool.{Bool}
 use lib.Dec.{ltb, leb, eqb}

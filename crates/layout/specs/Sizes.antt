@@ -1,5 +1,6 @@
+-- Read `routeOf`; the rest is for contracts below the calls.
 -- What the code below the calls is given of a nest: its route and counts, made once in a call; the tiles at the ends of a slot, and the steps to them.
--- No sentence of document 01; the contracts of this crate and of those above cite it.
+-- No sentence of document 01.
 use Prim.Native.Nat.{ℕ, suc, zero, _+_, _%_, _<_}
 use mathlib.Core.Path.{_≡_}
 use mathlib.Core.List.{List}

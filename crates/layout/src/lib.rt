@@ -17,7 +17,7 @@ use crate::division::tile_along;
 use nest::Nest;
 use plan::Route;
 
-pub mod division; // division.rt: the one division of a component by a tile length, in 16-bit numbers (W-206), which small processors divide in short code
+pub mod division; // division.rt: a component divided by a tile length, in 16-bit numbers (W-206), the one such division
 
 // A nest's counts on a route, made once in a call: tiles along each dimension, the products, and the ways that a tile's messages go.
 pub struct Sizes {

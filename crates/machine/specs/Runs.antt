@@ -1,3 +1,4 @@
+-- Read this.
 -- Runs: events, their answers, the steps among them, what each step did; and demand 3, one claim about the whole list.
 -- Renders document 01, "Runs", and the customer's demand 3.
 use Prim.Native.Nat.{ℕ, _+_, _*_, _≤_, _<_}

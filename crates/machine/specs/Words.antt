@@ -1,3 +1,4 @@
+-- Read this.
 -- What each action writes and leaves, word by word, and what becomes of a message's words along a run.
 -- Renders document 01, "The machine", and the customer's demand 2: packing and unpacking move exactly the words named.
 use Prim.Native.Nat.{ℕ, _+_, _*_, _≤_, _<_}

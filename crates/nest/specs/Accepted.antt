@@ -1,5 +1,6 @@
--- What every accepted nest has, and all that the layers above use of it; contracts of functions below the calls cite it.
--- Follows from lines 2 to 8 of document 01, "Numbers a call gives", and 20 of document 02, W-209; nothing a reader must believe.
+-- For contracts below the calls: no reader needs it.
+-- What every accepted nest has, and all that the layers above use of it.
+-- Follows from lines 2 to 8 of document 01, "Numbers a call gives", and 20 of document 02, W-209.
 use Prim.Native.Nat.{ℕ, _≤_, _<_}
 use mathlib.Core.Path.{_≡_}
 use mathlib.Core.Bool.{true}

@@ -1,3 +1,4 @@
+-- Read this.
 -- A recipe's bytes from a nest's values: the records in order, each field at its place, zero elsewhere. Reader reads them back.
 -- Renders document 01, "The recipe", as the recipe writer of document 02, W-202, has to spell it; W-207's kind 4, W-209's kind 5.
 use Prim.Native.Nat.{ℕ, zero, suc, _+_, _/_, _%_}

@@ -1,3 +1,4 @@
+-- Read this.
 -- A nest: what its fields mean, and how many cells, tiles and processors its box has.
 -- Renders document 01, "The recipe" and "Cells, tiles and boards"; of document 02, W-203, W-205, and W-209's bounds.
 use Prim.Native.Nat.{ℕ, _+_, _*_, _-_, _/_}

@@ -1,3 +1,4 @@
+-- Read this.
 -- Cells and tiles of the box as numbers in index order, their places, and the tile of a cell.
 -- Renders document 01, "Cells, tiles and boards". A place is a function from the dimension to the component.
 use Prim.Native.Nat.{ℕ, zero, suc, _+_, _*_, _/_, _%_}

@@ -1,3 +1,4 @@
+-- Read this.
 -- A recipe's bytes: records and fields, the nest they give, the reader's lines, what reading answers.
 -- Renders document 01, "The recipe" and "Numbers a call gives", lines 1 to 8; of document 02, W-203, W-205, W-207, W-209.
 use Prim.Native.Nat.{ℕ, _+_, _*_, _-_, _/_, _%_}

@@ -1,3 +1,4 @@
+-- Read this.
 -- Document 01's recipes A to H as bytes, and one of request W-201's.
 -- Renders document 01, "Recipes to be met": the columns N, k, P and distances; weights 1, shift 0, shore 0.
 use Prim.Native.Nat.{ℕ}

@@ -1,3 +1,4 @@
+-- Read this.
 -- The shape of a nest: the cells of the box that every bound leaves, and the tiles of the box that hold one.
 -- Renders document 02, W-209: the component is at least, or at most, slope × the earlier component + offset; tiles that hold a cell.
 use Prim.Native.Nat.{ℕ, _+_, _*_}

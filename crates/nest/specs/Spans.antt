@@ -1,5 +1,6 @@
+-- For contracts below the calls: no reader needs it.
 -- A row: the cells of the box that differ in the last dimension alone. The shape cuts each row to one span; code goes by rows.
--- Serves document 02, W-209; which cells are in the shape, Shape says. Nothing here that a reader must believe.
+-- Serves document 02, W-209; which cells are in the shape, Shape says.
 use Prim.Native.Nat.{ℕ, _+_, _*_, _-_, _≤_, _<_}
 use mathlib.Core.Path.{_≡_}
 use mathlib.Core.Logic.{_⊎_}

@@ -1,3 +1,4 @@
+-- Read this.
 -- Processors that share no memory: each has all four areas to itself, and a transport carries a message's words to its taker's areas.
 -- Renders document 01, "The machine", "Runs" and the customer's demand 3, for them: answers and grid are those of the machine on shared areas.
 use Prim.Native.Nat.{ℕ, zero, suc, _*_, _≤_, _<_}

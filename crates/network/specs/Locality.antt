@@ -1,3 +1,4 @@
+-- Read this.
 -- Locality: what a turn of one processor writes, and what it reads; nothing of another processor's, but for line 10, which looks at all records and marks.
 -- Renders document 01, "The machine": a processor works on its own memory and record, and on the messages of the tile at which it stands.
 use Prim.Native.Nat.{ℕ, _*_, _<_}

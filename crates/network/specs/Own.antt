@@ -1,3 +1,4 @@
+-- Read this.
 -- One processor's own part, lent alone: the words of the cells that it keeps, its record, the words and marks of the messages that it handles.
 -- Renders document 01, "The machine", for a processor with memory for nothing else; what its turn is, in terms of the machine.
 use Prim.Native.Nat.{ℕ, _*_, _<_}

@@ -1,3 +1,4 @@
+-- Read this.
 -- Runs of processors that each have their own part alone: the same answers, the same packets, and each has its part.
 -- Renders document 01, "Runs", for boards whose memory grows with their own cells.
 use Prim.Native.Nat.{ℕ, _<_}

@@ -1,3 +1,4 @@
+-- Read this.
 -- Delivery as two events: a message is posted at its sender's and arrives at its taker's, or it does so late, again, out of order, or never.
 -- Renders document 01, "The machine" and "Runs", for processors that share no memory and a transport of which nothing is promised.
 use Prim.Native.Nat.{ℕ, _+_, _≤_, _<_}

@@ -1,3 +1,4 @@
+-- Read this.
 -- What carrying a message is in the machine's own calls, so that a transport has only words and a status to copy: the sender's side is the
 -- machine's delivery on the sender's areas, the taker's side is that same call once the message's words and its status 1 were copied there.
 use Prim.Native.Nat.{ℕ}

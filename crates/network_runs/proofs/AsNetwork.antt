@@ -1,4 +1,4 @@
--- The calls on the processors' own areas answer, event by event, as crate apart's processors on the recipe's plan, while these agree with the machine.
+-- The calls on the processors' own areas answer, event by event, as crate network's processors on the recipe's plan, while these agree with the machine.
 use Prim.Native.Nat.{ℕ, _+_, _≤_, _<_}
 use mathlib.Core.Path.{_≡_, refl, sym, ap, _∙_, fun-ext}
 use mathlib.Core.Logic.{_≢_}

@@ -1,4 +1,4 @@
--- The calls on areas that no two processors share have what crate apart proves; messages go to other processors, indirect to the next; a turn is local.
+-- The calls on areas that no two processors share have what crate network proves; messages go to other processors, indirect to the next; a turn is local.
 use Prim.Native.Nat.{ℕ, _<_}
 use mathlib.Core.Path.{_≡_, refl, ap, _∙_}
 use mathlib.Core.Logic.{_≢_}

@@ -1,3 +1,4 @@
+-- Read this.
 -- Processors that share no memory, by the calls themselves: each is lent its own source and its own four areas, and every call is on one processor's.
 -- Renders document 01, "The machine" and "Runs", for them. Each call's contract equates the call with a definition used here.
 use Prim.Native.Nat.{ℕ}

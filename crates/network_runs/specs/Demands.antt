@@ -1,3 +1,4 @@
+-- Read this.
 -- Processors that share no memory, for a recipe's bytes and a route, over the calls themselves; which of them talk; and what a turn reads and writes.
 -- Renders the customer's demand 3 for them, made of the definitions in Calls; any word may name the route.
 use Prim.Native.Nat.{ℕ, _<_}

@@ -1,3 +1,4 @@
+-- Read this.
 -- On the indirect route a message goes one step along one spread dimension, round the end; on either route it goes to another processor.
 -- Renders requests W-204 and W-205. A processor's place has a component for each spread dimension, below the count there.
 use Prim.Native.Nat.{ℕ, _+_, _%_, _<_}

@@ -1,5 +1,6 @@
+-- For contracts below the calls: no reader needs it.
 -- A slot's cells by the rows of its box: box and window on either route, what is found of them once, and what of a row.
--- No sentence of document 01: contracts of functions below the calls cite it.
+-- No sentence of document 01.
 use Prim.Native.Nat.{ℕ, _+_, _*_, _-_, _%_, _≤_, _<_}
 use mathlib.Core.Path.{_≡_}
 use mathlib.Core.Bool.{Bool, true, false}

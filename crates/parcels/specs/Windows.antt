@@ -1,5 +1,6 @@
+-- For contracts below the calls: no reader needs it.
 -- Rows of a box: where in a row a distance puts cells into the window, how many rows are alike, and which cells of a row are packed.
--- No sentence of document 01: contracts of functions below the calls cite it.
+-- No sentence of document 01.
 use Prim.Native.Nat.{ℕ, _+_, _-_, _≤_, _<_}
 use mathlib.Core.Path.{_≡_}
 use mathlib.Core.Bool.{Bool}

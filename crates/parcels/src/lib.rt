@@ -18,7 +18,7 @@ use layout::Sizes;
 use nest::Nest;
 use plan::Route;
 
-pub mod shaped; // shaped.rt: nests with bounds, by rows and spans
+pub mod shaped; // shaped.rt: the same of nests with bounds, by rows and spans
 
 // A box of places, from its first one with its lengths.
 pub struct Block {

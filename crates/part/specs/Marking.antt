@@ -1,5 +1,6 @@
+-- For contracts below the calls: no reader needs it.
 -- What the code that marks cells and counts messages goes by: rows of the box, rows that lie in the same tiles, the processors at a slot's ends.
--- No sentence of document 01; the contracts of this crate cite it.
+-- No sentence of document 01.
 use Prim.Native.Nat.{ℕ, _+_, _*_, _-_, _/_, _%_, _≤_, _<_}
 use mathlib.Core.Path.{_≡_}
 use mathlib.Core.Logic.{_⊎_}

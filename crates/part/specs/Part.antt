@@ -1,5 +1,6 @@
+-- Read this; `Listed` alone is for contracts below the calls.
 -- One processor's own part as it is lent: the words of its kept cells, its mail, the three words of its record, its marks; and how long each is.
--- Renders document 01, "The machine", for a board with memory for nothing else; what the part is of the machine's areas says apart/specs/Own.
+-- Renders document 01, "The machine", for a board with memory for nothing else; what the part is of the machine's areas says network/specs/Own.
 use Prim.Native.Nat.{ℕ, _+_, _≤_, _<_}
 use mathlib.Core.Path.{_≡_}
 use mathlib.Core.Bool.{Bool, true}

@@ -31,7 +31,7 @@ use tables::held::cells_of;
 use tables::scans::Place;
 use tables::tiles_of;
 
-pub mod marks; // marks.rt: what one byte tells of a message
+pub mod marks; // marks.rt: what one byte tells of a message: whose ends it has, and how far it is
 
 // ---- cells
 

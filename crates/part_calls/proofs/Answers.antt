@@ -44,8 +44,8 @@ use Rattle.part_calls.specs.front.Given.{PartLengths}
 use Rattle.part_calls.proofs.front.Part.{words-room}
 use Rattle.part_calls.proofs.front.Front.{unfit-none}
 use Rattle.part_calls.proofs.front.Answers.{closed, opened}
-use Rattle.part_calls.proofs.front.Wide.{fits-are, handled-low, part-zeros, zeros-at, zero-memory, state-is, narrow-is, wide-memory, words-back, wide-mail}
-use Rattle.part_calls.proofs.front.Wide.{wide-finished, wide-stage, wide-sent, mark-at, mark-set, words-put, mark-none, three}
+use Rattle.part_calls.proofs.front.Wide.{fits-are, handled-low, part-zeros, zeros-at, zero-memory, state-is, narrow-is, wide-memory}
+use Rattle.part_calls.proofs.front.Wide.{words-back, wide-mail, wide-finished, wide-stage, wide-sent, mark-at, mark-set, words-put, mark-none, three}
 
 -- ---- past the first lines
 

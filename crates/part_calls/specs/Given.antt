@@ -1,5 +1,6 @@
+-- For contracts below the calls: no reader needs it.
 -- What the code below the calls for one processor gives past their first lines: a fresh start, a message handed over or arrived, cells collected, rows.
--- No sentence of document 01; the contracts of the functions below the offered calls cite it.
+-- No sentence of document 01.
 use Prim.Native.Nat.{ℕ, _*_, _≤_, _<_}
 use mathlib.Core.Path.{_≡_}
 use mathlib.Core.Bool.{true}

@@ -1,3 +1,4 @@
+-- Read this.
 -- Row D of document 01's table by the calls for one processor, computed: how long the areas are, a message's row, and the second processor's two turns.
 -- Renders "Recipes to be met" and "The machine" for a board that is lent its own part alone.
 use mathlib.Core.Path.{_≡_}

@@ -1,6 +1,6 @@
-// The calls for one processor that is lent its own part alone, for programs that keep its record as words: the lengths of its areas, its messages, a fresh
-// start, a message handed over, a message that arrives, and its cells' words for the grid; a turn is crate own_turn's. The route is a word, 0 direct, any
-// other indirect.
+// The calls for one processor that is lent its own part alone, for programs that keep its record as words: the lengths of its areas,
+// its messages, a fresh start, a message handed over, a message that arrives, and its cells' words for the grid; a turn is in `turn`.
+// The route is a word, 0 direct, any other indirect.
 ghost use mathlib.Core.Path.{_≡_};
 ghost use mathlib.Core.List.{[]};
 ghost use Rattle.machine.specs.Machine.{stateOf};
@@ -8,11 +8,11 @@ ghost use Rattle.engine.specs.Calls.{answer};
 ghost use Rattle.part_calls.specs.front.Calls.{ownSizesCall, ownMessagesCall, ownFreshCall, ownPostCall, ownArriveCall, ownCollectCall};
 
 pub mod core; // core.rt: the calls without the form of the record
-pub mod grid; // grid.rt: its cells into the grid
+pub mod grid; // grid.rt: its cells' words into the grid
 pub mod listing; // listing.rt: the rows of its messages
-pub mod front; // front.rt: what the calls for one processor that is lent its own part alone share
-pub mod tile; // tile.rt: a tile calculated in its processor's own part, where the words of kept cells alone stand, one after the other
-pub mod turn; // turn.rt: a turn of the processor on its part
+pub mod front; // front.rt: what the calls share: first lines, what is found once in a call, lines 9 and 10
+pub mod tile; // tile.rt: a tile calculated in the part, where words of kept cells alone stand
+pub mod turn; // turn.rt: a turn on the part
 
 use records::flat_of;
 

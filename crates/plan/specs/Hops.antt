@@ -1,3 +1,4 @@
+-- Read this.
 -- The hops of a message on the indirect route: along which dimensions, how many, and the tile to which it has come.
 -- Renders request W-204's way of a message by spread dimensions, and W-205's count of hops.
 use Prim.Native.Nat.{ℕ, _+_}

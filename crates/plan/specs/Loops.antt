@@ -1,3 +1,4 @@
+-- Read this.
 -- The report's allocation of tiles to processors, and its loops: the indices in the order in which they meet them.
 -- Renders document 002, section 2 with Figure 4; a vector is a function from the dimension.
 use Prim.Native.Nat.{ℕ, zero, suc, _+_, _-_, _/_, _%_}

@@ -1,3 +1,4 @@
+-- Read this.
 -- The exact cells of each message on either route, the messages in order, and the plan of a nest. Renders document 01, "Messages"; W-204; W-205.
 -- A slot is a tile with a direction or, indirect, a spread dimension; a slot that holds a cell for another processor is a message.
 use Prim.Native.Nat.{ℕ, zero, suc, _+_, _*_, _-_, _/_, _%_}

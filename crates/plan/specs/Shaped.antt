@@ -1,3 +1,4 @@
+-- Read this.
 -- A nest with bounds on the direct route: its tiles' numbers and cells, the sweep and the messages; and the plan of any nest on either route.
 -- Renders document 02, W-209. `boxTile` leads from a tile's number to its number in the box, of which the box's definitions speak.
 use Prim.Native.Nat.{ℕ, _+_, _*_, _/_, _%_, _^_}

@@ -1,3 +1,4 @@
+-- Read this.
 -- The plan printer's text: a line of figures and one line a message, or the refusal.
 -- Renders document 01, "Recipes to be met": what the plan printer writes; each word is spelled by its bytes.
 use Prim.Native.Nat.{ℕ, zero, suc}

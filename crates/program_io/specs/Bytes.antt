@@ -1,3 +1,4 @@
+-- For contracts of the case programs: no reader needs it.
 -- A number that the case programs' scripts hold in four bytes, least first.
 -- Renders tools/README.md, the records of a script.
 use Prim.Native.Nat.{ℕ, _+_, _*_}

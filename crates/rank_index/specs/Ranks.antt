@@ -1,3 +1,4 @@
+-- For contracts below the calls: no reader needs it.
 -- Cells marked by bytes: the marked ones, the rank of a cell among them, a memory of all cells that has a word for each, and ranks counted by blocks.
 -- No sentence of document 01: what stands for a processor's kept cells is told by one byte a cell.
 use Prim.Native.Nat.{ℕ, _*_, _≤_}

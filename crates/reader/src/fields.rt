@@ -1,5 +1,5 @@
 // A recipe's bytes: its fields, what lines 1 and 2 of document 01's table test of them, and the values that a nest is made of (those of a distance:
-// crate `distance_fields`).
+// `distance_fields`).
 ghost use mathlib.Core.Path.{_≡_};
 ghost use mathlib.Core.Bool.{false};
 ghost use Prim.Native.Nat.{ℕ, _+_, _*_, _-_, _/_, _<_, _≤_};

@@ -1,5 +1,5 @@
 // The reader: a recipe's bytes to a nest by value, or the number of the first line of document 01's table that refuses it.
-// `read` takes any bytes. Lines 1, 2 and 18 test the bytes (crates `fields`, `distance_fields`), the others the nest made of them (5 and 6: crate `distances`).
+// `read` takes any bytes. Lines 1, 2 and 18 test the bytes (`fields`, `distance_fields`), the others the nest made of them (5 and 6: `distances`).
 ghost use mathlib.Core.Path.{_≡_};
 ghost use mathlib.Core.List.{[]};
 ghost use Prim.Native.Nat.{ℕ, _+_, _*_, _<_, _≤_};
@@ -38,9 +38,9 @@ use nest::row_count;
 use nest::row_place;
 use nest::span;
 
-pub mod distance_fields; // distance_fields.rt: a distance's record
-pub mod fields; // fields.rt: a recipe's bytes
-pub mod distances; // distances.rt: what lines 5 and 6 of document 01's table test of a nest
+pub mod distance_fields; // distance_fields.rt: a distance's record of either kind, and line 18
+pub mod fields; // fields.rt: the other records' fields, and lines 1 and 2
+pub mod distances; // distances.rt: lines 5 and 6: distances, and tile lengths against them
 
 // What is read where nothing is accepted.
 pub fn no_nest() -> Nest

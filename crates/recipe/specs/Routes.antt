@@ -1,3 +1,4 @@
+-- Read this.
 -- The lines that come first in a call that is given a route: the reader's, then 21; and what reading a recipe for a route answers.
 -- Renders document 02, W-209: a recipe with bounds, even such as cut nothing, is turned away where indirect passing is wanted, after 8.
 use Prim.Native.Nat.{ℕ}

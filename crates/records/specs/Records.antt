@@ -1,3 +1,4 @@
+-- Read this.
 -- The words of the processors' records, three a record, and the stores into a slice of records.
 -- Renders document 01, "The machine": the board records.
 use Prim.Native.Nat.{ℕ, zero, suc, _+_, _*_, _≤_}

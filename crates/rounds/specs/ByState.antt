@@ -1,3 +1,4 @@
+-- For contracts below the calls: no reader needs it.
 -- A round as one change of the lent areas after another, each tile whole: what code does, without the tests that every call makes anew.
 -- No sentence of document 02; the contracts of the code of a round cite it, and proofs/ByState proves that it is what a round's events do.
 use Prim.Native.Nat.{ℕ, zero, suc, _*_, _<_}

@@ -1,5 +1,6 @@
+-- For contracts below the calls: no reader needs it.
 -- Runs of a row: for each distance the last components from one number on, below another; the cells of a row in one of them, packed and unpacked.
--- No sentence of document 02: contracts of functions below the calls cite it.
+-- No sentence of document 02.
 use Prim.Native.Nat.{ℕ, zero, suc, _+_, _-_, _≤_, _<_}
 use mathlib.Core.Path.{_≡_}
 use mathlib.Core.Logic.{_⊎_}

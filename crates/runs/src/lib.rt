@@ -5,8 +5,8 @@ ghost use Prim.Native.Nat.{ℕ, _+_, _≤_, _<_};
 ghost use lib.ListN.{length};
 ghost use Rattle.runs.specs.Runs.{hitRow, AheadIs, PieceIs};
 
-pub mod row_words; // row_words.rt: the words of a row's cells that lie in a run, packed and unpacked, piece by piece
-pub mod listed; // listed.rt: cells side by side, listed by their numbers
+pub mod row_words; // row_words.rt: the words of a row's cells that lie in a run, packed and unpacked piece by piece
+pub mod listed; // listed.rt: cells side by side as a list of their numbers
 
 // What lies ahead in a row: where the runs that have begun end, and where the next one begins.
 struct Ahead {

@@ -1,3 +1,4 @@
+-- Read this.
 -- The calls by rounds, from the recipe's bytes and the lent areas: the driver, and each tile's round.
 -- Renders document 02, W-213: the driver has a fresh start's lines, on the direct route, and goes on by rounds to the run's end.
 use Prim.Native.Nat.{ℕ}

@@ -1,3 +1,4 @@
+-- Read this.
 -- What is demanded of the calls by rounds, for a recipe's bytes: made of the definitions in Calls, which the calls' contracts equate them with.
 -- Renders document 02, W-213: which round a tile has, that the driver ends in the greatest, and that no plan of whole tiles ends sooner.
 use Prim.Native.Nat.{ℕ, _<_}

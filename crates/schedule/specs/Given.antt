@@ -1,5 +1,6 @@
+-- For contracts below the calls: no reader needs it.
 -- What the code of a round is given: the nest's table, its messages listed and chained; and what a tile leaves.
--- No sentence of document 02; the contracts of the functions below the offered calls cite it.
+-- No sentence of document 02.
 use Prim.Native.Nat.{ℕ, _≤_, _<_}
 use mathlib.Core.Path.{_≡_}
 use mathlib.Core.List.{List, [], _∷_, map}

@@ -1,5 +1,6 @@
+-- For contracts below the calls: no reader needs it.
 -- The messages of a plan listed by number, and chained by the tile at an end of each.
--- No sentence of document 02; the contracts of the functions below the offered calls cite it.
+-- No sentence of document 02.
 use Prim.Native.Nat.{ℕ, suc, _+_, _≤_, _<_}
 use mathlib.Core.Path.{_≡_}
 use mathlib.Core.List.{List}

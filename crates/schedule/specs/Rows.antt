@@ -1,3 +1,4 @@
+-- Read this.
 -- Rows of document 01's table by rounds: each tile's round, and how many rounds there are.
 -- Renders document 02, W-213: the rounds of row A; row B's are read off its two messages.
 use Prim.Native.Nat.{ℕ}

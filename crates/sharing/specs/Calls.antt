@@ -1,3 +1,4 @@
+-- Read this.
 -- The calls for an office, each from the recipe's bytes, the word that names its route and what is lent: its number, and what is written.
 -- Renders request W-208, and W-209's line 21: all lines in table order: line 9 covers all that is lent, then the office's number, then the machine's lines.
 use Prim.Native.Nat.{ℕ, _*_}

@@ -1,3 +1,4 @@
+-- Read this.
 -- Request W-208 for a recipe's bytes and a route, made of the definitions in Calls; each call's contract equates the call with them.
 -- Renders its claims: every call is fixed; each office's run is counted apart; progress; nothing but the numbers tells one of the other.
 use Prim.Native.Nat.{ℕ, _≤_}

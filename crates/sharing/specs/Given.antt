@@ -1,5 +1,6 @@
+-- For contracts below the calls: no reader needs it.
 -- What the code below the calls for an office is given: an opened recipe, lengths, lines 9 to 10; and the shared words after a turn.
--- No sentence of a paper; the contracts of the functions below the offered calls cite it.
+-- No sentence of a paper.
 use Prim.Native.Nat.{ℕ, _*_}
 use mathlib.Core.Path.{_≡_}
 use mathlib.Core.List.{List, [], _∷_, _++_}

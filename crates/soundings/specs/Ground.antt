@@ -1,3 +1,4 @@
+-- Read this.
 -- What W-210 claims of a filled source: each word has a record of the file, or the caller's value, as its ground.
 -- Renders document 02, W-210, its sentences on which record counts and on the ground.
 use Prim.Native.Nat.{ℕ, _<_}

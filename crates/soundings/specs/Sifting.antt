@@ -1,5 +1,6 @@
+-- For contracts below the calls: no reader needs it.
 -- What the code keeps of each cell while it goes through a file: survey number, day and depth of the record that counts so far.
--- No sentence of a request; the contracts of this crate's functions cite it.
+-- No sentence of a request.
 use Prim.Native.Nat.{ℕ, _+_, _*_, _≤_, _<_}
 use mathlib.Core.Path.{_≡_}
 use mathlib.Core.List.{List}

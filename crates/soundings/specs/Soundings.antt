@@ -1,3 +1,4 @@
+-- Read this.
 -- A source filled from soundings: a file's records, which of them counts for a cell, its word, and what the call answers.
 -- Renders document 02, W-210; the source is the paper's bed.
 use Prim.Native.Nat.{ℕ, zero, suc, _+_, _*_, _%_}

@@ -12,7 +12,7 @@ ghost use Rattle.nest.specs.Reader.{records, half, word};
 ghost use Rattle.soundings.specs.Soundings.{cellOf, soundedSource, raggedFile, offBox, filled, fillCall};
 ghost use Rattle.soundings.specs.Sifting.{depthIn, Zeros, Blank, Sifted, Noted};
 
-pub mod surveys; // surveys.rt: which of a cell's records counts, and whether a record's cell is one of the box (W-210)
+pub mod surveys; // surveys.rt: which of a cell's records counts, and whether a record's cell is in the box
 
 // The number of two bytes, and of four.
 fn half_at(file: &[u8], at: usize) -> u32

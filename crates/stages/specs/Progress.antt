@@ -1,5 +1,6 @@
+-- For contracts below the calls: no reader needs it.
 -- A state of which only the processors' records are looked at.
--- No sentence of document 01; the contracts of the functions that are lent the records alone cite it.
+-- No sentence of document 01.
 use Prim.Native.Nat.{ℕ}
 use mathlib.Core.List.{List, []}
 use Rattle.machine.specs.Machine.{State, stateOf, setProgress}

@@ -1,3 +1,4 @@
+-- Read this.
 -- What the calls about a plan answer: its figures, the line of one message, its hops; all 0 beside the number at a refusal.
 -- Renders document 01, "Recipes to be met": the columns of its table and the plan printer's lines; W-204's hops; W-209.
 use Prim.Native.Nat.{ℕ, zero, suc, _-_}

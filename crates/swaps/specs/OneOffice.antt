@@ -1,3 +1,4 @@
+-- Read this.
 -- Request W-214 for one office: which two events are different, and the claims about every run from one start.
 -- proofs/ proves them for every sound plan and source, and for any calls that answer like the machine but may refuse more.
 use mathlib.Core.Logic.{_≢_}

@@ -1,3 +1,4 @@
+-- Read this.
 -- Request W-214 for a rig of two offices: which two calls the claim speaks of, and what is true of two gathers on one processor.
 -- proofs/ proves the claims for every sound plan and all sources, and for any calls that answer like the rig but may refuse more.
 use Prim.Native.Nat.{ℕ}

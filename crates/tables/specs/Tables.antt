@@ -1,5 +1,6 @@
+-- For contracts below the calls: no reader needs it.
 -- The table of a nest, without bounds or with them, and where a message of its plan is found by it.
--- No sentence of document 02; the contracts of this crate and of those above cite it.
+-- No sentence of document 02.
 use Prim.Native.Nat.{ℕ, _+_, _≤_, _<_}
 use mathlib.Core.Path.{_≡_}
 use mathlib.Core.Logic.{_≢_}

@@ -1,5 +1,5 @@
-// The table of a nest, where box and shape meet: each function does what a nest without bounds, or one with bounds, asks for, and its
-// contract speaks of the nest's plan.
+// The table of a nest: the length of each message, found once in a call, and all that is told of messages by it.
+// Here box and shape meet: a function looks at the number of bounds once, and its contract speaks of the nest's plan.
 ghost use mathlib.Core.Path.{_≡_};
 ghost use Prim.Native.Nat.{ℕ, _≤_, _<_};
 ghost use lib.ListN.{length, getD};
@@ -15,9 +15,9 @@ use crate::scans::Total;
 use layout::Sizes;
 use nest::Nest;
 
-pub mod scans; // scans.rt: scans of a table of parcel lengths by slot
-pub mod boxes; // boxes.rt: the table of message lengths of a nest without bounds, filled once in a call
-pub mod shaped_table; // shaped_table.rt: the table of a nest with bounds, filled once in a call
+pub mod scans; // scans.rt: numbers, offsets and totals of messages by a table of lengths, whatever the slots hold
+pub mod boxes; // boxes.rt: the table of a nest without bounds
+pub mod shaped_table; // shaped_table.rt: the table of a nest with bounds
 pub mod held; // held.rt: the cells of a message, listed in the order of its words
 
 // The length of each slot's parcel and, with bounds, what else is found once.

@@ -1,3 +1,4 @@
+-- Read this.
 -- The text of a grid for the charting desk: six lines of names and numbers, then the rows, first row first.
 -- Renders document 02, W-211; each name is spelled by its bytes.
 use Prim.Native.Nat.{ℕ, zero, suc, _+_}

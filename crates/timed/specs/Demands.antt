@@ -1,3 +1,4 @@
+-- Read this.
 -- Request W-212 for a recipe's bytes and a route, made of the definitions in Calls; each call's contract equates the call with them.
 -- Renders its claims: every call is fixed; demand 3 of runs with hours, for one office and for two; what is told of opening.
 use Prim.Native.Nat.{ℕ, _≤_}

@@ -1,5 +1,6 @@
+-- For contracts below the calls: no reader needs it.
 -- What the code below the calls with hours is given: lines 25, 11 and 24, which both turns share, and each turn's lines up to the machine's.
--- No sentence of a paper; the contracts of the functions below the offered calls cite it.
+-- No sentence of a paper.
 use Prim.Native.Nat.{ℕ}
 use mathlib.Core.List.{List, [], _∷_, _++_}
 use lib.Dec.{ltb, leb}

@@ -1,4 +1,4 @@
-// The calls with hours, each by the first true line, but for the stores into the records, as in engine's `core` and rig's: the records
+// The calls with hours, each by the first true line, but for the stores into the records, as in engine's `core` and sharing's: the records
 // are read as words, and a turn gives its number and the record to be stored.
 ghost use mathlib.Core.Path.{_≡_};
 ghost use mathlib.Core.List.{List};

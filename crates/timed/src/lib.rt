@@ -9,7 +9,7 @@ ghost use Rattle.engine.specs.Calls.{answer};
 ghost use Rattle.timed.specs.Calls.{turnCallAt, turnCallAtFor, opensCall};
 
 pub mod core; // core.rt: the calls without the stores into the records
-pub mod windows; // windows.rt: code of the hours when processors may run (W-212)
+pub mod windows; // windows.rt: code of the hours (W-212): faulty windows, open at a minute, minutes until a processor opens
 
 use crate::windows::minutes;
 use calendar::Opening;

@@ -1,3 +1,4 @@
+-- Read this.
 -- What a transport asks of the engine where boards share no memory: all messages, the processor of each cell, what a processor waits for, and
 -- taking a message in. Renders document 01, "Messages", "Cells, tiles and boards", "The machine" and "Numbers a call gives", W-204 and W-209.
 use Prim.Native.Nat.{ℕ, zero, suc, _*_}

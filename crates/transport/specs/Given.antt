@@ -1,5 +1,6 @@
+-- For contracts below the calls: no reader needs it.
 -- What the code below the calls is given and gives: the nest's table, areas of their lengths, answers past the first lines.
--- No sentence of document 01; the contracts of the functions below the offered calls cite it.
+-- No sentence of document 01.
 use Prim.Native.Nat.{ℕ, _*_, _<_}
 use mathlib.Core.Path.{_≡_}
 use mathlib.Core.List.{List, [], _∷_}

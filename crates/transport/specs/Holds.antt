@@ -1,3 +1,4 @@
+-- Read this.
 -- What the definitions of the calls say together: a message has its row, it is waited for exactly where a turn waits, and taking it in is the
 -- arrival of a packet in the theorem about processors that share no memory. Renders document 01, "The machine", lines 11, 12 and 14.
 use Prim.Native.Nat.{ℕ, _*_, _<_}

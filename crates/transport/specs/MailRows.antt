@@ -1,3 +1,4 @@
+-- Read this.
 -- Rows of document 01's table, and a small recipe with a bound, by the calls for a transport, computed: messages' rows, cells' processors, and
 -- what is waited for at the start. Renders "Recipes to be met": row B's messages are those of the plan printer, with their places.
 use mathlib.Core.Path.{_≡_}

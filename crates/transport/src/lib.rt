@@ -7,7 +7,7 @@ ghost use Rattle.engine.specs.Calls.{answer};
 ghost use Rattle.transport.specs.Calls.{messagesCall, ownersCall, waitsOf, awaitedCall, takeInCall};
 
 pub mod core; // core.rt: the work of the calls, and those that are lent records without their form
-pub mod arrivals; // arrivals.rt: a message that arrives at its taker's
+pub mod arrivals; // arrivals.rt: a message at its taker's: its words into their place, and its mark
 
 use layout::route_of;
 use layout::sizes_of;

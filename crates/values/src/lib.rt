@@ -1,4 +1,4 @@
-// Values in code: the rows of a box of cells, a tile, and the sequential sweep of the whole grid.
+// Values in code: a tile and the sequential sweep of the whole grid, by the rows of a box of cells.
 ghost use mathlib.Core.Path.{_≡_};
 ghost use Prim.Native.Nat.{_*_, _-_, _≤_, _<_};
 ghost use lib.ListN.{length, getD};
@@ -27,9 +27,9 @@ use crate::row_values::margins_of;
 use layout::Sizes;
 use nest::Nest;
 
-pub mod intervals; // intervals.rt: numbers from one on, below another
-pub mod row_values; // row_values.rt: rows in code
-pub mod shaped_values; // shaped_values.rt: values of a nest with bounds
+pub mod intervals; // intervals.rt: numbers from one on, below another: where in a row a distance reads
+pub mod row_values; // row_values.rt: the rows of a box of cells, one by one or four side by side
+pub mod shaped_values; // shaped_values.rt: a tile, the sweep and collecting of a nest with bounds
 
 // How many times four rows are taken: none in rows too short for it, nor where no distance reads the row itself, so that no
 // cell waits for another.

@@ -1,3 +1,4 @@
+-- Read this with docs/MODELLERS.md.
 -- A worked recipe: its bytes, and what a modeller expects of it, to be computed by the checker from the definitions.
 -- Document 01's "Recipes to be met" has eight such rows; this is how to add one's own. N 6,5, k 3,2, P 2,0, three distances.
 use Prim.Native.Nat.{ℕ, _+_}

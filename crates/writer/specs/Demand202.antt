@@ -1,3 +1,4 @@
+-- Read this.
 -- What W-202 demands of writing, sentence by sentence, from fields and from a nest by value; and demand 1 for it.
 -- Renders document 02, W-202 and the sentences of W-207 and W-209 on the writer, and document 01, "Numbers a call gives".
 use Prim.Native.Nat.{ℕ, _+_, _≤_, _<_}

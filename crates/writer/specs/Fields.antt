@@ -1,3 +1,4 @@
+-- Read this.
 -- A recipe's fields as an office holds them, one list a field: the nest they make, and the fields that a nest holds.
 -- Renders document 02, W-202: "the dimensions, distances, weights, shift and shore value", and W-209's bounds.
 use Prim.Native.Nat.{ℕ, _+_, _*_, _%_, _≤_, _<_}

@@ -1,3 +1,4 @@
+-- Read this.
 -- What writing answers: its number, and the lent space after it; from a nest by value, and from fields.
 -- Renders document 02, W-202: the number the reader would give for the values, then 9.
 use Prim.Native.Nat.{ℕ, _*_}

@@ -13,8 +13,8 @@ ghost use Rattle.nest.specs.Encode.{encode};
 ghost use Rattle.writer.specs.Fields.{fields, counted, bounds, agree, nestFrom};
 ghost use Rattle.writer.specs.Writing.{written, fitsIn, fits, boundsFit, writeNestCall, writeCall};
 
-mod nest_records; // nest_records.rt: a nest's records, sixteen bytes each
-pub mod spelling; // spelling.rt: the sixteen bytes of each record of a recipe, from its numbers
+mod nest_records; // nest_records.rt: the records of a nest, each spelled from its numbers
+pub mod spelling; // spelling.rt: the sixteen bytes of each kind of record
 
 use nest_records::record_of;
 use nest_records::wide;

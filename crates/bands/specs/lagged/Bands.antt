@@ -1,5 +1,6 @@
+-- For contracts below the calls: no reader needs it.
 -- Rows of a nest by their first cells: where the distances read in them, four of them of the same columns, and their cells.
--- No sentence of document 01: contracts of functions below the calls cite it.
+-- No sentence of document 01.
 use Prim.Native.Nat.{ℕ, zero, suc, _+_, _-_, _≤_, _<_}
 use mathlib.Core.Path.{_≡_}
 use mathlib.Core.Bool.{true}

@@ -1,5 +1,6 @@
+-- For contracts below the calls: no reader needs it.
 -- How code goes through the shape: row by row, an interval of cell numbers for each.
--- Serves document 02, W-211; which cells are in the shape, nest's Shape says. Nothing here that a reader must believe.
+-- Serves document 02, W-211; which cells are in the shape, nest's Shape says.
 use Prim.Native.Nat.{ℕ, _+_, _*_, _≤_, _<_}
 use mathlib.Core.Path.{_≡_}
 use Rattle.nest.specs.declared.Nest.{Nest}

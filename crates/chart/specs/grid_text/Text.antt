@@ -1,3 +1,4 @@
+-- Read this.
 -- The text of a nest's grid for the charting desk: its rows and columns are the nest's, and it marks the cells outside the nest's shape.
 -- Renders document 02, W-211, over the text of any grid (crates/text/specs/Grid).
 use Prim.Native.Nat.{ℕ}

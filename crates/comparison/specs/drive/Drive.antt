@@ -1,3 +1,4 @@
+-- Read this.
 -- The events of a drive: a turn of each processor in the order; where none gave 0, a delivery of each message; again until none did.
 -- Renders document 01, "Recipes to be met": how the second program takes turns and delivers; and what is claimed of such a drive.
 use Prim.Native.Nat.{ℕ, zero, suc, _-_}

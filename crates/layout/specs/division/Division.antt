@@ -1,5 +1,6 @@
+-- For contracts below the calls: no reader needs it.
 -- A component divided by a tile length: its tile, and its place there.
--- No sentence of document 01: contracts of functions below the calls cite it.
+-- No sentence of document 01.
 use Prim.Native.Nat.{ℕ, _/_, _%_}
 use mathlib.Core.Path.{_≡_}
 use Rattle.layout.specs.declared.division.Divided.{Divided}

@@ -1,3 +1,4 @@
+-- Read this.
 -- Boards that are each lent their own part alone: on every list of turns, posts and arrivals the answers and packets are the machine's network's, each
 -- has its part, and the parts make up the sequential sweep. Renders the customer's demand 3 for boards with memory for nothing else.
 use Prim.Native.Nat.{ℕ, _<_}

@@ -1,3 +1,4 @@
+-- Read this.
 -- Processors that are each lent their own part alone, by the calls themselves: a fresh start, turns, messages posted and arriving, collecting part by part.
 -- Renders document 01, "The machine" and "Runs", for boards with memory for nothing else. Each call's contract equates the call with a definition used here.
 use Prim.Native.Nat.{ℕ, zero, suc}
@@ -14,7 +15,7 @@ use Rattle.network.specs.Packets.{Packet, Network, networkOf, packetAt, Network
 use Rattle.part.specs.Part.{mailAt}
 use Rattle.part_calls.specs.front.Calls.{ownFreshCall, ownTurnCall, ownPostCall, ownArriveCall, ownCollectCall}
 
--- a network as apart/specs/Packets has it, but here `areas b` is what processor b is lent: its own part
+-- a network as network/specs/Packets has it, but here `areas b` is what processor b is lent: its own part
 
 -- the source lent to each processor: the words of its own cells
 abbrev pub OwnSources : Type 0

@@ -1,5 +1,6 @@
+-- For contracts below the calls: no reader needs it.
 -- The cells of a box that some distance puts into a window, both in the shape; which rows of the box hold one, and how they are found row by row.
--- No sentence of document 02: contracts of functions below the calls cite it.
+-- No sentence of document 02.
 use Prim.Native.Nat.{ℕ, _+_, _*_, _≤_, _<_}
 use mathlib.Core.Path.{_≡_}
 use mathlib.Core.List.{List, map}

@@ -1,6 +1,7 @@
+-- Read this.
 -- The calls for one processor that is lent its own part alone, each from the recipe's bytes, the word that names its route, the processor and its part.
 -- Renders document 01, "The machine" and "Numbers a call gives", for a board with memory for nothing else: a call's number, and what it leaves, are those of
--- the machine on areas that have this part (`widened`, apart/specs/Own). 11 comes before 9 here: the processor decides how long its areas are.
+-- the machine on areas that have this part (`widened`, network/specs/Own). 11 comes before 9 here: the processor decides how long its areas are.
 use Prim.Native.Nat.{ℕ, _*_}
 use mathlib.Core.Bool.{Bool}
 use mathlib.Core.List.{List, [], _∷_, _++_}

@@ -1,5 +1,6 @@
+-- For contracts below the calls: no reader needs it.
 -- What the calls for one processor share: the nest of an accepted recipe, its table, the processor's cells and messages found once, lines 9 and 10.
--- No sentence of document 01; the contracts of the functions below the offered calls cite it.
+-- No sentence of document 01.
 use Prim.Native.Nat.{ℕ, _≤_, _<_}
 use mathlib.Core.Path.{_≡_}
 use mathlib.Core.Bool.{Bool}

@@ -1,5 +1,6 @@
+-- For contracts below the calls: no reader needs it.
 -- A row of a tile in its processor's part: that its cells and what they read are kept, where they stand there, and how far back each distance reads.
--- No sentence of document 01: contracts of functions below the calls cite it.
+-- No sentence of document 01.
 use Prim.Native.Nat.{ℕ, _+_, _-_, _≤_, _<_}
 use mathlib.Core.Path.{_≡_}
 use mathlib.Core.Bool.{true}

@@ -1,5 +1,6 @@
+-- For contracts below the calls: no reader needs it.
 -- What the code of a turn is given and gives below its first lines: a part of its lengths, where the handled messages stand in it, the machine's answer.
--- No sentence of document 01; the contracts of the functions below the offered calls cite it.
+-- No sentence of document 01.
 use Prim.Native.Nat.{ℕ, _+_, _≤_, _<_}
 use mathlib.Core.Path.{_≡_}
 use mathlib.Core.Bool.{true}

@@ -1,5 +1,6 @@
+-- For contracts below the calls: no reader needs it.
 -- Cells listed: a memory in which each cell holds its own number, so that what is packed from it are the cells themselves.
--- No sentence of document 02: contracts of functions below the calls cite it.
+-- No sentence of document 02.
 use Prim.Native.Nat.{ℕ}
 use mathlib.Core.List.{List}
 use Rattle.base.specs.Tests.{tabulate}

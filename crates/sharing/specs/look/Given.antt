@@ -1,5 +1,6 @@
+-- For contracts below the calls: no reader needs it.
 -- What the code below the look gives: where a processor's part lies in memories of the given lengths.
--- No sentence of a paper; the contract of the function below the offered calls cites it.
+-- No sentence of a paper.
 use Prim.Native.Nat.{ℕ, _+_, _*_, _≤_, _<_}
 use mathlib.Core.Path.{_≡_}
 use Rattle.machine.specs.Plan.{Plan}

@@ -1,5 +1,6 @@
+-- For contracts below the calls: no reader needs it.
 -- The table of message lengths by slot of a nest without bounds, and where a message is found by it.
--- No sentence of document 01; the contracts of this crate and of the engine cite it.
+-- No sentence of document 01.
 use Prim.Native.Nat.{ℕ, suc, zero, _+_, _-_, _*_, _%_, _≤_, _<_}
 use mathlib.Core.Path.{_≡_}
 use mathlib.Core.Bool.{Bool}

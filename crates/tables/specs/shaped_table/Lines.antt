@@ -1,5 +1,6 @@
+-- For contracts below the calls: no reader needs it.
 -- Rows of the box's tiles along the last dimension: one processor, and where all that is near a tile lies in the shape.
--- No sentence of document 02: contracts of functions below the calls cite it.
+-- No sentence of document 02.
 use Prim.Native.Nat.{ℕ, _+_, _*_, _≤_, _<_}
 use mathlib.Core.Path.{_≡_}
 use mathlib.Core.Bool.{true}

@@ -1,5 +1,6 @@
+-- For contracts below the calls: no reader needs it.
 -- Moves of tiles that every bound moves along with, and the tiles that are like the tile a move before them.
--- No sentence of document 02: contracts of functions below the calls cite it.
+-- No sentence of document 02.
 use Prim.Native.Nat.{ℕ, _+_, _*_, _≤_, _<_}
 use mathlib.Core.Path.{_≡_}
 use mathlib.Core.List.{List}

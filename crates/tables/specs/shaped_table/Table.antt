@@ -1,5 +1,6 @@
+-- For contracts below the calls: no reader needs it.
 -- The table of a nest with bounds: message lengths by slot; behind them the tiles' numbers in the box, their processors, and how many tiles there are.
--- No sentence of document 02; the contracts of this crate and of those above cite it.
+-- No sentence of document 02.
 use Prim.Native.Nat.{ℕ, suc, zero, _+_, _*_, _-_, _%_, _≤_, _<_}
 use mathlib.Core.Path.{_≡_}
 use mathlib.Core.Logic.{_≢_}

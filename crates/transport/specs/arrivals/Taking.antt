@@ -1,3 +1,4 @@
+-- Read this.
 -- A message at its taker's: whose it is, how many words it has, and what is left of the call's lines once its areas are known to be fit.
 -- Renders document 01, "The machine" and "Numbers a call gives", lines 9, 11 and 14.
 use Prim.Native.Nat.{ℕ}

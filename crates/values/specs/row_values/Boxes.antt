@@ -1,5 +1,6 @@
+-- For contracts below the calls: no reader needs it.
 -- The rows of a box of cells: which they are, where one stands, and what is stored once so many have their values.
--- No sentence of document 01: contracts of functions below the calls cite it.
+-- No sentence of document 01.
 use Prim.Native.Nat.{ℕ, _+_, _-_, _≤_, _<_}
 use mathlib.Core.Path.{_≡_}
 use mathlib.Core.List.{List}

@@ -1,5 +1,6 @@
+-- For contracts below the calls: no reader needs it.
 -- What rows are given: numbers of a nest in place of the nest, and what was made once in a call.
--- No sentence of document 01: contracts of functions below the calls cite it.
+-- No sentence of document 01.
 use Prim.Native.Nat.{ℕ, _+_, _-_, _≤_, _<_}
 use mathlib.Core.Path.{_≡_}
 use mathlib.Core.List.{List}

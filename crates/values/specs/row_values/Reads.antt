@@ -1,5 +1,6 @@
+-- For contracts below the calls: no reader needs it.
 -- Where the distances read in a row: from which cell on, and how far back.
--- No sentence of document 01: contracts of functions below the calls cite it.
+-- No sentence of document 01.
 use Prim.Native.Nat.{ℕ, _+_, _-_, _≤_, _<_, min}
 use mathlib.Core.Path.{_≡_}
 use mathlib.Core.List.{List}

@@ -1,5 +1,6 @@
+-- For contracts below the calls: no reader needs it.
 -- What is made once in a call and lent to every row; rows where all distances read, and four of them.
--- No sentence of document 01: contracts of functions below the calls cite it.
+-- No sentence of document 01.
 use Prim.Native.Nat.{ℕ, zero, suc, _+_, _*_, _-_, _≤_, _<_}
 use mathlib.Core.Path.{_≡_}
 use mathlib.Core.Bool.{true}

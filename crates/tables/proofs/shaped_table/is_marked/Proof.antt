@@ -1,6 +1,6 @@
+-- `tables::shaped_table::is_marked` meets its contract.
 use borrow.Author.Needs.{needs}
 use Rattle.tables.proofs.shaped_table.Laws as L
--- `tables::shaped_table::is_marked` meets its contract.
 use native.Mathlib.Omega.{arith}
 use Rattle.nest.proofs.Shapes.{box-tiles-most}
 use Rattle.tables.proofs.shaped_table.is_marked.Statement.{statement}
