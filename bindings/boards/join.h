@@ -1,5 +1,5 @@
 /* Board 0 joins the boards' parts: into areas with a fresh start go each board's own part of its memories and its record. Collecting on
- * these areas gives the grid (crates/apart, `joined-grid`). */
+ * these areas gives the grid (crates/network, `joined-grid`). */
 #ifndef BOARDS_JOIN_H
 #define BOARDS_JOIN_H
 
