@@ -1,4 +1,5 @@
-// The calls for an office, for programs, which keep the records as words, three a processor.
+// The calls for one of two offices on one rig (W-208), for programs, which keep the records as words, three a processor.
+// The rules of engaging and freeing a processor are crate `tenants`'; the stages are the engine's.
 ghost use mathlib.Core.Path.{_≡_};
 ghost use Rattle.machine.specs.Machine.{stateOf};
 ghost use Rattle.tenants.specs.Offices.{lentOf, rigOf, sourcesOf};
