@@ -212,7 +212,7 @@ pub fn overlap(s: Interval, first: usize, width: usize) -> Interval
     requires { ⌜ first + width ≤ 1024 ⌝ }
     ensures { λ r. ⌜ Overlaps s first width r ⌝ }
 {
-    let end = layout::least(s.to, first + width);
+    let end = base::least(s.to, first + width);
     if end <= first {
         return Interval {
             from: first,
