@@ -1,18 +1,16 @@
 -- Laws of the search: where it stops, and the least of the windows' waits.
-use Prim.Native.Nat.{ℕ, zero, suc, _+_, _%_, _≤_, _<_}
+use Prim.Native.Nat.{ℕ, zero, suc, _+_, _%_, _≤_, _<_, min}
 use mathlib.Core.Path.{_≡_, refl, sym, ap, _∙_}
 use mathlib.Core.Logic.{_⊎_, inl, inr, _≢_}
 use mathlib.Core.Bool.{Bool, true, false}
 use mathlib.Core.List.{List}
-use native.Mathlib.Omega.{arith}
+use native.Mathlib.Omega.{arith, min-cases}
 use native.Mathlib.Decide.{ℕ-discrete}
-use native.Mathlib.Numerals.{add-one}
 use Rattle.base.specs.Tests.{pick, some}
 use Rattle.base.proofs.Tests.{pick-true, pick-false, some-one, some-none}
-use Rattle.calendar.specs.declared.Opening.{Opening}
 use Rattle.calendar.specs.declared.Opening.the-variants.{OpensIn, Never}
-use Rattle.calendar.specs.Hours.{week, covers, inWindow, openAt, firstFrom, untilOpen}
-use Rattle.calendar.specs.Waits.{First, Least}
+use Rattle.calendar.specs.Hours.{week, inWindow, openAt, firstFrom, untilOpen}
+use Rattle.calendar.specs.Waits.{First}
 
 module _ (f : ℕ → Bool) where
   pub first-none : (k s : ℕ) → ((i : ℕ) → i < s + k → f i ≡ false) → firstFrom f s k ≡ Never
@@ -39,12 +37,17 @@ module _ (f : ℕ → ℕ → Bool) where
   pub soonest-none : Soonest f 0 week
   soonest-none = record { most = omega arith; before = λ n l w k. absurd (omega arith); holds = λ l. absurd (omega arith) }
 
-  pub soonest-turn : (i v x r : ℕ) → Soonest f i v → First (λ (n : ℕ). f n i) x → Least v x r → Soonest f (i + 1) r
-  soonest-turn i v x r s g l = record { most = omega (arith, s .most, l .first); before = λ n h w k. go n h w k (ℕ-discrete w i); holds = λ h. by h (l .one) }
+  pub soonest-turn : (i v x r : ℕ) → Soonest f i v → First (λ (n : ℕ). f n i) x → r ≡ min v x → Soonest f (i + 1) r
+  soonest-turn i v x r s g l =
+      record {
+        most = omega (arith, s .most);
+        before = λ n h w k. go n h w k (ℕ-discrete w i);
+        holds = λ h. by h (min-cases v x ((r ≡ v) ⊎ (r ≡ x)) (λ _ e. inl (l ∙ e)) (λ _ e. inr (l ∙ e)));
+      }
     where
       go : (n : ℕ) → n < r → (w : ℕ) → w < i + 1 → Dec (w ≡ i) → f n w ≡ false
-      go n h w k (yes e) = ap (f n) e ∙ g .before n (omega (arith, l .second))
-      go n h w k (no e) = s .before n (omega (arith, l .first)) w (omega arith)
+      go n h w k (yes e) = ap (f n) e ∙ g .before n (omega arith)
+      go n h w k (no e) = s .before n (omega arith) w (omega arith)
 
       by : r < week → (r ≡ v) ⊎ (r ≡ x) → (w : ℕ) × ((w < i + 1) × (f r w ≡ true))
       by h (inl e) = let y = s .holds (omega arith) in (y .0, (omega (arith, y .1 .0), ap (λ (n : ℕ). f n (y .0)) e ∙ y .1 .1))

@@ -1,9 +1,9 @@
 -- For contracts below the calls: no reader needs it.
--- What parts of the search for the next opening promise: the wait of one window, the lesser of two.
+-- What parts of the search for the next opening promise: the wait of one window.
 -- No sentence of a request; proofs/ ties them to Hours.
 use Prim.Native.Nat.{ℕ, _≤_, _<_}
 use mathlib.Core.Path.{_≡_}
-use mathlib.Core.Logic.{_⊎_, _≢_}
+use mathlib.Core.Logic.{_≢_}
 use mathlib.Core.Bool.{Bool, true, false}
 use Rattle.calendar.specs.Hours.{week}
 
@@ -18,8 +18,3 @@ pub record First (f : ℕ → Bool) (v : ℕ) : Type 0 where
   pub most : v ≤ week
   pub before : (n : ℕ) → n < v → f n ≡ false
   pub holds : v < week → f v ≡ true
-
-pub record Least (a b r : ℕ) : Type 0 where
-  pub first : r ≤ a
-  pub second : r ≤ b
-  pub one : (r ≡ a) ⊎ (r ≡ b)

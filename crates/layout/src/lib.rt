@@ -1,6 +1,6 @@
 // Cells and tiles in code: numbers and places, the tile of a cell, the processor of a tile, a tile's box, the ends of a slot.
 ghost use mathlib.Core.Path.{_≡_};
-ghost use Prim.Native.Nat.{ℕ, _+_, _*_, _-_, _/_, _%_, min, _≤_, _<_};
+ghost use Prim.Native.Nat.{ℕ, _+_, _*_, _-_, _/_, _%_, _≤_, _<_};
 ghost use lib.ListN.{length, getD};
 ghost use Rattle.base.specs.Tests.{pick, product};
 ghost use mathlib.Core.Bool.{true};
@@ -14,6 +14,7 @@ ghost use Rattle.plan.specs.Box.{boxCell};
 ghost use Rattle.layout.specs.Sizes.{routeOf, Sized, along, endAt, Stepped};
 ghost use Rattle.layout.specs.Places.{nth, Has, Countable, Ranked, Places, Placed, Shared, Located, Bounded};
 use crate::division::tile_along;
+use base::least;
 use nest::Nest;
 use plan::Route;
 
@@ -249,13 +250,6 @@ pub fn processor_of(nest: Nest, sizes: Sizes, tile: usize) -> usize
     remainders(nest, &mut at);
     let counts = nest.counts;
     rank_of(&counts, &at, nest.spread)
-}
-
-// The smaller of two.
-pub fn least(a: usize, b: usize) -> usize
-    ensures { λ r. ⌜ r ≡ min a b ⌝ }
-{
-    if a <= b { a } else { b }
 }
 
 // A processor's tiles along a dimension, in a spread one each `count`-th; `rest` is its number over the dimensions before.

@@ -21,7 +21,8 @@ use Rattle.nest.specs.Nest.{lengthOf, tileLength, processorCount, compon
 use Rattle.nest.specs.Shape.{inShape, tiles}
 use Rattle.nest.specs.Spans.{Framed, Shaped}
 use Rattle.base.specs.Lists.{Bytes}
-use Rattle.nest.specs.Reader.{half, kind, records, ofKind, distancesOf, slopeAt, filled, nestBy, nestOf, ragged, boundFits, checked, mayStand, fitsAt}
+use Rattle.base.specs.Bytes.{half}
+use Rattle.nest.specs.Reader.{kind, records, ofKind, distancesOf, slopeAt, filled, nestBy, nestOf, ragged, boundFits, checked, mayStand, fitsAt}
 use Rattle.nest.specs.Reader.{strayRecord, outside, badLength, tooLarge, noCell, beyond, faulty, badDistance, reached, badTile, isSpread, badSpread}
 use Rattle.nest.specs.Reader.{lastSpread, badProcessors, tooManyTiles, nestLines, readLines}
 use Rattle.nest.proofs.Laws.{Formed, formed, front-kept, filled-length, filled-at, filled-in, filled-out, filled-below, half-small, word-small}

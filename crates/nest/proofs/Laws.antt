@@ -23,7 +23,8 @@ pub use Rattle.base.proofs.Loops.{some-start, some-step, some-end, every-start,
 use Rattle.nest.specs.declared.Nest.{Nest}
 use Rattle.nest.specs.Nest.{lengthOf, tileLength, processorCount, tileCount, cells, processors}
 use Rattle.base.specs.Lists.{Bytes}
-use Rattle.nest.specs.Reader.{half, word, ofKind, componentAt, weightAt, slopeAt, offsetAt, filled, nestBy, ragged, blank, boundFits, checked, mayStand}
+use Rattle.base.specs.Bytes.{half, word}
+use Rattle.nest.specs.Reader.{ofKind, componentAt, weightAt, slopeAt, offsetAt, filled, nestBy, ragged, blank, boundFits, checked, mayStand}
 use Rattle.nest.specs.Reader.{fitsAt, wellFormed, kind, records, badLength, tooLarge, narrowAt, noCell, badDistance, badTile, isSpread, badSpread}
 use Rattle.nest.specs.Reader.{lastSpread, badProcessors, tooManyTiles, nestLines}
 

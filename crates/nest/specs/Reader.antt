@@ -8,20 +8,15 @@ use lib.ListN.{length, getD}
 use lib.Dec.{eqb, ltb, leb}
 use Rattle.base.specs.Tests.{_and_, _or_, not, pick, every, some, keep, those, tabulate}
 use Rattle.base.specs.Numbers.{Line, line, firstOf}
+use Rattle.base.specs.Bytes.{half, word}
 use Rattle.nest.specs.declared.Nest.{Nest}
 use Rattle.nest.specs.declared.Reading.{Reading}
 use Rattle.nest.specs.Nest.{lengthOf, tileLength, processorCount, component, cells, processors}
 use Rattle.nest.specs.Shape.{inShape, tiles}
 
--- byte i of record r stands at 16 * r + i; numbers of two and of four bytes from a place on, little-endian
+-- byte i of record r stands at 16 * r + i
 abbrev pub records : List ℕ → ℕ
 records bytes = length bytes / 16
-
-abbrev pub half : List ℕ → ℕ → ℕ
-half bytes at = getD bytes at 0 + 256 * getD bytes (at + 1) 0
-
-abbrev pub word : List ℕ → ℕ → ℕ
-word bytes at = half bytes at + 65536 * half bytes (at + 2)
 
 abbrev pub kind : List ℕ → ℕ → ℕ
 kind bytes r = getD bytes (16 * r) 0

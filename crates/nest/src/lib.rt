@@ -213,7 +213,7 @@ fn tile_at(nest: Nest, at: &[usize; 4]) -> usize
 }
 
 // Marks the places from one up to another.
-fn mark(marks: &mut [u8], from: usize, to: usize)
+pub fn mark(marks: &mut [u8], from: usize, to: usize)
     requires { ⌜ (from ≤ to) × (to ≤ length (now marks)) ⌝ }
     ensures { λ _. ⌜ Marked (now (marks .entry)) from to (now (marks .exit)) ⌝ }
 {

@@ -119,7 +119,7 @@ fn end_of(at: usize, tiling: usize, length: usize) -> usize
     requires { ⌜ (at ≤ 1025) × (tiling ≤ 1024) ⌝ }
     ensures { λ r. ⌜ r ≡ min (at * tiling + tiling) length ⌝ }
 {
-    layout::least(at * tiling + tiling, length)
+    base::least(at * tiling + tiling, length)
 }
 
 // The box of a slot's cells: the tile's and, in dimensions below `earlier`, those of the tile before it.
@@ -224,7 +224,7 @@ fn run_of(ends: &[usize; 8], n: usize, component: usize, width: usize) -> usize
             end = ends[e];
         }
     }
-    layout::least(width, end - component)
+    base::least(width, end - component)
 }
 
 // For how many components, `from` and those after it, the carry test stays as it is.
@@ -260,7 +260,7 @@ fn rows_alike(
     let n = nest.distances;
     let mut rows = block.corner[j] + block.lengths[j] - component;
     for e in 0..n {
-        rows = layout::least(
+        rows = base::least(
             rows,
             unchanged(component + components[4 * e + j], low, high),
         );

@@ -1,6 +1,5 @@
 // Nests with bounds, by rows and spans: the cells of a slot counted, its parcel packed and unpacked.
 ghost use mathlib.Core.Path.{_≡_};
-ghost use mathlib.Core.Logic.{_⊎_};
 ghost use Prim.Native.Nat.{ℕ, _+_, _-_, _≤_, _<_};
 ghost use lib.ListN.{length, getD};
 ghost use Rattle.base.specs.Lists.{pack, unpack};
@@ -32,16 +31,6 @@ pub struct Reached {
     pub starts: [usize; 8],
     pub ends: [usize; 8],
     pub runs: usize,
-}
-
-// The greater of two.
-fn greater(a: usize, b: usize) -> usize
-    ensures { λ r. ⌜ (a ≤ r) × ((b ≤ r) × ((r ≡ a) ⊎ (r ≡ b))) ⌝ }
-{
-    if a < b {
-        return b;
-    }
-    a
 }
 
 // What is left of a number less another.
@@ -90,9 +79,9 @@ fn reach_of(
     let far = nest::span(nest, to);
     let last = nest.dimensions - 1;
     let d = components[4 * e + last];
-    let from = greater(own.from, less(far.from, d));
-    let most = layout::least(own.to, limit);
-    let end = layout::least(most, less(far.to, d));
+    let from = base::greater(own.from, less(far.from, d));
+    let most = base::least(own.to, limit);
+    let end = base::least(most, less(far.to, d));
     Interval {
         from: from,
         to: end,
@@ -157,7 +146,7 @@ pub fn farthest(nest: Nest) -> [usize; 4]
     let mut most = [0; 4];
     for i in 0..n {
         let j = i % 4;
-        most[j] = greater(most[j], components[i]);
+        most[j] = base::greater(most[j], components[i]);
     }
     most
 }
@@ -177,7 +166,7 @@ fn near(nest: Nest, sending: Sending, most: [usize; 4]) -> Sending
     let mut lengths = [0; 4];
     for j in 0..n {
         let before = less(less(low[j], most[j]), from[j]);
-        let over = layout::least(before, sides[j] - 1);
+        let over = base::least(before, sides[j] - 1);
         corner[j] = from[j] + over;
         lengths[j] = sides[j] - over;
     }

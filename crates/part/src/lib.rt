@@ -10,7 +10,6 @@ ghost use Rattle.machine.specs.Plan.{count, heldBy};
 ghost use Rattle.nest.specs.Accepted.{Accepted};
 ghost use Rattle.nest.specs.Nest.{processorCount, cells, boxTiles, processors};
 ghost use Rattle.nest.specs.Places.{rank};
-ghost use Rattle.nest.specs.Spans.{Marked};
 ghost use Rattle.plan.specs.Messages.{ways};
 ghost use Rattle.plan.specs.Shaped.{boxTile, planOf};
 ghost use Rattle.layout.specs.Sizes.{Sized};
@@ -22,11 +21,11 @@ ghost use Rattle.part.specs.Part.{rankOf, mailAt, Listed};
 ghost use Rattle.part.specs.Marking.{wide, Shown, Alike, sideOf, Sided, Repeated};
 use crate::marks::takes;
 use base::half_index;
+use base::least;
+use base::zero_bytes;
 use layout::Sizes;
-use layout::least;
 use nest::Nest;
 use rank_index::rank;
-use stages::zero_bytes;
 use tables::held::cells_of;
 use tables::scans::Place;
 use tables::tiles_of;
@@ -34,16 +33,6 @@ use tables::tiles_of;
 pub mod marks; // marks.rt: what one byte tells of a message: whose ends it has, and how far it is
 
 // ---- cells
-
-// Marks the cells from one up to another.
-fn mark_span(marks: &mut [u8], from: usize, to: usize)
-    requires { ⌜ (from ≤ to) × (to ≤ length (now marks)) ⌝ }
-    ensures { λ _. ⌜ Marked (now (marks .entry)) from to (now (marks .exit)) ⌝ }
-{
-    for u in from..to {
-        marks[u] = 1;
-    }
-}
 
 // Marks the cells of a row that are in the shape.
 fn mark_row(nest: Nest, q: usize, marks: &mut [u8])
@@ -54,7 +43,7 @@ fn mark_row(nest: Nest, q: usize, marks: &mut [u8])
     let s = nest::span(nest, at);
     if s.from < s.to {
         let c = q * nest.lengths[nest.dimensions - 1];
-        mark_span(marks, c + s.from, c + s.to);
+        nest::mark(marks, c + s.from, c + s.to);
     }
 }
 
@@ -152,7 +141,7 @@ fn copy_sides(sides: &mut [u8], at: usize, n: usize)
 }
 
 // A tile's number in the box.
-fn box_tile(nest: Nest, sizes: Sizes, lens: &[u16; 9217], tile: usize) -> usize
+pub fn box_tile(nest: Nest, sizes: Sizes, lens: &[u16; 9217], tile: usize) -> usize
     requires { ⌜ (Sized nest sizes × Tabled nest sizes (now lens)) × (tile < planOf (sizes .route) nest .tiles) ⌝ }
     ensures { λ r. ⌜ (r ≡ boxTile nest tile) × (r < boxTiles nest) ⌝ }
 {

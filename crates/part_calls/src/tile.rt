@@ -3,18 +3,16 @@
 // Cells side by side that are all kept stand side by side there too: so a row is stored as in a memory of all cells, from the rank of its first cell on,
 // and in a row each distance reads so many words back.
 ghost use mathlib.Core.Path.{_≡_};
-ghost use mathlib.Core.Bool.{true};
 ghost use Prim.Native.Nat.{ℕ, _+_, _≤_, _<_};
 ghost use lib.ListN.{length, getD};
 ghost use Rattle.base.specs.Lists.{storeAll, pack};
 ghost use Rattle.nest.specs.Accepted.{Accepted};
-ghost use Rattle.nest.specs.Nest.{lengthOf, boxTiles};
+ghost use Rattle.nest.specs.Nest.{lengthOf};
 ghost use Rattle.nest.specs.Spans.{last, Narrow};
-ghost use Rattle.plan.specs.Shaped.{boxTile, shapedCells, shapedValue, planOf};
+ghost use Rattle.plan.specs.Shaped.{shapedCells, shapedValue, planOf};
 ghost use Rattle.layout.specs.Sizes.{Sized};
 ghost use Rattle.layout.specs.Places.{Located};
 ghost use Rattle.layout.specs.CellRows.{rowOf};
-ghost use Rattle.tables.specs.Tables.{Tabled};
 ghost use Rattle.values.specs.row_values.Reads.{Backs};
 ghost use Rattle.values.specs.shaped_values.Rows.{mixedAlong, Readable};
 ghost use Rattle.network.specs.Own.{keptCells, sourceOf};
@@ -245,17 +243,6 @@ fn calculate_box(
     }
 }
 
-// A tile's number in the box.
-fn number_of(nest: Nest, sizes: Sizes, lens: &[u16; 9217], tile: usize) -> usize
-    requires { ⌜ Sized nest sizes × (Tabled nest sizes (now lens) × (tile < planOf (sizes .route) nest .tiles)) ⌝ }
-    ensures { λ r. ⌜ (r ≡ boxTile nest tile) × (r < boxTiles nest) ⌝ }
-{
-    if nest.bounds == 0 {
-        return tile;
-    }
-    tables::shaped_table::box_of(nest, lens, tile)
-}
-
 // The words of a tile's cells in its processor's part, from the source of the processor's own cells.
 pub fn calculate(
     nest: Nest,
@@ -276,7 +263,7 @@ pub fn calculate(
         (allOf (planOf (sizes .route) nest) b (now (memory .entry))) (planOf (sizes .route) nest .cellsOf tile))
         (keptCells (planOf (sizes .route) nest) b) ⌝ }
 {
-    let number = number_of(nest, sizes, lens, tile);
+    let number = part::box_tile(nest, sizes, lens, tile);
     calculate_box(
         nest,
         sizes,

@@ -2,29 +2,23 @@
 use libc::STDERR_FILENO;
 use libc::STDIN_FILENO;
 ghost use mathlib.Core.Path.{_≡_};
-ghost use Prim.Native.Nat.{_≤_, _<_};
+ghost use Prim.Native.Nat.{_<_};
 ghost use lib.ListN.{length};
 ghost use Rattle.io.specs.Counts.{Counts};
 ghost use Rattle.program_io.specs.Bytes.{wordIn};
-
-fn least(a: usize, b: usize) -> usize
-    ensures { λ r. ⌜ (r ≤ a) × (r ≤ b) ⌝ }
-{
-    if a < b { a } else { b }
-}
 
 // How many of the first n words there are: what `&words[..r]` asks.
 pub fn front(words: &[u32], n: usize) -> usize
     ensures { λ r. ⌜ Counts r (now (words .entry)) ⌝ }
 {
-    least(n, words.len())
+    base::least(n, words.len())
 }
 
 // The same of bytes.
 pub fn front_bytes(bytes: &[u8], n: usize) -> usize
     ensures { λ r. ⌜ Counts r (now (bytes .entry)) ⌝ }
 {
-    least(n, bytes.len())
+    base::least(n, bytes.len())
 }
 
 pub fn wide(x: u32) -> usize

@@ -2,26 +2,9 @@
 ghost use mathlib.Core.Path.{_≡_};
 ghost use Prim.Native.Nat.{ℕ, _+_, _*_, _/_, _%_, _<_, _≤_};
 ghost use lib.ListN.{length};
-ghost use Rattle.nest.specs.Reader.{half, componentAt, weightAt, filled, narrowAt, needlesslyWide};
-
-// ---- bytes
-
-pub fn wide(x: usize) -> u64
-    ensures { λ r. ⌜ r ≡ x ⌝ }
-{
-    x as u64
-}
-
-// The number of two bytes.
-pub fn half_at(encoded: &[u8], at: usize) -> usize
-    requires { ⌜ at + 1 < length (now encoded) ⌝ }
-    ensures { λ r. ⌜ r ≡ half (now (encoded .entry)) at ⌝ }
-    ensures { λ r. ⌜ r < 65536 ⌝ }
-{
-    let low = base::byte_index(encoded[at]);
-    let high = base::byte_index(encoded[at + 1]);
-    low + 256 * high
-}
+ghost use Rattle.nest.specs.Reader.{componentAt, weightAt, filled, narrowAt, needlesslyWide};
+use base::half_at;
+use base::index_wide;
 
 // ---- components and weights
 
@@ -68,7 +51,7 @@ pub fn weights_of(encoded: &[u8], r: usize, e: usize) -> [u64; 8]
 {
     let mut values = [0u64; 8];
     for i in 0..e {
-        values[i] = wide(weight_at(encoded, r + i));
+        values[i] = index_wide(weight_at(encoded, r + i));
     }
     values
 }

@@ -6,22 +6,12 @@ ghost use Prim.Native.Nat.{ℕ, _+_, _*_, _-_, _/_, _<_, _≤_};
 ghost use lib.ListN.{length, getD};
 ghost use lib.Dec.{ltb};
 ghost use Rattle.base.specs.Tests.{_and_, every, keep};
-ghost use Rattle.nest.specs.Reader.{half, word, kind, ofKind, distancesOf, slopeAt, offsetAt, filled};
+ghost use Rattle.base.specs.Bytes.{half};
+ghost use Rattle.nest.specs.Reader.{kind, ofKind, distancesOf, slopeAt, offsetAt, filled};
 ghost use Rattle.nest.specs.Reader.{ragged, blank, boundFits, checked, mayStand, fitsAt, wellFormed};
-use crate::distance_fields::half_at;
-use crate::distance_fields::wide;
+use base::half_at;
 
 // ---- fields
-
-// The number of four bytes.
-pub fn word_at(encoded: &[u8], at: usize) -> u64
-    requires { ⌜ at + 3 < length (now encoded) ⌝ }
-    ensures { λ r. ⌜ r ≡ word (now (encoded .entry)) at ⌝ }
-{
-    let low = half_at(encoded, at);
-    let high = half_at(encoded, at + 2);
-    wide(low + 65536 * high)
-}
 
 // A byte as a number.
 fn byte_at(encoded: &[u8], at: usize) -> usize

@@ -16,7 +16,6 @@ ghost use Rattle.nest.specs.Reader.{badProcessors, tooManyTiles, nestLines, rea
 use crate::distance_fields::components_of;
 use crate::distance_fields::needlessly_wide;
 use crate::distance_fields::weights_of;
-use crate::distance_fields::wide;
 use crate::distances::bad_distance;
 use crate::distances::bad_tile;
 use crate::distances::outside;
@@ -29,7 +28,6 @@ use crate::fields::ragged;
 use crate::fields::slopes_of;
 use crate::fields::spread_of;
 use crate::fields::well_formed;
-use crate::fields::word_at;
 use nest::Nest;
 use nest::Reading;
 use nest::mark_row;
@@ -90,8 +88,8 @@ fn nest_by(encoded: &[u8], n: usize, b: usize, e: usize) -> Nest
         earlier: bytes_of(encoded, n, b, 3),
         slopes: slopes_of(encoded, n, b),
         offsets: offsets_of(encoded, n, b),
-        shift: wide(base::byte_index(encoded[close + 1])),
-        boundary: word_at(encoded, close + 4),
+        shift: base::byte_wide(encoded[close + 1]),
+        boundary: base::word_wide(base::word_at(encoded, close + 4)),
     }
 }
 

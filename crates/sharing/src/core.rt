@@ -17,7 +17,7 @@ ghost use Rattle.tables.specs.Tables.{Tabled};
 ghost use Rattle.records.specs.Records.{Carries};
 ghost use Rattle.engine.specs.Calls.{answer};
 ghost use Rattle.engine.specs.Given.{MayTurn, recordsAfter, zerosAfter};
-ghost use Rattle.tenants.specs.Offices.{lentOf, rigOf, sourcesOf, stageAgrees, fitWord, fitFor, heldByOther, wordFor};
+ghost use Rattle.tenants.specs.Offices.{otherThan, lentOf, rigOf, sourcesOf, stageAgrees, fitWord, fitFor, heldByOther, wordFor};
 ghost use Rattle.sharing.specs.Calls.{turnCallFor, deliverCallFor, collectCallFor, freshRigLines, freshRigCall};
 ghost use Rattle.sharing.specs.Given.{Opens, unfitLinesFor, barredLinesFor, wordsAfter};
 use engine::core::Turned;
@@ -42,7 +42,6 @@ use stages::zero_bytes;
 use stages::zero_words;
 use tables::fill;
 use tables::tile_count;
-use tenants::other;
 
 // What a call makes of a recipe: the number of the reader's and the route's lines and, where that is 0, the nest and its counts on the route.
 pub struct Opening {
@@ -98,6 +97,14 @@ fn stage_agrees(holder: u32, office: u32, stage: u32) -> bool
 }
 
 // Every processor's shared word is 0, 1 or 2 and agrees with both offices' stages.
+// Of offices 0 and 1, the one that is not `office`.
+fn other(office: u32) -> u32
+    requires { ⌜ office ≤ 1 ⌝ }
+    ensures { λ r. ⌜ r ≡ otherThan office ⌝ }
+{
+    1 - office
+}
+
 fn fit_words(engaged: &[u32], progress: &[u32], theirs: &[u32], office: u32) -> bool
     requires { ⌜ (length (now progress) ≡ 3 * length (now engaged)) × ((length (now theirs) ≡ 3 * length (now engaged)) × (office ≤ 1)) ⌝ }
     ensures { λ r. ⌜ r ≡ every (fitWord office

@@ -15,7 +15,8 @@ use borrow.Author.Tests.{leb-true, leb-false, eq-eqb, ne-eqb}
 use Rattle.base.specs.Tests.{not, some, tabulate}
 use Rattle.base.specs.Lists.{Bytes}
 use Rattle.base.proofs.Tests.{is-false, some-one, or-false, not-true, not-false, pick-true, pick-false, length-tabulate, tabulate-at, tabulate-same}
-use Rattle.nest.specs.Reader.{records, word}
+use Rattle.base.specs.Bytes.{word}
+use Rattle.nest.specs.Reader.{records}
 use Rattle.soundings.specs.Soundings.{cellOf, dayOf, surveyOf, depthOf, beats, Best, none, its, better, bestOf, depthOr, soundedWord}
 use Rattle.soundings.specs.Soundings.{soundedSource, raggedFile, offBox}
 use Rattle.soundings.specs.Sifting.{keyOf, bestKey, keyIn, depthIn, Zeros, Blank, Sifted, Noted}

@@ -10,7 +10,8 @@ use Rattle.base.specs.Tests.{_and_, _or_, not, pick, some, tabulate}
 use Rattle.base.specs.Numbers.{Line, line, firstOf}
 use Rattle.machine.specs.Machine.{Answered, answered}
 use Rattle.nest.specs.Nest.{cells}
-use Rattle.nest.specs.Reader.{records, word, nestOf, ragged, readLines}
+use Rattle.base.specs.Bytes.{word}
+use Rattle.nest.specs.Reader.{records, nestOf, ragged, readLines}
 
 -- ---- the file: record r has 16 bytes from 16 * r on, four words
 

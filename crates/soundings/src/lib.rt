@@ -8,36 +8,19 @@ ghost use lib.ListN.{length};
 ghost use Rattle.base.specs.Tests.{tabulate};
 ghost use Rattle.base.specs.Numbers.{line, firstOf};
 ghost use Rattle.machine.specs.Machine.{answered};
-ghost use Rattle.nest.specs.Reader.{records, half, word};
+ghost use Rattle.nest.specs.Reader.{records};
 ghost use Rattle.soundings.specs.Soundings.{cellOf, soundedSource, raggedFile, offBox, filled, fillCall};
 ghost use Rattle.soundings.specs.Sifting.{depthIn, Zeros, Blank, Sifted, Noted};
+use base::word_at;
+use base::word_index;
 
 pub mod surveys; // surveys.rt: which of a cell's records counts, and whether a record's cell is in the box
-
-// The number of two bytes, and of four.
-fn half_at(file: &[u8], at: usize) -> u32
-    requires { ⌜ at + 1 < length (now file) ⌝ }
-    ensures { λ r. ⌜ (r ≡ half (now (file .entry)) at) × (r < 65536) ⌝ }
-{
-    let low = base::byte_word(file[at]);
-    let high = base::byte_word(file[at + 1]);
-    low + 256 * high
-}
-
-fn word_at(file: &[u8], at: usize) -> u32
-    requires { ⌜ at + 3 < length (now file) ⌝ }
-    ensures { λ r. ⌜ r ≡ word (now (file .entry)) at ⌝ }
-{
-    let low = half_at(file, at);
-    let high = half_at(file, at + 2);
-    low + 65536 * high
-}
 
 fn cell_of(file: &[u8], r: usize) -> usize
     requires { ⌜ r < records (now file) ⌝ }
     ensures { λ o. ⌜ o ≡ cellOf (now (file .entry)) r ⌝ }
 {
-    base::word_index(word_at(file, 16 * r))
+    word_index(word_at(file, 16 * r))
 }
 
 // An empty file is allowed.

@@ -5,7 +5,7 @@ ghost use mathlib.Core.Bool.{false};
 ghost use Prim.Native.Nat.{ℕ, _+_, _*_, _%_, _<_, _≤_};
 ghost use lib.ListN.{length};
 ghost use Rattle.calendar.specs.Hours.{week, isFaulty, covers, faultyBoard, faultyTable, openAt, untilOpen};
-ghost use Rattle.calendar.specs.Waits.{Fair, First, Least};
+ghost use Rattle.calendar.specs.Waits.{Fair, First};
 use calendar::Opening;
 
 // A pair of words is a faulty window.
@@ -89,15 +89,6 @@ fn wait(opens: u32, closes: u32, minute: u32) -> u32
     opens + 10080 - minute
 }
 
-fn least(a: u32, b: u32) -> u32
-    ensures { λ r. ⌜ Least a b r ⌝ }
-{
-    if a < b {
-        return a;
-    }
-    b
-}
-
 // Each of the processor's 14 windows is looked at once.
 pub fn minutes(table: &[u32], b: usize, minute: u32) -> Opening
     requires { ⌜ (b < 64) × ((28 * b + 28 ≤ length (now table)) × ((minute < week) × (faultyBoard (now table) b ≡ false))) ⌝ }
@@ -107,7 +98,7 @@ pub fn minutes(table: &[u32], b: usize, minute: u32) -> Opening
     for w in 0..14 {
         let at = 28 * b + 2 * w;
         let v = wait(table[at], table[at + 1], minute);
-        soonest = least(soonest, v);
+        soonest = base::least_word(soonest, v);
     }
     if soonest == 10080 {
         return Opening::Never;

@@ -4,7 +4,7 @@ ghost use Prim.Native.Nat.{_+_, _*_, _-_, _≤_, _<_};
 ghost use lib.ListN.{length, getD};
 ghost use lib.Dec.{leb};
 ghost use mathlib.Core.Bool.{true};
-ghost use Rattle.base.specs.Tests.{pick, every};
+ghost use Rattle.base.specs.Tests.{every};
 ghost use Rattle.base.specs.Lists.{storeAll};
 ghost use Rattle.nest.specs.Accepted.{Accepted};
 ghost use Rattle.plan.specs.Geometry.{value};
@@ -38,7 +38,7 @@ fn back_of(nest: Nest, components: &[usize; 32], e: usize) -> usize
     let n = nest.dimensions;
     let mut back = 0;
     for j in 0..n {
-        let d = layout::least(components[4 * e + j], lengths[j]);
+        let d = base::least(components[4 * e + j], lengths[j]);
         back = back * lengths[j] + d;
     }
     back
@@ -152,16 +152,9 @@ pub fn least_of(nest: Nest, back: &[usize; 8]) -> usize
     let mut least = 16384;
     let n = nest.distances;
     for e in 0..n {
-        least = layout::least(least, back[e]);
+        least = base::least(least, back[e]);
     }
     least
-}
-
-// The greater of two.
-fn greater(a: usize, b: usize) -> usize
-    ensures { λ r. ⌜ r ≡ pick (leb a b) b a ⌝ }
-{
-    if a <= b { b } else { a }
 }
 
 // The most that a distance has in dimension j.
@@ -172,7 +165,7 @@ fn margin_of(nest: Nest, components: &[usize; 32], j: usize) -> usize
     let mut most = 0;
     let n = nest.distances;
     for e in 0..n {
-        most = greater(most, components[4 * e + j]);
+        most = base::greater(most, components[4 * e + j]);
     }
     most
 }

@@ -5,7 +5,7 @@
 ghost use mathlib.Core.Path.{_≡_};
 ghost use mathlib.Core.Bool.{true};
 ghost use mathlib.Core.List.{[]};
-ghost use Prim.Native.Nat.{ℕ, _+_, _*_, _-_, _/_, _%_, _^_, _≤_, _<_};
+ghost use Prim.Native.Nat.{ℕ, _+_, _*_, _-_, _≤_, _<_};
 ghost use lib.ListN.{length, getD};
 ghost use Rattle.base.specs.Tests.{pick};
 ghost use Rattle.base.specs.Lists.{storeAll};
@@ -21,6 +21,8 @@ ghost use Rattle.layout.specs.CellRows.{Given, rowOf};
 ghost use Rattle.values.specs.row_values.Reads.{Backs};
 ghost use Rattle.values.specs.shaped_values.Rows.{insideOnly, heldWord, between, Overlaps, ReadsRun, ReadsRuns, mixedWord, mixedAlong, Readable};
 use crate::row_values::Body;
+use kernels::closed;
+use kernels::word_of;
 use layout::Cell;
 use layout::Sizes;
 use nest::Interval;
@@ -52,22 +54,6 @@ fn word_at(
         return memory[cell - back] as u64;
     }
     boundary
-}
-
-// A word of a list, wide.
-fn word_of(words: &[u32], i: usize) -> u64
-    requires { ⌜ (i < length (now words)) × (length (now words) ≤ 16384) ⌝ }
-    ensures { λ r. ⌜ (r ≡ getD (now (words .entry)) i 0) × (r < 4294967296) ⌝ }
-{
-    words[i] as u64
-}
-
-// The word that a sum closes to.
-fn closed(total: u64, shift: u64) -> u32
-    requires { ⌜ shift < 64 ⌝ }
-    ensures { λ r. ⌜ r ≡ total / 2 ^ shift % 4294967296 ⌝ }
-{
-    ((total >> shift) % 4294967296) as u32
 }
 
 // The word of a cell, whose source is at `from`.
@@ -212,7 +198,7 @@ pub fn overlap(s: Interval, first: usize, width: usize) -> Interval
     requires { ⌜ first + width ≤ 1024 ⌝ }
     ensures { λ r. ⌜ Overlaps s first width r ⌝ }
 {
-    let end = layout::least(s.to, first + width);
+    let end = base::least(s.to, first + width);
     if end <= first {
         return Interval {
             from: first,

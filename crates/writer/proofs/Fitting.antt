@@ -17,7 +17,8 @@ use Rattle.base.proofs.Numbers.{none-first}
 use Rattle.base.proofs.Select.{keep-same}
 use Rattle.nest.specs.declared.Nest.{Nest}
 use Rattle.nest.specs.Nest.{processorCount}
-use Rattle.nest.specs.Reader.{half, filled, nestBy, nestOf, ofKind, distancesOf, ragged, strayRecord, readLines}
+use Rattle.base.specs.Bytes.{half}
+use Rattle.nest.specs.Reader.{filled, nestBy, nestOf, ofKind, distancesOf, ragged, strayRecord, readLines}
 use Rattle.nest.proofs.Laws.{Formed, filled-length, filled-in, filled-out, filled-below, half-small, word-small, component-small, weight-small}
 use Rattle.nest.proofs.Facts.{stray-no}
 use Rattle.writer.specs.Writing.{fitsIn, fits, boundsFit, nestWritable}

@@ -18,7 +18,8 @@ use Rattle.base.proofs.Tests.{every-at, every-all, some-none, pick-true, pick-f
 use Rattle.base.proofs.Select.{keep-more, keep-none, keep-same}
 use Rattle.nest.specs.declared.Nest.{Nest}
 use Rattle.nest.specs.Nest.{lengthOf, tileLength, processorCount, component, weight, side, bounded, earlier, slope, offset}
-use Rattle.nest.specs.Reader.{records, half, word, kind, ofKind, distancesOf, componentAt, weightAt, slopeAt, offsetAt, filled, nestBy, nestOf}
+use Rattle.base.specs.Bytes.{half, word}
+use Rattle.nest.specs.Reader.{records, kind, ofKind, distancesOf, componentAt, weightAt, slopeAt, offsetAt, filled, nestBy, nestOf}
 use Rattle.nest.specs.Reader.{ragged, blank, fitsAt, wellFormed, strayRecord, narrowAt, needlesslyWide, nestLines, readLines}
 use Rattle.nest.proofs.Laws.{Formed, filled-length, made, stands-first, stands-bound, stands-between, stands-last, component-wide, component-narrow}
 use Rattle.nest.proofs.Laws.{weight-wide, weight-narrow, other-kind, checked-plain, checked-close, checked-wide, checked-bound, bound-left}

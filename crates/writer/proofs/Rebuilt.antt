@@ -16,7 +16,8 @@ use Rattle.base.specs.Numbers.{firstOf}
 use Rattle.base.proofs.Tests.{both, either, neither, and-left, true-not, is-false, never-both, every-at, every-all, none-some}
 use Rattle.base.proofs.Numbers.{none-first}
 use Rattle.nest.specs.Nest.{lengthOf, tileLength, processorCount, component, weight, side, bounded, earlier, slope, offset}
-use Rattle.nest.specs.Reader.{records, half, word, kind, ofKind, distancesOf, componentAt, weightAt, slopeAt, offsetAt, nestBy, nestOf, ragged, blank}
+use Rattle.base.specs.Bytes.{half, word}
+use Rattle.nest.specs.Reader.{records, kind, ofKind, distancesOf, componentAt, weightAt, slopeAt, offsetAt, nestBy, nestOf, ragged, blank}
 use Rattle.nest.specs.Reader.{boundFits, checked, fitsAt, strayRecord, badLength, tooLarge, narrowAt, needlesslyWide, nestLines, readLines}
 use Rattle.nest.proofs.Laws.{Formed, filled-in, stands-first, stands-bound, stands-between, stands-last, component-wide, component-narrow}
 use Rattle.nest.proofs.Laws.{weight-wide, weight-narrow, checked-plain, checked-close, checked-wide, checked-bound}

@@ -1,5 +1,6 @@
 // The writer: a recipe's fields to its bytes, with the number that the reader would give for them.
 // The bytes are made in an array of the largest recipe's size and the reader itself is asked about them, so its lines stand in one place.
+use base::index_wide;
 use nest::Nest;
 ghost use mathlib.Core.Path.{_≡_};
 ghost use mathlib.Core.Bool.{true};
@@ -17,7 +18,6 @@ mod nest_records; // nest_records.rt: the records of a nest, each spelled from i
 pub mod spelling; // spelling.rt: the sixteen bytes of each kind of record
 
 use nest_records::record_of;
-use nest_records::wide;
 
 // ---- the recipe
 
@@ -93,7 +93,7 @@ fn weights_fit(values: &[u64], n: usize) -> bool
     ensures { λ r. ⌜ r ≡ fitsIn n 65536 (now (values .entry)) ⌝ }
 {
     for i in 0..values.len() {
-        if values[i] >= wide(limit(i, n, 65536)) {
+        if values[i] >= index_wide(limit(i, n, 65536)) {
             return false;
         }
     }
@@ -256,7 +256,7 @@ fn table_8(values: &[u16]) -> [u64; 8]
 {
     let mut table = [0u64; 8];
     for i in 0..values.len() {
-        table[i] = wide(base::half_index(values[i]));
+        table[i] = base::half_wide(values[i]);
     }
     table
 }
@@ -344,7 +344,7 @@ fn nest_from(
         earlier: table_of_bytes(earlier),
         slopes: slopes_from(slopes),
         offsets: offsets_from(offsets),
-        shift: wide(base::byte_index(shift)),
+        shift: base::byte_wide(shift),
         boundary: base::word_wide(boundary),
     }
 }

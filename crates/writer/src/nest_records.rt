@@ -4,29 +4,14 @@ use crate::spelling::close_record;
 use crate::spelling::dimension_record;
 use crate::spelling::narrow_record;
 use crate::spelling::wide_record;
+use base::byte_wide;
+use base::half_wide;
+use base::index_wide;
 use nest::Nest;
 ghost use mathlib.Core.Path.{_≡_};
 ghost use Prim.Native.Nat.{ℕ, _+_, _*_, _<_, _≤_};
 ghost use lib.ListN.{getD};
 ghost use Rattle.nest.specs.Encode.{dimensionOf, boundOf, narrow, distanceOf, encode};
-
-pub fn wide(x: usize) -> u64
-    ensures { λ r. ⌜ r ≡ x ⌝ }
-{
-    x as u64
-}
-
-fn byte_wide(x: u8) -> u64
-    ensures { λ r. ⌜ r ≡ x ⌝ }
-{
-    x as u64
-}
-
-fn half_wide(x: u16) -> u64
-    ensures { λ r. ⌜ r ≡ x ⌝ }
-{
-    x as u64
-}
 
 fn dimension_of(nest: Nest, j: usize) -> [u8; 16]
     requires { ⌜ j < 4 ⌝ }
@@ -35,7 +20,11 @@ fn dimension_of(nest: Nest, j: usize) -> [u8; 16]
     let lengths = nest.lengths;
     let tiling = nest.tiling;
     let counts = nest.counts;
-    dimension_record(wide(lengths[j]), wide(tiling[j]), wide(counts[j]))
+    dimension_record(
+        index_wide(lengths[j]),
+        index_wide(tiling[j]),
+        index_wide(counts[j]),
+    )
 }
 
 fn bound_of(nest: Nest, k: usize) -> [u8; 16]
@@ -78,10 +67,10 @@ fn distance_of(nest: Nest, e: usize) -> [u8; 16]
     let d = nest.components;
     let weights = nest.weights;
     let at = 4 * e;
-    let d1 = wide(d[at]);
-    let d2 = wide(d[at + 1]);
-    let d3 = wide(d[at + 2]);
-    let d4 = wide(d[at + 3]);
+    let d1 = index_wide(d[at]);
+    let d2 = index_wide(d[at + 1]);
+    let d3 = index_wide(d[at + 2]);
+    let d4 = index_wide(d[at + 3]);
     if narrow(nest, e) {
         return narrow_record(d1, d2, d3, d4, weights[e]);
     }

@@ -1,5 +1,5 @@
 -- The rows near the window: how far the distances go, and the smaller box.
-use Prim.Native.Nat.{ℕ, _+_, _*_, _-_, _/_, _%_, min, _≤_, _<_}
+use Prim.Native.Nat.{ℕ, _+_, _*_, _-_, _/_, _%_, min, max, _≤_, _<_}
 use mathlib.Core.Path.{_≡_, refl, ap, _∙_}
 use mathlib.Core.Logic.{_⊎_, inl, inr}
 use mathlib.Core.List.{List}
@@ -35,7 +35,7 @@ module _ (components : List ℕ) where
   most-none most l h = record { long = l; each = λ i k. absurd (omega arith); small = λ j. omega (arith, h j) }
 
   pub most-more : (most : List ℕ) (n v : ℕ) → Most components most n → getD components n 0 ≤ 1024
-      → (getD most (n % 4) 0 ≤ v) × ((getD components n 0 ≤ v) × ((v ≡ getD most (n % 4) 0) ⊎ (v ≡ getD components n 0)))
+      → v ≡ max (getD most (n % 4) 0) (getD components n 0)
       → Most components (set most (n % 4) v) (n + 1)
   most-more most n v p m h =
       record {
@@ -47,23 +47,22 @@ module _ (components : List ℕ) where
       here : n % 4 < 4
       here = omega arith
 
-      v-small : (v ≡ getD most (n % 4) 0) ⊎ (v ≡ getD components n 0) → v ≤ 1024
-      v-small (inl e) = omega (arith, p .small (n % 4))
-      v-small (inr e) = omega arith
+      v-small : v ≤ 1024
+      v-small = omega (arith, h, m, p .small (n % 4))
 
       below : (i : ℕ) → i < n + 1 → i ≤ n
       below i k = omega arith
 
       go : (i : ℕ) → (i ≡ n) ⊎ (i < n) → Dec (i % 4 ≡ n % 4) → getD components i 0 ≤ getD (set most (n % 4) v) (i % 4) 0
       go i (inl e) (no q) = absurd (q (ap (λ (a : ℕ). a % 4) e))
-      go i (inl e) (yes q) = rw (q, e, getD-set-same most (n % 4) v 0 (omega (arith, p .long, here))) (h .1 .0)
+      go i (inl e) (yes q) = rw (q, e, getD-set-same most (n % 4) v 0 (omega (arith, p .long, here))) (omega (arith, h))
       go i (inr o) (yes q) =
           let m : getD components i 0 ≤ getD most (n % 4) 0 = rw (← q) (p .each i o) in
-          rw (q, getD-set-same most (n % 4) v 0 (omega (arith, p .long, here))) (omega (arith, m, h .0))
+          rw (q, getD-set-same most (n % 4) v 0 (omega (arith, p .long, here))) (omega (arith, m, h))
       go i (inr o) (no q) = rw (getD-set-other most (n % 4) (i % 4) v 0 q) (p .each i o)
 
       low : (j : ℕ) → Dec (j ≡ n % 4) → getD (set most (n % 4) v) j 0 ≤ 1024
-      low j (yes q) = rw (q, getD-set-same most (n % 4) v 0 (omega (arith, p .long, here))) (v-small (h .1 .1))
+      low j (yes q) = rw (q, getD-set-same most (n % 4) v 0 (omega (arith, p .long, here))) v-small
       low j (no q) = rw (getD-set-other most (n % 4) j v 0 q) (p .small j)
 
 module _ (x : Nest) (ok : Accepted x) where

@@ -1,5 +1,5 @@
 -- Laws of runs in a row: the row's own span, what a distance reads, what it reaches.
-use Prim.Native.Nat.{ℕ, _+_, _*_, _-_, _≤_, _<_, min}
+use Prim.Native.Nat.{ℕ, _+_, _*_, _-_, _≤_, _<_, min, max}
 use mathlib.Core.Path.{_≡_, refl, sym, ap, _∙_}
 use mathlib.Core.Logic.{_⊎_, inl, inr}
 use mathlib.Core.Bool.{Bool, true, false}
@@ -116,22 +116,18 @@ module _ (x : Nest) (ok : Accepted x) where
             in-run low top (k (last x)) (b (k (last x)) (r1 .0) (r3 .0)) (d (k (last x)) (r1 .1) r2 (r3 .1))
 
     -- by what the code makes
-    reach-made : (f1 t1 end f2 t2 d low top : ℕ) → d ≡ component x e (last x) → (f1 ≤ low) × ((f2 - d ≤ low) × ((low ≡ f1) ⊎ (low ≡ f2 - d)))
+    reach-made : (f1 t1 end f2 t2 d low top : ℕ) → d ≡ component x e (last x) → low ≡ max f1 (f2 - d)
         → top ≡ min (min t1 end) (t2 - d)
         → RunIs x i (inPlace x) f1 t1 → RowEnd x w i e end → RunIs x t (inPlace x) f2 t2 → RunIs x i (reachesPlace x w e) low top
     reach-made f1 t1 end f2 t2 d low top z m n own ends far =
-        reach-run f1 t1 end f2 t2 low top own ends far (λ a h. (omega (arith, m .0), omega (arith, m .1 .0))) (λ a h k. lower a h k (m .1 .1))
+        reach-run f1 t1 end f2 t2 low top own ends far (λ a h. (omega arith, omega arith)) (λ a h k. omega arith)
         (λ a h. (omega arith, (omega arith, omega arith))) (λ a h k l. omega arith)
-      where
-        lower : (a : ℕ) → f1 ≤ a → f2 ≤ a + component x e (last x) → (low ≡ f1) ⊎ (low ≡ f2 - d) → low ≤ a
-        lower a h k (inl q) = omega arith
-        lower a h k (inr q) = omega arith
 
-    pub reach-code : (f1 t1 end f2 t2 d a b m low top : ℕ) → d ≡ component x e (last x) → a ≡ f2 - d → (f1 ≤ low) × ((a ≤ low) × ((low ≡ f1) ⊎ (low ≡ a)))
+    pub reach-code : (f1 t1 end f2 t2 d a b m low top : ℕ) → d ≡ component x e (last x) → a ≡ f2 - d → low ≡ max f1 a
         → m ≡ min t1 end → b ≡ t2 - d → top ≡ min m b
         → RunIs x i (inPlace x) f1 t1 → RowEnd x w i e end → RunIs x t (inPlace x) f2 t2 → RunIs x i (reachesPlace x w e) low top
     reach-code f1 t1 end f2 t2 d a b m low top z ea l em eb et =
-        reach-made f1 t1 end f2 t2 d low top z (rw (← ea) l) (et ∙ rw (em, eb) refl)
+        reach-made f1 t1 end f2 t2 d low top z (l ∙ ap (max f1) ea) (et ∙ rw (em, eb) refl)
 
     -- it reaches the window nowhere
     pub reach-none : RowEnd x w i e 0 → RunIs x i (reachesPlace x w e) 0 0

@@ -24,14 +24,14 @@ element-copy-out-c c = search needs
 mul-c-2 : tie.Need-mul-c-2
 mul-c-2 c = search needs
 
-add-mark-span : tie.Need-add-mark-span
-add-mark-span c = search needs
+add-mark : tie.Need-add-mark
+add-mark c = search needs
 
-add-mark-span-2 : tie.Need-add-mark-span-2
-add-mark-span-2 c = search needs
+add-mark-2 : tie.Need-add-mark-2
+add-mark-2 c = search needs
 
-mark-span-requires : tie.Need-mark-span-requires
-mark-span-requires c κs = search needs
+mark-requires : tie.Need-mark-requires
+mark-requires c κs = search needs
 
 same-length : tie.Need-same-length
 same-length c = search needs
@@ -42,7 +42,7 @@ returns c =
     let at = c .before .before .before .before .before .before .before .before .before .before .row-place in
     let span = c .before .before .before .before .before .before .before .before .before .span in
     rows.row-shown (S .args .t1) (S .pre .0 .0) (S .args .q) (at .result) (at .ensures) (span .result) (span .ensures) (S .args .marks .now) _
-    (c .before .before .mark-span .ensures)
+    (c .before .before .mark .ensures)
 
 returns-2 : tie.Need-returns-2
 returns-2 c =
@@ -62,9 +62,9 @@ mark-row-spec =
     mul-c
     element-copy-out-c
     mul-c-2
-    add-mark-span
-    add-mark-span-2
-    mark-span-requires
+    add-mark
+    add-mark-2
+    mark-requires
     same-length
     returns
     returns-2)

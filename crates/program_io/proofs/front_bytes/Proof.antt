@@ -1,6 +1,7 @@
 -- `program_io::front_bytes` meets its contract.
 -- Assumes nothing.
 use mathlib.Core.Path.{sym}
+use native.Mathlib.Omega.{arith}
 use lib.Seq.{length-take-le}
 use borrow.Author.Needs.{needs}
 use Rattle.program_io.proofs.front_bytes.Statement.{statement}
@@ -10,7 +11,7 @@ least-requires : tie.Need-least-requires
 least-requires c κs = search needs
 
 returns : tie.Need-returns
-returns c = (c .least .ensures .1, sym (length-take-le _ _ (c .least .ensures .1)))
+returns c = (omega (arith, c .least .ensures), sym (length-take-le _ _ (omega (arith, c .least .ensures))))
 
 pub front-bytes-spec : {M : Type 1} → statement M
 front-bytes-spec = tie.close (tie.spec least-requires returns)

@@ -50,31 +50,31 @@ offsets-of-requires c κs =
     let start = c .before .before .before .before .before .before .before .before .before .before .before in
     (start .pre .0, omega (arith, start .pre .1 .1))
 
-add-byte-index : tie.Need-add-byte-index
-add-byte-index c =
+add-byte-wide : tie.Need-add-byte-wide
+add-byte-wide c =
     let start = c .before .before .before .before .before .before .before .before .before .before .before .before in
     omega (arith, start .pre .0, start .pre .1)
 
-shared-slice-read-byte-index : tie.Need-shared-slice-read-byte-index
-shared-slice-read-byte-index c =
+shared-slice-read-byte-wide : tie.Need-shared-slice-read-byte-wide
+shared-slice-read-byte-wide c =
     let start = c .before .before .before .before .before .before .before .before .before .before .before .before .before in
     omega (arith, start .pre .0, start .pre .1)
 
-byte-index-requires : tie.Need-byte-index-requires
-byte-index-requires c κs = search needs
-
-wide-requires : tie.Need-wide-requires
-wide-requires c κs = search needs
+byte-wide-requires : tie.Need-byte-wide-requires
+byte-wide-requires c κs = search needs
 
 add-word-at : tie.Need-add-word-at
 add-word-at c =
-    let start = c .before .before .before .before .before .before .before .before .before .before .before .before .before .before .before in
+    let start = c .before .before .before .before .before .before .before .before .before .before .before .before .before .before in
     omega (arith, start .pre .0, start .pre .1)
 
 word-at-requires : tie.Need-word-at-requires
 word-at-requires c κs =
-    let start = c .before .before .before .before .before .before .before .before .before .before .before .before .before .before .before in
+    let start = c .before .before .before .before .before .before .before .before .before .before .before .before .before .before in
     omega (arith, start .pre .0, start .pre .1)
+
+word-wide-requires : tie.Need-word-wide-requires
+word-wide-requires c κs = search needs
 
 returns : tie.Need-returns
 returns c =
@@ -94,7 +94,7 @@ returns c =
     L.made (A .encoded .now) (A .n) (A .b) (A .e) _ _ _ _ _ _ _ _ _ _ _ _ _ (at-spread-of .spread-of .ensures) (at-halves .halves .ensures)
     (at-halves2 .halves2 .ensures) (at-halves3 .halves3 .ensures) (at-components-of .components-of .ensures) (at-weights-of .weights-of .ensures)
     (at-bytes-of .bytes-of .ensures) (at-bytes-of2 .bytes-of2 .ensures) (at-bytes-of3 .bytes-of3 .ensures) (at-slopes-of .slopes-of .ensures)
-    (at-offsets-of .offsets-of .ensures) (c .before .wide .ensures ∙ c .before .before .byte-index .ensures) (c .word-at .ensures)
+    (at-offsets-of .offsets-of .ensures) (c .before .before .byte-wide .ensures) (c .word-wide .ensures ∙ c .before .word-at .ensures)
 
 pub nest-by-spec : {M : Type 1} → statement M
 nest-by-spec =
@@ -114,10 +114,10 @@ nest-by-spec =
     bytes-of-requires-3
     slopes-of-requires
     offsets-of-requires
-    add-byte-index
-    shared-slice-read-byte-index
-    byte-index-requires
-    wide-requires
+    add-byte-wide
+    shared-slice-read-byte-wide
+    byte-wide-requires
     add-word-at
     word-at-requires
+    word-wide-requires
     returns)

@@ -117,7 +117,7 @@ fn upper_cut(nest: Nest, area: Window, left: Interval, k: usize) -> Interval
     }
     Interval {
         from: left.from,
-        to: layout::least(left.to, level + 1 - at - 32768),
+        to: base::least(left.to, level + 1 - at - 32768),
     }
 }
 
@@ -164,7 +164,7 @@ fn places_in(inner: Interval, tiling: usize, length: usize, most: usize) -> Inte
     }
     Interval {
         from: (inner.from + tiling - 1) / tiling + 1,
-        to: layout::least(whole - 1, (inner.to - most) / tiling),
+        to: base::least(whole - 1, (inner.to - most) / tiling),
     }
 }
 

@@ -1,15 +1,15 @@
 -- Inner rows: those in which all distances read once far enough along.
-use Prim.Native.Nat.{ℕ, zero, suc, _+_, _*_, _-_, _≤_, _<_}
+use Prim.Native.Nat.{ℕ, zero, suc, _+_, _*_, _-_, _≤_, _<_, max}
 use mathlib.Core.Path.{_≡_, refl, sym, ap, _∙_}
-use mathlib.Core.Logic.{_⊎_, inl, inr, _≢_}
+use mathlib.Core.Logic.{_⊎_, inl, inr}
 use mathlib.Core.Bool.{Bool, true, false}
-use mathlib.Core.List.{List, [], _∷_, _++_}
-use native.Mathlib.Nat.{eq-or-lt-of-le}
+use mathlib.Core.List.{List, [], _∷_}
+use native.Mathlib.Nat.{eq-or-lt-of-le, max-le}
 use native.Mathlib.Numerals.{add-one}
 use native.Mathlib.Omega.{arith}
-use lib.ListN.{length, getD}
+use lib.ListN.{getD}
 use lib.Dec.{leb}
-use borrow.Author.Tests.{leb-true, leb-false, le-leb, lt-leb}
+use borrow.Author.Tests.{leb-true, le-leb}
 use Rattle.base.specs.Tests.{pick, every}
 use Rattle.base.proofs.Tests.{pick-true, pick-false, every-at, every-all, every-same}
 use Rattle.nest.specs.declared.Nest.{Nest}
@@ -17,27 +17,14 @@ use Rattle.nest.specs.Accepted.{Accepted}
 use Rattle.nest.specs.Nest.{component, lengthOf, cells}
 use Rattle.layout.specs.declared.Cell.{Cell}
 use Rattle.layout.specs.Places.{Has, Located}
-use Rattle.layout.specs.CellRows.{Given, rowOf}
+use Rattle.layout.specs.CellRows.{Given}
 use Rattle.layout.proofs.CellRows.{row-last, row-low}
-use Rattle.base.specs.Lists.{storeAll}
 use Rattle.nest.specs.Places.{place, cellPlace}
-use Rattle.bands.specs.lagged.Bands.{four, rowsOf, Band, Banded, InRow}
+use Rattle.bands.specs.lagged.Bands.{four, Band, Banded, InRow}
 use Rattle.values.specs.row_values.Waves.{mostIn, mostOf, Lasts, Lent, Inner, Inners, Fours}
-use Rattle.values.specs.row_values.Reads.{firstRead, Firsts, Backs}
-use Rattle.kernels.proofs.Orders.{store-append}
+use Rattle.values.specs.row_values.Reads.{firstRead, Firsts}
 use Rattle.values.proofs.row_values.Words.{in-row}
 use Rattle.bands.proofs.lagged.Waves.{each-four}
-
--- the greater of two
-pub greater-is : (t : Bool) (a b : ℕ) → leb a b ≡ t → (a ≤ pick t b a) × (b ≤ pick t b a)
-unfolding pick
-greater-is true a b e = (leb-true a b e, omega arith)
-greater-is false a b e = (omega arith, omega (arith, leb-false a b e))
-
-greater-most : (t : Bool) (a b n : ℕ) → a ≤ n → b ≤ n → pick t b a ≤ n
-unfolding pick
-greater-most true a b n p q = q
-greater-most false a b n p q = p
 
 pub record Mosting (l : List ℕ) (j n most e : ℕ) : Type 0 where
   pub low : e ≤ n
@@ -48,11 +35,9 @@ module _ (l : List ℕ) (j n : ℕ) where
   unfolding mostIn
   mosting-none = record { low = omega arith; is = refl }
 
-  pub mosting-more : (most e r : ℕ) → Mosting l j n most e → e < n → r ≡ pick (leb most (getD l (4 * e + j) 0)) (getD l (4 * e + j) 0) most → Mosting l j n r
-      (e + 1)
+  pub mosting-more : (most e r : ℕ) → Mosting l j n most e → e < n → r ≡ max most (getD l (4 * e + j) 0) → Mosting l j n r (e + 1)
   unfolding mostIn
-  mosting-more most e r s h q =
-      record { low = omega arith; is = rw (add-one e) (q ∙ ap (λ (a : ℕ). pick (leb a (getD l (4 * e + j) 0)) (getD l (4 * e + j) 0) a) (s .is)) }
+  mosting-more most e r s h q = record { low = omega arith; is = rw (add-one e) (q ∙ ap (λ (a : ℕ). max a (getD l (4 * e + j) 0)) (s .is)) }
 
   pub mosting-end : (most e : ℕ) → Mosting l j n most e → n ≤ e → most ≡ mostIn l j n
   mosting-end most e s h = let z : e ≡ n = omega (arith, s .low) in rw z at (s .is)
@@ -60,19 +45,16 @@ module _ (l : List ℕ) (j n : ℕ) where
 most-least : (l : List ℕ) (j n e : ℕ) → e < n → getD l (4 * e + j) 0 ≤ mostIn l j n
 unfolding mostIn
 most-least l j zero e h = absurd (omega arith)
-most-least l j (suc n) e h = let q : e ≤ n = omega arith in go (eq-or-lt-of-le q) (greater-is _ (mostIn l j n) (getD l (4 * n + j) 0) refl) (most-least l j n e)
+most-least l j (suc n) e h = let q : e ≤ n = omega arith in go (eq-or-lt-of-le q) (most-least l j n e)
   where
-    go : (e ≡ n) ⊎ (e < n) → (mostIn l j n ≤ pick (leb (mostIn l j n) (getD l (4 * n + j) 0)) (getD l (4 * n + j) 0) (mostIn l j n)) ×
-        (getD l (4 * n + j) 0 ≤ pick (leb (mostIn l j n) (getD l (4 * n + j) 0)) (getD l (4 * n + j) 0) (mostIn l j n))
-        → (e < n → getD l (4 * e + j) 0 ≤ mostIn l j n) → getD l (4 * e + j) 0 ≤ pick (leb (mostIn l j n) (getD l (4 * n + j) 0)) (getD l (4 * n + j) 0)
-        (mostIn l j n)
-    go (inl z) p ih = rw z (p .1)
-    go (inr z) p ih = omega (arith, ih z, p .0)
+    go : (e ≡ n) ⊎ (e < n) → (e < n → getD l (4 * e + j) 0 ≤ mostIn l j n) → getD l (4 * e + j) 0 ≤ max (mostIn l j n) (getD l (4 * n + j) 0)
+    go (inl z) ih = rw z (omega arith)
+    go (inr z) ih = omega (arith, ih z)
 
 pub most-most : (x : Nest) → Accepted x → (j n : ℕ) → mostOf x j n ≤ 1024
 unfolding mostIn
 most-most x ok j zero = omega arith
-most-most x ok j (suc n) = greater-most _ (mostOf x j n) (component x n j) 1024 (most-most x ok j n) (ok .component-most n j)
+most-most x ok j (suc n) = max-le (most-most x ok j n) (ok .component-most n j)
 
 module _ (x : Nest) (ok : Accepted x) (margin : List ℕ) (m : Has margin (λ j. mostOf x j (x .distances)) (x .dimensions)) where
   pub margin-most : getD margin (x .dimensions - 1) 0 ≤ 1024

@@ -1,13 +1,13 @@
 -- For contracts below the calls: no reader needs it.
 -- What is made once in a call and lent to every row; rows where all distances read, and four of them.
 -- No sentence of document 01.
-use Prim.Native.Nat.{ℕ, zero, suc, _+_, _*_, _-_, _≤_, _<_}
+use Prim.Native.Nat.{ℕ, zero, suc, _+_, _*_, _-_, _≤_, _<_, max}
 use mathlib.Core.Path.{_≡_}
 use mathlib.Core.Bool.{true}
 use mathlib.Core.List.{List}
 use lib.ListN.{getD}
 use lib.Dec.{leb}
-use Rattle.base.specs.Tests.{pick, every}
+use Rattle.base.specs.Tests.{every}
 use Rattle.nest.specs.declared.Nest.{Nest}
 use Rattle.nest.specs.Nest.{component}
 use Rattle.layout.specs.declared.Cell.{Cell}
@@ -18,7 +18,7 @@ use Rattle.values.specs.row_values.Reads.{Backs}
 -- the most that the first e distances have in dimension j
 unfoldable pub mostIn : List ℕ → ℕ → ℕ → ℕ
 mostIn l j zero = 0
-mostIn l j (suc e) = pick (leb (mostIn l j e) (getD l (4 * e + j) 0)) (getD l (4 * e + j) 0) (mostIn l j e)
+mostIn l j (suc e) = max (mostIn l j e) (getD l (4 * e + j) 0)
 
 abbrev pub mostOf : Nest → ℕ → ℕ → ℕ
 mostOf x j e = mostIn (x .components) j e

@@ -71,18 +71,15 @@ offsets-from-requires c κs =
     let P = start .pre in
     omega (arith, F.agreed _ P .sides, F.agreed _ P .offsets)
 
-byte-index-requires : tie.Need-byte-index-requires
-byte-index-requires c κs = search needs
-
-wide-requires : tie.Need-wide-requires
-wide-requires c κs = search needs
+byte-wide-requires : tie.Need-byte-wide-requires
+byte-wide-requires c κs = search needs
 
 word-wide-requires : tie.Need-word-wide-requires
 word-wide-requires c κs = search needs
 
 returns : tie.Need-returns
 returns c =
-    let at-offsets-from = c .before .before .before in
+    let at-offsets-from = c .before .before in
     let at-slopes-from = at-offsets-from .before in
     let at-table-of-bytes3 = at-slopes-from .before in
     let at-table-of-bytes2 = at-table-of-bytes3 .before in
@@ -100,7 +97,7 @@ returns c =
     (at-spread-of .spread-of .ensures) (at-table-42 .table-42 .ensures) (at-table-43 .table-43 .ensures) (at-table-32 .table-32 .ensures)
     (at-table-8 .table-8 .ensures) (at-table-of-bytes .table-of-bytes .ensures) (at-table-of-bytes2 .table-of-bytes2 .ensures)
     (at-table-of-bytes3 .table-of-bytes3 .ensures) (at-slopes-from .slopes-from .ensures) (at-offsets-from .offsets-from .ensures)
-    (c .before .wide .ensures ∙ c .before .before .byte-index .ensures) (c .word-wide .ensures)
+    (c .before .byte-wide .ensures) (c .word-wide .ensures)
 
 pub nest-from-spec : {M : Type 1} → statement M
 nest-from-spec =
@@ -117,7 +114,6 @@ nest-from-spec =
     table-of-bytes-requires-3
     slopes-from-requires
     offsets-from-requires
-    byte-index-requires
-    wide-requires
+    byte-wide-requires
     word-wide-requires
     returns)

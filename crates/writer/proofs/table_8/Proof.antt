@@ -18,17 +18,14 @@ abbrev μ-loop : tie.MeasureT-loop
 loop-holds : tie.Need-loop-holds Inv-loop μ-loop
 loop-holds c = (omega arith, N.filled-start 8 _)
 
-mul-half-index : tie.Need-mul-half-index Inv-loop μ-loop
-mul-half-index c = search needs
+mul-half-wide : tie.Need-mul-half-wide Inv-loop μ-loop
+mul-half-wide c = search needs
 
-shared-slice-read-half-index : tie.Need-shared-slice-read-half-index Inv-loop μ-loop
-shared-slice-read-half-index c = search needs
+shared-slice-read-half-wide : tie.Need-shared-slice-read-half-wide Inv-loop μ-loop
+shared-slice-read-half-wide c = search needs
 
-half-index-requires : tie.Need-half-index-requires Inv-loop μ-loop
-half-index-requires c κs = search needs
-
-wide-requires : tie.Need-wide-requires Inv-loop μ-loop
-wide-requires c κs = search needs
+half-wide-requires : tie.Need-half-wide-requires Inv-loop μ-loop
+half-wide-requires c κs = search needs
 
 mul-table : tie.Need-mul-table Inv-loop μ-loop
 mul-table c = search needs
@@ -45,8 +42,7 @@ loop-less c = search needs
 loop-again : tie.Need-loop-again Inv-loop μ-loop
 loop-again c = (
   omega arith,
-  N.filled-next 8 _ _ _ _ (c .before .before .before .before .loop .inv .1) (omega arith)
-      (c .wide .ensures ∙ c .before .half-index .ensures),
+  N.filled-next 8 _ _ _ _ (c .before .before .before .loop .inv .1) (omega arith) (c .half-wide .ensures),
 )
 
 returns : tie.Need-returns Inv-loop μ-loop
@@ -59,10 +55,9 @@ table-8-spec =
     Inv-loop
     μ-loop
     loop-holds
-    mul-half-index
-    shared-slice-read-half-index
-    half-index-requires
-    wide-requires
+    mul-half-wide
+    shared-slice-read-half-wide
+    half-wide-requires
     mul-table
     array-write-table
     add-i

@@ -26,8 +26,8 @@ shared-slice-read-if1 c = search needs
 limit-requires : tie.Need-limit-requires Inv-loop μ-loop
 limit-requires c κs = search needs
 
-wide-requires : tie.Need-wide-requires Inv-loop μ-loop
-wide-requires c κs = search needs
+index-wide-requires : tie.Need-index-wide-requires Inv-loop μ-loop
+index-wide-requires c κs = search needs
 
 returns : tie.Need-returns Inv-loop μ-loop
 returns c =
@@ -35,7 +35,7 @@ returns c =
     let at-loop = at-loop-test .before in
     let start = at-loop .before .before in
     S.without (start .args .n) 65536 (start .args .values .now) (at-loop .loop .i) _ (at-loop-test .loop-test .taken)
-    (c .before .wide .ensures ∙ c .before .before .limit .ensures) (c .if1 .taken)
+    (c .before .index-wide .ensures ∙ c .before .before .limit .ensures) (c .if1 .taken)
 
 add-i : tie.Need-add-i Inv-loop μ-loop
 add-i c = search needs
@@ -49,7 +49,7 @@ loop-again c =
     let start = at-loop .before .before in (
       omega arith,
       S.within-next (start .args .n) 65536 (start .args .values .now) (at-loop .loop .i) _ (at-loop .loop .inv .1)
-          (c .before .wide .ensures ∙ c .before .before .limit .ensures) (c .if1 .left),
+          (c .before .index-wide .ensures ∙ c .before .before .limit .ensures) (c .if1 .left),
     )
 
 returns-2 : tie.Need-returns-2 Inv-loop μ-loop
@@ -67,7 +67,7 @@ weights-fit-spec =
     mul-if1
     shared-slice-read-if1
     limit-requires
-    wide-requires
+    index-wide-requires
     returns
     add-i
     loop-less

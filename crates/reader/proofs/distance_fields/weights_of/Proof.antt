@@ -23,8 +23,8 @@ add-weight-at c = omega arith
 weight-at-requires : tie.Need-weight-at-requires Inv-loop μ-loop
 weight-at-requires c κs = omega arith
 
-wide-requires : tie.Need-wide-requires Inv-loop μ-loop
-wide-requires c κs = search needs
+index-wide-requires : tie.Need-index-wide-requires Inv-loop μ-loop
+index-wide-requires c κs = search needs
 
 mul-values : tie.Need-mul-values Inv-loop μ-loop
 mul-values c = omega arith
@@ -39,7 +39,7 @@ loop-less : tie.Need-loop-less Inv-loop μ-loop
 loop-less c = omega arith
 
 loop-again : tie.Need-loop-again Inv-loop μ-loop
-loop-again c = (omega arith, L.filled-next 8 _ _ _ _ (c .before .before .before .loop .inv .1) (omega arith) (c .wide .ensures ∙ c .before .weight-at .ensures))
+loop-again c = (omega arith, L.filled-next 8 _ _ _ _ (c .before .before .before .loop .inv .1) (omega arith) (c .index-wide .ensures ∙ c .before .weight-at .ensures))
 
 returns : tie.Need-returns Inv-loop μ-loop
 returns c = L.filled-end 8 _ _ (c .before .loop .i) _ (c .before .loop .inv .0) (c .loop-test .left) (c .before .loop .inv .1)
@@ -53,7 +53,7 @@ weights-of-spec =
     loop-holds
     add-weight-at
     weight-at-requires
-    wide-requires
+    index-wide-requires
     mul-values
     array-write-values
     add-i

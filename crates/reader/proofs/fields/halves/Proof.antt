@@ -3,7 +3,8 @@ use Prim.Native.Nat.{_+_, _*_, _-_, _≤_}
 use mathlib.Core.Path.{_≡_}
 use native.Mathlib.Omega.{arith}
 use borrow.Author.Needs.{needs}
-use Rattle.nest.specs.Reader.{half, filled}
+use Rattle.base.specs.Bytes.{half}
+use Rattle.nest.specs.Reader.{filled}
 use Rattle.nest.proofs.Laws as L
 use Rattle.reader.proofs.fields.halves.Statement.{statement}
 use Rattle.reader.proofs.fields.halves.Tie as tie

@@ -9,7 +9,7 @@ use lib.ListN.{length}
 use lib.Dec.{ltb}
 use Rattle.base.specs.Tests.{keep}
 use Rattle.base.proofs.Select.{keep-few}
-use Rattle.nest.specs.Reader.{half}
+use Rattle.base.specs.Bytes.{half}
 use Rattle.nest.proofs.Laws as L
 use Rattle.reader.proofs.fields.spread_of.Statement.{statement}
 use Rattle.reader.proofs.fields.spread_of.Tie as tie

@@ -8,7 +8,6 @@ use Rattle.timed.proofs.windows.minutes.Statement.{statement}
 use Rattle.timed.proofs.windows.minutes.Tie as tie
 use Rattle.timed.proofs.windows.minutes.Reads as reads
 use Rattle.timed.proofs.windows.minutes.Lts as lts
-use Rattle.timed.proofs.windows.least.Reads as least-reads
 use Rattle.timed.proofs.windows.wait.Reads as wait-reads
 
 abbrev Inv-loop : tie.InvT-loop
@@ -50,8 +49,8 @@ wait-requires c κs =
     let start = at-loop .before .before in
     (start .pre .1 .1 .0, W.fair-at _ _ (start .pre .1 .1 .1) (at-loop .loop .w) (c .before .before .loop-test .taken))
 
-least-requires : tie.Need-least-requires Inv-loop μ-loop
-least-requires c κs = search needs
+least-word-requires : tie.Need-least-word-requires Inv-loop μ-loop
+least-word-requires c κs = search needs
 
 add-w : tie.Need-add-w Inv-loop μ-loop
 add-w c = search needs
@@ -60,7 +59,7 @@ loop-less : tie.Need-loop-less Inv-loop μ-loop
 loop-less c = search needs
 
 loop-again : tie.Need-loop-again Inv-loop μ-loop
-loop-again c = (omega arith, S.soonest-turn _ _ _ _ _ (c .before .before .before .before .before .loop .inv .1) (c .before .wait .ensures) (c .least .ensures))
+loop-again c = (omega arith, S.soonest-turn _ _ _ _ _ (c .before .before .before .before .before .loop .inv .1) (c .before .wait .ensures) (c .least-word .ensures))
 
 returns : tie.Need-returns Inv-loop μ-loop
 returns c = S.told-never _ _ _ _ _ (c .before .before .loop .inv .1) (c .before .before .loop .inv .0) (c .before .loop-test .left) (c .if1 .taken)
@@ -84,7 +83,7 @@ minutes-spec =
     mul-wait-2
     shared-slice-read-wait-2
     wait-requires
-    least-requires
+    least-word-requires
     add-w
     loop-less
     loop-again

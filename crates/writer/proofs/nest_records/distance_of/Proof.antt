@@ -7,50 +7,50 @@ use Rattle.writer.proofs.nest_records.distance_of.Tie as tie
 mul-at : tie.Need-mul-at
 mul-at c = search needs
 
-mul-wide : tie.Need-mul-wide
-mul-wide c = search needs
+mul-index-wide : tie.Need-mul-index-wide
+mul-index-wide c = search needs
 
-array-read-wide : tie.Need-array-read-wide
-array-read-wide c = search needs
+array-read-index-wide : tie.Need-array-read-index-wide
+array-read-index-wide c = search needs
 
-wide-requires : tie.Need-wide-requires
-wide-requires c κs = search needs
+index-wide-requires : tie.Need-index-wide-requires
+index-wide-requires c κs = search needs
 
-add-wide : tie.Need-add-wide
-add-wide c = search needs
+add-index-wide : tie.Need-add-index-wide
+add-index-wide c = search needs
 
-mul-wide-2 : tie.Need-mul-wide-2
-mul-wide-2 c = search needs
+mul-index-wide-2 : tie.Need-mul-index-wide-2
+mul-index-wide-2 c = search needs
 
-array-read-wide-2 : tie.Need-array-read-wide-2
-array-read-wide-2 c = search needs
+array-read-index-wide-2 : tie.Need-array-read-index-wide-2
+array-read-index-wide-2 c = search needs
 
-wide-requires-2 : tie.Need-wide-requires-2
-wide-requires-2 c κs = search needs
+index-wide-requires-2 : tie.Need-index-wide-requires-2
+index-wide-requires-2 c κs = search needs
 
-add-wide-2 : tie.Need-add-wide-2
-add-wide-2 c = search needs
+add-index-wide-2 : tie.Need-add-index-wide-2
+add-index-wide-2 c = search needs
 
-mul-wide-3 : tie.Need-mul-wide-3
-mul-wide-3 c = search needs
+mul-index-wide-3 : tie.Need-mul-index-wide-3
+mul-index-wide-3 c = search needs
 
-array-read-wide-3 : tie.Need-array-read-wide-3
-array-read-wide-3 c = search needs
+array-read-index-wide-3 : tie.Need-array-read-index-wide-3
+array-read-index-wide-3 c = search needs
 
-wide-requires-3 : tie.Need-wide-requires-3
-wide-requires-3 c κs = search needs
+index-wide-requires-3 : tie.Need-index-wide-requires-3
+index-wide-requires-3 c κs = search needs
 
-add-wide-3 : tie.Need-add-wide-3
-add-wide-3 c = search needs
+add-index-wide-3 : tie.Need-add-index-wide-3
+add-index-wide-3 c = search needs
 
-mul-wide-4 : tie.Need-mul-wide-4
-mul-wide-4 c = search needs
+mul-index-wide-4 : tie.Need-mul-index-wide-4
+mul-index-wide-4 c = search needs
 
-array-read-wide-4 : tie.Need-array-read-wide-4
-array-read-wide-4 c = search needs
+array-read-index-wide-4 : tie.Need-array-read-index-wide-4
+array-read-index-wide-4 c = search needs
 
-wide-requires-4 : tie.Need-wide-requires-4
-wide-requires-4 c κs = search needs
+index-wide-requires-4 : tie.Need-index-wide-requires-4
+index-wide-requires-4 c κs = search needs
 
 narrow-requires : tie.Need-narrow-requires
 narrow-requires c κs = search needs
@@ -72,7 +72,7 @@ returns c =
     let at-wide = at-wide2 .before in
     let start = at-wide .before .before .before in
     let A = start .args in
-    L.narrow-is (A .nest) (A .e) _ _ _ _ (at-wide .wide .ensures) (at-wide2 .wide2 .ensures) (at-wide3 .wide3 .ensures) (at-wide4 .wide4 .ensures) _ _
+    L.narrow-is (A .nest) (A .e) _ _ _ _ (at-wide .index-wide .ensures) (at-wide2 .index-wide2 .ensures) (at-wide3 .index-wide3 .ensures) (at-wide4 .index-wide4 .ensures) _ _
     (c .before .before .narrow .ensures) (c .before .if1 .taken) (c .narrow-record .ensures)
 
 mul-wide-record : tie.Need-mul-wide-record
@@ -92,7 +92,7 @@ returns-2 c =
     let at-wide = at-wide2 .before in
     let start = at-wide .before .before .before in
     let A = start .args in
-    L.wide-is (A .nest) (A .e) _ _ _ _ (at-wide .wide .ensures) (at-wide2 .wide2 .ensures) (at-wide3 .wide3 .ensures) (at-wide4 .wide4 .ensures) _ _
+    L.wide-is (A .nest) (A .e) _ _ _ _ (at-wide .index-wide .ensures) (at-wide2 .index-wide2 .ensures) (at-wide3 .index-wide3 .ensures) (at-wide4 .index-wide4 .ensures) _ _
     (c .before .before .narrow .ensures) (c .before .if1 .left) (c .wide-record .ensures)
 
 pub distance-of-spec : {M : Type 1} → statement M
@@ -100,21 +100,21 @@ distance-of-spec =
     tie.close
     (tie.spec
     mul-at
-    mul-wide
-    array-read-wide
-    wide-requires
-    add-wide
-    mul-wide-2
-    array-read-wide-2
-    wide-requires-2
-    add-wide-2
-    mul-wide-3
-    array-read-wide-3
-    wide-requires-3
-    add-wide-3
-    mul-wide-4
-    array-read-wide-4
-    wide-requires-4
+    mul-index-wide
+    array-read-index-wide
+    index-wide-requires
+    add-index-wide
+    mul-index-wide-2
+    array-read-index-wide-2
+    index-wide-requires-2
+    add-index-wide-2
+    mul-index-wide-3
+    array-read-index-wide-3
+    index-wide-requires-3
+    add-index-wide-3
+    mul-index-wide-4
+    array-read-index-wide-4
+    index-wide-requires-4
     narrow-requires
     mul-narrow-record
     array-read-narrow-record

@@ -1,9 +1,9 @@
--- `reader::distance_fields::half_at` meets its contract: a byte is below 256, so nothing wraps.
+-- `half_at` meets its contract: a byte is below 256, so nothing wraps.
 use Prim.Native.Nat.{_+_}
 use native.Mathlib.Omega.{arith}
 use borrow.Author.Needs.{needs}
-use Rattle.reader.proofs.distance_fields.half_at.Statement.{statement}
-use Rattle.reader.proofs.distance_fields.half_at.Tie as tie
+use Rattle.base.proofs.half_at.Statement.{statement}
+use Rattle.base.proofs.half_at.Tie as tie
 
 shared-slice-read-byte-index : tie.Need-shared-slice-read-byte-index
 shared-slice-read-byte-index c = search needs
