@@ -2,6 +2,7 @@ pub mod Computed
 pub mod OneCall
 pub mod OfficeTurns
 pub mod SharedWords
+pub mod Fit
 pub mod Engaged
 pub mod OneOffice
 pub mod Theorem208
