@@ -9,3 +9,4 @@ pub mod Theorem208
 pub mod ByStep
 pub mod AnyCalls
 pub mod Example
+pub mod Witnesses
