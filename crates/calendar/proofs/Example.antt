@@ -21,6 +21,7 @@ use Rattle.tenants.specs.Offices.{Sources, freshRig, collectOn}
 use Rattle.calendar.specs.declared.Opening.the-variants.{Never}
 use Rattle.calendar.specs.Hours.{closesAt, isWindow, isFaulty, faultyBoard, faultyTable, faultyWindow, covers, inWindow, openAt, closed, hoursOf}
 use Rattle.calendar.specs.Hours.{Timed, turnAt, mailOf, actAt, TimedCall, actAtOn, untilOpen}
+use Rattle.calendar.specs.Waits.{Fair}
 use Rattle.calendar.specs.Demands212.{Faultless, SomeStep, Demand212, Demand212For}
 use Rattle.calendar.proofs.Telling.{tells}
 use Rattle.calendar.proofs.Allowed.{guards}
@@ -52,6 +53,12 @@ goes : (source : List ℕ) (events : List Timed) → steps (actAt rows source) (
 unfolding rows
 goes source events h =
     one-office source events .goes-on short faultless (λ b low left. (b, omega arith, every-at (λ b. openAt short b b) 4 opened b low)) h
+
+-- Waits.Fair: open for the whole week, and no window
+fair : Fair 0 10080 × Fair 0 0
+fair =
+    (record { most = omega arith; order = λ n. omega arith; none = λ e. absurd (omega arith) },
+    record { most = omega arith; order = λ n. absurd (n refl); none = λ e. refl })
 
 -- ---- a table of zeros
 getD-zeros : (n i : ℕ) → _≡_ {A = ℕ} (getD (replicate n 0) i 0) 0

@@ -77,6 +77,7 @@ Does p source s after b (send m) = Packs p s after b m
 module _ (acts : State → Event → Answered State) (start : State) where
   -- after these events a turn of processor b gives 0, and the action is the one that its program names next
   pub record Did (p : Plan) (events : List Event) (b : ℕ) (a : Action) : Type 0 where
+    -- proofs/Witnesses has a run that meets it
     pub gave : acts (stateAfter acts start events) (turnOf b) .number ≡ 0
     pub named : getD (program p b) (turnsOf b events (answersTo acts start events)) (gather 0) ≡ a
 

@@ -62,5 +62,5 @@ unfolding line3 valueAt
 own3 source source′ memory zero e = e
 own3 source source′ memory (suc c) e = ap (λ (x : ℕ). x + getD memory c 0) e
 
-is-local : Local line3 (turn line3)
+pub is-local : Local line3 (turn line3)
 is-local = local line3 sound3 own3

@@ -18,3 +18,4 @@ pub mod Own
 pub mod OwnRuns
 pub mod NotLocal
 pub mod Example
+pub mod Witnesses

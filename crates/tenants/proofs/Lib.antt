@@ -2,9 +2,11 @@ pub mod Computed
 pub mod OneCall
 pub mod OfficeTurns
 pub mod SharedWords
+pub mod Fit
 pub mod Engaged
 pub mod OneOffice
 pub mod Theorem208
 pub mod ByStep
 pub mod AnyCalls
 pub mod Example
+pub mod Witnesses

@@ -19,7 +19,7 @@ use Rattle.tenants.specs.Offices.{Lent, holderOf, stageAgrees, wordFor, 
 
 -- ---- the test of one word against one stage
 module _ (w o g : ℕ) where
-  agrees-held : w ≡ o → (g ≡ 1) ⊎ (g ≡ 2) → stageAgrees w o g ≡ true
+  pub agrees-held : w ≡ o → (g ≡ 1) ⊎ (g ≡ 2) → stageAgrees w o g ≡ true
   unfolding stageAgrees
   agrees-held e q = pick-true _ _ _ (eq-eqb w o e) ∙ go q
     where

@@ -1,2 +1,3 @@
 pub mod Offices
 pub mod Demand208
+pub mod Fit
