@@ -2,3 +2,4 @@ pub mod Splits
 pub mod Apart
 pub mod Answers
 pub mod Longest
+pub mod Rows

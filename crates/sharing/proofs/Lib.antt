@@ -3,3 +3,4 @@ pub mod Lines
 pub mod Starts
 pub mod AsRuns
 pub mod Demands
+pub mod LookRows

@@ -2,3 +2,4 @@ pub mod Calls
 pub mod Given
 pub mod Demands
 pub mod look
+pub mod LookRows

@@ -1,3 +1,4 @@
 pub mod Soundings
 pub mod Ground
 pub mod Sifting
+pub mod Rows
