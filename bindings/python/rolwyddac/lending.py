@@ -1,0 +1,126 @@
+"""Areas as a call is lent them: where they begin, and how many elements they have."""
+
+from __future__ import annotations
+
+import array
+import ctypes
+from typing import Any, Iterable, Iterator, NamedTuple
+
+from .hints import Words
+from .kinds import KINDS
+
+WORD = 4
+PROGRESS = 'Progress'
+
+
+class Progress(ctypes.Structure):
+    """How far a processor is: tiles finished, stage (0 gather, 1 calculate, 2 send), messages of the current tile sent."""
+
+    finished: int
+    stage: int
+    sent: int
+    _fields_ = [('finished', ctypes.c_uint32), ('stage', ctypes.c_uint32), ('sent', ctypes.c_uint32)]
+
+    def __eq__(self, other: object) -> bool:
+        return bytes(self) == bytes(other)  # type: ignore[call-overload]
+
+    def __repr__(self) -> str:
+        return 'Progress(finished=%d, stage=%d, sent=%d)' % (self.finished, self.stage, self.sent)
+
+
+class Sizes(ctypes.Structure):
+    """How many elements each area has."""
+
+    AREAS = ('source', 'memories', 'buffer', 'progress', 'status', 'grid', 'engaged')
+    source: int
+    memories: int
+    buffer: int
+    progress: int
+    status: int
+    grid: int
+    engaged: int
+    _fields_ = [(name, ctypes.c_size_t) for name in AREAS]
+
+    def __repr__(self) -> str:
+        return 'Sizes(%s)' % ', '.join('%s=%d' % (name, getattr(self, name)) for name in self.AREAS)
+
+
+class Lent(NamedTuple):
+    """An area as a call is lent it."""
+
+    address: int
+    elements: int
+    # what must be there until the call is done
+    kept: Any
+
+
+def type_of(kind: str) -> Any:
+    """The C type of a kind of number or element."""
+    return Progress if kind == PROGRESS else KINDS[kind].ctype
+
+
+# how the struct module names numbers of these sizes
+_FORMATS = {'u8': 'B', 'u16': 'H', 'u32': 'IL', PROGRESS: 'IL', 'i8': 'b', 'i16': 'h'}
+
+
+def listed(name: str, kind: str, values: Iterable[Any]) -> Words:
+    """A list as an array of the kind; a nested one is taken row after row."""
+    flat = list(flattened(values))
+    _, code, least, most = KINDS[kind]
+    wrong = [value for value in flat if not least <= value <= most]
+    if wrong:
+        raise ValueError('%s: %s is not from %d to %d' % (name, wrong[0], least, most))
+    return array.array(code, flat)
+
+
+def flattened(values: Iterable[Any]) -> Iterator[Any]:
+    """The numbers of a list, of lists of lists too."""
+    for value in values:
+        if isinstance(value, (list, tuple)):
+            yield from flattened(value)
+        else:
+            yield value
+
+
+def _viewed(name: str, kind: str, area: Any) -> memoryview:
+    """An area's buffer; told plainly where it has not the kind's elements."""
+    try:
+        view = memoryview(area)
+    except TypeError:
+        raise TypeError('%s: %s has no buffer of elements' % (name, type(area).__name__)) from None
+    sign = view.format.lstrip('@=<|')
+    size = WORD if kind == PROGRESS else ctypes.sizeof(type_of(kind))
+    # a structured array of three words a record is taken for what it is
+    record = kind == PROGRESS and view.itemsize == ctypes.sizeof(Progress)
+    if not record and not (view.itemsize == size and sign in _FORMATS[kind]):
+        raise TypeError('%s: elements must be unsigned, %d bytes each, not %r' % (name, size, view.format))
+    if not view.c_contiguous:
+        raise ValueError('%s: the elements must lie side by side' % name)
+    return view
+
+
+# what the pointer of an area without elements points to
+_SPARE = Progress()
+
+
+def lent(name: str, kind: str, area: Any, write: bool) -> Lent:
+    """An area for one call; it is copied where it can only be read."""
+    if not write and isinstance(area, (list, tuple)) and kind != PROGRESS:
+        area = listed(name, kind, area)
+    size = ctypes.sizeof(type_of(kind))
+    if isinstance(area, ctypes.Array) and area._type_ is type_of(kind):
+        return Lent(ctypes.addressof(area if len(area) else _SPARE), len(area), area)
+    view = _viewed(name, kind, area)
+    if write and view.readonly:
+        raise TypeError('%s: the area is written, and can only be read' % name)
+    if view.nbytes % size:
+        raise ValueError('%s: %d bytes are no whole number of elements' % (name, view.nbytes))
+    if view.nbytes == 0:
+        return Lent(ctypes.addressof(_SPARE), 0, area)
+    octets = ctypes.c_uint8 * view.nbytes
+    # ctypes points into nothing that can only be read
+    kept = octets.from_buffer_copy(view.tobytes()) if view.readonly else octets.from_buffer(view)
+    address = ctypes.addressof(kept)
+    if address % min(size, WORD):
+        raise ValueError('%s: the elements are not aligned' % name)
+    return Lent(address, view.nbytes // size, kept)

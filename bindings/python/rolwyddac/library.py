@@ -1,0 +1,56 @@
+"""Finds and loads the shared object librolwyddac.so."""
+
+from __future__ import annotations
+
+import ctypes
+import ctypes.util
+import os
+import sys
+from typing import List
+
+NAME = 'librolwyddac.so'
+
+if sys.byteorder != 'little' or ctypes.sizeof(ctypes.c_size_t) != 8:
+    raise ImportError('librolwyddac is for x86-64')
+
+
+def _places() -> List[str]:
+    """Where the shared object may be, the first that is there counts; a folder that ROLWYDDAC_LIB names is the only one."""
+    here = os.path.dirname(os.path.abspath(__file__))
+    named = os.environ.get('ROLWYDDAC_LIB')
+    if named:
+        return [os.path.join(os.path.abspath(named), NAME)]
+    return [os.path.join(here, NAME), os.path.normpath(os.path.join(here, '../../../target/library/lib', NAME))]
+
+
+def _load() -> ctypes.CDLL:
+    places = _places()
+    for place in places:
+        if os.path.isfile(place):
+            return ctypes.CDLL(place)
+    found = None if os.environ.get('ROLWYDDAC_LIB') else ctypes.util.find_library('rolwyddac')
+    if found:
+        return ctypes.CDLL(found)
+    raise ImportError('no %s; run bindings/library in the repository, or set ROLWYDDAC_LIB to its folder' % ', no '.join(places))
+
+
+LOADED = _load()
+for _name in ('version', 'term', 'text'):
+    getattr(LOADED, 'rolwyddac_' + _name).restype = ctypes.c_char_p
+for _name in ('term', 'text'):
+    getattr(LOADED, 'rolwyddac_' + _name).argtypes = [ctypes.c_uint32]
+
+
+def version() -> str:
+    """The version of the library that is loaded."""
+    return LOADED.rolwyddac_version().decode()
+
+
+def term(number: int) -> str:
+    """The term of a number, as `early` for 15."""
+    return LOADED.rolwyddac_term(number).decode()
+
+
+def text(number: int) -> str:
+    """What a number says, as `collecting while a processor has tiles left` for 15."""
+    return LOADED.rolwyddac_text(number).decode()

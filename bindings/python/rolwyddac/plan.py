@@ -1,0 +1,159 @@
+"""What a recipe's plan has: totals, messages, owners of cells, rounds, and the part of one processor."""
+
+from __future__ import annotations
+
+import array
+from typing import Any, List, NamedTuple, Optional
+
+from . import calls
+from .calls import sizes
+from .hints import BytesLike, Grid, Numbers, Words
+from .recipe import dimensions
+from .words import shaped, source_of, zeros
+
+DIRECT, INDIRECT = 0, 1
+
+AREA = 9
+
+
+class Summary(NamedTuple):
+    """The totals of a plan."""
+
+    cells: int
+    processors: int
+    tiles: int
+    messages: int
+    words: int
+    steps: int
+
+
+class Message(NamedTuple):
+    """The line of one message."""
+
+    sending_tile: int
+    taking_tile: int
+    sending_processor: int
+    taking_processor: int
+    words: int
+
+
+class Row(NamedTuple):
+    """One message's line, and where its words begin in the buffer."""
+
+    sending_tile: int
+    taking_tile: int
+    sending_processor: int
+    taking_processor: int
+    words: int
+    offset: int
+
+
+class OwnRow(NamedTuple):
+    """A message that a processor handles: its number, its line, and where its words begin in the processor's mail."""
+
+    message: int
+    sending_tile: int
+    taking_tile: int
+    sending_processor: int
+    taking_processor: int
+    words: int
+    place: int
+
+
+class OwnSizes(NamedTuple):
+    """How long the areas of a processor's own part are: words of source, memory and mail, and its messages."""
+
+    source: int
+    memory: int
+    mail: int
+    messages: int
+
+
+class Awaited(NamedTuple):
+    """What a processor waits for: its tile, and the messages due there that are not delivered."""
+
+    tile: int
+    messages: List[int]
+
+
+def summary(encoded: BytesLike, route: int = DIRECT) -> Summary:
+    """The totals of a recipe's plan on a route."""
+    areas, out = sizes(encoded, route), zeros(4)
+    calls.EXPORTED['summary'](encoded, route, out)
+    return Summary(areas.source, areas.progress, *out)
+
+
+def message(encoded: BytesLike, route: int, m: int) -> Message:
+    """The line of message m of a recipe's plan on a route."""
+    out = zeros(len(Message._fields))
+    calls.EXPORTED['message'](encoded, route, m, out)
+    return Message(*out)
+
+
+def messages(encoded: BytesLike, route: int = DIRECT) -> List[Row]:
+    """The rows of all messages of a recipe's plan on a route, in the order of their numbers."""
+    width = len(Row._fields)
+    out = zeros(width * sizes(encoded, route).status)
+    calls.EXPORTED['messages'](encoded, route, out)
+    return [Row(*out[at:at + width]) for at in range(0, len(out), width)]
+
+
+def owners(encoded: BytesLike) -> Grid:
+    """The processor of each cell's tile, as a grid; outside the shape the number of processors."""
+    out = zeros(sizes(encoded).source)
+    calls.EXPORTED['owners'](encoded, out)
+    return shaped(out, dimensions(encoded))
+
+
+def awaited(encoded: BytesLike, route: int, progress: Any, status: Any, processor: int) -> Awaited:
+    """What a processor waits for; no messages where it can go on."""
+    marks, out = bytearray(len(status)), zeros(1)
+    calls.EXPORTED['awaited'](encoded, route, progress, status, processor, marks, out)
+    return Awaited(out[0], [m for m, mark in enumerate(marks) if mark])
+
+
+def own_sizes(encoded: BytesLike, processor: int, route: int = DIRECT) -> OwnSizes:
+    """How long the areas of a processor's own part are."""
+    out = zeros(len(OwnSizes._fields))
+    calls.EXPORTED['own_sizes'](encoded, route, processor, out)
+    return OwnSizes(*out)
+
+
+def own_messages(encoded: BytesLike, processor: int, route: int = DIRECT) -> List[OwnRow]:
+    """The rows of the messages that a processor handles, in the order of their numbers."""
+    width = len(OwnRow._fields)
+    out = zeros(width * own_sizes(encoded, processor, route).messages)
+    calls.EXPORTED['own_messages'](encoded, route, processor, out)
+    return [OwnRow(*out[at:at + width]) for at in range(0, len(out), width)]
+
+
+def own_source(encoded: BytesLike, source: Numbers, processor: int) -> Words:
+    """The words that a source of all cells has at the cells of a processor's tiles: what an `OwnBoard` is lent."""
+    own_sizes(encoded, processor)
+    out, words = zeros(sizes(encoded).source), memoryview(source_of(source)).cast('B').cast('I')
+    if len(words) != len(out):
+        raise calls.refused(AREA)
+    calls.EXPORTED['owners'](encoded, out)
+    return array.array('I', [word for word, owner in zip(words, out) if owner == processor])
+
+
+def hops(encoded: BytesLike, m: int) -> int:
+    """The hops that message m of the direct route makes on the indirect one."""
+    out = zeros(1)
+    calls.EXPORTED['hops'](encoded, m, out)
+    return out[0]
+
+
+def opens(encoded: BytesLike, hours: Numbers, minute: int, processor: int) -> Optional[int]:
+    """The minutes until a processor opens, 0 while it is open; None where it never does."""
+    out = zeros(2)
+    calls.EXPORTED['opens'](encoded, hours, minute, processor, out)
+    ever, minutes = out
+    return minutes if ever else None
+
+
+def rounds_of(encoded: BytesLike) -> List[int]:
+    """The round of each tile."""
+    found = zeros(summary(encoded).tiles)
+    calls.EXPORTED['rounds_of'](encoded, found)
+    return list(found)

@@ -1,0 +1,123 @@
+"""The areas of a run with their right sizes, and a run that owns them."""
+
+from __future__ import annotations
+
+from typing import Any, Callable, Iterator, List, Optional, Tuple
+
+from . import calls
+from .calls import REFUSALS, sizes
+from .hints import BytesLike, Grid, Numbers
+from .lending import Progress, Sizes
+from .plan import DIRECT, summary
+from .recipe import dimensions
+from .words import shaped, source_of, zeros
+
+IN_FLIGHT = 1
+
+NO_SUCH, WAITING, FINISHED = 11, 12, 13
+
+# beyond the number of every message: no plan has as many
+NO_MESSAGE = 2 ** 32 - 1
+
+
+class Areas:
+    """The four areas that a run changes, with the sizes that a plan asks for."""
+
+    def __init__(self, wanted: Sizes) -> None:
+        self.memories = zeros(wanted.memories)
+        self.buffer = zeros(wanted.buffer)
+        self.progress = (Progress * wanted.progress)()
+        self.status = bytearray(wanted.status)
+
+    def __iter__(self) -> Iterator[Any]:
+        return iter((self.memories, self.buffer, self.progress, self.status))
+
+    def in_flight(self) -> List[int]:
+        """The messages in flight, by number."""
+        return [m for m, status in enumerate(self.status) if status == IN_FLIGHT]
+
+
+def turns(turn: Callable[[], None], *ends: int) -> int:
+    """Takes turns until one is refused with one of these numbers; how many were taken."""
+    taken = 0
+    while True:
+        try:
+            turn()
+        except tuple(REFUSALS[number] for number in ends):
+            return taken
+        taken += 1
+
+
+class Run:
+    """A run of one recipe by one route over one source: a fresh start, then any turns and deliveries. Whatever their order, the
+    grid that `collect` gives is that of the sweep."""
+
+    def __init__(self, encoded: BytesLike, source: Numbers, route: int = DIRECT, areas: Optional[Areas] = None) -> None:
+        """A fresh start; or, with areas that an earlier run of these left, the run goes on from there."""
+        self.encoded, self.route, self.source = bytes(encoded), route, source_of(source)
+        self.plan = summary(self.encoded, route)
+        self.areas = Areas(sizes(self.encoded, route)) if areas is None else areas
+        if areas is None:
+            self._call('fresh')
+        else:
+            # a delivery tests lengths and fitness before the message's number
+            try:
+                self.deliver(NO_MESSAGE)
+            except REFUSALS[NO_SUCH]:
+                pass
+
+    @classmethod
+    def start(cls, encoded: BytesLike, route: int, source: Numbers) -> Run:
+        """A fresh start."""
+        return cls(encoded, source, route)
+
+    @classmethod
+    def resume(cls, encoded: BytesLike, route: int, source: Numbers, areas: Areas) -> Run:
+        """Goes on from the areas that an earlier run of the same recipe, route and source left."""
+        return cls(encoded, source, route, areas)
+
+    def _call(self, name: str, *last: Any) -> None:
+        calls.EXPORTED[name](self.encoded, self.route, self.source, *self.areas, *last)
+
+    def turn(self, processor: int) -> None:
+        """Gives one processor a turn."""
+        self._call('turn', processor)
+
+    def turn_at(self, processor: int, hours: Numbers, minute: int) -> None:
+        """Gives one processor a turn at a minute of the week, if the table of hours has it open then."""
+        self._call('turn_at', hours, minute, processor)
+
+    def deliver(self, message: int) -> None:
+        """Delivers one message."""
+        self._call('deliver', message)
+
+    def in_flight(self) -> List[int]:
+        """The messages in flight, by number."""
+        return self.areas.in_flight()
+
+    def finish(self) -> int:
+        """Goes on to the end: processors take turns in rising order, and each message in flight is delivered when no turn can be
+        taken. Gives the number of turns and deliveries that were done."""
+        steps = 0
+        while True:
+            before = steps
+            for processor in range(self.plan.processors):
+                steps += turns(lambda: self.turn(processor), WAITING, FINISHED)
+            for message in self.in_flight():
+                self.deliver(message)
+                steps += 1
+            if steps == before:
+                return steps
+
+    def collect(self) -> Grid:
+        """The grid, once all processors have finished."""
+        grid = zeros(self.plan.cells)
+        self._call('collect', grid)
+        return shaped(grid, dimensions(self.encoded))
+
+
+def rounds(encoded: BytesLike, source: Numbers) -> Tuple[int, Run]:
+    """A whole run by rounds on the direct route: the rounds that it took, and the run at its end, to be collected."""
+    run, out = Run(encoded, source), zeros(1)
+    calls.EXPORTED['rounds'](run.encoded, run.source, *run.areas, out)
+    return out[0], run
