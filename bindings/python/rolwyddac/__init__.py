@@ -4,7 +4,7 @@
 
     # a line of four cells in tiles of two on two processors; each cell adds the one before it
     recipe = rolwyddac.Fields().dimension(4, 2, 2).dimension(1, 1, 0).distance((1, 0), 1).close(0, 0)
-    run = rolwyddac.Run(recipe, [1, 1, 1, 1])
+    run = rolwyddac.Run(recipe, rolwyddac.DIRECT, [1, 1, 1, 1])
     run.finish()
     print(run.collect())
 

@@ -8,7 +8,7 @@ from . import calls
 from .calls import sizes
 from .hints import BytesLike, Grid, Numbers, Words, Writable
 from .lending import Progress
-from .plan import DIRECT, Awaited, awaited, messages, own_messages, own_sizes
+from .plan import Awaited, awaited, messages, own_messages, own_sizes
 from .recipe import dimensions
 from .run import IN_FLIGHT, Areas
 from .words import shaped, source_of, zeros
@@ -21,7 +21,7 @@ class Board:
     Where every message that one posts is taken in by its taker, sooner or later, each finishes, and its memory has the cells of its
     tiles as the sweep has them."""
 
-    def __init__(self, encoded: BytesLike, source: Numbers, processor: int, route: int = DIRECT) -> None:
+    def __init__(self, encoded: BytesLike, route: int, source: Numbers, processor: int) -> None:
         """A fresh start."""
         self.encoded, self.route, self.source, self.processor = bytes(encoded), route, source_of(source), processor
         self.rows = messages(self.encoded, route)
@@ -64,11 +64,11 @@ class OwnBoard:
     Where every message that one posts arrives at its taker, sooner or later, each finishes, and the grid that all have collected into is
     that of the sweep."""
 
-    def __init__(self, encoded: BytesLike, source: Numbers, processor: int, route: int = DIRECT) -> None:
+    def __init__(self, encoded: BytesLike, route: int, source: Numbers, processor: int) -> None:
         """A fresh start; the source has a word for each cell of the processor's tiles (`own_source`)."""
         self.encoded, self.route, self.source, self.processor = bytes(encoded), route, source_of(source), processor
-        self.rows = own_messages(self.encoded, processor, route)
-        wanted = own_sizes(self.encoded, processor, route)
+        self.rows = own_messages(self.encoded, route, processor)
+        wanted = own_sizes(self.encoded, route, processor)
         self.memory, self.mail = zeros(wanted.memory), zeros(wanted.mail)
         self.progress, self.marks = (Progress * 1)(), bytearray(wanted.messages)
         self._call('own_fresh', processor)

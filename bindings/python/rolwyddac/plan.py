@@ -112,24 +112,24 @@ def awaited(encoded: BytesLike, route: int, progress: Any, status: Any, processo
     return Awaited(out[0], [m for m, mark in enumerate(marks) if mark])
 
 
-def own_sizes(encoded: BytesLike, processor: int, route: int = DIRECT) -> OwnSizes:
+def own_sizes(encoded: BytesLike, route: int, processor: int) -> OwnSizes:
     """How long the areas of a processor's own part are."""
     out = zeros(len(OwnSizes._fields))
     calls.EXPORTED['own_sizes'](encoded, route, processor, out)
     return OwnSizes(*out)
 
 
-def own_messages(encoded: BytesLike, processor: int, route: int = DIRECT) -> List[OwnRow]:
+def own_messages(encoded: BytesLike, route: int, processor: int) -> List[OwnRow]:
     """The rows of the messages that a processor handles, in the order of their numbers."""
     width = len(OwnRow._fields)
-    out = zeros(width * own_sizes(encoded, processor, route).messages)
+    out = zeros(width * own_sizes(encoded, route, processor).messages)
     calls.EXPORTED['own_messages'](encoded, route, processor, out)
     return [OwnRow(*out[at:at + width]) for at in range(0, len(out), width)]
 
 
 def own_source(encoded: BytesLike, source: Numbers, processor: int) -> Words:
     """The words that a source of all cells has at the cells of a processor's tiles: what an `OwnBoard` is lent."""
-    own_sizes(encoded, processor)
+    own_sizes(encoded, DIRECT, processor)
     out, words = zeros(sizes(encoded).source), memoryview(source_of(source)).cast('B').cast('I')
     if len(words) != len(out):
         raise calls.refused(AREA)

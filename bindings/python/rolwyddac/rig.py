@@ -7,7 +7,7 @@ from typing import Any, Iterable, List
 from . import calls
 from .calls import sizes
 from .hints import BytesLike, Grid, Numbers
-from .plan import DIRECT, summary
+from .plan import summary
 from .recipe import dimensions
 from .run import FINISHED, WAITING, Areas, turns
 from .words import shaped, source_of, zeros
@@ -21,7 +21,7 @@ ENGAGED = 19
 class Rig:
     """Two offices with one recipe and one route, each over its own source, on the same processors; offices are 0 and 1."""
 
-    def __init__(self, encoded: BytesLike, sources: Iterable[Numbers], route: int = DIRECT) -> None:
+    def __init__(self, encoded: BytesLike, route: int, sources: Iterable[Numbers]) -> None:
         """A fresh start of both offices."""
         self.encoded, self.route = bytes(encoded), route
         self.sources = [source_of(source) for source in sources]
@@ -35,7 +35,7 @@ class Rig:
     @classmethod
     def start(cls, encoded: BytesLike, route: int, sources: Iterable[Numbers]) -> Rig:
         """A fresh start of both offices."""
-        return cls(encoded, sources, route)
+        return cls(encoded, route, sources)
 
     def _call(self, name: str, office: int, *last: Any) -> None:
         own = int(office != 0)
@@ -46,7 +46,7 @@ class Rig:
         """Gives one processor a turn for an office."""
         self._call('office_turn', office, processor)
 
-    def turn_at(self, office: int, processor: int, hours: Numbers, minute: int) -> None:
+    def turn_at(self, hours: Numbers, minute: int, office: int, processor: int) -> None:
         """Gives one processor a turn for an office at a minute of the week."""
         own = int(office != 0)
         calls.EXPORTED['office_turn_at'](self.encoded, self.route, self.sources[own], *self.areas[own], self.engaged,

@@ -52,7 +52,7 @@ class Run:
     """A run of one recipe by one route over one source: a fresh start, then any turns and deliveries. Whatever their order, the
     grid that `collect` gives is that of the sweep."""
 
-    def __init__(self, encoded: BytesLike, source: Numbers, route: int = DIRECT, areas: Optional[Areas] = None) -> None:
+    def __init__(self, encoded: BytesLike, route: int, source: Numbers, areas: Optional[Areas] = None) -> None:
         """A fresh start; or, with areas that an earlier run of these left, the run goes on from there."""
         self.encoded, self.route, self.source = bytes(encoded), route, source_of(source)
         self.plan = summary(self.encoded, route)
@@ -69,12 +69,19 @@ class Run:
     @classmethod
     def start(cls, encoded: BytesLike, route: int, source: Numbers) -> Run:
         """A fresh start."""
-        return cls(encoded, source, route)
+        return cls(encoded, route, source)
 
     @classmethod
     def resume(cls, encoded: BytesLike, route: int, source: Numbers, areas: Areas) -> Run:
         """Goes on from the areas that an earlier run of the same recipe, route and source left."""
-        return cls(encoded, source, route, areas)
+        return cls(encoded, route, source, areas)
+
+    @classmethod
+    def by_rounds(cls, encoded: BytesLike, source: Numbers) -> Tuple[Run, int]:
+        """A whole run by rounds on the direct route: the run at its end, to be collected, and the rounds that it took."""
+        run, out = cls(encoded, DIRECT, source), zeros(1)
+        calls.EXPORTED['rounds'](run.encoded, run.source, *run.areas, out)
+        return run, out[0]
 
     def _call(self, name: str, *last: Any) -> None:
         calls.EXPORTED[name](self.encoded, self.route, self.source, *self.areas, *last)
@@ -83,7 +90,7 @@ class Run:
         """Gives one processor a turn."""
         self._call('turn', processor)
 
-    def turn_at(self, processor: int, hours: Numbers, minute: int) -> None:
+    def turn_at(self, hours: Numbers, minute: int, processor: int) -> None:
         """Gives one processor a turn at a minute of the week, if the table of hours has it open then."""
         self._call('turn_at', hours, minute, processor)
 
@@ -117,7 +124,6 @@ class Run:
 
 
 def rounds(encoded: BytesLike, source: Numbers) -> Tuple[int, Run]:
-    """A whole run by rounds on the direct route: the rounds that it took, and the run at its end, to be collected."""
-    run, out = Run(encoded, source), zeros(1)
-    calls.EXPORTED['rounds'](run.encoded, run.source, *run.areas, out)
-    return out[0], run
+    """`Run.by_rounds` the other way round: the rounds, and the run."""
+    run, taken = Run.by_rounds(encoded, source)
+    return taken, run

@@ -10,7 +10,7 @@ class Forms(unittest.TestCase):
     """What may be lent, and how a refusal is told."""
 
     def test_refusals(self):
-        run = rolwyddac.Run(ROW_D, [1] * 4)
+        run = rolwyddac.Run(ROW_D, rolwyddac.DIRECT, [1] * 4)
         with self.assertRaises(rolwyddac.Waiting) as told:
             run.turn(1)
         self.assertEqual(str(told.exception), 'refused 12, waiting: '
@@ -50,12 +50,12 @@ class Forms(unittest.TestCase):
         with self.assertRaisesRegex(ValueError, 'side by side'):
             sweep(ROW_D, [1] * 4, memoryview(array.array('I', [0] * 8))[::2])
         with self.assertRaisesRegex(ValueError, 'processor: -1'):
-            rolwyddac.Run(ROW_D, [1] * 4).turn(-1)
+            rolwyddac.Run(ROW_D, rolwyddac.DIRECT, [1] * 4).turn(-1)
         self.assertEqual(list(grid), [0] * 4)
 
     def test_areas_without_elements(self):
         row_f = rolwyddac.Fields().dimension(1, 2, 2).dimension(2, 1, 0).distance((1, 0)).close()
-        run = rolwyddac.Run(row_f, [5, 7])
+        run = rolwyddac.Run(row_f, rolwyddac.DIRECT, [5, 7])
         self.assertEqual((len(run.areas.buffer), len(run.areas.status), run.finish()), (0, 0, 4))
         self.assertEqual(flat(run.collect()), [5, 7])
 

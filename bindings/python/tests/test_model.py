@@ -26,7 +26,7 @@ class Against(Case):
                     self.assertEqual(rolwyddac.message(encoded, route, m), (
                         line.sender, line.taker, plan.board_of[line.sender], plan.board_of[line.taker], len(line.cells)))
                 self.assertEqual(number_of(rolwyddac.message, encoded, route, len(plan.messages)), 11)
-                run = rolwyddac.Run(encoded, source, route)
+                run = rolwyddac.Run(encoded, route, source)
                 self.assertEqual(run.finish(), plan.steps)
                 self.assertEqual(flat(run.collect()), plan.swept(source), case)
             for m in range(len(model.plan_of(encoded)[1].messages)):
@@ -52,7 +52,7 @@ class Against(Case):
                 continue
             self.assertEqual(fields.close(values['shift'], values['boundary']), bytes(encoded))
             source = [draw.word() for _ in range(plan.cells)]
-            run = rolwyddac.Run(encoded, source)
+            run = rolwyddac.Run(encoded, rolwyddac.DIRECT, source)
             self.assertEqual(run.finish(), plan.steps)
             self.assertEqual(flat(run.collect()), plan.swept(source), case)
             self.assertEqual(number_of(rolwyddac.sizes, encoded, 1), 21)
@@ -78,7 +78,7 @@ class Against(Case):
             encoded = model.encode(**values)
             plan = model.plan_of(encoded, route)[1]
             source = [draw.word() for _ in range(plan.cells)]
-            run, wanted = rolwyddac.Run(encoded, source, route), model.areas_for(plan, source)
+            run, wanted = rolwyddac.Run(encoded, route, source), model.areas_for(plan, source)
             model.fresh(encoded, wanted, route)
             for _ in range(3 * plan.steps):
                 if draw.below(3):
@@ -106,7 +106,8 @@ class Against(Case):
             plan = model.plan_of(encoded)[1]
             source, tiles = [draw.word() for _ in range(plan.cells)], [0] * plan.tiles
             model.rounds_of(encoded, tiles)
-            rounds, run = rolwyddac.rounds(encoded, source)
+            run, rounds = rolwyddac.Run.by_rounds(encoded, source)
+            self.assertEqual(rolwyddac.rounds(encoded, source)[0], rounds, case)
             self.assertEqual((rounds, rolwyddac.rounds_of(encoded)), (max(tiles), tiles), case)
             self.assertEqual(flat(run.collect()), plan.swept(source), case)
 
@@ -117,7 +118,7 @@ class Against(Case):
             encoded = model.encode(**values)
             plan = model.plan_of(encoded, route)[1]
             sources = [[draw.word() for _ in range(plan.cells)] for _ in range(2)]
-            rig, wanted = rolwyddac.Rig(encoded, sources, route), model.Offices(plan, *sources)
+            rig, wanted = rolwyddac.Rig(encoded, route, sources), model.Offices(plan, *sources)
             for _ in range(4 * plan.steps):
                 office = draw.below(2)
                 if draw.below(3):
@@ -146,7 +147,7 @@ class Against(Case):
             encoded = model.encode(**recipe_of(draw))
             plan = model.plan_of(encoded)[1]
             source = [draw.word() for _ in range(plan.cells)]
-            run, wanted = rolwyddac.Run(encoded, source), model.areas_for(plan, source)
+            run, wanted = rolwyddac.Run(encoded, rolwyddac.DIRECT, source), model.areas_for(plan, source)
             table = []
             for _ in range(14 * plan.boards):
                 opening = draw.below(10080)
@@ -156,7 +157,7 @@ class Against(Case):
             for _ in range(2 * plan.steps):
                 minute, b = draw.below(10085), draw.below(plan.boards + 1)
                 number = model.turn(encoded, wanted, b, 0, hours=model.Hours(table, minute))
-                self.assertEqual(number_of(run.turn_at, b, table, minute), number, case)
+                self.assertEqual(number_of(run.turn_at, table, minute, b), number, case)
                 met.add(number)
                 self.assertEqual(records(run.areas.progress), wanted.progress)
                 if draw.below(40) == 0:

@@ -48,7 +48,7 @@ class Apart:
     def __init__(self, case, draw, met, encoded, route, plan):
         self.case, self.draw, self.met, self.encoded, self.route, self.plan = case, draw, met, encoded, route, plan
         self.source = [draw.word() for _ in range(plan.cells)]
-        self.boards = [rolwyddac.Board(encoded, self.source, b, route) for b in range(plan.boards)]
+        self.boards = [rolwyddac.Board(encoded, route, self.source, b) for b in range(plan.boards)]
         self.wanted = [model.areas_for(plan, self.source) for _ in range(plan.boards)]
         self.mail = []
 
@@ -118,7 +118,7 @@ class Owning:
         self.case, self.draw, self.met, self.encoded, self.route, self.plan = case, draw, met, encoded, route, plan
         self.source = [draw.word() for _ in range(plan.cells)]
         self.wanted = [model.own_areas_for(plan, b, self.source) for b in range(plan.boards)]
-        self.boards = [rolwyddac.OwnBoard(encoded, rolwyddac.own_source(encoded, self.source, b), b, route) for b in range(plan.boards)]
+        self.boards = [rolwyddac.OwnBoard(encoded, route, rolwyddac.own_source(encoded, self.source, b), b) for b in range(plan.boards)]
         self.mail, self.grid = [], array.array('I', [draw.word() for _ in range(plan.cells)])
 
     def both(self, got, number, b):
@@ -215,11 +215,11 @@ class Boards(Case):
             for b in range(plan.boards + 1):
                 sizes, rows = [0] * 4, [0] * (7 * len(model.handled(plan, b)))
                 numbers = model.own_sizes(encoded, b, sizes, route), model.own_messages(encoded, b, rows, route)
-                self.assertEqual((number_of(rolwyddac.own_sizes, encoded, b, route), number_of(rolwyddac.own_messages, encoded, b, route)),
+                self.assertEqual((number_of(rolwyddac.own_sizes, encoded, route, b), number_of(rolwyddac.own_messages, encoded, route, b)),
                                  numbers, case)
                 if b < plan.boards:
-                    self.assertEqual(list(rolwyddac.own_sizes(encoded, b, route)), sizes, case)
-                    self.assertEqual([word for row in rolwyddac.own_messages(encoded, b, route) for word in row], rows, case)
+                    self.assertEqual(list(rolwyddac.own_sizes(encoded, route, b)), sizes, case)
+                    self.assertEqual([word for row in rolwyddac.own_messages(encoded, route, b) for word in row], rows, case)
             owning = Owning(self, draw, met, encoded, route, plan)
             for _ in range(3 * plan.steps):
                 owning.step()
