@@ -2,15 +2,17 @@
 
 from __future__ import annotations
 
-from typing import Any, List, Optional, Tuple
+import operator
+from typing import Any, List, Optional, SupportsIndex, Tuple
 
 from . import calls
 from .calls import sizes
 from .hints import BytesLike, Grid, Numbers, Words, Writable
+from .kinds import whole
 from .lending import Progress
-from .plan import Awaited, awaited, messages, own_messages, own_sizes
+from .plan import Awaited, awaited, messages, own_messages, own_sizes, route_of
 from .recipe import dimensions
-from .run import IN_FLIGHT, Areas
+from .run import IN_FLIGHT, NO_SUCH, Areas
 from .words import shaped, source_of, zeros
 
 UNSENT = 0
@@ -21,12 +23,15 @@ class Board:
     Where every message that one posts is taken in by its taker, sooner or later, each finishes, and its memory has the cells of its
     tiles as the sweep has them."""
 
-    def __init__(self, encoded: BytesLike, route: int, source: Numbers, processor: int) -> None:
+    def __init__(self, encoded: BytesLike, route: SupportsIndex, source: Numbers, processor: SupportsIndex) -> None:
         """A fresh start."""
-        self.encoded, self.route, self.source, self.processor = bytes(encoded), route, source_of(source), processor
-        self.rows = messages(self.encoded, route)
-        self.areas = Areas(sizes(self.encoded, route))
+        self.encoded, self.route, self.source = bytes(encoded), route_of(route), source_of(source)
+        self.processor = whole('processor', 'u32', processor)
+        self.rows = messages(self.encoded, self.route)
+        self.areas = Areas(sizes(self.encoded, self.route))
         self._call('fresh')
+        if self.processor >= len(self.areas.progress):
+            raise calls.refused(NO_SUCH)
 
     def _call(self, name: str, *last: Any) -> None:
         calls.EXPORTED[name](self.encoded, self.route, self.source, *self.areas, *last)
@@ -48,13 +53,13 @@ class Board:
         """The messages that are sent and not posted yet, by number."""
         return self.areas.in_flight()
 
-    def post(self, message: int) -> Tuple[int, Words]:
+    def post(self, message: SupportsIndex) -> Tuple[int, Words]:
         """Posts a message in flight: gives the processor that takes it, and the words to carry there."""
         self._call('deliver', message)
-        row = self.rows[message]
+        row = self.rows[operator.index(message)]
         return row.taking_processor, self.areas.buffer[row.offset:row.offset + row.words]
 
-    def take_in(self, message: int, words: Numbers) -> None:
+    def take_in(self, message: SupportsIndex, words: Numbers) -> None:
         """Takes a message in that another processor posted."""
         self._call('take_in', self.processor, message, words)
 
@@ -64,14 +69,15 @@ class OwnBoard:
     Where every message that one posts arrives at its taker, sooner or later, each finishes, and the grid that all have collected into is
     that of the sweep."""
 
-    def __init__(self, encoded: BytesLike, route: int, source: Numbers, processor: int) -> None:
+    def __init__(self, encoded: BytesLike, route: SupportsIndex, source: Numbers, processor: SupportsIndex) -> None:
         """A fresh start; the source has a word for each cell of the processor's tiles (`own_source`)."""
-        self.encoded, self.route, self.source, self.processor = bytes(encoded), route, source_of(source), processor
-        self.rows = own_messages(self.encoded, route, processor)
-        wanted = own_sizes(self.encoded, route, processor)
+        self.encoded, self.route, self.source = bytes(encoded), route_of(route), source_of(source)
+        self.processor = whole('processor', 'u32', processor)
+        self.rows = own_messages(self.encoded, self.route, self.processor)
+        wanted = own_sizes(self.encoded, self.route, self.processor)
         self.memory, self.mail = zeros(wanted.memory), zeros(wanted.mail)
         self.progress, self.marks = (Progress * 1)(), bytearray(wanted.messages)
-        self._call('own_fresh', processor)
+        self._call('own_fresh', self.processor)
 
     def _call(self, name: str, *last: Any) -> None:
         calls.EXPORTED[name](self.encoded, self.route, self.memory, self.mail, self.progress, self.marks, *last)
@@ -91,13 +97,13 @@ class OwnBoard:
         """The messages that are sent and not posted yet, by number."""
         return [row.message for row, mark in zip(self.rows, self.marks) if mark == IN_FLIGHT]
 
-    def post(self, message: int) -> Tuple[int, Words]:
+    def post(self, message: SupportsIndex) -> Tuple[int, Words]:
         """Posts a message in flight: gives the processor that takes it, and the words to carry there."""
         self._call('own_post', self.processor, message)
-        row, = [row for row in self.rows if row.message == message]
+        row, = [row for row in self.rows if row.message == operator.index(message)]
         return row.taking_processor, self.mail[row.place:row.place + row.words]
 
-    def arrive(self, message: int, words: Numbers) -> None:
+    def arrive(self, message: SupportsIndex, words: Numbers) -> None:
         """A message arrives that another processor posted."""
         self._call('own_arrive', self.processor, message, words)
 

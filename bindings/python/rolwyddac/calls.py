@@ -9,7 +9,7 @@ from __future__ import annotations
 import ctypes
 import inspect
 import re
-from typing import Any, Callable, Dict, List, NamedTuple
+from typing import Any, Callable, Dict, List, NamedTuple, SupportsIndex
 
 from .hints import BytesLike
 from .kinds import whole
@@ -140,7 +140,7 @@ LOADED.rolwyddac_sizes.restype = ctypes.c_uint32
 LOADED.rolwyddac_sizes.argtypes = [ctypes.c_void_p, ctypes.c_size_t, ctypes.c_uint32, ctypes.POINTER(Sizes)]
 
 
-def sizes(encoded: BytesLike, route: int = 0) -> Sizes:
+def sizes(encoded: BytesLike, route: SupportsIndex = 0) -> Sizes:
     """How many elements each area of a recipe's plan on a route has."""
     found, area = Sizes(), lent('encoded', 'u8', encoded, False)
     number = LOADED.rolwyddac_sizes(area.address, area.elements, whole('route', 'u32', route), ctypes.byref(found))

@@ -3,11 +3,12 @@
 from __future__ import annotations
 
 import struct
-from typing import Iterable, NamedTuple, Sequence, Union
+from typing import Iterable, NamedTuple, Sequence, SupportsIndex, Union
 
 from . import calls
 from .calls import sizes
 from .hints import BytesLike, Grid, Numbers
+from .kinds import whole
 from .recipe import dimensions
 from .words import shaped, source_of, zeros
 
@@ -28,16 +29,16 @@ def sweep(encoded: BytesLike, source: Numbers) -> Grid:
     return shaped(grid, dimensions(encoded))
 
 
-def soundings(encoded: BytesLike, records: Union[BytesLike, Iterable[Sequence[int]]], value: int) -> Grid:
+def soundings(encoded: BytesLike, records: Union[BytesLike, Iterable[Sequence[SupportsIndex]]], value: SupportsIndex) -> Grid:
     """A source filled from soundings, `Sounding`s or their bytes; a cell that no record names gets the value."""
     if not isinstance(records, (bytes, bytearray, memoryview)):
-        records = b''.join(struct.pack('<4I', *record) for record in records)
+        records = b''.join(struct.pack('<4I', *[whole('records', 'u32', word) for word in record]) for record in records)
     source = zeros(sizes(encoded).source)
     calls.EXPORTED['soundings'](encoded, records, value, source)
     return shaped(source, dimensions(encoded))
 
 
-def chart(encoded: BytesLike, grid: Numbers, x: int = 0, y: int = 0, cell_size: int = 1) -> str:
+def chart(encoded: BytesLike, grid: Numbers, x: SupportsIndex = 0, y: SupportsIndex = 0, cell_size: SupportsIndex = 1) -> str:
     """The text of a grid of two dimensions for the charting desk, an Esri ASCII grid."""
     words, out = source_of(grid), zeros(1)
     calls.EXPORTED['chart_length'](encoded, words, x, y, cell_size, out)

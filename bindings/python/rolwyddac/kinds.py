@@ -3,7 +3,8 @@
 from __future__ import annotations
 
 import ctypes
-from typing import Any, Dict, NamedTuple
+import operator
+from typing import Any, Dict, NamedTuple, SupportsIndex
 
 
 class Kind(NamedTuple):
@@ -30,9 +31,23 @@ KINDS: Dict[str, Kind] = {
     'i8': _signed(ctypes.c_int8, 'b'), 'i16': _signed(ctypes.c_int16, 'h'), 'i32': _signed(ctypes.c_int32, 'i')}
 
 
-def whole(name: str, kind: str, value: Any) -> int:
-    """A number that the kind can hold."""
-    number, (_, _, least, most) = int(value), KINDS[kind]
+# numbers of more bits are not printed: Python has a limit there, and so have readers
+_PRINTED_BITS = 64
+
+
+def held(name: str, kind: str, number: int) -> int:
+    """The number, if the kind can hold it; ctypes would cut it."""
+    _, _, least, most = KINDS[kind]
     if not least <= number <= most:
-        raise ValueError('%s: %d is not from %d to %d' % (name, number, least, most))
+        told = str(number) if number.bit_length() <= _PRINTED_BITS else 'a number of %d bits' % number.bit_length()
+        raise OverflowError('%s: %s is not from %d to %d' % (name, told, least, most))
     return number
+
+
+def whole(name: str, kind: str, value: SupportsIndex) -> int:
+    """A whole number that the kind can hold."""
+    try:
+        number = operator.index(value)
+    except TypeError:
+        raise TypeError('%s: a whole number is needed, not %s' % (name, type(value).__name__)) from None
+    return held(name, kind, number)

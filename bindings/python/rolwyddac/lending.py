@@ -7,7 +7,7 @@ import ctypes
 from typing import Any, Iterable, Iterator, NamedTuple
 
 from .hints import Words
-from .kinds import KINDS
+from .kinds import KINDS, whole
 
 WORD = 4
 PROGRESS = 'Progress'
@@ -65,12 +65,7 @@ _FORMATS = {'u8': 'B', 'u16': 'H', 'u32': 'IL', PROGRESS: 'IL', 'i8': 'b', 'i16'
 
 def listed(name: str, kind: str, values: Iterable[Any]) -> Words:
     """A list as an array of the kind; a nested one is taken row after row."""
-    flat = list(flattened(values))
-    _, code, least, most = KINDS[kind]
-    wrong = [value for value in flat if not least <= value <= most]
-    if wrong:
-        raise ValueError('%s: %s is not from %d to %d' % (name, wrong[0], least, most))
-    return array.array(code, flat)
+    return array.array(KINDS[kind].code, [whole(name, kind, value) for value in flattened(values)])
 
 
 def flattened(values: Iterable[Any]) -> Iterator[Any]:

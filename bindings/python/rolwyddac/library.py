@@ -6,7 +6,9 @@ import ctypes
 import ctypes.util
 import os
 import sys
-from typing import List
+from typing import List, SupportsIndex
+
+from .kinds import whole
 
 NAME = 'librolwyddac.so'
 
@@ -46,11 +48,11 @@ def version() -> str:
     return LOADED.rolwyddac_version().decode()
 
 
-def term(number: int) -> str:
+def term(number: SupportsIndex) -> str:
     """The term of a number, as `early` for 15."""
-    return LOADED.rolwyddac_term(number).decode()
+    return LOADED.rolwyddac_term(whole('number', 'u32', number)).decode()
 
 
-def text(number: int) -> str:
+def text(number: SupportsIndex) -> str:
     """What a number says, as `collecting while a processor has tiles left` for 15."""
-    return LOADED.rolwyddac_text(number).decode()
+    return LOADED.rolwyddac_text(whole('number', 'u32', number)).decode()

@@ -3,11 +3,12 @@
 from __future__ import annotations
 
 import array
-from typing import Any, List, NamedTuple, Optional
+from typing import Any, List, NamedTuple, Optional, SupportsIndex
 
 from . import calls
 from .calls import sizes
 from .hints import BytesLike, Grid, Numbers, Words
+from .kinds import whole
 from .recipe import dimensions
 from .words import shaped, source_of, zeros
 
@@ -76,25 +77,33 @@ class Awaited(NamedTuple):
     messages: List[int]
 
 
-def summary(encoded: BytesLike, route: int = DIRECT) -> Summary:
+def route_of(route: SupportsIndex) -> int:
+    """A route's word. The engine takes any but 0 for the indirect route; here another is a fault, such as parameters in another order."""
+    word = whole('route', 'u32', route)
+    if word not in (DIRECT, INDIRECT):
+        raise ValueError('route: %d is neither 0, direct, nor 1, indirect' % word)
+    return word
+
+
+def summary(encoded: BytesLike, route: SupportsIndex = DIRECT) -> Summary:
     """The totals of a recipe's plan on a route."""
-    areas, out = sizes(encoded, route), zeros(4)
-    calls.EXPORTED['summary'](encoded, route, out)
+    areas, out = sizes(encoded, route_of(route)), zeros(4)
+    calls.EXPORTED['summary'](encoded, route_of(route), out)
     return Summary(areas.source, areas.progress, *out)
 
 
-def message(encoded: BytesLike, route: int, m: int) -> Message:
+def message(encoded: BytesLike, route: SupportsIndex, m: SupportsIndex) -> Message:
     """The line of message m of a recipe's plan on a route."""
     out = zeros(len(Message._fields))
-    calls.EXPORTED['message'](encoded, route, m, out)
+    calls.EXPORTED['message'](encoded, route_of(route), m, out)
     return Message(*out)
 
 
-def messages(encoded: BytesLike, route: int = DIRECT) -> List[Row]:
+def messages(encoded: BytesLike, route: SupportsIndex = DIRECT) -> List[Row]:
     """The rows of all messages of a recipe's plan on a route, in the order of their numbers."""
     width = len(Row._fields)
-    out = zeros(width * sizes(encoded, route).status)
-    calls.EXPORTED['messages'](encoded, route, out)
+    out = zeros(width * sizes(encoded, route_of(route)).status)
+    calls.EXPORTED['messages'](encoded, route_of(route), out)
     return [Row(*out[at:at + width]) for at in range(0, len(out), width)]
 
 
@@ -105,46 +114,47 @@ def owners(encoded: BytesLike) -> Grid:
     return shaped(out, dimensions(encoded))
 
 
-def awaited(encoded: BytesLike, route: int, progress: Any, status: Any, processor: int) -> Awaited:
+def awaited(encoded: BytesLike, route: SupportsIndex, progress: Any, status: Any, processor: SupportsIndex) -> Awaited:
     """What a processor waits for; no messages where it can go on."""
     marks, out = bytearray(len(status)), zeros(1)
-    calls.EXPORTED['awaited'](encoded, route, progress, status, processor, marks, out)
+    calls.EXPORTED['awaited'](encoded, route_of(route), progress, status, processor, marks, out)
     return Awaited(out[0], [m for m, mark in enumerate(marks) if mark])
 
 
-def own_sizes(encoded: BytesLike, route: int, processor: int) -> OwnSizes:
+def own_sizes(encoded: BytesLike, route: SupportsIndex, processor: SupportsIndex) -> OwnSizes:
     """How long the areas of a processor's own part are."""
     out = zeros(len(OwnSizes._fields))
-    calls.EXPORTED['own_sizes'](encoded, route, processor, out)
+    calls.EXPORTED['own_sizes'](encoded, route_of(route), processor, out)
     return OwnSizes(*out)
 
 
-def own_messages(encoded: BytesLike, route: int, processor: int) -> List[OwnRow]:
+def own_messages(encoded: BytesLike, route: SupportsIndex, processor: SupportsIndex) -> List[OwnRow]:
     """The rows of the messages that a processor handles, in the order of their numbers."""
     width = len(OwnRow._fields)
     out = zeros(width * own_sizes(encoded, route, processor).messages)
-    calls.EXPORTED['own_messages'](encoded, route, processor, out)
+    calls.EXPORTED['own_messages'](encoded, route_of(route), processor, out)
     return [OwnRow(*out[at:at + width]) for at in range(0, len(out), width)]
 
 
-def own_source(encoded: BytesLike, source: Numbers, processor: int) -> Words:
+def own_source(encoded: BytesLike, source: Numbers, processor: SupportsIndex) -> Words:
     """The words that a source of all cells has at the cells of a processor's tiles: what an `OwnBoard` is lent."""
-    own_sizes(encoded, DIRECT, processor)
+    own = whole('processor', 'u32', processor)
+    own_sizes(encoded, DIRECT, own)
     out, words = zeros(sizes(encoded).source), memoryview(source_of(source)).cast('B').cast('I')
     if len(words) != len(out):
         raise calls.refused(AREA)
     calls.EXPORTED['owners'](encoded, out)
-    return array.array('I', [word for word, owner in zip(words, out) if owner == processor])
+    return array.array('I', [word for word, owner in zip(words, out) if owner == own])
 
 
-def hops(encoded: BytesLike, m: int) -> int:
+def hops(encoded: BytesLike, m: SupportsIndex) -> int:
     """The hops that message m of the direct route makes on the indirect one."""
     out = zeros(1)
     calls.EXPORTED['hops'](encoded, m, out)
     return out[0]
 
 
-def opens(encoded: BytesLike, hours: Numbers, minute: int, processor: int) -> Optional[int]:
+def opens(encoded: BytesLike, hours: Numbers, minute: SupportsIndex, processor: SupportsIndex) -> Optional[int]:
     """The minutes until a processor opens, 0 while it is open; None where it never does."""
     out = zeros(2)
     calls.EXPORTED['opens'](encoded, hours, minute, processor, out)

@@ -3,13 +3,16 @@
 from __future__ import annotations
 
 import struct
-from typing import Iterable, List, Tuple
+from typing import Iterable, List, SupportsIndex, Tuple
 
 from . import calls
 from .hints import BytesLike
+from .kinds import whole
 
 RECORD = 16
 COMPONENTS = 4
+
+_LOWER, _UPPER = 0, 1
 
 
 class Fields:
@@ -23,32 +26,35 @@ class Fields:
         self.weights: List[int] = []
         self.bounds: List[Tuple[int, int, int, int, int]] = []
 
-    def dimension(self, length: int, tile: int, processors: int = 0) -> Fields:
+    def dimension(self, length: SupportsIndex, tile: SupportsIndex, processors: SupportsIndex = 0) -> Fields:
         """Adds a dimension: its length, its tile length, and its processor count, 0 where it is not spread."""
-        self.lengths.append(length)
-        self.tiling.append(tile)
-        self.counts.append(processors)
+        numbers = whole('length', 'u16', length), whole('tile', 'u16', tile), whole('processors', 'u16', processors)
+        for field, number in zip((self.lengths, self.tiling, self.counts), numbers):
+            field.append(number)
         return self
 
-    def distance(self, components: Iterable[int], weight: int = 1) -> Fields:
+    def distance(self, components: Iterable[SupportsIndex], weight: SupportsIndex = 1) -> Fields:
         """Adds a distance; components that are not given are 0."""
-        components = list(components)
-        self.components += components + [0] * (COMPONENTS - len(components))
-        self.weights.append(weight)
+        numbers, weighed = [whole('components', 'u16', component) for component in components], whole('weight', 'u16', weight)
+        self.components += numbers + [0] * (COMPONENTS - len(numbers))
+        self.weights.append(weighed)
         return self
 
-    def at_least(self, dimension: int, earlier: int, slope: int, offset: int) -> Fields:
+    def _bound(self, side: int, dimension: SupportsIndex, earlier: SupportsIndex, slope: SupportsIndex, offset: SupportsIndex) -> Fields:
+        self.bounds.append((side, whole('dimension', 'u8', dimension), whole('earlier', 'u8', earlier), whole('slope', 'i8', slope),
+                            whole('offset', 'i16', offset)))
+        return self
+
+    def at_least(self, dimension: SupportsIndex, earlier: SupportsIndex, slope: SupportsIndex, offset: SupportsIndex) -> Fields:
         """Adds a bound: the component of the dimension is at least slope times that of an earlier one, plus offset. Dimensions are
         counted from 0; a slope is -1, 0 or 1."""
-        self.bounds.append((0, dimension, earlier, slope, offset))
-        return self
+        return self._bound(_LOWER, dimension, earlier, slope, offset)
 
-    def at_most(self, dimension: int, earlier: int, slope: int, offset: int) -> Fields:
+    def at_most(self, dimension: SupportsIndex, earlier: SupportsIndex, slope: SupportsIndex, offset: SupportsIndex) -> Fields:
         """Adds a bound: the component is at most that."""
-        self.bounds.append((1, dimension, earlier, slope, offset))
-        return self
+        return self._bound(_UPPER, dimension, earlier, slope, offset)
 
-    def close(self, shift: int = 0, boundary: int = 0) -> bytes:
+    def close(self, shift: SupportsIndex = 0, boundary: SupportsIndex = 0) -> bytes:
         """Has the proved writer make the recipe's bytes; refused as reading it would be."""
         space = bytearray(RECORD * (len(self.lengths) + len(self.bounds) + len(self.weights) + 1))
         bounds = [[bound[field] for bound in self.bounds] for field in range(5)]

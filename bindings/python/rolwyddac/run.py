@@ -2,13 +2,13 @@
 
 from __future__ import annotations
 
-from typing import Any, Callable, Iterator, List, Optional, Tuple
+from typing import Any, Callable, Iterator, List, Optional, SupportsIndex, Tuple
 
 from . import calls
 from .calls import REFUSALS, sizes
 from .hints import BytesLike, Grid, Numbers
 from .lending import Progress, Sizes
-from .plan import DIRECT, summary
+from .plan import DIRECT, route_of, summary
 from .recipe import dimensions
 from .words import shaped, source_of, zeros
 
@@ -52,11 +52,11 @@ class Run:
     """A run of one recipe by one route over one source: a fresh start, then any turns and deliveries. Whatever their order, the
     grid that `collect` gives is that of the sweep."""
 
-    def __init__(self, encoded: BytesLike, route: int, source: Numbers, areas: Optional[Areas] = None) -> None:
+    def __init__(self, encoded: BytesLike, route: SupportsIndex, source: Numbers, areas: Optional[Areas] = None) -> None:
         """A fresh start; or, with areas that an earlier run of these left, the run goes on from there."""
-        self.encoded, self.route, self.source = bytes(encoded), route, source_of(source)
-        self.plan = summary(self.encoded, route)
-        self.areas = Areas(sizes(self.encoded, route)) if areas is None else areas
+        self.encoded, self.route, self.source = bytes(encoded), route_of(route), source_of(source)
+        self.plan = summary(self.encoded, self.route)
+        self.areas = Areas(sizes(self.encoded, self.route)) if areas is None else areas
         if areas is None:
             self._call('fresh')
         else:
@@ -67,12 +67,12 @@ class Run:
                 pass
 
     @classmethod
-    def start(cls, encoded: BytesLike, route: int, source: Numbers) -> Run:
+    def start(cls, encoded: BytesLike, route: SupportsIndex, source: Numbers) -> Run:
         """A fresh start."""
         return cls(encoded, route, source)
 
     @classmethod
-    def resume(cls, encoded: BytesLike, route: int, source: Numbers, areas: Areas) -> Run:
+    def resume(cls, encoded: BytesLike, route: SupportsIndex, source: Numbers, areas: Areas) -> Run:
         """Goes on from the areas that an earlier run of the same recipe, route and source left."""
         return cls(encoded, route, source, areas)
 
@@ -86,15 +86,15 @@ class Run:
     def _call(self, name: str, *last: Any) -> None:
         calls.EXPORTED[name](self.encoded, self.route, self.source, *self.areas, *last)
 
-    def turn(self, processor: int) -> None:
+    def turn(self, processor: SupportsIndex) -> None:
         """Gives one processor a turn."""
         self._call('turn', processor)
 
-    def turn_at(self, hours: Numbers, minute: int, processor: int) -> None:
+    def turn_at(self, hours: Numbers, minute: SupportsIndex, processor: SupportsIndex) -> None:
         """Gives one processor a turn at a minute of the week, if the table of hours has it open then."""
         self._call('turn_at', hours, minute, processor)
 
-    def deliver(self, message: int) -> None:
+    def deliver(self, message: SupportsIndex) -> None:
         """Delivers one message."""
         self._call('deliver', message)
 

@@ -7,6 +7,7 @@ import ctypes
 from typing import Any, Tuple
 
 from .hints import Grid, Words
+from .kinds import held
 from .lending import WORD, listed
 
 try:
@@ -25,8 +26,10 @@ def source_of(values: Any) -> Any:
     if numpy is not None and not isinstance(values, (list, tuple, ctypes.Array)):
         values = numpy.ascontiguousarray(values)
         if values.dtype != numpy.uint32:
-            if values.dtype.kind not in 'ui' or (values.size and (values.min() < 0 or values.max() >= 2 ** 32)):
-                raise ValueError('source: whole numbers from 0 to 4294967295 are needed')
+            if values.dtype.kind not in 'ui':
+                raise TypeError('source: whole numbers are needed, not %s' % values.dtype)
+            for number in (values.min(), values.max()) if values.size else ():
+                held('source', 'u32', int(number))
             values = values.astype(numpy.uint32)
         return values
     try:

@@ -37,7 +37,7 @@ class Forms(unittest.TestCase):
     def test_faults_are_told(self):
         sweep = calls.EXPORTED['sweep']
         grid = array.array('I', [0] * 4)
-        with self.assertRaisesRegex(ValueError, 'source: -1 is not from 0 to 4294967295'):
+        with self.assertRaisesRegex(OverflowError, 'source: -1 is not from 0 to 4294967295'):
             sweep(ROW_D, [1, 1, 1, -1], grid)
         with self.assertRaisesRegex(TypeError, 'grid: list has no buffer'):
             sweep(ROW_D, [1] * 4, [0] * 4)
@@ -49,7 +49,7 @@ class Forms(unittest.TestCase):
             sweep(ROW_D, [1] * 4, memoryview(grid).toreadonly())
         with self.assertRaisesRegex(ValueError, 'side by side'):
             sweep(ROW_D, [1] * 4, memoryview(array.array('I', [0] * 8))[::2])
-        with self.assertRaisesRegex(ValueError, 'processor: -1'):
+        with self.assertRaisesRegex(OverflowError, 'processor: -1'):
             rolwyddac.Run(ROW_D, rolwyddac.DIRECT, [1] * 4).turn(-1)
         self.assertEqual(list(grid), [0] * 4)
 
