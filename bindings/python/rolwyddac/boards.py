@@ -11,9 +11,9 @@ from .hints import BytesLike, Grid, Numbers, Words, Writable
 from .kinds import whole
 from .lending import Progress
 from .plan import Awaited, awaited, messages, own_messages, own_sizes, route_of
-from .recipe import dimensions
+from .recipe import lengths_of
 from .run import IN_FLIGHT, NO_SUCH, Areas
-from .words import shaped, source_of, zeros
+from .words import octets, shaped, source_of, zeros
 
 UNSENT = 0
 
@@ -25,7 +25,7 @@ class Board:
 
     def __init__(self, encoded: BytesLike, route: SupportsIndex, source: Numbers, processor: SupportsIndex) -> None:
         """A fresh start."""
-        self.encoded, self.route, self.source = bytes(encoded), route_of(route), source_of(source)
+        self.encoded, self.route, self.source = octets('encoded', encoded), route_of(route), source_of(source)
         self.processor = whole('processor', 'u32', processor)
         self.rows = messages(self.encoded, self.route)
         self.areas = Areas(sizes(self.encoded, self.route))
@@ -39,7 +39,7 @@ class Board:
     def memory(self) -> Grid:
         """The processor's own part of its memories, as a grid."""
         cells = len(self.areas.memories) // len(self.areas.progress)
-        return shaped(self.areas.memories[self.processor * cells:][:cells], dimensions(self.encoded))
+        return shaped(self.areas.memories[self.processor * cells:][:cells], lengths_of(self.encoded))
 
     def turn(self) -> None:
         """Gives the processor a turn."""
@@ -71,7 +71,7 @@ class OwnBoard:
 
     def __init__(self, encoded: BytesLike, route: SupportsIndex, source: Numbers, processor: SupportsIndex) -> None:
         """A fresh start; the source has a word for each cell of the processor's tiles (`own_source`)."""
-        self.encoded, self.route, self.source = bytes(encoded), route_of(route), source_of(source)
+        self.encoded, self.route, self.source = octets('encoded', encoded), route_of(route), source_of(source)
         self.processor = whole('processor', 'u32', processor)
         self.rows = own_messages(self.encoded, self.route, self.processor)
         wanted = own_sizes(self.encoded, self.route, self.processor)

@@ -4,7 +4,9 @@ from __future__ import annotations
 
 import ctypes
 import operator
-from typing import Any, Dict, NamedTuple, SupportsIndex
+from typing import Any, Dict, NamedTuple, SupportsIndex, Tuple
+
+from .hints import BytesLike
 
 
 class Kind(NamedTuple):
@@ -30,6 +32,8 @@ KINDS: Dict[str, Kind] = {
     'u8': _unsigned(ctypes.c_uint8, 'B'), 'u16': _unsigned(ctypes.c_uint16, 'H'), 'u32': _unsigned(ctypes.c_uint32, 'I'),
     'i8': _signed(ctypes.c_int8, 'b'), 'i16': _signed(ctypes.c_int16, 'h'), 'i32': _signed(ctypes.c_int32, 'i')}
 
+# how buffers name whole numbers; how long one is says the buffer, for ctypes has its own lengths
+SIGNED, UNSIGNED = tuple('bhilqn'), tuple('BHILQN')
 
 # numbers of more bits are not printed: Python has a limit there, and so have readers
 _PRINTED_BITS = 64
@@ -51,3 +55,20 @@ def whole(name: str, kind: str, value: SupportsIndex) -> int:
     except TypeError:
         raise TypeError('%s: a whole number is needed, not %s' % (name, type(value).__name__)) from None
     return held(name, kind, number)
+
+
+def format_of(view: memoryview) -> Tuple[bool, str]:
+    """A buffer's format: whether its elements have their high byte first, and their letter or letters."""
+    order = view.format[:1]
+    return order in ('>', '!'), view.format[1:] if order in tuple('@=<>!|') else view.format
+
+
+def bytes_view(name: str, value: BytesLike) -> memoryview:
+    """A look at a bytes-like object. `bytes` would take far more: a number for so many zeros, a list for its numbers."""
+    try:
+        view = memoryview(value)
+    except (TypeError, ValueError):
+        raise TypeError('%s: a bytes-like object is needed, not %s' % (name, type(value).__name__)) from None
+    if format_of(view)[1] not in ('B', 'c'):
+        raise TypeError('%s: a bytes-like object is needed, not elements of format %r' % (name, view.format))
+    return view

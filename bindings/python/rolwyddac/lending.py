@@ -4,10 +4,11 @@ from __future__ import annotations
 
 import array
 import ctypes
+import re
 from typing import Any, Iterable, Iterator, NamedTuple
 
 from .hints import Words
-from .kinds import KINDS, whole
+from .kinds import KINDS, SIGNED, UNSIGNED, bytes_view, format_of, whole
 
 WORD = 4
 PROGRESS = 'Progress'
@@ -22,7 +23,7 @@ class Progress(ctypes.Structure):
     _fields_ = [('finished', ctypes.c_uint32), ('stage', ctypes.c_uint32), ('sent', ctypes.c_uint32)]
 
     def __eq__(self, other: object) -> bool:
-        return bytes(self) == bytes(other)  # type: ignore[call-overload]
+        return bytes(self) == bytes(other) if isinstance(other, Progress) else NotImplemented
 
     def __repr__(self) -> str:
         return 'Progress(finished=%d, stage=%d, sent=%d)' % (self.finished, self.stage, self.sent)
@@ -40,6 +41,9 @@ class Sizes(ctypes.Structure):
     grid: int
     engaged: int
     _fields_ = [(name, ctypes.c_size_t) for name in AREAS]
+
+    def __eq__(self, other: object) -> bool:
+        return bytes(self) == bytes(other) if isinstance(other, Sizes) else NotImplemented
 
     def __repr__(self) -> str:
         return 'Sizes(%s)' % ', '.join('%s=%d' % (name, getattr(self, name)) for name in self.AREAS)
@@ -59,8 +63,11 @@ def type_of(kind: str) -> Any:
     return Progress if kind == PROGRESS else KINDS[kind].ctype
 
 
-# how the struct module names numbers of these sizes
-_FORMATS = {'u8': 'B', 'u16': 'H', 'u32': 'IL', PROGRESS: 'IL', 'i8': 'b', 'i16': 'h'}
+# parameters that are bytes, and no list of numbers
+BYTES_LIKE = ('encoded', 'file')
+
+# how buffers name a record of three words
+_RECORD = re.compile(r'T\{(?:[@=<]?[IL]:[^:]*:){3}\}')
 
 
 def listed(name: str, kind: str, values: Iterable[Any]) -> Words:
@@ -77,20 +84,30 @@ def flattened(values: Iterable[Any]) -> Iterator[Any]:
             yield value
 
 
+def _fits(kind: str, view: memoryview) -> bool:
+    """Has the buffer the kind's elements? A record is also three words, one behind the other."""
+    swapped, letter = format_of(view)
+    if kind == PROGRESS and _RECORD.fullmatch(letter):
+        return view.itemsize == ctypes.sizeof(Progress)
+    if kind == PROGRESS and view.ndim > 1 and view.shape is not None and view.shape[-1] != len(Progress._fields_):
+        return False
+    signed = kind != PROGRESS and KINDS[kind].least < 0
+    size = WORD if kind == PROGRESS else ctypes.sizeof(type_of(kind))
+    return not swapped and letter in (SIGNED if signed else UNSIGNED) and view.itemsize == size
+
+
 def _viewed(name: str, kind: str, area: Any) -> memoryview:
     """An area's buffer; told plainly where it has not the kind's elements."""
+    if name in BYTES_LIKE:
+        return bytes_view(name, area)
     try:
         view = memoryview(area)
-    except TypeError:
+    except (TypeError, ValueError):
         raise TypeError('%s: %s has no buffer of elements' % (name, type(area).__name__)) from None
-    sign = view.format.lstrip('@=<|')
-    size = WORD if kind == PROGRESS else ctypes.sizeof(type_of(kind))
-    # a structured array of three words a record is taken for what it is
-    record = kind == PROGRESS and view.itemsize == ctypes.sizeof(Progress)
-    if not record and not (view.itemsize == size and sign in _FORMATS[kind]):
-        raise TypeError('%s: elements must be unsigned, %d bytes each, not %r' % (name, size, view.format))
-    if not view.c_contiguous:
-        raise ValueError('%s: the elements must lie side by side' % name)
+    if not _fits(kind, view):
+        wanted = 'words of a record' if kind == PROGRESS else '%s bytes each' % ctypes.sizeof(type_of(kind))
+        sign = 'signed' if kind != PROGRESS and KINDS[kind].least < 0 else 'unsigned'
+        raise TypeError('%s: elements must be %s, %s, not %r' % (name, sign, wanted, view.format))
     return view
 
 
@@ -100,14 +117,13 @@ _SPARE = Progress()
 
 def lent(name: str, kind: str, area: Any, write: bool) -> Lent:
     """An area for one call; it is copied where it can only be read."""
-    if not write and isinstance(area, (list, tuple)) and kind != PROGRESS:
+    if not write and isinstance(area, (list, tuple)) and kind != PROGRESS and name not in BYTES_LIKE:
         area = listed(name, kind, area)
-    size = ctypes.sizeof(type_of(kind))
-    if isinstance(area, ctypes.Array) and area._type_ is type_of(kind):
-        return Lent(ctypes.addressof(area if len(area) else _SPARE), len(area), area)
-    view = _viewed(name, kind, area)
+    view, size = _viewed(name, kind, area), ctypes.sizeof(type_of(kind))
     if write and view.readonly:
         raise TypeError('%s: the area is written, and can only be read' % name)
+    if not view.c_contiguous:
+        raise ValueError('%s: the elements must lie side by side' % name)
     if view.nbytes % size:
         raise ValueError('%s: %d bytes are no whole number of elements' % (name, view.nbytes))
     if view.nbytes == 0:

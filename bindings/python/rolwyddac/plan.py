@@ -9,11 +9,12 @@ from . import calls
 from .calls import sizes
 from .hints import BytesLike, Grid, Numbers, Words
 from .kinds import whole
-from .recipe import dimensions
-from .words import shaped, source_of, zeros
+from .recipe import lengths_of
+from .words import octets, shaped, source_of, zeros
 
 DIRECT, INDIRECT = 0, 1
 
+# numbers of refusals
 AREA = 9
 
 
@@ -87,8 +88,9 @@ def route_of(route: SupportsIndex) -> int:
 
 def summary(encoded: BytesLike, route: SupportsIndex = DIRECT) -> Summary:
     """The totals of a recipe's plan on a route."""
-    areas, out = sizes(encoded, route_of(route)), zeros(4)
-    calls.EXPORTED['summary'](encoded, route_of(route), out)
+    recipe, word, out = octets('encoded', encoded), route_of(route), zeros(4)
+    areas = sizes(recipe, word)
+    calls.EXPORTED['summary'](recipe, word, out)
     return Summary(areas.source, areas.progress, *out)
 
 
@@ -101,17 +103,22 @@ def message(encoded: BytesLike, route: SupportsIndex, m: SupportsIndex) -> Messa
 
 def messages(encoded: BytesLike, route: SupportsIndex = DIRECT) -> List[Row]:
     """The rows of all messages of a recipe's plan on a route, in the order of their numbers."""
-    width = len(Row._fields)
-    out = zeros(width * sizes(encoded, route_of(route)).status)
-    calls.EXPORTED['messages'](encoded, route_of(route), out)
+    recipe, word, width = octets('encoded', encoded), route_of(route), len(Row._fields)
+    out = zeros(width * sizes(recipe, word).status)
+    calls.EXPORTED['messages'](recipe, word, out)
     return [Row(*out[at:at + width]) for at in range(0, len(out), width)]
+
+
+def _owners(recipe: bytes) -> Words:
+    out = zeros(sizes(recipe).source)
+    calls.EXPORTED['owners'](recipe, out)
+    return out
 
 
 def owners(encoded: BytesLike) -> Grid:
     """The processor of each cell's tile, as a grid; outside the shape the number of processors."""
-    out = zeros(sizes(encoded).source)
-    calls.EXPORTED['owners'](encoded, out)
-    return shaped(out, dimensions(encoded))
+    recipe = octets('encoded', encoded)
+    return shaped(_owners(recipe), lengths_of(recipe))
 
 
 def awaited(encoded: BytesLike, route: SupportsIndex, progress: Any, status: Any, processor: SupportsIndex) -> Awaited:
@@ -130,20 +137,19 @@ def own_sizes(encoded: BytesLike, route: SupportsIndex, processor: SupportsIndex
 
 def own_messages(encoded: BytesLike, route: SupportsIndex, processor: SupportsIndex) -> List[OwnRow]:
     """The rows of the messages that a processor handles, in the order of their numbers."""
-    width = len(OwnRow._fields)
-    out = zeros(width * own_sizes(encoded, route, processor).messages)
-    calls.EXPORTED['own_messages'](encoded, route_of(route), processor, out)
+    recipe, word, width = octets('encoded', encoded), route_of(route), len(OwnRow._fields)
+    out = zeros(width * own_sizes(recipe, word, processor).messages)
+    calls.EXPORTED['own_messages'](recipe, word, processor, out)
     return [OwnRow(*out[at:at + width]) for at in range(0, len(out), width)]
 
 
 def own_source(encoded: BytesLike, source: Numbers, processor: SupportsIndex) -> Words:
-    """The words that a source of all cells has at the cells of a processor's tiles: what an `OwnBoard` is lent."""
-    own = whole('processor', 'u32', processor)
-    own_sizes(encoded, DIRECT, own)
-    out, words = zeros(sizes(encoded).source), memoryview(source_of(source)).cast('B').cast('I')
+    """The words that a source of all cells has at the cells of a processor's tiles: what an `OwnBoard` is given."""
+    recipe, own = octets('encoded', encoded), whole('processor', 'u32', processor)
+    own_sizes(recipe, DIRECT, own)
+    words, out = memoryview(source_of(source)).cast('B').cast('I'), _owners(recipe)
     if len(words) != len(out):
         raise calls.refused(AREA)
-    calls.EXPORTED['owners'](encoded, out)
     return array.array('I', [word for word, owner in zip(words, out) if owner == own])
 
 
@@ -156,14 +162,15 @@ def hops(encoded: BytesLike, m: SupportsIndex) -> int:
 
 def opens(encoded: BytesLike, hours: Numbers, minute: SupportsIndex, processor: SupportsIndex) -> Optional[int]:
     """The minutes until a processor opens, 0 while it is open; None where it never does."""
-    out = zeros(2)
-    calls.EXPORTED['opens'](encoded, hours, minute, processor, out)
+    recipe, out = octets('encoded', encoded), zeros(2)
+    calls.EXPORTED['opens'](recipe, hours, minute, processor, out)
     ever, minutes = out
     return minutes if ever else None
 
 
 def rounds_of(encoded: BytesLike) -> List[int]:
     """The round of each tile."""
-    found = zeros(summary(encoded).tiles)
-    calls.EXPORTED['rounds_of'](encoded, found)
+    recipe = octets('encoded', encoded)
+    found = zeros(summary(recipe).tiles)
+    calls.EXPORTED['rounds_of'](recipe, found)
     return list(found)

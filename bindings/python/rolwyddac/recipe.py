@@ -8,9 +8,13 @@ from typing import Iterable, List, SupportsIndex, Tuple
 from . import calls
 from .hints import BytesLike
 from .kinds import whole
+from .words import octets
 
 RECORD = 16
 COMPONENTS = 4
+
+# where a dimension's record has its length, and its kind
+_LENGTH_AT, _DIMENSION = 2, 1
 
 _LOWER, _UPPER = 0, 1
 
@@ -62,7 +66,14 @@ class Fields:
         return bytes(space)
 
 
+def lengths_of(encoded: bytes) -> Tuple[int, ...]:
+    """The lengths of the dimensions of a recipe that the engine has accepted."""
+    starts = [at for at in range(0, len(encoded), RECORD) if encoded[at] == _DIMENSION]
+    return tuple(struct.unpack_from('<H', encoded, at + _LENGTH_AT)[0] for at in starts)
+
+
 def dimensions(encoded: BytesLike) -> Tuple[int, ...]:
     """The lengths of a recipe's dimensions."""
-    records = [encoded[at:at + RECORD] for at in range(0, len(encoded), RECORD)]
-    return tuple(struct.unpack_from('<H', record, 2)[0] for record in records if record[0] == 1)
+    recipe = octets('encoded', encoded)
+    calls.sizes(recipe)
+    return lengths_of(recipe)

@@ -9,9 +9,9 @@ from .calls import sizes
 from .hints import BytesLike, Grid, Numbers
 from .kinds import whole
 from .plan import route_of, summary
-from .recipe import dimensions
+from .recipe import lengths_of
 from .run import FINISHED, NO_SUCH, WAITING, Areas, turns
-from .words import shaped, source_of, zeros
+from .words import octets, shaped, source_of, zeros
 
 # an engaged word of a processor that no office holds
 FREE = 2
@@ -31,7 +31,7 @@ class Rig:
 
     def __init__(self, encoded: BytesLike, route: SupportsIndex, sources: Iterable[Numbers]) -> None:
         """A fresh start of both offices."""
-        self.encoded, self.route = bytes(encoded), route_of(route)
+        self.encoded, self.route = octets('encoded', encoded), route_of(route)
         self.sources = [source_of(source) for source in sources]
         self.plan = summary(self.encoded, self.route)
         wanted = sizes(self.encoded, self.route)
@@ -89,11 +89,11 @@ class Rig:
         """An office's grid, once all processors have finished for it."""
         grid = zeros(self.plan.cells)
         self._call('office_collect', office, grid)
-        return shaped(grid, dimensions(self.encoded))
+        return shaped(grid, lengths_of(self.encoded))
 
     def look(self, office: SupportsIndex, processor: SupportsIndex) -> Grid:
         """A copy of the processor's part of an office's memories."""
         out = zeros(2)
         calls.EXPORTED['look'](self.encoded, self.areas[0].memories, self.areas[1].memories, office, processor, out)
         start, words = out
-        return shaped(self.areas[place(office)].memories[start:start + words], dimensions(self.encoded))
+        return shaped(self.areas[place(office)].memories[start:start + words], lengths_of(self.encoded))

@@ -9,8 +9,8 @@ from .calls import REFUSALS, sizes
 from .hints import BytesLike, Grid, Numbers
 from .lending import Progress, Sizes
 from .plan import DIRECT, route_of, summary
-from .recipe import dimensions
-from .words import shaped, source_of, zeros
+from .recipe import lengths_of
+from .words import octets, shaped, source_of, zeros
 
 IN_FLIGHT = 1
 
@@ -54,7 +54,7 @@ class Run:
 
     def __init__(self, encoded: BytesLike, route: SupportsIndex, source: Numbers, areas: Optional[Areas] = None) -> None:
         """A fresh start; or, with areas that an earlier run of these left, the run goes on from there."""
-        self.encoded, self.route, self.source = bytes(encoded), route_of(route), source_of(source)
+        self.encoded, self.route, self.source = octets('encoded', encoded), route_of(route), source_of(source)
         self.plan = summary(self.encoded, self.route)
         self.areas = Areas(sizes(self.encoded, self.route)) if areas is None else areas
         if areas is None:
@@ -120,7 +120,7 @@ class Run:
         """The grid, once all processors have finished."""
         grid = zeros(self.plan.cells)
         self._call('collect', grid)
-        return shaped(grid, dimensions(self.encoded))
+        return shaped(grid, lengths_of(self.encoded))
 
 
 def rounds(encoded: BytesLike, source: Numbers) -> Tuple[int, Run]:

@@ -6,8 +6,8 @@ import array
 import ctypes
 from typing import Any, Tuple
 
-from .hints import Grid, Words
-from .kinds import held
+from .hints import BytesLike, Grid, Words
+from .kinds import bytes_view, held
 from .lending import WORD, listed
 
 try:
@@ -19,6 +19,11 @@ except ImportError:
 def zeros(count: int) -> Words:
     """So many words, all zero."""
     return array.array('I', bytes(WORD * count))
+
+
+def octets(name: str, value: BytesLike) -> bytes:
+    """A copy of what a bytes-like object has."""
+    return bytes_view(name, value).tobytes()
 
 
 def source_of(values: Any) -> Any:
