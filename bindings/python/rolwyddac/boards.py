@@ -10,10 +10,10 @@ from .calls import sizes
 from .hints import BytesLike, Grid, Numbers, Words, Writable
 from .kinds import whole
 from .lending import Progress
-from .plan import Awaited, awaited, messages, own_messages, own_sizes, route_of
+from .plan import AREA, Awaited, awaited, messages, own_messages, own_sizes, route_of
 from .recipe import lengths_of
 from .run import IN_FLIGHT, NO_SUCH, Areas
-from .words import octets, shaped, source_of, zeros
+from .words import laid, octets, shaped, zeros
 
 UNSENT = 0
 
@@ -25,7 +25,7 @@ class Board:
 
     def __init__(self, encoded: BytesLike, route: SupportsIndex, source: Numbers, processor: SupportsIndex) -> None:
         """A fresh start."""
-        self.encoded, self.route, self.source = octets('encoded', encoded), route_of(route), source_of(source)
+        self.encoded, self.route, self.source = octets('encoded', encoded), route_of(route), laid('source', source)
         self.processor = whole('processor', 'u32', processor)
         self.rows = messages(self.encoded, self.route)
         self.areas = Areas(sizes(self.encoded, self.route))
@@ -61,7 +61,7 @@ class Board:
 
     def take_in(self, message: SupportsIndex, words: Numbers) -> None:
         """Takes a message in that another processor posted."""
-        self._call('take_in', self.processor, message, words)
+        self._call('take_in', self.processor, message, laid('words', words))
 
 
 class OwnBoard:
@@ -71,10 +71,12 @@ class OwnBoard:
 
     def __init__(self, encoded: BytesLike, route: SupportsIndex, source: Numbers, processor: SupportsIndex) -> None:
         """A fresh start; the source has a word for each cell of the processor's tiles (`own_source`)."""
-        self.encoded, self.route, self.source = octets('encoded', encoded), route_of(route), source_of(source)
+        self.encoded, self.route, self.source = octets('encoded', encoded), route_of(route), laid('source', source)
         self.processor = whole('processor', 'u32', processor)
         self.rows = own_messages(self.encoded, self.route, self.processor)
         wanted = own_sizes(self.encoded, self.route, self.processor)
+        if len(self.source) != wanted.source:
+            raise calls.refused(AREA)
         self.memory, self.mail = zeros(wanted.memory), zeros(wanted.mail)
         self.progress, self.marks = (Progress * 1)(), bytearray(wanted.messages)
         self._call('own_fresh', self.processor)
@@ -105,7 +107,7 @@ class OwnBoard:
 
     def arrive(self, message: SupportsIndex, words: Numbers) -> None:
         """A message arrives that another processor posted."""
-        self._call('own_arrive', self.processor, message, words)
+        self._call('own_arrive', self.processor, message, laid('words', words))
 
     def collect(self, grid: Writable) -> None:
         """Puts the processor's part into a grid of all cells, an array of words, once it has finished; the words of other processors' cells

@@ -2,15 +2,13 @@
 
 from __future__ import annotations
 
-import struct
-from typing import Iterable, NamedTuple, Sequence, SupportsIndex, Union
+from typing import Any, Iterable, NamedTuple, Sequence, SupportsIndex, Union
 
 from . import calls
 from .calls import sizes
 from .hints import BytesLike, Grid, Numbers
-from .kinds import whole
 from .recipe import lengths_of
-from .words import octets, shaped, source_of, zeros
+from .words import gathered, laid, octets, shaped, zeros
 
 
 class Sounding(NamedTuple):
@@ -25,24 +23,39 @@ class Sounding(NamedTuple):
 def sweep(encoded: BytesLike, source: Numbers) -> Grid:
     """The grid that one processor makes, in index order."""
     recipe = octets('encoded', encoded)
-    grid = zeros(sizes(recipe).grid)
-    calls.EXPORTED['sweep'](recipe, source_of(source), grid)
-    return shaped(grid, lengths_of(recipe))
+    grid, lengths = zeros(sizes(recipe).grid), lengths_of(recipe)
+    calls.EXPORTED['sweep'](recipe, laid('source', source), grid)
+    return shaped(grid, lengths)
+
+
+def _file_of(records: Any) -> bytes:
+    """The bytes of a file of soundings; a file's own bytes as they are."""
+    try:
+        view = memoryview(records)
+    except (TypeError, ValueError):
+        shape, words = gathered('records', records if isinstance(records, (str, list, tuple)) else list(records))
+    else:
+        if view.itemsize == 1:
+            return octets('records', view)
+        shape, words = gathered('records', records)
+    if shape != (0,) and (len(shape) != 2 or shape[1] != len(Sounding._fields)):
+        raise ValueError('records: each has a cell, a day, a survey and a depth; the shape is %s' % (shape,))
+    # words are stored low byte first, as the file has them
+    return words.tobytes()
 
 
 def soundings(encoded: BytesLike, records: Union[BytesLike, Iterable[Sequence[SupportsIndex]]], value: SupportsIndex) -> Grid:
     """A source filled from soundings, `Sounding`s or their bytes; a cell that no record names gets the value."""
-    if not isinstance(records, (bytes, bytearray, memoryview)):
-        records = b''.join(struct.pack('<4I', *[whole('records', 'u32', word) for word in record]) for record in records)
     recipe = octets('encoded', encoded)
     source = zeros(sizes(recipe).source)
-    calls.EXPORTED['soundings'](recipe, records, value, source)
+    calls.EXPORTED['soundings'](recipe, _file_of(records), value, source)
     return shaped(source, lengths_of(recipe))
 
 
 def chart(encoded: BytesLike, grid: Numbers, x: SupportsIndex = 0, y: SupportsIndex = 0, cell_size: SupportsIndex = 1) -> str:
-    """The text of a grid of two dimensions for the charting desk, an Esri ASCII grid."""
-    recipe, words, out = octets('encoded', encoded), source_of(grid), zeros(1)
+    """The text of a grid of two dimensions for the charting desk, an Esri ASCII grid. The corner and the cell size are whole numbers."""
+    recipe, out = octets('encoded', encoded), zeros(1)
+    words = laid('grid', grid)
     calls.EXPORTED['chart_length'](recipe, words, x, y, cell_size, out)
     space = bytearray(out[0])
     calls.EXPORTED['chart'](recipe, words, x, y, cell_size, space, out)

@@ -10,7 +10,7 @@ from .hints import BytesLike, Grid, Numbers
 from .lending import Progress, Sizes
 from .plan import DIRECT, route_of, summary
 from .recipe import lengths_of
-from .words import octets, shaped, source_of, zeros
+from .words import laid, octets, shaped, zeros
 
 IN_FLIGHT = 1
 
@@ -54,7 +54,7 @@ class Run:
 
     def __init__(self, encoded: BytesLike, route: SupportsIndex, source: Numbers, areas: Optional[Areas] = None) -> None:
         """A fresh start; or, with areas that an earlier run of these left, the run goes on from there."""
-        self.encoded, self.route, self.source = octets('encoded', encoded), route_of(route), source_of(source)
+        self.encoded, self.route, self.source = octets('encoded', encoded), route_of(route), laid('source', source)
         self.plan = summary(self.encoded, self.route)
         self.areas = Areas(sizes(self.encoded, self.route)) if areas is None else areas
         if areas is None:
@@ -92,7 +92,7 @@ class Run:
 
     def turn_at(self, hours: Numbers, minute: SupportsIndex, processor: SupportsIndex) -> None:
         """Gives one processor a turn at a minute of the week, if the table of hours has it open then."""
-        self._call('turn_at', hours, minute, processor)
+        self._call('turn_at', laid('hours', hours), minute, processor)
 
     def deliver(self, message: SupportsIndex) -> None:
         """Delivers one message."""

@@ -1,19 +1,25 @@
-"""Words that callers give, as the calls are lent them, and grids as callers get them."""
+"""Words that callers give, copied for the calls, and grids as callers get them."""
 
 from __future__ import annotations
 
 import array
 import ctypes
-from typing import Any, Tuple
+from collections import abc
+from typing import Any, Sequence, Tuple
 
-from .hints import BytesLike, Grid, Words
-from .kinds import bytes_view, held
-from .lending import WORD, listed
+from .hints import BytesLike, Grid, Numbers, Words
+from .kinds import SIGNED, UNSIGNED, bytes_view, format_of, held, whole
+from .lending import WORD
 
 try:
     import numpy
 except ImportError:
     numpy = None  # type: ignore[assignment]
+
+Shape = Tuple[int, ...]
+
+# the array module's letters of whole numbers, with and without a sign, by the bytes of one
+_CODES = {1: 'bB', 2: 'hH', 4: 'iI', 8: 'qQ'}
 
 
 def zeros(count: int) -> Words:
@@ -26,30 +32,72 @@ def octets(name: str, value: BytesLike) -> bytes:
     return bytes_view(name, value).tobytes()
 
 
-def source_of(values: Any) -> Any:
-    """A source as it is lent: an array with a buffer of words as it is, any other list of numbers by its elements."""
-    if numpy is not None and not isinstance(values, (list, tuple, ctypes.Array)):
-        values = numpy.ascontiguousarray(values)
-        if values.dtype != numpy.uint32:
-            if values.dtype.kind not in 'ui':
-                raise TypeError('source: whole numbers are needed, not %s' % values.dtype)
-            for number in (values.min(), values.max()) if values.size else ():
-                held('source', 'u32', int(number))
-            values = values.astype(numpy.uint32)
-        return values
+def _of_buffer(name: str, view: memoryview) -> Words:
+    """A buffer's whole numbers, whatever their length and order of bytes."""
+    swapped, letter = format_of(view)
+    if letter not in SIGNED + UNSIGNED or view.itemsize not in _CODES:
+        raise TypeError('%s: whole numbers are needed, not elements of format %r' % (name, view.format))
+    numbers = array.array(_CODES[view.itemsize][letter in UNSIGNED])
+    numbers.frombytes(view.tobytes())
+    if swapped:
+        numbers.byteswap()
+    if numbers.typecode == 'I':
+        return numbers
+    for number in (min(numbers), max(numbers)) if numbers else ():
+        held(name, 'u32', number)
+    return array.array('I', numbers)
+
+
+def _is_row(value: Any) -> bool:
+    """Is it several numbers? A string is none, and numpy's single numbers have a shape without a dimension."""
+    if isinstance(value, (str, bytes, bytearray)):
+        return False
+    return isinstance(value, (abc.Sequence, array.array, memoryview, ctypes.Array)) or getattr(value, 'shape', ()) != ()
+
+
+def _of_rows(name: str, rows: Sequence[Any]) -> Tuple[Shape, Words]:
+    """The shape and the words of a list of numbers, or of rows."""
+    words, shapes = array.array('I'), set()
+    for row in rows:
+        shape: Shape = ()
+        if _is_row(row):
+            shape, more = gathered(name, row)
+            words.extend(more)
+        else:
+            words.append(whole(name, 'u32', row))
+        shapes.add(shape)
+    if len(shapes) > 1:
+        raise ValueError('%s: rows of different lengths' % name)
+    return (len(rows), *(shapes.pop() if shapes else ())), words
+
+
+def gathered(name: str, values: Numbers) -> Tuple[Shape, Words]:
+    """The shape of what a caller gives, and its words, always a copy: what the caller does with the array changes no run."""
+    if isinstance(values, (str, bytes, bytearray)):
+        raise TypeError('%s: whole numbers are needed, not %s' % (name, type(values).__name__))
+    if numpy is not None and hasattr(values, '__array__') and not isinstance(values, numpy.ndarray):
+        return gathered(name, numpy.asarray(values))
+    if isinstance(values, (list, tuple)):
+        return _of_rows(name, values)
     try:
-        memoryview(values)
-    except TypeError:
-        # no buffer: a list, a range, any other row of numbers
-        return listed('source', 'u32', values)
-    return values
+        view = memoryview(values)
+    except (TypeError, ValueError):
+        if isinstance(values, abc.Sequence):
+            return _of_rows(name, values)
+        raise TypeError('%s: whole numbers are needed, not %s' % (name, type(values).__name__)) from None
+    return tuple(view.shape or ()), _of_buffer(name, view)
 
 
-def shaped(words: Words, lengths: Tuple[int, ...]) -> Grid:
+def laid(name: str, values: Numbers) -> Words:
+    """The words of what a caller gives."""
+    return gathered(name, values)[1]
+
+
+def shaped(words: Words, lengths: Shape) -> Grid:
     """Words as a grid of the dimensions: a numpy array, or lists of lists."""
     if numpy is not None:
         return numpy.frombuffer(words, dtype=numpy.uint32).reshape(lengths)
-    rows = list(words)
+    rows: Any = list(words)
     for length in reversed(lengths[1:]):
-        rows = [rows[at:at + length] for at in range(0, len(rows), length)]  # type: ignore[misc]
+        rows = [rows[at:at + length] for at in range(0, len(rows), length)]
     return rows

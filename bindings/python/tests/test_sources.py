@@ -1,0 +1,144 @@
+"""Sources and grids: their shapes, what of them is copied, and what is no row of whole numbers."""
+
+import array
+import ctypes
+import fractions
+import unittest
+
+from support import ROW_D, flat, model, rolwyddac
+
+numpy = rolwyddac.numpy
+with_numpy = unittest.skipIf(numpy is None, 'numpy is not installed')
+
+ROWS, COLUMNS = 3, 5
+OBLONG = model.encode([ROWS, COLUMNS], [2, 2], [2, 0], [[1, 0, 0, 0], [0, 1, 0, 0]])
+CUBE = model.encode([2, 3, 4], [1, 2, 2], [2, 0, 0], [[1, 0, 0, 0], [0, 1, 0, 0], [0, 0, 1, 0]])
+DIRECT = rolwyddac.DIRECT
+
+
+def counted(rows, columns):
+    return [[row * columns + column for column in range(columns)] for row in range(rows)]
+
+
+def swept(encoded, source):
+    return model.plan_of(encoded)[1].swept(list(source))
+
+
+# each call that is given a word for each cell
+TAKERS = {
+    'sweep': lambda source: rolwyddac.sweep(OBLONG, source),
+    'chart': lambda source: rolwyddac.chart(OBLONG, source),
+    'own_source': lambda source: rolwyddac.own_source(OBLONG, source, 0),
+    'Run': lambda source: rolwyddac.Run(OBLONG, DIRECT, source),
+    'rounds': lambda source: rolwyddac.rounds(OBLONG, source),
+    'Board': lambda source: rolwyddac.Board(OBLONG, DIRECT, source, 0),
+    'Rig, first': lambda source: rolwyddac.Rig(OBLONG, DIRECT, [source, [0] * (ROWS * COLUMNS)]),
+    'Rig, second': lambda source: rolwyddac.Rig(OBLONG, DIRECT, [[0] * (ROWS * COLUMNS), source]),
+}
+
+
+class Elements(unittest.TestCase):
+
+    def test_no_whole_numbers(self):
+        forms = [[1.0] * 15, ['1'] * 15, '1' * 15, b'\1' * 15, bytearray(15), None, 15, 1.5, {1: 2}, set(range(15)), iter([1] * 15), [None] * 15,
+                 [fractions.Fraction(1)] * 15, array.array('f', [1] * 15), array.array('d', [1] * 15), (ctypes.c_bool * 15)(),
+                 memoryview(bytes(60)).cast('f'), memoryview(bytes(15)).cast('?'), memoryview(bytes(15)).cast('c'), [b'1'] * 15,
+                 (rolwyddac.Progress * 15)()]
+        if numpy is not None:
+            forms += [numpy.ones(15, dtype=kind) for kind in ('float32', 'float64', 'bool', 'complex64', 'object')]
+            forms += [numpy.zeros(15, dtype=kind) for kind in ('S4', 'U1', 'M8[s]', 'V4', [('depth', 'u4')])]
+            forms += [[numpy.float64(1)] * 15, [numpy.ones(5)] * 3]
+        for name, call in TAKERS.items():
+            for form in forms:
+                with self.subTest(name, form=str(form)[:40]), self.assertRaises(TypeError):
+                    call(form)
+
+    def test_none_wraps(self):
+        forms = [array.array('b', [0] * 14 + [-1]), array.array('i', [0] * 14 + [-1]), array.array('q', [0] * 14 + [2 ** 32]),
+                 array.array('Q', [2 ** 63] + [0] * 14), (ctypes.c_uint64.__ctype_be__ * 15)(2 ** 32)]
+        if numpy is not None:
+            forms += [numpy.array([0] * 14 + [word], dtype=kind) for word, kind in ((-1, 'int8'), (-1, '>i4'), (2 ** 32, '>i8'), (2 ** 64 - 1, 'uint64'))]
+        for name, call in TAKERS.items():
+            for form in forms:
+                with self.subTest(name, form=str(form)[:60]):
+                    with self.assertRaisesRegex(OverflowError, '-1|%d|%d|%d' % (2 ** 32, 2 ** 63, 2 ** 64 - 1)):
+                        call(form)
+
+    def test_soundings(self):
+        wanted = [7] * 15
+        wanted[2] = 40
+        records = [rolwyddac.Sounding(2, 1, 1, 30), (2, 2, 1, 40)]
+        content = b''.join(word.to_bytes(4, 'little') for record in records for word in record)
+        forms = [records, tuple(records), iter(records), (record for record in records), [list(record) for record in records], content,
+                 bytearray(content), memoryview(content), array.array('B', content), (ctypes.c_char * 32)(*content)]
+        if numpy is not None:
+            forms += [numpy.array(records, dtype=kind) for kind in ('uint32', 'int64', '>u4')] + [numpy.frombuffer(content, dtype='uint8')]
+        for form in forms:
+            with self.subTest(type(form).__name__):
+                self.assertEqual(flat(rolwyddac.soundings(OBLONG, form, 7)), wanted)
+        self.assertEqual(flat(rolwyddac.soundings(OBLONG, [], 7)), [7] * 15)
+        for form in ([(1, 2, 3)], [(1, 2, 3, 4, 5)], [1, 2, 3, 4], [(1, 2, 3, 4), (1, 2)]):
+            with self.assertRaisesRegex(ValueError, 'records: '):
+                rolwyddac.soundings(OBLONG, form, 7)
+        for form in ('text', 4, [('1', '2', '3', '4')], [(1.5, 1, 1, 1)]):
+            with self.assertRaises(TypeError):
+                rolwyddac.soundings(OBLONG, form, 7)
+
+
+class Copies(unittest.TestCase):
+    """What an object keeps of a source is its own, whatever the form: changing the caller's array changes no grid."""
+
+    def forms(self):
+        yield [1] * 4
+        yield array.array('I', [1] * 4)
+        yield (ctypes.c_uint32 * 4)(*[1] * 4)
+        yield memoryview(array.array('I', [1] * 4))
+        if numpy is not None:
+            for kind in ('uint32', 'int64', '>u4'):
+                yield numpy.ones(4, dtype=kind)
+
+    def test_run(self):
+        for source in self.forms():
+            run = rolwyddac.Run(ROW_D, DIRECT, source)
+            source[3] = 100
+            run.finish()
+            self.assertEqual(flat(run.collect()), [1, 2, 3, 4])
+
+    def test_resumed_run(self):
+        for source in self.forms():
+            run = rolwyddac.Run.resume(ROW_D, DIRECT, source, rolwyddac.Run(ROW_D, DIRECT, source).areas)
+            source[3] = 100
+            run.finish()
+            self.assertEqual(flat(run.collect()), [1, 2, 3, 4])
+
+    def test_rig(self):
+        for source in self.forms():
+            rig = rolwyddac.Rig(ROW_D, DIRECT, [source, source])
+            source[3] = 100
+            rig.finish()
+            self.assertEqual([flat(rig.collect(office)) for office in (0, 1)], [[1, 2, 3, 4]] * 2)
+
+    def test_boards(self):
+        for source in self.forms():
+            boards = [rolwyddac.Board(ROW_D, DIRECT, source, processor) for processor in (0, 1)]
+            source[3] = 100
+            for _ in range(3):
+                boards[0].turn()
+            boards[1].take_in(0, boards[0].post(0)[1])
+            for _ in range(2):
+                boards[1].turn()
+            self.assertEqual(flat(boards[1].memory())[2:], [3, 4])
+
+    def test_own_boards(self):
+        for source in self.forms():
+            part = source[:2]
+            board = rolwyddac.OwnBoard(ROW_D, DIRECT, part, 0)
+            part[1] = 100
+            board.turn()
+            board.turn()
+            self.assertEqual(list(board.memory), [1, 2])
+
+    def test_two_sources(self):
+        for sources in ([], [[1] * 4], [[1] * 4] * 3):
+            with self.assertRaisesRegex(ValueError, 'sources: two are needed, not %d' % len(sources)):
+                rolwyddac.Rig(ROW_D, DIRECT, sources)
