@@ -13,7 +13,7 @@ from .lending import Progress
 from .plan import AREA, Awaited, awaited, messages, own_messages, own_sizes, route_of
 from .recipe import lengths_of
 from .run import IN_FLIGHT, NO_SUCH, Areas
-from .words import laid, octets, shaped, zeros
+from .words import laid, octets, shape_held, shape_of, shaped, zeros
 
 UNSENT = 0
 
@@ -25,9 +25,10 @@ class Board:
 
     def __init__(self, encoded: BytesLike, route: SupportsIndex, source: Numbers, processor: SupportsIndex) -> None:
         """A fresh start."""
-        self.encoded, self.route, self.source = octets('encoded', encoded), route_of(route), laid('source', source)
+        self.encoded, self.route = octets('encoded', encoded), route_of(route)
         self.processor = whole('processor', 'u32', processor)
         self.rows = messages(self.encoded, self.route)
+        self.source = laid('source', source, lengths_of(self.encoded))
         self.areas = Areas(sizes(self.encoded, self.route))
         self._call('fresh')
         if self.processor >= len(self.areas.progress):
@@ -112,4 +113,5 @@ class OwnBoard:
     def collect(self, grid: Writable) -> None:
         """Puts the processor's part into a grid of all cells, an array of words, once it has finished; the words of other processors' cells
         are as before."""
+        shape_held('grid', shape_of(grid), lengths_of(self.encoded))
         calls.EXPORTED['own_collect'](self.encoded, self.route, self.memory, self.progress, self.processor, grid)

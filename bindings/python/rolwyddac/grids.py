@@ -24,7 +24,7 @@ def sweep(encoded: BytesLike, source: Numbers) -> Grid:
     """The grid that one processor makes, in index order."""
     recipe = octets('encoded', encoded)
     grid, lengths = zeros(sizes(recipe).grid), lengths_of(recipe)
-    calls.EXPORTED['sweep'](recipe, laid('source', source), grid)
+    calls.EXPORTED['sweep'](recipe, laid('source', source, lengths), grid)
     return shaped(grid, lengths)
 
 
@@ -55,7 +55,8 @@ def soundings(encoded: BytesLike, records: Union[BytesLike, Iterable[Sequence[Su
 def chart(encoded: BytesLike, grid: Numbers, x: SupportsIndex = 0, y: SupportsIndex = 0, cell_size: SupportsIndex = 1) -> str:
     """The text of a grid of two dimensions for the charting desk, an Esri ASCII grid. The corner and the cell size are whole numbers."""
     recipe, out = octets('encoded', encoded), zeros(1)
-    words = laid('grid', grid)
+    sizes(recipe)
+    words = laid('grid', grid, lengths_of(recipe))
     calls.EXPORTED['chart_length'](recipe, words, x, y, cell_size, out)
     space = bytearray(out[0])
     calls.EXPORTED['chart'](recipe, words, x, y, cell_size, space, out)

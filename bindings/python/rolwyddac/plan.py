@@ -10,7 +10,7 @@ from .calls import sizes
 from .hints import BytesLike, Grid, Numbers, Words
 from .kinds import whole
 from .recipe import lengths_of
-from .words import laid, octets, shaped, zeros
+from .words import laid, octets, shaped, timetable, zeros
 
 DIRECT, INDIRECT = 0, 1
 
@@ -147,7 +147,7 @@ def own_source(encoded: BytesLike, source: Numbers, processor: SupportsIndex) ->
     """The words that a source of all cells has at the cells of a processor's tiles: what an `OwnBoard` is given."""
     recipe, own = octets('encoded', encoded), whole('processor', 'u32', processor)
     own_sizes(recipe, DIRECT, own)
-    words, out = laid('source', source), _owners(recipe)
+    words, out = laid('source', source, lengths_of(recipe)), _owners(recipe)
     if len(words) != len(out):
         raise calls.refused(AREA)
     return array.array('I', [word for word, owner in zip(words, out) if owner == own])
@@ -163,7 +163,7 @@ def hops(encoded: BytesLike, m: SupportsIndex) -> int:
 def opens(encoded: BytesLike, hours: Numbers, minute: SupportsIndex, processor: SupportsIndex) -> Optional[int]:
     """The minutes until a processor opens, 0 while it is open; None where it never does."""
     recipe, out = octets('encoded', encoded), zeros(2)
-    calls.EXPORTED['opens'](recipe, laid('hours', hours), minute, processor, out)
+    calls.EXPORTED['opens'](recipe, timetable(hours, sizes(recipe).progress), minute, processor, out)
     ever, minutes = out
     return minutes if ever else None
 

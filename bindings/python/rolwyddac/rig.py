@@ -11,7 +11,7 @@ from .kinds import whole
 from .plan import route_of, summary
 from .recipe import lengths_of
 from .run import FINISHED, NO_SUCH, WAITING, Areas, turns
-from .words import laid, octets, shaped, zeros
+from .words import laid, octets, shaped, timetable, zeros
 
 # an engaged word of a processor that no office holds
 FREE = 2
@@ -32,10 +32,10 @@ class Rig:
     def __init__(self, encoded: BytesLike, route: SupportsIndex, sources: Iterable[Numbers]) -> None:
         """A fresh start of both offices."""
         self.encoded, self.route = octets('encoded', encoded), route_of(route)
-        self.sources = [laid('source', source) for source in sources]
+        self.plan = summary(self.encoded, self.route)
+        self.sources = [laid('source', source, lengths_of(self.encoded)) for source in sources]
         if len(self.sources) != OFFICES:
             raise ValueError('sources: two are needed, not %d' % len(self.sources))
-        self.plan = summary(self.encoded, self.route)
         wanted = sizes(self.encoded, self.route)
         self.areas = [Areas(wanted), Areas(wanted)]
         self.engaged = zeros(wanted.engaged)
@@ -60,7 +60,7 @@ class Rig:
         """Gives one processor a turn for an office at a minute of the week."""
         own = place(office)
         calls.EXPORTED['office_turn_at'](self.encoded, self.route, self.sources[own], *self.areas[own], self.engaged,
-                                         self.areas[1 - own].progress, laid('hours', hours), minute, office, processor)
+                                         self.areas[1 - own].progress, timetable(hours, self.plan.processors), minute, office, processor)
 
     def deliver(self, office: SupportsIndex, message: SupportsIndex) -> None:
         """Delivers one message of an office."""

@@ -10,7 +10,7 @@ from .hints import BytesLike, Grid, Numbers
 from .lending import Progress, Sizes
 from .plan import DIRECT, route_of, summary
 from .recipe import lengths_of
-from .words import laid, octets, shaped, zeros
+from .words import laid, octets, shaped, timetable, zeros
 
 IN_FLIGHT = 1
 
@@ -54,8 +54,9 @@ class Run:
 
     def __init__(self, encoded: BytesLike, route: SupportsIndex, source: Numbers, areas: Optional[Areas] = None) -> None:
         """A fresh start; or, with areas that an earlier run of these left, the run goes on from there."""
-        self.encoded, self.route, self.source = octets('encoded', encoded), route_of(route), laid('source', source)
+        self.encoded, self.route = octets('encoded', encoded), route_of(route)
         self.plan = summary(self.encoded, self.route)
+        self.source = laid('source', source, lengths_of(self.encoded))
         self.areas = Areas(sizes(self.encoded, self.route)) if areas is None else areas
         if areas is None:
             self._call('fresh')
@@ -92,7 +93,7 @@ class Run:
 
     def turn_at(self, hours: Numbers, minute: SupportsIndex, processor: SupportsIndex) -> None:
         """Gives one processor a turn at a minute of the week, if the table of hours has it open then."""
-        self._call('turn_at', laid('hours', hours), minute, processor)
+        self._call('turn_at', timetable(hours, self.plan.processors), minute, processor)
 
     def deliver(self, message: SupportsIndex) -> None:
         """Delivers one message."""

@@ -21,6 +21,9 @@ Shape = Tuple[int, ...]
 # the array module's letters of whole numbers, with and without a sign, by the bytes of one
 _CODES = {1: 'bB', 2: 'hH', 4: 'iI', 8: 'qQ'}
 
+# a processor's hours: pairs of open and close
+PAIRS, PAIR = 14, 2
+
 
 def zeros(count: int) -> Words:
     """So many words, all zero."""
@@ -88,9 +91,30 @@ def gathered(name: str, values: Numbers) -> Tuple[Shape, Words]:
     return tuple(view.shape or ()), _of_buffer(name, view)
 
 
-def laid(name: str, values: Numbers) -> Words:
-    """The words of what a caller gives."""
-    return gathered(name, values)[1]
+def shape_of(area: Any) -> Shape:
+    """The shape of an area; what has no buffer is refused where it is lent."""
+    try:
+        return tuple(memoryview(area).shape or ())
+    except (TypeError, ValueError):
+        return (0,)
+
+
+def shape_held(name: str, shape: Shape, *wanted: Shape) -> None:
+    """A shape is one of those wanted; what is flat has its length tested by the engine."""
+    if len(shape) != 1 and shape not in wanted:
+        raise ValueError('%s: its shape is %s, and not %s' % (name, shape, ' or '.join(str(each) for each in (*wanted, 'flat'))))
+
+
+def laid(name: str, values: Numbers, *wanted: Shape) -> Words:
+    """The words of what a caller gives, flat or in one of these shapes."""
+    shape, words = gathered(name, values)
+    shape_held(name, shape, *wanted)
+    return words
+
+
+def timetable(hours: Numbers, processors: int) -> Words:
+    """The words of a table of hours: pairs for each processor, or these in one row, or all pairs in one column, or all in one row."""
+    return laid('hours', hours, (processors, PAIRS, PAIR), (processors, PAIRS * PAIR), (processors * PAIRS, PAIR))
 
 
 def shaped(words: Words, lengths: Shape) -> Grid:

@@ -37,6 +37,122 @@ TAKERS = {
 }
 
 
+class Shapes(unittest.TestCase):
+
+    def test_turned_rows_are_refused(self):
+        turned = counted(COLUMNS, ROWS)
+        forms = [turned, tuple(tuple(row) for row in turned), [array.array('I', row) for row in turned],
+                 memoryview(array.array('I', range(15))).cast('B').cast('I', (COLUMNS, ROWS))]
+        if numpy is not None:
+            forms += [numpy.array(turned, dtype=kind) for kind in ('uint32', 'int64', 'uint8', '>u4')]
+            forms += [numpy.array(counted(ROWS, COLUMNS), dtype='uint32').T]
+        for name, call in TAKERS.items():
+            for form in forms:
+                with self.subTest(name, form=type(form).__name__):
+                    with self.assertRaisesRegex(ValueError, r'its shape is \(5, 3\), and not \(3, 5\)'):
+                        call(form)
+
+    def test_other_shapes_are_refused(self):
+        for form in ([counted(ROWS, COLUMNS)], [[word] for word in range(15)], [list(range(15))], [[], [], []], [[]]):
+            for name, call in TAKERS.items():
+                with self.subTest(name, form=form), self.assertRaisesRegex(ValueError, 'its shape is'):
+                    call(form)
+
+    def test_ragged_rows_are_refused(self):
+        for form in ([[1, 2], [3], [4, 5, 6]], [1, [2, 3]], [[1], 2], [[[1]], [2]]):
+            with self.assertRaisesRegex(ValueError, 'source: rows of different lengths'):
+                rolwyddac.sweep(OBLONG, form)
+
+    def test_flat_and_shaped_are_the_same(self):
+        rows = counted(ROWS, COLUMNS)
+        words = array.array('I', range(15))
+        forms = [list(words), range(15), tuple(words), rows, tuple(map(tuple, rows)), words, memoryview(words), array.array('Q', words),
+                 array.array('b', words), memoryview(words).toreadonly(), memoryview(words).cast('B').cast('I', (ROWS, COLUMNS)),
+                 (ctypes.c_uint32 * 15)(*words), (ctypes.c_uint16 * 15)(*words), (ctypes.c_uint32.__ctype_be__ * 15)(*words),
+                 ((ctypes.c_uint32 * COLUMNS) * ROWS)(*map(tuple, rows)), memoryview(array.array('I', [w for x in words for w in (x, 9)]))[::2],
+                 [array.array('I', row) for row in rows]]
+        wanted = swept(OBLONG, range(15))
+        for form in forms:
+            with self.subTest(type(form).__name__):
+                self.assertEqual(flat(rolwyddac.sweep(OBLONG, form)), wanted)
+
+    @with_numpy
+    def test_arrays(self):
+        rows = numpy.array(counted(ROWS, COLUMNS))
+        forms = [rows.astype(kind) for kind in ('uint32', '>u4', '<i8', '>i8', 'uint8', 'int8', '>u2', 'uint64')]
+        # not side by side: other order, a part, backwards
+        forms += [numpy.asfortranarray(rows.astype('uint32')), numpy.repeat(rows, 2, axis=1)[:, ::2], rows[::-1, ::-1][::-1, ::-1], rows.ravel(),
+                  list(rows), [list(row) for row in rows], numpy.array(counted(COLUMNS, ROWS)).reshape(ROWS, COLUMNS)]
+        frozen = rows.astype('uint32')
+        frozen.flags.writeable = False
+        wanted = swept(OBLONG, range(15))
+        for form in forms + [frozen]:
+            with self.subTest(str(getattr(form, 'dtype', 'list'))):
+                self.assertEqual(flat(rolwyddac.sweep(OBLONG, form)), wanted)
+        turned = numpy.array([[row * COLUMNS + column for row in range(ROWS)] for column in range(COLUMNS)], dtype='uint32').T
+        self.assertEqual(flat(rolwyddac.sweep(OBLONG, turned)), wanted)
+
+    def test_three_dimensions(self):
+        words = list(range(24))
+        cube = [[words[12 * i + 4 * j:][:4] for j in range(3)] for i in range(2)]
+        self.assertEqual(flat(rolwyddac.sweep(CUBE, cube)), swept(CUBE, words))
+        for form in ([words[:12], words[12:]], [words[at:at + 4] for at in range(0, 24, 4)], [cube]):
+            with self.assertRaisesRegex(ValueError, r'its shape is .*, and not \(2, 3, 4\)'):
+                rolwyddac.sweep(CUBE, form)
+
+    def test_lengths_are_the_engines(self):
+        for form in ([], [1] * 14, [1] * 16, array.array('I'), ()):
+            for name, call in TAKERS.items():
+                with self.subTest(name, form=form), self.assertRaises(rolwyddac.Area):
+                    call(form)
+
+    def test_parts_are_flat(self):
+        own = rolwyddac.own_source(ROW_D, [1, 2, 3, 4], 1)
+        self.assertEqual(list(own), [3, 4])
+        with self.assertRaisesRegex(ValueError, 'source: its shape is'):
+            rolwyddac.OwnBoard(ROW_D, DIRECT, [[3], [4]], 1)
+        with self.assertRaises(rolwyddac.Area):
+            rolwyddac.OwnBoard(ROW_D, DIRECT, [3, 4, 5], 1)
+        board = rolwyddac.Board(ROW_D, DIRECT, [1] * 4, 1)
+        with self.assertRaisesRegex(ValueError, 'words: its shape is'):
+            board.take_in(0, [[1]])
+
+    def test_hours(self):
+        table = [0, 10080] + [0] * 26 + [5, 10] + [0] * 26
+        pairs = [table[at:at + 2] for at in range(0, 56, 2)]
+        for form in (table, pairs, [table[:28], table[28:]], [pairs[:14], pairs[14:]]):
+            self.assertEqual([rolwyddac.opens(ROW_D, form, 0, processor) for processor in (0, 1)], [0, 5])
+            rolwyddac.Run(ROW_D, DIRECT, [1] * 4).turn_at(form, 0, 0)
+        for form in ([list(column) for column in zip(table[:28], table[28:])][:27], [table[:56]], [pairs], [table[at:at + 7] for at in range(0, 56, 7)]):
+            with self.assertRaisesRegex(ValueError, 'hours: its shape is'):
+                rolwyddac.opens(ROW_D, form, 0, 0)
+            with self.assertRaisesRegex(ValueError, 'hours: its shape is'):
+                rolwyddac.Run(ROW_D, DIRECT, [1] * 4).turn_at(form, 0, 0)
+        with self.assertRaises(rolwyddac.Area):
+            rolwyddac.opens(ROW_D, table[:-1], 0, 0)
+
+    def test_grids_that_are_written(self):
+        board = rolwyddac.OwnBoard(ROW_D, DIRECT, [1, 1], 0)
+        while True:
+            try:
+                board.turn()
+            except rolwyddac.Finished:
+                break
+        words = array.array('I', [9] * 4)
+        board.collect(memoryview(words).cast('B').cast('I', (4, 1)))
+        self.assertEqual(list(words), [1, 2, 9, 9])
+        with self.assertRaisesRegex(ValueError, r'grid: its shape is \(2, 2\), and not \(4, 1\)'):
+            board.collect(memoryview(words).cast('B').cast('I', (2, 2)))
+        for grid in (memoryview(words).toreadonly(), [0] * 4, bytes(16), array.array('Q', [0] * 4), array.array('i', [0] * 4)):
+            with self.assertRaises(TypeError):
+                board.collect(grid)
+        with self.assertRaisesRegex(ValueError, 'side by side'):
+            board.collect(memoryview(array.array('I', [0] * 8))[::2])
+        with self.assertRaises(rolwyddac.Area):
+            board.collect(array.array('I', [0] * 5))
+        self.assertEqual(list(words), [1, 2, 9, 9])
+
+
 class Elements(unittest.TestCase):
 
     def test_no_whole_numbers(self):
