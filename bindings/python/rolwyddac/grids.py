@@ -7,6 +7,7 @@ from typing import Any, Iterable, NamedTuple, Sequence, SupportsIndex, Union
 from . import calls
 from .calls import sizes
 from .hints import BytesLike, Grid, Numbers
+from .kinds import unmasked
 from .recipe import lengths_of
 from .words import gathered, laid, octets, shaped, zeros
 
@@ -30,6 +31,7 @@ def sweep(encoded: BytesLike, source: Numbers) -> Grid:
 
 def _file_of(records: Any) -> bytes:
     """The bytes of a file of soundings; a file's own bytes as they are."""
+    unmasked('records', records)
     try:
         view = memoryview(records)
     except (TypeError, ValueError):

@@ -8,6 +8,11 @@ from typing import Any, Dict, NamedTuple, SupportsIndex, Tuple
 
 from .hints import BytesLike
 
+try:
+    import numpy
+except ImportError:
+    numpy = None  # type: ignore[assignment]
+
 
 class Kind(NamedTuple):
     """A C type of whole numbers."""
@@ -39,6 +44,12 @@ SIGNED, UNSIGNED = tuple('bhilqn'), tuple('BHILQN')
 _PRINTED_BITS = 64
 
 
+def unmasked(name: str, value: Any) -> None:
+    """A masked array is refused: its buffer has the words below the mask too, as if they were measured."""
+    if numpy is not None and isinstance(value, numpy.ma.MaskedArray):
+        raise TypeError('%s: a masked array, whose mask would be lost; give .filled(value)' % name)
+
+
 def held(name: str, kind: str, number: int) -> int:
     """The number, if the kind can hold it; ctypes would cut it."""
     _, _, least, most = KINDS[kind]
@@ -50,6 +61,7 @@ def held(name: str, kind: str, number: int) -> int:
 
 def whole(name: str, kind: str, value: SupportsIndex) -> int:
     """A whole number that the kind can hold."""
+    unmasked(name, value)
     try:
         number = operator.index(value)
     except TypeError:
@@ -65,6 +77,7 @@ def format_of(view: memoryview) -> Tuple[bool, str]:
 
 def bytes_view(name: str, value: BytesLike) -> memoryview:
     """A look at a bytes-like object. `bytes` would take far more: a number for so many zeros, a list for its numbers."""
+    unmasked(name, value)
     try:
         view = memoryview(value)
     except (TypeError, ValueError):

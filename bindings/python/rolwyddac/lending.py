@@ -8,7 +8,7 @@ import re
 from typing import Any, Iterable, Iterator, NamedTuple
 
 from .hints import Words
-from .kinds import KINDS, SIGNED, UNSIGNED, bytes_view, format_of, whole
+from .kinds import KINDS, SIGNED, UNSIGNED, bytes_view, format_of, unmasked, whole
 
 WORD = 4
 PROGRESS = 'Progress'
@@ -100,6 +100,7 @@ def _viewed(name: str, kind: str, area: Any) -> memoryview:
     """An area's buffer; told plainly where it has not the kind's elements."""
     if name in BYTES_LIKE:
         return bytes_view(name, area)
+    unmasked(name, area)
     try:
         view = memoryview(area)
     except (TypeError, ValueError):

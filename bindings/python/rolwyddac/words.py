@@ -8,13 +8,8 @@ from collections import abc
 from typing import Any, Sequence, Tuple
 
 from .hints import BytesLike, Grid, Numbers, Words
-from .kinds import SIGNED, UNSIGNED, bytes_view, format_of, held, whole
+from .kinds import SIGNED, UNSIGNED, bytes_view, format_of, held, numpy, unmasked, whole
 from .lending import WORD
-
-try:
-    import numpy
-except ImportError:
-    numpy = None  # type: ignore[assignment]
 
 Shape = Tuple[int, ...]
 
@@ -76,6 +71,7 @@ def _of_rows(name: str, rows: Sequence[Any]) -> Tuple[Shape, Words]:
 
 def gathered(name: str, values: Numbers) -> Tuple[Shape, Words]:
     """The shape of what a caller gives, and its words, always a copy: what the caller does with the array changes no run."""
+    unmasked(name, values)
     if isinstance(values, (str, bytes, bytearray)):
         raise TypeError('%s: whole numbers are needed, not %s' % (name, type(values).__name__))
     if numpy is not None and hasattr(values, '__array__') and not isinstance(values, numpy.ndarray):

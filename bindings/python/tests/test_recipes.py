@@ -29,7 +29,7 @@ class Recipes(unittest.TestCase):
                  memoryview(ROW_D).cast('I'), memoryview(ROW_D).cast('b'), memoryview(ROW_D).cast('?')]
         if numpy is not None:
             octets = numpy.frombuffer(ROW_D, dtype='uint8')
-            forms += [octets.astype('int64'), octets.view('uint32'), octets.view('int8')]
+            forms += [octets.astype('int64'), octets.view('uint32'), octets.view('int8'), numpy.ma.array(octets, mask=octets > 1)]
         for name, call in self.TAKERS.items():
             for form in forms:
                 with self.subTest(name, form=str(form)[:40]), self.assertRaises(TypeError):

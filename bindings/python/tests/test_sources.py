@@ -180,6 +180,24 @@ class Elements(unittest.TestCase):
                     with self.assertRaisesRegex(OverflowError, '-1|%d|%d|%d' % (2 ** 32, 2 ** 63, 2 ** 64 - 1)):
                         call(form)
 
+    @with_numpy
+    def test_masks_are_not_lost(self):
+        words = numpy.arange(15, dtype='uint32')
+        masked = numpy.ma.array(words, mask=words > 7)
+        for form in (masked, masked.reshape(ROWS, COLUMNS), masked.astype('int64'), numpy.ma.array(words), list(masked.reshape(ROWS, COLUMNS)), list(masked)):
+            for name, call in TAKERS.items():
+                with self.subTest(name), self.assertRaises(TypeError):
+                    call(form)
+        for form in (masked, numpy.ma.array(words)):
+            with self.assertRaisesRegex(TypeError, 'source: a masked array.*filled'):
+                rolwyddac.sweep(OBLONG, form)
+            with self.assertRaisesRegex(TypeError, 'grid: a masked array'):
+                rolwyddac.calls.EXPORTED['sweep'](OBLONG, words, form)
+        with self.assertRaisesRegex(TypeError, 'processor: a masked array'):
+            rolwyddac.Run(ROW_D, DIRECT, [1] * 4).turn(numpy.ma.array(1, mask=True))
+        with self.assertRaisesRegex(TypeError, 'records: a masked array'):
+            rolwyddac.soundings(OBLONG, numpy.ma.array([[0, 0, 0, 5]], mask=[[0, 0, 0, 1]]), 0)
+
     def test_soundings(self):
         wanted = [7] * 15
         wanted[2] = 40
