@@ -9,11 +9,11 @@ from __future__ import annotations
 import ctypes
 import inspect
 import re
-from typing import Any, Callable, Dict, List, NamedTuple, SupportsIndex
+from typing import Any, Dict, List, NamedTuple, SupportsIndex
 
 from .hints import BytesLike
 from .kinds import whole
-from .lending import Progress, Sizes, flattened, lent, listed, type_of
+from .lending import Lent, Progress, Sizes, flattened, hold_apart, lent, listed, type_of
 from .library import LOADED, term, text, version
 from .refusals import REFUSALS, Refused, refused
 
@@ -92,18 +92,6 @@ class Parameter(NamedTuple):
     area: bool
     write: bool
 
-    @property
-    def ctypes(self) -> List[Any]:
-        return [ctypes.c_void_p, ctypes.c_size_t] if self.area else [type_of(self.kind)]
-
-    def given(self, value: Any, kept: List[Any]) -> List[int]:
-        """What C is given for a value; what must be there until the call is done is put to what is kept."""
-        if not self.area:
-            return [whole(self.name, self.kind, value)]
-        area = lent(self.name, self.kind, value, self.write)
-        kept.append(area)
-        return [area.address, area.elements]
-
 
 def _parameter(declared: str) -> Parameter:
     name, kind = declared.strip().split(': ')
@@ -111,30 +99,43 @@ def _parameter(declared: str) -> Parameter:
     return Parameter(name, area[2] if area else kind, bool(area), bool(area and area[1]))
 
 
-def _called(exported: str, inside: str) -> Callable[..., None]:
-    """A function for one entry of CALLS."""
-    parameters = [_parameter(declared) for declared in inside.split(',')]
-    function = getattr(LOADED, exported)
-    function.restype = ctypes.c_uint32
-    function.argtypes = [argument for parameter in parameters for argument in parameter.ctypes]
-    signature = inspect.Signature([inspect.Parameter(parameter.name, inspect.Parameter.POSITIONAL_OR_KEYWORD) for parameter in parameters])
+class Call:
+    """An exported call, with the parameters that it has in CALLS; it raises `Refused`."""
 
-    def call(*words: Any, **named: Any) -> None:
-        arguments, kept = signature.bind(*words, **named).arguments, []  # type: ignore[var-annotated]
-        number = function(*[word for parameter in parameters for word in parameter.given(arguments[parameter.name], kept)])
+    def __init__(self, exported: str, parameters: List[Parameter]) -> None:
+        self.__name__ = self.__qualname__ = exported[len('rolwyddac_'):]
+        self.__doc__ = '%s of rolwyddac.h; raises Refused.' % exported
+        self.__signature__ = inspect.Signature([inspect.Parameter(each.name, inspect.Parameter.POSITIONAL_OR_KEYWORD) for each in parameters])
+        self.parameters = parameters
+        self._function = getattr(LOADED, exported)
+        self._function.restype = ctypes.c_uint32
+        self._function.argtypes = [argument for each in parameters
+                                   for argument in ([ctypes.c_void_p, ctypes.c_size_t] if each.area else [type_of(each.kind)])]
+
+    def __call__(self, *words: Any, **named: Any) -> None:
+        values = self.__signature__.bind(*words, **named).arguments
+        given: List[int] = []
+        # areas are kept until the call is done
+        areas: List[Lent] = []
+        for name, kind, area, write in self.parameters:
+            if area:
+                areas.append(lent(name, kind, values[name], write))
+                given += [areas[-1].address, areas[-1].elements]
+            else:
+                given.append(whole(name, kind, values[name]))
+        hold_apart(areas)
+        number = self._function(*given)
         if number != 0:
             raise refused(number)
 
-    call.__name__ = call.__qualname__ = exported[len('rolwyddac_'):]
-    call.__signature__ = signature  # type: ignore[attr-defined]
-    call.__doc__ = '%s of rolwyddac.h; raises Refused.' % exported
-    return call
+    def __repr__(self) -> str:
+        return '<call %s%s>' % (self.__name__, self.__signature__)
 
 
-EXPORTED: Dict[str, Callable[..., None]] = {}
+EXPORTED: Dict[str, Call] = {}
 for _exported, _inside in re.findall(r'(\w+)\((.*?)\)', CALLS, flags=re.S):
-    _function = _called(_exported, _inside)
-    EXPORTED[_function.__name__] = _function
+    _call = Call(_exported, [_parameter(declared) for declared in _inside.split(',')])
+    EXPORTED[_call.__name__] = _call
 
 LOADED.rolwyddac_sizes.restype = ctypes.c_uint32
 LOADED.rolwyddac_sizes.argtypes = [ctypes.c_void_p, ctypes.c_size_t, ctypes.c_uint32, ctypes.POINTER(Sizes)]

@@ -4,8 +4,9 @@ from __future__ import annotations
 
 import array
 import ctypes
+import itertools
 import re
-from typing import Any, Iterable, Iterator, NamedTuple
+from typing import Any, Iterable, Iterator, List, NamedTuple
 
 from .hints import Words
 from .kinds import KINDS, SIGNED, UNSIGNED, bytes_view, format_of, unmasked, whole
@@ -52,8 +53,12 @@ class Sizes(ctypes.Structure):
 class Lent(NamedTuple):
     """An area as a call is lent it."""
 
+    name: str
+    write: bool
     address: int
     elements: int
+    # its bytes
+    extent: int
     # what must be there until the call is done
     kept: Any
 
@@ -128,11 +133,18 @@ def lent(name: str, kind: str, area: Any, write: bool) -> Lent:
     if view.nbytes % size:
         raise ValueError('%s: %d bytes are no whole number of elements' % (name, view.nbytes))
     if view.nbytes == 0:
-        return Lent(ctypes.addressof(_SPARE), 0, area)
+        return Lent(name, write, ctypes.addressof(_SPARE), 0, 0, area)
     octets = ctypes.c_uint8 * view.nbytes
     # ctypes points into nothing that can only be read
     kept = octets.from_buffer_copy(view.tobytes()) if view.readonly else octets.from_buffer(view)
     address = ctypes.addressof(kept)
     if address % min(size, WORD):
         raise ValueError('%s: the elements are not aligned' % name)
-    return Lent(address, view.nbytes // size, kept)
+    return Lent(name, write, address, view.nbytes // size, view.nbytes, kept)
+
+
+def hold_apart(areas: List[Lent]) -> None:
+    """No area that is written shares memory with another: the engine's proof takes that for granted, and no call can test it."""
+    for first, second in itertools.combinations(areas, 2):
+        if (first.write or second.write) and first.address < second.address + second.extent and second.address < first.address + first.extent:
+            raise ValueError('%s and %s overlap, and one of them is written' % (first.name, second.name))
