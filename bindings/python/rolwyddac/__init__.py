@@ -13,12 +13,16 @@ memory with the others, `OwnBoard` the part of one that has memory for nothing e
 dimensions, or as lists of lists where numpy is not installed; sources may be either. A refusal is an exception named by its
 term: `rolwyddac.Waiting`, `rolwyddac.NoMail`, all below `rolwyddac.Refused`.
 
+Threads may share an object that owns areas: each has a lock, and its calls go one at a time. Copies and pickles of one share nothing
+with it. What is lent by the caller, a grid to collect into or the areas of `rolwyddac.calls`, is lent to one call at a time.
+
 `rolwyddac.calls` has the exported functions with their own names and parameters.
 """
 
 from __future__ import annotations
 
 from . import calls
+from .areas import Areas, OwnAreas
 from .boards import Board, OwnBoard
 from .calls import REFUSALS, VERSION as __version__, Progress, Refused, Sizes, flattened, sizes, term, text, version
 from .grids import Sounding, chart, soundings, sweep
@@ -26,7 +30,7 @@ from .plan import (DIRECT, INDIRECT, Awaited, Message, OwnRow, OwnSizes, Row, Su
                    own_messages, own_sizes, own_source, owners, rounds_of, summary)
 from .recipe import COMPONENTS, RECORD, Fields, dimensions
 from .rig import FREE, Rig
-from .run import Areas, Run, rounds
+from .run import Run, rounds
 from .words import numpy
 
 globals().update({refusal.__name__: refusal for refusal in REFUSALS.values()})

@@ -2,116 +2,194 @@
 
 from __future__ import annotations
 
-import operator
+import ctypes
 from typing import Any, List, Optional, SupportsIndex, Tuple
 
 from . import calls
+from .areas import IN_FLIGHT, UNSENT, Areas, OwnAreas
 from .calls import sizes
 from .hints import BytesLike, Grid, Numbers, Words, Writable
 from .kinds import whole
 from .lending import Progress
-from .plan import AREA, Awaited, awaited, messages, own_messages, own_sizes, route_of
+from .owner import Owner, locked
+from .plan import AREA, Awaited, OwnRow, Row, awaited, messages, own_messages, own_sizes, route_of
 from .recipe import lengths_of
-from .run import IN_FLIGHT, NO_SUCH, Areas
-from .words import laid, octets, shape_held, shape_of, shaped, zeros
-
-UNSENT = 0
+from .run import NO_SUCH
+from .words import laid, octets, shape_held, shape_of, shaped
 
 
-class Board:
+class _Processor(Owner):
+    """What both kinds of board have."""
+
+    _source: Words
+    _processor: int
+
+    @property
+    def source(self) -> memoryview:
+        """The source's words, to be read."""
+        return memoryview(self._source).toreadonly()
+
+    @property
+    def processor(self) -> int:
+        """The processor's number."""
+        return self._processor
+
+
+class Board(_Processor):
     """One processor of a run on processors that share no memory: it has all areas to itself, and a transport carries its messages.
     Where every message that one posts is taken in by its taker, sooner or later, each finishes, and its memory has the cells of its
-    tiles as the sweep has them."""
+    tiles as the sweep has them. Threads may share a board: its calls go one at a time."""
+
+    _rows: Tuple[Row, ...]
+    _areas: Areas
 
     def __init__(self, encoded: BytesLike, route: SupportsIndex, source: Numbers, processor: SupportsIndex) -> None:
         """A fresh start."""
-        self.encoded, self.route = octets('encoded', encoded), route_of(route)
-        self.processor = whole('processor', 'u32', processor)
-        self.rows = messages(self.encoded, self.route)
-        self.source = laid('source', source, lengths_of(self.encoded))
-        self.areas = Areas(sizes(self.encoded, self.route))
-        self._call('fresh')
-        if self.processor >= len(self.areas.progress):
+        recipe, word, own = octets('encoded', encoded), route_of(route), whole('processor', 'u32', processor)
+        rows, words = messages(recipe, word), laid('source', source, lengths_of(recipe))
+        areas = Areas(sizes(recipe, word))
+        calls.EXPORTED['fresh'](recipe, word, words, *areas)
+        if own >= len(areas.progress):
             raise calls.refused(NO_SUCH)
+        self._own(_encoded=recipe, _route=word, _source=words, _processor=own, _rows=tuple(rows), _areas=areas)
 
+    @property
+    def rows(self) -> Tuple[Row, ...]:
+        """All messages of the route, in the order of their numbers."""
+        return self._rows
+
+    @property
+    @locked
+    def areas(self) -> Areas:
+        """A copy of the areas as the last call left them."""
+        return self._areas.copy()
+
+    @locked
     def _call(self, name: str, *last: Any) -> None:
-        calls.EXPORTED[name](self.encoded, self.route, self.source, *self.areas, *last)
+        calls.EXPORTED[name](self._encoded, self._route, self._source, *self._areas, *last)
 
+    @locked
     def memory(self) -> Grid:
-        """The processor's own part of its memories, as a grid."""
-        cells = len(self.areas.memories) // len(self.areas.progress)
-        return shaped(self.areas.memories[self.processor * cells:][:cells], lengths_of(self.encoded))
+        """A copy of the processor's own part of its memories, as a grid."""
+        cells = len(self._source)
+        return shaped(self._areas.memories[self._processor * cells:][:cells], lengths_of(self._encoded))
 
     def turn(self) -> None:
         """Gives the processor a turn."""
-        self._call('turn', self.processor)
+        self._call('turn', self._processor)
 
+    @locked
     def awaited(self) -> Awaited:
         """What the processor waits for."""
-        return awaited(self.encoded, self.route, self.areas.progress, self.areas.status, self.processor)
+        return awaited(self._encoded, self._route, self._areas.progress, self._areas.status, self._processor)
 
+    @locked
     def in_flight(self) -> List[int]:
         """The messages that are sent and not posted yet, by number."""
-        return self.areas.in_flight()
+        return self._areas.in_flight()
 
+    @locked
     def post(self, message: SupportsIndex) -> Tuple[int, Words]:
         """Posts a message in flight: gives the processor that takes it, and the words to carry there."""
-        self._call('deliver', message)
-        row = self.rows[operator.index(message)]
-        return row.taking_processor, self.areas.buffer[row.offset:row.offset + row.words]
+        m = whole('message', 'u32', message)
+        self._call('deliver', m)
+        row = self._rows[m]
+        return row.taking_processor, self._areas.buffer[row.offset:row.offset + row.words]
 
     def take_in(self, message: SupportsIndex, words: Numbers) -> None:
         """Takes a message in that another processor posted."""
-        self._call('take_in', self.processor, message, laid('words', words))
+        self._call('take_in', self._processor, message, laid('words', words))
 
 
-class OwnBoard:
+class OwnBoard(_Processor):
     """One processor of a run on processors that share no memory, with memory for its own part alone; a transport carries its messages.
     Where every message that one posts arrives at its taker, sooner or later, each finishes, and the grid that all have collected into is
-    that of the sweep."""
+    that of the sweep. Threads may share a board: its calls go one at a time."""
+
+    _rows: Tuple[OwnRow, ...]
+    _areas: OwnAreas
 
     def __init__(self, encoded: BytesLike, route: SupportsIndex, source: Numbers, processor: SupportsIndex) -> None:
         """A fresh start; the source has a word for each cell of the processor's tiles (`own_source`)."""
-        self.encoded, self.route, self.source = octets('encoded', encoded), route_of(route), laid('source', source)
-        self.processor = whole('processor', 'u32', processor)
-        self.rows = own_messages(self.encoded, self.route, self.processor)
-        wanted = own_sizes(self.encoded, self.route, self.processor)
-        if len(self.source) != wanted.source:
+        recipe, word, own = octets('encoded', encoded), route_of(route), whole('processor', 'u32', processor)
+        wanted, words = own_sizes(recipe, word, own), laid('source', source)
+        if len(words) != wanted.source:
             raise calls.refused(AREA)
-        self.memory, self.mail = zeros(wanted.memory), zeros(wanted.mail)
-        self.progress, self.marks = (Progress * 1)(), bytearray(wanted.messages)
-        self._call('own_fresh', self.processor)
+        rows, areas = own_messages(recipe, word, own), OwnAreas(wanted)
+        calls.EXPORTED['own_fresh'](recipe, word, *areas, own)
+        self._own(_encoded=recipe, _route=word, _source=words, _processor=own, _rows=tuple(rows), _areas=areas)
 
+    @property
+    def rows(self) -> Tuple[OwnRow, ...]:
+        """The messages that the processor handles, in the order of their numbers."""
+        return self._rows
+
+    @property
+    @locked
+    def areas(self) -> OwnAreas:
+        """A copy of the areas as the last call left them."""
+        return self._areas.copy()
+
+    @property
+    def memory(self) -> Words:
+        """A copy of the processor's memory: a word for each cell that it keeps."""
+        return self.areas.memory
+
+    @property
+    def mail(self) -> Words:
+        """A copy of the words of the messages that it handles."""
+        return self.areas.mail
+
+    @property
+    def progress(self) -> ctypes.Array[Progress]:
+        """A copy of its record."""
+        return self.areas.progress
+
+    @property
+    def marks(self) -> bytearray:
+        """A copy of the marks of the messages that it handles: 0 unsent, 1 in flight, 2 delivered, 3 taken."""
+        return self.areas.marks
+
+    @locked
     def _call(self, name: str, *last: Any) -> None:
-        calls.EXPORTED[name](self.encoded, self.route, self.memory, self.mail, self.progress, self.marks, *last)
+        calls.EXPORTED[name](self._encoded, self._route, *self._areas, self._processor, *last)
 
+    @locked
     def turn(self) -> None:
         """Gives the processor a turn."""
-        calls.EXPORTED['own_turn'](self.encoded, self.route, self.source, self.memory, self.mail, self.progress, self.marks, self.processor)
+        calls.EXPORTED['own_turn'](self._encoded, self._route, self._source, *self._areas, self._processor)
 
+    def _marked(self, mark: int) -> List[OwnRow]:
+        return [row for row, found in zip(self._rows, self._areas.marks) if found == mark]
+
+    @locked
     def awaited(self) -> Optional[Awaited]:
         """The first tile of the processor that has a message still to come, and the messages that it then waits for; None where all have
         come. Where a turn was refused with 12 it stands at this tile."""
-        missing = [row for row, mark in zip(self.rows, self.marks) if row.taking_processor == self.processor and mark == UNSENT]
+        missing = [row for row in self._marked(UNSENT) if row.taking_processor == self._processor]
         tile = min((row.taking_tile for row in missing), default=None)
         return None if tile is None else Awaited(tile, [row.message for row in missing if row.taking_tile == tile])
 
+    @locked
     def in_flight(self) -> List[int]:
         """The messages that are sent and not posted yet, by number."""
-        return [row.message for row, mark in zip(self.rows, self.marks) if mark == IN_FLIGHT]
+        return [row.message for row in self._marked(IN_FLIGHT)]
 
+    @locked
     def post(self, message: SupportsIndex) -> Tuple[int, Words]:
         """Posts a message in flight: gives the processor that takes it, and the words to carry there."""
-        self._call('own_post', self.processor, message)
-        row, = [row for row in self.rows if row.message == operator.index(message)]
-        return row.taking_processor, self.mail[row.place:row.place + row.words]
+        m = whole('message', 'u32', message)
+        self._call('own_post', m)
+        row, = [row for row in self._rows if row.message == m]
+        return row.taking_processor, self._areas.mail[row.place:row.place + row.words]
 
     def arrive(self, message: SupportsIndex, words: Numbers) -> None:
         """A message arrives that another processor posted."""
-        self._call('own_arrive', self.processor, message, laid('words', words))
+        self._call('own_arrive', message, laid('words', words))
 
+    @locked
     def collect(self, grid: Writable) -> None:
         """Puts the processor's part into a grid of all cells, an array of words, once it has finished; the words of other processors' cells
-        are as before."""
-        shape_held('grid', shape_of(grid), lengths_of(self.encoded))
-        calls.EXPORTED['own_collect'](self.encoded, self.route, self.memory, self.progress, self.processor, grid)
+        are as before. The grid is lent: no other call may have it at the same time."""
+        shape_held('grid', shape_of(grid), lengths_of(self._encoded))
+        calls.EXPORTED['own_collect'](self._encoded, self._route, self._areas.memory, self._areas.progress, self._processor, grid)
