@@ -69,6 +69,11 @@ def whole(name: str, kind: str, value: SupportsIndex) -> int:
     return held(name, kind, number)
 
 
+def item_size(view: memoryview, wanted: int) -> int:
+    """The bytes of a buffer's element; as wanted where there is none, for Python 3.8 and 3.9 have 0 for an empty array of ctypes."""
+    return view.itemsize or wanted
+
+
 def format_of(view: memoryview) -> Tuple[bool, str]:
     """A buffer's format: whether its elements have their high byte first, and their letter or letters."""
     order = view.format[:1]

@@ -9,7 +9,7 @@ import re
 from typing import Any, Iterable, Iterator, List, NamedTuple
 
 from .hints import Words
-from .kinds import KINDS, SIGNED, UNSIGNED, bytes_view, format_of, unmasked, whole
+from .kinds import KINDS, SIGNED, UNSIGNED, bytes_view, format_of, item_size, unmasked, whole
 
 WORD = 4
 PROGRESS = 'Progress'
@@ -93,12 +93,12 @@ def _fits(kind: str, view: memoryview) -> bool:
     """Has the buffer the kind's elements? A record is also three words, one behind the other."""
     swapped, letter = format_of(view)
     if kind == PROGRESS and _RECORD.fullmatch(letter):
-        return view.itemsize == ctypes.sizeof(Progress)
+        return item_size(view, ctypes.sizeof(Progress)) == ctypes.sizeof(Progress)
     if kind == PROGRESS and view.ndim > 1 and view.shape is not None and view.shape[-1] != len(Progress._fields_):
         return False
     signed = kind != PROGRESS and KINDS[kind].least < 0
     size = WORD if kind == PROGRESS else ctypes.sizeof(type_of(kind))
-    return not swapped and letter in (SIGNED if signed else UNSIGNED) and view.itemsize == size
+    return not swapped and letter in (SIGNED if signed else UNSIGNED) and item_size(view, size) == size
 
 
 def _viewed(name: str, kind: str, area: Any) -> memoryview:

@@ -8,7 +8,7 @@ from collections import abc
 from typing import Any, Sequence, Tuple
 
 from .hints import BytesLike, Grid, Numbers, Words
-from .kinds import SIGNED, UNSIGNED, bytes_view, format_of, held, numpy, unmasked, whole
+from .kinds import SIGNED, UNSIGNED, bytes_view, format_of, held, item_size, numpy, unmasked, whole
 from .lending import WORD
 
 Shape = Tuple[int, ...]
@@ -32,10 +32,10 @@ def octets(name: str, value: BytesLike) -> bytes:
 
 def _of_buffer(name: str, view: memoryview) -> Words:
     """A buffer's whole numbers, whatever their length and order of bytes."""
-    swapped, letter = format_of(view)
-    if letter not in SIGNED + UNSIGNED or view.itemsize not in _CODES:
+    (swapped, letter), size = format_of(view), item_size(view, WORD)
+    if letter not in SIGNED + UNSIGNED or size not in _CODES:
         raise TypeError('%s: whole numbers are needed, not elements of format %r' % (name, view.format))
-    numbers = array.array(_CODES[view.itemsize][letter in UNSIGNED])
+    numbers = array.array(_CODES[size][letter in UNSIGNED])
     numbers.frombytes(view.tobytes())
     if swapped:
         numbers.byteswap()

@@ -101,7 +101,7 @@ class Shapes(unittest.TestCase):
                 rolwyddac.sweep(CUBE, form)
 
     def test_lengths_are_the_engines(self):
-        for form in ([], [1] * 14, [1] * 16, array.array('I'), ()):
+        for form in ([], [1] * 14, [1] * 16, array.array('I'), (), (ctypes.c_uint32 * 0)(), array.array('q'), memoryview(array.array('I'))):
             for name, call in TAKERS.items():
                 with self.subTest(name, form=form), self.assertRaises(rolwyddac.Area):
                     call(form)
