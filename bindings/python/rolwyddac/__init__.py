@@ -26,11 +26,24 @@ from .areas import Areas, OwnAreas
 from .boards import Board, OwnBoard
 from .calls import REFUSALS, VERSION as __version__, Progress, Refused, Sizes, flattened, sizes, term, text, version
 from .grids import Sounding, chart, soundings, sweep
+from .kinds import numpy
 from .plan import (DIRECT, INDIRECT, Awaited, Message, OwnRow, OwnSizes, Row, Summary, awaited, hops, message, messages, opens,
                    own_messages, own_sizes, own_source, owners, rounds_of, summary)
 from .recipe import COMPONENTS, RECORD, Fields, dimensions
+from .refusals import (Area, Boards, Closed, DirectOnly, Distance, Early, Empty, Engaged, Finished, Hours, LastSpread,
+                       Length, NoChart, NoMail, NoSuch, OffTheBox, Ragged, SpreadOrder, StrayRecord, Tile, Tiles,
+                       TooLarge, TooWide, Unfit, Waiting)
 from .rig import FREE, Rig
 from .run import Run, rounds
-from .words import numpy
 
+__all__ = [
+    'COMPONENTS', 'DIRECT', 'FREE', 'INDIRECT', 'RECORD', 'REFUSALS', 'Area', 'Areas', 'Awaited', 'Board', 'Boards', 'Closed',
+    'DirectOnly', 'Distance', 'Early', 'Empty', 'Engaged', 'Fields', 'Finished', 'Hours', 'LastSpread', 'Length', 'Message',
+    'NoChart', 'NoMail', 'NoSuch', 'OffTheBox', 'OwnAreas', 'OwnBoard', 'OwnRow', 'OwnSizes', 'Progress', 'Ragged', 'Refused',
+    'Rig', 'Row', 'Run', 'Sizes', 'Sounding', 'SpreadOrder', 'StrayRecord', 'Summary', 'Tile', 'Tiles', 'TooLarge', 'TooWide',
+    'Unfit', 'Waiting', '__version__', 'awaited', 'calls', 'chart', 'dimensions', 'flattened', 'hops', 'message', 'messages',
+    'opens', 'own_messages', 'own_sizes', 'own_source', 'owners', 'rounds', 'rounds_of', 'sizes', 'soundings', 'summary',
+    'sweep', 'term', 'text', 'version']
+
+# those that are not written down, of a later library
 globals().update({refusal.__name__: refusal for refusal in REFUSALS.values()})

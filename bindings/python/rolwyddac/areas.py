@@ -6,7 +6,7 @@ import array
 import ctypes
 from typing import Any, ClassVar, Dict, Iterator, List, TypeVar
 
-from .hints import Words
+from .hints import Records, Words
 from .lending import PROGRESS, Progress, Sizes, lent
 from .plan import OwnSizes
 from .words import zeros
@@ -53,7 +53,7 @@ class AreaSet:
         return self.copy()
 
     def __eq__(self, other: object) -> bool:
-        return self.__getstate__() == other.__getstate__() if isinstance(other, type(self)) else NotImplemented
+        return isinstance(other, type(self)) and self.__getstate__() == other.__getstate__()
 
 
 class Areas(AreaSet):
@@ -62,7 +62,7 @@ class Areas(AreaSet):
     KINDS = {'memories': 'u32', 'buffer': 'u32', 'progress': PROGRESS, 'status': 'u8'}
     memories: Words
     buffer: Words
-    progress: ctypes.Array[Progress]
+    progress: Records
     status: bytearray
 
     def __init__(self, wanted: Sizes) -> None:
@@ -82,7 +82,7 @@ class OwnAreas(AreaSet):
     KINDS = {'memory': 'u32', 'mail': 'u32', 'progress': PROGRESS, 'marks': 'u8'}
     memory: Words
     mail: Words
-    progress: ctypes.Array[Progress]
+    progress: Records
     marks: bytearray
 
     def __init__(self, wanted: OwnSizes) -> None:

@@ -2,15 +2,13 @@
 
 from __future__ import annotations
 
-import ctypes
 from typing import Any, List, Optional, SupportsIndex, Tuple
 
 from . import calls
 from .areas import IN_FLIGHT, UNSENT, Areas, OwnAreas
 from .calls import sizes
-from .hints import BytesLike, Grid, Numbers, Words, Writable
+from .hints import BytesLike, Grid, Numbers, Records, Words, Writable
 from .kinds import whole
-from .lending import Progress
 from .owner import Owner, locked
 from .plan import AREA, Awaited, OwnRow, Row, awaited, messages, own_messages, own_sizes, route_of
 from .recipe import lengths_of
@@ -141,7 +139,7 @@ class OwnBoard(_Processor):
         return self.areas.mail
 
     @property
-    def progress(self) -> ctypes.Array[Progress]:
+    def progress(self) -> Records:
         """A copy of its record."""
         return self.areas.progress
 

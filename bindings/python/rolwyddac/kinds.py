@@ -3,15 +3,22 @@
 from __future__ import annotations
 
 import ctypes
+import importlib
 import operator
 from typing import Any, Dict, NamedTuple, SupportsIndex, Tuple
 
 from .hints import BytesLike
 
-try:
-    import numpy
-except ImportError:
-    numpy = None  # type: ignore[assignment]
+
+def _installed(name: str) -> Any:
+    try:
+        return importlib.import_module(name)
+    except ImportError:
+        return None
+
+
+# None where it is not there: nothing here needs it
+numpy: Any = _installed('numpy')
 
 
 class Kind(NamedTuple):

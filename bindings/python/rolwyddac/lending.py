@@ -24,7 +24,7 @@ class Progress(ctypes.Structure):
     _fields_ = [('finished', ctypes.c_uint32), ('stage', ctypes.c_uint32), ('sent', ctypes.c_uint32)]
 
     def __eq__(self, other: object) -> bool:
-        return bytes(self) == bytes(other) if isinstance(other, Progress) else NotImplemented
+        return isinstance(other, Progress) and bytes(self) == bytes(other)
 
     def __repr__(self) -> str:
         return 'Progress(finished=%d, stage=%d, sent=%d)' % (self.finished, self.stage, self.sent)
@@ -44,7 +44,7 @@ class Sizes(ctypes.Structure):
     _fields_ = [(name, ctypes.c_size_t) for name in AREAS]
 
     def __eq__(self, other: object) -> bool:
-        return bytes(self) == bytes(other) if isinstance(other, Sizes) else NotImplemented
+        return isinstance(other, Sizes) and bytes(self) == bytes(other)
 
     def __repr__(self) -> str:
         return 'Sizes(%s)' % ', '.join('%s=%d' % (name, getattr(self, name)) for name in self.AREAS)

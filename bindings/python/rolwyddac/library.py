@@ -43,16 +43,20 @@ for _name in ('term', 'text'):
     getattr(LOADED, 'rolwyddac_' + _name).argtypes = [ctypes.c_uint32]
 
 
+def _read(content: bytes) -> str:
+    return content.decode()
+
+
 def version() -> str:
     """The version of the library that is loaded."""
-    return LOADED.rolwyddac_version().decode()
+    return _read(LOADED.rolwyddac_version())
 
 
 def term(number: SupportsIndex) -> str:
     """The term of a number, as `early` for 15."""
-    return LOADED.rolwyddac_term(whole('number', 'u32', number)).decode()
+    return _read(LOADED.rolwyddac_term(whole('number', 'u32', number)))
 
 
 def text(number: SupportsIndex) -> str:
     """What a number says, as `collecting while a processor has tiles left` for 15."""
-    return LOADED.rolwyddac_text(whole('number', 'u32', number)).decode()
+    return _read(LOADED.rolwyddac_text(whole('number', 'u32', number)))

@@ -5,7 +5,7 @@ from __future__ import annotations
 import array
 import ctypes
 from collections import abc
-from typing import Any, Sequence, Tuple
+from typing import Any, Sequence, Tuple, cast
 
 from .hints import BytesLike, Grid, Numbers, Words
 from .kinds import SIGNED, UNSIGNED, bytes_view, format_of, held, item_size, numpy, unmasked, whole
@@ -79,7 +79,7 @@ def gathered(name: str, values: Numbers) -> Tuple[Shape, Words]:
     if isinstance(values, (list, tuple)):
         return _of_rows(name, values)
     try:
-        view = memoryview(values)
+        view = memoryview(cast(Any, values))
     except (TypeError, ValueError):
         if isinstance(values, abc.Sequence):
             return _of_rows(name, values)
