@@ -26,8 +26,8 @@ from .areas import Areas, OwnAreas
 from .boards import Board, OwnBoard
 from .calls import REFUSALS, VERSION as __version__, Progress, Refused, Sizes, flattened, sizes, term, text, version
 from .grids import Sounding, chart, soundings, sweep
-from .kinds import numpy
-from .plan import (DIRECT, INDIRECT, Awaited, Message, OwnRow, OwnSizes, Row, Summary, awaited, hops, message, messages, opens,
+from .kinds import DIRECT, INDIRECT, numpy
+from .plan import (Awaited, Message, OwnRow, OwnSizes, Row, Summary, awaited, hops, message, messages, opens,
                    own_messages, own_sizes, own_source, owners, rounds_of, summary)
 from .recipe import COMPONENTS, RECORD, Fields, dimensions
 from .refusals import (Area, Boards, Closed, DirectOnly, Distance, Early, Empty, Engaged, Finished, Hours, LastSpread,

@@ -8,9 +8,9 @@ from . import calls
 from .areas import IN_FLIGHT, UNSENT, Areas, OwnAreas
 from .calls import sizes
 from .hints import BytesLike, Grid, Numbers, Records, Words, Writable
-from .kinds import whole
+from .kinds import route_of, whole
 from .owner import Owner, locked
-from .plan import AREA, Awaited, OwnRow, Row, awaited, messages, own_messages, own_sizes, route_of
+from .plan import AREA, Awaited, OwnRow, Row, awaited, messages, own_messages, own_sizes
 from .recipe import lengths_of
 from .run import NO_SUCH
 from .words import laid, octets, shape_held, shape_of, shaped

@@ -12,7 +12,7 @@ import re
 from typing import Any, Dict, List, NamedTuple, SupportsIndex
 
 from .hints import BytesLike
-from .kinds import whole
+from .kinds import DIRECT, route_of, whole
 from .lending import Lent, Progress, Sizes, flattened, hold_apart, lent, listed, type_of
 from .library import LOADED, term, text, version
 from .refusals import REFUSALS, Refused, refused
@@ -141,10 +141,10 @@ LOADED.rolwyddac_sizes.restype = ctypes.c_uint32
 LOADED.rolwyddac_sizes.argtypes = [ctypes.c_void_p, ctypes.c_size_t, ctypes.c_uint32, ctypes.POINTER(Sizes)]
 
 
-def sizes(encoded: BytesLike, route: SupportsIndex = 0) -> Sizes:
+def sizes(encoded: BytesLike, route: SupportsIndex = DIRECT) -> Sizes:
     """How many elements each area of a recipe's plan on a route has."""
     found, area = Sizes(), lent('encoded', 'u8', encoded, False)
-    number = LOADED.rolwyddac_sizes(area.address, area.elements, whole('route', 'u32', route), ctypes.byref(found))
+    number = LOADED.rolwyddac_sizes(area.address, area.elements, route_of(route), ctypes.byref(found))
     if number != 0:
         raise refused(number)
     return found

@@ -44,6 +44,9 @@ KINDS: Dict[str, Kind] = {
     'u8': _unsigned(ctypes.c_uint8, 'B'), 'u16': _unsigned(ctypes.c_uint16, 'H'), 'u32': _unsigned(ctypes.c_uint32, 'I'),
     'i8': _signed(ctypes.c_int8, 'b'), 'i16': _signed(ctypes.c_int16, 'h'), 'i32': _signed(ctypes.c_int32, 'i')}
 
+# the routes
+DIRECT, INDIRECT = 0, 1
+
 # how buffers name whole numbers; how long one is says the buffer, for ctypes has its own lengths
 SIGNED, UNSIGNED = tuple('bhilqn'), tuple('BHILQN')
 
@@ -74,6 +77,14 @@ def whole(name: str, kind: str, value: SupportsIndex) -> int:
     except TypeError:
         raise TypeError('%s: a whole number is needed, not %s' % (name, type(value).__name__)) from None
     return held(name, kind, number)
+
+
+def route_of(route: SupportsIndex) -> int:
+    """A route's word. The engine takes any but 0 for the indirect route; here another is a fault, such as parameters in another order."""
+    word = whole('route', 'u32', route)
+    if word not in (DIRECT, INDIRECT):
+        raise ValueError('route: %d is neither 0, direct, nor 1, indirect' % word)
+    return word
 
 
 def item_size(view: memoryview, wanted: int) -> int:

@@ -8,11 +8,9 @@ from typing import Any, List, NamedTuple, Optional, SupportsIndex
 from . import calls
 from .calls import sizes
 from .hints import BytesLike, Grid, Numbers, Words
-from .kinds import whole
+from .kinds import DIRECT, route_of, whole
 from .recipe import lengths_of
 from .words import laid, octets, shaped, timetable, zeros
-
-DIRECT, INDIRECT = 0, 1
 
 # numbers of refusals
 AREA = 9
@@ -76,14 +74,6 @@ class Awaited(NamedTuple):
 
     tile: int
     messages: List[int]
-
-
-def route_of(route: SupportsIndex) -> int:
-    """A route's word. The engine takes any but 0 for the indirect route; here another is a fault, such as parameters in another order."""
-    word = whole('route', 'u32', route)
-    if word not in (DIRECT, INDIRECT):
-        raise ValueError('route: %d is neither 0, direct, nor 1, indirect' % word)
-    return word
 
 
 def summary(encoded: BytesLike, route: SupportsIndex = DIRECT) -> Summary:

@@ -2,6 +2,7 @@
 
 from __future__ import annotations
 
+import copy
 import struct
 from typing import Iterable, List, SupportsIndex, Tuple
 
@@ -29,6 +30,10 @@ class Fields:
         self.components: List[int] = []
         self.weights: List[int] = []
         self.bounds: List[Tuple[int, int, int, int, int]] = []
+
+    def __copy__(self) -> Fields:
+        # the lists are the copy's own
+        return copy.deepcopy(self)
 
     def dimension(self, length: SupportsIndex, tile: SupportsIndex, processors: SupportsIndex = 0) -> Fields:
         """Adds a dimension: its length, its tile length, and its processor count, 0 where it is not spread."""

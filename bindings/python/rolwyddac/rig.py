@@ -9,9 +9,9 @@ from . import calls
 from .areas import Areas
 from .calls import sizes
 from .hints import BytesLike, Grid, Numbers, Words
-from .kinds import whole
+from .kinds import route_of, whole
 from .owner import Owner, locked
-from .plan import Summary, route_of, summary
+from .plan import Summary, summary
 from .recipe import lengths_of
 from .run import FINISHED, NO_SUCH, WAITING, turns
 from .words import laid, octets, shaped, timetable, zeros

@@ -8,8 +8,9 @@ from . import calls
 from .areas import Areas
 from .calls import REFUSALS, sizes
 from .hints import BytesLike, Grid, Numbers, Words
+from .kinds import DIRECT, route_of
 from .owner import Owner, locked
-from .plan import DIRECT, Summary, route_of, summary
+from .plan import Summary, summary
 from .recipe import lengths_of
 from .words import laid, octets, shaped, timetable, zeros
 

@@ -75,7 +75,8 @@ def gathered(name: str, values: Numbers) -> Tuple[Shape, Words]:
     if isinstance(values, (str, bytes, bytearray)):
         raise TypeError('%s: whole numbers are needed, not %s' % (name, type(values).__name__))
     if numpy is not None and hasattr(values, '__array__') and not isinstance(values, numpy.ndarray):
-        return gathered(name, numpy.asarray(values))
+        # asarray would lose the mask of what it makes
+        return gathered(name, numpy.asanyarray(values))
     if isinstance(values, (list, tuple)):
         return _of_rows(name, values)
     try:

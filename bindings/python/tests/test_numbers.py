@@ -177,7 +177,8 @@ class Numbers(unittest.TestCase):
 
     def test_routes(self):
         """A word that names no route is told: behind it may stand parameters in another order."""
-        for call in (lambda n: rolwyddac.summary(ROW_D, n), lambda n: rolwyddac.own_sizes(ROW_D, n, 0), lambda n: rolwyddac.Run(ROW_D, n, SOURCE)):
+        for call in (lambda n: rolwyddac.summary(ROW_D, n), lambda n: rolwyddac.own_sizes(ROW_D, n, 0), lambda n: rolwyddac.Run(ROW_D, n, SOURCE),
+                     lambda n: rolwyddac.sizes(ROW_D, n)):
             with self.assertRaisesRegex(ValueError, 'route: 2 is neither 0, direct, nor 1, indirect'):
                 call(2)
 

@@ -1,7 +1,9 @@
 """Recipes as they are given: bytes-like objects, and nothing else."""
 
 import array
+import copy
 import ctypes
+import pickle
 import unittest
 
 from support import ROW_D, flat, rolwyddac
@@ -52,6 +54,16 @@ class Recipes(unittest.TestCase):
             for name, call in self.TAKERS.items():
                 with self.subTest(name, form=form), self.assertRaises(rolwyddac.Ragged):
                     call(form)
+
+
+class Copies(unittest.TestCase):
+
+    def test_fields(self):
+        """What is added to a copy is not added to the first."""
+        first = rolwyddac.Fields().dimension(4, 2, 2).dimension(1, 1, 0).distance((1, 0), 1)
+        for way in (copy.copy, copy.deepcopy, lambda fields: pickle.loads(pickle.dumps(fields))):
+            second = way(first).distance((0, 1), 1).at_most(1, 0, 1, 5)
+            self.assertEqual((len(first.close()), len(second.close())), (64, 96))
 
 
 class Records(unittest.TestCase):

@@ -193,6 +193,14 @@ class Elements(unittest.TestCase):
                 rolwyddac.sweep(OBLONG, form)
             with self.assertRaisesRegex(TypeError, 'grid: a masked array'):
                 rolwyddac.calls.EXPORTED['sweep'](OBLONG, words, form)
+        class Variable:
+            """As files of grids have them: an array is made when it is asked for."""
+
+            def __array__(self, *words, **named):
+                return masked
+
+        with self.assertRaisesRegex(TypeError, 'source: a masked array'):
+            rolwyddac.sweep(OBLONG, Variable())
         with self.assertRaisesRegex(TypeError, 'processor: a masked array'):
             rolwyddac.Run(ROW_D, DIRECT, [1] * 4).turn(numpy.ma.array(1, mask=True))
         with self.assertRaisesRegex(TypeError, 'records: a masked array'):
