@@ -7,7 +7,7 @@ from typing import Any, Iterable, NamedTuple, Sequence, SupportsIndex, Union
 from . import calls
 from .calls import sizes
 from .hints import BytesLike, Grid, Numbers
-from .kinds import unmasked
+from .kinds import unmasked, view_of
 from .recipe import lengths_of
 from .words import gathered, laid, octets, shaped, zeros
 
@@ -32,14 +32,11 @@ def sweep(encoded: BytesLike, source: Numbers) -> Grid:
 def _file_of(records: Any) -> bytes:
     """The bytes of a file of soundings; a file's own bytes as they are."""
     unmasked('records', records)
-    try:
-        view = memoryview(records)
-    except (TypeError, ValueError):
-        shape, words = gathered('records', records if isinstance(records, (str, list, tuple)) else list(records))
-    else:
-        if view.itemsize == 1:
-            return octets('records', view)
-        shape, words = gathered('records', records)
+    view = view_of(records)
+    if view is not None and view.itemsize == 1:
+        return octets('records', view)
+    rows = records if view is not None or isinstance(records, str) else list(records)
+    shape, words = gathered('records', rows)
     if shape != (0,) and (len(shape) != 2 or shape[1] != len(Sounding._fields)):
         raise ValueError('records: each has a cell, a day, a survey and a depth; the shape is %s' % (shape,))
     # words are stored low byte first, as the file has them

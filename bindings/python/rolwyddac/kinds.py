@@ -5,7 +5,7 @@ from __future__ import annotations
 import ctypes
 import importlib
 import operator
-from typing import Any, Dict, NamedTuple, SupportsIndex, Tuple
+from typing import Any, Dict, NamedTuple, Optional, SupportsIndex, Tuple
 
 from .hints import BytesLike
 
@@ -98,13 +98,25 @@ def format_of(view: memoryview) -> Tuple[bool, str]:
     return order in ('>', '!'), view.format[1:] if order in tuple('@=<>!|') else view.format
 
 
+def view_of(value: Any) -> Optional[memoryview]:
+    """An object's buffer, None where it has none. What is closed or released says so itself."""
+    try:
+        return memoryview(value)
+    except TypeError:
+        return None
+    except ValueError:
+        # numpy's, of elements that no buffer has, as dates
+        if numpy is not None and isinstance(value, (numpy.ndarray, numpy.generic)):
+            return None
+        raise
+
+
 def bytes_view(name: str, value: BytesLike) -> memoryview:
     """A look at a bytes-like object. `bytes` would take far more: a number for so many zeros, a list for its numbers."""
     unmasked(name, value)
-    try:
-        view = memoryview(value)
-    except (TypeError, ValueError):
-        raise TypeError('%s: a bytes-like object is needed, not %s' % (name, type(value).__name__)) from None
+    view = view_of(value)
+    if view is None:
+        raise TypeError('%s: a bytes-like object is needed, not %s' % (name, type(value).__name__))
     if format_of(view)[1] not in ('B', 'c'):
         raise TypeError('%s: a bytes-like object is needed, not elements of format %r' % (name, view.format))
     return view

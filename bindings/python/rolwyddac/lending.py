@@ -9,7 +9,7 @@ import re
 from typing import Any, Iterable, Iterator, List, NamedTuple
 
 from .hints import Words
-from .kinds import KINDS, SIGNED, UNSIGNED, bytes_view, format_of, item_size, unmasked, whole
+from .kinds import KINDS, SIGNED, UNSIGNED, bytes_view, format_of, item_size, unmasked, view_of, whole
 
 WORD = 4
 PROGRESS = 'Progress'
@@ -106,10 +106,9 @@ def _viewed(name: str, kind: str, area: Any) -> memoryview:
     if name in BYTES_LIKE:
         return bytes_view(name, area)
     unmasked(name, area)
-    try:
-        view = memoryview(area)
-    except (TypeError, ValueError):
-        raise TypeError('%s: %s has no buffer of elements' % (name, type(area).__name__)) from None
+    view = view_of(area)
+    if view is None:
+        raise TypeError('%s: %s has no buffer of elements' % (name, type(area).__name__))
     if not _fits(kind, view):
         wanted = 'words of a record' if kind == PROGRESS else '%s bytes each' % ctypes.sizeof(type_of(kind))
         sign = 'signed' if kind != PROGRESS and KINDS[kind].least < 0 else 'unsigned'

@@ -5,10 +5,10 @@ from __future__ import annotations
 import array
 import ctypes
 from collections import abc
-from typing import Any, Sequence, Tuple, cast
+from typing import Any, Sequence, Tuple
 
 from .hints import BytesLike, Grid, Numbers, Words
-from .kinds import SIGNED, UNSIGNED, bytes_view, format_of, held, item_size, numpy, unmasked, whole
+from .kinds import SIGNED, UNSIGNED, bytes_view, format_of, held, item_size, numpy, unmasked, view_of, whole
 from .lending import WORD
 
 Shape = Tuple[int, ...]
@@ -79,21 +79,18 @@ def gathered(name: str, values: Numbers) -> Tuple[Shape, Words]:
         return gathered(name, numpy.asanyarray(values))
     if isinstance(values, (list, tuple)):
         return _of_rows(name, values)
-    try:
-        view = memoryview(cast(Any, values))
-    except (TypeError, ValueError):
-        if isinstance(values, abc.Sequence):
-            return _of_rows(name, values)
-        raise TypeError('%s: whole numbers are needed, not %s' % (name, type(values).__name__)) from None
-    return tuple(view.shape or ()), _of_buffer(name, view)
+    view = view_of(values)
+    if view is not None:
+        return tuple(view.shape or ()), _of_buffer(name, view)
+    if not isinstance(values, abc.Sequence):
+        raise TypeError('%s: whole numbers are needed, not %s' % (name, type(values).__name__))
+    return _of_rows(name, values)
 
 
 def shape_of(area: Any) -> Shape:
     """The shape of an area; what has no buffer is refused where it is lent."""
-    try:
-        return tuple(memoryview(area).shape or ())
-    except (TypeError, ValueError):
-        return (0,)
+    view = view_of(area)
+    return (0,) if view is None else tuple(view.shape or ())
 
 
 def shape_held(name: str, shape: Shape, *wanted: Shape) -> None:

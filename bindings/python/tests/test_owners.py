@@ -239,7 +239,8 @@ class Copies(unittest.TestCase):
     def test_a_failed_start_leaves_what_was(self):
         run = half_way(rolwyddac.Run)
         before = content(run.areas)
-        for words in ((ROW_D[:-1], DIRECT, [1] * 4), (ROW_D, DIRECT, [1] * 5), (ROW_D, 7, [1] * 4), (ROW_D, DIRECT, [1.5] * 4), (LARGE, DIRECT, [1] * 4)):
+        for words in ((ROW_D[:-1], DIRECT, [1] * 4), (ROW_D, DIRECT, [1] * 5), (ROW_D, 7, [1] * 4), (ROW_D, DIRECT, [1.5] * 4),
+                      (LARGE, DIRECT, [1] * 4)):
             with self.assertRaises((rolwyddac.Refused, ValueError, TypeError)):
                 run.__init__(*words)
         self.assertEqual(content(run.areas), before)

@@ -3,6 +3,7 @@
 import array
 import ctypes
 import fractions
+import mmap
 import unittest
 
 from support import ROW_D, flat, model, rolwyddac
@@ -123,7 +124,8 @@ class Shapes(unittest.TestCase):
         for form in (table, pairs, [table[:28], table[28:]], [pairs[:14], pairs[14:]]):
             self.assertEqual([rolwyddac.opens(ROW_D, form, 0, processor) for processor in (0, 1)], [0, 5])
             rolwyddac.Run(ROW_D, DIRECT, [1] * 4).turn_at(form, 0, 0)
-        for form in ([list(column) for column in zip(table[:28], table[28:])][:27], [table[:56]], [pairs], [table[at:at + 7] for at in range(0, 56, 7)]):
+        turned = [list(column) for column in zip(table[:28], table[28:])][:27]
+        for form in (turned, [table[:56]], [pairs], [table[at:at + 7] for at in range(0, 56, 7)]):
             with self.assertRaisesRegex(ValueError, 'hours: its shape is'):
                 rolwyddac.opens(ROW_D, form, 0, 0)
             with self.assertRaisesRegex(ValueError, 'hours: its shape is'):
@@ -169,11 +171,26 @@ class Elements(unittest.TestCase):
                 with self.subTest(name, form=str(form)[:40]), self.assertRaises(TypeError):
                     call(form)
 
+    def test_what_is_closed_says_so(self):
+        released = memoryview(array.array('I', range(15)))
+        released.release()
+        closed = mmap.mmap(-1, 64)
+        closed.close()
+        for name, call in TAKERS.items():
+            with self.subTest(name), self.assertRaisesRegex(ValueError, 'released'):
+                call(released)
+        for call in (rolwyddac.summary, rolwyddac.rounds_of, lambda form: rolwyddac.soundings(OBLONG, form, 0),
+                     lambda form: rolwyddac.calls.EXPORTED['sweep'](OBLONG, form, form)):
+            for form, told in ((released, 'released'), (closed, 'closed')):
+                with self.assertRaisesRegex(ValueError, told):
+                    call(form)
+
     def test_none_wraps(self):
         forms = [array.array('b', [0] * 14 + [-1]), array.array('i', [0] * 14 + [-1]), array.array('q', [0] * 14 + [2 ** 32]),
                  array.array('Q', [2 ** 63] + [0] * 14), (ctypes.c_uint64.__ctype_be__ * 15)(2 ** 32)]
         if numpy is not None:
-            forms += [numpy.array([0] * 14 + [word], dtype=kind) for word, kind in ((-1, 'int8'), (-1, '>i4'), (2 ** 32, '>i8'), (2 ** 64 - 1, 'uint64'))]
+            words = (-1, 'int8'), (-1, '>i4'), (2 ** 32, '>i8'), (2 ** 64 - 1, 'uint64')
+            forms += [numpy.array([0] * 14 + [word], dtype=kind) for word, kind in words]
         for name, call in TAKERS.items():
             for form in forms:
                 with self.subTest(name, form=str(form)[:60]):
@@ -184,7 +201,8 @@ class Elements(unittest.TestCase):
     def test_masks_are_not_lost(self):
         words = numpy.arange(15, dtype='uint32')
         masked = numpy.ma.array(words, mask=words > 7)
-        for form in (masked, masked.reshape(ROWS, COLUMNS), masked.astype('int64'), numpy.ma.array(words), list(masked.reshape(ROWS, COLUMNS)), list(masked)):
+        rows = masked.reshape(ROWS, COLUMNS)
+        for form in (masked, rows, masked.astype('int64'), numpy.ma.array(words), list(rows), list(masked)):
             for name, call in TAKERS.items():
                 with self.subTest(name), self.assertRaises(TypeError):
                     call(form)
