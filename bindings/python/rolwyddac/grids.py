@@ -35,8 +35,8 @@ def _file_of(records: Any) -> bytes:
     view = view_of(records)
     if view is not None and view.itemsize == 1:
         return octets('records', view)
-    rows = records if view is not None or isinstance(records, str) else list(records)
-    shape, words = gathered('records', rows)
+    known = view is not None or isinstance(records, str) or hasattr(records, '__array__')
+    shape, words = gathered('records', records if known else list(records))
     if shape != (0,) and (len(shape) != 2 or shape[1] != len(Sounding._fields)):
         raise ValueError('records: each has a cell, a day, a survey and a depth; the shape is %s' % (shape,))
     # words are stored low byte first, as the file has them

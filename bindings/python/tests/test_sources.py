@@ -25,6 +25,19 @@ def swept(encoded, source):
     return model.plan_of(encoded)[1].swept(list(source))
 
 
+class Table:
+    """As tables of other packages: an array on demand, and the names of its columns to whom goes through it."""
+
+    def __init__(self, made):
+        self.made = made
+
+    def __array__(self, *words, **named):
+        return self.made
+
+    def __iter__(self):
+        return iter(['cell', 'day', 'survey', 'depth'])
+
+
 # each call that is given a word for each cell
 TAKERS = {
     'sweep': lambda source: rolwyddac.sweep(OBLONG, source),
@@ -83,7 +96,7 @@ class Shapes(unittest.TestCase):
         forms = [rows.astype(kind) for kind in ('uint32', '>u4', '<i8', '>i8', 'uint8', 'int8', '>u2', 'uint64')]
         # not side by side: other order, a part, backwards
         forms += [numpy.asfortranarray(rows.astype('uint32')), numpy.repeat(rows, 2, axis=1)[:, ::2], rows[::-1, ::-1][::-1, ::-1], rows.ravel(),
-                  list(rows), [list(row) for row in rows], numpy.array(counted(COLUMNS, ROWS)).reshape(ROWS, COLUMNS)]
+                  list(rows), [list(row) for row in rows], Table(rows), numpy.array(counted(COLUMNS, ROWS)).reshape(ROWS, COLUMNS)]
         frozen = rows.astype('uint32')
         frozen.flags.writeable = False
         wanted = swept(OBLONG, range(15))
@@ -211,14 +224,8 @@ class Elements(unittest.TestCase):
                 rolwyddac.sweep(OBLONG, form)
             with self.assertRaisesRegex(TypeError, 'grid: a masked array'):
                 rolwyddac.calls.EXPORTED['sweep'](OBLONG, words, form)
-        class Variable:
-            """As files of grids have them: an array is made when it is asked for."""
-
-            def __array__(self, *words, **named):
-                return masked
-
         with self.assertRaisesRegex(TypeError, 'source: a masked array'):
-            rolwyddac.sweep(OBLONG, Variable())
+            rolwyddac.sweep(OBLONG, Table(masked))
         with self.assertRaisesRegex(TypeError, 'processor: a masked array'):
             rolwyddac.Run(ROW_D, DIRECT, [1] * 4).turn(numpy.ma.array(1, mask=True))
         with self.assertRaisesRegex(TypeError, 'records: a masked array'):
@@ -233,6 +240,7 @@ class Elements(unittest.TestCase):
                  bytearray(content), memoryview(content), array.array('B', content), (ctypes.c_char * 32)(*content)]
         if numpy is not None:
             forms += [numpy.array(records, dtype=kind) for kind in ('uint32', 'int64', '>u4')] + [numpy.frombuffer(content, dtype='uint8')]
+            forms += [Table(numpy.array(records))]
         for form in forms:
             with self.subTest(type(form).__name__):
                 self.assertEqual(flat(rolwyddac.soundings(OBLONG, form, 7)), wanted)
