@@ -1,7 +1,11 @@
 """The exported calls, one Python function each, by ctypes over the shared object librolwyddac.so.
 
 An area is anything with a buffer of the right elements: a numpy array, array.array, a ctypes array, a memoryview. What a
-call only reads may also be a list or a tuple. A call that is refused raises a `Refused`, and no lent element has changed.
+call only reads may also be a list or a tuple; a recipe and a file of soundings are bytes-like. A call that is refused raises a
+`Refused`, and no lent element has changed.
+
+An area that is written overlaps no other of the call, else it is a ValueError. An area is lent to one call at a time: other threads may
+run during a call, and no lock is held here.
 """
 
 from __future__ import annotations
