@@ -12,9 +12,17 @@ import zipfile
 HERE = os.path.dirname(os.path.abspath(__file__))
 SHARED = 'librolwyddac.so'
 
+# tells type checkers that the package has hints
+TYPED = 'py.typed'
+
+
+def _content(path):
+    with open(path, 'rb') as file:
+        return file.read()
+
 
 def _project(key):
-    text = open(os.path.join(HERE, 'pyproject.toml'), encoding='utf-8').read()
+    text = _content(os.path.join(HERE, 'pyproject.toml')).decode()
     return re.search(r'^%s = "(.*)"$' % key, text, flags=re.M)[1]
 
 
@@ -23,7 +31,7 @@ def _shared():
     path = os.path.join(os.path.abspath(folder), SHARED)
     if not os.path.isfile(path):
         raise SystemExit('no %s: run bindings/library first, or set ROLWYDDAC_LIB to its folder' % os.path.normpath(path))
-    return open(path, 'rb').read()
+    return _content(path)
 
 
 def _summed(content):
@@ -35,8 +43,8 @@ def build_wheel(wheel_directory, config_settings=None, metadata_directory=None):
     tag = 'py3-none-' + re.sub(r'[-.]', '_', sysconfig.get_platform())
     info = '%s-%s.dist-info' % (name, version)
     package = os.path.join(HERE, name)
-    files = {'%s/%s' % (name, file): open(os.path.join(package, file), 'rb').read()
-             for file in sorted(os.listdir(package)) if file.endswith('.py')}
+    files = {'%s/%s' % (name, file): _content(os.path.join(package, file))
+             for file in sorted(os.listdir(package)) if file.endswith('.py') or file == TYPED}
     files['%s/%s' % (name, SHARED)] = _shared()
     files[info + '/METADATA'] = ('Metadata-Version: 2.1\nName: %s\nVersion: %s\nSummary: %s\nRequires-Python: %s\n' % (
         name, version, _project('description'), _project('requires-python'))).encode()

@@ -1,16 +1,28 @@
 """The exported calls, one Python function each, by ctypes over the shared object librolwyddac.so.
 
 An area is anything with a buffer of the right elements: a numpy array, array.array, a ctypes array, a memoryview. What a
-call only reads may also be a list or a tuple. A call that is refused raises a `Refused`, and no lent element has changed.
+call only reads may also be a list or a tuple; a recipe and a file of soundings are bytes-like. A call that is refused raises a
+`Refused`, and no lent element has changed.
+
+An area that is written overlaps no other of the call, else it is a ValueError. An area is lent to one call at a time: other threads may
+run during a call, and no lock is held here.
 """
 
-import array
+from __future__ import annotations
+
 import ctypes
-import ctypes.util
 import inspect
-import os
 import re
-import sys
+from typing import Any, Dict, List, NamedTuple, SupportsIndex
+
+from .hints import BytesLike
+from .kinds import DIRECT, route_of, whole
+from .lending import Lent, Progress, Sizes, flattened, hold_apart, lent, listed, type_of
+from .library import LOADED, term, text, version
+from .refusals import REFUSALS, Refused, refused
+
+__all__ = ['CALLS', 'EXPORTED', 'REFUSALS', 'VERSION', 'Progress', 'Refused', 'Sizes', 'flattened', 'listed', 'refused', 'sizes', 'term', 'text',
+           'version']
 
 VERSION = '1.0.0'
 
@@ -72,256 +84,71 @@ rolwyddac_write(lengths: &[u16], tiling: &[u16], counts: &[u16], components: &[u
 '''
 
 
-# Finding the shared object
-
-NAME = 'librolwyddac.so'
-
-
-def _places():
-    """Where the shared object may be, the first that is there counts; a folder that ROLWYDDAC_LIB names is the only one."""
-    here = os.path.dirname(os.path.abspath(__file__))
-    named = os.environ.get('ROLWYDDAC_LIB')
-    if named:
-        return [os.path.join(os.path.abspath(named), NAME)]
-    return [os.path.join(here, NAME), os.path.normpath(os.path.join(here, '../../../target/library/lib', NAME))]
-
-
-def _load():
-    places = _places()
-    for place in places:
-        if os.path.isfile(place):
-            return ctypes.CDLL(place)
-    found = None if os.environ.get('ROLWYDDAC_LIB') else ctypes.util.find_library('rolwyddac')
-    if found:
-        return ctypes.CDLL(found)
-    raise ImportError('no %s; run bindings/library in the repository, or set ROLWYDDAC_LIB to its folder' % ', no '.join(places))
-
-
-_library = _load()
-for _name in ('version', 'term', 'text'):
-    getattr(_library, 'rolwyddac_' + _name).restype = ctypes.c_char_p
-for _name in ('term', 'text'):
-    getattr(_library, 'rolwyddac_' + _name).argtypes = [ctypes.c_uint32]
-
-
-def version():
-    """The version of the library that is loaded."""
-    return _library.rolwyddac_version().decode()
-
-
-def term(number):
-    """The term of a number, as `early` for 15."""
-    return _library.rolwyddac_term(number).decode()
-
-
-def text(number):
-    """What a number says, as `collecting while a processor has tiles left` for 15."""
-    return _library.rolwyddac_text(number).decode()
-
-
 if version().split('.')[0] != VERSION.split('.')[0]:
     raise ImportError('librolwyddac is version %s, this package is for %s' % (version(), VERSION))
 
 
-# Refusals: one class a number, named by its term
+class Parameter(NamedTuple):
+    """A parameter of an exported call."""
 
-class Refused(Exception):
-    """A call was refused: `number`, `term` and `reason` of the table of numbers, docs/RECIPE.md. No lent element has changed.
-    Each number of the table has a class of its own below this one, named by its term: `Waiting`, `NoMail`."""
-
-    number = None
-
-    def __init__(self, number):
-        super().__init__(number)
-        self.number = number
-
-    @property
-    def term(self):
-        return term(self.number)
-
-    @property
-    def reason(self):
-        return text(self.number)
-
-    def __str__(self):
-        return 'refused %d, %s: %s' % (self.number, self.term, self.reason)
+    name: str
+    kind: str
+    area: bool
+    write: bool
 
 
-# beyond every number that a library of this major version gives
-_NUMBERS = 64
-
-REFUSALS = {}
-for _number in range(1, _NUMBERS):
-    if term(_number) != 'other':
-        _class = term(_number).title().replace(' ', '')
-        REFUSALS[_number] = type(_class, (Refused,), {'__doc__': '%d, %s: %s.' % (_number, term(_number), text(_number)),
-                                                      '__module__': 'rolwyddac'})
+def _parameter(declared: str) -> Parameter:
+    name, kind = declared.strip().split(': ')
+    area = re.fullmatch(r'&(mut )?\[(\w+)\]', kind)
+    return Parameter(name, area[2] if area else kind, bool(area), bool(area and area[1]))
 
 
-def refused(number):
-    """The exception of a number."""
-    return REFUSALS.get(number, Refused)(number)
+class Call:
+    """An exported call, with the parameters that it has in CALLS; it raises `Refused`."""
 
+    def __init__(self, exported: str, parameters: List[Parameter]) -> None:
+        self.__name__ = self.__qualname__ = exported[len('rolwyddac_'):]
+        self.__doc__ = '%s of rolwyddac.h; raises Refused.' % exported
+        self.__signature__ = inspect.Signature([inspect.Parameter(each.name, inspect.Parameter.POSITIONAL_OR_KEYWORD) for each in parameters])
+        self.parameters = parameters
+        self._function = getattr(LOADED, exported)
+        self._function.restype = ctypes.c_uint32
+        self._function.argtypes = [argument for each in parameters
+                                   for argument in ([ctypes.c_void_p, ctypes.c_size_t] if each.area else [type_of(each.kind)])]
 
-# Areas
-
-class Progress(ctypes.Structure):
-    """How far a processor is: tiles finished, stage (0 gather, 1 calculate, 2 send), messages of the current tile sent."""
-
-    _fields_ = [('finished', ctypes.c_uint32), ('stage', ctypes.c_uint32), ('sent', ctypes.c_uint32)]
-
-    def __eq__(self, other):
-        return bytes(self) == bytes(other)
-
-    def __repr__(self):
-        return 'Progress(finished=%d, stage=%d, sent=%d)' % (self.finished, self.stage, self.sent)
-
-
-class Sizes(ctypes.Structure):
-    """How many elements each area has."""
-
-    AREAS = ('source', 'memories', 'buffer', 'progress', 'status', 'grid', 'engaged')
-    _fields_ = [(name, ctypes.c_size_t) for name in AREAS]
-
-    def __repr__(self):
-        return 'Sizes(%s)' % ', '.join('%s=%d' % (name, getattr(self, name)) for name in self.AREAS)
-
-
-_TYPES = {'u8': ctypes.c_uint8, 'u16': ctypes.c_uint16, 'u32': ctypes.c_uint32, 'Progress': Progress, 'i8': ctypes.c_int8,
-          'i16': ctypes.c_int16, 'i32': ctypes.c_int32}
-_LEAST = {'i8': -2 ** 7, 'i16': -2 ** 15, 'i32': -2 ** 31}
-_MOST = {'u8': 2 ** 8 - 1, 'u16': 2 ** 16 - 1, 'u32': 2 ** 32 - 1, 'i8': 2 ** 7 - 1, 'i16': 2 ** 15 - 1, 'i32': 2 ** 31 - 1}
-# how the struct module names unsigned numbers of these sizes
-_FORMATS = {'u8': 'B', 'u16': 'H', 'u32': 'IL', 'Progress': 'IL', 'i8': 'b', 'i16': 'h'}
-_ARRAYS = {'u8': 'B', 'u16': 'H', 'u32': 'I', 'i8': 'b', 'i16': 'h'}
-_WORD = 4
-
-
-def listed(name, kind, values):
-    """A list as an array of the kind; a nested one is taken row after row."""
-    flat = list(flattened(values))
-    least = _LEAST.get(kind, 0)
-    wrong = [value for value in flat if not least <= value <= _MOST[kind]]
-    if wrong:
-        raise ValueError('%s: %s is not from %d to %d' % (name, wrong[0], least, _MOST[kind]))
-    return array.array(_ARRAYS[kind], flat)
-
-
-def flattened(values):
-    """The numbers of a list, of lists of lists too."""
-    for value in values:
-        if isinstance(value, (list, tuple)):
-            yield from flattened(value)
-        else:
-            yield value
-
-
-def _viewed(name, kind, area):
-    """An area's buffer; told plainly where it has not the kind's elements."""
-    try:
-        view = memoryview(area)
-    except TypeError:
-        raise TypeError('%s: %s has no buffer of elements' % (name, type(area).__name__)) from None
-    sign = view.format.lstrip('@=<|')
-    size = ctypes.sizeof(_TYPES[kind]) if kind != 'Progress' else _WORD
-    # a structured array of three words a record is taken for what it is
-    whole = kind == 'Progress' and view.itemsize == ctypes.sizeof(Progress)
-    if not whole and not (view.itemsize == size and sign in _FORMATS[kind]):
-        raise TypeError('%s: elements must be unsigned, %d bytes each, not %r' % (name, size, view.format))
-    if not view.c_contiguous:
-        raise ValueError('%s: the elements must lie side by side' % name)
-    return view
-
-
-# what the pointer of an area without elements points to
-_SPARE = Progress()
-
-
-def _lent(name, kind, area, write):
-    """Pointer, number of elements, and what must be kept until the call is done."""
-    if not write and isinstance(area, (list, tuple)) and kind in _ARRAYS:
-        area = listed(name, kind, area)
-    size = ctypes.sizeof(_TYPES[kind])
-    if isinstance(area, ctypes.Array) and area._type_ is _TYPES[kind]:
-        return ctypes.addressof(area) if len(area) else ctypes.addressof(_SPARE), len(area), area
-    view = _viewed(name, kind, area)
-    if write and view.readonly:
-        raise TypeError('%s: the area is written, and can only be read' % name)
-    if view.nbytes % size:
-        raise ValueError('%s: %d bytes are no whole number of elements' % (name, view.nbytes))
-    if view.nbytes == 0:
-        return ctypes.addressof(_SPARE), 0, area
-    if view.readonly:
-        # a copy that ctypes can point into; it is only read
-        area = (ctypes.c_uint8 * view.nbytes).from_buffer_copy(view.tobytes())
-    else:
-        area = (ctypes.c_uint8 * view.nbytes).from_buffer(view)
-    address = ctypes.addressof(area)
-    if address % min(size, _WORD):
-        raise ValueError('%s: the elements are not aligned' % name)
-    return address, view.nbytes // size, area
-
-
-def _number(name, kind, value):
-    value, least = int(value), _LEAST.get(kind, 0)
-    if not least <= value <= _MOST[kind]:
-        raise ValueError('%s: %d is not from %d to %d' % (name, value, least, _MOST[kind]))
-    return value
-
-
-def _called(exported, inside):
-    """A function for one entry of CALLS."""
-    parameters = []
-    for part in inside.split(','):
-        name, kind = part.strip().split(': ')
-        area = re.fullmatch(r'&(mut )?\[(\w+)\]', kind)
-        parameters.append((name, area[2] if area else kind, bool(area), bool(area and area[1])))
-    function = getattr(_library, exported)
-    function.restype = ctypes.c_uint32
-    function.argtypes = [argument for _, kind, area, _ in parameters
-                         for argument in ((ctypes.c_void_p, ctypes.c_size_t) if area else (_TYPES[kind],))]
-    signature = inspect.Signature([inspect.Parameter(name, inspect.Parameter.POSITIONAL_OR_KEYWORD)
-                                   for name, _, _, _ in parameters])
-
-    def call(*words, **named):
-        bound = signature.bind(*words, **named)
-        given, kept = [], []
-        for name, kind, area, write in parameters:
-            value = bound.arguments[name]
+    def __call__(self, *words: Any, **named: Any) -> None:
+        values = self.__signature__.bind(*words, **named).arguments
+        given: List[int] = []
+        # areas are kept until the call is done
+        areas: List[Lent] = []
+        for name, kind, area, write in self.parameters:
             if area:
-                pointer, length, keep = _lent(name, kind, value, write)
-                given += [pointer, length]
-                kept.append(keep)
+                areas.append(lent(name, kind, values[name], write))
+                given += [areas[-1].address, areas[-1].elements]
             else:
-                given.append(_number(name, kind, value))
-        number = function(*given)
+                given.append(whole(name, kind, values[name]))
+        hold_apart(areas)
+        number = self._function(*given)
         if number != 0:
             raise refused(number)
 
-    call.__name__ = call.__qualname__ = exported[len('rolwyddac_'):]
-    call.__signature__ = signature
-    call.__doc__ = '%s of rolwyddac.h; raises Refused.' % exported
-    return call
+    def __repr__(self) -> str:
+        return '<call %s%s>' % (self.__name__, self.__signature__)
 
 
-EXPORTED = {}
+EXPORTED: Dict[str, Call] = {}
 for _exported, _inside in re.findall(r'(\w+)\((.*?)\)', CALLS, flags=re.S):
-    _function = _called(_exported, _inside)
-    EXPORTED[_function.__name__] = _function
+    _call = Call(_exported, [_parameter(declared) for declared in _inside.split(',')])
+    EXPORTED[_call.__name__] = _call
 
-_library.rolwyddac_sizes.restype = ctypes.c_uint32
-_library.rolwyddac_sizes.argtypes = [ctypes.c_void_p, ctypes.c_size_t, ctypes.c_uint32, ctypes.POINTER(Sizes)]
+LOADED.rolwyddac_sizes.restype = ctypes.c_uint32
+LOADED.rolwyddac_sizes.argtypes = [ctypes.c_void_p, ctypes.c_size_t, ctypes.c_uint32, ctypes.POINTER(Sizes)]
 
 
-def sizes(encoded, route=0):
+def sizes(encoded: BytesLike, route: SupportsIndex = DIRECT) -> Sizes:
     """How many elements each area of a recipe's plan on a route has."""
-    found = Sizes()
-    pointer, length, _kept = _lent('encoded', 'u8', encoded, False)
-    number = _library.rolwyddac_sizes(pointer, length, _number('route', 'u32', route), ctypes.byref(found))
+    found, area = Sizes(), lent('encoded', 'u8', encoded, False)
+    number = LOADED.rolwyddac_sizes(area.address, area.elements, route_of(route), ctypes.byref(found))
     if number != 0:
         raise refused(number)
     return found
-
-
-if sys.byteorder != 'little' or ctypes.sizeof(ctypes.c_size_t) != 8:
-    raise ImportError('librolwyddac is for x86-64')
