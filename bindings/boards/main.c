@@ -40,35 +40,42 @@ static void print_done(const struct options *options, const struct job *job) {
          options->verify ? ", equal to the sweep" : "", options->grid != NULL ? ", grid in " : "", options->grid != NULL ? options->grid : "");
 }
 
-/* what board 0 does once it has all parts */
-static enum status harvest(const struct options *options, const struct job *job, const struct areas *joined, double start) {
-  uint32_t *grid = NULL;
-  enum status status = grid_collect(joined, &grid);
-  const double run = now() - start;
-  if (status == STATUS_DONE && options->verify) status = grid_verify(job, grid);
-  if (status == STATUS_DONE && options->grid != NULL) status = grid_write(&job->plan, grid, options->grid);
-  if (status == STATUS_DONE && options->times) status = print_times(options, job, run);
+/* what is left to be done once no board can fail any more */
+static enum status harvest(const struct options *options, const struct job *job, const struct outcome *outcome) {
+  enum status status = STATUS_DONE;
+  tell_as_run();
+  if (options->verify) status = grid_verify(job, outcome->grid);
+  if (status == STATUS_DONE && options->grid != NULL) status = grid_write(&job->plan, outcome->grid, options->grid);
+  if (status == STATUS_DONE && options->times) status = print_times(options, job, outcome->seconds);
   if (status == STATUS_DONE) print_done(options, job);
-  free(grid);
   return status;
 }
 
-static enum status be_a_board(const struct options *options, const struct job *job, struct transport *transport) {
+static enum status be_a_board(const struct options *options, const struct job *job, struct transport *transport, struct outcome *outcome) {
   const double start = now();
   struct areas joined = {0};
   tell_as(transport_me(transport));
   enum status status = board_run(options, job, transport, &joined);
-  if (status == STATUS_DONE && transport_me(transport) == 0) status = harvest(options, job, &joined, start);
+  if (status == STATUS_DONE && transport_me(transport) == 0) {
+    status = grid_collect(&joined, outcome->grid);
+    outcome->seconds = now() - start;
+    if (status == STATUS_DONE) status = transport_hand_in(transport, outcome, outcome_length(&job->plan));
+  }
   areas_free(&joined);
   return status;
 }
 
 static enum status run(const struct options *options, struct transport *transport) {
   struct job job;
-  bool over = false;
+  struct outcome *outcome = NULL;
+  bool board = false;
   enum status status = job_read(&job, options, transport);
-  if (status == STATUS_DONE) status = transport_begin(transport, plan_boards(&job.plan), options->timeout, &over);
-  if (status == STATUS_DONE && !over) status = be_a_board(options, &job, transport);
+  if (status == STATUS_DONE && (outcome = calloc(1, sizeof *outcome)) == NULL) status = tell_no_memory();
+  if (status == STATUS_DONE) status = transport_begin(transport, plan_boards(&job.plan), options->timeout, &board);
+  if (status == STATUS_DONE && board) status = be_a_board(options, &job, transport, outcome);
+  if (status == STATUS_DONE) status = transport_end(transport, options->timeout, outcome, outcome_length(&job.plan));
+  if (status == STATUS_DONE && transport_reads(transport)) status = harvest(options, &job, outcome);
+  free(outcome);
   job_free(&job);
   return status;
 }

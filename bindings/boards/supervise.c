@@ -1,0 +1,105 @@
+/* The transport over sockets: its end. The starting process awaits the boards, which are its own processes and no others: it may have been given
+ * children by the program whose place it took, or, as the first process of a container, by anyone. */
+#define _GNU_SOURCE
+#include <errno.h>
+#include <math.h>
+#include <stdlib.h>
+#include <string.h>
+#include <sys/socket.h>
+#include <sys/wait.h>
+#include <unistd.h>
+
+#include "clock.h"
+#include "sockets.h"
+#include "tell.h"
+
+/* how a board ended */
+struct end {
+  uint32_t board;
+  int how;
+};
+
+static void signal_all(const struct crew *crew) {
+  for (uint32_t b = 0; b < crew->boards; b++)
+    if (crew->board[b] > 0) kill(crew->board[b], SIGKILL);
+}
+
+void crew_kill(struct crew *crew) {
+  signal_all(crew);
+  for (uint32_t b = 0; b < crew->boards; b++) {
+    while (crew->board[b] > 0 && waitpid(crew->board[b], NULL, 0) < 0 && errno == EINTR) {}
+    crew->board[b] = 0;
+  }
+}
+
+/* has a board ended? It is none from then on */
+static bool look_for_end(struct crew *crew, struct end *out) {
+  for (uint32_t b = 0; b < crew->boards; b++) {
+    if (crew->board[b] <= 0) continue;
+    if (waitpid(crew->board[b], &out->how, WNOHANG) <= 0) continue;
+    out->board = b;
+    crew->board[b] = 0;
+    return true;
+  }
+  return false;
+}
+
+/* waits for a board to end, at most so many seconds; false if none did */
+static bool await_end(struct crew *crew, double seconds, struct end *out) {
+  const double until = now() + seconds;
+  while (!look_for_end(crew, out)) {
+    if (now() >= until) return false;
+    (void)sigtimedwait(&crew->awaited, NULL, &(struct timespec){.tv_nsec = 50000000});
+  }
+  return true;
+}
+
+static enum status ended_with(const struct end *end, bool killed) {
+  if (WIFEXITED(end->how)) return (enum status)WEXITSTATUS(end->how);
+  if (!killed) tell(STATUS_LOST, "board %u was ended by signal %d", (unsigned)end->board, WTERMSIG(end->how));
+  return STATUS_LOST;
+}
+
+/* The first status that is not 0 is the run's: the others then have a second to end too, and to tell what they wait for. Where all is well, each has
+ * so many seconds after the one before. */
+enum status crew_supervise(struct crew *crew, double seconds) {
+  enum status status = STATUS_DONE;
+  double patience = HUGE_VAL;
+  bool killed = false;
+  for (uint32_t left = crew->boards; left > 0;) {
+    struct end end;
+    if (!await_end(crew, killed ? HUGE_VAL : patience, &end)) {
+      if (status == STATUS_DONE) status = tell(STATUS_TIMEOUT, "a board has not ended %g seconds after another", seconds);
+      signal_all(crew);
+      killed = true;
+      continue;
+    }
+    const enum status its = ended_with(&end, killed);
+    if (status == STATUS_DONE) status = its;
+    patience = status == STATUS_DONE ? seconds : 1;
+    left--;
+  }
+  return status;
+}
+
+enum status transport_hand_in(struct transport *t, const void *bytes, size_t length) {
+  while (send(t->handing, bytes, length, MSG_NOSIGNAL) < 0)
+    if (errno != EINTR) return tell(STATUS_MACHINE, "can't hand in %zu bytes: %s", length, strerror(errno));
+  return STATUS_DONE;
+}
+
+/* board 0 has ended: what it handed in is there, or it handed in nothing */
+static enum status take_outcome(const struct crew *crew, void *bytes, size_t length) {
+  const ssize_t came = recv(crew->outcome[0], bytes, length, MSG_DONTWAIT);
+  return came == (ssize_t)length ? STATUS_DONE : tell(STATUS_LOST, "board 0 has ended, and handed in no grid");
+}
+
+enum status transport_end(struct transport *t, double seconds, void *bytes, size_t length) {
+  if (t->crew == NULL) return STATUS_DONE;
+  enum status status = crew_supervise(t->crew, seconds);
+  if (status == STATUS_DONE) status = take_outcome(t->crew, bytes, length);
+  sigprocmask(SIG_SETMASK, &t->crew->before, NULL);
+  crew_free(t->crew);
+  t->crew = NULL;
+  return status;
+}
