@@ -7,6 +7,7 @@ wrong. What needs a right or a tool that is not there is named, and not run.
 """
 
 import os
+import signal
 import subprocess
 import sys
 import tempfile
@@ -99,6 +100,13 @@ def check_strangers(host):
         host.swept('a stranger, as the first process', host.run(first + host.arguments('--grid', 'grid')))
 
 
+def check_ignored_children(host):
+    """Started where the end of a child is ignored, as some services start their programs."""
+    host.fresh()
+    ran = host.run(host.arguments('--grid', 'grid'), preexec_fn=lambda: signal.signal(signal.SIGCHLD, signal.SIG_IGN))
+    host.swept('SIGCHLD ignored', ran)
+
+
 def check_late_faults(host):
     """A board that fails when the grid is collected already: the run fails, so no grid is in place."""
     for fault, status in (('halted-late:1', 3), ('killed-late:1', 5)):
@@ -112,6 +120,7 @@ def main(folder):
     with tempfile.TemporaryDirectory() as scratch:
         host = Host(folder, scratch)
         check_strangers(host)
+        check_ignored_children(host)
         check_late_faults(host)
         print('%d runs, %d wrong' % (host.runs, host.wrong))
         return 1 if host.wrong else 0

@@ -10,6 +10,7 @@
 #include "grid.h"
 #include "job.h"
 #include "options.h"
+#include "process.h"
 #include "status.h"
 #include "tell.h"
 #include "transport.h"
@@ -81,6 +82,7 @@ static enum status run(const struct options *options, struct transport *transpor
 }
 
 int main(int argc, char **argv) {
+  process_prepare();
   struct transport *transport = transport_open(&argc, &argv);
   if (transport == NULL) return STATUS_MACHINE;
   if (!transport_reads(transport)) tell_nothing();

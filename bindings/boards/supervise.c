@@ -16,6 +16,7 @@
 /* how a board ended */
 struct end {
   uint32_t board;
+  bool told; /* false: it has ended, and the machine does not say how */
   int how;
 };
 
@@ -36,8 +37,10 @@ void crew_kill(struct crew *crew) {
 static bool look_for_end(struct crew *crew, struct end *out) {
   for (uint32_t b = 0; b < crew->boards; b++) {
     if (crew->board[b] <= 0) continue;
-    if (waitpid(crew->board[b], &out->how, WNOHANG) <= 0) continue;
+    const pid_t found = waitpid(crew->board[b], &out->how, WNOHANG);
+    if (found == 0 || (found < 0 && errno != ECHILD)) continue;
     out->board = b;
+    out->told = found > 0;
     crew->board[b] = 0;
     return true;
   }
@@ -55,6 +58,7 @@ static bool await_end(struct crew *crew, double seconds, struct end *out) {
 }
 
 static enum status ended_with(const struct end *end, bool killed) {
+  if (!end->told) return killed ? STATUS_LOST : tell(STATUS_LOST, "board %u has ended, and how is not told", (unsigned)end->board);
   if (WIFEXITED(end->how)) return (enum status)WEXITSTATUS(end->how);
   if (!killed) tell(STATUS_LOST, "board %u was ended by signal %d", (unsigned)end->board, WTERMSIG(end->how));
   return STATUS_LOST;
