@@ -73,9 +73,8 @@ class Check:
         command = ['mpirun', '--oversubscribe', '-n', str(boards)] if self.mpi else []
         self.runs += 1
         with open('/dev/full' if full else self.path('said'), 'w', encoding='utf-8') as out:
-            # Python ignores SIGXFSZ; where that is kept, a file that grows too large gives an error and no signal
             return subprocess.run(command + [self.program] + arguments, stdout=out, stderr=subprocess.PIPE, text=True, timeout=120, check=False,
-                                  env=environment, restore_signals=limit is None, preexec_fn=limit)
+                                  env=environment, preexec_fn=limit)
 
     def blame(self, what, ran, problem):
         self.wrong += 1
@@ -232,7 +231,7 @@ def check_files(check):
     check.ends('full', FILE, ["boards: can't write %s: File too large\n" % check.path('grid')], row, seed,
                limit=lambda: resource.setrlimit(resource.RLIMIT_FSIZE, (100, 100)))
     check.ends('a folder', FILE, ["boards: can't write %s: Is a directory\n" % check.scratch], row, seed + ['--grid', check.scratch])
-    check.ends('standard output', FILE, ["can't write to standard output\n"], row, seed + ['--no-verify'], full=True)
+    check.ends('standard output', FILE, ["can't write to standard output: No space left on device\n"], row, seed + ['--no-verify'], full=True)
 
 
 def check_refusals(check):

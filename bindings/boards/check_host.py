@@ -14,7 +14,7 @@ import tempfile
 
 sys.dont_write_bytecode = True
 sys.path.insert(0, os.path.dirname(os.path.abspath(__file__)))
-from check import DONE, OLD, bed, model, words_of  # noqa: E402
+from check import DONE, FILE, OLD, bed, model, words_of  # noqa: E402
 
 ROW = model.ROWS['A']
 PLAN = model.plan_of(ROW)[1]
@@ -76,6 +76,10 @@ class Host:
         print('%s: status %s\n  stdout %r\n  stderr %r\n  files %s' % (
             what, ran.returncode, (ran.stdout or b'')[:300], (ran.stderr or b'')[:600], sorted(os.listdir(self.folder))))
 
+    def fails(self, what, said, ran, status=FILE):
+        """It ended with the status, and told it in one line."""
+        self.holds(what, ran.returncode == status and ran.stderr.decode() == 'boards: %s\n' % said, ran)
+
     def swept(self, what, ran, grid='grid', said=''):
         """It ended well, said so in its line, and the grid is there and nothing else that was not."""
         line = '%s%s\n' % (DONE_LINE, said or ', grid in %s' % grid)
@@ -116,12 +120,42 @@ def check_late_faults(host):
         host.holds(fault, ran.returncode == status and host.got('grid') == OLD and not ran.stdout, ran)
 
 
+def check_pipes(host):
+    """Standard output that nobody reads: told as what it is."""
+    host.fresh()
+    reads, writes = os.pipe()
+    os.close(reads)
+    ran = host.run(host.arguments('--grid', 'grid'), stdout=writes)
+    host.fails('nobody reads the line', "can't write to standard output: Broken pipe", ran)
+    host.holds('nobody reads the line', host.got('grid') == GRID, ran)
+    ran = host.run(host.arguments('--grid', 'grid'), stderr=writes)
+    host.holds('nobody reads what is told', ran.returncode == DONE, ran)
+    os.close(writes)
+
+
+def check_closed_files(host):
+    """Standard input, output or error closed at the start: no socket takes their place."""
+    for closed, status in (((0,), DONE), ((2,), DONE), ((0, 2), DONE), ((1,), FILE), ((0, 1, 2), FILE)):
+        host.fresh()
+        ran = host.run(['sh', '-c', 'exec "$@" ' + ' '.join('%d>&-' % file for file in closed), 'sh'] + host.arguments('--grid', 'grid'))
+        host.holds('closed: %s' % (closed,), ran.returncode == status and host.got('grid') == GRID and (status != DONE or ran.stdout), ran)
+        if closed == (1,):
+            host.fails('closed: 1', "can't write to standard output: Bad file descriptor", ran)
+    # what board 0 tells goes nowhere, and to no other board
+    repeated = next(m for m, message in enumerate(PLAN.messages) if PLAN.board_of[message.taker] == 0)
+    host.fresh()
+    ran = host.run(['sh', '-c', 'exec "$@" 0>&- 1>&- 2>&-', 'sh'] + host.arguments('--grid', 'grid'), 'BOARDS_FAULT=doubled:%d' % repeated)
+    host.holds('closed, and something to tell', ran.returncode == FILE and host.got('grid') == GRID, ran)
+
+
 def main(folder):
     with tempfile.TemporaryDirectory() as scratch:
         host = Host(folder, scratch)
         check_strangers(host)
         check_ignored_children(host)
         check_late_faults(host)
+        check_pipes(host)
+        check_closed_files(host)
         print('%d runs, %d wrong' % (host.runs, host.wrong))
         return 1 if host.wrong else 0
 

@@ -1,9 +1,11 @@
 /* boards: sweeps a recipe on boards that share no memory, one process a board. MANUAL.md says how it is used and what it promises. */
 #define _POSIX_C_SOURCE 200809L
+#include <errno.h>
 #include <inttypes.h>
 #include <stdbool.h>
 #include <stdio.h>
 #include <stdlib.h>
+#include <string.h>
 
 #include "board.h"
 #include "clock.h"
@@ -31,14 +33,13 @@ static enum status print_times(const struct options *options, const struct job *
   if (number != ROLWYDDAC_DONE) return tell_refusal("sweep", number);
   work_on(totals[ROLWYDDAC_SUMMARY_TILES] * work_cells(plan), options->work);
   const double heavy = now() - start;
-  printf("run %.1f us, sweep %.1f us, sweep with the extra work %.1f us\n", 1e6 * run, 1e6 * sweep, 1e6 * heavy);
-  return STATUS_DONE;
+  return say(false, "run %.1f us, sweep %.1f us, sweep with the extra work %.1f us", 1e6 * run, 1e6 * sweep, 1e6 * heavy);
 }
 
-static void print_done(const struct options *options, const struct job *job) {
+static enum status print_done(const struct options *options, const struct job *job) {
   const struct plan *plan = &job->plan;
-  printf("boards %" PRIu32 " messages %" PRIu32 " words %zu: done%s%s%s\n", plan_boards(plan), plan_messages(plan), plan->sizes.buffer,
-         options->verify ? ", equal to the sweep" : "", options->grid != NULL ? ", grid in " : "", options->grid != NULL ? options->grid : "");
+  return say(false, "boards %" PRIu32 " messages %" PRIu32 " words %zu: done%s%s%s", plan_boards(plan), plan_messages(plan), plan->sizes.buffer,
+             options->verify ? ", equal to the sweep" : "", options->grid != NULL ? ", grid in " : "", options->grid != NULL ? options->grid : "");
 }
 
 /* what is left to be done once no board can fail any more */
@@ -48,7 +49,7 @@ static enum status harvest(const struct options *options, const struct job *job,
   if (options->verify) status = grid_verify(job, outcome->grid);
   if (status == STATUS_DONE && options->grid != NULL) status = grid_write(&job->plan, outcome->grid, options->grid);
   if (status == STATUS_DONE && options->times) status = print_times(options, job, outcome->seconds);
-  if (status == STATUS_DONE) print_done(options, job);
+  if (status == STATUS_DONE) status = print_done(options, job);
   return status;
 }
 
@@ -90,7 +91,8 @@ int main(int argc, char **argv) {
   bool over = false;
   enum status status = options_read(argc, argv, transport_reads(transport), &options, &over);
   if (status == STATUS_DONE && !over) status = run(&options, transport);
-  if (fflush(stdout) != 0 && status == STATUS_DONE) status = tell(STATUS_FILE, "can't write to standard output");
+  /* --help and --version */
+  if (fflush(stdout) != 0 && status == STATUS_DONE) status = tell(STATUS_FILE, "can't write to standard output: %s", strerror(errno));
   transport_close(transport, status);
   return (int)status;
 }
