@@ -7,7 +7,10 @@ wrong. What needs a right or a tool that is not there is named, and not run.
 """
 
 import os
+import resource
+import shutil
 import signal
+import stat
 import subprocess
 import sys
 import tempfile
@@ -20,6 +23,8 @@ ROW = model.ROWS['A']
 PLAN = model.plan_of(ROW)[1]
 GRID = words_of(PLAN.swept(bed(1, PLAN.cells)))
 DONE_LINE = 'boards %d messages %d words %d: done, equal to the sweep' % (PLAN.boards, len(PLAN.messages), PLAN.words)
+# a user and a group that have no rights
+NOBODY = 65534
 # seconds after which a run that should have ended long ago is given up
 GIVEN_UP = 30
 
@@ -28,7 +33,7 @@ class Host:
     """Runs of one program, each in a new folder that has the recipe of row A."""
 
     def __init__(self, folder, scratch):
-        self.program = os.path.join(os.path.abspath(folder), 'boards')
+        self.program = shutil.copy(os.path.join(folder, 'boards'), scratch)
         self.scratch = scratch
         self.folder = None
         self.runs = self.wrong = 0
@@ -54,6 +59,25 @@ class Host:
                 return file.read()
         except OSError:
             return b''
+
+    def files(self):
+        """The names of all files, from the folder on."""
+        return sorted(os.path.relpath(os.path.join(at, name), self.folder) for at, _, names in os.walk(self.folder) for name in names)
+
+    def as_nobody(self, before=None):
+        """What makes a process one without rights, if this one has any; the folder is then its."""
+        root = os.geteuid() == 0
+        if root:
+            os.chown(self.folder, NOBODY, NOBODY)
+
+        def become():
+            if before:
+                before()
+            if root:
+                os.setgroups([])
+                os.setgid(NOBODY)
+                os.setuid(NOBODY)
+        return become
 
     def arguments(self, *more):
         return [self.program, self.path('recipe'), '--seed', '1'] + list(more)
@@ -128,6 +152,7 @@ def check_pipes(host):
     ran = host.run(host.arguments('--grid', 'grid'), stdout=writes)
     host.fails('nobody reads the line', "can't write to standard output: Broken pipe", ran)
     host.holds('nobody reads the line', host.got('grid') == GRID, ran)
+    host.fails('nobody reads the grid', "can't write standard output: Broken pipe", host.run(host.arguments('--grid', '-'), stdout=writes))
     ran = host.run(host.arguments('--grid', 'grid'), stderr=writes)
     host.holds('nobody reads what is told', ran.returncode == DONE, ran)
     os.close(writes)
@@ -148,6 +173,133 @@ def check_closed_files(host):
     host.holds('closed, and something to tell', ran.returncode == FILE and host.got('grid') == GRID, ran)
 
 
+def check_links(host):
+    """A grid's name that is a link: the file it leads to is written, the link stays."""
+    for what, target, old in (('a link', 'target', OLD), ('a link to another folder', 'other/target', OLD), ('a link to nothing yet', 'other/target', None)):
+        host.fresh()
+        os.mkdir(host.path('other'))
+        if old:
+            host.put(target, old)
+        os.symlink(target, host.path('second'))
+        os.symlink(host.path('second'), host.path('grid'))
+        before = set(host.files()) | {target}
+        ran = host.run(host.arguments('--grid', 'grid'))
+        host.swept(what, ran)
+        host.holds(what, os.path.islink(host.path('grid')) and host.got(target) == GRID and set(host.files()) == before, ran)
+    host.fresh()
+    os.symlink('grid', host.path('grid'))
+    host.fails('a link to itself', "can't write grid: Too many levels of symbolic links", host.run(host.arguments('--grid', 'grid')))
+
+
+def check_no_regular_files(host):
+    """Pipes and devices are written to, and nothing is put in their place. By one without rights: a program that does so must not do it in /dev."""
+    host.fresh()
+    os.mkfifo(host.path('grid'))
+    with subprocess.Popen(['cat', host.path('grid')], stdout=subprocess.PIPE) as reader:
+        ran = host.run(host.arguments('--grid', 'grid'))
+        still = stat.S_ISFIFO(os.stat(host.path('grid')).st_mode)
+        if not still:
+            reader.kill()
+        host.holds('a pipe with a name', still and reader.stdout.read() == GRID and ran.returncode == DONE, ran)
+    host.fresh()
+    os.symlink('/dev/full', host.path('full'))
+    ran = host.run(host.arguments('--grid', 'full'), preexec_fn=host.as_nobody())
+    host.fails('a full device', "can't write full: No space left on device", ran)
+    host.fresh()
+    os.symlink('/dev/null', host.path('null'))
+    ran = host.run(host.arguments('--grid', 'null'), preexec_fn=host.as_nobody())
+    host.holds('a device', ran.returncode == DONE and os.path.islink(host.path('null')), ran)
+    host.fresh()
+    with open(host.path('removed'), 'w+b') as removed:
+        os.fchmod(removed.fileno(), 0o666)
+        os.remove(removed.name)
+        os.symlink('/dev/fd/%d' % removed.fileno(), host.path('open'))
+        ran = host.run(host.arguments('--grid', 'open'), pass_fds=[removed.fileno()], preexec_fn=host.as_nobody())
+        host.holds('a file that is open and removed', ran.returncode == DONE and removed.read() == GRID and host.files() == ['open', 'recipe'], ran)
+
+
+def check_rights(host):
+    """Mode and owner of a file that is there are kept; a new one has the mask's."""
+    for mode in (0o640, 0o604, 0o4711):
+        host.fresh()
+        host.put('grid', OLD)
+        if os.geteuid() == 0:
+            os.chown(host.path('grid'), 12345, 12346)
+        os.chmod(host.path('grid'), mode)
+        before = os.stat(host.path('grid'))
+        ran = host.run(host.arguments('--grid', 'grid'))
+        after = os.stat(host.path('grid'))
+        host.swept('mode %o' % mode, ran)
+        host.holds('mode %o' % mode, (before.st_mode, before.st_uid, before.st_gid) == (after.st_mode, after.st_uid, after.st_gid), ran)
+    for mask in (0o022, 0o077):
+        host.fresh()
+        ran = host.run(host.arguments('--grid', 'grid'), preexec_fn=lambda mask=mask: os.umask(mask))
+        host.holds('mask %o' % mask, os.stat(host.path('grid')).st_mode & 0o777 == 0o666 & ~mask, ran)
+    host.fresh()
+    host.put('grid', OLD)
+    os.chmod(host.path('grid'), 0o444)
+    ran = host.run(host.arguments('--grid', 'grid'), preexec_fn=host.as_nobody())
+    host.fails('a file not to be written', "can't write grid: Permission denied", ran)
+    host.holds('a file not to be written', host.got('grid') == OLD, ran)
+    # the process may not give the file away, nor its group: these have no more rights than before
+    host.fresh()
+    host.put('grid', OLD)
+    os.chmod(host.path('grid'), 0o666)
+    if os.geteuid() == 0:
+        ran = host.run(host.arguments('--grid', 'grid'), preexec_fn=host.as_nobody())
+        host.swept("another's file", ran)
+        host.holds("another's file", os.stat(host.path('grid')).st_mode & 0o7777 == 0o666, ran)
+
+
+def check_output(host):
+    """The grid on standard output: nothing else is there, and the line goes to standard error."""
+    for grid in ('-', 'output'):
+        host.fresh()
+        os.symlink('/dev/stdout', host.path('output'))
+        ran = host.run(host.arguments('--grid', grid), preexec_fn=host.as_nobody())
+        said = (DONE_LINE + ', grid on standard output\n').encode()
+        host.holds('grid to ' + grid, ran.returncode == DONE and ran.stdout == GRID and ran.stderr == said and os.path.islink(host.path('output')), ran)
+        with open(host.path('kept'), 'wb') as kept:
+            ran = host.run(host.arguments('--grid', grid, '--times'), stdout=kept, preexec_fn=host.as_nobody())
+        host.holds('grid to %s, which is a file' % grid, ran.returncode == DONE and host.got('kept') == GRID and ran.stderr.endswith(said), ran)
+        host.holds('grid to ' + grid, host.files() == ['kept', 'output', 'recipe'], ran)
+
+
+def check_temporary_files(host):
+    """What is beside the grid stays, whatever its name is; what the program made goes, also where it is ended."""
+    host.fresh()
+    host.put('grid', OLD)
+    ran = host.run(host.arguments('--grid', 'grid'), preexec_fn=lambda: resource.setrlimit(resource.RLIMIT_FSIZE, (100, 100)))
+    host.fails('no room', "can't write grid: File too large", ran)
+    host.holds('no room', host.got('grid') == OLD and host.files() == ['grid', 'recipe'], ran)
+    for number in (signal.SIGTERM, signal.SIGINT, signal.SIGHUP):
+        host.fresh()
+        host.put('grid', OLD)
+        ran = host.run(host.arguments('--grid', 'grid'), 'BOARDS_FAULT=signal-writing:%d' % number)
+        host.holds('ended by %s while it writes' % number, ran.returncode == -number and host.got('grid') == GRID and host.files() == ['grid', 'recipe'], ran)
+    host.fresh()
+    long = 'n' * 255
+    host.swept('a name as long as any', host.run(host.arguments('--grid', long)), long)
+
+
+def check_names(host):
+    """One line, whatever a name has in it, with the whole name and the reason."""
+    host.fresh()
+    odd = 'a\nb\x1b[31m\\c\x7f'
+    shown = 'a\\nb\\x1b[31m\\\\c\\x7f'
+    host.swept('an odd name', host.run(host.arguments('--grid', odd)), odd, ', grid in ' + shown)
+    for what, name, reason in (('an odd name', odd + '/d', 'Not a directory'), ('a long name', 'n' * 256, 'File name too long'),
+                               ('a long path', './' * 1900 + 'none/grid', 'No such file or directory'), ('an empty name', '', 'No such file or directory')):
+        said = "can't write %s: %s" % ((name or "''").replace(odd, shown), reason)
+        host.fails(what, said, host.run(host.arguments('--grid', name)))
+    for what, name, reason in (('no recipe', 'n' * 3000, 'File name too long'), ('a folder', '.', 'Is a directory')):
+        ran = host.run([host.program, name, '--seed', '1'])
+        host.fails(what, '%s %s: %s' % ("can't read" if name == '.' else "can't open", name, reason), ran)
+    os.chmod(host.path('recipe'), 0)
+    ran = host.run(host.arguments(), preexec_fn=host.as_nobody())
+    host.fails('a recipe not to be read', "can't open %s: Permission denied" % host.path('recipe'), ran)
+
+
 def main(folder):
     with tempfile.TemporaryDirectory() as scratch:
         host = Host(folder, scratch)
@@ -156,6 +308,12 @@ def main(folder):
         check_late_faults(host)
         check_pipes(host)
         check_closed_files(host)
+        check_links(host)
+        check_no_regular_files(host)
+        check_rights(host)
+        check_output(host)
+        check_temporary_files(host)
+        check_names(host)
         print('%d runs, %d wrong' % (host.runs, host.wrong))
         return 1 if host.wrong else 0
 

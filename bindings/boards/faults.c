@@ -4,6 +4,7 @@
  *                    number: lost:7; or a board's part: lost-part:2
  *                    killed or halted, and a board: before it posts its first message, or its part: halted-part:2; halted-late: when all is posted
  *                    differs:0: the sweep's last word is another
+ *                    signal-writing:15: this signal comes while the grid is brought to the disk
  *    BOARDS_DELAY    a seed and the most microseconds that a post and a look wait: 5:2000
  *    BOARDS_SHUFFLE  a seed: a board's messages are held back until it looks for mail, and go in another order then */
 #define _POSIX_C_SOURCE 200809L
@@ -12,6 +13,7 @@
 #include <stdlib.h>
 #include <string.h>
 #include <time.h>
+#include <unistd.h>
 
 #include "packet.h"
 #include "rolwyddac.h"
@@ -29,6 +31,9 @@ uint32_t __real_rolwyddac_sweep(const uint8_t *encoded, size_t encoded_length, c
                                 size_t grid_length);
 uint32_t __wrap_rolwyddac_sweep(const uint8_t *encoded, size_t encoded_length, const uint32_t *source, size_t source_length, uint32_t *grid,
                                 size_t grid_length);
+
+int __real_fsync(int file);
+int __wrap_fsync(int file);
 
 /* xorshift, one sequence a board */
 static uint32_t random_below(uint32_t seed, uint32_t board, uint32_t limit) {
@@ -157,4 +162,11 @@ uint32_t __wrap_rolwyddac_sweep(const uint8_t *encoded, size_t encoded_length, c
   const uint32_t number = __real_rolwyddac_sweep(encoded, encoded_length, source, source_length, grid, grid_length);
   if (number == ROLWYDDAC_DONE && asked("differs", 0)) grid[grid_length - 1] ^= 1;
   return number;
+}
+
+int __wrap_fsync(int file) {
+  static const int ending[] = {SIGHUP, SIGINT, SIGTERM};
+  for (size_t i = 0; i < sizeof ending / sizeof *ending; i++)
+    if (asked("signal-writing", (uint32_t)ending[i])) raise(ending[i]);
+  return __real_fsync(file);
 }

@@ -25,7 +25,7 @@ enum status grid_collect(const struct areas *joined, uint32_t *grid);
 /* Is the grid what one processor's sweep gives? The first cell that is not is told. */
 enum status grid_verify(const struct job *job, const uint32_t *grid);
 
-/* Writes the grid to a file, words of four bytes, low byte first: whole or not at all. */
+/* Writes the grid as file_write does, words of four bytes, low byte first. */
 enum status grid_write(const struct plan *plan, const uint32_t *grid, const char *name);
 
 #endif

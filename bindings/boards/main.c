@@ -20,7 +20,7 @@
 
 /* how long the run took, from the moment at which all boards were there until the grid was collected; beside it one processor's sweep, and
  * the same with the extra work of all tiles */
-static enum status print_times(const struct options *options, const struct job *job, double run) {
+static enum status print_times(const struct options *options, const struct job *job, double run, bool on_error) {
   const struct plan *plan = &job->plan;
   uint32_t totals[ROLWYDDAC_SUMMARY_LENGTH];
   uint32_t *swept = calloc(plan->sizes.grid, sizeof *swept);
@@ -33,23 +33,27 @@ static enum status print_times(const struct options *options, const struct job *
   if (number != ROLWYDDAC_DONE) return tell_refusal("sweep", number);
   work_on(totals[ROLWYDDAC_SUMMARY_TILES] * work_cells(plan), options->work);
   const double heavy = now() - start;
-  return say(false, "run %.1f us, sweep %.1f us, sweep with the extra work %.1f us", 1e6 * run, 1e6 * sweep, 1e6 * heavy);
+  return say(on_error, "run %.1f us, sweep %.1f us, sweep with the extra work %.1f us", 1e6 * run, 1e6 * sweep, 1e6 * heavy);
 }
 
-static enum status print_done(const struct options *options, const struct job *job) {
+static enum status print_done(const struct options *options, const struct job *job, bool on_error) {
   const struct plan *plan = &job->plan;
-  return say(false, "boards %" PRIu32 " messages %" PRIu32 " words %zu: done%s%s%s", plan_boards(plan), plan_messages(plan), plan->sizes.buffer,
-             options->verify ? ", equal to the sweep" : "", options->grid != NULL ? ", grid in " : "", options->grid != NULL ? options->grid : "");
+  const char *verified = options->verify ? ", equal to the sweep" : "";
+  const char *in = options->grid == NULL ? "" : on_error ? ", grid on standard output" : ", grid in ";
+  return say(on_error, "boards %" PRIu32 " messages %" PRIu32 " words %zu: done%s%s%s", plan_boards(plan), plan_messages(plan), plan->sizes.buffer,
+             verified, in, options->grid == NULL || on_error ? "" : options->grid);
 }
 
 /* what is left to be done once no board can fail any more */
 static enum status harvest(const struct options *options, const struct job *job, const struct outcome *outcome) {
   enum status status = STATUS_DONE;
+  /* where the grid goes to standard output nothing else does */
+  const bool on_error = options->grid != NULL && file_is_output(options->grid);
   tell_as_run();
   if (options->verify) status = grid_verify(job, outcome->grid);
   if (status == STATUS_DONE && options->grid != NULL) status = grid_write(&job->plan, outcome->grid, options->grid);
-  if (status == STATUS_DONE && options->times) status = print_times(options, job, outcome->seconds);
-  if (status == STATUS_DONE) status = print_done(options, job);
+  if (status == STATUS_DONE && options->times) status = print_times(options, job, outcome->seconds, on_error);
+  if (status == STATUS_DONE) status = print_done(options, job, on_error);
   return status;
 }
 

@@ -17,7 +17,7 @@ static const char usage[] =
     "  --source FILE      one word a cell, four bytes each, low byte first\n"
     "  --seed NUMBER      words made from this number instead\n"
     "  --route ROUTE      direct (as it is where not given) or indirect\n"
-    "  --grid FILE        write the grid there, as the source has it: whole or not at all\n"
+    "  --grid FILE        write the grid there, as the source has it: whole or not at all; - is standard output\n"
     "  --timeout SECONDS  how long a board waits for mail, 10 where not given\n"
     "  --run NUMBER       the run's number, by which stale mail is told; made from the clock where not given\n"
     "  --no-verify        do not hold the grid to the sweep of one processor (--verify, as it is where not given)\n"
