@@ -249,8 +249,8 @@ def check_refusals(check):
             (['--seed', '1', '--route', 'wrong'], '--route wrong: neither direct nor indirect'),
             (['--seed', '1', '--timeout', '0'], '--timeout 0: not a number of seconds'),
             (['--seed', '1', '--timeout', 'nan'], '--timeout nan: not a number of seconds'),
-            (['--seed', '1', '--run'], 'an option that is none'),
-            (['--seed', '1', '--wrong'], 'an option that is none'),
+            (['--seed', '1', '--run'], '--run: its value is missing'),
+            (['--seed', '1', '--wrong'], '--wrong: no such option'),
             (['--seed', '1', 'another'], 'one recipe is asked for, 2 given')]:
         check.ends('usage ' + ' '.join(arguments), USAGE, ['boards: ' + said], model.ROWS['A'], arguments)
 

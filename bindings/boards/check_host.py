@@ -17,7 +17,7 @@ import tempfile
 
 sys.dont_write_bytecode = True
 sys.path.insert(0, os.path.dirname(os.path.abspath(__file__)))
-from check import DONE, FILE, OLD, bed, model, words_of  # noqa: E402
+from check import DONE, FILE, OLD, USAGE, bed, model, words_of  # noqa: E402
 
 ROW = model.ROWS['A']
 PLAN = model.plan_of(ROW)[1]
@@ -142,6 +142,19 @@ def check_late_faults(host):
         host.put('grid', OLD)
         ran = host.run(host.arguments('--grid', 'grid', '--timeout', '0.8'), 'BOARDS_FAULT=' + fault)
         host.holds(fault, ran.returncode == status and host.got('grid') == OLD and not ran.stdout, ran)
+
+
+def check_command_line(host):
+    """Options behind the recipe wherever it is started; whole names alone."""
+    host.fresh()
+    host.swept('POSIXLY_CORRECT', host.run(host.arguments('--grid', 'grid'), 'POSIXLY_CORRECT=1'))
+    host.fresh()
+    host.swept('values behind =', host.run([host.program, '--seed=1', '--grid=grid', '--', host.path('recipe')]))
+    none = ': no such option; --help lists them'
+    for word, said in (('--no', '--no' + none), ('--time', '--time' + none), ('-x', '-x' + none),
+                       ('--no-verify=1', '--no-verify=1: this option has no value'), ('--grid', '--grid: its value is missing')):
+        host.fresh()
+        host.fails('option ' + word, said, host.run(host.arguments(word)), USAGE)
 
 
 def check_pipes(host):
@@ -306,6 +319,7 @@ def main(folder):
         check_strangers(host)
         check_ignored_children(host)
         check_late_faults(host)
+        check_command_line(host)
         check_pipes(host)
         check_closed_files(host)
         check_links(host)
