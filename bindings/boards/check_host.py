@@ -23,6 +23,8 @@ ROW = model.ROWS['A']
 PLAN = model.plan_of(ROW)[1]
 GRID = words_of(PLAN.swept(bed(1, PLAN.cells)))
 DONE_LINE = 'boards %d messages %d words %d: done, equal to the sweep' % (PLAN.boards, len(PLAN.messages), PLAN.words)
+# 64 boards, as many as there can be
+MOST = model.encode([16, 16, 4], [2, 2, 4], [8, 8, 0], [(1, 0, 0), (0, 1, 0), (1, 1, 1)])
 # a user and a group that have no rights
 NOBODY = 65534
 # seconds after which a run that should have ended long ago is given up
@@ -313,6 +315,16 @@ def check_names(host):
     host.fails('a recipe not to be read', "can't open %s: Permission denied" % host.path('recipe'), ran)
 
 
+def check_open_files(host):
+    """As many boards as there can be, where few files may be open, and the user has no right to more."""
+    for limit in (1024, 100):
+        host.fresh()
+        host.put('recipe', MOST)
+        limits = lambda limit=limit: resource.setrlimit(resource.RLIMIT_NOFILE, (limit, limit))  # noqa: E731
+        ran = host.run(host.arguments('--grid', 'grid'), preexec_fn=host.as_nobody(limits))
+        host.holds('64 boards, %d open files' % limit, ran.returncode == DONE and len(host.got('grid')) == 4 * 1024, ran)
+
+
 def main(folder):
     with tempfile.TemporaryDirectory() as scratch:
         host = Host(folder, scratch)
@@ -328,6 +340,7 @@ def main(folder):
         check_output(host)
         check_temporary_files(host)
         check_names(host)
+        check_open_files(host)
         print('%d runs, %d wrong' % (host.runs, host.wrong))
         return 1 if host.wrong else 0
 

@@ -34,9 +34,18 @@ static const struct name {
   enum option option;
   bool valued;
 } names[] = {
-    {"--source", SOURCE, true},   {"--seed", SEED, true},       {"--route", ROUTE, true},          {"--grid", GRID, true},
-    {"--timeout", TIMEOUT, true}, {"--run", RUN, true},         {"--verify", VERIFY, false},       {"--no-verify", NO_VERIFY, false},
-    {"--work", WORK, true},       {"--times", TIMES, false},    {"--help", HELP, false},           {"--version", VERSION, false},
+    {"--source", SOURCE, true},
+    {"--seed", SEED, true},
+    {"--route", ROUTE, true},
+    {"--grid", GRID, true},
+    {"--timeout", TIMEOUT, true},
+    {"--run", RUN, true},
+    {"--verify", VERIFY, false},
+    {"--no-verify", NO_VERIFY, false},
+    {"--work", WORK, true},
+    {"--times", TIMES, false},
+    {"--help", HELP, false},
+    {"--version", VERSION, false},
 };
 
 /* a whole number of 32 bits, digits alone */

@@ -15,7 +15,7 @@ struct transport *transport_open(int *argc, char ***argv) {
   (void)argc, (void)argv;
   struct transport *t = calloc(1, sizeof *t);
   if (t == NULL) tell_no_memory();
-  else t->handing = -1;
+  else t->control = -1;
   return t;
 }
 
@@ -124,7 +124,7 @@ enum transport_event transport_receive(struct transport *t, double seconds, stru
 
 void transport_close(struct transport *t, enum status status) {
   (void)status;
-  if (t->handing >= 0) close(t->handing);
+  if (t->control >= 0) close(t->control);
   for (uint32_t b = 0; b < t->boards && t->ends != NULL && t->lines != NULL; b++) {
     if (t->ends[b].fd >= 0) close(t->ends[b].fd);
     while (t->lines[b].first != NULL) {

@@ -1,5 +1,5 @@
-/* The transport over sockets between processes of one machine, as its three files see it: start.c starts the boards, supervise.c awaits their
- * ends, sockets.c carries a board's mail. */
+/* The transport over sockets between processes of one machine, as its files see it: start.c starts the boards, supervise.c awaits their ends,
+ * sockets.c carries a board's mail. */
 #ifndef BOARDS_SOCKETS_H
 #define BOARDS_SOCKETS_H
 
@@ -29,10 +29,9 @@ struct line {
 /* what the starting process knows of the boards */
 struct crew {
   uint32_t boards;
-  pid_t *board;   /* the processes: 0 before they are started and once they have ended */
-  int *ends;      /* boards times boards: ends[b * boards + c] is b's end towards c, -1 where there is none or it is closed */
-  int gate[2];    /* a board goes on when the starting process closes the gate's writing end */
-  int outcome[2]; /* what board 0 hands in: the starting process's end, board 0's end */
+  pid_t *board; /* the processes: 0 before they are started and once they have ended */
+  int *control; /* this process's end of the control socket of each, -1 where there is none */
+  int gate[2];  /* a board goes on when the starting process closes the gate's writing end */
   sigset_t awaited, before;
 };
 
@@ -44,7 +43,7 @@ struct transport {
   uint32_t next;       /* the board that is looked at first */
   uint32_t *room;      /* for what comes */
   size_t room_bytes;
-  int handing;       /* board 0's end for what it hands in */
+  int control;       /* a board's end: its ends towards others come this way, and what board 0 hands in goes */
   struct crew *crew; /* in the starting process, from its start to the end of the boards */
 };
 

@@ -1,5 +1,5 @@
-/* The transport over sockets: its start. The starting process has a pair of connected sockets made for each two boards, forks one process a
- * board, and waits for all to end. */
+/* The transport over sockets: its start. The starting process forks one process a board, each with a control socket, has a pair of connected sockets
+ * made for each two boards, and hands either its end: so it has few open at a time. */
 #define _GNU_SOURCE
 #include <errno.h>
 #include <stdio.h>
@@ -12,22 +12,26 @@
 
 #include "sockets.h"
 #include "tell.h"
+#include "wire.h"
 
 static void close_end(int *end) {
   if (*end >= 0) close(*end);
   *end = -1;
 }
 
+static void close_controls(struct crew *crew) {
+  for (uint32_t b = 0; crew->control != NULL && b < crew->boards; b++) close_end(&crew->control[b]);
+}
+
 void crew_free(struct crew *crew) {
-  for (size_t i = 0; crew->ends != NULL && i < (size_t)crew->boards * crew->boards; i++) close_end(&crew->ends[i]);
+  close_controls(crew);
   for (int k = 0; k < 2; k++) close_end(&crew->gate[k]);
-  for (int k = 0; k < 2; k++) close_end(&crew->outcome[k]);
-  free(crew->ends);
+  free(crew->control);
   free(crew->board);
   free(crew);
 }
 
-/* a quarter of the ends, and some, are open at the same time */
+/* the most boards have some eighty files open each */
 static void raise_limit(void) {
   struct rlimit limit;
   if (getrlimit(RLIMIT_NOFILE, &limit) != 0 || limit.rlim_cur >= limit.rlim_max) return;
@@ -46,28 +50,18 @@ static bool make_pair(int pair[2], int flags) {
 static struct crew *crew_make(uint32_t boards) {
   struct crew *crew = malloc(sizeof *crew);
   if (crew == NULL) return NULL;
-  const size_t ends = (size_t)boards * boards;
-  *crew = (struct crew){.boards = boards, .gate = {-1, -1}, .outcome = {-1, -1}};
+  *crew = (struct crew){.boards = boards, .gate = {-1, -1}};
   crew->board = calloc(boards, sizeof *crew->board);
-  crew->ends = malloc(ends * sizeof *crew->ends);
-  for (size_t i = 0; crew->ends != NULL && i < ends; i++) crew->ends[i] = -1;
-  if (crew->board != NULL && crew->ends != NULL) return crew;
+  crew->control = malloc(boards * sizeof *crew->control);
+  for (uint32_t b = 0; crew->control != NULL && b < boards; b++) crew->control[b] = -1;
+  if (crew->board != NULL && crew->control != NULL) return crew;
   crew_free(crew);
   return NULL;
 }
 
-/* pairs between board b and those not started yet */
-static bool connect_board(struct crew *crew, uint32_t b) {
-  for (uint32_t c = b + 1; c < crew->boards; c++) {
-    int pair[2];
-    if (!make_pair(pair, SOCK_NONBLOCK)) return false;
-    crew->ends[b * crew->boards + c] = pair[0];
-    crew->ends[c * crew->boards + b] = pair[1];
-  }
-  return true;
-}
+/* ---- in a board */
 
-/* takes board b's ends out of the table, and waits at the gate */
+/* takes its ends over, and waits at the gate */
 static enum status become(struct transport *t, struct crew *crew, uint32_t b) {
   t->me = b;
   t->boards = crew->boards;
@@ -76,19 +70,19 @@ static enum status become(struct transport *t, struct crew *crew, uint32_t b) {
   t->room = malloc(ROOM_BYTES);
   t->room_bytes = ROOM_BYTES;
   if (t->ends == NULL || t->lines == NULL || t->room == NULL) return tell_no_memory();
-  for (uint32_t c = 0; c < crew->boards; c++) {
-    t->ends[c] = (struct pollfd){.fd = crew->ends[b * crew->boards + c], .events = POLLIN};
-    crew->ends[b * crew->boards + c] = -1;
+  for (uint32_t c = 0; c < crew->boards; c++) t->ends[c] = (struct pollfd){.fd = -1, .events = POLLIN};
+  for (uint32_t k = 1; k < crew->boards; k++) {
+    uint32_t towards = 0;
+    int end = -1;
+    if (!wire_take_over(t->control, &towards, &end)) return tell(STATUS_MACHINE, "no socket: %s", strerror(errno));
+    t->ends[towards].fd = end;
   }
-  if (b == 0) {
-    t->handing = crew->outcome[1];
-    crew->outcome[1] = -1;
-  }
-  close_end(&crew->gate[1]);
   char nothing;
   while (read(crew->gate[0], &nothing, 1) < 0 && errno == EINTR) {}
   return STATUS_DONE;
 }
+
+/* ---- in the starting process */
 
 static enum status start_failed(struct crew *crew, const char *what) {
   const enum status status = tell(STATUS_MACHINE, "%s: %s", what, strerror(errno));
@@ -96,31 +90,61 @@ static enum status start_failed(struct crew *crew, const char *what) {
   return status;
 }
 
-/* returns in the starting process, and, with `board` set, in each board */
-static enum status start_boards(struct transport *t, struct crew *crew, bool *board) {
+/* One process a board. Returns in the starting process, and, with `board` set, in each board. */
+static enum status fork_boards(struct transport *t, struct crew *crew, bool *board) {
   const pid_t starting = getpid();
-  if (pipe(crew->gate) != 0 || !make_pair(crew->outcome, 0)) return start_failed(crew, "can't start");
   for (uint32_t b = 0; b < crew->boards; b++) {
-    if (!connect_board(crew, b)) return start_failed(crew, "no socket");
+    int control[2];
+    if (!make_pair(control, 0)) return start_failed(crew, "no socket");
+    crew->control[b] = control[0];
     crew->board[b] = fork();
     if (crew->board[b] < 0) return start_failed(crew, "no process");
     if (crew->board[b] == 0) {
       *board = true;
+      t->control = control[1];
+      close_controls(crew);
+      close_end(&crew->gate[1]);
       /* a board does not outlive the process that started it */
       prctl(PR_SET_PDEATHSIG, SIGKILL);
       if (getppid() != starting) return STATUS_LOST;
       sigprocmask(SIG_SETMASK, &crew->before, NULL);
       return become(t, crew, b);
     }
-    for (uint32_t c = 0; c < crew->boards; c++) close_end(&crew->ends[b * crew->boards + c]);
+    close(control[1]);
   }
-  close_end(&crew->outcome[1]);
+  return STATUS_DONE;
+}
+
+/* that a board has ended already is found when its end is awaited */
+static bool hand_over(const struct crew *crew, uint32_t to, uint32_t towards, int end, double seconds) {
+  return wire_hand_over(crew->control[to], towards, end, seconds) || errno == EPIPE || errno == ECONNRESET;
+}
+
+/* a pair of sockets for each two boards */
+static bool connect_boards(const struct crew *crew, double seconds) {
+  for (uint32_t b = 0; b < crew->boards; b++)
+    for (uint32_t c = b + 1; c < crew->boards; c++) {
+      int pair[2];
+      if (!make_pair(pair, SOCK_NONBLOCK)) return false;
+      const bool handed = hand_over(crew, b, c, pair[0], seconds) && hand_over(crew, c, b, pair[1], seconds);
+      const int why = errno;
+      for (int k = 0; k < 2; k++) close(pair[k]);
+      errno = why;
+      if (!handed) return false;
+    }
+  return true;
+}
+
+static enum status start_boards(struct transport *t, struct crew *crew, double seconds, bool *board) {
+  if (pipe(crew->gate) != 0) return start_failed(crew, "can't start");
+  const enum status status = fork_boards(t, crew, board);
+  if (status != STATUS_DONE || *board) return status;
+  if (!connect_boards(crew, seconds)) return start_failed(crew, "no socket");
   close_end(&crew->gate[1]);
   return STATUS_DONE;
 }
 
 enum status transport_begin(struct transport *t, uint32_t boards, double seconds, bool *board) {
-  (void)seconds;
   *board = false;
   struct crew *crew = crew_make(boards);
   if (crew == NULL) return tell_no_memory();
@@ -129,7 +153,7 @@ enum status transport_begin(struct transport *t, uint32_t boards, double seconds
   sigaddset(&crew->awaited, SIGCHLD);
   sigprocmask(SIG_BLOCK, &crew->awaited, &crew->before);
   fflush(NULL);
-  const enum status status = start_boards(t, crew, board);
+  const enum status status = start_boards(t, crew, seconds, board);
   if (status == STATUS_DONE && !*board) t->crew = crew;
   else crew_free(crew);
   return status;

@@ -87,14 +87,14 @@ enum status crew_supervise(struct crew *crew, double seconds) {
 }
 
 enum status transport_hand_in(struct transport *t, const void *bytes, size_t length) {
-  while (send(t->handing, bytes, length, MSG_NOSIGNAL) < 0)
+  while (send(t->control, bytes, length, MSG_NOSIGNAL) < 0)
     if (errno != EINTR) return tell(STATUS_MACHINE, "can't hand in %zu bytes: %s", length, strerror(errno));
   return STATUS_DONE;
 }
 
 /* board 0 has ended: what it handed in is there, or it handed in nothing */
 static enum status take_outcome(const struct crew *crew, void *bytes, size_t length) {
-  const ssize_t came = recv(crew->outcome[0], bytes, length, MSG_DONTWAIT);
+  const ssize_t came = recv(crew->control[0], bytes, length, MSG_DONTWAIT);
   return came == (ssize_t)length ? STATUS_DONE : tell(STATUS_LOST, "board 0 has ended, and handed in no grid");
 }
 
