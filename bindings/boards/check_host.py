@@ -14,6 +14,7 @@ import stat
 import subprocess
 import sys
 import tempfile
+import time
 
 sys.dont_write_bytecode = True
 sys.path.insert(0, os.path.dirname(os.path.abspath(__file__)))
@@ -297,6 +298,20 @@ def check_temporary_files(host):
     host.swept('a name as long as any', host.run(host.arguments('--grid', long)), long)
 
 
+def check_stops(host):
+    """All processes stopped for longer than the timeout, as by Ctrl-Z, and then continued."""
+    host.fresh()
+    host.runs += 1
+    environment = dict(os.environ, BOARDS_FAULT='stopped:1')
+    with subprocess.Popen(host.arguments('--grid', 'grid', '--timeout', '0.8'), cwd=host.folder, env=environment, stdout=subprocess.PIPE,
+                          stderr=subprocess.PIPE, start_new_session=True) as started:
+        os.waitid(os.P_PID, started.pid, os.WSTOPPED | os.WEXITED | os.WNOWAIT)
+        time.sleep(2)
+        os.killpg(started.pid, signal.SIGCONT)
+        out, said = started.communicate()
+        host.swept('stopped', subprocess.CompletedProcess([], started.returncode, out, said))
+
+
 def check_names(host):
     """One line, whatever a name has in it, with the whole name and the reason."""
     host.fresh()
@@ -341,6 +356,7 @@ def main(folder):
         check_temporary_files(host)
         check_names(host)
         check_open_files(host)
+        check_stops(host)
         print('%d runs, %d wrong' % (host.runs, host.wrong))
         return 1 if host.wrong else 0
 

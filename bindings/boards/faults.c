@@ -3,6 +3,7 @@
  *    BOARDS_FAULT    lost, doubled, corrupted, cut, stale, foreign (of another recipe) or misrouted (to the next board), and a message's
  *                    number: lost:7; or a board's part: lost-part:2
  *                    killed or halted, and a board: before it posts its first message, or its part: halted-part:2; halted-late: when all is posted
+ *                    stopped, and a board: before it posts its first message the whole group of processes is stopped, as by Ctrl-Z
  *                    differs:0: the sweep's last word is another
  *                    signal-writing:15: this signal comes while the grid is brought to the disk
  *    BOARDS_DELAY    a seed and the most microseconds that a post and a look wait: 5:2000
@@ -92,6 +93,15 @@ static void befall_board(const char *killed, const char *halted, uint32_t board)
   if (asked(halted, board)) raise(SIGSTOP);
 }
 
+static void stop_all_once(uint32_t board) {
+  static bool stopped;
+  if (stopped || !asked("stopped", board)) return;
+  stopped = true;
+  kill(0, SIGSTOP);
+  /* the others go on first, and find that they have waited for long */
+  (void)nanosleep(&(struct timespec){.tv_nsec = 300000000}, NULL);
+}
+
 static enum status post_faulty(struct transport *t, uint32_t to, const uint32_t *words, size_t length) {
   if (befalls("lost", words)) return STATUS_DONE;
   if (befalls("cut", words)) length -= sizeof *words;
@@ -139,6 +149,7 @@ enum status __wrap_transport_post(struct transport *t, uint32_t to, const void *
   const bool message = words[PACKET_KIND] == PACKET_MESSAGE;
   if (message) delay(transport_me(t));
   if (message) befall_board("killed", "halted", transport_me(t));
+  if (message) stop_all_once(transport_me(t));
   if (words[PACKET_KIND] == PACKET_PART) befall_board("killed-part", "halted-part", transport_me(t));
   if (words[PACKET_KIND] == PACKET_FAREWELL) all_posted = true;
   if (getenv("BOARDS_SHUFFLE") == NULL) return post_faulty(t, to, words, length);

@@ -22,6 +22,9 @@ struct transport {
 
 enum { TAG = 27 };
 
+/* seconds: a process that waits looks far more often, unless it is stopped */
+static const double SLICE = 0.1;
+
 struct transport *transport_open(int *argc, char ***argv) {
   /* MPI ends the process, and says why, where one of its calls fails */
   MPI_Init(argc, argv);
@@ -112,11 +115,11 @@ enum status transport_hand_in(struct transport *t, const void *bytes, size_t len
 enum status transport_end(struct transport *t, double seconds, void *bytes, size_t length) {
   MPI_Request all;
   MPI_Ibarrier(MPI_COMM_WORLD, &all);
-  const double until = now() + seconds;
+  struct waited waited = waited_from_now(SLICE);
   for (int there = 0;;) {
     MPI_Test(&all, &there, MPI_STATUS_IGNORE);
     if (there) break;
-    if (now() >= until) return tell(STATUS_TIMEOUT, "has finished, and another board has not ended after %g seconds", seconds);
+    if (waited_seconds(&waited) >= seconds) return tell(STATUS_TIMEOUT, "has finished, and another board has not ended after %g seconds", seconds);
     sched_yield();
   }
   if (t->handed != NULL) memmove(bytes, t->handed, length);

@@ -13,6 +13,9 @@
 #include "sockets.h"
 #include "tell.h"
 
+/* how often is looked whether a board has ended, if no signal tells it */
+enum { LOOK_NANOSECONDS = 50000000 };
+
 /* how a board ended */
 struct end {
   uint32_t board;
@@ -49,10 +52,10 @@ static bool look_for_end(struct crew *crew, struct end *out) {
 
 /* waits for a board to end, at most so many seconds; false if none did */
 static bool await_end(struct crew *crew, double seconds, struct end *out) {
-  const double until = now() + seconds;
+  struct waited waited = waited_from_now(2e-9 * LOOK_NANOSECONDS);
   while (!look_for_end(crew, out)) {
-    if (now() >= until) return false;
-    (void)sigtimedwait(&crew->awaited, NULL, &(struct timespec){.tv_nsec = 50000000});
+    if (waited_seconds(&waited) >= seconds) return false;
+    (void)sigtimedwait(&crew->awaited, NULL, &(struct timespec){.tv_nsec = LOOK_NANOSECONDS});
   }
   return true;
 }
