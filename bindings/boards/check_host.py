@@ -340,6 +340,86 @@ def check_open_files(host):
         host.holds('64 boards, %d open files' % limit, ran.returncode == DONE and len(host.got('grid')) == 4 * 1024, ran)
 
 
+class Started:
+    """A run that lasts until it is ended, in a group of its own."""
+
+    def __init__(self, host, command, **given):
+        host.runs += 1
+        self.process = subprocess.Popen(command, cwd=host.folder, stdout=subprocess.PIPE, stderr=subprocess.PIPE, start_new_session=True, **given)
+
+    @staticmethod
+    def children(process):
+        with open('/proc/%d/task/%d/children' % (process, process), encoding='utf-8') as file:
+            return [int(child) for child in file.read().split()]
+
+    def boards(self, process=None):
+        """The boards' processes, once all are there."""
+        process = process or self.process.pid
+        until = time.time() + GIVEN_UP
+        while time.time() < until and self.process.poll() is None:
+            found = self.children(process)
+            if len(found) == PLAN.boards:
+                return found
+            time.sleep(0.01)
+        return []
+
+    def end(self):
+        try:
+            out, said = self.process.communicate(timeout=GIVEN_UP)
+            return subprocess.CompletedProcess([], self.process.returncode, out, said)
+        except subprocess.TimeoutExpired:
+            self.process.kill()
+            out, said = self.process.communicate()
+            return subprocess.CompletedProcess([], None, out, said)
+
+
+def is_there(process):
+    """Not ended, and no zombie that nobody awaits."""
+    try:
+        with open('/proc/%d/stat' % process, encoding='utf-8') as file:
+            return file.read().rsplit(')', 1)[1].split()[0] != 'Z'
+    except OSError:
+        return False
+
+
+def check_ended(host):
+    """Ended by a signal, alone or with its group: all processes end, quietly, and no file is changed."""
+    for number, group in ((signal.SIGTERM, False), (signal.SIGTERM, True), (signal.SIGINT, True), (signal.SIGHUP, True)):
+        host.fresh()
+        host.put('grid', OLD)
+        started = Started(host, host.arguments('--grid', 'grid', '--timeout', '1000', '--work', '1000000000'))
+        boards = started.boards()
+        (os.killpg if group else os.kill)(started.process.pid, number)
+        ran = started.end()
+        what = 'ended by signal %d%s' % (number, ', and its group' if group else '')
+        host.holds(what, ran.returncode == -number and not ran.stdout + ran.stderr and host.got('grid') == OLD, ran)
+        host.holds(what + ': its boards', boards and not any(is_there(board) for board in boards), ran)
+    host.fresh()
+    started = Started(host, host.arguments('--grid', 'grid', '--work', '3000000'), preexec_fn=lambda: signal.signal(signal.SIGHUP, signal.SIG_IGN))
+    started.boards()
+    os.killpg(started.process.pid, signal.SIGHUP)
+    host.swept('a signal that was ignored at the start', started.end())
+    check_ended_first(host)
+
+
+def check_ended_first(host):
+    """The first process of a container, for which a signal that is not awaited does nothing."""
+    host.fresh()
+    first = ['unshare', '--user', '--map-root-user', '--pid', '--fork', '--kill-child']
+    if host.run(first + ['true']).returncode != 0:
+        print('not run as the first process of a container: unshare may not make one here')
+        return
+    started = Started(host, first + host.arguments('--timeout', '1000', '--work', '1000000000'))
+    until = time.time() + GIVEN_UP
+    while not started.children(started.process.pid) and time.time() < until:
+        time.sleep(0.01)
+    program = started.children(started.process.pid)[0]
+    boards = started.boards(program)
+    os.kill(program, signal.SIGTERM)
+    ran = started.end()
+    host.holds('ended as the first process', ran.returncode == 128 + signal.SIGTERM and boards and not any(map(is_there, boards)), ran)
+
+
 def main(folder):
     with tempfile.TemporaryDirectory() as scratch:
         host = Host(folder, scratch)
@@ -357,6 +437,7 @@ def main(folder):
         check_names(host)
         check_open_files(host)
         check_stops(host)
+        check_ended(host)
         print('%d runs, %d wrong' % (host.runs, host.wrong))
         return 1 if host.wrong else 0
 

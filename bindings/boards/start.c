@@ -10,6 +10,7 @@
 #include <sys/socket.h>
 #include <unistd.h>
 
+#include "process.h"
 #include "sockets.h"
 #include "tell.h"
 #include "wire.h"
@@ -107,7 +108,7 @@ static enum status fork_boards(struct transport *t, struct crew *crew, bool *boa
       /* a board does not outlive the process that started it */
       prctl(PR_SET_PDEATHSIG, SIGKILL);
       if (getppid() != starting) return STATUS_LOST;
-      sigprocmask(SIG_SETMASK, &crew->before, NULL);
+      /* signals that end the run stay blocked: where the whole group has one, the starting process ends the boards */
       return become(t, crew, b);
     }
     close(control[1]);
@@ -149,7 +150,7 @@ enum status transport_begin(struct transport *t, uint32_t boards, double seconds
   struct crew *crew = crew_make(boards);
   if (crew == NULL) return tell_no_memory();
   raise_limit();
-  sigemptyset(&crew->awaited);
+  process_ending_signals(&crew->awaited);
   sigaddset(&crew->awaited, SIGCHLD);
   sigprocmask(SIG_BLOCK, &crew->awaited, &crew->before);
   fflush(NULL);

@@ -50,12 +50,22 @@ static bool look_for_end(struct crew *crew, struct end *out) {
   return false;
 }
 
+/* Ends as a process does that the signal ends. The first process of a container is not ended by one that it sends itself: it has the status that a
+ * shell gives. */
+static _Noreturn void end_by(struct crew *crew, int number) {
+  crew_kill(crew);
+  sigprocmask(SIG_SETMASK, &crew->before, NULL);
+  raise(number);
+  _exit(128 + number);
+}
+
 /* waits for a board to end, at most so many seconds; false if none did */
 static bool await_end(struct crew *crew, double seconds, struct end *out) {
   struct waited waited = waited_from_now(2e-9 * LOOK_NANOSECONDS);
   while (!look_for_end(crew, out)) {
     if (waited_seconds(&waited) >= seconds) return false;
-    (void)sigtimedwait(&crew->awaited, NULL, &(struct timespec){.tv_nsec = LOOK_NANOSECONDS});
+    const int number = sigtimedwait(&crew->awaited, NULL, &(struct timespec){.tv_nsec = LOOK_NANOSECONDS});
+    if (number > 0 && number != SIGCHLD) end_by(crew, number);
   }
   return true;
 }
