@@ -187,6 +187,9 @@ def check_board_faults(check, encoded, board):
     if check.mpi:
         # mpirun ends the others, and tells it in its own words and by its own status
         check.ends('killed', 137, ['exited on signal 9 (Killed)'], encoded, given, 'BOARDS_FAULT=killed:%d' % board)
+        check.ends('killed when all is posted', 137, ['exited on signal 9 (Killed)'], encoded, given, 'BOARDS_FAULT=killed-late:%d' % board)
+        late = ['board 0: has finished, and another board has not ended after %s seconds\n' % PATIENCE]
+        check.ends('halted when all is posted', TIMEOUT, late, encoded, given, 'BOARDS_FAULT=halted-late:%d' % board)
         return
     lost = ['boards: board %d was ended by signal 9\n' % board, ': board %d is lost: it ended before it had finished\n' % board]
     check.ends('killed', LOST, lost, encoded, ['--seed', '1'], 'BOARDS_FAULT=killed:%d' % board)
@@ -277,6 +280,10 @@ def check_processes(check):
     check.ends('ragged', REFUSED, ['boards: recipe refused 1, ragged: '], row[:-1], seed, boards=2)
     check.ends('no source', FILE, ["boards: can't open %s: No such file or directory\n" % check.path('none')], row, ['--source', check.path('none')])
     check.ends('differs', DIFFERS, ['boards: the grid differs from the sweep: cell 63 is '], row, seed, 'BOARDS_FAULT=differs:0')
+    plan = model.plan_of(row)[1]
+    ran = check.start(plan.boards, [check.put('recipe', row), '--grid', '-'] + seed)
+    if check.taken('said') != words_of(plan.swept(bed(1, plan.cells))) or not ran.stderr.endswith(', grid on standard output\n'):
+        check.blame('grid to standard output', ran, 'it is not there alone')
 
 
 def main(folder, mpi, seed, recipes):
