@@ -395,6 +395,15 @@ def check_ended(host):
         host.holds(what, ran.returncode == -number and not ran.stdout + ran.stderr and host.got('grid') == OLD, ran)
         host.holds(what + ': its boards', boards and not any(is_there(board) for board in boards), ran)
     host.fresh()
+    started = Started(host, host.arguments('--timeout', '1000', '--work', '1000000000'))
+    boards = started.boards()
+    started.process.kill()
+    ran = started.end()
+    until = time.time() + GIVEN_UP
+    while any(map(is_there, boards)) and time.time() < until:
+        time.sleep(0.01)
+    host.holds('killed: its boards', boards and not any(map(is_there, boards)), ran)
+    host.fresh()
     started = Started(host, host.arguments('--grid', 'grid', '--work', '3000000'), preexec_fn=lambda: signal.signal(signal.SIGHUP, signal.SIG_IGN))
     started.boards()
     os.killpg(started.process.pid, signal.SIGHUP)

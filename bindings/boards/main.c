@@ -51,8 +51,8 @@ static enum status harvest(const struct options *options, const struct job *job,
   const bool on_error = options->grid != NULL && file_is_output(options->grid);
   tell_as_run();
   if (options->verify) status = grid_verify(job, outcome->grid);
-  if (status == STATUS_DONE && options->grid != NULL) status = grid_write(&job->plan, outcome->grid, options->grid);
   if (status == STATUS_DONE && options->times) status = print_times(options, job, outcome->seconds, on_error);
+  if (status == STATUS_DONE && options->grid != NULL) status = grid_write(&job->plan, outcome->grid, options->grid);
   if (status == STATUS_DONE) status = print_done(options, job, on_error);
   return status;
 }
@@ -76,7 +76,7 @@ static enum status run(const struct options *options, struct transport *transpor
   struct outcome *outcome = NULL;
   bool board = false;
   enum status status = job_read(&job, options, transport);
-  if (status == STATUS_DONE && (outcome = calloc(1, sizeof *outcome)) == NULL) status = tell_no_memory();
+  if (status == STATUS_DONE && (outcome = malloc(sizeof *outcome)) == NULL) status = tell_no_memory();
   if (status == STATUS_DONE) status = transport_begin(transport, plan_boards(&job.plan), options->timeout, &board);
   if (status == STATUS_DONE && board) status = be_a_board(options, &job, transport, outcome);
   if (status == STATUS_DONE) status = transport_end(transport, options->timeout, outcome, outcome_length(&job.plan));
