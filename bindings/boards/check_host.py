@@ -315,8 +315,8 @@ def check_stops(host):
 def check_names(host):
     """One line, whatever a name has in it, with the whole name and the reason."""
     host.fresh()
-    odd = 'a\nb\x1b[31m\\c\x7f'
-    shown = 'a\\nb\\x1b[31m\\\\c\\x7f'
+    odd = 'a\nb\x1b[31m\\c\x7f\x9b\xe9'
+    shown = 'a\\nb\\x1b[31m\\\\c\\x7f\\xc2\\x9b\xe9'
     host.swept('an odd name', host.run(host.arguments('--grid', odd)), odd, ', grid in ' + shown)
     for what, name, reason in (('an odd name', odd + '/d', 'Not a directory'), ('a long name', 'n' * 256, 'File name too long'),
                                ('a long path', './' * 1900 + 'none/grid', 'No such file or directory'), ('an empty name', '', 'No such file or directory')):

@@ -53,7 +53,4 @@ void crew_free(struct crew *crew);
 /* Ends all boards that are there, and awaits them. */
 void crew_kill(struct crew *crew);
 
-/* Waits for all boards to end. The first status that is not 0 is the run's. */
-enum status crew_supervise(struct crew *crew, double seconds);
-
 #endif

@@ -85,6 +85,7 @@ static enum status become(struct transport *t, struct crew *crew, uint32_t b) {
 
 /* ---- in the starting process */
 
+/* errno says why */
 static enum status start_failed(struct crew *crew, const char *what) {
   const enum status status = tell(STATUS_MACHINE, "%s: %s", what, strerror(errno));
   crew_kill(crew);
@@ -99,7 +100,10 @@ static enum status fork_boards(struct transport *t, struct crew *crew, bool *boa
     if (!make_pair(control, 0)) return start_failed(crew, "no socket");
     crew->control[b] = control[0];
     crew->board[b] = fork();
-    if (crew->board[b] < 0) return start_failed(crew, "no process");
+    if (crew->board[b] < 0) {
+      close(control[1]);
+      return start_failed(crew, "no process");
+    }
     if (crew->board[b] == 0) {
       *board = true;
       t->control = control[1];

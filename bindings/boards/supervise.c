@@ -77,9 +77,9 @@ static enum status ended_with(const struct end *end, bool killed) {
   return STATUS_LOST;
 }
 
-/* The first status that is not 0 is the run's: the others then have a second to end too, and to tell what they wait for. Where all is well, each has
- * so many seconds after the one before. */
-enum status crew_supervise(struct crew *crew, double seconds) {
+/* Waits for all boards to end. The first status that is not 0 is the run's: the others then have a second to end too, and to tell what they wait
+ * for. Where all is well, each has so many seconds after the one before. */
+static enum status supervise(struct crew *crew, double seconds) {
   enum status status = STATUS_DONE;
   double patience = HUGE_VAL;
   bool killed = false;
@@ -113,7 +113,7 @@ static enum status take_outcome(const struct crew *crew, void *bytes, size_t len
 
 enum status transport_end(struct transport *t, double seconds, void *bytes, size_t length) {
   if (t->crew == NULL) return STATUS_DONE;
-  enum status status = crew_supervise(t->crew, seconds);
+  enum status status = supervise(t->crew, seconds);
   if (status == STATUS_DONE) status = take_outcome(t->crew, bytes, length);
   sigprocmask(SIG_SETMASK, &t->crew->before, NULL);
   crew_free(t->crew);

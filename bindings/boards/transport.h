@@ -24,7 +24,7 @@ bool transport_reads(const struct transport *t);
 void transport_share(struct transport *t, void *bytes, size_t length);
 
 /* Has one process be each board, and returns in each, with `board` set, once all are there. A starting process that is no board itself
- * returns too, with `board` not set. */
+ * returns too, with `board` not set. Where the machine has no room it waits for it at most so many seconds. */
 enum status transport_begin(struct transport *t, uint32_t boards, double seconds, bool *board);
 
 /* The board this process is. */
