@@ -8,12 +8,12 @@ ghost use Rattle.engine.specs.Calls.{answer, freshCall, turnCall, delive
 
 pub mod core; // core.rt: the calls without the stores into the records
 
+use base::zero_words;
 use layout::sizes_of;
 use plan::Route;
 use reader::read;
 use records::Progress;
 use records::flat_of;
-use stages::zero_words;
 
 // A fresh start.
 pub fn fresh(

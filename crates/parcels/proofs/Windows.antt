@@ -3,19 +3,18 @@ use Prim.Native.Nat.{ℕ, _+_, _*_, _-_, _≤_, _<_, min}
 use mathlib.Core.Path.{_≡_, refl, sym, ap, _∙_}
 use mathlib.Core.Logic.{_⊎_, inl, inr}
 use mathlib.Core.Bool.{Bool, true, false}
-use mathlib.Core.List.{List, [], _∷_, _++_}
+use mathlib.Core.List.{List, _++_}
 use native.Mathlib.Nat.{eq-or-lt-of-le}
 use native.Mathlib.Numerals.{add-one}
 use native.Mathlib.Decide.{decLt}
 use native.Mathlib.Omega.{arith}
-use lib.ListN.{length, getD, take, drop, set, length-append, length-set, length-drop}
-use lib.Seq.{getD-set-same, getD-set-other, take-suc, take-add, getD-drop, length-take-le}
+use lib.ListN.{length, getD, take, drop, set, length-append, length-set}
+use lib.Seq.{getD-set-same, getD-set-other, take-add, length-take-le}
 use lib.Dec.{ltb}
 use borrow.Author.Tests.{lt-ltb, le-ltb, ltb-true, le-leb}
-use Rattle.base.specs.Tests.{_and_, _or_, every, some, tabulate}
+use Rattle.base.specs.Tests.{_and_, _or_, every, some}
 use Rattle.base.specs.Lists.{part, unpack}
 use Rattle.base.proofs.Tests.{and-left, and-no, or-left, never-both, same-test, every-at, every-all, every-not, length-tabulate}
-use Rattle.base.proofs.Lists.{unpack-length}
 use Rattle.nest.specs.declared.Nest.{Nest}
 use Rattle.nest.specs.Accepted.{Accepted}
 use Rattle.nest.specs.Nest.{component}
@@ -210,36 +209,3 @@ module _ (x : Nest) (z : Sending) (first c a w : ℕ) (ends : List ℕ) (f : Row
     -- what the run takes of the words is there
     pub run-room : (count : ℕ) → count ≡ length (found x z first) → count + n ≤ length (found x z (z .rows * z .width))
     run-room count e = omega (arith, run-length, found-mono x z (z .rows * z .width) (first + w) (f .room))
-
--- ---- unpacking a row
-
-pub record Placing (memory₀ words memory : List ℕ) (c from n y : ℕ) : Type 0 where
-  pub low : y ≤ n
-  pub is : memory ≡ unpack memory₀ (rowOf c y) (part words from y)
-
-module _ (memory₀ words : List ℕ) (c from n : ℕ) where
-  pub placing-none : Placing memory₀ words memory₀ c from n 0
-  unfolding unpack tabulate part
-  placing-none = record { low = omega arith; is = refl }
-
-  module _ (memory : List ℕ) (y : ℕ) (p : Placing memory₀ words memory c from n y) where
-    pub placing-long : length memory ≡ length memory₀
-    placing-long = ap length (p .is) ∙ unpack-length (rowOf c y) (part words from y) memory₀
-
-    pub placing-more : y < n → from + n ≤ length words
-        → Placing memory₀ words (set memory (c + y) (getD words (from + y) 0)) c from n (y + 1)
-    unfolding unpack tabulate part
-    placing-more l h =
-        record {
-          low = omega arith;
-          is = ap (λ (z : List ℕ). set z (c + y) (getD words (from + y) 0)) (p .is)
-              ∙ sym (unpack-append memory₀ (rowOf c y) ((c + y) ∷ []) (take y (drop from words)) (getD words (from + y) 0 ∷ [])
-              (length-take-le y (drop from words) (omega (arith, length-drop from words)) ∙ sym (length-tabulate _ y)))
-              ∙ ap (λ (z : List ℕ). unpack memory₀ (rowOf c y ++ ((c + y) ∷ [])) z)
-              (sym (take-suc (drop from words) y 0 (omega (arith, length-drop from words))
-              ∙ ap (λ (z : ℕ). take y (drop from words) ++ (z ∷ [])) (getD-drop from words y 0)))
-              ∙ rw (add-one y);
-        }
-
-    pub placing-end : n ≤ y → memory ≡ unpack memory₀ (rowOf c n) (part words from n)
-    placing-end h = let z : y ≡ n = omega (arith, p .low) in rw z at (p .is)

@@ -4,13 +4,13 @@ ghost use Prim.Native.Nat.{ℕ, _+_, _*_, _-_, min, _≤_, _<_};
 ghost use lib.ListN.{length, getD};
 ghost use lib.Dec.{eqb, leb, ltb};
 ghost use Rattle.base.specs.Tests.{_and_, one, some};
-ghost use Rattle.base.specs.Lists.{part, pack, unpack};
+ghost use Rattle.base.specs.Lists.{pack, unpack};
 ghost use Rattle.nest.specs.Accepted.{Accepted};
 ghost use Rattle.nest.specs.Nest.{tileCount, cells};
 ghost use Rattle.plan.specs.Messages.{slots, slotParcel};
 ghost use Rattle.layout.specs.Sizes.{Sized};
 ghost use Rattle.layout.specs.Places.{nth};
-ghost use Rattle.layout.specs.CellRows.{Given, rowOf};
+ghost use Rattle.layout.specs.CellRows.{Given};
 ghost use Rattle.parcels.specs.Twins.{twoBefore};
 ghost use Rattle.parcels.specs.Windows.{windowOf, RowEnd, DistanceEnds, Leading, carries, Unchanged, InBlock, Alike, RowRoom, RowPacked};
 ghost use Rattle.parcels.specs.Sendings.{earlier, later, boxAt, windowAt, Boxed, Windowed, Headed, Idle, Shaped, Sends, RowAt};
@@ -460,16 +460,6 @@ pub fn pack(nest: Nest, sizes: Sizes, slot: usize, words: &mut [u32], memory: &[
     }
 }
 
-// The n words from `from` on to the cells from `cell` on.
-fn unpack_row(memory: &mut [u32], words: &[u32], cell: usize, from: usize, n: usize)
-    requires { ⌜ (cell + n ≤ length (now memory)) × ((length (now memory) ≤ 16384) × (from + n ≤ length (now words))) ⌝ }
-    ensures { λ _. ⌜ now (memory .exit) ≡ unpack (now (memory .entry)) (rowOf cell n) (part (now (words .entry)) from n) ⌝ }
-{
-    for y in 0..n {
-        memory[cell + y] = words[from + y];
-    }
-}
-
 // Each word of a slot's parcel to its cell, row by row.
 pub fn unpack(nest: Nest, sizes: Sizes, slot: usize, memory: &mut [u32], words: &[u32])
     requires { ⌜ Sized nest sizes × ((slot < slots (sizes .route) nest) × ((length (now memory) ≡ cells nest)
@@ -492,7 +482,7 @@ pub fn unpack(nest: Nest, sizes: Sizes, slot: usize, memory: &mut [u32], words: 
         }
         let place = row.place;
         let number = layout::rank(lengths, place, nest.dimensions);
-        unpack_row(memory, words, number, count, row.run);
+        base::copy_part(memory, words, number, count, row.run);
         count += row.run;
         r += 1;
     }

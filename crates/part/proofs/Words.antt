@@ -13,7 +13,7 @@ use Rattle.base.proofs.Select.{keep-more}
 use Rattle.base.proofs.Lists.{pack-length}
 use Rattle.base.proofs.Entries.{pack-at, at-in}
 use Rattle.machine.specs.Plan.{Plan}
-use Rattle.stages.proofs.Parts.{Stored, store-start, store-next}
+use Rattle.base.proofs.Stored.{Stored, store-start, store-next}
 use Rattle.network.specs.Own.{owns, keeps, sourceOf}
 use Rattle.rank_index.specs.Ranks.{markedAt, markedCells, rankAt, spreadOut}
 use Rattle.rank_index.proofs.Ranks as ranks

@@ -42,7 +42,8 @@ use Rattle.layout.proofs.CellRows.{row-next}
 use Rattle.tables.specs.Tables.{Routed}
 use Rattle.records.specs.declared.Flat.{Flat}
 use Rattle.records.specs.Records.{Carries}
-use Rattle.stages.proofs.Parts.{Stored, store-start, store-next, stored-all, back, mid-is, mid-length}
+use Rattle.base.proofs.Stored.{Stored, store-start, store-next, stored-all}
+use Rattle.stages.proofs.Parts.{back, mid-is, mid-length}
 use Rattle.engine.specs.Calls.{answer}
 use Rattle.engine.proofs.Turns.{answered-no, answered-yes}
 use Rattle.network.specs.Own.{owns, keeps, keptCells, handled, widened}

@@ -25,15 +25,15 @@ use crate::front::part_fits;
 use crate::front::prepare;
 use crate::front::unfit;
 use crate::grid::collect_part;
+use base::copy_words;
 use base::word_index;
+use base::zero_bytes;
+use base::zero_words;
 use layout::Sizes;
 use nest::Nest;
 use part::marks::arrived;
 use records::Flat;
-use stages::zero_bytes;
-use stages::zero_words;
 use tables::nth;
-use transport::arrivals::copy_words;
 use transport::core::as_long;
 
 // ---- how long the areas are

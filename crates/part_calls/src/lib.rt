@@ -71,7 +71,7 @@ pub fn fresh(
     if number != 0 {
         number
     } else {
-        stages::zero_words(progress);
+        base::zero_words(progress);
         0
     }
 }

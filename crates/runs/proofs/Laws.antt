@@ -8,13 +8,14 @@ use native.Mathlib.Nat.{add-zero}
 use native.Mathlib.Numerals.{add-one}
 use native.Mathlib.Decide.{decLt}
 use native.Mathlib.Omega.{arith}
-use lib.ListN.{length, getD, take, drop, set, length-append, length-drop}
-use lib.Seq.{take-suc, take-suc-set, take-add, length-take-le, getD-drop, drop-drop}
+use lib.ListN.{length, getD, take, drop, length-append}
+use lib.Seq.{take-add, drop-drop}
 use borrow.Author.Tests.{le-leb, lt-leb, lt-ltb, le-ltb}
 use Rattle.base.specs.Tests.{_or_, some, keepIf, tabulate}
-use Rattle.base.specs.Lists.{part, pack, unpack}
+use Rattle.base.specs.Lists.{part, put, pack, unpack}
 use Rattle.base.proofs.Tests.{and-true, and-false, and-no, or-left, or-right, or-false, length-tabulate}
-use Rattle.base.proofs.Lists.{part-length, pack-append, unpack-append, unpack-length}
+use Rattle.base.proofs.Lists.{part-length, length-put, pack-append, unpack-append, unpack-length}
+use Rattle.base.proofs.Copies.{part-row, put-row, take-put}
 use Rattle.runs.specs.Runs.{within, isHit, hitRow, cellsFrom, AllHit, NoneHit, AheadIs, PieceIs, Fits, Room, Packed, Unpacked}
 
 -- ---- what lies ahead in a row, by its first runs
@@ -186,57 +187,6 @@ module _ (starts ends : List ℕ) (n a w : ℕ) where
         let e : at - a ≡ w = omega (arith, p .to) in
         (λ c. p .is c ∙ ap (λ (i : ℕ). length (hitRow starts ends n c a i)) e, omega (arith, p .is 0, hit-few starts ends n 0 a (at - a)))
 
--- ---- words copied
-
-pub record Copies (to₀ from : List ℕ) (at first n : ℕ) (to : List ℕ) (y : ℕ) : Type 0 where
-  pub low : y ≤ n
-  pub is : to ≡ unpack to₀ (cellsFrom at y) (part from first y)
-
-module _ (to₀ from : List ℕ) (at first : ℕ) where
-  copied-more : (y : ℕ) → first + y < length from
-      → set (unpack to₀ (cellsFrom at y) (part from first y)) (at + y) (getD from (first + y) 0) ≡ unpack to₀ (cellsFrom at (y + 1)) (part from first (y + 1))
-  unfolding unpack tabulate part
-  copied-more y h =
-      sym (unpack-append to₀ (cellsFrom at y) ((at + y) ∷ []) (take y (drop first from)) (getD from (first + y) 0 ∷ [])
-      (length-take-le y (drop first from) (omega (arith, length-drop first from)) ∙ sym (length-tabulate _ y)))
-      ∙ ap (λ (l : List ℕ). unpack to₀ (cellsFrom at y ++ ((at + y) ∷ [])) l)
-      (sym (take-suc (drop first from) y 0 (omega (arith, length-drop first from))
-      ∙ ap (λ (v : ℕ). take y (drop first from) ++ (v ∷ [])) (getD-drop first from y 0)))
-      ∙ rw (add-one y)
-
-  copied-long : (y : ℕ) → length (unpack to₀ (cellsFrom at y) (part from first y)) ≡ length to₀
-  copied-long y = unpack-length (cellsFrom at y) (part from first y) to₀
-
-  pub copies-none : (n : ℕ) → Copies to₀ from at first n to₀ 0
-  unfolding unpack tabulate part
-  copies-none n = record { low = omega arith; is = refl }
-
-  module _ (n : ℕ) (to : List ℕ) (y : ℕ) (p : Copies to₀ from at first n to y) where
-    pub copies-long : length to ≡ length to₀
-    copies-long = ap length (p .is) ∙ copied-long y
-
-    pub copies-more : y < n → first + n ≤ length from → Copies to₀ from at first n (set to (at + y) (getD from (first + y) 0)) (y + 1)
-    copies-more h l =
-        record { low = omega arith; is = ap (λ (z : List ℕ). set z (at + y) (getD from (first + y) 0)) (p .is) ∙ copied-more y (omega arith) }
-
-    pub copies-end : n ≤ y → to ≡ unpack to₀ (cellsFrom at n) (part from first n)
-    copies-end h = let e : y ≡ n = omega (arith, p .low) in rw e at (p .is)
-
-  -- what is copied stands behind the words before it
-  copied-take : (m : ℕ) → at + m ≤ length to₀ → first + m ≤ length from
-      → take (at + m) (unpack to₀ (cellsFrom at m) (part from first m)) ≡ take at to₀ ++ pack from (cellsFrom first m)
-  unfolding unpack tabulate part pack
-  copied-take zero h l = rw (add-zero at) (sym (append-nil (take at to₀)))
-  copied-take (suc m) h l =
-      let e : at + suc m ≡ suc (at + m) = omega arith in
-      ap (λ (i : ℕ). take i (unpack to₀ (cellsFrom at (suc m)) (part from first (suc m)))) e
-      ∙ ap (λ (y : ℕ). take (suc (at + m)) (unpack to₀ (cellsFrom at y) (part from first y))) (sym (add-one m))
-      ∙ ap (take (suc (at + m))) (sym (copied-more m (omega arith)))
-      ∙ take-suc-set (unpack to₀ (cellsFrom at m) (part from first m)) (at + m) (getD from (first + m) 0) (omega (arith, copied-long m))
-      ∙ ap (λ (z : List ℕ). z ++ (getD from (first + m) 0 ∷ [])) (copied-take m (omega arith) (omega arith))
-      ∙ append-assoc (take at to₀) (pack from (cellsFrom first m)) (getD from (first + m) 0 ∷ [])
-      ∙ ap (λ (z : List ℕ). take at to₀ ++ z) (sym (pack-append from (cellsFrom first m) ((first + m) ∷ [])))
-
 -- ---- a row being packed and unpacked, by pieces
 
 -- a copy of a piece's words, to or from the words behind the first `count`, fits
@@ -281,17 +231,19 @@ module _ (starts ends : List ℕ) (n c a w : ℕ) (memory words₀ : List ℕ) (
 
   module _ (words : List ℕ) (at count : ℕ) (p : Packing starts ends n c a w memory words₀ packed words at count) where
     pub packing-more : Room starts ends n c a w (length memory) (length words₀) packed → (end hits : ℕ) → PieceIs starts ends n at (a + w) end hits
-        → (words′ : List ℕ) → words′ ≡ unpack words (cellsFrom count hits) (part memory (c + (at - a)) hits)
+        → (words′ : List ℕ) → words′ ≡ put words count (part memory (c + (at - a)) hits)
         → Packing starts ends n c a w memory words₀ packed words′ end (count + hits)
     packing-more k end hits q words′ e =
         record {
           from = omega (arith, p .from, q .some);
           to = q .cut;
           first = record {
-            long = ap length e ∙ unpack-length (cellsFrom count hits) (part memory (c + (at - a)) hits) words ∙ p .first .long;
+            long = ap length e ∙ length-put words count piece fits ∙ p .first .long;
             count-is = omega (arith, p .first .count-is, piece-count starts ends n c a (a + w) at end hits (p .from) q);
             is = ap (take (count + hits)) e
-                ∙ copied-take words memory count (c + (at - a)) hits (omega (arith, f .inner, p .first .long)) (f .outer)
+                ∙ ap (λ (i : ℕ). take (count + i) (put words count piece)) (sym long)
+                ∙ take-put words piece count fits
+                ∙ ap (λ (l : List ℕ). take count words ++ l) (part-row memory (c + (at - a)) hits (f .outer))
                 ∙ ap (λ (l : List ℕ). l ++ pack memory (cellsFrom (c + (at - a)) hits)) (p .first .is)
                 ∙ append-assoc (take packed words₀) _ _
                 ∙ ap (λ (l : List ℕ). take packed words₀ ++ l)
@@ -302,6 +254,15 @@ module _ (starts ends : List ℕ) (n c a w : ℕ) (memory words₀ : List ℕ) (
       where
         f : Fits (length words₀) (length memory) count (c + (at - a)) hits
         f = packs-fit starts ends n c a w _ _ packed k at count (p .from) (p .first .count-is) end hits q
+
+        piece : List ℕ
+        piece = part memory (c + (at - a)) hits
+
+        long : length piece ≡ hits
+        long = part-length memory (c + (at - a)) hits (f .outer)
+
+        fits : count + length piece ≤ length words
+        fits = omega (arith, f .inner, p .first .long, long)
 
     pub packing-end : a + w ≤ at → Packed starts ends n c a w memory words₀ packed words count
     packing-end h = let e : at - a ≡ w = omega (arith, p .to) in rw e at (p .first)
@@ -327,7 +288,7 @@ module _ (starts ends : List ℕ) (n c a w : ℕ) (memory₀ words : List ℕ) (
     unpacking-long = ap length (p .first .is) ∙ unpack-length (hitRow starts ends n c a (at - a)) _ memory₀
 
     pub unpacking-more : Room starts ends n c a w (length memory₀) (length words) unpacked → (end hits : ℕ) → PieceIs starts ends n at (a + w) end hits
-        → (memory′ : List ℕ) → memory′ ≡ unpack memory (cellsFrom (c + (at - a)) hits) (part words count hits)
+        → (memory′ : List ℕ) → memory′ ≡ put memory (c + (at - a)) (part words count hits)
         → Unpacking starts ends n c a w memory₀ words unpacked memory′ end (count + hits)
     unpacking-more k end hits q memory′ e =
         record {
@@ -336,6 +297,7 @@ module _ (starts ends : List ℕ) (n c a w : ℕ) (memory₀ words : List ℕ) (
           first = record {
             count-is = omega (arith, p .first .count-is, counted);
             is = e
+                ∙ put-row memory words (c + (at - a)) count hits (omega (arith, f .inner, unpacking-long)) (f .outer)
                 ∙ ap (λ (i : ℕ). unpack memory (cellsFrom (c + (at - a)) hits) (part words i hits)) (p .first .count-is)
                 ∙ ap (λ (l : List ℕ). unpack l (cellsFrom (c + (at - a)) hits) (part words (unpacked + length before) hits)) (p .first .is)
                 ∙ sym (unpack-append memory₀ before (cellsFrom (c + (at - a)) hits) (part words unpacked (length before))

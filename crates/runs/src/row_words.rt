@@ -1,19 +1,8 @@
 // The words of a row's cells that lie in a run, packed and unpacked, piece by piece.
-ghost use mathlib.Core.Path.{_≡_};
 ghost use lib.ListN.{length};
-ghost use Rattle.base.specs.Lists.{part, unpack};
-ghost use Rattle.runs.specs.Runs.{cellsFrom, Fits, Room, Packed, Unpacked};
+ghost use Rattle.runs.specs.Runs.{Room, Packed, Unpacked};
 use crate::piece_of;
-
-// The n words of one list from `first` on, to another list from `at` on.
-fn copy(to: &mut [u32], from: &[u32], at: usize, first: usize, n: usize)
-    requires { ⌜ Fits (length (now to)) (length (now from)) at first n ⌝ }
-    ensures { λ _. ⌜ now (to .exit) ≡ unpack (now (to .entry)) (cellsFrom at n) (part (now (from .entry)) first n) ⌝ }
-{
-    for y in 0..n {
-        to[at + y] = from[first + y];
-    }
-}
+use base::copy_part;
 
 // The words of a row's cells that lie in one, behind those packed before: each piece at once.
 pub fn pack_row(
@@ -36,7 +25,7 @@ pub fn pack_row(
     let mut count = packed;
     while at < to {
         let piece = piece_of(starts, ends, n, at, to);
-        copy(words, memory, count, from + (at - component), piece.hits);
+        copy_part(words, memory, count, from + (at - component), piece.hits);
         count += piece.hits;
         at = piece.end;
     }
@@ -64,7 +53,7 @@ pub fn unpack_row(
     let mut count = unpacked;
     while at < to {
         let piece = piece_of(starts, ends, n, at, to);
-        copy(memory, words, from + (at - component), count, piece.hits);
+        copy_part(memory, words, from + (at - component), count, piece.hits);
         count += piece.hits;
         at = piece.end;
     }

@@ -19,6 +19,8 @@ ghost use Rattle.schedule.specs.Calls.{roundsCall, roundsOfCall};
 pub mod index; // index.rt: the messages of a plan by number and by tile
 
 use base::word_index;
+use base::zero_bytes;
+use base::zero_words;
 use engine::core::areas_fit;
 use engine::store_record;
 use index::chain_ends;
@@ -38,8 +40,6 @@ use stages::calculate;
 use stages::put_message;
 use stages::take_message;
 use stages::tiles_left;
-use stages::zero_bytes;
-use stages::zero_words;
 use tables::fill;
 use tables::scans::Place;
 use tables::tile_at;

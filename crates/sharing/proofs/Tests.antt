@@ -4,9 +4,7 @@ use mathlib.Core.Path.{_≡_, sym, ap, _∙_}
 use mathlib.Core.Logic.{_≢_}
 use mathlib.Core.Bool.{Bool, true, false}
 use mathlib.Core.List.{List}
-use native.Mathlib.Omega.{arith}
-use lib.ListN.{length, getD, set, replicate, length-replicate, getD-replicate}
-use lib.Seq.{ext-getD}
+use lib.ListN.{length, getD, set}
 use lib.Dec.{eqb}
 use borrow.Author.Tests.{eq-eqb, ne-eqb, lt-ltb, le-ltb, le-leb, lt-leb}
 use Rattle.base.specs.Tests.{_or_}
@@ -14,7 +12,6 @@ use Rattle.base.proofs.Tests.{and-true, and-left, and-false, and-no, pick-true,
 use Rattle.machine.specs.Plan.{Plan, tilesOf}
 use Rattle.machine.specs.Machine.{progressOnly, tilesLeft}
 use Rattle.tenants.specs.Offices.{lentOf, otherThan, stageAgrees, wordFor, fitWord, heldByOther}
-use Rattle.stages.proofs.Parts.{Stored}
 use Rattle.engine.specs.declared.core.Turned.{Turned}
 use Rattle.sharing.specs.Given.{wordsAfter}
 
@@ -90,10 +87,3 @@ module _ (engaged : List ℕ) (o b : ℕ) (r : Turned) where
   pub word-kept : r .number ≢ 0 → engaged ≡ wordsAfter engaged o b r
   unfolding wordsAfter
   word-kept n = sym (pick-false _ _ _ (ne-eqb (r .number) 0 n))
-
--- ---- all words 2
-
-pub all-free : (old new : List ℕ) (i : ℕ) → Stored (λ j. 2) old new i → length new ≤ i → new ≡ replicate (length old) 2
-all-free old new i g h =
-    ext-getD 0 new (replicate (length old) 2) (g .long ∙ sym (length-replicate (length old) 2))
-    (λ j l. g .each j (omega arith) ∙ sym (getD-replicate (length old) j 2 0 (omega (arith, g .long))))

@@ -20,6 +20,9 @@ ghost use Rattle.engine.specs.Given.{MayTurn, recordsAfter, zerosAfter};
 ghost use Rattle.tenants.specs.Offices.{otherThan, lentOf, rigOf, sourcesOf, stageAgrees, fitWord, fitFor, heldByOther, wordFor};
 ghost use Rattle.sharing.specs.Calls.{turnCallFor, deliverCallFor, collectCallFor, freshRigLines, freshRigCall};
 ghost use Rattle.sharing.specs.Given.{Opens, unfitLinesFor, barredLinesFor, wordsAfter};
+use base::fill_words;
+use base::zero_bytes;
+use base::zero_words;
 use engine::core::Turned;
 use engine::core::areas_fit;
 use engine::core::hand_over;
@@ -38,8 +41,6 @@ use stages::copy_cells;
 use stages::fit_records;
 use stages::fit_status;
 use stages::tiles_left;
-use stages::zero_bytes;
-use stages::zero_words;
 use tables::fill;
 use tables::tile_count;
 
@@ -96,7 +97,6 @@ fn stage_agrees(holder: u32, office: u32, stage: u32) -> bool
     stage == 0
 }
 
-// Every processor's shared word is 0, 1 or 2 and agrees with both offices' stages.
 // Of offices 0 and 1, the one that is not `office`.
 fn other(office: u32) -> u32
     requires { ⌜ office ≤ 1 ⌝ }
@@ -105,6 +105,7 @@ fn other(office: u32) -> u32
     1 - office
 }
 
+// Every processor's shared word is 0, 1 or 2 and agrees with both offices' stages.
 fn fit_words(engaged: &[u32], progress: &[u32], theirs: &[u32], office: u32) -> bool
     requires { ⌜ (length (now progress) ≡ 3 * length (now engaged)) × ((length (now theirs) ≡ 3 * length (now engaged)) × (office ≤ 1)) ⌝ }
     ensures { λ r. ⌜ r ≡ every (fitWord office
@@ -522,17 +523,6 @@ pub fn collect(
     0
 }
 
-// Every processor is free.
-fn free_all(engaged: &mut [u32])
-    ensures { λ _. ⌜ now (engaged .exit) ≡ replicate (length (now (engaged .entry))) 2 ⌝ }
-{
-    let mut b = 0;
-    while b < engaged.len() {
-        engaged[b] = 2;
-        b += 1;
-    }
-}
-
 // One office's memories, buffer and marks.
 fn clear(memories: &mut [u32], buffer: &mut [u32], status: &mut [u8])
     ensures { λ _. ⌜ (now (memories .exit) ≡ replicate (length (now (memories .entry))) 0)
@@ -646,7 +636,7 @@ pub fn fresh(
     }
     clear(memories0, buffer0, status0);
     clear(memories1, buffer1, status1);
-    free_all(engaged);
+    fill_words(engaged, 2); // every processor is free
     0
 }
 

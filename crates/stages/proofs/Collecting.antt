@@ -24,7 +24,8 @@ use Rattle.layout.specs.declared.Sizes.{Sizes}
 use Rattle.layout.specs.Sizes.{Sized}
 use Rattle.layout.proofs.CellRows.{row-before, row-low}
 use Rattle.layout.proofs.Processors.{one-processor}
-use Rattle.stages.proofs.Parts.{Stored, store-start, stored-all, back, mid-is, mid-length, room}
+use Rattle.base.proofs.Stored.{Stored, store-start, stored-all}
+use Rattle.stages.proofs.Parts.{back, mid-is, mid-length, room}
 
 -- ---- rows
 

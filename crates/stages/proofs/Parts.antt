@@ -1,25 +1,22 @@
--- Laws of lent parts, of messages at their places, and of the loops over messages, cells and words.
+-- Laws of lent parts, of messages at their places, and of the loops over messages and cells.
 use Prim.Native.Nat.{ℕ, suc, _+_, _*_, _-_, _≤_, _<_}
 use mathlib.Core.Path.{_≡_, refl, sym, ap, _∙_, subst}
-use mathlib.Core.Logic.{_⊎_, inl, inr, _≢_}
+use mathlib.Core.Logic.{_≢_}
 use mathlib.Core.Bool.{true, false}
 use mathlib.Core.List.{List}
-use native.Mathlib.Nat.{eq-or-lt-of-le, le-of-suc-le-suc}
 use native.Mathlib.Numerals.{add-one}
 use native.Mathlib.Omega.{arith}
-use lib.ListN.{length, getD, take, drop, set, replicate, length-set, length-replicate, getD-replicate, drop-of-length-le}
-use lib.Seq.{drop-cons, getD-set-same, getD-set-other, ext-getD}
+use lib.ListN.{length, getD, take, drop, set, length-set, drop-of-length-le}
+use lib.Seq.{drop-cons}
 use lib.Dec.{eqb}
 use borrow.Author.Tests.{eq-eqb, ne-eqb}
 use borrow.Rule.Slice.PartMut.{putMid}
-use Rattle.base.specs.Tests.{tabulate}
 use Rattle.base.specs.Lists.{part, put, setAll, allAt, unpack, pack}
-use Rattle.base.proofs.Tests.{and-left, and-false, length-tabulate, tabulate-at}
+use Rattle.base.proofs.Tests.{and-left, and-false}
 use Rattle.base.proofs.Lists.{part-length, piece-fits}
 use Rattle.machine.specs.Plan.{Plan, offset, words, heldBy, duesOf}
 use Rattle.machine.specs.Machine.{placeOf, unpackAll}
 use Rattle.nest.specs.declared.Nest.{Nest}
-use Rattle.nest.specs.Nest.{cells}
 use Rattle.plan.specs.declared.Route.{Route}
 use Rattle.plan.specs.Shaped.{planOf}
 use Rattle.tables.specs.declared.scans.Place.{Place}
@@ -175,39 +172,3 @@ module _ (route : Route) (x : Nest) where
 
     pub look-done : m ≤ j → true ≡ allAt status 2 (duesOf p tile)
     look-done l = sym (all-end (duesOf p tile) j status 2 (omega (arith, g .all))) ∙ g .is
-
--- ---- words stored one after the other
-
--- the first i words are those of f, and no word more or less than before
-pub record Stored (f : ℕ → ℕ) (old new : List ℕ) (i : ℕ) : Type 0 where
-  pub long : length new ≡ length old
-  pub low : i ≤ length old
-  pub each : (j : ℕ) → j < i → getD new j 0 ≡ f j
-
-module _ (f : ℕ → ℕ) (old : List ℕ) where
-  pub store-start : Stored f old old 0
-  store-start = record { long = refl; low = omega arith; each = λ j h. absurd (omega arith) }
-
-  pub store-next : (new : List ℕ) (i v : ℕ) → Stored f old new i → i < length old → v ≡ f i → Stored f old (set new i v) (i + 1)
-  store-next new i v g h e =
-      record { long = length-set new i v ∙ g .long; low = omega arith; each = λ j l. go j (eq-or-lt-of-le (le-of-suc-le-suc (below j l))) }
-    where
-      below : (j : ℕ) → j < i + 1 → suc j ≤ suc i
-      below j l = omega arith
-
-      go : (j : ℕ) → (j ≡ i) ⊎ (j < i) → getD (set new i v) j 0 ≡ f j
-      go j (inl k) = ap (λ (n : ℕ). getD (set new i v) n 0) k ∙ getD-set-same new i v 0 (omega (arith, g .long)) ∙ e ∙ ap f (sym k)
-      go j (inr k) = getD-set-other new i j v 0 (λ q. omega arith) ∙ g .each j k
-
-  pub stored-zero : (new : List ℕ) (i : ℕ) → Stored f old new i → length new ≤ i → ((j : ℕ) → f j ≡ 0) → new ≡ replicate (length old) 0
-  stored-zero new i g h z =
-      ext-getD 0 new (replicate (length old) 0) (g .long ∙ sym (length-replicate (length old) 0))
-      (λ j l. g .each j (omega arith) ∙ z j ∙ sym (getD-replicate (length old) j 0 0 (omega (arith, g .long))))
-
-  pub stored-all : (new : List ℕ) (i n : ℕ) → Stored f old new i → length old ≡ n → n ≤ i → new ≡ tabulate f n
-  stored-all new i n g e h =
-      ext-getD 0 new (tabulate f n) (g .long ∙ e ∙ sym (length-tabulate f n))
-      (λ j l. g .each j (omega (arith, g .long)) ∙ sym (tabulate-at f n j (omega (arith, g .long))))
-
-pub stored-list : (old words new : List ℕ) (i : ℕ) → Stored (λ j. getD words j 0) old new i → length old ≡ length words → length new ≤ i → new ≡ words
-stored-list old words new i g e h = ext-getD 0 new words (g .long ∙ e) (λ j l. g .each j (omega arith))

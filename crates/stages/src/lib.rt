@@ -2,7 +2,7 @@
 ghost use mathlib.Core.Path.{_≡_};
 ghost use mathlib.Core.List.{List, []};
 ghost use Prim.Native.Nat.{ℕ, _+_, _*_, _≤_, _<_};
-ghost use lib.ListN.{length, getD, replicate};
+ghost use lib.ListN.{length, getD};
 ghost use lib.Dec.{ltb, leb};
 ghost use Rattle.base.specs.Tests.{pick, every, some};
 ghost use Rattle.base.specs.Lists.{put, setAll, allAt, unpack, pack, storeAll};
@@ -15,6 +15,7 @@ ghost use Rattle.layout.specs.Sizes.{Sized};
 ghost use Rattle.tables.specs.boxes.Table.{Table};
 ghost use Rattle.tables.specs.Tables.{Routed, Tabled, FoundIn};
 ghost use Rattle.stages.specs.Progress.{progressOnly, setRecord};
+use base::copy_words;
 use base::word_index;
 use layout::Sizes;
 use layout::processor_of;
@@ -427,18 +428,6 @@ pub fn tiles_left(nest: Nest, sizes: Sizes, lens: &[u16; 9217], progress: &[u32]
     table_left(nest, sizes, lens, progress)
 }
 
-// One row of the grid.
-fn copy_row(row: &mut [u32], words: &[u32])
-    requires { ⌜ length (now row) ≡ length (now words) ⌝ }
-    ensures { λ _. ⌜ now (row .exit) ≡ now (words .entry) ⌝ }
-{
-    let mut i = 0;
-    while i < row.len() {
-        row[i] = words[i];
-        i += 1;
-    }
-}
-
 // Without bounds: each cell from the memory of its tile's processor. The last dimension is never spread, so a row has one processor.
 fn copy_box(nest: Nest, sizes: Sizes, memories: &[u32], grid: &mut [u32])
     requires { ⌜ Sized nest sizes × ((length (now memories) ≡ processors nest * cells nest) × (length (now grid) ≡ cells nest)) ⌝ }
@@ -453,7 +442,7 @@ fn copy_box(nest: Nest, sizes: Sizes, memories: &[u32], grid: &mut [u32])
         let from = b * cells + c;
         let to = from + width;
         let end = c + width;
-        copy_row(&mut grid[c..end], &memories[from..to]);
+        copy_words(&mut grid[c..end], &memories[from..to]);
         c = end;
     }
 }
@@ -469,24 +458,4 @@ pub fn copy_cells(nest: Nest, sizes: Sizes, memories: &[u32], grid: &mut [u32])
         return;
     }
     values::shaped_values::copy_cells(nest, sizes, memories, grid);
-}
-
-pub fn zero_words(words: &mut [u32])
-    ensures { λ _. ⌜ now (words .exit) ≡ replicate (length (now (words .entry))) 0 ⌝ }
-{
-    let mut i = 0;
-    while i < words.len() {
-        words[i] = 0;
-        i += 1;
-    }
-}
-
-pub fn zero_bytes(bytes: &mut [u8])
-    ensures { λ _. ⌜ now (bytes .exit) ≡ replicate (length (now (bytes .entry))) 0 ⌝ }
-{
-    let mut i = 0;
-    while i < bytes.len() {
-        bytes[i] = 0;
-        i += 1;
-    }
 }

@@ -29,7 +29,8 @@ use Rattle.plan.specs.Shaped.{boxTile, tileOf, planOf}
 use Rattle.plan.proofs.ShapedTiles.{boxTile-tileOf}
 use Rattle.layout.proofs.CellRows.{row-in, row-next}
 use Rattle.layout.proofs.Processors.{one-processor}
-use Rattle.stages.proofs.Parts.{Stored, store-start, stored-all, back, mid-length}
+use Rattle.base.proofs.Stored.{Stored, store-start, stored-all}
+use Rattle.stages.proofs.Parts.{back, mid-length}
 use Rattle.transport.specs.Calls.{ownerOf}
 
 -- ---- owner_at

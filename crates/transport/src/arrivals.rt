@@ -2,28 +2,16 @@
 ghost use mathlib.Core.Path.{_≡_};
 ghost use mathlib.Core.List.{List};
 ghost use Prim.Native.Nat.{ℕ};
-ghost use lib.ListN.{length};
 ghost use Rattle.machine.specs.Machine.{stateOf};
 ghost use Rattle.plan.specs.Shaped.{planOf};
 ghost use Rattle.layout.specs.Sizes.{Sized};
 ghost use Rattle.tables.specs.Tables.{Tabled};
 ghost use Rattle.engine.specs.Calls.{answer};
 ghost use Rattle.transport.specs.arrivals.Taking.{MayTake, receivedOr};
+use base::copy_words;
 use layout::Sizes;
 use nest::Nest;
 use tables::nth;
-
-// Words to words, one after the other.
-pub fn copy_words(to: &mut [u32], words: &[u32])
-    requires { ⌜ length (now to) ≡ length (now words) ⌝ }
-    ensures { λ _. ⌜ now (to .exit) ≡ now (words .entry) ⌝ }
-{
-    let mut i = 0;
-    while i < to.len() {
-        to[i] = words[i];
-        i += 1;
-    }
-}
 
 // Line 11, line 14, then the words into their place and the mark.
 pub fn receive(

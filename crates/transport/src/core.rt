@@ -22,6 +22,7 @@ ghost use Rattle.transport.specs.Calls.{rowOf, rowsTo, ownerOf, waitsOf,
 ghost use Rattle.transport.specs.Given.{Planned, undelivered, unaskedLines, MayAsk, waitedOr13};
 use crate::arrivals::receive;
 use base::word_index;
+use base::zero_bytes;
 use layout::Sizes;
 use layout::route_of;
 use layout::sizes_of;
@@ -31,7 +32,6 @@ use recipe::read_for;
 use records::Flat;
 use stages::fit_records;
 use stages::fit_status;
-use stages::zero_bytes;
 use summary::MessageLine;
 use tables::count_at;
 use tables::fill;

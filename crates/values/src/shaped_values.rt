@@ -300,18 +300,6 @@ pub fn calculate(nest: Nest, sizes: Sizes, source: &[u32], memory: &mut [u32], t
     }
 }
 
-// Every word the same.
-fn fill(words: &mut [u32], word: u32)
-    requires { ⌜ length (now words) ≤ 16384 ⌝ }
-    ensures { λ _. ⌜ (length (now (words .exit)) ≡ length (now (words .entry)))
-        × ((i : ℕ) → i < length (now (words .entry)) → getD (now (words .exit)) i 0 ≡ word) ⌝ }
-{
-    let n = words.len();
-    for i in 0..n {
-        words[i] = word;
-    }
-}
-
 // The boundary's word.
 fn boundary_of(nest: Nest) -> u32
     requires { ⌜ nest .boundary < 4294967296 ⌝ }
@@ -337,7 +325,7 @@ pub fn sweep(nest: Nest, sizes: Sizes, source: &[u32], grid: &mut [u32])
     requires { ⌜ Sized nest sizes × ((length (now source) ≡ cells nest) × (length (now grid) ≡ cells nest)) ⌝ }
     ensures { λ _. ⌜ now (grid .exit) ≡ sweep (planOf Direct nest) (now (source .entry)) ⌝ }
 {
-    fill(grid, boundary_of(nest));
+    base::fill_words(grid, boundary_of(nest));
     let components = nest.components;
     let weights = nest.weights;
     let back = crate::row_values::backs_of(nest, &components);
@@ -361,17 +349,6 @@ pub fn sweep(nest: Nest, sizes: Sizes, source: &[u32], grid: &mut [u32])
 
 // ---- collecting
 
-// Words of the memories to a part of the grid.
-fn copy_words(memories: &[u32], grid: &mut [u32], from: usize, to: usize, n: usize)
-    requires { ⌜ (from + n ≤ length (now memories)) × ((to + n ≤ length (now grid)) × (length (now memories) ≤ 1048576)) ⌝ }
-    requires { ⌜ length (now grid) ≤ 16384 ⌝ }
-    ensures { λ _. ⌜ now (grid .exit) ≡ storeAll (λ l c. getD (now (memories .entry)) (from + (c - to)) 0) (now (grid .entry)) (rowOf to n) ⌝ }
-{
-    for y in 0..n {
-        grid[to + y] = memories[from + y];
-    }
-}
-
 // The cells of a row of the nest that are in the shape, from the memory of their processor: the last dimension is not spread.
 fn copy_row(nest: Nest, sizes: Sizes, memories: &[u32], grid: &mut [u32], cell: Cell, width: usize)
     requires { ⌜ Sized nest sizes × ((length (now memories) ≡ processors nest * cells nest) × (length (now grid) ≡ cells nest)) ⌝ }
@@ -385,11 +362,11 @@ fn copy_row(nest: Nest, sizes: Sizes, memories: &[u32], grid: &mut [u32], cell: 
     let tile = layout::tile_of(nest, sizes, cell.number);
     let processor = layout::processor_of(nest, sizes, tile);
     let first = cell.number + kept.from;
-    copy_words(
-        memories,
+    base::copy_part(
         grid,
-        processor * sizes.cells + first,
+        memories,
         first,
+        processor * sizes.cells + first,
         kept.to - kept.from,
     );
 }
@@ -399,7 +376,7 @@ pub fn copy_cells(nest: Nest, sizes: Sizes, memories: &[u32], grid: &mut [u32])
     requires { ⌜ Sized nest sizes × ((length (now memories) ≡ processors nest * cells nest) × (length (now grid) ≡ cells nest)) ⌝ }
     ensures { λ _. ⌜ now (grid .exit) ≡ collected (planOf Direct nest) (stateOf (now (memories .entry)) [] [] []) ⌝ }
 {
-    fill(grid, boundary_of(nest));
+    base::fill_words(grid, boundary_of(nest));
     let lengths = nest.lengths;
     let width = lengths[nest.dimensions - 1];
     let rows = nest::row_count(nest);

@@ -6,6 +6,7 @@ use mathlib.Core.Path.{refl, sym, ap, _∙_}
 use mathlib.Core.List.{List}
 use Prim.Native.Nat.{ℕ}
 use Rattle.base.specs.Lists.{unpack}
+use Rattle.base.proofs.Copies.{put-row}
 use Rattle.layout.proofs.Steps.{ways-some, way-low}
 use Rattle.parcels.proofs.Walks.{found-few, Unpacking, unpacking-none, unpacking-long, unpacked}
 use Rattle.parcels.proofs.Windows.{run-room}
@@ -82,8 +83,8 @@ rank-requires c κs =
     let start = at-sending-of .before .before .before .before .before .before .before in
     row-ranked _ _ _ _ (at-row-at .row-at .ensures .place) (start .pre .0 .accepted) (at-sending-of .sending-of .ensures .shape)
 
-unpack-row-requires : tie.Need-unpack-row-requires Inv-loop μ-loop
-unpack-row-requires c κs =
+copy-part-requires : tie.Need-copy-part-requires Inv-loop μ-loop
+copy-part-requires c κs =
     let at-row-at = c .before .before .before .before .before in
     let at-loop = at-row-at .before .before .before in
     let at-sending-of = at-loop .before .before .before in
@@ -95,14 +96,11 @@ unpack-row-requires c κs =
         unpacking-long _ _ _ _ _ _ _ (at-loop .loop .inv),
         start .pre .1 .1 .0,
       ),
-      (
-        omega (arith, unpacking-long _ _ _ _ _ _ _ (at-loop .loop .inv), start .pre .1 .1 .0, start .pre .0 .accepted .cells-most),
-        omega (
-          arith,
-          run-room _ _ _ _ _ _ _ (row-first _ _ _ _ (at-row-at .row-at .ensures) _ (c .before .rank .ensures)) _ (at-row-at .row-at .ensures .run) _
-              (at-loop .loop .inv .count-is),
-          (words-found _ _ _ _ (at-sending-of .sending-of .ensures) _ (start .pre .1 .1 .1)),
-        ),
+      omega (
+        arith,
+        run-room _ _ _ _ _ _ _ (row-first _ _ _ _ (at-row-at .row-at .ensures) _ (c .before .rank .ensures)) _ (at-row-at .row-at .ensures .run) _
+            (at-loop .loop .inv .count-is),
+        (words-found _ _ _ _ (at-sending-of .sending-of .ensures) _ (start .pre .1 .1 .1)),
       ),
     )
 
@@ -137,20 +135,25 @@ loop-less-2 c =
 
 loop-again-2 : tie.Need-loop-again-2 Inv-loop μ-loop
 loop-again-2 c =
-    let at-unpack-row = c .before .before .before in
-    let at-rank = at-unpack-row .before .before in
+    let at-copy-part = c .before .before .before in
+    let at-rank = at-copy-part .before .before in
     let at-row-at = at-rank .before .before .before .before in
     let at-loop = at-row-at .before .before .before in
     let at-sending-of = at-loop .before .before .before in
     let start = at-sending-of .before .before .before .before .before .before .before in
-    unpacked-next _ _ _ _ (at-row-at .row-at .ensures) _ (row-first _ _ _ _ (at-row-at .row-at .ensures) _ (at-rank .rank .ensures)) _ _ _ _ _
-    (at-loop .loop .inv) (omega (
+    let first = row-first _ _ _ _ (at-row-at .row-at .ensures) _ (at-rank .rank .ensures) in
+    let room = run-room _ _ _ _ _ _ _ first _ (at-row-at .row-at .ensures .run) _ (at-loop .loop .inv .count-is) in
+    let found = words-found _ _ _ _ (at-sending-of .sending-of .ensures) _ (start .pre .1 .1 .1) in
+    unpacked-next _ _ _ _ (at-row-at .row-at .ensures) _ first _ _ _ _ _ (at-loop .loop .inv) (omega (arith, room, found))
+    (at-copy-part .copy-part .ensures ∙ put-row _ _ _ _ _
+    (omega (
       arith,
-      run-room _ _ _ _ _ _ _ (row-first _ _ _ _ (at-row-at .row-at .ensures) _ (at-rank .rank .ensures)) _
-          (at-row-at .row-at .ensures .run) _ (at-loop .loop .inv .count-is),
-      (words-found _ _ _ _ (at-sending-of .sending-of .ensures) _ (start .pre .1 .1 .1)),
+      first .low,
+      at-row-at .row-at .ensures .run .low,
+      unpacking-long _ _ _ _ _ _ _ (at-loop .loop .inv),
+      start .pre .1 .1 .0,
     ))
-    (at-unpack-row .unpack-row .ensures)
+    (omega (arith, room, found)))
 
 same-length : tie.Need-same-length Inv-loop μ-loop
 same-length c = unpacking-long _ _ _ _ _ _ _ (c .before .loop .inv)
@@ -180,7 +183,7 @@ unpack-spec =
     loop-less
     loop-again
     rank-requires
-    unpack-row-requires
+    copy-part-requires
     add-count
     add-r-2
     loop-less-2

@@ -4,14 +4,14 @@ use Rattle.layout.proofs.Steps.{ways-few}
 use Rattle.part.proofs.Handling as handling
 use Prim.Native.Nat.{_-_}
 use lib.ListN.{length}
-use Rattle.stages.proofs.Parts as parts
+use Rattle.base.proofs.Stored as stored
 use Rattle.part.specs.Marking.{sideOf}
 use Rattle.part.proofs.Chains as chains
 use Rattle.part.proofs.put_sides.Statement.{statement}
 use Rattle.part.proofs.put_sides.Tie as tie
 
 abbrev Inv-loop : tie.InvT-loop
-Inv-loop nest sizes b tile row₀ at from w₀ row w = parts.Stored (sideOf (sizes .route) nest b tile) row₀ row w
+Inv-loop nest sizes b tile row₀ at from w₀ row w = stored.Stored (sideOf (sizes .route) nest b tile) row₀ row w
 
 abbrev μ-loop : tie.MeasureT-loop
 μ-loop nest sizes b tile row₀ at from w₀ row w = length row₀ - w
@@ -28,7 +28,7 @@ same-as-requires c κs = tt
 loop-holds : tie.Need-loop-holds Inv-loop μ-loop
 loop-holds c =
     let S = c .before .before .before .before in
-    parts.store-start (sideOf (S .args .sizes .route) (S .args .nest) (S .args .b) (S .args .tile)) (S .args .row .now)
+    stored.store-start (sideOf (S .args .sizes .route) (S .args .nest) (S .args .b) (S .args .tile)) (S .args .row .now)
 
 along-of-requires : tie.Need-along-of-requires Inv-loop μ-loop
 along-of-requires c κs =
@@ -89,7 +89,7 @@ loop-again c =
     let test = c .before .before .before .loop-test .taken in
     let processor-of = c .before .before .before .before .before .before .processor-of in
     let ahead-of = c .before .ahead-of in
-    parts.store-next (sideOf (S .args .sizes .route) (S .args .nest) (S .args .b) (S .args .tile)) (S .args .row .now) (loop .row) (loop .w) _ (loop .inv)
+    stored.store-next (sideOf (S .args .sizes .route) (S .args .nest) (S .args .b) (S .args .tile)) (S .args .row .now) (loop .row) (loop .w) _ (loop .inv)
     (omega (arith, test, loop .inv .long))
     (chains.side-is (S .args .sizes .route) (S .args .nest) (S .pre .0 .accepted) (S .args .b) (S .args .tile) (loop .w)
     (c .before .before .before .before .before .before .before .place-of-tile .result) (c .before .before .along-of .result)
@@ -105,7 +105,7 @@ returns : tie.Need-returns Inv-loop μ-loop
 returns c =
     let S = c .before .before .before .before .before .before in
     let loop = c .before .loop in
-    parts.stored-all (sideOf (S .args .sizes .route) (S .args .nest) (S .args .b) (S .args .tile)) (S .args .row .now) (loop .row) (loop .w) _ (loop .inv)
+    stored.stored-all (sideOf (S .args .sizes .route) (S .args .nest) (S .args .b) (S .args .tile)) (S .args .row .now) (loop .row) (loop .w) _ (loop .inv)
     (S .pre .1 .1) (omega (arith, c .loop-test .left, loop .inv .long, S .pre .1 .1))
 
 pub put-sides-spec : {M : Type 1} → statement M

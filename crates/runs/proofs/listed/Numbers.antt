@@ -5,7 +5,7 @@ use mathlib.Core.List.{List}
 use native.Mathlib.Omega.{arith}
 use lib.ListN.{length, getD, set}
 use Rattle.base.proofs.Tests.{length-tabulate, tabulate-at}
-use Rattle.runs.proofs.Laws.{Copies, copies-more}
+use Rattle.base.proofs.Copies.{Copies, copies-more}
 use Rattle.runs.specs.listed.Numbers.{numbers}
 
 pub numbers-long : length numbers ≡ 16384
@@ -17,8 +17,8 @@ unfolding numbers
 numbers-at c h = tabulate-at (λ c. c) 16384 c h
 
 -- one more cell listed
-pub listed-more : (l : List ℕ) (at first n : ℕ) (k : List ℕ) (y : ℕ) → Copies l numbers at first n k y → y < n → first + n ≤ 16384
+pub listed-more : (l : List ℕ) (at first n : ℕ) → at + n ≤ length l → first + n ≤ 16384 → (k : List ℕ) (y : ℕ) → Copies l numbers at first n k y → y < n
     → Copies l numbers at first n (set k (at + y) (first + y)) (y + 1)
-listed-more l at first n k y p h f =
+listed-more l at first n g f k y p h =
     subst (λ (v : ℕ). Copies l numbers at first n (set k (at + y) v) (y + 1)) (numbers-at (first + y) (omega arith))
-    (copies-more l numbers at first n k y p h (rw numbers-long f))
+    (copies-more l numbers at first n g (rw numbers-long f) k y p h)

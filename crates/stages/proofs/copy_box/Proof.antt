@@ -65,8 +65,8 @@ add-end c =
           (c .processor-of .ensures .1) .fits,
     )
 
-mul-copy-row : tie.Need-mul-copy-row Inv-loop μ-loop
-mul-copy-row c =
+mul-copy-words : tie.Need-mul-copy-words Inv-loop μ-loop
+mul-copy-words c =
     let S = c .before .before .before .before .before .before .before in
     omega (
       arith,
@@ -74,11 +74,11 @@ mul-copy-row c =
           (c .processor-of .ensures .1) .fits,
     )
 
-sub-copy-row : tie.Need-sub-copy-row Inv-loop μ-loop
-sub-copy-row c = omega arith
+sub-copy-words : tie.Need-sub-copy-words Inv-loop μ-loop
+sub-copy-words c = omega arith
 
-part-copy-row-start : tie.Need-part-copy-row-start Inv-loop μ-loop
-part-copy-row-start c =
+part-copy-words-start : tie.Need-part-copy-words-start Inv-loop μ-loop
+part-copy-words-start c =
     let S = c .before .before .before .before .before .before .before in
     omega (
       arith,
@@ -86,8 +86,8 @@ part-copy-row-start c =
           (c .processor-of .ensures .1) .fits,
     )
 
-part-copy-row-end : tie.Need-part-copy-row-end Inv-loop μ-loop
-part-copy-row-end c =
+part-copy-words-end : tie.Need-part-copy-words-end Inv-loop μ-loop
+part-copy-words-end c =
     let S = c .before .before .before .before .before .before .before in
     omega (
       arith,
@@ -95,32 +95,32 @@ part-copy-row-end c =
           (c .processor-of .ensures .1) .fits,
     )
 
-mul-copy-row-2 : tie.Need-mul-copy-row-2 Inv-loop μ-loop
-mul-copy-row-2 c =
+mul-copy-words-2 : tie.Need-mul-copy-words-2 Inv-loop μ-loop
+mul-copy-words-2 c =
     let at-loop-test = c .before .before .before in
     let at-loop = at-loop-test .before in
     let S = at-loop .before .before .before .before in
     omega (arith, collecting.row-at (S .pre .0) (S .pre .1) (at-loop .loop .inv) (at-loop-test .loop-test .taken) (c .before .processor-of .ensures .1) .room)
 
-sub-copy-row-2 : tie.Need-sub-copy-row-2 Inv-loop μ-loop
-sub-copy-row-2 c = omega arith
+sub-copy-words-2 : tie.Need-sub-copy-words-2 Inv-loop μ-loop
+sub-copy-words-2 c = omega arith
 
-part-copy-row-start-2 : tie.Need-part-copy-row-start-2 Inv-loop μ-loop
-part-copy-row-start-2 c =
+part-copy-words-start-2 : tie.Need-part-copy-words-start-2 Inv-loop μ-loop
+part-copy-words-start-2 c =
     let at-loop-test = c .before .before .before in
     let at-loop = at-loop-test .before in
     let S = at-loop .before .before .before .before in
     omega (arith, collecting.row-at (S .pre .0) (S .pre .1) (at-loop .loop .inv) (at-loop-test .loop-test .taken) (c .before .processor-of .ensures .1) .room)
 
-part-copy-row-end-2 : tie.Need-part-copy-row-end-2 Inv-loop μ-loop
-part-copy-row-end-2 c =
+part-copy-words-end-2 : tie.Need-part-copy-words-end-2 Inv-loop μ-loop
+part-copy-words-end-2 c =
     let at-loop-test = c .before .before .before in
     let at-loop = at-loop-test .before in
     let S = at-loop .before .before .before .before in
     omega (arith, collecting.row-at (S .pre .0) (S .pre .1) (at-loop .loop .inv) (at-loop-test .loop-test .taken) (c .before .processor-of .ensures .1) .room)
 
-copy-row-requires : tie.Need-copy-row-requires Inv-loop μ-loop
-copy-row-requires c κs =
+copy-words-requires : tie.Need-copy-words-requires Inv-loop μ-loop
+copy-words-requires c κs =
     let at-loop-test = c .before .before .before .before in
     let at-loop = at-loop-test .before in
     let S = at-loop .before .before .before .before in
@@ -145,7 +145,7 @@ loop-again c =
     let S = at-loop .before .before .before .before in
     collecting.copied-more (at-loop .loop .inv) (collecting.row-at (S .pre .0) (S .pre .1) (at-loop .loop .inv) (at-loop-test .loop-test .taken)
     (at-processor-of .processor-of .ensures .1)) (at-tile-of .tile-of .ensures .0) (at-processor-of .processor-of .ensures .0)
-    (c .before .before .copy-row .ensures)
+    (c .before .before .copy-words .ensures)
 
 same-length : tie.Need-same-length Inv-loop μ-loop
 same-length c = c .before .loop .inv .stored .long
@@ -171,15 +171,15 @@ copy-box-spec =
     add-from
     add-to
     add-end
-    mul-copy-row
-    sub-copy-row
-    part-copy-row-start
-    part-copy-row-end
-    mul-copy-row-2
-    sub-copy-row-2
-    part-copy-row-start-2
-    part-copy-row-end-2
-    copy-row-requires
+    mul-copy-words
+    sub-copy-words
+    part-copy-words-start
+    part-copy-words-end
+    mul-copy-words-2
+    sub-copy-words-2
+    part-copy-words-start-2
+    part-copy-words-end-2
+    copy-words-requires
     loop-less
     loop-again
     same-length

@@ -1,17 +1,19 @@
 -- Storing to the cells of the shape alone: a row, row by row a tile, the sweep and the collected grid.
 use Prim.Native.Nat.{ℕ, zero, suc, _+_, _*_, _-_, _≤_, _<_}
-use mathlib.Core.Path.{_≡_, refl, sym, ap, _∙_}
-use mathlib.Core.Logic.{_⊎_, inl, inr}
+use mathlib.Core.Path.{_≡_, refl, sym, ap, _∙_, subst}
+use mathlib.Core.Logic.{inl, inr}
 use mathlib.Core.Bool.{Bool, true, false}
 use mathlib.Core.List.{List, [], _∷_, _++_, append-assoc, append-nil}
-use native.Mathlib.Nat.{add-zero, zero-mul, eq-or-lt-of-le}
+use native.Mathlib.Nat.{add-zero, zero-mul}
+use native.Mathlib.Numerals.{add-one}
 use native.Mathlib.Omega.{arith}
-use lib.ListN.{length, getD, drop, set, length-set, length-append, List·getD-append}
-use lib.Seq.{drop-cons, drop-length, set-append-seam, set-getD, getD-append-seam, getD-set-same, getD-set-other}
+use lib.ListN.{length, getD, drop, set, length-append, List·getD-append, replicate, length-replicate, getD-replicate}
+use lib.Seq.{drop-cons, drop-length, set-append-seam, set-getD, getD-append-seam}
 use Rattle.base.specs.Tests.{_and_, pick, keep, keepIf, tabulate}
-use Rattle.base.specs.Lists.{In, storeAll}
+use Rattle.base.specs.Lists.{In, part, put, storeAll}
 use Rattle.base.proofs.Tests.{pick-true, pick-false, tabulate-same}
 use Rattle.base.proofs.Lists.{store-length}
+use Rattle.base.proofs.Copies.{copied-none, copied-more}
 use Rattle.machine.specs.Machine.{stateOf, memoryOf, sweepTo, sweep, collected}
 use Rattle.nest.specs.declared.Nest.{Nest}
 use Rattle.nest.specs.Accepted.{Accepted}
@@ -27,7 +29,7 @@ use Rattle.plan.proofs.ShapedSound.{sound}
 use Rattle.layout.specs.CellRows.{rowOf}
 use Rattle.layout.proofs.CellRows.{row-next}
 use Rattle.kernels.proofs.Orders.{store-append}
-use Rattle.kernels.proofs.Sums.{rows-join}
+use Rattle.kernels.proofs.Sums.{rows-join, Rowing, rowing-none, rowing-more, rowing-end}
 use Rattle.values.proofs.row_values.Words.{in-row-of}
 use Rattle.values.specs.shaped_values.Rows.{insideOnly, heldWord}
 
@@ -127,31 +129,27 @@ module _ (f : List ℕ → ℕ → ℕ) (g : ℕ → ℕ) (l₀ : List ℕ) wher
       → Storing f g l₀ l′ ((r + 1) * w)
   storing-turn l r w c l′ p h e = rw (row-next w r r) (storing-more l (r * w) p c w l′ h e)
 
--- ---- a list filled with one word, from its start
+-- ---- a list filled with one word
 
-pub record Filling (word : ℕ) (l₀ l : List ℕ) (i : ℕ) : Type 0 where
-  pub long : length l ≡ length l₀
-  pub each : (j : ℕ) → j < i → getD l j 0 ≡ word
+pub filled-long : (n v : ℕ) (l : List ℕ) → l ≡ replicate n v → length l ≡ n
+filled-long n v l e = ap length e ∙ length-replicate n v
 
-module _ (word : ℕ) (l₀ : List ℕ) where
-  pub filling-none : Filling word l₀ l₀ 0
-  filling-none = record { long = refl; each = λ j h. absurd (omega arith) }
+pub filled-at : (n v m : ℕ) (l : List ℕ) → l ≡ replicate n v → n ≡ m → (i : ℕ) → i < m → getD l i 0 ≡ v
+filled-at n v m l e k i h = ap (λ (z : List ℕ). getD z i 0) e ∙ getD-replicate n i v 0 (omega arith)
 
-  pub filling-more : (l : List ℕ) (i : ℕ) → Filling word l₀ l i → i < length l₀ → Filling word l₀ (set l i word) (i + 1)
-  filling-more l i s h = record { long = length-set l i word ∙ s .long; each = λ j k. go j (eq-or-lt-of-le (low j k)) }
-    where
-      low : (j : ℕ) → j < i + 1 → j ≤ i
-      low j k = omega arith
+-- ---- words copied: a part of the memories to cells side by side
 
-      go : (j : ℕ) → (j ≡ i) ⊎ (j < i) → getD (set l i word) j 0 ≡ word
-      go j (inl q) = rw q (getD-set-same l i word 0 (omega (arith, s .long)))
-      go j (inr q) = getD-set-other l i j word 0 (λ z. omega arith) ∙ s .each j q
+module _ (memories grid : List ℕ) (from to n : ℕ) (fits : to + n ≤ length grid) (there : from + n ≤ length memories) where
+  copied-rowing : (y : ℕ) → y ≤ n → Rowing (λ l c. getD memories (from + (c - to)) 0) grid (put grid to (part memories from y)) to n y
+  copied-rowing zero l = rw (copied-none grid memories to from) (rowing-none _ grid to n)
+  copied-rowing (suc y) l =
+      let z : from + (to + y - to) ≡ from + y = omega arith in
+      subst (λ (i : ℕ). Rowing (λ l c. getD memories (from + (c - to)) 0) grid (put grid to (part memories from i)) to n i) (add-one y)
+      (rowing-more (copied-rowing y (omega arith)) _ (omega arith) (sym (copied-more grid memories to from y (omega arith) (omega arith))
+      ∙ ap (λ (i : ℕ). set (put grid to (part memories from y)) (to + y) (getD memories i 0)) (sym z)))
 
--- ---- words copied
-
-pub copied-at : (memories grid : List ℕ) (from to y : ℕ) → set grid (to + y) (getD memories (from + y) 0) ≡ set grid (to + y)
-    (getD memories (from + (to + y - to)) 0)
-copied-at memories grid from to y = let z : from + (to + y - to) ≡ from + y = omega arith in rw z refl
+  pub copied-row : put grid to (part memories from n) ≡ storeAll (λ l c. getD memories (from + (c - to)) 0) grid (rowOf to n)
+  copied-row = rowing-end (copied-rowing n (omega arith)) (omega arith)
 
 -- ---- a tile
 

@@ -5,7 +5,7 @@ use native.Mathlib.Omega.{arith}
 use lib.ListN.{length, getD}
 use Rattle.base.specs.Tests.{pick}
 use Rattle.nest.specs.Spans.{within}
-use Rattle.stages.proofs.Parts as parts
+use Rattle.base.proofs.Stored as stored
 use Rattle.part_calls.proofs.Collecting as collecting
 use borrow.Author.Needs.{needs}
 use Rattle.part_calls.proofs.grid.outside_row.Statement.{statement}
@@ -87,7 +87,7 @@ returns c =
     let A = S .args in
     let loop = c .before .loop in
     let loop-test = c .loop-test in
-    parts.stored-all (λ y. pick (within (A .s) y) (getD (A .row .now) y 0) (A .boundary)) (A .row .now) (loop .row) (loop .y)
+    stored.stored-all (λ y. pick (within (A .s) y) (getD (A .row .now) y 0) (A .boundary)) (A .row .now) (loop .row) (loop .y)
     (length (A .row .now)) (loop .inv .stored) refl (omega (arith, loop .inv .stored .long, loop-test .left))
 
 pub outside-row-spec : {M : Type 1} → statement M

@@ -1,7 +1,7 @@
 -- `list_run` meets its contract: the first y cells are listed.
 use Prim.Native.Nat.{_-_}
 use native.Mathlib.Omega.{arith}
-use Rattle.runs.proofs.Laws.{Copies, copies-none, copies-long, copies-end}
+use Rattle.base.proofs.Copies.{Copies, copies-none, copies-long, copies-end}
 use Rattle.runs.specs.listed.Numbers.{numbers}
 use Rattle.runs.proofs.listed.Numbers as L
 use Rattle.runs.proofs.listed.list_run.Statement.{statement}
@@ -30,7 +30,7 @@ mul-cells c = omega (arith, c .loop-test .taken, c .before .before .pre .inner, 
 
 slice-write-cells : tie.Need-slice-write-cells Inv-loop μ-loop
 slice-write-cells c =
-    omega (arith, c .loop-test .taken, c .before .before .pre .inner, copies-long _ _ _ _ _ _ _ (c .before .loop .inv))
+    omega (arith, c .loop-test .taken, c .before .before .pre .inner, copies-long _ _ _ _ _ (c .before .before .pre .inner) (rw L.numbers-long (c .before .before .pre .outer)) _ _ (c .before .loop .inv))
 
 add-y : tie.Need-add-y Inv-loop μ-loop
 add-y c = omega (arith, c .loop-test .taken, c .before .before .pre .inner, c .before .before .pre .short .0)
@@ -39,13 +39,13 @@ loop-less : tie.Need-loop-less Inv-loop μ-loop
 loop-less c = omega (arith, c .loop-test .taken)
 
 loop-again : tie.Need-loop-again Inv-loop μ-loop
-loop-again c = L.listed-more _ _ _ _ _ _ (c .before .loop .inv) (c .loop-test .taken) (c .before .before .pre .outer)
+loop-again c = L.listed-more _ _ _ _ (c .before .before .pre .inner) (c .before .before .pre .outer) _ _ (c .before .loop .inv) (c .loop-test .taken)
 
 same-length : tie.Need-same-length Inv-loop μ-loop
-same-length c = copies-long _ _ _ _ _ _ _ (c .before .loop .inv)
+same-length c = copies-long _ _ _ _ _ (c .before .before .pre .inner) (rw L.numbers-long (c .before .before .pre .outer)) _ _ (c .before .loop .inv)
 
 returns : tie.Need-returns Inv-loop μ-loop
-returns c = copies-end _ _ _ _ _ _ _ (c .before .loop .inv) (c .loop-test .left)
+returns c = copies-end _ _ _ _ _ (c .before .before .pre .inner) (rw L.numbers-long (c .before .before .pre .outer)) _ _ (c .before .loop .inv) (c .loop-test .left)
 
 pub list-run-spec : {M : Type 1} → statement M
 list-run-spec =

@@ -21,22 +21,22 @@ loop-holds c = L.packing-none _ _ _ _ _ _ _ _ _
 piece-of-requires : tie.Need-piece-of-requires Inv-loop μ-loop
 piece-of-requires c κs = (c .before .before .before .before .pre .few, c .loop-test .taken)
 
-sub-copy : tie.Need-sub-copy Inv-loop μ-loop
-sub-copy c = c .before .before .before .loop .inv .from
+sub-copy-part : tie.Need-sub-copy-part Inv-loop μ-loop
+sub-copy-part c = c .before .before .before .loop .inv .from
 
-add-copy : tie.Need-add-copy Inv-loop μ-loop
-add-copy c =
+add-copy-part : tie.Need-add-copy-part Inv-loop μ-loop
+add-copy-part c =
     let at-loop = c .before .before .before in
     let start = at-loop .before .before .before in
     omega (arith, c .before .before .loop-test .taken, at-loop .loop .inv .to, start .pre .low, start .pre .short .0)
 
-copy-requires : tie.Need-copy-requires Inv-loop μ-loop
-copy-requires c κs =
+copy-part-requires : tie.Need-copy-part-requires Inv-loop μ-loop
+copy-part-requires c κs =
     let start = c .before .before .before .before .before .before in
     let at-loop = c .before .before .before .loop in
-    rw (at-loop .inv .first .long)
-    (L.packs-fit _ _ _ _ _ _ _ _ _ (start .pre) _ _ (at-loop .inv .from)
-    (at-loop .inv .first .count-is) _ _ (c .before .piece-of .ensures))
+    let fit = L.packs-fit _ _ _ _ _ _ _ _ _ (start .pre) _ _ (at-loop .inv .from)
+    (at-loop .inv .first .count-is) _ _ (c .before .piece-of .ensures) in
+    (omega (arith, fit .inner, at-loop .inv .first .long), fit .outer)
 
 add-count : tie.Need-add-count Inv-loop μ-loop
 add-count c =
@@ -59,7 +59,7 @@ loop-again c =
     let at-piece = c .before .before .before .before .before in
     let at-loop = at-piece .before .before in
     L.packing-more _ _ _ _ _ _ _ _ _ _ _ _ (at-loop .loop .inv) (at-loop .before .before .before .pre) _ _ (at-piece .piece-of .ensures) _
-    (c .before .before .before .copy .ensures)
+    (c .before .before .before .copy-part .ensures)
 
 same-length : tie.Need-same-length Inv-loop μ-loop
 same-length c = c .before .loop .inv .first .long
@@ -76,9 +76,9 @@ pack-row-spec =
     add-to
     loop-holds
     piece-of-requires
-    sub-copy
-    add-copy
-    copy-requires
+    sub-copy-part
+    add-copy-part
+    copy-part-requires
     add-count
     loop-less
     loop-again

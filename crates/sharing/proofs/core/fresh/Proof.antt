@@ -45,8 +45,8 @@ clear-requires c κs = tt
 clear-requires-2 : tie.Need-clear-requires-2
 clear-requires-2 c κs = tt
 
-free-all-requires : tie.Need-free-all-requires
-free-all-requires c κs = tt
+fill-words-requires : tie.Need-fill-words-requires
+fill-words-requires c κs = tt
 
 same-length-7 : tie.Need-same-length-7
 same-length-7 c =
@@ -82,7 +82,7 @@ same-length-12 c =
     at-clear2 .clear2 .kept .1 .1 .0
 
 same-length-13 : tie.Need-same-length-13
-same-length-13 c = c .before .before .free-all .kept .0
+same-length-13 c = c .before .before .fill-words .kept .0
 
 returns-2 : tie.Need-returns-2
 returns-2 c =
@@ -97,7 +97,7 @@ returns-2 c =
     (stateOf (A .memories0 .now) (A .buffer0 .now) l (A .status0 .now))
     (stateOf (A .memories1 .now) (A .buffer1 .now) q (A .status1 .now)) (A .engaged .now) (unfit-both .result)
     (unfit-both .ensures l q (A .engaged .now) h k refl)
-    (at-if1 .if1 .left) _ _ _ _ _ _ _ (at-clear .clear .ensures) (at-clear2 .clear2 .ensures) (c .before .before .free-all .ensures)
+    (at-if1 .if1 .left) _ _ _ _ _ _ _ (at-clear .clear .ensures) (at-clear2 .clear2 .ensures) (c .before .before .fill-words .ensures)
 
 pub fresh-spec : {M : Type 1} → statement M
 fresh-spec =
@@ -113,7 +113,7 @@ fresh-spec =
     returns
     clear-requires
     clear-requires-2
-    free-all-requires
+    fill-words-requires
     same-length-7
     same-length-8
     same-length-9

@@ -5,13 +5,13 @@ use mathlib.Core.Path.{refl}
 use lib.ListN.{length}
 use Rattle.base.specs.Tests.{pick}
 use Rattle.nest.specs.Spans.{within}
-use Rattle.stages.proofs.Parts as parts
+use Rattle.base.proofs.Stored as stored
 use borrow.Author.Needs.{needs}
 use Rattle.transport.proofs.core.owner_row.Statement.{statement}
 use Rattle.transport.proofs.core.owner_row.Tie as tie
 
 abbrev Inv-loop : tie.InvT-loop
-Inv-loop row₀ s processor none y₀ row y = parts.Stored (λ y. pick (within s y) processor none) row₀ row y
+Inv-loop row₀ s processor none y₀ row y = stored.Stored (λ y. pick (within s y) processor none) row₀ row y
 
 abbrev μ-loop : tie.MeasureT-loop
 μ-loop row₀ s processor none y₀ row y = length row₀ - y
@@ -19,7 +19,7 @@ abbrev μ-loop : tie.MeasureT-loop
 loop-holds : tie.Need-loop-holds Inv-loop μ-loop
 loop-holds c =
     let S = c .before in
-    parts.store-start (λ y. pick (within (S .args .s) y) (S .args .processor) (S .args .none)) (S .args .row .now)
+    stored.store-start (λ y. pick (within (S .args .s) y) (S .args .processor) (S .args .none)) (S .args .row .now)
 
 owner-at-requires : tie.Need-owner-at-requires Inv-loop μ-loop
 owner-at-requires c κs = search needs
@@ -40,7 +40,7 @@ loop-again : tie.Need-loop-again Inv-loop μ-loop
 loop-again c =
     let S = c .before .before .before .before in
     let loop = c .before .before .loop in
-    parts.store-next (λ y. pick (within (S .args .s) y) (S .args .processor) (S .args .none)) (S .args .row .now) (loop .row) (loop .y) _ (loop .inv)
+    stored.store-next (λ y. pick (within (S .args .s) y) (S .args .processor) (S .args .none)) (S .args .row .now) (loop .row) (loop .y) _ (loop .inv)
     (omega (arith, loop .inv .long, c .before .loop-test .taken)) (c .owner-at .ensures)
 
 same-length : tie.Need-same-length Inv-loop μ-loop
@@ -50,7 +50,7 @@ returns : tie.Need-returns Inv-loop μ-loop
 returns c =
     let S = c .before .before .before in
     let loop = c .before .loop in
-    parts.stored-all (λ y. pick (within (S .args .s) y) (S .args .processor) (S .args .none)) (S .args .row .now) (loop .row) (loop .y)
+    stored.stored-all (λ y. pick (within (S .args .s) y) (S .args .processor) (S .args .none)) (S .args .row .now) (loop .row) (loop .y)
     (length (S .args .row .now)) (loop .inv) refl (omega (arith, loop .inv .long, c .loop-test .left))
 
 pub owner-row-spec : {M : Type 1} → statement M

@@ -7,7 +7,7 @@ use Rattle.nest.specs.Spans.{last}
 use Rattle.nest.proofs.Shapes.{framed}
 use Rattle.plan.specs.declared.Route.the-variants.{Direct}
 use Rattle.plan.specs.Shaped.{planOf}
-use Rattle.stages.proofs.Parts as parts
+use Rattle.base.proofs.Stored as stored
 use Rattle.transport.specs.Calls.{ownerOf}
 use Rattle.transport.proofs.RowOwners as owners
 use borrow.Author.Needs.{needs}
@@ -15,7 +15,7 @@ use Rattle.transport.proofs.core.put_owners.Statement.{statement}
 use Rattle.transport.proofs.core.put_owners.Tie as tie
 
 abbrev Inv-loop : tie.InvT-loop
-Inv-loop sizes out₀ nest none width rows q₀ out q = (q ≤ rows) × parts.Stored (ownerOf (planOf Direct nest)) out₀ out (q * width)
+Inv-loop sizes out₀ nest none width rows q₀ out q = (q ≤ rows) × stored.Stored (ownerOf (planOf Direct nest)) out₀ out (q * width)
 
 abbrev μ-loop : tie.MeasureT-loop
 μ-loop sizes out₀ nest none width rows q₀ out q = rows - q

@@ -5,7 +5,7 @@ use mathlib.Core.Path.{refl, _∙_, ap}
 use Rattle.nest.proofs.Shapes.{framed}
 use Rattle.layout.proofs.Cells.{relocated}
 use Rattle.values.specs.shaped_values.Rows.{insideOnly, heldWord}
-use Rattle.values.proofs.shaped_values.Stores.{Storing, storing-start, storing-long, storing-turn, gathered}
+use Rattle.values.proofs.shaped_values.Stores.{filled-long, filled-at, Storing, storing-start, storing-long, storing-turn, gathered}
 use Rattle.values.proofs.shaped_values.Words.{row-begins, rows-few, rows-done}
 use Rattle.values.proofs.shaped_values.copy_cells.Statement.{statement}
 use Rattle.values.proofs.shaped_values.copy_cells.Tie as tie
@@ -19,10 +19,8 @@ abbrev μ-loop : tie.MeasureT-loop
 boundary-of-requires : tie.Need-boundary-of-requires Inv-loop μ-loop
 boundary-of-requires c κs = c .before .before .before .pre .0 .accepted .boundary-most
 
-fill-requires : tie.Need-fill-requires Inv-loop μ-loop
-fill-requires c κs =
-    let s = c .before .before .before .before in
-    omega (arith, s .pre .1 .1, s .pre .0 .accepted .cells-most)
+fill-words-requires : tie.Need-fill-words-requires Inv-loop μ-loop
+fill-words-requires c κs = tt
 
 sub-width : tie.Need-sub-width Inv-loop μ-loop
 sub-width c =
@@ -57,7 +55,7 @@ copy-row-requires c κs =
     let at-loop = c .before .before .before in
     let at-fill = at-loop .before .before .before .before .before .before in
     let s = at-fill .before .before .before .before .before in (
-      (s .pre .0, (s .pre .1 .0, storing-long _ _ _ _ _ (at-loop .loop .inv .1) ∙ at-fill .fill .ensures .0 ∙ s .pre .1 .1)),
+      (s .pre .0, (s .pre .1 .0, storing-long _ _ _ _ _ (at-loop .loop .inv .1) ∙ filled-long _ _ _ (at-fill .fill-words .ensures) ∙ s .pre .1 .1)),
       (relocated _ _ _ (c .before .row-cell .ensures .0), (c .before .row-cell .ensures .1, refl)),
     )
 
@@ -82,14 +80,14 @@ loop-again c =
     )
 
 same-length : tie.Need-same-length Inv-loop μ-loop
-same-length c = storing-long _ _ _ _ _ (c .before .loop .inv .1) ∙ c .before .before .before .before .before .before .before .fill .ensures .0
+same-length c = storing-long _ _ _ _ _ (c .before .loop .inv .1) ∙ filled-long _ _ _ (c .before .before .before .before .before .before .before .fill-words .ensures)
 
 returns : tie.Need-returns Inv-loop μ-loop
 returns c =
     let at-fill = c .before .before .before .before .before .before .before in
     let at-boundary-of = at-fill .before in
     let s = at-boundary-of .before .before .before .before in
-    gathered _ (s .pre .0 .accepted) _ (at-fill .fill .ensures .0 ∙ s .pre .1 .1) (λ i h. at-fill .fill .ensures .1 i (omega (arith, s .pre .1 .1))
+    gathered _ (s .pre .0 .accepted) _ (filled-long _ _ _ (at-fill .fill-words .ensures) ∙ s .pre .1 .1) (λ i h. filled-at _ _ _ _ (at-fill .fill-words .ensures) (s .pre .1 .1) i h
     ∙ at-boundary-of .boundary-of .ensures) _ _ _ (rows-done _ (s .pre .0 .accepted) _ _ refl (c .before .before .row-count .ensures) _
     (c .before .loop .inv .0) (c .loop-test .left)) (c .before .loop .inv .1)
 
@@ -100,7 +98,7 @@ copy-cells-spec =
     Inv-loop
     μ-loop
     boundary-of-requires
-    fill-requires
+    fill-words-requires
     sub-width
     mul-width
     array-read-width

@@ -1,7 +1,9 @@
 -- `values::shaped_values::copy_row` meets its contract: the row has one processor; its cells before and behind the span are outside.
 use Prim.Native.Nat.{_-_}
+use mathlib.Core.Path.{_∙_}
 use native.Mathlib.Omega.{arith}
 use Rattle.nest.proofs.Shapes.{framed}
+use Rattle.values.proofs.shaped_values.Stores.{copied-row}
 use Rattle.values.proofs.shaped_values.Words.{place-narrow, copy-low, copy-room, row-copied}
 use borrow.Author.Needs.{needs}
 use Rattle.values.proofs.shaped_values.copy_row.Statement.{statement}
@@ -35,8 +37,8 @@ add-first c =
       s .pre .0 .0 .accepted .cells-most,
     )
 
-mul-copy-words : tie.Need-mul-copy-words
-mul-copy-words c =
+mul-copy-part : tie.Need-mul-copy-part
+mul-copy-part c =
     let at-processor-of = c .before .before .before .before in
     let at-overlap = at-processor-of .before .before in
     let at-span = at-overlap .before in
@@ -45,8 +47,8 @@ mul-copy-words c =
     (copy-low _ (s .pre .0 .0 .accepted) _ (s .pre .1 .0) _ (s .pre .1 .1 .0) (s .pre .1 .1 .1) _ _ (at-span .span .ensures) (at-overlap .overlap .ensures)) in
     omega (arith, r .0, r .1)
 
-add-copy-words : tie.Need-add-copy-words
-add-copy-words c =
+add-copy-part : tie.Need-add-copy-part
+add-copy-part c =
     let at-processor-of = c .before .before .before .before in
     let at-overlap = at-processor-of .before .before in
     let at-span = at-overlap .before in
@@ -55,11 +57,11 @@ add-copy-words c =
     (copy-low _ (s .pre .0 .0 .accepted) _ (s .pre .1 .0) _ (s .pre .1 .1 .0) (s .pre .1 .1 .1) _ _ (at-span .span .ensures) (at-overlap .overlap .ensures)) in
     omega (arith, r .0, r .1)
 
-sub-copy-words : tie.Need-sub-copy-words
-sub-copy-words c = search needs
+sub-copy-part : tie.Need-sub-copy-part
+sub-copy-part c = search needs
 
-copy-words-requires : tie.Need-copy-words-requires
-copy-words-requires c κs =
+copy-part-requires : tie.Need-copy-part-requires
+copy-part-requires c κs =
     let at-processor-of = c .before .before .before .before .before in
     let at-overlap = at-processor-of .before .before in
     let at-span = at-overlap .before in
@@ -67,7 +69,7 @@ copy-words-requires c κs =
     let l = copy-low _ (s .pre .0 .0 .accepted) _ (s .pre .1 .0) _ (s .pre .1 .1 .0) (s .pre .1 .1 .1) _ _ (at-span .span .ensures)
     (at-overlap .overlap .ensures) in
     let r = copy-room _ (s .pre .0 .0 .accepted) _ _ _ _ _ (at-processor-of .processor-of .ensures .1) (s .pre .0 .0 .cells) (s .pre .0 .1 .0) l in
-    ((r .0, (omega (arith, l, s .pre .0 .1 .1), r .1)), omega (arith, s .pre .0 .1 .1, s .pre .0 .0 .accepted .cells-most))
+    (omega (arith, l, s .pre .0 .1 .1), r .0)
 
 same-length : tie.Need-same-length
 same-length c = search needs
@@ -79,8 +81,12 @@ returns c =
     let at-overlap = at-tile-of .before in
     let at-span = at-overlap .before in
     let s = at-span .before .before .before .before in
+    let l = copy-low _ (s .pre .0 .0 .accepted) _ (s .pre .1 .0) _ (s .pre .1 .1 .0) (s .pre .1 .1 .1) _ _ (at-span .span .ensures)
+    (at-overlap .overlap .ensures) in
+    let r = copy-room _ (s .pre .0 .0 .accepted) _ _ _ _ _ (at-processor-of .processor-of .ensures .1) (s .pre .0 .0 .cells) (s .pre .0 .1 .0) l in
     row-copied _ (s .pre .0 .0 .accepted) _ (s .pre .1 .0) _ (s .pre .1 .1 .0) (s .pre .1 .1 .1) _ _ (at-span .span .ensures) (at-overlap .overlap .ensures)
-    _ _ _ _ _ (at-tile-of .tile-of .ensures .0) (at-processor-of .processor-of .ensures .0) _ (s .pre .0 .0 .cells) (c .before .before .copy-words .ensures)
+    _ _ _ _ _ (at-tile-of .tile-of .ensures .0) (at-processor-of .processor-of .ensures .0) _ (s .pre .0 .0 .cells) (c .before .before .copy-part .ensures
+    ∙ copied-row _ _ _ _ _ (omega (arith, l, s .pre .0 .1 .1)) (r .0))
 
 pub copy-row-spec : {M : Type 1} → statement M
 copy-row-spec =
@@ -91,9 +97,9 @@ copy-row-spec =
     tile-of-requires
     processor-of-requires
     add-first
-    mul-copy-words
-    add-copy-words
-    sub-copy-words
-    copy-words-requires
+    mul-copy-part
+    add-copy-part
+    sub-copy-part
+    copy-part-requires
     same-length
     returns)

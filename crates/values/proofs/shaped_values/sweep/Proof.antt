@@ -6,7 +6,7 @@ use Rattle.nest.proofs.Shapes.{framed}
 use Rattle.layout.proofs.Cells.{relocated}
 use Rattle.plan.specs.Shaped.{shapedValue}
 use Rattle.values.specs.shaped_values.Rows.{insideOnly}
-use Rattle.values.proofs.shaped_values.Stores.{Storing, storing-start, storing-long, storing-turn, swept}
+use Rattle.values.proofs.shaped_values.Stores.{filled-long, filled-at, Storing, storing-start, storing-long, storing-turn, swept}
 use Rattle.values.proofs.shaped_values.Words.{row-begins, rows-few, rows-done}
 use Rattle.values.proofs.shaped_values.sweep.Statement.{statement}
 use Rattle.values.proofs.shaped_values.sweep.Tie as tie
@@ -21,10 +21,8 @@ abbrev μ-loop : tie.MeasureT-loop
 boundary-of-requires : tie.Need-boundary-of-requires Inv-loop μ-loop
 boundary-of-requires c κs = c .before .before .before .pre .0 .accepted .boundary-most
 
-fill-requires : tie.Need-fill-requires Inv-loop μ-loop
-fill-requires c κs =
-    let s = c .before .before .before .before in
-    omega (arith, s .pre .1 .1, s .pre .0 .accepted .cells-most)
+fill-words-requires : tie.Need-fill-words-requires Inv-loop μ-loop
+fill-words-requires c κs = tt
 
 backs-of-requires : tie.Need-backs-of-requires Inv-loop μ-loop
 backs-of-requires c κs =
@@ -73,7 +71,7 @@ row-requires c κs =
           (
             s .pre .1 .0,
             storing-long _ _ _ _ _ (at-loop .loop .inv .1)
-                ∙ at-fill .fill .ensures .0 ∙ s .pre .1 .1,
+                ∙ filled-long _ _ _ (at-fill .fill-words .ensures) ∙ s .pre .1 .1,
           ),
         ),
       ),
@@ -105,14 +103,14 @@ loop-again c =
 same-length : tie.Need-same-length Inv-loop μ-loop
 same-length c =
     let at-fill = c .before .before .before .before .before .before .before .before .before .before .before in
-    storing-long _ _ _ _ _ (c .before .loop .inv .1) ∙ at-fill .fill .ensures .0
+    storing-long _ _ _ _ _ (c .before .loop .inv .1) ∙ filled-long _ _ _ (at-fill .fill-words .ensures)
 
 returns : tie.Need-returns Inv-loop μ-loop
 returns c =
     let at-fill = c .before .before .before .before .before .before .before .before .before .before .before in
     let at-boundary-of = at-fill .before in
     let s = at-boundary-of .before .before .before .before in
-    swept _ (s .pre .0 .accepted) _ (at-fill .fill .ensures .0 ∙ s .pre .1 .1) (λ i h. at-fill .fill .ensures .1 i (omega (arith, s .pre .1 .1))
+    swept _ (s .pre .0 .accepted) _ (filled-long _ _ _ (at-fill .fill-words .ensures) ∙ s .pre .1 .1) (λ i h. filled-at _ _ _ _ (at-fill .fill-words .ensures) (s .pre .1 .1) i h
     ∙ at-boundary-of .boundary-of .ensures) _ _ _ (rows-done _ (s .pre .0 .accepted) _ _ refl (c .before .before .row-count .ensures) _
     (c .before .loop .inv .0) (c .loop-test .left)) (c .before .loop .inv .1)
 
@@ -123,7 +121,7 @@ sweep-spec =
     Inv-loop
     μ-loop
     boundary-of-requires
-    fill-requires
+    fill-words-requires
     backs-of-requires
     sub-width
     mul-width
