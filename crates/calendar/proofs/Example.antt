@@ -56,9 +56,10 @@ goes source events h =
 
 -- Waits.Fair: open for the whole week, and no window
 fair : Fair 0 10080 × Fair 0 0
-fair =
-    (record { most = omega arith; order = λ n. omega arith; none = λ e. absurd (omega arith) },
-    record { most = omega arith; order = λ n. absurd (n refl); none = λ e. refl })
+fair = (
+  record { most = omega arith; order = λ n. omega arith; none = λ e. absurd (omega arith) },
+  record { most = omega arith; order = λ n. absurd (n refl); none = λ e. refl },
+)
 
 -- ---- a table of zeros
 getD-zeros : (n i : ℕ) → _≡_ {A = ℕ} (getD (replicate n 0) i 0) 0
