@@ -4,5 +4,7 @@ pub mod Telling
 pub mod Allowed
 pub mod OneOffice
 pub mod TwoOffices
+pub mod AnyCalls
 pub mod Computed
 pub mod Example
+pub mod Witnesses

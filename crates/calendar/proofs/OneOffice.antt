@@ -24,7 +24,7 @@ use Rattle.calendar.specs.Demands212.{Faultless, OpensSometime, CarriedO
 use Rattle.calendar.proofs.Allowed.{Allowed, open-allowed, guards}
 
 -- the lines of a turn that gives 0
-turn-facts : (p : Plan) (source : List ℕ) (s : State) (b : ℕ) → act p source s (turnOf b) .number ≡ 0 → (b < p .processors) × (tilesLeft p s b ≡ true)
+pub turn-facts : (p : Plan) (source : List ℕ) (s : State) (b : ℕ) → act p source s (turnOf b) .number ≡ 0 → (b < p .processors) × (tilesLeft p s b ≡ true)
 unfolding act
 turn-facts p source s b z = let r = turn-lines p source s b z in (ltb-true _ _ (r .0), r .2)
 

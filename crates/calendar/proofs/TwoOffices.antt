@@ -70,7 +70,7 @@ module _ (p : Plan) (sources : Sources) (o : ℕ) (low : o ≤ 1) where
       (w .0, refused-seen r c _ _ _ _ x h (w .1), w .2)
 
 -- the lines of a call that is a turn and gives 0
-call-facts : (p : Plan) (sources : Sources) (r : Rig) (o b : ℕ) → actOn p sources r (record { office = o; event = turnOf b }) .number ≡ 0
+pub call-facts : (p : Plan) (sources : Sources) (r : Rig) (o b : ℕ) → actOn p sources r (record { office = o; event = turnOf b }) .number ≡ 0
     → (b < p .processors) × (tilesLeft p (ownOf r o) b ≡ true)
 unfolding actOn actFor
 call-facts p sources r o b z =

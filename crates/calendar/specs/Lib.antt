@@ -1,3 +1,4 @@
 pub mod Hours
 pub mod Demands212
 pub mod Waits
+pub mod AnyCalls

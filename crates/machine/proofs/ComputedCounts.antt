@@ -8,7 +8,7 @@ use Rattle.base.specs.Lists.{member, part, put, setAll, storeAll, allAt, unpack
 use Rattle.base.specs.Numbers.{firstOf}
 use Rattle.machine.specs.Plan.{offset}
 use Rattle.machine.specs.Machine.{setProgress, tilesLeft, fitRecord, fit, unpackAll, afterSends, carryOut, actionAt, waiting, turn, deliver, fresh}
-use Rattle.machine.specs.Runs.{Event, act, stateAfter, answersTo, programOver, turnsOf, timesOf, calculates, sends, takes, deliveriesOf}
+use Rattle.machine.specs.Runs.{act, stateAfter, answersTo, programOver, turnsOf, timesOf, calculates, sends, takes, deliveriesOf}
 use Rattle.machine.proofs.ComputedCalls.{small, source, events}
 
 -- after the first n events: how often cell 1 was calculated, message 0 sent, delivered, taken; its mark

@@ -18,7 +18,7 @@ use Rattle.base.proofs.Select.{those-in, in-those}
 use Rattle.machine.specs.Plan.{Plan, count, takerOf, tilesOf, duesOf}
 use Rattle.machine.specs.Machine.{State, finishedOf, stageOf, sentOf, currentTile, tilesLeft, fitRecord, fit, waiting}
 use Rattle.machine.specs.Machine.{turn, deliver, collect}
-use Rattle.machine.specs.Fit.{FitRecord, Fit, Waits, Exactly, Tests, TurnNumber, DeliveryNumber, CollectNumber, Numbers}
+use Rattle.machine.specs.Fit.{FitRecord, Fit, Waits, Tests, TurnNumber, DeliveryNumber, CollectNumber, Numbers}
 use Rattle.machine.proofs.Records.{fitAt, fit-is, fit-sending, fit-early, fit-two, fit-zero}
 
 module _ (p : Plan) (s : State) where

@@ -3,13 +3,13 @@ use Prim.Native.Nat.{ℕ, zero, suc, _+_, _≤_, _<_}
 use mathlib.Core.Path.{_≡_, refl, sym, ap, _∙_}
 use mathlib.Core.Logic.{_⊎_, inl, inr}
 use mathlib.Core.Bool.{Bool, true, false}
-use mathlib.Core.List.{List, [], _∷_, _++_}
+use mathlib.Core.List.{List, [], _∷_}
 use native.Mathlib.Nat.{le-of-suc-le-suc}
 use native.Mathlib.Omega.{arith}
 use native.Mathlib.Decide.{ℕ-discrete, decLt}
 use lib.ListN.{length, getD, take, drop, set, take-append-drop}
 use lib.Seq.{getD-set-same, getD-set-other}
-use lib.Dec.{ltb, eqb}
+use lib.Dec.{ltb}
 use borrow.Author.Tests.{eqb-true, eq-eqb, ne-eqb, lt-ltb, le-ltb}
 use Rattle.base.specs.Tests.{one, sum}
 use Rattle.base.specs.Lists.{In, countIf}
@@ -20,7 +20,7 @@ use Rattle.machine.specs.Plan.{Plan, Sound, count, takerOf, duesOf}
 use Rattle.machine.specs.Machine.{State, Answered, Action, gather, calculate, send, currentTile, nextAction, carryOut, turn, deliver, fresh}
 use Rattle.machine.specs.Runs.{Event, turnOf, deliveryOf, act, stateAfter, answersTo, program, turnsOf, timesOf, deliveriesOf, sends, takes}
 use Rattle.machine.specs.Marks.{Among, Standing, Tells, Marks}
-use Rattle.machine.proofs.Turns.{Turned, turned, can, next-zero, next-one, next-two, Delivered, delivered}
+use Rattle.machine.proofs.Turns.{Turned, turned, can, next-zero, next-one, next-two, delivered}
 use Rattle.machine.proofs.Invariant.{pending}
 use Rattle.machine.proofs.Kept.{Inv, Kept, statusOf, nextSend, unsent}
 use Rattle.machine.proofs.Events.{Brought, Refused, turn-keeps, deliver-keeps}

@@ -79,10 +79,10 @@ module _ (p : Plan) (so : Sound p) (source : List ℕ) where
     inv-here : Inv p source here
     inv-here = run-inv p so source es (fresh p) (inv-fresh p source)
 
-    next-is : (b : ℕ) (a : Action) → Did (act p source) (fresh p) p es b a → nextAction p here b ≡ a
+    pub next-is : (b : ℕ) (a : Action) → Did (act p source) (fresh p) p es b a → nextAction p here b ≡ a
     next-is b a d = sym (named-next p so source es b (d .gave) .1) ∙ d .named
 
-    did : (b : ℕ) (a : Action) → Did (act p source) (fresh p) p es b a → Does p source here (act p source here (turnOf b) .after) b a
+    pub did : (b : ℕ) (a : Action) → Did (act p source) (fresh p) p es b a → Does p source here (act p source here (turnOf b) .after) b a
     unfolding act
     did b a d = rw (next-is b a d) at (turn-does p so source here b (inv-here .shape .memories) (inv-here .shape .buffer) (d .gave))
 

@@ -41,7 +41,7 @@ test3 : soundTest line3 ≡ true
 unfolding line3 soundTest cellTest ownTest tileTest heldTest messageTest allIn isRising knows every some member _and_ _or_ not
 test3 = refl
 
-sound3 : Sound line3
+pub sound3 : Sound line3
 unfolding line3
 sound3 = tested line3 test3 (λ source m n c h f. value-same source m n c f)
 

@@ -12,6 +12,7 @@ pub mod Transport
 pub mod Posting
 pub mod Network
 pub mod PacketTheorem
+pub mod Brought
 pub mod Locality
 pub mod Fine
 pub mod Own
@@ -19,3 +20,4 @@ pub mod OwnRuns
 pub mod NotLocal
 pub mod Example
 pub mod Witnesses
+pub mod ComputedBrought

@@ -4,3 +4,4 @@ pub mod Packets
 pub mod Locality
 pub mod Own
 pub mod OwnRuns
+pub mod Brought

@@ -1,7 +1,6 @@
 -- W-214 carried over: to calls that carry more than the machine reads and may be refused for that alone, and to lists of events.
 use Prim.Native.Nat.{ℕ}
 use mathlib.Core.Path.{_≡_, refl, sym, ap, _∙_}
-use mathlib.Core.Logic.{_≢_}
 use mathlib.Core.List.{List, _∷_, _++_}
 use Rattle.machine.specs.Machine.{Answered}
 use Rattle.machine.specs.Runs.{stateAfter, answersTo}
@@ -12,17 +11,6 @@ use Rattle.swaps.specs.Swaps.{CanTake, EitherWay, Swapped, Swaps, CanSwa
 -- the other way round
 pub turned-round : {S E : Type 0} {acts : S → E → Answered S} {s : S} {e f : E} → EitherWay acts s e f → EitherWay acts s f e
 turned-round w = record { then-second = w .then-first; then-first = w .then-second; same-words = sym (w .same-words) }
-
--- calls that answer as the machine does in good states, where a refusal writes nothing, refuse nothing more
-pub alike-guards : {S E : Type 0} (Good : S → Type 0) (acts calls : S → E → Answered S)
-    → ((s : S) → Good s → (e : E) → calls s e ≡ acts s e) → ((s : S) (e : E) → acts s e .number ≢ 0 → acts s e .after ≡ s)
-    → Guards Good acts calls (λ e. e) (λ e. Unit {0})
-alike-guards Good acts calls alike refused =
-    record {
-      works = λ s good e z. tt;
-      allows = λ s good e u. alike s good e;
-      refuses = λ s good e n. after-of (alike s good e) ∙ refused s e (λ z. n (number-of (alike s good e) ∙ z));
-    }
 
 -- ---- in a good state
 

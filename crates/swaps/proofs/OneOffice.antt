@@ -4,19 +4,18 @@ use Prim.Native.Nat.{ℕ}
 use mathlib.Core.Path.{_≡_, ap}
 use mathlib.Core.Logic.{_≢_}
 use mathlib.Core.List.{List}
-use borrow.Author.Tests.{ne-eqb}
-use Rattle.base.proofs.Tests.{pick-false}
 use Rattle.machine.specs.Plan.{Plan, Sound}
-use Rattle.machine.specs.Machine.{State, Answered, turn, deliver, fresh}
+use Rattle.machine.specs.Machine.{State, Answered, fresh}
 use Rattle.machine.specs.Runs.{Event, turnOf, deliveryOf, act, stateAfter}
 use Rattle.machine.proofs.Kept.{Inv}
 use Rattle.machine.proofs.Fresh.{inv-fresh}
 use Rattle.machine.proofs.Along.{run-inv, next-inv}
 use Rattle.machine.proofs.Guards.{Guards, good-end}
+use Rattle.machine.proofs.AnyCalls as any
 use Rattle.swaps.specs.Swaps.{CanTake, EitherWay, Swaps}
 use Rattle.swaps.specs.OneOffice.{Different, plainly, Demand214}
 use Rattle.swaps.proofs.Pairs.{two-turns, turn-delivery, two-deliveries}
-use Rattle.swaps.proofs.Carried.{turned-round, alike-guards, plain-taken, carried, rewinds}
+use Rattle.swaps.proofs.Carried.{turned-round, plain-taken, carried, rewinds}
 
 -- in a state with the invariant
 pub either-event : (p : Plan) → Sound p → (source : List ℕ) (s : State) → Inv p source s → (e f : Event) → e ≢ f
@@ -56,12 +55,7 @@ module _ (p : Plan) (so : Sound p) (source : List ℕ) {X : Type 0} (eventOf : X
 
 -- ---- calls that answer as the machine does in every state with the invariant
 
-machine-refuses : (p : Plan) (source : List ℕ) (s : State) (e : Event) → act p source s e .number ≢ 0 → act p source s e .after ≡ s
-unfolding act turn deliver
-machine-refuses p source s (turnOf b) n = pick-false _ _ _ (ne-eqb _ 0 n)
-machine-refuses p source s (deliveryOf m) n = pick-false _ _ _ (ne-eqb _ 0 n)
-
 pub likewise : (p : Plan) (source : List ℕ) (calls : State → Event → Answered State)
     → ((s : State) → Inv p source s → (e : Event) → calls s e ≡ act p source s e)
     → Guards (Inv p source) (act p source) calls plainly (λ e. Unit {0})
-likewise p source calls alike = alike-guards (Inv p source) (act p source) calls alike (machine-refuses p source)
+likewise = any.likewise

@@ -10,7 +10,7 @@ use lib.Seq.{getD-set-same}
 use lib.Dec.{ltb}
 use borrow.Author.Tests.{eq-eqb, ne-eqb, le-leb, ltb-true}
 use Rattle.base.specs.Tests.{pick}
-use Rattle.base.proofs.Tests.{and-true, and-no, never-both, not-true, pick-false}
+use Rattle.base.proofs.Tests.{and-true, and-no, never-both, not-true}
 use Rattle.base.proofs.Numbers.{first-false, first-true}
 use Rattle.machine.specs.Plan.{Plan, Sound}
 use Rattle.machine.specs.Machine.{State, Answered, stageOf, tilesLeft, currentTile, actionAt}
@@ -18,10 +18,10 @@ use Rattle.machine.specs.Runs.{Event, turnOf, deliveryOf, act, stateAfter}
 use Rattle.machine.proofs.Turns.{turn-lines}
 use Rattle.machine.proofs.Records.{SameRecord}
 use Rattle.machine.proofs.RunLaws.{number-of}
-use Rattle.machine.proofs.Guards.{Guards, good-end}
-use Rattle.tenants.specs.Offices.{Lent, holderOf, otherThan, heldByOther, turnFor, deliverFor, actFor, Call, actOn}
-use Rattle.tenants.specs.Offices.{ofOffice, Rig, Sources, sourceFor, ownOf, otherOf, lentTo, returned, freshRig}
-use Rattle.tenants.proofs.OneCall.{call-office, call-number, call-away, returned-same}
+use Rattle.machine.proofs.Guards.{Guards, alike-guards, good-end}
+use Rattle.tenants.specs.Offices.{holderOf, otherThan, heldByOther, turnFor, actFor, Call, actOn}
+use Rattle.tenants.specs.Offices.{ofOffice, Rig, Sources, sourceFor, ownOf, otherOf, lentTo, freshRig}
+use Rattle.tenants.proofs.OneCall.{call-refused, call-office, call-number, call-away}
 use Rattle.tenants.proofs.Engaged.{RigInv, rig-fit, inv-start, inv-next}
 use Rattle.tenants.proofs.SharedWords.{free-zero}
 use Rattle.tenants.proofs.OfficeTurns.{OpenTurn, turn-open, open-turn, open-mail}
@@ -30,7 +30,7 @@ use Rattle.tenants.proofs.AnyCalls.{Alike}
 use Rattle.swaps.specs.Swaps.{CanTake, EitherWay}
 use Rattle.swaps.specs.TwoOffices.{Gathers, TwoGathers, DifferentFor, SwapsFor, Demand214For, wholly}
 use Rattle.swaps.proofs.OneOffice.{either-event}
-use Rattle.swaps.proofs.Carried.{alike-guards, plain-taken, follows, carried, rewinds}
+use Rattle.swaps.proofs.Carried.{plain-taken, follows, carried, rewinds}
 use Rattle.swaps.proofs.SharedWords.{wordsBy, words-after, words-away, words-swap, words-gather, words-same, record-kept}
 
 abbrev call : ℕ → Event → Call
@@ -340,18 +340,6 @@ module _ (p : Plan) (so : Sound p) (sources : Sources) {C : Type 0} (callOf : C 
 
 -- ---- calls that answer as the rig does wherever its invariant holds
 
-office-refuses : (p : Plan) (source : List ℕ) (o : ℕ) (l : Lent) (theirs : List ℕ) (e : Event)
-    → actFor p source o l theirs e .number ≢ 0 → actFor p source o l theirs e .after ≡ l
-unfolding actFor turnFor deliverFor
-office-refuses p source o l theirs (turnOf b) n = pick-false _ _ _ (ne-eqb _ 0 n)
-office-refuses p source o l theirs (deliveryOf m) n = pick-false _ _ _ (ne-eqb _ 0 n)
-
-rig-refuses : (p : Plan) (sources : Sources) (r : Rig) (c : Call) → actOn p sources r c .number ≢ 0 → actOn p sources r c .after ≡ r
-unfolding actOn
-rig-refuses p sources r c n =
-    ap (returned r (c .office)) (office-refuses p _ (c .office) (lentTo r (c .office)) (otherOf r (c .office) .progress) (c .event) n)
-    ∙ returned-same r (c .office)
-
 pub likewise : (p : Plan) (sources : Sources) (calls : Rig → Call → Answered Rig) → Alike p sources calls
     → Guards (RigInv p sources) (actOn p sources) calls wholly (λ c. Unit {0})
-likewise p sources calls alike = alike-guards (RigInv p sources) (actOn p sources) calls alike (rig-refuses p sources)
+likewise p sources calls alike = alike-guards (RigInv p sources) (actOn p sources) calls alike (call-refused p sources)

@@ -10,3 +10,4 @@ pub mod ByStep
 pub mod AnyCalls
 pub mod Example
 pub mod Witnesses
+pub mod Views

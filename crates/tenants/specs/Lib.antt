@@ -1,3 +1,4 @@
 pub mod Offices
 pub mod Demand208
 pub mod Fit
+pub mod AnyCalls

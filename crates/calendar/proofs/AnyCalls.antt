@@ -1,0 +1,152 @@
+-- Demand 2's words for turns with hours, and demands 2 and 3 for lists that mix plain and timed turns: both kinds of calls are guarded, so their
+-- mixture is, and the claims of machine and tenants about guarded calls hold of it.
+use Prim.Native.Nat.{ℕ, _≤_, _<_}
+use mathlib.Core.Path.{_≡_, refl}
+use mathlib.Core.Logic.{inl, inr}
+use mathlib.Core.Bool.{true}
+use mathlib.Core.List.{List, []}
+use lib.ListN.{length}
+use Rattle.machine.specs.Plan.{Plan, Sound}
+use Rattle.machine.specs.Machine.{State, Answered, tilesLeft, collect, fresh}
+use Rattle.machine.specs.Runs.{Event, turnOf, deliveryOf, act, stateAfter, total}
+use Rattle.machine.specs.AnyCalls.{whole, mixed, either, stepsOf, WordsIn}
+use Rattle.machine.proofs.Kept.{Inv}
+use Rattle.machine.proofs.Fresh.{inv-fresh}
+use Rattle.machine.proofs.Along.{next-inv}
+use Rattle.machine.proofs.Guards.{Guards, guarded-zero, good-end}
+use Rattle.machine.proofs.AnyCalls.{follows, likewise, demand3-in, words-in, goes-on, Allowed as Both, guards-mixed}
+use Rattle.tenants.specs.Offices.{Rig, Sources, ownOf, freshRig, Call, actOn, collectOn}
+use Rattle.tenants.proofs.OneCall.{call-office}
+use Rattle.tenants.proofs.Engaged.{RigInv, inv-next}
+use Rattle.tenants.proofs.Views.{rig-itself, words208, demand3-for, goes-plain, goes-on-for, good-at}
+use Rattle.calendar.specs.Hours.{hoursOf, Timed, turnAt, mailOf, eventOf, actAt, TimedCall, callOf, actAtOn}
+use Rattle.calendar.specs.Demands212.{Faultless, OpensSometime, turnBy, mailBy, SomeStep, SomeCall}
+use Rattle.calendar.specs.AnyCalls.{Words212, Words212For, Mixed, mixedEvent, actMixed, MixedCall, mixedCall, actMixedOn, Mixed212, Mixed212For}
+use Rattle.calendar.proofs.Allowed.{Allowed, open-allowed, guards, guards-for}
+use Rattle.calendar.proofs.OneOffice.{turn-facts}
+use Rattle.calendar.proofs.TwoOffices.{call-facts}
+
+-- ---- one office
+module _ (p : Plan) (so : Sound p) (source : List ℕ) where
+  -- any calls that are guarded: with hours, or mixed
+  pub words-guarded : {X : Type 0} (event : X → Event) (calls : State → X → Answered State) (allowed : X → Type 0)
+      → Guards (Inv p source) (act p source) calls event allowed → WordsIn (whole event) calls (fresh p) p source
+  words-guarded event calls allowed gd =
+      words-in p so source (Inv p source) (whole event) calls (follows p so source calls event allowed gd) (fresh p) (inv-fresh p source) refl
+
+  pub words212 : Words212 (actAt p source) (fresh p) p source
+  words212 = words-guarded eventOf (actAt p source) (Allowed p) (guards p source)
+
+  -- plain calls that answer as the machine does, and calls with hours that do so where they are allowed
+  module _ (plain : State → Event → Answered State) (alike : (s : State) → Inv p source s → (e : Event) → plain s e ≡ act p source s e)
+      (timed : State → Timed → Answered State) (gd : Guards (Inv p source) (act p source) timed eventOf (Allowed p)) (calls : List Mixed) where
+    abbrev acts : State → Mixed → Answered State
+    acts = mixed plain timed
+
+    abbrev Allows : Mixed → Type 0
+    Allows = Both (Inv p source) (act p source) plain timed (λ e. e) eventOf (λ e. Unit {0}) (Allowed p)
+
+    both : Guards (Inv p source) (act p source) acts mixedEvent Allows
+    both =
+        guards-mixed (Inv p source) (act p source) plain timed (λ e. e) eventOf (λ e. Unit {0}) (Allowed p) (likewise p source plain alike) gd
+
+    abbrev ended : State
+    ended = stateAfter acts (fresh p) calls
+
+    inv : Inv p source ended
+    inv = good-end (Inv p source) (act p source) acts mixedEvent Allows both (next-inv p so source) calls (fresh p) (inv-fresh p source)
+
+    -- the machine's event gives 0, and so does one of these
+    gives : (x : Mixed) → Allows x → act p source ended (mixedEvent x) .number ≡ 0 → acts ended x .number ≡ 0
+    gives x a z = guarded-zero (Inv p source) (act p source) acts mixedEvent Allows both (next-inv p so source) ended inv x a z
+
+    next : stepsOf (whole mixedEvent) acts (fresh p) calls < total p → (e : Event) × (act p source ended e .number ≡ 0)
+    next h =
+        goes-on p so source (Inv p source) (whole mixedEvent) acts (follows p so source acts mixedEvent Allows both) (fresh p) (inv-fresh p source) refl
+        calls h
+
+    at-open : (table : List ℕ) → Faultless p table → ((b : ℕ) → b < p .processors → tilesLeft p ended b ≡ true → OpensSometime table b)
+        → (e : Event) → act p source ended e .number ≡ 0 → SomeStep (λ s x. acts s (inr x)) ended [] table
+    unfolding stateAfter either eventOf
+    at-open table f opens (turnOf b) z =
+        let q = turn-facts p source ended b z in
+        let w = opens b (q .0) (q .1) in
+        SomeStep.by-turn b (w .0) (w .1) (w .2)
+        (gives (inr (turnAt (hoursOf table (w .0)) b)) (open-allowed p table (w .0) b f (w .1) (w .2)) z)
+    at-open table f opens (deliveryOf m) z = SomeStep.by-mail m (gives (inr (mailOf m)) tt z)
+
+    pub mixed212-for : (collects : State → List ℕ → Answered (List ℕ))
+        → ((s : State) → Inv p source s → (grid : List ℕ) → length grid ≡ p .cells → collects s grid ≡ collect p s grid)
+        → Mixed212 acts (fresh p) p source collects calls
+    unfolding either
+    mixed212-for collects same-grid =
+        record {
+          demand =
+              demand3-in p so source (Inv p source) (whole mixedEvent) acts (follows p so source acts mixedEvent Allows both) (fresh p) (inv-fresh p source)
+              refl collects same-grid calls;
+          words = words-guarded mixedEvent acts Allows both;
+          goes-on = λ h. let g = next h in (g .0, gives (inl (g .0)) tt (g .1));
+          goes-on-at = λ table f opens h. let g = next h in at-open table f opens (g .0) (g .1);
+        }
+
+  pub mixed212 : (calls : List Mixed) → Mixed212 (actMixed p source) (fresh p) p source (collect p) calls
+  mixed212 calls = mixed212-for (act p source) (λ s inv e. refl) (actAt p source) (guards p source) calls (collect p) (λ s inv grid len. refl)
+
+-- ---- two offices
+module _ (p : Plan) (so : Sound p) (sources : Sources) where
+  pub words212-for : Words212For (actAtOn p sources) (freshRig p) p sources
+  words212-for = words208 p so sources callOf (actAtOn p sources) (λ c. Allowed p (c .event)) (guards-for p sources)
+
+  module _ (plain : Rig → Call → Answered Rig)
+      (gd : Guards (RigInv p sources) (actOn p sources) plain (λ c. c) (λ c. Unit {0}))
+      (timed : Rig → TimedCall → Answered Rig) (gd′ : Guards (RigInv p sources) (actOn p sources) timed callOf (λ c. Allowed p (c .event)))
+      (calls : List MixedCall) where
+    abbrev G : Rig → Type 0
+    G = RigInv p sources
+
+    abbrev actsFor : Rig → MixedCall → Answered Rig
+    actsFor = mixed plain timed
+
+    abbrev AllowsFor : MixedCall → Type 0
+    AllowsFor = Both G (actOn p sources) plain timed (λ c. c) callOf (λ c. Unit {0}) (λ c. Allowed p (c .event))
+
+    both-for : Guards G (actOn p sources) actsFor mixedCall AllowsFor
+    both-for = guards-mixed G (actOn p sources) plain timed (λ c. c) callOf (λ c. Unit {0}) (λ c. Allowed p (c .event)) gd gd′
+
+    abbrev rig : Rig
+    rig = stateAfter actsFor (freshRig p) calls
+
+    gives-for : (x : MixedCall) → AllowsFor x → actOn p sources rig (mixedCall x) .number ≡ 0 → actsFor rig x .number ≡ 0
+    gives-for x a z =
+        guarded-zero G (actOn p sources) actsFor mixedCall AllowsFor both-for (inv-next p so sources) rig
+        (good-at p so sources mixedCall actsFor AllowsFor both-for calls) x a z
+
+    at-open-for : (table : List ℕ) → Faultless p table
+        → ((o b : ℕ) → o ≤ 1 → b < p .processors → tilesLeft p (ownOf rig o) b ≡ true → OpensSometime table b)
+        → (o : ℕ) (e : Event) → actOn p sources rig (record { office = o; event = e }) .number ≡ 0 → SomeCall (λ r c. actsFor r (inr c)) rig [] table
+    unfolding stateAfter either callOf eventOf
+    at-open-for table f opens o (turnOf b) z =
+        let low = call-office p sources rig (record { office = o; event = turnOf b }) z in
+        let q = call-facts p sources rig o b z in
+        let w = opens o b low (q .0) (q .1) in
+        SomeCall.by-turn o b (w .0) (w .1) (w .2)
+        (gives-for (inr (turnBy o (hoursOf table (w .0)) b)) (open-allowed p table (w .0) b f (w .1) (w .2)) z)
+    at-open-for table f opens o (deliveryOf m) z = SomeCall.by-mail o m (gives-for (inr (mailBy o m)) tt z)
+
+    pub mixed212-on : (collects : Rig → ℕ → List ℕ → Answered (List ℕ))
+        → ((r : Rig) → G r → (o : ℕ) (grid : List ℕ) → length grid ≡ p .cells → collects r o grid ≡ collectOn p r o grid)
+        → Mixed212For actsFor (freshRig p) p sources collects calls
+    unfolding either
+    mixed212-on collects same-grid =
+        record {
+          demand = demand3-for p so sources mixedCall actsFor AllowsFor both-for collects same-grid calls;
+          words = words208 p so sources mixedCall actsFor AllowsFor both-for;
+          goes-on = goes-on-for p so sources mixedCall actsFor AllowsFor both-for calls inl (λ c. refl) (λ c. tt);
+          goes-on-at = λ table f opens h.
+              let g = goes-plain p so sources mixedCall actsFor AllowsFor both-for calls h in
+              at-open-for table f opens (g .0 .office) (g .0 .event) (g .1);
+        }
+
+  pub mixed212-two : (calls : List MixedCall) → Mixed212For (actMixedOn p sources) (freshRig p) p sources (collectOn p) calls
+  mixed212-two calls =
+      mixed212-on (actOn p sources) (rig-itself p sources) (actAtOn p sources) (guards-for p sources) calls (collectOn p) (λ r inv o grid len. refl)
