@@ -18,3 +18,4 @@ pub mod RowNests
 pub mod IndirectRows
 pub mod SingleCounts
 pub mod ShapedRows
+pub mod BodyRows

@@ -4,3 +4,4 @@ pub mod Exact
 pub mod ExactShape
 pub mod Rows
 pub mod ShapedRows
+pub mod BodyRows
