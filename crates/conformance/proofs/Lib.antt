@@ -19,3 +19,4 @@ pub mod IndirectRows
 pub mod SingleCounts
 pub mod ShapedRows
 pub mod BodyRows
+pub mod InOrder

@@ -5,3 +5,4 @@ pub mod ExactShape
 pub mod Rows
 pub mod ShapedRows
 pub mod BodyRows
+pub mod InOrder
