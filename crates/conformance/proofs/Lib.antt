@@ -20,3 +20,4 @@ pub mod SingleCounts
 pub mod ShapedRows
 pub mod BodyRows
 pub mod InOrder
+pub mod OneBody

@@ -6,3 +6,4 @@ pub mod Rows
 pub mod ShapedRows
 pub mod BodyRows
 pub mod InOrder
+pub mod OneBody
