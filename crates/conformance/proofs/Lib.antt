@@ -18,3 +18,6 @@ pub mod RowNests
 pub mod IndirectRows
 pub mod SingleCounts
 pub mod ShapedRows
+pub mod BodyRows
+pub mod InOrder
+pub mod OneBody

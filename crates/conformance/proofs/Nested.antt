@@ -195,7 +195,7 @@ loop-most s b v i = let q = tabulate-in (λ u. s + u) (b + 1 - s) v (rw (loop-on
 -- ---- the nest's run
 
 module _ (x : Nest) (ok : Accepted x) (source : List ℕ) where
-  body-value : (array : List ℕ) (i : ℕ → ℕ) → Index x i → body x source array i ≡ value x source array (cellAt x i)
+  pub body-value : (array : List ℕ) (i : ℕ → ℕ) → Index x i → body x source array i ≡ value x source array (cellAt x i)
   unfolding body readFrom value hasRead readAt
   body-value array i w =
       ap (λ (a : ℕ). (getD source (cellAt x i) 0 + a) / 2 ^ x .shift % 2 ^ 32)

@@ -77,6 +77,11 @@ each-shape x (i ∷ is) h = go (inShape x (cellAt x i)) (each-shape x is (h .1))
     go true e = (h .0, e)
     go false e = e
 
+-- the loops meet the shape's cells in rising order
+pub shape-in-order : (x : Nest) → Accepted x → map (cellAt x) (shapeOf x (sequential x)) ≡ keep (inShape x) (cells x)
+shape-in-order x ok =
+    map-shape x (sequential x) ∙ (ap (chosen (inShape x)) (cells-in-order x ok) ∙ chosen-all (inShape x) (cells x))
+
 module _ (x : Nest) (ok : Accepted x) (source array : List ℕ) (len : length array ≡ cells x)
     (outside : (c : ℕ) → c < cells x → inShape x c ≡ false → getD array c 0 ≡ x .boundary) where
   abbrev p : Plan

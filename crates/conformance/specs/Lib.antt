@@ -4,3 +4,6 @@ pub mod Exact
 pub mod ExactShape
 pub mod Rows
 pub mod ShapedRows
+pub mod BodyRows
+pub mod InOrder
+pub mod OneBody

@@ -3,3 +3,4 @@ pub mod Digits
 pub mod Pens
 pub mod Steps
 pub mod Example
+pub mod Denotes

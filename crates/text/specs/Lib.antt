@@ -1,3 +1,4 @@
 pub mod Decimal
 pub mod Writing
 pub mod Grid
+pub mod Denotes

@@ -1,3 +1,4 @@
 pub mod Lines
 pub mod AsRuns
 pub mod Demands
+pub mod OpensRows

@@ -1,3 +1,4 @@
 pub mod Calls
 pub mod Given
 pub mod Demands
+pub mod OpensRows
