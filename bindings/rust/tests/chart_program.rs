@@ -119,6 +119,32 @@ fn of_words(folder: &Folder, words: [u32; 6], out: impl AsRef<OsStr>) -> Output 
 const TEXT: &str = "ncols 3\nnrows 2\nxllcorner 0\nyllcorner 0\ncellsize 1\nNODATA_value -9999\n1 2 3\n5 7 9\n";
 
 #[test]
+fn words_that_readers_take_for_negative_numbers_are_told() {
+    let folder = Folder::new();
+    let out = folder.path.join("out.asc");
+    let output = of_words(&folder, [2_147_483_647, 0, 4_294_957_297, 0, 2_147_483_648, 0], &out);
+    assert_eq!(output.status.code(), Some(0));
+    let said = String::from_utf8(output.stderr).expect("text");
+    let cells = "cell 2 (row 0, column 2) has 4294957297, cell 4 (row 1, column 1) has 2147483648, \
+                 cell 5 (row 1, column 2) has 4294957297\n";
+    assert!(said.starts_with(&format!("{}: 3 cells have words of 2147483648 or more", out.display())), "{said}");
+    assert!(said.ends_with(cells), "{said}");
+    assert!(fs::read_to_string(&out)
+        .expect("the chart")
+        .ends_with("\n2147483647 0 4294957297\n2147483647 2147483648 4294957297\n"));
+    let output = of_words(&folder, [2_147_483_648, 0, 0, 2_147_483_648, 0, 0], &out);
+    assert!(String::from_utf8_lossy(&output.stderr).contains(": 1 cell has a word of 2147483648 or more"));
+    // outside the shape stands the boundary value, which the text has not
+    let shape = Fields::new().dimension(2, 1, 2).dimension(12, 12, 0).at_most(1, 0, 0, 10).distance(&[1, 0], 1);
+    let recipe = folder.file("shape", &*shape.close(0, u32::MAX).expect("a recipe"));
+    let source = folder.file("source", [0xff; 96]);
+    let output = chart(&[&recipe, Path::new("--source"), &source, Path::new("--out"), &out], &[]);
+    let said = String::from_utf8(output.stderr).expect("text");
+    assert!(said.contains(": 22 cells have words"), "{said}");
+    assert!(said.ends_with("(row 0, column 9) has 4294967294, 12 more\n"), "{said}");
+}
+
+#[test]
 fn endless_files_are_told() {
     let folder = Folder::new();
     let (recipe, zero) = (folder.file("recipe", recipe()), Path::new("/dev/zero"));

@@ -12,7 +12,8 @@
 //!
 //! The file named by `--out` is written whole or not at all: what stood there stays until the text is complete; `-` is
 //! standard output. A run that takes longer than a second tells how far it is on standard error. What went wrong is told
-//! there with the file's name, and the status is then 1.
+//! there with the file's name, and the status is then 1. Words of 2^31 or more are told there too: the text has them as
+//! they are, and readers that keep 32 bits with a sign, as GDAL does, take them for negative numbers.
 
 mod cli;
 
@@ -40,6 +41,12 @@ const SOURCE_MOST: usize = WORD * 16_384;
 
 /// Bytes of all files of soundings together, 16 million records: they are held in memory.
 const SOUNDINGS_MOST: usize = 1 << 28;
+
+/// Lines of the text before the first row.
+const HEAD_LINES: usize = 6;
+
+/// Cells that are told one by one.
+const TOLD_MOST: usize = 10;
 
 /// Where the depths come from.
 #[derive(Debug, PartialEq, Eq)]
@@ -150,6 +157,27 @@ fn grid_of(recipe: &[u8], source: &[u32]) -> Result<Vec<u32>, rolwyddac::Refusal
     run.collect()
 }
 
+/// What is told of a text's words of 2^31 or more: how many, and the first of them by number and place.
+fn unsigned_words(text: &str) -> Option<String> {
+    let rows = text.lines().skip(HEAD_LINES).map(|line| line.split(' ').map(|word| word.parse().unwrap_or(0)));
+    let mut found = Vec::new();
+    let mut cells = 0;
+    for (row, words) in rows.enumerate() {
+        for (column, word) in words.enumerate() {
+            if word > i64::from(i32::MAX) {
+                found.push(format!("cell {cells} (row {row}, column {column}) has {word}"));
+            }
+            cells += 1;
+        }
+    }
+    let (many, more) = (found.len(), found.len().saturating_sub(TOLD_MOST));
+    found.truncate(TOLD_MOST);
+    found.extend((more > 0).then(|| format!("{more} more")));
+    let what = "of 2147483648 or more; GDAL reads them as negative numbers, and 4294957297 as a missing cell";
+    let cells = if many == 1 { "1 cell has a word" } else { &format!("{many} cells have words") };
+    (many > 0).then(|| format!("{cells} {what}: {}", found.join(", ")))
+}
+
 fn make(order: &Order) -> Result<(), String> {
     let recipe = read(&order.recipe, cli::RECIPE_MOST)?;
     let refused = |refusal| of(&order.recipe, refusal);
@@ -158,7 +186,11 @@ fn make(order: &Order) -> Result<(), String> {
     let grid = grid_of(&recipe, &source).map_err(refused)?;
     let (x, y) = order.corner;
     let text = chart(&recipe, &grid, x, y, order.cell_size).map_err(refused)?;
-    cli::write(&order.out, text.as_bytes())
+    cli::write(&order.out, text.as_bytes())?;
+    if let Some(what) = unsigned_words(&text) {
+        tell(&of(&order.out, what));
+    }
+    Ok(())
 }
 
 fn main() -> ExitCode {
