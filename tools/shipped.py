@@ -36,8 +36,13 @@ case $1 in
   version) echo 'stand-in 1' ;;
   check)
     shift
-    mkdir -p target/stamp
-    for name; do sleep "$RT_SECONDS"; touch "target/stamp/$name"; echo "rt: $name proved (7 s)"; done ;;
+    mkdir -p target/stamp target/log
+    for name; do
+      said="rt: $name proved (unchanged since it was last proved)"
+      if ! [ -f "target/stamp/$name" ]; then sleep "$RT_SECONDS"; said="rt: $name proved (7 s)"; fi
+      touch "target/stamp/$name"
+      echo "$said" | tee "target/log/$name.out"
+    done ;;
   staticlib)
     sleep "$RT_SECONDS"
     [ -z "${RT_REFUSES:-}" ] || { echo 'lib.rt:1:1: error: a fact does not hold'; exit 1; }
@@ -261,6 +266,12 @@ class Verified(unittest.TestCase):
         self.assertIn('seconds low 7', lines)
         named = {line.split()[2] for line in lines if line.startswith('source ')}
         self.assertEqual(named, {name for name in SOURCES if 'beside' not in name and 'must-fail' not in name})
+
+    def test_the_gates_times_are_kept(self):
+        self.repository.write('target/log/low.out', 'logic=proved\nrt: low proved (31 s)\n')
+        self.repository.write('target/stamp/low', '')
+        self.assertEqual(self.repository.run('archive', '--refresh')[0], 0)
+        self.assertIn(b'\nseconds low 31\nseconds middle 7\n', self.repository.read(SHIPPED + 'made-from'))
 
     def test_whether_it_is_proved(self):
         self.assertEqual(self.repository.run('archive', '--proved')[0], 1)
