@@ -214,6 +214,13 @@ class Shipped(unittest.TestCase):
         self.assertEqual(status, 2)
         self.assertIn('this is Linux aarch64', said[0])
 
+    def test_four_libraries_at_once_where_there_are_no_locks(self):
+        self.repository.command('flock', '#!/bin/sh\nexit 1\n')
+        processes = [self.repository.start(['library']) for _ in range(4)]
+        said = [process.communicate(timeout=120)[1] for process in processes]
+        self.assertEqual([process.returncode for process in processes], [0] * 4, said)
+        self.assertIn(b'this file system has no locks', said[0])
+
     def test_words(self):
         for words in (['--prove'], ['--verify', 'more'], ['']):
             self.assertEqual(self.repository.run('archive', *words)[0], 2)
