@@ -147,7 +147,7 @@ class Shipped(unittest.TestCase):
             self.repository.change(name)
         status, said = self.repository.run('archive', rt=False)
         self.assertEqual(status, 2)
-        self.assertIn('it is of other sources: crates.txt and 2 more differ', said[0])
+        self.assertIn('the shipped archive is of other sources: crates.txt and 2 more differ', said[0])
         self.assertIn('rt is not in PATH', said[0])
         status, said = self.repository.run('archive')
         self.assertEqual((status, len(said)), (0, 1), said)
@@ -303,6 +303,16 @@ class Proved(unittest.TestCase):
             self.assertIn('lib.rt:1:1: error: a fact does not hold', said[-1])
             self.assertFalse(os.path.exists(self.repository.path(MADE)))
         self.assertEqual(self.repository.run('archive')[0], 0)
+
+    def test_sources_that_change_meanwhile(self):
+        process = self.repository.start(['archive', '--refresh'], RT_SECONDS='1')
+        while not os.path.exists(self.repository.path('target/archive.log')):
+            time.sleep(0.05)
+        self.repository.change()
+        said = process.communicate(timeout=60)[1].decode()
+        self.assertEqual(process.returncode, 1)
+        self.assertIn('the sources changed while they were proved', said)
+        self.assertFalse(os.path.exists(self.repository.path('prebuilt')))
 
     def test_progress_on_a_terminal(self):
         ours, theirs = pty.openpty()
