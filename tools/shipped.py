@@ -21,7 +21,7 @@ ROOT = os.path.join(os.path.dirname(os.path.abspath(__file__)), '..')
 SHIPPED = 'prebuilt/x86_64-linux/'
 MADE = 'target/staticlib/libcalls.a'
 SOURCES = {
-    'crates.txt': '# low: a comment\nlow:\n\nmiddle: low\nbeside: low\ncalls: low middle io\n',
+    'crates.txt': '# beside: low\nlow:\n\n  middle :\tlow # and no more\nbeside: low\ncalls: low\tmiddle io\n',
     'crates/low/src/lib.rt': 'low\n', 'crates/low/specs/Low.antt': 'low\n', 'crates/low/must-fail/one.edit': 'edit\n',
     'crates/middle/src/lib.rt': 'middle\n', 'crates/middle/proofs/deep/Middle.antt': 'middle\n',
     'crates/beside/src/lib.rt': 'beside\n',
@@ -284,6 +284,7 @@ class Verified(unittest.TestCase):
         self.assertEqual(self.repository.run('archive', '--proved')[0], 1)
         self.assertEqual(self.repository.run('archive', '--verify')[0], 0)
         self.assertEqual(self.repository.run('archive', '--proved')[0], 0)
+        self.assertIn('proves 1 crate (', self.repository.run('archive', '--verify')[1][0])
         self.assertEqual(self.repository.run('archive', '--proved', rt=False)[0], 1)
         time.sleep(0.01)
         self.repository.change('crates/low/src/lib.rt')
