@@ -1,11 +1,15 @@
-"""Builds the wheel for `pip install bindings/python`: the package and the shared object beside it. Nothing is fetched, and nothing but
-Python is needed; the shared object is that of bindings/library, or of the folder that ROLWYDDAC_LIB names.
+"""Builds the wheel for `pip install bindings/python`: the package and the shared object beside it. Nothing is fetched.
+
+The shared object is that of the folder that ROLWYDDAC_LIB names. Without it bindings/library makes one first, which
+needs a C compiler.
 """
 
 import base64
 import hashlib
 import os
 import re
+import subprocess
+import sys
 import sysconfig
 import zipfile
 
@@ -27,10 +31,14 @@ def _project(key):
 
 
 def _shared():
-    folder = os.environ.get('ROLWYDDAC_LIB') or os.path.join(HERE, '../../target/library/lib')
+    folder = os.environ.get('ROLWYDDAC_LIB')
+    if not folder:
+        if subprocess.run([os.path.join(HERE, '../library')], stdout=sys.stderr, check=False).returncode:
+            raise SystemExit('bindings/library failed: what it wrote stands above')
+        folder = os.path.join(HERE, '../../target/library/lib')
     path = os.path.join(os.path.abspath(folder), SHARED)
     if not os.path.isfile(path):
-        raise SystemExit('no %s: run bindings/library first, or set ROLWYDDAC_LIB to its folder' % os.path.normpath(path))
+        raise SystemExit('no %s: ROLWYDDAC_LIB names a folder without it' % os.path.normpath(path))
     return _content(path)
 
 
