@@ -1,4 +1,5 @@
 pub mod Windows
+pub mod Fit
 pub mod Search
 pub mod Telling
 pub mod Allowed

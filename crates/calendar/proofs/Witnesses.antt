@@ -8,6 +8,7 @@ use lib.ListN.{replicate}
 use Rattle.base.specs.Tests.{_and_, _or_, not, pick, one, every, some, keep, those}
 use Rattle.base.specs.Lists.{part, put, setAll, storeAll, allAt, unpack, pack, countIf}
 use Rattle.base.specs.Numbers.{firstOf}
+use Rattle.base.proofs.Tests.{never-both}
 use Rattle.machine.specs.Plan.{offset}
 use Rattle.machine.specs.Machine.{setProgress, tilesLeft, fitRecord, fit, unpackAll, afterSends, carryOut, actionAt, waiting, turn, deliver, fresh}
 use Rattle.machine.specs.Machine.{gather, send, collect, sweep}
@@ -22,7 +23,9 @@ use Rattle.tenants.specs.AnyCalls.{officeView}
 use Rattle.calendar.specs.Hours.{isWindow, isFaulty, faultyBoard, faultyTable, faultyMinute, covers, openAt, Hours, hoursOf, faultyFor, closed}
 use Rattle.calendar.specs.Hours.{timedTurn, timedTurnFor, turnAt, mailOf, eventOf, actAt, callOf, actAtFor, actAtOn}
 use Rattle.calendar.specs.Demands212.{turnBy as timedBy}
+use Rattle.calendar.specs.Fit.{OpenAt, FaultyHours}
 use Rattle.calendar.specs.AnyCalls.{Mixed, mixedEvent, actMixed, MixedCall, mixedCall, actMixedOn}
+use Rattle.calendar.proofs.Fit.{hours-tests}
 use Rattle.calendar.proofs.AnyCalls.{mixed212}
 
 -- processor 0 is open from minute 5 to before 10, processor 1 from 10,000 to the end of the week
@@ -96,3 +99,20 @@ unfolding first hours small source programOver turnsOf eventsIn numbersIn mixed 
     deliverFor actFor actOn ofOffice returned freshRig those keep offset part put unpack unpackAll setAll storeAll pack allAt every some one not pick _and_
     _or_ firstOf setProgress tilesLeft fitRecord fit afterSends carryOut actionAt waiting stateAfter answersTo fresh
 gathered-for = record { turn = record { ours = refl; turn = refl; gave = refl }; named = refl }
+
+-- ---- Fit.OpenAt, Fit.FaultyHours: open at minute 9 and not at 10; a window that closes before it opens, and the minute after the last
+is-open : OpenAt (hours 0 .table) 0 9
+unfolding hours isWindow covers openAt some _and_ _or_ not
+is-open = hours-tests small (hours 0) .is-open 0 9 .only refl
+
+not-open : OpenAt (hours 0 .table) 0 10 → ⊥
+unfolding hours isWindow covers openAt some _and_ _or_ not
+not-open c = never-both (hours-tests small (hours 0) .is-open 0 10 .whenever c) refl
+
+faulty : FaultyHours small (hoursOf (replicate 54 0 ++ (7 ∷ 7 ∷ [])) 0)
+unfolding small isWindow isFaulty faultyBoard faultyTable faultyMinute faultyFor some _and_ _or_ not
+faulty = hours-tests small (hoursOf (replicate 54 0 ++ (7 ∷ 7 ∷ [])) 0) .faulty .only refl
+
+no-minute : FaultyHours small (hours 10080)
+unfolding hours
+no-minute = FaultyHours.of-minute (omega arith)

@@ -16,14 +16,14 @@ use Rattle.machine.specs.Runs.{Event, turnOf, deliveryOf, act, stateAfte
 use Rattle.machine.specs.Runs.{deliveriesOf, CarriedOut, Demand3, steps}
 use Rattle.machine.specs.Words.{Does, Did, Posted}
 use Rattle.machine.specs.AnyCalls.{View, eventsIn, numbersIn, whole, mixed, either, CarriedOutIn, numbersOf, stepsOf, ownAfter, ownThen, turnsIn}
-use Rattle.machine.specs.AnyCalls.{TurnIn, DidIn, Demand3In, PostedIn, WordsIn}
+use Rattle.machine.specs.AnyCalls.{TurnIn, DidIn, Demand3In, PostedIn, WordsIn, Alone}
 use Rattle.machine.proofs.Fit.{numbers}
 use Rattle.machine.proofs.Kept.{Inv}
 use Rattle.machine.proofs.Along.{next-inv}
 use Rattle.machine.proofs.Theorem.{theorem, named-next}
 use Rattle.machine.proofs.Posted.{did, posted, next-is}
 use Rattle.machine.proofs.Marks.{marks-passed}
-use Rattle.machine.proofs.RunLaws.{number-of, after-of, after-append, Passed, ends, steps-same, turns-same, brings-same}
+use Rattle.machine.proofs.RunLaws.{number-of, after-of, after-append, Passed, ends, steps-same, turns-same, brings-same, one-end}
 use Rattle.machine.proofs.Guards.{Guards, alike-guards, is-plain, plain-zero, good-after}
 
 -- in a good state: a call of ours that gives 0 does what the machine's event does; any other leaves our areas; and good states stay good
@@ -208,6 +208,18 @@ module _ {S X : Type 0} (p : Plan) (so : Sound p) (source : List ℕ) (Good : S 
     -- while steps are left the machine has an event that would give 0
     pub goes-on : (calls : List X) → stepsOf v acts start calls < total p → (e : Event) × (act p source (ownAfter v acts start calls) e .number ≡ 0)
     goes-on calls h = let g = single calls .goes-on (omega (arith, same-steps calls)) in (g .0, rw (led-to calls) at g .1)
+
+-- ---- two runs
+pub alone : {S X S′ X′ : Type 0} (p : Plan) → Sound p → (source : List ℕ) (Good : S → Type 0) (v : View S X) (acts : S → X → Answered S)
+    → Follows p source Good v acts → (start : S) → Good start → v .own start ≡ fresh p
+    → (Good′ : S′ → Type 0) (v′ : View S′ X′) (acts′ : S′ → X′ → Answered S′)
+    → Follows p source Good′ v′ acts′ → (start′ : S′) → Good′ start′ → v′ .own start′ ≡ fresh p → Alone v acts start v′ acts′ start′
+alone p so source Good v acts fo start good own Good′ v′ acts′ fo′ start′ good′ own′ =
+    record {
+      same-words = λ calls calls′ e1 e2.
+          one-end (act p source) (rw (e1, e2) at (ran p so source Good v acts fo start good own calls))
+          (ran p so source Good′ v′ acts′ fo′ start′ good′ own′ calls′);
+    }
 
 -- ---- one office: calls that are guarded follow the machine
 pub follows : {X : Type 0} (p : Plan) (so : Sound p) (source : List ℕ) (calls : State → X → Answered State) (event : X → Event) (allowed : X → Type 0)

@@ -116,3 +116,11 @@ module _ {S X : Type 0} (v : View S X) (acts : S → X → Answered S) (start : 
     pub does : (before : List X) (x : X) (b : ℕ) (a : Action) → DidIn p before x b a → Does p source (ownAfter before) (ownThen before x) b a
     pub posted : (before : List X) (x : X) (b m : ℕ) → DidIn p before x b (send m) → PostedIn p before x b m
     pub marks : (calls : List X) → Marks p (ownAfter calls) (eventsIn v calls) (numbersOf calls)
+
+-- two runs, of whatever calls, that agree on their events and the numbers they got leave the same words in these areas: an office's own, whatever the other
+-- office did; and those of one office alone
+pub record Alone {S X S′ X′ : Type 0} (v : View S X) (acts : S → X → Answered S) (start : S) (v′ : View S′ X′) (acts′ : S′ → X′ → Answered S′) (start′ : S′)
+    : Type 0 where
+  pub same-words : (calls : List X) (calls′ : List X′) → eventsIn v calls ≡ eventsIn v′ calls′
+      → numbersOf v acts start calls ≡ numbersOf v′ acts′ start′ calls′
+      → ownAfter v acts start calls ≡ ownAfter v′ acts′ start′ calls′

@@ -9,14 +9,16 @@ use lib.ListN.{length, replicate, length-replicate}
 use borrow.Author.Tests.{eqb-true, eqb-false, eq-eqb, le-leb}
 use Rattle.machine.specs.Plan.{Plan, Sound}
 use Rattle.machine.specs.Machine.{Answered, collect, fresh}
-use Rattle.machine.specs.Runs.{stateAfter, total}
-use Rattle.machine.specs.AnyCalls.{stepsOf, Demand3In}
+use Rattle.machine.specs.Runs.{act, stateAfter, total}
+use Rattle.machine.specs.AnyCalls.{whole, stepsOf, Demand3In}
+use Rattle.machine.proofs.Kept.{Inv}
+use Rattle.machine.proofs.Fresh.{inv-fresh}
 use Rattle.machine.proofs.RunLaws.{after-of, ends}
 use Rattle.machine.proofs.Guards.{Guards, is-plain, plain-zero, guarded-zero, good-after, good-end, passes, alike-guards}
-use Rattle.machine.proofs.AnyCalls.{Follows, demand3-in, words-in}
+use Rattle.machine.proofs.AnyCalls.{Follows, demand3-in, words-in, alone, follows, itself}
 use Rattle.tenants.specs.Offices.{Rig, Sources, sourceFor, ownOf, otherOf, lentTo, freshRig, Call, actOn, collectOn}
 use Rattle.tenants.specs.Demand208.{Demand208, stepsFor}
-use Rattle.tenants.specs.AnyCalls.{officeView, Words208, Demand3For, GoesOnFor}
+use Rattle.tenants.specs.AnyCalls.{officeView, Words208, Demand3For, GoesOnFor, Alone208}
 use Rattle.tenants.proofs.OneCall.{collect-is, office-both, office-cases, call-refused, call-office, call-away}
 use Rattle.tenants.proofs.Engaged.{RigInv, rig-fit, inv-start, inv-next}
 use Rattle.tenants.proofs.OneOffice.{step-number, step-own}
@@ -152,3 +154,23 @@ module _ (p : Plan) (so : Sound p) (sources : Sources) {C : Type 0} (callOf : C 
                     (ap (λ (x : Call). actOn p sources ended x .number) (is (g .0)) ∙ g .1),
               );
         }
+
+-- ---- isolation, by calls of any kinds
+pub alone208 : (p : Plan) → Sound p → (o : ℕ) → o ≤ 1 → (sources sources′ : Sources) → sourceFor sources′ o ≡ sourceFor sources o
+    → {C D : Type 0} (callOf : C → Call) (calls : Rig → C → Answered Rig) (allowed : C → Type 0)
+    → Guards (RigInv p sources) (actOn p sources) calls callOf allowed
+    → (callOf′ : D → Call) (calls′ : Rig → D → Answered Rig) (allowed′ : D → Type 0)
+    → Guards (RigInv p sources′) (actOn p sources′) calls′ callOf′ allowed′
+    → Alone208 callOf calls callOf′ calls′ (act p (sourceFor sources o)) p o
+alone208 p so o low sources sources′ same callOf calls allowed gd callOf′ calls′ allowed′ gd′ =
+    record {
+      same-words =
+          alone p so (sourceFor sources o) (RigInv p sources) (officeView callOf o) calls (follows-for p so sources callOf calls allowed gd o low)
+          (freshRig p) (inv-start p sources) (fresh-own p o) (RigInv p sources′) (officeView callOf′ o) calls′
+          (rw same at (follows-for p so sources′ callOf′ calls′ allowed′ gd′ o low)) (freshRig p) (inv-start p sources′) (fresh-own p o);
+      as-single =
+          alone p so (sourceFor sources o) (RigInv p sources) (officeView callOf o) calls (follows-for p so sources callOf calls allowed gd o low)
+          (freshRig p) (inv-start p sources) (fresh-own p o) (Inv p (sourceFor sources o)) (whole (λ e. e)) (act p (sourceFor sources o))
+          (follows p so (sourceFor sources o) (act p (sourceFor sources o)) (λ e. e) _ (itself p (sourceFor sources o))) (fresh p)
+          (inv-fresh p (sourceFor sources o)) refl;
+    }

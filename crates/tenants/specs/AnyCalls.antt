@@ -6,10 +6,10 @@ use mathlib.Core.Logic.{_⊎_, _≢_}
 use mathlib.Core.List.{List}
 use lib.Dec.{eqb}
 use Rattle.machine.specs.Plan.{Plan}
-use Rattle.machine.specs.Machine.{Answered}
-use Rattle.machine.specs.Runs.{stateAfter, total}
-use Rattle.machine.specs.AnyCalls.{View, stepsOf, Demand3In, WordsIn}
-use Rattle.tenants.specs.Offices.{Rig, Sources, sourceFor, ownOf, Call}
+use Rattle.machine.specs.Machine.{State, Answered, fresh}
+use Rattle.machine.specs.Runs.{Event, stateAfter, total}
+use Rattle.machine.specs.AnyCalls.{View, whole, stepsOf, Demand3In, WordsIn, Alone}
+use Rattle.tenants.specs.Offices.{Rig, Sources, sourceFor, ownOf, freshRig, Call}
 
 -- C: the calls; callOf: what the rig without hours reads of one
 
@@ -35,3 +35,9 @@ module _ {C : Type 0} (callOf : C → Call) (acts : Rig → C → Answered Rig) 
   pub record GoesOnFor (p : Plan) (calls : List C) : Type 0 where
     pub goes-on : (stepsOf (officeView callOf 0) acts start calls < total p) ⊎ (stepsOf (officeView callOf 1) acts start calls < total p)
         → (c : C) × (acts (stateAfter acts start calls) c .number ≡ 0)
+
+-- nothing but the numbers tells one office of the other: two rigs, by calls of any kind each, and an office alone on a machine of its own
+pub record Alone208 {C D : Type 0} (callOf : C → Call) (acts : Rig → C → Answered Rig) (callOf′ : D → Call) (acts′ : Rig → D → Answered Rig)
+    (single : State → Event → Answered State) (p : Plan) (o : ℕ) : Type 0 where
+  pub same-words : Alone (officeView callOf o) acts (freshRig p) (officeView callOf′ o) acts′ (freshRig p)
+  pub as-single : Alone (officeView callOf o) acts (freshRig p) (whole (λ e. e)) single (fresh p)
