@@ -9,3 +9,4 @@ pub mod Advance
 pub mod Steps
 pub mod Regions
 pub mod Twins
+pub mod RouteWords
