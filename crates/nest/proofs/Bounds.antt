@@ -19,7 +19,8 @@ use Rattle.base.proofs.Numbers.{none-first}
 use Rattle.nest.specs.declared.Nest.{Nest}
 use Rattle.nest.specs.Nest.{side, bounded, earlier, slope, offset, cells}
 use Rattle.nest.specs.Places.{place, cellPlace}
-use Rattle.nest.specs.Reader.{half, kind, ofKind, records, distancesOf, slopeAt, offsetAt, filled, nestBy, nestOf, ragged, fitsAt}
+use Rattle.base.specs.Bytes.{half}
+use Rattle.nest.specs.Reader.{kind, ofKind, records, distancesOf, slopeAt, offsetAt, filled, nestBy, nestOf, ragged, fitsAt}
 use Rattle.nest.specs.Reader.{strayRecord, readLines}
 use Rattle.nest.specs.Shape.{level, raised, meets, inShape}
 use Rattle.nest.specs.Bounds.{signedByte, signedHalf, componentOf, earlierOf, lineOf, Meets, BoundsMean, BoundRows}

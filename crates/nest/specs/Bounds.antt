@@ -12,7 +12,8 @@ use lib.Signed.{leZ}
 use Rattle.base.specs.Tests.{pick, keep}
 use Rattle.nest.specs.Nest.{cells}
 use Rattle.nest.specs.Places.{cellPlace}
-use Rattle.nest.specs.Reader.{half, kind, ofKind, nestOf}
+use Rattle.base.specs.Bytes.{half}
+use Rattle.nest.specs.Reader.{kind, ofKind, nestOf}
 use Rattle.nest.specs.Recipes.{dimension, bound, distance, close}
 use Rattle.nest.specs.Shape.{inShape}
 
