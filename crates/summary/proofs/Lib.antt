@@ -1,3 +1,4 @@
 pub mod Answers
 pub mod Ones
 pub mod Rows
+pub mod HopsTold

@@ -1,7 +1,6 @@
 -- The one table of what the calls about a plan answer: the rows of a plan, carried over to what `summary` and `message` tell.
 use Prim.Native.Nat.{ℕ, zero, suc, _≤_}
 use mathlib.Core.Path.{_≡_, refl, sym, ap, _∙_}
-use mathlib.Core.Logic.{_≢_}
 use mathlib.Core.Bool.{true}
 use mathlib.Core.List.{List, [], _∷_, _++_, map}
 use native.Mathlib.Omega.{arith}
@@ -27,6 +26,7 @@ use Rattle.plan.specs.Shaped.{boxTile, reachesShape, shapedParcel, follows, sha
 use Rattle.plan.proofs.ShapedBox.{planOf-box}
 use Rattle.plan.proofs.SmallNests.{nestTriangle}
 use Rattle.layout.specs.Sizes.{routeOf}
+use Rattle.layout.proofs.RouteWords.{route-words}
 use Rattle.routes.specs.Routes.{indirect, routeLines, linesFor}
 use Rattle.routes.proofs.Laws.{passed-for, box-open, direct-open}
 use Rattle.conformance.specs.Rows as table
@@ -84,7 +84,7 @@ module _ (route : ℕ) (bytes : List ℕ) (z : firstOf (linesFor (routeOf route)
 
 module _ (route : ℕ) (bytes : List ℕ) (bytes-small : small bytes ≡ true) (none : nestOf bytes .bounds ≡ 0) (t m w s : ℕ)
     (e : figures (routeOf route) bytes ≡ table.accepted t m w s) where
-  box-read : firstOf (readLines bytes) ≡ 0
+  pub box-read : firstOf (readLines bytes) ≡ 0
   unfolding figures
   box-read = sym (number-of _ _) ∙ ap (λ (f : PlanFigures). f .number) e
 
@@ -106,8 +106,8 @@ module _ (route : ℕ) (bytes : List ℕ) (bytes-small : small bytes ≡ true) (
   unfolding figuresIf
   box-count = ap (λ (f : PlanFigures). f .messages) box-figures
 
-  box-count′ : count (boxPlan (routeOf route) (nestOf bytes)) ≡ m
-  box-count′ = ap (λ (p : Plan). count p) (sym plan-is) ∙ box-count
+  pub box-many : count (boxPlan (routeOf route) (nestOf bytes)) ≡ m
+  box-many = ap (λ (p : Plan). count p) (sym plan-is) ∙ box-count
 
   box-lines : (ls : List (List ℕ)) → linesOf (routeOf route) bytes ≡ ls → linesTold route bytes (suc m) ≡ map asLine ls ++ (noLine 11 ∷ [])
   box-lines ls h =
@@ -196,16 +196,6 @@ unfolding linesTo messageLine _and_ _or_ pick every some keep product rank place
     shapedSlotTaker shapedHome shapedSlotParcel messagesOf
 linesTriangle = refl
 
--- ---- routes by words
-
-indirect-word : (v : ℕ) → v ≢ 0 → routeOf v ≡ Indirect
-unfolding routeOf
-indirect-word zero h = absurd (h refl)
-indirect-word (suc v) h = refl
-
-pub alike : (v w : ℕ) → v ≢ 0 → w ≢ 0 → routeOf v ≡ routeOf w
-alike v w h k = indirect-word v h ∙ sym (indirect-word w k)
-
 -- ---- the table
 
 -- the recipes are bytes, and have no bounds
@@ -225,11 +215,11 @@ rowB-none : nestOf rowB .bounds ≡ 0
 unfolding ofKind nestBy nestOf keep those
 rowB-none = refl
 
-rowC-small : small rowC ≡ true
+pub rowC-small : small rowC ≡ true
 unfolding small _and_
 rowC-small = refl
 
-rowC-none : nestOf rowC .bounds ≡ 0
+pub rowC-none : nestOf rowC .bounds ≡ 0
 unfolding ofKind nestBy nestOf keep those
 rowC-none = refl
 
@@ -289,11 +279,11 @@ rowLater-none : nestOf rowLater .bounds ≡ 0
 unfolding ofKind nestBy nestOf keep those
 rowLater-none = refl
 
-rowLine-small : small rowLine ≡ true
+pub rowLine-small : small rowLine ≡ true
 unfolding small _and_
 rowLine-small = refl
 
-rowLine-none : nestOf rowLine .bounds ≡ 0
+pub rowLine-none : nestOf rowLine .bounds ≡ 0
 unfolding ofKind nestBy nestOf keep those
 rowLine-none = refl
 
@@ -359,9 +349,9 @@ summary-rows =
       lines-C-indirect = box-lines 1 rowC rowC-small rowC-none 8 8 160 32 (rows .C-indirect) _ (rows .lines-C-indirect);
       lines-D = box-lines 0 rowD rowD-small rowD-none 2 1 1 6 (rows .D) _ (rows .lines-D);
       lines-E = box-lines 0 rowE rowE-small rowE-none 3 2 2 10 (rows .E) _ (linesE);
-      lines-F = box-lines 0 rowF rowF-small rowF-none 2 0 0 4 (rows .F) [] (no-lines 0 rowF (box-count′ 0 rowF rowF-small rowF-none 2 0 0 4 (rows .F)));
+      lines-F = box-lines 0 rowF rowF-small rowF-none 2 0 0 4 (rows .F) [] (no-lines 0 rowF (box-many 0 rowF rowF-small rowF-none 2 0 0 4 (rows .F)));
       lines-G = box-lines 0 rowG rowG-small rowG-none 4 3 3 14 (rows .G) _ (rows .lines-G);
-      lines-H = box-lines 0 rowH rowH-small rowH-none 2 0 0 4 (rows .H) [] (no-lines 0 rowH (box-count′ 0 rowH rowH-small rowH-none 2 0 0 4 (rows .H)));
+      lines-H = box-lines 0 rowH rowH-small rowH-none 2 0 0 4 (rows .H) [] (no-lines 0 rowH (box-many 0 rowH rowH-small rowH-none 2 0 0 4 (rows .H)));
       later = box-told 0 rowLater rowLater-small rowLater-none 4 1 2 10 (rows .Later);
       full = box-told 0 rowFull rowFull-small rowFull-none 4 1 4 10 (forwarded-alone .full);
       full-indirect = box-told 1 rowFull rowFull-small rowFull-none 4 2 8 12 (forwarded-alone .full-indirect);
@@ -387,6 +377,6 @@ summary-rows =
       lines-spread = shape-lines rowSpread 9 5 5 28 (spread-rows .figures) _ (spread-rows .lines);
       ragged = sym (summary-refused Direct [] 1 (sym (no-bytes Direct)) (λ q. omega arith));
       ragged-line = ap (λ (l : MessageLine). l ∷ []) (sym (message-refused Indirect [] 0 1 (sym (no-bytes Indirect)) (λ q. omega arith)));
-      words-alike = λ v w h k bytes. ap (λ (r : Route). summaryOf r bytes) (alike v w h k);
-      lines-alike = λ v w m h k bytes. ap (λ (r : Route). messageLineOf r bytes m) (alike v w h k);
+      words-alike = λ v w h k bytes. ap (λ (r : Route). summaryOf r bytes) (route-words .alike v w h k);
+      lines-alike = λ v w m h k bytes. ap (λ (r : Route). messageLineOf r bytes m) (route-words .alike v w h k);
     }
