@@ -27,8 +27,8 @@ use Rattle.plan.proofs.ShapedBox.{planOf-box}
 use Rattle.plan.proofs.SmallNests.{nestTriangle}
 use Rattle.layout.specs.Sizes.{routeOf}
 use Rattle.layout.proofs.RouteWords.{route-words}
-use Rattle.routes.specs.Routes.{indirect, routeLines, linesFor}
-use Rattle.routes.proofs.Laws.{passed-for, box-open, direct-open}
+use Rattle.recipe.specs.Routes.{indirect, routeLines, linesFor}
+use Rattle.recipe.proofs.Laws.{passed-for, box-open, direct-open}
 use Rattle.conformance.specs.Rows as table
 use Rattle.conformance.specs.Rows.{PlanFigures, figuresIf, figures, messageLine, linesTo, linesOf, rowFull, rowSix, rowLine, rowTwice, rowMiddle}
 use Rattle.conformance.specs.ShapedRows.{shapedFigures, rowTriangle, rowAlone, rowSingle, rowWhole}
