@@ -24,7 +24,7 @@ MISSING = re.compile(r'that can be named from here|not in scope(?! here, so what
 REPEATED = 'was not admitted'
 # a verdict on a function that has no proof file: a fact that the prover looked for and did not find
 UNFOUND = '`search` does not close'
-# a verdict on a function that the checker can't read, so that nothing is said of it
+# a verdict on a function that the checker can't read: where its proof by hand has no error either, nothing is said of it
 UNCOVERED = 'does not cover this function'
 ERROR = re.compile(r'^(\S+):(\d+):\d+: error: (.*)$')
 NOTE = re.compile(r'^note: (\S+):(\d+):\d+: (it is not proved .*)$')
@@ -107,7 +107,7 @@ def function_fault(edit, log, path):
         return 'the prover has no verdict on %s' % path
     if not verdict.startswith(('not proved', 'no proof')):
         return '%s is %s' % (path, verdict)
-    if UNCOVERED in verdict:
+    if UNCOVERED in verdict and not log.own(path):
         return '%s is not looked at: %s' % (path, verdict[:160])
     if UNFOUND in verdict:
         return None
