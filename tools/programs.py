@@ -4,13 +4,14 @@
 
 with the folder of the linked programs. Each shortest refused recipe of docs/RECIPE.md gives its number on standard output, and number, term and
 meaning as README.md has them on standard error; a recipe that is not refused gives nothing there; what can't be read or written, and
-arguments, give their line. Status 1 where anything is wrong.
+arguments, give their line. README.md's lines for scripts have the status that it says. Status 1 where anything is wrong.
 """
 
 import os
 import re
 import subprocess
 import sys
+import tempfile
 
 import model
 import recipe_page
@@ -57,8 +58,31 @@ def faults(program, text, recipe):
     ]
 
 
+def tests_for_scripts():
+    """Line, recipe and status: README.md's one line a program, over a recipe that is accepted, two that are refused, and none at all."""
+    lines = re.findall(r'^    (.*target/bin/(?:%s) < recipe.*)$' % '|'.join(TEXTS), page('README.md'), flags=re.M)
+    row = model.ROWS['D']
+    return [(line, recipe, status) for line in lines for recipe, status in ((row, True), (row[16:], False), (b'', False), (None, False))]
+
+
+def ends_well(line, folder, recipe):
+    """Has the line status 0 where target/bin is that folder, and the recipe stands in a file?"""
+    with tempfile.TemporaryDirectory() as room:
+        os.mkdir(os.path.join(room, 'target'))
+        os.symlink(os.path.abspath(folder), os.path.join(room, 'target/bin'))
+        if recipe is not None:
+            with open(os.path.join(room, 'recipe'), 'wb') as file:
+                file.write(recipe)
+        return subprocess.run(line, shell=True, cwd=room, capture_output=True, timeout=60, check=False).returncode == 0
+
+
 def main(folder):
     wrong = tried = 0
+    for line, recipe, well in tests_for_scripts():
+        tried += 1
+        if ends_well(line, folder, recipe) != well:
+            wrong += 1
+            print('%s: not as it should be over %r' % (line, recipe))
     for name, text in TEXTS.items():
         program = os.path.join(folder, name)
         cases = faults(program, text, model.ROWS['D'])
@@ -70,8 +94,8 @@ def main(folder):
                 wrong += 1
                 print('%s: %r, expected %r' % (command, found, expected))
     print('%d tried, %d wrong' % (tried, wrong))
-    # seven faults and twelve numbers for each program: none may be lost with a page's layout
-    return 1 if wrong or tried != 2 * (7 + 12) else 0
+    # for each program seven faults, twelve numbers and four tries of a script's line: none may be lost with a page's layout
+    return 1 if wrong or tried != 2 * (7 + 12 + 4) else 0
 
 
 if __name__ == '__main__':

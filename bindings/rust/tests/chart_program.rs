@@ -3,12 +3,17 @@
 mod program;
 
 use std::{
+    ffi::OsStr,
     fs,
-    path::Path,
-    process::{Command, Output},
+    os::unix::{
+        ffi::OsStrExt,
+        fs::{chown, symlink, MetadataExt, PermissionsExt},
+    },
+    path::{Path, PathBuf},
+    process::{Command, Output, Stdio},
 };
 
-use program::{told, Folder};
+use program::{full, told, Folder};
 use rolwyddac::{Fields, Sounding};
 
 /// The names of all files in a folder.
@@ -102,4 +107,144 @@ fn faults_are_told_and_leave_the_file() {
     }
     assert_eq!(fs::read_to_string(&out).expect("the file"), "as before");
     assert_eq!(names(&folder), ["deep", "empty", "off", "out.asc", "ragged", "recipe", "source"]);
+}
+
+/// The program over a source of six words, to a file of the folder.
+fn of_words(folder: &Folder, words: [u32; 6], out: impl AsRef<OsStr>) -> Output {
+    let recipe = folder.file("recipe", recipe());
+    let source = folder.file("source", words.map(u32::to_le_bytes).concat());
+    chart(&[&recipe, Path::new("--source"), &source, Path::new("--out"), Path::new(out.as_ref())], &[])
+}
+
+const TEXT: &str = "ncols 3\nnrows 2\nxllcorner 0\nyllcorner 0\ncellsize 1\nNODATA_value -9999\n1 2 3\n5 7 9\n";
+
+#[test]
+fn words_that_readers_take_for_negative_numbers_are_told() {
+    let folder = Folder::new();
+    let out = folder.path.join("out.asc");
+    let output = of_words(&folder, [2_147_483_647, 0, 4_294_957_297, 0, 2_147_483_648, 0], &out);
+    assert_eq!(output.status.code(), Some(0));
+    let said = String::from_utf8(output.stderr).expect("text");
+    let cells = "cell 2 (row 0, column 2) has 4294957297, cell 4 (row 1, column 1) has 2147483648, \
+                 cell 5 (row 1, column 2) has 4294957297\n";
+    assert!(said.starts_with(&format!("{}: 3 cells have words of 2147483648 or more", out.display())), "{said}");
+    assert!(said.ends_with(cells), "{said}");
+    assert!(fs::read_to_string(&out)
+        .expect("the chart")
+        .ends_with("\n2147483647 0 4294957297\n2147483647 2147483648 4294957297\n"));
+    let output = of_words(&folder, [2_147_483_648, 0, 0, 2_147_483_648, 0, 0], &out);
+    assert!(String::from_utf8_lossy(&output.stderr).contains(": 1 cell has a word of 2147483648 or more"));
+    // outside the shape stands the boundary value, which the text has not
+    let shape = Fields::new().dimension(2, 1, 2).dimension(12, 12, 0).at_most(1, 0, 0, 10).distance(&[1, 0], 1);
+    let recipe = folder.file("shape", &*shape.close(0, u32::MAX).expect("a recipe"));
+    let source = folder.file("source", [0xff; 96]);
+    let output = chart(&[&recipe, Path::new("--source"), &source, Path::new("--out"), &out], &[]);
+    let said = String::from_utf8(output.stderr).expect("text");
+    assert!(said.contains(": 22 cells have words"), "{said}");
+    assert!(said.ends_with("(row 0, column 9) has 4294967294, 12 more\n"), "{said}");
+}
+
+#[test]
+fn endless_files_are_told() {
+    let folder = Folder::new();
+    let (recipe, zero) = (folder.file("recipe", recipe()), Path::new("/dev/zero"));
+    let out = folder.path.join("out");
+    let [by_source, by_soundings, to] = ["--source", "--soundings", "--out"].map(Path::new);
+    for words in [
+        [zero, by_source, zero, to, &out],
+        [&recipe, by_source, zero, to, &out],
+        [&recipe, by_soundings, zero, to, &out],
+    ] {
+        let said = told(&chart(&words, &[]));
+        assert!(said.starts_with("/dev/zero: more than the "), "{said}");
+    }
+}
+
+#[test]
+fn names_steer_no_terminal() {
+    let folder = Folder::new();
+    for (name, shown) in
+        [(&b"a\x1b[31m\nb"[..], "a\\u{1b}[31m\\nb: "), (b"\xffe", "\\xffe: "), ("größe".as_bytes(), "größe: ")]
+    {
+        let recipe = folder.path.join(OsStr::from_bytes(name));
+        let said = told(&chart(&[&recipe, Path::new("--source"), &recipe, Path::new("--out"), Path::new("-")], &[]));
+        assert!(said.contains(shown) && said.lines().count() == 1, "{said:?}");
+    }
+    let said = told(&chart(&[Path::new(OsStr::from_bytes(b"--\x1b\xff"))], &["--value", "\x1b"]));
+    assert!(said.starts_with("--value: `\\u{1b}` is no number"), "{said:?}");
+}
+
+#[test]
+fn the_status_tells_where_standard_error_is_full() {
+    let mut program = Command::new(env!("CARGO_BIN_EXE_chart"));
+    assert_eq!(program.args(["none"]).stderr(full()).status().expect("it runs").code(), Some(1));
+    let words = ["none", "--source", "none", "--out", "none"];
+    assert_eq!(program.args(words).stderr(full()).status().expect("it runs").code(), Some(1));
+}
+
+#[test]
+fn to_what_is_no_file_of_its_own() {
+    let folder = Folder::new();
+    for out in ["-", "/dev/stdout"] {
+        let output = of_words(&folder, [1, 2, 3, 4, 5, 6], out);
+        assert_eq!((output.status.code(), String::from_utf8_lossy(&output.stdout).as_ref()), (Some(0), TEXT));
+    }
+    assert!(told(&of_words(&folder, [1; 6], "/dev/full")).starts_with("/dev/full: "));
+    let pipe = folder.path.join("pipe");
+    assert!(Command::new("mkfifo").arg(&pipe).status().expect("mkfifo").success());
+    let reader = Command::new("cat").arg(&pipe).stdout(Stdio::piped()).spawn().expect("cat");
+    assert_eq!(of_words(&folder, [1, 2, 3, 4, 5, 6], &pipe).status.code(), Some(0));
+    assert_eq!(String::from_utf8_lossy(&reader.wait_with_output().expect("it ends").stdout), TEXT);
+    assert_eq!(names(&folder), ["pipe", "recipe", "source"]);
+    // what stands before it stays
+    let log = folder.file("log", "before\n");
+    let script = "exec \"$0\" \"$1\" --source \"$2\" --out /dev/stdout >> \"$3\"";
+    let mut program = Command::new("sh");
+    program
+        .args(["-c", script, env!("CARGO_BIN_EXE_chart")])
+        .args(["recipe", "source"].map(|name| folder.path.join(name)))
+        .arg(&log);
+    assert!(program.status().expect("it runs").success());
+    assert_eq!(fs::read_to_string(&log).expect("the log"), format!("before\n{TEXT}"));
+}
+
+#[test]
+fn links_modes_and_owners_stay() {
+    let folder = Folder::new();
+    let file = folder.file("file", "before");
+    fs::set_permissions(&file, fs::Permissions::from_mode(0o640)).expect("its mode");
+    // only the administrator gives files away
+    let owner = chown(&file, Some(1234), Some(4321)).map_or(None, |()| Some((1234, 4321)));
+    let in_folder = |name: &str| -> PathBuf { folder.path.join(name) };
+    symlink("file", in_folder("link")).expect("a link");
+    symlink("link", in_folder("more")).expect("a link to it");
+    symlink("none", in_folder("open")).expect("a link to nothing");
+    for (out, at_end) in [("more", "file"), ("open", "none")] {
+        assert_eq!(of_words(&folder, [1, 2, 3, 4, 5, 6], in_folder(out)).status.code(), Some(0));
+        assert_eq!(fs::read_to_string(in_folder(at_end)).expect("the chart"), TEXT);
+        assert!(fs::symlink_metadata(in_folder(out)).expect("it").is_symlink());
+    }
+    let found = fs::metadata(&file).expect("the file");
+    assert_eq!(found.mode() & 0o7777, 0o640);
+    assert!(owner.is_none_or(|owner| owner == (found.uid(), found.gid())));
+    symlink("round", in_folder("round")).expect("a link to itself");
+    assert!(told(&of_words(&folder, [1; 6], in_folder("round"))).contains("round: "));
+    assert_eq!(names(&folder), ["file", "link", "more", "none", "open", "recipe", "round", "source"]);
+}
+
+#[test]
+fn only_its_own_part_is_removed() {
+    let folder = Folder::new();
+    assert_eq!(of_words(&folder, [1, 2, 3, 4, 5, 6], folder.path.join("first")).status.code(), Some(0));
+    // a shell that becomes the program has its number
+    let script = "cd \"$1\" && for name in \"out.$$.part\" \".rolwyddac-$$-0.part\"; do echo mine > \"$name\"; done &&
+        exec \"$0\" recipe --source source --out out";
+    let status = Command::new("sh").args(["-c", script, env!("CARGO_BIN_EXE_chart")]).arg(&folder.path).status();
+    assert!(status.expect("it runs").success());
+    let left = names(&folder).into_iter().filter(|name| name.ends_with(".part"));
+    assert_eq!(
+        left.map(|name| fs::read_to_string(folder.path.join(name)).expect("a file")).collect::<Vec<_>>(),
+        ["mine\n"; 2]
+    );
+    assert_eq!(fs::read_to_string(folder.path.join("out")).expect("the chart"), TEXT);
 }

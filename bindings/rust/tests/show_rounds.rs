@@ -3,12 +3,14 @@
 mod program;
 
 use std::{
+    ffi::OsStr,
     fs,
+    os::unix::{ffi::OsStrExt, fs::symlink},
     path::Path,
     process::{Command, Output},
 };
 
-use program::{told, Folder};
+use program::{full, told, Folder};
 use rolwyddac::Fields;
 
 fn shown(names: &[&Path]) -> Output {
@@ -75,4 +77,32 @@ fn faults() {
     let output = shown(&[&recipe, &nowhere]);
     assert_eq!(output.status.code(), Some(1));
     assert!(String::from_utf8_lossy(&output.stderr).starts_with(&format!("{}: ", nowhere.display())));
+}
+
+#[test]
+fn a_picture_alone_and_through_a_link() {
+    let folder = Folder::new();
+    let recipe = folder.file("recipe", recipes()[0]);
+    let output = shown(&[&recipe, Path::new("-")]);
+    assert_eq!(String::from_utf8_lossy(&output.stdout), include_str!("../../../docs/rounds-row-a.svg"));
+    let (file, link) = (folder.file("file", "as before"), folder.path.join("link"));
+    symlink("file", &link).expect("a link");
+    assert_eq!(shown(&[&recipe, &link]).status.code(), Some(0));
+    assert!(fs::symlink_metadata(&link).expect("the link").is_symlink());
+    assert_eq!(fs::read_to_string(&file).expect("the picture"), include_str!("../../../docs/rounds-row-a.svg"));
+}
+
+#[test]
+fn faults_of_words_and_outputs() {
+    let folder = Folder::new();
+    let recipe = folder.file("recipe", recipes()[0]);
+    assert!(told(&shown(&[Path::new("/dev/zero")])).starts_with("/dev/zero: more than the 4096 bytes"));
+    let said = told(&shown(&[&recipe, &recipe, Path::new(OsStr::from_bytes(b"\xff\x1b"))]));
+    assert!(said.starts_with("`\\xff\\u{1b}` was not expected\n"), "{said}");
+    let mut program = Command::new(env!("CARGO_BIN_EXE_show_rounds"));
+    assert_eq!(program.arg("none").stderr(full()).status().expect("it runs").code(), Some(1));
+    let mut program = Command::new(env!("CARGO_BIN_EXE_show_rounds"));
+    let output = program.arg(&recipe).stdout(full()).output().expect("it runs");
+    assert_eq!(output.status.code(), Some(1));
+    assert!(String::from_utf8_lossy(&output.stderr).starts_with("standard output: "));
 }

@@ -1,9 +1,16 @@
 //! The program write_recipe, run as a user runs it. The bytes expected are written out from the format, record by record.
 
+mod program;
+
 use std::{
+    ffi::OsStr,
+    fs::File,
     io::{ErrorKind, Write},
+    os::unix::ffi::OsStrExt,
     process::{Command, Output, Stdio},
 };
+
+use program::{full, Folder};
 
 const HARBOUR: &str = "\
 # a basin of 6 by 5 cells
@@ -149,4 +156,26 @@ fn other_words_are_no_use() {
     let output = write_recipe(&["--help"], HARBOUR);
     assert_eq!(output.status.code(), Some(2));
     assert!(output.stdout.is_empty());
+}
+
+#[test]
+fn faults_of_words_and_files() {
+    let program = || Command::new(env!("CARGO_BIN_EXE_write_recipe"));
+    let output = program().arg(OsStr::from_bytes(b"\xff")).output().expect("it runs");
+    assert_eq!(output.status.code(), Some(2));
+    let output = program().stdin(File::open("/dev/zero").expect("zeros")).output().expect("it runs");
+    assert_eq!(output.status.code(), Some(1));
+    assert!(String::from_utf8_lossy(&output.stderr).starts_with("standard input: more than the 1048576 bytes"));
+    assert_eq!(told("close \x1b[31m\n"), "line 1: `\\u{1b}[31m` was not expected here");
+    let folder = Folder::new();
+    let text = folder.file("text", HARBOUR);
+    let output = program().stdin(File::open(&text).expect("the text")).stdout(full()).output().expect("it runs");
+    assert_eq!(output.status.code(), Some(1));
+    assert!(String::from_utf8_lossy(&output.stderr).starts_with("standard output: "));
+    let faulty = folder.file("faulty", "close\n");
+    let status = program().stdin(File::open(faulty).expect("the text")).stderr(full()).status();
+    assert_eq!(status.expect("it runs").code(), Some(1));
+    let latin = folder.file("latin", b"# gr\xf6\xdfe\n");
+    let output = program().stdin(File::open(latin).expect("the text")).output().expect("it runs");
+    assert!(String::from_utf8_lossy(&output.stderr).starts_with("standard input: no text: "));
 }

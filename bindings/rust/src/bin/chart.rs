@@ -10,19 +10,23 @@
 //! unless given. A source has one word of 4 bytes a cell, the low byte first. X and Y are the corner's whole numbers, 0
 //! unless given; SIZE is 1 to 65,535, 1 unless given.
 //!
-//! The file named by `--out` is written whole or not at all: what stood there stays until the text is complete. A run that
-//! takes longer than a second tells how far it is on standard error. What went wrong is told there with the file's name,
-//! and the status is then 1.
+//! The file named by `--out` is written whole or not at all: what stood there stays until the text is complete; `-` is
+//! standard output. A run that takes longer than a second tells how far it is on standard error. What went wrong is told
+//! there with the file's name, and the status is then 1. Words of 2^31 or more are told there too: the text has them as
+//! they are, and readers that keep 32 bits with a sign, as GDAL does, take them for negative numbers.
+
+mod cli;
 
 use std::{
     env,
     ffi::OsString,
-    fs::{self, File},
     io::{self, IsTerminal, Write},
-    path::{Path, PathBuf},
-    process::{self, ExitCode},
+    path::PathBuf,
+    process::ExitCode,
     time::{Duration, Instant},
 };
+
+use cli::{of, read, shown, tell};
 
 use rolwyddac::{chart, soundings, summary, Route, Run};
 
@@ -31,6 +35,18 @@ const USAGE: &str =
 
 /// Bytes of one word of a source file.
 const WORD: usize = 4;
+
+/// Bytes of a file that can still be a source: a word for each of 16,384 cells, the most that a recipe has.
+const SOURCE_MOST: usize = WORD * 16_384;
+
+/// Bytes of all files of soundings together, 16 million records: they are held in memory.
+const SOUNDINGS_MOST: usize = 1 << 28;
+
+/// Lines of the text before the first row.
+const HEAD_LINES: usize = 6;
+
+/// Cells that are told one by one.
+const TOLD_MOST: usize = 10;
 
 /// Where the depths come from.
 #[derive(Debug, PartialEq, Eq)]
@@ -53,7 +69,7 @@ struct Order {
 fn number<T: std::str::FromStr>(name: &str, word: Option<OsString>) -> Result<T, String> {
     let word = word.ok_or_else(|| format!("{name}: a number is missing"))?;
     let text = word.to_str().unwrap_or_default();
-    text.parse().map_err(|_| format!("{name}: `{}` is no number that it can be", word.to_string_lossy()))
+    text.parse().map_err(|_| format!("{name}: `{}` is no number that it can be", shown(&word)))
 }
 
 /// The file that has to follow a word.
@@ -79,9 +95,9 @@ fn order(words: impl Iterator<Item = OsString>) -> Result<Order, String> {
             Some("--corner") => corner = (number("--corner", words.next())?, number("--corner", words.next())?),
             Some("--cell") => cell_size = number("--cell", words.next())?,
             Some("--out") => out = Some(file("--out", words.next())?),
-            Some(word) if word.starts_with("--") => return Err(format!("`{word}` is not known")),
+            Some(text) if text.starts_with("--") => return Err(format!("`{}` is not known", shown(&word))),
             _ if recipe.is_none() => recipe = Some(PathBuf::from(word)),
-            _ => return Err(format!("`{}` was not expected", word.to_string_lossy())),
+            _ => return Err(format!("`{}` was not expected", shown(&word))),
         }
     }
     let depths = match (sounded, source, value) {
@@ -95,34 +111,25 @@ fn order(words: impl Iterator<Item = OsString>) -> Result<Order, String> {
     Ok(Order { recipe, depths, corner, cell_size, out })
 }
 
-/// A fault of a file, told with its name.
-fn of(file: &Path) -> impl Fn(&dyn std::fmt::Display) -> String + '_ {
-    move |what| format!("{}: {what}", file.display())
-}
-
-fn read(file: &Path) -> Result<Vec<u8>, String> {
-    fs::read(file).map_err(|error| of(file)(&error))
-}
-
 /// One word a cell, from the file that was named.
 fn source_of(recipe: &[u8], cells: usize, depths: &Depths) -> Result<Vec<u32>, String> {
     match depths {
         Depths::Soundings { files, value } => {
             let (mut source, mut all) = (vec![0; cells], Vec::new());
             for file in files {
-                let records = read(file)?;
+                let records = read(file, SOUNDINGS_MOST - all.len())?;
                 // alone first: what is wrong with it is told with its name
-                soundings(recipe, &records, *value, &mut source).map_err(|refusal| of(file)(&refusal))?;
+                soundings(recipe, &records, *value, &mut source).map_err(|refusal| of(file, refusal))?;
                 all.extend(records);
             }
             soundings(recipe, &all, *value, &mut source).map_err(|refusal| refusal.to_string())?;
             Ok(source)
         }
         Depths::Source { file } => {
-            let bytes = read(file)?;
+            let bytes = read(file, SOURCE_MOST)?;
             if bytes.len() != WORD * cells {
                 let what = format!("{} bytes, and {} are needed, {WORD} a cell", bytes.len(), WORD * cells);
-                return Err(of(file)(&what));
+                return Err(of(file, what));
             }
             let words = bytes.chunks_exact(WORD).map(|word| u32::from_le_bytes(word.try_into().expect("four bytes")));
             Ok(words.collect())
@@ -140,53 +147,64 @@ fn grid_of(recipe: &[u8], source: &[u32]) -> Result<Vec<u32>, rolwyddac::Refusal
         if Instant::now() >= next {
             next += BETWEEN;
             told = true;
-            eprint!("{}step {steps} of {total}{}", if terminal { "\r" } else { "" }, if terminal { "" } else { "\n" });
+            let (front, end) = if terminal { ("\r", "") } else { ("", "\n") };
+            let _ = write!(io::stderr(), "{front}step {steps} of {total}{end}");
         }
     })?;
     if told && terminal {
-        eprintln!();
+        tell("");
     }
     run.collect()
 }
 
-/// Writes a file whole or not at all: to a file beside it, which then takes its name.
-fn write_whole(file: &Path, text: &[u8]) -> io::Result<()> {
-    let name = file.file_name().ok_or_else(|| io::Error::other("no file's name"))?;
-    let mut beside = name.to_os_string();
-    beside.push(format!(".{}.part", process::id()));
-    let beside = file.with_file_name(beside);
-    let written = File::create_new(&beside)
-        .and_then(|mut part| part.write_all(text).and_then(|()| part.sync_all()))
-        .and_then(|()| fs::rename(&beside, file));
-    if written.is_err() {
-        let _ = fs::remove_file(&beside);
+/// What is told of a text's words of 2^31 or more: how many, and the first of them by number and place.
+fn unsigned_words(text: &str) -> Option<String> {
+    let rows = text.lines().skip(HEAD_LINES).map(|line| line.split(' ').map(|word| word.parse().unwrap_or(0)));
+    let mut found = Vec::new();
+    let mut cells = 0;
+    for (row, words) in rows.enumerate() {
+        for (column, word) in words.enumerate() {
+            if word > i64::from(i32::MAX) {
+                found.push(format!("cell {cells} (row {row}, column {column}) has {word}"));
+            }
+            cells += 1;
+        }
     }
-    written
+    let (many, more) = (found.len(), found.len().saturating_sub(TOLD_MOST));
+    found.truncate(TOLD_MOST);
+    found.extend((more > 0).then(|| format!("{more} more")));
+    let what = "of 2147483648 or more; GDAL reads them as negative numbers, and 4294957297 as a missing cell";
+    let cells = if many == 1 { "1 cell has a word" } else { &format!("{many} cells have words") };
+    (many > 0).then(|| format!("{cells} {what}: {}", found.join(", ")))
 }
 
 fn make(order: &Order) -> Result<(), String> {
-    let recipe = read(&order.recipe)?;
-    let refused = |refusal| of(&order.recipe)(&refusal);
+    let recipe = read(&order.recipe, cli::RECIPE_MOST)?;
+    let refused = |refusal| of(&order.recipe, refusal);
     let cells = summary(&recipe, Route::Direct).map_err(refused)?.cells;
     let source = source_of(&recipe, cells, &order.depths)?;
     let grid = grid_of(&recipe, &source).map_err(refused)?;
     let (x, y) = order.corner;
     let text = chart(&recipe, &grid, x, y, order.cell_size).map_err(refused)?;
-    write_whole(&order.out, text.as_bytes()).map_err(|error| of(&order.out)(&error))
+    cli::write(&order.out, text.as_bytes())?;
+    if let Some(what) = unsigned_words(&text) {
+        tell(&of(&order.out, what));
+    }
+    Ok(())
 }
 
 fn main() -> ExitCode {
     let order = match order(env::args_os().skip(1)) {
         Ok(order) => order,
         Err(what) => {
-            eprintln!("{what}\n{USAGE}");
+            tell(&format!("{what}\n{USAGE}"));
             return ExitCode::FAILURE;
         }
     };
     match make(&order) {
         Ok(()) => ExitCode::SUCCESS,
         Err(what) => {
-            eprintln!("{what}");
+            tell(&what);
             ExitCode::FAILURE
         }
     }

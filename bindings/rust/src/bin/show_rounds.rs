@@ -5,19 +5,21 @@
 //! ```
 //!
 //! RECIPE has the recipe's bytes, as write_recipe writes them. The drawing goes to standard output as text; with a second
-//! name it is written to that file too, as a picture, whole or not at all. What went wrong is told on standard error with
-//! the file's name, and the status is then 1.
+//! name it is written to that file too, as a picture, whole or not at all; where that is `-`, the picture goes to standard
+//! output and the text is left out. What went wrong is told on standard error with the file's name, and the status is then 1.
 //!
 //! A tile's round is what the library tells. Its processor is found here from the tile's place, as the format says: each
 //! spread component modulo that dimension's processor count, the first dimension counting most.
 
+mod cli;
+
 use std::{
-    env, fs,
-    io::{self, Write},
+    env,
     path::{Path, PathBuf},
-    process::{self, ExitCode},
+    process::ExitCode,
 };
 
+use cli::{of, read, shown, tell};
 use rolwyddac::{rounds_of, summary, Refusal, Route};
 
 const USAGE: &str = "show_rounds RECIPE [SVG]";
@@ -174,29 +176,13 @@ impl Schedule {
     }
 }
 
-/// Writes a file whole or not at all: to a file beside it, which then takes its name.
-fn write_whole(file: &Path, text: &[u8]) -> io::Result<()> {
-    let name = file.file_name().ok_or_else(|| io::Error::other("no file's name"))?;
-    let mut beside = name.to_os_string();
-    beside.push(format!(".{}.part", process::id()));
-    let beside = file.with_file_name(beside);
-    let written = fs::File::create_new(&beside)
-        .and_then(|mut part| part.write_all(text).and_then(|()| part.sync_all()))
-        .and_then(|()| fs::rename(&beside, file));
-    if written.is_err() {
-        let _ = fs::remove_file(&beside);
-    }
-    written
-}
-
 fn show(recipe: &Path, picture: Option<&Path>) -> Result<(), String> {
-    let encoded = fs::read(recipe).map_err(|error| format!("{}: {error}", recipe.display()))?;
-    let schedule = Schedule::of(&encoded).map_err(|refusal| format!("{}: {refusal}", recipe.display()))?;
-    io::stdout().write_all(schedule.text().as_bytes()).map_err(|error| format!("standard output: {error}"))?;
-    if let Some(file) = picture {
-        write_whole(file, schedule.picture().as_bytes()).map_err(|error| format!("{}: {error}", file.display()))?;
+    let encoded = read(recipe, cli::RECIPE_MOST)?;
+    let schedule = Schedule::of(&encoded).map_err(|refusal| of(recipe, refusal))?;
+    if !picture.is_some_and(cli::is_standard_output) {
+        cli::print(schedule.text().as_bytes())?;
     }
-    Ok(())
+    picture.map_or(Ok(()), |file| cli::write(file, schedule.picture().as_bytes()))
 }
 
 fn main() -> ExitCode {
@@ -205,12 +191,12 @@ fn main() -> ExitCode {
         [recipe] => show(recipe, None),
         [recipe, picture] => show(recipe, Some(picture)),
         [] => Err(format!("the recipe is missing\n{USAGE}")),
-        [_, _, more, ..] => Err(format!("`{}` was not expected\n{USAGE}", more.display())),
+        [_, _, more, ..] => Err(format!("`{}` was not expected\n{USAGE}", shown(more.as_os_str()))),
     };
     match shown {
         Ok(()) => ExitCode::SUCCESS,
         Err(what) => {
-            eprintln!("{what}");
+            tell(&what);
             ExitCode::FAILURE
         }
     }

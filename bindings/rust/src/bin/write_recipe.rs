@@ -23,12 +23,11 @@
 //! standard error; the status is then 1 and nothing is written. With `--list` the bytes are written as a list for a
 //! file of specs/.
 
-use std::{
-    env, fmt,
-    io::{self, Read, Write},
-    process::ExitCode,
-};
+mod cli;
 
+use std::{env, ffi::OsString, fmt, io, process::ExitCode};
+
+use cli::{shown, tell};
 use rolwyddac::{Fields, Recipe, Refusal};
 
 /// What a text that is no recipe lacks, and in which line, counted from 1.
@@ -74,7 +73,8 @@ impl<'a> Words<'a> {
     }
 
     fn fault(&self, what: impl Into<String>) -> Fault {
-        Fault { line: self.line, what: what.into() }
+        let what: String = what.into();
+        Fault { line: self.line, what: shown(what.as_ref()) }
     }
 
     /// The next word, where it is a number.
@@ -128,6 +128,9 @@ impl<'a> Words<'a> {
         }
     }
 }
+
+/// Bytes of a text, comments included.
+const TEXT_MOST: usize = 1 << 20;
 
 const BYTE: u32 = u8::MAX as u32;
 const HALF: u32 = u16::MAX as u32;
@@ -232,34 +235,24 @@ fn list(bytes: &[u8]) -> String {
     text
 }
 
+/// The bytes of the text on standard input, as they are written.
+fn written(as_list: bool) -> Result<Vec<u8>, String> {
+    let text = cli::up_to(TEXT_MOST, io::stdin()).map_err(|error| format!("standard input: {error}"))?;
+    let text = String::from_utf8(text).map_err(|error| format!("standard input: no text: {}", error.utf8_error()))?;
+    let recipe = recipe_of(&text).map_err(|failure| failure.to_string())?;
+    Ok(if as_list { list(&recipe).into_bytes() } else { recipe.to_vec() })
+}
+
 fn main() -> ExitCode {
-    let words: Vec<String> = env::args().skip(1).collect();
-    let as_list = match words.iter().map(String::as_str).collect::<Vec<_>>()[..] {
-        [] => false,
-        ["--list"] => true,
-        _ => {
-            eprintln!("usage: write_recipe [--list] < TEXT > RECIPE");
-            return ExitCode::from(2);
-        }
-    };
-    let mut text = String::new();
-    if let Err(error) = io::stdin().read_to_string(&mut text) {
-        eprintln!("standard input: {error}");
-        return ExitCode::FAILURE;
+    let words: Vec<OsString> = env::args_os().skip(1).collect();
+    if words.len() > 1 || words.iter().any(|word| word != "--list") {
+        tell("usage: write_recipe [--list] < TEXT > RECIPE");
+        return ExitCode::from(2);
     }
-    match recipe_of(&text) {
-        Ok(recipe) => {
-            let written = if as_list { list(&recipe).into_bytes() } else { recipe.to_vec() };
-            match io::stdout().write_all(&written) {
-                Ok(()) => ExitCode::SUCCESS,
-                Err(error) => {
-                    eprintln!("standard output: {error}");
-                    ExitCode::FAILURE
-                }
-            }
-        }
-        Err(failure) => {
-            eprintln!("{failure}");
+    match written(!words.is_empty()).and_then(|recipe| cli::print(&recipe)) {
+        Ok(()) => ExitCode::SUCCESS,
+        Err(what) => {
+            tell(&what);
             ExitCode::FAILURE
         }
     }

@@ -1,7 +1,9 @@
 //! What the tests of programs share: a folder for their files, and what a program told of a fault.
 
+#![allow(dead_code)] // a test need not use all of it
+
 use std::{
-    fs,
+    fs::{self, File, OpenOptions},
     path::PathBuf,
     process::{self, Output},
     sync::atomic::{AtomicU32, Ordering},
@@ -39,4 +41,9 @@ pub fn told(output: &Output) -> String {
     assert_eq!(output.status.code(), Some(1));
     assert!(output.stdout.is_empty());
     String::from_utf8(output.stderr.clone()).expect("text")
+}
+
+/// Something that can be opened for writing, and nothing can be written to.
+pub fn full() -> File {
+    OpenOptions::new().write(true).open("/dev/full").expect("a device that is always full")
 }
