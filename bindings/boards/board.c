@@ -15,7 +15,7 @@
 struct peer {
   bool finished; /* it has said farewell */
   bool joined;   /* board 0 has its part */
-  double heard;  /* when it was last */
+  double heard;  /* when it was last, by the time that this board has waited */
 };
 
 struct board {
@@ -31,8 +31,12 @@ struct board {
   uint64_t taken;     /* messages taken in */
   uint8_t *marks;     /* room for one byte a message */
   double said;        /* when it last said that it is there */
+  struct waited waited;
   uint32_t tile_cells;
 };
+
+/* a board that waits looks so many times in the timeout how long it has waited */
+enum { SLICES = 16 };
 
 /* ---- arrivals */
 
@@ -89,7 +93,7 @@ static enum status take_packet(struct board *b, const struct packet *packet) {
 static enum status take_arrival(struct board *b, const struct arrival *arrival) {
   struct packet packet;
   const uint32_t from = arrival->from;
-  b->peers[from].heard = now();
+  b->peers[from].heard = waited_seconds(&b->waited);
   switch (packet_read(arrival->words, arrival->bytes, &b->outbox.key, &packet)) {
     case PACKET_CUT: return tell(STATUS_DAMAGED, "mail of board %" PRIu32 " is cut: %zu bytes came", from, arrival->bytes);
     case PACKET_CORRUPT: return tell(STATUS_DAMAGED, "mail of board %" PRIu32 " is corrupt: its check word is not that of what came", from);
@@ -110,12 +114,12 @@ static enum status keep_in_touch(struct board *b) {
   return outbox_post_all(&b->outbox, PACKET_ALIVE, 0);
 }
 
-/* waits for one arrival, at most so many seconds, and heeds it */
+/* waits for one arrival, at most so many seconds, and no longer than a slice, and heeds it */
 static enum status look(struct board *b, double seconds) {
   const enum status status = keep_in_touch(b);
   if (status != STATUS_DONE) return status;
   struct arrival arrival;
-  switch (transport_receive(b->transport, seconds, &arrival)) {
+  switch (transport_receive(b->transport, seconds < b->waited.slice ? seconds : b->waited.slice, &arrival)) {
     case TRANSPORT_PACKET: return take_arrival(b, &arrival);
     case TRANSPORT_CLOSED:
       if (b->peers[arrival.from].finished) return STATUS_DONE;
@@ -141,12 +145,12 @@ static void tell_awaited(struct board *b) {
 /* until a message is taken in */
 static enum status await_mail(struct board *b) {
   const uint64_t before = b->taken;
-  const double until = now() + b->options->timeout;
+  const double until = waited_seconds(&b->waited) + b->options->timeout;
   enum status status = STATUS_DONE;
   while (b->taken == before && status == STATUS_DONE) {
-    const double left = until - now();
+    const double left = until - waited_seconds(&b->waited);
     if (left <= 0) status = tell(STATUS_TIMEOUT, "no mail for %g seconds", b->options->timeout);
-    else status = look(b, left < b->options->timeout / 4 ? left : b->options->timeout / 4);
+    else status = look(b, left);
   }
   if (status == STATUS_TIMEOUT) tell_awaited(b);
   return status;
@@ -184,8 +188,8 @@ static enum status take_turns(struct board *b) {
 /* ---- the end of a board */
 
 /* a peer that has not been heard of for too long; those that have finished need not be */
-static enum status heard_of_all(const struct board *b) {
-  const double time = now();
+static enum status heard_of_all(struct board *b) {
+  const double time = waited_seconds(&b->waited);
   for (uint32_t p = 0; p < plan_boards(b->plan); p++)
     if (p != b->me && !b->peers[p].finished && time - b->peers[p].heard > b->options->timeout)
       return tell(STATUS_TIMEOUT, "has finished, and nothing was heard of board %" PRIu32 " for %g seconds", p, b->options->timeout);
@@ -194,9 +198,10 @@ static enum status heard_of_all(const struct board *b) {
 
 static enum status await_farewells(struct board *b) {
   enum status status = STATUS_DONE;
-  for (uint32_t p = 0; p < plan_boards(b->plan); p++) b->peers[p].heard = now();
+  const double start = waited_seconds(&b->waited);
+  for (uint32_t p = 0; p < plan_boards(b->plan); p++) b->peers[p].heard = start;
   while (status == STATUS_DONE && b->finished < plan_boards(b->plan) - 1) {
-    status = look(b, b->options->timeout / 4);
+    status = look(b, b->options->timeout);
     if (status == STATUS_DONE) status = heard_of_all(b);
   }
   return status;
@@ -204,11 +209,11 @@ static enum status await_farewells(struct board *b) {
 
 /* nothing is to come any more; its own mail is to be off */
 static enum status see_mail_off(struct board *b) {
-  const double until = now() + b->options->timeout;
+  const double until = waited_seconds(&b->waited) + b->options->timeout;
   enum status status = STATUS_DONE;
   while (status == STATUS_DONE && !transport_settled(b->transport)) {
     status = look(b, 0.001);
-    if (status == STATUS_DONE && now() > until)
+    if (status == STATUS_DONE && waited_seconds(&b->waited) > until)
       status = tell(STATUS_TIMEOUT, "has finished, and its mail is not off after %g seconds", b->options->timeout);
   }
   return status;
@@ -258,6 +263,7 @@ enum status board_run(const struct options *options, const struct job *job, stru
       .me = transport_me(transport),
       .joined = joined,
       .said = now(),
+      .waited = waited_from_now(options->timeout / SLICES),
       .tile_cells = work_cells(&job->plan),
   };
   enum status status = make(&b, job);

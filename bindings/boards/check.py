@@ -73,9 +73,8 @@ class Check:
         command = ['mpirun', '--oversubscribe', '-n', str(boards)] if self.mpi else []
         self.runs += 1
         with open('/dev/full' if full else self.path('said'), 'w', encoding='utf-8') as out:
-            # Python ignores SIGXFSZ; where that is kept, a file that grows too large gives an error and no signal
             return subprocess.run(command + [self.program] + arguments, stdout=out, stderr=subprocess.PIPE, text=True, timeout=120, check=False,
-                                  env=environment, restore_signals=limit is None, preexec_fn=limit)
+                                  env=environment, preexec_fn=limit)
 
     def blame(self, what, ran, problem):
         self.wrong += 1
@@ -97,8 +96,9 @@ class Check:
         elif said not in ran.stderr or (not said and ran.stderr):
             self.blame(what, ran, 'it says other than %r' % said)
 
-    def ends(self, what, status, said, encoded, arguments, fault='', boards=None, limit=None, full=False, writes=False):
-        """A run ends with the status, tells the texts, leaves the grid's file as it was, unless it ends after writing it, and nothing beside it."""
+    def ends(self, what, status, said, encoded, arguments, fault='', boards=None, limit=None, full=False):
+        """A run ends with the status, tells the texts, leaves the grid's file as it was, unless the line about it can't be written, and nothing
+        beside it."""
         grid, recipe = self.put('grid', OLD), self.put('recipe', encoded)
         before = set(os.listdir(self.scratch)) | (set() if full else {'said'})
         plan = model.plan_of(encoded)[1]
@@ -109,7 +109,7 @@ class Check:
             self.blame(what, ran, 'the status is not %d' % status)
         elif any(line not in ran.stderr for line in said):
             self.blame(what, ran, 'it does not say %r' % said)
-        elif (kept == OLD) == (full or writes) or set(os.listdir(self.scratch)) != before:
+        elif (kept == OLD) == full or set(os.listdir(self.scratch)) != before:
             self.blame(what, ran, 'files are not as they were')
 
 
@@ -194,7 +194,7 @@ def check_board_faults(check, encoded, board):
     unheard = ': has finished, and nothing was heard of board %d for %s seconds\n' % (board, PATIENCE)
     check.ends('halted at its end', TIMEOUT, [unheard], encoded, given, 'BOARDS_FAULT=halted-part:%d' % board)
     late = ['boards: a board has not ended %s seconds after another\n' % PATIENCE]
-    check.ends('halted when all is posted', TIMEOUT, late, encoded, given, 'BOARDS_FAULT=halted-late:%d' % board, writes=True)
+    check.ends('halted when all is posted', TIMEOUT, late, encoded, given, 'BOARDS_FAULT=halted-late:%d' % board)
 
 
 def check_strays(check):
@@ -222,16 +222,16 @@ def check_files(check):
     """The grid that differs, and files that can't be read or written."""
     row, seed, none = model.ROWS['A'], ['--seed', '1'], check.path('none')
     last = model.plan_of(row)[1].swept(bed(1, 64))[-1]
-    differs = 'board 0: the grid differs from the sweep: cell 63 is %d, not %d\n' % (last, last ^ 1)
+    differs = 'boards: the grid differs from the sweep: cell 63 is %d, not %d\n' % (last, last ^ 1)
     check.ends('differs', DIFFERS, [differs], row, seed, 'BOARDS_FAULT=differs:0')
     missing = '%s: No such file or directory\n' % none
     check.ends('no source', FILE, ["boards: can't open " + missing], row, ['--source', none])
     check.ends('short source', FILE, ['has 80 bytes: a source of 64 cells has 256\n'], row, ['--source', check.put('short', bytes(80))])
-    check.ends('no folder', FILE, ["board 0: can't write %s/grid: No such file or directory\n" % none], row, seed + ['--grid', none + '/grid'])
-    check.ends('full', FILE, ["board 0: can't write %s: File too large\n" % check.path('grid')], row, seed,
+    check.ends('no folder', FILE, ["boards: can't write %s/grid: No such file or directory\n" % none], row, seed + ['--grid', none + '/grid'])
+    check.ends('full', FILE, ["boards: can't write %s: File too large\n" % check.path('grid')], row, seed,
                limit=lambda: resource.setrlimit(resource.RLIMIT_FSIZE, (100, 100)))
-    check.ends('a folder', FILE, ["board 0: can't write %s: Is a directory\n" % check.scratch], row, seed + ['--grid', check.scratch])
-    check.ends('standard output', FILE, ["can't write to standard output\n"], row, seed + ['--no-verify'], full=True)
+    check.ends('a folder', FILE, ["boards: can't write %s: Is a directory\n" % check.scratch], row, seed + ['--grid', check.scratch])
+    check.ends('standard output', FILE, ["can't write to standard output: No space left on device\n"], row, seed + ['--no-verify'], full=True)
 
 
 def check_refusals(check):
@@ -249,8 +249,8 @@ def check_refusals(check):
             (['--seed', '1', '--route', 'wrong'], '--route wrong: neither direct nor indirect'),
             (['--seed', '1', '--timeout', '0'], '--timeout 0: not a number of seconds'),
             (['--seed', '1', '--timeout', 'nan'], '--timeout nan: not a number of seconds'),
-            (['--seed', '1', '--run'], 'an option that is none'),
-            (['--seed', '1', '--wrong'], 'an option that is none'),
+            (['--seed', '1', '--run'], '--run: its value is missing'),
+            (['--seed', '1', '--wrong'], '--wrong: no such option'),
             (['--seed', '1', 'another'], 'one recipe is asked for, 2 given')]:
         check.ends('usage ' + ' '.join(arguments), USAGE, ['boards: ' + said], model.ROWS['A'], arguments)
 
@@ -276,7 +276,7 @@ def check_processes(check):
     check.ends('processes', USAGE, ['the recipe has 2 boards and there are 3 processes: start it with mpirun -n 2\n'], row, seed, boards=3)
     check.ends('ragged', REFUSED, ['boards: recipe refused 1, ragged: '], row[:-1], seed, boards=2)
     check.ends('no source', FILE, ["boards: can't open %s: No such file or directory\n" % check.path('none')], row, ['--source', check.path('none')])
-    check.ends('differs', DIFFERS, ['board 0: the grid differs from the sweep: cell 63 is '], row, seed, 'BOARDS_FAULT=differs:0')
+    check.ends('differs', DIFFERS, ['boards: the grid differs from the sweep: cell 63 is '], row, seed, 'BOARDS_FAULT=differs:0')
 
 
 def main(folder, mpi, seed, recipes):

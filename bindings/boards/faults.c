@@ -3,7 +3,9 @@
  *    BOARDS_FAULT    lost, doubled, corrupted, cut, stale, foreign (of another recipe) or misrouted (to the next board), and a message's
  *                    number: lost:7; or a board's part: lost-part:2
  *                    killed or halted, and a board: before it posts its first message, or its part: halted-part:2; halted-late: when all is posted
+ *                    stopped, and a board: before it posts its first message the whole group of processes is stopped, as by Ctrl-Z
  *                    differs:0: the sweep's last word is another
+ *                    signal-writing:15: this signal comes while the grid is brought to the disk
  *    BOARDS_DELAY    a seed and the most microseconds that a post and a look wait: 5:2000
  *    BOARDS_SHUFFLE  a seed: a board's messages are held back until it looks for mail, and go in another order then */
 #define _POSIX_C_SOURCE 200809L
@@ -12,6 +14,7 @@
 #include <stdlib.h>
 #include <string.h>
 #include <time.h>
+#include <unistd.h>
 
 #include "packet.h"
 #include "rolwyddac.h"
@@ -29,6 +32,9 @@ uint32_t __real_rolwyddac_sweep(const uint8_t *encoded, size_t encoded_length, c
                                 size_t grid_length);
 uint32_t __wrap_rolwyddac_sweep(const uint8_t *encoded, size_t encoded_length, const uint32_t *source, size_t source_length, uint32_t *grid,
                                 size_t grid_length);
+
+int __real_fsync(int file);
+int __wrap_fsync(int file);
 
 /* xorshift, one sequence a board */
 static uint32_t random_below(uint32_t seed, uint32_t board, uint32_t limit) {
@@ -87,6 +93,15 @@ static void befall_board(const char *killed, const char *halted, uint32_t board)
   if (asked(halted, board)) raise(SIGSTOP);
 }
 
+static void stop_all_once(uint32_t board) {
+  static bool stopped;
+  if (stopped || !asked("stopped", board)) return;
+  stopped = true;
+  kill(0, SIGSTOP);
+  /* the others go on first, and find that they have waited for long */
+  (void)nanosleep(&(struct timespec){.tv_nsec = 300000000}, NULL);
+}
+
 static enum status post_faulty(struct transport *t, uint32_t to, const uint32_t *words, size_t length) {
   if (befalls("lost", words)) return STATUS_DONE;
   if (befalls("cut", words)) length -= sizeof *words;
@@ -134,6 +149,7 @@ enum status __wrap_transport_post(struct transport *t, uint32_t to, const void *
   const bool message = words[PACKET_KIND] == PACKET_MESSAGE;
   if (message) delay(transport_me(t));
   if (message) befall_board("killed", "halted", transport_me(t));
+  if (message) stop_all_once(transport_me(t));
   if (words[PACKET_KIND] == PACKET_PART) befall_board("killed-part", "halted-part", transport_me(t));
   if (words[PACKET_KIND] == PACKET_FAREWELL) all_posted = true;
   if (getenv("BOARDS_SHUFFLE") == NULL) return post_faulty(t, to, words, length);
@@ -157,4 +173,11 @@ uint32_t __wrap_rolwyddac_sweep(const uint8_t *encoded, size_t encoded_length, c
   const uint32_t number = __real_rolwyddac_sweep(encoded, encoded_length, source, source_length, grid, grid_length);
   if (number == ROLWYDDAC_DONE && asked("differs", 0)) grid[grid_length - 1] ^= 1;
   return number;
+}
+
+int __wrap_fsync(int file) {
+  static const int ending[] = {SIGHUP, SIGINT, SIGTERM};
+  for (size_t i = 0; i < sizeof ending / sizeof *ending; i++)
+    if (asked("signal-writing", (uint32_t)ending[i])) raise(ending[i]);
+  return __real_fsync(file);
 }

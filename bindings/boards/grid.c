@@ -5,10 +5,10 @@
 
 #include "tell.h"
 
-enum status grid_collect(const struct areas *joined, uint32_t **grid) {
-  *grid = calloc(joined->plan->sizes.grid, sizeof **grid);
-  if (*grid == NULL) return tell_no_memory();
-  const uint32_t number = areas_collect(joined, *grid);
+size_t outcome_length(const struct plan *plan) { return offsetof(struct outcome, grid) + plan->sizes.grid * sizeof(uint32_t); }
+
+enum status grid_collect(const struct areas *joined, uint32_t *grid) {
+  const uint32_t number = areas_collect(joined, grid);
   return number == ROLWYDDAC_DONE ? STATUS_DONE : tell_refusal("collecting", number);
 }
 

@@ -4,6 +4,7 @@
 #include <mpi.h>
 #include <sched.h>
 #include <stdlib.h>
+#include <string.h>
 
 #include "clock.h"
 #include "tell.h"
@@ -16,9 +17,13 @@ struct transport {
   int posted, most;
   uint32_t *room; /* for what comes */
   int room_bytes;
+  const void *handed; /* what board 0 handed in */
 };
 
 enum { TAG = 27 };
+
+/* seconds: a process that waits looks far more often, unless it is stopped */
+static const double SLICE = 0.1;
 
 struct transport *transport_open(int *argc, char ***argv) {
   /* MPI ends the process, and says why, where one of its calls fails */
@@ -43,9 +48,9 @@ void transport_share(struct transport *t, void *bytes, size_t length) {
 
 uint32_t transport_me(const struct transport *t) { return (uint32_t)t->me; }
 
-enum status transport_begin(struct transport *t, uint32_t boards, double seconds, bool *over) {
+enum status transport_begin(struct transport *t, uint32_t boards, double seconds, bool *board) {
   (void)seconds;
-  *over = false;
+  *board = true;
   if (boards != (uint32_t)t->boards)
     return tell(STATUS_USAGE, "the recipe has %u boards and there are %d processes: start it with mpirun -n %u", (unsigned)boards, t->boards,
                 (unsigned)boards);
@@ -97,6 +102,28 @@ enum transport_event transport_receive(struct transport *t, double seconds, stru
   MPI_Mrecv(t->room, bytes, MPI_BYTE, &message, MPI_STATUS_IGNORE);
   *out = (struct arrival){.from = (uint32_t)status.MPI_SOURCE, .words = t->room, .bytes = (size_t)bytes};
   return TRANSPORT_PACKET;
+}
+
+/* board 0 is the process that reads the files */
+enum status transport_hand_in(struct transport *t, const void *bytes, size_t length) {
+  (void)length;
+  t->handed = bytes;
+  return STATUS_DONE;
+}
+
+/* All have come as far. A board that is halted before it has would have the others wait without end. */
+enum status transport_end(struct transport *t, double seconds, void *bytes, size_t length) {
+  MPI_Request all;
+  MPI_Ibarrier(MPI_COMM_WORLD, &all);
+  struct waited waited = waited_from_now(SLICE);
+  for (int there = 0;;) {
+    MPI_Test(&all, &there, MPI_STATUS_IGNORE);
+    if (there) break;
+    if (waited_seconds(&waited) >= seconds) return tell(STATUS_TIMEOUT, "has finished, and another board has not ended after %g seconds", seconds);
+    sched_yield();
+  }
+  if (t->handed != NULL) memmove(bytes, t->handed, length);
+  return STATUS_DONE;
 }
 
 void transport_close(struct transport *t, enum status status) {

@@ -2,7 +2,6 @@
 #include "options.h"
 
 #include <errno.h>
-#include <getopt.h>
 #include <math.h>
 #include <stdio.h>
 #include <stdlib.h>
@@ -17,7 +16,7 @@ static const char usage[] =
     "  --source FILE      one word a cell, four bytes each, low byte first\n"
     "  --seed NUMBER      words made from this number instead\n"
     "  --route ROUTE      direct (as it is where not given) or indirect\n"
-    "  --grid FILE        write the grid there, as the source has it: whole or not at all\n"
+    "  --grid FILE        write the grid there, as the source has it: whole or not at all; - is standard output\n"
     "  --timeout SECONDS  how long a board waits for mail, 10 where not given\n"
     "  --run NUMBER       the run's number, by which stale mail is told; made from the clock where not given\n"
     "  --no-verify        do not hold the grid to the sweep of one processor (--verify, as it is where not given)\n"
@@ -27,22 +26,26 @@ static const char usage[] =
     "Exit: 0 done, 1 refused by the engine, 2 usage, 3 timeout, 4 damaged mail, 5 a board lost, 6 grid differs,\n"
     "      7 a file can't be read or written, 8 no memory, process or socket\n";
 
-enum { SOURCE = 1, SEED, ROUTE, GRID, TIMEOUT, RUN, VERIFY, NO_VERIFY, WORK, TIMES, HELP, VERSION };
+enum option { SOURCE, SEED, ROUTE, GRID, TIMEOUT, RUN, VERIFY, NO_VERIFY, WORK, TIMES, HELP, VERSION };
 
-static const struct option names[] = {
-    {"source", required_argument, NULL, SOURCE},
-    {"seed", required_argument, NULL, SEED},
-    {"route", required_argument, NULL, ROUTE},
-    {"grid", required_argument, NULL, GRID},
-    {"timeout", required_argument, NULL, TIMEOUT},
-    {"run", required_argument, NULL, RUN},
-    {"verify", no_argument, NULL, VERIFY},
-    {"no-verify", no_argument, NULL, NO_VERIFY},
-    {"work", required_argument, NULL, WORK},
-    {"times", no_argument, NULL, TIMES},
-    {"help", no_argument, NULL, HELP},
-    {"version", no_argument, NULL, VERSION},
-    {NULL, 0, NULL, 0},
+/* getopt_long is not asked: it takes an abbreviation for an option, and takes no option behind RECIPE where POSIXLY_CORRECT is set */
+static const struct name {
+  const char *text;
+  enum option option;
+  bool valued;
+} names[] = {
+    {"--source", SOURCE, true},
+    {"--seed", SEED, true},
+    {"--route", ROUTE, true},
+    {"--grid", GRID, true},
+    {"--timeout", TIMEOUT, true},
+    {"--run", RUN, true},
+    {"--verify", VERIFY, false},
+    {"--no-verify", NO_VERIFY, false},
+    {"--work", WORK, true},
+    {"--times", TIMES, false},
+    {"--help", HELP, false},
+    {"--version", VERSION, false},
 };
 
 /* a whole number of 32 bits, digits alone */
@@ -70,7 +73,7 @@ static enum status read_route(const char *text, uint32_t *out) {
   return STATUS_DONE;
 }
 
-static enum status take(int option, const char *text, struct options *out, bool *seeded) {
+static enum status take(enum option option, const char *text, struct options *out, bool *seeded) {
   switch (option) {
     case SOURCE: out->source = text; return STATUS_DONE;
     case SEED: *seeded = true; return read_number("seed", text, &out->seed);
@@ -82,29 +85,88 @@ static enum status take(int option, const char *text, struct options *out, bool 
     case NO_VERIFY: out->verify = false; return STATUS_DONE;
     case WORK: return read_number("work", text, &out->work);
     case TIMES: out->times = true; return STATUS_DONE;
-    default: return tell(STATUS_USAGE, "an option that is none, or one without its value; --help lists them");
+    case HELP:
+    case VERSION: break;
   }
+  return STATUS_DONE;
 }
 
-static void print(int option) {
+static void print(enum option option) {
   if (option == HELP) fputs(usage, stdout);
   else printf("boards, Rolwyddac %s\n", rolwyddac_version());
+}
+
+/* the words of the command line that are not read yet */
+struct words {
+  int left;
+  char **next;
+};
+
+/* the option that a word is, whole, or up to its `=`; null where it is none */
+static const struct name *find(const char *word) {
+  const size_t length = strcspn(word, "=");
+  for (size_t i = 0; i < sizeof names / sizeof *names; i++)
+    if (strlen(names[i].text) == length && strncmp(names[i].text, word, length) == 0) return &names[i];
+  return NULL;
+}
+
+/* the next word is an option: which one, and its value, which stands behind `=` or is the word after it */
+static enum status read_option(struct words *words, enum option *option, const char **value) {
+  const char *word = *words->next++;
+  const struct name *name = find(word);
+  words->left--;
+  if (name == NULL) return tell(STATUS_USAGE, "%s: no such option; --help lists them", word);
+  *option = name->option;
+  *value = strchr(word, '=');
+  if (*value != NULL && !name->valued) return tell(STATUS_USAGE, "%s: this option has no value", word);
+  if (*value != NULL) ++*value;
+  if (*value != NULL || !name->valued) return STATUS_DONE;
+  if (words->left == 0) return tell(STATUS_USAGE, "%s: its value is missing", word);
+  *value = *words->next++;
+  words->left--;
+  return STATUS_DONE;
+}
+
+static bool is_option(const char *word) { return word[0] == '-' && word[1] != '\0'; }
+
+/* all words; those that are no options are recipes, and behind `--` all are */
+static enum status read_words(struct words words, bool prints, struct options *out, bool *seeded, int *recipes, bool *over) {
+  bool closed = false;
+  while (words.left > 0) {
+    enum option option = HELP;
+    const char *value = NULL;
+    if (closed || !is_option(*words.next)) {
+      out->recipe = *words.next++;
+      words.left--;
+      ++*recipes;
+      continue;
+    }
+    closed = strcmp(*words.next, "--") == 0;
+    if (closed) {
+      words.next++;
+      words.left--;
+      continue;
+    }
+    enum status status = read_option(&words, &option, &value);
+    if (status != STATUS_DONE) return status;
+    *over = option == HELP || option == VERSION;
+    if (*over && prints) print(option);
+    if (*over) return STATUS_DONE;
+    status = take(option, value, out, seeded);
+    if (status != STATUS_DONE) return status;
+  }
+  return STATUS_DONE;
 }
 
 enum status options_read(int argc, char **argv, bool prints, struct options *out, bool *over) {
   *out = (struct options){.route = ROLWYDDAC_DIRECT, .timeout = 10, .verify = true};
   *over = false;
   bool seeded = false;
-  opterr = 0;
-  for (int option; (option = getopt_long(argc, argv, "", names, NULL)) != -1;) {
-    *over = option == HELP || option == VERSION;
-    if (*over && prints) print(option);
-    if (*over) return STATUS_DONE;
-    const enum status status = take(option, optarg, out, &seeded);
-    if (status != STATUS_DONE) return status;
-  }
-  if (argc - optind != 1) return tell(STATUS_USAGE, "one recipe is asked for, %d given; --help has more", argc - optind);
+  int recipes = 0;
+  const struct words words = {argc > 0 ? argc - 1 : 0, argv + 1};
+  const enum status status = read_words(words, prints, out, &seeded, &recipes, over);
+  if (status != STATUS_DONE || *over) return status;
+  if (recipes != 1) return tell(STATUS_USAGE, "one recipe is asked for, %d given; --help has more", recipes);
   if (seeded == (out->source != NULL)) return tell(STATUS_USAGE, "either --source or --seed is asked for; --help has more");
-  out->recipe = argv[optind];
   return STATUS_DONE;
 }

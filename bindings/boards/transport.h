@@ -23,10 +23,9 @@ bool transport_reads(const struct transport *t);
 /* What that process has in these bytes the others get. Only before transport_begin. */
 void transport_share(struct transport *t, void *bytes, size_t length);
 
-/* Has one process be each board, and returns in all of them once they are there. Where the starting process is no board itself, it
- * returns there when all have ended, with the status of the run, and `over` is set; a board that does not end so many seconds after
- * another has is told. */
-enum status transport_begin(struct transport *t, uint32_t boards, double seconds, bool *over);
+/* Has one process be each board, and returns in each, with `board` set, once all are there. A starting process that is no board itself
+ * returns too, with `board` not set. */
+enum status transport_begin(struct transport *t, uint32_t boards, double seconds, bool *board);
 
 /* The board this process is. */
 uint32_t transport_me(const struct transport *t);
@@ -52,6 +51,13 @@ struct arrival {
 
 /* Waits for the next event, at most so many seconds, and sends off what is kept in mind. */
 enum transport_event transport_receive(struct transport *t, double seconds, struct arrival *out);
+
+/* Board 0 hands in what the run came to, for the process that reads the files; the bytes stay as they are until transport_end returns. */
+enum status transport_hand_in(struct transport *t, const void *bytes, size_t length);
+
+/* Waits, in the process that reads the files, until no board can fail any more: one that does not end so many seconds after another is told.
+ * Returns the run's status there, and where that is 0 `bytes` has what board 0 handed in. Elsewhere it returns 0 once it may end. */
+enum status transport_end(struct transport *t, double seconds, void *bytes, size_t length);
 
 /* Closes the transport of a process that ends with this status, and frees it. May not return where the status is not 0. */
 void transport_close(struct transport *t, enum status status);
