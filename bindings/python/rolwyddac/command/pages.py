@@ -1,0 +1,117 @@
+"""Pages made from the command's parser: the man page, the completion for bash, the options' tables of docs/COMMAND.md."""
+
+from __future__ import annotations
+
+import argparse
+from typing import Dict, Iterator, List, Tuple
+
+
+def subcommands(parser: argparse.ArgumentParser) -> Dict[str, argparse.ArgumentParser]:
+    """The parser of each subcommand."""
+    for action in parser._actions:
+        if isinstance(action, argparse._SubParsersAction):
+            return dict(action.choices)
+    return {}
+
+
+def _values(action: argparse.Action) -> str:
+    """What stands behind an option, as it is written."""
+    if action.nargs == 0:
+        return ''
+    if action.choices is not None:
+        return '|'.join(map(str, action.choices))
+    names = action.metavar if isinstance(action.metavar, tuple) else (action.metavar or action.dest.upper(),)
+    return ' '.join(names) + (' ..' if action.nargs == '+' else '')
+
+
+def options(parser: argparse.ArgumentParser) -> Iterator[Tuple[str, str]]:
+    """Each word of a subcommand as it is written, and what it says."""
+    for action in parser._actions:
+        if isinstance(action, argparse._SubParsersAction) or action.help == argparse.SUPPRESS:
+            continue
+        values = _values(action)
+        written = ', '.join(action.option_strings) + ' ' + values if action.option_strings else values
+        yield written.strip(), (action.help or '') % vars(action) if '%' in (action.help or '') else action.help or ''
+
+
+def usage(parser: argparse.ArgumentParser) -> str:
+    """How it is called, in one line."""
+    words = [parser.prog]
+    chosen = [action for group in parser._mutually_exclusive_groups for action in group._group_actions]
+    for group in parser._mutually_exclusive_groups:
+        words.append('(%s)' % ' | '.join('%s %s' % (action.option_strings[0], _values(action)) for action in group._group_actions))
+    for action in parser._actions:
+        if action in chosen or isinstance(action, argparse._HelpAction):
+            continue
+        word = ' '.join([*action.option_strings[-1:], _values(action)]).strip()
+        needed = action.required and action.nargs != '?'
+        words.insert(1 if not action.option_strings else len(words), word if needed else '[%s]' % word)
+    return ' '.join(words)
+
+
+def reference(parser: argparse.ArgumentParser) -> str:
+    """The options of a subcommand as a table in Markdown."""
+    lines = ['| word | what it says |', '|---|---|']
+    lines += ['| `%s` | %s |' % (written.replace('|', '\\|'), told) for written, told in options(parser)]
+    return '\n'.join(lines) + '\n'
+
+
+def _troff(text: str) -> str:
+    """Text that troff prints as it is."""
+    lines = text.replace('\\', '\\e').replace('-', '\\-').split('\n')
+    return '\n'.join('\\&' + line if line.startswith(('.', "'")) else line for line in lines)
+
+
+def _man_options(parser: argparse.ArgumentParser) -> List[str]:
+    return [line for written, told in options(parser) for line in ('.TP', '.B ' + _troff(written), _troff(told))]
+
+
+def man(parser: argparse.ArgumentParser) -> str:
+    """The man page."""
+    lines = ['.TH ROLWYDDAC 1', '.SH NAME', 'rolwyddac \\- depth grids by a proved tiled sweep', '.SH SYNOPSIS',
+             '.B rolwyddac', '.I SUBCOMMAND', '..', '.SH DESCRIPTION', _troff(parser.description or ''), '.SH OPTIONS', *_man_options(parser)]
+    lines[lines.index('..')] = '\\&..'
+    for name, sub in subcommands(parser).items():
+        lines += ['.SH ' + name.upper(), '.B ' + _troff(usage(sub)), '.PP', _troff(sub.description or ''), *_man_options(sub)]
+        lines += ['.PP', 'Example:', '.PP', '.nf', _troff((sub.epilog or '').partition('\n')[2].strip()), '.fi']
+    lines += ['.SH EXIT STATUS', _troff((parser.epilog or '').partition(': ')[2]), '.PP',
+              'A signal ends the command as it ends others: Ctrl\\-C gives a shell the status 130.']
+    return '\n'.join(lines) + '\n'
+
+
+_BASH = '''# Completion for bash, made by rolwyddac --completion bash.
+_rolwyddac() {
+  local word=${COMP_WORDS[COMP_CWORD]} before=${COMP_WORDS[COMP_CWORD - 1]} words
+  COMPREPLY=()
+  case $before in
+%(values)s    *) ;;
+  esac
+  if [ "$COMP_CWORD" -eq 1 ]; then
+    words="%(top)s"
+  else
+    case ${COMP_WORDS[1]} in
+%(cases)s      *) words= ;;
+    esac
+  fi
+  if [ "$COMP_CWORD" -eq 1 ] || [[ $word == -* ]]; then
+    mapfile -t COMPREPLY < <(compgen -W "$words" -- "$word")
+  fi
+}
+complete -o default -F _rolwyddac rolwyddac
+'''
+
+
+def bash(parser: argparse.ArgumentParser) -> str:
+    """A completion for bash: subcommands, their options, and the values that an option may have; else names of files."""
+    below, values, cases = subcommands(parser), {}, ''
+    for name, sub in below.items():
+        words = [option for action in sub._actions for option in action.option_strings]
+        cases += '      %s) words="%s" ;;\n' % (name, ' '.join(words))
+    for each in (parser, *below.values()):
+        for action in each._actions:
+            if action.choices is not None and action.option_strings:
+                values[action.option_strings[-1]] = ' '.join(map(str, action.choices))
+    told = ''.join('    %s)\n      mapfile -t COMPREPLY < <(compgen -W "%s" -- "$word")\n      return\n      ;;\n' % each
+                   for each in values.items())
+    top = [*below, *(option for action in parser._actions for option in action.option_strings)]
+    return _BASH % {'values': told, 'top': ' '.join(top), 'cases': cases}
