@@ -166,15 +166,16 @@ class Formats(InFolder):
         import io
 
         import matplotlib.image
+        import numpy
         content = drawings.picture([9000, 0, 0, 9000, 0, 0], {5}, Layout(2, 3, 0, 0, 10), 'a')
         self.assertEqual(content[:8], b'\x89PNG\r\n\x1a\n')
-        pixels = [[tuple(int(round(255 * part)) for part in pixel[:3]) for pixel in row] for row in matplotlib.image.imread(io.BytesIO(content))]
-        land = tuple(int(drawings._LAND[at:at + 2], 16) for at in (1, 3, 5))
+        pixels = (255 * matplotlib.image.imread(io.BytesIO(content))[:, :, :3]).round().astype(int)
+        land = [int(drawings._LAND[at:at + 2], 16) for at in (1, 3, 5)]
         # the lower right cell alone is land: it lies right of and below the first third of the picture
-        places = [(row, column) for row, line in enumerate(pixels) for column, pixel in enumerate(line) if pixel == land]
+        places = numpy.argwhere((pixels == land).all(axis=2))
         self.assertGreater(len(places), 1000)
-        self.assertGreater(min(column for _, column in places), len(pixels[0]) // 3)
-        self.assertGreater(min(row for row, _ in places), len(pixels) // 3)
+        self.assertGreater(places[:, 1].min(), pixels.shape[1] // 3)
+        self.assertGreater(places[:, 0].min(), pixels.shape[0] // 3)
 
 
 class Modules(unittest.TestCase):

@@ -20,8 +20,8 @@ HELP = 'make a chart from soundings'
 MORE = '''Finds the soundings that count, runs the recipe on all its processors, holds the grid to the sweep of one, and writes it. An .asc is an Esri
 ASCII grid, by the proved call; .tif and .nc are written by GDAL from the same grid; a .prj stands beside an .asc where a CRS is given. All
 files are made before the first is written, and each is written whole or not at all.'''
-EXAMPLE = '''rolwyddac chart data/harbour/basin.toml --soundings data/harbour/spring.csv data/harbour/autumn.csv \\
-    --value 3000 --cell 10 --out harbour.asc'''
+EXAMPLE = '''rolwyddac chart data/harbour/basin.toml --value 3000 --cell 10 --out harbour.asc \\
+    --soundings data/harbour/spring.csv data/harbour/autumn.csv'''
 
 _TEXTS = ('', '.asc')
 

@@ -1,8 +1,9 @@
-"""Pages made from the command's parser: the man page, the completion for bash, the options' tables of docs/COMMAND.md."""
+"""Pages made from the command's parser: the man page, the completion for bash, the options of docs/COMMAND.md."""
 
 from __future__ import annotations
 
 import argparse
+import textwrap
 from typing import Dict, Iterator, List, Tuple
 
 
@@ -25,35 +26,42 @@ def _values(action: argparse.Action) -> str:
 
 
 def options(parser: argparse.ArgumentParser) -> Iterator[Tuple[str, str]]:
-    """Each word of a subcommand as it is written, and what it says."""
+    """Each word of a subcommand as it is written, and what it says; that each has --help is told once."""
     for action in parser._actions:
-        if isinstance(action, argparse._SubParsersAction) or action.help == argparse.SUPPRESS:
+        if isinstance(action, argparse._SubParsersAction) or isinstance(action, argparse._HelpAction) and ' ' in parser.prog:
             continue
         values = _values(action)
         written = ', '.join(action.option_strings) + ' ' + values if action.option_strings else values
-        yield written.strip(), (action.help or '') % vars(action) if '%' in (action.help or '') else action.help or ''
+        yield written.strip(), action.help or ''
 
 
-def usage(parser: argparse.ArgumentParser) -> str:
-    """How it is called, in one line."""
-    words = [parser.prog]
+def _usage_word(action: argparse.Action) -> str:
+    """An option with its values, in brackets where it may be left out."""
+    if isinstance(action, argparse._SubParsersAction):
+        return 'SUBCOMMAND ..'
+    word = ' '.join([*action.option_strings[:1], _values(action)]).strip()
+    return word if action.required and action.nargs != '?' else '[%s]' % word
+
+
+def usage_words(parser: argparse.ArgumentParser) -> List[str]:
+    """How it is called: the command, its files, what one of is needed, its options."""
     chosen = [action for group in parser._mutually_exclusive_groups for action in group._group_actions]
-    for group in parser._mutually_exclusive_groups:
-        words.append('(%s)' % ' | '.join('%s %s' % (action.option_strings[0], _values(action)) for action in group._group_actions))
-    for action in parser._actions:
-        if action in chosen or isinstance(action, argparse._HelpAction):
-            continue
-        word = ' '.join([*action.option_strings[-1:], _values(action)]).strip()
-        needed = action.required and action.nargs != '?'
-        words.insert(1 if not action.option_strings else len(words), word if needed else '[%s]' % word)
-    return ' '.join(words)
+    groups = ['(%s)' % ' | '.join('%s %s' % (action.option_strings[0], _values(action)) for action in group._group_actions)
+              for group in parser._mutually_exclusive_groups]
+    others = [action for action in parser._actions if action not in chosen and not isinstance(action, argparse._HelpAction)]
+    named = [_usage_word(action) for action in others if not action.option_strings and action.dest != 'subcommand']
+    options_of = [_usage_word(action) for action in others if action.option_strings]
+    return [parser.prog, *named, *groups, *options_of, *(_usage_word(action) for action in others if action.dest == 'subcommand')]
 
 
-def reference(parser: argparse.ArgumentParser) -> str:
-    """The options of a subcommand as a table in Markdown."""
-    lines = ['| word | what it says |', '|---|---|']
-    lines += ['| `%s` | %s |' % (written.replace('|', '\\|'), told) for written, told in options(parser)]
-    return '\n'.join(lines) + '\n'
+def reference(parser: argparse.ArgumentParser, width: int = 100) -> str:
+    """How a subcommand is called and its options, in Markdown."""
+    # a word with its values stays in one line
+    call = textwrap.fill(' '.join(word.replace(' ', '\0') for word in usage_words(parser)), width - 4, subsequent_indent='    ', break_on_hyphens=False)
+    text = textwrap.indent(call, '    ') + '\n\n'
+    for written, told in options(parser):
+        text += textwrap.fill('- `%s`: %s' % (written.replace(' ', '\0'), told), width, subsequent_indent='  ', break_on_hyphens=False) + '\n'
+    return text.replace('\0', ' ')
 
 
 def _troff(text: str) -> str:
@@ -72,7 +80,7 @@ def man(parser: argparse.ArgumentParser) -> str:
              '.B rolwyddac', '.I SUBCOMMAND', '..', '.SH DESCRIPTION', _troff(parser.description or ''), '.SH OPTIONS', *_man_options(parser)]
     lines[lines.index('..')] = '\\&..'
     for name, sub in subcommands(parser).items():
-        lines += ['.SH ' + name.upper(), '.B ' + _troff(usage(sub)), '.PP', _troff(sub.description or ''), *_man_options(sub)]
+        lines += ['.SH ' + name.upper(), '.B ' + _troff(' '.join(usage_words(sub))), '.PP', _troff(sub.description or ''), *_man_options(sub)]
         lines += ['.PP', 'Example:', '.PP', '.nf', _troff((sub.epilog or '').partition('\n')[2].strip()), '.fi']
     lines += ['.SH EXIT STATUS', _troff((parser.epilog or '').partition(': ')[2]), '.PP',
               'A signal ends the command as it ends others: Ctrl\\-C gives a shell the status 130.']
