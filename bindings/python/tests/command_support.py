@@ -1,6 +1,7 @@
 """What the tests of the command share: the command as a user starts it, and the model's answers."""
 
 import contextlib
+import importlib.util
 import os
 import subprocess
 import sys
@@ -15,6 +16,18 @@ HARBOUR = os.path.join(ROOT, 'data', 'harbour')
 BASIN = os.path.join(HARBOUR, 'basin.toml')
 SURVEYS = [os.path.join(HARBOUR, name) for name in ('spring.csv', 'autumn.csv')]
 START = [sys.executable, '-c', 'import sys; from rolwyddac.command import main; sys.exit(main())']
+
+# in a clone the program boards is built; what is installed by the wheel has none
+HAS_BOARDS = os.path.isdir(os.path.join(ROOT, 'bindings', 'boards')) and not os.environ.get('ROLWYDDAC_INSTALLED')
+
+
+def setUpModule():
+    """The command is for Python 3.9 on, and its recipes as TOML for a Python that reads it."""
+    if sys.version_info < (3, 9):
+        raise unittest.SkipTest('the command needs Python 3.9')
+    if not any(importlib.util.find_spec(name) for name in ('tomllib', 'tomli')):
+        raise unittest.SkipTest('neither tomllib nor tomli is installed')
+
 
 # recipe D of docs/RECIPE.md
 SMALL = '''

@@ -12,7 +12,7 @@ import time
 import unittest
 from unittest import mock
 
-from command_support import BASIN, SMALL, START, InFolder, content_of, environment
+from command_support import BASIN, SMALL, START, InFolder, content_of, environment, setUpModule  # noqa: F401
 from rolwyddac.command import files, texts
 from rolwyddac.command.faults import FileFault
 from rolwyddac.command.texts import shown

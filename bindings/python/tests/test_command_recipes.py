@@ -3,7 +3,7 @@
 import os
 import unittest
 
-from command_support import SMALL, InFolder, content_of, without
+from command_support import SMALL, InFolder, content_of, setUpModule, without  # noqa: F401
 from support import Draw, model, number_of, recipe_of, rolwyddac
 from rolwyddac.command import toml
 from rolwyddac.command.explained import explained
@@ -44,10 +44,12 @@ REFUSED = [
     (CUBE + 'processors = 3\n', 'refused 16, spread order: dimension 3 has 3 processors, and dimension 2 before it has 0'),
     (changed(SMALL, ('tile = 1\n', 'tile = 1\nprocessors = 1\n')), 'refused 17, last spread: dimension 2, the last, has 1 processor, and must have 0'),
     (changed(SMALL, ('processors = 2', 'processors = 65')), 'refused 7, boards: 65 = 65 processors, above 64'),
-    (changed(CUBE, ('processors = 2', 'processors = 13'), ('tile = 1\n', 'tile = 1\nprocessors = 5\n')), 'refused 7, boards: 13 × 5 = 65 processors, above 64'),
+    (changed(CUBE, ('processors = 2', 'processors = 13'), ('tile = 1\n', 'tile = 1\nprocessors = 5\n')),
+     'refused 7, boards: 13 × 5 = 65 processors, above 64'),
     (changed(SMALL, ('length = 4', 'length = 100'), ('tile = 2', 'tile = 1'), ('length = 1\n', 'length = 11\n')),
      'refused 8, tiles: 100 × 11 = 1100 tiles, above 1024'),
-    (changed(SHAPE, ('length = 4', 'length = 100'), ('tile = 2', 'tile = 1'), ('length = 4', 'length = 100')), 'refused 8, tiles: 5050 tiles hold a cell, above 1024'),
+    (changed(SHAPE, ('length = 4', 'length = 100'), ('tile = 2', 'tile = 1'), ('length = 4', 'length = 100')),
+     'refused 8, tiles: 5050 tiles hold a cell, above 1024'),
     ('', 'refused 1, ragged: the recipe is empty'),
     ('# nothing\n', 'refused 2, stray record: the recipe has 0 dimensions, and may have 2 to 4'),
     (SMALL[:SMALL.index('[[distance]]')], 'refused 2, stray record: the recipe has 0 distances, and may have 1 to 8'),

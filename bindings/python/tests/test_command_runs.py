@@ -12,7 +12,7 @@ import time
 import unittest
 from unittest import mock
 
-from command_support import BASIN, ROOT, SMALL, START, InFolder, content_of, environment
+from command_support import BASIN, HAS_BOARDS, ROOT, SMALL, START, InFolder, content_of, environment, setUpModule  # noqa: F401
 from support import Draw, model, recipe_of, rolwyddac
 
 import foreman  # noqa: I001
@@ -82,7 +82,8 @@ class Plans(InFolder):
         self.assertIn('4 by 1 cells in tiles of 2 by 1, indirect route', written)
         self.assertRegex(written, r'message +sending tile +taking tile +sending processor +taking processor +words\n  0 +0 +1 +0 +1 +1\n')
         self.assertIn('no messages', self.ends(0, 'plan', self.put('r', SMALL.replace('processors = 2', 'processors = 1'))).decode())
-        self.ends(1, 'plan', BASIN, '--route', 'indirect', told='basin.toml: refused 21, direct only: the recipe has 1 bound, and indirect passing is for recipes without')
+        self.ends(1, 'plan', BASIN, '--route', 'indirect', told=(
+            'basin.toml: refused 21, direct only: the recipe has 1 bound, and indirect passing is for recipes without'))
         self.ends(2, 'plan', BASIN, '--route', 'round', told='invalid choice')
 
 
@@ -156,7 +157,8 @@ class Checks(InFolder):
             return [word ^ (cell == 2) for cell, word in enumerate(check.flat(sweep(encoded, source)))]
 
         lines = []
-        with mock.patch.object(check.grids, 'sweep', wrong), mock.patch.object(check, 'tell', lines.append), mock.patch.object(check.files, 'say', lines.append):
+        with mock.patch.object(check.grids, 'sweep', wrong), mock.patch.object(check, 'tell', lines.append), \
+                mock.patch.object(check.files, 'say', lines.append):
             self.assertEqual(entry.run(['check', self.put('r', SMALL), '--orders', '1', '--seed', '3']), 1)
         self.assertRegex(lines[0], r'^order 0 of seed 3, direct route: cell 2 has \d+, the sweep has \d+; 1 cell differs$')
         self.assertIn('5 differ from the sweep', lines[-1])
@@ -205,7 +207,7 @@ class Numbers(InFolder):
                 self.assertIsNotNone(explained.explained(number, parts_of(content_of(self.path('r'))), content_of(self.path('r'))))
 
 
-@unittest.skipUnless(os.path.isdir(os.path.join(ROOT, 'bindings', 'boards')) and not os.environ.get('ROLWYDDAC_INSTALLED'), 'no sources of boards')
+@unittest.skipUnless(HAS_BOARDS, 'no sources of boards')
 class Boards(InFolder):
 
     def test_grid(self):
@@ -226,7 +228,8 @@ class Boards(InFolder):
         self.ends(3, 'boards', small, '--seed', 1, told='none: No such file', env={'ROLWYDDAC_BOARDS': self.path('none')})
         failing = self.put('failing', '#!/bin/sh\necho lost >&2\nexit 5\n')
         os.chmod(failing, 0o755)
-        self.ends(1, 'boards', small, '--seed', 1, '--grid', self.path('g'), told='lost\nthe program boards ended with status 5', env={'ROLWYDDAC_BOARDS': failing})
+        self.ends(1, 'boards', small, '--seed', 1, '--grid', self.path('g'), env={'ROLWYDDAC_BOARDS': failing},
+                  told='lost\nthe program boards ended with status 5')
         self.assertFalse(os.path.exists(self.path('g')))
 
     def test_ended(self):

@@ -6,7 +6,7 @@ import os
 import struct
 import unittest
 
-from command_support import BASIN, HARBOUR, SMALL, SURVEYS, InFolder, command, content_of
+from command_support import BASIN, HARBOUR, SMALL, SURVEYS, InFolder, command, content_of, setUpModule  # noqa: F401
 from support import Draw, model, rolwyddac
 from rolwyddac.command.exact import Exact, day_of, number_of, word_of
 from rolwyddac.command.points import Layout
@@ -107,7 +107,8 @@ class Converted(InFolder):
                 ['Survey;Day;Z;Northing;Easting\r\n2;5;1234;-21;101\r\n3;6;7;-49,5;139,5\r\n'],
                 ['\ufeffx\ty\tdepth\tday\tsurvey\n101\t-21\t1234\t5\t2\n139,5\t-49,5\t7\t6\t3\n'],
                 ['"x","y","depth","day","survey"\n"101","-21",1234,1970-01-06,2\n139.5, -49.5, 7 ,1970-01-07,3\n'],
-                ['a,b,c,d,e\n5,2,101,-21,12.34\n6,3,139.5,-49.5,.07\n', '--x', 'C', '--y', '4', '--depth', 'e', '--day', '1', '--survey', 'b', '--scale', '100'],
+                ['a,b,c,d,e\n5,2,101,-21,12.34\n6,3,139.5,-49.5,.07\n', '--x', 'C', '--y', '4', '--depth', 'e', '--day', '1', '--survey', 'b',
+                 '--scale', '100'],
                 ['101 -21 -1.234 5 2\n139.5 -49.5 -.007 6 3\n', '--scale', '-1000'],
                 ['101,-21,9,1234,5,2\n139.5,-49.5,9,7,6,3\n', '--depth', '4', '--day', '5', '--survey', '6'],
                 ['x,y,depth\r101,-21,1234\r', '--default-day', '5', '--default-survey', '2']):
@@ -117,11 +118,12 @@ class Converted(InFolder):
     def test_reports(self):
         self.records('x,y,depth,day\n101,-21,3,\n101,-21,4,5\n', told='1 point has no day, and day 0 instead')
         self.assertIn('2 points on 1 of 12 cells\nmost on one cell: 2, cell 0 (row 0, column 0)\n', self.said)
-        self.records('101 -21 3\n', told='1 point has no day, and day 0 instead, so that any other is later; --default-day gives one; the first is %s: line 1' % self.path('in'))
+        self.records('101 -21 3\n', told='1 point has no day, and day 0 instead, so that any other is later; --default-day gives one; the first is '
+                     '%s: line 1' % self.path('in'))
         self.assertEqual(self.records('101 -21 3\n', '--default-day', '1970-01-03'), [(0, 2, 0, 3)])
-        self.records('x,y,depth\n99,-21,3\n101,-21,3\n101,-19.99,3\n',
-                     told='2 points are off the box (x 100 to 140, y -50 to -20) and left out:\n  %s: line 2: x 99, y -21\n  %s: line 4: x 101, y -19.99\n' % (
-                         self.path('in'), self.path('in')))
+        self.records('x,y,depth\n99,-21,3\n101,-21,3\n101,-19.99,3\n', told=(
+            '2 points are off the box (x 100 to 140, y -50 to -20) and left out:\n'
+            '  %s: line 2: x 99, y -21\n  %s: line 4: x 101, y -19.99\n' % (self.path('in'), self.path('in'))))
         self.records('110 -30 3 1\n140 -50 3 1\n', told='2 points are on an edge of a cell, and counted for the cell to the right or below')
         self.records('101 -21 1.26 1\n', '--scale', '10', '--round', told='1 depth is rounded to whole numbers: 12.60 became 13')
         self.records('101,-21,3,2026-04-27T08:00\n', told='1 point has a time of the day, which is left out')
