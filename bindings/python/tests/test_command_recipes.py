@@ -199,6 +199,7 @@ class Told(InFolder):
         self.ends(0, 'recipe', path, '-o', out)
         self.assertEqual(content_of(out), toml.parts_of_text(SMALL).encoded())
         self.assertEqual(self.ends(0, 'recipe', '-', given=content_of(out)), content_of(out))
+        self.assertEqual(self.ends(0, 'recipe', '--list', out).decode(), ''.join('%d ∷ ' % byte for byte in content_of(out)) + '[]\n')
         self.ends(0, 'recipe', '--show', out, '-o', self.path('b.toml'))
         self.assertEqual(self.ends(0, 'recipe', self.path('b.toml')), content_of(out))
         self.ends(1, 'recipe', self.put('c', REFUSED[0][0]), '-o', self.path('d'), told='refused 3, length: dimension 1 has length 0')

@@ -125,7 +125,7 @@ class Converted(InFolder):
             '2 points are off the box (x 100 to 140, y -50 to -20) and left out:\n'
             '  %s: line 2: x 99, y -21\n  %s: line 4: x 101, y -19.99\n' % (self.path('in'), self.path('in'))))
         self.records('110 -30 3 1\n140 -50 3 1\n', told='2 points are on an edge of a cell, and counted for the cell to the right or below')
-        self.records('101 -21 1.26 1\n', '--scale', '10', '--round', told='1 depth is rounded to whole numbers: 12.60 became 13')
+        self.records('101 -21 1.26 1\n', '--scale', '10', '--round', told='1 depth is rounded to whole numbers: %s: line 1: 12.60 became 13' % self.path('in'))
         self.records('101,-21,3,2026-04-27T08:00\n', told='1 point has a time of the day, which is left out')
         self.records(''.join('0 0 %d 1\n' % at for at in range(14)) + '101 -21 3 1\n', told='line 10: x 0, y 0\n  and 4 more')
 
@@ -165,6 +165,12 @@ class Converted(InFolder):
     def test_cells(self):
         self.records('x,y,depth\n101,-21,3\n102,-22,3\n139,-49,3\n', '--cells', self.path('cells.csv'))
         self.assertEqual(content_of(self.path('cells.csv')), b'cell,row,column,points\n0,0,0,2\n11,2,3,1\n')
+
+    def test_off(self):
+        """All of them, though only the first are told."""
+        self.records('x,y,depth\n' + ''.join('99,%d,3\n' % at for at in range(12)) + '101,-21,3\n', '--off', self.path('off.csv'), told='and 2 more')
+        lines = content_of(self.path('off.csv')).decode().splitlines()
+        self.assertEqual((lines[0], lines[1], len(lines)), ('file,line,x,y', '%s,2,99,0' % self.path('in'), 13))
 
     def test_points_outside_the_shape(self):
         shape = RECIPE.replace('[[distance]]', '[[bound]]\nside = "lower"\ndimension = 2\nearlier = 1\nslope = 1\n[[distance]]')

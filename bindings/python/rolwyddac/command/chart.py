@@ -117,8 +117,9 @@ def write_charts(recipe: Recipe, grid: Sequence[int], words: argparse.Namespace)
     """Makes all files, then writes them."""
     for name, content in contents_of(recipe, grid, words).items():
         files.write(name, content)
+    # of a text alone: in the other formats every word is as it is
     found = unsigned_words(grid, outside_of(recipe), recipe.parts.lengths[-1])
-    if found:
+    if found and not all(drawings.is_raster(name) for name in words.out):
         tell(found)
 
 

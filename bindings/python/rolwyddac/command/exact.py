@@ -3,6 +3,7 @@
 from __future__ import annotations
 
 import datetime
+import functools
 import re
 from typing import NamedTuple, Optional, Tuple
 
@@ -69,6 +70,7 @@ def word_of(text: str) -> Optional[int]:
     return int(text) if _WHOLE.fullmatch(text) and int(text) <= WORD_MOST else None
 
 
+@functools.lru_cache(maxsize=1024)
 def day_of(text: str) -> Optional[Tuple[int, bool]]:
     """The day of a text, and whether it had a time of the day, which is left out: a whole number as it is, a date as days since
     1970-01-01."""

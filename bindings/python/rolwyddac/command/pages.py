@@ -46,8 +46,8 @@ def _usage_word(action: argparse.Action) -> str:
 def usage_words(parser: argparse.ArgumentParser) -> List[str]:
     """How it is called: the command, its files, what one of is needed, its options."""
     chosen = [action for group in parser._mutually_exclusive_groups for action in group._group_actions]
-    groups = ['(%s)' % ' | '.join('%s %s' % (action.option_strings[0], _values(action)) for action in group._group_actions)
-              for group in parser._mutually_exclusive_groups]
+    groups = [('(%s)' if group.required else '[%s]') % ' | '.join(
+        ' '.join([action.option_strings[0], _values(action)]).strip() for action in group._group_actions) for group in parser._mutually_exclusive_groups]
     others = [action for action in parser._actions if action not in chosen and not isinstance(action, argparse._HelpAction)]
     named = [_usage_word(action) for action in others if not action.option_strings and action.dest != 'subcommand']
     options_of = [_usage_word(action) for action in others if action.option_strings]

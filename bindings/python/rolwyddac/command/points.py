@@ -9,9 +9,10 @@ from __future__ import annotations
 
 import collections
 import csv
-import re
+import io
+import itertools
 import struct
-from typing import Any, Counter, Dict, Iterator, List, NamedTuple, Optional, Sequence, Tuple
+from typing import Any, Counter, Dict, Iterable, Iterator, List, NamedTuple, Optional, Sequence, Tuple
 
 from .exact import WORD_MOST, Exact, day_of, number_of, word_of
 from .faults import Refusal
@@ -30,8 +31,6 @@ SEPARATORS = {'comma': ',', 'semicolon': ';', 'tab': '\t', 'space': ' '}
 
 # lines between two looks at the clock
 _LINES_A_LOOK = 4096
-
-_LINE_END = re.compile('\r\n|\n|\r')
 
 
 class Layout(NamedTuple):
@@ -82,16 +81,18 @@ class Report:
         self.records = bytearray()
         self.cells: Counter[int] = collections.Counter()
         self.points = self.edges = 0
+        # file, line, x and y of each point that is off the box
+        self.off: List[Tuple[str, int, str, str]] = []
         # of each kind of finding how many, and the first of them in words
         self.number: Counter[str] = collections.Counter()
         self.first: Dict[str, List[str]] = {}
 
-    def note(self, kind: str, what: str) -> None:
-        """One more of a kind."""
+    def note(self, kind: str, line: _Line, what: str = '') -> None:
+        """One more of a kind, with its line."""
         self.number[kind] += 1
         found = self.first.setdefault(kind, [])
         if len(found) < NAMED_MOST:
-            found.append(what)
+            found.append('%s: %s' % (line.where, what) if what else line.where)
 
     def noted(self, kind: str) -> List[str]:
         """The first of a kind, and how many more."""
@@ -103,13 +104,13 @@ def _separator(line: str) -> str:
     return next((mark for mark in ';\t,' if mark in line), ' ')
 
 
-def _lines(content: bytes) -> List[str]:
-    """Lines that name their columns or have a point; others are empty, so that the numbers of lines stay right."""
-    text = content.decode('utf-8-sig', 'surrogateescape')
-    return ['' if line.lstrip().startswith('#') else line for line in _LINE_END.split(text)]
+def _lines(opened: io.BytesIO) -> Iterator[str]:
+    """Lines that name their columns or have a point; others are empty, so that the numbers of lines stay right. They end with LF, CR LF or CR."""
+    for line in io.TextIOWrapper(opened, 'utf-8-sig', 'surrogateescape'):
+        yield '' if line.lstrip().startswith('#') else line.rstrip('\n')
 
 
-def _rows(lines: List[str], separator: str) -> Iterator[Tuple[int, List[str]]]:
+def _rows(lines: Iterable[str], separator: str) -> Iterator[Tuple[int, List[str]]]:
     """Line number and fields of each line that has any."""
     if separator == ' ':
         for at, line in enumerate(lines):
@@ -161,11 +162,19 @@ def _places(first: Sequence[str], has_header: bool, asked: Dict[str, str]) -> Di
     return found
 
 
-class _Line:
+class _Line(NamedTuple):
     """One line's point; what is wrong with it is a Refusal."""
 
-    def __init__(self, fields: List[str], places: Dict[str, int], comma: bool) -> None:
-        self.fields, self.places, self.comma = fields, places, comma
+    name: str
+    number_of_line: int
+    fields: List[str]
+    places: Dict[str, int]
+    # is a comma in a number a decimal one? So it is where columns are set apart by something else
+    comma: bool
+
+    @property
+    def where(self) -> str:
+        return of(self.name, 'line %d' % self.number_of_line)
 
     def text(self, column: str) -> str:
         at = self.places.get(column)
@@ -173,7 +182,6 @@ class _Line:
 
     def number(self, column: str) -> Exact:
         text = self.text(column)
-        # with another separator than a comma, a comma in a number is a decimal one
         found = number_of(text.replace(',', '.') if self.comma else text)
         if found is None:
             raise Refusal('%s `%s` is no number' % (column, shown(text)) if text else '%s is missing' % column)
@@ -190,19 +198,19 @@ class _Line:
             hint = '; --scale -%s turns heights into depths' % str(reading.scale) if word < 0 < reading.scale.digits else ''
             raise Refusal('depth %s gives %d, and depths are 0 to %d%s' % (measured, word, WORD_MOST, hint))
         if not scaled.is_whole:
-            report.note('rounded', '%s became %d' % (scaled, word))
+            report.note('rounded', self, '%s became %d' % (scaled, word))
         return word
 
-    def day(self, reading: Reading, report: Report, where: str) -> int:
+    def day(self, reading: Reading, report: Report) -> int:
         text = self.text('day')
         if not text:
-            report.note('no day', where)
+            report.note('no day', self)
             return reading.default_day or 0
         found = day_of(text)
         if found is None:
             raise Refusal('day `%s` is neither a whole number nor a date like 2026-04-27; --day names another column, or none' % shown(text))
         if found[1]:
-            report.note('time', where)
+            report.note('time', self)
         return found[0]
 
     def survey(self, reading: Reading) -> int:
@@ -213,14 +221,15 @@ class _Line:
         return found
 
 
-def _take(line: _Line, where: str, layout: Layout, reading: Reading, report: Report) -> None:
+def _take(line: _Line, layout: Layout, reading: Reading, report: Report) -> None:
     """One point more."""
     x, y = line.number('x'), line.number('y')
     cell, on_edge = layout.cell_of(x, y)
-    depth, day, survey = line.depth(reading, report), line.day(reading, report, where), line.survey(reading)
+    depth, day, survey = line.depth(reading, report), line.day(reading, report), line.survey(reading)
     report.points += 1
     if cell is None:
-        report.note('off', '%s: x %s, y %s' % (where, x, y))
+        report.note('off', line, 'x %s, y %s' % (x, y))
+        report.off.append((line.name, line.number_of_line, str(x), str(y)))
         return
     report.edges += on_edge
     report.cells[cell] += 1
@@ -229,23 +238,29 @@ def _take(line: _Line, where: str, layout: Layout, reading: Reading, report: Rep
 
 def take_points(name: str, content: bytes, layout: Layout, reading: Reading, report: Report) -> None:
     """Adds the points of a file to a report; what is wrong with it is told line by line."""
-    lines, wrong = _lines(content), Report()
-    separator = reading.separator or _separator(next((line for line in lines if line.strip()), ''))
+    opened, wrong = io.BytesIO(content), Report()
+    lines, begun = _lines(opened), []
+    for line in lines:
+        begun.append(line)
+        if line.strip():
+            break
+    separator = reading.separator or _separator(begun[-1] if begun else '')
     places: Dict[str, int] = {}
     try:
-        with Bar('reading %s' % shown(name), len(lines)) as bar:
-            for number, fields in _rows(lines, separator):
+        with Bar('reading %s' % shown(name), len(content)) as bar:
+            for number, fields in _rows(itertools.chain(begun, lines), separator):
                 if number % _LINES_A_LOOK == 0:
-                    bar.at(number)
+                    bar.at(opened.tell())
                 if not places:
                     has_header = not all(_is_value(field, separator != ',') for field in fields if field)
                     places = _places(fields, has_header, reading.columns)
                     if has_header:
                         continue
+                line_read = _Line(name, number, fields, places, separator != ',')
                 try:
-                    _take(_Line(fields, places, separator != ','), of(name, 'line %d' % number), layout, reading, report)
+                    _take(line_read, layout, reading, report)
                 except Refusal as fault:
-                    wrong.note('wrong', of(name, 'line %d: %s' % (number, fault)))
+                    wrong.note('wrong', line_read, str(fault))
     except Refusal as fault:
         raise Refusal(of(name, fault)) from None
     if wrong.number:

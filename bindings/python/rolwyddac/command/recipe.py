@@ -18,15 +18,18 @@ EXAMPLE = 'rolwyddac recipe data/harbour/basin.toml -o basin.recipe'
 def declare(parser: argparse.ArgumentParser) -> None:
     """Its options."""
     add_recipe(parser)
-    parser.add_argument('--show', action='store_true', help='write the recipe as TOML, not as bytes')
+    form = parser.add_mutually_exclusive_group()
+    form.add_argument('--show', action='store_true', help='write the recipe as TOML, not as bytes')
+    form.add_argument('--list', action='store_true', help="write the bytes as a list for the prover's definitions")
     parser.add_argument('-o', '--out', metavar='FILE', help='the file to write; standard output where not given')
 
 
 def run(words: argparse.Namespace) -> int:
     """Does what the words say."""
     recipe = recipe_of(words.recipe)
-    if words.show:
-        files.write(words.out or files.STANDARD, text_of(recipe.parts).encode())
+    if words.show or words.list:
+        text = text_of(recipe.parts) if words.show else ' ∷ '.join([*map(str, recipe.encoded), '[]']) + '\n'
+        files.write(words.out or files.STANDARD, text.encode())
         return DONE
     if words.out is None and sys.stdout is not None and sys.stdout.isatty():
         raise Usage('bytes would go to a terminal; -o FILE names a file, --show writes TOML')

@@ -4,6 +4,8 @@ from __future__ import annotations
 
 import argparse
 import collections
+import csv
+import io
 from typing import Counter
 
 from . import files
@@ -29,7 +31,15 @@ def declare(parser: argparse.ArgumentParser) -> None:
     parser.add_argument('--recipe', metavar='RECIPE', required=True, help='the recipe, of two dimensions: TOML or bytes')
     add_place(parser, needed=True)
     parser.add_argument('--cells', metavar='FILE', help='write how many points fell on which cell: cell, row, column and points as CSV')
+    parser.add_argument('--off', metavar='FILE', help='write which points are off the box: file, line, x and y as CSV')
     add_reading(parser)
+
+
+def _off(report: Report) -> str:
+    text = io.StringIO()
+    writer = csv.writer(text, lineterminator='\n')
+    writer.writerows([('file', 'line', 'x', 'y'), *report.off])
+    return text.getvalue()
 
 
 def _cells(report: Report, columns: int) -> str:
@@ -51,7 +61,7 @@ def _summary(report: Report, cells: int, columns: int) -> str:
 
 def run(words: argparse.Namespace) -> int:
     """Does what the words say."""
-    outputs = [words.out] + ([words.cells] if words.cells else [])
+    outputs = [name for name in (words.out, words.cells, words.off) if name]
     files.hold_apart(outputs, [*words.points, words.recipe])
     recipe, left, contents = recipe_of(words.recipe), SOUNDINGS_MOST, []
     for name in words.points:
@@ -65,6 +75,8 @@ def run(words: argparse.Namespace) -> int:
     rows, columns = recipe.parts.lengths
     if words.cells:
         files.write(words.cells, _cells(report, columns).encode())
+    if words.off:
+        files.write(words.off, _off(report).encode('utf-8', 'surrogateescape'))
     summary = _summary(report, rows * columns, columns)
     if files.STANDARD in outputs:
         tell(summary.rstrip('\n'))
