@@ -40,6 +40,8 @@ REFUSED = [
     (changed(SMALL, ('tile = 1', 'tile = 2000')), 'refused 6, tile: dimension 2 has tile 2000, above 1024'),
     (SMALL.replace('tile = 1', 'tile = 2') + '[[distance]]\nstep = [0, 1]\n[[distance]]\nstep = [1, 4]\n',
      'refused 6, tile: dimension 2 has tile 2, distance 3 steps 4 there'),
+    # a tile may be as long as a distance there
+    (SMALL.replace('tile = 2', 'tile = 1').replace('[1, 0]', '[1, 4]'), 'refused 6, tile: dimension 2 has tile 1, distance 1 steps 4 there'),
     (changed(SMALL, ('processors = 2\n', '')), 'refused 16, spread order: dimension 1 has 0 processors, and must be spread'),
     (CUBE + 'processors = 3\n', 'refused 16, spread order: dimension 3 has 3 processors, and dimension 2 before it has 0'),
     (changed(SMALL, ('tile = 1\n', 'tile = 1\nprocessors = 1\n')), 'refused 17, last spread: dimension 2, the last, has 1 processor, and must have 0'),

@@ -17,7 +17,7 @@ from support import Draw, model, recipe_of, rolwyddac
 
 import foreman  # noqa: I001
 import recipe_page
-from rolwyddac.command import check, entry, examples, explained, plan, rounds, toml
+from rolwyddac.command import boards, check, entry, examples, explained, plan, rounds, toml
 from rolwyddac.command.fields import parts_of
 
 
@@ -225,6 +225,11 @@ class Boards(InFolder):
         self.ends(2, 'boards', small, told='one of the arguments')
         self.ends(2, 'boards', small, '--seed', 1, '--value', 3, told='--value goes with --soundings')
         self.ends(2, 'boards', small, '--seed', 1, '--timeout', 'long', told='--timeout long')
+        self.ends(2, 'boards', small, '--seed', 1, '--crs', 'EPSG:25832', told='--crs goes with --out')
+        self.ends(2, 'boards', small, '--seed', 1, '--grid', small, told='is named twice')
+        told, full = [], OSError(28, 'No space left on device', '/tmp/x')
+        with mock.patch.object(boards.tempfile, 'TemporaryDirectory', side_effect=full), mock.patch.object(entry, 'tell', told.append):
+            self.assertEqual((entry.run(['boards', small, '--seed', '1']), told), (3, ['/tmp/x: No space left on device']))
         self.ends(3, 'boards', small, '--seed', 1, told='none: No such file', env={'ROLWYDDAC_BOARDS': self.path('none')})
         failing = self.put('failing', '#!/bin/sh\necho lost >&2\nexit 5\n')
         os.chmod(failing, 0o755)

@@ -8,6 +8,8 @@ import unittest
 
 from command_support import BASIN, HARBOUR, SMALL, SURVEYS, InFolder, command, content_of, setUpModule  # noqa: F401
 from support import Draw, model, rolwyddac
+
+import harbour_points  # noqa: I001
 from rolwyddac.command.exact import Exact, day_of, number_of, word_of
 from rolwyddac.command.points import Layout
 
@@ -176,6 +178,10 @@ class Converted(InFolder):
         shape = RECIPE.replace('[[distance]]', '[[bound]]\nside = "lower"\ndimension = 2\nearlier = 1\nslope = 1\n[[distance]]')
         self.recipe = self.put('shape.toml', shape)
         self.records('101 -49 3 1\n', told='1 point is in cells outside the shape, where no value is computed')
+
+    def test_harbours_files(self):
+        """The points and the recipe are those that are made from the records."""
+        self.assertEqual(harbour_points.main(['check']), 0)
 
     def test_harbour(self):
         """The points of data/harbour give its records again, byte for byte."""

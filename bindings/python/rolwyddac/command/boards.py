@@ -127,7 +127,7 @@ def run(words: argparse.Namespace) -> int:
     """Does what the words say."""
     if words.seed is not None and words.value is not None:
         raise Usage('--value goes with --soundings')
-    hold_outputs(words, [words.recipe, words.source, *(words.soundings or [])])
+    hold_outputs(words, words.grid)
     recipe = recipe_of(words.recipe)
     try:
         sizes(recipe.encoded, ROUTES[words.route])

@@ -53,16 +53,19 @@ def unsigned_words(grid: Sequence[int], outside: Set[int], columns: int) -> Opti
         many(len(found), 'cell has a word', 'cells have words'), ', '.join(first_of(lines, len(found))))
 
 
-def hold_outputs(words: argparse.Namespace, inputs: List[str]) -> None:
-    """What can't be written is told before anything is read."""
+def hold_outputs(words: argparse.Namespace, *others: str) -> None:
+    """What can't be written is told before anything is read; others are written too."""
+    if words.crs and not words.out:
+        raise Usage('--crs goes with --out')
     for name in words.out:
         if not drawings.is_raster(name) and drawings.ending(name) not in _TEXTS:
             hint = '--png draws a picture' if drawings.ending(name) == '.png' else 'charts are .asc, .tif or .nc'
             raise Usage('--out: %s: %s' % (shown(name), hint))
     if words.crs and words.out and all(_is_plain(name) for name in words.out):
         raise Usage('--crs: a text on standard output has no place for it')
-    outputs = [*words.out, *([words.png] if words.png else []), *(_prj(name) for name in words.out if words.crs and _is_text(name))]
-    files.hold_apart(outputs, [name for name in inputs if name])
+    outputs = [*words.out, words.png, *others, *(_prj(name) for name in words.out if words.crs and _is_text(name))]
+    inputs = [words.recipe, words.source, *(words.soundings or [])]
+    files.hold_apart([name for name in outputs if name], [name for name in inputs if name])
 
 
 def _is_text(name: str) -> bool:
@@ -125,7 +128,7 @@ def write_charts(recipe: Recipe, grid: Sequence[int], words: argparse.Namespace)
 
 def run(words: argparse.Namespace) -> int:
     """Does what the words say."""
-    hold_outputs(words, [words.recipe, words.source, *(words.soundings or [])])
+    hold_outputs(words)
     recipe = recipe_of(words.recipe)
     # what has no chart is told before the soundings are read
     text_of(recipe, [0] * len(list(recipe.parts.places())), words)

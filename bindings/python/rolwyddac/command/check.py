@@ -8,6 +8,7 @@ import random
 from typing import Any, Callable, List, NamedTuple, Optional, Sequence
 
 from .. import grids, plan
+from ..areas import IN_FLIGHT
 from ..boards import OwnBoard
 from ..kinds import DIRECT
 from ..refusals import Finished, NoMail, Waiting
@@ -57,28 +58,56 @@ def declare(parser: argparse.ArgumentParser) -> None:
     parser.add_argument('--seed', metavar='NUMBER', type=word, help='what the orders are made from; a new number where not given')
 
 
+class _Shared:
+    """A run on shared areas, and what can be done next: who may have a turn, which messages are in flight."""
+
+    def __init__(self, encoded: bytes, route: int, order: Order) -> None:
+        self.run = Run(encoded, route, order.source)
+        self.rows = plan.messages(encoded, route)
+        processors = range(self.run.plan.processors)
+        # each processor's messages, the next to be sent at the end: they are sent in the order of their numbers
+        self.unsent = [[m for m, row in enumerate(self.rows) if row.sending_processor == processor][::-1] for processor in processors]
+        self.able, self.flying = list(processors), []  # type: List[int], List[int]
+
+    def turn(self, at: int) -> None:
+        """A turn of one that may be able to; who is not waits for a delivery."""
+        processor = self.able[at]
+        try:
+            self.run.turn(processor)
+        except (Waiting, Finished):
+            _drop(self.able, at)
+            return
+        unsent = self.unsent[processor]
+        if unsent and self.run._areas.status[unsent[-1]] == IN_FLIGHT:
+            self.flying.append(unsent.pop())
+
+    def deliver(self, at: int) -> None:
+        """A delivery, after which the taker may be able to go on."""
+        message = self.flying[at]
+        self.run.deliver(message)
+        _drop(self.flying, at)
+        if self.rows[message].taking_processor not in self.able:
+            self.able.append(self.rows[message].taking_processor)
+
+
+def _drop(found: List[Any], at: int) -> None:
+    """Takes one out, whose place the last one gets."""
+    found[at] = found[-1]
+    found.pop()
+
+
 def _shared(route: int, encoded: bytes, order: Order) -> Sequence[int]:
     """Turns and deliveries on shared areas, in a random order."""
-    run = Run(encoded, route, order.source)
-    takers = [row.taking_processor for row in plan.messages(encoded, route)]
-    able, flying = set(range(run.plan.processors)), set(run.in_flight())
-    while able or flying:
+    rig = _Shared(encoded, route, order)
+    while rig.able or rig.flying:
         if order.dice.randrange(_STOPS) == 0:
-            run = Run.resume(encoded, route, order.source, run.areas)
-        at = order.dice.randrange(len(able) + len(flying))
-        if at < len(able):
-            processor = sorted(able)[at]
-            try:
-                run.turn(processor)
-                flying = set(run.in_flight())
-            except (Waiting, Finished):
-                able.remove(processor)
+            rig.run = Run.resume(encoded, route, order.source, rig.run.areas)
+        at = order.dice.randrange(len(rig.able) + len(rig.flying))
+        if at < len(rig.able):
+            rig.turn(at)
         else:
-            message = sorted(flying)[at - len(able)]
-            run.deliver(message)
-            flying.remove(message)
-            able.add(takers[message])
-    return flat(run.collect())
+            rig.deliver(at - len(rig.able))
+    return flat(rig.run.collect())
 
 
 class _Apart:
@@ -103,8 +132,7 @@ class _Apart:
         """A letter arrives; some arrive again later, and are turned away."""
         taker, message, words, again = self.post[at]
         if again or self.dice.randrange(_REPEATS):
-            self.post[at] = self.post[-1]
-            self.post.pop()
+            _drop(self.post, at)
         else:
             self.post[at] = taker, message, words, True
         try:

@@ -7,9 +7,9 @@ import signal
 import sys
 from typing import Any, NoReturn, Optional, Sequence
 
-from .faults import BY_SIGNAL, Ended, Fault
+from .faults import BY_SIGNAL, FILE, Ended, Fault
 from .parser import parser_of
-from .texts import tell
+from .texts import shown, tell
 
 # asked to end: what is half done is cleaned up first
 _ENDING = (signal.SIGTERM, signal.SIGHUP)
@@ -34,6 +34,11 @@ def run(given: Optional[Sequence[str]] = None) -> int:
     except Fault as fault:
         tell(str(fault))
         return fault.status
+    except BrokenPipeError:
+        raise
+    except OSError as error:
+        tell(shown('%s: %s' % (error.filename, error.strerror) if error.filename else str(error)))
+        return FILE
     except MemoryError:
         tell('no memory is left')
         return Fault.status
