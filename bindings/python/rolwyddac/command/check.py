@@ -29,8 +29,8 @@ EXAMPLE = 'rolwyddac check data/harbour/basin.toml --orders 3 --seed 1'
 
 _ORDERS = 10
 
-# one event in so many is a stop: the run goes on from its areas, by another object
-_STOPS = 20
+# so many times in a run, more or less, it stops, and goes on from its areas by another object
+_STOPS = 8
 
 # of what arrives at boards that share nothing, one in so many arrives again
 _REPEATS = 4
@@ -100,7 +100,7 @@ def _shared(route: int, encoded: bytes, order: Order) -> Sequence[int]:
     """Turns and deliveries on shared areas, in a random order."""
     rig = _Shared(encoded, route, order)
     while rig.able or rig.flying:
-        if order.dice.randrange(_STOPS) == 0:
+        if order.dice.randrange(rig.run.plan.steps) < _STOPS:
             rig.run = Run.resume(encoded, route, order.source, rig.run.areas)
         at = order.dice.randrange(len(rig.able) + len(rig.flying))
         if at < len(rig.able):
@@ -159,8 +159,9 @@ def _apart(route: int, encoded: bytes, order: Order) -> Sequence[int]:
     rig = _Apart(encoded, route, order)
     # outside the shape no board writes, and every grid has the boundary value there
     grid = array.array('I', [parts_of(encoded).boundary] * len(order.source))
+    steps = plan.summary(encoded, route).steps
     while rig.able or rig.post:
-        if order.dice.randrange(_STOPS) == 0:
+        if order.dice.randrange(steps) < _STOPS:
             rig.restart()
         at = order.dice.randrange(len(rig.able) + len(rig.post))
         if at < len(rig.able):
