@@ -31,6 +31,9 @@ class Parser(argparse.ArgumentParser):
 
     def __init__(self, **more: Any) -> None:
         super().__init__(formatter_class=argparse.RawDescriptionHelpFormatter, allow_abbrev=False, **more)
+        for action in self._actions:
+            if isinstance(action, argparse._HelpAction):
+                action.help = 'write this help, and end'
 
     def error(self, message: str) -> NoReturn:
         tell('%s: %s' % (self.prog, shown(message)))
