@@ -43,6 +43,13 @@ class Texts(InFolder):
                 self.assertEqual(content_of(out), wanted)
                 os.unlink(out)
 
+    def test_a_file_off_the_box(self):
+        """One file that is off the box is told and left out; where all are, the place is wrong."""
+        off, out = self.put('off.csv', 'x,y,depth,day\n9000,0,1,1\n'), self.path('h.asc')
+        self.ends(0, 'chart', BASIN, '--soundings', off, *SURVEYS, '--value', 3000, '--cell', 10, '--out', out, told='1 point is off the box')
+        self.assertEqual(content_of(out), harbour_text(0, 0, 10))
+        self.ends(1, 'chart', BASIN, '--soundings', off, '--cell', 10, '--out', out, told='no point is on the box')
+
     def test_corner(self):
         written = self.ends(0, 'chart', BASIN, '--soundings', *RECORDS, '--value', 3000, '--corner', 412300, -71850, '--cell', 25, '--out', '-')
         self.assertEqual(written, harbour_text(412300, -71850, 25))

@@ -134,6 +134,10 @@ class Script(InFolder):
         done = self.ran('recipe', '--show', self.put('r', SMALL), name=self.path('a link'))
         self.assertEqual((done.returncode, done.stderr, done.stdout[:10]), (0, b'', b'shift = 0\n'))
 
+    @unittest.skipUnless(shutil.which('shellcheck'), 'no shellcheck')
+    def test_layout(self):
+        subprocess.run(['shellcheck', os.path.join(ROOT, 'rolwyddac')], check=True)
+
     def test_words_are_kept(self):
         self.put('a  b', SMALL)
         self.assertEqual(self.ran('rounds', 'a  b').returncode, 0)

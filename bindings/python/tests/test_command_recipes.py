@@ -45,7 +45,7 @@ REFUSED = [
     (changed(SMALL, ('processors = 2\n', '')), 'refused 16, spread order: dimension 1 has 0 processors, and must be spread'),
     (CUBE + 'processors = 3\n', 'refused 16, spread order: dimension 3 has 3 processors, and dimension 2 before it has 0'),
     (changed(SMALL, ('tile = 1\n', 'tile = 1\nprocessors = 1\n')), 'refused 17, last spread: dimension 2, the last, has 1 processor, and must have 0'),
-    (changed(SMALL, ('processors = 2', 'processors = 65')), 'refused 7, boards: 65 = 65 processors, above 64'),
+    (changed(SMALL, ('processors = 2', 'processors = 65')), 'refused 7, boards: 65 processors, above 64'),
     (changed(CUBE, ('processors = 2', 'processors = 13'), ('tile = 1\n', 'tile = 1\nprocessors = 5\n')),
      'refused 7, boards: 13 × 5 = 65 processors, above 64'),
     (changed(SMALL, ('length = 4', 'length = 100'), ('tile = 2', 'tile = 1'), ('length = 1\n', 'length = 11\n')),

@@ -113,8 +113,11 @@ class Converted(InFolder):
                  '--scale', '100'],
                 ['101 -21 -1.234 5 2\n139.5 -49.5 -.007 6 3\n', '--scale', '-1000'],
                 ['101,-21,9,1234,5,2\n139.5,-49.5,9,7,6,3\n', '--depth', '4', '--day', '5', '--survey', '6'],
-                ['x,y,depth\r101,-21,1234\r', '--default-day', '5', '--default-survey', '2']):
+                ['x,y,depth\r101,-21,1234\r', '--default-day', '5', '--default-survey', '2'],
+                ['x\ty\tdepth\tday\tsurvey\r\n101\t-21\t1234\t5\t2\r\n'.encode('utf-16')],
+                ['x,y,depth,day,survey\r\n101,-21,1234,5,2\r\n\x1a']):
             got = self.records(text, *options)
+            self.assertGreater(len(got), 0)
             self.assertEqual(got, wanted[:len(got)], text)
 
     def test_reports(self):
@@ -144,7 +147,7 @@ class Converted(InFolder):
                 ('a,b,depth\n101,-21,3\n', 'no column for x; the first line has a, b and depth; --x NAME or NUMBER says which it is'),
                 ('x,y\n101,-21\n', 'no column for depth'),
                 ('1 2 3 1\n', 'no point is on the box: are --corner and --cell those of the chart?'),
-                ('x,y,depth\n101,\x1b[2J,3\n', 'no text'),
+                ('x,y,depth\n101,\x1b[2J,3\n', 'line 2: y `\\x1b[2J` is no number'),
                 ('x,y,depth\n101,\u202e,3\n', 'y `\\u202e` is no number'),
                 ('x,y,depth\n1e999999999,1,3\n', 'x `1e999999999` is no number'),
                 (b'\0' * 16, 'no text; records of 16 bytes are soundings already')):

@@ -26,7 +26,7 @@ def add_depths(parser: argparse.ArgumentParser, choice: argparse._MutuallyExclus
     """--soundings, --source and --value."""
     choice.add_argument('--soundings', metavar='FILE', nargs='+', help='soundings: records of 16 bytes, or x, y, depth, day and survey as CSV or XYZ')
     choice.add_argument('--source', metavar='FILE', help='one word of 4 bytes a cell, the low byte first')
-    parser.add_argument('--value', metavar='DEPTH', type=word, help='depth of cells without a sounding; 0 where not given')
+    parser.add_argument('--value', metavar='DEPTH', type=word, help='depth of cells without a sounding, as a whole number that --scale does not change; 0 where not given')
     add_reading(parser)
 
 
@@ -42,19 +42,26 @@ def outside_of(recipe: Recipe) -> Set[int]:
     return {cell for cell, owner in enumerate(owners) if owner == processors}
 
 
-def _records_of(recipe: Recipe, name: str, content: bytes, words: argparse.Namespace) -> bytes:
-    """A file's records; of points, what is to be told of them is told."""
+def _records_of(recipe: Recipe, name: str, content: bytes, words: argparse.Namespace) -> Tuple[bytes, int]:
+    """A file's records, and how many points it has; of points, what is to be told of them is told."""
     if not files.is_text(content):
-        return content
+        return content, 0
     if words.cell is None:
         raise Usage(of(name, 'these are points with x and y, and --cell has to say how large a cell is'))
-    return bytes(report_of_points(recipe, [(name, content)], words).records)
+    report = report_of_points(recipe, [(name, content)], words)
+    return bytes(report.records), report.points
 
 
 def two_dimensions(recipe: Recipe) -> None:
     """Points have a place in a recipe of two dimensions alone."""
     if len(recipe.parts.dimensions) != 2:
         raise Refusal(of(recipe.name, 'it has %d dimensions, and points with x and y have a place in 2' % len(recipe.parts.dimensions)))
+
+
+def hold_some(points: int, records: int) -> None:
+    """Where all points are off the box, their place is wrong."""
+    if points and not records:
+        raise Refusal('no point is on the box: are --corner and --cell those of the chart?')
 
 
 def report_of_points(recipe: Recipe, contents: Sequence[Tuple[str, bytes]], words: argparse.Namespace) -> Report:
@@ -65,23 +72,23 @@ def report_of_points(recipe: Recipe, contents: Sequence[Tuple[str, bytes]], word
         take_points(name, content, layout, reading, report)
     for line in told(report, layout, reading, outside_of(recipe)):
         tell(line)
-    if report.points and not report.cells:
-        raise Refusal('no point is on the box: are --corner and --cell those of the chart?')
     return report
 
 
 def _sounded(recipe: Recipe, words: argparse.Namespace) -> List[int]:
-    left, every, value = SOUNDINGS_MOST, b'', words.value or 0
+    left, every, points, value = SOUNDINGS_MOST, b'', 0, words.value or 0
     for name in words.soundings:
         content = files.read(name, left)
         left -= len(content)
-        records = _records_of(recipe, name, content, words)
+        records, more = _records_of(recipe, name, content, words)
+        points += more
         try:
             # alone first: what is wrong with it is told with its name
             grids.soundings(recipe.encoded, records, value)
         except Refused as refused:
             raise Refusal(of(name, refused)) from None
         every += records
+    hold_some(points, len(every))
     return flat(grids.soundings(recipe.encoded, every, value))
 
 

@@ -107,7 +107,8 @@ def _length(parts: Parts, encoded: bytes) -> Found:
 
 
 def _product(numbers: List[int], what: str, most: int) -> str:
-    return '%s = %d %s, above %d' % (' × '.join(map(str, numbers)), math.prod(numbers), what, most)
+    factors = ' × '.join(map(str, numbers)) + ' = ' if len(numbers) > 1 else ''
+    return '%s%d %s, above %d' % (factors, math.prod(numbers), what, most)
 
 
 def _too_large(parts: Parts, encoded: bytes) -> Found:

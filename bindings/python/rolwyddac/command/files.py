@@ -2,6 +2,7 @@
 
 from __future__ import annotations
 
+import codecs
 import errno
 import itertools
 import os
@@ -56,9 +57,13 @@ def _standard_input(most: int) -> bytes:
 
 
 def is_text(content: bytes) -> bool:
-    """Is it text? Records of recipes and soundings always have a zero byte, which no text has. An empty file is no text."""
-    control = set(range(32)) - set(b'\t\n\r\f') | {127}
-    return bool(content) and control.isdisjoint(content)
+    """Is it text? Records of recipes and soundings always have a zero byte, which text has only with two bytes a character. An empty file is none."""
+    return bool(content) and (is_utf_16(content) or 0 not in content)
+
+
+def is_utf_16(content: bytes) -> bool:
+    """Does the content begin as text with two bytes a character does?"""
+    return content.startswith((codecs.BOM_UTF16_LE, codecs.BOM_UTF16_BE))
 
 
 def _put(descriptor: int, content: bytes) -> None:

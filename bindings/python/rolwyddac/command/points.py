@@ -16,6 +16,7 @@ from typing import Any, Counter, Dict, Iterable, Iterator, List, NamedTuple, Opt
 
 from .exact import WORD_MOST, Exact, day_of, number_of, word_of
 from .faults import Refusal
+from .files import is_utf_16
 from .texts import Bar, NAMED_MOST, first_of, listed, many, of, shown
 
 RECORD_WORDS = struct.Struct('<4I')
@@ -31,6 +32,9 @@ SEPARATORS = {'comma': ',', 'semicolon': ';', 'tab': '\t', 'space': ' '}
 
 # lines between two looks at the clock
 _LINES_A_LOOK = 4096
+
+# what DOS puts at the end of a text
+_END_OF_FILE = '\x1a'
 
 
 class Layout(NamedTuple):
@@ -106,8 +110,10 @@ def _separator(line: str) -> str:
 
 def _lines(opened: io.BytesIO) -> Iterator[str]:
     """Lines that name their columns or have a point; others are empty, so that the numbers of lines stay right. They end with LF, CR LF or CR."""
-    for line in io.TextIOWrapper(opened, 'utf-8-sig', 'surrogateescape'):
-        yield '' if line.lstrip().startswith('#') else line.rstrip('\n')
+    # spreadsheets write UTF-16 too
+    encoding = 'utf-16' if is_utf_16(opened.getvalue()[:2]) else 'utf-8-sig'
+    for line in io.TextIOWrapper(opened, encoding, 'surrogateescape' if encoding == 'utf-8-sig' else 'replace'):
+        yield '' if line.lstrip().startswith('#') else line.rstrip('\n' + _END_OF_FILE)
 
 
 def _rows(lines: Iterable[str], separator: str) -> Iterator[Tuple[int, List[str]]]:

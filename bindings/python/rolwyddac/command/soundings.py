@@ -9,7 +9,7 @@ import io
 from typing import Counter
 
 from . import files
-from .depths import SOUNDINGS_MOST, report_of_points
+from .depths import SOUNDINGS_MOST, hold_some, report_of_points
 from .faults import DONE, Refusal
 from .options import add_place, add_reading
 from .points import Report
@@ -71,6 +71,7 @@ def run(words: argparse.Namespace) -> int:
             raise Refusal(of(name, 'no text; records of 16 bytes are soundings already'))
         contents.append((name, content))
     report = report_of_points(recipe, contents, words)
+    hold_some(report.points, len(report.records))
     files.write(words.out, bytes(report.records))
     rows, columns = recipe.parts.lengths
     if words.cells:

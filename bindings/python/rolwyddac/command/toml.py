@@ -53,7 +53,6 @@ _RANGES: Dict[str, Tuple[int, int]] = {
     'length': _HALF, 'tile': _HALF, 'processors': _HALF, 'dimension': (1, 256), 'earlier': (1, 256), 'slope': (-128, 127),
     'offset': (-2 ** 15, 2 ** 15 - 1), 'step': _HALF, 'weight': _HALF, 'shift': (0, 255), 'boundary': _WORD}
 
-_BYTE_ORDER_MARKS = (b'\xff\xfe', b'\xfe\xff')
 _UTF_8_MARK = b'\xef\xbb\xbf'
 
 
@@ -168,7 +167,7 @@ def text_of(parts: Parts) -> str:
 
 def _decoded(content: bytes) -> Optional[str]:
     """A file's text, None where it has a recipe's bytes: their zeros stand in no text. The name says nothing."""
-    if content.startswith(_BYTE_ORDER_MARKS):
+    if files.is_utf_16(content):
         raise Refusal('text of two bytes a character (UTF-16); TOML is UTF-8')
     if not files.is_text(content):
         return None
