@@ -67,7 +67,8 @@ class _Shared:
         processors = range(self.run.plan.processors)
         # each processor's messages, the next to be sent at the end: they are sent in the order of their numbers
         self.unsent = [[m for m, row in enumerate(self.rows) if row.sending_processor == processor][::-1] for processor in processors]
-        self.able, self.flying = list(processors), []  # type: List[int], List[int]
+        self.able: List[int] = list(processors)
+        self.flying: List[int] = []
 
     def turn(self, at: int) -> None:
         """A turn of one that may be able to; who is not waits for a delivery."""
