@@ -18,6 +18,10 @@ from rolwyddac.command.faults import FileFault
 from rolwyddac.command.texts import shown
 
 
+# seconds after which a test gives up
+PATIENCE = 30
+
+
 class Whole(InFolder):
 
     def parts(self):
@@ -66,10 +70,10 @@ class Whole(InFolder):
     def test_pipes_and_devices(self):
         os.mkfifo(self.path('pipe'))
         read = []
-        reader = threading.Thread(target=lambda: read.append(content_of(self.path('pipe'))))
+        reader = threading.Thread(target=lambda: read.append(content_of(self.path('pipe'))), daemon=True)
         reader.start()
         files.write(self.path('pipe'), b'through')
-        reader.join()
+        reader.join(PATIENCE)
         self.assertEqual((read, stat.S_ISFIFO(os.stat(self.path('pipe')).st_mode)), ([b'through'], True))
         files.write('/dev/null', b'away')
         self.assertTrue(stat.S_ISCHR(os.stat('/dev/null').st_mode))
@@ -141,6 +145,17 @@ class Ends(InFolder):
     def started(self, *words, **more):
         return subprocess.Popen([*START, *words], stderr=subprocess.PIPE, env=environment(), **more)
 
+    def opened(self, child):
+        """The pipe that the command reads its source from, once it has opened it: then it is running."""
+        ends = time.monotonic() + PATIENCE
+        while True:
+            try:
+                return os.fdopen(os.open(self.path('fifo'), os.O_WRONLY | os.O_NONBLOCK), 'wb')
+            except OSError:
+                if child.poll() is not None or time.monotonic() > ends:
+                    self.fail('the command does not read: %s' % child.communicate()[1])
+                time.sleep(0.01)
+
     def test_broken_pipe(self):
         """Quiet, and ended by the signal, as a shell tells it."""
         for words in (['plan', BASIN], ['--man'], ['rounds', BASIN, '--svg', '-']):
@@ -156,20 +171,20 @@ class Ends(InFolder):
             out = self.path('out.asc')
             os.path.exists(self.path('fifo')) or os.mkfifo(self.path('fifo'))
             child = self.started('chart', BASIN, '--source', self.path('fifo'), '--out', out, stdout=subprocess.PIPE)
-            # the command waits for the source; once it has opened it, it is running
-            with open(self.path('fifo'), 'wb'):
+            with self.opened(child):
                 child.send_signal(number)
-                self.assertEqual((child.communicate(), child.returncode), ((b'', b''), -number))
+                self.assertEqual((child.communicate(timeout=PATIENCE), child.returncode), ((b'', b''), -number))
             self.assertFalse(os.path.exists(out))
 
     def test_a_signal_that_is_ignored(self):
         os.mkfifo(self.path('fifo'))
         child = self.started('chart', BASIN, '--source', self.path('fifo'), '--out', '-', stdout=subprocess.PIPE,
                              preexec_fn=lambda: signal.signal(signal.SIGHUP, signal.SIG_IGN))
-        with open(self.path('fifo'), 'wb') as fifo:
+        with self.opened(child) as fifo:
             child.send_signal(signal.SIGHUP)
+            os.set_blocking(fifo.fileno(), True)
             fifo.write(bytes(4 * 4800))
-        self.assertEqual((child.communicate()[0][:9], child.returncode), (b'ncols 80\n', 0))
+        self.assertEqual((child.communicate(timeout=PATIENCE)[0][:9], child.returncode), (b'ncols 80\n', 0))
 
 
 class Shown(InFolder):
