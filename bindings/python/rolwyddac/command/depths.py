@@ -12,8 +12,8 @@ from ..refusals import Refused
 from . import files
 from .faults import Refusal, Usage
 from .options import add_reading, layout_of, reading_of, word
-from .points import Report, take_points, told
-from .texts import of, tell
+from .points import RECORD_WORDS, Report, take_points, told
+from .texts import many, of, tell
 from .toml import Recipe
 
 # bytes of all files of soundings together: they are held in memory
@@ -75,6 +75,25 @@ def report_of_points(recipe: Recipe, contents: Sequence[Tuple[str, bytes]], word
     return report
 
 
+def _explained(refused: Refused, records: bytes, cells: int) -> str:
+    """Which record led to the refusal of a file."""
+    if len(records) % RECORD_WORDS.size:
+        return 'refused %d, %s: %d bytes are no multiple of %d' % (refused.number, refused.term, len(records), RECORD_WORDS.size)
+    for at, (cell, *_) in enumerate(RECORD_WORDS.iter_unpack(records)):
+        if cell >= cells:
+            return 'refused %d, %s: the record at byte %d names cell %d, and the box has %d' % (
+                refused.number, refused.term, RECORD_WORDS.size * at, cell, cells)
+    return str(refused)
+
+
+def _tell_unsounded(recipe: Recipe, records: bytes) -> None:
+    """A depth of 0 that nobody measured and nobody asked for is told."""
+    sounded = {cell for cell, *_ in RECORD_WORDS.iter_unpack(records)} | outside_of(recipe)
+    missing = plan.summary(recipe.encoded).cells - len(sounded)
+    if missing:
+        tell('%s no sounding, and depth 0; --value gives another' % many(missing, 'cell of the shape has', 'cells of the shape have'))
+
+
 def _sounded(recipe: Recipe, words: argparse.Namespace) -> List[int]:
     left, every, points, value = SOUNDINGS_MOST, b'', 0, words.value or 0
     for name in words.soundings:
@@ -86,9 +105,11 @@ def _sounded(recipe: Recipe, words: argparse.Namespace) -> List[int]:
             # alone first: what is wrong with it is told with its name
             grids.soundings(recipe.encoded, records, value)
         except Refused as refused:
-            raise Refusal(of(name, refused)) from None
+            raise Refusal(of(name, _explained(refused, records, plan.summary(recipe.encoded).cells))) from None
         every += records
     hold_some(points, len(every))
+    if words.value is None:
+        _tell_unsounded(recipe, every)
     return flat(grids.soundings(recipe.encoded, every, value))
 
 
