@@ -87,7 +87,8 @@ class Texts(InFolder):
         for status, words, told in (
                 (1, [cube, '--source', source, *out], 'cube: refused 23, no chart: the recipe has 3 dimensions, and a chart has 2'),
                 (1, [recipe, '--source', recipe, *out], 'bytes, and 16 are needed, 4 a cell'),
-                (1, [recipe, '--soundings', self.put('off', struct.pack('<4I', 4, 0, 0, 1)), *out], 'off: refused 22, off the box: the record at byte 0 names cell 4, and the box has 4'),
+                (1, [recipe, '--soundings', self.put('off', struct.pack('<4I', 4, 0, 0, 1)), *out],
+                 'off: refused 22, off the box: the record at byte 0 names cell 4, and the box has 4'),
                 (1, [recipe, '--soundings', self.put('ragged', bytes(17)), *out], 'ragged: refused 1, ragged: 17 bytes are no multiple of 16'),
                 (2, [recipe, '--soundings', points, *out], 'p: these are points with x and y, and --cell has to say how large a cell is'),
                 (2, [recipe, '--source', source, '--value', 3, *out], '--value goes with --soundings'),

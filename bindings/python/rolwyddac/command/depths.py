@@ -12,7 +12,7 @@ from ..refusals import Refused
 from . import files
 from .faults import Refusal, Usage
 from .options import add_reading, layout_of, reading_of, word
-from .points import RECORD_WORDS, Report, take_points, told
+from .points import RECORD_WORDS, Layout, Reading, Report, take_points
 from .texts import many, of, tell
 from .toml import Recipe
 
@@ -26,7 +26,8 @@ def add_depths(parser: argparse.ArgumentParser, choice: argparse._MutuallyExclus
     """--soundings, --source and --value."""
     choice.add_argument('--soundings', metavar='FILE', nargs='+', help='soundings: records of 16 bytes, or x, y, depth, day and survey as CSV or XYZ')
     choice.add_argument('--source', metavar='FILE', help='one word of 4 bytes a cell, the low byte first')
-    parser.add_argument('--value', metavar='DEPTH', type=word, help='depth of cells without a sounding, as a whole number that --scale does not change; 0 where not given')
+    parser.add_argument('--value', metavar='DEPTH', type=word,
+                        help='depth of cells without a sounding, as a whole number that --scale does not change; 0 where not given')
     add_reading(parser)
 
 
@@ -62,6 +63,29 @@ def hold_some(points: int, records: int) -> None:
     """Where all points are off the box, their place is wrong."""
     if points and not records:
         raise Refusal('no point is on the box: are --corner and --cell those of the chart?')
+
+
+def told(report: Report, layout: Layout, reading: Reading, outside: Set[int]) -> List[str]:
+    """What is to be told of points, a line each; outside has the cells that are not in the shape."""
+    lines = []
+    if report.number['off']:
+        lines.append('%s off the box (%s) and left out:' % (many(report.number['off'], 'point is', 'points are'), layout))
+        lines += ['  ' + line for line in report.noted('off')]
+    land = sum(number for cell, number in report.cells.items() if cell in outside)
+    if land:
+        lines.append('%s in cells outside the shape, where no value is computed' % many(land, 'point is', 'points are'))
+    if report.edges:
+        lines.append('%s on an edge of a cell, and counted for the cell to the right or below' % many(report.edges, 'point is', 'points are'))
+    if report.number['no day'] and reading.default_day is None:
+        lines.append('%s no day, and day 0 instead, so that any other is later; --default-day gives one; the first is %s' % (
+            many(report.number['no day'], 'point has', 'points have'), report.first['no day'][0]))
+    if report.number['time']:
+        lines.append('%s a time of the day, which is left out; the first is %s' % (
+            many(report.number['time'], 'point has', 'points have'), report.first['time'][0]))
+    if report.number['rounded']:
+        lines.append('%s rounded to whole numbers: %s' % (
+            many(report.number['rounded'], 'depth is', 'depths are'), ', '.join(report.noted('rounded'))))
+    return lines
 
 
 def report_of_points(recipe: Recipe, contents: Sequence[Tuple[str, bytes]], words: argparse.Namespace) -> Report:
