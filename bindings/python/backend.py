@@ -25,9 +25,36 @@ def _content(path):
         return file.read()
 
 
-def _project(key):
+def _section(name):
+    """Key and value of each line of a part of pyproject.toml, as they stand there."""
     text = _content(os.path.join(HERE, 'pyproject.toml')).decode()
-    return re.search(r'^%s = "(.*)"$' % key, text, flags=re.M)[1]
+    inside = re.search(r'^\[%s\]\n(.*?)(?=^\[|\Z)' % re.escape(name), text, flags=re.M | re.S)[1]
+    return dict(re.findall(r'^([\w-]+) = (.*)$', inside, flags=re.M))
+
+
+def _project(key):
+    return _section('project')[key].strip('"')
+
+
+def _metadata():
+    lines = ['Metadata-Version: 2.1', 'Name: ' + _project('name'), 'Version: ' + _project('version'), 'Summary: ' + _project('description'),
+             'Requires-Python: ' + _project('requires-python')]
+    for extra, wanted in _section('project.optional-dependencies').items():
+        lines.append('Provides-Extra: ' + extra)
+        for requirement in re.findall(r'"(.*?)"', wanted):
+            name, _, condition = requirement.partition('; ')
+            lines.append("Requires-Dist: %s; %s" % (name, ' and '.join(filter(None, [condition, "extra == '%s'" % extra]))))
+    return '\n'.join(lines) + '\n'
+
+
+def _sources(package):
+    """The package's files by their names in the wheel."""
+    for folder, below, names in sorted(os.walk(package)):
+        below[:] = [name for name in below if name != '__pycache__']
+        for name in sorted(names):
+            if name.endswith('.py') or name == TYPED:
+                path = os.path.join(folder, name)
+                yield os.path.relpath(path, HERE), _content(path)
 
 
 def _shared():
@@ -50,12 +77,11 @@ def build_wheel(wheel_directory, config_settings=None, metadata_directory=None):
     name, version = _project('name'), _project('version')
     tag = 'py3-none-' + re.sub(r'[-.]', '_', sysconfig.get_platform())
     info = '%s-%s.dist-info' % (name, version)
-    package = os.path.join(HERE, name)
-    files = {'%s/%s' % (name, file): _content(os.path.join(package, file))
-             for file in sorted(os.listdir(package)) if file.endswith('.py') or file == TYPED}
+    files = dict(_sources(os.path.join(HERE, name)))
     files['%s/%s' % (name, SHARED)] = _shared()
-    files[info + '/METADATA'] = ('Metadata-Version: 2.1\nName: %s\nVersion: %s\nSummary: %s\nRequires-Python: %s\n' % (
-        name, version, _project('description'), _project('requires-python'))).encode()
+    files[info + '/METADATA'] = _metadata().encode()
+    scripts = ''.join('%s = %s\n' % (script, target.strip('"')) for script, target in _section('project.scripts').items())
+    files[info + '/entry_points.txt'] = ('[console_scripts]\n' + scripts).encode()
     files[info + '/WHEEL'] = ('Wheel-Version: 1.0\nGenerator: rolwyddac\nRoot-Is-Purelib: false\nTag: %s\n' % tag).encode()
     record = ''.join('%s,%s,%d\n' % (path, _summed(content), len(content)) for path, content in files.items())
     files[info + '/RECORD'] = (record + info + '/RECORD,,\n').encode()

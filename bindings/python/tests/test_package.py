@@ -179,8 +179,9 @@ class Wheel(unittest.TestCase):
             name = module.build_wheel(folder)
             with contextlib.closing(zipfile.ZipFile(os.path.join(folder, name))) as wheel:
                 content = {each: wheel.read(each) for each in wheel.namelist()}
-        sources = {'rolwyddac/' + each for each in os.listdir(package) if each.endswith('.py')}
+        sources = {'rolwyddac/' + os.path.relpath(each, package) for each in glob.glob(os.path.join(package, '**', '*.py'), recursive=True)}
         found = {each for each in content if each.startswith('rolwyddac/')}
+        self.assertIn('rolwyddac/command/entry.py', found)
         self.assertEqual(found, sources | {'rolwyddac/py.typed', 'rolwyddac/librolwyddac.so'})
         record, = [text for each, text in content.items() if each.endswith('/RECORD')]
         for line in record.decode().splitlines():

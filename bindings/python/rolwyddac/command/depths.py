@@ -1,0 +1,105 @@
+"""Where a run's depths come from: soundings as records or points, or a plain source of words."""
+
+from __future__ import annotations
+
+import argparse
+import array
+from typing import Any, List, Sequence, Set, Tuple
+
+from .. import grids, plan
+from ..calls import flattened
+from ..refusals import Refused
+from . import files
+from .faults import Refusal, Usage
+from .options import add_reading, layout_of, reading_of, word
+from .points import Report, take_points, told
+from .texts import of, tell
+from .toml import Recipe
+
+# bytes of all files of soundings together: they are held in memory
+SOUNDINGS_MOST = 2 ** 28
+
+_WORD = 4
+
+
+def add_depths(parser: argparse.ArgumentParser, choice: argparse._MutuallyExclusiveGroup) -> None:
+    """--soundings, --source and --value."""
+    choice.add_argument('--soundings', metavar='FILE', nargs='+', help='soundings: records of 16 bytes, or x, y, depth, day and survey as CSV or XYZ')
+    choice.add_argument('--source', metavar='FILE', help='one word of 4 bytes a cell, the low byte first')
+    parser.add_argument('--value', metavar='DEPTH', type=word, help='depth of cells without a sounding, as a whole number that --scale does not change; 0 where not given')
+    add_reading(parser)
+
+
+def flat(grid: Any) -> List[int]:
+    """A grid's words, whether it is an array or lists."""
+    return list(flattened(grid.tolist() if hasattr(grid, 'tolist') else grid))
+
+
+def outside_of(recipe: Recipe) -> Set[int]:
+    """The cells that are not in the shape."""
+    owners = plan._owners(recipe.encoded)
+    processors = plan.summary(recipe.encoded).processors
+    return {cell for cell, owner in enumerate(owners) if owner == processors}
+
+
+def _records_of(recipe: Recipe, name: str, content: bytes, words: argparse.Namespace) -> Tuple[bytes, int]:
+    """A file's records, and how many points it has; of points, what is to be told of them is told."""
+    if not files.is_text(content):
+        return content, 0
+    if words.cell is None:
+        raise Usage(of(name, 'these are points with x and y, and --cell has to say how large a cell is'))
+    report = report_of_points(recipe, [(name, content)], words)
+    return bytes(report.records), report.points
+
+
+def two_dimensions(recipe: Recipe) -> None:
+    """Points have a place in a recipe of two dimensions alone."""
+    if len(recipe.parts.dimensions) != 2:
+        raise Refusal(of(recipe.name, 'it has %d dimensions, and points with x and y have a place in 2' % len(recipe.parts.dimensions)))
+
+
+def hold_some(points: int, records: int) -> None:
+    """Where all points are off the box, their place is wrong."""
+    if points and not records:
+        raise Refusal('no point is on the box: are --corner and --cell those of the chart?')
+
+
+def report_of_points(recipe: Recipe, contents: Sequence[Tuple[str, bytes]], words: argparse.Namespace) -> Report:
+    """The points of several files; what is to be told of them is told."""
+    two_dimensions(recipe)
+    layout, reading, report = layout_of(recipe, words), reading_of(words), Report()
+    for name, content in contents:
+        take_points(name, content, layout, reading, report)
+    for line in told(report, layout, reading, outside_of(recipe)):
+        tell(line)
+    return report
+
+
+def _sounded(recipe: Recipe, words: argparse.Namespace) -> List[int]:
+    left, every, points, value = SOUNDINGS_MOST, b'', 0, words.value or 0
+    for name in words.soundings:
+        content = files.read(name, left)
+        left -= len(content)
+        records, more = _records_of(recipe, name, content, words)
+        points += more
+        try:
+            # alone first: what is wrong with it is told with its name
+            grids.soundings(recipe.encoded, records, value)
+        except Refused as refused:
+            raise Refusal(of(name, refused)) from None
+        every += records
+    hold_some(points, len(every))
+    return flat(grids.soundings(recipe.encoded, every, value))
+
+
+def source_of(recipe: Recipe, words: argparse.Namespace) -> List[int]:
+    """One word a cell, from the files that were named."""
+    if words.soundings:
+        return _sounded(recipe, words)
+    if words.value is not None:
+        raise Usage('--value goes with --soundings')
+    cells = plan.summary(recipe.encoded).cells
+    content = files.read(words.source, SOUNDINGS_MOST)
+    if len(content) != _WORD * cells:
+        raise Refusal(of(words.source, '%d bytes, and %d are needed, %d a cell' % (len(content), _WORD * cells, _WORD)))
+    return list(array.array('I', content))
