@@ -1,0 +1,177 @@
+"""Holds what a newcomer reads to its measure, and its examples to what they print. Run as
+
+    python3 tools/readme_words.py            # words, lines and sentences of README.md; paths and links of all pages
+    python3 tools/readme_words.py first      # writes README.md's first command, for a shell
+    python3 tools/readme_words.py run PAGE   # runs a page's commands and Python in this folder, and compares what they print with the page
+
+A path is a word in backticks, or a link, that looks like a file of the repository: it must exist. Planted faults must be told.
+Status 1 where anything is wrong. `run` takes the blocks `sh` and `python`, in their order; a block `prints` has what the one before it prints.
+Python needs the package: PYTHONPATH=bindings/python, and the library.
+"""
+
+import contextlib
+import io
+import os
+import re
+import subprocess
+import sys
+
+ROOT = os.path.normpath(os.path.join(os.path.dirname(os.path.abspath(__file__)), '..'))
+README = 'README.md'
+PAGES = (README, 'CONTRIBUTING.md', 'bindings/README.md', 'docs/CALLS.md', 'docs/COMMAND.md', 'docs/DEMANDS.md', 'docs/GLOSSARY.md',
+         'docs/INSTALL.md', 'docs/MODELLERS.md', 'docs/PROOFS.md', 'docs/RECIPE.md')
+
+MOST_LINES = 150
+WORDS_BELOW = 1500
+MEAN_BELOW = 20
+MOST_COLUMNS = 100
+# seconds that an example may take; the first of a clone makes the library
+TIME = 300
+# these pages are laid out by hand for a diff; the others are not yet
+NARROW = (README, 'docs/CALLS.md', 'docs/DEMANDS.md', 'docs/GLOSSARY.md', 'docs/INSTALL.md', 'docs/MODELLERS.md', 'docs/PROOFS.md')
+
+# what the gate and the library's scripts make is no file of the repository
+MADE = ('target/', 'out/')
+FOLDERS = ('.ci', 'bench', 'bindings', 'crates', 'data', 'docs', 'prebuilt', 'tools')
+
+
+def page(name):
+    with open(os.path.join(ROOT, name), encoding='utf-8') as file:
+        return file.read()
+
+
+def blocks(text, kind):
+    """What the fenced blocks of a kind have."""
+    return re.findall(r'^```%s\n(.*?)^```$' % kind, text, flags=re.M | re.S)
+
+
+def prose(text):
+    """The sentences: no blocks, tables, headings or pictures; an item of a list begins a sentence."""
+    text = re.sub(r'^```.*?^```$', '', text, flags=re.M | re.S)
+    kept = [line for line in text.split('\n') if not re.match(r'    |\||#|!\[| {5}', line)]
+    joined = re.sub(r'\n(?=- |\d+\. )', '\n\n', '\n'.join(kept))
+    found = []
+    for paragraph in re.split(r'\n\s*\n', joined):
+        plain = re.sub(r'^(- |\d+\. )', '', ' '.join(paragraph.split()))
+        found += [each for each in re.split(r'(?<=[.!?:])\s+(?=[A-Z`*])', plain) if re.search(r'[A-Za-z]', each)]
+    return found
+
+
+def measured(text):
+    """What is wrong with README.md's size; its sentences are counted over the prose, its words over everything."""
+    wrong = []
+    words, lines, sentences = len(text.split()), len(text.splitlines()), prose(text)
+    mean = sum(len(each.split()) for each in sentences) / max(1, len(sentences))
+    if words >= WORDS_BELOW:
+        wrong.append('%s: %d words, %d are too many' % (README, words, WORDS_BELOW))
+    if lines > MOST_LINES:
+        wrong.append('%s: %d lines, more than %d' % (README, lines, MOST_LINES))
+    if mean >= MEAN_BELOW:
+        wrong.append('%s: %.1f words a sentence, %d are too many' % (README, mean, MEAN_BELOW))
+    return wrong, '%d words, %d lines, %d sentences of %.1f words' % (words, lines, len(sentences), mean)
+
+
+def named(text):
+    """The paths that a page names: in backticks, without their options; as links; unquoted in its prose."""
+    ticked = [word.split()[0] for word in re.findall(r'`([^`\n]+)`', text) if word.split()]
+    links = re.findall(r'\]\(([^)#\s]+)', text)
+    bare = re.findall(r'(?<![\w/.`(-])((?:%s)/[\w./*-]+\w)' % '|'.join(re.escape(each) for each in FOLDERS), text)
+    return ticked, links, bare
+
+
+def is_path(word):
+    """Does it look like a file of the repository? A name with a wildcard or a placeholder is none."""
+    if word.startswith(MADE) or not re.fullmatch(r'[\w./-]+', word) or re.search(r'\.\.|NAME|WHAT|NNN', word):
+        return False
+    return word.split('/')[0] in FOLDERS and '/' in word or bool(re.fullmatch(r'\w+\.md', word))
+
+
+def missing(name, text):
+    """The paths of a page that are not there, seen from the root or from the page; a link is seen from the page alone."""
+    beside = os.path.dirname(os.path.join(ROOT, name))
+    ticked, links, bare = named(text)
+    gone = []
+    for word in ticked + bare:
+        # a definition is named without its ending
+        places = [os.path.join(folder, word + ending) for folder in (ROOT, beside) for ending in ('', '.antt')]
+        if is_path(word) and not any(map(os.path.exists, places)):
+            gone.append(word)
+    gone += [link for link in links if '://' not in link and not os.path.exists(os.path.join(beside, link))]
+    return ['%s: there is no %s' % (name, word) for word in sorted(set(gone))]
+
+
+def wide(name, text):
+    return ['%s:%d: more than %d columns' % (name, at, MOST_COLUMNS) for at, line in enumerate(text.splitlines(), 1)
+            if len(line) > MOST_COLUMNS and not re.match(r'\||    ', line) and '](' not in line]
+
+
+def planted():
+    """Faults that must be told."""
+    text = page(README)
+    faults = [measured(text + '\nword' * WORDS_BELOW)[0], measured(text + '\n' * MOST_LINES)[0],
+              measured('A sentence ' + 'that goes on ' * 10 + 'and on.')[0],
+              missing(README, 'see `docs/NOWHERE.md`'.replace('NOWHERE', 'nowhere')), missing(README, '[a page](docs/nowhere.md)'),
+              missing(README, 'or docs/nowhere.md'), wide(README, 'x' * (MOST_COLUMNS + 1))]
+    return ['planted fault %d was not told' % at for at, told in enumerate(faults) if not told]
+
+
+def held():
+    wrong, told = measured(page(README))
+    for name in PAGES:
+        text = page(name)
+        wrong += missing(name, text)
+        wrong += wide(name, text) if name in NARROW else []
+    wrong += planted()
+    print(*wrong, told, sep='\n')
+    return int(bool(wrong))
+
+
+def first():
+    print(blocks(page(README), 'sh')[0], end='')
+    return 0
+
+
+def printed_by(kind, body, names):
+    """What a block of commands or of Python prints. Python's blocks of a page share their names."""
+    if kind == 'sh':
+        return subprocess.run(['sh', '-eu', '-c', body], stdout=subprocess.PIPE, check=True, timeout=TIME, text=True).stdout
+    printed = io.StringIO()
+    with contextlib.redirect_stdout(printed):
+        exec(compile(body, 'a page', 'exec'), names)  # pylint: disable=exec-used
+    return printed.getvalue()
+
+
+def run(text):
+    """What is wrong with a page's examples, which are run in their order: a block `prints` is what the one before it writes."""
+    wrong, names, printed = [], {}, ''
+    examples = re.findall(r'^```(sh|python|prints)\n(.*?)^```$', text, flags=re.M | re.S)
+    for kind, body in examples:
+        if kind != 'prints':
+            print(body, end='', flush=True)
+            printed = printed_by(kind, body, names)
+            print(printed, end='', flush=True)
+        elif printed != body:
+            wrong.append('that was printed, and the page has:\n' + body)
+    # README.md's grid in columns is the one that its Python prints
+    drawn = [row.split() for row in re.findall(r'^    ((?: +\d+){5})\b', text, flags=re.M)]
+    if drawn and drawn != [row.split() for row in printed.splitlines()[1:]]:
+        wrong.append('the grid in columns is another one')
+    if not examples:
+        wrong.append('no examples')
+    return wrong
+
+
+def main(words):
+    if words == ['first']:
+        return first()
+    if words[:1] == ['run'] and len(words) == 2:
+        wrong = run(page(words[1]))
+        print(*wrong, sep='\n')
+        return int(bool(wrong))
+    if words:
+        sys.exit(__doc__)
+    return held()
+
+
+if __name__ == '__main__':
+    sys.exit(main(sys.argv[1:]))
