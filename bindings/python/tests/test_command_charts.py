@@ -8,7 +8,7 @@ import subprocess
 import sys
 import unittest
 
-from command_support import BASIN, HARBOUR, HAS_BOARDS, ROOT, SMALL, SURVEYS, InFolder, content_of, environment, setUpModule, without  # noqa: F401
+from command_support import BASIN, HARBOUR, HAS_BOARDS, ROOT, SMALL, SURVEYS, InFolder, command, content_of, environment, setUpModule, without  # noqa: F401
 from support import Draw, model, recipe_of
 from rolwyddac.command import chart, drawings
 from rolwyddac.command.faults import Usage
@@ -50,6 +50,17 @@ class Texts(InFolder):
         self.assertEqual(content_of(out), harbour_text(0, 0, 10))
         self.ends(1, 'chart', BASIN, '--soundings', off, '--cell', 10, '--out', out, told='no point is on the box')
 
+    def test_cells_without_a_sounding(self):
+        """Their depth is 0 where no other is given, and that is told."""
+        encoded, sounded = HARBOUR_RECIPE, set()
+        for content in map(content_of, RECORDS):
+            sounded |= {model.word32(content, at) for at in range(0, len(content), 16)}
+        missing = [cell for cell in range(4800) if model.plan_of(encoded)[1].inside[cell] and cell not in sounded]
+        self.ends(0, 'chart', BASIN, '--soundings', *RECORDS, '--out', '-',
+                  told='%d cells of the shape have no sounding, and depth 0; --value gives another\n' % len(missing))
+        done = command('chart', BASIN, '--soundings', *RECORDS, '--value', 0, '--out', '-')
+        self.assertEqual((done[0], done[2]), (0, ''))
+
     def test_corner(self):
         written = self.ends(0, 'chart', BASIN, '--soundings', *RECORDS, '--value', 3000, '--corner', 412300, -71850, '--cell', 25, '--out', '-')
         self.assertEqual(written, harbour_text(412300, -71850, 25))
@@ -76,8 +87,9 @@ class Texts(InFolder):
         for status, words, told in (
                 (1, [cube, '--source', source, *out], 'cube: refused 23, no chart: the recipe has 3 dimensions, and a chart has 2'),
                 (1, [recipe, '--source', recipe, *out], 'bytes, and 16 are needed, 4 a cell'),
-                (1, [recipe, '--soundings', self.put('off', struct.pack('<4I', 4, 0, 0, 1)), *out], 'off: refused 22, off the box'),
-                (1, [recipe, '--soundings', self.put('ragged', bytes(17)), *out], 'ragged: refused 1, ragged'),
+                (1, [recipe, '--soundings', self.put('off', struct.pack('<4I', 4, 0, 0, 1)), *out],
+                 'off: refused 22, off the box: the record at byte 0 names cell 4, and the box has 4'),
+                (1, [recipe, '--soundings', self.put('ragged', bytes(17)), *out], 'ragged: refused 1, ragged: 17 bytes are no multiple of 16'),
                 (2, [recipe, '--soundings', points, *out], 'p: these are points with x and y, and --cell has to say how large a cell is'),
                 (2, [recipe, '--source', source, '--value', 3, *out], '--value goes with --soundings'),
                 (2, [recipe, '--source', source, '--soundings', points, *out], 'not allowed with argument'),

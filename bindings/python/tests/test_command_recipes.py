@@ -1,6 +1,7 @@
 """Recipes of the command: TOML and bytes, what is told of a refused one."""
 
 import os
+import sys
 import unittest
 
 from command_support import SMALL, InFolder, content_of, setUpModule, without  # noqa: F401
@@ -24,6 +25,9 @@ def changed(text, *pairs):
         text = text.replace(old, new, 1)
     return text
 
+
+# later versions of Python refuse to read a number of so many digits, earlier ones read it
+NO_NUMBER = 'no TOML: Exceeds the limit' if hasattr(sys, 'set_int_max_str_digits') else 'the recipe: shift is too large'
 
 # a text, and what is told of it
 REFUSED = [
@@ -81,6 +85,8 @@ REFUSED = [
     (SMALL.encode('utf-16'), 'UTF-16'),
     (b'# \xe4\n' + SMALL.encode(), 'no TOML: line 1 is not in UTF-8'),
     ('a = ' + '[' * 5000, 'no '),
+    ('shift = ' + '1' * 5000 + '\n' + SMALL, NO_NUMBER),
+    ('shift = 1979-05-27\n' + SMALL, 'the recipe: shift must be a whole number'),
 ]
 
 # bytes, by a change of D's: record, byte, value

@@ -12,12 +12,12 @@ import csv
 import io
 import itertools
 import struct
-from typing import Any, Counter, Dict, Iterable, Iterator, List, NamedTuple, Optional, Sequence, Tuple
+from typing import Counter, Dict, Iterable, Iterator, List, NamedTuple, Optional, Sequence, Tuple
 
 from .exact import WORD_MOST, Exact, day_of, number_of, word_of
 from .faults import Refusal
 from .files import is_utf_16
-from .texts import Bar, NAMED_MOST, first_of, listed, many, of, shown
+from .texts import NAMED_MOST, Bar, first_of, listed, of, shown
 
 RECORD_WORDS = struct.Struct('<4I')
 
@@ -275,26 +275,3 @@ def take_points(name: str, content: bytes, layout: Layout, reading: Reading, rep
 
 def _is_value(field: str, comma: bool) -> bool:
     return number_of(field.replace(',', '.') if comma else field) is not None or day_of(field) is not None
-
-
-def told(report: Report, layout: Layout, reading: Reading, outside: Any) -> List[str]:
-    """What is to be told of points, a line each; outside has the cells that are not in the shape."""
-    lines = []
-    if report.number['off']:
-        lines.append('%s off the box (%s) and left out:' % (many(report.number['off'], 'point is', 'points are'), layout))
-        lines += ['  ' + line for line in report.noted('off')]
-    land = sum(number for cell, number in report.cells.items() if cell in outside)
-    if land:
-        lines.append('%s in cells outside the shape, where no value is computed' % many(land, 'point is', 'points are'))
-    if report.edges:
-        lines.append('%s on an edge of a cell, and counted for the cell to the right or below' % many(report.edges, 'point is', 'points are'))
-    if report.number['no day'] and reading.default_day is None:
-        lines.append('%s no day, and day 0 instead, so that any other is later; --default-day gives one; the first is %s' % (
-            many(report.number['no day'], 'point has', 'points have'), report.first['no day'][0]))
-    if report.number['time']:
-        lines.append('%s a time of the day, which is left out; the first is %s' % (
-            many(report.number['time'], 'point has', 'points have'), report.first['time'][0]))
-    if report.number['rounded']:
-        lines.append('%s rounded to whole numbers: %s' % (
-            many(report.number['rounded'], 'depth is', 'depths are'), ', '.join(report.noted('rounded'))))
-    return lines

@@ -136,7 +136,8 @@ def parts_of_text(text: str) -> Parts:
     parser = _parser()
     try:
         content = parser.loads(text)
-    except parser.TOMLDecodeError as error:
+    except ValueError as error:
+        # the parser's own fault is one, and so is a number of thousands of digits
         raise Refusal('no TOML: %s' % shown(str(error))) from None
     except RecursionError:
         raise Refusal('no recipe: lists or tables within each other too deeply') from None
