@@ -1,6 +1,6 @@
 """Holds what a newcomer reads to its measure, and its examples to what they print. Run as
 
-    python3 tools/readme_words.py            # words, lines and sentences of README.md; paths and links of all pages
+    python3 tools/readme_words.py            # words, lines, sentences, counts and limits of README.md; paths and links of all pages
     python3 tools/readme_words.py first      # writes README.md's first command, for a shell
     python3 tools/readme_words.py run PAGE   # runs a page's commands and Python in this folder, and compares what they print with the page
 
@@ -10,6 +10,7 @@ Python needs the package: PYTHONPATH=bindings/python, and the library.
 """
 
 import contextlib
+import glob
 import io
 import os
 import re
@@ -29,6 +30,11 @@ MOST_COLUMNS = 100
 TIME = 300
 # these pages are laid out by hand for a diff; the others are not yet
 NARROW = (README, 'docs/CALLS.md', 'docs/DEMANDS.md', 'docs/GLOSSARY.md', 'docs/INSTALL.md', 'docs/MODELLERS.md', 'docs/PROOFS.md')
+
+# the library's header has the limits; rows of README.md's table by how they begin
+LIBRARY = 'bindings/c/rolwyddac_library.h'
+LIMITS = {'DIMENSIONS': 'dimensions', 'CELLS': 'cells', 'LENGTH': 'length', 'TILES': 'tiles', 'PROCESSORS': 'processors', 'DISTANCES': 'distances',
+          'BOUNDS': 'bounds', 'SHIFT': 'shift'}
 
 # what the gate and the library's scripts make is no file of the repository
 MADE = ('target/', 'out/')
@@ -105,18 +111,33 @@ def wide(name, text):
             if len(line) > MOST_COLUMNS and not re.match(r'\||    ', line) and '](' not in line]
 
 
+def counted(text):
+    """README.md's numbers of crates and must-fail edits, and its limits, as the tree and the library's header have them."""
+    crates = len([each for each in os.listdir(os.path.join(ROOT, 'crates'))])
+    edits = len(glob.glob(os.path.join(ROOT, 'crates/*/must-fail/*.edit')))
+    wrong = [told for told in ('%d crates' % crates, '%d *must-fail edits*' % edits) if told not in ' '.join(text.split())]
+    limits = dict(re.findall(r'^#define ROLWYDDAC_MOST_(\w+) (\d+)$', page(LIBRARY), flags=re.M))
+    for name, begins in LIMITS.items():
+        row = re.search(r'^\| %s[^|]*\| \d+ \| ([\d,]+) \|$' % begins, text, flags=re.M)
+        if not row or row[1].replace(',', '') != limits[name]:
+            wrong.append('limit %s, %s' % (begins, limits[name]))
+    return ['%s: has not %s' % (README, each) for each in wrong]
+
+
 def planted():
     """Faults that must be told."""
     text = page(README)
     faults = [measured(text + '\nword' * WORDS_BELOW)[0], measured(text + '\n' * MOST_LINES)[0],
               measured('A sentence ' + 'that goes on ' * 10 + 'and on.')[0],
-              missing(README, 'see `docs/NOWHERE.md`'.replace('NOWHERE', 'nowhere')), missing(README, '[a page](docs/nowhere.md)'),
-              missing(README, 'or docs/nowhere.md'), wide(README, 'x' * (MOST_COLUMNS + 1))]
+              missing(README, 'see `docs/nowhere.md`'), missing(README, '[a page](docs/nowhere.md)'),
+              missing(README, 'or docs/nowhere.md'), counted(text.replace('crates from', 'crate from')),
+              counted(text.replace('| tiles | 1 | 1,024 |', '| tiles | 1 | 1,025 |')), wide(README, 'x' * (MOST_COLUMNS + 1))]
     return ['planted fault %d was not told' % at for at, told in enumerate(faults) if not told]
 
 
 def held():
     wrong, told = measured(page(README))
+    wrong += counted(page(README))
     for name in PAGES:
         text = page(name)
         wrong += missing(name, text)
