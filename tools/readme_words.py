@@ -1,6 +1,6 @@
 """Holds what a newcomer reads to its measure, and its examples to what they print. Run as
 
-    python3 tools/readme_words.py            # words, lines, sentences, counts and limits of README.md; paths and links of all pages
+    python3 tools/readme_words.py            # words, lines, counts and limits of README.md; sentences, columns, paths and links of all pages
     python3 tools/readme_words.py first      # writes README.md's first command, for a shell
     python3 tools/readme_words.py run PAGE   # runs a page's commands and Python in this folder, and compares what they print with the page
 
@@ -28,10 +28,6 @@ MEAN_BELOW = 20
 MOST_COLUMNS = 100
 # seconds that an example may take; the first of a clone makes the library
 TIME = 300
-# the pages whose lines have at most so many columns; the others have not yet
-NARROW = (README, 'docs/CALLS.md', 'docs/DEMANDS.md', 'docs/GLOSSARY.md', 'docs/INSTALL.md', 'docs/MODELLERS.md', 'docs/PROOFS.md',
-          'docs/COMMAND.md', 'docs/RECIPE.md', 'bindings/README.md')
-
 # the library's header has the limits; rows of README.md's table by how they begin
 LIBRARY = 'bindings/c/rolwyddac_library.h'
 LIMITS = {'DIMENSIONS': 'dimensions', 'CELLS': 'cells', 'LENGTH': 'length', 'TILES': 'tiles', 'PROCESSORS': 'processors', 'DISTANCES': 'distances',
@@ -64,18 +60,24 @@ def prose(text):
     return found
 
 
-def measured(text):
-    """What is wrong with README.md's size; its sentences are counted over the prose, its words over everything."""
-    wrong = []
-    words, lines, sentences = len(text.split()), len(text.splitlines()), prose(text)
+def lengthy(name, text):
+    """What is wrong with the sentences of a page."""
+    sentences = prose(text)
     mean = sum(len(each.split()) for each in sentences) / max(1, len(sentences))
+    told = '%s: %d words, %d lines, %d sentences of %.1f words' % (name, len(text.split()), len(text.splitlines()), len(sentences), mean)
+    print(told)
+    return [told + ', %d are too many' % MEAN_BELOW] if mean >= MEAN_BELOW else []
+
+
+def measured(text):
+    """What is wrong with README.md's size: everything is counted, tables and examples too."""
+    wrong = []
+    words, lines = len(text.split()), len(text.splitlines())
     if words >= WORDS_BELOW:
         wrong.append('%s: %d words, %d are too many' % (README, words, WORDS_BELOW))
     if lines > MOST_LINES:
         wrong.append('%s: %d lines, more than %d' % (README, lines, MOST_LINES))
-    if mean >= MEAN_BELOW:
-        wrong.append('%s: %.1f words a sentence, %d are too many' % (README, mean, MEAN_BELOW))
-    return wrong, '%d words, %d lines, %d sentences of %.1f words' % (words, lines, len(sentences), mean)
+    return wrong
 
 
 def named(text):
@@ -130,8 +132,8 @@ def counted(text):
 def planted():
     """Faults that must be told."""
     text = page(README)
-    faults = [measured(text + '\nword' * WORDS_BELOW)[0], measured(text + '\n' * MOST_LINES)[0],
-              measured('A sentence ' + 'that goes on ' * 10 + 'and on.')[0],
+    faults = [measured(text + ' word' * WORDS_BELOW), measured(text + '\n' * MOST_LINES),
+              lengthy('a planted page', 'A sentence ' + 'that goes on ' * 10 + 'and on.'),
               missing(README, 'see `docs/nowhere.md`'), missing(README, '[a page](docs/nowhere.md)'),
               missing(README, 'or docs/nowhere.md'), counted(text.replace('crates from', 'crate from')),
               counted(text.replace('| tiles | 1 | 1,024 |', '| tiles | 1 | 1,025 |')), wide(README, 'x' * (MOST_COLUMNS + 1))]
@@ -139,14 +141,14 @@ def planted():
 
 
 def held():
-    wrong, told = measured(page(README))
-    wrong += counted(page(README))
+    wrong = measured(page(README)) + counted(page(README))
     for name in PAGES:
         text = page(name)
+        wrong += lengthy(name, text)
         wrong += missing(name, text)
-        wrong += wide(name, text) if name in NARROW else []
+        wrong += wide(name, text)
     wrong += planted()
-    print(*wrong, told, sep='\n')
+    print(*wrong, sep='\n')
     return int(bool(wrong))
 
 
