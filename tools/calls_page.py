@@ -185,6 +185,16 @@ def entry(name, comment, parameters, order, python):
     return '\n'.join(lines)
 
 
+def index(page):
+    """A table of the sections, each with its calls."""
+    rows = []
+    for title, body in re.findall(r'^## ([^\n]*)\n(.*?)(?=^## |\Z)', page, flags=re.M | re.S):
+        names = re.findall(r'^<!-- (%s\w+) -->$' % PREFIX, body, flags=re.M)
+        if names:
+            rows.append('| %s | %s |' % (title, ', '.join('[`%s`](#%s)' % (name[len(PREFIX):], name) for name in names)))
+    return '<!-- index -->\n\n| section | calls, without their `%s` |\n|---|---|\n%s\n\n<!-- end -->' % (PREFIX, '\n'.join(rows))
+
+
 def filled(page, text):
     """The page with its parts made anew from the header."""
     calls, order = declared(text), order_of(text)
@@ -197,7 +207,8 @@ def filled(page, text):
         name = found[1]
         return '<!-- %s%s -->\n\n%s\n\n<!-- end -->' % (PREFIX, name, entry(name, *calls[name], order, python[name]))
 
-    return re.sub(r'<!-- %s(\w+) -->\n.*?<!-- end -->' % PREFIX, part, page, flags=re.S)
+    made = re.sub(r'<!-- %s(\w+) -->\n.*?<!-- end -->' % PREFIX, part, page, flags=re.S)
+    return re.sub(r'<!-- index -->\n.*?<!-- end -->', lambda _: index(page), made, flags=re.S)
 
 
 def terms_differ(text):
