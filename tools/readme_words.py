@@ -17,6 +17,8 @@ import re
 import subprocess
 import sys
 
+import model
+
 ROOT = os.path.normpath(os.path.join(os.path.dirname(os.path.abspath(__file__)), '..'))
 README = 'README.md'
 PAGES = (README, 'CONTRIBUTING.md', 'bindings/README.md', 'docs/CALLS.md', 'docs/COMMAND.md', 'docs/DEMANDS.md', 'docs/GLOSSARY.md',
@@ -26,6 +28,8 @@ MOST_LINES = 150
 WORDS_BELOW = 1500
 MEAN_BELOW = 20
 MOST_COLUMNS = 100
+# bytes of a recipe's record
+RECORD = 16
 # seconds that an example may take; the first of a clone makes the library
 TIME = 300
 # the library's header has the limits; rows of README.md's table by how they begin
@@ -129,6 +133,20 @@ def counted(text):
     return ['%s: has not %s' % (README, each) for each in wrong]
 
 
+def drawn(text):
+    """README.md's grid of 5 by 5 cells, laid out in columns."""
+    return [[int(word) for word in row.split()] for row in re.findall(r'^    ((?: +\d+){5})\b', text, flags=re.M)]
+
+
+def differs(text):
+    """Is that grid the model's? Source 8, each cell with the one above and the one to the left, halved."""
+    records = ((1, 0, 5, 0, 2, 0, 2), (1, 0, 5, 0, 3), (2, 0, 1, 0, 0, 0, 1), (2, 0, 0, 1, 0, 0, 1), (3, 1))
+    grid = [0] * 25
+    number = model.sweep(b''.join(bytes(each).ljust(RECORD, b'\0') for each in records), [8] * 25, grid)
+    same = number == 0 and drawn(text) == [grid[at:at + 5] for at in range(0, 25, 5)]
+    return [] if same else ['%s: its grid is not the model\'s' % README]
+
+
 def planted():
     """Faults that must be told."""
     text = page(README)
@@ -136,12 +154,12 @@ def planted():
               lengthy('a planted page', 'A sentence ' + 'that goes on ' * 10 + 'and on.'),
               missing(README, 'see `docs/nowhere.md`'), missing(README, '[a page](docs/nowhere.md)'),
               missing(README, 'or docs/nowhere.md'), counted(text.replace('crates from', 'crate from')),
-              counted(text.replace('| tiles | 1 | 1,024 |', '| tiles | 1 | 1,025 |')), wide(README, 'x' * (MOST_COLUMNS + 1))]
+              counted(text.replace('| tiles | 1 | 1,024 |', '| tiles | 1 | 1,025 |')), differs(text.replace('  25  29', '  25  30')), wide(README, 'x' * (MOST_COLUMNS + 1))]
     return ['planted fault %d was not told' % at for at, told in enumerate(faults) if not told]
 
 
 def held():
-    wrong = measured(page(README)) + counted(page(README))
+    wrong = measured(page(README)) + counted(page(README)) + differs(page(README))
     for name in PAGES:
         text = page(name)
         wrong += lengthy(name, text)
@@ -178,10 +196,6 @@ def run(text):
             print(printed, end='', flush=True)
         elif printed != body:
             wrong.append('that was printed, and the page has:\n' + body)
-    # README.md's grid in columns is the one that its Python prints
-    drawn = [row.split() for row in re.findall(r'^    ((?: +\d+){5})\b', text, flags=re.M)]
-    if drawn and drawn != [row.split() for row in printed.splitlines()[1:]]:
-        wrong.append('the grid in columns is another one')
     if not examples:
         wrong.append('no examples')
     return wrong
