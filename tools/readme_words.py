@@ -122,7 +122,7 @@ def wide(name, text):
 
 def counted(text):
     """README.md's numbers of crates and must-fail edits, and its limits, as the tree and the library's header have them."""
-    crates = len([each for each in os.listdir(os.path.join(ROOT, 'crates'))])
+    crates = len(os.listdir(os.path.join(ROOT, 'crates')))
     edits = len(glob.glob(os.path.join(ROOT, 'crates/*/must-fail/*.edit')))
     wrong = [told for told in ('%d crates' % crates, '%d *must-fail edits*' % edits) if told not in ' '.join(text.split())]
     limits = dict(re.findall(r'^#define ROLWYDDAC_MOST_(\w+) (\d+)$', page(LIBRARY), flags=re.M))
@@ -154,7 +154,8 @@ def planted():
               lengthy('a planted page', 'A sentence ' + 'that goes on ' * 10 + 'and on.'),
               missing(README, 'see `docs/nowhere.md`'), missing(README, '[a page](docs/nowhere.md)'),
               missing(README, 'or docs/nowhere.md'), counted(text.replace('crates from', 'crate from')),
-              counted(text.replace('| tiles | 1 | 1,024 |', '| tiles | 1 | 1,025 |')), differs(text.replace('  25  29', '  25  30')), wide(README, 'x' * (MOST_COLUMNS + 1))]
+              counted(text.replace('| tiles | 1 | 1,024 |', '| tiles | 1 | 1,025 |')), differs(text.replace('  25  29', '  25  30')),
+              wide(README, 'x' * (MOST_COLUMNS + 1)), run('```sh\necho 1\n```\n```prints\n2\n```\n'), run('no example')]
     return ['planted fault %d was not told' % at for at, told in enumerate(faults) if not told]
 
 
@@ -191,9 +192,8 @@ def run(text):
     examples = re.findall(r'^```(sh|python|prints)\n(.*?)^```$', text, flags=re.M | re.S)
     for kind, body in examples:
         if kind != 'prints':
-            print(body, end='', flush=True)
             printed = printed_by(kind, body, names)
-            print(printed, end='', flush=True)
+            print(body + printed, end='', flush=True)
         elif printed != body:
             wrong.append('that was printed, and the page has:\n' + body)
     if not examples:
