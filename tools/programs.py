@@ -1,10 +1,10 @@
-"""Holds the two programs to what README.md says of their faults. Run as
+"""Holds the two programs to what docs/RECIPE.md says of their faults. Run as
 
     python3 tools/programs.py FOLDER
 
 with the folder of the linked programs. Each shortest refused recipe of docs/RECIPE.md gives its number on standard output, and number, term and
-meaning as README.md has them on standard error; a recipe that is not refused gives nothing there; what can't be read or written, and
-arguments, give their line. README.md's lines for scripts have the status that it says. Status 1 where anything is wrong.
+meaning as the table there has them on standard error; a recipe that is not refused gives nothing there; what can't be read or written, and
+arguments, give their line. The page's lines for scripts have the status that it says. Status 1 where anything is wrong.
 """
 
 import os
@@ -28,9 +28,9 @@ def page(name):
 
 def refusals():
     """Line and recipe of each number of the reader: the examples that are a recipe alone."""
-    meanings = {int(number): meaning for number, meaning in re.findall(r'^\| (\d+) \| [^|]+ \| ([^|]+) \|$', page('README.md'), flags=re.M)}
-    meanings[1] = RAGGED
     text = page(recipe_page.PAGE)
+    meanings = {int(number): meaning for number, meaning in re.findall(r'^\| (\d+) \| [^|]+ \| ([^|]+) \| `[^`]+` \|$', text, flags=re.M)}
+    meanings[1] = RAGGED
     known = recipe_page.recipes(text)
     return [('%d, %s: %s' % (number, term, meanings[number]), recipe_page.recipe_of(example, known))
             for number, term, example in recipe_page.numbers(text) if ':' not in example]
@@ -59,8 +59,8 @@ def faults(program, text, recipe):
 
 
 def tests_for_scripts():
-    """Line, recipe and status: README.md's one line a program, over a recipe that is accepted, two that are refused, and none at all."""
-    lines = re.findall(r'^    (.*target/bin/(?:%s) < recipe.*)$' % '|'.join(TEXTS), page('README.md'), flags=re.M)
+    """Line, recipe and status: the page's one line a program, over a recipe that is accepted, two that are refused, and none at all."""
+    lines = re.findall(r'^    (.*target/bin/(?:%s) < recipe.*)$' % '|'.join(TEXTS), page(recipe_page.PAGE), flags=re.M)
     row = model.ROWS['D']
     return [(line, recipe, status) for line in lines for recipe, status in ((row, True), (row[16:], False), (b'', False), (None, False))]
 

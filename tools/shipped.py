@@ -1,4 +1,4 @@
-"""Holds bindings/archive, bindings/library and bindings/lock to what README.md says of the shipped archive. Run as
+"""Holds bindings/archive, bindings/library and bindings/lock to what docs/INSTALL.md says of the shipped archive. Run as
 
     python3 tools/shipped.py
 

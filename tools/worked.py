@@ -1,6 +1,6 @@
 """Puts a modeller's own recipe into crates/worked: its bytes and what the independent model expects of it.
 
-    bindings/rust/write_recipe < mine.txt > mine.recipe
+    ./rolwyddac recipe mine.toml -o mine.recipe
     python3 tools/worked.py mine.recipe [FIRST]     writes specs/Harbour.antt, proofs/Computed.antt and src/lib.rt
     rt check worked                                 has the checker compute every figure from the definitions
     python3 tools/worked.py check                   are the stored figures those of the model? status 1 where not
