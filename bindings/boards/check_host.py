@@ -429,6 +429,13 @@ def check_ended_first(host):
     host.holds('ended as the first process', ran.returncode == 128 + signal.SIGTERM and boards and not any(map(is_there, boards)), ran)
 
 
+def heed_signals():
+    """A shell has what it starts in the background ignore an interrupt, and so would the boards that are ended here."""
+    for number in (signal.SIGINT, signal.SIGTERM, signal.SIGHUP):
+        if signal.getsignal(number) == signal.SIG_IGN:
+            signal.signal(number, signal.SIG_DFL)
+
+
 def main(folder):
     with tempfile.TemporaryDirectory() as scratch:
         host = Host(folder, scratch)
@@ -454,4 +461,5 @@ def main(folder):
 if __name__ == '__main__':
     if len(sys.argv) != 2:
         sys.exit(__doc__)
+    heed_signals()
     sys.exit(main(sys.argv[1]))

@@ -1,5 +1,6 @@
 """Files of the command: written whole or not at all; signals, pipes and disks; names that would steer a terminal."""
 
+import contextlib
 import os
 import pty
 import resource
@@ -20,6 +21,16 @@ from rolwyddac.command.texts import shown
 
 # seconds after which a test gives up
 PATIENCE = 30
+
+
+@contextlib.contextmanager
+def heeded(number):
+    """What is started here heeds the signal, also where these tests run in the background and a shell has them ignore it."""
+    before = signal.signal(number, signal.SIG_DFL)
+    try:
+        yield
+    finally:
+        signal.signal(number, before)
 
 
 class Whole(InFolder):
@@ -170,7 +181,8 @@ class Ends(InFolder):
         for number in (signal.SIGINT, signal.SIGTERM, signal.SIGHUP):
             out = self.path('out.asc')
             os.path.exists(self.path('fifo')) or os.mkfifo(self.path('fifo'))
-            child = self.started('chart', BASIN, '--source', self.path('fifo'), '--out', out, stdout=subprocess.PIPE)
+            with heeded(number):
+                child = self.started('chart', BASIN, '--source', self.path('fifo'), '--out', out, stdout=subprocess.PIPE)
             with self.opened(child):
                 child.send_signal(number)
                 self.assertEqual((child.communicate(timeout=PATIENCE), child.returncode), ((b'', b''), -number))
