@@ -227,9 +227,9 @@ class Boards(InFolder):
         self.ends(2, 'boards', small, '--seed', 1, '--timeout', 'long', told='--timeout long')
         self.ends(2, 'boards', small, '--seed', 1, '--crs', 'EPSG:25832', told='--crs goes with --out')
         self.ends(2, 'boards', small, '--seed', 1, '--grid', small, told='is named twice')
-        told, full = [], OSError(28, 'No space left on device', '/tmp/x')
+        told, full = [], OSError(28, 'No space left on device', 'scratch')
         with mock.patch.object(boards.tempfile, 'TemporaryDirectory', side_effect=full), mock.patch.object(entry, 'tell', told.append):
-            self.assertEqual((entry.run(['boards', small, '--seed', '1']), told), (3, ['/tmp/x: No space left on device']))
+            self.assertEqual((entry.run(['boards', small, '--seed', '1']), told), (3, ['scratch: No space left on device']))
         self.ends(3, 'boards', small, '--seed', 1, told='none: No such file', env={'ROLWYDDAC_BOARDS': self.path('none')})
         failing = self.put('failing', '#!/bin/sh\necho lost >&2\nexit 5\n')
         os.chmod(failing, 0o755)
