@@ -12,7 +12,7 @@ from .kinds import route_of, whole
 from .owner import Owner, locked
 from .plan import AREA, Awaited, OwnRow, Row, awaited, messages, own_messages, own_sizes
 from .recipe import lengths_of
-from .run import NO_SUCH
+from .run import NO_SUCH, OverAreas
 from .words import laid, octets, shape_held, shape_of, shaped
 
 
@@ -33,13 +33,12 @@ class _Processor(Owner):
         return self._processor
 
 
-class Board(_Processor):
+class Board(OverAreas, _Processor):
     """One processor of a run on processors that share no memory: it has all areas to itself, and a transport carries its messages.
     Where every message that one posts is taken in by its taker, sooner or later, each finishes, and its memory has the cells of its
     tiles as the sweep has them. Threads may share a board: its calls go one at a time."""
 
     _rows: Tuple[Row, ...]
-    _areas: Areas
 
     def __init__(self, encoded: BytesLike, route: SupportsIndex, source: Numbers, processor: SupportsIndex) -> None:
         """A fresh start."""
@@ -56,16 +55,6 @@ class Board(_Processor):
         """All messages of the route, in the order of their numbers."""
         return self._rows
 
-    @property
-    @locked
-    def areas(self) -> Areas:
-        """A copy of the areas as the last call left them."""
-        return self._areas.copy()
-
-    @locked
-    def _call(self, name: str, *last: Any) -> None:
-        calls.EXPORTED[name](self._encoded, self._route, self._source, *self._areas, *last)
-
     @locked
     def memory(self) -> Grid:
         """A copy of the processor's own part of its memories, as a grid."""
@@ -80,11 +69,6 @@ class Board(_Processor):
     def awaited(self) -> Awaited:
         """What the processor waits for."""
         return awaited(self._encoded, self._route, self._areas.progress, self._areas.status, self._processor)
-
-    @locked
-    def in_flight(self) -> List[int]:
-        """The messages that are sent and not posted yet, by number."""
-        return self._areas.in_flight()
 
     @locked
     def post(self, message: SupportsIndex) -> Tuple[int, Words]:

@@ -45,13 +45,38 @@ def resumed(encoded: bytes, route: int, source: Words, areas: Areas) -> Areas:
     return kept
 
 
-class Run(Owner):
+class OverAreas(Owner):
+    """What is lent all four areas at each call: a run, and a board that has them to itself."""
+
+    _source: Words
+    _areas: Areas
+
+    @property
+    def source(self) -> memoryview:
+        """The source's words, to be read."""
+        return memoryview(self._source).toreadonly()
+
+    @property
+    @locked
+    def areas(self) -> Areas:
+        """A copy of the areas as the last call left them, to be looked at or kept; `Run.resume` goes on from there."""
+        return self._areas.copy()
+
+    @locked
+    def in_flight(self) -> List[int]:
+        """The messages that are sent and not delivered, or not posted, yet, by number."""
+        return self._areas.in_flight()
+
+    @locked
+    def _call(self, name: str, *last: Any) -> None:
+        calls.EXPORTED[name](self._encoded, self._route, self._source, *self._areas, *last)
+
+
+class Run(OverAreas):
     """A run of one recipe by one route over one source: a fresh start, then any turns and deliveries. Whatever their order, the
     grid that `collect` gives is that of the sweep. Threads may share a run: its calls go one at a time."""
 
-    _source: Words
     _plan: Summary
-    _areas: Areas
 
     def __init__(self, encoded: BytesLike, route: SupportsIndex, source: Numbers, areas: Optional[Areas] = None) -> None:
         """A fresh start; or, with areas that an earlier run of these left, the run goes on from there, on a copy."""
@@ -84,24 +109,9 @@ class Run(Owner):
         return run, out[0]
 
     @property
-    def source(self) -> memoryview:
-        """The source's words, to be read."""
-        return memoryview(self._source).toreadonly()
-
-    @property
     def plan(self) -> Summary:
         """The plan's totals."""
         return self._plan
-
-    @property
-    @locked
-    def areas(self) -> Areas:
-        """A copy of the areas as the last call left them, to be looked at or kept; `resume` goes on from there."""
-        return self._areas.copy()
-
-    @locked
-    def _call(self, name: str, *last: Any) -> None:
-        calls.EXPORTED[name](self._encoded, self._route, self._source, *self._areas, *last)
 
     def turn(self, processor: SupportsIndex) -> None:
         """Gives one processor a turn."""
@@ -114,11 +124,6 @@ class Run(Owner):
     def deliver(self, message: SupportsIndex) -> None:
         """Delivers one message."""
         self._call('deliver', message)
-
-    @locked
-    def in_flight(self) -> List[int]:
-        """The messages in flight, by number."""
-        return self._areas.in_flight()
 
     @locked
     def finish(self) -> int:

@@ -22,6 +22,9 @@ from rolwyddac.command.texts import shown
 # seconds after which a test gives up
 PATIENCE = 30
 
+# seconds after which a command that has opened its pipe waits in its read
+SETTLED = 0.2
+
 
 @contextlib.contextmanager
 def heeded(number):
@@ -184,6 +187,8 @@ class Ends(InFolder):
             with heeded(number):
                 child = self.started('chart', BASIN, '--source', self.path('fifo'), '--out', out, stdout=subprocess.PIPE)
             with self.opened(child):
+                # Python heeds a signal between two steps of its own: one that comes just before the read begins waits for the read's end
+                time.sleep(SETTLED)
                 child.send_signal(number)
                 self.assertEqual((child.communicate(timeout=PATIENCE), child.returncode), ((b'', b''), -number))
             self.assertFalse(os.path.exists(out))
