@@ -87,9 +87,11 @@ def planted(texts):
     return untold
 
 
-def in_crate(line, meaning):
-    """A line of the crate with its meaning, broken where it is too long."""
-    begin = re.match(r'    \d+ \w+ "[^"]*":', line)[0]
+def in_crate(row, term, meaning):
+    """A line of the crate with its term and meaning, broken where it is too long; one that has them already as it stands."""
+    if (row[2], row[3]) == (term, meaning):
+        return row[0]
+    begin = '%s "%s":' % (re.match(r'    \d+ \w+', row[0])[0], term)
     whole = '%s "%s";' % (begin, meaning)
     return whole if len(whole) <= MOST else '%s\n        "%s";' % (begin, meaning)
 
@@ -98,7 +100,7 @@ def written(texts):
     """Header and crate with the page's terms and meanings; numbers and their order stay."""
     wanted = {number: (term, meaning) for number, term, meaning in table(texts[PAGE])}
     header = IN_HEADER.sub(lambda row: ' *%5d %-14s %s' % (int(row[1]), *wanted[int(row[1])]), texts[HEADER])
-    crate = IN_CRATE.sub(lambda row: in_crate(row[0], wanted[int(row[1])][1]), texts[CRATE])
+    crate = IN_CRATE.sub(lambda row: in_crate(row, *wanted[int(row[1])]), texts[CRATE])
     return {HEADER: header, CRATE: crate}
 
 
