@@ -31,6 +31,7 @@ use Rattle.plan.proofs.ShapedBox.{planOf-box}
 use Rattle.conformance.proofs.ShapedExact.{exact-shape}
 use Rattle.conformance.proofs.InOrder.{in-order}
 use Rattle.conformance.proofs.OneBody.{one-body}
+use Rattle.conformance.proofs.Figure4.{figure4}
 use Rattle.plan.proofs.ShapedSound.{sound}
 use Rattle.conformance.proofs.Report.{report-agrees}
 use Rattle.conformance.proofs.Exact.{exact}
@@ -170,6 +171,7 @@ module _ (bytes : List ℕ) (route : ℕ) (small : Bytes bytes) (z : firstOf (re
         index-order = in-order (nestOf bytes) ok;
         bounds-mean = bounds-mean bytes small z;
         one-body = one-body (nestOf bytes) ok;
+        figure4 = figure4 (routeOf route) (nestOf bytes) ok;
         sound = so;
         directed = directed (nestOf bytes);
         hops-told = hops-told bytes small;

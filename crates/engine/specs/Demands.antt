@@ -25,6 +25,7 @@ use Rattle.conformance.specs.Exact.{Exact, sequential, runNest}
 use Rattle.conformance.specs.ExactShape.{ExactShape, shapeOf}
 use Rattle.conformance.specs.InOrder.{InOrder}
 use Rattle.conformance.specs.OneBody.{OneBody}
+use Rattle.conformance.specs.Figure4.{Figure4}
 use Rattle.layout.specs.Sizes.{routeOf}
 use Rattle.recipe.specs.Routes.{linesFor}
 use Rattle.summary.specs.Summary.{figuresOf, noFigures, summaryOf, lineOf, noLine, messageLines, messageLineOf}
@@ -86,6 +87,8 @@ pub record Demand2 (bytes : List ℕ) (route : ℕ) : Type 0 where
   pub bounds-mean : BoundsMean bytes
   -- the box, the shape and the report have one formula of a cell, and one of a message's cells
   pub one-body : OneBody (nestOf bytes)
+  -- the programs of our processors are Figure 4's, tile by tile: receive, body, send
+  pub figure4 : Figure4 (routeOf route) (nestOf bytes)
   -- what a tile reads of its own processor's other tiles, and what it passes on, its processor has by then: calculated earlier, or taken
   -- with a message at that tile or before
   pub sound : Sound (recipe bytes route)
