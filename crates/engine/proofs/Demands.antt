@@ -3,7 +3,7 @@ use Prim.Native.Nat.{ℕ, zero, suc}
 use mathlib.Core.Path.{_≡_, refl, sym, ap, _∙_}
 use mathlib.Core.Logic.{_≢_}
 use mathlib.Core.List.{List, []}
-use lib.ListN.{replicate, length-replicate}
+use lib.ListN.{length, replicate, length-replicate}
 use borrow.Author.Tests.{eq-eqb, ne-eqb}
 use Rattle.base.specs.Numbers.{Line, firstOf}
 use Rattle.base.specs.Lists.{Bytes}
@@ -12,7 +12,8 @@ use Rattle.base.proofs.Numbers.{first-own}
 use Rattle.machine.specs.Plan.{Plan, Sound}
 use Rattle.machine.specs.Machine as machine
 use Rattle.machine.specs.Machine.{State, answered}
-use Rattle.machine.specs.Runs.{Event, Demand3}
+use Rattle.machine.specs.Runs.{Event, last, answers, Demand3}
+use Rattle.machine.specs.Marks.{Marks}
 use Rattle.machine.proofs.Values.{sweep-fixed, sweep-outside}
 use Rattle.nest.specs.declared.Nest.{Nest}
 use Rattle.nest.specs.Nest.{cells}
@@ -46,7 +47,7 @@ use Rattle.engine.specs.Calls.{answer, recipe, freshCall, turnCall, deli
 use Rattle.engine.specs.Demands.{Fixed, Demand1, Demand2, calls, Demands}
 use Rattle.engine.proofs.Lines.{areas-are}
 use Rattle.engine.proofs.AsSteps.{fresh-gave}
-use Rattle.engine.proofs.AsRuns.{run-demand3, run-posted}
+use Rattle.engine.proofs.AsRuns.{run-demand3, run-marks, run-posted}
 use Rattle.engine.proofs.Exact.{does, written}
 
 -- ---- demand 1
@@ -194,15 +195,25 @@ module _ (bytes : List ℕ) (route : ℕ) (small : Bytes bytes) (z : firstOf (re
 
 -- ---- demand 3
 
-three : (bytes : List ℕ) (route : ℕ) (source : List ℕ) (s : State) → Bytes bytes → freshCall bytes route source s .number ≡ 0
-    → (events : List Event)
-    → Demand3 (calls bytes route source) (freshCall bytes route source s .after) events (recipe bytes route) source
-    (collectCall bytes route source)
-three bytes route source s b z events =
-    let gave = fresh-gave bytes route source s z in
-    rw (demand1 bytes route source s .fresh .works z)
-    (run-demand3 bytes route source (gave .0) (sound (routeOf route) (nestOf bytes) (accepted bytes b (reads-for (routeOf route) bytes (gave .0))))
-    (areas-are (recipe bytes route) source s (gave .1) .source) events)
+module _ (bytes : List ℕ) (route : ℕ) (source : List ℕ) (s : State) (b : Bytes bytes) (z : freshCall bytes route source s .number ≡ 0) where
+  opens : firstOf (linesFor (routeOf route) bytes) ≡ 0
+  opens = fresh-gave bytes route source s z .0
+
+  long : length source ≡ recipe bytes route .cells
+  long = areas-are (recipe bytes route) source s (fresh-gave bytes route source s z .1) .source
+
+  plan : Sound (recipe bytes route)
+  plan = sound (routeOf route) (nestOf bytes) (accepted bytes b (reads-for (routeOf route) bytes opens))
+
+  three : (events : List Event)
+      → Demand3 (calls bytes route source) (freshCall bytes route source s .after) events (recipe bytes route) source
+      (collectCall bytes route source)
+  three events = rw (demand1 bytes route source s .fresh .works z) (run-demand3 bytes route source opens plan long events)
+
+  marks : (events : List Event)
+      → Marks (recipe bytes route) (last (calls bytes route source) (freshCall bytes route source s .after) events) events
+      (answers (calls bytes route source) (freshCall bytes route source s .after) events)
+  marks events = rw (demand1 bytes route source s .fresh .works z) (run-marks bytes route source opens plan long events)
 
 pub demands : Demands
 demands =
@@ -210,4 +221,5 @@ demands =
       one = demand1;
       two = demand2;
       three = three;
+      marks = marks;
     }

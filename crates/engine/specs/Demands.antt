@@ -13,7 +13,8 @@ use Rattle.machine.specs.Plan.{Sound, count, heldBy, duesOf}
 use Rattle.machine.specs.Machine as machine
 use Rattle.machine.specs.Machine.{State, Answered, stateOf, gather, send, carryOut, nextAction, collected}
 use Rattle.machine.specs.Words.{wordAt, mailAt, cellOf, Does, Did, Posted}
-use Rattle.machine.specs.Runs.{Event, turnOf, deliveryOf, Demand3}
+use Rattle.machine.specs.Runs.{Event, turnOf, deliveryOf, last, answers, Demand3}
+use Rattle.machine.specs.Marks.{Marks}
 use Rattle.nest.specs.Nest.{cells}
 use Rattle.nest.specs.Shape.{inShape}
 use Rattle.nest.specs.Reader.{nestOf, readLines}
@@ -137,3 +138,8 @@ pub record Demands : Type 0 where
       → (events : List Event)
       → Demand3 (calls bytes route source) (freshCall bytes route source s .after) events (recipe bytes route) source
       (collectCall bytes route source)
+  -- in such a run the marks tell what was done of each message: whether it was sent, delivered and taken
+  pub marks : (bytes : List ℕ) (route : ℕ) (source : List ℕ) (s : State) → Bytes bytes → freshCall bytes route source s .number ≡ 0
+      → (events : List Event)
+      → Marks (recipe bytes route) (last (calls bytes route source) (freshCall bytes route source s .after) events) events
+      (answers (calls bytes route source) (freshCall bytes route source s .after) events)
