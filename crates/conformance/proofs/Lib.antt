@@ -21,3 +21,5 @@ pub mod ShapedRows
 pub mod BodyRows
 pub mod InOrder
 pub mod OneBody
+pub mod Figure4
+pub mod Figure4Rows

@@ -25,7 +25,7 @@ and-all true = refl
 and-all false = refl
 
 module _ (x : Nest) where
-  value-box : (source memory : List ℕ) (c : ℕ) → value x source memory c ≡ valueIn all x source memory c
+  pub value-box : (source memory : List ℕ) (c : ℕ) → value x source memory c ≡ valueIn all x source memory c
   unfolding value valueIn readIn
   value-box source memory c =
       ap (λ (n : ℕ). (getD source c 0 + n) / 2 ^ x .shift % 2 ^ 32)
@@ -33,7 +33,7 @@ module _ (x : Nest) where
       (λ e. weight x e * pick (hasRead x c e and true) (getD memory (readAt x c e) 0) (x .boundary)) (x .distances)
       (λ e l. ap (λ (t : Bool). weight x e * pick t (getD memory (readAt x c e) 0) (x .boundary)) (and-all (hasRead x c e))))
 
-  value-shape : (source memory : List ℕ) (c : ℕ) → shapedValue x source memory c ≡ valueIn (inShape x) x source memory c
+  pub value-shape : (source memory : List ℕ) (c : ℕ) → shapedValue x source memory c ≡ valueIn (inShape x) x source memory c
   unfolding shapedValue readsShape valueIn readIn
   value-shape source memory c = refl
 

@@ -25,6 +25,7 @@ use Rattle.conformance.specs.Report.{Index}
 use Rattle.conformance.specs.Exact.{sequential, runNest}
 use Rattle.plan.specs.Shaped.{readsShape, shapedValue, planOf}
 use Rattle.conformance.specs.ExactShape.{shapeOf}
+use Rattle.conformance.specs.Figure4.{chosen}
 use Rattle.plan.proofs.Tiles.{read-low, read-before}
 use Rattle.plan.proofs.Sound.{reads-at, at-reads}
 use Rattle.conformance.proofs.Nested.{Each, run-stores, sequential-each, cells-in-order}
@@ -32,18 +33,14 @@ use Rattle.plan.proofs.ShapedSound.{sound}
 
 -- ---- the shape's indices are the cells kept
 
-chosen : (ℕ → Bool) → List ℕ → List ℕ
-chosen f [] = []
-chosen f (c ∷ cs) = pick (f c) (c ∷ chosen f cs) (chosen f cs)
-
-chosen-append : (f : ℕ → Bool) (a b : List ℕ) → chosen f (a ++ b) ≡ chosen f a ++ chosen f b
+pub chosen-append : {A : Type 0} (f : A → Bool) (a b : List A) → chosen f (a ++ b) ≡ chosen f a ++ chosen f b
 unfolding chosen pick
 chosen-append f [] b = refl
-chosen-append f (c ∷ a) b = go (f c) (chosen-append f a b)
+chosen-append {A} f (c ∷ a) b = go (f c) (chosen-append f a b)
   where
     go : (t : Bool) → chosen f (a ++ b) ≡ chosen f a ++ chosen f b
         → pick t (c ∷ chosen f (a ++ b)) (chosen f (a ++ b)) ≡ pick t (c ∷ chosen f a) (chosen f a) ++ chosen f b
-    go true e = ap (λ (l : List ℕ). c ∷ l) e
+    go true e = ap (λ (l : List A). c ∷ l) e
     go false e = e
 
 chosen-all : (f : ℕ → Bool) (n : ℕ) → chosen f (tabulate (λ c. c) n) ≡ keep f n
@@ -57,7 +54,7 @@ chosen-all f (suc n) =
     last true = refl
     last false = refl
 
-map-shape : (x : Nest) (is : List (ℕ → ℕ)) → map (cellAt x) (shapeOf x is) ≡ chosen (inShape x) (map (cellAt x) is)
+pub map-shape : (x : Nest) (is : List (ℕ → ℕ)) → map (cellAt x) (shapeOf x is) ≡ chosen (inShape x) (map (cellAt x) is)
 unfolding shapeOf chosen pick
 map-shape x [] = refl
 map-shape x (i ∷ is) = go (inShape x (cellAt x i)) (map-shape x is)
@@ -68,7 +65,7 @@ map-shape x (i ∷ is) = go (inShape x (cellAt x i)) (map-shape x is)
     go true e = ap (λ (l : List ℕ). cellAt x i ∷ l) e
     go false e = e
 
-each-shape : (x : Nest) (is : List (ℕ → ℕ)) → Each (Index x) is → Each (Index x) (shapeOf x is)
+pub each-shape : (x : Nest) (is : List (ℕ → ℕ)) → Each (Index x) is → Each (Index x) (shapeOf x is)
 unfolding shapeOf pick
 each-shape x [] h = h
 each-shape x (i ∷ is) h = go (inShape x (cellAt x i)) (each-shape x is (h .1))

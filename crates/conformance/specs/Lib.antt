@@ -7,3 +7,4 @@ pub mod ShapedRows
 pub mod BodyRows
 pub mod InOrder
 pub mod OneBody
+pub mod Figure4

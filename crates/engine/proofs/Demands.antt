@@ -3,7 +3,7 @@ use Prim.Native.Nat.{ℕ, zero, suc}
 use mathlib.Core.Path.{_≡_, refl, sym, ap, _∙_}
 use mathlib.Core.Logic.{_≢_}
 use mathlib.Core.List.{List, []}
-use lib.ListN.{replicate, length-replicate}
+use lib.ListN.{length, replicate, length-replicate}
 use borrow.Author.Tests.{eq-eqb, ne-eqb}
 use Rattle.base.specs.Numbers.{Line, firstOf}
 use Rattle.base.specs.Lists.{Bytes}
@@ -12,13 +12,15 @@ use Rattle.base.proofs.Numbers.{first-own}
 use Rattle.machine.specs.Plan.{Plan, Sound}
 use Rattle.machine.specs.Machine as machine
 use Rattle.machine.specs.Machine.{State, answered}
-use Rattle.machine.specs.Runs.{Event, Demand3}
+use Rattle.machine.specs.Runs.{Event, last, answers, Demand3}
+use Rattle.machine.specs.Marks.{Marks}
 use Rattle.machine.proofs.Values.{sweep-fixed, sweep-outside}
 use Rattle.nest.specs.declared.Nest.{Nest}
 use Rattle.nest.specs.Nest.{cells}
-use Rattle.nest.specs.Reader.{nestOf}
+use Rattle.nest.specs.Reader.{nestOf, readLines}
 use Rattle.nest.specs.Accepted.{Accepted}
 use Rattle.nest.proofs.Facts.{accepted}
+use Rattle.nest.proofs.Bounds.{bounds-mean}
 use Rattle.plan.specs.declared.Route.{Route}
 use Rattle.plan.specs.declared.Route.the-variants.{Direct, Indirect}
 use Rattle.plan.specs.Shaped.{planOf}
@@ -28,6 +30,9 @@ use Rattle.conformance.specs.Exact.{sequential, runNest}
 use Rattle.conformance.proofs.Plans.{not-empty}
 use Rattle.plan.proofs.ShapedBox.{planOf-box}
 use Rattle.conformance.proofs.ShapedExact.{exact-shape}
+use Rattle.conformance.proofs.InOrder.{in-order}
+use Rattle.conformance.proofs.OneBody.{one-body}
+use Rattle.conformance.proofs.Figure4.{figure4}
 use Rattle.plan.proofs.ShapedSound.{sound}
 use Rattle.conformance.proofs.Report.{report-agrees}
 use Rattle.conformance.proofs.Exact.{exact}
@@ -37,11 +42,12 @@ use Rattle.recipe.proofs.Laws.{reads-for, indirect-box}
 use Rattle.summary.specs.Summary.{asFigures, figuresOf, noFigures, summaryOf, lineOf, noLine, messageLines, lineIf, messageLineOf, directionOf, hopsLines}
 use Rattle.summary.specs.Summary.{noHops, hopsIf, hopsOf}
 use Rattle.summary.proofs.Answers.{directed}
+use Rattle.summary.proofs.HopsTold.{hops-told}
 use Rattle.engine.specs.Calls.{answer, recipe, freshCall, turnCall, deliverCall, collectCall, sweepCallLines, sweepCall}
 use Rattle.engine.specs.Demands.{Fixed, Demand1, Demand2, calls, Demands}
 use Rattle.engine.proofs.Lines.{areas-are}
 use Rattle.engine.proofs.AsSteps.{fresh-gave}
-use Rattle.engine.proofs.AsRuns.{run-demand3, run-posted}
+use Rattle.engine.proofs.AsRuns.{run-demand3, run-marks, run-posted}
 use Rattle.engine.proofs.Exact.{does, written}
 
 -- ---- demand 1
@@ -95,11 +101,11 @@ module _ (bytes : List ℕ) (route : ℕ) where
       is zero = refl
       is (suc n) = refl
 
-hops-told : (bytes : List ℕ) (m : ℕ)
+told-hops : (bytes : List ℕ) (m : ℕ)
     → Fixed (answer (hopsOf bytes m .number) (hopsOf bytes m)) (hopsLines bytes m)
     (record { number = 0; hops = hops (nestOf bytes) (directionOf (nestOf bytes) m) }) (noHops (hopsOf bytes m .number))
 unfolding hopsOf hopsIf
-hops-told bytes m =
+told-hops bytes m =
     told (hopsLines bytes m) (λ f. f .number) (λ n. hopsIf n (nestOf bytes) m) _ noHops (λ n. is n) refl (λ n. refl)
   where
     is : (n : ℕ) → hopsIf n (nestOf bytes) m .number ≡ n
@@ -117,7 +123,7 @@ demand1 bytes route source s =
       sweep = λ grid. fixed _ _ grid;
       summary = summary bytes route;
       message = message bytes route;
-      hops = hops-told bytes;
+      hops = told-hops bytes;
     }
 
 -- ---- demand 2
@@ -139,7 +145,10 @@ open-sweep bytes ok Direct z source = refl
 open-sweep bytes ok Indirect z source =
     box-sweep (nestOf bytes) ok (indirect-box bytes z) source Indirect ∙ sym (box-sweep (nestOf bytes) ok (indirect-box bytes z) source Direct)
 
-module _ (bytes : List ℕ) (route : ℕ) (ok : Accepted (nestOf bytes)) where
+module _ (bytes : List ℕ) (route : ℕ) (small : Bytes bytes) (z : firstOf (readLines bytes) ≡ 0) where
+  ok : Accepted (nestOf bytes)
+  ok = accepted bytes small z
+
   abbrev so : Sound (recipe bytes route)
   so = sound (routeOf route) (nestOf bytes) ok
 
@@ -160,7 +169,13 @@ module _ (bytes : List ℕ) (route : ℕ) (ok : Accepted (nestOf bytes)) where
         report = λ none. report-agrees (nestOf bytes) ok;
         exact = λ none. exact (nestOf bytes) ok;
         shape = exact-shape (nestOf bytes) ok;
+        index-order = in-order (nestOf bytes) ok;
+        bounds-mean = bounds-mean bytes small z;
+        one-body = one-body (nestOf bytes) ok;
+        figure4 = figure4 (routeOf route) (nestOf bytes) ok;
+        sound = so;
         directed = directed (nestOf bytes);
+        hops-told = hops-told bytes small;
         in-order = so .held-rising;
         not-empty = not-empty (nestOf bytes) ok (routeOf route);
         turned = does bytes route ok;
@@ -180,20 +195,31 @@ module _ (bytes : List ℕ) (route : ℕ) (ok : Accepted (nestOf bytes)) where
 
 -- ---- demand 3
 
-three : (bytes : List ℕ) (route : ℕ) (source : List ℕ) (s : State) → Bytes bytes → freshCall bytes route source s .number ≡ 0
-    → (events : List Event)
-    → Demand3 (calls bytes route source) (freshCall bytes route source s .after) events (recipe bytes route) source
-    (collectCall bytes route source)
-three bytes route source s b z events =
-    let gave = fresh-gave bytes route source s z in
-    rw (demand1 bytes route source s .fresh .works z)
-    (run-demand3 bytes route source (gave .0) (sound (routeOf route) (nestOf bytes) (accepted bytes b (reads-for (routeOf route) bytes (gave .0))))
-    (areas-are (recipe bytes route) source s (gave .1) .source) events)
+module _ (bytes : List ℕ) (route : ℕ) (source : List ℕ) (s : State) (b : Bytes bytes) (z : freshCall bytes route source s .number ≡ 0) where
+  opens : firstOf (linesFor (routeOf route) bytes) ≡ 0
+  opens = fresh-gave bytes route source s z .0
+
+  long : length source ≡ recipe bytes route .cells
+  long = areas-are (recipe bytes route) source s (fresh-gave bytes route source s z .1) .source
+
+  plan : Sound (recipe bytes route)
+  plan = sound (routeOf route) (nestOf bytes) (accepted bytes b (reads-for (routeOf route) bytes opens))
+
+  three : (events : List Event)
+      → Demand3 (calls bytes route source) (freshCall bytes route source s .after) events (recipe bytes route) source
+      (collectCall bytes route source)
+  three events = rw (demand1 bytes route source s .fresh .works z) (run-demand3 bytes route source opens plan long events)
+
+  marks : (events : List Event)
+      → Marks (recipe bytes route) (last (calls bytes route source) (freshCall bytes route source s .after) events) events
+      (answers (calls bytes route source) (freshCall bytes route source s .after) events)
+  marks events = rw (demand1 bytes route source s .fresh .works z) (run-marks bytes route source opens plan long events)
 
 pub demands : Demands
 demands =
     record {
       one = demand1;
-      two = λ bytes route b z. demand2 bytes route (accepted bytes b z);
+      two = demand2;
       three = three;
+      marks = marks;
     }

@@ -9,23 +9,29 @@ use mathlib.Core.List.{List}
 use lib.ListN.{length, getD, set}
 use Rattle.base.specs.Lists.{In, Rising, Bytes}
 use Rattle.base.specs.Numbers.{Line, firstOf, numbersOf}
-use Rattle.machine.specs.Plan.{count, heldBy, duesOf}
+use Rattle.machine.specs.Plan.{Sound, count, heldBy, duesOf}
 use Rattle.machine.specs.Machine as machine
 use Rattle.machine.specs.Machine.{State, Answered, stateOf, gather, send, carryOut, nextAction, collected}
 use Rattle.machine.specs.Words.{wordAt, mailAt, cellOf, Does, Did, Posted}
-use Rattle.machine.specs.Runs.{Event, turnOf, deliveryOf, Demand3}
+use Rattle.machine.specs.Runs.{Event, turnOf, deliveryOf, last, answers, Demand3}
+use Rattle.machine.specs.Marks.{Marks}
 use Rattle.nest.specs.Nest.{cells}
 use Rattle.nest.specs.Shape.{inShape}
 use Rattle.nest.specs.Reader.{nestOf, readLines}
+use Rattle.nest.specs.Bounds.{BoundsMean}
 use Rattle.plan.specs.Messages.{boxPlan}
 use Rattle.plan.specs.Hops.{hops}
 use Rattle.conformance.specs.Report.{ReportAgrees}
 use Rattle.conformance.specs.Exact.{Exact, sequential, runNest}
 use Rattle.conformance.specs.ExactShape.{ExactShape, shapeOf}
+use Rattle.conformance.specs.InOrder.{InOrder}
+use Rattle.conformance.specs.OneBody.{OneBody}
+use Rattle.conformance.specs.Figure4.{Figure4}
 use Rattle.layout.specs.Sizes.{routeOf}
 use Rattle.recipe.specs.Routes.{linesFor}
 use Rattle.summary.specs.Summary.{figuresOf, noFigures, summaryOf, lineOf, noLine, messageLines, messageLineOf}
 use Rattle.summary.specs.Summary.{directionOf, Directed, hopsLines, noHops, hopsOf}
+use Rattle.summary.specs.HopsTold.{HopsTold}
 use Rattle.engine.specs.Calls.{answer, recipe, freshCallLines, freshCall, turnCallLines, turnCall, deliverCallLines, deliverCall, collectCallLines}
 use Rattle.engine.specs.Calls.{collectCall, sweepCallLines, sweepCall}
 
@@ -76,8 +82,20 @@ pub record Demand2 (bytes : List ℕ) (route : ℕ) : Type 0 where
   pub exact : nestOf bytes .bounds ≡ 0 → Exact (nestOf bytes)
   -- with bounds or without, on the direct route: the shape's tiles, cell sets, messages, takers and sweep
   pub shape : ExactShape (nestOf bytes)
-  -- the direction by which the hops call counts is that of the message
+  -- with bounds or without: index order of cells, tiles, processors and directions, and the processor of a tile
+  pub index-order : InOrder (nestOf bytes)
+  -- which cells the bounds leave, in signed numbers by the bytes of their records
+  pub bounds-mean : BoundsMean bytes
+  -- the box, the shape and the report have one formula of a cell, and one of a message's cells
+  pub one-body : OneBody (nestOf bytes)
+  -- the programs of our processors are Figure 4's, tile by tile: receive, body, send
+  pub figure4 : Figure4 (routeOf route) (nestOf bytes)
+  -- what a tile reads of its own processor's other tiles, and what it passes on, its processor has by then: calculated earlier, or taken
+  -- with a message at that tile or before
+  pub sound : Sound (recipe bytes route)
+  -- the direction by which the hops call counts is that of the message, and each message has one hop at least
   pub directed : Directed (nestOf bytes)
+  pub hops-told : HopsTold bytes
   -- a message's cells stand in index order, each once, and there is one
   pub in-order : (m : ℕ) → m < count (recipe bytes route) → Rising (heldBy (recipe bytes route) m)
   pub not-empty : (m : ℕ) → m < count (recipe bytes route) → 0 < length (heldBy (recipe bytes route) m)
@@ -120,3 +138,8 @@ pub record Demands : Type 0 where
       → (events : List Event)
       → Demand3 (calls bytes route source) (freshCall bytes route source s .after) events (recipe bytes route) source
       (collectCall bytes route source)
+  -- in such a run the marks tell what was done of each message: whether it was sent, delivered and taken
+  pub marks : (bytes : List ℕ) (route : ℕ) (source : List ℕ) (s : State) → Bytes bytes → freshCall bytes route source s .number ≡ 0
+      → (events : List Event)
+      → Marks (recipe bytes route) (last (calls bytes route source) (freshCall bytes route source s .after) events) events
+      (answers (calls bytes route source) (freshCall bytes route source s .after) events)

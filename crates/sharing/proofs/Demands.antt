@@ -24,6 +24,7 @@ use Rattle.sharing.specs.Calls.{turnCallLinesFor, turnCallFor, deliverCa
 use Rattle.sharing.specs.Calls.{freshRigLines, freshRigCall, lookLines, lookPart, rigCalls}
 use Rattle.sharing.specs.Demands.{FixedFor, Looks, RigDemands}
 use Rattle.sharing.proofs.AsRuns.{alike, run-demand208, fresh-reads, fresh-sources, fresh-is}
+use Rattle.sharing.proofs.Words.{run-words, run-alone}
 
 fixed-for : (bytes : List ℕ) (route : ℕ) (source : List ℕ) (o : ℕ) (l : Lent) (theirs : List ℕ) → FixedFor bytes route source o l theirs
 unfolding turnCallFor deliverCallFor collectCallFor
@@ -75,4 +76,11 @@ rig-demands =
           (rigCalls bytes route sources) (rigCalls bytes route sources′)
           (alike bytes route sources (fresh-reads bytes route sources r z) (fresh-sources bytes route sources r z))
           (alike bytes route sources′ (fresh-reads bytes route sources′ r′ z′) (fresh-sources bytes route sources′ r′ z′)));
+      words = λ bytes route sources r b z.
+          rw (fresh-is bytes route sources r z)
+          (run-words bytes route sources (fresh-reads bytes route sources r z) (fresh-sources bytes route sources r z)
+          (sound-plan bytes route b (fresh-reads bytes route sources r z)));
+      alone = λ bytes route sources sources′ r r′ b z z′ o low same.
+          run-alone bytes route (fresh-reads bytes route sources r z) (sound-plan bytes route b (fresh-reads bytes route sources r z)) o low sources
+          sources′ same (fresh-sources bytes route sources r z) (fresh-sources bytes route sources′ r′ z′);
     }

@@ -1,6 +1,6 @@
 -- Read this.
 -- Request W-208 for a recipe's bytes and a route, made of the definitions in Calls; each call's contract equates the call with them.
--- Renders its claims: every call is fixed; each office's run is counted apart; progress; nothing but the numbers tells one of the other.
+-- Renders its claims: every call is fixed; each office's run is counted apart; progress; words and marks; nothing but the numbers tells one of the other.
 use Prim.Native.Nat.{ℕ, _≤_}
 use mathlib.Core.Path.{_≡_}
 use mathlib.Core.List.{List, []}
@@ -8,7 +8,9 @@ use Rattle.base.specs.Lists.{Bytes}
 use Rattle.machine.specs.Machine.{nextAction, collected, memoryOf}
 use Rattle.tenants.specs.Offices.{Lent, carryOutFor, deliveredFor, Rig, Sources, sourceFor, ownOf, freshRig, Call}
 use Rattle.tenants.specs.Demand208.{Demand208, Isolated}
+use Rattle.tenants.specs.AnyCalls.{Words208, Alone208}
 use Rattle.engine.specs.Calls.{answer, recipe}
+use Rattle.engine.specs.Demands as engine
 use Rattle.engine.specs.Demands.{Fixed}
 use Rattle.sharing.specs.Calls.{turnCallLinesFor, turnCallFor, deliverCallLinesFor, deliverCallFor, collectCallLinesFor, collectCallFor}
 use Rattle.sharing.specs.Calls.{freshRigLines, freshRigCall, lookLines, lookNumber, lookPart, rigCalls, rigCollects}
@@ -47,3 +49,13 @@ pub record RigDemands : Type 0 where
       → (o : ℕ) → o ≤ 1 → sourceFor sources o ≡ sourceFor sources′ o
       → Isolated o (rigCalls bytes route sources) (rigCalls bytes route sources′)
       (freshRigCall bytes route sources r .after) (freshRigCall bytes route sources′ r′ .after)
+  -- in such a run each turn that gave 0 wrote what its action does, a message's words stay from its send on and are what its taker gathers, and the
+  -- marks tell what was done of it: for each office, on its own areas; a call of one writes nothing of the other's
+  pub words : (bytes : List ℕ) (route : ℕ) (sources : Sources) (r : Rig) → Bytes bytes → freshRigCall bytes route sources r .number ≡ 0
+      → Words208 (λ c. c) (rigCalls bytes route sources) (freshRigCall bytes route sources r .after) (recipe bytes route) sources
+  -- an office's areas are left as in any other run with its source, its events and their numbers: on another rig, or on a machine of its own
+  pub alone : (bytes : List ℕ) (route : ℕ) (sources sources′ : Sources) (r r′ : Rig) → Bytes bytes
+      → freshRigCall bytes route sources r .number ≡ 0 → freshRigCall bytes route sources′ r′ .number ≡ 0
+      → (o : ℕ) → o ≤ 1 → sourceFor sources′ o ≡ sourceFor sources o
+      → Alone208 (λ c. c) (rigCalls bytes route sources) (λ c. c) (rigCalls bytes route sources′) (engine.calls bytes route (sourceFor sources o))
+      (recipe bytes route) o

@@ -149,7 +149,7 @@ module _ (bytes : List ℕ) (route : ℕ) (sources : Sources) (ok : firstOf (lin
         same : (a b : State) → ofOffice o a b ≡ ofOffice i a b
         same a b = as-office o .2 a b
 
-    collects-is : (o : ℕ) (grid : List ℕ) → length grid ≡ q .cells → rigCollects bytes route sources r o grid ≡ collectOn q r o grid
+    pub collects-is : (o : ℕ) (grid : List ℕ) → length grid ≡ q .cells → rigCollects bytes route sources r o grid ≡ collectOn q r o grid
     unfolding rigCollects collectOn
     collects-is o grid e =
         sym

@@ -18,6 +18,7 @@ use Rattle.sharing.proofs.Demands.{sound-plan}
 use Rattle.timed.specs.Calls.{turnCallLinesAt, turnCallAt, turnCallLinesAtFor, turnCallAtFor, opensLines, opensCall, rigCallsAt}
 use Rattle.timed.specs.Demands.{FixedAt, TimedDemands}
 use Rattle.timed.proofs.AsRuns.{run-demand212, guards-for, run-demand212-for}
+use Rattle.timed.proofs.Mixed.{run-words, run-mixed, run-words-for, run-mixed-for, run-alone}
 
 fixed-at : (bytes : List ℕ) (route : ℕ) (source : List ℕ) (h : Hours) (b : ℕ) → FixedAt bytes route source h b
 unfolding turnCallAt turnCallAtFor opensCall
@@ -57,4 +58,23 @@ timed-demands =
           (rigCallsAt bytes route sources) (rigCallsAt bytes route sources′) _ _
           (guards-for bytes route sources (fresh-reads bytes route sources r z) (fresh-sources bytes route sources r z))
           (guards-for bytes route sources′ (fresh-reads bytes route sources′ r′ z′) (fresh-sources bytes route sources′ r′ z′)));
+      words = λ bytes route source s b z.
+          let gave = fresh-gave bytes route source s z in
+          rw (fresh-fresh bytes route source s z)
+          (run-words bytes route source (gave .0) (sound-plan bytes route b (gave .0)) (areas-are (recipe bytes route) source s (gave .1) .source));
+      office-words = λ bytes route sources r b z.
+          rw (fresh-is bytes route sources r z)
+          (run-words-for bytes route sources (fresh-reads bytes route sources r z) (sound-plan bytes route b (fresh-reads bytes route sources r z))
+          (fresh-sources bytes route sources r z));
+      mixed-runs = λ bytes route source s b z calls.
+          let gave = fresh-gave bytes route source s z in
+          rw (fresh-fresh bytes route source s z)
+          (run-mixed bytes route source (gave .0) (sound-plan bytes route b (gave .0)) (areas-are (recipe bytes route) source s (gave .1) .source) calls);
+      office-mixed-runs = λ bytes route sources r b z calls.
+          rw (fresh-is bytes route sources r z)
+          (run-mixed-for bytes route sources (fresh-reads bytes route sources r z) (sound-plan bytes route b (fresh-reads bytes route sources r z))
+          (fresh-sources bytes route sources r z) calls);
+      alone = λ bytes route sources sources′ r r′ b z z′ o low same.
+          run-alone bytes route (fresh-reads bytes route sources r z) (sound-plan bytes route b (fresh-reads bytes route sources r z)) o low sources
+          sources′ same (fresh-sources bytes route sources r z) (fresh-sources bytes route sources′ r′ z′);
     }

@@ -1,4 +1,5 @@
 pub mod Lines
 pub mod AsRuns
+pub mod Mixed
 pub mod Demands
 pub mod OpensRows

@@ -1,18 +1,22 @@
 -- Read this.
 -- Request W-212 for a recipe's bytes and a route, made of the definitions in Calls; each call's contract equates the call with them.
--- Renders its claims: every call is fixed; demand 3 of runs with hours, for one office and for two; what is told of opening.
+-- Renders its claims: every call is fixed; demand 3 of runs with hours, for one office and for two, in lists with plain turns too; what is told of opening.
 use Prim.Native.Nat.{ℕ, _≤_}
 use mathlib.Core.Path.{_≡_}
 use mathlib.Core.List.{List}
 use Rattle.base.specs.Lists.{Bytes}
-use Rattle.machine.specs.Machine.{State, carryOut, nextAction}
+use Rattle.machine.specs.Machine.{State, Answered, carryOut, nextAction}
+use Rattle.machine.specs.AnyCalls.{mixed}
 use Rattle.tenants.specs.Offices.{Lent, carryOutFor, Rig, Sources, sourceFor}
 use Rattle.calendar.specs.declared.Opening.the-variants.{OpensIn}
 use Rattle.calendar.specs.Hours.{Hours, Timed, TimedCall, untilOpen}
+use Rattle.tenants.specs.AnyCalls.{Alone208}
 use Rattle.calendar.specs.Demands212.{TellsOpening, Demand212, Demand212For, IsolatedAt}
+use Rattle.calendar.specs.AnyCalls.{Words212, Words212For, Mixed, MixedCall, mixedCall, Mixed212, Mixed212For}
 use Rattle.engine.specs.Calls.{recipe, freshCall, collectCall}
+use Rattle.engine.specs.Demands as engine
 use Rattle.engine.specs.Demands.{Fixed}
-use Rattle.sharing.specs.Calls.{freshRigCall, rigCollects}
+use Rattle.sharing.specs.Calls.{freshRigCall, rigCalls, rigCollects}
 use Rattle.timed.specs.Calls.{turnCallLinesAt, turnCallAt, turnCallLinesAtFor, turnCallAtFor, opensLines, opensCall, callsAt, rigCallsAt}
 
 -- demand 1: the first true line counts; a call does its work, or leaves every lent word as before
@@ -25,6 +29,13 @@ pub record FixedAt (bytes : List ℕ) (route : ℕ) (source : List ℕ) (h : Hou
       (carryOutFor (recipe bytes route) source o l b (nextAction (recipe bytes route) (l .own) b)) l
   -- lent nothing to write: what it tells at a refusal is 0 minutes
   pub opens : Fixed (opensCall bytes h b) (opensLines bytes h b) (untilOpen (h .table) (h .minute) b) (OpensIn 0)
+
+-- plain turns and turns with hours in one list: each by its own call
+abbrev pub mixedCalls : List ℕ → ℕ → List ℕ → State → Mixed → Answered State
+mixedCalls bytes route source = mixed (engine.calls bytes route source) (callsAt bytes route source)
+
+abbrev pub mixedRigCalls : List ℕ → ℕ → Sources → Rig → MixedCall → Answered Rig
+mixedRigCalls bytes route sources = mixed (rigCalls bytes route sources) (rigCallsAt bytes route sources)
 
 pub record TimedDemands : Type 0 where
   pub calls : (bytes : List ℕ) (route : ℕ) (source : List ℕ) (h : Hours) (b : ℕ) → FixedAt bytes route source h b
@@ -47,3 +58,22 @@ pub record TimedDemands : Type 0 where
       → (o : ℕ) → o ≤ 1 → sourceFor sources o ≡ sourceFor sources′ o
       → IsolatedAt o (rigCallsAt bytes route sources) (rigCallsAt bytes route sources′)
       (freshRigCall bytes route sources r .after) (freshRigCall bytes route sources′ r′ .after)
+  -- in runs with hours each turn that gave 0 wrote what its action does, a message's words stay from its send on, and the marks tell what was done of it
+  pub words : (bytes : List ℕ) (route : ℕ) (source : List ℕ) (s : State) → Bytes bytes → freshCall bytes route source s .number ≡ 0
+      → Words212 (callsAt bytes route source) (freshCall bytes route source s .after) (recipe bytes route) source
+  pub office-words : (bytes : List ℕ) (route : ℕ) (sources : Sources) (r : Rig) → Bytes bytes → freshRigCall bytes route sources r .number ≡ 0
+      → Words212For (rigCallsAt bytes route sources) (freshRigCall bytes route sources r .after) (recipe bytes route) sources
+  -- all of it, and progress, for lists that mix plain turns and turns with hours
+  pub mixed-runs : (bytes : List ℕ) (route : ℕ) (source : List ℕ) (s : State) → Bytes bytes → freshCall bytes route source s .number ≡ 0
+      → (calls : List Mixed)
+      → Mixed212 (mixedCalls bytes route source) (freshCall bytes route source s .after) (recipe bytes route) source (collectCall bytes route source) calls
+  pub office-mixed-runs : (bytes : List ℕ) (route : ℕ) (sources : Sources) (r : Rig) → Bytes bytes → freshRigCall bytes route sources r .number ≡ 0
+      → (calls : List MixedCall)
+      → Mixed212For (mixedRigCalls bytes route sources) (freshRigCall bytes route sources r .after) (recipe bytes route) sources
+      (rigCollects bytes route sources) calls
+  -- an office's areas are left as in any other run with its source, its events and their numbers: on another rig, or on a machine of its own
+  pub alone : (bytes : List ℕ) (route : ℕ) (sources sources′ : Sources) (r r′ : Rig) → Bytes bytes
+      → freshRigCall bytes route sources r .number ≡ 0 → freshRigCall bytes route sources′ r′ .number ≡ 0
+      → (o : ℕ) → o ≤ 1 → sourceFor sources′ o ≡ sourceFor sources o
+      → Alone208 mixedCall (mixedRigCalls bytes route sources) mixedCall (mixedRigCalls bytes route sources′)
+      (engine.calls bytes route (sourceFor sources o)) (recipe bytes route) o
