@@ -30,9 +30,11 @@ use Rattle.network_runs.specs.Calls.{Sources, startCalls, startNetworkCalls}
 use Rattle.network_runs.specs.Demands.{Begun}
 use Rattle.network_runs.proofs.AsNetwork.{shape-areas, network-same}
 use Rattle.restarts.specs.Restarts.{LifeEvent, plain, repostOf, restartOf, restart, actLives, ByLives}
+use Rattle.restarts.specs.FairLoss.{Endless, Fair, FairLoss, Ends}
 use Rattle.restarts.proofs.Life.{fresh-lives}
 use Rattle.restarts.proofs.Lives.{Alive, alive-fine, restart-gives, restart-zero, restart-high}
 use Rattle.restarts.proofs.Theorem.{by-lives}
+use Rattle.restarts.proofs.FairLoss.{fair-ends, loss-fair}
 use Rattle.restart_runs.specs.Calls.{restartByCall, callsLives}
 use Rattle.restart_runs.specs.Demands.{RestartDemands}
 
@@ -95,5 +97,13 @@ module _ (bytes : List ℕ) (route : ℕ) (source : List ℕ) (sources : Sources
       (collectCall bytes route source)
       (λ s sh grid len. collect-is bytes route source s (bg .accepted) (shape-areas bytes route (bg .accepted) so source s (bg .whole) sh) grid len)
 
+  ends : (es : Endless) → Fair (callsLives bytes route sources) (startNetworkCalls bytes route sources lent) es p
+      → Ends (callsLives bytes route sources) (startNetworkCalls bytes route sources lent) es p source
+  ends es fair = fair-ends p so source (callsLives bytes route sources) same (startNetworkCalls bytes route sources lent) begins es fair
+
+  ends-loss : (es : Endless) → FairLoss (callsLives bytes route sources) (startNetworkCalls bytes route sources lent) es p
+      → Ends (callsLives bytes route sources) (startNetworkCalls bytes route sources lent) es p source
+  ends-loss es fl = ends es (loss-fair p so source (callsLives bytes route sources) same (startNetworkCalls bytes route sources lent) begins es fl)
+
 pub restart-demands : RestartDemands
-restart-demands = record { by-lives = lives; clean = clean }
+restart-demands = record { by-lives = lives; fair = ends; fair-loss = ends-loss; clean = clean }
