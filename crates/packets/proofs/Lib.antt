@@ -1,0 +1,9 @@
+pub mod Xor
+pub mod Shifts
+pub mod Bytes
+pub mod Answers
+pub mod Words
+pub mod RoundTrip
+pub mod Bursts
+pub mod Laws
+pub mod Rows
