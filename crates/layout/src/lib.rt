@@ -13,12 +13,10 @@ ghost use Rattle.plan.specs.Messages.{ways, slots, boxPlan};
 ghost use Rattle.plan.specs.Box.{boxCell};
 ghost use Rattle.layout.specs.Sizes.{routeOf, Sized, along, endAt, Stepped};
 ghost use Rattle.layout.specs.Places.{nth, Has, Countable, Ranked, Places, Placed, Shared, Located, Bounded};
-use crate::division::tile_along;
 use base::least;
 use nest::Nest;
+use nest::division::tile_along;
 use plan::Route;
-
-pub mod division; // division.rt: a component divided by a tile length, in 16-bit numbers (W-206), the one such division
 
 // A nest's counts on a route, made once in a call: tiles along each dimension, the products, and the ways that a tile's messages go.
 pub struct Sizes {

@@ -19,7 +19,7 @@ use Rattle.nest.specs.declared.Interval.{Interval}
 use Rattle.nest.specs.Nest.{lengthOf, side, bounded, earlier, slope, offset}
 use Rattle.nest.specs.Places.{place, cellPlace}
 use Rattle.nest.specs.Shape.{level, raised, meets}
-use Rattle.nest.specs.Spans.{Framed, last, rowPlace, meetsFirst, within, spot, Narrow, Cuts, Spans, Row, Marked}
+use Rattle.nest.specs.Spans.{Framed, last, rowPlace, meetsFirst, within, spot, Narrow, Cuts, Spans, Row, Marked, HasLengths, PlaceWritten}
 use Rattle.nest.proofs.Rank.{place-last, place-before, place-low}
 use Rattle.nest.proofs.Shapes.{cellPlace-row, place-row}
 
@@ -181,46 +181,11 @@ module _ (x : Nest) (at : List ℕ) where
       let e : k ≡ x .bounds = omega (arith, c .few) in
       record { most = c .most; has = λ a m. ap (λ (n : ℕ). meetsFirst x (spot at) n a) (sym e) ∙ c .has a m }
 
--- ---- the place of a row: components from the last but one down to the first
-
-pub record Placing (x : Nest) (q : ℕ) (at : List ℕ) (rest j : ℕ) : Type 0 where
-  pub few : j ≤ last x
-  pub long : length at ≡ 4
-  pub left : (i : ℕ) → i < j → place (lengthOf x) (last x) q i ≡ place (lengthOf x) j rest i
-  pub done : (i : ℕ) → j ≤ i → i < last x → getD at i 0 ≡ place (lengthOf x) (last x) q i
-  pub blank : getD at (last x) 0 ≡ 0
+-- ---- the place of a row: the place of its number in the dimensions before the last, and 0
 
 module _ (x : Nest) (fr : Framed x) (q : ℕ) where
-  pub placing-start : (j : ℕ) → last x ≡ j → Placing x q (replicate 4 0) q j
-  placing-start j e =
-      record {
-        few = omega (arith, e);
-        long = refl;
-        left = λ i l. ap (λ (n : ℕ). place (lengthOf x) n q i) e;
-        done = λ i a b. absurd (omega (arith, e, a, b));
-        blank = getD-replicate {A = ℕ} 4 (last x) 0 0 (omega (arith, fr .dimensions-least, fr .dimensions-most));
-      }
-
-  pub placing-next : (at : List ℕ) (rest j v w : ℕ) → 0 < j → Placing x q at rest j → v ≡ rest % lengthOf x (j - 1) → w ≡ rest / lengthOf x (j - 1)
-      → Placing x q (set at (j - 1) v) w (j - 1)
-  placing-next at rest j v w pos p ev ew =
-      record {
-        few = omega (arith, p .few);
-        long = length-set at (j - 1) v ∙ p .long;
-        left = λ i l. p .left i (omega arith) ∙ (ap (λ (n : ℕ). place (lengthOf x) n rest i) is
-            ∙ (place-before (lengthOf x) (j - 1) rest i l ∙ ap (λ (c : ℕ). place (lengthOf x) (j - 1) c i) (sym ew)));
-        done = λ i a b. go i a b (ℕ-discrete i (j - 1));
-        blank = getD-set-other at (j - 1) (last x) v 0 (λ e. omega (arith, p .few)) ∙ p .blank;
-      }
-    where
-      is : j ≡ suc (j - 1)
-      is = omega arith
-
-      go : (i : ℕ) → j - 1 ≤ i → i < last x → Dec (i ≡ j - 1) → getD (set at (j - 1) v) i 0 ≡ place (lengthOf x) (last x) q i
-      go i a b (yes e) =
-          rw e (getD-set-same at (j - 1) v 0 (omega (arith, p .few, p .long, fr .dimensions-most))
-          ∙ (ev ∙ sym (p .left (j - 1) (omega arith) ∙ (ap (λ (n : ℕ). place (lengthOf x) n rest (j - 1)) is ∙ place-last (lengthOf x) (j - 1) rest))))
-      go i a b (no e) = getD-set-other at (j - 1) i v 0 e ∙ p .done i (omega arith) b
+  pub row-lengths : HasLengths (x .lengths) (last x)
+  row-lengths = record { low = omega (arith, fr .dimensions-most); positive = λ j h. fr .long j (omega arith) }
 
   start : (i : ℕ) → i < x .dimensions → cellPlace x (q * lengthOf x (last x)) i ≡ pick (eqb i (last x)) 0 (place (lengthOf x) (last x) q i)
   unfolding cellPlace
@@ -231,25 +196,31 @@ module _ (x : Nest) (fr : Framed x) (q : ℕ) where
       ∙ (ap (λ (n : ℕ). place (lengthOf x) n (q * lengthOf x (last x) + 0) i) (sym e)
       ∙ place-row (lengthOf x) (last x) q 0 i (fr .long (last x) (omega (arith, fr .dimensions-least))) (omega arith))
 
-  pub placing-end : (at : List ℕ) (rest j : ℕ) → j ≤ 0 → Placing x q at rest j → Row x q at
-  placing-end at rest j z p =
+  pub row-written : (before at : List ℕ) → before ≡ replicate 4 0 → PlaceWritten (x .lengths) before q (last x) at → Row x q at
+  row-written before at e p =
       record {
         first = first-is;
         narrow = λ j h. small j h (decLt j (last x));
       }
     where
+      blank : getD at (last x) 0 ≡ 0
+      blank =
+          p .others (last x) (omega arith)
+          ∙ (ap (λ (l : List ℕ). getD l (last x) 0) e
+          ∙ getD-replicate {A = ℕ} 4 (last x) 0 0 (omega (arith, fr .dimensions-least, fr .dimensions-most)))
+
       first-is : (i : ℕ) → i < x .dimensions → spot at i ≡ cellPlace x (q * lengthOf x (last x)) i
       first-is i h = go (ℕ-discrete i (last x))
         where
           go : Dec (i ≡ last x) → spot at i ≡ cellPlace x (q * lengthOf x (last x)) i
-          go (yes e) = ap (spot at) e ∙ (p .blank ∙ sym (start i h ∙ pick-true (eqb i (last x)) 0 _ (eq-eqb i (last x) e)))
-          go (no e) = p .done i (omega arith) (omega arith) ∙ sym (start i h ∙ pick-false (eqb i (last x)) 0 _ (ne-eqb i (last x) e))
+          go (yes e) = ap (spot at) e ∙ (blank ∙ sym (start i h ∙ pick-true (eqb i (last x)) 0 _ (eq-eqb i (last x) e)))
+          go (no e) = p .first i (omega arith) ∙ sym (start i h ∙ pick-false (eqb i (last x)) 0 _ (ne-eqb i (last x) e))
 
       small : (i : ℕ) → i < x .dimensions → Dec (i < last x) → spot at i < 65536
       small i h (yes l) =
           let w = place-low (lengthOf x) (last x) q (λ o k. fr .long o (omega arith)) i l in
-          omega (arith, p .done i (omega arith) l, fr .length-wide i)
-      small i h (no l) = let e : i ≡ last x = omega arith in rw e (omega (arith, p .blank))
+          omega (arith, p .first i l, fr .length-wide i)
+      small i h (no l) = let e : i ≡ last x = omega arith in rw e (omega (arith, blank))
 
 -- ---- marks
 

@@ -160,7 +160,9 @@ module _ (x : Nest) where
         dimensions-most = s .dimensions-most;
         bounds-most = s .bounds-most;
         long = λ j l. length-in h j l .0;
+        length-most = λ j l. length-in h j l .1;
         length-wide = s .length-wide;
+        tile-wide = s .tile-wide;
         bounded-low = s .bounded-low;
         earlier-low = s .earlier-low;
         slope-most = s .slope-most;
@@ -249,6 +251,10 @@ module _ (bytes : List ℕ) (n m e : ℕ) where
   pub length-wide : Bytes bytes → (j : ℕ) → lengthOf (nestBy bytes n m e) j < 65536
   unfolding nestBy
   length-wide b = filled-below 4 _ n 65536 (omega arith) (λ i. half-small bytes b _)
+
+  pub tile-wide : Bytes bytes → (j : ℕ) → tileLength (nestBy bytes n m e) j < 65536
+  unfolding nestBy
+  tile-wide b = filled-below 4 _ n 65536 (omega arith) (λ i. half-small bytes b _)
 
   pub count-wide : Bytes bytes → (j : ℕ) → processorCount (nestBy bytes n m e) j < 65536
   unfolding nestBy

@@ -11,7 +11,7 @@ use native.Mathlib.Numerals.{add-one}
 use native.Mathlib.Nat.{mul-le-mul, div-le-self}
 use lib.ListN.{length, getD, set, replicate, length-set, length-replicate, getD-replicate, List·getD-eq-default}
 use lib.Seq.{ext-getD, getD-set-same, getD-set-other}
-use lib.Dec.{eqb, ltb}
+use lib.Dec.{eqb, ltb, leb}
 use borrow.Author.Tests.{lt-ltb, le-ltb, le-leb, lt-leb, eq-eqb, ne-eqb, leb-true, eqb-true}
 use Rattle.base.specs.Tests.{_and_, _or_, not, pick, every, some, keep, those, product}
 use Rattle.base.proofs.Tests.{both, and-true, and-left, and-false, and-no, or-left, or-right, or-false, not-true, not-false, is-true, never-both}
@@ -211,6 +211,60 @@ module _ (n b e r k : ℕ) where
   unfolding mayStand pick
   stands-last h m l = rw (le-ltb r n h, le-ltb r (n + b) m, le-ltb r (n + b + e) l)
 
+  -- ---- by the kind: the records that may have it
+  stands-where : (s : Bool) → (r < n → eqb k 1 ≡ s) → (n ≤ r → r < n + b → eqb k 5 ≡ s) → (n + b ≤ r → r < n + b + e → (eqb k 2 or eqb k 4) ≡ s)
+      → (n + b + e ≤ r → eqb k 3 ≡ s) → mayStand n b e r k ≡ s
+  stands-where s first second third fourth = go (decLt r n) (decLt r (n + b)) (decLt r (n + b + e))
+    where
+      go : Dec (r < n) → Dec (r < n + b) → Dec (r < n + b + e) → mayStand n b e r k ≡ s
+      go (yes h) m l = stands-first h ∙ first h
+      go (no h) (yes m) l = stands-bound (omega arith) m ∙ second (omega arith) m
+      go (no h) (no m) (yes l) = stands-between (omega arith) (omega arith) l ∙ third (omega arith) l
+      go (no h) (no m) (no l) = stands-last (omega arith) (omega arith) (omega arith) ∙ fourth (omega arith)
+
+  no-distance : k ≢ 2 → k ≢ 4 → (eqb k 2 or eqb k 4) ≡ false
+  no-distance a d = or-skip (ne-eqb k 2 a) ∙ ne-eqb k 4 d
+
+  pub dimension-stands : k ≡ 1 → mayStand n b e r k ≡ (leb 0 r and ltb r n)
+  dimension-stands q =
+      stands-where (leb 0 r and ltb r n)
+      (λ h. eq-eqb k 1 q ∙ sym (and-true (le-leb 0 r (omega arith)) (lt-ltb r n h)))
+      (λ h m. ne-eqb k 5 (λ z. omega arith) ∙ sym (and-no _ _ (le-ltb r n h)))
+      (λ h m. no-distance (λ z. omega arith) (λ z. omega arith) ∙ sym (and-no _ _ (le-ltb r n (omega arith))))
+      (λ h. ne-eqb k 3 (λ z. omega arith) ∙ sym (and-no _ _ (le-ltb r n (omega arith))))
+
+  pub bound-stands : k ≡ 5 → mayStand n b e r k ≡ (leb n r and ltb r (n + b))
+  bound-stands q =
+      stands-where (leb n r and ltb r (n + b))
+      (λ h. ne-eqb k 1 (λ z. omega arith) ∙ sym (and-false _ _ (lt-leb n r h)))
+      (λ h m. eq-eqb k 5 q ∙ sym (and-true (le-leb n r h) (lt-ltb r (n + b) m)))
+      (λ h m. no-distance (λ z. omega arith) (λ z. omega arith) ∙ sym (and-no _ _ (le-ltb r (n + b) h)))
+      (λ h. ne-eqb k 3 (λ z. omega arith) ∙ sym (and-no _ _ (le-ltb r (n + b) (omega arith))))
+
+  pub distance-stands : (k ≡ 2) ⊎ (k ≡ 4) → mayStand n b e r k ≡ (leb (n + b) r and ltb r (n + b + e))
+  distance-stands q =
+      stands-where (leb (n + b) r and ltb r (n + b + e))
+      (λ h. ne-eqb k 1 (other 1 (λ z. omega arith) (λ z. omega arith) q) ∙ sym (and-false _ _ (lt-leb (n + b) r (omega arith))))
+      (λ h m. ne-eqb k 5 (other 5 (λ z. omega arith) (λ z. omega arith) q) ∙ sym (and-false _ _ (lt-leb (n + b) r m)))
+      (λ h m. one-of q ∙ sym (and-true (le-leb (n + b) r h) (lt-ltb r (n + b + e) m)))
+      (λ h. ne-eqb k 3 (other 3 (λ z. omega arith) (λ z. omega arith) q) ∙ sym (and-no _ _ (le-ltb r (n + b + e) h)))
+    where
+      other : (v : ℕ) → v ≢ 2 → v ≢ 4 → (k ≡ 2) ⊎ (k ≡ 4) → k ≢ v
+      other v a d (inl w) z = a (sym z ∙ w)
+      other v a d (inr w) z = d (sym z ∙ w)
+
+      one-of : (k ≡ 2) ⊎ (k ≡ 4) → (eqb k 2 or eqb k 4) ≡ true
+      one-of (inl w) = or-left _ (eq-eqb k 2 w)
+      one-of (inr w) = or-right _ (eq-eqb k 4 w)
+
+  pub close-stands : k ≡ 3 → mayStand n b e r k ≡ leb (n + b + e) r
+  close-stands q =
+      stands-where (leb (n + b + e) r)
+      (λ h. ne-eqb k 1 (λ z. omega arith) ∙ sym (lt-leb (n + b + e) r (omega arith)))
+      (λ h m. ne-eqb k 5 (λ z. omega arith) ∙ sym (lt-leb (n + b + e) r (omega arith)))
+      (λ h m. no-distance (λ z. omega arith) (λ z. omega arith) ∙ sym (lt-leb (n + b + e) r m))
+      (λ h. eq-eqb k 3 q ∙ sym (le-leb (n + b + e) r h))
+
 module _ (bytes : List ℕ) (r : ℕ) where
   pub component-wide : (j : ℕ) → kind bytes r ≡ 4 → half bytes (16 * r + (2 + 2 * j)) ≡ componentAt bytes r j
   component-wide j h = sym (pick-true _ _ _ (eq-eqb (kind bytes r) 4 h))
@@ -324,13 +378,14 @@ module _ (bytes : List ℕ) where
   kinds-few k = those-few (kind bytes) k (records bytes)
 
   module _ (n b e : ℕ) where
-    pub fits-yes : (r : ℕ) (o : Bool) → mayStand n b e r (kind bytes r) ≡ true → o ≡ checked bytes n r (kind bytes r) → o ≡ fitsAt bytes n b e r
+    -- by its kind: where it may stand, and its checks
+    pub fits-by : (r : ℕ) (s t o : Bool) → mayStand n b e r (kind bytes r) ≡ s → checked bytes n r (kind bytes r) ≡ t → o ≡ (s and t) → o ≡ fitsAt bytes n b e r
     unfolding fitsAt
-    fits-yes r o h k = k ∙ sym (and-left _ _ h)
+    fits-by r s t o h k q = q ∙ sym (rw (h, k))
 
-    pub fits-no : (r : ℕ) → mayStand n b e r (kind bytes r) ≡ false → fitsAt bytes n b e r ≡ false
+    pub fits-no : (r : ℕ) → checked bytes n r (kind bytes r) ≡ false → fitsAt bytes n b e r ≡ false
     unfolding fitsAt
-    fits-no r h = and-false _ _ h
+    fits-no r h = and-no _ _ h
 
     pub few-dimensions : n < 2 → wellFormed bytes n b e ≡ false
     unfolding wellFormed _and_

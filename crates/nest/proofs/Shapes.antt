@@ -103,18 +103,6 @@ product-last : (f : ℕ → ℕ) (n l : ℕ) → suc l ≡ n → product f l * f
 unfolding product
 product-last f n l e = rw (← e)
 
-module _ (N i : ℕ → ℕ) where
-  pub number-start : _≡_ {A = ℕ} 0 (rank N i 0)
-  unfolding rank
-  number-start = refl
-
-  pub number-next : (j p : ℕ) → p ≡ rank N i j → p * N j + i j ≡ rank N i (j + 1)
-  unfolding rank
-  number-next j p e = rw (add-one j, e)
-
-  pub number-end : (n j p : ℕ) → j ≤ n → n ≤ j → p ≡ rank N i j → p ≡ rank N i n
-  number-end n j p a b e = let k : j ≡ n = omega arith in rw k at e
-
 -- two places that differ in the last dimension alone, where the second is 0
 rank-row : (N i k : ℕ → ℕ) (n l : ℕ) → suc l ≡ n → ((j : ℕ) → j < l → i j ≡ k j) → k l ≡ 0 → rank N i n ≡ rank N k n + i l
 unfolding rank
@@ -231,25 +219,10 @@ module _ (x : Nest) (fr : Framed x) where
   unfolding cells
   rows-are r e = ap (λ (v : ℕ). v * lengthOf x (last x)) e ∙ product-last (lengthOf x) (x .dimensions) (last x) suc-last
 
-  -- ---- the number of a tile, dimension after dimension
-  pub count-room : (j : ℕ) → (lengthOf x j - 1) / tileLength x j < 65536
-  count-room j = omega (arith, div-le-self (lengthOf x j - 1) (tileLength x j), fr .length-wide j)
-
   module _ (tiled : Tiled x) where
     pub box-room : boxTiles x < 18446744073709551616
     unfolding boxTiles
     box-room = product-room (tileCount x) (x .dimensions) (fr .dimensions-most) (λ i k. tile-small x i (fr .length-wide i) (fr .long i k))
-
-    pub number-room : (at : List ℕ) → InBox x at → (j p : ℕ) → j < x .dimensions → p ≡ rank (tileCount x) (λ i. spot at i / tileLength x i) j
-        → p * ((lengthOf x j - 1) / tileLength x j + 1) + spot at j / tileLength x j < 18446744073709551616
-    unfolding tileCount
-    number-room at w j p l e =
-        let q : Within (tileCount x) (λ i. spot at i / tileLength x i) (j + 1) = λ i k. quotients-low x (fr .long) tiled (spot at) w i (omega arith) in
-        let r : rank (tileCount x) (λ i. spot at i / tileLength x i) (j + 1) < product (tileCount x) (j + 1) = rank-low (tileCount x)
-        (λ i. spot at i / tileLength x i) (j + 1) q in
-        let s : product (tileCount x) (j + 1) < 18446744073709551616 =
-        product-room (tileCount x) (j + 1) (omega (arith, fr .dimensions-most)) (λ i k. tile-small x i (fr .length-wide i) (fr .long i (omega arith))) in
-        omega (arith, number-next (tileCount x) (λ i. spot at i / tileLength x i) j p e)
 
     -- ---- the tiles of a row
     abbrev pub firstTile : List ℕ → ℕ
@@ -338,10 +311,24 @@ module _ (x : Nest) (fr : Framed x) where
           go u (no a) b = none u (inl (omega arith)) (and-false _ _ (lt-leb _ u (omega arith)))
           go u (yes a) (no b) = none u (inr (omega arith)) (and-no _ _ (le-ltb u _ (omega arith)))
 
-      -- the same where the first tile is told
-      pub marked-row-by : (marks after : List ℕ) (first : ℕ) → first ≡ firstTile at → s .from < s .to
-          → Marked marks (first + s .from / tileLength x (last x)) (first + (s .to - 1) / tileLength x (last x) + 1) after → RowMarked x q marks after
-      marked-row-by marks after first e h m = marked-row marks after h (rw e at m)
+      -- the same where the first tile, and the tiles along the row, are told
+      module _ (first a b : ℕ) (e : first ≡ firstTile at) (f : a ≡ s .from / tileLength x (last x)) (g : b ≡ (s .to - 1) / tileLength x (last x))
+          (h : s .from < s .to) where
+        pub told-order : first + a < first + b + 1
+        told-order = omega (arith, e, f, g, row-start h)
+
+        pub told-room : first + b + 1 ≤ boxTiles x
+        told-room = omega (arith, e, g, row-room h)
+
+        pub told-fits : first + b + 1 < 18446744073709551616
+        told-fits = omega (arith, told-room, box-room)
+
+        pub marked-row-by : (marks after : List ℕ) → Marked marks (first + a) (first + b + 1) after → RowMarked x q marks after
+        marked-row-by marks after m = marked-row marks after h (rw (e, f, g) at m)
+
+      -- the ends of the span are components
+      pub row-ends : s .from < s .to → (s .from < 1024) × (s .to - 1 < 1024)
+      row-ends h = let m = fr .length-most (last x) (omega (arith, fr .dimensions-least)) in (omega (arith, sp .most, m), omega (arith, sp .most, m))
 
     -- ---- line 8, row after row
     no-cells : (u : ℕ) → some (holds x u) (0 * lengthOf x (last x)) ≡ false
@@ -396,7 +383,9 @@ framed x ok =
       dimensions-most = ok .dimensions-most;
       bounds-most = ok .bounds-most;
       long = ok .long;
+      length-most = λ j l. ok .length-most j;
       length-wide = λ j. omega (arith, ok .length-most j);
+      tile-wide = λ j. omega (arith, ok .tile-most j);
       bounded-low = ok .bounded-low;
       earlier-low = ok .earlier-low;
       slope-most = ok .slope-most;

@@ -1,7 +1,7 @@
 -- For contracts below the calls: no reader needs it.
 -- A row: the cells of the box that differ in the last dimension alone. The shape cuts each row to one span; code goes by rows.
 -- Serves document 02, W-209; which cells are in the shape, Shape says.
-use Prim.Native.Nat.{ℕ, _+_, _*_, _-_, _≤_, _<_}
+use Prim.Native.Nat.{ℕ, _+_, _*_, _-_, _/_, _≤_, _<_}
 use mathlib.Core.Path.{_≡_}
 use mathlib.Core.Logic.{_⊎_}
 use mathlib.Core.Bool.{Bool}
@@ -12,7 +12,7 @@ use Rattle.base.specs.Tests.{_and_, _or_, pick, every, some}
 use Rattle.nest.specs.declared.Nest.{Nest}
 use Rattle.nest.specs.declared.Interval.{Interval}
 use Rattle.nest.specs.Nest.{lengthOf, tileLength, processorCount, bounded, earlier, slope, offset}
-use Rattle.nest.specs.Places.{cellPlace, boxTileOf}
+use Rattle.nest.specs.Places.{place, cellPlace, boxTileOf}
 use Rattle.nest.specs.Shape.{meets, inShape}
 
 -- what lines 1 to 3 leave of the numbers that a row's span is made of
@@ -21,7 +21,9 @@ pub record Framed (x : Nest) : Type 0 where
   pub dimensions-most : x .dimensions ≤ 4
   pub bounds-most : x .bounds ≤ 4
   pub long : (j : ℕ) → j < x .dimensions → 1 ≤ lengthOf x j
+  pub length-most : (j : ℕ) → j < x .dimensions → lengthOf x j ≤ 1024
   pub length-wide : (j : ℕ) → lengthOf x j < 65536
+  pub tile-wide : (j : ℕ) → tileLength x j < 65536
   pub bounded-low : (k : ℕ) → k < x .bounds → bounded x k < x .dimensions
   pub earlier-low : (k : ℕ) → k < x .bounds → earlier x k < bounded x k
   pub slope-most : (k : ℕ) → slope x k ≤ 2
@@ -39,6 +41,7 @@ pub record Shaped (x : Nest) : Type 0 where
   pub distances-most : x .distances ≤ 8
   pub bounds-most : x .bounds ≤ 4
   pub length-wide : (j : ℕ) → lengthOf x j < 65536
+  pub tile-wide : (j : ℕ) → tileLength x j < 65536
   pub count-wide : (j : ℕ) → processorCount x j < 65536
   pub bounded-low : (k : ℕ) → k < x .bounds → bounded x k < x .dimensions
   pub earlier-low : (k : ℕ) → k < x .bounds → earlier x k < bounded x k
@@ -71,6 +74,33 @@ Narrow x at = (j : ℕ) → j < x .dimensions → spot at j < 65536
 
 abbrev pub InBox : Nest → List ℕ → Type 0
 InBox x at = (j : ℕ) → j < x .dimensions → spot at j < lengthOf x j
+
+-- ---- rank and place by recursion over the dimensions left
+
+-- lengths of the first dimensions, as a recursion over them has them
+pub record HasLengths (N : List ℕ) (left : ℕ) : Type 0 where
+  pub low : left ≤ 4
+  pub positive : (j : ℕ) → j < left → 1 ≤ getD N j 0
+
+-- the place of n in the first dimensions; the others as before
+pub record PlaceWritten (N before : List ℕ) (n left : ℕ) (after : List ℕ) : Type 0 where
+  pub first : (j : ℕ) → j < left → getD after j 0 ≡ place (spot N) left n j
+  pub others : (j : ℕ) → left ≤ j → getD after j 0 ≡ getD before j 0
+
+-- tiles along dimension j, and the tile of a component there
+abbrev pub tilesAlong : List ℕ → List ℕ → ℕ → ℕ
+tilesAlong N k j = (getD N j 0 - 1) / getD k j 0 + 1
+
+abbrev pub tileOn : List ℕ → List ℕ → ℕ → ℕ
+tileOn k at j = spot at j / getD k j 0
+
+-- a place of a cell, in the first dimensions
+pub record Tileable (N k at : List ℕ) (left : ℕ) : Type 0 where
+  pub low : left ≤ 4
+  pub length-most : (j : ℕ) → j < left → getD N j 0 ≤ 1024
+  pub tiled : (j : ℕ) → j < left → 1 ≤ getD k j 0
+  pub tile-wide : (j : ℕ) → j < left → getD k j 0 < 65536
+  pub inside : (j : ℕ) → j < left → spot at j < getD N j 0
 
 -- of the first span's cells the second has those that meet bound k
 pub record Cuts (x : Nest) (at : List ℕ) (k : ℕ) (s r : Interval) : Type 0 where

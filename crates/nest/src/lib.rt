@@ -5,8 +5,13 @@ ghost use lib.ListN.{length, getD, replicate};
 ghost use lib.Dec.{leb};
 ghost use Rattle.base.specs.Tests.{_and_, pick, product};
 ghost use Rattle.nest.specs.Nest.{lengthOf, tileLength, cells, boxTiles};
-ghost use Rattle.nest.specs.Places.{tileAt};
+ghost use Rattle.nest.specs.Places.{rank, tileAt};
 ghost use Rattle.nest.specs.Spans.{Framed, Tiled, Narrow, InBox, Spans, Cuts, Row, Marked, RowMarked, last, spot, within};
+ghost use Rattle.nest.specs.Spans.{HasLengths, PlaceWritten, Tileable, tilesAlong, tileOn};
+use crate::division::tile_along;
+use crate::division::tiles_along;
+
+pub mod division; // division.rt: a component divided by a tile length, in 16-bit numbers (W-206), the one such division
 
 // A loop nest with constant distances, cut into tiles: the cells of a box that its bounds leave.
 pub struct Nest {
@@ -160,20 +165,27 @@ pub fn span(nest: Nest, at: [usize; 4]) -> Interval
     span_of(nest, &at)
 }
 
+// Writes the place of number n over the first `left` dimensions: the inverse of a rank, by the same recursion.
+fn put_place(lengths: &[usize; 4], at: &mut [usize; 4], n: usize, left: usize)
+    requires { ⌜ (length (now at) ≡ 4) × HasLengths (now lengths) left ⌝ }
+    ensures { λ _. ⌜ (length (now (at .exit)) ≡ 4) × PlaceWritten (now (lengths .entry)) (now (at .entry)) n left (now (at .exit)) ⌝ }
+{
+    if left == 0 {
+        return;
+    }
+    let j = left - 1;
+    let m = lengths[j];
+    at[j] = n % m;
+    put_place(lengths, at, n / m, j);
+}
+
 // Writes the place of a row's first cell, over zeros.
 fn put_row(nest: Nest, q: usize, at: &mut [usize; 4])
     requires { ⌜ Framed nest × (now at ≡ replicate 4 0) ⌝ }
     ensures { λ _. ⌜ Row nest q (now (at .exit)) ⌝ }
 {
     let lengths = nest.lengths;
-    let mut rest = q;
-    let mut j = nest.dimensions - 1;
-    while j > 0 {
-        j -= 1;
-        let length = lengths[j];
-        at[j] = rest % length;
-        rest = rest / length;
-    }
+    put_place(&lengths, at, q, nest.dimensions - 1);
 }
 
 // The place of a row's first cell.
@@ -197,19 +209,28 @@ pub fn row_count(nest: Nest) -> usize
 
 // ---- the tiles that hold a cell of a row
 
+// The number, among those of the first `left` dimensions, of the tile that holds a place of a cell.
+fn tile_rank(lengths: &[usize; 4], tiling: &[usize; 4], at: &[usize; 4], left: usize) -> usize
+    requires { ⌜ Tileable (now lengths) (now tiling) (now at) left ⌝ }
+    ensures { λ r. ⌜ r ≡ rank (tilesAlong (now (lengths .entry)) (now (tiling .entry))) (tileOn (now (tiling .entry)) (now (at .entry))) left ⌝ }
+{
+    if left == 0 {
+        return 0;
+    }
+    let j = left - 1;
+    let r = tile_rank(lengths, tiling, at, j);
+    let across = tiles_along(lengths[j], tiling[j]);
+    r * across + tile_along(at[j], tiling[j])
+}
+
 // The box's number of the tile at a place of a cell.
 fn tile_at(nest: Nest, at: &[usize; 4]) -> usize
     requires { ⌜ (Framed nest × Tiled nest) × InBox nest (now at) ⌝ }
     ensures { λ r. ⌜ r ≡ tileAt nest (λ j. spot (now (at .entry)) j / tileLength nest j) ⌝ }
 {
-    let n = nest.dimensions;
     let lengths = nest.lengths;
     let tiling = nest.tiling;
-    let mut number: usize = 0;
-    for j in 0..n {
-        number = number * ((lengths[j] - 1) / tiling[j] + 1) + at[j] / tiling[j];
-    }
-    number
+    tile_rank(&lengths, &tiling, at, nest.dimensions)
 }
 
 // Marks the places from one up to another.
@@ -234,10 +255,8 @@ pub fn mark_row(nest: Nest, q: usize, marks: &mut [u8])
         let first = tile_at(nest, &at);
         let tiling = nest.tiling;
         let length = tiling[nest.dimensions - 1];
-        mark(
-            marks,
-            first + s.from / length,
-            first + (s.to - 1) / length + 1,
-        );
+        let from = tile_along(s.from, length);
+        let to = tile_along(s.to - 1, length);
+        mark(marks, first + from, first + to + 1);
     }
 }

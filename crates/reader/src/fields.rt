@@ -1,14 +1,14 @@
-// A recipe's bytes: its fields, what lines 1 and 2 of document 01's table test of them, and the values that a nest is made of (those of a distance:
-// `distance_fields`).
+// A recipe's bytes: its fields, what lines 1 and 2 of document 01's table test of them, and the values that a nest is made of. Those of a distance are
+// in distance_fields.rt.
 ghost use mathlib.Core.Path.{_≡_};
 ghost use mathlib.Core.Bool.{false};
 ghost use Prim.Native.Nat.{ℕ, _+_, _*_, _-_, _/_, _<_, _≤_};
 ghost use lib.ListN.{length, getD};
-ghost use lib.Dec.{ltb};
+ghost use lib.Dec.{ltb, leb};
 ghost use Rattle.base.specs.Tests.{_and_, every, keep};
 ghost use Rattle.base.specs.Bytes.{half};
-ghost use Rattle.nest.specs.Reader.{kind, ofKind, distancesOf, slopeAt, offsetAt, filled};
-ghost use Rattle.nest.specs.Reader.{ragged, blank, boundFits, checked, mayStand, fitsAt, wellFormed};
+ghost use Rattle.nest.specs.Reader.{ofKind, distancesOf, slopeAt, offsetAt, filled};
+ghost use Rattle.nest.specs.Reader.{ragged, blank, boundFits, fitsAt, wellFormed};
 use base::half_at;
 
 // ---- fields
@@ -138,52 +138,68 @@ fn bound_fits(encoded: &[u8], n: usize, r: usize) -> bool
     false
 }
 
-// The kind byte selects the record's checks; any other kind is a stray record.
-fn checked(encoded: &[u8], n: usize, r: usize) -> bool
+// Record r is one of those from one record up to another.
+fn stands(from: usize, to: usize, r: usize) -> bool
+    ensures { λ o. ⌜ o ≡ (leb from r and ltb r to) ⌝ }
+{
+    if r < from {
+        return false;
+    }
+    r < to
+}
+
+// A dimension or a distance, one of those records, with fields up to a byte.
+fn fields_fit_at(encoded: &[u8], r: usize, from: usize, to: usize, end: usize) -> bool
+    requires { ⌜ (end ≤ 16) × (16 * r + 16 ≤ length (now encoded)) ⌝ }
+    ensures { λ o. ⌜ o ≡ ((leb from r and ltb r to)
+        and (blank (now (encoded .entry)) (16 * r + 1) 1 and blank (now (encoded .entry)) (16 * r + end) (16 - end))) ⌝ }
+{
+    if stands(from, to, r) {
+        return fields_fit(encoded, 16 * r, end);
+    }
+    false
+}
+
+// A bound, one of the records behind the n dimensions.
+fn bound_fits_at(encoded: &[u8], n: usize, r: usize, to: usize) -> bool
     requires { ⌜ 16 * r + 16 ≤ length (now encoded) ⌝ }
-    ensures { λ o. ⌜ o ≡ checked (now (encoded .entry)) n r (kind (now (encoded .entry)) r) ⌝ }
+    ensures { λ o. ⌜ o ≡ ((leb n r and ltb r to) and boundFits (now (encoded .entry)) n r) ⌝ }
 {
-    let at = 16 * r;
-    let kind = encoded[at];
-    match kind {
-        1 => fields_fit(encoded, at, 8),
-        2 => fields_fit(encoded, at, 8),
-        3 => close_fits(encoded, at),
-        4 => fields_fit(encoded, at, 12),
-        5 => bound_fits(encoded, n, r),
-        _ => false,
+    if stands(n, to, r) {
+        return bound_fits(encoded, n, r);
     }
+    false
 }
 
-// Record r may have the kind: n dimensions, b bounds, e distances, the close.
-fn may_stand(n: usize, b: usize, e: usize, r: usize, kind: u8) -> bool
-    requires { ⌜ n + b + e < 65536 ⌝ }
-    ensures { λ o. ⌜ o ≡ mayStand n b e r kind ⌝ }
+// The close, with all other records before it.
+fn close_fits_at(encoded: &[u8], r: usize, from: usize) -> bool
+    requires { ⌜ 16 * r + 16 ≤ length (now encoded) ⌝ }
+    ensures { λ o. ⌜ o ≡ (leb from r and (ltb (getD (now (encoded .entry)) (16 * r + 1) 0) 32 and blank (now (encoded .entry)) (16 * r + 2) 2
+        and blank (now (encoded .entry)) (16 * r + 8) 8)) ⌝ }
 {
-    if r < n {
-        return kind == 1;
+    if r < from {
+        return false;
     }
-    if r < n + b {
-        return kind == 5;
-    }
-    if r < n + b + e {
-        if kind == 2 {
-            return true;
-        }
-        return kind == 4;
-    }
-    kind == 3
+    close_fits(encoded, 16 * r)
 }
 
+// The kind byte selects where record r may stand and what it is checked for, among n dimensions, b bounds, e distances and the close; any other kind
+// is a stray record.
 fn fits_at(encoded: &[u8], n: usize, b: usize, e: usize, r: usize) -> bool
     requires { ⌜ (n + b + e < 65536) × (16 * r + 16 ≤ length (now encoded)) ⌝ }
     ensures { λ o. ⌜ o ≡ fitsAt (now (encoded .entry)) n b e r ⌝ }
 {
+    let first = n + b;
+    let close = first + e;
     let kind = encoded[16 * r];
-    if may_stand(n, b, e, r, kind) {
-        return checked(encoded, n, r);
+    match kind {
+        1 => fields_fit_at(encoded, r, 0, n, 8),
+        2 => fields_fit_at(encoded, r, first, close, 8),
+        3 => close_fits_at(encoded, r, close),
+        4 => fields_fit_at(encoded, r, first, close, 12),
+        5 => bound_fits_at(encoded, n, r, first),
+        _ => false,
     }
-    false
 }
 
 fn all_fit(encoded: &[u8], n: usize, b: usize, e: usize) -> bool

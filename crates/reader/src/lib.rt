@@ -30,6 +30,7 @@ use crate::fields::spread_of;
 use crate::fields::well_formed;
 use nest::Nest;
 use nest::Reading;
+use nest::division::tiles_along;
 use nest::mark_row;
 use nest::product_of;
 use nest::row_count;
@@ -176,7 +177,7 @@ fn box_tiles(nest: Nest) -> usize
     let n = nest.dimensions;
     let mut total: usize = 1;
     for j in 0..n {
-        total = total * ((nest.lengths[j] - 1) / nest.tiling[j] + 1);
+        total = total * tiles_along(nest.lengths[j], nest.tiling[j]);
     }
     total
 }

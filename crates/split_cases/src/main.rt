@@ -8,7 +8,7 @@ fn agrees(component: u16, length: u16, tile: u16, rest: u16) -> u32
     requires { ⌜ (component < 1024) × (1 ≤ length) ⌝ }
     ensures { λ r. ⌜ r ≤ 1 ⌝ }
 {
-    let d = layout::division::split(component, length);
+    let d = nest::division::split(component, length);
     if d.tile == tile {
         if d.rest == rest {
             return 1;

@@ -38,7 +38,7 @@ tile-along-requires : tie.Need-tile-along-requires Inv-loop μ-loop
 tile-along-requires c κs =
     let at-loop = c .before .before .before in
     let start = at-loop .before in
-    (omega (arith, start .pre .length-most (at-loop .loop .j)), (start .pre .tiled _ (omega arith), start .pre .tile-most _))
+    (omega (arith, start .pre .length-most (at-loop .loop .j)), (start .pre .tiled _ (omega arith), omega (arith, start .pre .tile-most (at-loop .loop .j))))
 
 add-across : tie.Need-add-across Inv-loop μ-loop
 add-across c =

@@ -34,7 +34,7 @@ tile-along-requires c κs = (
   c .before .before .before .pre .1 _ (omega arith),
   (
     c .before .before .before .pre .0 .tiled _ (omega arith),
-    c .before .before .before .pre .0 .tile-most _,
+    omega (arith, c .before .before .before .pre .0 .tile-most (c .before .before .loop .j)),
   ),
 )
 

@@ -26,84 +26,100 @@ mul-length c = search needs
 array-read-length : tie.Need-array-read-length
 array-read-length c = search needs
 
-div-mark : tie.Need-div-mark
-div-mark c =
-    let start = c .before .before .before .before .before .before .before .before .before .before .before .before .before in
-    start .pre .0 .1 _ (omega (arith, start .pre .0 .0 .dimensions-least))
+tile-along-requires : tie.Need-tile-along-requires
+tile-along-requires c κs =
+    let at-if1 = c .before .before .before .before in
+    let at-span-of = at-if1 .before .before in
+    let at-put-row = at-span-of .before .before in
+    let start = at-put-row .before .before .before in
+    let ends = S.row-ends (start .args .nest) (start .pre .0 .0) (start .pre .0 .1) (start .args .q) _ _ (at-put-row .put-row .ensures)
+    (at-span-of .span-of .ensures) (at-if1 .if1 .taken) in
+    (ends .0, (start .pre .0 .1 _ (omega (arith, start .pre .0 .0 .dimensions-least)), start .pre .0 .0 .tile-wide _))
+
+sub-tile-along : tie.Need-sub-tile-along
+sub-tile-along c = search needs
+
+tile-along-requires-2 : tie.Need-tile-along-requires-2
+tile-along-requires-2 c κs =
+    let at-if1 = c .before .before .before .before .before .before in
+    let at-span-of = at-if1 .before .before in
+    let at-put-row = at-span-of .before .before in
+    let start = at-put-row .before .before .before in
+    let ends = S.row-ends (start .args .nest) (start .pre .0 .0) (start .pre .0 .1) (start .args .q) _ _ (at-put-row .put-row .ensures)
+    (at-span-of .span-of .ensures) (at-if1 .if1 .taken) in
+    (ends .1, (start .pre .0 .1 _ (omega (arith, start .pre .0 .0 .dimensions-least)), start .pre .0 .0 .tile-wide _))
 
 add-mark : tie.Need-add-mark
 add-mark c =
-    let at-tile-at = c .before .before .before .before in
+    let to = c .before .tile-along2 in
+    let from = c .before .before .before .tile-along in
+    let at-tile-at = c .before .before .before .before .before .before in
     let at-if1 = at-tile-at .before .before in
     let at-span-of = at-if1 .before .before in
     let at-put-row = at-span-of .before .before in
     let start = at-put-row .before .before .before in
-    omega (
-      arith,
-      S.row-room (start .args .nest) (start .pre .0 .0) (start .pre .0 .1) (start .args .q) _ _ (at-put-row .put-row .ensures)
-          (at-span-of .span-of .ensures) (at-if1 .if1 .taken),
-      S.row-start (start .args .nest) (start .pre .0 .0) (start .pre .0 .1) (start .args .q) _ _
-          (at-put-row .put-row .ensures) (at-span-of .span-of .ensures) (at-if1 .if1 .taken),
-      S.box-room (start .args .nest) (start .pre .0 .0) (start .pre .0 .1),
-      at-tile-at .tile-at .ensures,
-    )
-
-sub-mark : tie.Need-sub-mark
-sub-mark c = search needs
-
-div-mark-2 : tie.Need-div-mark-2
-div-mark-2 c =
-    let start = c .before .before .before .before .before .before .before .before .before .before .before .before .before .before in
-    start .pre .0 .1 _ (omega (arith, start .pre .0 .0 .dimensions-least))
+    record {
+      fits = omega (
+        arith,
+        S.told-order (start .args .nest) (start .pre .0 .0) (start .pre .0 .1) (start .args .q) _ _ (at-put-row .put-row .ensures)
+            (at-span-of .span-of .ensures) _ _ _ (at-tile-at .tile-at .ensures) (from .ensures) (to .ensures) (at-if1 .if1 .taken),
+        S.told-fits (start .args .nest) (start .pre .0 .0) (start .pre .0 .1) (start .args .q) _ _ (at-put-row .put-row .ensures)
+            (at-span-of .span-of .ensures) _ _ _ (at-tile-at .tile-at .ensures) (from .ensures) (to .ensures) (at-if1 .if1 .taken),
+      );
+    }
 
 add-mark-2 : tie.Need-add-mark-2
 add-mark-2 c =
-    let at-tile-at = c .before .before .before .before .before in
+    let to = c .before .tile-along2 in
+    let from = c .before .before .before .tile-along in
+    let at-tile-at = c .before .before .before .before .before .before in
     let at-if1 = at-tile-at .before .before in
     let at-span-of = at-if1 .before .before in
     let at-put-row = at-span-of .before .before in
     let start = at-put-row .before .before .before in
-    omega (
-      arith,
-      S.row-room (start .args .nest) (start .pre .0 .0) (start .pre .0 .1) (start .args .q) _ _ (at-put-row .put-row .ensures)
-          (at-span-of .span-of .ensures) (at-if1 .if1 .taken),
-      S.box-room (start .args .nest) (start .pre .0 .0) (start .pre .0 .1),
-      at-tile-at .tile-at .ensures,
-    )
+    record {
+      fits = omega (
+        arith,
+        S.told-fits (start .args .nest) (start .pre .0 .0) (start .pre .0 .1) (start .args .q) _ _ (at-put-row .put-row .ensures)
+            (at-span-of .span-of .ensures) _ _ _ (at-tile-at .tile-at .ensures) (from .ensures) (to .ensures) (at-if1 .if1 .taken),
+      );
+    }
 
 add-mark-3 : tie.Need-add-mark-3
 add-mark-3 c =
-    let at-tile-at = c .before .before .before .before .before in
+    let to = c .before .tile-along2 in
+    let from = c .before .before .before .tile-along in
+    let at-tile-at = c .before .before .before .before .before .before in
     let at-if1 = at-tile-at .before .before in
     let at-span-of = at-if1 .before .before in
     let at-put-row = at-span-of .before .before in
     let start = at-put-row .before .before .before in
-    omega (
-      arith,
-      S.row-room (start .args .nest) (start .pre .0 .0) (start .pre .0 .1) (start .args .q) _ _ (at-put-row .put-row .ensures)
-          (at-span-of .span-of .ensures) (at-if1 .if1 .taken),
-      S.box-room (start .args .nest) (start .pre .0 .0) (start .pre .0 .1),
-      at-tile-at .tile-at .ensures,
-    )
+    record {
+      fits = omega (
+        arith,
+        S.told-fits (start .args .nest) (start .pre .0 .0) (start .pre .0 .1) (start .args .q) _ _ (at-put-row .put-row .ensures)
+            (at-span-of .span-of .ensures) _ _ _ (at-tile-at .tile-at .ensures) (from .ensures) (to .ensures) (at-if1 .if1 .taken),
+      );
+    }
 
 mark-requires : tie.Need-mark-requires
 mark-requires c κs =
-    let at-tile-at = c .before .before .before .before .before in
+    let to = c .before .tile-along2 in
+    let from = c .before .before .before .tile-along in
+    let at-tile-at = c .before .before .before .before .before .before in
     let at-if1 = at-tile-at .before .before in
     let at-span-of = at-if1 .before .before in
     let at-put-row = at-span-of .before .before in
     let start = at-put-row .before .before .before in (
       omega (
         arith,
-        S.row-start (start .args .nest) (start .pre .0 .0) (start .pre .0 .1) (start .args .q) _ _ (at-put-row .put-row .ensures)
-            (at-span-of .span-of .ensures) (at-if1 .if1 .taken),
-        at-tile-at .tile-at .ensures,
+        S.told-order (start .args .nest) (start .pre .0 .0) (start .pre .0 .1) (start .args .q) _ _ (at-put-row .put-row .ensures)
+            (at-span-of .span-of .ensures) _ _ _ (at-tile-at .tile-at .ensures) (from .ensures) (to .ensures) (at-if1 .if1 .taken),
       ),
       omega (
         arith,
-        S.row-room (start .args .nest) (start .pre .0 .0) (start .pre .0 .1) (start .args .q) _ _ (at-put-row .put-row .ensures)
-            (at-span-of .span-of .ensures) (at-if1 .if1 .taken),
-        at-tile-at .tile-at .ensures,
+        S.told-room (start .args .nest) (start .pre .0 .0) (start .pre .0 .1) (start .args .q) _ _ (at-put-row .put-row .ensures)
+            (at-span-of .span-of .ensures) _ _ _ (at-tile-at .tile-at .ensures) (from .ensures) (to .ensures) (at-if1 .if1 .taken),
         start .pre .1 .1,
       ),
     )
@@ -113,13 +129,16 @@ same-length c = search needs
 
 returns : tie.Need-returns
 returns c =
-    let at-tile-at = c .before .before .before .before .before .before .before .before in
+    let at-mark = c .before .before in
+    let to = at-mark .before .before .tile-along2 in
+    let from = at-mark .before .before .before .before .tile-along in
+    let at-tile-at = at-mark .before .before .before .before .before .before .before in
     let at-if1 = at-tile-at .before .before in
     let at-span-of = at-if1 .before .before in
     let at-put-row = at-span-of .before .before in
     let start = at-put-row .before .before .before in
     S.marked-row-by (start .args .nest) (start .pre .0 .0) (start .pre .0 .1) (start .args .q) _ _ (at-put-row .put-row .ensures)
-    (at-span-of .span-of .ensures) _ _ _ (at-tile-at .tile-at .ensures) (at-if1 .if1 .taken) (c .before .before .mark .ensures)
+    (at-span-of .span-of .ensures) _ _ _ (at-tile-at .tile-at .ensures) (from .ensures) (to .ensures) (at-if1 .if1 .taken) _ _ (at-mark .mark .ensures)
 
 returns-2 : tie.Need-returns-2
 returns-2 c =
@@ -139,10 +158,10 @@ mark-row-spec =
     sub-length
     mul-length
     array-read-length
-    div-mark
+    tile-along-requires
+    sub-tile-along
+    tile-along-requires-2
     add-mark
-    sub-mark
-    div-mark-2
     add-mark-2
     add-mark-3
     mark-requires

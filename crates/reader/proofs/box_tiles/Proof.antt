@@ -1,10 +1,8 @@
 -- `reader::box_tiles` meets its contract: the product of at most four numbers below 65,536 fits.
-use Prim.Native.Nat.{_-_, _≤_}
-use mathlib.Core.Path.{_≡_}
+use Prim.Native.Nat.{ℕ, _*_, _-_, _≤_}
+use mathlib.Core.Path.{_≡_, ap, _∙_}
 use native.Mathlib.Omega.{arith}
-use native.Mathlib.Nat.{div-le-self}
 use borrow.Author.Needs.{needs}
-use lib.ListN.{getD}
 use Rattle.base.specs.Tests.{product}
 use Rattle.nest.specs.Nest.{tileCount, boxTiles}
 use Rattle.nest.proofs.Laws as L
@@ -20,47 +18,35 @@ abbrev μ-loop : tie.MeasureT-loop
 loop-holds : tie.Need-loop-holds Inv-loop μ-loop
 loop-holds c = (omega arith, L.product-start _)
 
+mul-tiles-along : tie.Need-mul-tiles-along Inv-loop μ-loop
+mul-tiles-along c = search needs
+
+element-copy-out-tiles-along : tie.Need-element-copy-out-tiles-along Inv-loop μ-loop
+element-copy-out-tiles-along c = search needs
+
+mul-tiles-along-2 : tie.Need-mul-tiles-along-2 Inv-loop μ-loop
+mul-tiles-along-2 c = search needs
+
+element-copy-out-tiles-along-2 : tie.Need-element-copy-out-tiles-along-2 Inv-loop μ-loop
+element-copy-out-tiles-along-2 c = search needs
+
+tiles-along-requires : tie.Need-tiles-along-requires Inv-loop μ-loop
+tiles-along-requires c κs =
+    let at-loop = c .before .before .before in
+    let start = at-loop .before in
+    let low = c .before .before .loop-test .taken in (
+      (start .pre .0 .long (at-loop .loop .j) low, start .pre .0 .length-most (at-loop .loop .j) low),
+      (start .pre .1 (at-loop .loop .j) low, start .pre .0 .tile-wide (at-loop .loop .j)),
+    )
+
 mul-total : tie.Need-mul-total Inv-loop μ-loop
-mul-total c = search needs
-
-element-copy-out-total : tie.Need-element-copy-out-total Inv-loop μ-loop
-element-copy-out-total c = search needs
-
-sub-total : tie.Need-sub-total Inv-loop μ-loop
-sub-total c = c .before .before .before .pre .0 .long (c .before .before .loop .j) (c .before .loop-test .taken)
-
-mul-total-2 : tie.Need-mul-total-2 Inv-loop μ-loop
-mul-total-2 c = search needs
-
-element-copy-out-total-2 : tie.Need-element-copy-out-total-2 Inv-loop μ-loop
-element-copy-out-total-2 c = search needs
-
-div-total : tie.Need-div-total Inv-loop μ-loop
-div-total c =
-    let at-loop = c .before .before .before in
+mul-total c =
+    let at-loop = c .before .before .before .before in
     let start = at-loop .before in
-    start .pre .1 (at-loop .loop .j) (c .before .before .loop-test .taken)
-
-add-total : tie.Need-add-total Inv-loop μ-loop
-add-total c =
-    let at-loop = c .before .before .before in
-    let start = at-loop .before in
-    omega (
-      arith,
-      start .pre .0 .length-wide (at-loop .loop .j),
-      div-le-self (getD (start .args .t1 .lengths) (at-loop .loop .j) 0 - 1)
-          (getD (start .args .t1 .tiling) (at-loop .loop .j) 0),
-    )
-
-mul-total-3 : tie.Need-mul-total-3 Inv-loop μ-loop
-mul-total-3 c =
-    let at-loop = c .before .before .before in
-    let start = at-loop .before in
-    omega (
-      arith,
-      L.tile-next (start .args .t1) (at-loop .loop .j) (at-loop .loop .total) (start .pre .0 .dimensions-most)
-          (c .before .before .loop-test .taken) (start .pre .0 .length-wide) (start .pre .0 .long) (at-loop .loop .inv .1),
-    )
+    record {
+      fits = rw (c .tiles-along .ensures .0) (L.tile-next (start .args .t1) (at-loop .loop .j) (at-loop .loop .total) (start .pre .0 .dimensions-most)
+          (c .before .before .before .loop-test .taken) (start .pre .0 .length-wide) (start .pre .0 .long) (at-loop .loop .inv .1));
+    }
 
 add-j : tie.Need-add-j Inv-loop μ-loop
 add-j c = search needs
@@ -70,7 +56,9 @@ loop-less c = search needs
 
 loop-again : tie.Need-loop-again Inv-loop μ-loop
 unfolding tileCount
-loop-again c = (omega arith, L.product-step _ _ _ (c .before .before .before .loop .inv .1))
+loop-again c =
+    let at-loop = c .before .before .before .before in
+    (omega arith, ap (λ (a : ℕ). at-loop .loop .total * a) (c .tiles-along .ensures .0) ∙ L.product-step _ _ _ (at-loop .loop .inv .1))
 
 returns : tie.Need-returns Inv-loop μ-loop
 unfolding boxTiles
@@ -83,14 +71,12 @@ box-tiles-spec =
     Inv-loop
     μ-loop
     loop-holds
+    mul-tiles-along
+    element-copy-out-tiles-along
+    mul-tiles-along-2
+    element-copy-out-tiles-along-2
+    tiles-along-requires
     mul-total
-    element-copy-out-total
-    sub-total
-    mul-total-2
-    element-copy-out-total-2
-    div-total
-    add-total
-    mul-total-3
     add-j
     loop-less
     loop-again

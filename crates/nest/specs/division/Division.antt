@@ -3,7 +3,7 @@
 -- No sentence of document 01.
 use Prim.Native.Nat.{ℕ, _/_, _%_}
 use mathlib.Core.Path.{_≡_}
-use Rattle.layout.specs.declared.division.Divided.{Divided}
+use Rattle.nest.specs.declared.division.Divided.{Divided}
 
 -- a component's tile, and its place there
 pub record Splits (a k : ℕ) (r : Divided) : Type 0 where
