@@ -3,8 +3,8 @@
     python3 tools/calls_page.py          # writes the page
     python3 tools/calls_page.py check    # compares it; status 1 where it differs, or where a planted fault is not told
 
-Only what stands between `<!-- NAME -->` and `<!-- end -->` is written: the call's parameters and comment in bindings/c/rolwyddac.h, its numbers
-in the order in which they are tested, and the functions of bindings/rust and bindings/python that call it. Each call stands once.
+Only what stands between `<!-- NAME -->` and `<!-- end -->` is written: the call's parameters, comment and struct in bindings/c/rolwyddac.h, its
+numbers in the order in which they are tested, and the functions of bindings/rust and bindings/python that call it. Each call stands once.
 """
 
 import ast
@@ -33,12 +33,12 @@ RATTLE = {
     'summary': 'summary::summary', 'message': 'summary::message', 'hops': 'summary::hops',
     'rounds': 'schedule::run', 'rounds_of': 'schedule::rounds_of',
     'messages': 'transport::messages', 'owners': 'transport::owners', 'awaited': 'transport::awaited', 'take_in': 'transport::take_in',
-    'own_sizes': 'part_calls::sizes', 'own_messages': 'part_calls::messages', 'own_fresh': 'part_calls::fresh',
-    'own_turn': 'calls::board::rolwyddac_own_turn', 'own_post': 'part_calls::post', 'own_arrive': 'part_calls::arrive',
-    'own_collect': 'part_calls::collect',
-    'soundings': 'soundings::fill', 'chart': 'chart::write', 'chart_length': 'chart::length_of', 'write': 'writer::write',
-    'fresh_both': 'sharing::fresh', 'office_turn': 'sharing::turn', 'office_deliver': 'sharing::deliver', 'office_collect': 'sharing::collect',
-    'look': 'sharing::look::look', 'turn_at': 'timed::turn', 'office_turn_at': 'timed::turn_for', 'opens': 'timed::opens',
+    'part_sizes': 'part_calls::sizes', 'part_messages': 'part_calls::messages', 'part_fresh': 'part_calls::fresh',
+    'part_turn': 'calls::part::rolwyddac_part_turn', 'part_post': 'part_calls::post', 'part_arrive': 'part_calls::arrive',
+    'part_collect': 'part_calls::collect',
+    'soundings': 'soundings::fill', 'chart': 'chart::write', 'chart_length': 'chart::length_of', 'read': 'reader::read', 'write': 'writer::write',
+    'fresh_both': 'sharing::fresh', 'tenant_turn': 'sharing::turn', 'tenant_deliver': 'sharing::deliver', 'tenant_collect': 'sharing::collect',
+    'view': 'sharing::look::look', 'turn_at': 'timed::turn', 'tenant_turn_at': 'timed::turn_for', 'opens': 'timed::opens',
 }
 
 
@@ -50,11 +50,12 @@ def source(name):
 # The header: comments and prototypes
 
 def declared(text):
-    """Name to comment and parameters of each call, in the header's order."""
-    found = {}
-    for comment, name, inside in re.findall(r'/\* ((?:(?!\*/).)*?) \*/\nuint32_t (\w+)\((.*?)\);', text, flags=re.S):
+    """Name to comment, parameters and what is returned of each call, in the header's order."""
+    structs, found = header.c_structs(text), {}
+    for comment, result, name, inside in re.findall(r'/\* ((?:(?!\*/).)*?) \*/\n(\w+) (\w+)\((.*?)\);', text, flags=re.S):
         words = ' '.join(re.sub(r'^ \* ?', '', line) for line in comment.split('\n'))
-        found[name[len(PREFIX):]] = ' '.join(words.split()), [' '.join(each.split()) for each in inside.split(',')]
+        fields = [field for field, _ in structs.get(result, [])]
+        found[name[len(PREFIX):]] = ' '.join(words.split()), [' '.join(each.split()) for each in inside.split(',')], (result, fields)
     return found
 
 
@@ -76,7 +77,7 @@ def tested(name, numbers, parameters, order):
     processor with its own part before 9."""
     behind = [number for number in order[order.index(8) + 1:] if number in numbers]
     names = [each.split()[-1].lstrip('*') for each in parameters]
-    early = AREA if name.startswith('own_') else UNFIT if 'office' in names and UNFIT in numbers else None
+    early = AREA if name.startswith('part_') and AREA in numbers else UNFIT if 'office' in names and UNFIT in numbers else None
     if early is None or NO_SUCH not in numbers:
         return behind
     again = 'message' in names or early == UNFIT and 'processor' in names
@@ -107,7 +108,7 @@ def rust_names(name):
             for method, body in re.findall(r'^    pub fn (\w+)(?:<[^>]*>)?\((.*?)^    \}', inside, flags=re.M | re.S):
                 if re.search(r'(?<![\w.:])%s\(' % function, body):
                     methods.append('%s::%s' % (kind, method))
-    return [function] + [each for each in handier if each not in ('Rig', 'OwnBoard', 'Fields')] + methods
+    return [function] + [each for each in handier if each not in ('Rig', 'PartBoard', 'Fields')] + methods
 
 
 def called(node, names):
@@ -166,22 +167,28 @@ def parts_of(parameters):
     return [name for each, name in names if name in areas or name in plain], [name for each, name in names if '*' in each and 'const' not in each]
 
 
-def entry(name, comment, parameters, order, python):
+def returned(result, fields):
+    """What a call returns, told of those that return more than their number."""
+    return ['- Returns: `%s`, with %s.' % (result, quoted(fields))] if fields else []
+
+
+def entry(name, comment, parameters, answer, order, python):
     """What the page has of a call."""
-    told = re.fullmatch(r'(.*?) ?Numbers: (.*?)\. (A refusal leaves .*?)', comment)
-    if not told:
-        raise SystemExit('%s%s: its comment has no line of numbers' % (PREFIX, name))
-    does, numbers, leaves = told.groups()
+    told = re.fullmatch(r'(.*?) ?Numbers: (.*?)\.(?: (A refusal leaves .*?))?', comment)
     given, written = parts_of(parameters)
+    if not told or bool(told[3]) != bool(written):
+        raise SystemExit('%s%s: its comment has no line of numbers, or not what a refusal leaves' % (PREFIX, name))
+    does, numbers, leaves = told.groups()
     behind = tested(name, spread(numbers), parameters, order)
     conditions = re.findall(r'\d+,? (?:also )?if [^;.]+', numbers)
     lines = ['### ' + PREFIX + name, '', '| C | Rust | Python | Rattle |', '|---|---|---|---|',
              '| `%s%s` | %s | %s | `%s` |' % (PREFIX, name, quoted(rust_names(name)), quoted(["calls.EXPORTED['%s']" % name] + python), rattle_name(name)),
              '', filled_lines(does), '',
-             filled_lines('- Parameters: %s. Written: %s.' % (quoted(given), quoted(written))),
+             filled_lines('- Parameters: %s.%s' % (quoted(given), ' Written: %s.' % quoted(written) if written else '')),
+             *map(filled_lines, returned(*answer)),
              filled_lines('- Numbers, in this order: %s.%s' % (', '.join([reader(spread(numbers), order)] + list(map(str, behind))),
                                                                ''.join(' Number %s.' % each.replace(', also', ' also') for each in conditions))),
-             filled_lines('- ' + leaves)]
+             *[filled_lines('- ' + each) for each in (leaves,) if each]]
     return '\n'.join(lines)
 
 
@@ -220,8 +227,9 @@ def terms_differ(text):
 
 def planted(page, text):
     """Changes of the header that must be told."""
-    for old, new in (('Makes a fresh start:', 'Makes a start:'), ('9 if out has not 4 words', '9 if out has not 5 words'),
-                     ('uint32_t rolwyddac_hops(', 'uint32_t rolwyddac_jumps('), ('1 to 13, 16 to 18, 20, 21. A refusal leaves memory,', '1 to 12, 16 to 18. A refusal leaves memory,')):
+    for old, new in (('Makes a fresh start:', 'Makes a start:'), ('9 if out has not six words', '9 if out has not five words'),
+                     ('  uint32_t minutes;', '  uint32_t hours;'), ('rolwyddac_opening rolwyddac_opens(', 'rolwyddac_viewed rolwyddac_opens('),
+                     ('rolwyddac_hop_count rolwyddac_hops(', 'rolwyddac_hop_count rolwyddac_jumps('), ('1 to 13, 16 to 18, 20, 21. A refusal leaves memory,', '1 to 12, 16 to 18. A refusal leaves memory,')):
         if old not in text:
             raise SystemExit('the header has no %r to change' % old)
         try:

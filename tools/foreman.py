@@ -12,7 +12,7 @@ ROOT = os.path.join(os.path.dirname(os.path.abspath(__file__)), '..')
 # data/harbour/basin.txt
 HARBOUR = model.encode([60, 80], [10, 16], [6, 0], [(1, 0), (0, 1), (1, 1)], shift=2, boundary=4000, bounds=[(model.LOWER, 1, 0, 1, -40)])
 
-LENT = ('source', 'memories', 'buffer', 'progress', 'status', 'out', 'rounds')
+LENT = ('source', 'memories', 'buffer', 'progress', 'status', 'rounds')
 
 
 def right_lengths(encoded):
@@ -21,7 +21,7 @@ def right_lengths(encoded):
     if number != 0:
         return right_lengths(model.ROWS['D'])
     words = sum(len(message.cells) for message in plan.messages)
-    return [plan.cells, plan.boards * plan.cells, words, plan.boards, len(plan.messages), 1, plan.tiles]
+    return [plan.cells, plan.boards * plan.cells, words, plan.boards, len(plan.messages), plan.tiles]
 
 
 def accepted_recipes():
@@ -59,14 +59,14 @@ def cases():
                 if min(lengths) >= 0:
                     found.append((encoded, lengths, 9 if LENT[at] != 'rounds' else 0, 9 if LENT[at] == 'rounds' else 0))
         found.append((encoded, [0] * len(right), 9, 9))
-        found.append((encoded, [right[0], right[1], right[2], 65, right[4], 1, right[6]], 9, 0))
+        found.append((encoded, [right[0], right[1], right[2], 65, right[4], right[5]], 9, 0))
     # each of the reader's lines before 9, and before the lines behind it, as vectors.refused_recipes pairs them
     for encoded in vectors.refused_recipes():
         number = model.read(encoded)[0]
         right = right_lengths(encoded)
-        found.append((encoded, right if number % 2 else [0, 1, 2, 3, 4, 5, 6], number, number))
-    # more records than any recipe has, and no one word for the rounds, behind the reader's lines
-    found += [(model.ROWS['D'][16:], [4, 8, 1, 65, 1, out, 2], 2, 2) for out in (1, 2)]
+        found.append((encoded, right if number % 2 else [0, 1, 2, 3, 4, 6], number, number))
+    # more records than any recipe has, behind the reader's lines
+    found.append((model.ROWS['D'][16:], [4, 8, 1, 65, 1, 2], 2, 2))
     return found
 
 
@@ -81,24 +81,25 @@ def rounds_files():
     for k, (encoded, lengths, number, number_of) in enumerate(cases()):
         assert len(encoded) <= 1024 and max(lengths) <= 4096
         content += header(len(encoded), *lengths) + encoded
-        source, memories, buffer, records, status, out, tiles = lengths
+        source, memories, buffer, records, status, tiles = lengths
         areas = model.Areas()
         areas.source = [(j * 2654435761 + 7) % model.WORD for j in range(source)]
         areas.memories, areas.buffer = [[3000000000 + j for j in range(n)] for n in (memories, buffer)]
         areas.progress, areas.status = [77 + j for j in range(3 * records)], [j % 251 for j in range(status)]
         areas.grid = []
-        told, found = [3000000000 + j for j in range(out)], [3000000000 + j for j in range(tiles)]
-        got = model.rounds(encoded, areas) if out == 1 or model.read(encoded)[0] != 0 else (9, 0)
+        found = [3000000000 + j for j in range(tiles)]
+        got = model.rounds(encoded, areas)
         got_of = model.rounds_of(encoded, found)
         assert (got[0], got_of) == (number, number_of), (k, got, got_of)
+        told = 0
         if number == 0:
             # told by the recurrence, and the driver's own count agrees
-            told = [max(model.tile_rounds(model.plan_of(encoded)[1]))]
-            assert told == [got[1]], (k, told, got)
+            told = max(model.tile_rounds(model.plan_of(encoded)[1]))
+            assert told == got[1], (k, told, got)
         h = 2166136261
         for words in (areas.memories, areas.buffer, areas.progress, areas.status):
             h = hashed([len(words)] + words, h)
-        lines += ['case %d' % k, '%d %d' % (number, number_of), ' '.join(map(str, told)), str(h), ' '.join(map(str, found))]
+        lines += ['case %d' % k, '%d %d' % (number, number_of), str(told), str(h), ' '.join(map(str, found))]
     return stored('rounds', content, lines)
 
 

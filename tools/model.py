@@ -602,7 +602,7 @@ def fresh_both(encoded, first, second, engaged, route=DIRECT):
     return 0
 
 
-def look(encoded, first, second, office, b):
+def view(encoded, first, second, office, b):
     """W-208: the number, where the board's part begins in the strips of the office named, and the part itself, which is empty at any
     refusal. It is given no route."""
     number, plan = plan_of(encoded)
@@ -641,25 +641,25 @@ def owners(encoded, out):
     return 0
 
 
-def awaited(encoded, areas, b, marks, out, route=DIRECT):
-    """The tile at which a board stands, and which messages it waits for: those due there, where it is to gather, that are not delivered.
-    Of the areas only records and marks are lent."""
+def awaited(encoded, areas, b, marks, route=DIRECT):
+    """The number, and the tile at which a board stands, 0 at a refusal; and which messages it waits for: those due there, where it is to gather,
+    that are not delivered. Of the areas only records and marks are lent."""
     number, plan = plan_of(encoded, route)
     if number != 0:
-        return number
+        return number, 0
     count = len(plan.messages)
-    if len(areas.progress) != 3 * plan.boards or len(areas.status) != count or len(marks) != count or len(out) != 1:
-        return 9
+    if len(areas.progress) != 3 * plan.boards or len(areas.status) != count or len(marks) != count:
+        return 9, 0
     if not is_fit(plan, areas):
-        return 10
+        return 10, 0
     if not b < plan.boards:
-        return 11
+        return 11, 0
     finished, stage, _ = areas.progress[3 * b:3 * b + 3]
     if finished == len(plan.tiles_of[b]):
-        return 13
-    out[0] = plan.tiles_of[b][finished]
-    marks[:] = [int(stage == 0 and m in plan.due_at[out[0]] and areas.status[m] != 2) for m in range(count)]
-    return 0
+        return 13, 0
+    tile = plan.tiles_of[b][finished]
+    marks[:] = [int(stage == 0 and m in plan.due_at[tile] and areas.status[m] != 2) for m in range(count)]
+    return 0, tile
 
 
 def take_in(encoded, areas, b, m, words, route=DIRECT):
@@ -780,15 +780,13 @@ def on_widened(encoded, own, b, route, is_right, call):
     return number
 
 
-def own_sizes(encoded, b, out, route=DIRECT):
-    """Four words: its own cells, the cells it keeps, the words of its messages, and how many these are."""
-    number, plan = own_number(encoded, route, b, lambda plan: len(out) == 4)
-    if number == 0:
-        out[:] = own_lengths(plan, b)
-    return number
+def part_sizes(encoded, b, route=DIRECT):
+    """The number, and four words, 0 at a refusal: its own cells, the cells it keeps, the words of its messages, and how many these are."""
+    number, plan = own_number(encoded, route, b, lambda plan: True)
+    return number, list(own_lengths(plan, b)) if number == 0 else [0] * 4
 
 
-def own_messages(encoded, b, out, route=DIRECT):
+def part_messages(encoded, b, out, route=DIRECT):
     """A row of seven words for each of its messages: number, the two tiles, their boards, how many words, and where these begin in its mail."""
     number, plan = own_number(encoded, route, b, lambda plan: len(out) == 7 * len(handled(plan, b)))
     if number != 0:
@@ -802,26 +800,26 @@ def own_messages(encoded, b, out, route=DIRECT):
     return 0
 
 
-def own_fresh(encoded, own, b, route=DIRECT):
+def part_fresh(encoded, own, b, route=DIRECT):
     """No source is lent."""
     return on_widened(encoded, own, b, route, lambda plan: True, lambda areas: fresh(encoded, areas, route))
 
 
-def own_turn(encoded, own, b, route=DIRECT):
+def part_turn(encoded, own, b, route=DIRECT):
     return on_widened(encoded, own, b, route, lambda plan: len(own.source) == len(own_cells(plan, b)), lambda areas: turn(encoded, areas, b, route))
 
 
-def own_post(encoded, own, b, m, route=DIRECT):
+def part_post(encoded, own, b, m, route=DIRECT):
     """Message m is handed to a transport: delivered, as far as its sender knows. Of a message that is another's it has no mark, which is 14."""
     return on_widened(encoded, own, b, route, lambda plan: True, lambda areas: deliver(encoded, areas, m, route))
 
 
-def own_arrive(encoded, own, b, m, words, route=DIRECT):
+def part_arrive(encoded, own, b, m, words, route=DIRECT):
     return on_widened(encoded, own, b, route, lambda plan: m >= len(plan.messages) or len(words) == len(plan.messages[m].cells),
                       lambda areas: take_in(encoded, areas, b, m, words, route))
 
 
-def own_collect(encoded, own, b, route=DIRECT):
+def part_collect(encoded, own, b, route=DIRECT):
     """Of the part only memory and record are lent. The words of its own cells and of the cells outside the shape are written, no other."""
     number, plan = own_number(encoded, route, b, lambda plan: [len(own.memory), len(own.progress), len(own.grid)] == [
         len(kept_cells(plan, b)), 3, plan.cells])
@@ -1177,7 +1175,7 @@ def check_paper():
     check_hours()
     check_rounds()
     check_transport()
-    check_own()
+    check_parts()
 
 
 def check_routes():
@@ -1272,10 +1270,10 @@ def check_offices():
     for office, values in ((0, [1, 2, 3, 4]), (1, [5, 11, 18, 26])):
         expect('collecting', (collect(encoded, both.areas[office], DIRECT, both.rig(office)), both.areas[office].grid), (0, values))
     strips = [areas.memories for areas in both.areas]
-    expect('a look at each part', [look(encoded, *strips, office, b) for office in (0, 1) for b in (0, 1)],
+    expect('a view of each part', [view(encoded, *strips, office, b) for office in (0, 1) for b in (0, 1)],
            [(0, 0, [1, 2, 0, 0]), (0, 4, [0, 2, 3, 4]), (0, 0, [5, 11, 0, 0]), (0, 4, [0, 11, 18, 26])])
-    expect('a look refused', [look(encoded, *strips, 2, 0), look(encoded, *strips, 0, 2), look(encoded, strips[0][1:], strips[1], 2, 2),
-                              look(encoded, strips[0], strips[1][1:], 2, 2), look(encoded[1:], [], [], 2, 2)],
+    expect('a view refused', [view(encoded, *strips, 2, 0), view(encoded, *strips, 0, 2), view(encoded, strips[0][1:], strips[1], 2, 2),
+                              view(encoded, strips[0], strips[1][1:], 2, 2), view(encoded[1:], [], [], 2, 2)],
            [(11, 0, []), (11, 0, []), (9, 0, []), (9, 0, []), (1, 0, [])])
     check_office_lines(encoded, plan)
     # one board for all: the offices take it tile by tile
@@ -1509,26 +1507,26 @@ def check_transport():
     own = [areas_for(plan, [1] * 4) for _ in range(2)]
 
     def waits(b, areas=None, count=1):
-        marks, out = [7] * count, [7]
-        return awaited(encoded, areas or own[b], b, marks, out), marks, out
+        marks = [7] * count
+        return *awaited(encoded, areas or own[b], b, marks), marks
 
-    expect('who waits at the start', [waits(0), waits(1)], [(0, [0], [0]), (0, [1], [1])])
-    expect('no such board, a wrong length', [waits(2, own[0]), waits(0, count=2)], [(11, [7], [7]), (9, [7, 7], [7])])
+    expect('who waits at the start', [waits(0), waits(1)], [(0, 0, [0]), (0, 1, [1])])
+    expect('no such board, a wrong length', [waits(2, own[0]), waits(0, count=2)], [(11, 0, [7]), (9, 0, [7, 7])])
     expect('the turns of board 0', [turn(encoded, own[0], 0) for _ in range(4)], [0, 0, 0, 13])
-    expect('it has finished', waits(0), (13, [7], [7]))
+    expect('it has finished', waits(0), (13, 0, [7]))
     expect('posting', [deliver(encoded, own[0], 0), own[0].buffer, own[0].status], [0, [2], [2]])
     expect('the faults of what comes', [take_in(encoded, own[1], b, m, words) for b, m, words in (
         (1, 0, [2, 2]), (1, 0, []), (0, 0, [2]), (2, 0, [2]), (1, 1, [2]), (1, 1, []))], [9, 9, 11, 11, 11, 11])
     expect('nothing is written', [own[1].buffer, own[1].status], [[0], [0]])
     expect('it comes, and again', [take_in(encoded, own[1], 1, 0, [word]) for word in (2, 9)], [0, 14])
-    expect('what came', [own[1].buffer, own[1].status, waits(1)], [[2], [2], (0, [0], [1])])
+    expect('what came', [own[1].buffer, own[1].status, waits(1)], [[2], [2], (0, 1, [0])])
     expect('board 1 goes on', [turn(encoded, own[1], 1) for _ in range(3)], [0, 0, 13])
     expect('its values', own[1].memories[6:], [3, 4])
     own[1].progress[1] = 3
     expect('unfit before no such', [take_in(encoded, own[1], 0, 9, []), take_in(encoded, own[1], 1, 0, [])], [10, 9])
 
 
-def check_own():
+def check_parts():
     """Row D, each board with its own part alone; board 1 keeps cell 1 beside its own, since message 0 brings it."""
     encoded = ROWS['D']
     plan = plan_of(encoded)[1]
@@ -1539,43 +1537,43 @@ def check_own():
         expect('as before', number == 0 or out == [7] * count, True)
         return out if number == 0 else number
 
-    expect('its lengths', [told(own_sizes, b, 4) for b in range(3)], [[2, 2, 1, 1], [2, 3, 1, 1], 11])
-    expect('11 before 9', [told(own_sizes, 1, 5), told(own_sizes, 2, 5), told(own_sizes, 2, 5, of=encoded[16:])], [9, 11, 2])
-    expect('its messages', [told(own_messages, b, 7) for b in range(3)], [[0, 0, 1, 0, 1, 1, 0]] * 2 + [11])
-    expect('rows of other lengths', [told(own_messages, b, 8) for b in range(3)], [9, 9, 11])
+    expect('its lengths', [part_sizes(encoded, b) for b in range(3)], [(0, [2, 2, 1, 1]), (0, [2, 3, 1, 1]), (11, [0] * 4)])
+    expect('no recipe before no such', part_sizes(encoded[16:], 2), (2, [0] * 4))
+    expect('its messages', [told(part_messages, b, 7) for b in range(3)], [[0, 0, 1, 0, 1, 1, 0]] * 2 + [11])
+    expect('rows of other lengths', [told(part_messages, b, 8) for b in range(3)], [9, 9, 11])
     # boards 1 and 2 of three: the middle one handles what it takes and what it sends
     line = encode([6, 1], [2, 1], [3, 0], [(1, 0)])
-    expect('three boards', [told(own_messages, b, 14, of=line) for b in (1, 2)], [[0, 0, 1, 0, 1, 1, 0, 1, 1, 2, 1, 2, 1, 1], 9])
+    expect('three boards', [told(part_messages, b, 14, of=line) for b in (1, 2)], [[0, 0, 1, 0, 1, 1, 0, 1, 1, 2, 1, 2, 1, 1], 9])
     parts = [own_areas_for(plan, b, [1] * 4) for b in range(2)]
     parts[0].memory, parts[0].progress, parts[0].marks = [9, 9], [77, 0, 0], [200]
-    expect('a fresh start', [own_fresh(encoded, parts[0], 0), parts[0].memory, parts[0].mail, parts[0].progress, parts[0].marks],
+    expect('a fresh start', [part_fresh(encoded, parts[0], 0), parts[0].memory, parts[0].mail, parts[0].progress, parts[0].marks],
            [0, [0, 0], [0], [0] * 3, [0]])
-    expect('waits', [own_turn(encoded, parts[1], 1), own_turn(encoded, parts[1], 0), own_turn(encoded, parts[1], 2)], [12, 9, 11])
-    expect('early', [own_collect(encoded, part, b) for b, part in enumerate(parts)], [15, 15])
-    expect('the turns of board 0', [own_turn(encoded, parts[0], 0) for _ in range(4)], [0, 0, 0, 13])
+    expect('waits', [part_turn(encoded, parts[1], 1), part_turn(encoded, parts[1], 0), part_turn(encoded, parts[1], 2)], [12, 9, 11])
+    expect('early', [part_collect(encoded, part, b) for b, part in enumerate(parts)], [15, 15])
+    expect('the turns of board 0', [part_turn(encoded, parts[0], 0) for _ in range(4)], [0, 0, 0, 13])
     expect('what it has', [parts[0].memory, parts[0].mail, parts[0].marks], [[1, 2], [2], [1]])
-    expect('posting', [own_post(encoded, parts[0], 0, m) for m in (1, 0, 0)] + [parts[0].marks], [11, 0, 14, [2]])
-    expect('what comes', [own_arrive(encoded, parts[1], b, m, words) for b, m, words in (
+    expect('posting', [part_post(encoded, parts[0], 0, m) for m in (1, 0, 0)] + [parts[0].marks], [11, 0, 14, [2]])
+    expect('what comes', [part_arrive(encoded, parts[1], b, m, words) for b, m, words in (
         (2, 0, []), (1, 0, [2, 2]), (0, 0, [2]), (1, 1, [2]), (1, 0, [2]), (1, 0, [9]))], [11, 9, 9, 11, 0, 14])
-    expect('where it is', [own_arrive(encoded, parts[0], 0, 0, [2]), parts[1].mail, parts[1].marks], [11, [2], [2]])
-    expect('board 1 goes on', [own_turn(encoded, parts[1], 1) for _ in range(3)] + [parts[1].memory, parts[1].marks], [0, 0, 13, [2, 3, 4], [3]])
+    expect('where it is', [part_arrive(encoded, parts[0], 0, 0, [2]), parts[1].mail, parts[1].marks], [11, [2], [2]])
+    expect('board 1 goes on', [part_turn(encoded, parts[1], 1) for _ in range(3)] + [parts[1].memory, parts[1].marks], [0, 0, 13, [2, 3, 4], [3]])
     grid = [5] * 4
     for b in (1, 0):
         parts[b].grid = grid
-        expect('collecting', own_collect(encoded, parts[b], b), 0)
+        expect('collecting', part_collect(encoded, parts[b], b), 0)
         expect('the grid', grid, [5, 5, 3, 4] if b else [1, 2, 3, 4])
     parts[1].marks = [4]
-    expect('unfit', [own_turn(encoded, parts[1], 1), own_post(encoded, parts[1], 1, 9), own_arrive(encoded, parts[1], 1, 9, []),
-                     own_collect(encoded, parts[1], 1)], [10, 10, 10, 0])
+    expect('unfit', [part_turn(encoded, parts[1], 1), part_post(encoded, parts[1], 1, 9), part_arrive(encoded, parts[1], 1, 9, []),
+                     part_collect(encoded, parts[1], 1)], [10, 10, 10, 0])
     # a board without tiles: its part is empty, and it has finished
     none = plan_of(ROWS['F'])[1]
     part = own_areas_for(none, 1, [1] * 2)
-    expect('no tiles', [told(own_sizes, 1, 4, of=ROWS['F']), own_turn(ROWS['F'], part, 1), own_collect(ROWS['F'], part, 1), part.grid],
+    expect('no tiles', [part_sizes(ROWS['F'], 1)[1], part_turn(ROWS['F'], part, 1), part_collect(ROWS['F'], part, 1), part.grid],
            [[0] * 4, 13, 0, [0, 0]])
     shaped = encode([2, 4], [1, 2], [2, 0], [(1, 0)], boundary=9, bounds=[(1, 1, 0, 0, 2)])
     part = own_areas_for(plan_of(shaped)[1], 1, [1] * 8)
     part.progress[0] = 2
-    expect('outside the shape', [own_collect(shaped, part, 1), part.grid], [0, [0, 0, 0, 9, 0, 0, 0, 9]])
+    expect('outside the shape', [part_collect(shaped, part, 1), part.grid], [0, [0, 0, 0, 9, 0, 0, 0, 9]])
 
 
 if __name__ == '__main__':

@@ -205,7 +205,7 @@ class ByLibrary(ByModel):
 
     def turn_of(self, office, processor):
         own, other = self.offices.areas[office], self.lent(self.offices.areas[1 - office])[2]
-        return self.called('office_turn', own, self.engaged, other, office, processor)
+        return self.called('tenant_turn', own, self.engaged, other, office, processor)
 
     def sounding(self, cell):
         return self.number_of(lambda: self.library.soundings(self.encoded, [(cell, 0, 0, 0)], 0))

@@ -10,7 +10,7 @@ OFFICE_AREAS = ['source', 'memories', 'buffer', 'progress', 'status', 'grid']
 NAMES = [''] + OFFICE_AREAS + ['engaged', 'hours']
 ROOM = {'source': 256, 'memories': 1024, 'buffer': 1792, 'progress': 192, 'status': 1792, 'grid': 256, 'engaged': 64, 'hours': 1792}
 OPS = {'case': 1, 'recipe': 2, 'lend': 3, 'fill': 4, 'poke': 5, 'fresh': 6, 'deliver alone': 8, 'collect alone': 9, 'sweep': 10, 'show': 11,
-       'route': 12, 'fresh both': 16, 'turn': 17, 'deliver': 18, 'collect': 19, 'look': 20, 'turn alone at': 21, 'turn at': 22, 'opens': 23}
+       'route': 12, 'fresh both': 16, 'turn': 17, 'deliver': 18, 'collect': 19, 'view': 20, 'turn alone at': 21, 'turn at': 22, 'opens': 23}
 HIGH = 4294967295
 
 
@@ -167,12 +167,12 @@ class RigScript:
         return self.call('collect', lambda both, engaged: model.collect(
             self.encoded, both[office], self.route, self.rig(both, engaged, office, named)), office, b=named)
 
-    def look(self, named, b):
+    def view(self, named, b):
         """Tells where the part begins, its length and its words' checksum."""
         def answer(both, engaged):
-            number, start, part = model.look(self.encoded, both[0].memories, both[1].memories, named, b)
+            number, start, part = model.view(self.encoded, both[0].memories, both[1].memories, named, b)
             return number, (start, len(part), '%08x' % hashed(part))
-        return self.call('look', answer, a=b, b=named)
+        return self.call('view', answer, a=b, b=named)
 
     # one office alone, and hours (W-212); only what a program of hours calls
 
@@ -275,7 +275,7 @@ def office_facts(s):
     for office, values in ((0, '1 2 3 4 '), (1, '5 11 18 26 ')):
         s.show(office, 'grid')
         assert s.lines[-1] == values
-    assert [s.look(office, b) for office in (0, 1, 2) for b in (0, 1, 2)] == [0, 0, 11] * 2 + [11] * 3
+    assert [s.view(office, b) for office in (0, 1, 2) for b in (0, 1, 2)] == [0, 0, 11] * 2 + [11] * 3
 
 
 def office_refusals(s):
@@ -288,20 +288,20 @@ def office_refusals(s):
         for office, name in s.keys():
             s.lend(office, name, 3)
             s.fill(office, name, DRAWN, number)
-        assert [s.fresh_both()] + s.all_calls(number % 2, 2) + [s.look(2, 9)] == [number] * 5
-    # 21 in calls that are given a route, before 9; the look has none
+        assert [s.fresh_both()] + s.all_calls(number % 2, 2) + [s.view(2, 9)] == [number] * 5
+    # 21 in calls that are given a route, before 9; the view has none
     shape = vectors.shape_recipes()[0]
     s.start('a shape by the indirect route', shape)
     s.by(1)
     s.lend(0, 'engaged', 1)
-    assert [s.fresh_both()] + s.all_calls(0) + s.all_calls(1, 2) + [s.look(1, 0)] == [21] * 7 + [0]
+    assert [s.fresh_both()] + s.all_calls(0) + s.all_calls(1, 2) + [s.view(1, 0)] == [21] * 7 + [0]
     encoded = model.ROWS['D']
     plan = s.start('row D, areas of wrong lengths', encoded)
     for (office, name), length in s.lengths(plan).items():
         for wrong in (length - 1, length + 1) if name in ('memories', 'progress', 'engaged') else (length + 1,):
             s.lend(office, name, wrong)
             shared = name == 'engaged'
-            # an office is lent the other's records alone; the look both strips alone
+            # an office is lent the other's records alone; the view both strips alone
             own = [shared or office == whose or name == 'progress' for whose in (0, 1)]
             assert (s.fresh_both() == 9) == (name != 'grid')
             for whose in (0, 1):
@@ -309,7 +309,7 @@ def office_refusals(s):
                     wanted = 9 if own[whose] else 0 if named < 2 else 11
                     got = s.all_calls(whose, named)
                     assert got[2] == (wanted or 15) and (got[0] == 9) == (wanted == 9 and name != 'grid')
-            assert s.look(2, 0) == (9 if name == 'memories' else 11)
+            assert s.view(2, 0) == (9 if name == 'memories' else 11)
             s.lend(office, name, length)
             assert s.fresh_both() == 0
 
@@ -416,7 +416,7 @@ def office_run(s, encoded, route, draw):
             number = s.turn(office, draw.below(plan.boards))
         elif kind == 2 and draw.below(4) == 0:
             assert s.collect(office) == (0 if steps[office] == plan.steps else 15)
-            assert s.look(draw.below(2), draw.below(plan.boards)) == 0
+            assert s.view(draw.below(2), draw.below(plan.boards)) == 0
             continue
         elif kind < 10 and able:
             number = s.turn(office, draw.pick(able))
@@ -432,7 +432,7 @@ def office_run(s, encoded, route, draw):
         collected = s.words_of(office, 'grid')
         s.fill(office, 'grid', DRAWN, 3)
         assert s.sweep(office) == 0 and s.words_of(office, 'grid') == collected
-        assert s.look(office, plan.boards - 1) == 0
+        assert s.view(office, plan.boards - 1) == 0
 
 
 def office_script():
@@ -450,7 +450,7 @@ def office_script():
             office_run(s, encoded, route, draw)
     low = {*vectors.ORDER, 9}
     wanted = {'fresh both': {0, 21} | low, 'turn': {0, 10, 11, 12, 13, 19, 21} | low, 'deliver': {0, 10, 11, 14, 21} | low,
-              'collect': {0, 10, 11, 15, 21} | low, 'look': {0, 11} | low, 'sweep': {0}}
+              'collect': {0, 10, 11, 15, 21} | low, 'view': {0, 11} | low, 'sweep': {0}}
     assert s.numbers == wanted, s.numbers
     return s
 

@@ -619,11 +619,11 @@ def own_step(encoded, route, plan, wide, parts, mail, event):
     kind, b, *rest = event
     part, areas = parts[b], wide[b]
     if kind == 'turn':
-        numbers = model.own_turn(encoded, part, b, route), model.turn(encoded, areas, b, route)
+        numbers = model.part_turn(encoded, part, b, route), model.turn(encoded, areas, b, route)
     elif kind == 'post':
-        numbers = model.own_post(encoded, part, b, *rest, route), model.deliver(encoded, areas, *rest, route)
+        numbers = model.part_post(encoded, part, b, *rest, route), model.deliver(encoded, areas, *rest, route)
     else:
-        numbers = model.own_arrive(encoded, part, b, *rest, route), model.take_in(encoded, areas, b, *rest, route)
+        numbers = model.part_arrive(encoded, part, b, *rest, route), model.take_in(encoded, areas, b, *rest, route)
     assert numbers[0] == numbers[1], (event, numbers)
     seen = copy.deepcopy(part)
     model.narrow(plan, b, areas, seen)
@@ -648,7 +648,7 @@ def check_own_run(encoded, route, draw):
     grid = [draw.word() for _ in range(plan.cells)]
     for b in sorted(range(plan.boards), key=lambda b: draw.word()):
         parts[b].grid = grid
-        assert model.own_collect(encoded, parts[b], b, route) == 0
+        assert model.part_collect(encoded, parts[b], b, route) == 0
     assert grid == plan.swept(source)
     return numbers
 

@@ -198,27 +198,31 @@ impl Pair<'_> {
         self.compare("sweep", &String::new, (theirs, ours), (&copy, grid))
     }
 
-    fn summary(&mut self, out: &mut [u32]) -> Outcome<u32> {
-        let mut copy = out.to_vec();
-        let theirs = self.engine.summary(&self.encoded, self.route, &mut copy);
-        let ours = self.model.summary(&self.encoded, self.route, out);
+    fn summary(&mut self) -> Outcome<u32> {
+        let (mut theirs, mut ours) = ([7; SUMMARY_WORDS], [8; SUMMARY_WORDS]);
+        let numbers = (
+            self.engine.summary(&self.encoded, self.route, &mut theirs),
+            self.model.summary(&self.encoded, self.route, &mut ours),
+        );
         let route = self.route;
-        self.compare("summary", &|| format!("{route:?}"), (theirs, ours), (&copy, out))
+        self.compare("summary", &|| format!("{route:?}"), numbers, (&theirs, &ours))
     }
 
-    fn message(&mut self, message: u32, out: &mut [u32]) -> Outcome<u32> {
-        let mut copy = out.to_vec();
-        let theirs = self.engine.message(&self.encoded, self.route, message, &mut copy);
-        let ours = self.model.message(&self.encoded, self.route, message, out);
+    fn message(&mut self, message: u32) -> Outcome<u32> {
+        let (mut theirs, mut ours) = ([7; MESSAGE_WORDS], [8; MESSAGE_WORDS]);
+        let numbers = (
+            self.engine.message(&self.encoded, self.route, message, &mut theirs),
+            self.model.message(&self.encoded, self.route, message, &mut ours),
+        );
         let route = self.route;
-        self.compare("message", &|| format!("{route:?} {message}"), (theirs, ours), (&copy, out))
+        self.compare("message", &|| format!("{route:?} {message}"), numbers, (&theirs, &ours))
     }
 
-    fn hops(&mut self, message: u32, out: &mut [u32]) -> Outcome<u32> {
-        let mut copy = out.to_vec();
-        let theirs = self.engine.hops(&self.encoded, message, &mut copy);
-        let ours = self.model.hops(&self.encoded, message, out);
-        self.compare("hops", &|| format!("of {message}"), (theirs, ours), (&copy, out))
+    fn hops(&mut self, message: u32) -> Outcome<u32> {
+        let (mut theirs, mut ours) = ([7; HOPS_WORDS], [8; HOPS_WORDS]);
+        let numbers =
+            (self.engine.hops(&self.encoded, message, &mut theirs), self.model.hops(&self.encoded, message, &mut ours));
+        self.compare("hops", &|| format!("of {message}"), numbers, (&theirs, &ours))
     }
 
     fn write(&mut self, numbers: &Numbers, space: &mut [u8]) -> Outcome<u32> {
@@ -350,19 +354,18 @@ fn wrong_lengths(rng: &mut Rng, areas: &mut Areas) {
 
 /// the plan's totals and lines on a route
 fn lines(pair: &mut Pair, rng: &mut Rng) -> Outcome<()> {
-    let mut totals = words(rng, SUMMARY_WORDS);
-    pair.summary(&mut totals)?;
+    pair.summary()?;
     let messages = pair.plan().map_or(2, |plan| plan.messages.len());
     for message in 0..messages.min(40) {
         // all of a short list, else some of a long one
         let message = if messages <= 40 { message } else { rng.below(messages) };
-        pair.message(message as u32, &mut words(rng, MESSAGE_WORDS))?;
+        pair.message(message as u32)?;
         // the count of direct messages may be another, so some of these are too high
-        pair.hops(message as u32, &mut words(rng, HOPS_WORDS))?;
+        pair.hops(message as u32)?;
     }
     let beyond = rng.of(&[messages as u32, messages as u32 + 1, u32::MAX]);
-    pair.message(beyond, &mut words(rng, MESSAGE_WORDS))?;
-    pair.hops(beyond, &mut words(rng, HOPS_WORDS)).map(|_| ())
+    pair.message(beyond)?;
+    pair.hops(beyond).map(|_| ())
 }
 
 /// the plan's totals and lines, by one route or by both, and the sweep
@@ -379,12 +382,6 @@ fn reading(pair: &mut Pair, rng: &mut Rng) -> Outcome<()> {
     let source = words(rng, cells);
     pair.sweep(&source, &mut words(rng, cells))?;
     if rng.one_in(4) {
-        let length = other_length(rng, SUMMARY_WORDS);
-        pair.summary(&mut words(rng, length))?;
-        let length = other_length(rng, MESSAGE_WORDS);
-        pair.message(0, &mut words(rng, length))?;
-        let length = other_length(rng, HOPS_WORDS);
-        pair.hops(0, &mut words(rng, length))?;
         let lengths = (other_length(rng, cells), other_length(rng, cells));
         let lengths = rng.of(&[lengths, (cells, lengths.1), (lengths.0, cells)]);
         let source = words(rng, lengths.0);

@@ -58,11 +58,11 @@ pub struct Part {
 
 /// words of a part's lengths (source, memory, mail, messages) and of the row of a message that a processor handles
 /// (number, the five of its line, place in the mail)
-pub const OWN_SIZES_WORDS: usize = 4;
-pub const OWN_ROW_WORDS: usize = 7;
+pub const PART_SIZES_WORDS: usize = 4;
+pub const PART_ROW_WORDS: usize = 7;
 
-/// words of a look: where the processor's part begins, and its length
-pub const LOOK_WORDS: usize = 2;
+/// words of a view: where the processor's part begins, and its length
+pub const VIEW_WORDS: usize = 2;
 
 /// and of a text's length
 pub const CHART_WORDS: usize = 1;
@@ -94,7 +94,8 @@ pub enum Request {
     Own,
 }
 
-/// Each call gives its number; at any but 0 no lent word changes.
+/// Each call gives its number; at any but 0 no lent word changes. `out` is no lent word but what is told by value: at any
+/// number but 0 it is filled with 0.
 pub trait Engine {
     fn name(&self) -> String;
 
@@ -107,31 +108,31 @@ pub trait Engine {
     fn deliver(&self, encoded: &[u8], route: Route, areas: &mut Areas, message: u32) -> u32;
     fn collect(&self, encoded: &[u8], route: Route, areas: &mut Areas, grid: &mut [u32]) -> u32;
     fn sweep(&self, encoded: &[u8], source: &[u32], grid: &mut [u32]) -> u32;
-    fn summary(&self, encoded: &[u8], route: Route, out: &mut [u32]) -> u32;
-    fn message(&self, encoded: &[u8], route: Route, message: u32, out: &mut [u32]) -> u32;
+    fn summary(&self, encoded: &[u8], route: Route, out: &mut [u32; SUMMARY_WORDS]) -> u32;
+    fn message(&self, encoded: &[u8], route: Route, message: u32, out: &mut [u32; MESSAGE_WORDS]) -> u32;
     /// the hops of a direct message on the indirect route
-    fn hops(&self, encoded: &[u8], message: u32, out: &mut [u32]) -> u32;
+    fn hops(&self, encoded: &[u8], message: u32, out: &mut [u32; HOPS_WORDS]) -> u32;
 
     fn fresh_both(&self, _encoded: &[u8], _route: Route, _rig: &mut Rig) -> u32 {
         unimplemented!("W-208")
     }
 
     /// a turn for an office, which is lent the other's records
-    fn office_turn(
+    fn tenant_turn(
         &self, _encoded: &[u8], _route: Route, _areas: &mut Areas, _engaged: &mut [u32], _other: &[Progress],
         _office: u32, _processor: u32,
     ) -> u32 {
         unimplemented!("W-208")
     }
 
-    fn office_deliver(
+    fn tenant_deliver(
         &self, _encoded: &[u8], _route: Route, _areas: &mut Areas, _engaged: &[u32], _other: &[Progress], _office: u32,
         _message: u32,
     ) -> u32 {
         unimplemented!("W-208")
     }
 
-    fn office_collect(
+    fn tenant_collect(
         &self, _encoded: &[u8], _route: Route, _areas: &mut Areas, _engaged: &[u32], _other: &[Progress], _office: u32,
         _grid: &mut [u32],
     ) -> u32 {
@@ -139,7 +140,9 @@ pub trait Engine {
     }
 
     /// which part of the office's memories is the processor's
-    fn look(&self, _encoded: &[u8], _memories: [&[u32]; 2], _office: u32, _processor: u32, _out: &mut [u32]) -> u32 {
+    fn view_of(
+        &self, _encoded: &[u8], _memories: [&[u32]; 2], _office: u32, _processor: u32, _out: &mut [u32; VIEW_WORDS],
+    ) -> u32 {
         unimplemented!("W-208")
     }
 
@@ -150,14 +153,15 @@ pub trait Engine {
 
     /// the grid as text for the charting desk, with the corners and the cell size; `out` is told its length
     fn chart(
-        &self, _encoded: &[u8], _grid: &[u32], _corners: [i32; 2], _cell_size: u32, _space: &mut [u8], _out: &mut [u32],
+        &self, _encoded: &[u8], _grid: &[u32], _corners: [i32; 2], _cell_size: u32, _space: &mut [u8],
+        _out: &mut [u32; CHART_WORDS],
     ) -> u32 {
         unimplemented!("W-211")
     }
 
     /// the text's length alone
     fn chart_length(
-        &self, _encoded: &[u8], _grid: &[u32], _corners: [i32; 2], _cell_size: u32, _out: &mut [u32],
+        &self, _encoded: &[u8], _grid: &[u32], _corners: [i32; 2], _cell_size: u32, _out: &mut [u32; CHART_WORDS],
     ) -> u32 {
         unimplemented!("W-211")
     }
@@ -169,7 +173,7 @@ pub trait Engine {
         unimplemented!("W-212")
     }
 
-    fn office_turn_at(
+    fn tenant_turn_at(
         &self, _encoded: &[u8], _route: Route, _areas: &mut Areas, _engaged: &mut [u32], _other: &[Progress],
         _hours: &[u32], _minute: u32, _office: u32, _processor: u32,
     ) -> u32 {
@@ -177,12 +181,14 @@ pub trait Engine {
     }
 
     /// the minutes until the processor opens
-    fn opens(&self, _encoded: &[u8], _hours: &[u32], _minute: u32, _processor: u32, _out: &mut [u32]) -> u32 {
+    fn opens(
+        &self, _encoded: &[u8], _hours: &[u32], _minute: u32, _processor: u32, _out: &mut [u32; OPENS_WORDS],
+    ) -> u32 {
         unimplemented!("W-212")
     }
 
     /// drives the whole run by rounds, on the direct route; `out` is told how many
-    fn rounds(&self, _encoded: &[u8], _areas: &mut Areas, _out: &mut [u32]) -> u32 {
+    fn rounds(&self, _encoded: &[u8], _areas: &mut Areas, _out: &mut [u32; ROUNDS_WORDS]) -> u32 {
         unimplemented!("W-213")
     }
 
@@ -191,34 +197,36 @@ pub trait Engine {
         unimplemented!("W-213")
     }
 
-    fn own_sizes(&self, _encoded: &[u8], _route: Route, _processor: u32, _out: &mut [u32]) -> u32 {
+    fn part_sizes(&self, _encoded: &[u8], _route: Route, _processor: u32, _out: &mut [u32; PART_SIZES_WORDS]) -> u32 {
         unimplemented!("own parts")
     }
 
-    fn own_messages(&self, _encoded: &[u8], _route: Route, _processor: u32, _out: &mut [u32]) -> u32 {
+    fn part_messages(&self, _encoded: &[u8], _route: Route, _processor: u32, _out: &mut [u32]) -> u32 {
         unimplemented!("own parts")
     }
 
-    fn own_fresh(&self, _encoded: &[u8], _route: Route, _part: &mut Part, _processor: u32) -> u32 {
+    fn part_fresh(&self, _encoded: &[u8], _route: Route, _part: &mut Part, _processor: u32) -> u32 {
         unimplemented!("own parts")
     }
 
-    fn own_turn(&self, _encoded: &[u8], _route: Route, _part: &mut Part, _processor: u32) -> u32 {
+    fn part_turn(&self, _encoded: &[u8], _route: Route, _part: &mut Part, _processor: u32) -> u32 {
         unimplemented!("own parts")
     }
 
-    fn own_post(&self, _encoded: &[u8], _route: Route, _part: &mut Part, _processor: u32, _message: u32) -> u32 {
+    fn part_post(&self, _encoded: &[u8], _route: Route, _part: &mut Part, _processor: u32, _message: u32) -> u32 {
         unimplemented!("own parts")
     }
 
-    fn own_arrive(
+    fn part_arrive(
         &self, _encoded: &[u8], _route: Route, _part: &mut Part, _processor: u32, _message: u32, _words: &[u32],
     ) -> u32 {
         unimplemented!("own parts")
     }
 
     /// the processor's words into a grid of all cells; only its memory and its record are lent
-    fn own_collect(&self, _encoded: &[u8], _route: Route, _part: &mut Part, _processor: u32, _grid: &mut [u32]) -> u32 {
+    fn part_collect(
+        &self, _encoded: &[u8], _route: Route, _part: &mut Part, _processor: u32, _grid: &mut [u32],
+    ) -> u32 {
         unimplemented!("own parts")
     }
 

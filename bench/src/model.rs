@@ -10,8 +10,8 @@ use std::collections::{BTreeMap, BTreeSet};
 use std::rc::Rc;
 
 use crate::engine::{
-    Areas, Engine, Part, Progress, Request, Rig, Route, CHART_WORDS, HOPS_WORDS, HOURS_WORDS, LOOK_WORDS,
-    MESSAGE_WORDS, OPENS_WORDS, OWN_ROW_WORDS, OWN_SIZES_WORDS, ROUNDS_WORDS, SUMMARY_WORDS,
+    Areas, Engine, Part, Progress, Request, Rig, Route, CHART_WORDS, HOPS_WORDS, HOURS_WORDS, MESSAGE_WORDS,
+    OPENS_WORDS, PART_ROW_WORDS, PART_SIZES_WORDS, ROUNDS_WORDS, SUMMARY_WORDS, VIEW_WORDS,
 };
 
 // the numbers of refused calls
@@ -603,7 +603,7 @@ impl Plan {
     }
 
     /// A turn for an office, with hours or without.
-    fn office_turn(
+    fn tenant_turn(
         &self, areas: &mut Areas, engaged: &mut [u32], other: &[Progress], hours: Option<Hours>, office: u32,
         processor: u32,
     ) -> Result<(), u32> {
@@ -767,7 +767,7 @@ impl<'a> Own<'a> {
         Own { plan, processor, cells, kept, handled, places }
     }
 
-    pub fn sizes(&self) -> [usize; OWN_SIZES_WORDS] {
+    pub fn sizes(&self) -> [usize; PART_SIZES_WORDS] {
         [self.cells.len(), self.kept.len(), self.places[self.handled.len()], self.handled.len()]
     }
 
@@ -930,20 +930,20 @@ impl Engine for Model {
         })
     }
 
-    fn summary(&self, encoded: &[u8], route: Route, out: &mut [u32]) -> u32 {
+    fn summary(&self, encoded: &[u8], route: Route, out: &mut [u32; SUMMARY_WORDS]) -> u32 {
+        *out = [0; SUMMARY_WORDS];
         answer(|| {
             let plan = self.plan(encoded, route)?;
-            require(out.len() == SUMMARY_WORDS, AREA)?;
             let line = [plan.cells_of_tile.len(), plan.messages.len(), plan.words, plan.steps()];
             out.copy_from_slice(&line.map(|number| number as u32));
             Ok(())
         })
     }
 
-    fn message(&self, encoded: &[u8], route: Route, message: u32, out: &mut [u32]) -> u32 {
+    fn message(&self, encoded: &[u8], route: Route, message: u32, out: &mut [u32; MESSAGE_WORDS]) -> u32 {
+        *out = [0; MESSAGE_WORDS];
         answer(|| {
             let plan = self.plan(encoded, route)?;
-            require(out.len() == MESSAGE_WORDS, AREA)?;
             let message = &plan.messages[index(message, plan.messages.len())?];
             let tiles = [message.sender, message.taker];
             let processors = tiles.map(|tile| plan.processor_of_tile[tile]);
@@ -953,10 +953,10 @@ impl Engine for Model {
         })
     }
 
-    fn hops(&self, encoded: &[u8], message: u32, out: &mut [u32]) -> u32 {
+    fn hops(&self, encoded: &[u8], message: u32, out: &mut [u32; HOPS_WORDS]) -> u32 {
+        *out = [0; HOPS_WORDS];
         answer(|| {
             let plan = self.plan(encoded, Route::Direct)?;
-            require(out.len() == HOPS_WORDS, AREA)?;
             let message = &plan.messages[index(message, plan.messages.len())?];
             let [sender, taker] = [message.sender, message.taker].map(|tile| plan.places[tile]);
             out[0] = plan.recipe.wires(sender, taker).len() as u32;
@@ -975,14 +975,14 @@ impl Engine for Model {
         })
     }
 
-    fn office_turn(
+    fn tenant_turn(
         &self, encoded: &[u8], route: Route, areas: &mut Areas, engaged: &mut [u32], other: &[Progress], office: u32,
         processor: u32,
     ) -> u32 {
-        answer(|| self.plan(encoded, route)?.office_turn(areas, engaged, other, None, office, processor))
+        answer(|| self.plan(encoded, route)?.tenant_turn(areas, engaged, other, None, office, processor))
     }
 
-    fn office_deliver(
+    fn tenant_deliver(
         &self, encoded: &[u8], route: Route, areas: &mut Areas, engaged: &[u32], other: &[Progress], office: u32,
         message: u32,
     ) -> u32 {
@@ -993,7 +993,7 @@ impl Engine for Model {
         })
     }
 
-    fn office_collect(
+    fn tenant_collect(
         &self, encoded: &[u8], route: Route, areas: &mut Areas, engaged: &[u32], other: &[Progress], office: u32,
         grid: &mut [u32],
     ) -> u32 {
@@ -1005,11 +1005,14 @@ impl Engine for Model {
         })
     }
 
-    fn look(&self, encoded: &[u8], memories: [&[u32]; 2], office: u32, processor: u32, out: &mut [u32]) -> u32 {
+    fn view_of(
+        &self, encoded: &[u8], memories: [&[u32]; 2], office: u32, processor: u32, out: &mut [u32; VIEW_WORDS],
+    ) -> u32 {
+        *out = [0; VIEW_WORDS];
         answer(|| {
             let plan = self.plan(encoded, Route::Direct)?;
             let sized = memories.iter().all(|memories| memories.len() == plan.cells * plan.processors);
-            require(sized && out.len() == LOOK_WORDS, AREA)?;
+            require(sized, AREA)?;
             require(office < OFFICES, NO_SUCH)?;
             let processor = index(processor, plan.processors)?;
             out.copy_from_slice(&[processor * plan.cells, plan.cells].map(|number| number as u32));
@@ -1034,21 +1037,25 @@ impl Engine for Model {
     }
 
     fn chart(
-        &self, encoded: &[u8], grid: &[u32], corners: [i32; 2], cell_size: u32, space: &mut [u8], out: &mut [u32],
+        &self, encoded: &[u8], grid: &[u32], corners: [i32; 2], cell_size: u32, space: &mut [u8],
+        out: &mut [u32; CHART_WORDS],
     ) -> u32 {
+        *out = [0; CHART_WORDS];
         answer(|| {
             let text = self.plan(encoded, Route::Direct)?.chart(grid, corners, cell_size)?;
-            require(out.len() == CHART_WORDS && space.len() >= text.len(), AREA)?;
+            require(space.len() >= text.len(), AREA)?;
             space[..text.len()].copy_from_slice(text.as_bytes());
             out[0] = text.len() as u32;
             Ok(())
         })
     }
 
-    fn chart_length(&self, encoded: &[u8], grid: &[u32], corners: [i32; 2], cell_size: u32, out: &mut [u32]) -> u32 {
+    fn chart_length(
+        &self, encoded: &[u8], grid: &[u32], corners: [i32; 2], cell_size: u32, out: &mut [u32; CHART_WORDS],
+    ) -> u32 {
+        *out = [0; CHART_WORDS];
         answer(|| {
             let text = self.plan(encoded, Route::Direct)?.chart(grid, corners, cell_size)?;
-            require(out.len() == CHART_WORDS, AREA)?;
             out[0] = text.len() as u32;
             Ok(())
         })
@@ -1069,20 +1076,20 @@ impl Engine for Model {
         })
     }
 
-    fn office_turn_at(
+    fn tenant_turn_at(
         &self, encoded: &[u8], route: Route, areas: &mut Areas, engaged: &mut [u32], other: &[Progress], hours: &[u32],
         minute: u32, office: u32, processor: u32,
     ) -> u32 {
         let hours = Some(Hours { table: hours, minute });
-        answer(|| self.plan(encoded, route)?.office_turn(areas, engaged, other, hours, office, processor))
+        answer(|| self.plan(encoded, route)?.tenant_turn(areas, engaged, other, hours, office, processor))
     }
 
-    fn opens(&self, encoded: &[u8], hours: &[u32], minute: u32, processor: u32, out: &mut [u32]) -> u32 {
+    fn opens(&self, encoded: &[u8], hours: &[u32], minute: u32, processor: u32, out: &mut [u32; OPENS_WORDS]) -> u32 {
+        *out = [0; OPENS_WORDS];
         answer(|| {
             let plan = self.plan(encoded, Route::Direct)?;
             let hours = Hours { table: hours, minute };
             plan.check_table(hours.table)?;
-            require(out.len() == OPENS_WORDS, AREA)?;
             require(hours.are_sound(), FAULTY_HOURS)?;
             let processor = index(processor, plan.processors)?;
             // minute by minute, through one week
@@ -1093,13 +1100,12 @@ impl Engine for Model {
         })
     }
 
-    fn rounds(&self, encoded: &[u8], areas: &mut Areas, out: &mut [u32]) -> u32 {
+    fn rounds(&self, encoded: &[u8], areas: &mut Areas, out: &mut [u32; ROUNDS_WORDS]) -> u32 {
+        *out = [0; ROUNDS_WORDS];
         answer(|| {
             let plan = self.plan(encoded, Route::Direct)?;
             plan.check_areas(areas)?;
-            require(out.len() == ROUNDS_WORDS, AREA)?;
             Plan::start(areas);
-            out[0] = 0;
             while plan.round(areas) > 0 {
                 out[0] += 1;
             }
@@ -1116,33 +1122,35 @@ impl Engine for Model {
         })
     }
 
-    fn own_sizes(&self, encoded: &[u8], route: Route, processor: u32, out: &mut [u32]) -> u32 {
+    fn part_sizes(&self, encoded: &[u8], route: Route, processor: u32, out: &mut [u32; PART_SIZES_WORDS]) -> u32 {
+        *out = [0; PART_SIZES_WORDS];
         answer(|| {
             let plan = self.plan(encoded, route)?;
             let own = own(&plan, processor)?;
-            require(out.len() == OWN_SIZES_WORDS, AREA)?;
             out.copy_from_slice(&own.sizes().map(|number| number as u32));
             Ok(())
         })
     }
 
-    fn own_messages(&self, encoded: &[u8], route: Route, processor: u32, out: &mut [u32]) -> u32 {
+    fn part_messages(&self, encoded: &[u8], route: Route, processor: u32, out: &mut [u32]) -> u32 {
         answer(|| {
             let plan = self.plan(encoded, route)?;
             let own = own(&plan, processor)?;
-            require(out.len() == OWN_ROW_WORDS * own.handled.len(), AREA)?;
-            let rows = out.chunks_mut(OWN_ROW_WORDS).zip(own.handled.iter().zip(&own.places));
+            require(out.len() == PART_ROW_WORDS * own.handled.len(), AREA)?;
+            let rows = out.chunks_mut(PART_ROW_WORDS).zip(own.handled.iter().zip(&own.places));
             for (row, (&number, &place)) in rows {
                 row[0] = number as u32;
-                let told = self.message(encoded, route, number as u32, &mut row[1..=MESSAGE_WORDS]);
+                let mut line = [0; MESSAGE_WORDS];
+                let told = self.message(encoded, route, number as u32, &mut line);
                 require(told == 0, told)?;
+                row[1..=MESSAGE_WORDS].copy_from_slice(&line);
                 row[1 + MESSAGE_WORDS] = place as u32;
             }
             Ok(())
         })
     }
 
-    fn own_fresh(&self, encoded: &[u8], route: Route, part: &mut Part, processor: u32) -> u32 {
+    fn part_fresh(&self, encoded: &[u8], route: Route, part: &mut Part, processor: u32) -> u32 {
         answer(|| {
             let plan = self.plan(encoded, route)?;
             own(&plan, processor)?.check_part(part)?;
@@ -1154,7 +1162,7 @@ impl Engine for Model {
         })
     }
 
-    fn own_turn(&self, encoded: &[u8], route: Route, part: &mut Part, processor: u32) -> u32 {
+    fn part_turn(&self, encoded: &[u8], route: Route, part: &mut Part, processor: u32) -> u32 {
         answer(|| {
             let plan = self.plan(encoded, route)?;
             let own = own(&plan, processor)?;
@@ -1165,7 +1173,7 @@ impl Engine for Model {
         })
     }
 
-    fn own_post(&self, encoded: &[u8], route: Route, part: &mut Part, processor: u32, message: u32) -> u32 {
+    fn part_post(&self, encoded: &[u8], route: Route, part: &mut Part, processor: u32, message: u32) -> u32 {
         answer(|| {
             let plan = self.plan(encoded, route)?;
             let own = own(&plan, processor)?;
@@ -1180,7 +1188,7 @@ impl Engine for Model {
         })
     }
 
-    fn own_arrive(
+    fn part_arrive(
         &self, encoded: &[u8], route: Route, part: &mut Part, processor: u32, message: u32, words: &[u32],
     ) -> u32 {
         answer(|| {
@@ -1199,7 +1207,7 @@ impl Engine for Model {
         })
     }
 
-    fn own_collect(&self, encoded: &[u8], route: Route, part: &mut Part, processor: u32, grid: &mut [u32]) -> u32 {
+    fn part_collect(&self, encoded: &[u8], route: Route, part: &mut Part, processor: u32, grid: &mut [u32]) -> u32 {
         answer(|| {
             let plan = self.plan(encoded, route)?;
             let own = own(&plan, processor)?;

@@ -3,8 +3,8 @@
 //! It can carry one fault, so that the comparison itself can be tested: each fault must be found.
 
 use crate::engine::{
-    Areas, Engine, Part, Progress, Request, Rig, Route, CHART_WORDS, HOPS_WORDS, HOURS_WORDS, LOOK_WORDS,
-    MESSAGE_WORDS, OPENS_WORDS, OWN_ROW_WORDS, OWN_SIZES_WORDS, ROUNDS_WORDS, SUMMARY_WORDS,
+    Areas, Engine, Part, Progress, Request, Rig, Route, CHART_WORDS, HOPS_WORDS, HOURS_WORDS, MESSAGE_WORDS,
+    OPENS_WORDS, PART_ROW_WORDS, PART_SIZES_WORDS, ROUNDS_WORDS, SUMMARY_WORDS, VIEW_WORDS,
 };
 use crate::recipe::Numbers;
 use std::cell::RefCell;
@@ -919,8 +919,8 @@ impl View<'_> {
     }
 
     /// the chart, after the lines up to the length of the grid
-    fn charted(&self, grid: &[u32], corners: [i32; 2], cell_size: u32, out: &[u32]) -> Result<Vec<u8>, u32> {
-        let area = || grid.len() as u64 != self.cells() || out.len() != CHART_WORDS;
+    fn charted(&self, grid: &[u32], corners: [i32; 2], cell_size: u32) -> Result<Vec<u8>, u32> {
+        let area = || grid.len() as u64 != self.cells();
         let number = match self.read() {
             0 => first(&[
                 (9, &|| self.has(Fault::ChartBehindArea) && area()),
@@ -1169,14 +1169,14 @@ impl Made<'_> {
     }
 
     /// source, memory, mail, messages
-    fn own_sizes(&self, processor: u32) -> [usize; OWN_SIZES_WORDS] {
+    fn part_sizes(&self, processor: u32) -> [usize; PART_SIZES_WORDS] {
         let handled = self.handled(processor);
         let words = handled.iter().map(|&m| self.messages[m].2.len()).sum();
         [self.own_cells(processor).len(), self.kept(processor).len(), words, handled.len()]
     }
 
     fn wrong_part(&self, part: &Part, processor: u32) -> bool {
-        let [_, kept, words, messages] = self.own_sizes(processor);
+        let [_, kept, words, messages] = self.part_sizes(processor);
         [part.memory.len(), part.mail.len(), part.progress.len(), part.marks.len()] != [kept, words, 1, messages]
     }
 
@@ -1293,7 +1293,7 @@ impl Made<'_> {
     }
 
     /// a turn for an office, with hours or without
-    fn office_turn(
+    fn tenant_turn(
         &self, areas: &mut Areas, engaged: &mut [u32], other: &[Progress], hours: Option<Hours>, office: u32,
         processor: u32,
     ) -> u32 {
@@ -1542,14 +1542,12 @@ impl Engine for Naive {
         number
     }
 
-    fn summary(&self, encoded: &[u8], route: Route, out: &mut [u32]) -> u32 {
+    fn summary(&self, encoded: &[u8], route: Route, out: &mut [u32; SUMMARY_WORDS]) -> u32 {
+        *out = [0; SUMMARY_WORDS];
         let made = match self.made(encoded, route) {
             Ok(made) => made,
             Err(number) => return number,
         };
-        if out.len() != SUMMARY_WORDS {
-            return 9;
-        }
         out[0] = made.view.tiles() as u32;
         out[1] = made.messages.len() as u32;
         out[2] = made.words() as u32;
@@ -1557,14 +1555,12 @@ impl Engine for Naive {
         0
     }
 
-    fn message(&self, encoded: &[u8], route: Route, message: u32, out: &mut [u32]) -> u32 {
+    fn message(&self, encoded: &[u8], route: Route, message: u32, out: &mut [u32; MESSAGE_WORDS]) -> u32 {
+        *out = [0; MESSAGE_WORDS];
         let made = match self.made(encoded, route) {
             Ok(made) => made,
             Err(number) => return number,
         };
-        if out.len() != MESSAGE_WORDS {
-            return 9;
-        }
         let Some((sender, taker, held)) = made.messages.get(message as usize) else { return 11 };
         out[0] = made.view.dense(*sender) as u32;
         out[1] = made.view.dense(*taker) as u32;
@@ -1574,14 +1570,12 @@ impl Engine for Naive {
         0
     }
 
-    fn hops(&self, encoded: &[u8], message: u32, out: &mut [u32]) -> u32 {
+    fn hops(&self, encoded: &[u8], message: u32, out: &mut [u32; HOPS_WORDS]) -> u32 {
+        *out = [0; HOPS_WORDS];
         let made = match self.made(encoded, Route::Direct) {
             Ok(made) => made,
             Err(number) => return number,
         };
-        if out.len() != HOPS_WORDS {
-            return 9;
-        }
         let Some((sender, taker, _)) = made.messages.get(message as usize) else { return 11 };
         let (from, to) = (made.view.tile_index(*sender), made.view.tile_index(*taker));
         let wired = |j: usize| made.view.count(j) > 1 || self.fault == Some(Fault::HomeHopsCounted);
@@ -1603,7 +1597,7 @@ impl Engine for Naive {
         0
     }
 
-    fn office_turn(
+    fn tenant_turn(
         &self, encoded: &[u8], route: Route, areas: &mut Areas, engaged: &mut [u32], other: &[Progress], office: u32,
         processor: u32,
     ) -> u32 {
@@ -1611,10 +1605,10 @@ impl Engine for Naive {
             Ok(made) => made,
             Err(number) => return number,
         };
-        made.office_turn(areas, engaged, other, None, office, processor)
+        made.tenant_turn(areas, engaged, other, None, office, processor)
     }
 
-    fn office_deliver(
+    fn tenant_deliver(
         &self, encoded: &[u8], route: Route, areas: &mut Areas, engaged: &[u32], other: &[Progress], office: u32,
         message: u32,
     ) -> u32 {
@@ -1628,7 +1622,7 @@ impl Engine for Naive {
         }
     }
 
-    fn office_collect(
+    fn tenant_collect(
         &self, encoded: &[u8], route: Route, areas: &mut Areas, engaged: &[u32], other: &[Progress], office: u32,
         grid: &mut [u32],
     ) -> u32 {
@@ -1646,7 +1640,10 @@ impl Engine for Naive {
         }
     }
 
-    fn look(&self, encoded: &[u8], memories: [&[u32]; 2], office: u32, processor: u32, out: &mut [u32]) -> u32 {
+    fn view_of(
+        &self, encoded: &[u8], memories: [&[u32]; 2], office: u32, processor: u32, out: &mut [u32; VIEW_WORDS],
+    ) -> u32 {
+        *out = [0; VIEW_WORDS];
         let view = self.view(encoded);
         match view.read() {
             0 => {}
@@ -1656,7 +1653,6 @@ impl Engine for Naive {
         let lent = if one { &memories[office as usize..][..1] } else { &memories[..] };
         let number = first(&[
             (9, &|| lent.iter().any(|m| m.len() as u64 != view.cells() * view.processors())),
-            (9, &|| out.len() != LOOK_WORDS),
             (11, &|| office > 1 || u64::from(processor) >= view.processors()),
         ]);
         if number == 0 {
@@ -1720,9 +1716,11 @@ impl Engine for Naive {
     }
 
     fn chart(
-        &self, encoded: &[u8], grid: &[u32], corners: [i32; 2], cell_size: u32, space: &mut [u8], out: &mut [u32],
+        &self, encoded: &[u8], grid: &[u32], corners: [i32; 2], cell_size: u32, space: &mut [u8],
+        out: &mut [u32; CHART_WORDS],
     ) -> u32 {
-        match self.view(encoded).charted(grid, corners, cell_size, out) {
+        *out = [0; CHART_WORDS];
+        match self.view(encoded).charted(grid, corners, cell_size) {
             Err(number) => number,
             Ok(text) if text.len() > space.len() => 9,
             Ok(text) => {
@@ -1739,8 +1737,11 @@ impl Engine for Naive {
         }
     }
 
-    fn chart_length(&self, encoded: &[u8], grid: &[u32], corners: [i32; 2], cell_size: u32, out: &mut [u32]) -> u32 {
-        match self.view(encoded).charted(grid, corners, cell_size, out) {
+    fn chart_length(
+        &self, encoded: &[u8], grid: &[u32], corners: [i32; 2], cell_size: u32, out: &mut [u32; CHART_WORDS],
+    ) -> u32 {
+        *out = [0; CHART_WORDS];
+        match self.view(encoded).charted(grid, corners, cell_size) {
             Err(number) => number,
             Ok(text) => {
                 out[0] = text.len() as u32;
@@ -1765,7 +1766,7 @@ impl Engine for Naive {
         number
     }
 
-    fn office_turn_at(
+    fn tenant_turn_at(
         &self, encoded: &[u8], route: Route, areas: &mut Areas, engaged: &mut [u32], other: &[Progress], hours: &[u32],
         minute: u32, office: u32, processor: u32,
     ) -> u32 {
@@ -1774,10 +1775,11 @@ impl Engine for Naive {
             Err(number) => return number,
         };
         let hours = Some(Hours { table: hours, minute, fault: self.fault });
-        made.office_turn(areas, engaged, other, hours, office, processor)
+        made.tenant_turn(areas, engaged, other, hours, office, processor)
     }
 
-    fn opens(&self, encoded: &[u8], hours: &[u32], minute: u32, processor: u32, out: &mut [u32]) -> u32 {
+    fn opens(&self, encoded: &[u8], hours: &[u32], minute: u32, processor: u32, out: &mut [u32; OPENS_WORDS]) -> u32 {
+        *out = [0; OPENS_WORDS];
         let view = self.view(encoded);
         match view.read() {
             0 => {}
@@ -1785,7 +1787,7 @@ impl Engine for Naive {
         }
         let hours = Hours { table: hours, minute, fault: self.fault };
         let number = first(&[
-            (9, &|| hours.table.len() as u64 != view.processors() * HOURS_WORDS as u64 || out.len() != OPENS_WORDS),
+            (9, &|| hours.table.len() as u64 != view.processors() * HOURS_WORDS as u64),
             (25, &|| hours.faulty(processor)),
             (11, &|| u64::from(processor) >= view.processors()),
         ]);
@@ -1797,12 +1799,13 @@ impl Engine for Naive {
         number
     }
 
-    fn rounds(&self, encoded: &[u8], areas: &mut Areas, out: &mut [u32]) -> u32 {
+    fn rounds(&self, encoded: &[u8], areas: &mut Areas, out: &mut [u32; ROUNDS_WORDS]) -> u32 {
+        *out = [0; ROUNDS_WORDS];
         let made = match self.made(encoded, Route::Direct) {
             Ok(made) => made,
             Err(number) => return number,
         };
-        if made.area(areas) || out.len() != ROUNDS_WORDS {
+        if made.area(areas) {
             return 9;
         }
         assert_eq!(self.fresh(encoded, Route::Direct, areas), 0);
@@ -1833,28 +1836,29 @@ impl Engine for Naive {
         0
     }
 
-    fn own_sizes(&self, encoded: &[u8], route: Route, processor: u32, out: &mut [u32]) -> u32 {
+    fn part_sizes(&self, encoded: &[u8], route: Route, processor: u32, out: &mut [u32; PART_SIZES_WORDS]) -> u32 {
+        *out = [0; PART_SIZES_WORDS];
         let made = match self.made(encoded, route) {
             Ok(made) => made,
             Err(number) => return number,
         };
-        let number = made.own_lines(processor, &|| out.len() != OWN_SIZES_WORDS);
+        let number = made.own_lines(processor, &|| false);
         if number == 0 {
-            out.copy_from_slice(&made.own_sizes(processor).map(|length| length as u32));
+            out.copy_from_slice(&made.part_sizes(processor).map(|length| length as u32));
         }
         number
     }
 
-    fn own_messages(&self, encoded: &[u8], route: Route, processor: u32, out: &mut [u32]) -> u32 {
+    fn part_messages(&self, encoded: &[u8], route: Route, processor: u32, out: &mut [u32]) -> u32 {
         let made = match self.made(encoded, route) {
             Ok(made) => made,
             Err(number) => return number,
         };
         let handled = made.handled(processor);
-        let number = made.own_lines(processor, &|| out.len() != OWN_ROW_WORDS * handled.len());
+        let number = made.own_lines(processor, &|| out.len() != PART_ROW_WORDS * handled.len());
         if number == 0 {
             let mut place = 0;
-            for (row, m) in out.chunks_mut(OWN_ROW_WORDS).zip(handled) {
+            for (row, m) in out.chunks_mut(PART_ROW_WORDS).zip(handled) {
                 let (sender, taker, ref cells) = made.messages[m];
                 let told = if self.fault == Some(Fault::OwnPlaceInBuffer) { made.offset(m) } else { place };
                 let [from, to] = [sender, taker].map(|tile| made.view.processor(tile));
@@ -1867,22 +1871,22 @@ impl Engine for Naive {
         number
     }
 
-    fn own_fresh(&self, encoded: &[u8], route: Route, part: &mut Part, processor: u32) -> u32 {
+    fn part_fresh(&self, encoded: &[u8], route: Route, part: &mut Part, processor: u32) -> u32 {
         self.on_areas(encoded, route, part, processor, &|_| false, &mut |areas| self.fresh(encoded, route, areas))
     }
 
-    fn own_turn(&self, encoded: &[u8], route: Route, part: &mut Part, processor: u32) -> u32 {
+    fn part_turn(&self, encoded: &[u8], route: Route, part: &mut Part, processor: u32) -> u32 {
         let length = part.source.len();
         let wrong = move |made: &Made| length != made.own_cells(processor).len();
         self.on_areas(encoded, route, part, processor, &wrong, &mut |areas| self.turn(encoded, route, areas, processor))
     }
 
-    fn own_post(&self, encoded: &[u8], route: Route, part: &mut Part, processor: u32, message: u32) -> u32 {
+    fn part_post(&self, encoded: &[u8], route: Route, part: &mut Part, processor: u32, message: u32) -> u32 {
         let post = &mut |areas: &mut Areas| self.deliver(encoded, route, areas, message);
         self.on_areas(encoded, route, part, processor, &|_| false, post)
     }
 
-    fn own_arrive(
+    fn part_arrive(
         &self, encoded: &[u8], route: Route, part: &mut Part, processor: u32, message: u32, words: &[u32],
     ) -> u32 {
         let m = message as usize;
@@ -1911,7 +1915,7 @@ impl Engine for Naive {
         self.on_areas(encoded, route, part, processor, &wrong, arrive)
     }
 
-    fn own_collect(&self, encoded: &[u8], route: Route, part: &mut Part, processor: u32, grid: &mut [u32]) -> u32 {
+    fn part_collect(&self, encoded: &[u8], route: Route, part: &mut Part, processor: u32, grid: &mut [u32]) -> u32 {
         let made = match self.made(encoded, route) {
             Ok(made) => made,
             Err(number) => return number,

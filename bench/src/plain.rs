@@ -810,18 +810,18 @@ impl Engine for Plain {
         swept.err().unwrap_or(0)
     }
 
-    fn summary(&self, encoded: &[u8], route: Route, out: &mut [u32]) -> u32 {
+    fn summary(&self, encoded: &[u8], route: Route, out: &mut [u32; SUMMARY_WORDS]) -> u32 {
+        *out = [0; SUMMARY_WORDS];
         planned(encoded, route, |plan| {
-            refused(out.len() != SUMMARY_WORDS, 9)?;
             let steps = 2 * (plan.nest.tiles + plan.messages);
             out.copy_from_slice(&[plan.nest.tiles, plan.messages, plan.words, steps].map(|word| word as u32));
             Ok(())
         })
     }
 
-    fn message(&self, encoded: &[u8], route: Route, message: u32, out: &mut [u32]) -> u32 {
+    fn message(&self, encoded: &[u8], route: Route, message: u32, out: &mut [u32; MESSAGE_WORDS]) -> u32 {
+        *out = [0; MESSAGE_WORDS];
         planned(encoded, route, |plan| {
-            refused(out.len() != MESSAGE_WORDS, 9)?;
             let nest = &plan.nest;
             let mut filled = plan.table.iter().enumerate().filter(|(_, &words)| words != 0);
             let (slot, &words) = filled.nth(message as usize).ok_or(11u32)?;
@@ -837,9 +837,9 @@ impl Engine for Plain {
         })
     }
 
-    fn hops(&self, encoded: &[u8], message: u32, out: &mut [u32]) -> u32 {
+    fn hops(&self, encoded: &[u8], message: u32, out: &mut [u32; HOPS_WORDS]) -> u32 {
+        *out = [0; HOPS_WORDS];
         planned(encoded, Route::Direct, |plan| {
-            refused(out.len() != HOPS_WORDS, 9)?;
             let mut filled = (0..plan.table.len()).filter(|&slot| plan.table[slot] != 0);
             let slot = filled.nth(message as usize).ok_or(11u32)?;
             out[0] = ((slot % plan.nest.directions + 1) & plan.nest.wired).count_ones();

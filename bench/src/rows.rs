@@ -111,7 +111,7 @@ fn message_lines() {
         };
         assert_eq!(line('B', 0), (0, [0, 2, 0, 1, 8]), "{}", engine.name());
         assert_eq!(line('B', 1), (0, [1, 3, 0, 1, 6]), "{}", engine.name());
-        assert_eq!(line('B', 2), (11, [9; 5]), "{}", engine.name());
+        assert_eq!(line('B', 2), (11, [0; 5]), "{}", engine.name());
         assert_eq!(line('D', 0), (0, [0, 1, 0, 1, 1]), "{}", engine.name());
         assert_eq!(line('G', 1), (0, [1, 2, 1, 0, 1]), "{}", engine.name());
     }
@@ -204,16 +204,16 @@ fn forwarded_cells_alone() {
 #[test]
 fn hops_are_refused() {
     for engine in engines() {
-        let call = |letter, message, length| {
-            let mut out = vec![7; length];
+        let call = |letter, message| {
+            let mut out = [7];
             let number = engine.hops(&row(letter).bytes(), message, &mut out);
-            assert!(number == 0 || out.iter().all(|&word| word == 7));
+            assert!(number == 0 || out == [0]);
             number
         };
-        assert_eq!([call('C', 9, 1), call('C', 10, 1), call('C', u32::MAX, 1)], [0, 11, 11], "{}", engine.name());
-        assert_eq!([call('C', 10, 0), call('C', 0, 2), call('F', 0, 1)], [9, 9, 11], "{}", engine.name());
+        assert_eq!([call('C', 9), call('C', 10), call('C', u32::MAX)], [0, 11, 11], "{}", engine.name());
+        assert_eq!(call('F', 0), 11, "{}", engine.name());
         let many = Numbers::new(&[[4, 2, 65], [1, 1, 0]], &[&[1, 0]]);
-        assert_eq!(engine.hops(&many.bytes(), 0, &mut []), 7, "{}", engine.name());
+        assert_eq!(engine.hops(&many.bytes(), 0, &mut [7]), 7, "{}", engine.name());
     }
 }
 
@@ -462,9 +462,9 @@ fn stored_recipes() {
         while let [label, tail @ ..] = rest {
             let (label, tail) = tail.split_at(usize::from(*label));
             let (encoded, tail) = tail[2..].split_at(usize::from(tail[0]) + 256 * usize::from(tail[1]));
-            // a length that fits no recipe: an accepted one gives 9
-            let number = engine.summary(encoded, Route::Direct, &mut []);
-            let line = format!("{} {}", String::from_utf8_lossy(label), if number == 9 { 0 } else { number });
+            // the figures alone: no area has to fit
+            let number = engine.summary(encoded, Route::Direct, &mut [7; 4]);
+            let line = format!("{} {number}", String::from_utf8_lossy(label));
             let wanted = wanted.next().unwrap_or("");
             assert!(line == wanted || !is_for(&*engine, encoded), "{line}, {}", engine.name());
             rest = tail;
@@ -602,7 +602,7 @@ fn grid_for_the_charting_desk() {
         let length = text.len();
         assert_eq!(chart(&numbers, &grid, 10, length), (0, length as u32, text.clone()), "{name}");
         assert_eq!(chart(&numbers, &grid, 10, length + 2), (0, length as u32, text + "##"), "{name}");
-        assert_eq!(chart(&numbers, &grid, 10, length - 1), (9, 7, "#".repeat(length - 1)), "{name}");
+        assert_eq!(chart(&numbers, &grid, 10, length - 1), (9, 0, "#".repeat(length - 1)), "{name}");
         assert_eq!(chart(&numbers, &grid[1..], 10, 900).0, 9, "{name}");
         // 23 before 9
         let cube = Numbers::new(&[[2, 1, 2], [3, 1, 0], [1, 1, 0]], &[&[1, 0, 0]]);
@@ -707,13 +707,13 @@ fn two_offices_on_row_d() {
             let [first, second] = &mut rig.offices;
             let (own, other) = if office == 1 { (second, first) } else { (first, second) };
             let (engaged, other) = (&mut rig.engaged, &other.progress);
-            engine.office_turn(&encoded, Route::Direct, own, engaged, other, office, processor)
+            engine.tenant_turn(&encoded, Route::Direct, own, engaged, other, office, processor)
         };
         let deliver = |rig: &mut Rig, office: usize, message| {
             let [first, second] = &mut rig.offices;
             let (own, other) = if office == 1 { (second, first) } else { (first, second) };
             let (engaged, other) = (&rig.engaged, &other.progress);
-            engine.office_deliver(&encoded, Route::Direct, own, engaged, other, office as u32, message)
+            engine.tenant_deliver(&encoded, Route::Direct, own, engaged, other, office as u32, message)
         };
         assert_eq!([turn(&mut rig, 0, 0), turn(&mut rig, 2, 0)], [10, 11], "{name}");
         assert_eq!(engine.fresh_both(&encoded, Route::Direct, &mut rig), 0, "{name}");
@@ -737,16 +737,17 @@ fn two_offices_on_row_d() {
             let [first, second] = &mut rig.offices;
             let (own, other) = if office == 1 { (second, first) } else { (first, second) };
             let (engaged, other) = (&rig.engaged, &other.progress);
-            assert_eq!(engine.office_collect(&encoded, Route::Direct, own, engaged, other, office, &mut grid), 0);
+            assert_eq!(engine.tenant_collect(&encoded, Route::Direct, own, engaged, other, office, &mut grid), 0);
             assert_eq!(grid, expected, "{name}");
         }
-        let look = |office, processor, memories: &[u32]| {
+        let view = |office, processor, memories: &[u32]| {
             let mut out = [7; 2];
-            let number = engine.look(&encoded, [&[0; 8], memories], office, processor, &mut out);
+            let number = engine.view_of(&encoded, [&[0; 8], memories], office, processor, &mut out);
             (number, out)
         };
-        assert_eq!(look(1, 1, &[0; 8]), (0, [4, 4]), "{name}");
-        assert_eq!([look(2, 1, &[0; 8]), look(0, 2, &[0; 8]), look(0, 2, &[0; 7])].map(|x| x.0), [11, 11, 9], "{name}");
+        assert_eq!(view(1, 1, &[0; 8]), (0, [4, 4]), "{name}");
+        let refused = [view(2, 1, &[0; 8]), view(0, 2, &[0; 8]), view(0, 2, &[0; 7])];
+        assert_eq!(refused, [11, 11, 9].map(|number| (number, [0; 2])), "{name}");
     }
 }
 
@@ -756,14 +757,13 @@ fn own_parts_on_row_d() {
     for engine in engines_with(Request::Own) {
         let name = engine.name();
         let encoded = row('D').bytes();
-        let sizes = |processor, length| {
-            let mut out = vec![7; length];
-            (engine.own_sizes(&encoded, Route::Direct, processor, &mut out), out)
+        let sizes = |processor| {
+            let mut out = [7; 4];
+            (engine.part_sizes(&encoded, Route::Direct, processor, &mut out), out)
         };
-        assert_eq!([sizes(0, 4), sizes(1, 4)], [(0, vec![2, 2, 1, 1]), (0, vec![2, 3, 1, 1])], "{name}");
-        assert_eq!([sizes(1, 5).0, sizes(2, 5).0, sizes(2, 4).0], [9, 11, 11], "{name}");
+        assert_eq!([0, 1, 2].map(sizes), [(0, [2, 2, 1, 1]), (0, [2, 3, 1, 1]), (11, [0; 4])], "{name}");
         let mut rows = [7; 7];
-        assert_eq!(engine.own_messages(&encoded, Route::Direct, 1, &mut rows), 0, "{name}");
+        assert_eq!(engine.part_messages(&encoded, Route::Direct, 1, &mut rows), 0, "{name}");
         assert_eq!(rows, [0, 0, 1, 0, 1, 1, 0], "{name}");
         let part = |kept| Part {
             source: vec![1; 2],
@@ -774,19 +774,20 @@ fn own_parts_on_row_d() {
         };
         let mut parts = [part(2), part(3)];
         let turn =
-            |parts: &mut [Part; 2], at: usize| engine.own_turn(&encoded, Route::Direct, &mut parts[at], at as u32);
+            |parts: &mut [Part; 2], at: usize| engine.part_turn(&encoded, Route::Direct, &mut parts[at], at as u32);
         assert_eq!(turn(&mut parts, 0), 10, "{name}");
         for (processor, part) in (0..).zip(&mut parts) {
-            assert_eq!(engine.own_fresh(&encoded, Route::Direct, part, 2), 11, "{name}");
-            assert_eq!(engine.own_fresh(&encoded, Route::Direct, part, 1 - processor), 9, "{name}");
-            assert_eq!(engine.own_fresh(&encoded, Route::Direct, part, processor), 0, "{name}");
+            assert_eq!(engine.part_fresh(&encoded, Route::Direct, part, 2), 11, "{name}");
+            assert_eq!(engine.part_fresh(&encoded, Route::Direct, part, 1 - processor), 9, "{name}");
+            assert_eq!(engine.part_fresh(&encoded, Route::Direct, part, processor), 0, "{name}");
         }
-        let post = |parts: &mut [Part; 2], message| engine.own_post(&encoded, Route::Direct, &mut parts[0], 0, message);
+        let post =
+            |parts: &mut [Part; 2], message| engine.part_post(&encoded, Route::Direct, &mut parts[0], 0, message);
         let arrive = |parts: &mut [Part; 2], at: u32, words: &[u32]| {
-            engine.own_arrive(&encoded, Route::Direct, &mut parts[at as usize], at, 0, words)
+            engine.part_arrive(&encoded, Route::Direct, &mut parts[at as usize], at, 0, words)
         };
         let collect = |parts: &mut [Part; 2], at: u32, grid: &mut [u32]| {
-            engine.own_collect(&encoded, Route::Direct, &mut parts[at as usize], at, grid)
+            engine.part_collect(&encoded, Route::Direct, &mut parts[at as usize], at, grid)
         };
         let mut grid = [8; 4];
         let early = [turn(&mut parts, 1), post(&mut parts, 0), collect(&mut parts, 0, &mut grid)];
@@ -836,25 +837,25 @@ fn trials_meet_every_number_of_the_requests() {
     let Ok(tally) = differ::trials(1, 6000, &Model::default(), SMALL) else { panic!("a difference") };
     let expected: [(&str, &[usize]); 26] = [
         ("fresh_both", &[0, 2, 5, 6, 9]),
-        ("office_turn", &[0, 2, 5, 6, 9, 10, 11, 12, 13, 16, 17, 19]),
-        ("office_deliver", &[0, 9, 10, 11, 14]),
-        ("office_collect", &[0, 9, 10, 11, 15]),
+        ("tenant_turn", &[0, 2, 5, 6, 9, 10, 11, 12, 13, 16, 17, 19]),
+        ("tenant_deliver", &[0, 9, 10, 11, 14]),
+        ("tenant_collect", &[0, 9, 10, 11, 15]),
         ("look", &[0, 2, 9, 11]),
         ("soundings", &[0, 1, 2, 3, 5, 6, 8, 9, 16, 17, 20, 22]),
         ("chart", &[0, 2, 5, 6, 9, 23]),
         ("chart_length", &[0, 2, 5, 6, 9, 20, 23]),
         ("turn_at", &[0, 2, 9, 10, 11, 12, 13, 24, 25]),
-        ("office_turn_at", &[0, 9, 10, 11, 12, 13, 19, 24, 25]),
+        ("tenant_turn_at", &[0, 9, 10, 11, 12, 13, 19, 24, 25]),
         ("opens", &[0, 2, 5, 6, 9, 11, 20, 25]),
         ("rounds", &[0, 2, 5, 6, 9]),
         ("rounds_of", &[0, 2, 5, 6, 9, 20]),
-        ("own_sizes", &[0, 1, 2, 3, 5, 6, 8, 9, 11, 16, 17, 18, 20, 21]),
-        ("own_messages", &[0, 1, 2, 3, 5, 6, 8, 9, 11, 16, 17, 18, 20, 21]),
-        ("own_fresh", &[0, 1, 2, 3, 5, 6, 8, 9, 11, 20, 21]),
-        ("own_turn", &[0, 1, 2, 3, 4, 5, 6, 7, 8, 9, 10, 11, 12, 13, 16, 17, 18, 20, 21]),
-        ("own_post", &[0, 1, 2, 3, 5, 6, 8, 9, 10, 11, 14, 16, 17, 18, 20, 21]),
-        ("own_arrive", &[0, 1, 2, 3, 5, 6, 8, 9, 10, 11, 14, 16, 17, 18, 20, 21]),
-        ("own_collect", &[0, 2, 3, 5, 6, 9, 10, 11, 15, 20, 21]),
+        ("part_sizes", &[0, 1, 2, 3, 5, 6, 8, 9, 11, 16, 17, 18, 20, 21]),
+        ("part_messages", &[0, 1, 2, 3, 5, 6, 8, 9, 11, 16, 17, 18, 20, 21]),
+        ("part_fresh", &[0, 1, 2, 3, 5, 6, 8, 9, 11, 20, 21]),
+        ("part_turn", &[0, 1, 2, 3, 4, 5, 6, 7, 8, 9, 10, 11, 12, 13, 16, 17, 18, 20, 21]),
+        ("part_post", &[0, 1, 2, 3, 5, 6, 8, 9, 10, 11, 14, 16, 17, 18, 20, 21]),
+        ("part_arrive", &[0, 1, 2, 3, 5, 6, 8, 9, 10, 11, 14, 16, 17, 18, 20, 21]),
+        ("part_collect", &[0, 2, 3, 5, 6, 9, 10, 11, 15, 20, 21]),
         ("fresh", &[0, 20, 21]),
         ("turn", &[0, 20, 21]),
         ("summary", &[0, 8, 20, 21]),

@@ -157,14 +157,14 @@ impl Case {
 
 impl Case {
     /// the same turn for the first of two offices, its shared word being set too
-    fn office_turn(&mut self, engine: &dyn Engine, setting: &Setting) {
+    fn tenant_turn(&mut self, engine: &dyn Engine, setting: &Setting) {
         let Setting { processor, record, .. } = *setting;
         self.areas.progress[processor as usize] = record;
         setting.marks.iter().for_each(|&(message, mark)| self.areas.status[message] = mark);
         self.engaged[processor as usize] = if record.stage == 0 { NO_OFFICE } else { 0 };
         let encoded = black_box(&self.encoded);
         let (areas, engaged) = (&mut self.areas, &mut self.engaged);
-        assert_eq!(engine.office_turn(encoded, self.route, areas, engaged, &self.other, 0, processor), 0);
+        assert_eq!(engine.tenant_turn(encoded, self.route, areas, engaged, &self.other, 0, processor), 0);
     }
 }
 
@@ -265,7 +265,7 @@ fn figures(engine: &dyn Engine, rounds: usize) {
     };
     line("fresh start", &each(&numbers, &engines, rounds, fresh), 0, 1);
     let summary = |case: &mut Case, engine: &dyn Engine| {
-        assert_eq!(engine.summary(black_box(&case.encoded), case.route, &mut case.grid[..SUMMARY_WORDS]), 0);
+        assert_eq!(engine.summary(black_box(&case.encoded), case.route, &mut [0; SUMMARY_WORDS]), 0);
     };
     line("summary", &each(&numbers, &engines, rounds, summary), 0, 1);
     println!();
@@ -339,7 +339,7 @@ fn offices(engine: &dyn Engine, rounds: usize) {
             let (mut two, mut one) = (Case::new(&numbers), Case::new(&numbers));
             let setting = one.setting(call).expect("a tile with messages");
             let functions: &mut [&mut dyn FnMut()] =
-                &mut [&mut || two.office_turn(engine, &setting), &mut || one.call(engine, &setting)];
+                &mut [&mut || two.tenant_turn(engine, &setting), &mut || one.call(engine, &setting)];
             let found = Rounds::new(functions, rounds);
             let times = [0, 1].map(|at| found.time(at) / 1e3);
             println!("| {label} | {call:?} | {:.2} | {:.2} | {:.2} |", times[0], times[1], found.ratio(0, 1));
@@ -426,7 +426,7 @@ fn shapes(engine: &dyn Engine, rounds: usize) {
             println!("| {label} | {what} | {cells} | {ours:.2} | {theirs:.2} | {:.2} |", found.ratio(0, 1));
         };
         let summary = |case: &mut Case, _: Option<&Setting>| {
-            assert_eq!(engine.summary(black_box(&case.encoded), case.route, &mut case.grid[..SUMMARY_WORDS]), 0);
+            assert_eq!(engine.summary(black_box(&case.encoded), case.route, &mut [0; SUMMARY_WORDS]), 0);
         };
         line("summary", &summary, None);
         line("sweep", &|case, _| case.sweep(engine), None);
@@ -604,7 +604,7 @@ mod tests {
             case.call(&PLAIN, &setting);
             case.call(&PLAIN, &setting);
             if matches!(call, Call::Gather | Call::Calculate | Call::Send) {
-                case.office_turn(&Model::default(), &setting);
+                case.tenant_turn(&Model::default(), &setting);
             }
             // both offices' other records are at their start
             case.areas.progress[setting.processor as usize] = Progress::default();

@@ -133,12 +133,11 @@ static enum status look(struct board *b, double seconds) {
 
 /* which messages of which boards it waits for, and at which tile */
 static void tell_awaited(struct board *b) {
-  uint32_t tile = 0;
-  const uint32_t number = areas_awaited(&b->areas, b->me, &tile, b->marks);
-  if (number != ROLWYDDAC_DONE) tell_refusal("asking what is awaited", number);
-  for (uint32_t m = 0; m < plan_messages(b->plan) && number == ROLWYDDAC_DONE; m++)
+  const rolwyddac_waiting at = areas_awaited(&b->areas, b->me, b->marks);
+  if (at.number != ROLWYDDAC_DONE) tell_refusal("asking what is awaited", at.number);
+  for (uint32_t m = 0; m < plan_messages(b->plan) && at.number == ROLWYDDAC_DONE; m++)
     if (b->marks[m] != 0)
-      tell(STATUS_TIMEOUT, "waits at tile %" PRIu32 " for message %" PRIu32 " of board %" PRIu32, tile, m,
+      tell(STATUS_TIMEOUT, "waits at tile %" PRIu32 " for message %" PRIu32 " of board %" PRIu32, at.tile, m,
            plan_message(b->plan, m)[ROLWYDDAC_ROW_SENDING_PROCESSOR]);
 }
 

@@ -22,16 +22,16 @@
  * the same with the extra work of all tiles */
 static enum status print_times(const struct options *options, const struct job *job, double run, bool on_error) {
   const struct plan *plan = &job->plan;
-  uint32_t totals[ROLWYDDAC_SUMMARY_LENGTH];
   uint32_t *swept = calloc(plan->sizes.grid, sizeof *swept);
   if (swept == NULL) return tell_no_memory();
-  uint32_t number = rolwyddac_summary(plan->recipe, plan->recipe_length, plan->route, totals, ROLWYDDAC_SUMMARY_LENGTH);
+  const rolwyddac_figures totals = rolwyddac_summary(plan->recipe, plan->recipe_length, plan->route);
+  uint32_t number = totals.number;
   const double start = now();
   if (number == ROLWYDDAC_DONE) number = rolwyddac_sweep(plan->recipe, plan->recipe_length, job->source, plan->sizes.source, swept, plan->sizes.grid);
   const double sweep = now() - start;
   free(swept);
   if (number != ROLWYDDAC_DONE) return tell_refusal("sweep", number);
-  work_on(totals[ROLWYDDAC_SUMMARY_TILES] * work_cells(plan), options->work);
+  work_on(totals.tiles * work_cells(plan), options->work);
   const double heavy = now() - start;
   return say(on_error, "run %.1f us, sweep %.1f us, sweep with the extra work %.1f us", 1e6 * run, 1e6 * sweep, 1e6 * heavy);
 }

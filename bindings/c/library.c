@@ -24,23 +24,19 @@ const char *rolwyddac_text(uint32_t number) {
   return "a number that this library has no name for";
 }
 
-/* a field of two bytes, low byte first */
-static size_t half(const uint8_t *bytes) { return bytes[0] + 256u * (size_t)bytes[1]; }
-
 uint32_t rolwyddac_sizes(const uint8_t *encoded, size_t encoded_length, uint32_t route, rolwyddac_areas *out) {
-  uint32_t plan[ROLWYDDAC_SUMMARY_LENGTH];
-  uint32_t number = rolwyddac_summary(encoded, encoded_length, route, plan, ROLWYDDAC_SUMMARY_LENGTH);
-  if (number != ROLWYDDAC_DONE) return number;
-  /* the recipe is accepted: its dimensions stand first, each a record of kind 1 */
+  const rolwyddac_figures plan = rolwyddac_summary(encoded, encoded_length, route);
+  if (plan.number != ROLWYDDAC_DONE) return plan.number;
+  const rolwyddac_fields fields = rolwyddac_read(encoded, encoded_length);
   size_t cells = 1, processors = 1;
-  for (const uint8_t *record = encoded; record[0] == 1; record += ROLWYDDAC_RECORD_BYTES) {
-    cells *= half(record + 2);
-    if (half(record + 6) != 0) processors *= half(record + 6);
+  for (uint32_t d = 0; d < fields.dimensions; d++) {
+    cells *= fields.lengths[d];
+    if (fields.counts[d] != 0) processors *= fields.counts[d];
   }
   out->source = out->grid = cells;
   out->memories = cells * processors;
   out->progress = out->engaged = processors;
-  out->buffer = plan[ROLWYDDAC_SUMMARY_WORDS];
-  out->status = plan[ROLWYDDAC_SUMMARY_MESSAGES];
+  out->buffer = plan.words;
+  out->status = plan.messages;
   return ROLWYDDAC_DONE;
 }

@@ -3,8 +3,8 @@
  * Link with -lrolwyddac, or with the archive librolwyddac.a: bindings/library makes both, bindings/install installs them.
  * Version, limits, texts of the numbers and the sizes of all areas are in rolwyddac_library.h, which this header includes.
  *
- * Every call returns its number. 0 means done. Any other number is a refusal: the first true line of the
- * table below, in table order, and no lent word has changed.
+ * Every call returns its number, alone or as the first field of a struct. 0 means done. Any other number is a refusal:
+ * the first true line of the table below, in table order. No lent word has changed then, and every other field is 0.
  *
  *    1 ragged         recipe empty, or it or the file of soundings not a multiple of 16 bytes
  *    2 stray record   kind, order, count, unnamed byte, shift or bound not as the format has them
@@ -45,7 +45,7 @@
  *    other      the other office's progress records
  *    hours      28 words a processor: 14 pairs of open and close, in minutes of the week
  *
- * The calls named rolwyddac_own_.. are for one processor that has memory for its own part alone, and are lent other areas; these are
+ * The calls named rolwyddac_part_.. are for one processor that has memory for its own part alone, and are lent other areas; these are
  * told where the calls stand. They test the processor's number before the lengths, which are that processor's: 11 before 9.
  *
  * Calls that work on messages are told the route by which these travel, a word: 0 is direct passing, each message straight
@@ -59,9 +59,9 @@
  * after the tile one step ahead in its direction, in that tile's chain (the tiles with its spread components).
  *
  * Two offices with the same recipe and route can share the processors. Each has a source and areas of its own; the words
- * engaged are lent to both. The calls for an office are told its number, 0 or 1, and are lent the other's records only to
- * read. A number above 1 is 11, in these calls before 10, which is tested over all of this: an engaged word is at most 2, the
- * stage of the office that holds the processor is 1 or 2, every other is 0.
+ * engaged are lent to both. The calls named rolwyddac_tenant_.. are told the office's number, 0 or 1, and are lent the
+ * other's records only to read. A number above 1 is 11, in these calls before 10, which is tested over all of this: an
+ * engaged word is at most 2, the stage of the office that holds the processor is 1 or 2, every other is 0.
  *
  * Where processors may run only at some hours, the turns with hours stand in place of the others: they are lent the table
  * hours and carry the minute of the week, 0 to 10,079. The open minute is in the window, the close minute is not; open is
@@ -128,32 +128,10 @@ typedef struct {
 /* The routes. */
 enum { ROLWYDDAC_DIRECT = 0, ROLWYDDAC_INDIRECT = 1 };
 
-/* Places in what rolwyddac_summary writes, and their number. */
-enum {
-  ROLWYDDAC_SUMMARY_TILES = 0,
-  ROLWYDDAC_SUMMARY_MESSAGES = 1,
-  ROLWYDDAC_SUMMARY_WORDS = 2,
-  ROLWYDDAC_SUMMARY_STEPS = 3,
-  ROLWYDDAC_SUMMARY_LENGTH = 4
-};
-
-/* Places in what rolwyddac_look writes, and their number. */
-enum { ROLWYDDAC_LOOK_START = 0, ROLWYDDAC_LOOK_WORDS = 1, ROLWYDDAC_LOOK_LENGTH = 2 };
-
 /* An engaged word of a processor that no office holds. */
 enum { ROLWYDDAC_FREE = 2 };
 
-/* Places in what rolwyddac_message writes, and their number. */
-enum {
-  ROLWYDDAC_MESSAGE_SENDING_TILE = 0,
-  ROLWYDDAC_MESSAGE_TAKING_TILE = 1,
-  ROLWYDDAC_MESSAGE_SENDING_PROCESSOR = 2,
-  ROLWYDDAC_MESSAGE_TAKING_PROCESSOR = 3,
-  ROLWYDDAC_MESSAGE_WORDS = 4,
-  ROLWYDDAC_MESSAGE_LENGTH = 5
-};
-
-/* Places in a message's row of what rolwyddac_messages writes, and a row's length: the first five are those above. */
+/* Places in a message's row of what rolwyddac_messages writes, and a row's length: the first five are those of rolwyddac_message. */
 enum {
   ROLWYDDAC_ROW_SENDING_TILE = 0,
   ROLWYDDAC_ROW_TAKING_TILE = 1,
@@ -164,43 +142,56 @@ enum {
   ROLWYDDAC_ROW_LENGTH = 6
 };
 
-/* Places in what rolwyddac_own_sizes writes, and their number. */
+/* Places in a message's row of what rolwyddac_part_messages writes, and a row's length. */
 enum {
-  ROLWYDDAC_OWN_SOURCE = 0, /* words of the source: the cells of the processor's tiles */
-  ROLWYDDAC_OWN_MEMORY = 1, /* words of its memory: the cells that it keeps */
-  ROLWYDDAC_OWN_MAIL = 2,   /* words of its mail */
-  ROLWYDDAC_OWN_MARKS = 3,  /* its messages: their marks, and rows of rolwyddac_own_messages */
-  ROLWYDDAC_OWN_LENGTH = 4
+  ROLWYDDAC_PART_ROW_MESSAGE = 0,
+  ROLWYDDAC_PART_ROW_SENDING_TILE = 1,
+  ROLWYDDAC_PART_ROW_TAKING_TILE = 2,
+  ROLWYDDAC_PART_ROW_SENDING_PROCESSOR = 3,
+  ROLWYDDAC_PART_ROW_TAKING_PROCESSOR = 4,
+  ROLWYDDAC_PART_ROW_WORDS = 5,
+  ROLWYDDAC_PART_ROW_PLACE = 6,
+  ROLWYDDAC_PART_ROW_LENGTH = 7
 };
 
-/* Places in a message's row of what rolwyddac_own_messages writes, and a row's length. */
-enum {
-  ROLWYDDAC_OWN_ROW_MESSAGE = 0,
-  ROLWYDDAC_OWN_ROW_SENDING_TILE = 1,
-  ROLWYDDAC_OWN_ROW_TAKING_TILE = 2,
-  ROLWYDDAC_OWN_ROW_SENDING_PROCESSOR = 3,
-  ROLWYDDAC_OWN_ROW_TAKING_PROCESSOR = 4,
-  ROLWYDDAC_OWN_ROW_WORDS = 5,
-  ROLWYDDAC_OWN_ROW_PLACE = 6,
-  ROLWYDDAC_OWN_ROW_LENGTH = 7
-};
+/* The totals of a plan. */
+typedef struct {
+  uint32_t number;
+  uint32_t tiles;    /* that hold a cell */
+  uint32_t messages; /* bytes of status */
+  uint32_t words;    /* of all messages: words of buffer */
+  uint32_t steps;    /* turns and deliveries of a whole run */
+} rolwyddac_figures;
 
-/* Writes the plan's totals on the route to out: tiles, messages, words, steps. Cells (the product of the lengths) and
- * processors (the product of the counts that are not 0) stand in the recipe itself.
- * Numbers: 1 to 8, 16 to 18, 20, 21; 9 if out has not 4 words. A refusal leaves out as it was. */
-uint32_t rolwyddac_summary(const uint8_t *encoded, size_t encoded_length, uint32_t route, uint32_t *out,
-                           size_t out_length);
+/* Tells the plan's totals on the route. rolwyddac_read tells what the recipe itself has, rolwyddac_sizes the lengths of all areas.
+ * Numbers: 1 to 8, 16 to 18, 20, 21. */
+rolwyddac_figures rolwyddac_summary(const uint8_t *encoded, size_t encoded_length, uint32_t route);
 
-/* Writes the line of message m of the route to out: sending tile, taking tile, sending processor, taking processor,
- * words. On the indirect route the words are those of the sending tile's own cells and of those it passes on.
- * Numbers: 1 to 8, 16 to 18, 20, 21; 9 if out has not 5 words; 11. A refusal leaves out as it was. */
-uint32_t rolwyddac_message(const uint8_t *encoded, size_t encoded_length, uint32_t route, uint32_t m, uint32_t *out,
-                           size_t out_length);
+/* The line of one message. */
+typedef struct {
+  uint32_t number;
+  uint32_t sender; /* the tile that sends it */
+  uint32_t taker;  /* the tile that takes it */
+  uint32_t from;   /* the sending tile's processor */
+  uint32_t to;     /* the taking tile's processor */
+  uint32_t words;
+} rolwyddac_message_line;
 
-/* Writes one word to out: the hops that message m of the direct route makes on the indirect one. There is no hop in a
- * dimension with one processor. With bounds they are told too, by the message's direction.
- * Numbers: 1 to 8, 16 to 18, 20; 9 if out has not 1 word; 11. A refusal leaves out as it was. */
-uint32_t rolwyddac_hops(const uint8_t *encoded, size_t encoded_length, uint32_t m, uint32_t *out, size_t out_length);
+/* Tells the line of a message of the route: sending tile, taking tile, their processors, words. On the indirect route the words are
+ * those of the sending tile's own cells and of those it passes on.
+ * Numbers: 1 to 8, 11, 16 to 18, 20, 21. */
+rolwyddac_message_line rolwyddac_message(const uint8_t *encoded, size_t encoded_length, uint32_t route, uint32_t message);
+
+/* The hops of one message. */
+typedef struct {
+  uint32_t number;
+  uint32_t hops;
+} rolwyddac_hop_count;
+
+/* Tells the hops that a message of the direct route makes on the indirect one. There is no hop in a dimension with one
+ * processor. With bounds they are told too, by the message's direction.
+ * Numbers: 1 to 8, 11, 16 to 18, 20. */
+rolwyddac_hop_count rolwyddac_hops(const uint8_t *encoded, size_t encoded_length, uint32_t message);
 
 /* Sweeps the whole nest in index order on one processor and writes each cell's value to grid, outside the shape the
  * boundary value.
@@ -242,16 +233,20 @@ uint32_t rolwyddac_collect(const uint8_t *encoded, size_t encoded_length, uint32
                            size_t progress_length, const uint8_t *status, size_t status_length, uint32_t *grid,
                            size_t grid_length);
 
+/* How many rounds a run had. */
+typedef struct {
+  uint32_t number;
+  uint32_t rounds;
+} rolwyddac_driven;
+
 /* Drives a whole run by rounds, on the direct route: makes a fresh start and goes on to the run's end. In a round every
- * processor that could gather at the round's start does its whole tile, then each message in flight is delivered. Writes one
- * word to out: the rounds, the greatest that rolwyddac_rounds_of writes. No other plan of whole tiles has fewer. Collecting
- * then gives the sweep.
- * Numbers: 1 to 8, 16 to 18, 20; 9, also if out has not 1 word. A refusal leaves memories, buffer, progress, status and out
- * as they were. */
-uint32_t rolwyddac_rounds(const uint8_t *encoded, size_t encoded_length, const uint32_t *source, size_t source_length,
-                          uint32_t *memories, size_t memories_length, uint32_t *buffer, size_t buffer_length,
-                          rolwyddac_progress *progress, size_t progress_length, uint8_t *status, size_t status_length,
-                          uint32_t *out, size_t out_length);
+ * processor that could gather at the round's start does its whole tile, then each message in flight is delivered. Tells the
+ * rounds, the greatest that rolwyddac_rounds_of writes. No other plan of whole tiles has fewer. Collecting then gives the sweep.
+ * Numbers: 1 to 9, 16 to 18, 20. A refusal leaves memories, buffer, progress and status as they were. */
+rolwyddac_driven rolwyddac_rounds(const uint8_t *encoded, size_t encoded_length, const uint32_t *source,
+                                  size_t source_length, uint32_t *memories, size_t memories_length, uint32_t *buffer,
+                                  size_t buffer_length, rolwyddac_progress *progress, size_t progress_length,
+                                  uint8_t *status, size_t status_length);
 
 /* Writes each tile's round to rounds, one word a tile: one more than the latest round among the tiles that it waits for, its
  * processor's previous tile and those that send to it; 1 where there are none. Round 1 is the first.
@@ -274,7 +269,7 @@ uint32_t rolwyddac_fresh_both(const uint8_t *encoded, size_t encoded_length, uin
 /* Gives one processor a turn for an office, as rolwyddac_turn does on its areas. A gather engages the processor to the
  * office, the last step of that tile frees it.
  * Numbers: 1 to 13, 16 to 21. A refusal leaves memories, buffer, progress, status and engaged as they were. */
-uint32_t rolwyddac_office_turn(const uint8_t *encoded, size_t encoded_length, uint32_t route, const uint32_t *source,
+uint32_t rolwyddac_tenant_turn(const uint8_t *encoded, size_t encoded_length, uint32_t route, const uint32_t *source,
                                size_t source_length, uint32_t *memories, size_t memories_length, uint32_t *buffer,
                                size_t buffer_length, rolwyddac_progress *progress, size_t progress_length,
                                uint8_t *status, size_t status_length, uint32_t *engaged, size_t engaged_length,
@@ -283,7 +278,7 @@ uint32_t rolwyddac_office_turn(const uint8_t *encoded, size_t encoded_length, ui
 
 /* Delivers one message of an office: its status goes from 1 to 2. Nothing else is written.
  * Numbers: 1 to 11, 14, 16 to 18, 20, 21. A refusal leaves status as it was. */
-uint32_t rolwyddac_office_deliver(const uint8_t *encoded, size_t encoded_length, uint32_t route, const uint32_t *source,
+uint32_t rolwyddac_tenant_deliver(const uint8_t *encoded, size_t encoded_length, uint32_t route, const uint32_t *source,
                                   size_t source_length, const uint32_t *memories, size_t memories_length,
                                   const uint32_t *buffer, size_t buffer_length, const rolwyddac_progress *progress,
                                   size_t progress_length, uint8_t *status, size_t status_length,
@@ -295,20 +290,25 @@ uint32_t rolwyddac_office_deliver(const uint8_t *encoded, size_t encoded_length,
  * same recipe and route and each its office's source, and lent the areas as the last left them, grid is what
  * rolwyddac_sweep writes for that recipe and the office's source.
  * Numbers: 1 to 11, 15 to 18, 20, 21. A refusal leaves grid as it was. */
-uint32_t rolwyddac_office_collect(const uint8_t *encoded, size_t encoded_length, uint32_t route, const uint32_t *source,
+uint32_t rolwyddac_tenant_collect(const uint8_t *encoded, size_t encoded_length, uint32_t route, const uint32_t *source,
                                   size_t source_length, const uint32_t *memories, size_t memories_length,
                                   const uint32_t *buffer, size_t buffer_length, const rolwyddac_progress *progress,
                                   size_t progress_length, const uint8_t *status, size_t status_length,
                                   const uint32_t *engaged, size_t engaged_length, const rolwyddac_progress *other,
                                   size_t other_length, uint32_t office, uint32_t *grid, size_t grid_length);
 
-/* A look at a processor's memory, lent the memories of both offices: writes two words to out, where the processor's part
- * begins in the named office's memories and how many words it has. The same on either route.
- * Numbers: 1 to 8, 16 to 18, 20; 9 if memories have not their length or out has not 2 words; 11. A refusal leaves out as it was:
- * there is no part then. */
-uint32_t rolwyddac_look(const uint8_t *encoded, size_t encoded_length, const uint32_t *first, size_t first_length,
-                        const uint32_t *second, size_t second_length, uint32_t office, uint32_t processor,
-                        uint32_t *out, size_t out_length);
+/* A processor's part of an office's memories. */
+typedef struct {
+  uint32_t number;
+  uint32_t begin;  /* its first word's place in the memories */
+  uint32_t length; /* its words */
+} rolwyddac_viewed;
+
+/* A view of a processor's memory, lent the memories of both offices: tells where the processor's part begins in the named
+ * office's memories and how many words it has. The same on either route. At a refusal there is no part.
+ * Numbers: 1 to 8, 16 to 18, 20; 9 if memories have not their length; 11. */
+rolwyddac_viewed rolwyddac_view(const uint8_t *encoded, size_t encoded_length, const uint32_t *first, size_t first_length,
+                                const uint32_t *second, size_t second_length, uint32_t office, uint32_t processor);
 
 /* Fills source from a file of soundings, records of 16 bytes: cell number, survey day, survey number and depth, each a
  * word, least byte first. A cell gets the depth of its record with the greatest day; of these, with the greatest survey
@@ -318,21 +318,25 @@ uint32_t rolwyddac_look(const uint8_t *encoded, size_t encoded_length, const uin
 uint32_t rolwyddac_soundings(const uint8_t *encoded, size_t encoded_length, const uint8_t *file, size_t file_length,
                              uint32_t value, uint32_t *source, size_t source_length);
 
-/* Writes the grid's text for the charting desk to the front of space, and one word to out: its length in bytes. The text is
- * an Esri ASCII grid of whole numbers: ncols, nrows, xllcorner (x), yllcorner (y), cellsize and NODATA_value lines, then a
- * line for each row, first row first; it is for recipes of two dimensions. Bytes of space behind the text stay as they
- * were. No text is longer than ROLWYDDAC_LONGEST_CHART.
- * A grid that has not one word a cell, a space shorter than the text, an out that has not 1 word: each is 9.
- * Numbers: 1 to 9, 16 to 18, 20, 23. A refusal leaves space and out as they were. */
-uint32_t rolwyddac_chart(const uint8_t *encoded, size_t encoded_length, const uint32_t *grid, size_t grid_length, int32_t x,
-                         int32_t y, uint32_t cell_size, uint8_t *space, size_t space_length, uint32_t *out,
-                         size_t out_length);
+/* How long a grid's text is. */
+typedef struct {
+  uint32_t number;
+  uint32_t length; /* in bytes */
+} rolwyddac_chart_text;
 
-/* Writes one word to out: the length in bytes of the text that rolwyddac_chart writes.
- * Numbers: 1 to 8, 16 to 18, 20, 23, and 9 if grid has not one word a cell or out has not 1 word. A refusal leaves out as it
- * was. */
-uint32_t rolwyddac_chart_length(const uint8_t *encoded, size_t encoded_length, const uint32_t *grid, size_t grid_length,
-                                int32_t x, int32_t y, uint32_t cell_size, uint32_t *out, size_t out_length);
+/* Writes the grid's text for the charting desk to the front of space, and tells its length. The text is an Esri ASCII grid of
+ * whole numbers: ncols, nrows, xllcorner (x), yllcorner (y), cellsize and NODATA_value lines, then a line for each row,
+ * first row first; it is for recipes of two dimensions. Bytes of space behind the text stay as they were. No text is longer
+ * than ROLWYDDAC_LONGEST_CHART. A grid that has not one word a cell and a space shorter than the text: each is 9.
+ * Numbers: 1 to 9, 16 to 18, 20, 23. A refusal leaves space as it was. */
+rolwyddac_chart_text rolwyddac_chart(const uint8_t *encoded, size_t encoded_length, const uint32_t *grid,
+                                     size_t grid_length, int32_t x, int32_t y, uint32_t cell_size, uint8_t *space,
+                                     size_t space_length);
+
+/* Tells the length of the text that rolwyddac_chart writes.
+ * Numbers: 1 to 8, 16 to 18, 20, 23; 9 if grid has not one word a cell. */
+rolwyddac_chart_text rolwyddac_chart_length(const uint8_t *encoded, size_t encoded_length, const uint32_t *grid,
+                                            size_t grid_length, int32_t x, int32_t y, uint32_t cell_size);
 
 /* Gives one processor a turn at a minute of the week, as rolwyddac_turn does, if it is open then. A faulty pair of any
  * processor is 25.
@@ -343,9 +347,9 @@ uint32_t rolwyddac_turn_at(const uint8_t *encoded, size_t encoded_length, uint32
                            uint8_t *status, size_t status_length, const uint32_t *hours, size_t hours_length,
                            uint32_t minute, uint32_t processor);
 
-/* Gives one processor a turn for an office at a minute of the week, as rolwyddac_office_turn does, if it is open then.
+/* Gives one processor a turn for an office at a minute of the week, as rolwyddac_tenant_turn does, if it is open then.
  * Numbers: 1 to 13, 16 to 21, 24, 25. A refusal leaves memories, buffer, progress, status and engaged as they were. */
-uint32_t rolwyddac_office_turn_at(const uint8_t *encoded, size_t encoded_length, uint32_t route,
+uint32_t rolwyddac_tenant_turn_at(const uint8_t *encoded, size_t encoded_length, uint32_t route,
                                   const uint32_t *source, size_t source_length, uint32_t *memories,
                                   size_t memories_length, uint32_t *buffer, size_t buffer_length,
                                   rolwyddac_progress *progress, size_t progress_length, uint8_t *status,
@@ -353,11 +357,17 @@ uint32_t rolwyddac_office_turn_at(const uint8_t *encoded, size_t encoded_length,
                                   const rolwyddac_progress *other, size_t other_length, const uint32_t *hours,
                                   size_t hours_length, uint32_t minute, uint32_t office, uint32_t processor);
 
-/* When a processor next opens, lent only the table of hours: writes two words to out, 1 and the minutes until then, 0 while it
- * is open and going past the end of the week to the same table; or 0 and 0 where it never opens.
- * Numbers: 1 to 8, 16 to 18, 20; 9 if hours has not its length or out has not 2 words; 25; 11. A refusal leaves out as it was. */
-uint32_t rolwyddac_opens(const uint8_t *encoded, size_t encoded_length, const uint32_t *hours, size_t hours_length,
-                         uint32_t minute, uint32_t processor, uint32_t *out, size_t out_length);
+/* When a processor next opens. */
+typedef struct {
+  uint32_t number;
+  uint32_t opens;   /* 1, or 0 where it never opens */
+  uint32_t minutes; /* until then, 0 while it is open, and 0 where it never opens */
+} rolwyddac_opening;
+
+/* Tells when a processor next opens, lent only the table of hours; the minutes go past the end of the week to the same table.
+ * Numbers: 1 to 8, 16 to 18, 20; 9 if hours has not its length; 25; 11. */
+rolwyddac_opening rolwyddac_opens(const uint8_t *encoded, size_t encoded_length, const uint32_t *hours,
+                                  size_t hours_length, uint32_t minute, uint32_t processor);
 
 /* For processors that share no memory each keeps all areas to itself, and a transport carries the messages: four calls serve it.
  * A message that its sender's turn has put in flight is posted by rolwyddac_deliver on the sender's own areas; its words are
@@ -375,15 +385,19 @@ uint32_t rolwyddac_messages(const uint8_t *encoded, size_t encoded_length, uint3
  * Numbers: 1 to 8, 16 to 18, 20; 9 if out has not one word a cell. A refusal leaves out as it was. */
 uint32_t rolwyddac_owners(const uint8_t *encoded, size_t encoded_length, uint32_t *out, size_t out_length);
 
-/* What a processor waits for, lent only the records and the status bytes: writes one word to out, the tile at which it
- * stands, and one byte a message to marks: 1 where the processor is to gather and the message is due at that tile and not
- * delivered, else 0. Some mark is 1 exactly where rolwyddac_turn would give 12.
- * Records, status or marks of another length and an out that has not 1 word: each is 9. A processor without tiles left is 13.
- * Numbers: 1 to 11, 13, 16 to 18, 20, 21. A refusal leaves marks and out as they were. */
-uint32_t rolwyddac_awaited(const uint8_t *encoded, size_t encoded_length, uint32_t route,
-                           const rolwyddac_progress *progress, size_t progress_length, const uint8_t *status,
-                           size_t status_length, uint32_t processor, uint8_t *marks, size_t marks_length,
-                           uint32_t *out, size_t out_length);
+/* Where a processor stands. */
+typedef struct {
+  uint32_t number;
+  uint32_t tile;
+} rolwyddac_waiting;
+
+/* What a processor waits for, lent only the records and the status bytes: tells the tile at which it stands, and writes one byte a
+ * message to marks: 1 where the processor is to gather and the message is due at that tile and not delivered, else 0. Some mark
+ * is 1 exactly where rolwyddac_turn would give 12. A processor without tiles left is 13.
+ * Numbers: 1 to 11, 13, 16 to 18, 20, 21. A refusal leaves marks as they were. */
+rolwyddac_waiting rolwyddac_awaited(const uint8_t *encoded, size_t encoded_length, uint32_t route,
+                                    const rolwyddac_progress *progress, size_t progress_length, const uint8_t *status,
+                                    size_t status_length, uint32_t processor, uint8_t *marks, size_t marks_length);
 
 /* Takes a message in at its taker, whose own areas are lent: puts the words into the message's place in the buffer, and its
  * status goes from 0 to 2. Nothing else is written.
@@ -405,61 +419,95 @@ uint32_t rolwyddac_take_in(const uint8_t *encoded, size_t encoded_length, uint32
  *    progress   one record, its own
  *    marks      one byte for each of these messages, in that order: 0 unsent, 1 in flight, 2 delivered, 3 taken
  *
- * rolwyddac_own_sizes tells their lengths, rolwyddac_own_messages which messages they are. Each call gives the number, and leaves the words of
+ * rolwyddac_part_sizes tells their lengths, rolwyddac_part_messages which messages they are. Each call gives the number, and leaves the words of
  * the part, that the call on all areas would: rolwyddac_fresh, rolwyddac_turn, rolwyddac_deliver for a post and rolwyddac_take_in for an
  * arrival. While one runs it has up to some 180 kilobytes of its own on the stack. */
 
-/* Writes four words to out: how many words source, memory and mail of the processor have, and how many messages it handles.
- * Numbers: 1 to 8, 16 to 18, 20, 21; 11; 9 if out has not 4 words. A refusal leaves out as it was. */
-uint32_t rolwyddac_own_sizes(const uint8_t *encoded, size_t encoded_length, uint32_t route, uint32_t processor,
-                             uint32_t *out, size_t out_length);
+/* How long the areas of a processor's part are. */
+typedef struct {
+  uint32_t number;
+  uint32_t cells;    /* of its tiles: words of source */
+  uint32_t kept;     /* cells that it keeps: words of memory */
+  uint32_t words;    /* of the messages that it handles: words of mail */
+  uint32_t messages; /* that it handles: bytes of marks, and rows of rolwyddac_part_messages */
+} rolwyddac_part_lengths;
+
+/* Tells how long the areas of the processor's part are.
+ * Numbers: 1 to 8, 11, 16 to 18, 20, 21. */
+rolwyddac_part_lengths rolwyddac_part_sizes(const uint8_t *encoded, size_t encoded_length, uint32_t route,
+                                            uint32_t processor);
 
 /* Writes a row of seven words for each message that the processor handles to out, in the order of their numbers: its number, then
  * the five of rolwyddac_message, then where its words begin in the processor's mail.
  * Numbers: 1 to 8, 16 to 18, 20, 21; 11; 9 if out has not seven words a message. A refusal leaves out as it was. */
-uint32_t rolwyddac_own_messages(const uint8_t *encoded, size_t encoded_length, uint32_t route, uint32_t processor,
-                                uint32_t *out, size_t out_length);
+uint32_t rolwyddac_part_messages(const uint8_t *encoded, size_t encoded_length, uint32_t route, uint32_t processor,
+                                 uint32_t *out, size_t out_length);
 
 /* Makes the processor's fresh start: writes zero to memory, mail, progress and marks, whatever they held.
  * Numbers: 1 to 9, 11, 16 to 18, 20, 21. A refusal leaves all four as they were. */
-uint32_t rolwyddac_own_fresh(const uint8_t *encoded, size_t encoded_length, uint32_t route, uint32_t *memory,
-                             size_t memory_length, uint32_t *mail, size_t mail_length, rolwyddac_progress *progress,
-                             size_t progress_length, uint8_t *marks, size_t marks_length, uint32_t processor);
+uint32_t rolwyddac_part_fresh(const uint8_t *encoded, size_t encoded_length, uint32_t route, uint32_t *memory,
+                              size_t memory_length, uint32_t *mail, size_t mail_length, rolwyddac_progress *progress,
+                              size_t progress_length, uint8_t *marks, size_t marks_length, uint32_t processor);
 
 /* Gives the processor a turn: it does the stage at which its record stands, once, as rolwyddac_turn does.
  * Numbers: 1 to 13, 16 to 18, 20, 21. A refusal leaves memory, mail, progress and marks as they were. */
-uint32_t rolwyddac_own_turn(const uint8_t *encoded, size_t encoded_length, uint32_t route, const uint32_t *source,
-                            size_t source_length, uint32_t *memory, size_t memory_length, uint32_t *mail,
-                            size_t mail_length, rolwyddac_progress *progress, size_t progress_length, uint8_t *marks,
-                            size_t marks_length, uint32_t processor);
+uint32_t rolwyddac_part_turn(const uint8_t *encoded, size_t encoded_length, uint32_t route, const uint32_t *source,
+                             size_t source_length, uint32_t *memory, size_t memory_length, uint32_t *mail,
+                             size_t mail_length, rolwyddac_progress *progress, size_t progress_length, uint8_t *marks,
+                             size_t marks_length, uint32_t processor);
 
 /* Posts a message that a turn has put in flight: its mark goes from 1 to 2, and it is the transport's. Its words are those from
- * ROLWYDDAC_OWN_ROW_PLACE on in the mail, and no later call of the run writes there. Nothing else is written. A message that the
+ * ROLWYDDAC_PART_ROW_PLACE on in the mail, and no later call of the run writes there. Nothing else is written. A message that the
  * processor does not handle has no mark here, and is 14.
  * Numbers: 1 to 11, 14, 16 to 18, 20, 21. A refusal leaves marks as they were. */
-uint32_t rolwyddac_own_post(const uint8_t *encoded, size_t encoded_length, uint32_t route, const uint32_t *memory,
-                            size_t memory_length, const uint32_t *mail, size_t mail_length,
-                            const rolwyddac_progress *progress, size_t progress_length, uint8_t *marks,
-                            size_t marks_length, uint32_t processor, uint32_t message);
+uint32_t rolwyddac_part_post(const uint8_t *encoded, size_t encoded_length, uint32_t route, const uint32_t *memory,
+                             size_t memory_length, const uint32_t *mail, size_t mail_length,
+                             const rolwyddac_progress *progress, size_t progress_length, uint8_t *marks,
+                             size_t marks_length, uint32_t processor, uint32_t message);
 
 /* A message arrives at its taker: puts the words into its place in the mail, and its mark goes from 0 to 2. Nothing else is written.
  * Words that are not as many as the message has are 9; a number too high, or a message that this processor does not take, is
  * 11; a message whose mark is not 0, as one that came before, is 14.
  * Numbers: 1 to 11, 14, 16 to 18, 20, 21. A refusal leaves mail and marks as they were. */
-uint32_t rolwyddac_own_arrive(const uint8_t *encoded, size_t encoded_length, uint32_t route, const uint32_t *memory,
-                              size_t memory_length, uint32_t *mail, size_t mail_length,
-                              const rolwyddac_progress *progress, size_t progress_length, uint8_t *marks,
-                              size_t marks_length, uint32_t processor, uint32_t message, const uint32_t *words,
-                              size_t words_length);
+uint32_t rolwyddac_part_arrive(const uint8_t *encoded, size_t encoded_length, uint32_t route, const uint32_t *memory,
+                               size_t memory_length, uint32_t *mail, size_t mail_length,
+                               const rolwyddac_progress *progress, size_t progress_length, uint8_t *marks,
+                               size_t marks_length, uint32_t processor, uint32_t message, const uint32_t *words,
+                               size_t words_length);
 
 /* Puts the processor's part into a grid of all cells, once it has finished: the words of its tiles' cells from its memory, and the
  * boundary value where a cell is outside the shape. Every other word of grid is as before, so that the grid is whole once each
  * processor's memory and record were put there, in any order; it is then what rolwyddac_sweep writes, where all calls of each
  * processor since its fresh start were these, and each message posted arrived with the words that its sender's mail had.
  * Numbers: 1 to 11, 15 to 18, 20, 21. A refusal leaves grid as it was. */
-uint32_t rolwyddac_own_collect(const uint8_t *encoded, size_t encoded_length, uint32_t route, const uint32_t *memory,
-                               size_t memory_length, const rolwyddac_progress *progress, size_t progress_length,
-                               uint32_t processor, uint32_t *grid, size_t grid_length);
+uint32_t rolwyddac_part_collect(const uint8_t *encoded, size_t encoded_length, uint32_t route, const uint32_t *memory,
+                                size_t memory_length, const rolwyddac_progress *progress, size_t progress_length,
+                                uint32_t processor, uint32_t *grid, size_t grid_length);
+
+/* The fields of a recipe, as rolwyddac_write takes them. Of each table the first entries count, as many as is said, and the
+ * rest are 0. */
+typedef struct {
+  uint32_t number;
+  uint32_t dimensions;     /* entries of lengths, tiling and counts */
+  uint32_t distances;      /* entries of weights; four times as many of components */
+  uint32_t bounds;         /* entries of sides, bounded, earlier, slopes and offsets */
+  uint32_t boundary;       /* what a cell outside reads as */
+  uint16_t lengths[4];     /* cells along each dimension */
+  uint16_t tiling[4];      /* tile lengths */
+  uint16_t counts[4];      /* processors, 0 where a dimension is not spread */
+  uint16_t components[32]; /* four a distance */
+  uint16_t weights[8];
+  int16_t offsets[4];
+  uint8_t sides[4];   /* 0 for lower, 1 for upper */
+  uint8_t bounded[4]; /* the dimension bounded, counted from 0 */
+  uint8_t earlier[4]; /* an earlier dimension */
+  int8_t slopes[4];   /* -1, 0 or 1 */
+  uint8_t shift;
+} rolwyddac_fields;
+
+/* Tells the fields of a recipe: rolwyddac_write makes the same bytes of them.
+ * Numbers: 1 to 8, 16 to 18, 20. */
+rolwyddac_fields rolwyddac_read(const uint8_t *encoded, size_t encoded_length);
 
 /* Writes the recipe of the fields to space: lengths, tiling (tile lengths) and counts (processor counts) have one
  * number a dimension; components has four numbers a distance, zero beyond the last dimension, and weights one. The

@@ -53,7 +53,7 @@ typedef struct {
 } rolwyddac_areas;
 
 /* Writes the sizes of all areas of the recipe's plan on the route to out.
- * Numbers: those of rolwyddac_summary but 9. A refusal leaves out as it was. */
+ * Numbers: those of rolwyddac_summary. A refusal leaves out as it was. */
 uint32_t rolwyddac_sizes(const uint8_t *encoded, size_t encoded_length, uint32_t route, rolwyddac_areas *out);
 
 /* The term of a number and what it says, as in the table of rolwyddac.h: "early" and "collecting while a processor has tiles

@@ -58,10 +58,10 @@ int main(void) {
   must_be_done("write", rolwyddac_write(lengths, DIMENSIONS, tiling, DIMENSIONS, counts, DIMENSIONS, components,
                                         4 * DISTANCES, weights, DISTANCES, no_bytes, 0, no_bytes, 0, no_bytes, 0, no_slopes, 0,
                                         no_offsets, 0, 0, 0, recipe, sizeof recipe));
-  uint32_t plan[ROLWYDDAC_SUMMARY_LENGTH];
-  must_be_done("summary", rolwyddac_summary(recipe, sizeof recipe, ROLWYDDAC_DIRECT, plan, ROLWYDDAC_SUMMARY_LENGTH));
-  words = plan[ROLWYDDAC_SUMMARY_WORDS];
-  messages = plan[ROLWYDDAC_SUMMARY_MESSAGES];
+  const rolwyddac_figures plan = rolwyddac_summary(recipe, sizeof recipe, ROLWYDDAC_DIRECT);
+  must_be_done("summary", plan.number);
+  words = plan.words;
+  messages = plan.messages;
   /* one element more than needed, for a pointer that is not null where a plan has no message */
   buffer = calloc(words + 1, sizeof *buffer);
   status = calloc(messages + 1, sizeof *status);
@@ -82,9 +82,9 @@ int main(void) {
     printf("%" PRIu32 "%c", grid[c], c % SIDE == SIDE - 1 ? '\n' : ' ');
 
   must_be_done("sweep", rolwyddac_sweep(recipe, sizeof recipe, source, CELLS, swept, CELLS));
-  printf("steps %zu of %" PRIu32 ", %s the sweep\n", steps, plan[ROLWYDDAC_SUMMARY_STEPS],
+  printf("steps %zu of %" PRIu32 ", %s the sweep\n", steps, plan.steps,
          memcmp(grid, swept, sizeof grid) == 0 ? "equal to" : "NOT equal to");
   free(buffer);
   free(status);
-  return steps == plan[ROLWYDDAC_SUMMARY_STEPS] && memcmp(grid, swept, sizeof grid) == 0 ? 0 : 1;
+  return steps == plan.steps && memcmp(grid, swept, sizeof grid) == 0 ? 0 : 1;
 }

@@ -1,6 +1,6 @@
 /* Row D of document 01 step by step: four cells in a line, in tiles of two on two processors. Every call gives the
- * number that the paper's table has for it, each number is met, and a refusal leaves every lent word as it was. One
- * dimension is spread, so both routes have the same message: all is done by each of them. */
+ * number that the paper's table has for it, each number is met, and a refusal leaves every lent word as it was and tells
+ * nothing else. One dimension is spread, so both routes have the same message: all is done by each of them. */
 #include <inttypes.h>
 #include <stdio.h>
 #include <stdlib.h>
@@ -8,7 +8,7 @@
 
 #include "rolwyddac.h"
 
-enum { CELLS = 4, PROCESSORS = 2, MESSAGES = 1, WORDS = 1, RECIPE = 4 * 16, RECORD = 16 };
+enum { CELLS = 4, PROCESSORS = 2, TILES = 2, MESSAGES = 1, WORDS = 1, RECIPE = 4 * 16, RECORD = 16 };
 
 static const uint8_t row_d[RECIPE] = {
     [0] = 1, [2] = 4, [4] = 2, [6] = PROCESSORS, [16] = 1, [18] = 1, [20] = 1, [32] = 2, [34] = 1, [38] = 1, [48] = 3,
@@ -16,7 +16,7 @@ static const uint8_t row_d[RECIPE] = {
 
 /* what the calls are lent; with four bytes of status there is no padding, and memcmp compares nothing else */
 typedef struct {
-  uint32_t source[CELLS], memories[PROCESSORS * CELLS], buffer[WORDS], grid[CELLS], out[ROLWYDDAC_MESSAGE_LENGTH];
+  uint32_t source[CELLS], memories[PROCESSORS * CELLS], buffer[WORDS], grid[CELLS], rounds[TILES + 1];
   rolwyddac_progress progress[PROCESSORS];
   uint8_t status[4];
 } lent;
@@ -27,6 +27,9 @@ static size_t recipe_length = RECIPE, source_length = CELLS;
 static uint32_t route;
 static unsigned met;
 
+/* what the last call told by value: its number, then the other fields */
+static uint32_t told[8];
+
 static void expect(const char *call, uint32_t number, uint32_t wanted) {
   int kept = number == ROLWYDDAC_DONE || memcmp(&at, &before, sizeof at) == 0;
   met |= 1u << (number & 31);
@@ -34,6 +37,22 @@ static void expect(const char *call, uint32_t number, uint32_t wanted) {
   printf("%s gave %" PRIu32 ", not %" PRIu32 "%s\n", call, number, wanted, kept ? "" : ", and wrote");
   exit(1);
 }
+
+static void same(const char *what, const uint32_t *words, const uint32_t *wanted, size_t length) {
+  if (memcmp(words, wanted, length * sizeof *words) == 0) return;
+  printf("%s are not as document 01 has them\n", what);
+  exit(1);
+}
+
+/* a call that returns a struct of words gave the number wanted; at a refusal every other field is 0 */
+static void tells(const char *call, const void *fields, size_t size, uint32_t wanted) {
+  memset(told, 0, sizeof told);
+  memcpy(told, fields, size);
+  expect(call, told[0], wanted);
+  if (wanted != ROLWYDDAC_DONE) same(call, told + 1, (const uint32_t[7]){0}, 7);
+}
+
+#define TELLS(call, made, wanted) tells(call, &(made), sizeof(made), wanted)
 
 static void fresh(uint32_t wanted) {
   before = at;
@@ -60,9 +79,10 @@ static void turn_at(uint32_t minute, uint32_t processor, uint32_t wanted) {
                                       hours, hours_length, minute, processor), wanted);
 }
 
-static void opens(uint32_t minute, uint32_t processor, size_t length, uint32_t wanted) {
+static void opens(uint32_t minute, uint32_t processor, uint32_t wanted) {
   before = at;
-  expect("opens", rolwyddac_opens(recipe, recipe_length, hours, hours_length, minute, processor, at.out, length), wanted);
+  const rolwyddac_opening made = rolwyddac_opens(recipe, recipe_length, hours, hours_length, minute, processor);
+  TELLS("opens", made, wanted);
 }
 
 static void deliver(uint32_t message, uint32_t wanted) {
@@ -79,16 +99,16 @@ static void collect(uint32_t wanted) {
                                       at.grid, CELLS), wanted);
 }
 
-static void rounds(size_t length, uint32_t wanted) {
+static void rounds(uint32_t wanted) {
   before = at;
-  expect("rounds", rolwyddac_rounds(recipe, recipe_length, at.source, source_length, at.memories, PROCESSORS * CELLS,
-                                    at.buffer, WORDS, at.progress, PROCESSORS, at.status, MESSAGES, at.out, length),
-         wanted);
+  const rolwyddac_driven made = rolwyddac_rounds(recipe, recipe_length, at.source, source_length, at.memories, PROCESSORS * CELLS,
+                                                 at.buffer, WORDS, at.progress, PROCESSORS, at.status, MESSAGES);
+  TELLS("rounds", made, wanted);
 }
 
 static void rounds_of(size_t length, uint32_t wanted) {
   before = at;
-  expect("rounds_of", rolwyddac_rounds_of(recipe, recipe_length, at.out, length), wanted);
+  expect("rounds_of", rolwyddac_rounds_of(recipe, recipe_length, at.rounds, length), wanted);
 }
 
 static void sweep(uint32_t wanted) {
@@ -96,19 +116,43 @@ static void sweep(uint32_t wanted) {
   expect("sweep", rolwyddac_sweep(recipe, recipe_length, at.source, source_length, at.grid, CELLS), wanted);
 }
 
-static void summary(size_t length, uint32_t wanted) {
+static void summary(uint32_t wanted) {
   before = at;
-  expect("summary", rolwyddac_summary(recipe, recipe_length, route, at.out, length), wanted);
+  const rolwyddac_figures made = rolwyddac_summary(recipe, recipe_length, route);
+  TELLS("summary", made, wanted);
 }
 
-static void message(uint32_t number, size_t length, uint32_t wanted) {
+static void message(uint32_t number, uint32_t wanted) {
   before = at;
-  expect("message", rolwyddac_message(recipe, recipe_length, route, number, at.out, length), wanted);
+  const rolwyddac_message_line made = rolwyddac_message(recipe, recipe_length, route, number);
+  TELLS("message", made, wanted);
 }
 
-static void hops(uint32_t number, size_t length, uint32_t wanted) {
+static void hops(uint32_t number, uint32_t wanted) {
   before = at;
-  expect("hops", rolwyddac_hops(recipe, recipe_length, number, at.out, length), wanted);
+  const rolwyddac_hop_count made = rolwyddac_hops(recipe, recipe_length, number);
+  TELLS("hops", made, wanted);
+}
+
+/* the recipe read, and where it is accepted written again; a refusal tells no field */
+static void read_back(uint32_t wanted) {
+  before = at;
+  const rolwyddac_fields f = rolwyddac_read(recipe, recipe_length);
+  expect("read", f.number, wanted);
+  if (wanted != ROLWYDDAC_DONE) {
+    rolwyddac_fields none;
+    memset(&none, 0, sizeof none), none.number = wanted;
+    /* behind the last field there may be anything */
+    if (memcmp(&f, &none, offsetof(rolwyddac_fields, shift) + sizeof f.shift) == 0) return;
+    puts("a refused recipe has fields"), exit(1);
+  }
+  uint8_t again[RECIPE + RECORD];
+  expect("write", rolwyddac_write(f.lengths, f.dimensions, f.tiling, f.dimensions, f.counts, f.dimensions, f.components,
+                                  4 * f.distances, f.weights, f.distances, f.sides, f.bounds, f.bounded, f.bounds, f.earlier,
+                                  f.bounds, f.slopes, f.bounds, f.offsets, f.bounds, f.shift, f.boundary, again,
+                                  recipe_length), ROLWYDDAC_DONE);
+  if (memcmp(again, recipe, recipe_length) == 0) return;
+  puts("a recipe read and written again is another"), exit(1);
 }
 
 /* two soundings of one cell, of the same day and survey, then one of a cell that row D does not have */
@@ -121,18 +165,11 @@ static void soundings(size_t file_length, uint32_t wanted) {
   expect("soundings", rolwyddac_soundings(recipe, recipe_length, file, file_length, 7, at.source, source_length), wanted);
 }
 
-static void same(const char *what, const uint32_t *words, const uint32_t *wanted, size_t length) {
-  if (memcmp(words, wanted, length * sizeof *words) == 0) return;
-  printf("%s are not as document 01 has them\n", what);
-  exit(1);
-}
-
 /* every call, with the recipe as it stands, gives this number; then the recipe is row D again */
 static void refused(uint32_t wanted) {
   fresh(wanted), turn(0, wanted), deliver(0, wanted), collect(wanted), sweep(wanted);
-  summary(ROLWYDDAC_SUMMARY_LENGTH, wanted), message(0, ROLWYDDAC_MESSAGE_LENGTH, wanted);
-  hops(0, 1, wanted), soundings(0, wanted), turn_at(10, 0, wanted), opens(10, 0, 2, wanted);
-  rounds(0, wanted), rounds_of(0, wanted);
+  summary(wanted), message(0, wanted), hops(0, wanted), read_back(wanted), soundings(0, wanted);
+  turn_at(10, 0, wanted), opens(10, 0, wanted), rounds(wanted), rounds_of(0, wanted);
   memcpy(recipe, row_d, RECIPE);
   recipe_length = RECIPE;
 }
@@ -163,15 +200,11 @@ static void recipes_refused(void) {
 }
 
 static void plan(void) {
-  summary(ROLWYDDAC_SUMMARY_LENGTH - 1, ROLWYDDAC_AREA);
-  summary(ROLWYDDAC_SUMMARY_LENGTH, ROLWYDDAC_DONE);
-  same("totals", at.out, (const uint32_t[]){2, 1, 1, 6}, ROLWYDDAC_SUMMARY_LENGTH);
-  message(0, ROLWYDDAC_MESSAGE_LENGTH - 1, ROLWYDDAC_AREA);
-  message(1, ROLWYDDAC_MESSAGE_LENGTH, ROLWYDDAC_NO_SUCH);
-  message(0, ROLWYDDAC_MESSAGE_LENGTH, ROLWYDDAC_DONE);
-  same("the message's numbers", at.out, (const uint32_t[]){0, 1, 0, 1, 1}, ROLWYDDAC_MESSAGE_LENGTH);
-  hops(0, 0, ROLWYDDAC_AREA), hops(1, 1, ROLWYDDAC_NO_SUCH), hops(0, 1, ROLWYDDAC_DONE);
-  same("the message's hops", at.out, (const uint32_t[]){1}, 1);
+  summary(ROLWYDDAC_DONE), same("totals", told + 1, (const uint32_t[]){2, 1, 1, 6}, 4);
+  message(1, ROLWYDDAC_NO_SUCH), message(0, ROLWYDDAC_DONE);
+  same("the message's numbers", told + 1, (const uint32_t[]){0, 1, 0, 1, 1}, 5);
+  hops(1, ROLWYDDAC_NO_SUCH), hops(0, ROLWYDDAC_DONE), same("the message's hops", told + 1, (const uint32_t[]){1}, 1);
+  read_back(ROLWYDDAC_DONE);
 }
 
 static void filled(void) {
@@ -209,26 +242,25 @@ static void run_by_hours(void) {
   turn_at(15, 0, ROLWYDDAC_FINISHED), turn_at(20, 0, ROLWYDDAC_CLOSED), deliver(0, ROLWYDDAC_DONE);
   turn_at(10079, 1, ROLWYDDAC_DONE), turn_at(0, 1, ROLWYDDAC_DONE), collect(ROLWYDDAC_DONE);
   same("the values by the hours", at.grid, (const uint32_t[]){1, 2, 3, 4}, CELLS);
-  opens(30, 0, 2, ROLWYDDAC_DONE), same("the minutes", at.out, (const uint32_t[]){1, 10060}, 2);
-  opens(1, 1, 2, ROLWYDDAC_DONE), same("the minutes", at.out, (const uint32_t[]){1, 10078}, 2);
-  opens(10080, 2, 3, ROLWYDDAC_AREA), opens(10080, 2, 2, ROLWYDDAC_HOURS), opens(0, 2, 2, ROLWYDDAC_NO_SUCH);
+  opens(30, 0, ROLWYDDAC_DONE), same("the minutes", told + 1, (const uint32_t[]){1, 10060}, 2);
+  opens(1, 1, ROLWYDDAC_DONE), same("the minutes", told + 1, (const uint32_t[]){1, 10078}, 2);
+  opens(10080, 2, ROLWYDDAC_HOURS), opens(0, 2, ROLWYDDAC_NO_SUCH);
   /* a window of processor 1 that is none: every turn is refused */
   hours[33] = 10079, turn_at(10, 0, ROLWYDDAC_HOURS), hours[33] = 10080;
-  hours_length--, turn_at(10080, 2, ROLWYDDAC_AREA), hours_length++;
+  hours_length--, turn_at(10080, 2, ROLWYDDAC_AREA), opens(10080, 2, ROLWYDDAC_AREA), hours_length++;
 }
 
 /* the same run by rounds, which have no route: a fresh start's lines, and the second tile waits for the first */
 static void run_by_rounds(void) {
-  source_length = CELLS - 1, rounds(1, ROLWYDDAC_AREA), source_length = CELLS;
-  rounds(0, ROLWYDDAC_AREA), rounds(2, ROLWYDDAC_AREA), rounds(1, ROLWYDDAC_DONE);
-  same("the rounds", at.out, (const uint32_t[]){2}, 1);
+  source_length = CELLS - 1, rounds(ROLWYDDAC_AREA), source_length = CELLS;
+  rounds(ROLWYDDAC_DONE), same("the rounds", told + 1, (const uint32_t[]){2}, 1);
   memset(at.grid, 0, sizeof at.grid);
   if (route == ROLWYDDAC_DIRECT) {
     collect(ROLWYDDAC_DONE);
     same("the values by rounds", at.grid, (const uint32_t[]){1, 2, 3, 4}, CELLS);
   }
-  rounds_of(1, ROLWYDDAC_AREA), rounds_of(3, ROLWYDDAC_AREA), rounds_of(2, ROLWYDDAC_DONE);
-  same("the tiles' rounds", at.out, (const uint32_t[]){1, 2}, 2);
+  rounds_of(TILES - 1, ROLWYDDAC_AREA), rounds_of(TILES + 1, ROLWYDDAC_AREA), rounds_of(TILES, ROLWYDDAC_DONE);
+  same("the tiles' rounds", at.rounds, (const uint32_t[]){1, 2}, TILES);
 }
 
 /* a bound that cuts nothing leaves row D as it is, but for the route */
@@ -239,12 +271,11 @@ static void with_a_bound(void) {
   if (route == ROLWYDDAC_DIRECT) {
     plan(), run();
   } else {
-    fresh(wanted), turn(9, wanted), deliver(9, wanted), collect(wanted), summary(0, wanted), message(9, 0, wanted);
+    fresh(wanted), turn(9, wanted), deliver(9, wanted), collect(wanted), summary(wanted), message(9, wanted);
     turn_at(10080, 9, wanted);
   }
-  hops(0, 1, ROLWYDDAC_DONE), sweep(ROLWYDDAC_DONE), soundings(0, ROLWYDDAC_DONE);
-  opens(30, 0, 2, ROLWYDDAC_DONE);
-  rounds(1, ROLWYDDAC_DONE), rounds_of(2, ROLWYDDAC_DONE);
+  hops(0, ROLWYDDAC_DONE), sweep(ROLWYDDAC_DONE), soundings(0, ROLWYDDAC_DONE), opens(30, 0, ROLWYDDAC_DONE);
+  rounds(ROLWYDDAC_DONE), rounds_of(TILES, ROLWYDDAC_DONE), read_back(ROLWYDDAC_DONE);
   memcpy(recipe, row_d, RECIPE), recipe_length = RECIPE;
 }
 

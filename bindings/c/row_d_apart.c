@@ -69,15 +69,15 @@ static void take_in(uint32_t b, uint32_t processor, uint32_t message, const uint
                                          count), wanted);
 }
 
-/* the processor stands at the tile, and waits for the message or not */
-static void awaited(uint32_t b, uint32_t processor, size_t marks, size_t out, uint32_t tile, uint8_t mark, uint32_t wanted) {
+/* the processor stands at the tile, and waits for the message or not; a refusal tells no tile */
+static void awaited(uint32_t b, uint32_t processor, size_t marks, uint32_t tile, uint8_t mark, uint32_t wanted) {
   areas *a = &own[b];
   before = *a;
-  uint32_t number = rolwyddac_awaited(recipe, RECIPE, route, a->progress, PROCESSORS, a->status, MESSAGES, processor, a->marks,
-                                      marks, a->out, out);
-  expect("awaited", b, number, wanted);
-  if (number == ROLWYDDAC_DONE && (a->out[0] != tile || a->marks[0] != mark)) {
-    printf("%" PRIu32 " stands at %" PRIu32 " with mark %d\n", b, a->out[0], a->marks[0]);
+  const rolwyddac_waiting at = rolwyddac_awaited(recipe, RECIPE, route, a->progress, PROCESSORS, a->status, MESSAGES, processor,
+                                                 a->marks, marks);
+  expect("awaited", b, at.number, wanted);
+  if (at.tile != tile || (at.number == ROLWYDDAC_DONE && a->marks[0] != mark)) {
+    printf("%" PRIu32 " stands at %" PRIu32 " with mark %d\n", b, at.tile, a->marks[0]);
     exit(1);
   }
 }
@@ -100,17 +100,17 @@ static void plan(void) {
 static void run(void) {
   const uint32_t nine[2] = {9, 9};
   fresh(0), fresh(1);
-  awaited(0, 0, 1, 1, 0, 0, ROLWYDDAC_DONE), awaited(1, 1, 1, 1, 1, 1, ROLWYDDAC_DONE);
-  awaited(1, 2, 1, 1, 0, 0, ROLWYDDAC_NO_SUCH), awaited(1, 1, 2, 1, 0, 0, ROLWYDDAC_AREA), awaited(1, 1, 1, 2, 0, 0, ROLWYDDAC_AREA);
+  awaited(0, 0, 1, 0, 0, ROLWYDDAC_DONE), awaited(1, 1, 1, 1, 1, ROLWYDDAC_DONE);
+  awaited(1, 2, 1, 0, 0, ROLWYDDAC_NO_SUCH), awaited(1, 1, 2, 0, 0, ROLWYDDAC_AREA);
   turn(1, ROLWYDDAC_WAITING), post(0, ROLWYDDAC_NO_MAIL);
-  turn(0, ROLWYDDAC_DONE), awaited(0, 0, 1, 1, 0, 0, ROLWYDDAC_DONE), turn(0, ROLWYDDAC_DONE), turn(0, ROLWYDDAC_DONE);
-  awaited(0, 0, 1, 1, 0, 0, ROLWYDDAC_FINISHED), post(0, ROLWYDDAC_DONE), post(0, ROLWYDDAC_NO_MAIL);
+  turn(0, ROLWYDDAC_DONE), awaited(0, 0, 1, 0, 0, ROLWYDDAC_DONE), turn(0, ROLWYDDAC_DONE), turn(0, ROLWYDDAC_DONE);
+  awaited(0, 0, 1, 0, 0, ROLWYDDAC_FINISHED), post(0, ROLWYDDAC_DONE), post(0, ROLWYDDAC_NO_MAIL);
   take_in(1, 1, 0, nine, 0, ROLWYDDAC_AREA), take_in(1, 1, 0, nine, 2, ROLWYDDAC_AREA);
   take_in(1, 1, 1, nine, 1, ROLWYDDAC_NO_SUCH), take_in(1, 2, 0, nine, 1, ROLWYDDAC_NO_SUCH), take_in(0, 0, 0, nine, 1, ROLWYDDAC_NO_SUCH);
-  own[1].status[0] = 4, take_in(1, 1, 0, nine, 1, ROLWYDDAC_UNFIT), awaited(1, 1, 1, 1, 0, 0, ROLWYDDAC_UNFIT), own[1].status[0] = 0;
+  own[1].status[0] = 4, take_in(1, 1, 0, nine, 1, ROLWYDDAC_UNFIT), awaited(1, 1, 1, 0, 0, ROLWYDDAC_UNFIT), own[1].status[0] = 0;
   take_in(1, 1, 0, own[0].buffer, WORDS, ROLWYDDAC_DONE), take_in(1, 1, 0, nine, 1, ROLWYDDAC_NO_MAIL);
   same("the words taken in", own[1].buffer, own[0].buffer, WORDS);
-  awaited(1, 1, 1, 1, 1, 0, ROLWYDDAC_DONE), turn(1, ROLWYDDAC_DONE), turn(1, ROLWYDDAC_DONE), turn(1, ROLWYDDAC_FINISHED);
+  awaited(1, 1, 1, 1, 0, ROLWYDDAC_DONE), turn(1, ROLWYDDAC_DONE), turn(1, ROLWYDDAC_DONE), turn(1, ROLWYDDAC_FINISHED);
   take_in(1, 1, 0, nine, 1, ROLWYDDAC_NO_MAIL);
   same("the first two values", own[0].memories, (const uint32_t[]){1, 2}, 2);
   same("the last two values", own[1].memories + CELLS + 2, (const uint32_t[]){3, 4}, 2);

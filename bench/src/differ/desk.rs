@@ -22,22 +22,28 @@ struct Chart {
 }
 
 impl Pair<'_> {
-    fn chart(&mut self, Chart { grid, corners, cell_size }: &Chart, space: &mut [u8], out: &mut [u32]) -> Outcome<u32> {
-        let (mut copy, mut told) = (space.to_vec(), out.to_vec());
-        let theirs = self.engine.chart(&self.encoded, grid, *corners, *cell_size, &mut copy, &mut told);
-        let ours = self.model.chart(&self.encoded, grid, *corners, *cell_size, space, out);
-        let words = |out: &[u32], space: &[u8]| -> Vec<u32> {
-            out.iter().copied().chain(space.iter().map(|&byte| byte.into())).collect()
+    fn chart(&mut self, Chart { grid, corners, cell_size }: &Chart, space: &mut [u8]) -> Outcome<u32> {
+        let (mut copy, mut theirs, mut ours) = (space.to_vec(), [7; CHART_WORDS], [8; CHART_WORDS]);
+        let numbers = (
+            self.engine.chart(&self.encoded, grid, *corners, *cell_size, &mut copy, &mut theirs),
+            self.model.chart(&self.encoded, grid, *corners, *cell_size, space, &mut ours),
+        );
+        let words = |told: [u32; CHART_WORDS], space: &[u8]| -> Vec<u32> {
+            told.into_iter().chain(space.iter().map(|&byte| byte.into())).collect()
         };
         let what = || format!("{corners:?} {cell_size} into {} bytes", copy.len());
-        self.compare("chart", &what, (theirs, ours), (&words(&told, &copy), &words(out, space)))
+        self.compare("chart", &what, numbers, (&words(theirs, &copy), &words(ours, space)))
     }
 
-    fn chart_length(&mut self, Chart { grid, corners, cell_size }: &Chart, out: &mut [u32]) -> Outcome<u32> {
-        let mut told = out.to_vec();
-        let theirs = self.engine.chart_length(&self.encoded, grid, *corners, *cell_size, &mut told);
-        let ours = self.model.chart_length(&self.encoded, grid, *corners, *cell_size, out);
-        self.compare("chart_length", &|| format!("{corners:?} {cell_size}"), (theirs, ours), (&told, out))
+    /// the number and the length told
+    fn chart_length(&mut self, Chart { grid, corners, cell_size }: &Chart) -> Outcome<(u32, usize)> {
+        let (mut theirs, mut ours) = ([7; CHART_WORDS], [8; CHART_WORDS]);
+        let numbers = (
+            self.engine.chart_length(&self.encoded, grid, *corners, *cell_size, &mut theirs),
+            self.model.chart_length(&self.encoded, grid, *corners, *cell_size, &mut ours),
+        );
+        let number = self.compare("chart_length", &|| format!("{corners:?} {cell_size}"), numbers, (&theirs, &ours))?;
+        Ok((number, ours[0] as usize))
     }
 }
 
@@ -58,10 +64,8 @@ pub fn chart(pair: &mut Pair, rng: &mut Rng, cells: usize) -> Outcome<()> {
             _ => rng.word() & 0xffff,
         };
         let chart = Chart { grid, corners: [corner(rng), corner(rng)], cell_size };
-        let length = if rng.one_in(8) { other_length(rng, CHART_WORDS) } else { CHART_WORDS };
-        let mut told = words(rng, length);
-        let number = pair.chart_length(&chart, &mut told)?;
-        let length = if number == 0 { told[0] as usize } else { 200 };
+        let (number, length) = pair.chart_length(&chart)?;
+        let length = if number == 0 { length } else { 200 };
         let length = match rng.below(4) {
             0 => length - 1,
             1 => length + rng.between(1, 20),
@@ -69,8 +73,7 @@ pub fn chart(pair: &mut Pair, rng: &mut Rng, cells: usize) -> Outcome<()> {
             _ => length,
         };
         let mut space: Vec<u8> = (0..length).map(|_| rng.word() as u8).collect();
-        let length = if rng.one_in(8) { other_length(rng, CHART_WORDS) } else { CHART_WORDS };
-        pair.chart(&chart, &mut space, &mut words(rng, length))?;
+        pair.chart(&chart, &mut space)?;
     }
     Ok(())
 }

@@ -3,7 +3,7 @@
 
 use super::events::{some_event, turn_event, Event, Given};
 use super::{any_state, make_unfit, other_length, some_number, some_route, words, wrong_lengths, Outcome, Pair};
-use crate::engine::{Areas, Engine, Progress, Rig, LOOK_WORDS};
+use crate::engine::{Areas, Engine, Progress, Rig, VIEW_WORDS};
 use crate::model::Plan;
 use crate::rng::Rng;
 
@@ -22,11 +22,11 @@ pub fn take(engine: &dyn Engine, given: Given, rig: &mut Rig, own: usize, office
     let Given { encoded, route, hours } = given;
     let (areas, engaged, other) = lent(rig, own);
     match event {
-        Event::Turn(p) => engine.office_turn(encoded, route, areas, engaged, other, office, p),
+        Event::Turn(p) => engine.tenant_turn(encoded, route, areas, engaged, other, office, p),
         Event::TurnAt(p, minute) => {
-            engine.office_turn_at(encoded, route, areas, engaged, other, hours, minute, office, p)
+            engine.tenant_turn_at(encoded, route, areas, engaged, other, hours, minute, office, p)
         }
-        Event::Deliver(message) => engine.office_deliver(encoded, route, areas, engaged, other, office, message),
+        Event::Deliver(message) => engine.tenant_deliver(encoded, route, areas, engaged, other, office, message),
     }
 }
 
@@ -49,31 +49,32 @@ impl Pair<'_> {
         let theirs = take(self.engine, given, &mut self.their_rig, own, office, event);
         let ours = take(self.model, given, &mut self.our_rig, own, office, event);
         let name = match event {
-            Event::Turn(_) => "office_turn",
-            Event::TurnAt(..) => "office_turn_at",
-            Event::Deliver(_) => "office_deliver",
+            Event::Turn(_) => "tenant_turn",
+            Event::TurnAt(..) => "tenant_turn_at",
+            Event::Deliver(_) => "tenant_deliver",
         };
         let route = self.route;
         self.compare(name, &|| format!("{route:?} {event:?} of office {office}"), (theirs, ours), (&[], &[]))
     }
 
-    fn office_collect(&mut self, own: usize, office: u32, grid: &mut [u32]) -> Outcome<u32> {
+    fn tenant_collect(&mut self, own: usize, office: u32, grid: &mut [u32]) -> Outcome<u32> {
         let mut copy = grid.to_vec();
         let (areas, engaged, other) = lent(&mut self.their_rig, own);
-        let theirs = self.engine.office_collect(&self.encoded, self.route, areas, engaged, other, office, &mut copy);
+        let theirs = self.engine.tenant_collect(&self.encoded, self.route, areas, engaged, other, office, &mut copy);
         let (areas, engaged, other) = lent(&mut self.our_rig, own);
-        let ours = self.model.office_collect(&self.encoded, self.route, areas, engaged, other, office, grid);
+        let ours = self.model.tenant_collect(&self.encoded, self.route, areas, engaged, other, office, grid);
         let route = self.route;
-        self.compare("office_collect", &|| format!("{route:?} of office {office}"), (theirs, ours), (&copy, grid))
+        self.compare("tenant_collect", &|| format!("{route:?} of office {office}"), (theirs, ours), (&copy, grid))
     }
 
-    fn look(&mut self, office: u32, processor: u32, out: &mut [u32]) -> Outcome<u32> {
-        let mut copy = out.to_vec();
-        let memories = |rig: &Rig| [0, 1].map(|o: usize| rig.offices[o].memories.clone());
-        let [first, second] = memories(&self.our_rig);
-        let theirs = self.engine.look(&self.encoded, [&first, &second], office, processor, &mut copy);
-        let ours = self.model.look(&self.encoded, [&first, &second], office, processor, out);
-        self.compare("look", &|| format!("at {processor} of office {office}"), (theirs, ours), (&copy, out))
+    fn view(&mut self, office: u32, processor: u32) -> Outcome<u32> {
+        let (mut theirs, mut ours) = ([7; VIEW_WORDS], [8; VIEW_WORDS]);
+        let [first, second] = [0, 1].map(|o: usize| self.our_rig.offices[o].memories.clone());
+        let numbers = (
+            self.engine.view_of(&self.encoded, [&first, &second], office, processor, &mut theirs),
+            self.model.view_of(&self.encoded, [&first, &second], office, processor, &mut ours),
+        );
+        self.compare("view", &|| format!("of {processor}, office {office}"), numbers, (&theirs, &ours))
     }
 }
 
@@ -97,11 +98,8 @@ pub fn one_call(pair: &mut Pair, rng: &mut Rng) -> Outcome<u32> {
     let called = match rng.below(12) {
         0 => pair.fresh_both(),
         1 | 2 => pair.office_event(own, office, Event::Deliver(message)),
-        3 => pair.office_collect(own, office, &mut words(rng, cells)),
-        4 | 5 => {
-            let length = if rng.one_in(8) { other_length(rng, LOOK_WORDS) } else { LOOK_WORDS };
-            pair.look(office, processor, &mut words(rng, length))
-        }
+        3 => pair.tenant_collect(own, office, &mut words(rng, cells)),
+        4 | 5 => pair.view(office, processor),
         _ => {
             let event = turn_event(rng, &pair.hours, processor);
             pair.office_event(own, office, event)
@@ -223,7 +221,7 @@ pub fn run(pair: &mut Pair, rng: &mut Rng, plan: &Plan) -> Outcome<()> {
     }
     for own in 0..2 {
         let mut grid = words(rng, plan.cells);
-        let number = pair.office_collect(own, own as u32, &mut grid)?;
+        let number = pair.tenant_collect(own, own as u32, &mut grid)?;
         let source = pair.our_rig.offices[own].source.clone();
         let mut swept = words(rng, plan.cells);
         pair.sweep(&source, &mut swept)?;
@@ -239,13 +237,13 @@ pub fn run(pair: &mut Pair, rng: &mut Rng, plan: &Plan) -> Outcome<()> {
 fn one_refused(pair: &mut Pair, rng: &mut Rng, plan: &Plan) -> Outcome<()> {
     let (office, own) = (some_office(rng), rng.below(2));
     let (processor, message) = (some_number(rng, plan.processors), some_number(rng, plan.messages.len()));
-    pair.look(office, processor, &mut words(rng, LOOK_WORDS))?;
+    pair.view(office, processor)?;
     if office > 1 {
         let turn = turn_event(rng, &pair.hours, processor);
         let event = if rng.one_in(2) { turn } else { Event::Deliver(message) };
         pair.office_event(own, office, event)?;
     } else {
-        pair.office_collect(office as usize, office, &mut words(rng, plan.cells))?;
+        pair.tenant_collect(office as usize, office, &mut words(rng, plan.cells))?;
     }
     Ok(())
 }

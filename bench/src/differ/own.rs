@@ -2,7 +2,7 @@
 //! not right, and whole runs in which mail comes late, again and to others.
 
 use super::{any_state, make_unfit, other_length, some_number, some_route, words, Outcome, Pair};
-use crate::engine::{Areas, Engine, Part, OWN_ROW_WORDS, OWN_SIZES_WORDS};
+use crate::engine::{Areas, Engine, Part, PART_ROW_WORDS, PART_SIZES_WORDS};
 use crate::model::{Own, Plan};
 use crate::rng::Rng;
 
@@ -29,20 +29,22 @@ impl Pair<'_> {
         self.their_parts = self.our_parts.clone();
     }
 
-    fn own_sizes(&mut self, processor: u32, out: &mut [u32]) -> Outcome<u32> {
-        let mut told = out.to_vec();
-        let theirs = self.engine.own_sizes(&self.encoded, self.route, processor, &mut told);
-        let ours = self.model.own_sizes(&self.encoded, self.route, processor, out);
+    fn part_sizes(&mut self, processor: u32) -> Outcome<u32> {
+        let (mut theirs, mut ours) = ([7; PART_SIZES_WORDS], [8; PART_SIZES_WORDS]);
+        let numbers = (
+            self.engine.part_sizes(&self.encoded, self.route, processor, &mut theirs),
+            self.model.part_sizes(&self.encoded, self.route, processor, &mut ours),
+        );
         let route = self.route;
-        self.compare("own_sizes", &|| format!("{route:?} of {processor}"), (theirs, ours), (&told, out))
+        self.compare("part_sizes", &|| format!("{route:?} of {processor}"), numbers, (&theirs, &ours))
     }
 
-    fn own_messages(&mut self, processor: u32, out: &mut [u32]) -> Outcome<u32> {
+    fn part_messages(&mut self, processor: u32, out: &mut [u32]) -> Outcome<u32> {
         let mut told = out.to_vec();
-        let theirs = self.engine.own_messages(&self.encoded, self.route, processor, &mut told);
-        let ours = self.model.own_messages(&self.encoded, self.route, processor, out);
+        let theirs = self.engine.part_messages(&self.encoded, self.route, processor, &mut told);
+        let ours = self.model.part_messages(&self.encoded, self.route, processor, out);
         let route = self.route;
-        self.compare("own_messages", &|| format!("{route:?} of {processor}"), (theirs, ours), (&told, out))
+        self.compare("part_messages", &|| format!("{route:?} of {processor}"), (theirs, ours), (&told, out))
     }
 
     /// one call on the part at a place, by the engine and by the model
@@ -57,38 +59,38 @@ impl Pair<'_> {
         self.compare(call, &what, (theirs, ours), (&[], &[]))
     }
 
-    fn own_fresh(&mut self, at: usize, processor: u32) -> Outcome<u32> {
+    fn part_fresh(&mut self, at: usize, processor: u32) -> Outcome<u32> {
         let (encoded, route) = (self.encoded.clone(), self.route);
-        let fresh = |engine: &dyn Engine, part: &mut Part| engine.own_fresh(&encoded, route, part, processor);
-        self.on_part("own_fresh", at, &|| format!("as {processor}"), &fresh)
+        let fresh = |engine: &dyn Engine, part: &mut Part| engine.part_fresh(&encoded, route, part, processor);
+        self.on_part("part_fresh", at, &|| format!("as {processor}"), &fresh)
     }
 
-    fn own_turn(&mut self, at: usize, processor: u32) -> Outcome<u32> {
+    fn part_turn(&mut self, at: usize, processor: u32) -> Outcome<u32> {
         let (encoded, route) = (self.encoded.clone(), self.route);
-        let turn = |engine: &dyn Engine, part: &mut Part| engine.own_turn(&encoded, route, part, processor);
-        self.on_part("own_turn", at, &|| format!("as {processor}"), &turn)
+        let turn = |engine: &dyn Engine, part: &mut Part| engine.part_turn(&encoded, route, part, processor);
+        self.on_part("part_turn", at, &|| format!("as {processor}"), &turn)
     }
 
-    fn own_post(&mut self, at: usize, processor: u32, message: u32) -> Outcome<u32> {
+    fn part_post(&mut self, at: usize, processor: u32, message: u32) -> Outcome<u32> {
         let (encoded, route) = (self.encoded.clone(), self.route);
-        let post = |engine: &dyn Engine, part: &mut Part| engine.own_post(&encoded, route, part, processor, message);
-        self.on_part("own_post", at, &|| format!("as {processor}, message {message}"), &post)
+        let post = |engine: &dyn Engine, part: &mut Part| engine.part_post(&encoded, route, part, processor, message);
+        self.on_part("part_post", at, &|| format!("as {processor}, message {message}"), &post)
     }
 
-    fn own_arrive(&mut self, at: usize, processor: u32, message: u32, words: &[u32]) -> Outcome<u32> {
+    fn part_arrive(&mut self, at: usize, processor: u32, message: u32, words: &[u32]) -> Outcome<u32> {
         let (encoded, route) = (self.encoded.clone(), self.route);
         let arrive =
-            |engine: &dyn Engine, part: &mut Part| engine.own_arrive(&encoded, route, part, processor, message, words);
-        self.on_part("own_arrive", at, &|| format!("as {processor}, message {message}"), &arrive)
+            |engine: &dyn Engine, part: &mut Part| engine.part_arrive(&encoded, route, part, processor, message, words);
+        self.on_part("part_arrive", at, &|| format!("as {processor}, message {message}"), &arrive)
     }
 
-    fn own_collect(&mut self, at: usize, processor: u32, grid: &mut [u32]) -> Outcome<u32> {
+    fn part_collect(&mut self, at: usize, processor: u32, grid: &mut [u32]) -> Outcome<u32> {
         let mut told = grid.to_vec();
         let (encoded, route) = (&self.encoded, self.route);
-        let theirs = self.engine.own_collect(encoded, route, &mut self.their_parts[at], processor, &mut told);
-        let ours = self.model.own_collect(encoded, route, &mut self.our_parts[at], processor, grid);
+        let theirs = self.engine.part_collect(encoded, route, &mut self.their_parts[at], processor, &mut told);
+        let ours = self.model.part_collect(encoded, route, &mut self.our_parts[at], processor, grid);
         let what = || format!("{route:?} of part {at}, as {processor}");
-        self.compare("own_collect", &what, (theirs, ours), (&told, grid))
+        self.compare("part_collect", &what, (theirs, ours), (&told, grid))
     }
 
     /// any one call on a part, by its own processor mostly
@@ -100,22 +102,22 @@ impl Pair<'_> {
         let held = plan.as_ref().and_then(|plan| plan.messages.get(message as usize)).map_or(1, |m| m.cells.len());
         let length = if rng.one_in(8) { other_length(rng, held) } else { held };
         match rng.below(12) {
-            0 => self.own_fresh(at, processor),
-            1 | 2 => self.own_post(at, processor, message),
+            0 => self.part_fresh(at, processor),
+            1 | 2 => self.part_post(at, processor, message),
             3 | 4 => {
                 let words = words(rng, length);
-                self.own_arrive(at, processor, message, &words)
+                self.part_arrive(at, processor, message, &words)
             }
-            5 => self.own_sizes(processor, &mut words(rng, OWN_SIZES_WORDS)),
+            5 => self.part_sizes(processor),
             6 => {
-                let rows = OWN_ROW_WORDS * self.our_parts[at].marks.len();
-                self.own_messages(processor, &mut words(rng, rows))
+                let rows = PART_ROW_WORDS * self.our_parts[at].marks.len();
+                self.part_messages(processor, &mut words(rng, rows))
             }
             7 => {
                 let cells = plan.map_or(3, |plan| plan.cells);
-                self.own_collect(at, processor, &mut words(rng, cells))
+                self.part_collect(at, processor, &mut words(rng, cells))
             }
-            _ => self.own_turn(at, processor),
+            _ => self.part_turn(at, processor),
         }
     }
 }
@@ -133,22 +135,18 @@ fn some_message(rng: &mut Rng, plan: Option<&Plan>, processor: usize) -> u32 {
 /// lengths and messages of every processor, and of one that is not there
 fn told(pair: &mut Pair, rng: &mut Rng, plan: &Plan) -> Outcome<()> {
     for processor in 0..plan.processors {
-        let rows = OWN_ROW_WORDS * Own::of(plan, processor).handled.len();
-        pair.own_sizes(processor as u32, &mut words(rng, OWN_SIZES_WORDS))?;
-        pair.own_messages(processor as u32, &mut words(rng, rows))?;
+        let rows = PART_ROW_WORDS * Own::of(plan, processor).handled.len();
+        pair.part_sizes(processor as u32)?;
+        pair.part_messages(processor as u32, &mut words(rng, rows))?;
         if rng.one_in(8) {
-            let lengths = [OWN_SIZES_WORDS, rows].map(|length| other_length(rng, length));
-            pair.own_sizes(processor as u32, &mut words(rng, lengths[0]))?;
-            pair.own_messages(processor as u32, &mut words(rng, lengths[1]))?;
+            let length = other_length(rng, rows);
+            pair.part_messages(processor as u32, &mut words(rng, length))?;
         }
     }
     let beyond = rng.of(&[plan.processors as u32, u32::MAX]);
-    let lengths = [OWN_SIZES_WORDS, OWN_SIZES_WORDS + 1, 0].map(|length| words(rng, length));
-    for mut out in lengths {
-        pair.own_sizes(beyond, &mut out)?;
-        pair.own_messages(beyond, &mut out)?;
-    }
-    Ok(())
+    pair.part_sizes(beyond)?;
+    let length = rng.below(3 * PART_ROW_WORDS);
+    pair.part_messages(beyond, &mut words(rng, length)).map(|_| ())
 }
 
 fn wrong_lengths(rng: &mut Rng, part: &mut Part) {
@@ -195,7 +193,7 @@ fn run(pair: &mut Pair, rng: &mut Rng, plan: &Plan) -> Outcome<()> {
     let areas = any_state(rng, plan);
     pair.lend_parts(plan, &areas);
     for processor in 0..plan.processors {
-        pair.own_fresh(processor, processor as u32)?;
+        pair.part_fresh(processor, processor as u32)?;
     }
     let (mut mail, mut steps): (Vec<Packet>, _) = (vec![], 0);
     while steps < plan.steps() {
@@ -205,7 +203,7 @@ fn run(pair: &mut Pair, rng: &mut Rng, plan: &Plan) -> Outcome<()> {
         let at = if going.is_empty() || rng.one_in(6) { rng.below(plan.processors) } else { rng.of(&going) };
         match rng.below(6) {
             0..3 => {
-                while pair.own_turn(at, at as u32)? == 0 {
+                while pair.part_turn(at, at as u32)? == 0 {
                     steps += 1;
                     if rng.one_in(3) {
                         break;
@@ -221,7 +219,7 @@ fn run(pair: &mut Pair, rng: &mut Rng, plan: &Plan) -> Outcome<()> {
     let mut numbers = 0;
     for place in 0..plan.processors {
         let at = (start + place) % plan.processors;
-        numbers += pair.own_collect(at, at as u32, &mut grid)?;
+        numbers += pair.part_collect(at, at as u32, &mut grid)?;
     }
     pair.sweep(&areas.source, &mut swept)?;
     if numbers != 0 || grid != swept {
@@ -250,7 +248,7 @@ fn post(pair: &mut Pair, rng: &mut Rng, plan: &Plan, mail: &mut Vec<Packet>) -> 
 
 /// posts a message; where that is done, its words as they lie in its sender's mail are under way
 fn posted(pair: &mut Pair, plan: &Plan, at: usize, message: u32, mail: &mut Vec<Packet>) -> Outcome<()> {
-    if pair.own_post(at, at as u32, message)? == 0 {
+    if pair.part_post(at, at as u32, message)? == 0 {
         let own = Own::of(plan, at);
         let rank = own.handled.binary_search(&(message as usize)).expect("it was posted there");
         let words = pair.our_parts[at].mail[own.places[rank]..own.places[rank + 1]].to_vec();
@@ -272,7 +270,7 @@ fn arrival(pair: &mut Pair, rng: &mut Rng, plan: &Plan, mail: &[Packet]) -> Outc
     let any = &mail[rng.below(mail.len())];
     let (taker, message, words) = if late.is_empty() || rng.one_in(5) { any } else { rng.of(&late) };
     let at = if rng.one_in(8) { rng.below(plan.processors) } else { *taker };
-    pair.own_arrive(at, at as u32, *message, words).map(Some)
+    pair.part_arrive(at, at as u32, *message, words).map(Some)
 }
 
 pub fn any(pair: &mut Pair, rng: &mut Rng, plan: &Plan) -> Outcome<()> {

@@ -6,11 +6,14 @@ use crate::model::Plan;
 use crate::rng::Rng;
 
 impl Pair<'_> {
-    fn rounds(&mut self, out: &mut [u32]) -> Outcome<u32> {
-        let mut told = out.to_vec();
-        let theirs = self.engine.rounds(&self.encoded, &mut self.theirs, &mut told);
-        let ours = self.model.rounds(&self.encoded, &mut self.ours, out);
-        self.compare("rounds", &String::new, (theirs, ours), (&told, out))
+    /// the number and the rounds told
+    fn rounds(&mut self) -> Outcome<(u32, u32)> {
+        let (mut theirs, mut ours) = ([7; ROUNDS_WORDS], [8; ROUNDS_WORDS]);
+        let numbers = (
+            self.engine.rounds(&self.encoded, &mut self.theirs, &mut theirs),
+            self.model.rounds(&self.encoded, &mut self.ours, &mut ours),
+        );
+        Ok((self.compare("rounds", &String::new, numbers, (&theirs, &ours))?, ours[0]))
     }
 
     fn rounds_of(&mut self, rounds: &mut [u32]) -> Outcome<u32> {
@@ -47,18 +50,17 @@ pub fn any(pair: &mut Pair, rng: &mut Rng, plan: &Plan) -> Outcome<()> {
     let tiles = plan.cells_of_tile.len();
     let areas = any_state(rng, plan);
     pair.lend(areas);
-    let mut told = words(rng, ROUNDS_WORDS);
     let mut rounds = words(rng, tiles);
-    let numbers = [pair.rounds(&mut told)?, pair.rounds_of(&mut rounds)?];
-    if numbers != [0, 0] {
+    let (number, told) = pair.rounds()?;
+    if [number, pair.rounds_of(&mut rounds)?] != [0, 0] {
         return Ok(());
     }
-    if rounds.iter().max() != Some(&told[0]) {
-        return failed(format!("{} rounds, and the last tile's is {:?}", told[0], rounds.iter().max()));
+    if rounds.iter().max() != Some(&told) {
+        return failed(format!("{} rounds, and the last tile's is {:?}", told, rounds.iter().max()));
     }
     let other = other_plan(rng, plan);
-    if other < told[0] {
-        return failed(format!("{} rounds, and another plan takes {other}", told[0]));
+    if other < told {
+        return failed(format!("{} rounds, and another plan takes {other}", told));
     }
     let (mut grid, mut swept) = (words(rng, plan.cells), words(rng, plan.cells));
     let number = pair.collect(&mut grid)?;
@@ -78,14 +80,13 @@ pub fn wrong(pair: &mut Pair, rng: &mut Rng, plan: &Plan) -> Outcome<()> {
         wrong_lengths(rng, &mut areas);
     }
     pair.lend(areas);
-    let length = if rng.one_in(4) { other_length(rng, ROUNDS_WORDS) } else { ROUNDS_WORDS };
-    pair.rounds(&mut words(rng, length))?;
+    pair.rounds()?;
     let length = other_length(rng, plan.cells_of_tile.len());
     pair.rounds_of(&mut words(rng, length)).map(|_| ())
 }
 
 /// for a recipe that may be damaged, over the areas as they are
 pub fn damaged(pair: &mut Pair, rng: &mut Rng) -> Outcome<()> {
-    pair.rounds(&mut words(rng, ROUNDS_WORDS))?;
+    pair.rounds()?;
     pair.rounds_of(&mut words(rng, 3)).map(|_| ())
 }

@@ -9,7 +9,7 @@
     print(run.collect())
 
 `Run` owns the areas of one run, `Rig` those of two offices on the same processors, `Board` those of one processor that shares no
-memory with the others, `OwnBoard` the part of one that has memory for nothing else. Grids come as numpy arrays of the recipe's
+memory with the others, `PartBoard` the part of one that has memory for nothing else. Grids come as numpy arrays of the recipe's
 dimensions, or as lists of lists where numpy is not installed; sources may be either. A refusal is an exception named by its
 term: `rolwyddac.Waiting`, `rolwyddac.NoMail`, all below `rolwyddac.Refused`.
 
@@ -22,13 +22,13 @@ with it. What is lent by the caller, a grid to collect into or the areas of `rol
 from __future__ import annotations
 
 from . import calls
-from .areas import Areas, OwnAreas
-from .boards import Board, OwnBoard
+from .areas import Areas, PartAreas
+from .boards import Board, PartBoard
 from .calls import REFUSALS, VERSION as __version__, Progress, Refused, Sizes, flattened, sizes, term, text, version
 from .grids import Sounding, chart, soundings, sweep
 from .kinds import DIRECT, INDIRECT, numpy
-from .plan import (Awaited, Message, OwnRow, OwnSizes, Row, Summary, awaited, hops, message, messages, opens,
-                   own_messages, own_sizes, own_source, owners, rounds_of, summary)
+from .plan import (Awaited, Message, PartRow, PartSizes, Row, Summary, awaited, hops, message, messages, opens, owners,
+                   part_messages, part_sizes, part_source, rounds_of, summary)
 from .recipe import COMPONENTS, RECORD, Fields, dimensions
 from .refusals import (Area, Boards, Closed, DirectOnly, Distance, Early, Empty, Engaged, Finished, Hours, LastSpread,
                        Length, NoChart, NoMail, NoSuch, OffTheBox, Ragged, SpreadOrder, StrayRecord, Tile, Tiles,
@@ -39,11 +39,11 @@ from .run import Run, rounds
 __all__ = [
     'COMPONENTS', 'DIRECT', 'FREE', 'INDIRECT', 'RECORD', 'REFUSALS', 'Area', 'Areas', 'Awaited', 'Board', 'Boards', 'Closed',
     'DirectOnly', 'Distance', 'Early', 'Empty', 'Engaged', 'Fields', 'Finished', 'Hours', 'LastSpread', 'Length', 'Message',
-    'NoChart', 'NoMail', 'NoSuch', 'OffTheBox', 'OwnAreas', 'OwnBoard', 'OwnRow', 'OwnSizes', 'Progress', 'Ragged', 'Refused',
-    'Rig', 'Row', 'Run', 'Sizes', 'Sounding', 'SpreadOrder', 'StrayRecord', 'Summary', 'Tile', 'Tiles', 'TooLarge', 'TooWide',
-    'Unfit', 'Waiting', '__version__', 'awaited', 'calls', 'chart', 'dimensions', 'flattened', 'hops', 'message', 'messages',
-    'opens', 'own_messages', 'own_sizes', 'own_source', 'owners', 'rounds', 'rounds_of', 'sizes', 'soundings', 'summary',
-    'sweep', 'term', 'text', 'version']
+    'NoChart', 'NoMail', 'NoSuch', 'OffTheBox', 'PartAreas', 'PartBoard', 'PartRow', 'PartSizes', 'Progress', 'Ragged',
+    'Refused', 'Rig', 'Row', 'Run', 'Sizes', 'Sounding', 'SpreadOrder', 'StrayRecord', 'Summary', 'Tile', 'Tiles', 'TooLarge',
+    'TooWide', 'Unfit', 'Waiting', '__version__', 'awaited', 'calls', 'chart', 'dimensions', 'flattened', 'hops', 'message',
+    'messages', 'opens', 'owners', 'part_messages', 'part_sizes', 'part_source', 'rounds', 'rounds_of', 'sizes', 'soundings',
+    'summary', 'sweep', 'term', 'text', 'version']
 
 # those that are not written down, of a later library
 globals().update({refusal.__name__: refusal for refusal in REFUSALS.values()})

@@ -8,7 +8,7 @@ from typing import Any, ClassVar, Dict, Iterator, List, TypeVar
 
 from .hints import Records, Words
 from .lending import PROGRESS, Progress, Sizes, lent
-from .plan import OwnSizes
+from .plan import PartSizes
 from .words import zeros
 
 # the status of a message, and its mark
@@ -76,7 +76,7 @@ class Areas(AreaSet):
         return [m for m, status in enumerate(self.status) if status == IN_FLIGHT]
 
 
-class OwnAreas(AreaSet):
+class PartAreas(AreaSet):
     """The four areas of a processor's own part that a run changes, with the sizes that the part asks for."""
 
     KINDS = {'memory': 'u32', 'mail': 'u32', 'progress': PROGRESS, 'marks': 'u8'}
@@ -85,7 +85,7 @@ class OwnAreas(AreaSet):
     progress: Records
     marks: bytearray
 
-    def __init__(self, wanted: OwnSizes) -> None:
+    def __init__(self, wanted: PartSizes) -> None:
         self.memory = zeros(wanted.memory)
         self.mail = zeros(wanted.mail)
         self.progress = (Progress * 1)()

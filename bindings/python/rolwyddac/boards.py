@@ -5,12 +5,12 @@ from __future__ import annotations
 from typing import Any, List, Optional, SupportsIndex, Tuple
 
 from . import calls
-from .areas import IN_FLIGHT, UNSENT, Areas, OwnAreas
+from .areas import IN_FLIGHT, UNSENT, Areas, PartAreas
 from .calls import sizes
 from .hints import BytesLike, Grid, Numbers, Records, Words, Writable
 from .kinds import route_of, whole
 from .owner import Owner, locked
-from .plan import AREA, Awaited, OwnRow, Row, awaited, messages, own_messages, own_sizes
+from .plan import AREA, Awaited, PartRow, Row, awaited, messages, part_messages, part_sizes
 from .recipe import lengths_of
 from .run import NO_SUCH, OverAreas
 from .words import laid, octets, shape_held, shape_of, shaped
@@ -83,32 +83,32 @@ class Board(OverAreas, _Processor):
         self._call('take_in', self._processor, message, laid('words', words))
 
 
-class OwnBoard(_Processor):
+class PartBoard(_Processor):
     """One processor of a run on processors that share no memory, with memory for its own part alone; a transport carries its messages.
     Where every message that one posts arrives at its taker, sooner or later, each finishes, and the grid that all have collected into is
     that of the sweep. Threads may share a board: its calls go one at a time."""
 
-    _rows: Tuple[OwnRow, ...]
-    _areas: OwnAreas
+    _rows: Tuple[PartRow, ...]
+    _areas: PartAreas
 
     def __init__(self, encoded: BytesLike, route: SupportsIndex, source: Numbers, processor: SupportsIndex) -> None:
-        """A fresh start; the source has a word for each cell of the processor's tiles (`own_source`)."""
+        """A fresh start; the source has a word for each cell of the processor's tiles (`part_source`)."""
         recipe, word, own = octets('encoded', encoded), route_of(route), whole('processor', 'u32', processor)
-        wanted, words = own_sizes(recipe, word, own), laid('source', source)
+        wanted, words = part_sizes(recipe, word, own), laid('source', source)
         if len(words) != wanted.source:
             raise calls.refused(AREA)
-        rows, areas = own_messages(recipe, word, own), OwnAreas(wanted)
-        calls.EXPORTED['own_fresh'](recipe, word, *areas, own)
+        rows, areas = part_messages(recipe, word, own), PartAreas(wanted)
+        calls.EXPORTED['part_fresh'](recipe, word, *areas, own)
         self._own(_encoded=recipe, _route=word, _source=words, _processor=own, _rows=tuple(rows), _areas=areas)
 
     @property
-    def rows(self) -> Tuple[OwnRow, ...]:
+    def rows(self) -> Tuple[PartRow, ...]:
         """The messages that the processor handles, in the order of their numbers."""
         return self._rows
 
     @property
     @locked
-    def areas(self) -> OwnAreas:
+    def areas(self) -> PartAreas:
         """A copy of the areas as the last call left them."""
         return self._areas.copy()
 
@@ -139,9 +139,9 @@ class OwnBoard(_Processor):
     @locked
     def turn(self) -> None:
         """Gives the processor a turn."""
-        calls.EXPORTED['own_turn'](self._encoded, self._route, self._source, *self._areas, self._processor)
+        calls.EXPORTED['part_turn'](self._encoded, self._route, self._source, *self._areas, self._processor)
 
-    def _marked(self, mark: int) -> List[OwnRow]:
+    def _marked(self, mark: int) -> List[PartRow]:
         return [row for row, found in zip(self._rows, self._areas.marks) if found == mark]
 
     @locked
@@ -161,17 +161,17 @@ class OwnBoard(_Processor):
     def post(self, message: SupportsIndex) -> Tuple[int, Words]:
         """Posts a message in flight: gives the processor that takes it, and the words to carry there."""
         m = whole('message', 'u32', message)
-        self._call('own_post', m)
+        self._call('part_post', m)
         row, = [row for row in self._rows if row.message == m]
         return row.taking_processor, self._areas.mail[row.place:row.place + row.words]
 
     def arrive(self, message: SupportsIndex, words: Numbers) -> None:
         """A message arrives that another processor posted."""
-        self._call('own_arrive', message, laid('words', words))
+        self._call('part_arrive', message, laid('words', words))
 
     @locked
     def collect(self, grid: Writable) -> None:
         """Puts the processor's part into a grid of all cells, an array of words, once it has finished; the words of other processors' cells
         are as before. The grid is lent: no other call may have it at the same time."""
         shape_held('grid', shape_of(grid), lengths_of(self._encoded))
-        calls.EXPORTED['own_collect'](self._encoded, self._route, self._areas.memory, self._areas.progress, self._processor, grid)
+        calls.EXPORTED['part_collect'](self._encoded, self._route, self._areas.memory, self._areas.progress, self._processor, grid)

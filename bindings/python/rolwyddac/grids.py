@@ -53,10 +53,9 @@ def soundings(encoded: BytesLike, records: Union[BytesLike, Iterable[Sequence[Su
 
 def chart(encoded: BytesLike, grid: Numbers, x: SupportsIndex = 0, y: SupportsIndex = 0, cell_size: SupportsIndex = 1) -> str:
     """The text of a grid of two dimensions for the charting desk, an Esri ASCII grid. The corner and the cell size are whole numbers."""
-    recipe, out = octets('encoded', encoded), zeros(1)
+    recipe = octets('encoded', encoded)
     sizes(recipe)
     words = laid('grid', grid, lengths_of(recipe))
-    calls.EXPORTED['chart_length'](recipe, words, x, y, cell_size, out)
-    space = bytearray(out[0])
-    calls.EXPORTED['chart'](recipe, words, x, y, cell_size, space, out)
+    space = bytearray(calls.EXPORTED['chart_length'](recipe, words, x, y, cell_size).length)
+    calls.EXPORTED['chart'](recipe, words, x, y, cell_size, space)
     return space.decode('ascii')

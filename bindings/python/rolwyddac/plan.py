@@ -48,7 +48,7 @@ class Row(NamedTuple):
     offset: int
 
 
-class OwnRow(NamedTuple):
+class PartRow(NamedTuple):
     """A message that a processor handles: its number, its line, and where its words begin in the processor's mail."""
 
     message: int
@@ -60,7 +60,7 @@ class OwnRow(NamedTuple):
     place: int
 
 
-class OwnSizes(NamedTuple):
+class PartSizes(NamedTuple):
     """How long the areas of a processor's own part are: words of source, memory and mail, and its messages."""
 
     source: int
@@ -78,17 +78,14 @@ class Awaited(NamedTuple):
 
 def summary(encoded: BytesLike, route: SupportsIndex = DIRECT) -> Summary:
     """The totals of a recipe's plan on a route."""
-    recipe, word, out = octets('encoded', encoded), route_of(route), zeros(4)
+    recipe, word = octets('encoded', encoded), route_of(route)
     areas = sizes(recipe, word)
-    calls.EXPORTED['summary'](recipe, word, out)
-    return Summary(areas.source, areas.progress, *out)
+    return Summary(areas.source, areas.progress, *calls.EXPORTED['summary'](recipe, word).told())
 
 
-def message(encoded: BytesLike, route: SupportsIndex, m: SupportsIndex) -> Message:
-    """The line of message m of a recipe's plan on a route."""
-    out = zeros(len(Message._fields))
-    calls.EXPORTED['message'](encoded, route_of(route), m, out)
-    return Message(*out)
+def message(encoded: BytesLike, route: SupportsIndex, message: SupportsIndex) -> Message:
+    """The line of a message of a recipe's plan on a route."""
+    return Message(*calls.EXPORTED['message'](encoded, route_of(route), message).told())
 
 
 def messages(encoded: BytesLike, route: SupportsIndex = DIRECT) -> List[Row]:
@@ -113,49 +110,45 @@ def owners(encoded: BytesLike) -> Grid:
 
 def awaited(encoded: BytesLike, route: SupportsIndex, progress: Any, status: Any, processor: SupportsIndex) -> Awaited:
     """What a processor waits for; no messages where it can go on."""
-    marks, out = bytearray(len(status)), zeros(1)
-    calls.EXPORTED['awaited'](encoded, route_of(route), progress, status, processor, marks, out)
-    return Awaited(out[0], [m for m, mark in enumerate(marks) if mark])
+    marks = bytearray(len(status))
+    stands = calls.EXPORTED['awaited'](encoded, route_of(route), progress, status, processor, marks)
+    return Awaited(stands.tile, [m for m, mark in enumerate(marks) if mark])
 
 
-def own_sizes(encoded: BytesLike, route: SupportsIndex, processor: SupportsIndex) -> OwnSizes:
+def part_sizes(encoded: BytesLike, route: SupportsIndex, processor: SupportsIndex) -> PartSizes:
     """How long the areas of a processor's own part are."""
-    out = zeros(len(OwnSizes._fields))
-    calls.EXPORTED['own_sizes'](encoded, route_of(route), processor, out)
-    return OwnSizes(*out)
+    return PartSizes(*calls.EXPORTED['part_sizes'](encoded, route_of(route), processor).told())
 
 
-def own_messages(encoded: BytesLike, route: SupportsIndex, processor: SupportsIndex) -> List[OwnRow]:
+def part_messages(encoded: BytesLike, route: SupportsIndex, processor: SupportsIndex) -> List[PartRow]:
     """The rows of the messages that a processor handles, in the order of their numbers."""
-    recipe, word, width = octets('encoded', encoded), route_of(route), len(OwnRow._fields)
-    out = zeros(width * own_sizes(recipe, word, processor).messages)
-    calls.EXPORTED['own_messages'](recipe, word, processor, out)
-    return [OwnRow(*out[at:at + width]) for at in range(0, len(out), width)]
+    recipe, word, width = octets('encoded', encoded), route_of(route), len(PartRow._fields)
+    out = zeros(width * part_sizes(recipe, word, processor).messages)
+    calls.EXPORTED['part_messages'](recipe, word, processor, out)
+    return [PartRow(*out[at:at + width]) for at in range(0, len(out), width)]
 
 
-def own_source(encoded: BytesLike, source: Numbers, processor: SupportsIndex) -> Words:
-    """The words that a source of all cells has at the cells of a processor's tiles: what an `OwnBoard` is given."""
+def part_source(encoded: BytesLike, source: Numbers, processor: SupportsIndex) -> Words:
+    """The words that a source of all cells has at the cells of a processor's tiles: what a `PartBoard` is given."""
     recipe, own = octets('encoded', encoded), whole('processor', 'u32', processor)
-    own_sizes(recipe, DIRECT, own)
+    part_sizes(recipe, DIRECT, own)
     words, out = laid('source', source, lengths_of(recipe)), _owners(recipe)
     if len(words) != len(out):
         raise calls.refused(AREA)
     return array.array('I', [word for word, owner in zip(words, out) if owner == own])
 
 
-def hops(encoded: BytesLike, m: SupportsIndex) -> int:
-    """The hops that message m of the direct route makes on the indirect one."""
-    out = zeros(1)
-    calls.EXPORTED['hops'](encoded, m, out)
-    return out[0]
+def hops(encoded: BytesLike, message: SupportsIndex) -> int:
+    """The hops that a message of the direct route makes on the indirect one."""
+    told: int = calls.EXPORTED['hops'](encoded, message).hops
+    return told
 
 
 def opens(encoded: BytesLike, hours: Numbers, minute: SupportsIndex, processor: SupportsIndex) -> Optional[int]:
     """The minutes until a processor opens, 0 while it is open; None where it never does."""
-    recipe, out = octets('encoded', encoded), zeros(2)
-    calls.EXPORTED['opens'](recipe, timetable(hours, sizes(recipe).progress), minute, processor, out)
-    ever, minutes = out
-    return minutes if ever else None
+    recipe = octets('encoded', encoded)
+    opening = calls.EXPORTED['opens'](recipe, timetable(hours, sizes(recipe).progress), minute, processor)
+    return opening.minutes if opening.opens else None
 
 
 def rounds_of(encoded: BytesLike) -> List[int]:

@@ -63,6 +63,15 @@ class Fields:
         """Adds a bound: the component is at most that."""
         return self._bound(_UPPER, dimension, earlier, slope, offset)
 
+    @classmethod
+    def read(cls, encoded: BytesLike) -> Tuple[Fields, int, int]:
+        """The fields of a recipe, its shift and its boundary value, of which `close` makes the same bytes."""
+        told, made = calls.EXPORTED['read'](encoded), cls()
+        made.lengths, made.tiling, made.counts = (list(table[:told.dimensions]) for table in (told.lengths, told.tiling, told.counts))
+        made.components, made.weights = list(told.components[:COMPONENTS * told.distances]), list(told.weights[:told.distances])
+        made.bounds = list(zip(told.sides, told.bounded, told.earlier, told.slopes, told.offsets))[:told.bounds]
+        return made, told.shift, told.boundary
+
     def close(self, shift: SupportsIndex = 0, boundary: SupportsIndex = 0) -> bytes:
         """Has the proved writer make the recipe's bytes; refused as reading it would be."""
         space = bytearray(RECORD * (len(self.lengths) + len(self.bounds) + len(self.weights) + 1))

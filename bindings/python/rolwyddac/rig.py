@@ -87,15 +87,15 @@ class Rig(Owner):
 
     def turn(self, office: SupportsIndex, processor: SupportsIndex) -> None:
         """Gives one processor a turn for an office."""
-        self._call('office_turn', office, office, processor)
+        self._call('tenant_turn', office, office, processor)
 
     def turn_at(self, hours: Numbers, minute: SupportsIndex, office: SupportsIndex, processor: SupportsIndex) -> None:
         """Gives one processor a turn for an office at a minute of the week."""
-        self._call('office_turn_at', office, timetable(hours, self._plan.processors), minute, office, processor)
+        self._call('tenant_turn_at', office, timetable(hours, self._plan.processors), minute, office, processor)
 
     def deliver(self, office: SupportsIndex, message: SupportsIndex) -> None:
         """Delivers one message of an office."""
-        self._call('office_deliver', office, office, message)
+        self._call('tenant_deliver', office, office, message)
 
     @locked
     def in_flight(self, office: SupportsIndex) -> List[int]:
@@ -124,13 +124,12 @@ class Rig(Owner):
     def collect(self, office: SupportsIndex) -> Grid:
         """An office's grid, once all processors have finished for it."""
         grid = zeros(self._plan.cells)
-        self._call('office_collect', office, office, grid)
+        self._call('tenant_collect', office, office, grid)
         return shaped(grid, lengths_of(self._encoded))
 
     @locked
-    def look(self, office: SupportsIndex, processor: SupportsIndex) -> Grid:
+    def view(self, office: SupportsIndex, processor: SupportsIndex) -> Grid:
         """A copy of the processor's part of an office's memories."""
-        (first, second), out = self._areas, zeros(2)
-        calls.EXPORTED['look'](self._encoded, first.memories, second.memories, office, processor, out)
-        start, words = out
-        return shaped(self._areas[place(office)].memories[start:start + words], lengths_of(self._encoded))
+        first, second = self._areas
+        part = calls.EXPORTED['view'](self._encoded, first.memories, second.memories, office, processor)
+        return shaped(self._areas[place(office)].memories[part.begin:part.begin + part.length], lengths_of(self._encoded))

@@ -104,9 +104,8 @@ class Run(OverAreas):
     @classmethod
     def by_rounds(cls, encoded: BytesLike, source: Numbers) -> Tuple[Run, int]:
         """A whole run by rounds on the direct route: the run at its end, to be collected, and the rounds that it took."""
-        run, out = cls(encoded, DIRECT, source), zeros(1)
-        calls.EXPORTED['rounds'](run._encoded, run._source, *run._areas, out)
-        return run, out[0]
+        run = cls(encoded, DIRECT, source)
+        return run, calls.EXPORTED['rounds'](run._encoded, run._source, *run._areas).rounds
 
     @property
     def plan(self) -> Summary:

@@ -127,7 +127,7 @@ class Checks(InFolder):
     def test_restarts_and_repeats_happen(self):
         """The orders have what they are said to have: runs taken up again, boards restarted, letters that come twice."""
         encoded, met = bytes(model.ROWS['A']), set()
-        resume, restart, arrive = check.Run.resume, check._Apart.restart, check.OwnBoard.arrive
+        resume, restart, arrive = check.Run.resume, check._Apart.restart, check.PartBoard.arrive
 
         def noted(name, function):
             def called(*words):
@@ -143,7 +143,7 @@ class Checks(InFolder):
                 raise
 
         with mock.patch.object(check.Run, 'resume', noted('resume', resume)), mock.patch.object(check._Apart, 'restart', noted('restart', restart)), \
-                mock.patch.object(check.OwnBoard, 'arrive', arriving):
+                mock.patch.object(check.PartBoard, 'arrive', arriving):
             for seed in range(3):
                 for kind in check.kinds_of(recipe(encoded)):
                     kind.made(encoded, check.Order(0, [1] * 64, check.random.Random(seed)))

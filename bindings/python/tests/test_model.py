@@ -136,7 +136,7 @@ class Against(Case):
             for office in (0, 1):
                 self.assertEqual(flat(rig.collect(office)), plan.swept(sources[office]), case)
                 start = plan.cells * (plan.boards - 1)
-                self.assertEqual(flat(rig.look(office, plan.boards - 1)),
+                self.assertEqual(flat(rig.view(office, plan.boards - 1)),
                                  list(rig.areas[office].memories)[start:start + plan.cells])
             self.assertEqual(number_of(rig.turn, 2, 0), 11)
         self.assertLessEqual({0, 12, 13, 14, 19}, met)

@@ -29,7 +29,7 @@ def board():
 
 
 def own_board():
-    return rolwyddac.OwnBoard(ROW_D, rolwyddac.DIRECT, [1, 1], 0)
+    return rolwyddac.PartBoard(ROW_D, rolwyddac.DIRECT, [1, 1], 0)
 
 
 # each whole number that is a word of 32 bits without a sign
@@ -40,11 +40,11 @@ WORDS = {
     'message, m': lambda n: rolwyddac.message(ROW_D, 0, n),
     'messages, route': lambda n: rolwyddac.messages(ROW_D, n),
     'awaited, processor': lambda n: rolwyddac.awaited(ROW_D, 0, run().areas.progress, run().areas.status, n),
-    'own_sizes, route': lambda n: rolwyddac.own_sizes(ROW_D, n, 0),
-    'own_sizes, processor': lambda n: rolwyddac.own_sizes(ROW_D, 0, n),
-    'own_messages, processor': lambda n: rolwyddac.own_messages(ROW_D, 0, n),
-    'own_source, processor': lambda n: rolwyddac.own_source(ROW_D, SOURCE, n),
-    'own_source, source': lambda n: rolwyddac.own_source(ROW_D, [1, 1, n, 1], 0),
+    'part_sizes, route': lambda n: rolwyddac.part_sizes(ROW_D, n, 0),
+    'part_sizes, processor': lambda n: rolwyddac.part_sizes(ROW_D, 0, n),
+    'part_messages, processor': lambda n: rolwyddac.part_messages(ROW_D, 0, n),
+    'part_source, processor': lambda n: rolwyddac.part_source(ROW_D, SOURCE, n),
+    'part_source, source': lambda n: rolwyddac.part_source(ROW_D, [1, 1, n, 1], 0),
     'hops, m': lambda n: rolwyddac.hops(ROW_D, n),
     'opens, hours': lambda n: rolwyddac.opens(ROW_D, HOURS[:-1] + [n], 0, 0),
     'opens, minute': lambda n: rolwyddac.opens(ROW_D, HOURS, n, 0),
@@ -73,24 +73,24 @@ WORDS = {
     'Rig.deliver, message': lambda n: rig().deliver(0, n),
     'Rig.in_flight': lambda n: rig().in_flight(n),
     'Rig.collect': lambda n: rig().collect(n),
-    'Rig.look, office': lambda n: rig().look(n, 0),
-    'Rig.look, processor': lambda n: rig().look(0, n),
+    'Rig.view, office': lambda n: rig().view(n, 0),
+    'Rig.view, processor': lambda n: rig().view(0, n),
     'Board, route': lambda n: rolwyddac.Board(ROW_D, n, SOURCE, 0),
     'Board, source': lambda n: rolwyddac.Board(ROW_D, 0, [1, 1, 1, n], 0),
     'Board, processor': lambda n: rolwyddac.Board(ROW_D, 0, SOURCE, n),
     'Board.post': lambda n: board().post(n),
     'Board.take_in, message': lambda n: board().take_in(n, [1]),
     'Board.take_in, words': lambda n: board().take_in(0, [n]),
-    'OwnBoard, route': lambda n: rolwyddac.OwnBoard(ROW_D, n, [1, 1], 0),
-    'OwnBoard, source': lambda n: rolwyddac.OwnBoard(ROW_D, 0, [1, n], 0),
-    'OwnBoard, processor': lambda n: rolwyddac.OwnBoard(ROW_D, 0, [1, 1], n),
-    'OwnBoard.post': lambda n: own_board().post(n),
-    'OwnBoard.arrive, message': lambda n: own_board().arrive(n, [1]),
-    'OwnBoard.arrive, words': lambda n: own_board().arrive(0, [n]),
+    'PartBoard, route': lambda n: rolwyddac.PartBoard(ROW_D, n, [1, 1], 0),
+    'PartBoard, source': lambda n: rolwyddac.PartBoard(ROW_D, 0, [1, n], 0),
+    'PartBoard, processor': lambda n: rolwyddac.PartBoard(ROW_D, 0, [1, 1], n),
+    'PartBoard.post': lambda n: own_board().post(n),
+    'PartBoard.arrive, message': lambda n: own_board().arrive(n, [1]),
+    'PartBoard.arrive, words': lambda n: own_board().arrive(0, [n]),
     'Fields.close, boundary': lambda n: fields().close(0, n),
     'term': rolwyddac.term,
     'text': rolwyddac.text,
-    'calls, processor': lambda n: calls.EXPORTED['own_sizes'](ROW_D, 0, n, array.array('I', [0] * 4)),
+    'calls, processor': lambda n: calls.EXPORTED['part_sizes'](ROW_D, 0, n),
     'calls, source': lambda n: calls.EXPORTED['sweep'](ROW_D, [1, 1, n, 1], array.array('I', [0] * 4)),
 }
 
@@ -177,14 +177,14 @@ class Numbers(unittest.TestCase):
 
     def test_routes(self):
         """A word that names no route is told: behind it may stand parameters in another order."""
-        for call in (lambda n: rolwyddac.summary(ROW_D, n), lambda n: rolwyddac.own_sizes(ROW_D, n, 0), lambda n: rolwyddac.Run(ROW_D, n, SOURCE),
+        for call in (lambda n: rolwyddac.summary(ROW_D, n), lambda n: rolwyddac.part_sizes(ROW_D, n, 0), lambda n: rolwyddac.Run(ROW_D, n, SOURCE),
                      lambda n: rolwyddac.sizes(ROW_D, n)):
             with self.assertRaisesRegex(ValueError, 'route: 2 is neither 0, direct, nor 1, indirect'):
                 call(2)
 
     def test_offices(self):
         for office in (2, 3, 2 ** 32 - 1):
-            for call in (lambda n: rig().turn(n, 0), lambda n: rig().deliver(n, 0), rig().in_flight, rig().collect, lambda n: rig().look(n, 0)):
+            for call in (lambda n: rig().turn(n, 0), lambda n: rig().deliver(n, 0), rig().in_flight, rig().collect, lambda n: rig().view(n, 0)):
                 with self.assertRaises(rolwyddac.NoSuch):
                     call(office)
 
@@ -193,4 +193,4 @@ class Numbers(unittest.TestCase):
             with self.assertRaises(rolwyddac.NoSuch):
                 rolwyddac.Board(ROW_D, rolwyddac.DIRECT, SOURCE, processor)
             with self.assertRaises(rolwyddac.NoSuch):
-                rolwyddac.OwnBoard(ROW_D, rolwyddac.DIRECT, [1, 1], processor)
+                rolwyddac.PartBoard(ROW_D, rolwyddac.DIRECT, [1, 1], processor)

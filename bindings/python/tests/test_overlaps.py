@@ -52,7 +52,7 @@ class Overlaps(unittest.TestCase):
                             call(**lent)
                         self.assertEqual(bytes(memory), bytes(48))
                     tried += 1
-        self.assertGreater(tried, 200)
+        self.assertGreater(tried, 180)
 
     def area(self, parameter, memory=None):
         memory = memoryview(bytearray(48)) if memory is None else memory
@@ -61,9 +61,7 @@ class Overlaps(unittest.TestCase):
     def test_what_is_only_read_may_be_the_same(self):
         words = array.array('I', [1] * 4)
         memories = array.array('I', [5] * 8)
-        out = array.array('I', [0] * 2)
-        calls.EXPORTED['look'](ROW_D, memories, memories, 0, 1, out)
-        self.assertEqual(list(out), [4, 4])
+        self.assertEqual(calls.EXPORTED['view'](ROW_D, memories, memories, 0, 1).told(), [4, 4])
         grid = array.array('I', [0] * 4)
         calls.EXPORTED['sweep'](ROW_D, words, grid)
         self.assertEqual(list(grid), [1, 2, 3, 4])

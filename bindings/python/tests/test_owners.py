@@ -34,7 +34,7 @@ class Watch:
             # as ctypes does in a call, others are let go on
             time.sleep(0.001)
             try:
-                call(*words)
+                return call(*words)
             finally:
                 with self.lock:
                     self.inside -= 1
@@ -81,7 +81,7 @@ class Threads(unittest.TestCase):
     def test_one_call_at_a_time_of_a_rig(self):
         rig = rolwyddac.Rig(ROW_D, DIRECT, [[1] * 4, [2] * 4])
         self.watched(lambda: tried(rig.turn, 0, 0), lambda: tried(rig.turn, 1, 0), lambda: tried(rig.deliver, 0, 0), lambda: tried(rig.collect, 1),
-                     lambda: tried(rig.turn_at, HOURS, 0, 1, 1), rig.finish, lambda: rig.look(0, 1), lambda: rig.in_flight(0), lambda: rig.areas,
+                     lambda: tried(rig.turn_at, HOURS, 0, 1, 1), rig.finish, lambda: rig.view(0, 1), lambda: rig.in_flight(0), lambda: rig.areas,
                      lambda: rig.engaged)
 
     def test_one_call_at_a_time_of_a_board(self):
@@ -90,7 +90,7 @@ class Threads(unittest.TestCase):
                      board.memory, board.in_flight, lambda: board.areas)
 
     def test_one_call_at_a_time_of_an_own_board(self):
-        board, grid = rolwyddac.OwnBoard(ROW_D, DIRECT, [1] * 2, 0), array.array('I', [0] * 4)
+        board, grid = rolwyddac.PartBoard(ROW_D, DIRECT, [1] * 2, 0), array.array('I', [0] * 4)
         self.watched(lambda: tried(board.turn), lambda: tried(board.awaited), lambda: tried(board.post, 0), lambda: tried(board.arrive, 0, [1]),
                      lambda: tried(board.collect, grid), board.in_flight, lambda: board.areas, lambda: board.memory)
 
@@ -129,13 +129,13 @@ def half_way(kind):
         owner = rolwyddac.Board(ROW_D, DIRECT, [1] * 4, 0)
         owner.turn()
     else:
-        owner = rolwyddac.OwnBoard(ROW_D, DIRECT, [1] * 2, 0)
+        owner = rolwyddac.PartBoard(ROW_D, DIRECT, [1] * 2, 0)
         owner.turn()
     return owner
 
 
 def content(areas):
-    return [content(each) if isinstance(each, (list, tuple, rolwyddac.Areas, rolwyddac.OwnAreas)) else bytes(each) for each in areas]
+    return [content(each) if isinstance(each, (list, tuple, rolwyddac.Areas, rolwyddac.PartAreas)) else bytes(each) for each in areas]
 
 
 def turned(owner):
@@ -149,7 +149,7 @@ def collected(run):
     return flat(run.collect())
 
 
-KINDS = rolwyddac.Run, rolwyddac.Rig, rolwyddac.Board, rolwyddac.OwnBoard
+KINDS = rolwyddac.Run, rolwyddac.Rig, rolwyddac.Board, rolwyddac.PartBoard
 
 
 class Copies(unittest.TestCase):

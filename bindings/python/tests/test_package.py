@@ -24,7 +24,7 @@ RUST = os.path.join(HERE, '..', '..', 'rust', 'src')
 RENAMED = {'soundings': {'records': 'file'}}
 
 # what Rust has elsewhere: a constructor, a function of a type
-ELSEWHERE = {('Run', '__init__'): 'resume', ('Rig', '__init__'): 'start', ('Board', '__init__'): 'start', ('OwnBoard', '__init__'): 'start'}
+ELSEWHERE = {('Run', '__init__'): 'resume', ('Rig', '__init__'): 'start', ('Board', '__init__'): 'start', ('PartBoard', '__init__'): 'start'}
 
 
 def rust_functions():
@@ -77,8 +77,8 @@ class Order(unittest.TestCase):
             # what Rust is lent to write to, Python gives back
             self.assertEqual(got, [word for word in wanted if word in got], (owner, name))
             met.add((owner, name))
-        self.assertLessEqual({('', 'own_sizes'), ('', 'own_messages'), ('', 'chart'), ('', 'soundings'), ('', 'opens'), ('Run', '__init__'),
-                              ('Run', 'turn_at'), ('Rig', '__init__'), ('Rig', 'turn_at'), ('Board', '__init__'), ('OwnBoard', '__init__'),
+        self.assertLessEqual({('', 'part_sizes'), ('', 'part_messages'), ('', 'chart'), ('', 'soundings'), ('', 'opens'), ('Run', '__init__'),
+                              ('Run', 'turn_at'), ('Rig', '__init__'), ('Rig', 'turn_at'), ('Board', '__init__'), ('PartBoard', '__init__'),
                               ('Fields', 'at_least')}, met)
         self.assertGreater(len(met), 40)
 
@@ -153,10 +153,10 @@ except (rolwyddac.Waiting, rolwyddac.Finished) as refusal:
 flying: List[int] = run.in_flight()
 tiles: int = rolwyddac.summary(bytearray(recipe)).tiles
 kept: rolwyddac.Areas = run.areas.copy()
-waits: Optional[rolwyddac.Awaited] = rolwyddac.OwnBoard(recipe, 0, [1, 1], 0).awaited()
+waits: Optional[rolwyddac.Awaited] = rolwyddac.PartBoard(recipe, 0, [1, 1], 0).awaited()
 '''
 WRONG = ["rolwyddac.Run(b'', 0, [1]).turn('0')", "rolwyddac.Run(b'', 0, [1]).turn(1.5)", "rolwyddac.chart(b'', [1], 0.5)",
-         "rolwyddac.summary('text')", "rolwyddac.summary(b'').cell", "rolwyddac.Wating", "rolwyddac.own_sizes(b'', 0)",
+         "rolwyddac.summary('text')", "rolwyddac.summary(b'').cell", "rolwyddac.Wating", "rolwyddac.part_sizes(b'', 0)",
          "rolwyddac.Fields().dimension('4', 2)", "rolwyddac.Run(b'', 0, [1]).route = 1"]
 
 

@@ -57,13 +57,13 @@ class Apart:
         case.assertEqual(got, number)
         self.met.add(number)
         case.same(self.boards[b].areas, wanted)
-        marks, out = [0] * len(self.plan.messages), [0]
-        number = model.awaited(self.encoded, wanted, b, marks, out, self.route)
+        marks = [0] * len(self.plan.messages)
+        number, tile = model.awaited(self.encoded, wanted, b, marks, self.route)
         self.met.add(number)
         case.assertEqual(number_of(self.boards[b].awaited), number)
         if number == 0:
             found = self.boards[b].awaited()
-            case.assertEqual(found, (out[0], [m for m, mark in enumerate(marks) if mark]))
+            case.assertEqual(found, (tile, [m for m, mark in enumerate(marks) if mark]))
             case.assertEqual(bool(found.messages), model.turn_number(self.encoded, wanted, b, self.route)[0] == 12)
 
     def arrive(self, b, m, words):
@@ -118,7 +118,7 @@ class Owning:
         self.case, self.draw, self.met, self.encoded, self.route, self.plan = case, draw, met, encoded, route, plan
         self.source = [draw.word() for _ in range(plan.cells)]
         self.wanted = [model.own_areas_for(plan, b, self.source) for b in range(plan.boards)]
-        self.boards = [rolwyddac.OwnBoard(encoded, route, rolwyddac.own_source(encoded, self.source, b), b) for b in range(plan.boards)]
+        self.boards = [rolwyddac.PartBoard(encoded, route, rolwyddac.part_source(encoded, self.source, b), b) for b in range(plan.boards)]
         self.mail, self.grid = [], array.array('I', [draw.word() for _ in range(plan.cells)])
 
     def both(self, got, number, b):
@@ -129,17 +129,17 @@ class Owning:
 
     def post(self, b, m):
         board = self.boards[b]
-        if self.both(number_of(board.post, m), model.own_post(self.encoded, self.wanted[b], b, m, self.route), b) == 0:
+        if self.both(number_of(board.post, m), model.part_post(self.encoded, self.wanted[b], b, m, self.route), b) == 0:
             row, = [row for row in board.rows if row.message == m]
             self.mail.append((row.taking_processor, m, board.mail[row.place:row.place + row.words]))
 
     def arrive(self, b, m, words):
-        number = model.own_arrive(self.encoded, self.wanted[b], b, m, list(words), self.route)
+        number = model.part_arrive(self.encoded, self.wanted[b], b, m, list(words), self.route)
         self.both(number_of(self.boards[b].arrive, m, words), number, b)
 
     def turn(self, b):
         wanted, plan = self.wanted[b], self.plan
-        number = self.both(number_of(self.boards[b].turn), model.own_turn(self.encoded, wanted, b, self.route), b)
+        number = self.both(number_of(self.boards[b].turn), model.part_turn(self.encoded, wanted, b, self.route), b)
         if number == 12:
             tile = plan.tiles_of[b][wanted.progress[0]]
             waited = [m for m in plan.due_at[tile] if wanted.marks[model.handled(plan, b).index(m)] != 2]
@@ -148,7 +148,7 @@ class Owning:
 
     def collect(self, b):
         self.wanted[b].grid = list(self.grid)
-        self.both(number_of(self.boards[b].collect, self.grid), model.own_collect(self.encoded, self.wanted[b], b, self.route), b)
+        self.both(number_of(self.boards[b].collect, self.grid), model.part_collect(self.encoded, self.wanted[b], b, self.route), b)
         self.case.assertEqual(list(self.grid), self.wanted[b].grid)
 
     def step(self):
@@ -213,13 +213,13 @@ class Boards(Case):
             if plan is None:
                 continue
             for b in range(plan.boards + 1):
-                sizes, rows = [0] * 4, [0] * (7 * len(model.handled(plan, b)))
-                numbers = model.own_sizes(encoded, b, sizes, route), model.own_messages(encoded, b, rows, route)
-                self.assertEqual((number_of(rolwyddac.own_sizes, encoded, route, b), number_of(rolwyddac.own_messages, encoded, route, b)),
+                rows, (number, sizes) = [0] * (7 * len(model.handled(plan, b))), model.part_sizes(encoded, b, route)
+                numbers = number, model.part_messages(encoded, b, rows, route)
+                self.assertEqual((number_of(rolwyddac.part_sizes, encoded, route, b), number_of(rolwyddac.part_messages, encoded, route, b)),
                                  numbers, case)
                 if b < plan.boards:
-                    self.assertEqual(list(rolwyddac.own_sizes(encoded, route, b)), sizes, case)
-                    self.assertEqual([word for row in rolwyddac.own_messages(encoded, route, b) for word in row], rows, case)
+                    self.assertEqual(list(rolwyddac.part_sizes(encoded, route, b)), sizes, case)
+                    self.assertEqual([word for row in rolwyddac.part_messages(encoded, route, b) for word in row], rows, case)
             owning = Owning(self, draw, met, encoded, route, plan)
             for _ in range(3 * plan.steps):
                 owning.step()
@@ -255,13 +255,14 @@ class Boards(Case):
                 route = 1 - route
             if draw.below(12) == 0:
                 encoded = encoded[:-1] if draw.below(2) else encoded[-16:]
-            for name, last in (('own_sizes', ()), ('own_messages', ()), ('own_fresh', ()), ('own_turn', ()), ('own_post', (m,)),
-                               ('own_arrive', (m, words)), ('own_collect', ())):
+            for name, last in (('part_sizes', ()), ('part_messages', ()), ('part_fresh', ()), ('part_turn', ()), ('part_post', (m,)),
+                               ('part_arrive', (m, words)), ('part_collect', ())):
                 number = self.own_call(name, encoded, route, wanted, b, last, draw, case)
                 met.setdefault(name, set()).add(number)
         told = {1, 2, 9, 11, 21}
-        for name, more in (('own_sizes', {0}), ('own_messages', {0}), ('own_fresh', {0}), ('own_turn', {0, 10, 12, 13}), ('own_post', {0, 10, 14}),
-                           ('own_arrive', {0, 10, 14}), ('own_collect', {0, 10, 15})):
+        self.assertEqual(met.pop('part_sizes'), {0, 1, 2, 11, 21})
+        for name, more in (('part_messages', {0}), ('part_fresh', {0}), ('part_turn', {0, 10, 12, 13}), ('part_post', {0, 10, 14}),
+                           ('part_arrive', {0, 10, 14}), ('part_collect', {0, 10, 15})):
             self.assertEqual(met[name], told | more, name)
 
     def own_call(self, name, encoded, route, part, b, last, draw, case):
@@ -270,17 +271,20 @@ class Boards(Case):
         got = {area: array.array('B' if area == 'marks' else 'I', getattr(part, area)) for area in ('source', 'memory', 'mail', 'marks', 'grid')}
         progress = (rolwyddac.Progress * (len(part.progress) // 3))(*zip(*[iter(part.progress)] * 3))
         lent = got['memory'], got['mail'], progress, got['marks']
-        if name in ('own_sizes', 'own_messages'):
+        if name == 'part_sizes':
+            answer, (number, lengths) = call.answer(encoded, route, b), model.part_sizes(encoded, b, route)
+            numbers = answer.number, number
+            self.assertEqual(answer.told(), lengths, (case, name))
+        elif name == 'part_messages':
             plan = model.plan_of(encoded, route)[1]
-            right = 4 if name == 'own_sizes' else 7 * len(model.handled(plan, b)) if plan else 0
-            out = [draw.word() for _ in range(right + (draw.below(8) == 0))]
+            out = [draw.word() for _ in range((7 * len(model.handled(plan, b)) if plan else 0) + (draw.below(8) == 0))]
             told = array.array('I', out)
-            numbers = number_of(call, encoded, route, b, told), getattr(model, name)(encoded, b, out, route)
+            numbers = number_of(call, encoded, route, b, told), model.part_messages(encoded, b, out, route)
             self.assertEqual(list(told), out, (case, name))
-        elif name == 'own_turn':
-            numbers = number_of(call, encoded, route, got['source'], *lent, b), model.own_turn(encoded, wanted, b, route)
-        elif name == 'own_collect':
-            numbers = (number_of(call, encoded, route, got['memory'], progress, b, got['grid']), model.own_collect(encoded, wanted, b, route))
+        elif name == 'part_turn':
+            numbers = number_of(call, encoded, route, got['source'], *lent, b), model.part_turn(encoded, wanted, b, route)
+        elif name == 'part_collect':
+            numbers = (number_of(call, encoded, route, got['memory'], progress, b, got['grid']), model.part_collect(encoded, wanted, b, route))
         else:
             numbers = number_of(call, encoded, route, *lent, b, *last), getattr(model, name)(encoded, wanted, b, *last, route)
         self.assertEqual(*numbers, (case, name))

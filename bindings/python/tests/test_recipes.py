@@ -17,12 +17,12 @@ class Recipes(unittest.TestCase):
     TAKERS = {
         'sizes': rolwyddac.sizes, 'summary': rolwyddac.summary, 'dimensions': rolwyddac.dimensions, 'messages': rolwyddac.messages,
         'owners': rolwyddac.owners, 'rounds_of': rolwyddac.rounds_of, 'hops': lambda e: rolwyddac.hops(e, 0),
-        'message': lambda e: rolwyddac.message(e, DIRECT, 0), 'own_sizes': lambda e: rolwyddac.own_sizes(e, DIRECT, 0),
-        'own_messages': lambda e: rolwyddac.own_messages(e, DIRECT, 0), 'own_source': lambda e: list(rolwyddac.own_source(e, [1] * 4, 0)),
+        'message': lambda e: rolwyddac.message(e, DIRECT, 0), 'part_sizes': lambda e: rolwyddac.part_sizes(e, DIRECT, 0),
+        'part_messages': lambda e: rolwyddac.part_messages(e, DIRECT, 0), 'part_source': lambda e: list(rolwyddac.part_source(e, [1] * 4, 0)),
         'sweep': lambda e: flat(rolwyddac.sweep(e, [1] * 4)), 'chart': lambda e: rolwyddac.chart(e, [1] * 4),
         'soundings': lambda e: flat(rolwyddac.soundings(e, [], 1)), 'opens': lambda e: rolwyddac.opens(e, [0] * 56, 0, 0),
         'Run': lambda e: rolwyddac.Run(e, DIRECT, [1] * 4).finish(), 'Rig': lambda e: rolwyddac.Rig(e, DIRECT, [[1] * 4] * 2).finish(),
-        'Board': lambda e: rolwyddac.Board(e, DIRECT, [1] * 4, 0).turn(), 'OwnBoard': lambda e: rolwyddac.OwnBoard(e, DIRECT, [1] * 2, 0).turn(),
+        'Board': lambda e: rolwyddac.Board(e, DIRECT, [1] * 4, 0).turn(), 'PartBoard': lambda e: rolwyddac.PartBoard(e, DIRECT, [1] * 2, 0).turn(),
         'calls': lambda e: rolwyddac.calls.EXPORTED['rounds_of'](e, array.array('I', [0] * 2)),
     }
 
@@ -80,13 +80,13 @@ class Records(unittest.TestCase):
         """Twelve bytes an element are not yet three words."""
         turn, words = rolwyddac.calls.EXPORTED['awaited'], array.array('I', [0] * 6)
         for progress in (memoryview(words), memoryview(words).cast('B').cast('I', (2, 3)), (rolwyddac.Progress * 2)()):
-            turn(ROW_D, DIRECT, progress, bytes(1), 0, bytearray(1), array.array('I', [0]))
+            turn(ROW_D, DIRECT, progress, bytes(1), 0, bytearray(1))
         forms = [memoryview(words).cast('B').cast('I', (3, 2)), array.array('f', [0] * 6), bytes(24), ((ctypes.c_char * 12) * 2)()]
         if numpy is not None:
             forms += [numpy.zeros(2, dtype=kind) for kind in ('S12', 'V12', [('a', 'f4'), ('b', 'f4'), ('c', 'f4')], [('a', 'u8'), ('b', 'u4')])]
             forms += [numpy.zeros(2, dtype=[('a', '>u4'), ('b', '>u4'), ('c', '>u4')])]
             records = numpy.zeros(2, dtype=[('finished', 'u4'), ('stage', 'u4'), ('sent', 'u4')])
-            turn(ROW_D, DIRECT, records, bytes(1), 0, bytearray(1), array.array('I', [0]))
+            turn(ROW_D, DIRECT, records, bytes(1), 0, bytearray(1))
         for form in forms:
             with self.subTest(str(form)[:50]), self.assertRaises(TypeError):
-                turn(ROW_D, DIRECT, form, bytes(1), 0, bytearray(1), array.array('I', [0]))
+                turn(ROW_D, DIRECT, form, bytes(1), 0, bytearray(1))

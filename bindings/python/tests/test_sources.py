@@ -42,7 +42,7 @@ class Table:
 TAKERS = {
     'sweep': lambda source: rolwyddac.sweep(OBLONG, source),
     'chart': lambda source: rolwyddac.chart(OBLONG, source),
-    'own_source': lambda source: rolwyddac.own_source(OBLONG, source, 0),
+    'part_source': lambda source: rolwyddac.part_source(OBLONG, source, 0),
     'Run': lambda source: rolwyddac.Run(OBLONG, DIRECT, source),
     'rounds': lambda source: rolwyddac.rounds(OBLONG, source),
     'Board': lambda source: rolwyddac.Board(OBLONG, DIRECT, source, 0),
@@ -121,12 +121,12 @@ class Shapes(unittest.TestCase):
                     call(form)
 
     def test_parts_are_flat(self):
-        own = rolwyddac.own_source(ROW_D, [1, 2, 3, 4], 1)
+        own = rolwyddac.part_source(ROW_D, [1, 2, 3, 4], 1)
         self.assertEqual(list(own), [3, 4])
         with self.assertRaisesRegex(ValueError, 'source: its shape is'):
-            rolwyddac.OwnBoard(ROW_D, DIRECT, [[3], [4]], 1)
+            rolwyddac.PartBoard(ROW_D, DIRECT, [[3], [4]], 1)
         with self.assertRaises(rolwyddac.Area):
-            rolwyddac.OwnBoard(ROW_D, DIRECT, [3, 4, 5], 1)
+            rolwyddac.PartBoard(ROW_D, DIRECT, [3, 4, 5], 1)
         board = rolwyddac.Board(ROW_D, DIRECT, [1] * 4, 1)
         with self.assertRaisesRegex(ValueError, 'words: its shape is'):
             board.take_in(0, [[1]])
@@ -147,7 +147,7 @@ class Shapes(unittest.TestCase):
             rolwyddac.opens(ROW_D, table[:-1], 0, 0)
 
     def test_grids_that_are_written(self):
-        board = rolwyddac.OwnBoard(ROW_D, DIRECT, [1, 1], 0)
+        board = rolwyddac.PartBoard(ROW_D, DIRECT, [1, 1], 0)
         while True:
             try:
                 board.turn()
@@ -300,7 +300,7 @@ class Copies(unittest.TestCase):
     def test_own_boards(self):
         for source in self.forms():
             part = source[:2]
-            board = rolwyddac.OwnBoard(ROW_D, DIRECT, part, 0)
+            board = rolwyddac.PartBoard(ROW_D, DIRECT, part, 0)
             part[1] = 100
             board.turn()
             board.turn()

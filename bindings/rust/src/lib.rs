@@ -22,20 +22,20 @@
 //! ```
 //!
 //! [`Rig`] owns the areas of two offices that share the processors, [`Board`] those of one processor that shares no memory with
-//! the others, [`OwnBoard`] the part of one that has memory for nothing else.
+//! the others, [`PartBoard`] the part of one that has memory for nothing else.
 
 #![warn(missing_docs)]
 
 mod mail;
-mod own;
+mod part;
 mod recipe;
 mod refusal;
 mod rig;
 mod run;
 
 pub use mail::{awaited, messages, owners, Awaited, Board, Row};
-pub use own::{own_messages, own_sizes, own_source, OwnAreas, OwnBoard, OwnRow, OwnSizes};
-pub use recipe::{Fields, Recipe};
+pub use part::{part_messages, part_source, PartAreas, PartBoard, PartRow, PartSizes};
+pub use recipe::{Fields, Recipe, Tables};
 pub use refusal::Refusal;
 pub use rig::Rig;
 pub use run::{Areas, Run};
@@ -82,7 +82,22 @@ pub struct Summary {
     pub steps: u32,
 }
 
+/// The totals of a plan as [`summary_words`] tells them; [`Summary`] has those of the recipe beside them.
+#[repr(C)]
+#[derive(Clone, Copy, Debug, PartialEq, Eq)]
+pub struct Figures {
+    /// Tiles that hold a cell.
+    pub tiles: u32,
+    /// Messages.
+    pub messages: u32,
+    /// Words of all messages.
+    pub words: u32,
+    /// Steps of a whole run.
+    pub steps: u32,
+}
+
 /// The line of one message.
+#[repr(C)]
 #[derive(Clone, Copy, Debug, PartialEq, Eq)]
 pub struct Message {
     /// The tile that sends it.
@@ -130,48 +145,81 @@ pub enum Opening {
     Never,
 }
 
-/// Words that the summary, a message's line, its hops, a look, a chart's length, an opening and the rounds of a run take.
-const SUMMARY_WORDS: usize = 4;
-const MESSAGE_WORDS: usize = 5;
-const HOPS_WORDS: usize = 1;
-const LOOK_WORDS: usize = 2;
-const CHART_WORDS: usize = 1;
-const OPENS_WORDS: usize = 2;
-const ROUNDS_WORDS: usize = 1;
+/// When a processor next opens, as [`opens_words`] tells it; [`Opening`] is the handier form.
+#[repr(C)]
+#[derive(Clone, Copy, Debug, PartialEq, Eq)]
+pub struct Opens {
+    /// 1, or 0 where it never opens.
+    pub opens: u32,
+    /// The minutes until then, and 0 where it never opens.
+    pub minutes: u32,
+}
+
+/// A processor's part of an office's memories, as [`view_words`] tells it.
+#[repr(C)]
+#[derive(Clone, Copy, Debug, PartialEq, Eq)]
+pub struct Viewed {
+    /// Where it begins.
+    pub begin: u32,
+    /// Its words.
+    pub length: u32,
+}
+
+/// What an exported call returns by value: its number, and behind it what it tells, all zero where it refuses.
+#[repr(C)]
+struct Told<T> {
+    number: u32,
+    told: T,
+}
+
+impl<T> Told<T> {
+    fn done(self) -> Result<T, Refusal> {
+        Refusal::of(self.number).map(|()| self.told)
+    }
+}
 
 /// Bytes of the longest chart there is: 16,384 cells of ten digits, each with a space or a line feed behind it, under a
 /// header of 98 bytes. Every chart fits a space of this length.
 pub const LONGEST_CHART: usize = 180_322;
 
 /// Declares each exported call and makes its safe form. A slice goes over as its pointer and its length; a number
-/// as it is, and so does a route, which is laid out as a word.
+/// as it is, and so does a route, which is laid out as a word. What a call tells comes back behind its number.
 macro_rules! calls {
-    ($($(#[$doc:meta])* $exported:ident as $name:ident($($parameters:tt)*);)*) => {$(
+    ($($(#[$doc:meta])* $exported:ident as $name:ident($($parameters:tt)*) $(-> $told:ty)?;)*) => {$(
         $(#[$doc])*
         #[inline]
         #[allow(clippy::too_many_arguments)] // as they are exported
-        pub fn $name($($parameters)*) -> Result<(), Refusal> {
-            calls!(@ $exported [] [] $($parameters)*)
+        pub fn $name($($parameters)*) -> Result<calls!(@told $($told)?), Refusal> {
+            calls!(@ $exported [$($told)?] [] [] $($parameters)*)
         }
     )*};
-    (@ $exported:ident [$($declared:tt)*] [$($given:tt)*] $area:ident: &mut [$element:ty] $(, $($rest:tt)*)?) => {
-        calls!(@ $exported [$($declared)* $area: *mut $element, _: usize,]
+    (@told) => { () };
+    (@told $told:ty) => { $told };
+    (@ $exported:ident $told:tt [$($declared:tt)*] [$($given:tt)*] $area:ident: &mut [$element:ty] $(, $($rest:tt)*)?) => {
+        calls!(@ $exported $told [$($declared)* $area: *mut $element, _: usize,]
             [$($given)* $area.as_mut_ptr(), $area.len(),] $($($rest)*)?)
     };
-    (@ $exported:ident [$($declared:tt)*] [$($given:tt)*] $area:ident: &[$element:ty] $(, $($rest:tt)*)?) => {
-        calls!(@ $exported [$($declared)* $area: *const $element, _: usize,]
+    (@ $exported:ident $told:tt [$($declared:tt)*] [$($given:tt)*] $area:ident: &[$element:ty] $(, $($rest:tt)*)?) => {
+        calls!(@ $exported $told [$($declared)* $area: *const $element, _: usize,]
             [$($given)* $area.as_ptr(), $area.len(),] $($($rest)*)?)
     };
-    (@ $exported:ident [$($declared:tt)*] [$($given:tt)*] $number:ident: $width:ident $(, $($rest:tt)*)?) => {
-        calls!(@ $exported [$($declared)* $number: $width,] [$($given)* $number,] $($($rest)*)?)
+    (@ $exported:ident $told:tt [$($declared:tt)*] [$($given:tt)*] $number:ident: $width:ident $(, $($rest:tt)*)?) => {
+        calls!(@ $exported $told [$($declared)* $number: $width,] [$($given)* $number,] $($($rest)*)?)
     };
-    (@ $exported:ident [$($declared:tt)*] [$($given:tt)*]) => {{
+    (@ $exported:ident [] [$($declared:tt)*] [$($given:tt)*]) => {{
         extern "C" {
             fn $exported($($declared)*) -> u32;
         }
         // SAFETY: pointers and lengths come from slices, so they are aligned, not null and in bounds; what is written
         // is borrowed mutably, so nothing overlaps. The engine keeps no pointer.
         Refusal::of(unsafe { $exported($($given)*) })
+    }};
+    (@ $exported:ident [$told:ty] [$($declared:tt)*] [$($given:tt)*]) => {{
+        extern "C" {
+            fn $exported($($declared)*) -> Told<$told>;
+        }
+        // SAFETY: as above.
+        unsafe { $exported($($given)*) }.done()
     }};
 }
 
@@ -222,18 +270,18 @@ calls! {
     /// Refusals: 1 to 9, 16 to 18 and 20.
     rolwyddac_sweep as sweep(encoded: &[u8], source: &[u32], grid: &mut [u32]);
 
-    /// Drives a whole run by rounds, on the direct route: makes a fresh start and goes on to the run's end. Writes one word to
-    /// `out`: the rounds. [`Run::by_rounds`] is the handier form.
+    /// Drives a whole run by rounds, on the direct route: makes a fresh start and goes on to the run's end. Tells the rounds.
+    /// [`Run::by_rounds`] does it with areas of its own.
     ///
     /// In a round every processor that could gather at the round's start does its whole tile, then each message in flight is
     /// delivered. The rounds are the greatest that [`rounds_of_words`] writes, and no other plan of whole tiles has fewer.
     /// [`collect`] then gives what [`sweep`] writes.
     ///
-    /// Refusals: 1 to 8, 16 to 18, 20, and 9, also if `out` has not 1 word.
-    rolwyddac_rounds as rounds_words(
+    /// Refusals: 1 to 9, 16 to 18 and 20.
+    rolwyddac_rounds as rounds(
         encoded: &[u8], source: &[u32], memories: &mut [u32], buffer: &mut [u32], progress: &mut [Progress],
-        status: &mut [u8], out: &mut [u32],
-    );
+        status: &mut [u8],
+    ) -> u32;
 
     /// Writes each tile's round to `rounds`, one word a tile: one more than the latest round among the tiles that it waits
     /// for, its processor's previous tile and those that send to it; 1 where there are none. [`rounds_of`] is the handier
@@ -242,22 +290,22 @@ calls! {
     /// Refusals: 1 to 8, 16 to 18, 20, and 9 if `rounds` has not one word a tile.
     rolwyddac_rounds_of as rounds_of_words(encoded: &[u8], rounds: &mut [u32]);
 
-    /// Writes the plan's totals on the route to `out`: tiles, messages, words, steps. [`summary`] is the handier form.
+    /// Tells the plan's totals on the route. [`summary`] is the handier form.
     ///
-    /// Refusals: 1 to 8, 16 to 18, 20, 21, and 9 if `out` has not 4 words.
-    rolwyddac_summary as summary_words(encoded: &[u8], route: Route, out: &mut [u32]);
+    /// Refusals: 1 to 8, 16 to 18, 20 and 21.
+    rolwyddac_summary as summary_words(encoded: &[u8], route: Route) -> Figures;
 
-    /// Writes the line of message `m` of the route to `out`: sending tile, taking tile, sending processor, taking
-    /// processor, words. [`message`] is the handier form.
+    /// Tells the line of a message of the route. On the indirect route its words are those of the sending tile's own cells and of
+    /// those it passes on.
     ///
-    /// Refusals: 1 to 8, 16 to 18, 20, 21, 9 if `out` has not 5 words, 11.
-    rolwyddac_message as message_words(encoded: &[u8], route: Route, m: u32, out: &mut [u32]);
+    /// Refusals: 1 to 8, 11, 16 to 18, 20 and 21.
+    rolwyddac_message as message(encoded: &[u8], route: Route, message: u32) -> Message;
 
-    /// Writes one word to `out`: the hops that message `m` of the direct route makes on the indirect one, where there is no
-    /// hop in a dimension with one processor. [`hops`] is the handier form.
+    /// Tells how many wires a message of the direct route takes on the indirect one: as many as dimensions in which it
+    /// crosses, those with one processor left out.
     ///
-    /// Refusals: 1 to 8, 16 to 18, 20, 9 if `out` has not 1 word, 11.
-    rolwyddac_hops as hops_words(encoded: &[u8], m: u32, out: &mut [u32]);
+    /// Refusals: 1 to 8, 11, 16 to 18 and 20.
+    rolwyddac_hops as hops(encoded: &[u8], message: u32) -> u32;
 
     /// Makes a fresh start of both offices together: writes zero to the memories, buffer, progress and status of each, and 2
     /// to every word of `engaged`, whatever they held. [`Rig`] is the handier form.
@@ -275,7 +323,7 @@ calls! {
     /// `other` are the other office's records. An office number above 1 is 11, here and in the next two before 10.
     ///
     /// Refusals: 1 to 13 and 16 to 21.
-    rolwyddac_office_turn as office_turn(
+    rolwyddac_tenant_turn as tenant_turn(
         encoded: &[u8], route: Route, source: &[u32], memories: &mut [u32], buffer: &mut [u32],
         progress: &mut [Progress], status: &mut [u8], engaged: &mut [u32], other: &[Progress], office: u32,
         processor: u32,
@@ -284,7 +332,7 @@ calls! {
     /// Delivers one message of an office: its status goes from 1 to 2.
     ///
     /// Refusals: 1 to 11, 14, 16 to 18, 20 and 21.
-    rolwyddac_office_deliver as office_deliver(
+    rolwyddac_tenant_deliver as tenant_deliver(
         encoded: &[u8], route: Route, source: &[u32], memories: &[u32], buffer: &[u32], progress: &[Progress],
         status: &mut [u8], engaged: &[u32], other: &[Progress], office: u32, message: u32,
     );
@@ -296,18 +344,18 @@ calls! {
     /// `source`.
     ///
     /// Refusals: 1 to 11, 15 to 18, 20 and 21.
-    rolwyddac_office_collect as office_collect(
+    rolwyddac_tenant_collect as tenant_collect(
         encoded: &[u8], route: Route, source: &[u32], memories: &[u32], buffer: &[u32], progress: &[Progress],
         status: &[u8], engaged: &[u32], other: &[Progress], office: u32, grid: &mut [u32],
     );
 
-    /// A look at a processor's memory, lent the memories of both offices: writes two words to `out`, where the processor's part
-    /// begins in the named office's memories and how many words it has. [`look`] is the handier form.
+    /// A view of a processor's memory, lent the memories of both offices: tells where the processor's part begins in the named
+    /// office's memories and how many words it has. [`view`] is the handier form.
     ///
-    /// Refusals: 1 to 8, 16 to 18, 20, 9 if memories have not their length or `out` has not 2 words, 11.
-    rolwyddac_look as look_words(
-        encoded: &[u8], first: &[u32], second: &[u32], office: u32, processor: u32, out: &mut [u32],
-    );
+    /// Refusals: 1 to 8, 16 to 18, 20, 9 if memories have not their length, 11.
+    rolwyddac_view as view_words(
+        encoded: &[u8], first: &[u32], second: &[u32], office: u32, processor: u32,
+    ) -> Viewed;
 
     /// Fills `source` from a file of soundings: of each cell the depth of the record that counts, or `value` where there is
     /// none.
@@ -320,27 +368,24 @@ calls! {
     /// Refusals: 1 to 9, 16 to 18, 20, 22.
     rolwyddac_soundings as soundings(encoded: &[u8], file: &[u8], value: u32, source: &mut [u32]);
 
-    /// Writes the grid's text for the charting desk to the front of `space`, and one word to `out`: its length in bytes.
-    /// [`chart`] is the handier form.
+    /// Writes the grid's text for the charting desk to the front of `space`, and tells its length in bytes. [`chart`] is the
+    /// handier form.
     ///
     /// The text is an Esri ASCII grid of whole numbers: ncols, nrows, xllcorner (`x`), yllcorner (`y`), cellsize and
     /// NODATA_value lines, then a line for each row, first row first. It is for recipes of two dimensions. Bytes of
     /// `space` behind the text stay as they were. No text has more than [`LONGEST_CHART`] bytes.
     ///
-    /// A `grid` that has not one word a cell, a `space` shorter than the text, an `out` that has not 1 word: each is 9.
+    /// A `grid` that has not one word a cell and a `space` shorter than the text: each is 9.
     ///
     /// Refusals: 1 to 9, 16 to 18, 20, 23.
     rolwyddac_chart as chart_words(
-        encoded: &[u8], grid: &[u32], x: i32, y: i32, cell_size: u32, space: &mut [u8], out: &mut [u32],
-    );
+        encoded: &[u8], grid: &[u32], x: i32, y: i32, cell_size: u32, space: &mut [u8],
+    ) -> u32;
 
-    /// Writes one word to `out`: the length in bytes of the text that [`chart_words`] writes. [`chart_length`] is the
-    /// handier form.
+    /// Tells the length in bytes of the text that [`chart`] gives.
     ///
-    /// Refusals: 1 to 8, 16 to 18, 20, 23, and 9 if `grid` has not one word a cell or `out` has not 1 word.
-    rolwyddac_chart_length as chart_length_words(
-        encoded: &[u8], grid: &[u32], x: i32, y: i32, cell_size: u32, out: &mut [u32],
-    );
+    /// Refusals: 1 to 8, 16 to 18, 20, 23, and 9 if `grid` has not one word a cell.
+    rolwyddac_chart_length as chart_length(encoded: &[u8], grid: &[u32], x: i32, y: i32, cell_size: u32) -> u32;
 
     /// Gives one processor a turn at a minute of the week, as [`turn`] does, if it is open then.
     ///
@@ -353,23 +398,22 @@ calls! {
         progress: &mut [Progress], status: &mut [u8], hours: &[u32], minute: u32, processor: u32,
     );
 
-    /// Gives one processor a turn for an office at a minute of the week, as [`office_turn`] does, if it is open then.
+    /// Gives one processor a turn for an office at a minute of the week, as [`tenant_turn`] does, if it is open then.
     ///
     /// Refusals: 1 to 13, 16 to 21, 24 and 25.
-    rolwyddac_office_turn_at as office_turn_at(
+    rolwyddac_tenant_turn_at as tenant_turn_at(
         encoded: &[u8], route: Route, source: &[u32], memories: &mut [u32], buffer: &mut [u32],
         progress: &mut [Progress], status: &mut [u8], engaged: &mut [u32], other: &[Progress], hours: &[u32],
         minute: u32, office: u32, processor: u32,
     );
 
-    /// When a processor next opens, lent only the table of hours: writes two words to `out`, 1 and the minutes until then, or 0
-    /// and 0 where it never opens. [`opens`] is the handier form.
+    /// Tells when a processor next opens, lent only the table of hours. [`opens`] is the handier form.
     ///
-    /// Refusals: 1 to 8, 16 to 18, 20, 9 if `hours` has not its length or `out` has not 2 words, 25, 11.
-    rolwyddac_opens as opens_words(encoded: &[u8], hours: &[u32], minute: u32, processor: u32, out: &mut [u32]);
+    /// Refusals: 1 to 8, 16 to 18, 20, 9 if `hours` has not its length, 25, 11.
+    rolwyddac_opens as opens_words(encoded: &[u8], hours: &[u32], minute: u32, processor: u32) -> Opens;
 
     /// Writes a row of six words for each message of the route to `out`, in the order of their numbers: the five of
-    /// [`message_words`], then where the message's words begin in the buffer. [`messages`] is the handier form.
+    /// [`message`], then where the message's words begin in the buffer. [`messages`] is the handier form.
     ///
     /// Refusals: 1 to 8, 16 to 18, 20, 21, and 9 if `out` has not six words a message.
     rolwyddac_messages as messages_words(encoded: &[u8], route: Route, out: &mut [u32]);
@@ -380,17 +424,16 @@ calls! {
     /// Refusals: 1 to 8, 16 to 18, 20, and 9 if `out` has not one word a cell.
     rolwyddac_owners as owners_words(encoded: &[u8], out: &mut [u32]);
 
-    /// What a processor waits for, lent only the records and the status bytes: writes one word to `out`, the tile at which it
-    /// stands, and one byte a message to `marks`, 1 where the processor is to gather and the message is due at that tile and
-    /// not delivered, else 0. Some mark is 1 exactly where [`turn`] would give 12. [`awaited`] is the handier form.
+    /// What a processor waits for, lent only the records and the status bytes: tells the tile at which it stands, and writes one
+    /// byte a message to `marks`, 1 where the processor is to gather and the message is due at that tile and not delivered,
+    /// else 0. Some mark is 1 exactly where [`turn`] would give 12. [`awaited`] is the handier form.
     ///
     /// A processor without tiles left is 13.
     ///
     /// Refusals: 1 to 11, 13, 16 to 18, 20 and 21.
     rolwyddac_awaited as awaited_words(
         encoded: &[u8], route: Route, progress: &[Progress], status: &[u8], processor: u32, marks: &mut [u8],
-        out: &mut [u32],
-    );
+    ) -> u32;
 
     /// Takes a message in at its taker, whose own areas are lent: puts `words` into the message's place in the buffer, and its
     /// status goes from 0 to 2.
@@ -404,28 +447,27 @@ calls! {
         status: &mut [u8], processor: u32, message: u32, words: &[u32],
     );
 
-    /// How long the areas of a processor's own part are: writes four words to `out`, the words of its source, memory and mail, and how
-    /// many messages it handles. [`own_sizes`] is the handier form.
+    /// Tells how long the areas of a processor's own part are.
     ///
     /// The calls for a processor's own part test its number before the lengths, which are its own: 11 before 9.
     ///
-    /// Refusals: 1 to 8, 16 to 18, 20, 21, 11, 9 if `out` has not 4 words.
-    rolwyddac_own_sizes as own_sizes_words(encoded: &[u8], route: Route, processor: u32, out: &mut [u32]);
+    /// Refusals: 1 to 8, 11, 16 to 18, 20 and 21.
+    rolwyddac_part_sizes as part_sizes(encoded: &[u8], route: Route, processor: u32) -> PartSizes;
 
     /// Writes a row of seven words for each message that the processor handles to `out`, in the order of their numbers: its number,
-    /// then the five of [`message_words`], then where its words begin in the processor's mail. [`own_messages`] is the handier form.
+    /// then the five of [`message`], then where its words begin in the processor's mail. [`part_messages`] is the handier form.
     ///
     /// Refusals: 1 to 8, 16 to 18, 20, 21, 11, 9 if `out` has not seven words a message.
-    rolwyddac_own_messages as own_messages_words(encoded: &[u8], route: Route, processor: u32, out: &mut [u32]);
+    rolwyddac_part_messages as part_messages_words(encoded: &[u8], route: Route, processor: u32, out: &mut [u32]);
 
     /// Makes the fresh start of a processor that is lent its own part alone: writes zero to all four areas, whatever they held.
-    /// [`OwnBoard`] is the handier form.
+    /// [`PartBoard`] is the handier form.
     ///
     /// `memory` has a word for each cell that the processor keeps, `mail` the words of the messages that it handles, `progress` one
     /// record, `marks` a byte for each of these messages.
     ///
     /// Refusals: 1 to 9, 11, 16 to 18, 20 and 21.
-    rolwyddac_own_fresh as own_fresh(
+    rolwyddac_part_fresh as part_fresh(
         encoded: &[u8], route: Route, memory: &mut [u32], mail: &mut [u32], progress: &mut [Progress],
         marks: &mut [u8], processor: u32,
     );
@@ -434,7 +476,7 @@ calls! {
     /// tiles, in index order.
     ///
     /// Refusals: 1 to 13, 16 to 18, 20 and 21.
-    rolwyddac_own_turn as own_turn(
+    rolwyddac_part_turn as part_turn(
         encoded: &[u8], route: Route, source: &[u32], memory: &mut [u32], mail: &mut [u32], progress: &mut [Progress],
         marks: &mut [u8], processor: u32,
     );
@@ -443,7 +485,7 @@ calls! {
     /// message that the processor does not handle is 14.
     ///
     /// Refusals: 1 to 11, 14, 16 to 18, 20 and 21.
-    rolwyddac_own_post as own_post(
+    rolwyddac_part_post as part_post(
         encoded: &[u8], route: Route, memory: &[u32], mail: &[u32], progress: &[Progress], marks: &mut [u8],
         processor: u32, message: u32,
     );
@@ -454,7 +496,7 @@ calls! {
     /// take, is 11; a message whose mark is not 0, as one that came before, is 14.
     ///
     /// Refusals: 1 to 11, 14, 16 to 18, 20 and 21.
-    rolwyddac_own_arrive as own_arrive(
+    rolwyddac_part_arrive as part_arrive(
         encoded: &[u8], route: Route, memory: &[u32], mail: &mut [u32], progress: &[Progress], marks: &mut [u8],
         processor: u32, message: u32, words: &[u32],
     );
@@ -464,9 +506,15 @@ calls! {
     /// processor's part was put there, in any order.
     ///
     /// Refusals: 1 to 11, 15 to 18, 20 and 21.
-    rolwyddac_own_collect as own_collect(
+    rolwyddac_part_collect as part_collect(
         encoded: &[u8], route: Route, memory: &[u32], progress: &[Progress], processor: u32, grid: &mut [u32],
     );
+
+    /// Tells the fields of a recipe, of which [`write()`] makes the same bytes. [`Recipe::read`] keeps these bytes, and
+    /// [`Recipe::fields`] gives lists of the fields.
+    ///
+    /// Refusals: 1 to 8, 16 to 18 and 20.
+    rolwyddac_read as read(encoded: &[u8]) -> Tables;
 
     /// Writes the recipe of the fields to `space`. [`Fields`] is the handier form.
     ///
@@ -491,56 +539,24 @@ calls! {
 ///
 /// Refusals: 1 to 8, 16 to 18, 20 and 21.
 pub fn summary(encoded: &[u8], route: Route) -> Result<Summary, Refusal> {
-    let mut out = [0; SUMMARY_WORDS];
-    summary_words(encoded, route, &mut out)?;
-    let [tiles, messages, words, steps] = out;
-    // The recipe is accepted, so its records of kind 1 are as the format has them.
-    let field = |record: &[u8], at: usize| usize::from(u16::from_le_bytes([record[at], record[at + 1]]));
-    let dimensions = || encoded.chunks_exact(16).filter(|record| record[0] == 1);
-    let cells = dimensions().map(|record| field(record, 2)).product();
-    let processors = dimensions().map(|record| field(record, 6)).filter(|&count| count != 0).product();
+    let Figures { tiles, messages, words, steps } = summary_words(encoded, route)?;
+    let recipe = read(encoded)?;
+    let dimensions = recipe.dimensions as usize;
+    let cells = recipe.lengths[..dimensions].iter().copied().map(usize::from).product();
+    let counts = recipe.counts[..dimensions].iter().copied().map(usize::from);
+    let processors = counts.filter(|&count| count != 0).product();
     Ok(Summary { cells, processors, tiles, messages, words, steps })
-}
-
-/// The line of message `m` of a recipe's plan on a route.
-///
-/// Refusals: 1 to 8, 11, 16 to 18, 20 and 21.
-pub fn message(encoded: &[u8], route: Route, m: u32) -> Result<Message, Refusal> {
-    let mut out = [0; MESSAGE_WORDS];
-    message_words(encoded, route, m, &mut out)?;
-    let [sending_tile, taking_tile, sending_processor, taking_processor, words] = out;
-    Ok(Message { sending_tile, taking_tile, sending_processor, taking_processor, words })
-}
-
-/// How many wires message `m` of the direct route takes on the indirect one: as many as dimensions in which it crosses, those
-/// with one processor left out.
-///
-/// Refusals: 1 to 8, 11, 16 to 18 and 20.
-pub fn hops(encoded: &[u8], m: u32) -> Result<u32, Refusal> {
-    let mut out = [0; HOPS_WORDS];
-    hops_words(encoded, m, &mut out)?;
-    Ok(out[0])
 }
 
 /// The part of the named office's memories that is the processor's.
 ///
 /// Refusals: 1 to 9, 11, 16 to 18 and 20.
-pub fn look<'a>(
+pub fn view<'a>(
     encoded: &[u8], first: &'a [u32], second: &'a [u32], office: u32, processor: u32,
 ) -> Result<&'a [u32], Refusal> {
-    let mut out = [0; LOOK_WORDS];
-    look_words(encoded, first, second, office, processor, &mut out)?;
-    let [start, words] = out.map(|word| word as usize);
-    Ok(&(if office == 0 { first } else { second })[start..start + words])
-}
-
-/// The length in bytes of a grid's text for the charting desk: see [`chart`].
-///
-/// Refusals: 1 to 9, 16 to 18, 20, 23.
-pub fn chart_length(encoded: &[u8], grid: &[u32], x: i32, y: i32, cell_size: u32) -> Result<usize, Refusal> {
-    let mut out = [0; CHART_WORDS];
-    chart_length_words(encoded, grid, x, y, cell_size, &mut out)?;
-    Ok(out[0] as usize)
+    let Viewed { begin, length } = view_words(encoded, first, second, office, processor)?;
+    let begin = begin as usize;
+    Ok(&(if office == 0 { first } else { second })[begin..begin + length as usize])
 }
 
 /// A grid's text for the charting desk: an Esri ASCII grid with the corner `x`, `y` and the cell size given.
@@ -559,9 +575,8 @@ pub fn chart_length(encoded: &[u8], grid: &[u32], x: i32, y: i32, cell_size: u32
 /// # }
 /// ```
 pub fn chart(encoded: &[u8], grid: &[u32], x: i32, y: i32, cell_size: u32) -> Result<String, Refusal> {
-    let mut space = vec![0; chart_length(encoded, grid, x, y, cell_size)?];
-    let mut out = [0; CHART_WORDS];
-    chart_words(encoded, grid, x, y, cell_size, &mut space, &mut out)?;
+    let mut space = vec![0; chart_length(encoded, grid, x, y, cell_size)? as usize];
+    chart_words(encoded, grid, x, y, cell_size, &mut space)?;
     Ok(space.into_iter().map(char::from).collect()) // digits, letters, spaces and line feeds
 }
 
@@ -569,9 +584,7 @@ pub fn chart(encoded: &[u8], grid: &[u32], x: i32, y: i32, cell_size: u32) -> Re
 ///
 /// Refusals: 1 to 9, 11, 16 to 18, 20 and 25.
 pub fn opens(encoded: &[u8], hours: &[u32], minute: u32, processor: u32) -> Result<Opening, Refusal> {
-    let mut out = [0; OPENS_WORDS];
-    opens_words(encoded, hours, minute, processor, &mut out)?;
-    let [opens, minutes] = out;
+    let Opens { opens, minutes } = opens_words(encoded, hours, minute, processor)?;
     Ok(if opens == 1 { Opening::OpensIn(minutes) } else { Opening::Never })
 }
 

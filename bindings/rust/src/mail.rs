@@ -60,10 +60,10 @@ pub fn owners(encoded: &[u8]) -> Result<Vec<Option<u32>>, Refusal> {
 pub fn awaited(
     encoded: &[u8], route: Route, progress: &[Progress], status: &[u8], processor: u32,
 ) -> Result<Awaited, Refusal> {
-    let (mut marks, mut tile) = (vec![0; status.len()], [0]);
-    awaited_words(encoded, route, progress, status, processor, &mut marks, &mut tile)?;
+    let mut marks = vec![0; status.len()];
+    let tile = awaited_words(encoded, route, progress, status, processor, &mut marks)?;
     let messages = (0..).zip(&marks).filter(|&(_, &mark)| mark == 1).map(|(m, _)| m).collect();
-    Ok(Awaited { tile: tile[0], messages })
+    Ok(Awaited { tile, messages })
 }
 
 /// One processor of a run on processors that share no memory: it has all areas to itself, and a transport carries its messages.

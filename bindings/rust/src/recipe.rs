@@ -2,7 +2,7 @@
 
 use std::ops::Deref;
 
-use crate::{write, Refusal};
+use crate::{read, write, Refusal};
 
 /// Bytes of one record.
 const RECORD: usize = 16;
@@ -83,10 +83,85 @@ impl Fields {
     }
 }
 
-/// The bytes of a recipe that the engine accepts: [`Fields::close`] makes no other.
+/// The fields of a recipe in tables of fixed room, as [`read`] tells them. Of each table the first entries count, as many as is
+/// said, and the rest are 0.
+#[repr(C)]
+#[derive(Clone, Copy, Debug, PartialEq, Eq)]
+pub struct Tables {
+    /// Entries of `lengths`, `tiling` and `counts`.
+    pub dimensions: u32,
+    /// Entries of `weights`; four times as many of `components`.
+    pub distances: u32,
+    /// Entries of `sides`, `bounded`, `earlier`, `slopes` and `offsets`.
+    pub bounds: u32,
+    /// What a cell outside reads as.
+    pub boundary: u32,
+    /// Cells along each dimension.
+    pub lengths: [u16; 4],
+    /// Tile lengths.
+    pub tiling: [u16; 4],
+    /// Processors, 0 where a dimension is not spread.
+    pub counts: [u16; 4],
+    /// Four a distance.
+    pub components: [u16; 32],
+    /// One a distance.
+    pub weights: [u16; 8],
+    /// One a bound.
+    pub offsets: [i16; 4],
+    /// 0 for lower, 1 for upper.
+    pub sides: [u8; 4],
+    /// The dimension bounded, counted from 0.
+    pub bounded: [u8; 4],
+    /// An earlier dimension.
+    pub earlier: [u8; 4],
+    /// -1, 0 or 1.
+    pub slopes: [i8; 4],
+    /// The shift.
+    pub shift: u8,
+}
+
+/// The bytes of a recipe that the engine accepts: [`Fields::close`] and [`Recipe::read`] make no other.
 #[derive(Clone, Debug, PartialEq, Eq)]
 pub struct Recipe {
     bytes: Vec<u8>,
+}
+
+impl Recipe {
+    /// A recipe of these bytes.
+    ///
+    /// Refusals: 1 to 8, 16 to 18 and 20.
+    pub fn read(encoded: &[u8]) -> Result<Recipe, Refusal> {
+        read(encoded).map(|_| Recipe { bytes: encoded.to_vec() })
+    }
+
+    /// Its fields, the shift and the boundary value, of which [`Fields::close`] makes the same recipe.
+    ///
+    /// ```
+    /// # fn main() -> Result<(), rolwyddac::Refusal> {
+    /// let recipe = rolwyddac::Fields::new().dimension(4, 2, 2).dimension(1, 1, 0).distance(&[1, 0], 1).close(3, 7)?;
+    /// let (fields, shift, boundary) = recipe.fields();
+    /// assert_eq!(fields.close(shift, boundary)?, recipe);
+    /// # Ok(())
+    /// # }
+    /// ```
+    pub fn fields(&self) -> (Fields, u8, u32) {
+        let tables = read(&self.bytes).expect("a recipe is accepted");
+        let [dimensions, distances, bounds] =
+            [tables.dimensions, tables.distances, tables.bounds].map(|count| count as usize);
+        let fields = Fields {
+            lengths: tables.lengths[..dimensions].to_vec(),
+            tiling: tables.tiling[..dimensions].to_vec(),
+            counts: tables.counts[..dimensions].to_vec(),
+            components: tables.components[..COMPONENTS * distances].to_vec(),
+            weights: tables.weights[..distances].to_vec(),
+            sides: tables.sides[..bounds].to_vec(),
+            bounded: tables.bounded[..bounds].to_vec(),
+            earlier: tables.earlier[..bounds].to_vec(),
+            slopes: tables.slopes[..bounds].to_vec(),
+            offsets: tables.offsets[..bounds].to_vec(),
+        };
+        (fields, tables.shift, tables.boundary)
+    }
 }
 
 impl Deref for Recipe {

@@ -1,7 +1,7 @@
 //! A rig that two offices share, with the areas of both.
 
 use crate::{
-    fresh_both, look, office_collect, office_deliver, office_turn, office_turn_at, opens, summary, Areas, Opening,
+    fresh_both, opens, summary, tenant_collect, tenant_deliver, tenant_turn, tenant_turn_at, view, Areas, Opening,
     Progress, Refusal, Route, Summary,
 };
 
@@ -82,7 +82,7 @@ impl<'a> Rig<'a> {
     pub fn turn(&mut self, office: u32, processor: u32) -> Result<(), Refusal> {
         let (encoded, route) = (self.encoded, self.route);
         let (source, Areas { memories, buffer, progress, status }, engaged, other) = self.lent(office);
-        office_turn(encoded, route, source, memories, buffer, progress, status, engaged, other, office, processor)
+        tenant_turn(encoded, route, source, memories, buffer, progress, status, engaged, other, office, processor)
     }
 
     /// Gives one processor a turn for an office at a minute of the week, by a table of hours.
@@ -91,7 +91,7 @@ impl<'a> Rig<'a> {
     pub fn turn_at(&mut self, hours: &[u32], minute: u32, office: u32, processor: u32) -> Result<(), Refusal> {
         let (e, r) = (self.encoded, self.route);
         let (source, Areas { memories, buffer, progress, status }, engaged, other) = self.lent(office);
-        office_turn_at(
+        tenant_turn_at(
             e, r, source, memories, buffer, progress, status, engaged, other, hours, minute, office, processor,
         )
     }
@@ -109,7 +109,7 @@ impl<'a> Rig<'a> {
     pub fn deliver(&mut self, office: u32, message: u32) -> Result<(), Refusal> {
         let (encoded, route) = (self.encoded, self.route);
         let (source, Areas { memories, buffer, progress, status }, engaged, other) = self.lent(office);
-        office_deliver(encoded, route, source, memories, buffer, progress, status, engaged, other, office, message)
+        tenant_deliver(encoded, route, source, memories, buffer, progress, status, engaged, other, office, message)
     }
 
     /// An office's messages in flight, by number.
@@ -154,7 +154,7 @@ impl<'a> Rig<'a> {
         let mut grid = vec![0; self.plan.cells];
         let Areas { memories, buffer, progress, status } = &self.areas[place(office)];
         let other = &self.areas[1 - place(office)].progress;
-        office_collect(
+        tenant_collect(
             self.encoded,
             self.route,
             self.sources[place(office)],
@@ -173,8 +173,8 @@ impl<'a> Rig<'a> {
     /// A processor's memory of an office, one word a cell.
     ///
     /// Refusal: 11.
-    pub fn look(&self, office: u32, processor: u32) -> Result<&[u32], Refusal> {
+    pub fn view(&self, office: u32, processor: u32) -> Result<&[u32], Refusal> {
         let [first, second] = &self.areas;
-        look(self.encoded, &first.memories, &second.memories, office, processor)
+        view(self.encoded, &first.memories, &second.memories, office, processor)
     }
 }

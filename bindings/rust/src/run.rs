@@ -1,8 +1,7 @@
 //! The areas of a run with their right sizes, and a run that owns them.
 
 use crate::{
-    collect, deliver, fresh, opens, rounds_words, summary, turn, turn_at, Opening, Progress, Refusal, Route, Summary,
-    ROUNDS_WORDS,
+    collect, deliver, fresh, opens, rounds, summary, turn, turn_at, Opening, Progress, Refusal, Route, Summary,
 };
 
 /// The four areas that a run changes, with the sizes a plan asks for.
@@ -75,9 +74,8 @@ impl<'a> Run<'a> {
         let plan = summary(encoded, Route::Direct)?;
         let mut areas = Areas::sized(&plan);
         let Areas { memories, buffer, progress, status } = &mut areas;
-        let mut out = [0; ROUNDS_WORDS];
-        rounds_words(encoded, source, memories, buffer, progress, status, &mut out)?;
-        Ok((Run { encoded, route: Route::Direct, source, plan, areas }, out[0]))
+        let rounds = rounds(encoded, source, memories, buffer, progress, status)?;
+        Ok((Run { encoded, route: Route::Direct, source, plan, areas }, rounds))
     }
 
     /// Goes on from areas that an earlier run left, as [`Run::into_areas`] gave them, with the same recipe, route and source.

@@ -5,21 +5,11 @@ use std::fs;
 use rolwyddac::{chart, chart_length, chart_words, Fields, Recipe, Refusal, LONGEST_CHART};
 
 /// The number of a result, and the length that goes with it, 0 at a refusal.
-fn told(result: Result<usize, Refusal>) -> (u32, usize) {
+fn told(result: Result<u32, Refusal>) -> (u32, u32) {
     match result {
         Ok(length) => (0, length),
         Err(refusal) => (refusal.number(), 0),
     }
-}
-
-/// Writes a chart to a space.
-fn write(encoded: &[u8], grid: &[u32], x: i32, y: i32, cell_size: u32, space: &mut [u8]) -> Result<usize, Refusal> {
-    let mut out = [77];
-    let result = chart_words(encoded, grid, x, y, cell_size, space, &mut out);
-    if result.is_err() {
-        assert_eq!(out, [77], "a refusal leaves the word");
-    }
-    result.map(|()| out[0] as usize)
 }
 
 /// The bytes of a file from a place on, word by word.
@@ -42,7 +32,7 @@ impl Reader<'_> {
 /// What the call and the call for the length print of a case, as the format of the stored file has it.
 fn printed(encoded: &[u8], grid: &[u32], x: i32, y: i32, cell_size: u32, space: usize) -> Vec<u8> {
     let mut space = vec![b'#'; space];
-    let (number, length) = told(write(encoded, grid, x, y, cell_size, &mut space));
+    let (number, length) = told(chart_words(encoded, grid, x, y, cell_size, &mut space));
     let (alone, told_alone) = told(chart_length(encoded, grid, x, y, cell_size));
     let mut printed = format!("{number} {length}\n{alone} {told_alone}\n").into_bytes();
     printed.extend(space);
@@ -80,7 +70,7 @@ fn square() -> Recipe {
 fn the_longest() {
     let (recipe, grid) = (square(), vec![u32::MAX; 16_384]);
     let length = chart_length(&recipe, &grid, i32::MIN, i32::MIN, 65_535);
-    assert_eq!(length, Ok(LONGEST_CHART));
+    assert_eq!(length, Ok(LONGEST_CHART as u32));
     let text = chart(&recipe, &grid, i32::MIN, i32::MIN, 65_535).expect("a chart");
     assert_eq!(text.len(), LONGEST_CHART);
     assert_eq!(text.lines().count(), 6 + 128);
@@ -94,7 +84,7 @@ fn bytes_behind_the_text_stay() {
     let expected = "ncols 2\nnrows 1\nxllcorner 0\nyllcorner -1\ncellsize 7\nNODATA_value -9999\n0 305\n";
     for more in [0, 1, 40] {
         let mut space = vec![7; expected.len() + more];
-        assert_eq!(write(&recipe, &[0, 305], 0, -1, 7, &mut space), Ok(expected.len()));
+        assert_eq!(chart_words(&recipe, &[0, 305], 0, -1, 7, &mut space), Ok(expected.len() as u32));
         assert_eq!(&space[..expected.len()], expected.as_bytes());
         assert_eq!(space[expected.len()..], vec![7; more]);
     }
@@ -110,8 +100,7 @@ fn refusals() {
     assert_eq!(chart(&recipe, &grid[1..], 0, 0, 1), Err(Refusal::Area));
     assert_eq!(chart(&recipe[1..], &grid[1..], 0, 0, 0), Err(Refusal::Ragged));
     let mut space = vec![9; LONGEST_CHART];
-    assert_eq!(chart_words(&recipe, &grid, 0, 0, 1, &mut space, &mut []), Err(Refusal::Area));
-    assert_eq!(chart_words(&recipe, &grid, 0, 0, 0, &mut space, &mut [1, 2]), Err(Refusal::NoChart));
-    assert_eq!(chart_words(&recipe, &grid, 0, 0, 1, &mut space[..100], &mut [1]), Err(Refusal::Area));
+    assert_eq!(chart_words(&recipe, &grid, 0, 0, 0, &mut space), Err(Refusal::NoChart));
+    assert_eq!(chart_words(&recipe, &grid, 0, 0, 1, &mut space[..100]), Err(Refusal::Area));
     assert!(space.iter().all(|&byte| byte == 9));
 }

@@ -1,7 +1,7 @@
 //! Row D of document 01 by the hours, request W-212: four cells in a line, in tiles of two on two processors. The numbers and words
 //! expected are worked out from the papers.
 
-use rolwyddac::{opens, opens_words, Fields, Opening, Recipe, Refusal, Rig, Route::Direct, Run};
+use rolwyddac::{opens, opens_words, Fields, Opening, Opens, Recipe, Refusal, Rig, Route::Direct, Run};
 
 fn row_d() -> Recipe {
     Fields::new().dimension(4, 2, 2).dimension(1, 1, 0).distance(&[1, 0], 1).close(0, 0).unwrap()
@@ -79,8 +79,7 @@ fn when_a_processor_opens() {
         (opens(&recipe, &hours, 0, 2), opens(&recipe, &hours, 10080, 2)),
         (Err(Refusal::NoSuch), Err(Refusal::Hours))
     );
-    let mut out = [7; 2];
-    assert_eq!((opens_words(&recipe, &hours, 80, 0, &mut out), out), (Ok(()), [1, 10]));
-    assert_eq!((opens_words(&recipe, &hours, 80, 1, &mut out), out), (Ok(()), [0, 0]));
-    assert_eq!(opens_words(&recipe, &hours, 10080, 2, &mut [7; 3]), Err(Refusal::Area));
+    assert_eq!(opens_words(&recipe, &hours, 80, 0), Ok(Opens { opens: 1, minutes: 10 }));
+    assert_eq!(opens_words(&recipe, &hours, 80, 1), Ok(Opens { opens: 0, minutes: 0 }));
+    assert_eq!(opens_words(&recipe, &hours[1..], 10080, 2), Err(Refusal::Area));
 }

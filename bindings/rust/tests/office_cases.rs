@@ -1,4 +1,4 @@
-//! The stored script of two offices, `bindings/cases/offices`: every call's number and every lent word, and each look.
+//! The stored script of two offices, `bindings/cases/offices`: every call's number and every lent word, and each view.
 
 mod script;
 

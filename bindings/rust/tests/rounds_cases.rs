@@ -1,6 +1,6 @@
 //! The stored runs by rounds, `bindings/cases/rounds`: numbers, the rounds told, each tile's round, every lent word.
 
-use rolwyddac::{collect, rounds_of_words, rounds_words, sweep, Progress, Refusal, Route};
+use rolwyddac::{collect, rounds, rounds_of_words, sweep, Progress, Refusal, Route};
 use std::fmt::Write;
 
 fn number(result: Result<(), Refusal>) -> u32 {
@@ -24,25 +24,24 @@ fn every_answer_is_the_models() {
     let mut case = 0;
     while !left.is_empty() {
         let word = |i: usize| u32::from_le_bytes(left[4 * i..4 * i + 4].try_into().unwrap()) as usize;
-        let [encoded, cells, memories, buffer, records, status, out, tiles] = std::array::from_fn(word);
-        let (encoded, rest) = left[32..].split_at(encoded);
+        let [encoded, cells, memories, buffer, records, status, tiles] = std::array::from_fn(word);
+        let (encoded, rest) = left[28..].split_at(encoded);
         left = rest;
         let drawn = |n: usize| -> Vec<u32> { (0..n as u32).map(|j| 3_000_000_000 + j).collect() };
         let source: Vec<u32> = (0..cells as u32).map(|j| j.wrapping_mul(2654435761).wrapping_add(7)).collect();
-        let (mut memories, mut buffer, mut out, mut rounds) =
-            (drawn(memories), drawn(buffer), drawn(out), drawn(tiles));
+        let (mut memories, mut buffer, mut of_tiles) = (drawn(memories), drawn(buffer), drawn(tiles));
         let record = |j: u32| Progress { finished: 77 + 3 * j, stage: 78 + 3 * j, sent: 79 + 3 * j };
         let mut progress: Vec<Progress> = (0..records as u32).map(record).collect();
         let mut status: Vec<u8> = (0..status).map(|j| (j % 251) as u8).collect();
 
-        let driven =
-            number(rounds_words(encoded, &source, &mut memories, &mut buffer, &mut progress, &mut status, &mut out));
-        let told = number(rounds_of_words(encoded, &mut rounds));
+        let driven = rounds(encoded, &source, &mut memories, &mut buffer, &mut progress, &mut status);
+        let told = driven.unwrap_or(0);
+        let numbers = [number(driven.map(|_| ())), number(rounds_of_words(encoded, &mut of_tiles))];
         let words: Vec<u32> = progress.iter().flat_map(|p| [p.finished, p.stage, p.sent]).collect();
         let h = fold_words(fold_words(2166136261, memories.iter().copied()), buffer.iter().copied());
         let h = fold_words(fold_words(h, words.into_iter()), status.iter().map(|&mark| u32::from(mark)));
-        writeln!(printed, "case {case}\n{driven} {told}\n{}\n{h}\n{}", joined(&out), joined(&rounds)).unwrap();
-        if driven == 0 {
+        writeln!(printed, "case {case}\n{}\n{told}\n{h}\n{}", joined(&numbers), joined(&of_tiles)).unwrap();
+        if driven.is_ok() {
             let (mut grid, mut swept) = (vec![0; cells], vec![1; cells]);
             let route = Route::Direct;
             collect(encoded, route, &source, &memories, &buffer, &progress, &status, &mut grid).expect("collected");

@@ -2,8 +2,7 @@
 //! the paper's table has for it, and a refusal leaves every lent word as it was.
 
 use rolwyddac::{
-    hops, hops_words, message, message_words, summary, summary_words, sweep, Areas, Fields, Recipe, Refusal,
-    Route::Direct, Run,
+    hops, message, summary, summary_words, sweep, Areas, Fields, Figures, Recipe, Refusal, Route::Direct, Run,
 };
 
 const SOURCE: [u32; 4] = [1; 4];
@@ -50,10 +49,9 @@ fn the_plan() {
     assert_eq!((line.sending_tile, line.taking_tile, line.words), (0, 1, 1));
     assert_eq!((line.sending_processor, line.taking_processor), (0, 1));
     assert_eq!(message(&row_d(), Direct, 1), Err(Refusal::NoSuch));
-    assert_eq!(summary_words(&row_d(), Direct, &mut [0; 3]), Err(Refusal::Area));
-    assert_eq!(message_words(&row_d(), Direct, 0, &mut [0; 6]), Err(Refusal::Area));
+    let figures = Figures { tiles: 2, messages: 1, words: 1, steps: 6 };
+    assert_eq!(summary_words(&row_d(), Direct), Ok(figures));
     assert_eq!((hops(&row_d(), 0), hops(&row_d(), 1)), (Ok(1), Err(Refusal::NoSuch)));
-    assert_eq!(hops_words(&row_d(), 0, &mut []), Err(Refusal::Area));
 }
 
 #[test]

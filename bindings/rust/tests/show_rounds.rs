@@ -23,8 +23,8 @@ fn recipes() -> Vec<&'static [u8]> {
     let mut found = Vec::new();
     while !left.is_empty() {
         let length = u32::from_le_bytes(left[..4].try_into().unwrap()) as usize;
-        found.push(&left[32..32 + length]);
-        left = &left[32 + length..];
+        found.push(&left[28..28 + length]);
+        left = &left[28 + length..];
     }
     found
 }

@@ -2,9 +2,10 @@
 //! processors. The numbers and words expected are worked out from the papers.
 
 use rolwyddac::{
-    look_words, office_collect, office_deliver, office_turn, summary, sweep, Areas, Fields, Progress, Recipe, Refusal,
+    summary, sweep, tenant_collect, tenant_deliver, tenant_turn, view_words, Areas, Fields, Progress, Recipe, Refusal,
     Rig,
     Route::{self, Direct, Indirect},
+    Viewed,
 };
 
 const FIRST: [u32; 4] = [1; 4];
@@ -43,20 +44,18 @@ fn a_run_step_by_step() {
 }
 
 #[test]
-fn a_look_shows_the_office_named() {
+fn a_view_shows_the_office_named() {
     let recipe = row_d();
     let mut rig = Rig::start(&recipe, Direct, [&FIRST, &SECOND]).unwrap();
     rig.finish().unwrap();
-    assert_eq!((rig.look(0, 0), rig.look(0, 1)), (Ok(&[1, 2, 0, 0][..]), Ok(&[0, 2, 3, 4][..])));
-    assert_eq!((rig.look(1, 0), rig.look(1, 1)), (Ok(&[2, 4, 0, 0][..]), Ok(&[0, 4, 6, 8][..])));
-    assert_eq!((rig.look(0, 2), rig.look(2, 0)), (Err(Refusal::NoSuch), Err(Refusal::NoSuch)));
-    let (memories, mut out) = ([7; 8], [5; 2]);
-    assert_eq!((look_words(&recipe, &memories, &memories, 1, 1, &mut out), out), (Ok(()), [4, 4]));
+    assert_eq!((rig.view(0, 0), rig.view(0, 1)), (Ok(&[1, 2, 0, 0][..]), Ok(&[0, 2, 3, 4][..])));
+    assert_eq!((rig.view(1, 0), rig.view(1, 1)), (Ok(&[2, 4, 0, 0][..]), Ok(&[0, 4, 6, 8][..])));
+    assert_eq!((rig.view(0, 2), rig.view(2, 0)), (Err(Refusal::NoSuch), Err(Refusal::NoSuch)));
+    let memories = [7; 8];
+    assert_eq!(view_words(&recipe, &memories, &memories, 1, 1), Ok(Viewed { begin: 4, length: 4 }));
     // a wrong length comes before the office's number
-    assert_eq!(look_words(&recipe, &memories, &memories[1..], 2, 9, &mut out), Err(Refusal::Area));
-    assert_eq!(look_words(&recipe, &memories, &memories, 2, 9, &mut [0; 3]), Err(Refusal::Area));
-    assert_eq!(look_words(&recipe[..63], &memories, &memories, 0, 0, &mut out), Err(Refusal::Ragged));
-    assert_eq!(out, [4, 4]);
+    assert_eq!(view_words(&recipe, &memories, &memories[1..], 2, 9), Err(Refusal::Area));
+    assert_eq!(view_words(&recipe[..63], &memories, &memories, 0, 0), Err(Refusal::Ragged));
 }
 
 /// One turn of processor 0 lent fresh areas, with these engaged words, these records of the other office and this office number.
@@ -64,7 +63,7 @@ fn turn_with(engaged: &mut [u32], other: &[Progress], office: u32) -> Result<(),
     let recipe = row_d();
     let mut areas = Areas::sized(&summary(&recipe, Direct).unwrap());
     let Areas { memories, buffer, progress, status } = &mut areas;
-    office_turn(&recipe, Direct, &FIRST, memories, buffer, progress, status, engaged, other, office, 0)
+    tenant_turn(&recipe, Direct, &FIRST, memories, buffer, progress, status, engaged, other, office, 0)
 }
 
 #[test]
@@ -108,11 +107,11 @@ fn no_such_office() {
     let (other, engaged) = (&before.areas()[1].progress, before.engaged());
     let (mut marks, mut grid) = (status.clone(), [9; 4]);
     assert_eq!(
-        office_deliver(&recipe, Direct, &FIRST, memories, buffer, progress, &mut marks, &engaged[1..], other, 2, 0),
+        tenant_deliver(&recipe, Direct, &FIRST, memories, buffer, progress, &mut marks, &engaged[1..], other, 2, 0),
         Err(Refusal::Area)
     );
     assert_eq!(
-        office_collect(&recipe, Direct, &FIRST, memories, buffer, progress, status, engaged, &other[1..], 2, &mut grid),
+        tenant_collect(&recipe, Direct, &FIRST, memories, buffer, progress, status, engaged, &other[1..], 2, &mut grid),
         Err(Refusal::Area)
     );
     assert_eq!((marks, grid), (status.clone(), [9; 4]));

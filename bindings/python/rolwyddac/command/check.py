@@ -9,7 +9,7 @@ from typing import Any, Callable, List, NamedTuple, Optional, Sequence
 
 from .. import grids, plan
 from ..areas import IN_FLIGHT
-from ..boards import OwnBoard
+from ..boards import PartBoard
 from ..kinds import DIRECT
 from ..refusals import Finished, NoMail, Waiting
 from ..run import Run
@@ -116,7 +116,7 @@ class _Apart:
 
     def __init__(self, encoded: bytes, route: int, order: Order) -> None:
         self.dice = order.dice
-        self.boards = [OwnBoard(encoded, route, plan.own_source(encoded, order.source, processor), processor)
+        self.boards = [PartBoard(encoded, route, plan.part_source(encoded, order.source, processor), processor)
                        for processor in range(plan.summary(encoded, route).processors)]
         self.able = set(range(len(self.boards)))
         self.post: List[Any] = []
@@ -126,7 +126,7 @@ class _Apart:
         at = self.dice.randrange(len(self.boards))
         board = self.boards[at]
         kept = board.__getstate__()
-        self.boards[at] = OwnBoard.__new__(OwnBoard)
+        self.boards[at] = PartBoard.__new__(PartBoard)
         self.boards[at].__setstate__(kept)
 
     def arrive(self, at: int) -> None:

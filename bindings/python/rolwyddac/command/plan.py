@@ -47,7 +47,7 @@ def _limits(parts: Parts, figures: Dict[str, int]) -> List[Dict[str, Any]]:
 
 def _own_part(encoded: bytes, route: int, processor: int) -> Dict[str, int]:
     """What a processor needs that is lent its own part alone."""
-    own = plan.own_sizes(encoded, route, processor)
+    own = plan.part_sizes(encoded, route, processor)
     taken = _WORD * (own.source + own.memory + own.mail) + _RECORD + _MARK * own.messages
     return {'processor': processor, **own._asdict(), 'bytes': taken}
 

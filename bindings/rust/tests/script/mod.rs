@@ -203,7 +203,7 @@ impl Script {
             16 => (self.fresh_both(), String::new()),
             6 | 8 | 9 | 21 => (self.alone(record, a), String::new()),
             17..=19 | 22 => (self.for_office(record, a, b), String::new()),
-            20 => self.look(a, b),
+            20 => self.view(a, b),
             23 => self.opens(a, record.word(12)),
             other => panic!("no record of kind {other}"),
         };
@@ -255,16 +255,16 @@ impl Script {
         let answer = match record.0[0] {
             17 => {
                 let own = &mut records;
-                rolwyddac::office_turn(e, r, source, memories, buffer, own, status, engaged, &other, b, a)
+                rolwyddac::tenant_turn(e, r, source, memories, buffer, own, status, engaged, &other, b, a)
             }
             22 => {
                 let own = &mut records;
-                rolwyddac::office_turn_at(e, r, source, memories, buffer, own, status, engaged, &other, hours, c, b, a)
+                rolwyddac::tenant_turn_at(e, r, source, memories, buffer, own, status, engaged, &other, hours, c, b, a)
             }
-            18 => rolwyddac::office_deliver(e, r, source, memories, buffer, &records, status, engaged, &other, b, a),
+            18 => rolwyddac::tenant_deliver(e, r, source, memories, buffer, &records, status, engaged, &other, b, a),
             _ => {
                 let grid = &mut o.grid[..lent[6]];
-                rolwyddac::office_collect(e, r, source, memories, buffer, &records, status, engaged, &other, b, grid)
+                rolwyddac::tenant_collect(e, r, source, memories, buffer, &records, status, engaged, &other, b, grid)
             }
         };
         o.store(&records);
@@ -301,19 +301,17 @@ impl Script {
         (answer.map(|_| ()), format!("{opens} {minutes} "))
     }
 
-    /// A look: where the part begins, its length and a checksum of its words stand before that of the areas.
-    fn look(&mut self, processor: u32, office: u32) -> (Result<(), Refusal>, String) {
+    /// A view: where the part begins, its length and a checksum of its words stand before that of the areas.
+    fn view(&mut self, processor: u32, office: u32) -> (Result<(), Refusal>, String) {
         let [first, second] = &self.offices;
         let memories = [&first.memories[..first.lent[2]], &second.memories[..second.lent[2]]];
-        let mut out = [0; 2];
-        let answer = rolwyddac::look_words(&self.encoded, memories[0], memories[1], office, processor, &mut out);
-        let [start, length] = out.map(|x| x as usize);
-        let part = memories[(office as usize).min(1)];
-        let part = if answer.is_ok() { &part[start..start + length] } else { &[] };
+        let answer = rolwyddac::view_words(&self.encoded, memories[0], memories[1], office, processor);
+        let [begin, length] = answer.map_or([0; 2], |viewed| [viewed.begin, viewed.length].map(|x| x as usize));
+        let part = &memories[(office as usize).min(1)][begin..begin + length];
         let sum = part.iter().fold(2166136261, |h, &x| fold(h, x));
-        let seen = rolwyddac::look(&self.encoded, memories[0], memories[1], office, processor);
+        let seen = rolwyddac::view(&self.encoded, memories[0], memories[1], office, processor);
         assert_eq!(seen.unwrap_or(&[]), part);
-        (answer, format!("{start} {length} {sum:08x} "))
+        (answer.map(|_| ()), format!("{begin} {length} {sum:08x} "))
     }
 }
 

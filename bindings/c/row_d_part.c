@@ -16,7 +16,7 @@ static const uint32_t source[OWN] = {1, 1};
 
 /* one processor's part, and what else it is lent; with four bytes of marks there is no padding, and memcmp compares nothing else */
 typedef struct {
-  uint32_t memory[MOST_KEPT], mail[WORDS], out[ROLWYDDAC_OWN_ROW_LENGTH];
+  uint32_t memory[MOST_KEPT], mail[WORDS], out[ROLWYDDAC_PART_ROW_LENGTH];
   rolwyddac_progress progress[1];
   uint8_t marks[4];
 } part;
@@ -45,29 +45,29 @@ static void same(const char *what, const uint32_t *found, const uint32_t *wanted
 static void fresh(uint32_t b, uint32_t processor, uint32_t wanted) {
   part *a = &own[b];
   before = *a;
-  expect("own_fresh", b, rolwyddac_own_fresh(recipe, RECIPE, route, a->memory, kept(b), a->mail, WORDS, a->progress, 1, a->marks,
-                                             MESSAGES, processor), wanted);
+  expect("part_fresh", b, rolwyddac_part_fresh(recipe, RECIPE, route, a->memory, kept(b), a->mail, WORDS, a->progress, 1, a->marks,
+                                               MESSAGES, processor), wanted);
 }
 
 static void turn(uint32_t b, uint32_t processor, size_t words, size_t records, uint32_t wanted) {
   part *a = &own[b];
   before = *a;
-  expect("own_turn", b, rolwyddac_own_turn(recipe, RECIPE, route, source, words, a->memory, kept(b), a->mail, WORDS, a->progress,
-                                           records, a->marks, MESSAGES, processor), wanted);
+  expect("part_turn", b, rolwyddac_part_turn(recipe, RECIPE, route, source, words, a->memory, kept(b), a->mail, WORDS, a->progress,
+                                             records, a->marks, MESSAGES, processor), wanted);
 }
 
 static void post(uint32_t b, uint32_t message, uint32_t wanted) {
   part *a = &own[b];
   before = *a;
-  expect("own_post", b, rolwyddac_own_post(recipe, RECIPE, route, a->memory, kept(b), a->mail, WORDS, a->progress, 1, a->marks,
-                                           MESSAGES, b, message), wanted);
+  expect("part_post", b, rolwyddac_part_post(recipe, RECIPE, route, a->memory, kept(b), a->mail, WORDS, a->progress, 1, a->marks,
+                                             MESSAGES, b, message), wanted);
 }
 
 static void arrive(uint32_t b, uint32_t processor, uint32_t message, const uint32_t *words, size_t count, uint32_t wanted) {
   part *a = &own[b];
   before = *a;
-  expect("own_arrive", b, rolwyddac_own_arrive(recipe, RECIPE, route, a->memory, kept(b), a->mail, WORDS, a->progress, 1, a->marks,
-                                               MESSAGES, processor, message, words, count), wanted);
+  expect("part_arrive", b, rolwyddac_part_arrive(recipe, RECIPE, route, a->memory, kept(b), a->mail, WORDS, a->progress, 1, a->marks,
+                                                 MESSAGES, processor, message, words, count), wanted);
 }
 
 static void collect(uint32_t b, size_t cells, uint32_t wanted) {
@@ -75,27 +75,31 @@ static void collect(uint32_t b, size_t cells, uint32_t wanted) {
   uint32_t grid_before[CELLS];
   before = *a;
   memcpy(grid_before, grid, sizeof grid);
-  expect("own_collect", b, rolwyddac_own_collect(recipe, RECIPE, route, a->memory, kept(b), a->progress, 1, b, grid, cells), wanted);
+  expect("part_collect", b, rolwyddac_part_collect(recipe, RECIPE, route, a->memory, kept(b), a->progress, 1, b, grid, cells), wanted);
   if (wanted != ROLWYDDAC_DONE) same("the grid's words", grid, grid_before, CELLS);
 }
 
+static void sizes(uint32_t b) {
+  const rolwyddac_part_lengths wanted = {ROLWYDDAC_DONE, OWN, (uint32_t)kept(b), WORDS, MESSAGES}, refused = {.number = ROLWYDDAC_NO_SUCH};
+  const rolwyddac_part_lengths told = rolwyddac_part_sizes(recipe, RECIPE, route, b);
+  const rolwyddac_part_lengths none = rolwyddac_part_sizes(recipe, RECIPE, route, PROCESSORS);
+  same("the lengths", (const uint32_t *)&told, (const uint32_t *)&wanted, sizeof told / sizeof(uint32_t));
+  same("a refusal's lengths", (const uint32_t *)&none, (const uint32_t *)&refused, sizeof none / sizeof(uint32_t));
+}
+
 static void plan(void) {
-  const uint32_t sizes[PROCESSORS][ROLWYDDAC_OWN_LENGTH] = {{OWN, OWN, WORDS, MESSAGES}, {OWN, MOST_KEPT, WORDS, MESSAGES}};
-  const uint32_t row[ROLWYDDAC_OWN_ROW_LENGTH] = {0, 0, 1, 0, 1, WORDS, 0};
-  for (uint32_t b = 0; b < PROCESSORS; b++)
-    for (size_t length = 0; length <= ROLWYDDAC_OWN_ROW_LENGTH; length++) {
+  const uint32_t row[ROLWYDDAC_PART_ROW_LENGTH] = {0, 0, 1, 0, 1, WORDS, 0};
+  for (uint32_t b = 0; b < PROCESSORS; b++) {
+    sizes(b);
+    for (size_t length = 0; length <= ROLWYDDAC_PART_ROW_LENGTH; length++) {
       uint32_t *out = own[b].out;
       before = own[b];
-      expect("own_sizes", b, rolwyddac_own_sizes(recipe, RECIPE, route, PROCESSORS, out, length), ROLWYDDAC_NO_SUCH);
-      expect("own_messages", b, rolwyddac_own_messages(recipe, RECIPE, route, PROCESSORS, out, length), ROLWYDDAC_NO_SUCH);
-      expect("own_sizes", b, rolwyddac_own_sizes(recipe, RECIPE, route, b, out, length),
-             length == ROLWYDDAC_OWN_LENGTH ? ROLWYDDAC_DONE : ROLWYDDAC_AREA);
-      if (length == ROLWYDDAC_OWN_LENGTH) same("the lengths", out, sizes[b], length);
-      before = own[b];
-      expect("own_messages", b, rolwyddac_own_messages(recipe, RECIPE, route, b, out, length),
-             length == ROLWYDDAC_OWN_ROW_LENGTH ? ROLWYDDAC_DONE : ROLWYDDAC_AREA);
-      if (length == ROLWYDDAC_OWN_ROW_LENGTH) same("the row's words", out, row, length);
+      expect("part_messages", b, rolwyddac_part_messages(recipe, RECIPE, route, PROCESSORS, out, length), ROLWYDDAC_NO_SUCH);
+      expect("part_messages", b, rolwyddac_part_messages(recipe, RECIPE, route, b, out, length),
+             length == ROLWYDDAC_PART_ROW_LENGTH ? ROLWYDDAC_DONE : ROLWYDDAC_AREA);
+      if (length == ROLWYDDAC_PART_ROW_LENGTH) same("the row's words", out, row, length);
     }
+  }
 }
 
 static void run(void) {

@@ -1,32 +1,32 @@
 //! One processor that has memory for its own part alone, in handy forms.
 
 use crate::{
-    own_arrive, own_collect, own_fresh, own_messages_words, own_post, own_sizes_words, own_turn, owners, Awaited,
+    owners, part_arrive, part_collect, part_fresh, part_messages_words, part_post, part_sizes, part_turn, Awaited,
     Message, Progress, Refusal, Route,
 };
 
-const SIZES_WORDS: usize = 4;
 const ROW_WORDS: usize = 7;
 
 const UNSENT: u8 = 0;
 const IN_FLIGHT: u8 = 1;
 
 /// How long the areas of a processor's own part are.
+#[repr(C)]
 #[derive(Clone, Copy, Debug, PartialEq, Eq)]
-pub struct OwnSizes {
+pub struct PartSizes {
     /// Words of its source: the cells of its tiles.
-    pub source: usize,
+    pub source: u32,
     /// Words of its memory: the cells that it keeps, those of its tiles and those that a message to one of them brings.
-    pub memory: usize,
+    pub memory: u32,
     /// Words of its mail: those of the messages that its tiles send or take.
-    pub mail: usize,
+    pub mail: u32,
     /// How many these messages are: bytes of its marks.
-    pub messages: usize,
+    pub messages: u32,
 }
 
 /// A message that a processor handles.
 #[derive(Clone, Copy, Debug, PartialEq, Eq)]
-pub struct OwnRow {
+pub struct PartRow {
     /// Its number.
     pub message: u32,
     /// Its tiles, their processors and its words.
@@ -37,7 +37,7 @@ pub struct OwnRow {
 
 /// The areas of a processor's own part that a run changes.
 #[derive(Clone, Debug, PartialEq, Eq)]
-pub struct OwnAreas {
+pub struct PartAreas {
     /// One word for each cell that it keeps, in index order.
     pub memory: Vec<u32>,
     /// The words of the messages that it handles, in the order of their numbers.
@@ -48,35 +48,25 @@ pub struct OwnAreas {
     pub marks: Vec<u8>,
 }
 
-impl OwnAreas {
+impl PartAreas {
     /// Areas of these sizes, all zero.
-    pub fn sized(sizes: &OwnSizes) -> OwnAreas {
-        OwnAreas {
-            memory: vec![0; sizes.memory],
-            mail: vec![0; sizes.mail],
+    pub fn sized(sizes: &PartSizes) -> PartAreas {
+        PartAreas {
+            memory: vec![0; sizes.memory as usize],
+            mail: vec![0; sizes.mail as usize],
             progress: [Progress::default()],
-            marks: vec![0; sizes.messages],
+            marks: vec![0; sizes.messages as usize],
         }
     }
-}
-
-/// How long the areas of a processor's own part are.
-///
-/// Refusals: 1 to 8, 11, 16 to 18, 20 and 21.
-pub fn own_sizes(encoded: &[u8], route: Route, processor: u32) -> Result<OwnSizes, Refusal> {
-    let mut out = [0; SIZES_WORDS];
-    own_sizes_words(encoded, route, processor, &mut out)?;
-    let [source, memory, mail, messages] = out.map(|word| word as usize);
-    Ok(OwnSizes { source, memory, mail, messages })
 }
 
 /// The messages that a processor handles, in the order of their numbers.
 ///
 /// Refusals: 1 to 8, 11, 16 to 18, 20 and 21.
-pub fn own_messages(encoded: &[u8], route: Route, processor: u32) -> Result<Vec<OwnRow>, Refusal> {
-    let mut out = vec![0; ROW_WORDS * own_sizes(encoded, route, processor)?.messages];
-    own_messages_words(encoded, route, processor, &mut out)?;
-    let row = |words: &[u32]| OwnRow {
+pub fn part_messages(encoded: &[u8], route: Route, processor: u32) -> Result<Vec<PartRow>, Refusal> {
+    let mut out = vec![0; ROW_WORDS * part_sizes(encoded, route, processor)?.messages as usize];
+    part_messages_words(encoded, route, processor, &mut out)?;
+    let row = |words: &[u32]| PartRow {
         message: words[0],
         line: Message {
             sending_tile: words[1],
@@ -90,11 +80,11 @@ pub fn own_messages(encoded: &[u8], route: Route, processor: u32) -> Result<Vec<
     Ok(out.chunks_exact(ROW_WORDS).map(row).collect())
 }
 
-/// The words that a source of all cells has at the cells of a processor's tiles: what [`own_turn`] is lent.
+/// The words that a source of all cells has at the cells of a processor's tiles: what [`part_turn`] is lent.
 ///
 /// Refusals: 1 to 9, 11, 16 to 18 and 20.
-pub fn own_source(encoded: &[u8], source: &[u32], processor: u32) -> Result<Vec<u32>, Refusal> {
-    own_sizes(encoded, Route::Direct, processor)?;
+pub fn part_source(encoded: &[u8], source: &[u32], processor: u32) -> Result<Vec<u32>, Refusal> {
+    part_sizes(encoded, Route::Direct, processor)?;
     let owners = owners(encoded)?;
     if owners.len() != source.len() {
         return Err(Refusal::Area);
@@ -108,14 +98,14 @@ pub fn own_source(encoded: &[u8], source: &[u32], processor: u32) -> Result<Vec<
 /// the grid that all have collected into is that of the sequential sweep.
 ///
 /// ```
-/// use rolwyddac::{own_source, Fields, OwnBoard, Refusal, Route};
+/// use rolwyddac::{part_source, Fields, PartBoard, Refusal, Route};
 ///
 /// # fn main() -> Result<(), Refusal> {
 /// // a line of four cells in tiles of two on two processors; each cell adds the one before it
 /// let recipe = Fields::new().dimension(4, 2, 2).dimension(1, 1, 0).distance(&[1, 0], 1).close(0, 0)?;
-/// let source = [0, 1].map(|processor| own_source(&recipe, &[1; 4], processor).unwrap());
-/// let mut first = OwnBoard::start(&recipe, Route::Direct, &source[0], 0)?;
-/// let mut second = OwnBoard::start(&recipe, Route::Direct, &source[1], 1)?;
+/// let source = [0, 1].map(|processor| part_source(&recipe, &[1; 4], processor).unwrap());
+/// let mut first = PartBoard::start(&recipe, Route::Direct, &source[0], 0)?;
+/// let mut second = PartBoard::start(&recipe, Route::Direct, &source[1], 1)?;
 /// while first.turn().is_ok() {}
 /// assert_eq!(second.turn(), Err(Refusal::Waiting));
 /// let (taker, words) = first.post(0)?;
@@ -130,37 +120,37 @@ pub fn own_source(encoded: &[u8], source: &[u32], processor: u32) -> Result<Vec<
 /// # }
 /// ```
 #[derive(Clone, Debug)]
-pub struct OwnBoard<'a> {
+pub struct PartBoard<'a> {
     encoded: &'a [u8],
     route: Route,
     source: &'a [u32],
     processor: u32,
-    rows: Vec<OwnRow>,
-    areas: OwnAreas,
+    rows: Vec<PartRow>,
+    areas: PartAreas,
 }
 
-impl<'a> OwnBoard<'a> {
-    /// Sizes the areas and makes a fresh start. The source has a word for each cell of the processor's tiles ([`own_source`]).
+impl<'a> PartBoard<'a> {
+    /// Sizes the areas and makes a fresh start. The source has a word for each cell of the processor's tiles ([`part_source`]).
     ///
     /// Refusals: 1 to 9, 11, 16 to 18, 20 and 21.
-    pub fn start(encoded: &'a [u8], route: Route, source: &'a [u32], processor: u32) -> Result<OwnBoard<'a>, Refusal> {
-        let sizes = own_sizes(encoded, route, processor)?;
-        if source.len() != sizes.source {
+    pub fn start(encoded: &'a [u8], route: Route, source: &'a [u32], processor: u32) -> Result<PartBoard<'a>, Refusal> {
+        let sizes = part_sizes(encoded, route, processor)?;
+        if source.len() != sizes.source as usize {
             return Err(Refusal::Area);
         }
-        let mut areas = OwnAreas::sized(&sizes);
-        let OwnAreas { memory, mail, progress, marks } = &mut areas;
-        own_fresh(encoded, route, memory, mail, progress, marks, processor)?;
-        Ok(OwnBoard { encoded, route, source, processor, rows: own_messages(encoded, route, processor)?, areas })
+        let mut areas = PartAreas::sized(&sizes);
+        let PartAreas { memory, mail, progress, marks } = &mut areas;
+        part_fresh(encoded, route, memory, mail, progress, marks, processor)?;
+        Ok(PartBoard { encoded, route, source, processor, rows: part_messages(encoded, route, processor)?, areas })
     }
 
     /// The areas as the last call left them.
-    pub fn areas(&self) -> &OwnAreas {
+    pub fn areas(&self) -> &PartAreas {
         &self.areas
     }
 
     /// The messages that the processor handles, in the order of their numbers.
-    pub fn rows(&self) -> &[OwnRow] {
+    pub fn rows(&self) -> &[PartRow] {
         &self.rows
     }
 
@@ -168,18 +158,18 @@ impl<'a> OwnBoard<'a> {
     ///
     /// Refusals: 12 and 13.
     pub fn turn(&mut self) -> Result<(), Refusal> {
-        let OwnAreas { memory, mail, progress, marks } = &mut self.areas;
-        own_turn(self.encoded, self.route, self.source, memory, mail, progress, marks, self.processor)
+        let PartAreas { memory, mail, progress, marks } = &mut self.areas;
+        part_turn(self.encoded, self.route, self.source, memory, mail, progress, marks, self.processor)
     }
 
-    fn marked(&self) -> impl Iterator<Item = (&OwnRow, u8)> {
+    fn marked(&self) -> impl Iterator<Item = (&PartRow, u8)> {
         self.rows.iter().zip(self.areas.marks.iter().copied())
     }
 
     /// The first tile of the processor that has a message still to come, and the messages that it then waits for: where a turn was
     /// refused with 12 it stands at this tile. None where all have come.
     pub fn awaited(&self) -> Option<Awaited> {
-        let missing = |&(row, mark): &(&OwnRow, u8)| row.line.taking_processor == self.processor && mark == UNSENT;
+        let missing = |&(row, mark): &(&PartRow, u8)| row.line.taking_processor == self.processor && mark == UNSENT;
         let tile = self.marked().filter(missing).map(|(row, _)| row.line.taking_tile).min()?;
         let at_tile = self.marked().filter(missing).filter(|(row, _)| row.line.taking_tile == tile);
         Some(Awaited { tile, messages: at_tile.map(|(row, _)| row.message).collect() })
@@ -194,10 +184,10 @@ impl<'a> OwnBoard<'a> {
     ///
     /// Refusals: 11 and 14.
     pub fn post(&mut self, message: u32) -> Result<(u32, Vec<u32>), Refusal> {
-        let OwnAreas { memory, mail, progress, marks } = &mut self.areas;
-        own_post(self.encoded, self.route, memory, mail, progress, marks, self.processor, message)?;
+        let PartAreas { memory, mail, progress, marks } = &mut self.areas;
+        part_post(self.encoded, self.route, memory, mail, progress, marks, self.processor, message)?;
         let posted = self.rows.iter().find(|row| row.message == message);
-        let &OwnRow { line, place, .. } = posted.expect("a message that has a mark here is handled here");
+        let &PartRow { line, place, .. } = posted.expect("a message that has a mark here is handled here");
         let start = place as usize;
         Ok((line.taking_processor, self.areas.mail[start..start + line.words as usize].to_vec()))
     }
@@ -206,15 +196,15 @@ impl<'a> OwnBoard<'a> {
     ///
     /// Refusals: 9, 11 and 14.
     pub fn arrive(&mut self, message: u32, words: &[u32]) -> Result<(), Refusal> {
-        let OwnAreas { memory, mail, progress, marks } = &mut self.areas;
-        own_arrive(self.encoded, self.route, memory, mail, progress, marks, self.processor, message, words)
+        let PartAreas { memory, mail, progress, marks } = &mut self.areas;
+        part_arrive(self.encoded, self.route, memory, mail, progress, marks, self.processor, message, words)
     }
 
     /// Puts the processor's part into a grid of all cells, once it has finished; words of other processors' cells are as before.
     ///
     /// Refusals: 9 and 15.
     pub fn collect(&self, grid: &mut [u32]) -> Result<(), Refusal> {
-        let OwnAreas { memory, progress, .. } = &self.areas;
-        own_collect(self.encoded, self.route, memory, progress, self.processor, grid)
+        let PartAreas { memory, progress, .. } = &self.areas;
+        part_collect(self.encoded, self.route, memory, progress, self.processor, grid)
     }
 }

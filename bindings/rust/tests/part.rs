@@ -1,8 +1,8 @@
 //! Processors with memory for their own parts alone: the seven calls on row D, and whole runs in drawn orders whose grid is the sweep.
 
 use rolwyddac::{
-    own_collect, own_messages, own_messages_words, own_sizes, own_sizes_words, own_source, own_turn, summary, sweep,
-    Awaited, Fields, OwnBoard, OwnRow, OwnSizes, Progress, Recipe, Refusal,
+    part_collect, part_messages, part_messages_words, part_sizes, part_source, part_turn, summary, sweep, Awaited,
+    Fields, PartBoard, PartRow, PartSizes, Progress, Recipe, Refusal,
     Route::{self, Direct, Indirect},
 };
 
@@ -30,20 +30,20 @@ fn triangle() -> Recipe {
 #[test]
 fn row_d_step_by_step() {
     let recipe = row_d();
-    let sizes = [(0, 2), (1, 3)].map(|(b, memory)| (b, OwnSizes { source: 2, memory, mail: 1, messages: 1 }));
+    let sizes = [(0, 2), (1, 3)].map(|(b, memory)| (b, PartSizes { source: 2, memory, mail: 1, messages: 1 }));
     for (b, sizes) in sizes {
-        assert_eq!(own_sizes(&recipe, Direct, b), Ok(sizes));
-        let rows = own_messages(&recipe, Direct, b).unwrap();
+        assert_eq!(part_sizes(&recipe, Direct, b), Ok(sizes));
+        let rows = part_messages(&recipe, Direct, b).unwrap();
         let line = rolwyddac::message(&recipe, Direct, 0).unwrap();
-        assert_eq!(rows, [OwnRow { message: 0, line, place: 0 }]);
+        assert_eq!(rows, [PartRow { message: 0, line, place: 0 }]);
     }
     let source = [1, 2].map(|word| [word; 2]);
-    assert_eq!(own_source(&recipe, &[1, 1, 2, 2], 1).unwrap(), source[1]);
-    let mut first = OwnBoard::start(&recipe, Direct, &source[0], 0).unwrap();
-    let mut second = OwnBoard::start(&recipe, Direct, &source[1], 1).unwrap();
-    assert_eq!(OwnBoard::start(&recipe, Direct, &source[0], 2).unwrap_err(), Refusal::NoSuch);
-    assert_eq!(OwnBoard::start(&recipe, Direct, &[], 2).unwrap_err(), Refusal::NoSuch);
-    assert_eq!(OwnBoard::start(&recipe, Direct, &[], 1).unwrap_err(), Refusal::Area);
+    assert_eq!(part_source(&recipe, &[1, 1, 2, 2], 1).unwrap(), source[1]);
+    let mut first = PartBoard::start(&recipe, Direct, &source[0], 0).unwrap();
+    let mut second = PartBoard::start(&recipe, Direct, &source[1], 1).unwrap();
+    assert_eq!(PartBoard::start(&recipe, Direct, &source[0], 2).unwrap_err(), Refusal::NoSuch);
+    assert_eq!(PartBoard::start(&recipe, Direct, &[], 2).unwrap_err(), Refusal::NoSuch);
+    assert_eq!(PartBoard::start(&recipe, Direct, &[], 1).unwrap_err(), Refusal::Area);
     assert_eq!((second.turn(), first.post(0)), (Err(Refusal::Waiting), Err(Refusal::NoMail)));
     assert_eq!(second.awaited(), Some(Awaited { tile: 1, messages: vec![0] }));
     let mut grid = [8; 4];
@@ -72,10 +72,12 @@ fn lengths_behind_the_processor() {
     for length in [0, 3, 5, 6, 8] {
         let mut out = vec![8; length];
         for (processor, refusal) in [(0, Refusal::Area), (2, Refusal::NoSuch), (u32::MAX, Refusal::NoSuch)] {
-            assert_eq!(own_sizes_words(&recipe, Direct, processor, &mut out), Err(refusal));
-            assert_eq!(own_messages_words(&recipe, Direct, processor, &mut out), Err(refusal));
+            assert_eq!(part_messages_words(&recipe, Direct, processor, &mut out), Err(refusal));
         }
         assert_eq!(out, vec![8; length]);
+    }
+    for processor in [2, u32::MAX] {
+        assert_eq!(part_sizes(&recipe, Direct, processor), Err(Refusal::NoSuch));
     }
     // of the first processor: source, memory, mail, records, marks
     for lengths in
@@ -86,15 +88,15 @@ fn lengths_behind_the_processor() {
         let mut progress = vec![Progress { finished: 7, stage: 7, sent: 7 }; records];
         for (processor, refusal) in [(0, Refusal::Area), (2, Refusal::NoSuch)] {
             let asked =
-                own_turn(&recipe, Direct, &source, &mut memory, &mut mail, &mut progress, &mut marks, processor);
+                part_turn(&recipe, Direct, &source, &mut memory, &mut mail, &mut progress, &mut marks, processor);
             assert_eq!(asked, Err(refusal));
         }
         assert_eq!((memory, mail, marks), (vec![8; kept], vec![8; sent], vec![9; bytes]));
         assert_eq!(progress, vec![Progress { finished: 7, stage: 7, sent: 7 }; records]);
     }
     let (memory, progress, mut grid) = ([8; 2], [Progress::default()], [8; 5]);
-    assert_eq!(own_collect(&recipe, Direct, &memory, &progress, 0, &mut grid), Err(Refusal::Area));
-    assert_eq!(own_collect(&recipe, Direct, &memory, &progress, 2, &mut grid), Err(Refusal::NoSuch));
+    assert_eq!(part_collect(&recipe, Direct, &memory, &progress, 0, &mut grid), Err(Refusal::Area));
+    assert_eq!(part_collect(&recipe, Direct, &memory, &progress, 2, &mut grid), Err(Refusal::NoSuch));
     assert_eq!(grid, [8; 5]);
 }
 
@@ -113,9 +115,9 @@ fn run_in_any_order(recipe: &Recipe, route: Route, seed: u64) {
     let (plan, mut draw) = (summary(recipe, route).unwrap(), Draw(seed));
     let source: Vec<u32> = (0..plan.cells).map(|_| draw.below(1 << 31) as u32).collect();
     let processors = 0..plan.processors as u32;
-    let parts: Vec<Vec<u32>> = processors.clone().map(|b| own_source(recipe, &source, b).unwrap()).collect();
-    let start = |b: u32| OwnBoard::start(recipe, route, &parts[b as usize], b).unwrap();
-    let mut boards: Vec<OwnBoard> = processors.map(start).collect();
+    let parts: Vec<Vec<u32>> = processors.clone().map(|b| part_source(recipe, &source, b).unwrap()).collect();
+    let start = |b: u32| PartBoard::start(recipe, route, &parts[b as usize], b).unwrap();
+    let mut boards: Vec<PartBoard> = processors.map(start).collect();
     let (mut mail, mut steps, mut again) = (Vec::<(usize, u32, Vec<u32>)>::new(), 0, 0);
     while steps < plan.steps {
         let board = draw.below(boards.len());
@@ -167,8 +169,8 @@ fn whole_runs() {
 #[test]
 fn without_tiles() {
     let recipe = idle();
-    assert_eq!(own_sizes(&recipe, Direct, 3), Ok(OwnSizes { source: 0, memory: 0, mail: 0, messages: 0 }));
-    let mut board = OwnBoard::start(&recipe, Direct, &[], 3).unwrap();
+    assert_eq!(part_sizes(&recipe, Direct, 3), Ok(PartSizes { source: 0, memory: 0, mail: 0, messages: 0 }));
+    let mut board = PartBoard::start(&recipe, Direct, &[], 3).unwrap();
     assert_eq!((board.turn(), board.post(0), board.awaited()), (Err(Refusal::Finished), Err(Refusal::NoMail), None));
     let mut grid = [8; 12];
     assert_eq!((board.collect(&mut grid), grid), (Ok(()), [8; 12]));
@@ -177,12 +179,12 @@ fn without_tiles() {
 #[test]
 fn outside_the_shape() {
     let recipe = triangle();
-    assert_eq!(own_sizes(&recipe, Indirect, 0), Err(Refusal::DirectOnly));
+    assert_eq!(part_sizes(&recipe, Indirect, 0), Err(Refusal::DirectOnly));
     // the last processor has the tile in the corner alone: three cells of it are inside
-    let board = own_sizes(&recipe, Direct, 2).unwrap();
+    let board = part_sizes(&recipe, Direct, 2).unwrap();
     let progress = [Progress { finished: 1, ..Progress::default() }];
-    let (memory, mut grid) = (vec![4; board.memory], [8; 36]);
-    own_collect(&recipe, Direct, &memory, &progress, 2, &mut grid).unwrap();
+    let (memory, mut grid) = (vec![4; board.memory as usize], [8; 36]);
+    part_collect(&recipe, Direct, &memory, &progress, 2, &mut grid).unwrap();
     let place = |c: usize| (c / 6, c % 6);
     for (c, word) in grid.into_iter().enumerate() {
         let (i, j) = place(c);
