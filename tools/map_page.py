@@ -3,8 +3,8 @@
     python3 tools/map_page.py
 
 Every crate of crates.txt has one row and stands in the drawing of the layers; rows stand in the order of crates.txt. The table of exported calls has
-those of crates/calls. Of all pages below: sentences, columns, and each path that they name. Planted faults must be told. Status 1 where anything
-is wrong.
+those of crates/calls. Every file of specs/ that says "Read this" is in the tables of what to read, and every file there exists. Of all pages below:
+sentences, columns, and each path that they name. Planted faults must be told. Status 1 where anything is wrong.
 """
 
 import glob
@@ -55,16 +55,47 @@ def unlike(text):
     return wrong
 
 
+def to_read(text):
+    """The files of the tables of what to read, and the words there that name none: a folder names all its files, a name without one is
+    beside the file before it."""
+    found, gone, at = set(), [], None
+    for cell in re.findall(r'^\| ([^|]*) \|', part(text, '\n## What to read', '\n### The chain'), flags=re.M):
+        for word in re.findall(r'`([\w/.]+)`', cell):
+            path = os.path.join(readme_words.ROOT, word if word.startswith('crates/') or at is None else at + '/' + word)
+            files = glob.glob(path + '/**/*.antt', recursive=True) if os.path.isdir(path) else [path + '.antt'] if os.path.exists(path + '.antt') else []
+            found |= set(files)
+            if word.startswith('crates/'):
+                at = word if os.path.isdir(path) else os.path.dirname(word)
+            if not files and not path.endswith('/src') and not os.path.exists(path):
+                gone.append(word)
+    return found, gone
+
+
+def unread(text):
+    """What a reader is told to read and does not find here, and what is not there."""
+    found, gone = to_read(text)
+    wrong = ['%s: there is no %s to read' % (MAP, word) for word in gone]
+    for path in sorted(glob.glob(os.path.join(readme_words.ROOT, 'crates/*/specs/**/*.antt'), recursive=True)):
+        with open(path, encoding='utf-8') as file:
+            if 'Read this' in file.readline() and path not in found:
+                wrong.append('%s: does not name %s, which is to be read' % (MAP, os.path.relpath(path, readme_words.ROOT)))
+    return wrong
+
+
 def planted():
     text = readme_words.page(MAP)
     faults = [('| `rank_index` |', '| `rank_indices` |'), ('rank_index part part_calls', 'part part_calls'), ('`take_in` | a transport', '`took_in` | a transport'),
               ('%d crates' % len(crates()), 'some crates')]
-    return ['planted fault was not told: %s' % new for old, new in faults
-            if old not in text or len(set(unlike(text.replace(old, new))) - set(unlike(text))) == 0]
+    told = ['planted fault was not told: %s' % new for old, new in faults
+            if old not in text or not set(unlike(text.replace(old, new))) - set(unlike(text))]
+    for old, new in (('`Places` |', '`Places`, `Nowhere` |'), ('`crates/nest/specs/Recipes` |', '`crates/nest/specs/Nest` |')):
+        if old not in text or not set(unread(text.replace(old, new))) - set(unread(text)):
+            told.append('planted fault was not told: %s' % new)
+    return told
 
 
 def main():
-    wrong = unlike(readme_words.page(MAP)) + planted()
+    wrong = unlike(readme_words.page(MAP)) + unread(readme_words.page(MAP)) + planted()
     for name in PAGES:
         text = readme_words.page(name)
         wrong += readme_words.lengthy(name, text) + readme_words.missing(name, text) + readme_words.wide(name, text)
