@@ -4,3 +4,6 @@ pub mod Waiting
 pub mod Answers
 pub mod Holds
 pub mod MailRows
+pub mod TakeInRows
+pub mod AwaitedRows
+pub mod Witnesses

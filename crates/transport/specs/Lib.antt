@@ -3,3 +3,5 @@ pub mod Given
 pub mod Holds
 pub mod MailRows
 pub mod arrivals
+pub mod TakeInRows
+pub mod AwaitedRows
