@@ -158,6 +158,10 @@ module _ (p : Plan) (so : Sound p) (source : List ℕ) (s : State) (areas : Area
           rw (replaced-same areas (senderAt p m) (marked (areas (senderAt p m)) m) (senderAt p m) refl)
           (status-two p (senderAt p m) (areas (senderAt p m)) m lo (at-sender .shape))
 
+      off-other : (c : ℕ) → c ≢ senderAt p m → statusOf (sentOff p areas m c) m ≡ statusOf (areas c) m
+      unfolding sentOff
+      off-other c n = ap (λ (r : State). statusOf r m) (replaced-other areas (senderAt p m) (marked (areas (senderAt p m)) m) c n)
+
       shared-two : statusOf (marked s m) m ≡ 2
       shared-two = status-two p 0 s m lo (inv .shape)
 
@@ -185,7 +189,7 @@ module _ (p : Plan) (so : Sound p) (source : List ℕ) (s : State) (areas : Area
               (mark-shared p (takerAt p m) (received p (sentOff p areas m (takerAt p m)) m words) m lo s new (inv .shape))
               (letter-both p (takerAt p m) m _ _ _ _ (omega (arith, two)) (shared-two ∙ sym two)
               (words-there p (sentOff p areas m (takerAt p m) .buffer) m words (ag .shape .buffer) lo words-length ∙ words-same)
-              (λ i n k. absurd (omega (arith, shared-two))) none-posted none-off))
+              (λ i n k. absurd (omega (arith, shared-two))) none-posted none-off (λ i o. omega (arith, two))))
           go (no n) d =
               rw (replaced-other (sentOff p areas m) (takerAt p m) (received p (sentOff p areas m (takerAt p m)) m words) c n)
               (whole p c (sentOff p areas m c) m (marked s m) (mark-shared p c (sentOff p areas m c) m lo s (off c low) (inv .shape)) (letter d))
@@ -197,7 +201,9 @@ module _ (p : Plan) (so : Sound p) (source : List ℕ) (s : State) (areas : Area
                   let two : statusOf (sentOff p areas m c) m ≡ 2 = rw e off-two in
                   letter-gone p c m _ _ _ _ (omega arith) (λ i. n (sym i)) (λ k. absurd (omega (arith, shared-two))) (λ k. omega arith)
                   (λ i. words-kept c e) none-posted
-              letter (no q) = letter-none p c m _ _ _ _ (off c low .high m lo) (λ i. n (sym i)) (λ i. q (sym i)) none-posted
+              letter (no q) =
+                  letter-none p c m _ _ _ _ (off c low .high m lo) (λ i. n (sym i)) (λ i. q (sym i)) none-posted
+                  (λ o. each c low .letters m lo none .only-own (λ i. q (sym i)) (sym (off-other c q) ∙ o))
 
   -- ---- the number
   lines-law : (f l x y : Bool) → f ≡ true → y ≡ x

@@ -1,10 +1,10 @@
 -- What one message is at one processor: its status and words there (y, vs) beside its status and words on shared areas (x, ws).
 use Prim.Native.Nat.{ℕ, _+_, _≤_, _<_}
-use mathlib.Core.Path.{_≡_, refl, sym, ap, _∙_}
+use mathlib.Core.Path.{_≡_, refl, sym, ap, _∙_, fun-ext}
 use mathlib.Core.Logic.{_⊎_, inl, inr, _≢_}
 use mathlib.Core.List.{List, [], _∷_}
 use native.Mathlib.Omega.{arith}
-use native.Mathlib.Decide.{decLt}
+use native.Mathlib.Decide.{decLt, ℕ-discrete}
 use lib.ListN.{length, getD}
 use lib.Dec.{eqb}
 use borrow.Author.Tests.{eqb-true, eq-eqb, ne-eqb}
@@ -16,7 +16,8 @@ use Rattle.machine.specs.Machine.{State, placeOf}
 use Rattle.machine.proofs.Values.{offset-apart}
 use Rattle.network.specs.Apart.{Areas, replaced, senderAt, takerAt}
 
--- at the taker's it is 2 exactly when it is 2 shared, and then the words agree; at the sender's 1 when 1 shared, unless it is one of Q, which were posted
+-- at the taker's it is 2 exactly when it is 2 shared, and then the words agree; at the sender's 1 when 1 shared, unless it is one of Q, which were posted;
+-- and 1 nowhere else
 pub record Letter (Q : ℕ → Type 0) (p : Plan) (b m x y : ℕ) (ws vs : List ℕ) : Type 0 where
   pub high : y ≤ 3
   pub due-two : takerAt p m ≡ b → y ≡ 2 → x ≡ 2
@@ -29,12 +30,13 @@ pub record Letter (Q : ℕ → Type 0) (p : Plan) (b m x y : ℕ) (ws vs : List 
   pub own-words : senderAt p m ≡ b → 1 ≤ x → vs ≡ ws
   pub posted-sent : Q m → 1 ≤ x
   pub posted-off : senderAt p m ≡ b → Q m → y ≢ 1
+  pub only-own : senderAt p m ≢ b → y ≢ 1
 
 module _ {Q : ℕ → Type 0} (p : Plan) (b m : ℕ) where
   -- the same in both
   pub letter-both : (x y : ℕ) (ws vs : List ℕ) → y ≤ 3 → x ≡ y → vs ≡ ws → (takerAt p m ≡ b → senderAt p m ≢ b → x ≤ 1 → y ≡ 0)
-      → (Q m → 1 ≤ x) → (Q m → y ≢ 1) → Letter Q p b m x y ws vs
-  letter-both x y ws vs h e w z q o =
+      → (Q m → 1 ≤ x) → (Q m → y ≢ 1) → (senderAt p m ≢ b → y ≢ 1) → Letter Q p b m x y ws vs
+  letter-both x y ws vs h e w z q o n =
       record {
         high = h;
         due-two = λ i k. e ∙ k;
@@ -47,11 +49,12 @@ module _ {Q : ℕ → Type 0} (p : Plan) (b m : ℕ) where
         own-words = λ i k. w;
         posted-sent = q;
         posted-off = λ i k. o k;
+        only-own = n;
       }
 
   -- neither sent nor taken here
-  pub letter-none : (x y : ℕ) (ws vs : List ℕ) → y ≤ 3 → takerAt p m ≢ b → senderAt p m ≢ b → (Q m → 1 ≤ x) → Letter Q p b m x y ws vs
-  letter-none x y ws vs h nt ns q =
+  pub letter-none : (x y : ℕ) (ws vs : List ℕ) → y ≤ 3 → takerAt p m ≢ b → senderAt p m ≢ b → (Q m → 1 ≤ x) → y ≢ 1 → Letter Q p b m x y ws vs
+  letter-none x y ws vs h nt ns q ny =
       record {
         high = h;
         due-two = λ i k. absurd (nt i);
@@ -64,6 +67,7 @@ module _ {Q : ℕ → Type 0} (p : Plan) (b m : ℕ) where
         own-words = λ i k. absurd (ns i);
         posted-sent = q;
         posted-off = λ i k. absurd (ns i);
+        only-own = λ i. ny;
       }
 
   -- not taken here, and no longer in flight here
@@ -82,11 +86,13 @@ module _ {Q : ℕ → Type 0} (p : Plan) (b m : ℕ) where
         own-words = λ i k. w i;
         posted-sent = q;
         posted-off = λ i k. ny;
+        only-own = λ i. ny;
       }
 
   -- not sent here, and not yet delivered
-  pub letter-coming : (x y : ℕ) (ws vs : List ℕ) → y ≤ 3 → senderAt p m ≢ b → x ≤ 1 → (takerAt p m ≡ b → y ≡ 0) → (Q m → 1 ≤ x) → Letter Q p b m x y ws vs
-  letter-coming x y ws vs h ns nx ny q =
+  pub letter-coming : (x y : ℕ) (ws vs : List ℕ) → y ≤ 3 → senderAt p m ≢ b → x ≤ 1 → (takerAt p m ≡ b → y ≡ 0) → (Q m → 1 ≤ x) → y ≢ 1
+      → Letter Q p b m x y ws vs
+  letter-coming x y ws vs h ns nx ny q off =
       record {
         high = h;
         due-two = λ i k. absurd (omega (arith, ny i));
@@ -99,6 +105,7 @@ module _ {Q : ℕ → Type 0} (p : Plan) (b m : ℕ) where
         own-words = λ i k. absurd (ns i);
         posted-sent = q;
         posted-off = λ i k. absurd (ns i);
+        only-own = λ i. off;
       }
 
   pub letter-is : {x y x′ y′ : ℕ} {ws vs ws′ vs′ : List ℕ} → x′ ≡ x → y′ ≡ y → ws′ ≡ ws → vs′ ≡ vs → Letter Q p b m x y ws vs → Letter Q p b m x′ y′ ws′ vs′
@@ -119,13 +126,14 @@ module _ {Q : ℕ → Type 0} (p : Plan) (b m : ℕ) where
         own-words = λ i k. l .own-words i (omega arith);
         posted-sent = λ k. omega arith;
         posted-off = l .posted-off;
+        only-own = l .only-own;
       }
 
   -- sent elsewhere: shared 0 becomes 1
   pub letter-sent : {x y : ℕ} {ws vs : List ℕ} (x′ : ℕ) (ws′ : List ℕ) → Letter Q p b m x y ws vs → senderAt p m ≢ b → x ≤ 1 → x′ ≡ 1
       → Letter Q p b m x′ y ws′ vs
   letter-sent {x} {y} {ws} {vs} x′ ws′ l ns h e′ =
-      letter-coming x′ y ws′ vs (l .high) ns (omega arith) (λ i. l .due-none i ns h) (λ k. omega arith)
+      letter-coming x′ y ws′ vs (l .high) ns (omega arith) (λ i. l .due-none i ns h) (λ k. omega arith) (l .only-own ns)
 
 -- ---- the processors' areas, one of them replaced
 module _ (areas : Areas) (b : ℕ) (s : State) where
@@ -136,6 +144,14 @@ module _ (areas : Areas) (b : ℕ) (s : State) where
   pub replaced-other : (c : ℕ) → c ≢ b → replaced areas b s c ≡ areas c
   unfolding replaced
   replaced-other c n = pick-false _ _ _ (ne-eqb c b n)
+
+-- one put back as it was
+pub replaced-own : (areas : Areas) (b : ℕ) → replaced areas b (areas b) ≡ areas
+replaced-own areas b = fun-ext (λ c. go c (ℕ-discrete c b))
+  where
+    go : (c : ℕ) → Dec (c ≡ b) → replaced areas b (areas b) c ≡ areas c
+    go c (yes e) = replaced-same areas b (areas b) c e ∙ ap areas (sym e)
+    go c (no n) = replaced-other areas b (areas b) c n
 
 -- ---- the words of a message put into a buffer
 module _ (p : Plan) (buffer : List ℕ) (m : ℕ) (ws : List ℕ) (len : length buffer ≡ words p) (lo : m < count p) (e : length ws ≡ length (heldBy p m)) where

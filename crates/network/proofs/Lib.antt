@@ -13,6 +13,9 @@ pub mod Posting
 pub mod Network
 pub mod PacketTheorem
 pub mod Brought
+pub mod Posts
+pub mod OnBoards
+pub mod Collected
 pub mod Locality
 pub mod Fine
 pub mod Own
@@ -20,4 +23,3 @@ pub mod OwnRuns
 pub mod NotLocal
 pub mod Example
 pub mod Witnesses
-pub mod ComputedBrought

@@ -126,7 +126,7 @@ pub record Stepped (p : Plan) (source : List ℕ) (s : State) (n : Network) (ms 
 
 -- one packet more
 module _ (packets : List Packet) (x : Packet) where
-  has-more : (k : ℕ) → Has packets k → Has (packets ++ (x ∷ [])) k
+  pub has-more : (k : ℕ) → Has packets k → Has (packets ++ (x ∷ [])) k
   has-more k h =
       record {
         at = h .at;

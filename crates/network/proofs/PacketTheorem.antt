@@ -96,7 +96,7 @@ module _ (p : Plan) (source : List ℕ) (s : State) (n : Network) (fo : Follows 
       (λ k h. not-false (ne-eqb _ _ (fo .right k h .away)))
       (fo .once)
 
-mailed-all : (p : Plan) → mailed p ≤ count p
+pub mailed-all : (p : Plan) → mailed p ≤ count p
 unfolding mailed
 mailed-all p = keep-few _ (count p)
 

@@ -45,6 +45,7 @@ more {Q} {R} P p s b r f g ag =
           own-words = l .own-words;
           posted-sent = λ k. l .posted-sent (g m lo z k);
           posted-off = λ i k. l .posted-off i (g m lo z k);
+          only-own = l .only-own;
         }
       where
         either : (statusOf r m ≡ 1) ⊎ Q m → (statusOf r m ≡ 1) ⊎ R m
@@ -97,11 +98,12 @@ module _ {Q : ℕ → Type 0} (p : Plan) (so : Sound p) (source : List ℕ) (s :
             (mark-shared p from (marked (areas from) m) m lo s (mark-own p from (areas from) m lo s (but p from (areas from) m s (each from sender-at)))
             (inv .shape))
             (letter-both p from m _ _ _ _ (omega (arith, own-two)) (shared-two ∙ sym own-two) own-words (λ i n k. absurd (n refl))
-            (λ k. omega (arith, shared-two)) (λ k o. omega (arith, own-two))))
+            (λ k. omega (arith, shared-two)) (λ k o. omega (arith, own-two)) (λ i o. omega (arith, own-two))))
         go (no n) =
             rw (replaced-other areas from (marked (areas from) m) c n)
             (whole p c (areas c) m (marked s m) (mark-shared p c (areas c) m lo s (but p c (areas c) m s (each c low)) (inv .shape))
-            (letter-none p c m _ _ _ _ (each c low .high m lo) (λ i. n (sym i ∙ sym home)) (λ i. n (sym i)) (λ k. omega (arith, shared-two))))
+            (letter-none p c m _ _ _ _ (each c low .high m lo) (λ i. n (sym i ∙ sym home)) (λ i. n (sym i)) (λ k. omega (arith, shared-two))
+            (each c low .letters m lo none .only-own (λ i. n (sym i)))))
 
     -- it goes to another: nothing happens on shared areas, but it is posted from now on
     pub post-away : {R : ℕ → Type 0} → ((k : ℕ) → Q k → R k) → ((k : ℕ) → k ≢ m → R k → Q k) → R m → from ≢ takerAt p m
@@ -139,6 +141,7 @@ module _ {Q : ℕ → Type 0} (p : Plan) (so : Sound p) (source : List ℕ) (s :
                   own-words = was .own-words;
                   posted-sent = λ k. omega (arith, in-flight y);
                   posted-off = λ i k. absurd (n (sym i));
+                  only-own = was .only-own;
                 }
 
   -- ---- arriving: the words put at the taker's, once only
@@ -191,7 +194,7 @@ module _ {Q : ℕ → Type 0} (p : Plan) (so : Sound p) (source : List ℕ) (s :
             (receive-own p to (areas to) m lo s (but p to (areas to) m s (each to taker-at)) ws words-length) (inv .shape))
             (letter-both p to m _ _ _ _ (omega (arith, two)) (shared-two ∙ sym two)
             (words-there p (areas to .buffer) m ws (each to taker-at .shape .buffer) lo words-length ∙ words-same)
-            (λ i n k. absurd (omega (arith, shared-two))) (λ k. omega (arith, shared-two)) (λ k o. omega (arith, two))))
+            (λ i n k. absurd (omega (arith, shared-two))) (λ k. omega (arith, shared-two)) (λ k o. omega (arith, two)) (λ i o. omega (arith, two))))
         go (no n) =
             rw (replaced-other areas to (received p (areas to) m ws) c n)
             (whole p c (areas c) m (marked s m) (mark-shared p c (areas c) m lo s (but p c (areas c) m s (each c low)) (inv .shape))
@@ -201,4 +204,6 @@ module _ {Q : ℕ → Type 0} (p : Plan) (so : Sound p) (source : List ℕ) (s :
             at (yes e) =
                 letter-gone p c m _ _ _ _ (each c low .high m lo) (λ i. n (sym i)) (λ k. has) (each c low .letters m lo none .posted-off (sym e) has)
                 (λ i. each c low .letters m lo none .own-words i sent) (λ k. omega (arith, shared-two))
-            at (no q) = letter-none p c m _ _ _ _ (each c low .high m lo) (λ i. n (sym i)) (λ i. q (sym i)) (λ k. omega (arith, shared-two))
+            at (no q) =
+                letter-none p c m _ _ _ _ (each c low .high m lo) (λ i. n (sym i)) (λ i. q (sym i)) (λ k. omega (arith, shared-two))
+                (each c low .letters m lo none .only-own (λ i. q (sym i)))

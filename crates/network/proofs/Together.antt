@@ -36,7 +36,7 @@ start-together p source no-one =
         memory = refl;
         recorded = record { finished = refl; stage = refl; sent = refl };
         letters = λ m lo z. letter-both p b m _ _ _ _ (omega (arith, status-fresh p m)) refl refl (λ i n k. status-fresh p m) (λ k. absurd (no-one m k))
-            (λ k. absurd (no-one m k));
+            (λ k. absurd (no-one m k)) (λ i k. omega (arith, status-fresh p m));
       };
     }
 

@@ -62,6 +62,7 @@ module _ (p : Plan) (so : Sound p) (source : List ℕ) (s : State) (b : ℕ) (in
           (ag .letters m lo none .due-words (due-here p source s b r inv ag h m (due-in m lo e) .1) (arrived m (due-in m lo e)))
           (λ i n k. absurd (omega (arith, taken-now s (inv .shape) m lo e)))
           (λ k. omega (arith, taken-now s (inv .shape) m lo e)) (λ k o. omega (arith, taken-now r (ag .shape) m lo e))
+          (λ i o. omega (arith, taken-now r (ag .shape) m lo e))
       gather-letter m lo (no n) = letter-is p b m (not-taken s m n) (not-taken r m n) refl refl (ag .letters m lo none)
 
       own-gather : Agrees Q Nothing p (carryOut p source s b (gather t)) b (carryOut p source r b (gather t))
@@ -185,7 +186,8 @@ module _ (p : Plan) (so : Sound p) (source : List ℕ) (s : State) (b : ℕ) (in
           (mailed-there r (ag .shape) ∙ packed-same ∙ sym (mailed-there s (inv .shape)))
           (λ i n k. absurd (n (ap (p .processorOf) from₀ ∙ here-is p s b h)))
           (λ k. omega (arith, status-one s (inv .shape)))
-          (λ k o. omega (arith, unsent p s b low (inv .shape) h g (inv .statuses), ag .letters m₀ lo₀ none .posted-sent k)))
+          (λ k o. omega (arith, unsent p s b low (inv .shape) h g (inv .statuses), ag .letters m₀ lo₀ none .posted-sent k))
+          (λ i. absurd (i (ap (p .processorOf) from₀ ∙ here-is p s b h))))
       send-letter m lo (no n) =
           letter-is p b m (status-rest s m n) (status-rest r m n) (mailed-other s (inv .shape) m lo n) (mailed-other r (ag .shape) m lo n)
           (ag .letters m lo none)

@@ -5,3 +5,4 @@ pub mod Locality
 pub mod Own
 pub mod OwnRuns
 pub mod Brought
+pub mod OnBoards

@@ -35,7 +35,7 @@ use Rattle.network.specs.Transport.{copied}
 use Rattle.network.specs.Packets.{Packet, Network, networkOf, packetAt, NetworkEvent, turnBy, postOf, arrivalOf, posted, post, arrivalLines, arrive}
 use Rattle.network.specs.Packets.{turnNetwork, actNetwork}
 use Rattle.network.specs.Locality.{Lent, SameSource, ReadsOwnWord}
-use Rattle.network.proofs.Letters.{replaced-same, replaced-other, words-fit}
+use Rattle.network.proofs.Letters.{replaced-same, replaced-other, replaced-own, words-fit}
 use Rattle.network.proofs.Transport.{both-parts, copied-both, carried-home, carried-third, deliver-goes, deliver-after, deliver-stays, same-number}
 use Rattle.network.proofs.Network.{some-answer, post-zero, post-some, arrive-zero, arrive-some, arrive-asks}
 use Rattle.network.proofs.Fine.{Fine, FineNetwork, fine-fit}
@@ -54,14 +54,7 @@ unfolding shapedValue value
 own-word Direct x source source′ memory c e = rw e refl
 own-word Indirect x source source′ memory c e = rw e refl
 
--- ---- areas, one of them put back or replaced
-replaced-own : (a : Areas) (b : ℕ) → replaced a b (a b) ≡ a
-replaced-own a b = fun-ext (λ c. go c (ℕ-discrete c b))
-  where
-    go : (c : ℕ) → Dec (c ≡ b) → replaced a b (a b) c ≡ a c
-    go c (yes e) = replaced-same a b (a b) c e ∙ ap a (sym e)
-    go c (no n) = replaced-other a b (a b) c n
-
+-- ---- answers on areas
 deliver-refused : (p : Plan) (r : State) (m : ℕ) → deliver p r m .number ≢ 0 → deliver p r m ≡ record { number = deliver p r m .number; after = r }
 unfolding deliver
 deliver-refused p r m n = some-answer _ _ _ n
@@ -165,7 +158,7 @@ module _ (bytes : List ℕ) (route : ℕ) (ok : firstOf (linesFor (routeOf route
       (own : (b : ℕ) → b < p .processors → SameSource p b (sources b) source) where
     module _ (a : Areas) (fine : Fine p a) where
       -- ---- a turn
-      turn-as : (b : ℕ) → b < p .processors → turnCall bytes route (sources b) (a b) b ≡ turn p source (a b) b
+      pub turn-as : (b : ℕ) → b < p .processors → turnCall bytes route (sources b) (a b) b ≡ turn p source (a b) b
       turn-as b h =
           turn-is bytes route (sources b) (a b) ok (shape-areas (sources b) (a b) (long b h) (fine .shape b h)) b
           ∙ source-same p (own-word (routeOf route) (nestOf bytes)) (sources b) source (a b) b (own b h)

@@ -54,14 +54,14 @@ module _ (bytes : List ℕ) (route : ℕ) (source : List ℕ) (sources : Sources
   abbrev p : Plan
   p = recipe bytes route
 
-  so : Sound p
+  pub so : Sound p
   so = sound (routeOf route) (nestOf bytes) (nest-of bytes route (bg .small) (bg .accepted))
 
-  long : (b : ℕ) → b < p .processors → length (sources b) ≡ p .cells
+  pub long : (b : ℕ) → b < p .processors → length (sources b) ≡ p .cells
   long b h = areas-are p (sources b) (lent b) (fresh-gave bytes route (sources b) (lent b) (bg .gave b h) .1) .source
 
   -- each fresh start is the machine's
-  start-is : (b : ℕ) → b < p .processors → startCalls bytes route sources lent b ≡ fresh p
+  pub start-is : (b : ℕ) → b < p .processors → startCalls bytes route sources lent b ≡ fresh p
   unfolding startCalls
   start-is b h = demands .one bytes route (sources b) (lent b) .fresh .works (bg .gave b h)
 
@@ -101,7 +101,7 @@ module _ (bytes : List ℕ) (route : ℕ) (source : List ℕ) (sources : Sources
 
 -- ---- which processors talk
 module _ (bytes : List ℕ) (route : ℕ) (small : Bytes bytes) (z : firstOf (linesFor (routeOf route) bytes) ≡ 0) where
-  away : (m : ℕ) → m < count (recipe bytes route) → senderAt (recipe bytes route) m ≢ takerAt (recipe bytes route) m
+  pub away : (m : ℕ) → m < count (recipe bytes route) → senderAt (recipe bytes route) m ≢ takerAt (recipe bytes route) m
   away = between.goes-away (nestOf bytes) (nest-of bytes route small z) (routeOf route)
 
   next : routeOf route ≡ Indirect → (m : ℕ) → m < count (recipe bytes route)

@@ -2,3 +2,4 @@ pub mod Neighbours
 pub mod AsNetwork
 pub mod Demands
 pub mod part
+pub mod Boards

@@ -1,3 +1,4 @@
 pub mod OnePart
+pub mod Collecting
 pub mod Steps
 pub mod Demands

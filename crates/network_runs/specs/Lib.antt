@@ -2,3 +2,4 @@ pub mod Calls
 pub mod Neighbours
 pub mod Demands
 pub mod part
+pub mod Boards

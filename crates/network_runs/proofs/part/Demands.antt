@@ -44,10 +44,10 @@ use Rattle.network_runs.specs.part.Demands.{BegunApart, ownAfter, stepsT
 use Rattle.network_runs.proofs.part.OnePart.{part-fits, fresh-gives, fresh-leaves, collect-on-part, own-word-in}
 use Rattle.network_runs.proofs.part.Steps.{Parts, Likened, event-likened}
 
-nest-of : (bytes : List ℕ) (route : ℕ) → Bytes bytes → firstOf (linesFor (routeOf route) bytes) ≡ 0 → Accepted (nestOf bytes)
+pub nest-of : (bytes : List ℕ) (route : ℕ) → Bytes bytes → firstOf (linesFor (routeOf route) bytes) ≡ 0 → Accepted (nestOf bytes)
 nest-of bytes route small z = accepted bytes small (reads-for (routeOf route) bytes z)
 
-some-processor : (bytes : List ℕ) (route : ℕ) → Bytes bytes → firstOf (linesFor (routeOf route) bytes) ≡ 0 → 1 ≤ recipe bytes route .processors
+pub some-processor : (bytes : List ℕ) (route : ℕ) → Bytes bytes → firstOf (linesFor (routeOf route) bytes) ≡ 0 → 1 ≤ recipe bytes route .processors
 unfolding processors
 some-processor bytes route small z = product-pos _ _ (nest-of bytes route small z .manned)
 
@@ -136,7 +136,7 @@ module _ (bytes : List ℕ) (route : ℕ) (source : List ℕ) (sources : OwnSour
   abbrev plan : Plan
   plan = recipe bytes route
 
-  so : Sound plan
+  pub so : Sound plan
   so = sound (routeOf route) (nestOf bytes) (nest-of bytes route (bg .small) (bg .accepted))
 
   reads-own : ReadsOwnWord plan

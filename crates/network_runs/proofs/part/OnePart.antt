@@ -1,29 +1,33 @@
 -- A call on the part of a processor's areas answers as the machine does on the areas, and leaves the part of what the machine leaves.
 use Prim.Native.Nat.{ℕ, _+_, _*_, _<_}
 use mathlib.Core.Path.{_≡_, refl, sym, ap, _∙_}
-use mathlib.Core.Logic.{inl, inr}
-use mathlib.Core.Bool.{true, false}
+use mathlib.Core.Logic.{_⊎_, inl, inr, _≢_}
+use mathlib.Core.Bool.{Bool, true, false}
 use mathlib.Core.List.{List, [], _∷_, _++_, append-assoc}
+use native.Mathlib.Omega.{arith}
 use native.Mathlib.Decide.{ℕ-discrete}
 use lib.ListN.{length, getD}
 use lib.Dec.{ltb, eqb}
-use borrow.Author.Tests.{lt-ltb, eq-eqb, ne-eqb}
+use borrow.Author.Tests.{lt-ltb, ltb-true, eqb-true, eq-eqb, ne-eqb}
 use Rattle.base.specs.Tests.{_and_, _or_, not}
 use Rattle.base.specs.Lists.{In, part, pack}
 use Rattle.base.specs.Numbers.{Line, line, firstOf}
-use Rattle.base.proofs.Tests.{both, and-true, or-right, not-true, pick-true, pick-false, every-at}
+use Rattle.base.proofs.Tests.{both, and-true, and-left, either, or-right, or-false, not-true, true-not, false-not, never-both, pick-true, pick-false, every-at}
 use Rattle.base.proofs.Select.{keep-in}
 use Rattle.base.proofs.Lists.{pack-length}
-use Rattle.base.proofs.Entries.{part-at}
-use Rattle.base.proofs.Numbers.{first-nil, first-false, first-behind}
+use Rattle.base.proofs.Entries.{part-at, unpack-other}
+use Rattle.base.proofs.Numbers.{first-nil, first-true, first-false, first-cons, first-behind, none-first}
 use Rattle.machine.specs.Plan.{Plan, Sound, count, heldBy, tilesOf}
 use Rattle.machine.specs.Machine.{State, memoryOf, placeOf, tilesLeft, fitRecord, fit, Answered, answered, turnLines, turn, fresh}
+use Rattle.machine.specs.Machine.{deliverLines, deliver}
+use Rattle.machine.proofs.Fresh.{status-fresh}
 use Rattle.layout.specs.Sizes.{routeOf}
 use Rattle.recipe.specs.Routes.{linesFor}
 use Rattle.recipe.proofs.Laws.{numbered-for}
 use Rattle.engine.specs.Calls.{recipe}
 use Rattle.network.specs.Apart.{senderAt, takerAt, marked, received}
 use Rattle.network.specs.Locality.{Lent, Keeps, SameTo, ReadsOwnWord}
+use Rattle.network.specs.Brought.{takeInLines, takeIn}
 use Rattle.network.specs.Own.{handles, ownCells, keptCells, handled, Own, narrowed, widened, sourceOf, turnOwn}
 use Rattle.network.proofs.Network.{zero-answer}
 use Rattle.network.proofs.Own.{narrowed-same, wide-same, wide-lent, wide-fit, own-turn}
@@ -218,3 +222,118 @@ module _ (bytes : List ℕ) (route : ℕ) (ok : firstOf (linesFor (routeOf route
       where
         fits : collectFits p b (narrow p b s) grid ≡ true
         fits = and-true (eq-eqb _ _ (memory-long p b low source s le)) (and-true (eq-eqb _ _ (record-long p b low source s le)) (eq-eqb _ _ long))
+
+-- ---- any message, whoever sends or takes it
+
+-- an answer seen through a part of what it leaves
+through : {A B : Type 0} (f : A → B) (n k : ℕ) (new old : A) (x y : B) → n ≡ k → (k ≡ 0 → x ≡ f new) → y ≡ f old
+    → answered n x y ≡ record { number = answered k new old .number; after = f (answered k new old .after) }
+through {A} {B} f n k new old x y e g h = rw e (go (ℕ-discrete k 0))
+  where
+    go : Dec (k ≡ 0) → answered k x y ≡ record { number = k; after = f (answered k new old .after) }
+    go (yes z) =
+        answer-is refl (pick-true _ x y (eq-eqb k 0 z) ∙ g z ∙ ap f (sym (pick-true _ new old (eq-eqb k 0 z))))
+    go (no q) =
+        answer-is refl (pick-false _ x y (ne-eqb k 0 q) ∙ h ∙ ap f (sym (pick-false _ new old (ne-eqb k 0 q))))
+
+-- lines behind one that is true don't count
+behind : (n : ℕ) (t : Bool) (xs ys : List Line) → (t ≡ false → firstOf xs ≡ firstOf ys) → firstOf (line n t ∷ xs) ≡ firstOf (line n t ∷ ys)
+behind n true xs ys e = first-true n true xs refl ∙ sym (first-true n true ys refl)
+behind n false xs ys e = first-cons n false xs ys (e refl)
+
+module _ (bytes : List ℕ) (route : ℕ) (ok : firstOf (linesFor (routeOf route) bytes) ≡ 0) (b : ℕ) (low : b < recipe bytes route .processors)
+    (source : List ℕ) (s : State) (le : Lent (recipe bytes route) source s) (f : fit (recipe bytes route) s ≡ true) where
+  abbrev p′ : Plan
+  p′ = recipe bytes route
+
+  abbrev wider : State
+  wider = again p′ b low source s le
+
+  -- ---- handed over: one in flight here is sent from here
+  module _ (m : ℕ) (only : m < count (recipe bytes route) → senderAt (recipe bytes route) m ≢ b → getD (s .status) m 0 ≢ 1) where
+    -- a mark that the part does not have is as at a fresh start
+    not-handled : senderAt p′ m ≢ b → takerAt p′ m ≢ b → getD (wider .status) m 0 ≡ 0
+    unfolding partOf lentOf narrowed widened handles
+    not-handled ns nt =
+        unpack-other (handled p′ b) _ (fresh p′ .status) m
+        (λ i. never-both (keep-in (handles p′ b) (count p′) m i .1) (or-false (ne-eqb _ _ ns) (ne-eqb _ _ nt)))
+        ∙ status-fresh p′ m
+
+    same-flight : m < count p′ → eqb (getD (wider .status) m 0) 1 ≡ eqb (getD (s .status) m 0) 1
+    same-flight lo = go (ℕ-discrete (senderAt p′ m) b) (ℕ-discrete (takerAt p′ m) b)
+      where
+        go : Dec (senderAt p′ m ≡ b) → Dec (takerAt p′ m ≡ b) → eqb (getD (wider .status) m 0) 1 ≡ eqb (getD (s .status) m 0) 1
+        go (yes e) d = ap (λ (x : ℕ). eqb x 1) (sym (same-again p′ b low source s le .marks m lo (inl e)))
+        go (no n) (yes e) = ap (λ (x : ℕ). eqb x 1) (sym (same-again p′ b low source s le .marks m lo (inr e)))
+        go (no n) (no k) = ap (λ (x : ℕ). eqb x 1) (not-handled n k) ∙ sym (ne-eqb _ 1 (only lo n))
+
+    post-lines : firstOf (boardLines bytes route b ++ (line 9 (not (partFits p′ b (narrow p′ b s))) ∷ deliverLines p′ wider m)) ≡ firstOf (deliverLines p′ s m)
+    post-lines =
+        past bytes route ok b low _ ∙ first-false 9 _ _ (not-true (part-fits p′ b low source s le))
+        ∙ first-false 10 _ _ (not-true (fit-again p′ b low source s le f))
+        ∙ behind 11 (not (ltb m (count p′))) _ _
+        (λ q. ap (λ (t : Bool). firstOf (line 14 (not t) ∷ [])) (same-flight (ltb-true _ _ (true-not q))))
+        ∙ sym (first-false 10 _ _ (not-true f))
+
+    asked : firstOf (deliverLines p′ s m) ≡ 0 → m < count p′
+    asked z =
+        let x = none-first 10 _ _ (λ q. omega arith) z in
+        let y = none-first 11 _ _ (λ q. omega arith) (x .1) in
+        ltb-true _ _ (true-not (y .0))
+
+    pub post-any : ownPostCall bytes route (narrow p′ b s) b m ≡ record { number = deliver p′ s m .number; after = narrow p′ b (deliver p′ s m .after) }
+    unfolding ownPostCall deliver
+    post-any =
+        through (narrow p′ b) _ _ (marked s m) s _ (narrow p′ b s) post-lines
+        (λ z. narrow-same p′ b low source s le _ _ (marked-same p′ source b s wider (beside p′ b low source s le) m (asked z)))
+        refl
+
+  -- ---- taken in
+  module _ (m : ℕ) (new : List ℕ) where
+    arrive-lines : firstOf (boardLines bytes route b
+        ++ (line 9 (not (partFits p′ b (narrow p′ b s) and asLong p′ m new))
+        ∷ line 10 (not (fit p′ wider)) ∷ line 11 (not (takes p′ b m)) ∷ line 14 (not (eqb (getD (wider .status) m 0) 0)) ∷ []))
+        ≡ firstOf (takeInLines p′ s b m new)
+    arrive-lines =
+        past bytes route ok b low _
+        ∙ ap (λ (t : Bool). firstOf (line 9 (not t)
+        ∷ line 10 (not (fit p′ wider)) ∷ line 11 (not (takes p′ b m)) ∷ line 14 (not (eqb (getD (wider .status) m 0) 0)) ∷ []))
+        (and-left _ (asLong p′ m new) (part-fits p′ b low source s le))
+        ∙ first-cons 9 _ _ _
+        (first-false 10 _ _ (not-true (fit-again p′ b low source s le f))
+        ∙ behind 11 (not (takes p′ b m)) _ _
+        (λ q. let t = both (true-not q) in
+        ap (λ (x : ℕ). firstOf (line 14 (not (eqb x 0)) ∷ []))
+        (sym (same-again p′ b low source s le .marks m (ltb-true _ _ (t .0)) (inr (eqb-true _ _ (t .1))))))
+        ∙ sym (first-false 10 _ _ (not-true f)))
+
+    taken-asked : firstOf (takeInLines p′ s b m new) ≡ 0 → (m < count p′) × (length new ≡ length (heldBy p′ m))
+    taken-asked z =
+        let x = none-first 9 _ _ (λ q. omega arith) z in
+        let y = none-first 10 _ _ (λ q. omega arith) (x .1) in
+        let w = none-first 11 _ _ (λ q. omega arith) (y .1) in
+        let lo = both (true-not (w .0)) .0 in
+        (ltb-true _ _ lo, long (either (true-not (x .0))) lo)
+      where
+        long : (not (ltb m (count p′)) ≡ true) ⊎ (eqb (length new) (length (heldBy p′ m)) ≡ true) → ltb m (count p′) ≡ true
+            → length new ≡ length (heldBy p′ m)
+        long (inl q) lo = absurd (never-both lo (false-not q))
+        long (inr q) lo = eqb-true _ _ q
+
+    pub arrive-any : ownArriveCall bytes route (narrow p′ b s) b m new
+        ≡ record { number = takeIn p′ s b m new .number; after = narrow p′ b (takeIn p′ s b m new .after) }
+    unfolding ownArriveCall takeIn
+    arrive-any =
+        through (narrow p′ b) _ _ (received p′ s m new) s _ (narrow p′ b s) arrive-lines
+        (λ z. let k = taken-asked z in
+        narrow-same p′ b low source s le _ _ (received-same p′ source b s wider (beside p′ b low source s le) m (k .0) new (k .1)))
+        refl
+
+  -- ---- collected: what it asks
+  pub collect-asks : (grid : List ℕ) → ownCollectCall bytes route (narrow p′ b s) b grid .number ≡ 0 → (length grid ≡ p′ .cells) × (tilesLeft p′ s b ≡ false)
+  unfolding ownCollectCall collectFits
+  collect-asks grid z =
+      let x = none-first 9 _ _ (λ q. omega arith) (sym (past bytes route ok b low _) ∙ z) in
+      let y = none-first 10 _ _ (λ q. omega arith) (x .1) in
+      let w = none-first 15 _ _ (λ q. omega arith) (y .1) in
+      (eqb-true _ _ (both (both (true-not (x .0)) .1) .1), sym (left-same p′ b low source s le) ∙ w .0)
