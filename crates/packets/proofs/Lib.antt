@@ -7,3 +7,6 @@ pub mod RoundTrip
 pub mod Bursts
 pub mod Laws
 pub mod Rows
+pub mod Assembling
+pub mod ChunkAnswers
+pub mod CutRows

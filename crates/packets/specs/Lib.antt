@@ -5,3 +5,5 @@ pub mod Bits
 pub mod Calls
 pub mod Laws
 pub mod Rows
+pub mod Cut
+pub mod CutRows

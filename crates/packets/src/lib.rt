@@ -11,6 +11,7 @@ ghost use Rattle.packets.specs.Fingerprint.{fingerprintOf};
 ghost use Rattle.packets.specs.Packet.{wordBytes, wordsBytes, headWords, wordAt, doubleAt, headerOf, unfit, damaged, stale};
 ghost use Rattle.packets.specs.Calls.{Put, noHeader, writtenOf, writeCall, readOf, readLines, readCall};
 
+pub mod chunks; // chunks.rt: a message in several packets
 pub mod hash; // hash.rt: FNV-1a
 pub mod table; // table.rt: CRC-32's register after bytes, by table
 
