@@ -5,6 +5,7 @@
 
 Only what stands between `<!-- NAME -->` and `<!-- end -->` is written: the call's parameters, comment and struct in bindings/c/rolwyddac.h, its
 numbers in the order in which they are tested, and the functions of bindings/rust and bindings/python that call it. Each call stands once.
+Between `<!-- FILE.c -->` and `<!-- end -->` stands the program of bindings/c, whole.
 """
 
 import ast
@@ -202,6 +203,14 @@ def index(page):
     return '<!-- index -->\n\n| section | calls, without their `%s` |\n|---|---|\n%s\n\n<!-- end -->' % (PREFIX, '\n'.join(rows))
 
 
+def program(found):
+    """A program of bindings/c, which fits the page."""
+    text = source('bindings/c/' + found[1])
+    if max(map(len, text.split('\n'))) > COLUMNS:
+        raise SystemExit('%s has lines of more than %d columns' % (found[1], COLUMNS))
+    return '<!-- %s -->\n\n```c\n%s```\n\n<!-- end -->' % (found[1], text)
+
+
 def filled(page, text):
     """The page with its parts made anew from the header."""
     calls, order = declared(text), order_of(text)
@@ -215,6 +224,7 @@ def filled(page, text):
         return '<!-- %s%s -->\n\n%s\n\n<!-- end -->' % (PREFIX, name, entry(name, *calls[name], order, python[name]))
 
     made = re.sub(r'<!-- %s(\w+) -->\n.*?<!-- end -->' % PREFIX, part, page, flags=re.S)
+    made = re.sub(r'<!-- (\w+\.c) -->\n.*?<!-- end -->', program, made, flags=re.S)
     return re.sub(r'<!-- index -->\n.*?<!-- end -->', lambda _: index(page), made, flags=re.S)
 
 

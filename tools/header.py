@@ -19,7 +19,7 @@ ROOT = os.path.join(os.path.dirname(os.path.abspath(__file__)), '..')
 HEADER = 'bindings/c/rolwyddac.h'
 CRATE = 'bindings/rust/src'
 REFUSALS = 'bindings/rust/src/refusal.rs'
-BESIDE = ['bindings/c/rolwyddac_library.h']
+BESIDE = ['bindings/c/rolwyddac_library.h', 'bindings/c/rolwyddac_run.h']
 PACKAGE = 'bindings/python/rolwyddac/calls.py'
 
 # what the crate's route is in the exported functions

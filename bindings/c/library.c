@@ -1,6 +1,6 @@
 /* What an installed library has beside the proved calls: version, texts, sizes. bindings/library writes numbers.inc from
  * the table of rolwyddac.h, so that a number has one text. */
-#include "rolwyddac.h"
+#include "rolwyddac_run.h"
 
 static const struct {
   uint32_t number;
@@ -8,6 +8,8 @@ static const struct {
 } table[] = {
     {0, "done", "done"},
 #include "numbers.inc"
+    {ROLWYDDAC_NO_MEMORY, "no memory", "there is not memory enough"},
+    {ROLWYDDAC_NO_SAVED_RUN, "no saved run", "bytes that are not a saved run of this recipe, route and source"},
 };
 
 const char *rolwyddac_version(void) { return ROLWYDDAC_VERSION; }
