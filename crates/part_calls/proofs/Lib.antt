@@ -1,4 +1,5 @@
 pub mod Answers
 pub mod OwnRows
+pub mod PartRows
 pub mod Collecting
 pub mod Rows
