@@ -64,13 +64,13 @@ module _ (bytes : List ℕ) (route : ℕ) (source : List ℕ) (sources : Sources
   abbrev p : Plan
   p = recipe bytes route
 
-  so : Sound p
+  pub so : Sound p
   so = whole-run.so bytes route source sources lent bg
 
   long : (b : ℕ) → b < p .processors → length (sources b) ≡ p .cells
   long = whole-run.long bytes route source sources lent bg
 
-  whole-alike : (s : State) (n : Network) → Follows p source s n → Answers p source (λ b s. s) (wholeCalls bytes route sources) (n .areas)
+  pub whole-alike : (s : State) (n : Network) → Follows p source s n → Answers p source (λ b s. s) (wholeCalls bytes route sources) (n .areas)
   whole-alike s n fo =
       let fine = follows-fine p source s n fo .areas in
       record {
@@ -105,13 +105,13 @@ module _ (bytes : List ℕ) (route : ℕ) (source : List ℕ) (sources : OwnSour
   abbrev plan : Plan
   plan = recipe bytes route
 
-  sound-plan : Sound plan
+  pub sound-plan : Sound plan
   sound-plan = part-run.so bytes route source sources lent bg
 
-  reads-own : ReadsOwnWord plan
+  pub reads-own : ReadsOwnWord plan
   reads-own = own-word (routeOf route) (nestOf bytes)
 
-  part-alike : (s : State) (n : Network) → Follows plan source s n → Answers plan source (narrow plan) (partCalls bytes route sources) (n .areas)
+  pub part-alike : (s : State) (n : Network) → Follows plan source s n → Answers plan source (narrow plan) (partCalls bytes route sources) (n .areas)
   unfolding handles
   part-alike s n fo =
       let le = lent-here plan sound-plan reads-own source (bg .whole) s n fo in
