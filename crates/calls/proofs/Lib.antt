@@ -20,3 +20,4 @@ pub mod OwnCalls
 pub mod Demands214
 pub mod Gave
 pub mod OverRecords214
+pub mod OnBoards
