@@ -84,7 +84,7 @@ module _ (bytes : List ℕ) (route : ℕ) (source : List ℕ) (sources : Sources
             (shape-areas bytes route (bg .accepted) so (sources b) (n .areas b) (long b h) (fine .shape b h)) b m ws;
       }
 
-  begins : Seen p (λ b s. s) (startApart p) (startCalls bytes route sources lent)
+  pub begins : Seen p (λ b s. s) (startApart p) (startCalls bytes route sources lent)
   unfolding startApart
   begins = whole-run.start-is bytes route source sources lent bg
 
@@ -125,11 +125,11 @@ module _ (bytes : List ℕ) (route : ℕ) (source : List ℕ) (sources : OwnSour
         takes = λ b m ws h. arrive-any bytes route (bg .accepted) b h source (n .areas b) (le b h) (f b h) m ws;
       }
 
-  part-begins : Seen plan (narrow plan) (startApart plan) (ownStart bytes route lent .areas)
+  pub part-begins : Seen plan (narrow plan) (startApart plan) (ownStart bytes route lent .areas)
   unfolding ownStart startApart
   part-begins b h = fresh-leaves bytes route (bg .accepted) b h (lent b) (bg .gave b h)
 
-  no-packets : ownStart bytes route lent .packets ≡ []
+  pub no-packets : ownStart bytes route lent .packets ≡ []
   unfolding ownStart
   no-packets = refl
 
