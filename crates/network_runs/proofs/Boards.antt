@@ -30,11 +30,12 @@ use Rattle.network.specs.Brought.{BoardEvent, asLong, takenBy, takeIn, machineB
 use Rattle.network.specs.OnBoards.{whole, boardsAfter, OnBoards, OnWholeAreas}
 use Rattle.network.proofs.Network.{Follows}
 use Rattle.network.proofs.Brought.{Away}
-use Rattle.network.proofs.Fine.{follows-fine}
+use Rattle.network.proofs.Fine.{follows-fine, fine-fit}
 use Rattle.network.proofs.OwnRuns.{lent-here, fit-here}
-use Rattle.network.proofs.OnBoards.{Seen, Answers, on-boards, on-whole-areas, machine-there, seen-there, at-the-end, none-left, part-right}
+use Rattle.network.proofs.OnBoards.{Seen, Answers, on-boards, on-whole-areas, follows-there, machine-there, seen-there, at-the-end, none-left, part-right}
 use Rattle.network.proofs.Collected.{in-any-order}
 use Rattle.transport.specs.Calls.{takeInCall}
+use Rattle.transport.specs.Holds.{comesTo, Comes}
 use Rattle.part_calls.specs.front.Calls.{narrow}
 use Rattle.network_runs.specs.Calls.{Sources, startCalls, startNetworkCalls}
 use Rattle.network_runs.specs.Demands.{Begun}
@@ -99,6 +100,27 @@ module _ (bytes : List ℕ) (route : ℕ) (source : List ℕ) (sources : Sources
         on-whole-areas p so (whole-run.away bytes route (bg .small) (bg .accepted)) source (wholeCalls bytes route sources) whole-alike
         (startNetworkCalls bytes route sources lent) refl begins events k
         (calls bytes route source) (collectCall bytes route source) (shared-like bytes route (bg .accepted) so source (bg .whole))
+
+    -- what was posted comes as it was posted
+    abbrev there′ : Network
+    there′ = boardsAfter (wholeBoards bytes route sources) (startNetworkCalls bytes route sources lent) events
+
+    packet-comes : (i : ℕ) → i < length (there′ .packets) → Comes p (sources (comesTo p there′ i)) there′ i
+    packet-comes i l =
+        let f =
+        follows-there p so (whole-run.away bytes route (bg .small) (bg .accepted)) source (wholeCalls bytes route sources) whole-alike
+        (startNetworkCalls bytes route sources lent) refl begins events k in
+        let fine = follows-fine p source _ there′ f in
+        let low : comesTo p there′ i < p .processors = so .processor-low _ (so .taker-low _ (fine .low i l)) in
+        record {
+          there = l;
+          message = fine .low i l;
+          long = fine .long i l;
+          lengths =
+              shape-areas bytes route (bg .accepted) so (sources (comesTo p there′ i)) (there′ .areas (comesTo p there′ i)) (long _ low)
+              (fine .areas .shape _ low);
+          fit = fine-fit p (there′ .areas) (fine .areas) _ low;
+        }
 
 -- ---- own parts
 module _ (bytes : List ℕ) (route : ℕ) (source : List ℕ) (sources : OwnSources) (lent : Areas) (bg : BegunApart bytes route source sources lent) where
@@ -205,6 +227,7 @@ board-demands =
     record {
       on-boards = on-all;
       on-whole-areas = on-areas;
+      comes = packet-comes;
       on-boards-parts = on-all-parts;
       on-parts = on-own-parts;
       in-any-order = λ bytes route source small z.
