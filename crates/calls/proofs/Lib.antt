@@ -21,3 +21,4 @@ pub mod Demands214
 pub mod Gave
 pub mod OverRecords214
 pub mod OnBoards
+pub mod BoardWitness

@@ -7,15 +7,16 @@ use native.Mathlib.Omega.{arith}
 use native.Mathlib.Decide.{ℕ-discrete}
 use lib.ListN.{length}
 use lib.Dec.{ltb, eqb}
-use borrow.Author.Tests.{lt-ltb}
+use borrow.Author.Tests.{lt-ltb, eq-eqb, ne-eqb}
 use Rattle.base.specs.Tests.{pick}
 use Rattle.base.specs.Lists.{countIf}
-use Rattle.base.proofs.Tests.{pick-true}
+use Rattle.base.proofs.Tests.{pick-true, pick-false}
 use Rattle.machine.specs.Plan.{Plan, Sound, heldBy}
 use Rattle.machine.specs.Machine.{State, stateOf, memoryOf, placeOf, tilesLeft, fitRecord, Answered}
-use Rattle.machine.specs.Runs.{stateAfter, answersTo}
+use Rattle.machine.specs.Runs.{turnOf, deliveryOf, stateAfter, answersTo}
 use Rattle.machine.proofs.RunLaws.{number-of, after-of}
 use Rattle.records.specs.Records.{flatWords}
+use Rattle.records.proofs.Words.{length-words}
 use Rattle.engine.specs.Calls.{answer, recipe, collectCall}
 use Rattle.engine.specs.Demands.{calls}
 use Rattle.network.specs.Apart.{Areas as Separate, startApart, replaced}
@@ -28,8 +29,9 @@ use Rattle.network.proofs.Network.{Follows}
 use Rattle.network.proofs.Brought.{Away}
 use Rattle.network.proofs.OnBoards as boards
 use Rattle.network.proofs.OnBoards.{Seen}
-use Rattle.part.specs.Part.{partOf, mailAt}
-use Rattle.part_calls.specs.front.Calls.{wide, narrow, ownFreshCall, collectFits, ownCollected, ownCollectCall}
+use Rattle.transport.specs.Calls.{takeInCall}
+use Rattle.part.specs.Part.{partOf, lentOf}
+use Rattle.part_calls.specs.front.Calls.{wide, narrow, ownTurnCall, ownPostCall, ownArriveCall, collectFits, ownCollected, ownCollectCall}
 use Rattle.network_runs.specs.Calls.{Sources, startCalls}
 use Rattle.network_runs.specs.Demands.{Begun}
 use Rattle.network_runs.specs.part.Demands.{BegunApart}
@@ -39,10 +41,10 @@ use Rattle.network_runs.proofs.Demands as whole-run
 use Rattle.network_runs.proofs.Boards.{whole-alike, part-alike, so, sound-plan, reads-own}
 use Rattle.network_runs.proofs.part.OnePart.{fresh-leaves}
 use Rattle.network_runs.proofs.part.Collecting as collecting
-use Rattle.calls.specs.OverRecords.{Areas, inWords, Gave, stepsIn}
-use Rattle.calls.specs.OnBoards.{Boards, boardWords, CallAt, newPacket, BoardGave, PartGave, PartCollectGave, BegunBoards, BegunParts, FixedBoards}
-use Rattle.calls.specs.OnBoards.{CollectsParts, OverBoards}
-use Rattle.calls.proofs.OverRecords.{run-numbers, run-words, areas-fixed}
+use Rattle.calls.specs.OverRecords.{Areas, inWords, EventGave, Gave, stepsIn}
+use Rattle.calls.specs.OnBoards.{Boards, boardWords, boardOf, CallAt, newPacket, BoardGave, PartGave, PartCollectGave, BegunBoards, BegunParts, FixedBoards}
+use Rattle.calls.specs.OnBoards.{TakeInGave, PartTurnGave, PartPostGave, PartArriveGave, CollectsParts, OverBoards}
+use Rattle.calls.proofs.OverRecords.{run-numbers, run-words, areas-fixed, Whole, whole-pick, can-answer, over-records}
 
 -- ---- a call on one board is the event on words
 module _ (k b : ℕ) (Gives : Areas → ℕ → Areas → Type 0) (new : List Packet) (x : Boards) (n : ℕ) (y : Boards) (c : CallAt k b Gives new x n y)
@@ -243,10 +245,85 @@ module _ (bytes : List ℕ) (route : ℕ) (source : List ℕ) (sources : Sources
                   (boardWords start) (bg .none) part-begins events k (sym steps-end ∙ e) b h) old len;
             }
 
+-- ---- every event at a board can be given
+put-board : (k b : ℕ) (Gives : Areas → ℕ → Areas → Type 0) (new : List Packet) (x : Boards) (n : ℕ) (a : Areas) → b < k → Gives (x .areas b) n a
+    → (y : Boards) × CallAt k b Gives new x n y
+put-board k b Gives new x n a h g = (
+  record { areas = λ c. pick (eqb c b) a (x .areas c); packets = x .packets ++ new },
+  record {
+    low = h;
+    gave = subst (Gives (x .areas b) n) (sym (pick-true (eqb b b) a (x .areas b) (eq-eqb b b refl))) g;
+    others = λ c q. pick-false (eqb c b) a (x .areas c) (ne-eqb c b q);
+    packets = refl;
+  },
+)
+
+whole-words : (a : Areas) → Whole (flatWords (a .progress))
+whole-words a = (length (a .progress), length-words (a .progress))
+
+-- records stay whole
+module _ (bytes : List ℕ) (route : ℕ) where
+  take-whole : (source : List ℕ) (a : Areas) (b m : ℕ) (ws : List ℕ) → Whole (takeInCall bytes route source (inWords a) b m ws .after .progress)
+  unfolding takeInCall
+  take-whole source a b m ws = whole-pick _ _ (inWords a) (whole-words a) (whole-words a)
+
+  turn-whole : (source : List ℕ) (a : Areas) (b : ℕ) → Whole (ownTurnCall bytes route source (inWords a) b .after .progress)
+  unfolding ownTurnCall lentOf
+  turn-whole source a b = whole-pick _ _ (inWords a) (1, refl) (whole-words a)
+
+  post-whole : (a : Areas) (b m : ℕ) → Whole (ownPostCall bytes route (inWords a) b m .after .progress)
+  unfolding ownPostCall lentOf
+  post-whole a b m = whole-pick _ _ (inWords a) (1, refl) (whole-words a)
+
+  arrive-whole : (a : Areas) (b m : ℕ) (ws : List ℕ) → Whole (ownArriveCall bytes route (inWords a) b m ws .after .progress)
+  unfolding ownArriveCall lentOf
+  arrive-whole a b m ws = whole-pick _ _ (inWords a) (1, refl) (whole-words a)
+
+module _ (bytes : List ℕ) (route : ℕ) where
+  take-answers : (source : List ℕ) (a : Areas) (b m : ℕ) (ws : List ℕ) → (n : ℕ) × ((c : Areas) × TakeInGave bytes route source b m ws a n c)
+  take-answers source a b m ws = can-answer (takeInCall bytes route source (inWords a) b m ws) (take-whole bytes route source a b m ws)
+
+  part-turns : (source : List ℕ) (a : Areas) (b : ℕ) → (n : ℕ) × ((c : Areas) × PartTurnGave bytes route source b a n c)
+  part-turns source a b = can-answer (ownTurnCall bytes route source (inWords a) b) (turn-whole bytes route source a b)
+
+  part-posts : (a : Areas) (b m : ℕ) → (n : ℕ) × ((c : Areas) × PartPostGave bytes route b m a n c)
+  part-posts a b m = can-answer (ownPostCall bytes route (inWords a) b m) (post-whole bytes route a b m)
+
+  part-takes : (a : Areas) (b m : ℕ) (ws : List ℕ) → (n : ℕ) × ((c : Areas) × PartArriveGave bytes route b m ws a n c)
+  part-takes a b m ws = can-answer (ownArriveCall bytes route (inWords a) b m ws) (arrive-whole bytes route a b m ws)
+
+  module _ (sources : Sources) (x : Boards) where
+    abbrev boards-there : ℕ
+    boards-there = recipe bytes route .processors
+
+    can-give : (e : BoardEvent) → boardOf e < boards-there → (n : ℕ) × ((y : Boards) × BoardGave bytes route sources x e n y)
+    can-give (turnAt b) h =
+        let r = over-records bytes route (sources b) .one .can-event (x .areas b) (turnOf b) in
+        (r .0, put-board boards-there b (λ a k c. EventGave bytes route (sources b) a (turnOf b) k c) [] x (r .0) (r .1 .0) h (r .1 .1))
+    can-give (postAt b m) h =
+        let r = over-records bytes route (sources b) .one .can-event (x .areas b) (deliveryOf m) in
+        (r .0, put-board boards-there b (λ a k c. EventGave bytes route (sources b) a (deliveryOf m) k c) _ x (r .0) (r .1 .0) h (r .1 .1))
+    can-give (broughtTo b m ws) h =
+        let r = take-answers (sources b) (x .areas b) b m ws in
+        (r .0, put-board boards-there b (TakeInGave bytes route (sources b) b m ws) [] x (r .0) (r .1 .0) h (r .1 .1))
+
+    can-give-parts : (e : BoardEvent) → boardOf e < boards-there → (n : ℕ) × ((y : Boards) × PartGave bytes route sources x e n y)
+    can-give-parts (turnAt b) h =
+        let r = part-turns (sources b) (x .areas b) b in
+        (r .0, put-board boards-there b (PartTurnGave bytes route (sources b) b) [] x (r .0) (r .1 .0) h (r .1 .1))
+    can-give-parts (postAt b m) h =
+        let r = part-posts (x .areas b) b m in
+        (r .0, put-board boards-there b (PartPostGave bytes route b m) _ x (r .0) (r .1 .0) h (r .1 .1))
+    can-give-parts (broughtTo b m ws) h =
+        let r = part-takes (x .areas b) b m ws in
+        (r .0, put-board boards-there b (PartArriveGave bytes route b m ws) [] x (r .0) (r .1 .0) h (r .1 .1))
+
 pub over-boards : (bytes : List ℕ) (route : ℕ) (source : List ℕ) (sources : Sources) (lent : ℕ → Areas) (start : Boards)
     → OverBoards bytes route source sources lent start
 over-boards bytes route source sources lent start =
     record {
+      can-give = can-give bytes route sources;
+      can-give-parts = can-give-parts bytes route sources;
       on-boards = λ bg events numbers end g k.
           fixed-boards (BoardGave bytes route sources) (wholeBoards bytes route sources) (whole-is bytes route sources) bytes route source start events numbers
           end g (on-all bytes route source sources lent start bg events k);

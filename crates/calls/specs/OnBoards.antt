@@ -38,6 +38,12 @@ pub record Boards : Type 0 where
 abbrev pub boardWords : Boards → Network
 boardWords x = networkOf (λ b. inWords (x .areas b)) (x .packets)
 
+-- the board that an event is at
+abbrev pub boardOf : BoardEvent → ℕ
+boardOf (turnAt b) = b
+boardOf (postAt b m) = b
+boardOf (broughtTo b m ws) = b
+
 -- a call on board b, lent its own areas, gave n; every other board's areas are as they were, and these packets are new
 pub record CallAt (boards b : ℕ) (Gives : Areas → ℕ → Areas → Type 0) (new : List Packet) (x : Boards) (n : ℕ) (y : Boards) : Type 0 where
   pub low : b < boards
@@ -131,6 +137,9 @@ pub record CollectsParts (bytes : List ℕ) (route : ℕ) (source : List ℕ) (n
       → (old grid : List ℕ) (n : ℕ) → length old ≡ recipe bytes route .cells → PartCollectGave bytes route b (end .areas b) old n grid → n ≡ 0
 
 pub record OverBoards (bytes : List ℕ) (route : ℕ) (source : List ℕ) (sources : Sources) (lent : ℕ → Areas) (start : Boards) : Type 0 where
+  -- every event at a board that there is can be given, whatever the areas are
+  pub can-give : (x : Boards) (e : BoardEvent) → boardOf e < recipe bytes route .processors → (n : ℕ) × ((y : Boards) × BoardGave bytes route sources x e n y)
+  pub can-give-parts : (x : Boards) (e : BoardEvent) → boardOf e < recipe bytes route .processors → (n : ℕ) × ((y : Boards) × PartGave bytes route sources x e n y)
   pub on-boards : BegunBoards bytes route source sources lent start → (events : List BoardEvent) (numbers : List ℕ) (end : Boards)
       → Gave (BoardGave bytes route sources) start events numbers end → Carries (wholeBoards bytes route sources) (boardWords start) events
       → FixedBoards (BoardGave bytes route sources) (wholeBoards bytes route sources) bytes route source start events numbers end
