@@ -21,3 +21,5 @@ pub mod Demands214
 pub mod Gave
 pub mod OverRecords214
 pub mod OverMixed
+pub mod OnBoards
+pub mod BoardWitness

@@ -30,11 +30,12 @@ use Rattle.network.specs.Brought.{BoardEvent, asLong, takenBy, takeIn, machineB
 use Rattle.network.specs.OnBoards.{whole, boardsAfter, OnBoards, OnWholeAreas}
 use Rattle.network.proofs.Network.{Follows}
 use Rattle.network.proofs.Brought.{Away}
-use Rattle.network.proofs.Fine.{follows-fine}
+use Rattle.network.proofs.Fine.{follows-fine, fine-fit}
 use Rattle.network.proofs.OwnRuns.{lent-here, fit-here}
-use Rattle.network.proofs.OnBoards.{Seen, Answers, on-boards, on-whole-areas, machine-there, seen-there, at-the-end, none-left, part-right}
+use Rattle.network.proofs.OnBoards.{Seen, Answers, on-boards, on-whole-areas, follows-there, machine-there, seen-there, at-the-end, none-left, part-right}
 use Rattle.network.proofs.Collected.{in-any-order}
 use Rattle.transport.specs.Calls.{takeInCall}
+use Rattle.transport.specs.Holds.{comesTo, Comes}
 use Rattle.part_calls.specs.front.Calls.{narrow}
 use Rattle.network_runs.specs.Calls.{Sources, startCalls, startNetworkCalls}
 use Rattle.network_runs.specs.Demands.{Begun}
@@ -64,13 +65,13 @@ module _ (bytes : List ℕ) (route : ℕ) (source : List ℕ) (sources : Sources
   abbrev p : Plan
   p = recipe bytes route
 
-  so : Sound p
+  pub so : Sound p
   so = whole-run.so bytes route source sources lent bg
 
   long : (b : ℕ) → b < p .processors → length (sources b) ≡ p .cells
   long = whole-run.long bytes route source sources lent bg
 
-  whole-alike : (s : State) (n : Network) → Follows p source s n → Answers p source (λ b s. s) (wholeCalls bytes route sources) (n .areas)
+  pub whole-alike : (s : State) (n : Network) → Follows p source s n → Answers p source (λ b s. s) (wholeCalls bytes route sources) (n .areas)
   whole-alike s n fo =
       let fine = follows-fine p source s n fo .areas in
       record {
@@ -84,7 +85,7 @@ module _ (bytes : List ℕ) (route : ℕ) (source : List ℕ) (sources : Sources
             (shape-areas bytes route (bg .accepted) so (sources b) (n .areas b) (long b h) (fine .shape b h)) b m ws;
       }
 
-  begins : Seen p (λ b s. s) (startApart p) (startCalls bytes route sources lent)
+  pub begins : Seen p (λ b s. s) (startApart p) (startCalls bytes route sources lent)
   unfolding startApart
   begins = whole-run.start-is bytes route source sources lent bg
 
@@ -100,18 +101,39 @@ module _ (bytes : List ℕ) (route : ℕ) (source : List ℕ) (sources : Sources
         (startNetworkCalls bytes route sources lent) refl begins events k
         (calls bytes route source) (collectCall bytes route source) (shared-like bytes route (bg .accepted) so source (bg .whole))
 
+    -- what was posted comes as it was posted
+    abbrev there′ : Network
+    there′ = boardsAfter (wholeBoards bytes route sources) (startNetworkCalls bytes route sources lent) events
+
+    packet-comes : (i : ℕ) → i < length (there′ .packets) → Comes p (sources (comesTo p there′ i)) there′ i
+    packet-comes i l =
+        let f =
+        follows-there p so (whole-run.away bytes route (bg .small) (bg .accepted)) source (wholeCalls bytes route sources) whole-alike
+        (startNetworkCalls bytes route sources lent) refl begins events k in
+        let fine = follows-fine p source _ there′ f in
+        let low : comesTo p there′ i < p .processors = so .processor-low _ (so .taker-low _ (fine .low i l)) in
+        record {
+          there = l;
+          message = fine .low i l;
+          long = fine .long i l;
+          lengths =
+              shape-areas bytes route (bg .accepted) so (sources (comesTo p there′ i)) (there′ .areas (comesTo p there′ i)) (long _ low)
+              (fine .areas .shape _ low);
+          fit = fine-fit p (there′ .areas) (fine .areas) _ low;
+        }
+
 -- ---- own parts
 module _ (bytes : List ℕ) (route : ℕ) (source : List ℕ) (sources : OwnSources) (lent : Areas) (bg : BegunApart bytes route source sources lent) where
   abbrev plan : Plan
   plan = recipe bytes route
 
-  sound-plan : Sound plan
+  pub sound-plan : Sound plan
   sound-plan = part-run.so bytes route source sources lent bg
 
-  reads-own : ReadsOwnWord plan
+  pub reads-own : ReadsOwnWord plan
   reads-own = own-word (routeOf route) (nestOf bytes)
 
-  part-alike : (s : State) (n : Network) → Follows plan source s n → Answers plan source (narrow plan) (partCalls bytes route sources) (n .areas)
+  pub part-alike : (s : State) (n : Network) → Follows plan source s n → Answers plan source (narrow plan) (partCalls bytes route sources) (n .areas)
   unfolding handles
   part-alike s n fo =
       let le = lent-here plan sound-plan reads-own source (bg .whole) s n fo in
@@ -125,11 +147,11 @@ module _ (bytes : List ℕ) (route : ℕ) (source : List ℕ) (sources : OwnSour
         takes = λ b m ws h. arrive-any bytes route (bg .accepted) b h source (n .areas b) (le b h) (f b h) m ws;
       }
 
-  part-begins : Seen plan (narrow plan) (startApart plan) (ownStart bytes route lent .areas)
+  pub part-begins : Seen plan (narrow plan) (startApart plan) (ownStart bytes route lent .areas)
   unfolding ownStart startApart
   part-begins b h = fresh-leaves bytes route (bg .accepted) b h (lent b) (bg .gave b h)
 
-  no-packets : ownStart bytes route lent .packets ≡ []
+  pub no-packets : ownStart bytes route lent .packets ≡ []
   unfolding ownStart
   no-packets = refl
 
@@ -205,6 +227,7 @@ board-demands =
     record {
       on-boards = on-all;
       on-whole-areas = on-areas;
+      comes = packet-comes;
       on-boards-parts = on-all-parts;
       on-parts = on-own-parts;
       in-any-order = λ bytes route source small z.

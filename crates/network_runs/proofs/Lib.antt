@@ -3,3 +3,5 @@ pub mod AsNetwork
 pub mod Demands
 pub mod part
 pub mod Boards
+pub mod Owners
+pub mod BoardRows

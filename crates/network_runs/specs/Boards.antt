@@ -15,8 +15,9 @@ use Rattle.engine.specs.Calls.{recipe, turnCall, deliverCall, collectCall}
 use Rattle.network.specs.Apart.{Areas}
 use Rattle.network.specs.Packets.{Network, startNetwork}
 use Rattle.network.specs.Brought.{BoardEvent, BoardCalls, actBoards, machineBoards, Carries}
-use Rattle.network.specs.OnBoards.{whole, boardsAfter, stepsGot, OnBoards, OnWholeAreas, Collected, InAnyOrder}
+use Rattle.network.specs.OnBoards.{whole, boardsAfter, packetsAfter, stepsGot, OnBoards, OnWholeAreas, Collected, InAnyOrder}
 use Rattle.transport.specs.Calls.{takeInCall}
+use Rattle.transport.specs.Holds.{comesTo, Comes}
 use Rattle.part.specs.Part.{mailAt}
 use Rattle.part_calls.specs.front.Calls.{narrow, ownTurnCall, ownPostCall, ownArriveCall, ownCollectCall}
 use Rattle.network_runs.specs.Calls.{Sources, startNetworkCalls}
@@ -89,6 +90,13 @@ pub record BoardDemands : Type 0 where
       → (events : List BoardEvent) → Carries (wholeBoards bytes route sources) (startNetworkCalls bytes route sources lent) events
       → OnWholeAreas (wholeBoards bytes route sources) (startNetworkCalls bytes route sources lent) events (recipe bytes route) source
       (collectCall bytes route source)
+  -- what was posted meets all that transport/specs/Holds asks of a packet that comes, so taking it in is its arrival in Packets
+  pub comes : (bytes : List ℕ) (route : ℕ) (source : List ℕ) (sources : Sources) (lent : Areas) → Begun bytes route source sources lent
+      → (events : List BoardEvent) → Carries (wholeBoards bytes route sources) (startNetworkCalls bytes route sources lent) events
+      → (k : ℕ) → k < length (packetsAfter (wholeBoards bytes route sources) (startNetworkCalls bytes route sources lent) events)
+      → Comes (recipe bytes route)
+      (sources (comesTo (recipe bytes route) (boardsAfter (wholeBoards bytes route sources) (startNetworkCalls bytes route sources lent) events) k))
+      (boardsAfter (wholeBoards bytes route sources) (startNetworkCalls bytes route sources lent) events) k
   pub on-boards-parts : (bytes : List ℕ) (route : ℕ) (source : List ℕ) (sources : OwnSources) (lent : Areas)
       → BegunApart bytes route source sources lent
       → (events : List BoardEvent) → Carries (partBoards bytes route sources) (ownStart bytes route lent) events

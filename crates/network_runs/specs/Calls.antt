@@ -1,6 +1,7 @@
 -- Read this.
 -- Processors that share no memory, by the calls themselves: each is lent its own source and its own four areas, and every call is on one processor's.
--- Renders document 01, "The machine" and "Runs", for them. Each call's contract equates the call with a definition used here.
+-- Renders document 01, "The machine" and "Runs", for them. Each call's contract equates the call with a definition used here. Arrival is a copy and a
+-- delivery here, for a program without `take_in`; runs by `take_in` are in Boards.
 use Prim.Native.Nat.{ℕ}
 use mathlib.Core.List.{List, [], _++_}
 use lib.Dec.{ltb, eqb}

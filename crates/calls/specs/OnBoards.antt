@@ -1,0 +1,154 @@
+-- Read this. Boards that share nothing, for the calls as exported, records as structs: what the contracts say of one board's own areas, runs of such calls
+-- on all boards over a transport, and demand 3 of them: on whole areas by turn, deliver and take_in, on own parts by the part's calls.
+-- Renders document 01, "Runs" and "Numbers a call gives", for processors that share no memory.
+use Prim.Native.Nat.{ℕ, _<_}
+use mathlib.Core.Path.{_≡_}
+use mathlib.Core.Logic.{_≢_}
+use mathlib.Core.List.{List, [], _∷_, _++_}
+use lib.ListN.{length}
+use lib.Dec.{eqb}
+use Rattle.base.specs.Tests.{pick}
+use Rattle.base.specs.Lists.{Bytes, part, pack}
+use Rattle.base.specs.Numbers.{firstOf}
+use Rattle.machine.specs.Plan.{count, heldBy}
+use Rattle.machine.specs.Machine.{State, stateOf, placeOf, Answered}
+use Rattle.machine.specs.Runs.{turnOf, deliveryOf, last, answers}
+use Rattle.layout.specs.Sizes.{routeOf}
+use Rattle.recipe.specs.Routes.{linesFor}
+use Rattle.records.specs.Records.{flatWords}
+use Rattle.engine.specs.Calls.{answer, recipe, collectCall}
+use Rattle.network.specs.Apart.{takerAt}
+use Rattle.network.specs.Packets.{Packet, Network, networkOf}
+use Rattle.network.specs.Locality.{SameSource}
+use Rattle.network.specs.Own.{ownCells}
+use Rattle.network.specs.Brought.{BoardEvent, turnAt, postAt, broughtTo, Carries}
+use Rattle.network.specs.OnBoards.{whole, OnBoards, OnWholeAreas, Collected}
+use Rattle.transport.specs.Calls.{takeInCall}
+use Rattle.part.specs.Part.{mailAt}
+use Rattle.part_calls.specs.front.Calls.{ownFreshCall, ownTurnCall, ownPostCall, ownArriveCall, ownCollectCall}
+use Rattle.network_runs.specs.Calls.{Sources}
+use Rattle.network_runs.specs.Boards.{wholeBoards, partBoards}
+use Rattle.calls.specs.OverRecords.{Areas, inWords, Gave, FreshGave, EventGave, stepsIn}
+
+-- the boards' areas, records as structs, and every packet posted; and their words
+pub record Boards : Type 0 where
+  pub areas : ℕ → Areas
+  pub packets : List Packet
+
+abbrev pub boardWords : Boards → Network
+boardWords x = networkOf (λ b. inWords (x .areas b)) (x .packets)
+
+-- the board that an event is at
+abbrev pub boardOf : BoardEvent → ℕ
+boardOf (turnAt b) = b
+boardOf (postAt b m) = b
+boardOf (broughtTo b m ws) = b
+
+-- a call on board b, lent its own areas, gave n; every other board's areas are as they were, and these packets are new
+pub record CallAt (boards b : ℕ) (Gives : Areas → ℕ → Areas → Type 0) (new : List Packet) (x : Boards) (n : ℕ) (y : Boards) : Type 0 where
+  pub low : b < boards
+  pub gave : Gives (x .areas b) n (y .areas b)
+  pub others : (c : ℕ) → c ≢ b → y .areas c ≡ x .areas c
+  pub packets : y .packets ≡ x .packets ++ new
+
+-- a post that gave 0 is one packet more: the message's number, and its words as they lie there
+abbrev pub newPacket : ℕ → ℕ → List ℕ → List Packet
+newPacket n m ws = pick (eqb n 0) (record { message = m; words = ws } ∷ []) []
+
+-- ---- the contracts of src/carrier.rt and src/board.rt: lent `a`, the call gave n and left `b`
+module _ (bytes : List ℕ) (route : ℕ) where
+  abbrev pub TakeInGave : List ℕ → ℕ → ℕ → List ℕ → Areas → ℕ → Areas → Type 0
+  TakeInGave source p m words a n b = answer n (inWords b) ≡ takeInCall bytes route source (inWords a) p m words
+
+  abbrev pub PartFreshGave : ℕ → Areas → ℕ → Areas → Type 0
+  PartFreshGave p a n b = answer n (inWords b) ≡ ownFreshCall bytes route (inWords a) p
+
+  abbrev pub PartTurnGave : List ℕ → ℕ → Areas → ℕ → Areas → Type 0
+  PartTurnGave source p a n b = answer n (inWords b) ≡ ownTurnCall bytes route source (inWords a) p
+
+  abbrev pub PartPostGave : ℕ → ℕ → Areas → ℕ → Areas → Type 0
+  PartPostGave p m a n b = answer n (inWords b) ≡ ownPostCall bytes route (inWords a) p m
+
+  abbrev pub PartArriveGave : ℕ → ℕ → List ℕ → Areas → ℕ → Areas → Type 0
+  PartArriveGave p m words a n b = answer n (inWords b) ≡ ownArriveCall bytes route (inWords a) p m words
+
+  -- lent its memory and its record alone, and the words `old`, left as `grid`
+  abbrev pub PartCollectGave : ℕ → Areas → List ℕ → ℕ → List ℕ → Type 0
+  PartCollectGave p a old n grid = answer n grid ≡ ownCollectCall bytes route (stateOf (a .memories) [] (flatWords (a .progress)) []) p old
+
+  -- ---- an event on the boards, each lent whole areas
+  abbrev pub BoardGave : Sources → Boards → BoardEvent → ℕ → Boards → Type 0
+  BoardGave sources x (turnAt b) n y =
+      CallAt (recipe bytes route .processors) b (λ a k c. EventGave bytes route (sources b) a (turnOf b) k c) [] x n y
+  BoardGave sources x (postAt b m) n y =
+      CallAt (recipe bytes route .processors) b (λ a k c. EventGave bytes route (sources b) a (deliveryOf m) k c)
+      (newPacket n m (placeOf (recipe bytes route) (x .areas b .buffer) m)) x n y
+  BoardGave sources x (broughtTo b m ws) n y = CallAt (recipe bytes route .processors) b (TakeInGave (sources b) b m ws) [] x n y
+
+  -- each lent its own part
+  abbrev pub PartGave : Sources → Boards → BoardEvent → ℕ → Boards → Type 0
+  PartGave sources x (turnAt b) n y = CallAt (recipe bytes route .processors) b (PartTurnGave (sources b) b) [] x n y
+  PartGave sources x (postAt b m) n y =
+      CallAt (recipe bytes route .processors) b (PartPostGave b m)
+      (newPacket n m (part (x .areas b .buffer) (mailAt (recipe bytes route) b m) (length (heldBy (recipe bytes route) m)))) x n y
+  PartGave sources x (broughtTo b m ws) n y = CallAt (recipe bytes route .processors) b (PartArriveGave b m ws) [] x n y
+
+-- ---- a beginning: one recipe and one route for all, each board's fresh start gave 0, and nothing is posted
+pub record BegunBoards (bytes : List ℕ) (route : ℕ) (source : List ℕ) (sources : Sources) (lent : ℕ → Areas) (start : Boards) : Type 0 where
+  pub small : Bytes bytes
+  pub accepted : firstOf (linesFor (routeOf route) bytes) ≡ 0
+  pub whole : length source ≡ recipe bytes route .cells
+  pub own : (b : ℕ) → b < recipe bytes route .processors → SameSource (recipe bytes route) b (sources b) source
+  pub gave : (b : ℕ) → b < recipe bytes route .processors → FreshGave bytes route (sources b) (lent b) 0 (start .areas b)
+  pub none : start .packets ≡ []
+
+pub record BegunParts (bytes : List ℕ) (route : ℕ) (source : List ℕ) (sources : Sources) (lent : ℕ → Areas) (start : Boards) : Type 0 where
+  pub small : Bytes bytes
+  pub accepted : firstOf (linesFor (routeOf route) bytes) ≡ 0
+  pub whole : length source ≡ recipe bytes route .cells
+  pub own : (b : ℕ) → b < recipe bytes route .processors → sources b ≡ pack source (ownCells (recipe bytes route) b)
+  pub gave : (b : ℕ) → b < recipe bytes route .processors → PartFreshGave bytes route b (lent b) 0 (start .areas b)
+  pub none : start .packets ≡ []
+
+-- ---- the claims, about events with their numbers from `start` to `end`: by `acts` on words, of calls that give `Step`
+pub record FixedBoards (Step : Boards → BoardEvent → ℕ → Boards → Type 0) (acts : Network → BoardEvent → Answered Network) (bytes : List ℕ) (route : ℕ)
+    (source : List ℕ) (start : Boards) (events : List BoardEvent) (numbers : List ℕ) (end : Boards) : Type 0 where
+  -- number by number and word by word the run over words, which has what demand 3 asks
+  pub numbers-are : numbers ≡ answers acts (boardWords start) events
+  pub words-are : boardWords end ≡ last acts (boardWords start) events
+  pub demand : OnBoards acts (boardWords start) events (recipe bytes route) source
+  -- what it says of a further call: some event gives 0 exactly when the steps are fewer, and a refusal leaves the very records of every board
+  pub goes-on : stepsIn numbers < whole (recipe bytes route)
+      → (e : BoardEvent) × Carries acts (boardWords end) (e ∷ []) × ((n : ℕ) (y : Boards) → Step end e n y → n ≡ 0)
+  pub then-fewer : (e : BoardEvent) (y : Boards) → Carries acts (boardWords end) (e ∷ []) → Step end e 0 y → stepsIn numbers < whole (recipe bytes route)
+  pub refused : (e : BoardEvent) (n : ℕ) (y : Boards) → Step end e n y → n ≢ 0 → (b : ℕ) → y .areas b ≡ end .areas b
+  -- brought to the wrong board it is 11
+  pub wrong-board : (b m : ℕ) (ws : List ℕ) (n : ℕ) (y : Boards) → m < count (recipe bytes route) → length ws ≡ length (heldBy (recipe bytes route) m)
+      → takerAt (recipe bytes route) m ≢ b → Step end (broughtTo b m ws) n y → n ≡ 11
+
+-- collecting part by part, whatever the others have done
+pub record CollectsParts (bytes : List ℕ) (route : ℕ) (source : List ℕ) (numbers : List ℕ) (end : Boards) : Type 0 where
+  pub collects : (b : ℕ) → b < recipe bytes route .processors → (old grid : List ℕ) → PartCollectGave bytes route b (end .areas b) old 0 grid
+      → Collected (recipe bytes route) source b old grid
+  pub then-all : ((b : ℕ) → b < recipe bytes route .processors
+      → (old : List ℕ) × ((grid : List ℕ) × PartCollectGave bytes route b (end .areas b) old 0 grid))
+      → stepsIn numbers ≡ whole (recipe bytes route)
+  pub each-collects : stepsIn numbers ≡ whole (recipe bytes route) → (b : ℕ) → b < recipe bytes route .processors
+      → (old grid : List ℕ) (n : ℕ) → length old ≡ recipe bytes route .cells → PartCollectGave bytes route b (end .areas b) old n grid → n ≡ 0
+
+pub record OverBoards (bytes : List ℕ) (route : ℕ) (source : List ℕ) (sources : Sources) (lent : ℕ → Areas) (start : Boards) : Type 0 where
+  -- every event at a board that there is can be given, whatever the areas are
+  pub can-give : (x : Boards) (e : BoardEvent) → boardOf e < recipe bytes route .processors → (n : ℕ) × ((y : Boards) × BoardGave bytes route sources x e n y)
+  pub can-give-parts : (x : Boards) (e : BoardEvent) → boardOf e < recipe bytes route .processors → (n : ℕ) × ((y : Boards) × PartGave bytes route sources x e n y)
+  pub on-boards : BegunBoards bytes route source sources lent start → (events : List BoardEvent) (numbers : List ℕ) (end : Boards)
+      → Gave (BoardGave bytes route sources) start events numbers end → Carries (wholeBoards bytes route sources) (boardWords start) events
+      → FixedBoards (BoardGave bytes route sources) (wholeBoards bytes route sources) bytes route source start events numbers end
+  pub on-whole-areas : BegunBoards bytes route source sources lent start → (events : List BoardEvent)
+      → Carries (wholeBoards bytes route sources) (boardWords start) events
+      → OnWholeAreas (wholeBoards bytes route sources) (boardWords start) events (recipe bytes route) source (collectCall bytes route source)
+  pub on-parts : BegunParts bytes route source sources lent start → (events : List BoardEvent) (numbers : List ℕ) (end : Boards)
+      → Gave (PartGave bytes route sources) start events numbers end → Carries (partBoards bytes route sources) (boardWords start) events
+      → FixedBoards (PartGave bytes route sources) (partBoards bytes route sources) bytes route source start events numbers end
+  pub parts-collected : BegunParts bytes route source sources lent start → (events : List BoardEvent) (numbers : List ℕ) (end : Boards)
+      → Gave (PartGave bytes route sources) start events numbers end → Carries (partBoards bytes route sources) (boardWords start) events
+      → CollectsParts bytes route source numbers end
