@@ -25,8 +25,8 @@ use Rattle.network.proofs.Letters.{replaced-same, replaced-other}
 use Rattle.network.proofs.Carry.{status-two, status-rest}
 use Rattle.network.proofs.Network.{Correct, zero-answer, some-answer, two-lines, lines-two}
 use Rattle.restarts.specs.Restarts.{workOf}
-use Rattle.restarts.specs.Processes.{Roles, ProcessEvent, startOf, turnFrom, postFrom, repostFrom, arrivalAt, postedFrom, actProcess, deedBy, deedsBy}
-use Rattle.restarts.specs.Processes.{startBy, startsBy, Chooses, areasOf, GoesFor, now, ByProcesses, MachineByProcesses}
+use Rattle.restarts.specs.Processes.{Roles, ProcessEvent, startOf, turnFrom, postFrom, repostFrom, arrivalAt, postedFrom, repostBy, actProcess, deedBy}
+use Rattle.restarts.specs.Processes.{deedsBy, startBy, startsBy, Chooses, areasOf, GoesFor, now, ByProcesses, MachineByProcesses}
 use Rattle.restarts.proofs.Life.{Life, Lived, turn-lives, post-lives, arrival-lives, fresh-lives}
 use Rattle.restarts.proofs.Measure.{taker-at, leftHere, left-any, left-deed, left-post, left-arrival}
 use Rattle.restarts.proofs.Lives.{right-more}
@@ -137,18 +137,18 @@ module _ (p : Plan) (so : Sound p) (source : List ℕ) (role : Roles) (n : Netwo
     post-allowed lo y = lines-two _ _ (lt-ltb m (count p) lo) (eq-eqb _ 1 y)
 
     repost-asked : actProcess p source role n (repostFrom c m) .number ≡ 0 → (m < count p) × (2 ≤ statusAt (n .areas) c m)
-    unfolding actProcess
+    unfolding actProcess repostBy
     repost-asked z = let k = two-lines _ _ z in (ltb-true _ _ (k .0), leb-true _ _ (k .1))
 
     repost-allowed : m < count p → 2 ≤ statusAt (n .areas) c m → actProcess p source role n (repostFrom c m) .number ≡ 0
-    unfolding actProcess
+    unfolding actProcess repostBy
     repost-allowed lo y = lines-two _ _ (lt-ltb m (count p) lo) (le-leb _ _ y)
 
   module _ (c k : ℕ) where
     abbrev here-m : ℕ
     here-m = packetAt (n .packets) k .message
 
-    arrival-asked : actProcess p source role n (arrivalAt c k) .number ≡ 0
+    pub arrival-asked : actProcess p source role n (arrivalAt c k) .number ≡ 0
         → (k < length (n .packets)) × (takerAt p here-m ≡ role c) × (statusAt (n .areas) c here-m ≡ 0)
     unfolding actProcess
     arrival-asked z =
@@ -260,12 +260,12 @@ module _ (p : Plan) (so : Sound p) (source : List ℕ) (role : Roles) (n : Netwo
 
     repost-zero : actProcess p source role n (repostFrom c m) .number ≡ 0 → actProcess p source role n (repostFrom c m)
         ≡ record { number = 0; after = networkOf (n .areas) (n .packets ++ postedFrom p (n .areas c) m) }
-    unfolding actProcess
+    unfolding actProcess repostBy
     repost-zero z = zero-answer _ _ _ z
 
     repost-some : actProcess p source role n (repostFrom c m) .number ≢ 0
         → actProcess p source role n (repostFrom c m) ≡ record { number = actProcess p source role n (repostFrom c m) .number; after = n }
-    unfolding actProcess
+    unfolding actProcess repostBy
     repost-some k = some-answer _ _ _ k
 
     posts : m < count p → statusAt (n .areas) c m ≡ 1

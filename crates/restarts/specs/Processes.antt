@@ -44,6 +44,9 @@ arrivalAtLines p role n q k =
     line 11 (not (ltb k (length (n .packets)) and eqb (takerAt p (packetAt (n .packets) k .message)) (role q))) ∷
     line 14 (not (eqb (statusAt (n .areas) q (packetAt (n .packets) k .message)) 0)) ∷ []
 
+unfoldable pub repostBy : Plan → Network → ℕ → ℕ → Answered Network
+repostBy p n q m = answered (firstOf (repostFromLines p n q m)) (networkOf (n .areas) (n .packets ++ postedFrom p (n .areas q) m)) n
+
 unfoldable pub actProcess : Plan → List ℕ → Roles → Network → ProcessEvent → Answered Network
 actProcess p source role n (startOf q) = record { number = 0; after = networkOf (replaced (n .areas) q (fresh p)) (n .packets) }
 actProcess p source role n (turnFrom q) =
@@ -54,8 +57,7 @@ actProcess p source role n (turnFrom q) =
 actProcess p source role n (postFrom q m) =
     answered (firstOf (postFromLines p n q m))
     (networkOf (replaced (n .areas) q (marked (n .areas q) m)) (n .packets ++ postedFrom p (n .areas q) m)) n
-actProcess p source role n (repostFrom q m) =
-    answered (firstOf (repostFromLines p n q m)) (networkOf (n .areas) (n .packets ++ postedFrom p (n .areas q) m)) n
+actProcess p source role n (repostFrom q m) = repostBy p n q m
 actProcess p source role n (arrivalAt q k) =
     answered (firstOf (arrivalAtLines p role n q k))
     (networkOf (replaced (n .areas) q (received p (n .areas q) (packetAt (n .packets) k .message) (packetAt (n .packets) k .words))) (n .packets)) n
