@@ -85,7 +85,7 @@ module _ (bytes : List ℕ) (route : ℕ) (source : List ℕ) (sources : Sources
         go (yes h) =
             pick-true _ _ _ (lt-ltb b (p .processors) h)
             ∙ ap (λ (x : Answered State). record { number = x .number; after = networkOf (replaced (n .areas) b (x .after)) (n .packets) })
-            (clean b (n .areas b) (shape-areas bytes route (bg .accepted) so (sources b) (n .areas b) (long b h) (al .each b h .shape)))
+            (clean b (n .areas b) (shape-areas bytes route (bg .accepted) so (sources b) (n .areas b) (long b h) (al .each b h .held .shape)))
             ∙ sym (restart-zero p so source n al b (restart-gives p so source n al b h))
         go (no k) = pick-false _ _ _ (le-ltb b (p .processors) (omega arith)) ∙ sym (restart-high p so source n al b (omega arith))
 

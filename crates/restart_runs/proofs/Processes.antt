@@ -76,7 +76,7 @@ module _ (bytes : List ℕ) (route : ℕ) (source : List ℕ) (role : Roles) (so
     s = n .areas q
 
     sh : Shape p s
-    sh = se .each q .shape
+    sh = se .each q .held .shape
 
     here : areas p (sources q) s ≡ true
     here = shape-areas bytes route (bg .accepted) so (sources q) s (long q) sh
@@ -154,7 +154,7 @@ module _ (bytes : List ℕ) (route : ℕ) (source : List ℕ) (role : Roles) (so
             progress = sh .progress;
             status = length-set (s .status) m 1 ∙ sh .status;
           })) m
-          ∙ copied-both p s m ws lo sh (se .each q .marks .high) e
+          ∙ copied-both p s m ws lo sh (se .each q .held .statuses .high) e
 
       arrival-same : callsProcess bytes route sources role n (arrivalAt q k) ≡ actProcess p source role n (arrivalAt q k)
       unfolding callsProcess actProcess

@@ -8,13 +8,12 @@ use native.Mathlib.Nat.{le-mul-of-pos-right, mod-eq-of-lt, div-eq-of-lt, suc-mod
 use native.Mathlib.Omega.{arith}
 use lib.ListN.{length}
 use Rattle.machine.specs.Plan.{Plan, Sound, count}
-use Rattle.machine.specs.Machine.{collect}
 use Rattle.machine.specs.Runs.{stateAfter}
 use Rattle.machine.proofs.RunLaws.{after-one}
 use Rattle.network.specs.Apart.{senderAt, takerAt}
 use Rattle.network.specs.Packets.{Packet, Network, networkOf, statusAt, turnBy, postOf, arrivalOf, posted, startNetwork}
 use Rattle.restarts.specs.Restarts.{LifeEvent, plain, repostOf, restartOf, actLives}
-use Rattle.restarts.specs.FairLoss.{Endless, firsts, newStart, Later, when, Arrives, FairLoss, MachineEnds}
+use Rattle.restarts.specs.FairLoss.{Endless, firsts, newStart, when, Arrives, FairLoss, MachineEnds}
 use Rattle.restarts.proofs.Lives.{Alive, start-alive, run-alive, repost-asks}
 use Rattle.restarts.proofs.Theorem.{again-after, last-is, more-length}
 use Rattle.restarts.proofs.FairLoss.{fair-ends, loss-fair}

@@ -16,6 +16,7 @@ use Rattle.base.proofs.Numbers.{first-nil, first-false, first-true}
 use Rattle.machine.specs.Plan.{Plan, Sound, count, heldBy}
 use Rattle.machine.specs.Machine.{State, placeOf, Answered, turn, fresh}
 use Rattle.machine.specs.Runs.{stateAfter, answersTo}
+use Rattle.machine.proofs.Turns.{by-refusal}
 use Rattle.machine.proofs.Progress.{prog}
 use Rattle.machine.proofs.Invariant.{pending}
 use Rattle.machine.proofs.Kept.{statusOf}
@@ -160,7 +161,7 @@ module _ (p : Plan) (so : Sound p) (source : List ℕ) (n : Network) (al : Alive
     after-away k = ap (λ (l : List Packet). n .packets ++ l) (pick-false _ _ _ (ne-eqb _ _ k))
 
     pub packet-right : senderAt p m ≢ takerAt p m → Correct p source packet
-    packet-right k = record { low = lo; away = k; words = al .each (senderAt p m) (sender-at p so m lo) .right .buffered m lo sent }
+    packet-right k = record { low = lo; away = k; words = al .each (senderAt p m) (sender-at p so m lo) .held .right .buffered m lo sent }
 
     posted-right : Dec (senderAt p m ≡ takerAt p m) → (k : ℕ) → k < length after → Correct p source (packetAt after k)
     posted-right (yes e) = rw (after-home e) (al .right)
@@ -201,7 +202,7 @@ module _ (p : Plan) (so : Sound p) (source : List ℕ) (n : Network) (al : Alive
       counted-posted : suc (leftHere p (sentOff p (n .areas) m)) ≡ leftHere p (n .areas)
       unfolding sentOff prog
       counted-posted =
-          left-post p (n .areas) b (marked (n .areas b) m) m lo (λ u. refl) (status-two p b (n .areas b) m lo (al .each b (sender-at p so m lo) .shape))
+          left-post p (n .areas) b (marked (n .areas b) m) m lo (λ u. refl) (status-two p b (n .areas b) m lo (al .each b (sender-at p so m lo) .held .shape))
           (λ k z. status-rest p b (n .areas b) m lo k z) refl one-there
 
   post-went : (m : ℕ) → Went p source n (post p n m)
@@ -243,7 +244,7 @@ module _ (p : Plan) (so : Sound p) (source : List ℕ) (n : Network) (al : Alive
     unfolding arrived prog
     counted-arrived =
         left-arrival p (n .areas) d (received p (n .areas d) m ws) m (c .low) (λ u. refl)
-        (status-two p d (n .areas d) m (c .low) (al .each d low-d .shape))
+        (status-two p d (n .areas d) m (c .low) (al .each d low-d .held .shape))
         (λ k z. status-rest p d (n .areas d) m (c .low) k z) refl (c .away) none
 
     arrived-went : Went p source n (record { number = 0; after = networkOf (arrived p (n .areas) m ws) (n .packets) })
@@ -345,7 +346,7 @@ module _ (p : Plan) (so : Sound p) (source : List ℕ) (n : Network) (al : Alive
   two-marked b k low lk e = go (ℕ-discrete m k)
     where
       go : Dec (m ≡ k) → 2 ≤ statusOf (marked (n .areas b) k) m
-      go (yes q) = rw q (let x = status-two p b (n .areas b) k lk (al .each b low .shape) in omega arith)
+      go (yes q) = rw q (let x = status-two p b (n .areas b) k lk (al .each b low .held .shape) in omega arith)
       go (no q) =
           let x = status-rest p b (n .areas b) k lk m q in let y : 2 ≤ statusOf (n .areas b) m = rw e at two in omega arith
 
@@ -395,10 +396,6 @@ replaced-own a b = fun-ext (λ c. go c (ℕ-discrete c b))
     go c (yes e) = replaced-same a b (a b) c e ∙ ap a (sym e)
     go c (no k) = replaced-other a b (a b) c k
 
-turn-refused : (p : Plan) (source : List ℕ) (s : State) (b : ℕ) → turn p source s b .number ≢ 0 → turn p source s b .after ≡ s
-unfolding turn
-turn-refused p source s b k = pick-false _ _ _ (ne-eqb _ 0 k)
-
 module _ (p : Plan) (source : List ℕ) (n : Network) where
   turn-stays : (b : ℕ) → turnNetwork p source n b .number ≢ 0 → turnNetwork p source n b .after ≡ n
   unfolding turnNetwork
@@ -407,7 +404,7 @@ module _ (p : Plan) (source : List ℕ) (n : Network) where
       go : Dec (b < p .processors) → turnApart p source (n .areas) b .after ≡ n .areas
       go (yes h) =
           after-of (turn-here p source (n .areas) b h)
-          ∙ ap (replaced (n .areas) b) (turn-refused p source (n .areas b) b (λ z. k (number-of (turn-here p source (n .areas) b h) ∙ z)))
+          ∙ ap (replaced (n .areas) b) (by-refusal p source (n .areas b) b (λ z. k (number-of (turn-here p source (n .areas) b h) ∙ z)))
           ∙ replaced-own (n .areas) b
       go (no q) = after-of (turn-nowhere p source (n .areas) b (omega arith))
 
@@ -423,7 +420,7 @@ module _ (p : Plan) (source : List ℕ) (n : Network) where
 pub alive-fine : (p : Plan) (source : List ℕ) (n : Network) → Alive p source n → FineNetwork p n
 alive-fine p source n al =
     record {
-      areas = record { shape = λ b h. al .each b h .shape; high = λ b h. al .each b h .marks .high };
+      areas = record { shape = λ b h. al .each b h .held .shape; high = λ b h. al .each b h .held .statuses .high };
       low = λ k h. al .right k h .low;
       long = λ k h. ap length (al .right k h .words) ∙ length-map (heldBy p (packetAt (n .packets) k .message)) _;
     }

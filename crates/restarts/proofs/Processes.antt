@@ -116,7 +116,7 @@ module _ (p : Plan) (so : Sound p) (source : List ℕ) (role : Roles) (n : Netwo
           go (yes e) = rw (more-home e) (se .right)
           go (no k) =
               rw (more-away k)
-              (right-more (n .packets) packet p source (se .right) (record { low = lo; away = k; words = li .right .buffered m lo sent }))
+              (right-more (n .packets) packet p source (se .right) (record { low = lo; away = k; words = li .held .right .buffered m lo sent }))
 
     -- only its own messages are in flight here
     own-flight : (m : ℕ) → m < count p → statusOf s m ≡ 1 → senderAt p m ≡ role c
@@ -124,7 +124,7 @@ module _ (p : Plan) (so : Sound p) (source : List ℕ) (role : Roles) (n : Netwo
       where
         go : Dec (senderAt p m ≡ role c) → senderAt p m ≡ role c
         go (yes e) = e
-        go (no k) = absurd (li .marks .no-flight m lo k one-here)
+        go (no k) = absurd (li .no-flight m lo k one-here)
 
   -- ---- when an event gives 0
   module _ (c m : ℕ) where
@@ -201,7 +201,7 @@ module _ (p : Plan) (so : Sound p) (source : List ℕ) (role : Roles) (n : Netwo
     unfolding prog
     post-left m lo y =
         let x = one-true (eq-eqb 0 0 refl) in
-        let z = by-post p (role c) (n .areas c) (marked (n .areas c) m) m lo (λ u. refl) (status-two p (role c) (n .areas c) m lo (se .each c .shape))
+        let z = by-post p (role c) (n .areas c) (marked (n .areas c) m) m lo (λ u. refl) (status-two p (role c) (n .areas c) m lo (se .each c .held .shape))
         (λ k e. status-rest p (role c) (n .areas c) m lo k e) (own-flight c m lo y) y in
         omega arith
 
@@ -211,7 +211,7 @@ module _ (p : Plan) (so : Sound p) (source : List ℕ) (role : Roles) (n : Netwo
     arrival-left m ws lo t away y =
         let x = one-true (eq-eqb 0 0 refl) in
         let z = by-arrival p (role c) (n .areas c) (received p (n .areas c) m ws) m lo (λ u. refl)
-        (status-two p (role c) (n .areas c) m lo (se .each c .shape)) (λ k e. status-rest p (role c) (n .areas c) m lo k e) t away y in
+        (status-two p (role c) (n .areas c) m lo (se .each c .held .shape)) (λ k e. status-rest p (role c) (n .areas c) m lo k e) t away y in
         omega arith
 
   -- ---- what each event does
@@ -445,7 +445,7 @@ module _ (p : Plan) (so : Sound p) (source : List ℕ) (role : Roles) (acts : Ne
           same-words = λ i k h l e. se .right i h .words ∙ ap (λ (m : ℕ). map (swept p source) (heldBy p m)) e ∙ sym (se .right k l .words);
           calculated = λ q i c h k j. own-right p source (role q) (N .areas q) (se .each q) i h k c j;
           taken = λ q i m c h k lo to j. got-right p source (role q) (N .areas q) (se .each q) i h k m c lo to j;
-          holds = λ q m lo k. se .each q .right .buffered m lo k;
+          holds = λ q m lo k. se .each q .held .right .buffered m lo k;
           part-right = λ q c f h i e. part-right p so source (role q) (N .areas q) (se .each q) c f h i e;
           can-collect = λ who ch f grid. finished-collects p (areasOf N who) grid f;
           then-finished = λ who ch grid z. collects-finished p (areasOf N who) grid z;

@@ -55,7 +55,7 @@ module _ (p : Plan) (source : List ℕ) (b : ℕ) (s : State) (li : Life p sourc
       omega (arith, q .1)
 
   pub own-right : Calculated s b i → (c : ℕ) → In c (p .cellsOf t) → getD (memoryOf p s b) c 0 ≡ swept p source c
-  own-right k c j = rw (at-is (p .processorOf) b (p .tiles) i h) at (li .right .own t c (at-low (p .processorOf) b (p .tiles) i h) (two k) j)
+  own-right k c j = rw (at-is (p .processorOf) b (p .tiles) i h) at (li .held .right .own t c (at-low (p .processorOf) b (p .tiles) i h) (two k) j)
     where
       two : Calculated s b i → 2 ≤ prog p s t
       two (inl q) = prog-t 2 (omega arith) (inl q)
@@ -63,7 +63,7 @@ module _ (p : Plan) (source : List ℕ) (b : ℕ) (s : State) (li : Life p sourc
 
   pub got-right : Gathered s b i → (m c : ℕ) → m < count p → takerOf p m ≡ t → In c (heldBy p m) → getD (memoryOf p s b) c 0 ≡ swept p source c
   got-right k m c lo to j =
-      rw (ap (p .processorOf) to ∙ at-is (p .processorOf) b (p .tiles) i h) at (li .right .got m c lo (rw to (one-deed k)) j)
+      rw (ap (p .processorOf) to ∙ at-is (p .processorOf) b (p .tiles) i h) at (li .held .right .got m c lo (rw to (one-deed k)) j)
     where
       one-deed : Gathered s b i → 1 ≤ prog p s t
       one-deed (inl q) = prog-t 1 (omega arith) (inl q)
@@ -88,7 +88,7 @@ module _ (p : Plan) (so : Sound p) (source : List ℕ) (b : ℕ) (s : State) (li
   pub part-right : (c : ℕ) → tilesLeft p s b ≡ false → c < p .cells → p .inside c ≡ true → p .processorOf (p .tileOf c) ≡ b
       → getD (memoryOf p s b) c 0 ≡ getD (sweep p source) c 0
   unfolding tilesLeft
-  part-right c f h i e = rw e at (li .right .own (p .tileOf c) c lo (omega (arith, all)) (so .cell-in c h i))
+  part-right c f h i e = rw e at (li .held .right .own (p .tileOf c) c lo (omega (arith, all)) (so .cell-in c h i))
     where
       lo : p .tileOf c < p .tiles
       lo = so .tile-low c h i
@@ -249,13 +249,13 @@ module _ (p : Plan) (so : Sound p) (source : List ℕ) (acts : Network → LifeE
           same-words = λ i k h l e. al .right i h .words ∙ ap (λ (m : ℕ). map (swept p source) (heldBy p m)) e ∙ sym (al .right k l .words);
           calculated = λ b i c low h k j. own-right p source b (N .areas b) (al .each b low) i h k c j;
           taken = λ b i m c low h k lo to j. got-right p source b (N .areas b) (al .each b low) i h k m c lo to j;
-          holds = λ b m low lo k. al .each b low .right .buffered m lo k;
+          holds = λ b m low lo k. al .each b low .held .right .buffered m lo k;
           can-collect = λ f grid. finished-collects p (N .areas) grid f;
           then-finished = λ grid z. collects-finished p (N .areas) grid z;
           grid = collects-right p so source (N .areas) (al .each);
           joins = λ grid len.
-              like (joined p (N .areas)) (joined-shape p (N .areas) (λ b h. al .each b h .shape)) grid len
-              ∙ joined-collects p so (N .areas) (λ b h. al .each b h .shape) grid;
+              like (joined p (N .areas)) (joined-shape p (N .areas) (λ b h. al .each b h .held .shape)) grid len
+              ∙ joined-collects p so (N .areas) (λ b h. al .each b h .held .shape) grid;
           part-right = λ b c low f h i e. part-right p so source b (N .areas b) (al .each b low) c f h i e;
           goes-on = λ b low l. event N al b low l;
           goes-without = λ b low l. without N al (way p so source (N .areas) (al .each) b low l);
