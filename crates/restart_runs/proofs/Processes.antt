@@ -1,6 +1,6 @@
 -- The calls of processes that are one processor at the same time answer, event by event, as crate restarts has it on the recipe's plan.
 use Prim.Native.Nat.{ℕ, _<_}
-use mathlib.Core.Path.{_≡_, refl, sym, ap, _∙_, fun-ext}
+use mathlib.Core.Path.{_≡_, refl, sym, ap, _∙_}
 use mathlib.Core.Logic.{_≢_}
 use mathlib.Core.Bool.{true}
 use mathlib.Core.List.{List, [], _++_, append-nil}
@@ -28,7 +28,7 @@ use Rattle.recipe.proofs.Laws.{reads-for}
 use Rattle.network.specs.Apart.{Areas, replaced, marked, received}
 use Rattle.network.specs.Transport.{copied}
 use Rattle.network.specs.Packets.{Packet, Network, networkOf, packetAt}
-use Rattle.network.proofs.Letters.{replaced-same, replaced-other, words-fit}
+use Rattle.network.proofs.Letters.{words-fit}
 use Rattle.network.proofs.Network.{zero-answer, some-answer}
 use Rattle.network.proofs.Transport.{copied-both}
 use Rattle.network.proofs.Locality.{source-same}
@@ -40,16 +40,10 @@ use Rattle.network_runs.proofs.AsNetwork.{own-word, lent-areas, shape-areas}
 use Rattle.restarts.specs.Processes.{Roles, ProcessEvent, startOf, turnFrom, postFrom, repostFrom, arrivalAt, postedFrom, postFromLines, arrivalAtLines}
 use Rattle.restarts.specs.Processes.{actProcess, ByProcesses}
 use Rattle.restarts.proofs.Life.{fresh-lives, life-fit}
+use Rattle.restarts.proofs.Lives.{replaced-own}
 use Rattle.restarts.proofs.Processes.{Several, arrival-asked, by-processes}
 use Rattle.restart_runs.specs.Processes.{callsProcess, startProcesses, BegunProcesses, ProcessDemands}
 use Rattle.restart_runs.proofs.Demands.{fresh-clean}
-
-replaced-own : (a : Areas) (b : ℕ) → replaced a b (a b) ≡ a
-replaced-own a b = fun-ext (λ c. go c (ℕ-discrete c b))
-  where
-    go : (c : ℕ) → Dec (c ≡ b) → replaced a b (a b) c ≡ a c
-    go c (yes e) = replaced-same a b (a b) c e ∙ ap a (sym e)
-    go c (no k) = replaced-other a b (a b) c k
 
 module _ (bytes : List ℕ) (route : ℕ) (source : List ℕ) (role : Roles) (sources : Sources) (lent : Areas)
     (bg : BegunProcesses bytes route source role sources lent) where

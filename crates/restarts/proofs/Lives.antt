@@ -389,7 +389,7 @@ module _ (p : Plan) (so : Sound p) (source : List ℕ) (n : Network) (al : Alive
       go (no q) = rw (arrive-some p n i q) two
 
 -- ---- an event that is refused changes nothing
-replaced-own : (a : Areas) (b : ℕ) → replaced a b (a b) ≡ a
+pub replaced-own : (a : Areas) (b : ℕ) → replaced a b (a b) ≡ a
 replaced-own a b = fun-ext (λ c. go c (ℕ-discrete c b))
   where
     go : (c : ℕ) → Dec (c ≡ b) → replaced a b (a b) c ≡ a c

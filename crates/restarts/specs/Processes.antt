@@ -112,6 +112,13 @@ module _ (acts : Network → ProcessEvent → Answered Network) (start : Network
   now = last acts start events
 
   pub record ByProcesses (p : Plan) (source : List ℕ) (role : Roles) : Type 0 where
+    -- a process can start at any time: it has nothing then, and nothing else is changed
+    pub starts : (q : ℕ) → acts now (startOf q) ≡ record { number = 0; after = networkOf (replaced (now .areas) q (fresh p)) (now .packets) }
+    -- an event that is refused changes nothing
+    pub refused : (e : ProcessEvent) → acts now e .number ≢ 0 → acts now e .after ≡ now
+    -- and a packet that comes to a process of its taker where its message's status isn't 0, by whichever process it was posted, is refused
+    pub turned-away : (q k : ℕ) → k < length (now .packets) → takerAt p (packetAt (now .packets) k .message) ≡ role q
+        → statusAt (now .areas) q (packetAt (now .packets) k .message) ≢ 0 → acts now (arrivalAt q k) .number ≡ 14
     -- every packet ever posted, by whichever process, goes from one processor to another and has the sweep's words of its message's cells
     pub goes : (k : ℕ) → k < length (now .packets)
         → (packetAt (now .packets) k .message < count p)
