@@ -7,6 +7,7 @@ use native.Mathlib.Omega.{arith}
 use native.Mathlib.Decide.{decLt}
 use lib.ListN.{length}
 use borrow.Author.Tests.{lt-ltb, le-ltb}
+use Rattle.base.specs.Numbers.{firstOf}
 use Rattle.base.proofs.Tests.{not-true, pick-true, pick-false}
 use Rattle.base.proofs.Numbers.{first-nil, first-false, first-behind}
 use Rattle.machine.specs.Plan.{Plan, Sound}
@@ -38,6 +39,15 @@ use Rattle.restarts.proofs.FairLoss.{fair-ends, loss-fair}
 use Rattle.restart_runs.specs.Calls.{restartByCall, callsLives}
 use Rattle.restart_runs.specs.Demands.{RestartDemands}
 
+-- a fresh start in areas of their lengths
+pub fresh-clean : (bytes : List ℕ) (route : ℕ) → firstOf (linesFor (routeOf route) bytes) ≡ 0 → (source : List ℕ) (s : State)
+    → areas (recipe bytes route) source s ≡ true → freshCall bytes route source s ≡ record { number = 0; after = fresh (recipe bytes route) }
+unfolding freshCall
+fresh-clean bytes route ok source s h =
+    zero-answer _ _ _
+    (first-behind (linesFor (routeOf route) bytes) (areaLines (recipe bytes route) source s) (numbered-for (routeOf route) bytes) ok
+    ∙ first-false 9 _ [] (not-true h) ∙ first-nil)
+
 module _ (bytes : List ℕ) (route : ℕ) (source : List ℕ) (sources : Sources) (lent : Areas) (bg : Begun bytes route source sources lent) where
   abbrev p : Plan
   p = recipe bytes route
@@ -48,13 +58,8 @@ module _ (bytes : List ℕ) (route : ℕ) (source : List ℕ) (sources : Sources
   long : (b : ℕ) → b < p .processors → length (sources b) ≡ p .cells
   long b h = areas-are p (sources b) (lent b) (fresh-gave bytes route (sources b) (lent b) (bg .gave b h) .1) .source
 
-  -- a fresh start in areas of their lengths
   clean : (b : ℕ) (s : State) → areas p (sources b) s ≡ true → freshCall bytes route (sources b) s ≡ record { number = 0; after = fresh p }
-  unfolding freshCall
-  clean b s h =
-      zero-answer _ _ _
-      (first-behind (linesFor (routeOf route) bytes) (areaLines p (sources b) s) (numbered-for (routeOf route) bytes) (bg .accepted)
-      ∙ first-false 9 _ [] (not-true h) ∙ first-nil)
+  clean b s h = fresh-clean bytes route (bg .accepted) (sources b) s h
 
   start-is : (b : ℕ) → b < p .processors → startCalls bytes route sources lent b ≡ fresh p
   unfolding startCalls

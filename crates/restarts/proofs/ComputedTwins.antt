@@ -11,7 +11,7 @@ use Rattle.machine.specs.Runs.{stateAfter, answersTo, answers, last}
 use Rattle.network.specs.Apart.{startApart, replaced, assembled, collectApart}
 use Rattle.network.specs.Packets.{startNetwork}
 use Rattle.network.proofs.Computed.{line3, source3, valueAt}
-use Rattle.restarts.specs.Processes.{ProcessEvent, startOf, turnFrom, postFrom, repostFrom, arrivalAt, postedFrom, actProcess, areasOf}
+use Rattle.restarts.specs.Processes.{ProcessEvent, startOf, turnFrom, postFrom, repostFrom, arrivalAt, postedFrom, repostBy, actProcess, areasOf}
 
 -- processes 0 and 2 are processor 0, process 1 is processor 1
 unfoldable twins : ℕ → ℕ
@@ -32,7 +32,7 @@ both-run =
 numbers : answers (actProcess line3 source3 twins) (startNetwork line3) both-run
     ≡ 0 ∷ 0 ∷ 0 ∷ 0 ∷ 0 ∷ 0 ∷ 0 ∷ 0 ∷ 0 ∷ 0 ∷ 0 ∷ 0 ∷ 0 ∷ 0 ∷ 0 ∷ 0 ∷ 11 ∷ 0 ∷ 14 ∷ 0 ∷ 0 ∷ 0 ∷ 0 ∷ 0 ∷ []
 unfolding line3 valueAt source3 those keep offset part put unpack unpackAll setAll storeAll pack allAt every some one countIf not pick _and_ _or_ firstOf
-    setProgress tilesLeft fitRecord fit afterSends carryOut actionAt waiting turn fresh startApart replaced stateAfter answersTo actProcess postedFrom twins
+    setProgress tilesLeft fitRecord fit afterSends carryOut actionAt waiting turn fresh startApart replaced stateAfter answersTo actProcess repostBy postedFrom twins
     whole both-run
 numbers = refl
 
@@ -40,7 +40,7 @@ numbers = refl
 packets : last (actProcess line3 source3 twins) (startNetwork line3) both-run .packets
     ≡ record { message = 1; words = 3 ∷ [] } ∷ record { message = 1; words = 3 ∷ [] } ∷ record { message = 1; words = 3 ∷ [] } ∷ []
 unfolding line3 valueAt source3 those keep offset part put unpack unpackAll setAll storeAll pack allAt every some one countIf not pick _and_ _or_ firstOf
-    setProgress tilesLeft fitRecord fit afterSends carryOut actionAt waiting turn fresh startApart replaced stateAfter answersTo actProcess postedFrom twins
+    setProgress tilesLeft fitRecord fit afterSends carryOut actionAt waiting turn fresh startApart replaced stateAfter answersTo actProcess repostBy postedFrom twins
     whole both-run
 packets = refl
 
@@ -55,12 +55,12 @@ from0 (suc b) = 1
 
 grid : collectApart line3 (areasOf (last (actProcess line3 source3 twins) (startNetwork line3) both-run) from2) (7 ∷ 7 ∷ 7 ∷ []) .after ≡ 1 ∷ 3 ∷ 6 ∷ []
 unfolding line3 valueAt source3 those keep offset part put unpack unpackAll setAll storeAll pack allAt every some one countIf not pick _and_ _or_ firstOf
-    setProgress tilesLeft fitRecord fit afterSends carryOut actionAt waiting turn fresh startApart replaced stateAfter answersTo actProcess postedFrom twins
+    setProgress tilesLeft fitRecord fit afterSends carryOut actionAt waiting turn fresh startApart replaced stateAfter answersTo actProcess repostBy postedFrom twins
     whole both-run from2 collectApart assembled tabulate
 grid = refl
 
 early : collectApart line3 (areasOf (last (actProcess line3 source3 twins) (startNetwork line3) both-run) from0) (7 ∷ 7 ∷ 7 ∷ []) .number ≡ 15
 unfolding line3 valueAt source3 those keep offset part put unpack unpackAll setAll storeAll pack allAt every some one countIf not pick _and_ _or_ firstOf
-    setProgress tilesLeft fitRecord fit afterSends carryOut actionAt waiting turn fresh startApart replaced stateAfter answersTo actProcess postedFrom twins
+    setProgress tilesLeft fitRecord fit afterSends carryOut actionAt waiting turn fresh startApart replaced stateAfter answersTo actProcess repostBy postedFrom twins
     whole both-run from0 collectApart assembled tabulate
 early = refl

@@ -18,7 +18,7 @@ use Rattle.network.proofs.Network.{arrive-gives}
 use Rattle.restarts.specs.Restarts.{LifeEvent, plain, repostOf, restartOf, repost, actLives, Finished}
 use Rattle.restarts.specs.FairLoss.{Endless, firsts, newStart, Later, Awaited, when, Arrives, Fair, FairLoss, Ends}
 use Rattle.restarts.proofs.Measure.{leftHere}
-use Rattle.restarts.proofs.Lives.{Alive, two-stays, repost-gives, repost-zero, lives-stay, run-alive}
+use Rattle.restarts.proofs.Lives.{Alive, two-stays, over-stays, repost-gives, repost-zero, lives-stay, run-alive}
 use Rattle.restarts.proofs.Ways.{Way, way}
 use Rattle.restarts.proofs.Theorem.{turn-number, post-number, number-is, less, by-lives}
 
@@ -55,6 +55,13 @@ module _ (p : Plan) (so : Sound p) (source : List ℕ) (acts : Network → LifeE
     two-next c m lo (plain e) z two = rw (same n al (plain e)) (two-stays p so source n al c m lo two e)
     two-next c m lo (repostOf k) z two = rw (same n al (repostOf k), again-areas k) two
     two-next c m lo (restartOf b) z two = absurd (true≢false z)
+
+    -- who has no tiles left has none then
+    over-next : (b : ℕ) (e : LifeEvent) → newStart e ≡ false → tilesLeft p (n .areas b) b ≡ false → tilesLeft p (acts n e .after .areas b) b ≡ false
+    unfolding newStart actLives
+    over-next b (plain e) z o = rw (same n al (plain e)) (over-stays p source n b o e)
+    over-next b (repostOf k) z o = rw (same n al (repostOf k), again-areas k) o
+    over-next b (restartOf c) z o = absurd (true≢false z)
 
   module _ (start : Network) (begins : Alive p source start) (es : Endless) where
     abbrev at : ℕ → Network
@@ -105,6 +112,15 @@ module _ (p : Plan) (so : Sound p) (source : List ℕ) (acts : Network → LifeE
 
       two-later : (n k c m : ℕ) → calm ≤ n → n ≤ k → m < count p → 2 ≤ statusAt (at n .areas) c m → 2 ≤ statusAt (at k .areas) c m
       two-later n k c m h l lo q = let e : n + (k - n) ≡ k = omega arith in rw e at (two-in (k - n) n c m h lo q)
+
+      over-in : (d n b : ℕ) → calm ≤ n → tilesLeft p (at n .areas b) b ≡ false → tilesLeft p (at (n + d) .areas b) b ≡ false
+      over-in zero n b h o = let e : n + 0 ≡ n = omega arith in rw e o
+      over-in (suc d) n b h o =
+          let e : n + suc d ≡ suc (n + d) = omega arith in
+          rw (e, at-next (n + d)) (over-next (at (n + d)) (alive-at (n + d)) b (es (n + d)) (no-start (n + d) (omega arith)) (over-in d n b h o))
+
+      over-later : (n k b : ℕ) → calm ≤ n → n ≤ k → tilesLeft p (at n .areas b) b ≡ false → tilesLeft p (at k .areas b) b ≡ false
+      over-later n k b h l o = let e : n + (k - n) ≡ k = omega arith in rw e at (over-in (k - n) n b h o)
 
     -- ---- nothing is put off for ever
     module _ (fair : Fair acts start es p) where
@@ -165,14 +181,14 @@ module _ (p : Plan) (so : Sound p) (source : List ℕ) (acts : Network → LifeE
           let r = fair .arrivals m n lo in by-arrival n m two none (r .0) (r .1) (r .2) (fell (fair .tries .calm) (fair .tries .no-start) n (r .0) h (r .1))
 
       Finishes : Type 0
-      Finishes = (k : ℕ) × Finished p (at k .areas)
+      Finishes = (k : ℕ) × (fair .tries .calm ≤ k) × Finished p (at k .areas)
 
       finishes : (f n : ℕ) → fair .tries .calm ≤ n → leftAt n ≤ f → Finishes
       unfolding Finishes Falls
       finishes zero n h l = go (some (λ b. tilesLeft p (at n .areas b) b) (p .processors)) refl
         where
           go : (t : Bool) → some (λ b. tilesLeft p (at n .areas b) b) (p .processors) ≡ t → Finishes
-          go false e = (n, none-some (λ b. tilesLeft p (at n .areas b) b) (p .processors) e)
+          go false e = (n, h, none-some (λ b. tilesLeft p (at n .areas b) b) (p .processors) e)
           go true e =
               let r = some-at (λ b. tilesLeft p (at n .areas b) b) (p .processors) e in
               let x = falls n h (way p so source (at n .areas) (alive-at n .each) (r .0) (r .1) (r .2)) in
@@ -181,7 +197,7 @@ module _ (p : Plan) (so : Sound p) (source : List ℕ) (acts : Network → LifeE
         where
           go : (t : Bool) → some (λ b. tilesLeft p (at n .areas b) b) (p .processors) ≡ t
               → ((k : ℕ) → fair .tries .calm ≤ k → leftAt k ≤ f → Finishes) → Finishes
-          go false e ih = (n, none-some (λ b. tilesLeft p (at n .areas b) b) (p .processors) e)
+          go false e ih = (n, h, none-some (λ b. tilesLeft p (at n .areas b) b) (p .processors) e)
           go true e ih =
               let r = some-at (λ b. tilesLeft p (at n .areas b) b) (p .processors) e in
               let x = falls n h (way p so source (at n .areas) (alive-at n .each) (r .0) (r .1) (r .2)) in
@@ -191,12 +207,17 @@ module _ (p : Plan) (so : Sound p) (source : List ℕ) (acts : Network → LifeE
       unfolding Finishes
       fair-ends =
           let r : Finishes = finishes (leftAt (fair .tries .calm)) (fair .tries .calm) (omega arith) (omega arith) in
-          let by = by-lives p so source acts same start begins (firsts es (r .0)) (collect p) (λ s sh grid len. refl) in
           record {
             at = r .0;
-            finished = r .1;
-            grid = λ old. both-are (collectApart p (at (r .0) .areas) old) (by .can-collect (r .1) old) (by .grid old (by .can-collect (r .1) old));
+            finished = λ k h. over r k h;
+            grid = λ k h old.
+                let by = by-lives p so source acts same start begins (firsts es k) (collect p) (λ s sh grid len. refl) in
+                let z = by .can-collect (over r k h) old in
+                both-are (collectApart p (at k .areas) old) z (by .grid old z);
           }
+        where
+          over : (r : Finishes) (k : ℕ) → r .0 ≤ k → Finished p (at k .areas)
+          over r k h b low = over-later (fair .tries .calm) (fair .tries .no-start) (r .0) k b (r .1) h (r .2 b low)
 
     -- ---- what is posted again and again is not all lost
     module _ (fl : FairLoss acts start es p) where

@@ -2,21 +2,22 @@
 use Prim.Native.Nat.{ℕ, zero, suc, _+_, _≤_, _<_}
 use mathlib.Core.Path.{_≡_, refl, sym, ap, _∙_, fun-ext}
 use mathlib.Core.Logic.{_⊎_, inl, inr, _≢_}
+use mathlib.Core.Bool.{false}
 use mathlib.Core.List.{List, [], _∷_, _++_, append-nil}
 use native.Mathlib.Omega.{arith}
 use native.Mathlib.Decide.{decLt, ℕ-discrete}
 use lib.ListN.{length, length-append, length-map, List·getD-append}
 use lib.Seq.{getD-append-seam}
 use lib.Dec.{eqb}
-use borrow.Author.Tests.{eq-eqb, ne-eqb, lt-ltb, le-ltb, ltb-true, leb-true, le-leb}
+use borrow.Author.Tests.{eq-eqb, ne-eqb, lt-ltb, le-ltb, ltb-true, ltb-false, leb-true, le-leb}
 use Rattle.base.specs.Tests.{pick, one}
 use Rattle.base.specs.Numbers.{firstOf}
 use Rattle.base.proofs.Tests.{not-true, not-false, pick-true, pick-false, one-true, one-false}
 use Rattle.base.proofs.Numbers.{first-nil, first-false, first-true}
-use Rattle.machine.specs.Plan.{Plan, Sound, count, heldBy}
-use Rattle.machine.specs.Machine.{State, placeOf, Answered, turn, fresh}
+use Rattle.machine.specs.Plan.{Plan, Sound, count, heldBy, tilesOf}
+use Rattle.machine.specs.Machine.{State, stateOf, finishedOf, placeOf, tilesLeft, Answered, turn, fresh}
 use Rattle.machine.specs.Runs.{stateAfter, answersTo}
-use Rattle.machine.proofs.Turns.{by-refusal}
+use Rattle.machine.proofs.Turns.{Turned, turned, by-refusal}
 use Rattle.machine.proofs.Progress.{prog}
 use Rattle.machine.proofs.Invariant.{pending}
 use Rattle.machine.proofs.Kept.{statusOf}
@@ -388,8 +389,54 @@ module _ (p : Plan) (so : Sound p) (source : List ℕ) (n : Network) (al : Alive
           (al .right i (arrive-asks p n i z .0) .low)))
       go (no q) = rw (arrive-some p n i q) two
 
+-- ---- a processor with no tiles left has none until it starts again
+module _ (p : Plan) (source : List ℕ) (n : Network) (b : ℕ) (over : tilesLeft p (n .areas b) b ≡ false) where
+  over-replaced : (c : ℕ) (s : State) → (b ≡ c → tilesLeft p s b ≡ false) → tilesLeft p (replaced (n .areas) c s b) b ≡ false
+  over-replaced c s f = go (ℕ-discrete b c)
+    where
+      go : Dec (b ≡ c) → tilesLeft p (replaced (n .areas) c s b) b ≡ false
+      go (yes e) = ap (λ (x : State). tilesLeft p x b) (replaced-same (n .areas) c s b e) ∙ f e
+      go (no k) = ap (λ (x : State). tilesLeft p x b) (replaced-other (n .areas) c s b k) ∙ over
+
+  -- its turns are refused
+  over-turned : (a : Answered State) → Turned p source (n .areas b) b a → tilesLeft p (a .after) b ≡ false
+  unfolding tilesLeft
+  over-turned a (Turned.unfit h) = over
+  over-turned a (Turned.no-such h) = over
+  over-turned a (Turned.waits m low h g i k) = absurd (omega (arith, h, ltb-false (finishedOf (n .areas b) b) (length (tilesOf p b)) over))
+  over-turned a (Turned.over h) = over
+  over-turned a (Turned.gathers low h g f) = absurd (omega (arith, h, ltb-false (finishedOf (n .areas b) b) (length (tilesOf p b)) over))
+  over-turned a (Turned.calculates low h g) = absurd (omega (arith, h, ltb-false (finishedOf (n .areas b) b) (length (tilesOf p b)) over))
+  over-turned a (Turned.sends low h g) = absurd (omega (arith, h, ltb-false (finishedOf (n .areas b) b) (length (tilesOf p b)) over))
+
+  over-turn : (c : ℕ) → b ≡ c → tilesLeft p (turn p source (n .areas c) c .after) b ≡ false
+  over-turn c e = rw (sym e) (over-turned _ (turned p source (n .areas b) b))
+
+  -- a mark changes no record
+  over-marked : (c : ℕ) → b ≡ c → (x y : List ℕ) → tilesLeft p (stateOf (n .areas c .memories) x (n .areas c .progress) y) b ≡ false
+  unfolding tilesLeft
+  over-marked c e x y = ap (λ (i : ℕ). tilesLeft p (n .areas i) b) (sym e) ∙ over
+
+  pub over-stays : (e : NetworkEvent) → tilesLeft p (actNetwork p source n e .after .areas b) b ≡ false
+  unfolding actNetwork turnNetwork sentOff arrived
+  over-stays (turnBy c) = go (decLt c (p .processors))
+    where
+      go : Dec (c < p .processors) → tilesLeft p (turnApart p source (n .areas) c .after b) b ≡ false
+      go (yes h) = rw (turn-here p source (n .areas) c h) (over-replaced c _ (over-turn c))
+      go (no k) = rw (turn-nowhere p source (n .areas) c (omega arith)) over
+  over-stays (postOf k) = go (ℕ-discrete (post p n k .number) 0)
+    where
+      go : Dec (post p n k .number ≡ 0) → tilesLeft p (post p n k .after .areas b) b ≡ false
+      go (yes z) = rw (post-zero p n k z) (over-replaced (senderAt p k) _ (λ e. over-marked (senderAt p k) e _ _))
+      go (no q) = rw (post-some p n k q) over
+  over-stays (arrivalOf i) = go (ℕ-discrete (arrive p n i .number) 0)
+    where
+      go : Dec (arrive p n i .number ≡ 0) → tilesLeft p (arrive p n i .after .areas b) b ≡ false
+      go (yes z) = rw (arrive-zero p n i z) (over-replaced (takerAt p (packetAt (n .packets) i .message)) _ (λ e. over-marked _ e _ _))
+      go (no q) = rw (arrive-some p n i q) over
+
 -- ---- an event that is refused changes nothing
-replaced-own : (a : Areas) (b : ℕ) → replaced a b (a b) ≡ a
+pub replaced-own : (a : Areas) (b : ℕ) → replaced a b (a b) ≡ a
 replaced-own a b = fun-ext (λ c. go c (ℕ-discrete c b))
   where
     go : (c : ℕ) → Dec (c ≡ b) → replaced a b (a b) c ≡ a c

@@ -11,10 +11,12 @@ use lib.Seq.{getD-append-seam}
 use lib.Dec.{eqb}
 use borrow.Author.Tests.{eq-eqb, ne-eqb, eqb-true, ltb-true, lt-ltb, leb-true, le-leb}
 use Rattle.base.specs.Tests.{_and_, one}
-use Rattle.base.proofs.Tests.{both, and-true, and-left, and-false, and-no, pick-true, pick-false, one-true, one-false}
+use Rattle.base.proofs.Numbers.{first-false, first-true}
+use Rattle.base.proofs.Tests.{not-true, not-false, both, and-true, and-left, and-false, and-no, pick-true, pick-false, one-true, one-false}
 use Rattle.machine.specs.Plan.{Plan, Sound, count, heldBy}
 use Rattle.machine.specs.Machine.{State, Answered, placeOf, turn, fresh}
 use Rattle.machine.specs.Runs.{stateAfter, answersTo, answers}
+use Rattle.machine.proofs.Turns.{by-refusal}
 use Rattle.machine.proofs.Progress.{prog}
 use Rattle.machine.proofs.Kept.{swept, statusOf}
 use Rattle.machine.proofs.Events.{Refused}
@@ -25,11 +27,11 @@ use Rattle.network.proofs.Letters.{replaced-same, replaced-other}
 use Rattle.network.proofs.Carry.{status-two, status-rest}
 use Rattle.network.proofs.Network.{Correct, zero-answer, some-answer, two-lines, lines-two}
 use Rattle.restarts.specs.Restarts.{workOf}
-use Rattle.restarts.specs.Processes.{Roles, ProcessEvent, startOf, turnFrom, postFrom, repostFrom, arrivalAt, postedFrom, actProcess, deedBy, deedsBy}
-use Rattle.restarts.specs.Processes.{startBy, startsBy, Chooses, areasOf, GoesFor, now, ByProcesses, MachineByProcesses}
+use Rattle.restarts.specs.Processes.{Roles, ProcessEvent, startOf, turnFrom, postFrom, repostFrom, arrivalAt, postedFrom, repostBy, actProcess, deedBy}
+use Rattle.restarts.specs.Processes.{deedsBy, startBy, startsBy, Chooses, areasOf, GoesFor, now, ByProcesses, MachineByProcesses}
 use Rattle.restarts.proofs.Life.{Life, Lived, turn-lives, post-lives, arrival-lives, fresh-lives}
 use Rattle.restarts.proofs.Measure.{taker-at, leftHere, left-any, left-deed, left-post, left-arrival}
-use Rattle.restarts.proofs.Lives.{right-more}
+use Rattle.restarts.proofs.Lives.{right-more, replaced-own}
 use Rattle.restarts.proofs.Ways.{Way, way}
 use Rattle.restarts.proofs.Theorem.{own-right, got-right, part-right, finished-collects, collects-finished, collects-right}
 
@@ -137,18 +139,18 @@ module _ (p : Plan) (so : Sound p) (source : List ℕ) (role : Roles) (n : Netwo
     post-allowed lo y = lines-two _ _ (lt-ltb m (count p) lo) (eq-eqb _ 1 y)
 
     repost-asked : actProcess p source role n (repostFrom c m) .number ≡ 0 → (m < count p) × (2 ≤ statusAt (n .areas) c m)
-    unfolding actProcess
+    unfolding actProcess repostBy
     repost-asked z = let k = two-lines _ _ z in (ltb-true _ _ (k .0), leb-true _ _ (k .1))
 
     repost-allowed : m < count p → 2 ≤ statusAt (n .areas) c m → actProcess p source role n (repostFrom c m) .number ≡ 0
-    unfolding actProcess
+    unfolding actProcess repostBy
     repost-allowed lo y = lines-two _ _ (lt-ltb m (count p) lo) (le-leb _ _ y)
 
   module _ (c k : ℕ) where
     abbrev here-m : ℕ
     here-m = packetAt (n .packets) k .message
 
-    arrival-asked : actProcess p source role n (arrivalAt c k) .number ≡ 0
+    pub arrival-asked : actProcess p source role n (arrivalAt c k) .number ≡ 0
         → (k < length (n .packets)) × (takerAt p here-m ≡ role c) × (statusAt (n .areas) c here-m ≡ 0)
     unfolding actProcess
     arrival-asked z =
@@ -160,6 +162,23 @@ module _ (p : Plan) (so : Sound p) (source : List ℕ) (role : Roles) (n : Netwo
         → actProcess p source role n (arrivalAt c k) .number ≡ 0
     unfolding actProcess
     arrival-allowed lo t y = lines-two _ _ (and-true (lt-ltb k _ lo) (eq-eqb _ _ t)) (eq-eqb _ 0 y)
+
+    arrival-away : k < length (n .packets) → takerAt p here-m ≡ role c → statusAt (n .areas) c here-m ≢ 0
+        → actProcess p source role n (arrivalAt c k) .number ≡ 14
+    unfolding actProcess
+    arrival-away lo t y =
+        first-false 11 _ _ (not-true (and-true (lt-ltb k _ lo) (eq-eqb _ _ t))) ∙ first-true 14 _ _ (not-false (ne-eqb _ 0 y))
+
+  -- ---- an event that is refused changes nothing
+  stays : (e : ProcessEvent) → actProcess p source role n e .number ≢ 0 → actProcess p source role n e .after ≡ n
+  unfolding actProcess repostBy
+  stays (startOf q) k = absurd (k refl)
+  stays (turnFrom q) k =
+      ap (λ (a : Areas). networkOf a (n .packets))
+      (ap (replaced (n .areas) q) (by-refusal p source (n .areas q) (role q) k) ∙ replaced-own (n .areas) q)
+  stays (postFrom q m) k = after-of (some-answer _ _ n k)
+  stays (repostFrom q m) k = after-of (some-answer _ _ n k)
+  stays (arrivalAt q i) k = after-of (some-answer _ _ n k)
 
   -- ---- what is left to each process
   module _ (q c : ℕ) where
@@ -260,12 +279,12 @@ module _ (p : Plan) (so : Sound p) (source : List ℕ) (role : Roles) (n : Netwo
 
     repost-zero : actProcess p source role n (repostFrom c m) .number ≡ 0 → actProcess p source role n (repostFrom c m)
         ≡ record { number = 0; after = networkOf (n .areas) (n .packets ++ postedFrom p (n .areas c) m) }
-    unfolding actProcess
+    unfolding actProcess repostBy
     repost-zero z = zero-answer _ _ _ z
 
     repost-some : actProcess p source role n (repostFrom c m) .number ≢ 0
         → actProcess p source role n (repostFrom c m) ≡ record { number = actProcess p source role n (repostFrom c m) .number; after = n }
-    unfolding actProcess
+    unfolding actProcess repostBy
     repost-some k = some-answer _ _ _ k
 
     posts : m < count p → statusAt (n .areas) c m ≡ 1
@@ -438,8 +457,12 @@ module _ (p : Plan) (so : Sound p) (source : List ℕ) (role : Roles) (acts : Ne
         omega arith
 
     pub by-processes : ByProcesses acts start events p source role
+    unfolding actProcess
     by-processes =
         record {
+          starts = λ q. same N se (startOf q);
+          refused = λ e k. after-of (same N se e) ∙ stays p so source role N se e (λ z. k (number-of (same N se e) ∙ z));
+          turned-away = λ q k h t y. number-of (same N se (arrivalAt q k)) ∙ arrival-away p so source role N se q k h t y;
           goes = λ k h. (se .right k h .low, se .right k h .away);
           carries = λ k h. se .right k h .words;
           same-words = λ i k h l e. se .right i h .words ∙ ap (λ (m : ℕ). map (swept p source) (heldBy p m)) e ∙ sym (se .right k l .words);

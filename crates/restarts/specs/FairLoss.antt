@@ -63,7 +63,7 @@ module _ (acts : Network → LifeEvent → Answered Network) (start : Network) (
     pub tries : Tries p
     pub arrivals : (m n : ℕ) → m < count p → Later n (λ k. Awaited p (when k) m → Arrives m k)
 
-  -- or, in two parts: what the processors do besides, and what the transport promises
+  -- or, in two parts: what the processors do besides, and what the transport promises. One who asks only while it waits is Fair all the same
   pub record FairLoss (p : Plan) : Type 0 where
     pub tries : Tries p
     -- each message that goes to another processor is asked for again and again, and its sender then tries to post it again
@@ -75,10 +75,10 @@ module _ (acts : Network → LifeEvent → Answered Network) (start : Network) (
 
   -- ---- the claim
   pub record Ends (p : Plan) (source : List ℕ) : Type 0 where
-    -- at some time no processor has tiles left, and what is collected then is the sequential sweep
+    -- from some time on no processor has tiles left, and what is collected then is the sequential sweep
     pub at : ℕ
-    pub finished : Finished p (when at .areas)
-    pub grid : (old : List ℕ) → collectApart p (when at .areas) old ≡ record { number = 0; after = sweep p source }
+    pub finished : (k : ℕ) → at ≤ k → Finished p (when k .areas)
+    pub grid : (k : ℕ) → at ≤ k → (old : List ℕ) → collectApart p (when k .areas) old ≡ record { number = 0; after = sweep p source }
 
 -- ---- of the machine
 pub record MachineEnds (p : Plan) (source : List ℕ) : Type 0 where

@@ -44,6 +44,9 @@ arrivalAtLines p role n q k =
     line 11 (not (ltb k (length (n .packets)) and eqb (takerAt p (packetAt (n .packets) k .message)) (role q))) ∷
     line 14 (not (eqb (statusAt (n .areas) q (packetAt (n .packets) k .message)) 0)) ∷ []
 
+unfoldable pub repostBy : Plan → Network → ℕ → ℕ → Answered Network
+repostBy p n q m = answered (firstOf (repostFromLines p n q m)) (networkOf (n .areas) (n .packets ++ postedFrom p (n .areas q) m)) n
+
 unfoldable pub actProcess : Plan → List ℕ → Roles → Network → ProcessEvent → Answered Network
 actProcess p source role n (startOf q) = record { number = 0; after = networkOf (replaced (n .areas) q (fresh p)) (n .packets) }
 actProcess p source role n (turnFrom q) =
@@ -54,8 +57,7 @@ actProcess p source role n (turnFrom q) =
 actProcess p source role n (postFrom q m) =
     answered (firstOf (postFromLines p n q m))
     (networkOf (replaced (n .areas) q (marked (n .areas q) m)) (n .packets ++ postedFrom p (n .areas q) m)) n
-actProcess p source role n (repostFrom q m) =
-    answered (firstOf (repostFromLines p n q m)) (networkOf (n .areas) (n .packets ++ postedFrom p (n .areas q) m)) n
+actProcess p source role n (repostFrom q m) = repostBy p n q m
 actProcess p source role n (arrivalAt q k) =
     answered (firstOf (arrivalAtLines p role n q k))
     (networkOf (replaced (n .areas) q (received p (n .areas q) (packetAt (n .packets) k .message) (packetAt (n .packets) k .words))) (n .packets)) n
@@ -110,6 +112,13 @@ module _ (acts : Network → ProcessEvent → Answered Network) (start : Network
   now = last acts start events
 
   pub record ByProcesses (p : Plan) (source : List ℕ) (role : Roles) : Type 0 where
+    -- a process can start at any time: it has nothing then, and nothing else is changed
+    pub starts : (q : ℕ) → acts now (startOf q) ≡ record { number = 0; after = networkOf (replaced (now .areas) q (fresh p)) (now .packets) }
+    -- an event that is refused changes nothing
+    pub refused : (e : ProcessEvent) → acts now e .number ≢ 0 → acts now e .after ≡ now
+    -- and a packet that comes to a process of its taker where its message's status isn't 0, by whichever process it was posted, is refused
+    pub turned-away : (q k : ℕ) → k < length (now .packets) → takerAt p (packetAt (now .packets) k .message) ≡ role q
+        → statusAt (now .areas) q (packetAt (now .packets) k .message) ≢ 0 → acts now (arrivalAt q k) .number ≡ 14
     -- every packet ever posted, by whichever process, goes from one processor to another and has the sweep's words of its message's cells
     pub goes : (k : ℕ) → k < length (now .packets)
         → (packetAt (now .packets) k .message < count p)

@@ -1,7 +1,8 @@
 -- Read this.
 -- Processors that crash and start again with nothing, and messages that are posted again: what is collected is still the sequential sweep,
 -- and once no processor crashes any more the run can still end. No processor learns of another's crash, and nothing is kept through one.
--- Renders document 01, "The machine" and "Runs", for processors that may lose all they have, and a transport of which nothing is promised.
+-- Renders document 01, "The machine" and "Runs", for processors that may lose all they have, and a transport of which nothing is promised but that what
+-- arrives was posted in this run, in whatever life of its sender.
 use Prim.Native.Nat.{ℕ, _+_, _≤_, _<_}
 use mathlib.Core.Path.{_≡_}
 use mathlib.Core.Logic.{_⊎_, _≢_}
