@@ -78,7 +78,7 @@ there-stays m k j e = go (ℕ-discrete j k)
 
 -- ---- lengths
 
-cut-length : (ws : List ℕ) (k : ℕ) → length (part ws (k * 285) 285) ≡ chunkLength (length ws) k
+pub cut-length : (ws : List ℕ) (k : ℕ) → length (part ws (k * 285) 285) ≡ chunkLength (length ws) k
 unfolding part
 cut-length ws k = length-take 285 (drop (k * 285) ws) ∙ ap (min 285) (length-drop (k * 285) ws)
 
