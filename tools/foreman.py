@@ -9,7 +9,7 @@ from desk import header, stored
 
 ROOT = os.path.join(os.path.dirname(os.path.abspath(__file__)), '..')
 
-# data/harbour/basin.txt
+# data/harbour/basin.toml
 HARBOUR = model.encode([60, 80], [10, 16], [6, 0], [(1, 0), (0, 1), (1, 1)], shift=2, boundary=4000, bounds=[(model.LOWER, 1, 0, 1, -40)])
 
 LENT = ('source', 'memories', 'buffer', 'progress', 'status', 'rounds')

@@ -21,6 +21,10 @@ HARBOUR_RECIPE = model.encode([60, 80], [10, 16], [6, 0], [[1, 0], [0, 1], [1, 1
 RECORDS = [os.path.join(HARBOUR, name) for name in ('spring.soundings', 'autumn.soundings')]
 
 
+# two rows of three cells on two processors; each cell adds the one above it
+ROWS = model.encode([2, 3], [1, 3], [2, 0], [[1, 0]])
+
+
 def harbour_text(x, y, size):
     """The harbour's chart, by the model alone."""
     nest, source = model.read(HARBOUR_RECIPE)[1], [0] * 4800
@@ -64,6 +68,51 @@ class Texts(InFolder):
     def test_corner(self):
         written = self.ends(0, 'chart', BASIN, '--soundings', *RECORDS, '--value', 3000, '--corner', 412300, -71850, '--cell', 25, '--out', '-')
         self.assertEqual(written, harbour_text(412300, -71850, 25))
+
+    def test_by_hand(self):
+        """Two rows of three cells, each adding the one above it: texts written out by hand. Of two soundings of a cell the later day counts, on one
+        day the greater survey; a cell without one has the value."""
+        recipe = self.put('recipe', ROWS)
+        head = 'ncols 3\nnrows 2\nxllcorner %d\nyllcorner %d\ncellsize %d\nNODATA_value -9999\n'
+        spring = self.put('spring', words_of([0, 9, 1, 100, 5, 9, 1, 7, 2, 9, 1, 300, 3, 9, 1, 1]))
+        autumn = self.put('autumn', words_of([5, 10, 2, 50, 0, 9, 2, 110, 4, 10, 2, 40]))
+        out = self.put('out.asc', 'as before')
+        done = command('chart', recipe, '--soundings', spring, autumn, '--out', out, '--value', 20, '--corner', -3, 20, '--cell', 50)
+        self.assertEqual(done, (0, b'', ''))
+        self.assertEqual(content_of(out).decode(), head % (-3, 20, 50) + '110 20 300\n111 60 350\n')
+        # 4,294,967,295 and 3 are 2 modulo 2^32
+        source = self.put('source', words_of([1, 2, 3, 40, 50, 2 ** 32 - 1]))
+        self.assertEqual(command('chart', recipe, '--source', source, '--out', out), (0, b'', ''))
+        self.assertEqual(content_of(out).decode(), head % (0, 0, 1) + '1 2 3\n41 52 2\n')
+        self.assertEqual(sorted(os.listdir(self.folder)), ['autumn', 'out.asc', 'recipe', 'source', 'spring'])
+
+    def test_faults_leave_the_file(self):
+        """What is refused, or can't be read or written, changes no file, and leaves none beside it."""
+        recipe, source, out = self.put('recipe', ROWS), self.put('source', bytes(24)), self.put('out.asc', 'as before')
+        off = self.put('off', words_of([0, 1, 1, 1, 6, 1, 1, 1]))
+        before = sorted(os.listdir(self.folder))
+        for status, words, told in (
+                (3, ['none', '--source', source, '--out', out], 'none: '), (1, [source, '--source', source, '--out', out], 'source: refused 1, '),
+                (1, [recipe, '--source', off, '--out', out], 'off: 32 bytes, and 24 are needed, 4 a cell'),
+                (1, [recipe, '--soundings', off, '--out', out], 'off: refused 22, '), (2, [recipe, '--source', source, '--out', out, '--cell', 0], '--cell'),
+                (3, [recipe, '--source', source, '--out', self.path('none/out')], 'none/out: '),
+                (2, [recipe, '--source', source, '--out', out, '--corner', 1], '--corner: expected 2 arguments')):
+            self.ends(status, 'chart', *words, told=told, cwd=self.folder)
+        self.assertEqual((content_of(out), sorted(os.listdir(self.folder))), (b'as before', before))
+
+    def test_endless_files(self):
+        recipe, out = self.put('recipe', ROWS), self.path('out.asc')
+        for words in (['/dev/zero', '--source', '/dev/zero'], [recipe, '--source', '/dev/zero'], [recipe, '--soundings', '/dev/zero']):
+            status, _, errors = command('chart', *words, '--out', out)
+            self.assertIn(status, (1, 3))
+            self.assertRegex(errors, '^/dev/zero: it has more than the [0-9]+ bytes')
+
+    def test_where_standard_error_is_full(self):
+        """The status is told all the same."""
+        with open('/dev/full', 'wb') as full:
+            for words, status in ((['chart', 'none', '--source', 'none', '--out', 'o.asc'], 3), (['chart', 'none'], 2), (['rounds', 'none'], 3)):
+                done = subprocess.run([sys.executable, '-m', 'rolwyddac.command', *words], stderr=full, stdout=subprocess.PIPE, env=environment())
+                self.assertEqual(done.returncode, status, words)
 
     def test_drawn(self):
         """Recipes and sources drawn, by the model's sweep and text."""

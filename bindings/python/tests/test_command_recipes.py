@@ -4,7 +4,7 @@ import os
 import sys
 import unittest
 
-from command_support import SMALL, InFolder, content_of, setUpModule, without  # noqa: F401
+from command_support import ROOT, SMALL, InFolder, content_of, setUpModule, without  # noqa: F401
 from support import Draw, model, number_of, recipe_of, rolwyddac
 from rolwyddac.command import toml
 from rolwyddac.command.explained import explained
@@ -216,6 +216,29 @@ class Told(InFolder):
         self.ends(3, 'recipe', self.folder, told='Is a directory')
         self.ends(2, 'recipe', told='the following arguments are required: RECIPE')
         self.ends(2, 'recipe', path, '--colour', told='unrecognized arguments: --colour')
+
+    def test_bytes_by_hand(self):
+        """Records written out from the format: numbers of two and of four bytes, a distance of kind 4, bounds of both sides."""
+        text = """
+            shift = 11
+            boundary = 67305985
+            dimension = [{length = 600, tile = 400, processors = 2}, {length = 513, tile = 258}]
+            distance = [{step = [300, 1], weight = 9}, {step = [0, 1], weight = 515}]
+            bound = [{side = "lower", dimension = 2, slope = -1, offset = -2}, {side = "upper", dimension = 2, offset = 772}]"""
+        small = changed(text, ('length = 600', 'length = 30'))
+        written = self.ends(0, 'recipe', self.put('a.toml', small))
+        records = [[1, 0, 30, 0, 144, 1, 2], [1, 0, 1, 2, 2, 1], [5, 0, 1, 0, 255, 0, 254, 255], [5, 1, 1, 0, 0, 0, 4, 3],
+                   [4, 0, 44, 1, 1, 0, 0, 0, 0, 0, 9], [2, 0, 0, 1, 0, 0, 3, 2], [3, 11, 0, 0, 1, 2, 3, 4]]
+        self.assertEqual(written, b''.join(bytes(record + [0] * (16 - len(record))) for record in records))
+        self.ends(1, 'recipe', self.put('b.toml', text), told='refused 4, too large')
+        for old, new, told in (('300', '401', 'refused 6, tile'), ('300', '65536', 'step is 65536'), ('offset = 772', 'offset = -1', 'refused 20, empty'),
+                               ('slope = -1', 'slope = 2', 'refused 2, stray record'), ('"upper"', '"middle"', 'side must be'),
+                               ('offset = 772', 'offset = 32768', 'offset is 32768'), ('shift = 11', 'shift = 32', 'refused 2, stray record')):
+            self.ends(1, 'recipe', self.put('c.toml', changed(small, (old, new))), told=told)
+
+    def test_stored_row_d(self):
+        with open(os.path.join(ROOT, 'bindings', 'row_d.toml'), encoding='utf-8') as file:
+            self.assertEqual(toml.parts_of_text(file.read()).encoded(), bytes(model.ROWS['D']))
 
     def test_not_to_a_terminal(self):
         path, (master, terminal) = self.put('a.toml', SMALL), os.openpty()

@@ -94,6 +94,34 @@ class Rounds(InFolder):
             schedule = rounds.Schedule(recipe(encoded))
             self.assertEqual((schedule.text(), schedule.picture()), (foreman.drawing(encoded), foreman.svg(encoded)))
 
+    def test_stored_drawings(self):
+        """Those of bindings/cases/rounds, one behind the other, by the command itself."""
+        drawings = content_of(os.path.join(ROOT, 'bindings', 'cases', 'rounds', 'drawings'))
+        drawn = b''
+        for encoded in foreman.accepted_recipes():
+            drawn += self.ends(0, 'rounds', self.put('recipe', bytes(encoded)))
+            self.assertTrue(drawings.startswith(drawn), drawn.decode())
+        self.assertEqual(drawn, drawings)
+
+    def test_files(self):
+        """A picture beside the text, alone, and through a link; what went wrong with it."""
+        docs, row_a = os.path.join(ROOT, 'docs'), self.put('recipe', bytes(model.ROWS['A']))
+        text, picture = (content_of(os.path.join(docs, 'rounds-row-a' + end)) for end in ('.txt', '.svg'))
+        os.symlink('file.svg', self.path('link'))
+        for name in ('file.svg', 'link'):
+            self.put('file.svg', 'as before')
+            self.assertEqual(self.ends(0, 'rounds', row_a, '--svg', self.path(name)), text)
+            self.assertEqual(content_of(self.path('file.svg')), picture)
+        self.assertTrue(os.path.islink(self.path('link')))
+        self.assertEqual(sorted(os.listdir(self.folder)), ['file.svg', 'link', 'recipe'])
+        self.ends(3, 'rounds', row_a, '--svg', self.path('none/picture.svg'), told='none/picture.svg: ')
+        self.ends(3, 'rounds', self.path('missing'), told='missing: ')
+        self.ends(1, 'rounds', self.put('ragged', bytes(model.ROWS['A'][1:])), told='ragged: refused 1, ')
+        self.ends(2, 'rounds', told='arguments are required: RECIPE')
+        self.ends(2, 'rounds', row_a, 'more', told='unrecognized arguments: more')
+        with open('/dev/full', 'wb') as full:
+            self.ends(3, 'rounds', row_a, told='standard output: ', stdout=full)
+
     def test_command(self):
         docs = os.path.join(ROOT, 'docs')
         self.assertEqual(self.ends(0, 'rounds', BASIN, '--svg', self.path('r.svg')), content_of(os.path.join(docs, 'rounds-harbour.txt')))

@@ -183,7 +183,7 @@ class Converted(InFolder):
         self.records('101 -49 3 1\n', told='1 point is in cells outside the shape, where no value is computed')
 
     def test_harbours_files(self):
-        """The points and the recipe are those that are made from the records."""
+        """The points are those that are made from the records."""
         self.assertEqual(harbour_points.main(['check']), 0)
 
     def test_harbour(self):
