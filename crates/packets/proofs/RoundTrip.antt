@@ -280,7 +280,7 @@ head-words : (p : List ℕ) → Bytes p → wordAt p 0 ≡ magic → headWords (
 unfolding headerOf tabulate
 head-words p f e = rw (sym e, low-of p 1 f, high-of p 1 f, low-of p 3 f, high-of p 3 f, low-of p 5 f, high-of p 5 f)
 
-words-long : (p : List ℕ) → length (wordsOf p) ≡ countOf p
+pub words-long : (p : List ℕ) → length (wordsOf p) ≡ countOf p
 unfolding wordsOf
 words-long p = length-tabulate (λ i. wordAt p (14 + i)) (countOf p)
 
