@@ -37,7 +37,7 @@ RATTLE = {
     'part_sizes': 'part_calls::sizes', 'part_messages': 'part_calls::messages', 'part_fresh': 'part_calls::fresh',
     'part_turn': 'calls::part::rolwyddac_part_turn', 'part_post': 'part_calls::post', 'part_arrive': 'part_calls::arrive',
     'part_collect': 'part_calls::collect',
-    'soundings': 'soundings::fill', 'chart': 'chart::write', 'chart_length': 'chart::length_of', 'read': 'reader::read', 'write': 'writer::write',
+    'soundings': 'soundings::fill', 'chart': 'chart::write', 'chart_length': 'chart::length_of', 'read': 'writer::reading::read', 'write': 'writer::write',
     'fresh_both': 'sharing::fresh', 'tenant_turn': 'sharing::turn', 'tenant_deliver': 'sharing::deliver', 'tenant_collect': 'sharing::collect',
     'view': 'sharing::look::look', 'turn_at': 'timed::turn', 'tenant_turn_at': 'timed::turn_for', 'opens': 'timed::opens',
 }

@@ -225,6 +225,23 @@ impl Pair<'_> {
         self.compare("hops", &|| format!("of {message}"), numbers, (&theirs, &ours))
     }
 
+    /// what is read, and what the engine's writer makes of it: the same bytes
+    fn read(&mut self) -> Outcome<u32> {
+        let (theirs, ours) = (self.engine.read(&self.encoded), self.model.read(&self.encoded));
+        let bytes = |read: &Result<Numbers, u32>| read.as_ref().map_or(vec![], Numbers::bytes);
+        let words = |bytes: Vec<u8>| bytes.into_iter().map(u32::from).collect::<Vec<u32>>();
+        let number = |read: &Result<Numbers, u32>| read.as_ref().err().copied().unwrap_or(0);
+        let told = (&words(bytes(&theirs))[..], &words(bytes(&ours))[..]);
+        let number = self.compare("read", &String::new, (number(&theirs), number(&ours)), told)?;
+        if let Ok(numbers) = theirs {
+            let mut space = vec![0; self.encoded.len()];
+            if self.engine.write(&numbers, &mut space) != 0 || space != self.encoded {
+                return Err(("read".into(), "what is read and written again is another recipe".into()));
+            }
+        }
+        Ok(number)
+    }
+
     fn write(&mut self, numbers: &Numbers, space: &mut [u8]) -> Outcome<u32> {
         let mut copy = space.to_vec();
         let theirs = self.engine.write(numbers, &mut copy);
@@ -370,6 +387,7 @@ fn lines(pair: &mut Pair, rng: &mut Rng) -> Outcome<()> {
 
 /// the plan's totals and lines, by one route or by both, and the sweep
 fn reading(pair: &mut Pair, rng: &mut Rng) -> Outcome<()> {
+    pair.read()?;
     lines(pair, rng)?;
     let route = pair.route;
     pair.route = some_route(rng);

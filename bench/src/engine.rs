@@ -230,6 +230,15 @@ pub trait Engine {
         unimplemented!("own parts")
     }
 
+    /// The numbers of a recipe, or that of its refusal. Unless an engine has a reader of its own: the bytes taken apart, where
+    /// the plan's figures can be had.
+    fn read(&self, encoded: &[u8]) -> Result<Numbers, u32> {
+        match self.summary(encoded, Route::Direct, &mut [0; SUMMARY_WORDS]) {
+            0 => Ok(Numbers::of(encoded)),
+            number => Err(number),
+        }
+    }
+
     /// The numbers' recipe. Unless an engine has a writer of its own: what reading the bytes gives, then the length.
     fn write(&self, numbers: &Numbers, space: &mut [u8]) -> u32 {
         const AREA: u32 = 9;

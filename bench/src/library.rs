@@ -104,6 +104,26 @@ impl Engine for Library {
         told(exported!(rolwyddac_hops(encoded => &[u8], message => u32) -> Told<HOPS_WORDS>), out)
     }
 
+    fn read(&self, encoded: &[u8]) -> Result<Numbers, u32> {
+        let tables = rolwyddac::read(encoded).map_err(Refusal::number)?;
+        let [dimensions, distances, bounds] = [tables.dimensions, tables.distances, tables.bounds].map(|n| n as usize);
+        let distance = |d: usize| ([0, 1, 2, 3].map(|k| tables.components[4 * d + k]), tables.weights[d]);
+        let bound = |b: usize| Bound {
+            side: tables.sides[b],
+            dimension: tables.bounded[b],
+            earlier: tables.earlier[b],
+            slope: tables.slopes[b],
+            offset: tables.offsets[b],
+        };
+        Ok(Numbers {
+            dimensions: (0..dimensions).map(|d| [tables.lengths[d], tables.tiling[d], tables.counts[d]]).collect(),
+            bounds: (0..bounds).map(bound).collect(),
+            distances: (0..distances).map(distance).collect(),
+            shift: tables.shift,
+            boundary: tables.boundary,
+        })
+    }
+
     fn write(&self, numbers: &Numbers, space: &mut [u8]) -> u32 {
         let field = |at: usize| numbers.dimensions.iter().map(|dimension| dimension[at]).collect::<Vec<u16>>();
         let [lengths, tiling, counts] = [0, 1, 2].map(field);

@@ -1826,6 +1826,13 @@ impl Engine for Naive {
     }
 
     /// reading alone: the messages of a large recipe would take long
+    fn read(&self, encoded: &[u8]) -> Result<Numbers, u32> {
+        match self.view(encoded).read() {
+            0 => Ok(Numbers::of(encoded)),
+            number => Err(number),
+        }
+    }
+
     fn write(&self, numbers: &Numbers, space: &mut [u8]) -> u32 {
         let bytes = numbers.bytes();
         match self.view(&bytes).read() {

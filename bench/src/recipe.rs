@@ -25,6 +25,31 @@ pub struct Numbers {
 }
 
 impl Numbers {
+    /// the numbers of an accepted recipe, record by record
+    pub fn of(bytes: &[u8]) -> Numbers {
+        let mut numbers = Numbers::new(&[], &[]);
+        for record in bytes.chunks_exact(16) {
+            let half = |at: usize| u16::from_le_bytes([record[at], record[at + 1]]);
+            match record[0] {
+                1 => numbers.dimensions.push([half(2), half(4), half(6)]),
+                2 => numbers.distances.push(([2, 3, 4, 5].map(|at: usize| u16::from(record[at])), half(6))),
+                4 => numbers.distances.push(([2, 4, 6, 8].map(half), half(10))),
+                5 => numbers.bounds.push(Bound {
+                    side: record[1],
+                    dimension: record[2],
+                    earlier: record[3],
+                    slope: record[4] as i8,
+                    offset: half(6) as i16,
+                }),
+                _ => {
+                    numbers.shift = record[1];
+                    numbers.boundary = u32::from(half(4)) | u32::from(half(6)) << 16;
+                }
+            }
+        }
+        numbers
+    }
+
     pub fn new(dimensions: &[[u16; 3]], distances: &[&[u16]]) -> Numbers {
         let four = |components: &&[u16]| {
             let mut all = [0; 4];

@@ -835,12 +835,12 @@ fn trials_meet_every_number_of_the_requests() {
     // large recipes too, whatever the number
     assert!(differ::trials(1, 600, &Model::default(), crate::LIMITS).is_ok());
     let Ok(tally) = differ::trials(1, 6000, &Model::default(), SMALL) else { panic!("a difference") };
-    let expected: [(&str, &[usize]); 26] = [
+    let expected: [(&str, &[usize]); 27] = [
         ("fresh_both", &[0, 2, 5, 6, 9]),
         ("tenant_turn", &[0, 2, 5, 6, 9, 10, 11, 12, 13, 16, 17, 19]),
         ("tenant_deliver", &[0, 9, 10, 11, 14]),
         ("tenant_collect", &[0, 9, 10, 11, 15]),
-        ("look", &[0, 2, 9, 11]),
+        ("view", &[0, 2, 9, 11]),
         ("soundings", &[0, 1, 2, 3, 5, 6, 8, 9, 16, 17, 20, 22]),
         ("chart", &[0, 2, 5, 6, 9, 23]),
         ("chart_length", &[0, 2, 5, 6, 9, 20, 23]),
@@ -849,7 +849,7 @@ fn trials_meet_every_number_of_the_requests() {
         ("opens", &[0, 2, 5, 6, 9, 11, 20, 25]),
         ("rounds", &[0, 2, 5, 6, 9]),
         ("rounds_of", &[0, 2, 5, 6, 9, 20]),
-        ("part_sizes", &[0, 1, 2, 3, 5, 6, 8, 9, 11, 16, 17, 18, 20, 21]),
+        ("part_sizes", &[0, 1, 2, 3, 5, 6, 8, 11, 16, 17, 18, 20, 21]),
         ("part_messages", &[0, 1, 2, 3, 5, 6, 8, 9, 11, 16, 17, 18, 20, 21]),
         ("part_fresh", &[0, 1, 2, 3, 5, 6, 8, 9, 11, 20, 21]),
         ("part_turn", &[0, 1, 2, 3, 4, 5, 6, 7, 8, 9, 10, 11, 12, 13, 16, 17, 18, 20, 21]),
@@ -861,6 +861,7 @@ fn trials_meet_every_number_of_the_requests() {
         ("summary", &[0, 8, 20, 21]),
         ("hops", &[0, 20]),
         ("sweep", &[0, 20]),
+        ("read", &[0, 1, 2, 3, 5, 6, 8, 16, 17, 18, 20]),
         ("write", &[0, 2, 8, 9, 20]),
     ];
     assert!(tally.shifted > 50 && tally.swaps > 1000, "{tally}");
@@ -880,9 +881,9 @@ fn trials_meet_every_number() {
         ("deliver", &[0, 2, 3, 5, 6, 7, 9, 10, 11, 14, 16, 17]),
         ("collect", &[0, 9, 10, 15]),
         ("sweep", &[0, 1, 2, 3, 4, 5, 6, 7, 8, 9, 16, 17, 18]),
-        ("summary", &[0, 1, 2, 3, 4, 5, 6, 7, 8, 9, 16, 17, 18]),
-        ("message", &[0, 1, 2, 3, 4, 5, 6, 7, 8, 9, 11, 16, 17, 18]),
-        ("hops", &[0, 1, 2, 3, 4, 5, 6, 7, 8, 9, 11, 16, 17, 18]),
+        ("summary", &[0, 1, 2, 3, 4, 5, 6, 7, 8, 16, 17, 18]),
+        ("message", &[0, 1, 2, 3, 4, 5, 6, 7, 8, 11, 16, 17, 18]),
+        ("hops", &[0, 1, 2, 3, 4, 5, 6, 7, 8, 11, 16, 17, 18]),
     ];
     assert!(tally.forwarded > 100, "{tally}");
     for (call, numbers) in expected {

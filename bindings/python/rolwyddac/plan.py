@@ -148,7 +148,8 @@ def opens(encoded: BytesLike, hours: Numbers, minute: SupportsIndex, processor: 
     """The minutes until a processor opens, 0 while it is open; None where it never does."""
     recipe = octets('encoded', encoded)
     opening = calls.EXPORTED['opens'](recipe, timetable(hours, sizes(recipe).progress), minute, processor)
-    return opening.minutes if opening.opens else None
+    minutes: int = opening.minutes
+    return minutes if opening.opens else None
 
 
 def rounds_of(encoded: BytesLike) -> List[int]:

@@ -109,8 +109,8 @@ class Names(unittest.TestCase):
         self.assertLessEqual(set(rolwyddac.__all__), set(met))
 
     def test_refusals_are_those_of_the_library(self):
-        """Their names are written down, so that editors know them; they are the library's terms."""
-        wanted = {number: rolwyddac.term(number).title().replace(' ', '') for number in range(1, 200) if rolwyddac.term(number) != 'other'}
+        """Their names are written down, so that editors know them; they are the library's terms. From 100 on they are the C handle's, whom no call gives."""
+        wanted = {number: rolwyddac.term(number).title().replace(' ', '') for number in range(1, 100) if rolwyddac.term(number) != 'other'}
         self.assertEqual({number: kind.__name__ for number, kind in rolwyddac.REFUSALS.items()}, wanted)
         for number, kind in rolwyddac.REFUSALS.items():
             self.assertIs(getattr(rolwyddac, kind.__name__), kind)
