@@ -116,7 +116,7 @@ module _ (bytes : List ℕ) (route : ℕ) (ok : firstOf (linesFor (routeOf route
   p = recipe bytes route
 
   -- past the first lines
-  past : (rest : List Line) → firstOf (boardLines bytes route b ++ rest) ≡ firstOf rest
+  pub past : (rest : List Line) → firstOf (boardLines bytes route b ++ rest) ≡ firstOf rest
   past rest =
       ap firstOf (append-assoc (linesFor (routeOf route) bytes) (line 11 (not (ltb b (p .processors))) ∷ []) rest)
       ∙ first-behind (linesFor (routeOf route) bytes) (line 11 (not (ltb b (p .processors))) ∷ rest) (numbered-for (routeOf route) bytes) ok
