@@ -1,3 +1,4 @@
 pub mod Agreement
 pub mod Lines
+pub mod DriveRows
 pub mod drive
