@@ -6,13 +6,13 @@
  * Every call returns its number, alone or as the first field of a struct. 0 means done. Any other number is a refusal:
  * the first true line of the table below, in table order. No lent word has changed then, and every other field is 0.
  *
- *    1 ragged         recipe empty, or it or the file of soundings not a multiple of 16 bytes
+ *    1 ragged         the recipe is empty, or it or a file of soundings is no multiple of 16 bytes
  *    2 stray record   kind, order, count, unnamed byte, shift or bound not as the format has them
  *    3 length         some length is 0 or above 1,024
  *    4 too large      more than 16,384 cells
  *   18 too wide       all components of a distance of kind 4 fit a byte
- *   20 empty          no cell of the box meets all bounds
- *    5 distance       components all zero, the same as an earlier record's, or non-zero beyond the last dimension
+ *   20 empty          no cell of the box is in the shape that the bounds leave
+ *    5 distance       components all zero, the same as an earlier record's, or not zero beyond the last dimension
  *    6 tile           some tile length is 0, above 1,024, or smaller than some distance there
  *   16 spread order   the first dimension is not spread, or a spread one follows one that is not
  *   17 last spread    the last dimension is spread
@@ -22,7 +22,7 @@
  *   23 no chart       a chart of a recipe that has not two dimensions, or with a cell size that is not 1 to 65,535
  *    9 area           a lent area has not exactly its length
  *   22 off the box    a sounding, whether it counts or not, names a cell that the recipe's box does not have
- *   10 unfit          progress records, status bytes or engaged words not fit
+ *   10 unfit          progress, status or engaged words not fit
  *   25 hours          a faulty window of some processor, or a minute above 10,079
  *   11 no such        office, processor or message number too high, or a message that the processor does not take
  *   24 closed         the processor is not open at that minute

@@ -62,14 +62,14 @@ macro_rules! refusals {
 }
 
 refusals! {
-    1 Ragged "ragged": "recipe empty, or it or the file of soundings not a multiple of 16 bytes";
+    1 Ragged "ragged": "the recipe is empty, or it or a file of soundings is no multiple of 16 bytes";
     2 StrayRecord "stray record": "kind, order, count, unnamed byte, shift or bound not as the format has them";
     3 Length "length": "some length is 0 or above 1,024";
     4 TooLarge "too large": "more than 16,384 cells";
     18 TooWide "too wide": "all components of a distance of kind 4 fit a byte";
-    20 Empty "empty": "no cell of the box meets all bounds";
+    20 Empty "empty": "no cell of the box is in the shape that the bounds leave";
     5 Distance "distance":
-        "components all zero, the same as an earlier record's, or non-zero beyond the last dimension";
+        "components all zero, the same as an earlier record's, or not zero beyond the last dimension";
     6 Tile "tile": "some tile length is 0, above 1,024, or smaller than some distance there";
     16 SpreadOrder "spread order": "the first dimension is not spread, or a spread one follows one that is not";
     17 LastSpread "last spread": "the last dimension is spread";
@@ -80,7 +80,7 @@ refusals! {
     9 Area "area": "a lent area has not exactly its length";
     22 OffTheBox "off the box":
         "a sounding, whether it counts or not, names a cell that the recipe's box does not have";
-    10 Unfit "unfit": "progress records, status bytes or engaged words not fit";
+    10 Unfit "unfit": "progress, status or engaged words not fit";
     25 Hours "hours": "a faulty window of some processor, or a minute above 10,079";
     11 NoSuch "no such": "office, processor or message number too high, or a message that the processor does not take";
     24 Closed "closed": "the processor is not open at that minute";
