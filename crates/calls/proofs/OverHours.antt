@@ -22,13 +22,15 @@ use Rattle.sharing.specs.Calls.{rigCollects}
 use Rattle.timed.specs.Calls.{turnCallAt, turnCallAtFor, callsAt, callAtFor, rigCallsAt}
 use Rattle.timed.proofs.Demands.{timed-demands}
 use Rattle.calls.specs.HourCalls.{opensWordsCall}
-use Rattle.calls.specs.OverRecords.{Areas, inWords, Gave, FreshGave, CollectGave}
-use Rattle.calls.specs.OverRig.{LentAreas, lentWords, RigAreas, rigWords, ownAreas, otherAreas, lentAreas, FreshBothGave, CollectGaveFor}
-use Rattle.calls.specs.OverHours.{TimedGave, OfficeTimedGave, TimedCallGave, FixedHours, Gives, NextStep, NextOpen, TimedRun}
+use Rattle.calls.specs.Gave.{Areas, inWords, LentAreas, lentWords, RigAreas, rigWords}
+use Rattle.calls.specs.Gave.{FreshGave, CollectGave, FreshBothGave, TimedGave, OfficeTimedGave}
+use Rattle.calls.specs.OverRecords.{Gave}
+use Rattle.calls.specs.OverRig.{ownAreas, otherAreas, lentAreas, CollectGaveFor}
+use Rattle.calls.specs.OverHours.{TimedCallGave, FixedHours, Gives, NextStep, NextOpen, TimedRun}
 use Rattle.calls.specs.OverHours.{NextCall, NextOpenFor, TimedRigRun, OverHours}
 use Rattle.calls.proofs.OverRecords as one
 use Rattle.calls.proofs.OverRecords.{run-numbers, run-words, whole-pick, can-answer, areas-fixed, fixed-as, one-answer, as-before}
-use Rattle.calls.proofs.OverRecords.{Whole, areasOf, in-words, length-carry, over-records}
+use Rattle.calls.proofs.OverRecords.{Whole, areasFrom, in-words, length-carry, over-records}
 use Rattle.calls.proofs.OverRig.{lent-fixed, rig-fixed, office-words, lent-words, other-words, returned-is, whole-lent}
 use Rattle.calls.proofs.OverRig.{can-office, among, among-own, among-other, collect-length, collect-words}
 
@@ -89,7 +91,7 @@ module _ (bytes : List ℕ) (route : ℕ) where
         let s = in-words (r .after .own) (whole-turn h p) in (
           r .number,
           (
-            record { own = areasOf (r .after .own); engaged = r .after .engaged },
+            record { own = areasFrom (r .after .own); engaged = r .after .engaged },
             ap (λ (s : State). answer (r .number) (record { own = s; engaged = r .after .engaged })) s,
           ),
         )

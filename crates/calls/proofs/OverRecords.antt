@@ -30,8 +30,8 @@ use Rattle.records.specs.declared.Progress.{Progress}
 use Rattle.records.specs.Records.{flatWords}
 use Rattle.records.proofs.Words.{length-words, unflat, words-unflat, injective}
 use Rattle.calls.specs.PlanCalls.{summaryCall, messageCall, hopsCall}
-use Rattle.calls.specs.OverRecords.{Areas, inWords, FreshGave, EventGave, CollectGave, Gave, EventsGave, namedNext, FixedAreas, FixedCalls}
-use Rattle.calls.specs.OverRecords.{ExactCalls, FixedRun, OverRecords}
+use Rattle.calls.specs.Gave.{Areas, inWords, FreshGave, EventGave, CollectGave}
+use Rattle.calls.specs.OverRecords.{Gave, EventsGave, namedNext, FixedAreas, FixedCalls, ExactCalls, FixedRun, OverRecords}
 
 -- ---- a run of calls over records is one over words
 
@@ -62,14 +62,14 @@ joined (Gave.next h g) k = Gave.next h (joined g k)
 abbrev pub Whole : List ℕ → Type 0
 Whole l = (n : ℕ) × (length l ≡ 3 * n)
 
-pub areasOf : State → Areas
-areasOf s = record { memories = s .memories; buffer = s .buffer; progress = unflat (s .progress); status = s .status }
+pub areasFrom : State → Areas
+areasFrom s = record { memories = s .memories; buffer = s .buffer; progress = unflat (s .progress); status = s .status }
 
 back : (l : List ℕ) → Whole l → flatWords (unflat l) ≡ l
 back l (n, e) = words-unflat n l e
 
-pub in-words : (s : State) → Whole (s .progress) → inWords (areasOf s) ≡ s
-unfolding areasOf
+pub in-words : (s : State) → Whole (s .progress) → inWords (areasFrom s) ≡ s
+unfolding areasFrom
 in-words s w = ap (λ (l : List ℕ). stateOf (s .memories) (s .buffer) l (s .status)) (back (s .progress) w)
 
 length-progress : (l : List ℕ) (b i j k : ℕ) → length (setProgress l b i j k) ≡ length l
@@ -149,7 +149,7 @@ module _ {ls : List Line} {done : State} {a b : Areas} {n : ℕ} {call : Answere
       }
 
 pub can-answer : (r : Answered State) → Whole (r .after .progress) → (n : ℕ) × ((b : Areas) × (answer n (inWords b) ≡ r))
-can-answer r w = (r .number, (areasOf (r .after), ap (λ (s : State). answer (r .number) s) (in-words (r .after) w)))
+can-answer r w = (r .number, (areasFrom (r .after), ap (λ (s : State). answer (r .number) s) (in-words (r .after) w)))
 
 module _ (bytes : List ℕ) (route : ℕ) (source : List ℕ) where
   -- an event's contract, by the calls over words

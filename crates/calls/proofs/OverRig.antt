@@ -31,11 +31,10 @@ use Rattle.sharing.specs.Calls.{areasFor, turnCallFor, deliverCallFor, collectC
 use Rattle.sharing.specs.Calls.{rigCalls, rigCollects}
 use Rattle.sharing.proofs.Demands.{rig-demands}
 use Rattle.calls.specs.OfficeCalls.{lookCall}
-use Rattle.calls.specs.OverRecords.{Areas, inWords}
-use Rattle.calls.specs.OverRig.{LentAreas, lentWords, RigAreas, rigWords, ownAreas, otherAreas, lentAreas}
-use Rattle.calls.specs.OverRig.{OfficeGave, FreshBothGave, CallGave, CallsGave, CollectGaveFor, FixedOffice, RigRun, OverRig}
+use Rattle.calls.specs.Gave.{Areas, inWords, LentAreas, lentWords, RigAreas, rigWords, OfficeGave, FreshBothGave}
+use Rattle.calls.specs.OverRig.{ownAreas, otherAreas, lentAreas, CallGave, CallsGave, CollectGaveFor, FixedOffice, RigRun, OverRig}
 use Rattle.calls.proofs.OfficeCalls.{look-number}
-use Rattle.calls.proofs.OverRecords.{run-numbers, run-words, Whole, areasOf, in-words, length-carry, areas-fixed, fixed-as}
+use Rattle.calls.proofs.OverRecords.{run-numbers, run-words, Whole, areasFrom, in-words, length-carry, areas-fixed, fixed-as}
 use Rattle.calls.proofs.OverRecords.{one-answer, as-before}
 
 -- ---- words fix the areas
@@ -131,7 +130,7 @@ module _ (bytes : List ℕ) (route : ℕ) where
         r = callFor bytes route source o (lentWords a) (flatWords theirs) e
 
         b : LentAreas
-        b = record { own = areasOf (r .after .own); engaged = r .after .engaged }
+        b = record { own = areasFrom (r .after .own); engaged = r .after .engaged }
 
   module _ (sources : Sources) where
     -- a call on the rig is one over words
@@ -209,11 +208,11 @@ module _ (bytes : List ℕ) (route : ℕ) where
         zero = eqb (firstOf (freshRigLines bytes route sources (rigWords a))) 0
 
         b : Rig → RigAreas
-        b x = record { first = areasOf (x .first); second = areasOf (x .second); engaged = x .engaged }
+        b x = record { first = areasFrom (x .first); second = areasFrom (x .second); engaged = x .engaged }
 
         back : (x : Rig) → Whole (x .first .progress) → Whole (x .second .progress) → rigWords (b x) ≡ x
         back x v w =
-            ap (λ (s : State). rigOf s (inWords (areasOf (x .second))) (x .engaged)) (in-words (x .first) v)
+            ap (λ (s : State). rigOf s (inWords (areasFrom (x .second))) (x .engaged)) (in-words (x .first) v)
             ∙ ap (λ (s : State). rigOf (x .first) s (x .engaged)) (in-words (x .second) w)
 
         whole : (t : Bool)

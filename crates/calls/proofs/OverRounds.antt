@@ -29,10 +29,11 @@ use Rattle.timed.proofs.Lines.{first-front, nine}
 use Rattle.schedule.specs.Calls.{roundsCall}
 use Rattle.schedule.proofs.Demands.{demand213}
 use Rattle.calls.specs.RoundCalls.{LentRounds, lentRounds, inLent, roundsWordsCall}
-use Rattle.calls.specs.OverRecords.{Areas, inWords, FreshGave, EventsGave}
-use Rattle.calls.specs.OverRounds.{DriverAreas, driverWords, RoundsGave, FixedRounds, DrivenRun, OverRounds}
+use Rattle.calls.specs.Gave.{Areas, inWords, DriverAreas, driverWords, FreshGave, RoundsGave}
+use Rattle.calls.specs.OverRecords.{EventsGave}
+use Rattle.calls.specs.OverRounds.{FixedRounds, DrivenRun, OverRounds}
 use Rattle.calls.proofs.OverRecords.{run-numbers, run-words, event-call, areas-fixed, fixed-as, one-answer, as-before}
-use Rattle.calls.proofs.OverRecords.{Whole, areasOf, in-words, length-carry}
+use Rattle.calls.proofs.OverRecords.{Whole, areasFrom, in-words, length-carry}
 
 driver-fixed : (a b : DriverAreas) → driverWords a ≡ driverWords b → a ≡ b
 driver-fixed a b e =
@@ -102,7 +103,7 @@ module _ (bytes source : List ℕ) where
         let r = roundsWordsCall bytes source (driverWords a) in (
           r .number,
           (
-            record { own = areasOf (r .after .state); out = r .after .out },
+            record { own = areasFrom (r .after .state); out = r .after .out },
             ap (λ (s : State). answer (r .number) (lentRounds s (r .after .out))) (in-words (r .after .state) whole-words),
           ),
         )

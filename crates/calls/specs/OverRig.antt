@@ -1,6 +1,6 @@
 -- Read this.
--- Request W-208 for the calls as exported, board records as structs: what the contracts of src/office.rt say of the areas lent, the number
--- given and the areas left; runs of both offices on one rig. Document 01, "Numbers a call gives", "Runs"; W-208.
+-- Request W-208 for the calls as exported, board records as structs, by the relations that are their contracts (`Gave`); runs of both offices on
+-- one rig. Document 01, "Numbers a call gives", "Runs"; W-208.
 use Prim.Native.Nat.{ℕ, _*_, _≤_, _<_}
 use mathlib.Core.Path.{_≡_}
 use mathlib.Core.Logic.{_≢_, _↔_, _⊎_}
@@ -10,35 +10,20 @@ use Rattle.base.specs.Lists.{Bytes, part}
 use Rattle.base.specs.Numbers.{Line}
 use Rattle.machine.specs.Machine as machine
 use Rattle.machine.specs.Machine.{nextAction, collected}
-use Rattle.machine.specs.Runs.{Event, turnOf, deliveryOf, last, answers, total}
-use Rattle.tenants.specs.Offices.{Lent, lentOf, Rig, rigOf, Sources, sourceFor, ofOffice, carryOutFor, deliveredFor, freshRig, Call}
+use Rattle.machine.specs.Runs.{turnOf, deliveryOf, last, answers, total}
+use Rattle.tenants.specs.Offices.{Lent, Rig, Sources, sourceFor, ofOffice, carryOutFor, deliveredFor, freshRig, Call}
 use Rattle.tenants.specs.Demand208.{eventsOf, answersOf, Demand208}
 use Rattle.records.specs.declared.Progress.{Progress}
 use Rattle.records.specs.Records.{flatWords}
 use Rattle.engine.specs.Calls.{answer, recipe}
 use Rattle.engine.specs.Demands.{Fixed}
-use Rattle.sharing.specs.Calls.{turnCallLinesFor, turnCallFor, deliverCallLinesFor, deliverCallFor, collectCallLinesFor, collectCallFor}
-use Rattle.sharing.specs.Calls.{freshRigLines, freshRigCall, lookPart, rigCalls, rigCollects}
-use Rattle.calls.specs.OfficeCalls.{lookWords, lookCallLines, lookCall}
-use Rattle.calls.specs.OverRecords.{Areas, inWords, Gave, stepsIn}
+use Rattle.sharing.specs.Calls.{turnCallLinesFor, deliverCallLinesFor, collectCallLinesFor, freshRigLines, lookPart, rigCalls, rigCollects}
+use Rattle.calls.specs.OfficeCalls.{lookWords, lookCallLines}
+use Rattle.calls.specs.Gave.{Areas, LentAreas, lentAreasOf, lentWords, RigAreas, rigWords}
+use Rattle.calls.specs.Gave.{OfficeGave, OfficeCollectGave, FreshBothGave, LookGave}
+use Rattle.calls.specs.OverRecords.{Gave, stepsIn}
 
--- what a call of an office is lent to change, records as structs: its own areas and the shared words
-pub record LentAreas : Type 0 where
-  pub own : Areas
-  pub engaged : List ℕ
-
-abbrev pub lentWords : LentAreas → Lent
-lentWords a = lentOf (inWords (a .own)) (a .engaged)
-
--- the areas of both offices, and the shared words
-pub record RigAreas : Type 0 where
-  pub first : Areas  -- office 0's
-  pub second : Areas  -- office 1's
-  pub engaged : List ℕ
-
-abbrev pub rigWords : RigAreas → Rig
-rigWords a = rigOf (inWords (a .first)) (inWords (a .second)) (a .engaged)
-
+-- of the areas of both offices, those of office o, those of the other, and what a call of o is lent to change
 abbrev pub ownAreas : RigAreas → ℕ → Areas
 ownAreas a o = ofOffice o (a .first) (a .second)
 
@@ -46,27 +31,12 @@ abbrev pub otherAreas : RigAreas → ℕ → Areas
 otherAreas a o = ofOffice o (a .second) (a .first)
 
 abbrev pub lentAreas : RigAreas → ℕ → LentAreas
-lentAreas a o = record { own = ownAreas a o; engaged = a .engaged }
-
--- ---- the contracts of src/office.rt: lent `a`, the call gave n and left `b`; what is lent for reading alone is left as it was
+lentAreas a o = lentAreasOf (ownAreas a o) (a .engaged)
 
 module _ (bytes : List ℕ) (route : ℕ) where
-  -- office o, lent the other's records `theirs` only to read
-  abbrev pub OfficeGave : List ℕ → ℕ → List Progress → LentAreas → Event → ℕ → LentAreas → Type 0
-  OfficeGave source o theirs a (turnOf p) n b = answer n (lentWords b) ≡ turnCallFor bytes route source o (lentWords a) (flatWords theirs) p
-  OfficeGave source o theirs a (deliveryOf m) n b =
-      answer n (lentWords b) ≡ deliverCallFor bytes route source o (lentWords a) (flatWords theirs) m
-
-  -- lent the words `old` too, left as `grid`
-  abbrev pub OfficeCollectGave : List ℕ → ℕ → List Progress → LentAreas → List ℕ → ℕ → List ℕ → Type 0
-  OfficeCollectGave source o theirs a old n grid = answer n grid ≡ collectCallFor bytes route source o (lentWords a) (flatWords theirs) old
-
-  abbrev pub FreshBothGave : Sources → RigAreas → ℕ → RigAreas → Type 0
-  FreshBothGave sources a n b = answer n (rigWords b) ≡ freshRigCall bytes route sources (rigWords a)
-
   -- a call on the rig: the office that it names is lent its own areas and the shared words, and the other's areas stay as they were
   pub record CallGave (sources : Sources) (a : RigAreas) (c : Call) (n : ℕ) (b : RigAreas) : Type 0 where
-    pub gave : OfficeGave (sourceFor sources (c .office)) (c .office) (otherAreas a (c .office) .progress)
+    pub gave : OfficeGave bytes route (sourceFor sources (c .office)) (c .office) (otherAreas a (c .office) .progress)
         (lentAreas a (c .office)) (c .event) n (lentAreas b (c .office))
     pub others : otherAreas b (c .office) ≡ otherAreas a (c .office)
 
@@ -75,10 +45,7 @@ module _ (bytes : List ℕ) (route : ℕ) where
   CallsGave sources = Gave (CallGave sources)
 
   abbrev pub CollectGaveFor : Sources → RigAreas → ℕ → List ℕ → ℕ → List ℕ → Type 0
-  CollectGaveFor sources a o = OfficeCollectGave (sourceFor sources o) o (otherAreas a o .progress) (lentAreas a o)
-
-abbrev pub LookGave : List ℕ → List ℕ → List ℕ → ℕ → ℕ → List ℕ → ℕ → List ℕ → Type 0
-LookGave bytes first second o b old n out = answer n out ≡ lookCall bytes first second o b old
+  CollectGaveFor sources a o = OfficeCollectGave bytes route (sourceFor sources o) o (otherAreas a o .progress) (lentAreas a o)
 
 -- ---- demand 1
 

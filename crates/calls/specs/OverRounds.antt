@@ -1,6 +1,6 @@
 -- Read this.
--- Request W-213 for the calls as exported, board records as structs: what the contracts of src/round.rt say of the areas lent, the number
--- given and the areas left; a run by rounds against runs of single calls. Document 01, "Numbers a call gives", "Runs"; W-213.
+-- Request W-213 for the calls as exported, board records as structs, by the relations that are their contracts (`Gave`); a run by rounds against
+-- runs of single calls. Document 01, "Numbers a call gives", "Runs"; W-213.
 use Prim.Native.Nat.{ℕ, _≤_, _<_}
 use mathlib.Core.Path.{_≡_}
 use mathlib.Core.Logic.{_≢_}
@@ -14,25 +14,10 @@ use Rattle.machine.specs.Runs.{total}
 use Rattle.rounds.specs.Rounds.{rounds, roundsTo, tileRound, roundsFrom, roundsOfOther, stateThen, RoundsHold}
 use Rattle.engine.specs.Calls.{answer, recipe, collectCall}
 use Rattle.engine.specs.Demands.{Fixed, calls}
-use Rattle.schedule.specs.Calls.{roundsCall, roundsOfLines, roundsOfCall}
-use Rattle.calls.specs.RoundCalls.{LentRounds, lentRounds, roundsWordsLines, inLent, roundsWordsCall}
-use Rattle.calls.specs.OverRecords.{Areas, inWords, FreshGave, EventsGave, CollectGave, stepsIn}
-
--- what the driver is lent to change: the areas of a run, records as structs, and the words for the rounds
-pub record DriverAreas : Type 0 where
-  pub own : Areas
-  pub out : List ℕ
-
-abbrev pub driverWords : DriverAreas → LentRounds
-driverWords a = lentRounds (inWords (a .own)) (a .out)
-
--- ---- the contracts of src/round.rt: lent `a`, the call gave n and left `b`
-
-abbrev pub RoundsGave : List ℕ → List ℕ → DriverAreas → ℕ → DriverAreas → Type 0
-RoundsGave bytes source a n b = answer n (driverWords b) ≡ roundsWordsCall bytes source (driverWords a)
-
-abbrev pub RoundsOfGave : List ℕ → List ℕ → ℕ → List ℕ → Type 0
-RoundsOfGave bytes old n out = answer n out ≡ roundsOfCall bytes old
+use Rattle.schedule.specs.Calls.{roundsCall, roundsOfLines}
+use Rattle.calls.specs.RoundCalls.{LentRounds, roundsWordsLines, inLent}
+use Rattle.calls.specs.Gave.{Areas, inWords, DriverAreas, driverWords, FreshGave, CollectGave, RoundsGave, RoundsOfGave}
+use Rattle.calls.specs.OverRecords.{EventsGave, stepsIn}
 
 -- ---- demand 1
 

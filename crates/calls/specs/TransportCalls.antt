@@ -6,29 +6,24 @@ use mathlib.Core.Path.{_≡_}
 use mathlib.Core.List.{List, [], _∷_, _++_}
 use Rattle.base.specs.Tests.{tabulate}
 use Rattle.machine.specs.Plan.{Plan, count, offset}
-use Rattle.machine.specs.Machine.{State, stateOf}
-use Rattle.records.specs.Records.{flatWords}
+use Rattle.records.specs.declared.Progress.{Progress}
 use Rattle.engine.specs.Calls.{answer, recipe}
 use Rattle.engine.specs.Demands.{Fixed}
 use Rattle.network.specs.Apart.{received}
-use Rattle.transport.specs.Calls.{rowOf, rowsTo, messagesLines, messagesCall, ownerOf, ownersLines, ownersCall, Waits, waited, awaitedLines, awaitedCall}
-use Rattle.transport.specs.Calls.{takeInLines, takeInCall}
+use Rattle.transport.specs.Calls.{rowOf, rowsTo, messagesLines, ownerOf, ownersLines, Waits, waited, awaitedLines, takeInLines}
 use Rattle.calls.specs.PlanCalls.{lineWords}
-use Rattle.calls.specs.OverRecords.{Areas, inWords, FixedAreas}
-
--- what is asked with: records and status bytes alone
-abbrev pub askedWith : Areas → State
-askedWith a = stateOf [] [] (flatWords (a .progress)) (a .status)
+use Rattle.calls.specs.Gave.{Areas, inWords, askedWith, MessagesGave, OwnersGave, AwaitedGave, TakeInGave}
+use Rattle.calls.specs.OverRecords.{FixedAreas}
 
 -- the first true line counts, and a refusal leaves every lent word, and the very records, as they were
 pub record FixedTransport (bytes : List ℕ) (route : ℕ) (source : List ℕ) : Type 0 where
-  pub messages : (old out : List ℕ) (n : ℕ) → answer n out ≡ messagesCall bytes route old
+  pub messages : (old out : List ℕ) (n : ℕ) → MessagesGave bytes route old n out
       → Fixed (answer n out) (messagesLines bytes route old) (rowsTo (recipe bytes route) (count (recipe bytes route))) old
-  pub owners : (old out : List ℕ) (n : ℕ) → answer n out ≡ ownersCall bytes old
+  pub owners : (old out : List ℕ) (n : ℕ) → OwnersGave bytes old n out
       → Fixed (answer n out) (ownersLines bytes old) (tabulate (ownerOf (recipe bytes 0)) (recipe bytes 0 .cells)) old
-  pub awaited : (a : Areas) (p : ℕ) (old out : Waits) (n : ℕ) → answer n out ≡ awaitedCall bytes route (askedWith a) p old
-      → Fixed (answer n out) (awaitedLines bytes route (askedWith a) p old) (waited (recipe bytes route) (askedWith a) p) old
-  pub take-in : (a b : Areas) (p m : ℕ) (words : List ℕ) (n : ℕ) → answer n (inWords b) ≡ takeInCall bytes route source (inWords a) p m words
+  pub awaited : (records : List Progress) (status : List ℕ) (p : ℕ) (old out : Waits) (n : ℕ) → AwaitedGave bytes route records status p old n out
+      → Fixed (answer n out) (awaitedLines bytes route (askedWith records status) p old) (waited (recipe bytes route) (askedWith records status) p) old
+  pub take-in : (a b : Areas) (p m : ℕ) (words : List ℕ) (n : ℕ) → TakeInGave bytes route source a p m words n b
       → FixedAreas (takeInLines bytes route source (inWords a) p m words) (received (recipe bytes route) (inWords a) m words) a n b
 
 abbrev pub RowsAreLines : Type 0

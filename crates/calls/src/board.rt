@@ -1,11 +1,7 @@
 // The calls for one processor that is lent its own part alone, with C linkage, its record as a struct: the lengths of its areas, the messages that it
 // handles, a fresh start, a turn, a message handed over to a transport, a message that arrives, and its cells' words for the grid.
-ghost use mathlib.Core.Path.{_≡_};
-ghost use mathlib.Core.List.{[]};
-ghost use Rattle.machine.specs.Machine.{stateOf};
-ghost use Rattle.engine.specs.Calls.{answer};
-ghost use Rattle.records.specs.Records.{flatWords};
-ghost use Rattle.part_calls.specs.front.Calls.{ownSizesCall, ownMessagesCall, ownFreshCall, ownTurnCall, ownPostCall, ownArriveCall, ownCollectCall};
+ghost use Rattle.calls.specs.Gave.{areasOf, PartSizesGave, PartMessagesGave, PartFreshGave, PartTurnGave};
+ghost use Rattle.calls.specs.Gave.{PartPostGave, PartArriveGave, PartCollectGave};
 use records::Progress;
 
 // How long its areas are, four words: the cells of its tiles, the cells that it keeps, the words of the messages that it handles, and how many these are.
@@ -16,7 +12,7 @@ pub extern "C" fn rolwyddac_own_sizes(
     processor: u32,
     out: &mut [u32],
 ) -> u32
-    ensures { λ r. ⌜ answer r (now (out .exit)) ≡ ownSizesCall (now (encoded .entry)) route processor (now (out .entry)) ⌝ }
+    ensures { λ r. ⌜ PartSizesGave (now (encoded .entry)) route processor (now (out .entry)) r (now (out .exit)) ⌝ }
 {
     part_calls::sizes(encoded, route, processor, out)
 }
@@ -29,7 +25,7 @@ pub extern "C" fn rolwyddac_own_messages(
     processor: u32,
     out: &mut [u32],
 ) -> u32
-    ensures { λ r. ⌜ answer r (now (out .exit)) ≡ ownMessagesCall (now (encoded .entry)) route processor (now (out .entry)) ⌝ }
+    ensures { λ r. ⌜ PartMessagesGave (now (encoded .entry)) route processor (now (out .entry)) r (now (out .exit)) ⌝ }
 {
     part_calls::messages(encoded, route, processor, out)
 }
@@ -45,9 +41,9 @@ pub extern "C" fn rolwyddac_own_fresh(
     marks: &mut [u8],
     processor: u32,
 ) -> u32
-    ensures { λ n. ⌜ answer n (stateOf (now (memory .exit)) (now (mail .exit)) (flatWords (now (progress .exit))) (now (marks .exit)))
-        ≡ ownFreshCall (now (encoded .entry)) route
-        (stateOf (now (memory .entry)) (now (mail .entry)) (flatWords (now (progress .entry))) (now (marks .entry))) processor ⌝ }
+    ensures { λ n. ⌜ PartFreshGave (now (encoded .entry)) route processor
+        (areasOf (now (memory .entry)) (now (mail .entry)) (now (progress .entry)) (now (marks .entry)))
+        n (areasOf (now (memory .exit)) (now (mail .exit)) (now (progress .exit)) (now (marks .exit))) ⌝ }
 {
     let words = 3 * progress.len();
     let number = part_calls::core::fresh(encoded, route, memory, mail, words, marks, processor);
@@ -67,9 +63,9 @@ pub extern "C" fn rolwyddac_own_turn(
     marks: &mut [u8],
     processor: u32,
 ) -> u32
-    ensures { λ r. ⌜ answer r (stateOf (now (memory .exit)) (now (mail .exit)) (flatWords (now (progress .exit))) (now (marks .exit)))
-        ≡ ownTurnCall (now (encoded .entry)) route (now (source .entry))
-        (stateOf (now (memory .entry)) (now (mail .entry)) (flatWords (now (progress .entry))) (now (marks .entry))) processor ⌝ }
+    ensures { λ r. ⌜ PartTurnGave (now (encoded .entry)) route (now (source .entry)) processor
+        (areasOf (now (memory .entry)) (now (mail .entry)) (now (progress .entry)) (now (marks .entry)))
+        r (areasOf (now (memory .exit)) (now (mail .exit)) (now (progress .exit)) (now (marks .exit))) ⌝ }
 {
     let flat = records::flatten(progress);
     let after = part_calls::turn::turn(
@@ -98,9 +94,9 @@ pub extern "C" fn rolwyddac_own_post(
     processor: u32,
     message: u32,
 ) -> u32
-    ensures { λ r. ⌜ answer r (stateOf (now (memory .entry)) (now (mail .entry)) (flatWords (now (progress .entry))) (now (marks .exit)))
-        ≡ ownPostCall (now (encoded .entry)) route
-        (stateOf (now (memory .entry)) (now (mail .entry)) (flatWords (now (progress .entry))) (now (marks .entry))) processor message ⌝ }
+    ensures { λ r. ⌜ PartPostGave (now (encoded .entry)) route processor message
+        (areasOf (now (memory .entry)) (now (mail .entry)) (now (progress .entry)) (now (marks .entry)))
+        r (areasOf (now (memory .entry)) (now (mail .entry)) (now (progress .entry)) (now (marks .exit))) ⌝ }
 {
     let flat = records::flatten(progress);
     part_calls::core::post(
@@ -128,10 +124,9 @@ pub extern "C" fn rolwyddac_own_arrive(
     message: u32,
     words: &[u32],
 ) -> u32
-    ensures { λ r. ⌜ answer r (stateOf (now (memory .entry)) (now (mail .exit)) (flatWords (now (progress .entry))) (now (marks .exit)))
-        ≡ ownArriveCall (now (encoded .entry)) route
-        (stateOf (now (memory .entry)) (now (mail .entry)) (flatWords (now (progress .entry))) (now (marks .entry))) processor message
-        (now (words .entry)) ⌝ }
+    ensures { λ r. ⌜ PartArriveGave (now (encoded .entry)) route processor message (now (words .entry))
+        (areasOf (now (memory .entry)) (now (mail .entry)) (now (progress .entry)) (now (marks .entry)))
+        r (areasOf (now (memory .entry)) (now (mail .exit)) (now (progress .entry)) (now (marks .exit))) ⌝ }
 {
     let flat = records::flatten(progress);
     part_calls::core::arrive(
@@ -157,9 +152,8 @@ pub extern "C" fn rolwyddac_own_collect(
     processor: u32,
     grid: &mut [u32],
 ) -> u32
-    ensures { λ r. ⌜ answer r (now (grid .exit))
-        ≡ ownCollectCall (now (encoded .entry)) route (stateOf (now (memory .entry)) [] (flatWords (now (progress .entry))) []) processor
-        (now (grid .entry)) ⌝ }
+    ensures { λ r. ⌜ PartCollectGave (now (encoded .entry)) route processor (now (memory .entry)) (now (progress .entry))
+        (now (grid .entry)) r (now (grid .exit)) ⌝ }
 {
     let flat = records::flatten(progress);
     part_calls::core::collect(encoded, route, memory, flat, processor, grid)

@@ -1,7 +1,6 @@
 // The calls for the charting desk with C linkage: a grid's text in lent bytes and its length in a lent word; the length alone.
-ghost use mathlib.Core.Path.{_≡_};
-ghost use Rattle.engine.specs.Calls.{answer};
-ghost use Rattle.calls.specs.ChartCalls.{lent, chartCall, chartLengthCall};
+ghost use Rattle.calls.specs.ChartCalls.{lent};
+ghost use Rattle.calls.specs.Gave.{ChartGave, ChartLengthGave};
 
 // The grid's text for the charting desk at the front of the space, and its length in bytes.
 #[no_mangle]
@@ -14,8 +13,8 @@ pub extern "C" fn rolwyddac_chart(
     space: &mut [u8],
     out: &mut [u32],
 ) -> u32
-    ensures { λ r. ⌜ answer r (lent (now (space .exit)) (now (out .exit)))
-        ≡ chartCall (now (encoded .entry)) (now (grid .entry)) x y «cell_size» (lent (now (space .entry)) (now (out .entry))) ⌝ }
+    ensures { λ r. ⌜ ChartGave (now (encoded .entry)) (now (grid .entry)) x y «cell_size»
+        (lent (now (space .entry)) (now (out .entry))) r (lent (now (space .exit)) (now (out .exit))) ⌝ }
 {
     if out.len() != 1 {
         let told = chart::length_of(encoded, grid, x, y, cell_size);
@@ -44,7 +43,7 @@ pub extern "C" fn rolwyddac_chart_length(
     cell_size: u32,
     out: &mut [u32],
 ) -> u32
-    ensures { λ r. ⌜ answer r (now (out .exit)) ≡ chartLengthCall (now (encoded .entry)) (now (grid .entry)) x y «cell_size» (now (out .entry)) ⌝ }
+    ensures { λ r. ⌜ ChartLengthGave (now (encoded .entry)) (now (grid .entry)) x y «cell_size» (now (out .entry)) r (now (out .exit)) ⌝ }
 {
     let told = chart::length_of(encoded, grid, x, y, cell_size);
     let number = told.number;

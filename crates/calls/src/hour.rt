@@ -2,13 +2,9 @@
 // and the minutes until a processor next opens. `hours` is the table, 14 pairs of words a processor.
 ghost use mathlib.Core.Path.{_≡_};
 ghost use lib.ListN.{length};
-ghost use Rattle.machine.specs.Machine.{stateOf};
-ghost use Rattle.engine.specs.Calls.{answer};
-ghost use Rattle.records.specs.Records.{flatWords};
-ghost use Rattle.tenants.specs.Offices.{lentOf};
-ghost use Rattle.calendar.specs.Hours.{hoursOf};
-ghost use Rattle.timed.specs.Calls.{turnCallAt, turnCallAtFor, openingWords};
-ghost use Rattle.calls.specs.HourCalls.{opensWordsCall};
+ghost use Rattle.calendar.specs.Hours.{hoursOf, turnAt};
+ghost use Rattle.timed.specs.Calls.{openingWords};
+ghost use Rattle.calls.specs.Gave.{areasOf, lentAreasOf, TimedGave, OfficeTimedGave, OpensGave};
 use calendar::Opening;
 use records::Progress;
 
@@ -26,9 +22,10 @@ pub extern "C" fn rolwyddac_turn_at(
     minute: u32,
     processor: u32,
 ) -> u32
-    ensures { λ r. ⌜ answer r (stateOf (now (memories .exit)) (now (buffer .exit)) (flatWords (now (progress .exit))) (now (status .exit)))
-        ≡ turnCallAt (now (encoded .entry)) route (now (source .entry)) (hoursOf (now (hours .entry)) minute)
-        (stateOf (now (memories .entry)) (now (buffer .entry)) (flatWords (now (progress .entry))) (now (status .entry))) processor ⌝ }
+    ensures { λ r. ⌜ TimedGave (now (encoded .entry)) route (now (source .entry))
+        (areasOf (now (memories .entry)) (now (buffer .entry)) (now (progress .entry)) (now (status .entry)))
+        (turnAt (hoursOf (now (hours .entry)) minute) processor)
+        r (areasOf (now (memories .exit)) (now (buffer .exit)) (now (progress .exit)) (now (status .exit))) ⌝ }
 {
     let flat = records::flatten(progress);
     let after = timed::core::turn(
@@ -64,11 +61,10 @@ pub extern "C" fn rolwyddac_office_turn_at(
     office: u32,
     processor: u32,
 ) -> u32
-    ensures { λ r. ⌜ answer r
-        (lentOf (stateOf (now (memories .exit)) (now (buffer .exit)) (flatWords (now (progress .exit))) (now (status .exit))) (now (engaged .exit)))
-        ≡ turnCallAtFor (now (encoded .entry)) route (now (source .entry)) office (hoursOf (now (hours .entry)) minute)
-        (lentOf (stateOf (now (memories .entry)) (now (buffer .entry)) (flatWords (now (progress .entry))) (now (status .entry))) (now (engaged .entry)))
-        (flatWords (now (other .entry))) processor ⌝ }
+    ensures { λ r. ⌜ OfficeTimedGave (now (encoded .entry)) route (now (source .entry)) office (now (other .entry))
+        (lentAreasOf (areasOf (now (memories .entry)) (now (buffer .entry)) (now (progress .entry)) (now (status .entry))) (now (engaged .entry)))
+        (turnAt (hoursOf (now (hours .entry)) minute) processor)
+        r (lentAreasOf (areasOf (now (memories .exit)) (now (buffer .exit)) (now (progress .exit)) (now (status .exit))) (now (engaged .exit))) ⌝ }
 {
     let own = records::flatten(progress);
     let theirs = records::flatten(other);
@@ -117,8 +113,7 @@ pub extern "C" fn rolwyddac_opens(
     processor: u32,
     out: &mut [u32],
 ) -> u32
-    ensures { λ r. ⌜ answer r (now (out .exit))
-        ≡ opensWordsCall (now (encoded .entry)) (hoursOf (now (hours .entry)) minute) processor (now (out .entry)) ⌝ }
+    ensures { λ r. ⌜ OpensGave (now (encoded .entry)) (hoursOf (now (hours .entry)) minute) processor (now (out .entry)) r (now (out .exit)) ⌝ }
 {
     let reading = reader::read(encoded);
     let read = reading.number;

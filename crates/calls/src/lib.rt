@@ -3,14 +3,9 @@
 // `route` is 0 for direct passing, any other for indirect.
 // Each call over records is a thin function: it takes the records apart, has covered code work on numbers, and stores what that gives.
 // Two steps, either way round (W-214), have no code: specs/Demands214 states them of the calls on bytes, specs/OverRecords214 of these.
-ghost use mathlib.Core.Path.{_≡_};
-ghost use Rattle.machine.specs.Machine.{stateOf};
-ghost use Rattle.engine.specs.Calls.{answer, freshCall, turnCall, deliverCall, collectCall, sweepCall};
-ghost use Rattle.records.specs.Records.{flatWords};
+ghost use Rattle.machine.specs.Runs.{turnOf, deliveryOf};
 ghost use Rattle.writer.specs.Fields.{fields};
-ghost use Rattle.writer.specs.Writing.{writeCall};
-ghost use Rattle.soundings.specs.Soundings.{fillCall};
-ghost use Rattle.calls.specs.PlanCalls.{summaryCall, messageCall, hopsCall};
+ghost use Rattle.calls.specs.Gave.{areasOf, FreshGave, EventGave, CollectGave, SweepGave, SummaryGave, MessageGave, HopsGave, WriteGave, SoundingsGave};
 use records::Progress;
 
 pub mod office; // office.rt: for one of two offices on one rig, and the look
@@ -32,9 +27,9 @@ pub extern "C" fn rolwyddac_turn(
     status: &mut [u8],
     processor: u32,
 ) -> u32
-    ensures { λ r. ⌜ answer r (stateOf (now (memories .exit)) (now (buffer .exit)) (flatWords (now (progress .exit))) (now (status .exit)))
-        ≡ turnCall (now (encoded .entry)) route (now (source .entry))
-        (stateOf (now (memories .entry)) (now (buffer .entry)) (flatWords (now (progress .entry))) (now (status .entry))) processor ⌝ }
+    ensures { λ r. ⌜ EventGave (now (encoded .entry)) route (now (source .entry))
+        (areasOf (now (memories .entry)) (now (buffer .entry)) (now (progress .entry)) (now (status .entry))) (turnOf processor)
+        r (areasOf (now (memories .exit)) (now (buffer .exit)) (now (progress .exit)) (now (status .exit))) ⌝ }
 {
     let flat = records::flatten(progress);
     let after = engine::core::turn(
@@ -62,9 +57,9 @@ pub extern "C" fn rolwyddac_fresh(
     progress: &mut [Progress],
     status: &mut [u8],
 ) -> u32
-    ensures { λ n. ⌜ answer n (stateOf (now (memories .exit)) (now (buffer .exit)) (flatWords (now (progress .exit))) (now (status .exit)))
-        ≡ freshCall (now (encoded .entry)) route (now (source .entry))
-        (stateOf (now (memories .entry)) (now (buffer .entry)) (flatWords (now (progress .entry))) (now (status .entry))) ⌝ }
+    ensures { λ n. ⌜ FreshGave (now (encoded .entry)) route (now (source .entry))
+        (areasOf (now (memories .entry)) (now (buffer .entry)) (now (progress .entry)) (now (status .entry)))
+        n (areasOf (now (memories .exit)) (now (buffer .exit)) (now (progress .exit)) (now (status .exit))) ⌝ }
 {
     let words = 3 * progress.len();
     let number = engine::core::fresh(encoded, route, source, memories, buffer, words, status);
@@ -84,9 +79,9 @@ pub extern "C" fn rolwyddac_deliver(
     status: &mut [u8],
     message: u32,
 ) -> u32
-    ensures { λ r. ⌜ answer r (stateOf (now (memories .entry)) (now (buffer .entry)) (flatWords (now (progress .entry))) (now (status .exit)))
-        ≡ deliverCall (now (encoded .entry)) route (now (source .entry))
-        (stateOf (now (memories .entry)) (now (buffer .entry)) (flatWords (now (progress .entry))) (now (status .entry))) message ⌝ }
+    ensures { λ r. ⌜ EventGave (now (encoded .entry)) route (now (source .entry))
+        (areasOf (now (memories .entry)) (now (buffer .entry)) (now (progress .entry)) (now (status .entry))) (deliveryOf message)
+        r (areasOf (now (memories .entry)) (now (buffer .entry)) (now (progress .entry)) (now (status .exit))) ⌝ }
 {
     let flat = records::flatten(progress);
     engine::core::deliver(
@@ -113,9 +108,8 @@ pub extern "C" fn rolwyddac_collect(
     status: &[u8],
     grid: &mut [u32],
 ) -> u32
-    ensures { λ r. ⌜ answer r (now (grid .exit))
-        ≡ collectCall (now (encoded .entry)) route (now (source .entry))
-        (stateOf (now (memories .entry)) (now (buffer .entry)) (flatWords (now (progress .entry))) (now (status .entry))) (now (grid .entry)) ⌝ }
+    ensures { λ r. ⌜ CollectGave (now (encoded .entry)) route (now (source .entry))
+        (areasOf (now (memories .entry)) (now (buffer .entry)) (now (progress .entry)) (now (status .entry))) (now (grid .entry)) r (now (grid .exit)) ⌝ }
 {
     let flat = records::flatten(progress);
     engine::core::collect(encoded, route, source, memories, buffer, flat, status, grid)
@@ -124,7 +118,7 @@ pub extern "C" fn rolwyddac_collect(
 // The sequential sweep of the whole grid.
 #[no_mangle]
 pub extern "C" fn rolwyddac_sweep(encoded: &[u8], source: &[u32], grid: &mut [u32]) -> u32
-    ensures { λ r. ⌜ answer r (now (grid .exit)) ≡ sweepCall (now (encoded .entry)) (now (source .entry)) (now (grid .entry)) ⌝ }
+    ensures { λ r. ⌜ SweepGave (now (encoded .entry)) (now (source .entry)) (now (grid .entry)) r (now (grid .exit)) ⌝ }
 {
     engine::sweep(encoded, source, grid)
 }
@@ -132,7 +126,7 @@ pub extern "C" fn rolwyddac_sweep(encoded: &[u8], source: &[u32], grid: &mut [u3
 // The figures of the recipe's plan: tiles, messages, words, steps.
 #[no_mangle]
 pub extern "C" fn rolwyddac_summary(encoded: &[u8], route: u32, out: &mut [u32]) -> u32
-    ensures { λ r. ⌜ answer r (now (out .exit)) ≡ summaryCall (now (encoded .entry)) route (now (out .entry)) ⌝ }
+    ensures { λ r. ⌜ SummaryGave (now (encoded .entry)) route (now (out .entry)) r (now (out .exit)) ⌝ }
 {
     let figures = summary::summary(encoded, route);
     let number = figures.number;
@@ -152,7 +146,7 @@ pub extern "C" fn rolwyddac_summary(encoded: &[u8], route: u32, out: &mut [u32])
 // The line of message m: sending tile, taking tile, sending processor, taking processor, words.
 #[no_mangle]
 pub extern "C" fn rolwyddac_message(encoded: &[u8], route: u32, m: u32, out: &mut [u32]) -> u32
-    ensures { λ r. ⌜ answer r (now (out .exit)) ≡ messageCall (now (encoded .entry)) route m (now (out .entry)) ⌝ }
+    ensures { λ r. ⌜ MessageGave (now (encoded .entry)) route m (now (out .entry)) r (now (out .exit)) ⌝ }
 {
     let reading = recipe::read_for(encoded, route);
     let read = reading.number;
@@ -178,7 +172,7 @@ pub extern "C" fn rolwyddac_message(encoded: &[u8], route: u32, m: u32, out: &mu
 // The hops on the indirect route of message m of the direct one.
 #[no_mangle]
 pub extern "C" fn rolwyddac_hops(encoded: &[u8], m: u32, out: &mut [u32]) -> u32
-    ensures { λ r. ⌜ answer r (now (out .exit)) ≡ hopsCall (now (encoded .entry)) m (now (out .entry)) ⌝ }
+    ensures { λ r. ⌜ HopsGave (now (encoded .entry)) m (now (out .entry)) r (now (out .exit)) ⌝ }
 {
     let reading = reader::read(encoded);
     let read = reading.number;
@@ -216,10 +210,9 @@ pub extern "C" fn rolwyddac_write(
     boundary: u32,
     space: &mut [u8],
 ) -> u32
-    ensures { λ r. ⌜ answer r (now (space .exit))
-        ≡ writeCall (fields (now (lengths .entry)) (now (tiling .entry)) (now (counts .entry)) (now (components .entry))
+    ensures { λ r. ⌜ WriteGave (fields (now (lengths .entry)) (now (tiling .entry)) (now (counts .entry)) (now (components .entry))
         (now (weights .entry)) (now (sides .entry)) (now (bounded .entry)) (now (earlier .entry)) (now (slopes .entry))
-        (now (offsets .entry)) shift boundary) (now (space .entry)) ⌝ }
+        (now (offsets .entry)) shift boundary) (now (space .entry)) r (now (space .exit)) ⌝ }
 {
     writer::write(
         lengths,
@@ -246,7 +239,7 @@ pub extern "C" fn rolwyddac_soundings(
     value: u32,
     source: &mut [u32],
 ) -> u32
-    ensures { λ r. ⌜ answer r (now (source .exit)) ≡ fillCall (now (encoded .entry)) (now (file .entry)) value (now (source .entry)) ⌝ }
+    ensures { λ r. ⌜ SoundingsGave (now (encoded .entry)) (now (file .entry)) value (now (source .entry)) r (now (source .exit)) ⌝ }
 {
     soundings::fill(encoded, file, value, source)
 }

@@ -1,12 +1,8 @@
 // The calls for an office with C linkage, over progress records as structs: a fresh start of both offices together; a turn, a delivery
 // and collecting for one of them, to which the other's records are lent only to read; and the look at a processor's memory.
-ghost use mathlib.Core.Path.{_≡_};
-ghost use Rattle.machine.specs.Machine.{stateOf};
-ghost use Rattle.engine.specs.Calls.{answer};
-ghost use Rattle.records.specs.Records.{flatWords};
-ghost use Rattle.tenants.specs.Offices.{lentOf, rigOf, sourcesOf};
-ghost use Rattle.sharing.specs.Calls.{turnCallFor, deliverCallFor, collectCallFor, freshRigCall};
-ghost use Rattle.calls.specs.OfficeCalls.{lookCall};
+ghost use Rattle.machine.specs.Runs.{turnOf, deliveryOf};
+ghost use Rattle.tenants.specs.Offices.{sourcesOf};
+ghost use Rattle.calls.specs.Gave.{areasOf, lentAreasOf, rigAreasOf, OfficeGave, OfficeCollectGave, FreshBothGave, LookGave};
 use records::Progress;
 
 // One turn of a processor for an office.
@@ -24,12 +20,10 @@ pub extern "C" fn rolwyddac_office_turn(
     office: u32,
     processor: u32,
 ) -> u32
-    ensures { λ r. ⌜ answer r (lentOf (stateOf (now (memories .exit)) (now (buffer .exit)) (flatWords (now (progress .exit)))
-        (now (status .exit))) (now (engaged .exit)))
-        ≡ turnCallFor (now (encoded .entry)) route (now (source .entry)) office
-        (lentOf (stateOf (now (memories .entry)) (now (buffer .entry)) (flatWords (now (progress .entry))) (now (status .entry)))
-        (now (engaged .entry)))
-        (flatWords (now (other .entry))) processor ⌝ }
+    ensures { λ r. ⌜ OfficeGave (now (encoded .entry)) route (now (source .entry)) office (now (other .entry))
+        (lentAreasOf (areasOf (now (memories .entry)) (now (buffer .entry)) (now (progress .entry)) (now (status .entry))) (now (engaged .entry)))
+        (turnOf processor)
+        r (lentAreasOf (areasOf (now (memories .exit)) (now (buffer .exit)) (now (progress .exit)) (now (status .exit))) (now (engaged .exit))) ⌝ }
 {
     let own = records::flatten(progress);
     let theirs = records::flatten(other);
@@ -65,12 +59,10 @@ pub extern "C" fn rolwyddac_office_deliver(
     office: u32,
     message: u32,
 ) -> u32
-    ensures { λ r. ⌜ answer r (lentOf (stateOf (now (memories .entry)) (now (buffer .entry)) (flatWords (now (progress .entry)))
-        (now (status .exit))) (now (engaged .entry)))
-        ≡ deliverCallFor (now (encoded .entry)) route (now (source .entry)) office
-        (lentOf (stateOf (now (memories .entry)) (now (buffer .entry)) (flatWords (now (progress .entry))) (now (status .entry)))
-        (now (engaged .entry)))
-        (flatWords (now (other .entry))) message ⌝ }
+    ensures { λ r. ⌜ OfficeGave (now (encoded .entry)) route (now (source .entry)) office (now (other .entry))
+        (lentAreasOf (areasOf (now (memories .entry)) (now (buffer .entry)) (now (progress .entry)) (now (status .entry))) (now (engaged .entry)))
+        (deliveryOf message)
+        r (lentAreasOf (areasOf (now (memories .entry)) (now (buffer .entry)) (now (progress .entry)) (now (status .exit))) (now (engaged .entry))) ⌝ }
 {
     let own = records::flatten(progress);
     let theirs = records::flatten(other);
@@ -104,11 +96,9 @@ pub extern "C" fn rolwyddac_office_collect(
     office: u32,
     grid: &mut [u32],
 ) -> u32
-    ensures { λ r. ⌜ answer r (now (grid .exit))
-        ≡ collectCallFor (now (encoded .entry)) route (now (source .entry)) office
-        (lentOf (stateOf (now (memories .entry)) (now (buffer .entry)) (flatWords (now (progress .entry))) (now (status .entry)))
-        (now (engaged .entry)))
-        (flatWords (now (other .entry))) (now (grid .entry)) ⌝ }
+    ensures { λ r. ⌜ OfficeCollectGave (now (encoded .entry)) route (now (source .entry)) office (now (other .entry))
+        (lentAreasOf (areasOf (now (memories .entry)) (now (buffer .entry)) (now (progress .entry)) (now (status .entry))) (now (engaged .entry)))
+        (now (grid .entry)) r (now (grid .exit)) ⌝ }
 {
     let own = records::flatten(progress);
     let theirs = records::flatten(other);
@@ -144,15 +134,14 @@ pub extern "C" fn rolwyddac_fresh_both(
     second_status: &mut [u8],
     engaged: &mut [u32],
 ) -> u32
-    ensures { λ n. ⌜ answer n (rigOf (stateOf (now («first_memories» .exit)) (now («first_buffer» .exit))
-        (flatWords (now («first_progress» .exit))) (now («first_status» .exit)))
-        (stateOf (now («second_memories» .exit)) (now («second_buffer» .exit)) (flatWords (now («second_progress» .exit)))
-        (now («second_status» .exit))) (now (engaged .exit)))
-        ≡ freshRigCall (now (encoded .entry)) route (sourcesOf (now («first_source» .entry)) (now («second_source» .entry)))
-        (rigOf (stateOf (now («first_memories» .entry)) (now («first_buffer» .entry)) (flatWords (now («first_progress» .entry)))
-        (now («first_status» .entry)))
-        (stateOf (now («second_memories» .entry)) (now («second_buffer» .entry)) (flatWords (now («second_progress» .entry)))
-        (now («second_status» .entry))) (now (engaged .entry))) ⌝ }
+    ensures { λ n. ⌜ FreshBothGave (now (encoded .entry)) route (sourcesOf (now («first_source» .entry)) (now («second_source» .entry)))
+        (rigAreasOf (areasOf (now («first_memories» .entry)) (now («first_buffer» .entry)) (now («first_progress» .entry)) (now («first_status» .entry)))
+        (areasOf (now («second_memories» .entry)) (now («second_buffer» .entry)) (now («second_progress» .entry)) (now («second_status» .entry)))
+        (now (engaged .entry)))
+        n
+        (rigAreasOf (areasOf (now («first_memories» .exit)) (now («first_buffer» .exit)) (now («first_progress» .exit)) (now («first_status» .exit)))
+        (areasOf (now («second_memories» .exit)) (now («second_buffer» .exit)) (now («second_progress» .exit)) (now («second_status» .exit)))
+        (now (engaged .exit))) ⌝ }
 {
     let first_words = 3 * first_progress.len();
     let second_words = 3 * second_progress.len();
@@ -186,8 +175,8 @@ pub extern "C" fn rolwyddac_look(
     processor: u32,
     out: &mut [u32],
 ) -> u32
-    ensures { λ r. ⌜ answer r (now (out .exit))
-        ≡ lookCall (now (encoded .entry)) (now (first .entry)) (now (second .entry)) office processor (now (out .entry)) ⌝ }
+    ensures { λ r. ⌜ LookGave (now (encoded .entry)) (now (first .entry)) (now (second .entry)) office processor
+        (now (out .entry)) r (now (out .exit)) ⌝ }
 {
     let reading = reader::read(encoded);
     let read = reading.number;

@@ -8,9 +8,8 @@ ghost use lib.Dec.{eqb, leb};
 ghost use Rattle.base.specs.Tests.{_and_};
 ghost use Rattle.machine.specs.Machine.{stateOf};
 ghost use Rattle.engine.specs.Calls.{answer};
-ghost use Rattle.records.specs.Records.{flatWords};
-ghost use Rattle.schedule.specs.Calls.{roundsOfCall};
 ghost use Rattle.calls.specs.RoundCalls.{lentRounds, wordsAfter, roundsWordsCall};
+ghost use Rattle.calls.specs.Gave.{areasOf, driverAreasOf, RoundsGave, RoundsOfGave};
 use records::Flat;
 use records::Progress;
 
@@ -103,11 +102,9 @@ pub extern "C" fn rolwyddac_rounds(
     status: &mut [u8],
     out: &mut [u32],
 ) -> u32
-    ensures { λ r. ⌜ answer r (lentRounds (stateOf (now (memories .exit)) (now (buffer .exit)) (flatWords (now (progress .exit)))
-        (now (status .exit))) (now (out .exit)))
-        ≡ roundsWordsCall (now (encoded .entry)) (now (source .entry))
-        (lentRounds (stateOf (now (memories .entry)) (now (buffer .entry)) (flatWords (now (progress .entry))) (now (status .entry)))
-        (now (out .entry))) ⌝ }
+    ensures { λ r. ⌜ RoundsGave (now (encoded .entry)) (now (source .entry))
+        (driverAreasOf (areasOf (now (memories .entry)) (now (buffer .entry)) (now (progress .entry)) (now (status .entry))) (now (out .entry)))
+        r (driverAreasOf (areasOf (now (memories .exit)) (now (buffer .exit)) (now (progress .exit)) (now (status .exit))) (now (out .exit))) ⌝ }
 {
     let words = 3 * progress.len();
     let ran = drive(encoded, source, memories, buffer, words, status, out);
@@ -118,7 +115,7 @@ pub extern "C" fn rolwyddac_rounds(
 // Each tile's round, one word a tile.
 #[no_mangle]
 pub extern "C" fn rolwyddac_rounds_of(encoded: &[u8], rounds: &mut [u32]) -> u32
-    ensures { λ r. ⌜ answer r (now (rounds .exit)) ≡ roundsOfCall (now (encoded .entry)) (now (rounds .entry)) ⌝ }
+    ensures { λ r. ⌜ RoundsOfGave (now (encoded .entry)) (now (rounds .entry)) r (now (rounds .exit)) ⌝ }
 {
     schedule::rounds_of(encoded, rounds)
 }
