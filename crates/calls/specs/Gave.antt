@@ -1,5 +1,5 @@
 -- Read this.
--- What each exported call gives: a relation for each, over what it was lent, the number it gave and what it left. The contract of every function
+-- What each exported call gives: a relation for each, over what it was lent, the number it gave, what it told and what it left. The contract of every function
 -- of src/ that has C linkage is its relation; all claims about the exported calls, in the files beside this one, speak of these very relations.
 -- Renders document 01, "The machine" and "Numbers a call gives", and the requests that ask for a call. Lent `a`, the call gave n and left `b`;
 -- what is lent for reading alone is left as it was. Board records are structs.
@@ -14,20 +14,32 @@ use Rattle.calendar.specs.Hours.{Hours, Timed, turnAt, mailOf}
 use Rattle.records.specs.declared.Progress.{Progress}
 use Rattle.records.specs.Records.{flatWords}
 use Rattle.engine.specs.Calls.{answer, freshCall, turnCall, deliverCall, collectCall, sweepCall}
+use Rattle.layout.specs.Sizes.{routeOf}
+use Rattle.summary.specs.declared.Figures.{Figures}
+use Rattle.summary.specs.declared.MessageLine.{MessageLine}
+use Rattle.summary.specs.declared.HopCount.{HopCount}
+use Rattle.summary.specs.Summary.{summaryOf, messageLineOf, hopsOf}
+use Rattle.writer.specs.declared.reading.RecipeFields.{RecipeFields}
 use Rattle.writer.specs.Fields.{Fields}
+use Rattle.writer.specs.Told.{readCall}
 use Rattle.writer.specs.Writing.{writeCall}
 use Rattle.soundings.specs.Soundings.{fillCall}
 use Rattle.sharing.specs.Calls.{turnCallFor, deliverCallFor, collectCallFor, freshRigCall}
 use Rattle.timed.specs.Calls.{turnCallAt, turnCallAtFor}
-use Rattle.schedule.specs.Calls.{roundsOfCall}
-use Rattle.transport.specs.Calls.{messagesCall, ownersCall, Waits, awaitedCall, takeInCall}
+use Rattle.rounds.specs.Rounds.{told}
+use Rattle.schedule.specs.declared.Driven.{Driven}
+use Rattle.schedule.specs.Calls.{roundsCall, roundsOfCall}
+use Rattle.transport.specs.declared.Waiting.{Waiting}
+use Rattle.transport.specs.Calls.{messagesCall, ownersCall, waitsOf, awaitedCall, takeInCall}
+use Rattle.part_calls.specs.declared.AreaLengths.{AreaLengths}
 use Rattle.part_calls.specs.front.Calls.{ownSizesCall, ownMessagesCall, ownFreshCall, ownTurnCall, ownPostCall, ownArriveCall, ownCollectCall}
-use Rattle.calls.specs.PlanCalls.{summaryCall, messageCall, hopsCall}
-use Rattle.calls.specs.OfficeCalls.{lookCall}
-use Rattle.calls.specs.HourCalls.{opensWordsCall}
-use Rattle.calls.specs.RoundCalls.{LentRounds, lentRounds, roundsWordsCall}
-use Rattle.calls.specs.ChartCalls as desk
-use Rattle.calls.specs.ChartCalls.{chartCall, chartLengthCall}
+use Rattle.chart.specs.declared.Told.{Told as Text}
+use Rattle.chart.specs.Call as chart
+use Rattle.chart.specs.Call.{lengthCall, written}
+use Rattle.calls.specs.declared.tenant.Viewed.{Viewed}
+use Rattle.calls.specs.declared.hour.NextOpening.{NextOpening}
+use Rattle.calls.specs.View.{viewOf}
+use Rattle.calls.specs.Opens.{opensOf}
 
 -- ---- what is lent
 
@@ -74,17 +86,6 @@ rigAreasOf first second engaged = record { first = first; second = second; engag
 abbrev pub rigWords : RigAreas → Rig
 rigWords a = rigOf (inWords (a .first)) (inWords (a .second)) (a .engaged)
 
--- what the driver by rounds is lent to change: the areas of a run, and the words for the rounds
-pub record DriverAreas : Type 0 where
-  pub own : Areas
-  pub out : List ℕ
-
-abbrev pub driverAreasOf : Areas → List ℕ → DriverAreas
-driverAreasOf own out = record { own = own; out = out }
-
-abbrev pub driverWords : DriverAreas → LentRounds
-driverWords a = lentRounds (inWords (a .own)) (a .out)
-
 -- ---- src/lib.rt: one office
 
 module _ (bytes : List ℕ) (route : ℕ) (source : List ℕ) where
@@ -102,14 +103,17 @@ module _ (bytes : List ℕ) (route : ℕ) (source : List ℕ) where
 abbrev pub SweepGave : List ℕ → List ℕ → List ℕ → ℕ → List ℕ → Type 0
 SweepGave bytes source old n grid = answer n grid ≡ sweepCall bytes source old
 
-abbrev pub SummaryGave : List ℕ → ℕ → List ℕ → ℕ → List ℕ → Type 0
-SummaryGave bytes route old n out = answer n out ≡ summaryCall bytes route old
+abbrev pub SummaryGave : List ℕ → ℕ → Figures → Type 0
+SummaryGave bytes route told = told ≡ summaryOf (routeOf route) bytes
 
-abbrev pub MessageGave : List ℕ → ℕ → ℕ → List ℕ → ℕ → List ℕ → Type 0
-MessageGave bytes route m old n out = answer n out ≡ messageCall bytes route m old
+abbrev pub MessageGave : List ℕ → ℕ → ℕ → MessageLine → Type 0
+MessageGave bytes route m told = told ≡ messageLineOf (routeOf route) bytes m
 
-abbrev pub HopsGave : List ℕ → ℕ → List ℕ → ℕ → List ℕ → Type 0
-HopsGave bytes m old n out = answer n out ≡ hopsCall bytes m old
+abbrev pub HopsGave : List ℕ → ℕ → HopCount → Type 0
+HopsGave bytes m told = told ≡ hopsOf bytes m
+
+abbrev pub ReadGave : List ℕ → RecipeFields → Type 0
+ReadGave bytes told = told ≡ readCall bytes
 
 -- the fields v written into a space that was `old`
 abbrev pub WriteGave : Fields → List ℕ → ℕ → List ℕ → Type 0
@@ -119,7 +123,7 @@ WriteGave v old n space = answer n space ≡ writeCall v old
 abbrev pub SoundingsGave : List ℕ → List ℕ → ℕ → List ℕ → ℕ → List ℕ → Type 0
 SoundingsGave bytes file value old n source = answer n source ≡ fillCall bytes file value old
 
--- ---- src/office.rt: one of two offices on one rig
+-- ---- src/tenant.rt: one of two offices on one rig
 
 module _ (bytes : List ℕ) (route : ℕ) where
   -- office o, lent the other's records `theirs` only to read
@@ -135,8 +139,9 @@ module _ (bytes : List ℕ) (route : ℕ) where
   abbrev pub FreshBothGave : Sources → RigAreas → ℕ → RigAreas → Type 0
   FreshBothGave sources a n b = answer n (rigWords b) ≡ freshRigCall bytes route sources (rigWords a)
 
-abbrev pub LookGave : List ℕ → List ℕ → List ℕ → ℕ → ℕ → List ℕ → ℕ → List ℕ → Type 0
-LookGave bytes first second o b old n out = answer n out ≡ lookCall bytes first second o b old
+-- processor b's part of office o's memories
+abbrev pub ViewGave : List ℕ → List ℕ → List ℕ → ℕ → ℕ → Viewed → Type 0
+ViewGave bytes first second o b told = told ≡ viewOf bytes first second o b
 
 -- ---- src/hour.rt: with hours
 
@@ -152,13 +157,14 @@ module _ (bytes : List ℕ) (route : ℕ) where
       answer n (lentWords b) ≡ turnCallAtFor bytes route source o h (lentWords a) (flatWords theirs) p
   OfficeTimedGave source o theirs a (mailOf m) n b = OfficeGave bytes route source o theirs a (deliveryOf m) n b
 
-abbrev pub OpensGave : List ℕ → Hours → ℕ → List ℕ → ℕ → List ℕ → Type 0
-OpensGave bytes h b old n out = answer n out ≡ opensWordsCall bytes h b old
+abbrev pub OpensGave : List ℕ → Hours → ℕ → NextOpening → Type 0
+OpensGave bytes h b told = told ≡ opensOf bytes h b
 
 -- ---- src/round.rt: by rounds, on the direct route
 
-abbrev pub RoundsGave : List ℕ → List ℕ → DriverAreas → ℕ → DriverAreas → Type 0
-RoundsGave bytes source a n b = answer n (driverWords b) ≡ roundsWordsCall bytes source (driverWords a)
+-- what it told, and the areas that it left
+abbrev pub RoundsGave : List ℕ → List ℕ → Areas → Driven → Areas → Type 0
+RoundsGave bytes source a d b = answer (d .number) (told (d .rounds) (inWords b)) ≡ roundsCall bytes source (inWords a)
 
 abbrev pub RoundsOfGave : List ℕ → List ℕ → ℕ → List ℕ → Type 0
 RoundsOfGave bytes old n out = answer n out ≡ roundsOfCall bytes old
@@ -171,27 +177,29 @@ MessagesGave bytes route old n out = answer n out ≡ messagesCall bytes route o
 abbrev pub OwnersGave : List ℕ → List ℕ → ℕ → List ℕ → Type 0
 OwnersGave bytes old n out = answer n out ≡ ownersCall bytes old
 
--- processor p's marks and tile, lent records and status bytes to read
-abbrev pub AwaitedGave : List ℕ → ℕ → List Progress → List ℕ → ℕ → Waits → ℕ → Waits → Type 0
-AwaitedGave bytes route records status p old n out = answer n out ≡ awaitedCall bytes route (askedWith records status) p old
+-- processor p's marks, which were `old`, and its tile, lent records and status bytes to read
+abbrev pub AwaitedGave : List ℕ → ℕ → List Progress → List ℕ → ℕ → List ℕ → Waiting → List ℕ → Type 0
+AwaitedGave bytes route records status p old w marks =
+    answer (w .number) (waitsOf marks (w .tile)) ≡ awaitedCall bytes route (askedWith records status) p old
 
 -- message m with these words, taken in by processor p
 abbrev pub TakeInGave : List ℕ → ℕ → List ℕ → Areas → ℕ → ℕ → List ℕ → ℕ → Areas → Type 0
 TakeInGave bytes route source a p m words n b = answer n (inWords b) ≡ takeInCall bytes route source (inWords a) p m words
 
--- ---- src/desk.rt: for the charting desk
+-- ---- src/chart_text.rt: for the charting desk
 
-abbrev pub ChartGave : List ℕ → List ℕ → ℤ → ℤ → ℕ → desk.Lent → ℕ → desk.Lent → Type 0
-ChartGave bytes grid x y size a n b = answer n b ≡ chartCall bytes grid x y size a
+-- what it told, and the space, which was `old`
+abbrev pub ChartGave : List ℕ → List ℕ → ℤ → ℤ → ℕ → List ℕ → Text → List ℕ → Type 0
+ChartGave bytes grid x y size old text space = written text space ≡ chart.writeCall bytes grid x y size old
 
-abbrev pub ChartLengthGave : List ℕ → List ℕ → ℤ → ℤ → ℕ → List ℕ → ℕ → List ℕ → Type 0
-ChartLengthGave bytes grid x y size old n out = answer n out ≡ chartLengthCall bytes grid x y size old
+abbrev pub ChartLengthGave : List ℕ → List ℕ → ℤ → ℤ → ℕ → Text → Type 0
+ChartLengthGave bytes grid x y size text = text ≡ lengthCall bytes grid x y size
 
 -- ---- src/board.rt: processor p, lent its own part alone: memory, mail, its record and the marks of its messages
 
 module _ (bytes : List ℕ) (route : ℕ) where
-  abbrev pub PartSizesGave : ℕ → List ℕ → ℕ → List ℕ → Type 0
-  PartSizesGave p old n out = answer n out ≡ ownSizesCall bytes route p old
+  abbrev pub PartSizesGave : ℕ → AreaLengths → Type 0
+  PartSizesGave p told = told ≡ ownSizesCall bytes route p
 
   abbrev pub PartMessagesGave : ℕ → List ℕ → ℕ → List ℕ → Type 0
   PartMessagesGave p old n out = answer n out ≡ ownMessagesCall bytes route p old

@@ -17,11 +17,12 @@ use Rattle.calendar.specs.Hours.{week, openAt, Hours, hoursOf, Timed, turnAt, m
 use Rattle.calendar.specs.Demands212.{TellsOpening, Faultless, OpensSometime, turnBy, mailBy, Demand212, Demand212For}
 use Rattle.records.specs.declared.Progress.{Progress}
 use Rattle.records.specs.Records.{flatWords}
-use Rattle.engine.specs.Calls.{answer, recipe, collectCall}
-use Rattle.engine.specs.Demands.{Fixed}
+use Rattle.engine.specs.Calls.{recipe, collectCall}
 use Rattle.sharing.specs.Calls.{rigCollects}
-use Rattle.timed.specs.Calls.{turnCallLinesAt, turnCallLinesAtFor, openingWords, callsAt, rigCallsAt}
-use Rattle.calls.specs.HourCalls.{opensWordsLines}
+use Rattle.timed.specs.Calls.{turnCallLinesAt, turnCallLinesAtFor, opensLines, callsAt, rigCallsAt}
+use Rattle.calls.specs.declared.hour.NextOpening.{NextOpening}
+use Rattle.calls.specs.Opens.{tells, openingTold}
+use Rattle.calls.specs.Tells.{Tells}
 use Rattle.calls.specs.Gave.{Areas, inWords, LentAreas, lentWords, RigAreas, rigWords}
 use Rattle.calls.specs.Gave.{FreshGave, CollectGave, FreshBothGave, TimedGave, OfficeTimedGave, OpensGave}
 use Rattle.calls.specs.OverRecords.{Gave, FixedAreas, stepsIn}
@@ -45,12 +46,11 @@ pub record FixedHours (bytes : List ℕ) (route : ℕ) : Type 0 where
       → OfficeTimedGave bytes route source o theirs a (turnAt h p) n b
       → FixedLent (turnCallLinesAtFor bytes route source o h (lentWords a) (flatWords theirs) p)
       (carryOutFor (recipe bytes route) source o (lentWords a) p (nextAction (recipe bytes route) (lentWords a .own) p)) a n b
-  pub opens : (h : Hours) (b : ℕ) (old out : List ℕ) (n : ℕ) → OpensGave bytes h b old n out
-      → Fixed (answer n out) (opensWordsLines bytes h b old) (openingWords (untilOpen (h .table) (h .minute) b)) old
-  -- what the two words tell: open then and at no minute before; never exactly if there is no such minute
-  pub tells : (h : Hours) (b : ℕ) (old out : List ℕ) → OpensGave bytes h b old 0 out
-      → (out ≡ openingWords (untilOpen (h .table) (h .minute) b))
-      × TellsOpening (untilOpen (h .table) (h .minute) b) (h .table) (h .minute) b
+  pub opens : (h : Hours) (b : ℕ) (told : NextOpening) → OpensGave bytes h b told
+      → Tells (λ o. o .number) (opensLines bytes h b) (openingTold (untilOpen (h .table) (h .minute) b)) (λ n. tells n 0 0) told
+  -- what is told: open then and at no minute before; never exactly if there is no such minute
+  pub tells-opening : (h : Hours) (b : ℕ) (told : NextOpening) → OpensGave bytes h b told → told .number ≡ 0
+      → (told ≡ openingTold (untilOpen (h .table) (h .minute) b)) × TellsOpening (untilOpen (h .table) (h .minute) b) (h .table) (h .minute) b
   -- the contracts can be kept, and in one way only
   pub can-event : (source : List ℕ) (a : Areas) (x : Timed) → (n : ℕ) × ((b : Areas) × TimedGave bytes route source a x n b)
   pub can-call : (sources : Sources) (a : RigAreas) (c : TimedCall)

@@ -21,11 +21,16 @@ use Rattle.nest.specs.Reader.{nestOf, readLines}
 use Rattle.plan.specs.Hops.{hops}
 use Rattle.conformance.specs.Exact.{sequential, runNest}
 use Rattle.conformance.specs.ExactShape.{shapeOf}
-use Rattle.summary.specs.Summary.{directionOf}
+use Rattle.layout.specs.Sizes.{routeOf}
+use Rattle.recipe.specs.Routes.{linesFor}
+use Rattle.summary.specs.declared.Figures.{Figures}
+use Rattle.summary.specs.declared.MessageLine.{MessageLine}
+use Rattle.summary.specs.declared.HopCount.{HopCount}
+use Rattle.summary.specs.Summary.{figuresOf, noFigures, lineOf, noLine, messageLines, directionOf, noHops, hopsLines}
 use Rattle.records.specs.Records.{flatWords}
 use Rattle.engine.specs.Calls.{answer, recipe, freshCallLines, turnCallLines, deliverCallLines, collectCallLines, collectCall, sweepCallLines}
 use Rattle.engine.specs.Demands.{Fixed, calls, Demand2}
-use Rattle.calls.specs.PlanCalls.{figureWords, summaryCallLines, lineWords, messageCallLines, hopsCallLines}
+use Rattle.calls.specs.Tells.{Tells}
 use Rattle.calls.specs.Gave.{Areas, inWords, FreshGave, EventGave, CollectGave, SweepGave, SummaryGave, MessageGave, HopsGave}
 
 -- calls in a row, `Step a e n b` saying that the call e, lent a, gave n and left b: areas before, calls, their numbers, areas after
@@ -61,12 +66,13 @@ pub record FixedCalls (bytes : List ℕ) (route : ℕ) (source : List ℕ) : Typ
       → Fixed (answer n grid) (collectCallLines bytes route source (inWords a) old) (collected (recipe bytes route) (inWords a)) old
   pub sweep : (old grid : List ℕ) (n : ℕ) → SweepGave bytes source old n grid
       → Fixed (answer n grid) (sweepCallLines bytes source old) (machine.sweep (recipe bytes 0) source) old
-  pub summary : (old out : List ℕ) (n : ℕ) → SummaryGave bytes route old n out
-      → Fixed (answer n out) (summaryCallLines bytes route old) (figureWords (recipe bytes route)) old
-  pub message : (m : ℕ) (old out : List ℕ) (n : ℕ) → MessageGave bytes route m old n out
-      → Fixed (answer n out) (messageCallLines bytes route m old) (lineWords (recipe bytes route) m) old
-  pub hops : (m : ℕ) (old out : List ℕ) (n : ℕ) → HopsGave bytes m old n out
-      → Fixed (answer n out) (hopsCallLines bytes m old) (hops (nestOf bytes) (directionOf (nestOf bytes) m) ∷ []) old
+  -- what is told by value: nothing beside the number at a refusal
+  pub summary : (told : Figures) → SummaryGave bytes route told
+      → Tells (λ f. f .number) (linesFor (routeOf route) bytes) (figuresOf (recipe bytes route)) noFigures told
+  pub message : (m : ℕ) (told : MessageLine) → MessageGave bytes route m told
+      → Tells (λ f. f .number) (messageLines (routeOf route) bytes m) (lineOf (recipe bytes route) m) noLine told
+  pub hops : (m : ℕ) (told : HopCount) → HopsGave bytes m told
+      → Tells (λ f. f .number) (hopsLines bytes m) (record { number = 0; hops = hops (nestOf bytes) (directionOf (nestOf bytes) m) }) noHops told
   -- the contracts can be kept, and in one way only
   pub can-fresh : (a : Areas) → (n : ℕ) × ((b : Areas) × FreshGave bytes route source a n b)
   pub can-event : (a : Areas) (e : Event) → (n : ℕ) × ((b : Areas) × EventGave bytes route source a e n b)

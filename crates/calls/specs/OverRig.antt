@@ -1,7 +1,7 @@
 -- Read this.
 -- Request W-208 for the calls as exported, board records as structs, by the relations that are their contracts (`Gave`); runs of both offices on
 -- one rig. Document 01, "Numbers a call gives", "Runs"; W-208.
-use Prim.Native.Nat.{ℕ, _*_, _≤_, _<_}
+use Prim.Native.Nat.{ℕ, _≤_, _<_}
 use mathlib.Core.Path.{_≡_}
 use mathlib.Core.Logic.{_≢_, _↔_, _⊎_}
 use mathlib.Core.List.{List}
@@ -17,10 +17,12 @@ use Rattle.records.specs.declared.Progress.{Progress}
 use Rattle.records.specs.Records.{flatWords}
 use Rattle.engine.specs.Calls.{answer, recipe}
 use Rattle.engine.specs.Demands.{Fixed}
-use Rattle.sharing.specs.Calls.{turnCallLinesFor, deliverCallLinesFor, collectCallLinesFor, freshRigLines, lookPart, rigCalls, rigCollects}
-use Rattle.calls.specs.OfficeCalls.{lookWords, lookCallLines}
+use Rattle.sharing.specs.Calls.{turnCallLinesFor, deliverCallLinesFor, collectCallLinesFor, freshRigLines, lookLines, lookPart, rigCalls, rigCollects}
+use Rattle.calls.specs.declared.tenant.Viewed.{Viewed}
+use Rattle.calls.specs.View.{noView, viewAt}
+use Rattle.calls.specs.Tells.{Tells}
 use Rattle.calls.specs.Gave.{Areas, LentAreas, lentAreasOf, lentWords, RigAreas, rigWords}
-use Rattle.calls.specs.Gave.{OfficeGave, OfficeCollectGave, FreshBothGave, LookGave}
+use Rattle.calls.specs.Gave.{OfficeGave, OfficeCollectGave, FreshBothGave, ViewGave}
 use Rattle.calls.specs.OverRecords.{Gave, stepsIn}
 
 -- of the areas of both offices, those of office o, those of the other, and what a call of o is lent to change
@@ -72,11 +74,11 @@ pub record FixedOffice (bytes : List ℕ) (route : ℕ) : Type 0 where
       (collected (recipe bytes route) (lentWords a .own)) old
   pub fresh : (sources : Sources) (a b : RigAreas) (n : ℕ) → FreshBothGave bytes route sources a n b
       → FixedRig (freshRigLines bytes route sources (rigWords a)) (freshRig (recipe bytes route)) a n b
-  pub look : (first second : List ℕ) (o b : ℕ) (old out : List ℕ) (n : ℕ) → LookGave bytes first second o b old n out
-      → Fixed (answer n out) (lookCallLines bytes first second o b old) (lookWords (recipe bytes 0) b) old
-  -- the part that a look names is the one of the office named
-  pub part-is : (first second : List ℕ) (o b : ℕ) (old out : List ℕ) → LookGave bytes first second o b old 0 out
-      → part (ofOffice o first second) (b * recipe bytes 0 .cells) (recipe bytes 0 .cells) ≡ lookPart bytes first second o b
+  pub view : (first second : List ℕ) (o b : ℕ) (told : Viewed) → ViewGave bytes first second o b told
+      → Tells (λ v. v .number) (lookLines bytes first second o b) (viewAt (recipe bytes 0) b) noView told
+  -- the part that was told of is the processor's in the memories of the office named, and empty at a refusal
+  pub part-is : (first second : List ℕ) (o b : ℕ) (told : Viewed) → ViewGave bytes first second o b told
+      → part (ofOffice o first second) (told .begin) (told .length) ≡ lookPart bytes first second o b
   -- the contracts can be kept, and in one way only
   pub can-fresh : (sources : Sources) (a : RigAreas) → (n : ℕ) × ((b : RigAreas) × FreshBothGave bytes route sources a n b)
   pub can-call : (sources : Sources) (a : RigAreas) (c : Call) → (n : ℕ) × ((b : RigAreas) × CallGave bytes route sources a c n b)

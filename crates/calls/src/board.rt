@@ -2,24 +2,20 @@
 // handles, a fresh start, a turn, a message handed over to a transport, a message that arrives, and its cells' words for the grid.
 ghost use Rattle.calls.specs.Gave.{areasOf, PartSizesGave, PartMessagesGave, PartFreshGave, PartTurnGave};
 ghost use Rattle.calls.specs.Gave.{PartPostGave, PartArriveGave, PartCollectGave};
+use part_calls::AreaLengths;
 use records::Progress;
 
-// How long its areas are, four words: the cells of its tiles, the cells that it keeps, the words of the messages that it handles, and how many these are.
+// How long its areas are.
 #[no_mangle]
-pub extern "C" fn rolwyddac_own_sizes(
-    encoded: &[u8],
-    route: u32,
-    processor: u32,
-    out: &mut [u32],
-) -> u32
-    ensures { λ r. ⌜ PartSizesGave (now (encoded .entry)) route processor (now (out .entry)) r (now (out .exit)) ⌝ }
+pub extern "C" fn rolwyddac_part_sizes(encoded: &[u8], route: u32, processor: u32) -> AreaLengths
+    ensures { λ r. ⌜ PartSizesGave (now (encoded .entry)) route processor r ⌝ }
 {
-    part_calls::sizes(encoded, route, processor, out)
+    part_calls::sizes(encoded, route, processor)
 }
 
 // The messages that it handles, seven words each: number, sending tile, taking tile, sending processor, taking processor, words, their place in its mail.
 #[no_mangle]
-pub extern "C" fn rolwyddac_own_messages(
+pub extern "C" fn rolwyddac_part_messages(
     encoded: &[u8],
     route: u32,
     processor: u32,
@@ -32,7 +28,7 @@ pub extern "C" fn rolwyddac_own_messages(
 
 // A fresh start.
 #[no_mangle]
-pub extern "C" fn rolwyddac_own_fresh(
+pub extern "C" fn rolwyddac_part_fresh(
     encoded: &[u8],
     route: u32,
     memory: &mut [u32],
@@ -53,7 +49,7 @@ pub extern "C" fn rolwyddac_own_fresh(
 
 // A turn. The source has a word for each cell of its tiles, in index order.
 #[no_mangle]
-pub extern "C" fn rolwyddac_own_turn(
+pub extern "C" fn rolwyddac_part_turn(
     encoded: &[u8],
     route: u32,
     source: &[u32],
@@ -84,7 +80,7 @@ pub extern "C" fn rolwyddac_own_turn(
 
 // A message is handed over to a transport: its mark from 1 to 2; its words lie in the mail.
 #[no_mangle]
-pub extern "C" fn rolwyddac_own_post(
+pub extern "C" fn rolwyddac_part_post(
     encoded: &[u8],
     route: u32,
     memory: &[u32],
@@ -113,7 +109,7 @@ pub extern "C" fn rolwyddac_own_post(
 
 // A message arrives: its words into their place in the mail, its mark from 0 to 2.
 #[no_mangle]
-pub extern "C" fn rolwyddac_own_arrive(
+pub extern "C" fn rolwyddac_part_arrive(
     encoded: &[u8],
     route: u32,
     memory: &[u32],
@@ -144,7 +140,7 @@ pub extern "C" fn rolwyddac_own_arrive(
 
 // Its own cells' words into the grid, and the boundary's where a cell is outside the shape; once it has no tiles left.
 #[no_mangle]
-pub extern "C" fn rolwyddac_own_collect(
+pub extern "C" fn rolwyddac_part_collect(
     encoded: &[u8],
     route: u32,
     memory: &[u32],

@@ -1,8 +1,8 @@
 // The calls that a transport needs with C linkage, where processors share no memory: all messages, the processor of each cell; over progress
 // records as structs what a processor waits for, and taking a message in.
-ghost use Rattle.transport.specs.Calls.{waitsOf};
 ghost use Rattle.calls.specs.Gave.{areasOf, MessagesGave, OwnersGave, AwaitedGave, TakeInGave};
 use records::Progress;
+use transport::Waiting;
 
 // All messages of the route, six words each: sending tile, taking tile, sending processor, taking processor, words, their place in the buffer.
 #[no_mangle]
@@ -29,13 +29,12 @@ pub extern "C" fn rolwyddac_awaited(
     status: &[u8],
     processor: u32,
     marks: &mut [u8],
-    out: &mut [u32],
-) -> u32
+) -> Waiting
     ensures { λ r. ⌜ AwaitedGave (now (encoded .entry)) route (now (progress .entry)) (now (status .entry)) processor
-        (waitsOf (now (marks .entry)) (now (out .entry))) r (waitsOf (now (marks .exit)) (now (out .exit))) ⌝ }
+        (now (marks .entry)) r (now (marks .exit)) ⌝ }
 {
     let flat = records::flatten(progress);
-    transport::core::awaited(encoded, route, flat, status, processor, marks, out)
+    transport::core::awaited(encoded, route, flat, status, processor, marks)
 }
 
 // A message taken in at its taker's: its words into their place, and its status from 0 to 2.

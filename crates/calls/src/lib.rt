@@ -1,15 +1,20 @@
-// The offered calls with C linkage: over progress records as structs a fresh start, a turn, a delivery, collecting;
-// over words the sweep, a plan's figures, a message's line and its hops, a source from soundings; over bytes the recipe writer. The word
-// `route` is 0 for direct passing, any other for indirect.
+// The offered calls with C linkage: over progress records as structs a fresh start, a turn, a delivery, collecting; the sweep; a plan's figures,
+// a message's line and its hops; reading and writing a recipe; a source from soundings. What a call tells beside its number is returned by value.
+// The word `route` is 0 for direct passing, any other for indirect.
 // Each call over records is a thin function: it takes the records apart, has covered code work on numbers, and stores what that gives.
 // Two steps, either way round (W-214), have no code: specs/Demands214 states them of the calls on bytes, specs/OverRecords214 of these.
 ghost use Rattle.machine.specs.Runs.{turnOf, deliveryOf};
 ghost use Rattle.writer.specs.Fields.{fields};
-ghost use Rattle.calls.specs.Gave.{areasOf, FreshGave, EventGave, CollectGave, SweepGave, SummaryGave, MessageGave, HopsGave, WriteGave, SoundingsGave};
+ghost use Rattle.calls.specs.Gave.{areasOf, FreshGave, EventGave, CollectGave, SweepGave, SummaryGave, MessageGave, HopsGave};
+ghost use Rattle.calls.specs.Gave.{ReadGave, WriteGave, SoundingsGave};
 use records::Progress;
+use summary::Figures;
+use summary::HopCount;
+use summary::MessageLine;
+use writer::reading::RecipeFields;
 
-pub mod office; // office.rt: for one of two offices on one rig, and the look
-pub mod desk; // desk.rt: for the charting desk
+pub mod tenant; // tenant.rt: for one of two tenants on one rig, and the view of a processor's memory
+pub mod chart_text; // chart_text.rt: a grid's text
 pub mod hour; // hour.rt: with hours when processors may run
 pub mod round; // round.rt: the driver by rounds
 pub mod carrier; // carrier.rt: what a transport asks where processors share no memory
@@ -123,72 +128,36 @@ pub extern "C" fn rolwyddac_sweep(encoded: &[u8], source: &[u32], grid: &mut [u3
     engine::sweep(encoded, source, grid)
 }
 
-// The figures of the recipe's plan: tiles, messages, words, steps.
+// The figures of the recipe's plan.
 #[no_mangle]
-pub extern "C" fn rolwyddac_summary(encoded: &[u8], route: u32, out: &mut [u32]) -> u32
-    ensures { λ r. ⌜ SummaryGave (now (encoded .entry)) route (now (out .entry)) r (now (out .exit)) ⌝ }
+pub extern "C" fn rolwyddac_summary(encoded: &[u8], route: u32) -> Figures
+    ensures { λ r. ⌜ SummaryGave (now (encoded .entry)) route r ⌝ }
 {
-    let figures = summary::summary(encoded, route);
-    let number = figures.number;
-    if number != 0 {
-        return number;
-    }
-    if out.len() != 4 {
-        return 9;
-    }
-    out[0] = figures.tiles;
-    out[1] = figures.messages;
-    out[2] = figures.words;
-    out[3] = figures.steps;
-    0
+    summary::summary(encoded, route)
 }
 
-// The line of message m: sending tile, taking tile, sending processor, taking processor, words.
+// The line of a message.
 #[no_mangle]
-pub extern "C" fn rolwyddac_message(encoded: &[u8], route: u32, m: u32, out: &mut [u32]) -> u32
-    ensures { λ r. ⌜ MessageGave (now (encoded .entry)) route m (now (out .entry)) r (now (out .exit)) ⌝ }
+pub extern "C" fn rolwyddac_message(encoded: &[u8], route: u32, message: u32) -> MessageLine
+    ensures { λ r. ⌜ MessageGave (now (encoded .entry)) route message r ⌝ }
 {
-    let reading = recipe::read_for(encoded, route);
-    let read = reading.number;
-    if read != 0 {
-        return read;
-    }
-    if out.len() != 5 {
-        return 9;
-    }
-    let line = summary::message(encoded, route, m);
-    let number = line.number;
-    if number != 0 {
-        return number;
-    }
-    out[0] = line.sender;
-    out[1] = line.taker;
-    out[2] = line.from;
-    out[3] = line.to;
-    out[4] = line.words;
-    0
+    summary::message(encoded, route, message)
 }
 
-// The hops on the indirect route of message m of the direct one.
+// The hops on the indirect route of a message of the direct one.
 #[no_mangle]
-pub extern "C" fn rolwyddac_hops(encoded: &[u8], m: u32, out: &mut [u32]) -> u32
-    ensures { λ r. ⌜ HopsGave (now (encoded .entry)) m (now (out .entry)) r (now (out .exit)) ⌝ }
+pub extern "C" fn rolwyddac_hops(encoded: &[u8], message: u32) -> HopCount
+    ensures { λ r. ⌜ HopsGave (now (encoded .entry)) message r ⌝ }
 {
-    let reading = reader::read(encoded);
-    let read = reading.number;
-    if read != 0 {
-        return read;
-    }
-    if out.len() != 1 {
-        return 9;
-    }
-    let told = summary::hops(encoded, m);
-    let number = told.number;
-    if number != 0 {
-        return number;
-    }
-    out[0] = told.hops;
-    0
+    summary::hops(encoded, message)
+}
+
+// The fields that a recipe holds.
+#[no_mangle]
+pub extern "C" fn rolwyddac_read(encoded: &[u8]) -> RecipeFields
+    ensures { λ r. ⌜ ReadGave (now (encoded .entry)) r ⌝ }
+{
+    writer::reading::read(encoded)
 }
 
 // The recipe of the fields: of each dimension its length, tile length and processor count, of each distance its four components and
