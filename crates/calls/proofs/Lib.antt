@@ -20,3 +20,5 @@ pub mod PartTurn
 pub mod Demands214
 pub mod Gave
 pub mod OverRecords214
+pub mod PartCalls
+pub mod RecipeCalls
