@@ -22,3 +22,4 @@ pub mod Gave
 pub mod OverRecords214
 pub mod PartCalls
 pub mod RecipeCalls
+pub mod Begins
