@@ -1,6 +1,6 @@
 -- Request W-212 holds of the calls as exported, board records as structs.
 use Prim.Native.Nat.{ℕ, _≤_}
-use mathlib.Core.Path.{_≡_, sym, ap, subst, _∙_}
+use mathlib.Core.Path.{_≡_, refl, sym, ap, subst, _∙_}
 use mathlib.Core.Bool.{true}
 use mathlib.Core.List.{List, map}
 use lib.ListN.{length}
@@ -10,7 +10,7 @@ use Rattle.machine.specs.Runs.{deliveryOf, stateAfter, answersTo}
 use Rattle.machine.proofs.RunLaws.{number-of, after-of}
 use Rattle.tenants.specs.Offices.{Lent, Rig, Sources, sourceFor, lentTo, ownOf, putBack, carryOutFor}
 use Rattle.tenants.specs.Demand208.{eventsOf, answersOf}
-use Rattle.calendar.specs.Hours.{Hours, Timed, turnAt, mailOf, TimedCall, callOf}
+use Rattle.calendar.specs.Hours.{Hours, Timed, turnAt, mailOf, TimedCall, callOf, untilOpen}
 use Rattle.calendar.specs.Demands212.{SomeStep, OnlyHours, SomeCall, OnlyHoursFor, Demand212, Demand212For, IsolatedAt}
 use Rattle.calendar.proofs.Telling.{tells}
 use Rattle.records.specs.declared.Progress.{Progress}
@@ -21,16 +21,29 @@ use Rattle.engine.proofs.Demands as engine
 use Rattle.sharing.specs.Calls.{rigCollects}
 use Rattle.timed.specs.Calls.{turnCallAt, turnCallAtFor, callsAt, callAtFor, rigCallsAt}
 use Rattle.timed.proofs.Demands.{timed-demands}
-use Rattle.calls.specs.HourCalls.{opensWordsCall}
-use Rattle.calls.specs.OverRecords.{Areas, inWords, Gave, FreshGave, CollectGave}
-use Rattle.calls.specs.OverRig.{LentAreas, lentWords, RigAreas, rigWords, ownAreas, otherAreas, lentAreas, FreshBothGave, CollectGaveFor}
-use Rattle.calls.specs.OverHours.{TimedGave, OfficeTimedGave, TimedCallGave, FixedHours, Gives, NextStep, NextOpen, TimedRun}
+use Rattle.calendar.specs.declared.Opening.{Opening}
+use Rattle.calendar.specs.declared.Opening.the-variants.{OpensIn, Never}
+use Rattle.timed.specs.Calls.{opensLines}
+use Rattle.calls.specs.declared.hour.NextOpening.{NextOpening}
+use Rattle.calls.specs.Opens.{tells as told, openingTold, opensIf, opensOf}
+use Rattle.calls.specs.Tells.{Tells}
+use Rattle.calls.proofs.Tells.{tells-by}
+use Rattle.calls.specs.Gave.{Areas, inWords, LentAreas, lentWords, RigAreas, rigWords}
+use Rattle.calls.specs.Gave.{FreshGave, CollectGave, FreshBothGave, TimedGave, OfficeTimedGave, OpensGave}
+use Rattle.calls.specs.OverRecords.{Gave}
+use Rattle.calls.specs.OverRig.{ownAreas, otherAreas, lentAreas, CollectGaveFor}
+use Rattle.calls.specs.OverHours.{TimedCallGave, FixedHours, Gives, NextStep, NextOpen, TimedRun}
 use Rattle.calls.specs.OverHours.{NextCall, NextOpenFor, TimedRigRun, OverHours}
 use Rattle.calls.proofs.OverRecords as one
 use Rattle.calls.proofs.OverRecords.{run-numbers, run-words, whole-pick, can-answer, areas-fixed, fixed-as, one-answer, as-before}
-use Rattle.calls.proofs.OverRecords.{Whole, areasOf, in-words, length-carry, over-records}
+use Rattle.calls.proofs.OverRecords.{Whole, areasFrom, in-words, length-carry, over-records}
 use Rattle.calls.proofs.OverRig.{lent-fixed, rig-fixed, office-words, lent-words, other-words, returned-is, whole-lent}
 use Rattle.calls.proofs.OverRig.{can-office, among, among-own, among-other, collect-length, collect-words}
+
+zero-told : (o : Opening) → openingTold o .number ≡ 0
+unfolding openingTold
+zero-told (OpensIn m) = refl
+zero-told Never = refl
 
 module _ (bytes : List ℕ) (route : ℕ) where
   -- ---- a contract, by the calls over words
@@ -89,7 +102,7 @@ module _ (bytes : List ℕ) (route : ℕ) where
         let s = in-words (r .after .own) (whole-turn h p) in (
           r .number,
           (
-            record { own = areasOf (r .after .own); engaged = r .after .engaged },
+            record { own = areasFrom (r .after .own); engaged = r .after .engaged },
             ap (λ (s : State). answer (r .number) (record { own = s; engaged = r .after .engaged })) s,
           ),
         )
@@ -118,8 +131,14 @@ module _ (bytes : List ℕ) (route : ℕ) where
 
   -- ---- demand 1
 
+  opens-tells : (h : Hours) (b : ℕ) (r : NextOpening) → OpensGave bytes h b r
+      → Tells (λ o. o .number) (opensLines bytes h b) (openingTold (untilOpen (h .table) (h .minute) b)) (λ n. told n 0 0) r
+  unfolding opensOf opensIf
+  opens-tells h b r e =
+      tells-by (λ (o : NextOpening). o .number) (λ n. opensIf n (untilOpen (h .table) (h .minute) b)) (openingTold (untilOpen (h .table) (h .minute) b))
+      (λ n. told n 0 0) refl (λ n. refl) (zero-told (untilOpen (h .table) (h .minute) b)) (λ n. refl) (opensLines bytes h b) r e
+
   fixed-hours : FixedHours bytes route
-  unfolding opensWordsCall
   fixed-hours =
       record {
         turn = λ source a b h p n e.
@@ -128,11 +147,8 @@ module _ (bytes : List ℕ) (route : ℕ) where
         office-turn = λ source o theirs a b h p n e.
             let f = timed-demands .calls bytes route source h p .office-turn o (lentWords a) (flatWords theirs) in
             record { fixed = fixed-as e f; as-before = as-before lentWords lent-fixed a b n e f };
-        opens = λ h b old out n e. fixed-as e (engine.fixed _ _ old);
-        tells = λ h b old out e. (
-          after-of e ∙ engine.fixed _ _ old .works (sym (number-of e)),
-          tells (h .table) (h .minute) b,
-        );
+        opens = opens-tells;
+        tells-opening = λ h b r e z. let o = opens-tells h b r e in (o .works (sym (o .first) ∙ z), tells (h .table) (h .minute) b);
         can-event = can-event;
         can-call = can-call;
         one-event = λ source a b c x n k g h.

@@ -19,7 +19,14 @@ use Rattle.machine.specs.Machine.{State, Answered, stateOf, setProgress, afterS
 use Rattle.machine.specs.Runs.{Event, turnOf, deliveryOf, stateAfter, answersTo, Demand3}
 use Rattle.machine.specs.Words.{wordAt, mailAt, cellOf, Does, Did, Posted}
 use Rattle.machine.proofs.RunLaws.{number-of, after-of}
-use Rattle.nest.specs.Reader.{readLines}
+use Rattle.nest.specs.Reader.{nestOf, readLines}
+use Rattle.plan.specs.Hops.{hops}
+use Rattle.conformance.specs.Rows.{figuresIf}
+use Rattle.summary.specs.declared.Figures.{Figures}
+use Rattle.summary.specs.declared.MessageLine.{MessageLine}
+use Rattle.summary.specs.declared.HopCount.{HopCount}
+use Rattle.summary.specs.Summary.{asFigures, figuresOf, noFigures, summaryOf, lineOf, noLine, messageLines, lineIf, messageLineOf, directionOf, noHops}
+use Rattle.summary.specs.Summary.{hopsIf, hopsLines, hopsOf}
 use Rattle.engine.specs.Calls.{answer, recipe, areas, freshCall, turnCall, deliverCall, collectCall}
 use Rattle.engine.specs.Demands.{Fixed, calls, Demand2}
 use Rattle.layout.specs.Sizes.{routeOf}
@@ -29,9 +36,10 @@ use Rattle.engine.proofs.Demands as engine
 use Rattle.records.specs.declared.Progress.{Progress}
 use Rattle.records.specs.Records.{flatWords}
 use Rattle.records.proofs.Words.{length-words, unflat, words-unflat, injective}
-use Rattle.calls.specs.PlanCalls.{summaryCall, messageCall, hopsCall}
-use Rattle.calls.specs.OverRecords.{Areas, inWords, FreshGave, EventGave, CollectGave, Gave, EventsGave, namedNext, FixedAreas, FixedCalls}
-use Rattle.calls.specs.OverRecords.{ExactCalls, FixedRun, OverRecords}
+use Rattle.calls.specs.Tells.{Tells}
+use Rattle.calls.specs.Gave.{Areas, inWords, FreshGave, EventGave, CollectGave, SummaryGave, MessageGave, HopsGave}
+use Rattle.calls.specs.OverRecords.{Gave, EventsGave, namedNext, FixedAreas, FixedCalls, ExactCalls, FixedRun, OverRecords}
+use Rattle.calls.proofs.Tells.{tells-by}
 
 -- ---- a run of calls over records is one over words
 
@@ -62,14 +70,14 @@ joined (Gave.next h g) k = Gave.next h (joined g k)
 abbrev pub Whole : List ℕ → Type 0
 Whole l = (n : ℕ) × (length l ≡ 3 * n)
 
-pub areasOf : State → Areas
-areasOf s = record { memories = s .memories; buffer = s .buffer; progress = unflat (s .progress); status = s .status }
+pub areasFrom : State → Areas
+areasFrom s = record { memories = s .memories; buffer = s .buffer; progress = unflat (s .progress); status = s .status }
 
 back : (l : List ℕ) → Whole l → flatWords (unflat l) ≡ l
 back l (n, e) = words-unflat n l e
 
-pub in-words : (s : State) → Whole (s .progress) → inWords (areasOf s) ≡ s
-unfolding areasOf
+pub in-words : (s : State) → Whole (s .progress) → inWords (areasFrom s) ≡ s
+unfolding areasFrom
 in-words s w = ap (λ (l : List ℕ). stateOf (s .memories) (s .buffer) l (s .status)) (back (s .progress) w)
 
 length-progress : (l : List ℕ) (b i j k : ℕ) → length (setProgress l b i j k) ≡ length l
@@ -149,7 +157,7 @@ module _ {ls : List Line} {done : State} {a b : Areas} {n : ℕ} {call : Answere
       }
 
 pub can-answer : (r : Answered State) → Whole (r .after .progress) → (n : ℕ) × ((b : Areas) × (answer n (inWords b) ≡ r))
-can-answer r w = (r .number, (areasOf (r .after), ap (λ (s : State). answer (r .number) s) (in-words (r .after) w)))
+can-answer r w = (r .number, (areasFrom (r .after), ap (λ (s : State). answer (r .number) s) (in-words (r .after) w)))
 
 module _ (bytes : List ℕ) (route : ℕ) (source : List ℕ) where
   -- an event's contract, by the calls over words
@@ -170,8 +178,29 @@ module _ (bytes : List ℕ) (route : ℕ) (source : List ℕ) where
       let r = can-answer (calls bytes route source (inWords a) e) (whole-call bytes route source a e) in
       (r .0, (r .1 .0, call-event a (r .1 .0) e (r .0) (r .1 .1)))
 
+  -- what is told by value
+  summary-tells : (r : Figures) → SummaryGave bytes route r
+      → Tells (λ f. f .number) (linesFor (routeOf route) bytes) (figuresOf (recipe bytes route)) noFigures r
+  unfolding summaryOf figuresIf
+  summary-tells r e =
+      tells-by (λ (f : Figures). f .number) (λ n. asFigures (figuresIf n (recipe bytes route))) (figuresOf (recipe bytes route)) noFigures refl (λ n. refl)
+      refl (λ n. refl) (linesFor (routeOf route) bytes) r e
+
+  message-tells : (m : ℕ) (r : MessageLine) → MessageGave bytes route m r
+      → Tells (λ f. f .number) (messageLines (routeOf route) bytes m) (lineOf (recipe bytes route) m) noLine r
+  unfolding messageLineOf lineIf
+  message-tells m r e =
+      tells-by (λ (f : MessageLine). f .number) (λ n. lineIf n (recipe bytes route) m) (lineOf (recipe bytes route) m) noLine refl (λ n. refl)
+      refl (λ n. refl) (messageLines (routeOf route) bytes m) r e
+
+  hops-tells : (m : ℕ) (r : HopCount) → HopsGave bytes m r
+      → Tells (λ f. f .number) (hopsLines bytes m) (record { number = 0; hops = hops (nestOf bytes) (directionOf (nestOf bytes) m) }) noHops r
+  unfolding hopsOf hopsIf
+  hops-tells m r e =
+      tells-by (λ (f : HopCount). f .number) (λ n. hopsIf n (nestOf bytes) m)
+      (record { number = 0; hops = hops (nestOf bytes) (directionOf (nestOf bytes) m) }) noHops refl (λ n. refl) refl (λ n. refl) (hopsLines bytes m) r e
+
   fixed-calls : FixedCalls bytes route source
-  unfolding summaryCall messageCall hopsCall
   fixed-calls =
       record {
         fresh = λ a b n e. fixed-areas e (engine.demands .one bytes route source (inWords a) .fresh);
@@ -179,9 +208,9 @@ module _ (bytes : List ℕ) (route : ℕ) (source : List ℕ) where
         deliver = λ a b m n e. fixed-areas e (engine.demands .one bytes route source (inWords a) .deliver m);
         collect = λ a old grid n e. fixed-as e (engine.demands .one bytes route source (inWords a) .collect old);
         sweep = λ old grid n e. fixed-as e (engine.demands .one bytes route source (stateOf [] [] [] []) .sweep old);
-        summary = λ old out n e. fixed-as e (engine.fixed _ _ old);
-        message = λ m old out n e. fixed-as e (engine.fixed _ _ old);
-        hops = λ m old out n e. fixed-as e (engine.fixed _ _ old);
+        summary = summary-tells;
+        message = message-tells;
+        hops = hops-tells;
         can-fresh = λ a. can-answer (freshCall bytes route source (inWords a)) (whole-fresh bytes route source a);
         can-event = can-event;
         one-fresh = λ a b c n k. one-answer inWords areas-fixed b c n k;

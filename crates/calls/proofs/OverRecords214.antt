@@ -16,9 +16,10 @@ use Rattle.engine.specs.Calls.{answer, recipe}
 use Rattle.engine.specs.Demands.{calls}
 use Rattle.sharing.specs.Calls.{rigCalls}
 use Rattle.timed.specs.Calls.{callsAt, rigCallsAt}
-use Rattle.calls.specs.OverRecords.{Areas, inWords, Gave, FreshGave, EventGave}
-use Rattle.calls.specs.OverRig.{RigAreas, rigWords, FreshBothGave, CallGave}
-use Rattle.calls.specs.OverHours.{TimedGave, TimedCallGave}
+use Rattle.calls.specs.Gave.{Areas, inWords, RigAreas, rigWords, FreshGave, EventGave, FreshBothGave, TimedGave}
+use Rattle.calls.specs.OverRecords.{Gave}
+use Rattle.calls.specs.OverRig.{CallGave}
+use Rattle.calls.specs.OverHours.{TimedCallGave}
 use Rattle.calls.proofs.OverRecords.{run-words, areas-fixed, event-call}
 use Rattle.calls.proofs.OverRig.{rig-fixed, rig-call}
 use Rattle.calls.proofs.OverHours as timed

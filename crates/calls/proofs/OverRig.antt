@@ -2,15 +2,16 @@
 use Prim.Native.Nat.{ℕ, _*_, _≤_}
 use mathlib.Core.Path.{_≡_, refl, sym, ap, subst, _∙_}
 use mathlib.Core.Bool.{Bool, true, false}
-use mathlib.Core.List.{List, _∷_}
+use mathlib.Core.List.{List, [], _∷_}
 use native.Mathlib.Omega.{arith}
+use native.Mathlib.Decide.{ℕ-discrete}
 use lib.ListN.{length, replicate, length-replicate}
 use lib.Dec.{eqb}
-use borrow.Author.Tests.{eqb-true, eq-eqb}
+use borrow.Author.Tests.{eqb-true, eq-eqb, ne-eqb}
 use Rattle.base.specs.Tests.{_and_, not, pick}
 use Rattle.base.specs.Lists.{Bytes, part}
 use Rattle.base.specs.Numbers.{line, firstOf}
-use Rattle.base.proofs.Tests.{both, true-not, pick-true}
+use Rattle.base.proofs.Tests.{both, true-not, pick-true, pick-false}
 use Rattle.base.proofs.Numbers.{none-first, none-behind}
 use Rattle.machine.specs.Machine as machine
 use Rattle.machine.specs.Machine.{State, Answered}
@@ -26,16 +27,16 @@ use Rattle.engine.specs.Calls.{answer, recipe}
 use Rattle.layout.specs.Sizes.{routeOf}
 use Rattle.recipe.specs.Routes.{linesFor}
 use Rattle.recipe.proofs.Laws.{numbered-for}
-use Rattle.engine.proofs.Demands as engine
-use Rattle.sharing.specs.Calls.{areasFor, turnCallFor, deliverCallFor, collectCallFor, freshRigLines, freshRigCall, lookPart, callFor}
+use Rattle.sharing.specs.Calls.{areasFor, turnCallFor, deliverCallFor, collectCallFor, freshRigLines, freshRigCall, lookLines, lookNumber, lookPart, callFor}
 use Rattle.sharing.specs.Calls.{rigCalls, rigCollects}
 use Rattle.sharing.proofs.Demands.{rig-demands}
-use Rattle.calls.specs.OfficeCalls.{lookCall}
-use Rattle.calls.specs.OverRecords.{Areas, inWords}
-use Rattle.calls.specs.OverRig.{LentAreas, lentWords, RigAreas, rigWords, ownAreas, otherAreas, lentAreas}
-use Rattle.calls.specs.OverRig.{OfficeGave, FreshBothGave, CallGave, CallsGave, CollectGaveFor, FixedOffice, RigRun, OverRig}
-use Rattle.calls.proofs.OfficeCalls.{look-number}
-use Rattle.calls.proofs.OverRecords.{run-numbers, run-words, Whole, areasOf, in-words, length-carry, areas-fixed, fixed-as}
+use Rattle.calls.specs.declared.tenant.Viewed.{Viewed}
+use Rattle.calls.specs.View.{noView, viewAt, viewIf, viewOf}
+use Rattle.calls.specs.Tells.{Tells}
+use Rattle.calls.specs.Gave.{Areas, inWords, LentAreas, lentWords, RigAreas, rigWords, OfficeGave, FreshBothGave, ViewGave}
+use Rattle.calls.specs.OverRig.{ownAreas, otherAreas, lentAreas, CallGave, CallsGave, CollectGaveFor, FixedOffice, RigRun, OverRig}
+use Rattle.calls.proofs.Tells.{tells-by}
+use Rattle.calls.proofs.OverRecords.{run-numbers, run-words, Whole, areasFrom, in-words, length-carry, areas-fixed, fixed-as}
 use Rattle.calls.proofs.OverRecords.{one-answer, as-before}
 
 -- ---- words fix the areas
@@ -131,7 +132,7 @@ module _ (bytes : List ℕ) (route : ℕ) where
         r = callFor bytes route source o (lentWords a) (flatWords theirs) e
 
         b : LentAreas
-        b = record { own = areasOf (r .after .own); engaged = r .after .engaged }
+        b = record { own = areasFrom (r .after .own); engaged = r .after .engaged }
 
   module _ (sources : Sources) where
     -- a call on the rig is one over words
@@ -209,11 +210,11 @@ module _ (bytes : List ℕ) (route : ℕ) where
         zero = eqb (firstOf (freshRigLines bytes route sources (rigWords a))) 0
 
         b : Rig → RigAreas
-        b x = record { first = areasOf (x .first); second = areasOf (x .second); engaged = x .engaged }
+        b x = record { first = areasFrom (x .first); second = areasFrom (x .second); engaged = x .engaged }
 
         back : (x : Rig) → Whole (x .first .progress) → Whole (x .second .progress) → rigWords (b x) ≡ x
         back x v w =
-            ap (λ (s : State). rigOf s (inWords (areasOf (x .second))) (x .engaged)) (in-words (x .first) v)
+            ap (λ (s : State). rigOf s (inWords (areasFrom (x .second))) (x .engaged)) (in-words (x .first) v)
             ∙ ap (λ (s : State). rigOf (x .first) s (x .engaged)) (in-words (x .second) w)
 
         whole : (t : Bool)
@@ -230,14 +231,27 @@ module _ (bytes : List ℕ) (route : ℕ) where
 
   -- ---- demand 1
 
-  part-is : (first second : List ℕ) (o b : ℕ) (old out : List ℕ) → answer 0 out ≡ lookCall bytes first second o b old
-      → part (ofOffice o first second) (b * recipe bytes 0 .cells) (recipe bytes 0 .cells) ≡ lookPart bytes first second o b
-  unfolding lookPart
-  part-is first second o b old out h =
-      sym (pick-true _ _ _ (eq-eqb _ 0 (look-number bytes first second o b old (sym (number-of h)))))
+  view-tells : (first second : List ℕ) (o b : ℕ) (r : Viewed) → ViewGave bytes first second o b r
+      → Tells (λ v. v .number) (lookLines bytes first second o b) (viewAt (recipe bytes 0) b) noView r
+  unfolding viewOf viewIf
+  view-tells first second o b r e =
+      tells-by (λ (v : Viewed). v .number) (λ n. viewIf n (recipe bytes 0) b) (viewAt (recipe bytes 0) b) noView refl (λ n. refl) refl (λ n. refl)
+      (lookLines bytes first second o b) r e
+
+  part-is : (first second : List ℕ) (o b : ℕ) (r : Viewed) → ViewGave bytes first second o b r
+      → part (ofOffice o first second) (r .begin) (r .length) ≡ lookPart bytes first second o b
+  unfolding lookPart part
+  part-is first second o b r e = go (ℕ-discrete (lookNumber bytes first second o b) 0)
+    where
+      whole : Viewed → List ℕ
+      whole v = part (ofOffice o first second) (v .begin) (v .length)
+
+      go : Dec (lookNumber bytes first second o b ≡ 0)
+          → whole r ≡ pick (eqb (lookNumber bytes first second o b) 0) (part (ofOffice o first second) (b * recipe bytes 0 .cells) (recipe bytes 0 .cells)) []
+      go (yes z) = ap whole (view-tells first second o b r e .works z) ∙ sym (pick-true _ _ _ (eq-eqb _ 0 z))
+      go (no h) = ap whole (view-tells first second o b r e .refuses h) ∙ sym (pick-false _ _ _ (ne-eqb _ 0 h))
 
   fixed-office : FixedOffice bytes route
-  unfolding lookCall
   fixed-office =
       record {
         turn = λ source o theirs a b p n e.
@@ -251,7 +265,7 @@ module _ (bytes : List ℕ) (route : ℕ) where
         fresh = λ sources a b n e.
             let f = rig-demands .fresh bytes route sources (rigWords a) in
             record { fixed = fixed-as e f; as-before = as-before rigWords rig-fixed a b n e f };
-        look = λ first second o b old out n e. fixed-as e (engine.fixed _ _ old);
+        view = view-tells;
         part-is = part-is;
         can-fresh = can-fresh;
         can-call = can-call;

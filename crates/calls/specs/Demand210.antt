@@ -8,14 +8,11 @@ use mathlib.Core.List.{List, _++_}
 use Rattle.base.specs.Numbers.{firstOf}
 use Rattle.nest.specs.Nest.{cells}
 use Rattle.nest.specs.Reader.{records, nestOf, readLines}
-use Rattle.soundings.specs.Soundings.{cellOf, soundedSource, raggedFile, sourceLines, fillLines, fillCall}
+use Rattle.soundings.specs.Soundings.{cellOf, soundedSource, raggedFile, sourceLines, fillLines}
 use Rattle.soundings.specs.Ground.{Grounded}
 use Rattle.engine.specs.Calls.{answer}
 use Rattle.engine.specs.Demands.{Fixed}
-
--- the contract of src/lib.rt: lent the words `old`, the call gave n and left `source`
-abbrev pub SoundingsGave : List ℕ → List ℕ → ℕ → List ℕ → ℕ → List ℕ → Type 0
-SoundingsGave bytes file value old n source = answer n source ≡ fillCall bytes file value old
+use Rattle.calls.specs.Gave.{SoundingsGave}
 
 pub record Sounded (bytes file : List ℕ) (value : ℕ) (old : List ℕ) (n : ℕ) (source : List ℕ) : Type 0 where
   -- the number of the first true line; the words, or every word as before

@@ -1,6 +1,6 @@
 -- Read this.
--- Request W-212 for the calls as exported, board records as structs: what the contracts of src/hour.rt say of the areas lent, the number
--- given and the areas left; runs with hours, of one office and of both on one rig. Document 01, "Numbers a call gives", "Runs"; W-212.
+-- Request W-212 for the calls as exported, board records as structs, by the relations that are their contracts (`Gave`); runs with hours, of one
+-- office and of both on one rig. Document 01, "Numbers a call gives", "Runs"; W-212.
 use Prim.Native.Nat.{ℕ, _≤_, _<_}
 use mathlib.Core.Path.{_≡_}
 use mathlib.Core.Logic.{_⊎_, _↔_}
@@ -17,38 +17,23 @@ use Rattle.calendar.specs.Hours.{week, openAt, Hours, hoursOf, Timed, turnAt, m
 use Rattle.calendar.specs.Demands212.{TellsOpening, Faultless, OpensSometime, turnBy, mailBy, Demand212, Demand212For}
 use Rattle.records.specs.declared.Progress.{Progress}
 use Rattle.records.specs.Records.{flatWords}
-use Rattle.engine.specs.Calls.{answer, recipe, deliverCall, collectCall}
-use Rattle.engine.specs.Demands.{Fixed}
-use Rattle.sharing.specs.Calls.{deliverCallFor, rigCollects}
-use Rattle.timed.specs.Calls.{turnCallLinesAt, turnCallAt, turnCallLinesAtFor, turnCallAtFor, openingWords, callsAt, rigCallsAt}
-use Rattle.calls.specs.HourCalls.{opensWordsLines, opensWordsCall}
-use Rattle.calls.specs.OverRecords.{Areas, inWords, Gave, FreshGave, CollectGave, FixedAreas, stepsIn}
-use Rattle.calls.specs.OverRig.{LentAreas, lentWords, RigAreas, rigWords, ownAreas, otherAreas, lentAreas}
-use Rattle.calls.specs.OverRig.{FreshBothGave, CollectGaveFor, FixedLent}
-
--- ---- the contracts of src/hour.rt: lent `a`, the call gave n and left `b`; what is lent for reading alone is left as it was
+use Rattle.engine.specs.Calls.{recipe, collectCall}
+use Rattle.sharing.specs.Calls.{rigCollects}
+use Rattle.timed.specs.Calls.{turnCallLinesAt, turnCallLinesAtFor, opensLines, callsAt, rigCallsAt}
+use Rattle.calls.specs.declared.hour.NextOpening.{NextOpening}
+use Rattle.calls.specs.Opens.{tells, openingTold}
+use Rattle.calls.specs.Tells.{Tells}
+use Rattle.calls.specs.Gave.{Areas, inWords, LentAreas, lentWords, RigAreas, rigWords}
+use Rattle.calls.specs.Gave.{FreshGave, CollectGave, FreshBothGave, TimedGave, OfficeTimedGave, OpensGave}
+use Rattle.calls.specs.OverRecords.{Gave, FixedAreas, stepsIn}
+use Rattle.calls.specs.OverRig.{ownAreas, otherAreas, lentAreas, CollectGaveFor, FixedLent}
 
 module _ (bytes : List ℕ) (route : ℕ) where
-  -- mail has no hours: its contract is that of src/lib.rt
-  abbrev pub TimedGave : List ℕ → Areas → Timed → ℕ → Areas → Type 0
-  TimedGave source a (turnAt h p) n b = answer n (inWords b) ≡ turnCallAt bytes route source h (inWords a) p
-  TimedGave source a (mailOf m) n b = answer n (inWords b) ≡ deliverCall bytes route source (inWords a) m
-
-  -- office o, lent the other's records `theirs` only to read
-  abbrev pub OfficeTimedGave : List ℕ → ℕ → List Progress → LentAreas → Timed → ℕ → LentAreas → Type 0
-  OfficeTimedGave source o theirs a (turnAt h p) n b =
-      answer n (lentWords b) ≡ turnCallAtFor bytes route source o h (lentWords a) (flatWords theirs) p
-  OfficeTimedGave source o theirs a (mailOf m) n b =
-      answer n (lentWords b) ≡ deliverCallFor bytes route source o (lentWords a) (flatWords theirs) m
-
   -- a call on the rig: the office that it names is lent its own areas and the shared words, and the other's areas stay as they were
   pub record TimedCallGave (sources : Sources) (a : RigAreas) (c : TimedCall) (n : ℕ) (b : RigAreas) : Type 0 where
-    pub gave : OfficeTimedGave (sourceFor sources (c .office)) (c .office) (otherAreas a (c .office) .progress)
+    pub gave : OfficeTimedGave bytes route (sourceFor sources (c .office)) (c .office) (otherAreas a (c .office) .progress)
         (lentAreas a (c .office)) (c .event) n (lentAreas b (c .office))
     pub others : otherAreas b (c .office) ≡ otherAreas a (c .office)
-
-abbrev pub OpensGave : List ℕ → Hours → ℕ → List ℕ → ℕ → List ℕ → Type 0
-OpensGave bytes h b old n out = answer n out ≡ opensWordsCall bytes h b old
 
 -- ---- demand 1
 
@@ -61,12 +46,11 @@ pub record FixedHours (bytes : List ℕ) (route : ℕ) : Type 0 where
       → OfficeTimedGave bytes route source o theirs a (turnAt h p) n b
       → FixedLent (turnCallLinesAtFor bytes route source o h (lentWords a) (flatWords theirs) p)
       (carryOutFor (recipe bytes route) source o (lentWords a) p (nextAction (recipe bytes route) (lentWords a .own) p)) a n b
-  pub opens : (h : Hours) (b : ℕ) (old out : List ℕ) (n : ℕ) → OpensGave bytes h b old n out
-      → Fixed (answer n out) (opensWordsLines bytes h b old) (openingWords (untilOpen (h .table) (h .minute) b)) old
-  -- what the two words tell: open then and at no minute before; never exactly if there is no such minute
-  pub tells : (h : Hours) (b : ℕ) (old out : List ℕ) → OpensGave bytes h b old 0 out
-      → (out ≡ openingWords (untilOpen (h .table) (h .minute) b))
-      × TellsOpening (untilOpen (h .table) (h .minute) b) (h .table) (h .minute) b
+  pub opens : (h : Hours) (b : ℕ) (told : NextOpening) → OpensGave bytes h b told
+      → Tells (λ o. o .number) (opensLines bytes h b) (openingTold (untilOpen (h .table) (h .minute) b)) (λ n. tells n 0 0) told
+  -- what is told: open then and at no minute before; never exactly if there is no such minute
+  pub tells-opening : (h : Hours) (b : ℕ) (told : NextOpening) → OpensGave bytes h b told → told .number ≡ 0
+      → (told ≡ openingTold (untilOpen (h .table) (h .minute) b)) × TellsOpening (untilOpen (h .table) (h .minute) b) (h .table) (h .minute) b
   -- the contracts can be kept, and in one way only
   pub can-event : (source : List ℕ) (a : Areas) (x : Timed) → (n : ℕ) × ((b : Areas) × TimedGave bytes route source a x n b)
   pub can-call : (sources : Sources) (a : RigAreas) (c : TimedCall)

@@ -1,6 +1,6 @@
 -- Read this.
--- The demands for the calls as exported, board records as structs: what a contract says of the areas lent, the number given and the areas
--- left; a run as a list of such calls on one route. Document 01, "The machine", "Numbers a call gives", "Runs"; W-204.
+-- The demands for the calls as exported, board records as structs, by the relations that are their contracts (`Gave`); a run is a list of such
+-- calls on one route. Document 01, "The machine", "Numbers a call gives", "Runs"; W-204.
 use Prim.Native.Nat.{ℕ, _<_}
 use mathlib.Core.Path.{_≡_}
 use mathlib.Core.Logic.{_≢_, _↔_}
@@ -21,58 +21,26 @@ use Rattle.nest.specs.Reader.{nestOf, readLines}
 use Rattle.plan.specs.Hops.{hops}
 use Rattle.conformance.specs.Exact.{sequential, runNest}
 use Rattle.conformance.specs.ExactShape.{shapeOf}
-use Rattle.summary.specs.Summary.{directionOf}
-use Rattle.records.specs.declared.Progress.{Progress}
+use Rattle.layout.specs.Sizes.{routeOf}
+use Rattle.recipe.specs.Routes.{linesFor}
+use Rattle.summary.specs.declared.Figures.{Figures}
+use Rattle.summary.specs.declared.MessageLine.{MessageLine}
+use Rattle.summary.specs.declared.HopCount.{HopCount}
+use Rattle.summary.specs.Summary.{figuresOf, noFigures, lineOf, noLine, messageLines, directionOf, noHops, hopsLines}
 use Rattle.records.specs.Records.{flatWords}
-use Rattle.engine.specs.Calls.{answer, recipe, freshCallLines, freshCall, turnCallLines, turnCall, deliverCallLines, deliverCall, collectCallLines}
-use Rattle.engine.specs.Calls.{collectCall, sweepCallLines, sweepCall}
+use Rattle.engine.specs.Calls.{answer, recipe, freshCallLines, turnCallLines, deliverCallLines, collectCallLines, collectCall, sweepCallLines}
 use Rattle.engine.specs.Demands.{Fixed, calls, Demand2}
-use Rattle.calls.specs.PlanCalls.{figureWords, summaryCallLines, summaryCall, lineWords, messageCallLines, messageCall, hopsCallLines, hopsCall}
-
--- the lent areas that a step may change, records as structs; and their words
-pub record Areas : Type 0 where
-  pub memories : List ℕ
-  pub buffer : List ℕ
-  pub progress : List Progress
-  pub status : List ℕ
-
-abbrev pub inWords : Areas → State
-inWords a = stateOf (a .memories) (a .buffer) (flatWords (a .progress)) (a .status)
+use Rattle.calls.specs.Tells.{Tells}
+use Rattle.calls.specs.Gave.{Areas, inWords, FreshGave, EventGave, CollectGave, SweepGave, SummaryGave, MessageGave, HopsGave}
 
 -- calls in a row, `Step a e n b` saying that the call e, lent a, gave n and left b: areas before, calls, their numbers, areas after
 pub data Gave {A E : Type 0} (Step : A → E → ℕ → A → Type 0) : A → List E → List ℕ → A → Type 0 where
   none : {a : A} → Gave Step a [] [] a
   next : {a b c : A} {e : E} {es : List E} {n : ℕ} {ns : List ℕ} → Step a e n b → Gave Step b es ns c → Gave Step a (e ∷ es) (n ∷ ns) c
 
--- ---- the contracts of src/lib.rt: lent `a`, the call gave n and left `b`; what is lent for reading alone is left as it was
-
-module _ (bytes : List ℕ) (route : ℕ) (source : List ℕ) where
-  abbrev pub FreshGave : Areas → ℕ → Areas → Type 0
-  FreshGave a n b = answer n (inWords b) ≡ freshCall bytes route source (inWords a)
-
-  abbrev pub EventGave : Areas → Event → ℕ → Areas → Type 0
-  EventGave a (turnOf p) n b = answer n (inWords b) ≡ turnCall bytes route source (inWords a) p
-  EventGave a (deliveryOf m) n b = answer n (inWords b) ≡ deliverCall bytes route source (inWords a) m
-
-  -- lent the words `old` too, left as `grid`
-  abbrev pub CollectGave : Areas → List ℕ → ℕ → List ℕ → Type 0
-  CollectGave a old n grid = answer n grid ≡ collectCall bytes route source (inWords a) old
-
-  -- events, each given this route and lent the areas as the last left them
-  abbrev pub EventsGave : Areas → List Event → List ℕ → Areas → Type 0
-  EventsGave = Gave EventGave
-
-abbrev pub SweepGave : List ℕ → List ℕ → List ℕ → ℕ → List ℕ → Type 0
-SweepGave bytes source old n grid = answer n grid ≡ sweepCall bytes source old
-
-abbrev pub SummaryGave : List ℕ → ℕ → List ℕ → ℕ → List ℕ → Type 0
-SummaryGave bytes route old n out = answer n out ≡ summaryCall bytes route old
-
-abbrev pub MessageGave : List ℕ → ℕ → ℕ → List ℕ → ℕ → List ℕ → Type 0
-MessageGave bytes route m old n out = answer n out ≡ messageCall bytes route m old
-
-abbrev pub HopsGave : List ℕ → ℕ → List ℕ → ℕ → List ℕ → Type 0
-HopsGave bytes m old n out = answer n out ≡ hopsCall bytes m old
+-- events, each given this route and lent the areas as the last left them
+abbrev pub EventsGave : List ℕ → ℕ → List ℕ → Areas → List Event → List ℕ → Areas → Type 0
+EventsGave bytes route source = Gave (EventGave bytes route source)
 
 -- the action that processor p's program names after these events and their numbers
 abbrev pub namedNext : List ℕ → ℕ → ℕ → List Event → List ℕ → Action
@@ -98,12 +66,13 @@ pub record FixedCalls (bytes : List ℕ) (route : ℕ) (source : List ℕ) : Typ
       → Fixed (answer n grid) (collectCallLines bytes route source (inWords a) old) (collected (recipe bytes route) (inWords a)) old
   pub sweep : (old grid : List ℕ) (n : ℕ) → SweepGave bytes source old n grid
       → Fixed (answer n grid) (sweepCallLines bytes source old) (machine.sweep (recipe bytes 0) source) old
-  pub summary : (old out : List ℕ) (n : ℕ) → SummaryGave bytes route old n out
-      → Fixed (answer n out) (summaryCallLines bytes route old) (figureWords (recipe bytes route)) old
-  pub message : (m : ℕ) (old out : List ℕ) (n : ℕ) → MessageGave bytes route m old n out
-      → Fixed (answer n out) (messageCallLines bytes route m old) (lineWords (recipe bytes route) m) old
-  pub hops : (m : ℕ) (old out : List ℕ) (n : ℕ) → HopsGave bytes m old n out
-      → Fixed (answer n out) (hopsCallLines bytes m old) (hops (nestOf bytes) (directionOf (nestOf bytes) m) ∷ []) old
+  -- what is told by value: nothing beside the number at a refusal
+  pub summary : (told : Figures) → SummaryGave bytes route told
+      → Tells (λ f. f .number) (linesFor (routeOf route) bytes) (figuresOf (recipe bytes route)) noFigures told
+  pub message : (m : ℕ) (told : MessageLine) → MessageGave bytes route m told
+      → Tells (λ f. f .number) (messageLines (routeOf route) bytes m) (lineOf (recipe bytes route) m) noLine told
+  pub hops : (m : ℕ) (told : HopCount) → HopsGave bytes m told
+      → Tells (λ f. f .number) (hopsLines bytes m) (record { number = 0; hops = hops (nestOf bytes) (directionOf (nestOf bytes) m) }) noHops told
   -- the contracts can be kept, and in one way only
   pub can-fresh : (a : Areas) → (n : ℕ) × ((b : Areas) × FreshGave bytes route source a n b)
   pub can-event : (a : Areas) (e : Event) → (n : ℕ) × ((b : Areas) × EventGave bytes route source a e n b)

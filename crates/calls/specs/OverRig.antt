@@ -1,7 +1,7 @@
 -- Read this.
--- Request W-208 for the calls as exported, board records as structs: what the contracts of src/office.rt say of the areas lent, the number
--- given and the areas left; runs of both offices on one rig. Document 01, "Numbers a call gives", "Runs"; W-208.
-use Prim.Native.Nat.{ℕ, _*_, _≤_, _<_}
+-- Request W-208 for the calls as exported, board records as structs, by the relations that are their contracts (`Gave`); runs of both offices on
+-- one rig. Document 01, "Numbers a call gives", "Runs"; W-208.
+use Prim.Native.Nat.{ℕ, _≤_, _<_}
 use mathlib.Core.Path.{_≡_}
 use mathlib.Core.Logic.{_≢_, _↔_, _⊎_}
 use mathlib.Core.List.{List}
@@ -10,35 +10,22 @@ use Rattle.base.specs.Lists.{Bytes, part}
 use Rattle.base.specs.Numbers.{Line}
 use Rattle.machine.specs.Machine as machine
 use Rattle.machine.specs.Machine.{nextAction, collected}
-use Rattle.machine.specs.Runs.{Event, turnOf, deliveryOf, last, answers, total}
-use Rattle.tenants.specs.Offices.{Lent, lentOf, Rig, rigOf, Sources, sourceFor, ofOffice, carryOutFor, deliveredFor, freshRig, Call}
+use Rattle.machine.specs.Runs.{turnOf, deliveryOf, last, answers, total}
+use Rattle.tenants.specs.Offices.{Lent, Rig, Sources, sourceFor, ofOffice, carryOutFor, deliveredFor, freshRig, Call}
 use Rattle.tenants.specs.Demand208.{eventsOf, answersOf, Demand208}
 use Rattle.records.specs.declared.Progress.{Progress}
 use Rattle.records.specs.Records.{flatWords}
 use Rattle.engine.specs.Calls.{answer, recipe}
 use Rattle.engine.specs.Demands.{Fixed}
-use Rattle.sharing.specs.Calls.{turnCallLinesFor, turnCallFor, deliverCallLinesFor, deliverCallFor, collectCallLinesFor, collectCallFor}
-use Rattle.sharing.specs.Calls.{freshRigLines, freshRigCall, lookPart, rigCalls, rigCollects}
-use Rattle.calls.specs.OfficeCalls.{lookWords, lookCallLines, lookCall}
-use Rattle.calls.specs.OverRecords.{Areas, inWords, Gave, stepsIn}
+use Rattle.sharing.specs.Calls.{turnCallLinesFor, deliverCallLinesFor, collectCallLinesFor, freshRigLines, lookLines, lookPart, rigCalls, rigCollects}
+use Rattle.calls.specs.declared.tenant.Viewed.{Viewed}
+use Rattle.calls.specs.View.{noView, viewAt}
+use Rattle.calls.specs.Tells.{Tells}
+use Rattle.calls.specs.Gave.{Areas, LentAreas, lentAreasOf, lentWords, RigAreas, rigWords}
+use Rattle.calls.specs.Gave.{OfficeGave, OfficeCollectGave, FreshBothGave, ViewGave}
+use Rattle.calls.specs.OverRecords.{Gave, stepsIn}
 
--- what a call of an office is lent to change, records as structs: its own areas and the shared words
-pub record LentAreas : Type 0 where
-  pub own : Areas
-  pub engaged : List ℕ
-
-abbrev pub lentWords : LentAreas → Lent
-lentWords a = lentOf (inWords (a .own)) (a .engaged)
-
--- the areas of both offices, and the shared words
-pub record RigAreas : Type 0 where
-  pub first : Areas  -- office 0's
-  pub second : Areas  -- office 1's
-  pub engaged : List ℕ
-
-abbrev pub rigWords : RigAreas → Rig
-rigWords a = rigOf (inWords (a .first)) (inWords (a .second)) (a .engaged)
-
+-- of the areas of both offices, those of office o, those of the other, and what a call of o is lent to change
 abbrev pub ownAreas : RigAreas → ℕ → Areas
 ownAreas a o = ofOffice o (a .first) (a .second)
 
@@ -46,27 +33,12 @@ abbrev pub otherAreas : RigAreas → ℕ → Areas
 otherAreas a o = ofOffice o (a .second) (a .first)
 
 abbrev pub lentAreas : RigAreas → ℕ → LentAreas
-lentAreas a o = record { own = ownAreas a o; engaged = a .engaged }
-
--- ---- the contracts of src/office.rt: lent `a`, the call gave n and left `b`; what is lent for reading alone is left as it was
+lentAreas a o = lentAreasOf (ownAreas a o) (a .engaged)
 
 module _ (bytes : List ℕ) (route : ℕ) where
-  -- office o, lent the other's records `theirs` only to read
-  abbrev pub OfficeGave : List ℕ → ℕ → List Progress → LentAreas → Event → ℕ → LentAreas → Type 0
-  OfficeGave source o theirs a (turnOf p) n b = answer n (lentWords b) ≡ turnCallFor bytes route source o (lentWords a) (flatWords theirs) p
-  OfficeGave source o theirs a (deliveryOf m) n b =
-      answer n (lentWords b) ≡ deliverCallFor bytes route source o (lentWords a) (flatWords theirs) m
-
-  -- lent the words `old` too, left as `grid`
-  abbrev pub OfficeCollectGave : List ℕ → ℕ → List Progress → LentAreas → List ℕ → ℕ → List ℕ → Type 0
-  OfficeCollectGave source o theirs a old n grid = answer n grid ≡ collectCallFor bytes route source o (lentWords a) (flatWords theirs) old
-
-  abbrev pub FreshBothGave : Sources → RigAreas → ℕ → RigAreas → Type 0
-  FreshBothGave sources a n b = answer n (rigWords b) ≡ freshRigCall bytes route sources (rigWords a)
-
   -- a call on the rig: the office that it names is lent its own areas and the shared words, and the other's areas stay as they were
   pub record CallGave (sources : Sources) (a : RigAreas) (c : Call) (n : ℕ) (b : RigAreas) : Type 0 where
-    pub gave : OfficeGave (sourceFor sources (c .office)) (c .office) (otherAreas a (c .office) .progress)
+    pub gave : OfficeGave bytes route (sourceFor sources (c .office)) (c .office) (otherAreas a (c .office) .progress)
         (lentAreas a (c .office)) (c .event) n (lentAreas b (c .office))
     pub others : otherAreas b (c .office) ≡ otherAreas a (c .office)
 
@@ -75,10 +47,7 @@ module _ (bytes : List ℕ) (route : ℕ) where
   CallsGave sources = Gave (CallGave sources)
 
   abbrev pub CollectGaveFor : Sources → RigAreas → ℕ → List ℕ → ℕ → List ℕ → Type 0
-  CollectGaveFor sources a o = OfficeCollectGave (sourceFor sources o) o (otherAreas a o .progress) (lentAreas a o)
-
-abbrev pub LookGave : List ℕ → List ℕ → List ℕ → ℕ → ℕ → List ℕ → ℕ → List ℕ → Type 0
-LookGave bytes first second o b old n out = answer n out ≡ lookCall bytes first second o b old
+  CollectGaveFor sources a o = OfficeCollectGave bytes route (sourceFor sources o) o (otherAreas a o .progress) (lentAreas a o)
 
 -- ---- demand 1
 
@@ -105,11 +74,11 @@ pub record FixedOffice (bytes : List ℕ) (route : ℕ) : Type 0 where
       (collected (recipe bytes route) (lentWords a .own)) old
   pub fresh : (sources : Sources) (a b : RigAreas) (n : ℕ) → FreshBothGave bytes route sources a n b
       → FixedRig (freshRigLines bytes route sources (rigWords a)) (freshRig (recipe bytes route)) a n b
-  pub look : (first second : List ℕ) (o b : ℕ) (old out : List ℕ) (n : ℕ) → LookGave bytes first second o b old n out
-      → Fixed (answer n out) (lookCallLines bytes first second o b old) (lookWords (recipe bytes 0) b) old
-  -- the part that a look names is the one of the office named
-  pub part-is : (first second : List ℕ) (o b : ℕ) (old out : List ℕ) → LookGave bytes first second o b old 0 out
-      → part (ofOffice o first second) (b * recipe bytes 0 .cells) (recipe bytes 0 .cells) ≡ lookPart bytes first second o b
+  pub view : (first second : List ℕ) (o b : ℕ) (told : Viewed) → ViewGave bytes first second o b told
+      → Tells (λ v. v .number) (lookLines bytes first second o b) (viewAt (recipe bytes 0) b) noView told
+  -- the part that was told of is the processor's in the memories of the office named, and empty at a refusal
+  pub part-is : (first second : List ℕ) (o b : ℕ) (told : Viewed) → ViewGave bytes first second o b told
+      → part (ofOffice o first second) (told .begin) (told .length) ≡ lookPart bytes first second o b
   -- the contracts can be kept, and in one way only
   pub can-fresh : (sources : Sources) (a : RigAreas) → (n : ℕ) × ((b : RigAreas) × FreshBothGave bytes route sources a n b)
   pub can-call : (sources : Sources) (a : RigAreas) (c : Call) → (n : ℕ) × ((b : RigAreas) × CallGave bytes route sources a c n b)

@@ -1,42 +1,34 @@
 // The calls for one processor that is lent its own part alone, with C linkage, its record as a struct: the lengths of its areas, the messages that it
 // handles, a fresh start, a turn, a message handed over to a transport, a message that arrives, and its cells' words for the grid.
-ghost use mathlib.Core.Path.{_≡_};
-ghost use mathlib.Core.List.{[]};
-ghost use Rattle.machine.specs.Machine.{stateOf};
-ghost use Rattle.engine.specs.Calls.{answer};
-ghost use Rattle.records.specs.Records.{flatWords};
-ghost use Rattle.part_calls.specs.front.Calls.{ownSizesCall, ownMessagesCall, ownFreshCall, ownTurnCall, ownPostCall, ownArriveCall, ownCollectCall};
+ghost use Rattle.calls.specs.Gave.{areasOf, PartSizesGave, PartMessagesGave, PartFreshGave, PartTurnGave};
+ghost use Rattle.calls.specs.Gave.{PartPostGave, PartArriveGave, PartCollectGave};
+use part_calls::AreaLengths;
 use records::Progress;
 
-// How long its areas are, four words: the cells of its tiles, the cells that it keeps, the words of the messages that it handles, and how many these are.
+// How long its areas are.
 #[no_mangle]
-pub extern "C" fn rolwyddac_own_sizes(
-    encoded: &[u8],
-    route: u32,
-    processor: u32,
-    out: &mut [u32],
-) -> u32
-    ensures { λ r. ⌜ answer r (now (out .exit)) ≡ ownSizesCall (now (encoded .entry)) route processor (now (out .entry)) ⌝ }
+pub extern "C" fn rolwyddac_part_sizes(encoded: &[u8], route: u32, processor: u32) -> AreaLengths
+    ensures { λ r. ⌜ PartSizesGave (now (encoded .entry)) route processor r ⌝ }
 {
-    part_calls::sizes(encoded, route, processor, out)
+    part_calls::sizes(encoded, route, processor)
 }
 
 // The messages that it handles, seven words each: number, sending tile, taking tile, sending processor, taking processor, words, their place in its mail.
 #[no_mangle]
-pub extern "C" fn rolwyddac_own_messages(
+pub extern "C" fn rolwyddac_part_messages(
     encoded: &[u8],
     route: u32,
     processor: u32,
     out: &mut [u32],
 ) -> u32
-    ensures { λ r. ⌜ answer r (now (out .exit)) ≡ ownMessagesCall (now (encoded .entry)) route processor (now (out .entry)) ⌝ }
+    ensures { λ r. ⌜ PartMessagesGave (now (encoded .entry)) route processor (now (out .entry)) r (now (out .exit)) ⌝ }
 {
     part_calls::messages(encoded, route, processor, out)
 }
 
 // A fresh start.
 #[no_mangle]
-pub extern "C" fn rolwyddac_own_fresh(
+pub extern "C" fn rolwyddac_part_fresh(
     encoded: &[u8],
     route: u32,
     memory: &mut [u32],
@@ -45,9 +37,9 @@ pub extern "C" fn rolwyddac_own_fresh(
     marks: &mut [u8],
     processor: u32,
 ) -> u32
-    ensures { λ n. ⌜ answer n (stateOf (now (memory .exit)) (now (mail .exit)) (flatWords (now (progress .exit))) (now (marks .exit)))
-        ≡ ownFreshCall (now (encoded .entry)) route
-        (stateOf (now (memory .entry)) (now (mail .entry)) (flatWords (now (progress .entry))) (now (marks .entry))) processor ⌝ }
+    ensures { λ n. ⌜ PartFreshGave (now (encoded .entry)) route processor
+        (areasOf (now (memory .entry)) (now (mail .entry)) (now (progress .entry)) (now (marks .entry)))
+        n (areasOf (now (memory .exit)) (now (mail .exit)) (now (progress .exit)) (now (marks .exit))) ⌝ }
 {
     let words = 3 * progress.len();
     let number = part_calls::core::fresh(encoded, route, memory, mail, words, marks, processor);
@@ -57,7 +49,7 @@ pub extern "C" fn rolwyddac_own_fresh(
 
 // A turn. The source has a word for each cell of its tiles, in index order.
 #[no_mangle]
-pub extern "C" fn rolwyddac_own_turn(
+pub extern "C" fn rolwyddac_part_turn(
     encoded: &[u8],
     route: u32,
     source: &[u32],
@@ -67,9 +59,9 @@ pub extern "C" fn rolwyddac_own_turn(
     marks: &mut [u8],
     processor: u32,
 ) -> u32
-    ensures { λ r. ⌜ answer r (stateOf (now (memory .exit)) (now (mail .exit)) (flatWords (now (progress .exit))) (now (marks .exit)))
-        ≡ ownTurnCall (now (encoded .entry)) route (now (source .entry))
-        (stateOf (now (memory .entry)) (now (mail .entry)) (flatWords (now (progress .entry))) (now (marks .entry))) processor ⌝ }
+    ensures { λ r. ⌜ PartTurnGave (now (encoded .entry)) route (now (source .entry)) processor
+        (areasOf (now (memory .entry)) (now (mail .entry)) (now (progress .entry)) (now (marks .entry)))
+        r (areasOf (now (memory .exit)) (now (mail .exit)) (now (progress .exit)) (now (marks .exit))) ⌝ }
 {
     let flat = records::flatten(progress);
     let after = part_calls::turn::turn(
@@ -88,7 +80,7 @@ pub extern "C" fn rolwyddac_own_turn(
 
 // A message is handed over to a transport: its mark from 1 to 2; its words lie in the mail.
 #[no_mangle]
-pub extern "C" fn rolwyddac_own_post(
+pub extern "C" fn rolwyddac_part_post(
     encoded: &[u8],
     route: u32,
     memory: &[u32],
@@ -98,9 +90,9 @@ pub extern "C" fn rolwyddac_own_post(
     processor: u32,
     message: u32,
 ) -> u32
-    ensures { λ r. ⌜ answer r (stateOf (now (memory .entry)) (now (mail .entry)) (flatWords (now (progress .entry))) (now (marks .exit)))
-        ≡ ownPostCall (now (encoded .entry)) route
-        (stateOf (now (memory .entry)) (now (mail .entry)) (flatWords (now (progress .entry))) (now (marks .entry))) processor message ⌝ }
+    ensures { λ r. ⌜ PartPostGave (now (encoded .entry)) route processor message
+        (areasOf (now (memory .entry)) (now (mail .entry)) (now (progress .entry)) (now (marks .entry)))
+        r (areasOf (now (memory .entry)) (now (mail .entry)) (now (progress .entry)) (now (marks .exit))) ⌝ }
 {
     let flat = records::flatten(progress);
     part_calls::core::post(
@@ -117,7 +109,7 @@ pub extern "C" fn rolwyddac_own_post(
 
 // A message arrives: its words into their place in the mail, its mark from 0 to 2.
 #[no_mangle]
-pub extern "C" fn rolwyddac_own_arrive(
+pub extern "C" fn rolwyddac_part_arrive(
     encoded: &[u8],
     route: u32,
     memory: &[u32],
@@ -128,10 +120,9 @@ pub extern "C" fn rolwyddac_own_arrive(
     message: u32,
     words: &[u32],
 ) -> u32
-    ensures { λ r. ⌜ answer r (stateOf (now (memory .entry)) (now (mail .exit)) (flatWords (now (progress .entry))) (now (marks .exit)))
-        ≡ ownArriveCall (now (encoded .entry)) route
-        (stateOf (now (memory .entry)) (now (mail .entry)) (flatWords (now (progress .entry))) (now (marks .entry))) processor message
-        (now (words .entry)) ⌝ }
+    ensures { λ r. ⌜ PartArriveGave (now (encoded .entry)) route processor message (now (words .entry))
+        (areasOf (now (memory .entry)) (now (mail .entry)) (now (progress .entry)) (now (marks .entry)))
+        r (areasOf (now (memory .entry)) (now (mail .exit)) (now (progress .entry)) (now (marks .exit))) ⌝ }
 {
     let flat = records::flatten(progress);
     part_calls::core::arrive(
@@ -149,7 +140,7 @@ pub extern "C" fn rolwyddac_own_arrive(
 
 // Its own cells' words into the grid, and the boundary's where a cell is outside the shape; once it has no tiles left.
 #[no_mangle]
-pub extern "C" fn rolwyddac_own_collect(
+pub extern "C" fn rolwyddac_part_collect(
     encoded: &[u8],
     route: u32,
     memory: &[u32],
@@ -157,9 +148,8 @@ pub extern "C" fn rolwyddac_own_collect(
     processor: u32,
     grid: &mut [u32],
 ) -> u32
-    ensures { λ r. ⌜ answer r (now (grid .exit))
-        ≡ ownCollectCall (now (encoded .entry)) route (stateOf (now (memory .entry)) [] (flatWords (now (progress .entry))) []) processor
-        (now (grid .entry)) ⌝ }
+    ensures { λ r. ⌜ PartCollectGave (now (encoded .entry)) route processor (now (memory .entry)) (now (progress .entry))
+        (now (grid .entry)) r (now (grid .exit)) ⌝ }
 {
     let flat = records::flatten(progress);
     part_calls::core::collect(encoded, route, memory, flat, processor, grid)

@@ -1,17 +1,13 @@
 // The calls that a transport needs with C linkage, where processors share no memory: all messages, the processor of each cell; over progress
 // records as structs what a processor waits for, and taking a message in.
-ghost use mathlib.Core.Path.{_≡_};
-ghost use mathlib.Core.List.{[]};
-ghost use Rattle.machine.specs.Machine.{stateOf};
-ghost use Rattle.engine.specs.Calls.{answer};
-ghost use Rattle.records.specs.Records.{flatWords};
-ghost use Rattle.transport.specs.Calls.{messagesCall, ownersCall, waitsOf, awaitedCall, takeInCall};
+ghost use Rattle.calls.specs.Gave.{areasOf, MessagesGave, OwnersGave, AwaitedGave, TakeInGave};
 use records::Progress;
+use transport::Waiting;
 
 // All messages of the route, six words each: sending tile, taking tile, sending processor, taking processor, words, their place in the buffer.
 #[no_mangle]
 pub extern "C" fn rolwyddac_messages(encoded: &[u8], route: u32, out: &mut [u32]) -> u32
-    ensures { λ r. ⌜ answer r (now (out .exit)) ≡ messagesCall (now (encoded .entry)) route (now (out .entry)) ⌝ }
+    ensures { λ r. ⌜ MessagesGave (now (encoded .entry)) route (now (out .entry)) r (now (out .exit)) ⌝ }
 {
     transport::messages(encoded, route, out)
 }
@@ -19,7 +15,7 @@ pub extern "C" fn rolwyddac_messages(encoded: &[u8], route: u32, out: &mut [u32]
 // The processor of each cell, the number of processors for one outside the shape.
 #[no_mangle]
 pub extern "C" fn rolwyddac_owners(encoded: &[u8], out: &mut [u32]) -> u32
-    ensures { λ r. ⌜ answer r (now (out .exit)) ≡ ownersCall (now (encoded .entry)) (now (out .entry)) ⌝ }
+    ensures { λ r. ⌜ OwnersGave (now (encoded .entry)) (now (out .entry)) r (now (out .exit)) ⌝ }
 {
     transport::owners(encoded, out)
 }
@@ -33,14 +29,12 @@ pub extern "C" fn rolwyddac_awaited(
     status: &[u8],
     processor: u32,
     marks: &mut [u8],
-    out: &mut [u32],
-) -> u32
-    ensures { λ r. ⌜ answer r (waitsOf (now (marks .exit)) (now (out .exit)))
-        ≡ awaitedCall (now (encoded .entry)) route (stateOf [] [] (flatWords (now (progress .entry))) (now (status .entry))) processor
-        (waitsOf (now (marks .entry)) (now (out .entry))) ⌝ }
+) -> Waiting
+    ensures { λ r. ⌜ AwaitedGave (now (encoded .entry)) route (now (progress .entry)) (now (status .entry)) processor
+        (now (marks .entry)) r (now (marks .exit)) ⌝ }
 {
     let flat = records::flatten(progress);
-    transport::core::awaited(encoded, route, flat, status, processor, marks, out)
+    transport::core::awaited(encoded, route, flat, status, processor, marks)
 }
 
 // A message taken in at its taker's: its words into their place, and its status from 0 to 2.
@@ -57,10 +51,9 @@ pub extern "C" fn rolwyddac_take_in(
     message: u32,
     words: &[u32],
 ) -> u32
-    ensures { λ r. ⌜ answer r (stateOf (now (memories .entry)) (now (buffer .exit)) (flatWords (now (progress .entry))) (now (status .exit)))
-        ≡ takeInCall (now (encoded .entry)) route (now (source .entry))
-        (stateOf (now (memories .entry)) (now (buffer .entry)) (flatWords (now (progress .entry))) (now (status .entry))) processor message
-        (now (words .entry)) ⌝ }
+    ensures { λ r. ⌜ TakeInGave (now (encoded .entry)) route (now (source .entry))
+        (areasOf (now (memories .entry)) (now (buffer .entry)) (now (progress .entry)) (now (status .entry))) processor message (now (words .entry))
+        r (areasOf (now (memories .entry)) (now (buffer .exit)) (now (progress .entry)) (now (status .exit))) ⌝ }
 {
     let flat = records::flatten(progress);
     transport::core::take_in(

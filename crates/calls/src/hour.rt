@@ -1,14 +1,9 @@
 // The calls with hours with C linkage: a turn at a minute of the week, for one office and for one of two, over progress records as structs;
 // and the minutes until a processor next opens. `hours` is the table, 14 pairs of words a processor.
 ghost use mathlib.Core.Path.{_≡_};
-ghost use lib.ListN.{length};
-ghost use Rattle.machine.specs.Machine.{stateOf};
-ghost use Rattle.engine.specs.Calls.{answer};
-ghost use Rattle.records.specs.Records.{flatWords};
-ghost use Rattle.tenants.specs.Offices.{lentOf};
-ghost use Rattle.calendar.specs.Hours.{hoursOf};
-ghost use Rattle.timed.specs.Calls.{turnCallAt, turnCallAtFor, openingWords};
-ghost use Rattle.calls.specs.HourCalls.{opensWordsCall};
+ghost use Rattle.calendar.specs.Hours.{hoursOf, turnAt};
+ghost use Rattle.calls.specs.Gave.{areasOf, lentAreasOf, TimedGave, OfficeTimedGave, OpensGave};
+ghost use Rattle.calls.specs.Opens.{tells, openingTold};
 use calendar::Opening;
 use records::Progress;
 
@@ -26,9 +21,10 @@ pub extern "C" fn rolwyddac_turn_at(
     minute: u32,
     processor: u32,
 ) -> u32
-    ensures { λ r. ⌜ answer r (stateOf (now (memories .exit)) (now (buffer .exit)) (flatWords (now (progress .exit))) (now (status .exit)))
-        ≡ turnCallAt (now (encoded .entry)) route (now (source .entry)) (hoursOf (now (hours .entry)) minute)
-        (stateOf (now (memories .entry)) (now (buffer .entry)) (flatWords (now (progress .entry))) (now (status .entry))) processor ⌝ }
+    ensures { λ r. ⌜ TimedGave (now (encoded .entry)) route (now (source .entry))
+        (areasOf (now (memories .entry)) (now (buffer .entry)) (now (progress .entry)) (now (status .entry)))
+        (turnAt (hoursOf (now (hours .entry)) minute) processor)
+        r (areasOf (now (memories .exit)) (now (buffer .exit)) (now (progress .exit)) (now (status .exit))) ⌝ }
 {
     let flat = records::flatten(progress);
     let after = timed::core::turn(
@@ -49,7 +45,7 @@ pub extern "C" fn rolwyddac_turn_at(
 
 // One turn of a processor for an office.
 #[no_mangle]
-pub extern "C" fn rolwyddac_office_turn_at(
+pub extern "C" fn rolwyddac_tenant_turn_at(
     encoded: &[u8],
     route: u32,
     source: &[u32],
@@ -64,11 +60,10 @@ pub extern "C" fn rolwyddac_office_turn_at(
     office: u32,
     processor: u32,
 ) -> u32
-    ensures { λ r. ⌜ answer r
-        (lentOf (stateOf (now (memories .exit)) (now (buffer .exit)) (flatWords (now (progress .exit))) (now (status .exit))) (now (engaged .exit)))
-        ≡ turnCallAtFor (now (encoded .entry)) route (now (source .entry)) office (hoursOf (now (hours .entry)) minute)
-        (lentOf (stateOf (now (memories .entry)) (now (buffer .entry)) (flatWords (now (progress .entry))) (now (status .entry))) (now (engaged .entry)))
-        (flatWords (now (other .entry))) processor ⌝ }
+    ensures { λ r. ⌜ OfficeTimedGave (now (encoded .entry)) route (now (source .entry)) office (now (other .entry))
+        (lentAreasOf (areasOf (now (memories .entry)) (now (buffer .entry)) (now (progress .entry)) (now (status .entry))) (now (engaged .entry)))
+        (turnAt (hoursOf (now (hours .entry)) minute) processor)
+        r (lentAreasOf (areasOf (now (memories .exit)) (now (buffer .exit)) (now (progress .exit)) (now (status .exit))) (now (engaged .exit))) ⌝ }
 {
     let own = records::flatten(progress);
     let theirs = records::flatten(other);
@@ -91,49 +86,48 @@ pub extern "C" fn rolwyddac_office_turn_at(
     after.number
 }
 
-// An opening as two words: 1 and the minutes, or 0 and 0 where there is none.
-fn store_opening(out: &mut [u32], opening: Opening)
-    requires { ⌜ length (now out) ≡ 2 ⌝ }
-    ensures { λ _. ⌜ now (out .exit) ≡ openingWords opening ⌝ }
+// What is told of an opening: the call's number, 1 and in how many minutes, or 0 and 0 where there is none; 0 and 0 at a refusal.
+#[repr(C)]
+pub struct NextOpening {
+    pub number: u32,
+    pub opens: u32,
+    pub minutes: u32,
+}
+
+fn tell(number: u32, opens: u32, minutes: u32) -> NextOpening
+    ensures { λ r. ⌜ r ≡ tells number opens minutes ⌝ }
 {
-    match opening {
-        Opening::OpensIn(minutes) => {
-            out[0] = 1;
-            out[1] = minutes;
-        }
-        Opening::Never => {
-            out[0] = 0;
-            out[1] = 0;
-        }
+    NextOpening {
+        number: number,
+        opens: opens,
+        minutes: minutes,
     }
 }
 
-// When a processor next opens, as two words, lent only the table.
+fn tell_opening(opening: Opening) -> NextOpening
+    ensures { λ r. ⌜ r ≡ openingTold opening ⌝ }
+{
+    match opening {
+        Opening::OpensIn(minutes) => tell(0, 1, minutes),
+        Opening::Never => tell(0, 0, 0),
+    }
+}
+
+// When a processor next opens, lent only the table.
 #[no_mangle]
 pub extern "C" fn rolwyddac_opens(
     encoded: &[u8],
     hours: &[u32],
     minute: u32,
     processor: u32,
-    out: &mut [u32],
-) -> u32
-    ensures { λ r. ⌜ answer r (now (out .exit))
-        ≡ opensWordsCall (now (encoded .entry)) (hoursOf (now (hours .entry)) minute) processor (now (out .entry)) ⌝ }
+) -> NextOpening
+    ensures { λ r. ⌜ OpensGave (now (encoded .entry)) (hoursOf (now (hours .entry)) minute) processor r ⌝ }
 {
-    let reading = reader::read(encoded);
-    let read = reading.number;
-    if read != 0 {
-        return read;
-    }
-    if out.len() != 2 {
-        return 9;
-    }
     let asked = timed::opens(encoded, hours, minute, processor);
     let number = asked.number;
     if number != 0 {
-        return number;
+        return tell(number, 0, 0);
     }
     let opening = asked.opening;
-    store_opening(out, opening);
-    0
+    tell_opening(opening)
 }

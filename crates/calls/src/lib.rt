@@ -1,20 +1,20 @@
-// The offered calls with C linkage: over progress records as structs a fresh start, a turn, a delivery, collecting;
-// over words the sweep, a plan's figures, a message's line and its hops, a source from soundings; over bytes the recipe writer. The word
-// `route` is 0 for direct passing, any other for indirect.
+// The offered calls with C linkage: over progress records as structs a fresh start, a turn, a delivery, collecting; the sweep; a plan's figures,
+// a message's line and its hops; reading and writing a recipe; a source from soundings. What a call tells beside its number is returned by value.
+// The word `route` is 0 for direct passing, any other for indirect.
 // Each call over records is a thin function: it takes the records apart, has covered code work on numbers, and stores what that gives.
 // Two steps, either way round (W-214), have no code: specs/Demands214 states them of the calls on bytes, specs/OverRecords214 of these.
-ghost use mathlib.Core.Path.{_≡_};
-ghost use Rattle.machine.specs.Machine.{stateOf};
-ghost use Rattle.engine.specs.Calls.{answer, freshCall, turnCall, deliverCall, collectCall, sweepCall};
-ghost use Rattle.records.specs.Records.{flatWords};
+ghost use Rattle.machine.specs.Runs.{turnOf, deliveryOf};
 ghost use Rattle.writer.specs.Fields.{fields};
-ghost use Rattle.writer.specs.Writing.{writeCall};
-ghost use Rattle.soundings.specs.Soundings.{fillCall};
-ghost use Rattle.calls.specs.PlanCalls.{summaryCall, messageCall, hopsCall};
+ghost use Rattle.calls.specs.Gave.{areasOf, FreshGave, EventGave, CollectGave, SweepGave, SummaryGave, MessageGave, HopsGave};
+ghost use Rattle.calls.specs.Gave.{ReadGave, WriteGave, SoundingsGave};
 use records::Progress;
+use summary::Figures;
+use summary::HopCount;
+use summary::MessageLine;
+use writer::reading::RecipeFields;
 
-pub mod office; // office.rt: for one of two offices on one rig, and the look
-pub mod desk; // desk.rt: for the charting desk
+pub mod tenant; // tenant.rt: for one of two tenants on one rig, and the view of a processor's memory
+pub mod chart_text; // chart_text.rt: a grid's text
 pub mod hour; // hour.rt: with hours when processors may run
 pub mod round; // round.rt: the driver by rounds
 pub mod carrier; // carrier.rt: what a transport asks where processors share no memory
@@ -32,9 +32,9 @@ pub extern "C" fn rolwyddac_turn(
     status: &mut [u8],
     processor: u32,
 ) -> u32
-    ensures { λ r. ⌜ answer r (stateOf (now (memories .exit)) (now (buffer .exit)) (flatWords (now (progress .exit))) (now (status .exit)))
-        ≡ turnCall (now (encoded .entry)) route (now (source .entry))
-        (stateOf (now (memories .entry)) (now (buffer .entry)) (flatWords (now (progress .entry))) (now (status .entry))) processor ⌝ }
+    ensures { λ r. ⌜ EventGave (now (encoded .entry)) route (now (source .entry))
+        (areasOf (now (memories .entry)) (now (buffer .entry)) (now (progress .entry)) (now (status .entry))) (turnOf processor)
+        r (areasOf (now (memories .exit)) (now (buffer .exit)) (now (progress .exit)) (now (status .exit))) ⌝ }
 {
     let flat = records::flatten(progress);
     let after = engine::core::turn(
@@ -62,9 +62,9 @@ pub extern "C" fn rolwyddac_fresh(
     progress: &mut [Progress],
     status: &mut [u8],
 ) -> u32
-    ensures { λ n. ⌜ answer n (stateOf (now (memories .exit)) (now (buffer .exit)) (flatWords (now (progress .exit))) (now (status .exit)))
-        ≡ freshCall (now (encoded .entry)) route (now (source .entry))
-        (stateOf (now (memories .entry)) (now (buffer .entry)) (flatWords (now (progress .entry))) (now (status .entry))) ⌝ }
+    ensures { λ n. ⌜ FreshGave (now (encoded .entry)) route (now (source .entry))
+        (areasOf (now (memories .entry)) (now (buffer .entry)) (now (progress .entry)) (now (status .entry)))
+        n (areasOf (now (memories .exit)) (now (buffer .exit)) (now (progress .exit)) (now (status .exit))) ⌝ }
 {
     let words = 3 * progress.len();
     let number = engine::core::fresh(encoded, route, source, memories, buffer, words, status);
@@ -84,9 +84,9 @@ pub extern "C" fn rolwyddac_deliver(
     status: &mut [u8],
     message: u32,
 ) -> u32
-    ensures { λ r. ⌜ answer r (stateOf (now (memories .entry)) (now (buffer .entry)) (flatWords (now (progress .entry))) (now (status .exit)))
-        ≡ deliverCall (now (encoded .entry)) route (now (source .entry))
-        (stateOf (now (memories .entry)) (now (buffer .entry)) (flatWords (now (progress .entry))) (now (status .entry))) message ⌝ }
+    ensures { λ r. ⌜ EventGave (now (encoded .entry)) route (now (source .entry))
+        (areasOf (now (memories .entry)) (now (buffer .entry)) (now (progress .entry)) (now (status .entry))) (deliveryOf message)
+        r (areasOf (now (memories .entry)) (now (buffer .entry)) (now (progress .entry)) (now (status .exit))) ⌝ }
 {
     let flat = records::flatten(progress);
     engine::core::deliver(
@@ -113,9 +113,8 @@ pub extern "C" fn rolwyddac_collect(
     status: &[u8],
     grid: &mut [u32],
 ) -> u32
-    ensures { λ r. ⌜ answer r (now (grid .exit))
-        ≡ collectCall (now (encoded .entry)) route (now (source .entry))
-        (stateOf (now (memories .entry)) (now (buffer .entry)) (flatWords (now (progress .entry))) (now (status .entry))) (now (grid .entry)) ⌝ }
+    ensures { λ r. ⌜ CollectGave (now (encoded .entry)) route (now (source .entry))
+        (areasOf (now (memories .entry)) (now (buffer .entry)) (now (progress .entry)) (now (status .entry))) (now (grid .entry)) r (now (grid .exit)) ⌝ }
 {
     let flat = records::flatten(progress);
     engine::core::collect(encoded, route, source, memories, buffer, flat, status, grid)
@@ -124,77 +123,41 @@ pub extern "C" fn rolwyddac_collect(
 // The sequential sweep of the whole grid.
 #[no_mangle]
 pub extern "C" fn rolwyddac_sweep(encoded: &[u8], source: &[u32], grid: &mut [u32]) -> u32
-    ensures { λ r. ⌜ answer r (now (grid .exit)) ≡ sweepCall (now (encoded .entry)) (now (source .entry)) (now (grid .entry)) ⌝ }
+    ensures { λ r. ⌜ SweepGave (now (encoded .entry)) (now (source .entry)) (now (grid .entry)) r (now (grid .exit)) ⌝ }
 {
     engine::sweep(encoded, source, grid)
 }
 
-// The figures of the recipe's plan: tiles, messages, words, steps.
+// The figures of the recipe's plan.
 #[no_mangle]
-pub extern "C" fn rolwyddac_summary(encoded: &[u8], route: u32, out: &mut [u32]) -> u32
-    ensures { λ r. ⌜ answer r (now (out .exit)) ≡ summaryCall (now (encoded .entry)) route (now (out .entry)) ⌝ }
+pub extern "C" fn rolwyddac_summary(encoded: &[u8], route: u32) -> Figures
+    ensures { λ r. ⌜ SummaryGave (now (encoded .entry)) route r ⌝ }
 {
-    let figures = summary::summary(encoded, route);
-    let number = figures.number;
-    if number != 0 {
-        return number;
-    }
-    if out.len() != 4 {
-        return 9;
-    }
-    out[0] = figures.tiles;
-    out[1] = figures.messages;
-    out[2] = figures.words;
-    out[3] = figures.steps;
-    0
+    summary::summary(encoded, route)
 }
 
-// The line of message m: sending tile, taking tile, sending processor, taking processor, words.
+// The line of a message.
 #[no_mangle]
-pub extern "C" fn rolwyddac_message(encoded: &[u8], route: u32, m: u32, out: &mut [u32]) -> u32
-    ensures { λ r. ⌜ answer r (now (out .exit)) ≡ messageCall (now (encoded .entry)) route m (now (out .entry)) ⌝ }
+pub extern "C" fn rolwyddac_message(encoded: &[u8], route: u32, message: u32) -> MessageLine
+    ensures { λ r. ⌜ MessageGave (now (encoded .entry)) route message r ⌝ }
 {
-    let reading = recipe::read_for(encoded, route);
-    let read = reading.number;
-    if read != 0 {
-        return read;
-    }
-    if out.len() != 5 {
-        return 9;
-    }
-    let line = summary::message(encoded, route, m);
-    let number = line.number;
-    if number != 0 {
-        return number;
-    }
-    out[0] = line.sender;
-    out[1] = line.taker;
-    out[2] = line.from;
-    out[3] = line.to;
-    out[4] = line.words;
-    0
+    summary::message(encoded, route, message)
 }
 
-// The hops on the indirect route of message m of the direct one.
+// The hops on the indirect route of a message of the direct one.
 #[no_mangle]
-pub extern "C" fn rolwyddac_hops(encoded: &[u8], m: u32, out: &mut [u32]) -> u32
-    ensures { λ r. ⌜ answer r (now (out .exit)) ≡ hopsCall (now (encoded .entry)) m (now (out .entry)) ⌝ }
+pub extern "C" fn rolwyddac_hops(encoded: &[u8], message: u32) -> HopCount
+    ensures { λ r. ⌜ HopsGave (now (encoded .entry)) message r ⌝ }
 {
-    let reading = reader::read(encoded);
-    let read = reading.number;
-    if read != 0 {
-        return read;
-    }
-    if out.len() != 1 {
-        return 9;
-    }
-    let told = summary::hops(encoded, m);
-    let number = told.number;
-    if number != 0 {
-        return number;
-    }
-    out[0] = told.hops;
-    0
+    summary::hops(encoded, message)
+}
+
+// The fields that a recipe holds.
+#[no_mangle]
+pub extern "C" fn rolwyddac_read(encoded: &[u8]) -> RecipeFields
+    ensures { λ r. ⌜ ReadGave (now (encoded .entry)) r ⌝ }
+{
+    writer::reading::read(encoded)
 }
 
 // The recipe of the fields: of each dimension its length, tile length and processor count, of each distance its four components and
@@ -216,10 +179,9 @@ pub extern "C" fn rolwyddac_write(
     boundary: u32,
     space: &mut [u8],
 ) -> u32
-    ensures { λ r. ⌜ answer r (now (space .exit))
-        ≡ writeCall (fields (now (lengths .entry)) (now (tiling .entry)) (now (counts .entry)) (now (components .entry))
+    ensures { λ r. ⌜ WriteGave (fields (now (lengths .entry)) (now (tiling .entry)) (now (counts .entry)) (now (components .entry))
         (now (weights .entry)) (now (sides .entry)) (now (bounded .entry)) (now (earlier .entry)) (now (slopes .entry))
-        (now (offsets .entry)) shift boundary) (now (space .entry)) ⌝ }
+        (now (offsets .entry)) shift boundary) (now (space .entry)) r (now (space .exit)) ⌝ }
 {
     writer::write(
         lengths,
@@ -246,7 +208,7 @@ pub extern "C" fn rolwyddac_soundings(
     value: u32,
     source: &mut [u32],
 ) -> u32
-    ensures { λ r. ⌜ answer r (now (source .exit)) ≡ fillCall (now (encoded .entry)) (now (file .entry)) value (now (source .entry)) ⌝ }
+    ensures { λ r. ⌜ SoundingsGave (now (encoded .entry)) (now (file .entry)) value (now (source .entry)) r (now (source .exit)) ⌝ }
 {
     soundings::fill(encoded, file, value, source)
 }

@@ -10,6 +10,7 @@ ghost use Rattle.chart.specs.Call.{measureLines, toldOf, lengthCall, wri
 pub mod grid_text; // grid_text.rt: the text, row by row, put into a lent space; what falls past its end is counted alone
 
 // What a call tells: its number, and the text's length in bytes, 0 at a refusal.
+#[repr(C)]
 pub struct Told {
     pub number: u32,
     pub length: u32,

@@ -1,5 +1,5 @@
 -- Each call for one processor by the line that counts.
-use Prim.Native.Nat.{ℕ, _+_, _*_, _-_, _≤_, _<_}
+use Prim.Native.Nat.{ℕ, zero, suc, _+_, _*_, _-_, _≤_, _<_}
 use mathlib.Core.Path.{_≡_, refl, sym, ap, _∙_}
 use mathlib.Core.Logic.{inl, inr, _≢_}
 use mathlib.Core.Bool.{Bool, true, false}
@@ -20,7 +20,7 @@ use Rattle.machine.specs.Plan.{Plan, count, heldBy, offset, words}
 use Rattle.machine.specs.Machine.{State, stateOf, finishedOf, stageOf, sentOf, placeOf, fit, Answered, answered, deliverLines, fresh}
 use Rattle.machine.proofs.Values.{offset-apart}
 use Rattle.plan.specs.Shaped.{planOf}
-use Rattle.engine.specs.Calls.{answer}
+use Rattle.engine.specs.Calls.{answer, recipe}
 use Rattle.engine.specs.Given.{zerosAfter}
 use Rattle.engine.proofs.Lines.{and-right}
 use Rattle.engine.proofs.Reading.{zeros-after-no, zeros-after-yes, part-carries}
@@ -34,7 +34,8 @@ use Rattle.network.specs.Own.{handles, keptCells, handled, mailOf}
 use Rattle.transport.specs.arrivals.Taking.{takes, asLong}
 use Rattle.transport.proofs.arrivals.Taking.{long-here}
 use Rattle.part.specs.Part.{wordsOf, rankOf, mailAt, partFits}
-use Rattle.part_calls.specs.front.Calls.{wide, narrow, lengthsOf, ownSizesCall, ownFreshCall, ownPostCall, ownArriveCall}
+use Rattle.part_calls.specs.front.Calls.{wide, narrow, lengthsOf, noLengths, lengthsIf, ownSizesCall, ownFreshCall, ownPostCall, ownArriveCall}
+use Rattle.part_calls.specs.declared.AreaLengths.{AreaLengths}
 use Rattle.part_calls.specs.front.Calls.{ownRows, ownMessagesCall, ownCollected, ownCollectCall}
 use Rattle.part_calls.specs.declared.front.Board.{Board}
 use Rattle.part_calls.specs.front.Given.{Opens, unfitLines}
@@ -47,32 +48,24 @@ use Rattle.part_calls.proofs.front.Answers.{closed, opened}
 use Rattle.part_calls.proofs.front.Wide.{fits-are, handled-low, part-zeros, zeros-at, zero-memory, state-is, narrow-is, wide-memory}
 use Rattle.part_calls.proofs.front.Wide.{words-back, wide-mail, wide-finished, wide-stage, wide-sent, mark-at, mark-set, words-put, mark-none, three}
 
+-- nothing is told at a refusal
+none-told : (n : ℕ) (p : Plan) (b : ℕ) → n ≢ 0 → lengthsIf n p b ≡ noLengths n
+unfolding lengthsIf
+none-told zero p b h = absurd (h refl)
+none-told (suc n) p b h = refl
+
 -- ---- past the first lines
 
 module _ (bytes : List ℕ) (route b : ℕ) (r : Board) (o : Opens bytes route b r) where
   -- how long the areas are
-  module _ (out : List ℕ) where
-    abbrev sizeLines : Plan → List Line
-    sizeLines p = line 9 (not (eqb (length out) 4)) ∷ []
+  pub sizes-read : r .number ≢ 0 → noLengths (r .number) ≡ ownSizesCall bytes route b
+  unfolding ownSizesCall
+  sizes-read h = sym (none-told (r .number) (recipe bytes route) b h) ∙ ap (λ (n : ℕ). lengthsIf n (recipe bytes route) b) (o .number)
 
-    pub sizes-read : r .number ≢ 0 → answer (r .number) out ≡ ownSizesCall bytes route b out
-    unfolding ownSizesCall
-    sizes-read h = closed bytes route b r o sizeLines (λ p. lengthsOf p b) out h
-
-    pub sizes-area : r .number ≡ 0 → length out ≢ 4 → answer 9 out ≡ ownSizesCall bytes route b out
-    unfolding ownSizesCall
-    sizes-area z h =
-        opened bytes route b r o sizeLines (λ p. lengthsOf p b) out z (answer 9 out)
-        (answered-no 9 (lengthsOf (planOf (r .sizes .route) (r .nest)) b) out (λ q. omega arith)
-        ∙ ap (λ (n : ℕ). answered n (lengthsOf (planOf (r .sizes .route) (r .nest)) b) out) (sym (first-true 9 _ [] (not-false (ne-eqb _ _ h)))))
-
-    pub sizes-done : r .number ≡ 0 → length out ≡ 4 → (new : List ℕ) → new ≡ lengthsOf (planOf (r .sizes .route) (r .nest)) b
-        → answer 0 new ≡ ownSizesCall bytes route b out
-    unfolding ownSizesCall firstOf
-    sizes-done z h new e =
-        ap (answer 0) e
-        ∙ opened bytes route b r o sizeLines (λ p. lengthsOf p b) out z (answer 0 (lengthsOf (planOf (r .sizes .route) (r .nest)) b))
-        (answered-yes _ (lengthsOf (planOf (r .sizes .route) (r .nest)) b) out (first-false 9 _ [] (not-true (eq-eqb _ _ h))))
+  pub sizes-done : r .number ≡ 0 → (new : AreaLengths) → new ≡ lengthsOf (planOf (r .sizes .route) (r .nest)) b → new ≡ ownSizesCall bytes route b
+  unfolding ownSizesCall lengthsIf
+  sizes-done z new e =
+      e ∙ ap (λ (p : Plan). lengthsOf p b) (o .plan z) ∙ ap (λ (n : ℕ). lengthsIf n (recipe bytes route) b) (sym z ∙ o .number)
 
   module _ (s : State) where
     pub fresh-read : r .number ≢ 0 → answer (r .number) s ≡ ownFreshCall bytes route s b

@@ -21,7 +21,7 @@ use Rattle.engine.specs.Calls.{recipe}
 use Rattle.network.specs.Own.{owns, keeps, handles, handled, mailOf, putMail, narrowed, widened, sourceOf}
 use Rattle.part.specs.Part.{partOf, lentOf, wordsOf}
 use Rattle.part_calls.specs.front.Calls.{wide, narrow, lengthsOf, ownRow, ownRows, stepped}
-use Rattle.part_calls.specs.OwnRows.{before, came, gathered, calculated, OwnRows}
+use Rattle.part_calls.specs.OwnRows.{tells, before, came, gathered, calculated, OwnRows}
 
 plan-D : recipe rowD 0 ≡ planOf Direct nestD
 unfolding routeOf
@@ -30,13 +30,13 @@ plan-D = ap (planOf Direct) isD
 abbrev d : Plan
 d = planOf Direct nestD
 
-first : lengthsOf d 0 ≡ 2 ∷ 2 ∷ 1 ∷ 1 ∷ []
+first : lengthsOf d 0 ≡ tells 2 2 1 1
 unfolding lengthsOf owns keeps handles wordsOf member _and_ _or_ pick every some keep those product tileCount cells boxTiles rank place cellAt cellPlace
     tileAt tilePlace boxTileOf level raised meets inShape exists existing tiles inside directions ahead reaches taker messagesOf boxTile reachesShape
     shapedParcel follows shapedTaker shapedSlotTaker shapedHome shapedSlotParcel shapedCells processorOf processors
 first = refl
 
-second : lengthsOf d 1 ≡ 2 ∷ 3 ∷ 1 ∷ 1 ∷ []
+second : lengthsOf d 1 ≡ tells 2 3 1 1
 unfolding lengthsOf owns keeps handles wordsOf member _and_ _or_ pick every some keep those product tileCount cells boxTiles rank place cellAt cellPlace
     tileAt tilePlace boxTileOf level raised meets inShape exists existing tiles inside directions ahead reaches taker messagesOf boxTile reachesShape
     shapedParcel follows shapedTaker shapedSlotTaker shapedHome shapedSlotParcel shapedCells processorOf processors

@@ -15,9 +15,10 @@ ghost use Rattle.records.specs.Records.{Carries};
 ghost use Rattle.engine.specs.Given.{zerosAfter};
 ghost use Rattle.engine.specs.Calls.{answer};
 ghost use Rattle.network.specs.Own.{handled};
-ghost use Rattle.part_calls.specs.front.Calls.{lengthsOf, ownFreshCall, ownPostCall, ownArriveCall, ownCollectCall};
+ghost use Rattle.part_calls.specs.front.Calls.{lengthsOf, noLengths, ownFreshCall, ownPostCall, ownArriveCall, ownCollectCall};
 ghost use Rattle.part_calls.specs.front.Given.{Known, Many};
 ghost use Rattle.part_calls.specs.Given.{freshOr, handedOver, postedOr, MayArrive, arrivedOr, arrivesOr};
+use crate::AreaLengths;
 use crate::front::kept_count;
 use crate::front::open;
 use crate::front::own_count;
@@ -38,19 +39,37 @@ use transport::core::as_long;
 
 // ---- how long the areas are
 
+// Where the recipe or the processor's number is refused.
+pub fn no_sizes(number: u32) -> AreaLengths
+    ensures { λ r. ⌜ r ≡ noLengths number ⌝ }
+{
+    AreaLengths {
+        number: number,
+        cells: 0,
+        kept: 0,
+        words: 0,
+        messages: 0,
+    }
+}
+
 // The four lengths.
-pub fn put_sizes(nest: Nest, sizes: Sizes, b: usize, out: &mut [u32])
-    requires { ⌜ Sized nest sizes × (Routed nest sizes × ((b < processors nest) × (length (now out) ≡ 4))) ⌝ }
-    ensures { λ _. ⌜ now (out .exit) ≡ lengthsOf (planOf (sizes .route) nest) b ⌝ }
+pub fn sizes_of(nest: Nest, sizes: Sizes, b: usize) -> AreaLengths
+    requires { ⌜ Sized nest sizes × (Routed nest sizes × (b < processors nest)) ⌝ }
+    ensures { λ r. ⌜ r ≡ lengthsOf (planOf (sizes .route) nest) b ⌝ }
 {
     let mut lens = [0u16; 9217];
     let mut ranks = [0u32; 7169];
     let mut places = [0u32; 7169];
     let messages = prepare(nest, sizes, b, &mut lens, &mut ranks, &mut places);
-    out[0] = own_count(nest, sizes, b) as u32;
-    out[1] = kept_count(nest, sizes, &lens, b) as u32;
-    out[2] = places[messages];
-    out[3] = ranks[messages];
+    let own = own_count(nest, sizes, b);
+    let kept = kept_count(nest, sizes, &lens, b);
+    AreaLengths {
+        number: 0,
+        cells: own as u32,
+        kept: kept as u32,
+        words: places[messages],
+        messages: ranks[messages],
+    }
 }
 
 // ---- a fresh start

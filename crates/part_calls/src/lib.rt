@@ -16,20 +16,27 @@ pub mod turn; // turn.rt: a turn on the part
 
 use records::flat_of;
 
-// How long its areas are, four words: the cells of its tiles, the cells that it keeps, the words of the messages that it handles, and how many these are.
-pub fn sizes(encoded: &[u8], route: u32, processor: u32, out: &mut [u32]) -> u32
-    ensures { λ r. ⌜ answer r (now (out .exit)) ≡ ownSizesCall (now (encoded .entry)) route processor (now (out .entry)) ⌝ }
+// What is told of a processor's areas: the call's number, the cells of its tiles, the cells that it keeps, the words of the messages that it handles,
+// and how many these are; all 0 at a refusal.
+#[repr(C)]
+pub struct AreaLengths {
+    pub number: u32,
+    pub cells: u32,
+    pub kept: u32,
+    pub words: u32,
+    pub messages: u32,
+}
+
+// How long its areas are.
+pub fn sizes(encoded: &[u8], route: u32, processor: u32) -> AreaLengths
+    ensures { λ r. ⌜ r ≡ ownSizesCall (now (encoded .entry)) route processor ⌝ }
 {
     let board = front::open(encoded, route, processor);
     let number = board.number;
     if number != 0 {
-        number
-    } else if out.len() != 4 {
-        9
-    } else {
-        core::put_sizes(board.nest, board.sizes, processor as usize, out);
-        0
+        return core::no_sizes(number);
     }
+    core::sizes_of(board.nest, board.sizes, processor as usize)
 }
 
 // The messages that it handles, seven words each: number, sending tile, taking tile, sending processor, taking processor, words, their place in its mail.

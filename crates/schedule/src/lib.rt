@@ -337,6 +337,7 @@ pub fn all_rounds(
 }
 
 // What the driver tells: its number and the rounds, 0 at a refusal.
+#[repr(C)]
 pub struct Driven {
     pub number: u32,
     pub rounds: u32,

@@ -21,6 +21,7 @@ use tables::scans::Place;
 use tables::totals;
 
 // What is said of a plan as a whole; number is 0, or why the recipe is refused.
+#[repr(C)]
 pub struct Figures {
     pub number: u32,
     pub tiles: u32,
@@ -30,6 +31,7 @@ pub struct Figures {
 }
 
 // What is said of one message: its tiles, their processors, its words.
+#[repr(C)]
 pub struct MessageLine {
     pub number: u32,
     pub sender: u32,
@@ -40,6 +42,7 @@ pub struct MessageLine {
 }
 
 // How often a message of the direct route is passed on along the indirect one.
+#[repr(C)]
 pub struct HopCount {
     pub number: u32,
     pub hops: u32,

@@ -24,9 +24,9 @@ use Rattle.engine.specs.Given.{unfitLines}
 use Rattle.engine.specs.Calls.{answer, areas}
 use Rattle.engine.proofs.Lines.{Opened, unfit-none, call-read, call-later, call-done, and-right}
 use Rattle.transport.specs.arrivals.Taking.{takes, asLong, receivedOr}
-use Rattle.transport.specs.Calls.{rowsTo, messagesCall, ownerOf, ownersCall, Waits, waited, waitAreas, awaitedCall, takeInCall}
+use Rattle.transport.specs.Calls.{rowsTo, messagesCall, ownerOf, ownersCall, Waits, waitsOf, waited, waitAreas, awaitedCall, takeInCall}
 use Rattle.transport.specs.Given.{unaskedLines, waitedOr13}
-use Rattle.transport.proofs.Waiting.{lines-none}
+use Rattle.transport.proofs.Awaiting.{lines-none}
 
 none : (n : ℕ) (t : Bool) → t ≡ false → firstOf (line n t ∷ []) ≡ 0
 unfolding firstOf
@@ -87,41 +87,45 @@ module _ (l out : List ℕ) where
 abbrev askedLines : Plan → State → ℕ → List Line
 askedLines p s b = line 11 (not (ltb b (p .processors))) ∷ line 13 (not (tilesLeft p s b)) ∷ []
 
-module _ (l : List ℕ) (route : ℕ) (s : State) (b : ℕ) (w : Waits) where
-  pub awaited-read : (r : ℕ) → r ≡ firstOf (linesFor (routeOf route) l) → r ≢ 0 → answer r w ≡ awaitedCall l route s b w
+module _ (l : List ℕ) (route : ℕ) (s : State) (b : ℕ) (marks : List ℕ) where
+  -- as a refusal leaves it
+  abbrev w : Waits
+  w = waitsOf marks 0
+
+  pub awaited-read : (r : ℕ) → r ≡ firstOf (linesFor (routeOf route) l) → r ≢ 0 → answer r w ≡ awaitedCall l route s b marks
   unfolding awaitedCall
   awaited-read r e h = call-read (linesFor (routeOf route) l) (numbered-for (routeOf route) l) _ r _ w e h
 
   module _ (p : Plan) (o : Opened l route p) where
-    awaited-at : answered (firstOf (linesFor (routeOf route) l ++ (unaskedLines p s w ++ askedLines p s b))) (waited p s b) w ≡ awaitedCall l route s b w
+    awaited-at : answered (firstOf (linesFor (routeOf route) l ++ (unaskedLines p s marks ++ askedLines p s b))) (waited p s b) w ≡ awaitedCall l route s b marks
     unfolding awaitedCall
-    awaited-at = ap (λ (q : Plan). answered (firstOf (linesFor (routeOf route) l ++ (unaskedLines q s w ++ askedLines q s b))) (waited q s b) w) (o .is)
+    awaited-at = ap (λ (q : Plan). answered (firstOf (linesFor (routeOf route) l ++ (unaskedLines q s marks ++ askedLines q s b))) (waited q s b) w) (o .is)
 
-    module _ (r : ℕ) (e : r ≡ firstOf (unaskedLines p s w)) where
-      pub awaited-unasked : r ≢ 0 → answer r w ≡ awaitedCall l route s b w
+    module _ (r : ℕ) (e : r ≡ firstOf (unaskedLines p s marks)) where
+      pub awaited-unasked : r ≢ 0 → answer r w ≡ awaitedCall l route s b marks
       awaited-unasked h =
           call-later (linesFor (routeOf route) l) (numbered-for (routeOf route) l) _ r _ w (o .none)
-          (e ∙ sym (first-some (unaskedLines p s w) _ (λ q. h (e ∙ q)))) h
+          (e ∙ sym (first-some (unaskedLines p s marks) _ (λ q. h (e ∙ q)))) h
           ∙ awaited-at
 
       module _ (z : r ≡ 0) where
-        past : firstOf (unaskedLines p s w ++ askedLines p s b) ≡ firstOf (askedLines p s b)
+        past : firstOf (unaskedLines p s marks ++ askedLines p s b) ≡ firstOf (askedLines p s b)
         past =
-            let q = lines-none p s w r e z in
-            first-false 9 (not (waitAreas p s w)) _ (not-true (q .0)) ∙ first-false 10 (not (fit p s)) (askedLines p s b) (not-true (q .1))
+            let q = lines-none p s marks r e z in
+            first-false 9 (not (waitAreas p s marks)) _ (not-true (q .0)) ∙ first-false 10 (not (fit p s)) (askedLines p s b) (not-true (q .1))
 
-        pub awaited-beyond : p .processors ≤ b → answer 11 w ≡ awaitedCall l route s b w
+        pub awaited-beyond : p .processors ≤ b → answer 11 w ≡ awaitedCall l route s b marks
         awaited-beyond h =
             call-later (linesFor (routeOf route) l) (numbered-for (routeOf route) l) _ 11 _ w (o .none)
             (sym (past ∙ first-true 11 _ _ (not-false (le-ltb b (p .processors) h)))) (λ q. omega arith)
             ∙ awaited-at
 
-        pub awaited-told : b < p .processors → (a : Answered Waits) → a ≡ waitedOr13 p s b w → a ≡ awaitedCall l route s b w
+        pub awaited-told : b < p .processors → (a : Answered Waits) → a ≡ waitedOr13 p s b marks → a ≡ awaitedCall l route s b marks
         awaited-told h a t =
             t
             ∙ ap (λ (n : ℕ). answered n (waited p s b) w)
             (sym
-            (first-behind (linesFor (routeOf route) l) (unaskedLines p s w ++ askedLines p s b) (numbered-for (routeOf route) l) (o .none)
+            (first-behind (linesFor (routeOf route) l) (unaskedLines p s marks ++ askedLines p s b) (numbered-for (routeOf route) l) (o .none)
             ∙ past ∙ first-false 11 (not (ltb b (p .processors))) (line 13 (not (tilesLeft p s b)) ∷ []) (not-true (lt-ltb b (p .processors) h))))
             ∙ awaited-at
 

@@ -1,6 +1,6 @@
 pub mod Rows
 pub mod RowOwners
-pub mod Waiting
+pub mod Awaiting
 pub mod Answers
 pub mod Holds
 pub mod MailRows

@@ -76,13 +76,13 @@ unfolding tabulate _and_ _or_ pick every some keep product tileCount cells boxTi
     meets inShape exists existing tileOf boxTile processorOf processors
 on-triangle = refl
 
-waits : waited (planOf Direct nestD) (fresh (planOf Direct nestD)) 1 ≡ waitsOf (1 ∷ []) (1 ∷ [])
+waits : waited (planOf Direct nestD) (fresh (planOf Direct nestD)) 1 ≡ waitsOf (1 ∷ []) 1
 unfolding waited awaits fresh tabulate one not those offset _and_ _or_ pick every some keep product tileCount cells boxTiles rank place cellAt cellPlace
     tileAt tilePlace boxTileOf level raised meets inShape exists existing tiles inside directions ahead reaches taker messagesOf boxTile reachesShape
     shapedParcel follows shapedTaker shapedSlotTaker shapedHome shapedSlotParcel processorOf processors
 waits = refl
 
-goes : waited (planOf Direct nestD) (fresh (planOf Direct nestD)) 0 ≡ waitsOf (0 ∷ []) (0 ∷ [])
+goes : waited (planOf Direct nestD) (fresh (planOf Direct nestD)) 0 ≡ waitsOf (0 ∷ []) 0
 unfolding waited awaits fresh tabulate one not those offset _and_ _or_ pick every some keep product tileCount cells boxTiles rank place cellAt cellPlace
     tileAt tilePlace boxTileOf level raised meets inShape exists existing tiles inside directions ahead reaches taker messagesOf boxTile reachesShape
     shapedParcel follows shapedTaker shapedSlotTaker shapedHome shapedSlotParcel processorOf processors

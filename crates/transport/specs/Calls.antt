@@ -54,32 +54,33 @@ unfoldable pub awaits : Plan → State → ℕ → ℕ → Bool
 awaits p s b m =
     eqb (stageOf s b) 0 and (eqb (takerOf p m) (currentTile p s b) and not (eqb (getD (s .status) m 0) 2))
 
--- one byte a message, 1 where it is waited for; and one word, the tile at which the processor stands
+-- one byte a message, 1 where it is waited for; and the tile at which the processor stands, which is told
 pub record Waits : Type 0 where
   pub marks : List ℕ
-  pub out : List ℕ
+  pub tile : ℕ
 
-abbrev pub waitsOf : List ℕ → List ℕ → Waits
-waitsOf marks out = record { marks = marks; out = out }
+abbrev pub waitsOf : List ℕ → ℕ → Waits
+waitsOf marks tile = record { marks = marks; tile = tile }
 
 unfoldable pub waited : Plan → State → ℕ → Waits
-waited p s b = waitsOf (tabulate (λ m. one (awaits p s b m)) (count p)) (currentTile p s b ∷ [])
+waited p s b = waitsOf (tabulate (λ m. one (awaits p s b m)) (count p)) (currentTile p s b)
 
-unfoldable pub waitAreas : Plan → State → Waits → Bool
-waitAreas p s w =
-    eqb (length (s .progress)) (3 * p .processors)
-    and (eqb (length (s .status)) (count p) and (eqb (length (w .marks)) (count p) and eqb (length (w .out)) 1))
+unfoldable pub waitAreas : Plan → State → List ℕ → Bool
+waitAreas p s marks =
+    eqb (length (s .progress)) (3 * p .processors) and (eqb (length (s .status)) (count p) and eqb (length marks) (count p))
 
-abbrev pub awaitedLines : List ℕ → ℕ → State → ℕ → Waits → List Line
-awaitedLines bytes route s b w =
+abbrev pub awaitedLines : List ℕ → ℕ → State → ℕ → List ℕ → List Line
+awaitedLines bytes route s b marks =
     linesFor (routeOf route) bytes
-    ++ (line 9 (not (waitAreas (recipe bytes route) s w))
+    ++ (line 9 (not (waitAreas (recipe bytes route) s marks))
     ∷ line 10 (not (fit (recipe bytes route) s))
     ∷ line 11 (not (ltb b (recipe bytes route .processors)))
     ∷ line 13 (not (tilesLeft (recipe bytes route) s b)) ∷ [])
 
-unfoldable pub awaitedCall : List ℕ → ℕ → State → ℕ → Waits → Answered Waits
-awaitedCall bytes route s b w = answered (firstOf (awaitedLines bytes route s b w)) (waited (recipe bytes route) s b) w
+-- a refusal leaves the marks, and tells 0
+unfoldable pub awaitedCall : List ℕ → ℕ → State → ℕ → List ℕ → Answered Waits
+awaitedCall bytes route s b marks =
+    answered (firstOf (awaitedLines bytes route s b marks)) (waited (recipe bytes route) s b) (waitsOf marks 0)
 
 -- ---- a message is taken in at its taker's, whose own areas are lent: `words` came with its number
 

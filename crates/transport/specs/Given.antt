@@ -14,7 +14,7 @@ use Rattle.nest.specs.declared.Nest.{Nest}
 use Rattle.layout.specs.declared.Sizes.{Sizes}
 use Rattle.layout.specs.Sizes.{Sized}
 use Rattle.tables.specs.Tables.{Tabled}
-use Rattle.transport.specs.Calls.{Waits, waitAreas, waited}
+use Rattle.transport.specs.Calls.{Waits, waitsOf, waitAreas, waited}
 
 abbrev pub Planned : Nest → Sizes → List ℕ → Type 0
 Planned x z lens = Sized x z × Tabled x z lens
@@ -24,17 +24,16 @@ abbrev pub undelivered : Plan → List ℕ → ℕ → List ℕ
 undelivered p status t = tabulate (λ m. one (eqb (takerOf p m) t and not (eqb (getD status m 0) 2))) (count p)
 
 -- the areas of one who asks what processor b waits for
-pub record MayAsk (p : Plan) (s : State) (b : ℕ) (w : Waits) : Type 0 where
+pub record MayAsk (p : Plan) (s : State) (b : ℕ) (marks : List ℕ) : Type 0 where
   pub progress : length (s .progress) ≡ 3 * p .processors
   pub status : length (s .status) ≡ count p
-  pub marks : length (w .marks) ≡ count p
-  pub out : length (w .out) ≡ 1
+  pub long : length marks ≡ count p
   pub processor : b < p .processors
 
 -- lines 9 and 10 of asking
-abbrev pub unaskedLines : Plan → State → Waits → List Line
-unaskedLines p s w = line 9 (not (waitAreas p s w)) ∷ line 10 (not (fit p s)) ∷ []
+abbrev pub unaskedLines : Plan → State → List ℕ → List Line
+unaskedLines p s marks = line 9 (not (waitAreas p s marks)) ∷ line 10 (not (fit p s)) ∷ []
 
 -- past the lines before it: 13, or what is waited for
-abbrev pub waitedOr13 : Plan → State → ℕ → Waits → Answered Waits
-waitedOr13 p s b w = answered (firstOf (line 13 (not (tilesLeft p s b)) ∷ [])) (waited p s b) w
+abbrev pub waitedOr13 : Plan → State → ℕ → List ℕ → Answered Waits
+waitedOr13 p s b marks = answered (firstOf (line 13 (not (tilesLeft p s b)) ∷ [])) (waited p s b) (waitsOf marks 0)

@@ -17,5 +17,5 @@ pub record MailRows : Type 0 where
   pub owners-D : tabulate (ownerOf (recipe rowD 0)) 4 ≡ 0 ∷ 0 ∷ 1 ∷ 1 ∷ []
   pub owners-triangle : tabulate (ownerOf (recipe rowTriangle 0)) 4 ≡ 0 ∷ 0 ∷ 2 ∷ 1 ∷ []
   -- at the start processor 1 stands at tile 1 and waits for message 0, processor 0 stands at tile 0 and waits for nothing
-  pub waits-D : waited (recipe rowD 0) (fresh (recipe rowD 0)) 1 ≡ waitsOf (1 ∷ []) (1 ∷ [])
-  pub goes-D : waited (recipe rowD 0) (fresh (recipe rowD 0)) 0 ≡ waitsOf (0 ∷ []) (0 ∷ [])
+  pub waits-D : waited (recipe rowD 0) (fresh (recipe rowD 0)) 1 ≡ waitsOf (1 ∷ []) 1
+  pub goes-D : waited (recipe rowD 0) (fresh (recipe rowD 0)) 0 ≡ waitsOf (0 ∷ []) 0

@@ -20,6 +20,7 @@ ghost use Rattle.engine.specs.Calls.{answer};
 ghost use Rattle.transport.specs.arrivals.Taking.{asLong};
 ghost use Rattle.transport.specs.Calls.{rowOf, rowsTo, ownerOf, waitsOf, awaitedCall, takeInCall};
 ghost use Rattle.transport.specs.Given.{Planned, undelivered, unaskedLines, MayAsk, waitedOr13};
+use crate::Waiting;
 use crate::arrivals::receive;
 use base::word_index;
 use base::zero_bytes;
@@ -178,30 +179,33 @@ fn tell_awaited(
     status: &[u8],
     b: usize,
     marks: &mut [u8],
-    out: &mut [u32],
-) -> u32
+) -> Waiting
     requires { ⌜ Planned nest sizes (now lens) ⌝ }
-    requires { ⌜ MayAsk (planOf (sizes .route) nest) (stateOf [] [] (now progress) (now status)) b (waitsOf (now marks) (now out)) ⌝ }
-    ensures { λ r. ⌜ answer r (waitsOf (now (marks .exit)) (now (out .exit)))
-        ≡ waitedOr13 (planOf (sizes .route) nest) (stateOf [] [] (now (progress .entry)) (now (status .entry))) b
-        (waitsOf (now (marks .entry)) (now (out .entry))) ⌝ }
+    requires { ⌜ MayAsk (planOf (sizes .route) nest) (stateOf [] [] (now progress) (now status)) b (now marks) ⌝ }
+    ensures { λ r. ⌜ answer (r .number) (waitsOf (now (marks .exit)) (r .tile))
+        ≡ waitedOr13 (planOf (sizes .route) nest) (stateOf [] [] (now (progress .entry)) (now (status .entry))) b (now (marks .entry)) ⌝ }
 {
     let i = word_index(progress[3 * b]);
     let stage = progress[3 * b + 1];
     let n = tile_count(nest, sizes, lens, b);
     if i >= n {
-        return 13;
+        return Waiting {
+            number: 13,
+            tile: 0,
+        };
     }
     let tile = tile_at(nest, sizes, lens, b, i);
     zero_bytes(marks);
     if stage == 0 {
         mark_undelivered(nest, sizes, lens, status, tile, marks);
     }
-    out[0] = tile as u32;
-    0
+    Waiting {
+        number: 0,
+        tile: tile as u32,
+    }
 }
 
-// Lines 9 and 10 of asking; `marks` and `out` are how many bytes and words are lent for the answer.
+// Lines 9 and 10 of asking; `marks` is how many bytes are lent for the answer.
 fn unasked(
     nest: Nest,
     sizes: Sizes,
@@ -209,11 +213,10 @@ fn unasked(
     progress: Flat,
     status: &[u8],
     marks: usize,
-    out: usize,
 ) -> u32
     requires { ⌜ Planned nest sizes (now lens) × (length (progress .words) ≡ 192) ⌝ }
-    ensures { λ r. ⌜ ((records ms os : List ℕ) → Carries progress records → marks ≡ length ms → out ≡ length os
-        → r ≡ firstOf (unaskedLines (planOf (sizes .route) nest) (stateOf [] [] records (now (status .entry))) (waitsOf ms os)))
+    ensures { λ r. ⌜ ((records ms : List ℕ) → Carries progress records → marks ≡ length ms
+        → r ≡ firstOf (unaskedLines (planOf (sizes .route) nest) (stateOf [] [] records (now (status .entry))) ms))
         × (r ≡ 0 → progress .count ≡ 3 * processors nest) ⌝ }
 {
     let t = totals(nest, sizes, lens);
@@ -226,9 +229,6 @@ fn unasked(
         return 9;
     }
     if marks != t.messages {
-        return 9;
-    }
-    if out != 1 {
         return 9;
     }
     if !fit_records(nest, sizes, lens, &words[0..count]) {
@@ -248,34 +248,39 @@ pub fn awaited(
     status: &[u8],
     processor: u32,
     marks: &mut [u8],
-    out: &mut [u32],
-) -> u32
+) -> Waiting
     requires { ⌜ length (progress .words) ≡ 192 ⌝ }
     ensures { λ r. ⌜ ((records : List ℕ) → Carries progress records
-        → answer r (waitsOf (now (marks .exit)) (now (out .exit)))
+        → answer (r .number) (waitsOf (now (marks .exit)) (r .tile))
         ≡ awaitedCall (now (encoded .entry)) route (stateOf [] [] records (now (status .entry))) processor
-        (waitsOf (now (marks .entry)) (now (out .entry)))) ⌝ }
+        (now (marks .entry))) ⌝ }
 {
     let reading = read_for(encoded, route);
     let number = reading.number;
     if number != 0 {
-        return number;
+        return Waiting {
+            number: number,
+            tile: 0,
+        };
     }
     let nest = reading.nest;
     let sizes = sizes_of(nest, route_of(route));
     let b = processor as usize;
     let mut lens = [0u16; 9217];
     fill(nest, sizes, &mut lens);
-    let n = unasked(nest, sizes, &lens, progress, status, marks.len(), out.len());
+    let n = unasked(nest, sizes, &lens, progress, status, marks.len());
     if n != 0 {
-        return n;
+        return Waiting { number: n, tile: 0 };
     }
     if b >= sizes.processors {
-        return 11;
+        return Waiting {
+            number: 11,
+            tile: 0,
+        };
     }
     let words = progress.words;
     let count = progress.count;
-    tell_awaited(nest, sizes, &lens, &words[0..count], status, b, marks, out)
+    tell_awaited(nest, sizes, &lens, &words[0..count], status, b, marks)
 }
 
 // ---- taking a message in

@@ -57,6 +57,13 @@ pub fn owners(encoded: &[u8], out: &mut [u32]) -> u32
     0
 }
 
+// What is told of a processor that waits: the call's number, and its tile, 0 at a refusal.
+#[repr(C)]
+pub struct Waiting {
+    pub number: u32,
+    pub tile: u32,
+}
+
 // What a processor waits for: a mark for each message, and its tile.
 pub fn awaited(
     encoded: &[u8],
@@ -65,21 +72,12 @@ pub fn awaited(
     status: &[u8],
     processor: u32,
     marks: &mut [u8],
-    out: &mut [u32],
-) -> u32
-    ensures { λ r. ⌜ answer r (waitsOf (now (marks .exit)) (now (out .exit)))
+) -> Waiting
+    ensures { λ r. ⌜ answer (r .number) (waitsOf (now (marks .exit)) (r .tile))
         ≡ awaitedCall (now (encoded .entry)) route (stateOf [] [] (now (progress .entry)) (now (status .entry))) processor
-        (waitsOf (now (marks .entry)) (now (out .entry))) ⌝ }
+        (now (marks .entry)) ⌝ }
 {
-    core::awaited(
-        encoded,
-        route,
-        flat_of(progress),
-        status,
-        processor,
-        marks,
-        out,
-    )
+    core::awaited(encoded, route, flat_of(progress), status, processor, marks)
 }
 
 // A message taken in at its taker's: its words into their place, and its status from 0 to 2.

@@ -66,7 +66,7 @@ same-nest : (n m e o s b n′ m′ e′ o′ s′ b′ : ℕ) (l t p d w sd bd e
 same-nest n m e o s b n′ m′ e′ o′ s′ b′ l t p d w sd bd er sl of l′ t′ p′ d′ w′ sd′ bd′ er′ sl′ of′ e1 e2 e3 e4 e5 e6 e7 e8 e9 e10 e11 e12 e13 e14 e15 e16 =
     rw (e1, e2, e3, e4, e5, e6, e7, e8, e9, e10, e11, e12, e13, e14, e15, e16)
 
-same-fields : (l t p d w sd bd er sl of l′ t′ p′ d′ w′ sd′ bd′ er′ sl′ of′ : List ℕ) (s b : ℕ) → l ≡ l′ → t ≡ t′ → p ≡ p′ → d ≡ d′ → w ≡ w′
+pub same-fields : (l t p d w sd bd er sl of l′ t′ p′ d′ w′ sd′ bd′ er′ sl′ of′ : List ℕ) (s b : ℕ) → l ≡ l′ → t ≡ t′ → p ≡ p′ → d ≡ d′ → w ≡ w′
     → sd ≡ sd′ → bd ≡ bd′ → er ≡ er′ → sl ≡ sl′ → of ≡ of′ → fields l t p d w sd bd er sl of s b ≡ fields l′ t′ p′ d′ w′ sd′ bd′ er′ sl′ of′ s b
 same-fields l t p d w sd bd er sl of l′ t′ p′ d′ w′ sd′ bd′ er′ sl′ of′ s b e1 e2 e3 e4 e5 e6 e7 e8 e9 e10 = rw (e1, e2, e3, e4, e5, e6, e7, e8, e9, e10)
 
@@ -255,7 +255,7 @@ module _ (x : Nest) (f : Fits x) where
   taken : (size n : ℕ) (l : List ℕ) → length l ≡ size → n ≤ size → length (take n l) ≡ n
   taken size n l e h = length-take-le n l (rw e h)
 
-  agreed-fields : Agreed (fieldsOf x)
+  pub agreed-fields : Agreed (fieldsOf x)
   unfolding fieldsOf
   agreed-fields =
       let l = taken 4 (x .dimensions) (x .lengths) (f .lengths .long) (f .dimensions) in

@@ -8,3 +8,4 @@ pub mod Calls
 pub mod FromFields
 pub mod Demand202
 pub mod Computed
+pub mod Told

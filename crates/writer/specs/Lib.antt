@@ -1,3 +1,4 @@
 pub mod Fields
 pub mod Writing
 pub mod Demand202
+pub mod Told

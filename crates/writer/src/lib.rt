@@ -16,6 +16,7 @@ ghost use Rattle.writer.specs.Writing.{written, fitsIn, fits, boundsFit,
 
 mod nest_records; // nest_records.rt: the records of a nest, each spelled from its numbers
 pub mod spelling; // spelling.rt: the sixteen bytes of each kind of record
+pub mod reading; // reading.rt: the fields of a recipe by value
 
 use nest_records::record_of;
 

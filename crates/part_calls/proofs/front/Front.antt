@@ -34,6 +34,7 @@ use Rattle.rank_index.specs.Ranks.{rankAt}
 use Rattle.rank_index.proofs.Ranks.{marks-long, rank-is}
 use Rattle.part.specs.Part.{wordsOf, rankOf, mailAt, partFits}
 use Rattle.part_calls.specs.front.Calls.{wide, boardLines, lengthsOf}
+use Rattle.part_calls.specs.declared.AreaLengths.{AreaLengths}
 use Rattle.part_calls.specs.declared.front.Board.{Board}
 use Rattle.part_calls.specs.front.Given.{Opens, Known, unfitLines}
 use Rattle.part_calls.specs.front.Given.{PartLengths}
@@ -101,19 +102,6 @@ module _ (n : ℕ) (l ys : List ℕ) (h : n ≤ length l) (e : length ys ≡ len
 pub front-at : (n : ℕ) (l : List ℕ) (i : ℕ) → i < n → getD (take n l) i 0 ≡ getD l i 0
 front-at n l i h = getD-take n l i 0 h
 
--- four words stored one after the other
-pub four : (l : List ℕ) → length l ≡ 4 → (w x y z : ℕ) → set (set (set (set l 0 w) 1 x) 2 y) 3 z ≡ w ∷ x ∷ y ∷ z ∷ []
-four [] e w x y z = absurd (omega arith)
-four (i ∷ []) e w x y z = absurd (omega arith)
-four (i ∷ j ∷ []) e w x y z = absurd (omega arith)
-four (i ∷ j ∷ k ∷ []) e w x y z = absurd (omega (arith, e))
-four (i ∷ j ∷ k ∷ l ∷ []) e w x y z = refl
-four (i ∷ j ∷ k ∷ l ∷ m ∷ n) e w x y z = absurd (omega (arith, e))
-
-pub set-three : (l : List ℕ) → length l ≡ 4 → (w x y : ℕ) → 3 < length (set (set (set l 0 w) 1 x) 2 y)
-set-three l e w x y =
-    omega (arith, e, length-set l 0 w, length-set (set l 0 w) 1 x, length-set (set (set l 0 w) 1 x) 2 y)
-
 -- ---- what is found once
 
 module _ (x : Nest) (z : Sizes) (b : ℕ) where
@@ -161,16 +149,18 @@ module _ (x : Nest) (z : Sizes) (b : ℕ) where
     pub all-mail : getD place n 0 ≡ wordsOf q (handled q b)
     all-mail = k .places n (omega (arith, e)) ∙ ap (mailAt q b) e
 
-    -- the four lengths, stored one after the other
-    pub sizes-are : (out : List ℕ) → length out ≡ 4 → (i : ℕ) → i ≡ length (ownCells q b) → (j : ℕ) → j ≡ length (keptCells q b)
-        → set (set (set (set out 0 i) 1 j) 2 (getD place n 0)) 3 (getD rank n 0) ≡ lengthsOf q b
+    -- the four lengths
+    pub sizes-are : (i : ℕ) → i ≡ length (ownCells q b) → (j : ℕ) → j ≡ length (keptCells q b)
+        → _≡_ {A = AreaLengths} (record { number = 0; cells = i; kept = j; words = getD place n 0; messages = getD rank n 0 }) (lengthsOf q b)
     unfolding lengthsOf
-    sizes-are out long i f j h =
-        let d = all-mail in
-        let r = all-handled in
-        four out long i j (getD place n 0) (getD rank n 0)
-        ∙ (let w : i ∷ j ∷ getD place n 0 ∷ getD rank n 0 ∷ []
-        ≡ length (ownCells q b) ∷ length (keptCells q b) ∷ wordsOf q (handled q b) ∷ length (handled q b) ∷ [] = cc in w)
+    sizes-are i f j h =
+        ap (λ (k : ℕ). lengths k j (getD place n 0) (getD rank n 0)) f
+        ∙ ap (λ (k : ℕ). lengths (length (ownCells q b)) k (getD place n 0) (getD rank n 0)) h
+        ∙ ap (λ (k : ℕ). lengths (length (ownCells q b)) (length (keptCells q b)) k (getD rank n 0)) all-mail
+        ∙ ap (λ (k : ℕ). lengths (length (ownCells q b)) (length (keptCells q b)) (wordsOf q (handled q b)) k) all-handled
+      where
+        lengths : ℕ → ℕ → ℕ → ℕ → AreaLengths
+        lengths c k w m = record { number = 0; cells = c; kept = k; words = w; messages = m }
 
   -- what comes back into an array's front
   module _ (g : Sized x z) (old ys : List ℕ) (e : length old ≡ 16384) (n : length ys ≡ length (take (z .cells) old)) where

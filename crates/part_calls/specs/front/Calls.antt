@@ -2,7 +2,7 @@
 -- The calls for one processor that is lent its own part alone, each from the recipe's bytes, the word that names its route, the processor and its part.
 -- Renders document 01, "The machine" and "Numbers a call gives", for a board with memory for nothing else: a call's number, and what it leaves, are those of
 -- the machine on areas that have this part (`widened`, network/specs/Own). 11 comes before 9 here: the processor decides how long its areas are.
-use Prim.Native.Nat.{ℕ, _*_}
+use Prim.Native.Nat.{ℕ, zero, suc, _*_}
 use mathlib.Core.Bool.{Bool}
 use mathlib.Core.List.{List, [], _∷_, _++_}
 use lib.ListN.{length, getD}
@@ -17,6 +17,7 @@ use Rattle.engine.specs.Calls.{recipe}
 use Rattle.network.specs.Apart.{senderAt, takerAt, marked, received}
 use Rattle.network.specs.Own.{owns, ownCells, keptCells, handled, narrowed, widened, sourceOf}
 use Rattle.transport.specs.arrivals.Taking.{takes, asLong}
+use Rattle.part_calls.specs.declared.AreaLengths.{AreaLengths}
 use Rattle.part.specs.Part.{partOf, lentOf, wordsOf, mailAt, partFits}
 
 -- the machine's areas that have the lent part, and are else as a fresh start; the lent part of the machine's areas
@@ -30,16 +31,27 @@ narrow p b s = lentOf (narrowed p b s)
 abbrev pub boardLines : List ℕ → ℕ → ℕ → List Line
 boardLines bytes route b = linesFor (routeOf route) bytes ++ (line 11 (not (ltb b (recipe bytes route .processors))) ∷ [])
 
--- ---- how long its areas are: four words, the cells of its tiles (its source), the cells that it keeps, the words of the messages that it handles,
--- and how many these are
-unfoldable pub lengthsOf : Plan → ℕ → List ℕ
-lengthsOf p b = length (ownCells p b) ∷ length (keptCells p b) ∷ wordsOf p (handled p b) ∷ length (handled p b) ∷ []
+-- ---- how long its areas are: the cells of its tiles (its source), the cells that it keeps, the words of the messages that it handles, and how many
+-- these are; at a refusal nothing is told
+unfoldable pub lengthsOf : Plan → ℕ → AreaLengths
+lengthsOf p b =
+    record {
+      number = 0;
+      cells = length (ownCells p b);
+      kept = length (keptCells p b);
+      words = wordsOf p (handled p b);
+      messages = length (handled p b);
+    }
 
-abbrev pub ownSizesLines : List ℕ → ℕ → ℕ → List ℕ → List Line
-ownSizesLines bytes route b out = boardLines bytes route b ++ (line 9 (not (eqb (length out) 4)) ∷ [])
+abbrev pub noLengths : ℕ → AreaLengths
+noLengths n = record { number = n; cells = 0; kept = 0; words = 0; messages = 0 }
 
-unfoldable pub ownSizesCall : List ℕ → ℕ → ℕ → List ℕ → Answered (List ℕ)
-ownSizesCall bytes route b out = answered (firstOf (ownSizesLines bytes route b out)) (lengthsOf (recipe bytes route) b) out
+unfoldable pub lengthsIf : ℕ → Plan → ℕ → AreaLengths
+lengthsIf zero p b = lengthsOf p b
+lengthsIf (suc n) p b = noLengths (suc n)
+
+unfoldable pub ownSizesCall : List ℕ → ℕ → ℕ → AreaLengths
+ownSizesCall bytes route b = lengthsIf (firstOf (boardLines bytes route b)) (recipe bytes route) b
 
 -- ---- the messages that it handles: a row of seven words for each, in the order of their numbers
 

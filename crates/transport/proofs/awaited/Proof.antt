@@ -12,14 +12,11 @@ awaited-requires c κs = search needs
 same-length : tie.Need-same-length
 same-length c = search needs
 
-same-length-2 : tie.Need-same-length-2
-same-length-2 c = search needs
-
 returns : tie.Need-returns
 returns c =
-    let at-awaited = c .before .before .before .before in
-    let at-flat-of = at-awaited .before .before .before in
-    let start = at-flat-of .before .before .before .before .before .before in
+    let at-awaited = c .before .before in
+    let at-flat-of = at-awaited .before .before in
+    let start = at-flat-of .before .before .before .before .before in
     at-awaited .awaited .ensures (start .args .progress .now) (at-flat-of .flat-of .ensures)
 
 pub awaited-spec : {M : Type 1} → statement M
@@ -29,5 +26,4 @@ awaited-spec =
     flat-of-requires
     awaited-requires
     same-length
-    same-length-2
     returns)

@@ -1,6 +1,6 @@
 -- `rolwyddac_awaited` meets its contract: a walk of its MIR, by hand. `flatten` is called on the records, and `core::awaited` on their words and
 -- all that was lent. All that the proof knows of the two is that they meet their contracts. Assumes nothing.
-use mathlib.Core.Path.{_≡_, refl, ap}
+use mathlib.Core.Path.{_≡_, refl, ap, subst}
 use Prim.Native.Nat.{ℕ, _<_, _^_}
 use mathlib.Core.List.{List, [], _∷_}
 use lib.ListN.{length}
@@ -26,6 +26,7 @@ use denote.Laws.{Is, shows}
 use denote.Plain.{uint-vals, uint-tells, uint-makes, uint-lawful}
 use denote.Builtin.{u8, u32}
 use denote.Ref.{RefT, now}
+use denote.RattleType.{RattleType}
 use denote.Slice.{MutSlice, ShrSlice, Room, finally, slice-vals, mut-slice-tells, shr-slice-tells}
 use denote.Signature.{plain, shrSliceOf}
 use denote.Steps.{only, nothing, owned, peeks, heard}
@@ -40,7 +41,10 @@ use denote.Triple.Walked.{says, Stays, stay-dropped, gave-slice, walkOf, goes-dr
 use denote.Exit.{yes}
 use Rattle.machine.specs.Machine.{stateOf}
 use Rattle.engine.specs.Calls.{answer}
+use Rattle.transport.specs.declared.Waiting.{Waiting}
 use Rattle.transport.specs.Calls.{waitsOf, awaitedCall}
+use Rattle.transport.proofs.Waiting as U
+use Rattle.transport.proofs.Waiting.Laws as U′
 use Rattle.records.specs.Records.{flatWords, Carries}
 use Rattle.records.specs.declared.Progress.{Progress}
 use Rattle.records.specs.declared.Flat.{Flat}
@@ -63,6 +67,13 @@ use Rattle.calls.proofs.carrier.rolwyddac_awaited.Statement as stated
 use Rattle.calls.proofs.carrier.rolwyddac_awaited.Code as code
 use Rattle.calls.proofs.carrier.rolwyddac_awaited.Code.Mir as mir′
 
+-- what it tells, as a value
+abbrev E : RattleType
+E = U.the-row
+
+abbrev high : Waiting → Val
+high r = only (LL.vals U.the-type U′.the-laws r)
+
 abbrev stayed : Stays (asking.ended .signature .params) (asking.ended .kept)
 stayed = (
   stay-dropped (shrSliceOf (0 ∷ []) tt (plain (λ _. u8))) yes,
@@ -72,7 +83,7 @@ stayed = (
       stay-dropped (shrSliceOf (1 ∷ []) tt (plain (λ _. R))) yes,
       (
         stay-dropped (shrSliceOf (2 ∷ []) tt (plain (λ _. u8))) yes,
-        (stay-dropped (plain (λ _. u32)) yes, (gave-slice (3 ∷ []) tt (plain (λ _. u8)), (gave-slice (4 ∷ []) tt (plain (λ _. u32)), tt))),
+        (stay-dropped (plain (λ _. u32)) yes, (gave-slice (3 ∷ []) tt (plain (λ _. u8)), tt)),
       ),
     ),
   ),
@@ -90,25 +101,24 @@ module _ {M : Type 1} (𝓤 : URA M) (H : Heap 𝓤) (A : Atoms 𝓤) (W : Given
     (κ2 : Lft) (q2 : Share) (x2 : RefT (List ℕ)) (g2 : Room u8 (length (now x2)))
     (processor : ℕ) (processor-fits : processor < 2 ^ 32)
     (κ3 : Lft) (q3 : Share) (x3 : RefT (List ℕ)) (g3 : Room u8 (length (now x3)))
-    (κ4 : Lft) (q4 : Share) (x4 : RefT (List ℕ)) (g4 : Room u32 (length (now x4)))
-    (bounds : AllOutlive 5 (asking.signature .outlives) (κ0, (κ1, (κ2, (κ3, (κ4, tt)))))) where
-  abbrev at : Vals asking.signature (κ0, (κ1, (κ2, (κ3, (κ4, tt)))))
+    (bounds : AllOutlive 4 (asking.signature .outlives) (κ0, (κ1, (κ2, (κ3, tt))))) where
+  abbrev at : Vals asking.signature (κ0, (κ1, (κ2, (κ3, tt))))
   at =
-      (slice x0 ∷ [], (vint w32 route ∷ [], (slice x1 ∷ [], (slice x2 ∷ [], (vint w32 processor ∷ [], (slice x3 ∷ [], (slice x4 ∷ [], tt)))))))
+      (slice x0 ∷ [], (vint w32 route ∷ [], (slice x1 ∷ [], (slice x2 ∷ [], (vint w32 processor ∷ [], (slice x3 ∷ [], tt))))))
 
   abbrev Post : Val → SProp 𝓤
   Post =
       walkOf 𝓤 H A asking.ended stayed (asking.clauses 𝓤 H A mem run) .post
-      (((κ0, (κ1, (κ2, (κ3, (κ4, tt))))), (q0, (q1, (q2, (q3, (q4, tt))))), bounds, (x0, (route, (x1, (x2, (processor, (x3, (x4, tt))))))), at), tt)
+      (((κ0, (κ1, (κ2, (κ3, tt)))), (q0, (q1, (q2, (q3, tt)))), bounds, (x0, (route, (x1, (x2, (processor, (x3, tt)))))), at), tt)
 
   -- the lifetimes, all of them and those that the call over words is lent; what the parameters own
   abbrev Toks : List (Item 𝓤)
   Toks =
-      ‵ (flft κ0 q0) ∷ ‵ (flft κ1 q1) ∷ ‵ (flft κ2 q2) ∷ ‵ (flft κ3 q3) ∷ ‵ (flft κ4 q4) ∷ []
+      ‵ (flft κ0 q0) ∷ ‵ (flft κ1 q1) ∷ ‵ (flft κ2 q2) ∷ ‵ (flft κ3 q3) ∷ []
 
   abbrev Lives : List (Item 𝓤)
   Lives =
-      ‵ (flft κ0 q0) ∷ ‵ (flft κ2 q2) ∷ ‵ (flft κ3 q3) ∷ ‵ (flft κ4 q4) ∷ []
+      ‵ (flft κ0 q0) ∷ ‵ (flft κ2 q2) ∷ ‵ (flft κ3 q3) ∷ []
 
   abbrev Own : List Fml
   Own =
@@ -117,15 +127,14 @@ module _ {M : Type 1} (𝓤 : URA M) (H : Heap 𝓤) (A : Atoms 𝓤) (W : Given
       ∷ ShrSlice (named 1) κ1 R .own x1 (slice x1 ∷ [])
       ∷ ShrSlice (named 2) κ2 u8 .own x2 (slice x2 ∷ [])
       ∷ u32 .own processor (vint w32 processor ∷ [])
-      ∷ MutSlice (named 3) κ3 u8 .own x3 (slice x3 ∷ [])
-      ∷ MutSlice (named 4) κ4 u32 .own x4 (slice x4 ∷ []) ∷ []
+      ∷ MutSlice (named 3) κ3 u8 .own x3 (slice x3 ∷ []) ∷ []
 
   -- its arguments, f being the records' words
-  abbrev κw : Lft × (Lft × (Lft × (Lft × Unit {0})))
-  κw = (κ0, (κ2, (κ3, (κ4, tt))))
+  abbrev κw : Lft × (Lft × (Lft × Unit {0}))
+  κw = (κ0, (κ2, (κ3, tt)))
 
-  abbrev xw : Flat → RefT (List ℕ) × (ℕ × (Flat × (RefT (List ℕ) × (ℕ × (RefT (List ℕ) × (RefT (List ℕ) × Unit {0}))))))
-  xw f = (x0, (route, (f, (x2, (processor, (x3, (x4, tt)))))))
+  abbrev xw : Flat → RefT (List ℕ) × (ℕ × (Flat × (RefT (List ℕ) × (ℕ × (RefT (List ℕ) × Unit {0})))))
+  xw f = (x0, (route, (f, (x2, (processor, (x3, tt))))))
 
   abbrev Args : Flat → List Fml
   Args f =
@@ -134,21 +143,20 @@ module _ {M : Type 1} (𝓤 : URA M) (H : Heap 𝓤) (A : Atoms 𝓤) (W : Given
       ∷ F .own f (low f ∷ [])
       ∷ ShrSlice (named 2) κ2 u8 .own x2 (slice x2 ∷ [])
       ∷ u32 .own processor (vint w32 processor ∷ [])
-      ∷ MutSlice (named 3) κ3 u8 .own x3 (slice x3 ∷ [])
-      ∷ MutSlice (named 4) κ4 u32 .own x4 (slice x4 ∷ []) ∷ []
+      ∷ MutSlice (named 3) κ3 u8 .own x3 (slice x3 ∷ []) ∷ []
 
   abbrev to-words : Flat → Words 𝓤 H A mem run .Ghost
   to-words f = (
     (
       κw,
-      (q0, (q2, (q3, (q4, tt)))),
+      (q0, (q2, (q3, tt))),
       tt,
       xw f,
       (
         slice x0 ∷ [],
         (
           vint w32 route ∷ [],
-          (low f ∷ [], (slice x2 ∷ [], (vint w32 processor ∷ [], (slice x3 ∷ [], (slice x4 ∷ [], tt))))),
+          (low f ∷ [], (slice x2 ∷ [], (vint w32 processor ∷ [], (slice x3 ∷ [], tt)))),
         ),
       ),
     ),
@@ -159,145 +167,134 @@ module _ {M : Type 1} (𝓤 : URA M) (H : Heap 𝓤) (A : Atoms 𝓤) (W : Given
   goes-words f w = qed W (sepAll 𝓤 Lives ∷ ‵ (fsepAll (Args f)) ∷ []) ∵ says ! w $ done !
 
   -- what the call over words says, for these words of records
-  abbrev Said : ℕ → List ℕ → List ℕ → List ℕ → Type 0
-  Said r y3 y4 l = answer r (waitsOf y3 y4) ≡ awaitedCall (now x0) route (stateOf [] [] l (now x2)) processor (waitsOf (now x3) (now x4))
+  abbrev Said : Waiting → List ℕ → List ℕ → Type 0
+  Said r y3 l = answer (r .number) (waitsOf y3 (r .tile)) ≡ awaitedCall (now x0) route (stateOf [] [] l (now x2)) processor (now x3)
 
-  exits : (r : ℕ) (y3 : List ℕ) (y4 : List ℕ) → r < 2 ^ 32
+  exits : (r : Waiting) (y3 : List ℕ) → Is E r (high r ∷ [])
       → length y3 ≡ length (now x3)
-      → length y4 ≡ length (now x4)
-      → Said r y3 y4 (flatWords (now x1))
-      → ent 𝓤 (⋆ 𝓤 H A (sepAll 𝓤 Lives ∷ ‵ (flft κ1 q1) ∷ ‵ (finally u8 (x3 .name) y3) ∷ ‵ (finally u32 (x4 .name) y4) ∷ [])) (Post (vint w32 r))
-  exits r y3 y4 fits e3 e4 said =
-      qed W (sepAll 𝓤 Lives ∷ ‵ (flft κ1 q1) ∷ ‵ (finally u8 (x3 .name) y3) ∷ ‵ (finally u32 (x4 .name) y4) ∷ []) ∵
+      → Said r y3 (flatWords (now x1))
+      → ent 𝓤 (⋆ 𝓤 H A (sepAll 𝓤 Lives ∷ ‵ (flft κ1 q1) ∷ ‵ (finally u8 (x3 .name) y3) ∷ [])) (Post (high r))
+  exits r y3 is e3 said =
+      qed W (sepAll 𝓤 Lives ∷ ‵ (flft κ1 q1) ∷ ‵ (finally u8 (x3 .name) y3) ∷ []) ∵
       suffices ! _ (ends-at 𝓤 H A asking.ended stayed (asking.clauses 𝓤 H A mem run) W
-      (((κ0, (κ1, (κ2, (κ3, (κ4, tt))))), (q0, (q1, (q2, (q3, (q4, tt))))), bounds, (x0, (route, (x1, (x2, (processor, (x3, (x4, tt))))))), at), tt)
-      (vint w32 r) r (tt, (tt, (tt, (tt, (tt, (y3, (y4, tt)))))))
-      (tt, (tt, (tt, (tt, (tt, (e3, (e4, tt)))))))) $ says ! said $
-      splits ! Lives $ move ! (0 ∷ 1 ∷ 2 ∷ 4 ∷ 3 ∷ []) $ joins ! Toks $ frame ! $ nothing ! $ nothing ! $ nothing ! $ nothing ! $ nothing ! $
-      move ! (6 ∷ 5 ∷ 0 ∷ 1 ∷ 2 ∷ 3 ∷ 4 ∷ []) $
-      fjoins ! (ftrue ∷ ftrue ∷ ftrue ∷ ftrue ∷ ftrue ∷ finally u8 (x3 .name) y3 ∷ finally u32 (x4 .name) y4 ∷ []) $
-      owned ! u32 (Is u32) (uint-makes 𝓤 H A W w32) r _ (refl, fits) $ keep ! (1 ∷ 0 ∷ []) $ done !
+      (((κ0, (κ1, (κ2, (κ3, tt)))), (q0, (q1, (q2, (q3, tt)))), bounds, (x0, (route, (x1, (x2, (processor, (x3, tt)))))), at), tt)
+      (high r) r (tt, (tt, (tt, (tt, (tt, (y3, tt))))))
+      (tt, (tt, (tt, (tt, (tt, (e3, tt))))))) $ says ! said $
+      splits ! Lives $ move ! (0 ∷ 1 ∷ 3 ∷ 2 ∷ []) $ joins ! Toks $ frame ! $ nothing ! $ nothing ! $ nothing ! $ nothing ! $ nothing ! $
+      move ! (5 ∷ 0 ∷ 1 ∷ 2 ∷ 3 ∷ 4 ∷ []) $
+      fjoins ! (ftrue ∷ ftrue ∷ ftrue ∷ ftrue ∷ ftrue ∷ finally u8 (x3 .name) y3 ∷ []) $
+      owned ! E (Is E) (LL.makes U.the-type U′.the-plain 𝓤 H A) r _ is $ keep ! (1 ∷ 0 ∷ []) $ done !
 
   module _ (C : Calls 𝓤 H) (Λ : Loops 𝓤 H) (fm : FmC 𝓤 H (W .laws) C)
-      (l0 l1 l2 l3 l4 l5 l6 l7 l8 l9 l10 l11 l12 : ℕ) where
+      (l0 l1 l2 l3 l4 l5 l6 l7 l8 l9 : ℕ) where
     abbrev En : Env 𝓤 H
     En =
-        (word, l0)
+        (U′.mir, l0)
         ∷ (bytes (named 0) imm, l1)
         ∷ (word, l2)
         ∷ (records (named 1) imm, l3)
         ∷ (bytes (named 2) imm, l4)
         ∷ (word, l5)
         ∷ (bytes (named 3) mut, l6)
-        ∷ (words32 (named 4) mut, l7)
-        ∷ (S′.mir, l8)
-        ∷ (tyRef erased mut (tyInt w8), l9)
-        ∷ (bytes erased mut, l10)
-        ∷ (tyRef erased mut word, l11)
-        ∷ (words32 erased mut, l12) ∷ []
+        ∷ (S′.mir, l7)
+        ∷ (tyRef erased mut (tyInt w8), l8)
+        ∷ (bytes erased mut, l9) ∷ []
 
     -- the locals: those of the compiler hold nothing; the one bound by `let` is given
     abbrev At : Item 𝓤 → List (Item 𝓤) → List (Item 𝓤)
     At f more =
-        rooms 𝓤 ((words32 erased mut, l12) ∷ (tyRef erased mut word, l11) ∷ (bytes erased mut, l10) ∷ (tyRef erased mut (tyInt w8), l9) ∷ [])
-        (f ∷ ‵ (fdies S′.mir l8) ∷ holds 𝓤 (((words32 (named 4) mut, l7), slice x4)
-        ∷ ((bytes (named 3) mut, l6), slice x3)
+        rooms 𝓤 ((bytes erased mut, l9) ∷ (tyRef erased mut (tyInt w8), l8) ∷ [])
+        (f ∷ ‵ (fdies S′.mir l7) ∷ holds 𝓤 (((bytes (named 3) mut, l6), slice x3)
         ∷ ((word, l5), vint w32 processor)
         ∷ ((bytes (named 2) imm, l4), slice x2)
         ∷ ((records (named 1) imm, l3), slice x1)
         ∷ ((word, l2), vint w32 route)
         ∷ ((bytes (named 0) imm, l1), slice x0) ∷ [])
-        (rooms 𝓤 ((word, l0) ∷ []) more))
+        (rooms 𝓤 ((U′.mir, l0) ∷ []) more))
 
     -- what the call over words says of the areas after it
-    abbrev Lasts : Unit {0} × (Unit {0} × (Unit {0} × (Unit {0} × (Unit {0} × (List ℕ × (List ℕ × Unit {0})))))) → List (Item 𝓤)
+    abbrev Lasts : Unit {0} × (Unit {0} × (Unit {0} × (Unit {0} × (Unit {0} × (List ℕ × Unit {0}))))) → List (Item 𝓤)
     Lasts us =
         ‵ ftrue
         ∷ ‵ ftrue
         ∷ ‵ ftrue
         ∷ ‵ ftrue
         ∷ ‵ ftrue
-        ∷ (‵ (finally u8 (x3 .name) (us .1 .1 .1 .1 .1 .0)) ⊛ ‵ (feq ℕ (length (us .1 .1 .1 .1 .1 .0)) (length (now x3))))
-        ∷ (‵ (finally u32 (x4 .name) (us .1 .1 .1 .1 .1 .1 .0)) ⊛ ‵ (feq ℕ (length (us .1 .1 .1 .1 .1 .1 .0)) (length (now x4)))) ∷ []
+        ∷ (‵ (finally u8 (x3 .name) (us .1 .1 .1 .1 .1 .0)) ⊛ ‵ (feq ℕ (length (us .1 .1 .1 .1 .1 .0)) (length (now x3)))) ∷ []
 
     worded : Triple 𝓤 (C #transport·core·awaited) (Words 𝓤 H A mem run)
         → (f : Flat) → Is F f (low f ∷ []) → Carries f (flatWords (now x1))
-        → Sq W (At (‵ (fat fullShare S′.mir l8 0 (low f))) (‵ (flft κ0 q0) ∷ ‵ (flft κ1 q1) ∷ ‵ (flft κ2 q2) ∷ ‵ (flft κ3 q3) ∷ ‵ (flft κ4 q4) ∷ ‵
+        → Sq W (At (‵ (fat fullShare S′.mir l7 0 (low f))) (‵ (flft κ0 q0) ∷ ‵ (flft κ1 q1) ∷ ‵ (flft κ2 q2) ∷ ‵ (flft κ3 q3) ∷ ‵
         (ShrSlice (named 0) κ0 u8 .own x0 (slice x0 ∷ [])) ∷ ‵ (ShrSlice (named 2) κ2 u8 .own x2 (slice x2 ∷ [])) ∷ ‵
-        (MutSlice (named 3) κ3 u8 .own x3 (slice x3 ∷ [])) ∷ ‵ (MutSlice (named 4) κ4 u32 .own x4 (slice x4 ∷ [])) ∷ []))
+        (MutSlice (named 3) κ3 u8 .own x3 (slice x3 ∷ [])) ∷ []))
         (runs C Λ En mir′.t-2 (atRet En Post))
     worded known₁ f is-f e-f =
-        assigns ! (addr ! (from ! (fld ! refl (hop ! (look-in ! 12 (sub ! 0 refl (whole !))) (stop !))))) (from ! (stop !)) (init ! 6 refl (tt, tt)) $
-        assigns ! (agg ! (and-then ! (load ! (from ! (stop !)) (look ! 6 refl))
-        (and-then ! (load ! (from ! (fld ! refl (stop !))) (look-in ! 12 (sub ! 1 refl (whole !)))) (no-more !)))) (from ! (stop !))
-        (init ! 4 refl (tt, (tt, (record { fits = g3 .0 }, tt)))) $
-        assigns ! (addr ! (from ! (fld ! refl (hop ! (look-in ! 10 (sub ! 0 refl (whole !))) (stop !))))) (from ! (stop !)) (init ! 2 refl (tt, tt)) $
+        assigns ! (addr ! (from ! (fld ! refl (hop ! (look-in ! 6 (sub ! 0 refl (whole !))) (stop !))))) (from ! (stop !)) (init ! 2 refl (tt, tt)) $
         assigns ! (agg ! (and-then ! (load ! (from ! (stop !)) (look ! 2 refl))
-        (and-then ! (load ! (from ! (fld ! refl (stop !))) (look-in ! 10 (sub ! 1 refl (whole !)))) (no-more !)))) (from ! (stop !))
-        (init ! 0 refl (tt, (tt, (record { fits = g4 .0 }, tt)))) $
+        (and-then ! (load ! (from ! (fld ! refl (stop !))) (look-in ! 6 (sub ! 1 refl (whole !)))) (no-more !)))) (from ! (stop !))
+        (init ! 0 refl (tt, (tt, (record { fits = g3 .0 }, tt)))) $
         owned ! u32 (Is u32) (uint-makes 𝓤 H A W w32) route _ (refl, route-fits) $
         owned ! F (Is F) (LL.makes S.the-type S′.the-plain 𝓤 H A) f _ is-f $
         owned ! u32 (Is u32) (uint-makes 𝓤 H A W w32) processor _ (refl, processor-fits) $
-        move ! (37 ∷ 36 ∷ 0 ∷ 35 ∷ 1 ∷ 2 ∷ 34 ∷ []) $
-        fjoins ! (Args f) $ move ! (31 ∷ 30 ∷ 29 ∷ 27 ∷ []) $ joins ! Lives $
+        move ! (29 ∷ 0 ∷ 28 ∷ 1 ∷ 2 ∷ 27 ∷ []) $
+        fjoins ! (Args f) $ move ! (24 ∷ 23 ∷ 21 ∷ []) $ joins ! Lives $
         use2 W (raw (Words 𝓤 H A mem run .pre (to-words f))) (goes-words f (e-f .room)) $
-        calls-at ! fm (Words 𝓤 H A mem run) known₁ (to-words f) (and-then ! (load ! (from ! (stop !)) (look ! 23 refl))
-        (and-then ! (load ! (from ! (stop !)) (look ! 21 refl)) (and-then ! (load ! (from ! (stop !)) (look ! 9 refl))
-        (and-then ! (load ! (from ! (stop !)) (look ! 17 refl)) (and-then ! (load ! (from ! (stop !)) (look ! 15 refl))
-        (and-then ! (load ! (from ! (stop !)) (look ! 5 refl)) (and-then ! (load ! (from ! (stop !)) (look ! 1 refl)) (no-more !)))))))) (λ w.
-        use1 W (later (some (λ (r : ℕ). (sepAll 𝓤 Lives ⊛ ‵ (u32 .own r (w ∷ []))) ⊛ raw
+        calls-at ! fm (Words 𝓤 H A mem run) known₁ (to-words f) (and-then ! (load ! (from ! (stop !)) (look ! 17 refl))
+        (and-then ! (load ! (from ! (stop !)) (look ! 15 refl)) (and-then ! (load ! (from ! (stop !)) (look ! 5 refl))
+        (and-then ! (load ! (from ! (stop !)) (look ! 11 refl)) (and-then ! (load ! (from ! (stop !)) (look ! 9 refl))
+        (and-then ! (load ! (from ! (stop !)) (look ! 1 refl)) (no-more !))))))) (λ w.
+        use1 W (later (some (λ (r : Waiting). (sepAll 𝓤 Lives ⊛ ‵ (E .own r (w ∷ []))) ⊛ raw
         (ensured 𝓤 H A words.ended (words.clauses 𝓤 H A mem run) κw (xw f) tt r)))) (id⊢ 𝓤 _) $
         await ! tt $ pick ! (λ r. split ! $ move ! (1 ∷ []) $
-        use1 W (some (λ (us : Unit {0} × (Unit {0} × (Unit {0} × (Unit {0} × (Unit {0} × (List ℕ × (List ℕ × Unit {0}))))))). sepAll 𝓤 (Lasts us) ⊛
-        raw (fact 𝓤 ((l : List ℕ) → Carries f l → Said r (us .1 .1 .1 .1 .1 .0) (us .1 .1 .1 .1 .1 .1 .0) l)))) (id⊢ 𝓤 _) $
+        use1 W (some (λ (us : Unit {0} × (Unit {0} × (Unit {0} × (Unit {0} × (Unit {0} × (List ℕ × Unit {0})))))). sepAll 𝓤 (Lasts us) ⊛
+        raw (fact 𝓤 ((l : List ℕ) → Carries f l → Said r (us .1 .1 .1 .1 .1 .0) l)))) (id⊢ 𝓤 _) $
         pick ! (λ us. split ! $ move ! (1 ∷ []) $
-        heard ! ((l : List ℕ) → Carries f l → Said r (us .1 .1 .1 .1 .1 .0) (us .1 .1 .1 .1 .1 .1 .0) l) (λ said.
-        splits ! (Lasts us) $ move ! (1 ∷ []) $ split ! $ move ! (1 ∷ []) $ feqL !
-        (λ e3. move ! (1 ∷ []) $ split ! $ move ! (1 ∷ []) $ feqL ! (λ e4. move ! (7 ∷ []) $ split ! $ move ! (1 ∷ []) $
-        peeks ! u32 (Is u32) (shows 𝓤 H A u32) r (w ∷ []) (λ is′.
-        land ! (from ! (stop !)) (init ! 33 refl (uint-lawful 𝓤 H A W w32 .typed r _ is′ .0)) $
-        rewrite ! 33 (λ (u : Val). ‵ (fat fullShare word l0 0 u)) (ap only (uint-tells w32 r (w ∷ []) is′)) refl $
-        returns ! (look ! 33 refl) $
-        forgets ! 9 (((_, _), _) ∷ ((_, _), _) ∷ ((_, _), _) ∷ ((_, _), _) ∷ ((_, _), _) ∷ ((_, _), _) ∷ ((_, _), _) ∷ ((_, _), _) ∷ ((_, _), _)
-        ∷ ((_, _), _) ∷ ((_, _), _) ∷ ((_, _), _) ∷ ((_, _), _) ∷ []) refl $
-        sorts ! 9 26 (keep ! (1 ∷ 9 ∷ 3 ∷ 2 ∷ [])) $ turned ! 13 $
-        free-all ! _ $ by ! (exits r (us .1 .1 .1 .1 .1 .0) (us .1 .1 .1 .1 .1 .1 .0) (is′ .1) e3 e4 (said (flatWords (now x1)) e-f)))))))))
+        heard ! ((l : List ℕ) → Carries f l → Said r (us .1 .1 .1 .1 .1 .0) l) (λ said.
+        splits ! (Lasts us) $ split ! $ move ! (1 ∷ []) $ feqL !
+        (λ e3. move ! (6 ∷ []) $ split ! $ move ! (1 ∷ []) $
+        peeks ! E (Is E) (shows 𝓤 H A E) r (w ∷ []) (λ is′.
+        land ! (from ! (stop !)) (init ! 26 refl (LL.lawful U.the-type U′.the-laws 𝓤 H A W .typed r _ is′ .0)) $
+        rewrite ! 26 (λ (u : Val). ‵ (fat fullShare U′.mir l0 0 u)) (ap only (LL.tells U.the-type U′.the-laws r (w ∷ []) is′)) refl $
+        returns ! (look ! 26 refl) $
+        forgets ! 8 (((_, _), _) ∷ ((_, _), _) ∷ ((_, _), _) ∷ ((_, _), _) ∷ ((_, _), _) ∷ ((_, _), _) ∷ ((_, _), _) ∷ ((_, _), _) ∷ ((_, _), _)
+        ∷ ((_, _), _) ∷ []) refl $
+        sorts ! 8 20 (keep ! (1 ∷ 8 ∷ 2 ∷ [])) $ turned ! 10 $
+        free-all ! _ $ by ! (exits r (us .1 .1 .1 .1 .1 .0) (subst (λ (vs : List Val). Is E r vs) (LL.tells U.the-type U′.the-laws r (w ∷ []) is′) is′) e3
+        (said (flatWords (now x1)) e-f))))))))
 
     begun : Triple 𝓤 (C #records·flatten) (Flatten 𝓤 H A mem run) → Triple 𝓤 (C #transport·core·awaited) (Words 𝓤 H A mem run)
-        → Sq W (At (‵ (froom S′.mir l8 0)) (‵ (flft κ0 q0) ∷ ‵ (flft κ1 q1) ∷ ‵ (flft κ2 q2) ∷ ‵ (flft κ3 q3) ∷ ‵ (flft κ4 q4) ∷ ‵
+        → Sq W (At (‵ (froom S′.mir l7 0)) (‵ (flft κ0 q0) ∷ ‵ (flft κ1 q1) ∷ ‵ (flft κ2 q2) ∷ ‵ (flft κ3 q3) ∷ ‵
         (ShrSlice (named 0) κ0 u8 .own x0 (slice x0 ∷ [])) ∷ ‵ (ShrSlice (named 1) κ1 R .own x1 (slice x1 ∷ [])) ∷ ‵
-        (ShrSlice (named 2) κ2 u8 .own x2 (slice x2 ∷ [])) ∷ ‵ (MutSlice (named 3) κ3 u8 .own x3 (slice x3 ∷ [])) ∷ ‵
-        (MutSlice (named 4) κ4 u32 .own x4 (slice x4 ∷ [])) ∷ []))
+        (ShrSlice (named 2) κ2 u8 .own x2 (slice x2 ∷ [])) ∷ ‵ (MutSlice (named 3) κ3 u8 .own x3 (slice x3 ∷ [])) ∷ []))
         (runs C Λ En mir′.t-1 (atRet En Post))
     begun known₀ known₁ =
-        move ! (27 ∷ 32 ∷ []) $
-        flattens mem run κ1 q1 x1 ! fm known₀ (named 1) (and-then ! (load ! (from ! (stop !)) (look ! 19 refl)) (no-more !)) (λ f is-f e-f.
-        land ! (from ! (stop !)) (init ! 9 refl (LL.lawful S.the-type S′.the-laws 𝓤 H A W .typed f _ is-f .0)) $
-        sorts ! 1 27 (keep ! (0 ∷ 1 ∷ 2 ∷ 3 ∷ 4 ∷ 5 ∷ 6 ∷ 7 ∷ [])) $
+        move ! (21 ∷ 25 ∷ []) $
+        flattens mem run κ1 q1 x1 ! fm known₀ (named 1) (and-then ! (load ! (from ! (stop !)) (look ! 13 refl)) (no-more !)) (λ f is-f e-f.
+        land ! (from ! (stop !)) (init ! 5 refl (LL.lawful S.the-type S′.the-laws 𝓤 H A W .typed f _ is-f .0)) $
+        sorts ! 1 21 (keep ! (0 ∷ 1 ∷ 2 ∷ 3 ∷ 4 ∷ 5 ∷ [])) $
         worded known₁ f is-f e-f)
 
   walk : (C : Calls 𝓤 H) (Λ : Loops 𝓤 H) → FmC 𝓤 H (W .laws) C
       → Triple 𝓤 (C #records·flatten) (Flatten 𝓤 H A mem run)
       → Triple 𝓤 (C #transport·core·awaited) (Words 𝓤 H A mem run)
-      → ent 𝓤 (onEntry 𝓤 H A asking.signature (κ0, (κ1, (κ2, (κ3, (κ4, tt))))) (q0, (q1, (q2, (q3, (q4, tt)))))
-      (x0, (route, (x1, (x2, (processor, (x3, (x4, tt))))))) at)
-      (WpFn 𝓤 H C Λ code.function (slice x0 ∷ vint w32 route ∷ slice x1 ∷ slice x2 ∷ vint w32 processor ∷ slice x3 ∷ slice x4 ∷ []) Post)
+      → ent 𝓤 (onEntry 𝓤 H A asking.signature (κ0, (κ1, (κ2, (κ3, tt)))) (q0, (q1, (q2, (q3, tt))))
+      (x0, (route, (x1, (x2, (processor, (x3, tt)))))) at)
+      (WpFn 𝓤 H C Λ code.function (slice x0 ∷ vint w32 route ∷ slice x1 ∷ slice x2 ∷ vint w32 processor ∷ slice x3 ∷ []) Post)
   walk C Λ fm known₀ known₁ =
       qed W (sepAll 𝓤 Toks ∷ ‵ (fsepAll Own) ∷ []) ∵
-      enter ! C Λ code.function (slice x0 ∷ vint w32 route ∷ slice x1 ∷ slice x2 ∷ vint w32 processor ∷ slice x3 ∷ slice x4 ∷ []) _ $
+      enter ! C Λ code.function (slice x0 ∷ vint w32 route ∷ slice x1 ∷ slice x2 ∷ vint w32 processor ∷ slice x3 ∷ []) _ $
       alloc1 ! (λ l0. alloc1 ! (λ l1. alloc1 ! (λ l2. alloc1 ! (λ l3. alloc1 !
       (λ l4. alloc1 ! (λ l5. alloc1 ! (λ l6. alloc1 ! (λ l7. alloc1 ! (λ l8. alloc1 !
-      (λ l9. alloc1 ! (λ l10. alloc1 ! (λ l11. alloc1 ! (λ l12. alloc0 ! $ params1 ! $
-      pass1 ! (init ! 22 refl (tt, (tt, (record { fits = g0 .0 }, tt)))) $
-      pass1 ! (init ! 20 refl (tt, record { fits = route-fits })) $
-      pass1 ! (init ! 18 refl (tt, (tt, (record { fits = g1 .0 }, tt)))) $
-      pass1 ! (init ! 16 refl (tt, (tt, (record { fits = g2 .0 }, tt)))) $
-      pass1 ! (init ! 14 refl (tt, record { fits = processor-fits })) $
-      pass1 ! (init ! 12 refl (tt, (tt, (record { fits = g3 .0 }, tt)))) $
-      pass1 ! (init ! 10 refl (tt, (tt, (record { fits = g4 .0 }, tt)))) $
-      pass0 ! $ move ! (27 ∷ []) $ fsplits ! Own $ move ! (33 ∷ []) $ splits ! Toks $
-      sorts ! 12 26 (keep ! (4 ∷ 3 ∷ 2 ∷ 1 ∷ 0 ∷ 11 ∷ 9 ∷ 8 ∷ 6 ∷ 5 ∷ [])) $
-      begun C Λ fm l0 l1 l2 l3 l4 l5 l6 l7 l8 l9 l10 l11 l12 known₀ known₁)))))))))))))
+      (λ l9. alloc0 ! $ params1 ! $
+      pass1 ! (init ! 16 refl (tt, (tt, (record { fits = g0 .0 }, tt)))) $
+      pass1 ! (init ! 14 refl (tt, record { fits = route-fits })) $
+      pass1 ! (init ! 12 refl (tt, (tt, (record { fits = g1 .0 }, tt)))) $
+      pass1 ! (init ! 10 refl (tt, (tt, (record { fits = g2 .0 }, tt)))) $
+      pass1 ! (init ! 8 refl (tt, record { fits = processor-fits })) $
+      pass1 ! (init ! 6 refl (tt, (tt, (record { fits = g3 .0 }, tt)))) $
+      pass0 ! $ move ! (21 ∷ []) $ fsplits ! Own $ move ! (26 ∷ []) $ splits ! Toks $
+      sorts ! 10 20 (keep ! (3 ∷ 2 ∷ 1 ∷ 0 ∷ 9 ∷ 7 ∷ 6 ∷ 4 ∷ [])) $
+      begun C Λ fm l0 l1 l2 l3 l4 l5 l6 l7 l8 l9 known₀ known₁))))))))))
 
 module _ {M : Type 1} (𝓤 : URA M) (H : Heap 𝓤) (A : Atoms 𝓤) (W : Given 𝓤 H A) (mem : Memory → SProp 𝓤) (run : Routine → Fun 𝓤) where
   asking-walks : (C : Calls 𝓤 H) (Λ : Loops 𝓤 H) → FmC 𝓤 H (W .laws) C
@@ -306,7 +303,7 @@ module _ {M : Type 1} (𝓤 : URA M) (H : Heap 𝓤) (A : Atoms 𝓤) (W : Given
       → Walks 𝓤 H A asking.ended stayed (WpFn 𝓤 H C Λ code.function) (asking.clauses 𝓤 H A mem run)
   asking-walks C Λ fm known₀ known₁ =
       walked 𝓤 H A asking.ended stayed (asking.clauses 𝓤 H A mem run) (WpFn 𝓤 H C Λ code.function)
-      (λ κs. (slice-vals, (uint-vals w32, (slice-vals, (slice-vals, (uint-vals w32, (slice-vals, (slice-vals, tt))))))))
+      (λ κs. (slice-vals, (uint-vals w32, (slice-vals, (slice-vals, (uint-vals w32, (slice-vals, tt)))))))
       (λ κs. (
         shr-slice-tells (named 0) (κs .0) u8,
         (
@@ -317,10 +314,7 @@ module _ {M : Type 1} (𝓤 : URA M) (H : Heap 𝓤) (A : Atoms 𝓤) (W : Given
               shr-slice-tells (named 2) (κs .1 .1 .0) u8,
               (
                 uint-tells w32,
-                (
-                  mut-slice-tells (named 3) (κs .1 .1 .1 .0) u8,
-                  (mut-slice-tells (named 4) (κs .1 .1 .1 .1 .0) u32, tt),
-                ),
+                (mut-slice-tells (named 3) (κs .1 .1 .1 .0) u8, tt),
               ),
             ),
           ),
@@ -334,7 +328,6 @@ module _ {M : Type 1} (𝓤 : URA M) (H : Heap 𝓤) (A : Atoms 𝓤) (W : Given
       (κs .1 .1 .0) (qs .1 .1 .0) (a .1 .1 .1 .0) (are .1 .1 .1 .0 .0 .1)
       (a .1 .1 .1 .1 .0) (are .1 .1 .1 .1 .0 .1)
       (κs .1 .1 .1 .0) (qs .1 .1 .1 .0) (a .1 .1 .1 .1 .1 .0) (are .1 .1 .1 .1 .1 .0 .0 .1)
-      (κs .1 .1 .1 .1 .0) (qs .1 .1 .1 .1 .0) (a .1 .1 .1 .1 .1 .1 .0) (are .1 .1 .1 .1 .1 .1 .0 .0 .1)
       bounds C Λ fm known₀ known₁))
 
 asking-meets : {M : Type 1} (𝓤 : URA M) (H : Heap 𝓤) (A : Atoms 𝓤) (W : Given 𝓤 H A) (mem : Memory → SProp 𝓤) (run : Routine → Fun 𝓤) (𝓣 : Tables 𝓤 H)
@@ -343,20 +336,17 @@ asking-meets : {M : Type 1} (𝓤 : URA M) (H : Heap 𝓤) (A : Atoms 𝓤) (W :
     → Meets 𝓤 H A asking.signature (WpFn 𝓤 H (𝓣 .C) (𝓣 .Λ) code.function) (asking.spec 𝓤 H A mem run)
 asking-meets 𝓤 H A W mem run 𝓣 known₀ known₁ =
     walk-meets 𝓤 H A asking.ended stayed W (
-      goes-dropped 𝓤 H A W 5 (shrSliceOf (0 ∷ []) tt (plain (λ _. u8))) yes (λ κs x f. refl),
+      goes-dropped 𝓤 H A W 4 (shrSliceOf (0 ∷ []) tt (plain (λ _. u8))) yes (λ κs x f. refl),
       (
-        goes-dropped 𝓤 H A W 5 (plain (λ _. u32)) yes (λ κs x f. refl),
+        goes-dropped 𝓤 H A W 4 (plain (λ _. u32)) yes (λ κs x f. refl),
         (
-          goes-dropped 𝓤 H A W 5 (shrSliceOf (1 ∷ []) tt (plain (λ _. R))) yes
+          goes-dropped 𝓤 H A W 4 (shrSliceOf (1 ∷ []) tt (plain (λ _. R))) yes
               (λ κs x f. refl),
           (
-            goes-dropped 𝓤 H A W 5 (shrSliceOf (2 ∷ []) tt (plain (λ _. u8))) yes (λ κs x f. refl),
+            goes-dropped 𝓤 H A W 4 (shrSliceOf (2 ∷ []) tt (plain (λ _. u8))) yes (λ κs x f. refl),
             (
-              goes-dropped 𝓤 H A W 5 (plain (λ _. u32)) yes (λ κs x f. refl),
-              (
-                goes-gave-slice 𝓤 H A W 5 3 tt (plain (λ _. u8)),
-                (goes-gave-slice 𝓤 H A W 5 4 tt (plain (λ _. u32)), tt),
-              ),
+              goes-dropped 𝓤 H A W 4 (plain (λ _. u32)) yes (λ κs x f. refl),
+              (goes-gave-slice 𝓤 H A W 4 3 tt (plain (λ _. u8)), tt),
             ),
           ),
         ),

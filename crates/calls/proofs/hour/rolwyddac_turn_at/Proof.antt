@@ -62,7 +62,7 @@ use Rattle.timed.proofs.core.turn.Symbol.{name as #timed·core·turn}
 use Rattle.timed.proofs.core.turn.Met as words-thm
 use Rattle.calendar.specs.Hours.{hoursOf}
 use Rattle.timed.specs.Calls.{turnCallAt}
-use Rattle.calls.proofs.HourCalls.{record-there-at}
+use Rattle.calls.proofs.Opens.{record-there-at}
 use Rattle.calls.proofs.Walking.{R, F, E, low, high, progress-is, number-fits, word, ref, bytes, words32, records, slice}
 use Rattle.calls.proofs.Params.{Param, number32, flat, reads, changes, Lent, stays, go, spells, tell, values, row, tokens, owning, slices}
 use Rattle.calls.proofs.Params.{had, env, held, takes-in, comes-back}
