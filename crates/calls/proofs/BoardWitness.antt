@@ -15,8 +15,8 @@ use Rattle.network_runs.specs.BoardRows.{sourceD, wholeSources, partSources, wh
 use Rattle.network_runs.proofs.Demands as whole-run
 use Rattle.network_runs.proofs.BoardRows.{board-rows}
 use Rattle.network_runs.proofs.part.OnePart.{fresh-leaves}
-use Rattle.calls.specs.OverRecords.{Areas, inWords, FreshGave}
-use Rattle.calls.specs.OnBoards.{Boards, BegunBoards, BegunParts, PartFreshGave}
+use Rattle.calls.specs.Gave.{Areas, inWords, FreshGave, PartFreshGave}
+use Rattle.calls.specs.OnBoards.{Boards, BegunBoards, BegunParts}
 use Rattle.calls.proofs.OverRecords.{areasOf, in-words, Whole}
 
 -- an answer's two parts

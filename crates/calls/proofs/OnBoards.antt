@@ -41,9 +41,10 @@ use Rattle.network_runs.proofs.Demands as whole-run
 use Rattle.network_runs.proofs.Boards.{whole-alike, part-alike, so, sound-plan, reads-own}
 use Rattle.network_runs.proofs.part.OnePart.{fresh-leaves}
 use Rattle.network_runs.proofs.part.Collecting as collecting
-use Rattle.calls.specs.OverRecords.{Areas, inWords, EventGave, Gave, stepsIn}
-use Rattle.calls.specs.OnBoards.{Boards, boardWords, boardOf, CallAt, newPacket, BoardGave, PartGave, PartCollectGave, BegunBoards, BegunParts, FixedBoards}
-use Rattle.calls.specs.OnBoards.{TakeInGave, PartTurnGave, PartPostGave, PartArriveGave, CollectsParts, OverBoards}
+use Rattle.calls.specs.Gave.{Areas, inWords, EventGave, TakeInGave, PartTurnGave, PartPostGave, PartArriveGave, PartCollectGave}
+use Rattle.calls.specs.OverRecords.{Gave, stepsIn}
+use Rattle.calls.specs.OnBoards.{Boards, boardWords, boardOf, CallAt, newPacket, BoardGave, PartGave, BegunBoards, BegunParts, FixedBoards}
+use Rattle.calls.specs.OnBoards.{CollectsParts, OverBoards}
 use Rattle.calls.proofs.OverRecords.{run-numbers, run-words, areas-fixed, Whole, whole-pick, can-answer, over-records}
 
 -- ---- a call on one board is the event on words
@@ -219,7 +220,7 @@ module _ (bytes : List ℕ) (route : ℕ) (source : List ℕ) (sources : Sources
         unfolding ownCollectCall collectFits ownCollected partOf widened tilesLeft fitRecord
         alone s b old = refl
 
-        collect-as : (b : ℕ) → b < p .processors → (old grid : List ℕ) (n : ℕ) → PartCollectGave bytes route b (end .areas b) old n grid
+        collect-as : (b : ℕ) → b < p .processors → (old grid : List ℕ) (n : ℕ) → PartCollectGave bytes route b (end .areas b .memories) (end .areas b .progress) old n grid
             → answer n grid ≡ ownCollectCall bytes route (narrow p b (machine .areas b)) b old
         collect-as b h old grid n e = e ∙ alone (inWords (end .areas b)) b old ∙ ap (λ (s : State). ownCollectCall bytes route s b old) (part-at b h)
 
@@ -280,7 +281,7 @@ module _ (bytes : List ℕ) (route : ℕ) where
   arrive-whole a b m ws = whole-pick _ _ (inWords a) (1, refl) (whole-words a)
 
 module _ (bytes : List ℕ) (route : ℕ) where
-  take-answers : (source : List ℕ) (a : Areas) (b m : ℕ) (ws : List ℕ) → (n : ℕ) × ((c : Areas) × TakeInGave bytes route source b m ws a n c)
+  take-answers : (source : List ℕ) (a : Areas) (b m : ℕ) (ws : List ℕ) → (n : ℕ) × ((c : Areas) × TakeInGave bytes route source a b m ws n c)
   take-answers source a b m ws = can-answer (takeInCall bytes route source (inWords a) b m ws) (take-whole bytes route source a b m ws)
 
   part-turns : (source : List ℕ) (a : Areas) (b : ℕ) → (n : ℕ) × ((c : Areas) × PartTurnGave bytes route source b a n c)
@@ -305,7 +306,7 @@ module _ (bytes : List ℕ) (route : ℕ) where
         (r .0, put-board boards-there b (λ a k c. EventGave bytes route (sources b) a (deliveryOf m) k c) _ x (r .0) (r .1 .0) h (r .1 .1))
     can-give (broughtTo b m ws) h =
         let r = take-answers (sources b) (x .areas b) b m ws in
-        (r .0, put-board boards-there b (TakeInGave bytes route (sources b) b m ws) [] x (r .0) (r .1 .0) h (r .1 .1))
+        (r .0, put-board boards-there b (λ a. TakeInGave bytes route (sources b) a b m ws) [] x (r .0) (r .1 .0) h (r .1 .1))
 
     can-give-parts : (e : BoardEvent) → boardOf e < boards-there → (n : ℕ) × ((y : Boards) × PartGave bytes route sources x e n y)
     can-give-parts (turnAt b) h =

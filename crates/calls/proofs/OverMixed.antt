@@ -28,8 +28,9 @@ use Rattle.timed.specs.Calls.{callsAt, rigCallsAt}
 use Rattle.timed.specs.Demands.{mixedCalls, mixedRigCalls}
 use Rattle.timed.proofs.AsRuns.{AllowedHere, guards, guards-for}
 use Rattle.timed.proofs.Demands.{timed-demands}
-use Rattle.calls.specs.OverRecords.{Areas, inWords, Gave, FreshGave, CollectGave}
-use Rattle.calls.specs.OverRig.{RigAreas, rigWords, ownAreas, FreshBothGave, CollectGaveFor}
+use Rattle.calls.specs.Gave.{Areas, inWords, FreshGave, CollectGave, RigAreas, rigWords, FreshBothGave}
+use Rattle.calls.specs.OverRecords.{Gave}
+use Rattle.calls.specs.OverRig.{ownAreas, CollectGaveFor}
 use Rattle.calls.specs.OverMixed.{MixedSwaps, MixedGave, MixedCallGave, MixedRun, eventsBy, numbersBy, MixedRigRun, OverMixed}
 use Rattle.calls.proofs.OverRecords as one
 use Rattle.calls.proofs.OverRecords.{run-numbers, run-words, areas-fixed}

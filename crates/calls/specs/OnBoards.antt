@@ -11,11 +11,10 @@ use Rattle.base.specs.Tests.{pick}
 use Rattle.base.specs.Lists.{Bytes, part, pack}
 use Rattle.base.specs.Numbers.{firstOf}
 use Rattle.machine.specs.Plan.{count, heldBy}
-use Rattle.machine.specs.Machine.{State, stateOf, placeOf, Answered}
+use Rattle.machine.specs.Machine.{placeOf, Answered}
 use Rattle.machine.specs.Runs.{turnOf, deliveryOf, last, answers}
 use Rattle.layout.specs.Sizes.{routeOf}
 use Rattle.recipe.specs.Routes.{linesFor}
-use Rattle.records.specs.Records.{flatWords}
 use Rattle.engine.specs.Calls.{answer, recipe, collectCall}
 use Rattle.network.specs.Apart.{takerAt}
 use Rattle.network.specs.Packets.{Packet, Network, networkOf}
@@ -23,12 +22,11 @@ use Rattle.network.specs.Locality.{SameSource}
 use Rattle.network.specs.Own.{ownCells}
 use Rattle.network.specs.Brought.{BoardEvent, turnAt, postAt, broughtTo, Carries}
 use Rattle.network.specs.OnBoards.{whole, OnBoards, OnWholeAreas, Collected}
-use Rattle.transport.specs.Calls.{takeInCall}
 use Rattle.part.specs.Part.{mailAt}
-use Rattle.part_calls.specs.front.Calls.{ownFreshCall, ownTurnCall, ownPostCall, ownArriveCall, ownCollectCall}
 use Rattle.network_runs.specs.Calls.{Sources}
 use Rattle.network_runs.specs.Boards.{wholeBoards, partBoards}
-use Rattle.calls.specs.OverRecords.{Areas, inWords, Gave, FreshGave, EventGave, stepsIn}
+use Rattle.calls.specs.Gave.{Areas, inWords, FreshGave, EventGave, TakeInGave, PartFreshGave, PartTurnGave, PartPostGave, PartArriveGave, PartCollectGave}
+use Rattle.calls.specs.OverRecords.{Gave, stepsIn}
 
 -- the boards' areas, records as structs, and every packet posted; and their words
 pub record Boards : Type 0 where
@@ -55,43 +53,24 @@ pub record CallAt (boards b : ℕ) (Gives : Areas → ℕ → Areas → Type 0) 
 abbrev pub newPacket : ℕ → ℕ → List ℕ → List Packet
 newPacket n m ws = pick (eqb n 0) (record { message = m; words = ws } ∷ []) []
 
--- ---- the contracts of src/carrier.rt and src/board.rt: lent `a`, the call gave n and left `b`
+-- ---- an event, by the relation of its call
 module _ (bytes : List ℕ) (route : ℕ) where
-  abbrev pub TakeInGave : List ℕ → ℕ → ℕ → List ℕ → Areas → ℕ → Areas → Type 0
-  TakeInGave source p m words a n b = answer n (inWords b) ≡ takeInCall bytes route source (inWords a) p m words
-
-  abbrev pub PartFreshGave : ℕ → Areas → ℕ → Areas → Type 0
-  PartFreshGave p a n b = answer n (inWords b) ≡ ownFreshCall bytes route (inWords a) p
-
-  abbrev pub PartTurnGave : List ℕ → ℕ → Areas → ℕ → Areas → Type 0
-  PartTurnGave source p a n b = answer n (inWords b) ≡ ownTurnCall bytes route source (inWords a) p
-
-  abbrev pub PartPostGave : ℕ → ℕ → Areas → ℕ → Areas → Type 0
-  PartPostGave p m a n b = answer n (inWords b) ≡ ownPostCall bytes route (inWords a) p m
-
-  abbrev pub PartArriveGave : ℕ → ℕ → List ℕ → Areas → ℕ → Areas → Type 0
-  PartArriveGave p m words a n b = answer n (inWords b) ≡ ownArriveCall bytes route (inWords a) p m words
-
-  -- lent its memory and its record alone, and the words `old`, left as `grid`
-  abbrev pub PartCollectGave : ℕ → Areas → List ℕ → ℕ → List ℕ → Type 0
-  PartCollectGave p a old n grid = answer n grid ≡ ownCollectCall bytes route (stateOf (a .memories) [] (flatWords (a .progress)) []) p old
-
-  -- ---- an event on the boards, each lent whole areas
+  -- on the boards, each lent whole areas
   abbrev pub BoardGave : Sources → Boards → BoardEvent → ℕ → Boards → Type 0
   BoardGave sources x (turnAt b) n y =
       CallAt (recipe bytes route .processors) b (λ a k c. EventGave bytes route (sources b) a (turnOf b) k c) [] x n y
   BoardGave sources x (postAt b m) n y =
       CallAt (recipe bytes route .processors) b (λ a k c. EventGave bytes route (sources b) a (deliveryOf m) k c)
       (newPacket n m (placeOf (recipe bytes route) (x .areas b .buffer) m)) x n y
-  BoardGave sources x (broughtTo b m ws) n y = CallAt (recipe bytes route .processors) b (TakeInGave (sources b) b m ws) [] x n y
+  BoardGave sources x (broughtTo b m ws) n y = CallAt (recipe bytes route .processors) b (λ a. TakeInGave bytes route (sources b) a b m ws) [] x n y
 
   -- each lent its own part
   abbrev pub PartGave : Sources → Boards → BoardEvent → ℕ → Boards → Type 0
-  PartGave sources x (turnAt b) n y = CallAt (recipe bytes route .processors) b (PartTurnGave (sources b) b) [] x n y
+  PartGave sources x (turnAt b) n y = CallAt (recipe bytes route .processors) b (PartTurnGave bytes route (sources b) b) [] x n y
   PartGave sources x (postAt b m) n y =
-      CallAt (recipe bytes route .processors) b (PartPostGave b m)
+      CallAt (recipe bytes route .processors) b (PartPostGave bytes route b m)
       (newPacket n m (part (x .areas b .buffer) (mailAt (recipe bytes route) b m) (length (heldBy (recipe bytes route) m)))) x n y
-  PartGave sources x (broughtTo b m ws) n y = CallAt (recipe bytes route .processors) b (PartArriveGave b m ws) [] x n y
+  PartGave sources x (broughtTo b m ws) n y = CallAt (recipe bytes route .processors) b (PartArriveGave bytes route b m ws) [] x n y
 
 -- ---- a beginning: one recipe and one route for all, each board's fresh start gave 0, and nothing is posted
 pub record BegunBoards (bytes : List ℕ) (route : ℕ) (source : List ℕ) (sources : Sources) (lent : ℕ → Areas) (start : Boards) : Type 0 where
@@ -128,13 +107,13 @@ pub record FixedBoards (Step : Boards → BoardEvent → ℕ → Boards → Type
 
 -- collecting part by part, whatever the others have done
 pub record CollectsParts (bytes : List ℕ) (route : ℕ) (source : List ℕ) (numbers : List ℕ) (end : Boards) : Type 0 where
-  pub collects : (b : ℕ) → b < recipe bytes route .processors → (old grid : List ℕ) → PartCollectGave bytes route b (end .areas b) old 0 grid
+  pub collects : (b : ℕ) → b < recipe bytes route .processors → (old grid : List ℕ) → PartCollectGave bytes route b (end .areas b .memories) (end .areas b .progress) old 0 grid
       → Collected (recipe bytes route) source b old grid
   pub then-all : ((b : ℕ) → b < recipe bytes route .processors
-      → (old : List ℕ) × ((grid : List ℕ) × PartCollectGave bytes route b (end .areas b) old 0 grid))
+      → (old : List ℕ) × ((grid : List ℕ) × PartCollectGave bytes route b (end .areas b .memories) (end .areas b .progress) old 0 grid))
       → stepsIn numbers ≡ whole (recipe bytes route)
   pub each-collects : stepsIn numbers ≡ whole (recipe bytes route) → (b : ℕ) → b < recipe bytes route .processors
-      → (old grid : List ℕ) (n : ℕ) → length old ≡ recipe bytes route .cells → PartCollectGave bytes route b (end .areas b) old n grid → n ≡ 0
+      → (old grid : List ℕ) (n : ℕ) → length old ≡ recipe bytes route .cells → PartCollectGave bytes route b (end .areas b .memories) (end .areas b .progress) old n grid → n ≡ 0
 
 pub record OverBoards (bytes : List ℕ) (route : ℕ) (source : List ℕ) (sources : Sources) (lent : ℕ → Areas) (start : Boards) : Type 0 where
   -- every event at a board that there is can be given, whatever the areas are

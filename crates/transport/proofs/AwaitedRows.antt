@@ -27,7 +27,7 @@ use Rattle.recipe.specs.Routes.{indirect, linesFor}
 use Rattle.recipe.proofs.Laws.{numbered-for, open-direct}
 use Rattle.engine.specs.Calls.{recipe}
 use Rattle.transport.specs.Calls.{Waits, waitsOf, awaits, waited, waitAreas, awaitedCall}
-use Rattle.transport.specs.AwaitedRows.{records, long, lent, gave, asked, AwaitedRows}
+use Rattle.transport.specs.AwaitedRows.{records, long, lent, left, gave, asked, AwaitedRows}
 
 abbrev d : Plan
 d = planOf Direct nestD
@@ -42,28 +42,28 @@ lines p s b =
     line 9 (not (waitAreas p s lent)) ∷ line 10 (not (fit p s)) ∷ line 11 (not (ltb b (p .processors))) ∷ line 13 (not (tilesLeft p s b)) ∷ []
 
 unfoldable given : State → ℕ → Answered Waits
-given s b = answered (firstOf (lines d s b)) (waited d s b) lent
+given s b = answered (firstOf (lines d s b)) (waited d s b) left
 
 on-D : (s : State) (b : ℕ) → asked s b ≡ given s b
 unfolding awaitedCall given
 on-D s b =
-    ap (λ (n : ℕ). answered n (waited (recipe rowD 0) s b) lent)
+    ap (λ (n : ℕ). answered n (waited (recipe rowD 0) s b) left)
     (first-behind (linesFor (routeOf 0) rowD) (lines (recipe rowD 0) s b) (numbered-for (routeOf 0) rowD) (open-direct rowD numberD))
-    ∙ ap (λ (p : Plan). answered (firstOf (lines p s b)) (waited p s b) lent) plan-D
+    ∙ ap (λ (p : Plan). answered (firstOf (lines p s b)) (waited p s b) left) plan-D
 
-computed : (given (records 0 0 1) 1 ≡ gave 0 (waitsOf (1 ∷ []) (1 ∷ [])))
-    × (given (records 0 0 2) 1 ≡ gave 0 (waitsOf (0 ∷ []) (1 ∷ [])))
-    × (given (records 0 1 1) 1 ≡ gave 0 (waitsOf (0 ∷ []) (1 ∷ [])))
-    × (given (records 1 0 1) 1 ≡ gave 13 lent)
-    × (given (records 1 0 1) 2 ≡ gave 11 lent)
-    × (given (records 1 3 1) 2 ≡ gave 10 lent)
-    × (given long 2 ≡ gave 9 lent)
+computed : (given (records 0 0 1) 1 ≡ gave 0 (waitsOf (1 ∷ []) 1))
+    × (given (records 0 0 2) 1 ≡ gave 0 (waitsOf (0 ∷ []) 1))
+    × (given (records 0 1 1) 1 ≡ gave 0 (waitsOf (0 ∷ []) 1))
+    × (given (records 1 0 1) 1 ≡ gave 13 left)
+    × (given (records 1 0 1) 2 ≡ gave 11 left)
+    × (given (records 1 3 1) 2 ≡ gave 10 left)
+    × (given long 2 ≡ gave 9 left)
 unfolding given waited waitAreas awaits one tabulate firstOf not _and_ _or_ pick every some keep those product tilesLeft fitRecord fit tileCount cells boxTiles processors rank place
     cellAt cellPlace tileAt tilePlace boxTileOf level raised meets inShape exists existing tiles inside directions ahead reaches taker messagesOf boxTile
     reachesShape shapedParcel follows shapedTaker shapedSlotTaker shapedHome shapedSlotParcel processorOf
 computed = (refl, refl, refl, refl, refl, refl, refl)
 
-refused : (awaitedCall [] 0 long 2 lent ≡ gave 1 lent) × (awaitedCall rowTriangle 1 long 2 lent ≡ gave 21 lent)
+refused : (awaitedCall [] 0 long 2 lent ≡ gave 1 left) × (awaitedCall rowTriangle 1 long 2 lent ≡ gave 21 left)
 unfolding awaitedCall firstOf _and_ _or_ not pick every some keep those tabulate product rank place cellPlace tileAt boxTileOf tileCount cells boxTiles processors
     level raised meets inShape exists existing tiles ofKind filled nestBy nestOf ragged blank boundFits checked mayStand fitsAt wellFormed strayRecord outside
     badLength tooLarge needlesslyWide noCell same beyond faulty badDistance reached badTile badSpread lastSpread badProcessors tooManyTiles nestLines
