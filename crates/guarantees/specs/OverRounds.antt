@@ -15,8 +15,8 @@ use Rattle.engine.specs.Calls.{answer, recipe, freshCallLines, collectCall}
 use Rattle.engine.specs.Demands.{Fixed, calls}
 use Rattle.schedule.specs.declared.Driven.{Driven}
 use Rattle.schedule.specs.Calls.{roundsOfLines}
 use Rattle.calls.specs.Gave.{Areas, inWords, FreshGave, CollectGave, RoundsGave, RoundsOfGave}
-use Rattle.calls.specs.OverRecords.{EventsGave, stepsIn}
+use Rattle.guarantees.specs.OverRecords.{EventsGave, stepsIn}
 
 -- ---- demand 1
 

@@ -10,12 +10,12 @@ use Rattle.engine.proofs.Demands as engine
 use Rattle.part_calls.specs.declared.AreaLengths.{AreaLengths}
 use Rattle.part_calls.specs.front.Calls.{boardLines, lengthsOf, noLengths, lengthsIf, ownSizesCall, ownMessagesCall, ownFreshCall, ownTurnCall, ownPostCall}
 use Rattle.part_calls.specs.front.Calls.{ownArriveCall, ownCollectCall}
 use Rattle.calls.specs.Tells.{Tells}
 use Rattle.calls.specs.Gave.{Areas, inWords, PartSizesGave}
-use Rattle.calls.specs.OverRecords.{FixedAreas}
-use Rattle.calls.specs.PartCalls.{FixedPart}
+use Rattle.guarantees.specs.OverRecords.{FixedAreas}
+use Rattle.guarantees.specs.PartCalls.{FixedPart}
 use Rattle.calls.proofs.Tells.{tells-by}
-use Rattle.calls.proofs.OverRecords.{fixed-as, as-before, areas-fixed}
+use Rattle.guarantees.proofs.OverRecords.{fixed-as, as-before, areas-fixed}
 
 module _ {ls : List Line} {done : State} {call : Answered State} where
   fixed-areas : (a b : Areas) (n : ℕ) → answer n (inWords b) ≡ call → Fixed call ls done (inWords a) → FixedAreas ls done a n b

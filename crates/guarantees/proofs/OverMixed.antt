@@ -28,17 +28,17 @@ use Rattle.timed.specs.Calls.{callsAt, rigCallsAt}
 use Rattle.timed.specs.Demands.{mixedCalls, mixedRigCalls}
 use Rattle.timed.proofs.AsRuns.{AllowedHere, guards, guards-for}
 use Rattle.timed.proofs.Demands.{timed-demands}
 use Rattle.calls.specs.Gave.{Areas, inWords, FreshGave, CollectGave, RigAreas, rigWords, FreshBothGave}
-use Rattle.calls.specs.OverRecords.{Gave}
-use Rattle.calls.specs.OverRig.{ownAreas, CollectGaveFor}
-use Rattle.calls.specs.OverMixed.{MixedSwaps, MixedGave, MixedCallGave, MixedRun, eventsBy, numbersBy, MixedRigRun, OverMixed}
-use Rattle.calls.proofs.OverRecords as one
-use Rattle.calls.proofs.OverRecords.{run-numbers, run-words, areas-fixed}
-use Rattle.calls.proofs.OverRig as two
-use Rattle.calls.proofs.OverRig.{office-words, collect-length, collect-words}
-use Rattle.calls.proofs.OverHours as timed
-use Rattle.calls.proofs.Demands214.{reads, long, so, rig-reads, rig-long}
-use Rattle.calls.proofs.OverRecords214.{demand214-gave, demand214-for-gave}
+use Rattle.guarantees.specs.OverRecords.{Gave}
+use Rattle.guarantees.specs.OverRig.{ownAreas, CollectGaveFor}
+use Rattle.guarantees.specs.OverMixed.{MixedSwaps, MixedGave, MixedCallGave, MixedRun, eventsBy, numbersBy, MixedRigRun, OverMixed}
+use Rattle.guarantees.proofs.OverRecords as one
+use Rattle.guarantees.proofs.OverRecords.{run-numbers, run-words, areas-fixed}
+use Rattle.guarantees.proofs.OverRig as two
+use Rattle.guarantees.proofs.OverRig.{office-words, collect-length, collect-words}
+use Rattle.guarantees.proofs.OverHours as timed
+use Rattle.guarantees.proofs.Demands214.{reads, long, so, rig-reads, rig-long}
+use Rattle.guarantees.proofs.OverRecords214.{demand214-gave, demand214-for-gave}
 
 -- ---- W-214 over words
 

@@ -20,11 +20,11 @@ use Rattle.writer.proofs.Told.{reads-back}
 use Rattle.engine.specs.Calls.{answer}
 use Rattle.engine.specs.Demands.{Fixed}
 use Rattle.engine.proofs.Demands as engine
 use Rattle.calls.specs.Tells.{Tells}
 use Rattle.calls.specs.Gave.{ReadGave, WriteGave}
-use Rattle.calls.specs.RecipeCalls.{spelled, WroteFields, RecipeCalls}
+use Rattle.guarantees.specs.RecipeCalls.{spelled, WroteFields, RecipeCalls}
 use Rattle.calls.proofs.Tells.{tells-by}
-use Rattle.calls.proofs.OverRecords.{fixed-as}
+use Rattle.guarantees.proofs.OverRecords.{fixed-as}
 
 read-tells : (bytes : List ℕ) (r : RecipeFields) → ReadGave bytes r
     → Tells (λ t. t .number) (readLines bytes) (toldFields (fieldsOf (nestOf bytes))) noFields r

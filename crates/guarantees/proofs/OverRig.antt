@@ -30,14 +30,14 @@ use Rattle.recipe.proofs.Laws.{numbered-for}
 use Rattle.sharing.specs.Calls.{areasFor, turnCallFor, deliverCallFor, collectCallFor, freshRigLines, freshRigCall, lookLines, lookNumber, lookPart, callFor}
 use Rattle.sharing.specs.Calls.{rigCalls, rigCollects}
 use Rattle.sharing.proofs.Demands.{rig-demands}
 use Rattle.calls.specs.declared.tenant.Viewed.{Viewed}
 use Rattle.calls.specs.View.{noView, viewAt, viewIf, viewOf}
 use Rattle.calls.specs.Tells.{Tells}
 use Rattle.calls.specs.Gave.{Areas, inWords, LentAreas, lentWords, RigAreas, rigWords, OfficeGave, FreshBothGave, ViewGave}
-use Rattle.calls.specs.OverRig.{ownAreas, otherAreas, lentAreas, CallGave, CallsGave, CollectGaveFor, FixedOffice, RigRun, OverRig}
+use Rattle.guarantees.specs.OverRig.{ownAreas, otherAreas, lentAreas, CallGave, CallsGave, CollectGaveFor, FixedOffice, RigRun, OverRig}
 use Rattle.calls.proofs.Tells.{tells-by}
-use Rattle.calls.proofs.OverRecords.{run-numbers, run-words, Whole, areasFrom, in-words, length-carry, areas-fixed, fixed-as}
-use Rattle.calls.proofs.OverRecords.{one-answer, as-before}
+use Rattle.guarantees.proofs.OverRecords.{run-numbers, run-words, Whole, areasFrom, in-words, length-carry, areas-fixed, fixed-as}
+use Rattle.guarantees.proofs.OverRecords.{one-answer, as-before}
 
 -- ---- words fix the areas
 

@@ -41,11 +41,11 @@ use Rattle.network_runs.proofs.Demands as whole-run
 use Rattle.network_runs.proofs.Boards.{whole-alike, part-alike, so, sound-plan, reads-own}
 use Rattle.network_runs.proofs.part.OnePart.{fresh-leaves}
 use Rattle.network_runs.proofs.part.Collecting as collecting
 use Rattle.calls.specs.Gave.{Areas, inWords, EventGave, TakeInGave, PartTurnGave, PartPostGave, PartArriveGave, PartCollectGave}
-use Rattle.calls.specs.OverRecords.{Gave, stepsIn}
-use Rattle.calls.specs.OnBoards.{Boards, boardWords, boardOf, CallAt, newPacket, BoardGave, PartGave, BegunBoards, BegunParts, FixedBoards}
-use Rattle.calls.specs.OnBoards.{CollectsParts, OverBoards}
-use Rattle.calls.proofs.OverRecords.{run-numbers, run-words, areas-fixed, Whole, whole-pick, can-answer, over-records}
+use Rattle.guarantees.specs.OverRecords.{Gave, stepsIn}
+use Rattle.guarantees.specs.OnBoards.{Boards, boardWords, boardOf, CallAt, newPacket, BoardGave, PartGave, BegunBoards, BegunParts, FixedBoards}
+use Rattle.guarantees.specs.OnBoards.{CollectsParts, OverBoards}
+use Rattle.guarantees.proofs.OverRecords.{run-numbers, run-words, areas-fixed, Whole, whole-pick, can-answer, over-records}
 
 -- ---- a call on one board is the event on words
 module _ (k b : ℕ) (Gives : Areas → ℕ → Areas → Type 0) (new : List Packet) (x : Boards) (n : ℕ) (y : Boards) (c : CallAt k b Gives new x n y)

@@ -36,10 +36,10 @@ use Rattle.engine.proofs.Demands as engine
 use Rattle.records.specs.declared.Progress.{Progress}
 use Rattle.records.specs.Records.{flatWords}
 use Rattle.records.proofs.Words.{length-words, unflat, words-unflat, injective}
 use Rattle.calls.specs.Tells.{Tells}
 use Rattle.calls.specs.Gave.{Areas, inWords, FreshGave, EventGave, CollectGave, SummaryGave, MessageGave, HopsGave}
-use Rattle.calls.specs.OverRecords.{Gave, EventsGave, namedNext, FixedAreas, FixedCalls, ExactCalls, FixedRun, OverRecords}
+use Rattle.guarantees.specs.OverRecords.{Gave, EventsGave, namedNext, FixedAreas, FixedCalls, ExactCalls, FixedRun, OverRecords}
 use Rattle.calls.proofs.Tells.{tells-by}
 
 -- ---- a run of calls over records is one over words
 

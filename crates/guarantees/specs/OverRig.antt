@@ -18,12 +18,12 @@ use Rattle.records.specs.Records.{flatWords}
 use Rattle.engine.specs.Calls.{answer, recipe}
 use Rattle.engine.specs.Demands.{Fixed}
 use Rattle.sharing.specs.Calls.{turnCallLinesFor, deliverCallLinesFor, collectCallLinesFor, freshRigLines, lookLines, lookPart, rigCalls, rigCollects}
 use Rattle.calls.specs.declared.tenant.Viewed.{Viewed}
 use Rattle.calls.specs.View.{noView, viewAt}
 use Rattle.calls.specs.Tells.{Tells}
 use Rattle.calls.specs.Gave.{Areas, LentAreas, lentAreasOf, lentWords, RigAreas, rigWords}
 use Rattle.calls.specs.Gave.{OfficeGave, OfficeCollectGave, FreshBothGave, ViewGave}
-use Rattle.calls.specs.OverRecords.{Gave, stepsIn}
+use Rattle.guarantees.specs.OverRecords.{Gave, stepsIn}
 
 -- of the areas of both offices, those of office o, those of the other, and what a call of o is lent to change
 abbrev pub ownAreas : RigAreas → ℕ → Areas

@@ -31,7 +31,7 @@ use Rattle.sharing.proofs.AsRuns as rig
 use Rattle.sharing.proofs.Demands.{sound-plan}
 use Rattle.timed.specs.Calls.{callsAt, rigCallsAt}
 use Rattle.timed.proofs.AsRuns.{AllowedHere, guards, guards-for}
-use Rattle.calls.specs.Demands214.{Demands214}
+use Rattle.guarantees.specs.Demands214.{Demands214}
 
 -- ---- one office
 module _ (bytes : List ℕ) (route : ℕ) (source : List ℕ) (s : State) (small : Bytes bytes)

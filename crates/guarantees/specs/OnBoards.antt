@@ -25,8 +25,8 @@ use Rattle.network.specs.OnBoards.{whole, OnBoards, OnWholeAreas, Collected}
 use Rattle.part.specs.Part.{mailAt}
 use Rattle.network_runs.specs.Calls.{Sources}
 use Rattle.network_runs.specs.Boards.{wholeBoards, partBoards}
 use Rattle.calls.specs.Gave.{Areas, inWords, FreshGave, EventGave, TakeInGave, PartFreshGave, PartTurnGave, PartPostGave, PartArriveGave, PartCollectGave}
-use Rattle.calls.specs.OverRecords.{Gave, stepsIn}
+use Rattle.guarantees.specs.OverRecords.{Gave, stepsIn}
 
 -- the boards' areas, records as structs, and every packet posted; and their words
 pub record Boards : Type 0 where

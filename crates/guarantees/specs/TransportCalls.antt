@@ -14,8 +14,8 @@ use Rattle.summary.specs.declared.MessageLine.{MessageLine}
 use Rattle.summary.specs.Summary.{lineOf}
 use Rattle.transport.specs.declared.Waiting.{Waiting}
 use Rattle.transport.specs.Calls.{rowOf, rowsTo, messagesLines, ownerOf, ownersLines, waitsOf, waited, awaitedLines, takeInLines}
 use Rattle.calls.specs.Gave.{Areas, inWords, askedWith, MessagesGave, OwnersGave, AwaitedGave, TakeInGave}
-use Rattle.calls.specs.OverRecords.{FixedAreas}
+use Rattle.guarantees.specs.OverRecords.{FixedAreas}
 
 -- the first true line counts, and a refusal leaves every lent word, and the very records, as they were
 pub record FixedTransport (bytes : List ℕ) (route : ℕ) (source : List ℕ) : Type 0 where

@@ -14,10 +14,10 @@ use Rattle.swaps.specs.Swaps.{Swapped}
 use Rattle.swaps.specs.OneOffice.{Different, plainly}
 use Rattle.swaps.specs.TwoOffices.{TwoGathers, DifferentFor, wholly}
 use Rattle.engine.specs.Calls.{recipe}
 use Rattle.calls.specs.Gave.{Areas, RigAreas, rigWords, FreshGave, EventGave, FreshBothGave, TimedGave}
-use Rattle.calls.specs.OverRecords.{Gave}
-use Rattle.calls.specs.OverRig.{CallGave}
-use Rattle.calls.specs.OverHours.{TimedCallGave}
+use Rattle.guarantees.specs.OverRecords.{Gave}
+use Rattle.guarantees.specs.OverRig.{CallGave}
+use Rattle.guarantees.specs.OverHours.{TimedCallGave}
 
 -- ---- any calls in a row
 

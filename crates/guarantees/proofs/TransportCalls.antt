@@ -6,9 +6,9 @@ use Rattle.engine.specs.Calls.{recipe}
 use Rattle.engine.proofs.Demands as engine
 use Rattle.network.specs.Apart.{received}
 use Rattle.transport.specs.Calls.{rowOf, messagesCall, ownersCall, waitsOf, awaitedCall, takeInLines, takeInCall}
 use Rattle.calls.specs.Gave.{inWords}
-use Rattle.calls.specs.TransportCalls.{FixedTransport, RowsAreLines}
-use Rattle.calls.proofs.OverRecords.{fixed-as, as-before, areas-fixed}
+use Rattle.guarantees.specs.TransportCalls.{FixedTransport, RowsAreLines}
+use Rattle.guarantees.proofs.OverRecords.{fixed-as, as-before, areas-fixed}
 
 pub fixed-transport : (bytes : List ℕ) (route : ℕ) (source : List ℕ) → FixedTransport bytes route source
 unfolding messagesCall ownersCall awaitedCall takeInCall

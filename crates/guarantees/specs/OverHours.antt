@@ -20,13 +20,13 @@ use Rattle.records.specs.Records.{flatWords}
 use Rattle.engine.specs.Calls.{recipe, collectCall}
 use Rattle.sharing.specs.Calls.{rigCollects}
 use Rattle.timed.specs.Calls.{turnCallLinesAt, turnCallLinesAtFor, opensLines, callsAt, rigCallsAt}
 use Rattle.calls.specs.declared.hour.NextOpening.{NextOpening}
 use Rattle.calls.specs.Opens.{tells, openingTold}
 use Rattle.calls.specs.Tells.{Tells}
 use Rattle.calls.specs.Gave.{Areas, inWords, LentAreas, lentWords, RigAreas, rigWords}
 use Rattle.calls.specs.Gave.{FreshGave, CollectGave, FreshBothGave, TimedGave, OfficeTimedGave, OpensGave}
-use Rattle.calls.specs.OverRecords.{Gave, FixedAreas, stepsIn}
-use Rattle.calls.specs.OverRig.{ownAreas, otherAreas, lentAreas, CollectGaveFor, FixedLent}
+use Rattle.guarantees.specs.OverRecords.{Gave, FixedAreas, stepsIn}
+use Rattle.guarantees.specs.OverRig.{ownAreas, otherAreas, lentAreas, CollectGaveFor, FixedLent}
 
 module _ (bytes : List ℕ) (route : ℕ) where
   -- a call on the rig: the office that it names is lent its own areas and the shared words, and the other's areas stay as they were

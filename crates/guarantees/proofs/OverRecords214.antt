@@ -16,16 +16,16 @@ use Rattle.engine.specs.Calls.{answer, recipe}
 use Rattle.engine.specs.Demands.{calls}
 use Rattle.sharing.specs.Calls.{rigCalls}
 use Rattle.timed.specs.Calls.{callsAt, rigCallsAt}
 use Rattle.calls.specs.Gave.{Areas, inWords, RigAreas, rigWords, FreshGave, EventGave, FreshBothGave, TimedGave}
-use Rattle.calls.specs.OverRecords.{Gave}
-use Rattle.calls.specs.OverRig.{CallGave}
-use Rattle.calls.specs.OverHours.{TimedCallGave}
-use Rattle.calls.proofs.OverRecords.{run-words, areas-fixed, event-call}
-use Rattle.calls.proofs.OverRig.{rig-fixed, rig-call}
-use Rattle.calls.proofs.OverHours as timed
-use Rattle.calls.specs.OverRecords214.{CanGive, Demand214Gave, SwapsForGave, Demand214ForGave, OverRecords214}
-use Rattle.calls.proofs.Gave.{taken, in-a-row, swaps-gave, rewinds-gave}
-use Rattle.calls.proofs.Demands214.{demands214}
+use Rattle.guarantees.specs.OverRecords.{Gave}
+use Rattle.guarantees.specs.OverRig.{CallGave}
+use Rattle.guarantees.specs.OverHours.{TimedCallGave}
+use Rattle.guarantees.proofs.OverRecords.{run-words, areas-fixed, event-call}
+use Rattle.guarantees.proofs.OverRig.{rig-fixed, rig-call}
+use Rattle.guarantees.proofs.OverHours as timed
+use Rattle.guarantees.specs.OverRecords214.{CanGive, Demand214Gave, SwapsForGave, Demand214ForGave, OverRecords214}
+use Rattle.guarantees.proofs.Gave.{taken, in-a-row, swaps-gave, rewinds-gave}
+use Rattle.guarantees.proofs.Demands214.{demands214}
 
 -- ---- any calls for one office whose contracts are calls over words: what calls with hours cite
 module _ {X : Type 0} (eventOf : X → Event) (Step : Areas → X → ℕ → Areas → Type 0) (acts : State → X → Answered State)

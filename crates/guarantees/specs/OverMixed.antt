@@ -19,11 +19,11 @@ use Rattle.swaps.specs.Mixed.{Mixed214, Mixed214For}
 use Rattle.engine.specs.Calls.{recipe, freshCall, collectCall}
 use Rattle.sharing.specs.Calls.{freshRigCall, rigCollects}
 use Rattle.timed.specs.Demands.{mixedCalls, mixedRigCalls}
 use Rattle.calls.specs.Gave.{Areas, inWords, FreshGave, EventGave, CollectGave, TimedGave, RigAreas, rigWords, FreshBothGave}
-use Rattle.calls.specs.OverRecords.{Gave, stepsIn}
-use Rattle.calls.specs.OverRig.{ownAreas, CallGave, CollectGaveFor}
-use Rattle.calls.specs.OverHours.{TimedCallGave, Gives}
-use Rattle.calls.specs.OverRecords214.{Demand214Gave, Demand214ForGave}
+use Rattle.guarantees.specs.OverRecords.{Gave, stepsIn}
+use Rattle.guarantees.specs.OverRig.{ownAreas, CallGave, CollectGaveFor}
+use Rattle.guarantees.specs.OverHours.{TimedCallGave, Gives}
+use Rattle.guarantees.specs.OverRecords214.{Demand214Gave, Demand214ForGave}
 
 -- ---- W-214 over words
 

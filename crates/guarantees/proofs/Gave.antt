@@ -7,9 +7,9 @@ use Rattle.machine.specs.Runs.{stateAfter}
 use Rattle.machine.proofs.RunLaws.{number-of, after-of}
 use Rattle.swaps.specs.Swaps.{CanTake, EitherWay, Swapped, Swaps, CanSwap, Rewinds}
 use Rattle.engine.specs.Calls.{answer}
-use Rattle.calls.specs.OverRecords.{Gave}
-use Rattle.calls.proofs.OverRecords.{run-numbers, run-words}
-use Rattle.calls.specs.OverRecords214.{CanGive, EitherOrder, SwapsGave, CanSwapGave, RewindsGave}
+use Rattle.guarantees.specs.OverRecords.{Gave}
+use Rattle.guarantees.proofs.OverRecords.{run-numbers, run-words}
+use Rattle.guarantees.specs.OverRecords214.{CanGive, EitherOrder, SwapsGave, CanSwapGave, RewindsGave}
 
 module _ {A E S : Type 0} (Step : A → E → ℕ → A → Type 0) (words : A → S) (acts : S → E → Answered S)
     (is : (a : A) (e : E) (n : ℕ) (b : A) → Step a e n b → answer n (words b) ≡ acts (words a) e) where

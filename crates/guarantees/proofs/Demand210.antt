@@ -13,8 +13,8 @@ use Rattle.soundings.proofs.Returns.{ragged-number, lines-are, all-inside}
 use Rattle.engine.specs.Calls.{answer}
 use Rattle.engine.specs.Demands.{Fixed}
 use Rattle.engine.proofs.Demands.{fixed}
 use Rattle.calls.specs.Gave.{SoundingsGave}
-use Rattle.calls.specs.Demand210.{Sounded, Demand210}
+use Rattle.guarantees.specs.Demand210.{Sounded, Demand210}
 
 module _ (bytes file : List ℕ) (value : ℕ) (old : List ℕ) (n : ℕ) (source : List ℕ) (e : SoundingsGave bytes file value old n source) where
   is-fixed : Fixed (answer n source) (fillLines bytes file old) (soundedSource file value (cells (nestOf bytes))) old

@@ -15,9 +15,9 @@ use Rattle.network_runs.specs.BoardRows.{sourceD, wholeSources, partSources, wh
 use Rattle.network_runs.proofs.Demands as whole-run
 use Rattle.network_runs.proofs.BoardRows.{board-rows}
 use Rattle.network_runs.proofs.part.OnePart.{fresh-leaves}
 use Rattle.calls.specs.Gave.{Areas, inWords, FreshGave, PartFreshGave}
-use Rattle.calls.specs.OnBoards.{Boards, BegunBoards, BegunParts}
-use Rattle.calls.proofs.OverRecords.{areasOf, in-words, Whole}
+use Rattle.guarantees.specs.OnBoards.{Boards, BegunBoards, BegunParts}
+use Rattle.guarantees.proofs.OverRecords.{areasOf, in-words, Whole}
 
 -- an answer's two parts
 answers-as : (n : ℕ) (s : State) (r : Answered State) → r .number ≡ n → r .after ≡ s → answer n s ≡ r

@@ -24,21 +24,21 @@ use Rattle.timed.proofs.Demands.{timed-demands}
 use Rattle.calendar.specs.declared.Opening.{Opening}
 use Rattle.calendar.specs.declared.Opening.the-variants.{OpensIn, Never}
 use Rattle.timed.specs.Calls.{opensLines}
 use Rattle.calls.specs.declared.hour.NextOpening.{NextOpening}
 use Rattle.calls.specs.Opens.{tells as told, openingTold, opensIf, opensOf}
 use Rattle.calls.specs.Tells.{Tells}
 use Rattle.calls.proofs.Tells.{tells-by}
 use Rattle.calls.specs.Gave.{Areas, inWords, LentAreas, lentWords, RigAreas, rigWords}
 use Rattle.calls.specs.Gave.{FreshGave, CollectGave, FreshBothGave, TimedGave, OfficeTimedGave, OpensGave}
-use Rattle.calls.specs.OverRecords.{Gave}
-use Rattle.calls.specs.OverRig.{ownAreas, otherAreas, lentAreas, CollectGaveFor}
-use Rattle.calls.specs.OverHours.{TimedCallGave, FixedHours, Gives, NextStep, NextOpen, TimedRun}
-use Rattle.calls.specs.OverHours.{NextCall, NextOpenFor, TimedRigRun, OverHours}
-use Rattle.calls.proofs.OverRecords as one
-use Rattle.calls.proofs.OverRecords.{run-numbers, run-words, whole-pick, can-answer, areas-fixed, fixed-as, one-answer, as-before}
-use Rattle.calls.proofs.OverRecords.{Whole, areasFrom, in-words, length-carry, over-records}
-use Rattle.calls.proofs.OverRig.{lent-fixed, rig-fixed, office-words, lent-words, other-words, returned-is, whole-lent}
-use Rattle.calls.proofs.OverRig.{can-office, among, among-own, among-other, collect-length, collect-words}
+use Rattle.guarantees.specs.OverRecords.{Gave}
+use Rattle.guarantees.specs.OverRig.{ownAreas, otherAreas, lentAreas, CollectGaveFor}
+use Rattle.guarantees.specs.OverHours.{TimedCallGave, FixedHours, Gives, NextStep, NextOpen, TimedRun}
+use Rattle.guarantees.specs.OverHours.{NextCall, NextOpenFor, TimedRigRun, OverHours}
+use Rattle.guarantees.proofs.OverRecords as one
+use Rattle.guarantees.proofs.OverRecords.{run-numbers, run-words, whole-pick, can-answer, areas-fixed, fixed-as, one-answer, as-before}
+use Rattle.guarantees.proofs.OverRecords.{Whole, areasFrom, in-words, length-carry, over-records}
+use Rattle.guarantees.proofs.OverRig.{lent-fixed, rig-fixed, office-words, lent-words, other-words, returned-is, whole-lent}
+use Rattle.guarantees.proofs.OverRig.{can-office, among, among-own, among-other, collect-length, collect-words}
 
 zero-told : (o : Opening) → openingTold o .number ≡ 0
 unfolding openingTold

@@ -20,8 +20,8 @@ use Rattle.engine.specs.Calls.{recipe, areas, freshCall}
 use Rattle.sharing.specs.Calls.{rigAreas, freshRigCall}
 use Rattle.schedule.specs.declared.Driven.{Driven}
 use Rattle.schedule.specs.Calls.{roundsCall}
 use Rattle.calls.specs.Gave.{Areas, inWords, RigAreas, rigWords, FreshGave, FreshBothGave, RoundsGave}
-use Rattle.calls.specs.Begins.{LentFor, Begins}
+use Rattle.guarantees.specs.Begins.{LentFor, Begins}
 
 areas-fit : (p : Plan) (source : List ℕ) (a : Areas) → LentFor p source a → areas p source (inWords a) ≡ true
 unfolding areas

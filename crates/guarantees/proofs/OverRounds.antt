@@ -22,11 +22,11 @@ use Rattle.engine.proofs.Demands as engine
 use Rattle.schedule.specs.Calls.{roundsCall}
 use Rattle.schedule.proofs.Demands.{demand213}
 use Rattle.schedule.specs.declared.Driven.{Driven}
 use Rattle.calls.specs.Gave.{Areas, inWords, FreshGave, RoundsGave}
-use Rattle.calls.specs.OverRecords.{EventsGave}
-use Rattle.calls.specs.OverRounds.{FixedRounds, DrivenRun, OverRounds}
-use Rattle.calls.proofs.OverRecords.{run-numbers, run-words, event-call, areas-fixed, fixed-as}
-use Rattle.calls.proofs.OverRecords.{Whole, areasFrom, in-words, length-carry}
+use Rattle.guarantees.specs.OverRecords.{EventsGave}
+use Rattle.guarantees.specs.OverRounds.{FixedRounds, DrivenRun, OverRounds}
+use Rattle.guarantees.proofs.OverRecords.{run-numbers, run-words, event-call, areas-fixed, fixed-as}
+use Rattle.guarantees.proofs.OverRecords.{Whole, areasFrom, in-words, length-carry}
 
 -- ---- the words after a driver are records' words
 

@@ -12,10 +12,10 @@ use Rattle.network.specs.Own.{handled}
 use Rattle.part_calls.specs.declared.AreaLengths.{AreaLengths}
 use Rattle.part_calls.specs.front.Calls.{wide, narrow, boardLines, lengthsOf, noLengths, ownRows, ownMessagesLines, ownFreshLines, ownTurnLines, stepped}
 use Rattle.part_calls.specs.front.Calls.{ownPostLines, ownArriveLines, ownCollected, ownCollectLines}
 use Rattle.calls.specs.Tells.{Tells}
 use Rattle.calls.specs.Gave.{Areas, inWords, kept, PartSizesGave, PartMessagesGave, PartFreshGave, PartTurnGave, PartPostGave, PartArriveGave}
 use Rattle.calls.specs.Gave.{PartCollectGave}
-use Rattle.calls.specs.OverRecords.{FixedAreas}
+use Rattle.guarantees.specs.OverRecords.{FixedAreas}
 
 -- of processor p
 pub record FixedPart (bytes : List ℕ) (route p : ℕ) : Type 0 where

@@ -1,0 +1,15 @@
+pub mod OverRecords
+pub mod OverRig
+pub mod Demand210
+pub mod OverHours
+pub mod TransportCalls
+pub mod OverRounds
+pub mod Demands214
+pub mod Gave
+pub mod OverRecords214
+pub mod OverMixed
+pub mod OnBoards
+pub mod BoardWitness
+pub mod PartCalls
+pub mod RecipeCalls
+pub mod Begins

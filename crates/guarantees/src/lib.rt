@@ -1,0 +1,1 @@
+// What is promised of runs of the exported calls; no functions: the statements are in specs/.
