@@ -4,7 +4,8 @@
 
 with the folder of the linked programs. Each shortest refused recipe of docs/RECIPE.md gives its number on standard output, and number, term and
 meaning as the table there has them on standard error; a recipe that is not refused gives nothing there; what can't be read or written, and
-arguments, give their line. The page's lines for scripts have the status that it says. Status 1 where anything is wrong.
+arguments, give their line. The page's lines for scripts have the status that it says. Rows A to H give the model's text, and row D the one that
+document 01 prints. The recipe that the gate runs the plan printer on has another plan on the other route. Status 1 where anything is wrong.
 """
 
 import os
@@ -19,6 +20,8 @@ import recipe_page
 TEXTS = {'print_plan': model.plan_text, 'compare_sweeps': model.compare_text}
 # the programs' limit of 512 bytes is a part of their line 1
 RAGGED = 'the recipe is empty, longer than 512 bytes or no multiple of 16 bytes'
+# written by hand from document 01, "Recipes to be met"
+ROW_D = {'print_plan': 'tiles 2 messages 1 words 1 steps 6\n0 0 1 0 1 1\n', 'compare_sweeps': 'agree\nagree\nagree\nagree\n'}
 
 
 def page(name):
@@ -58,6 +61,15 @@ def faults(program, text, recipe):
     ]
 
 
+def tells_routes():
+    """Is what the gate wants of the plan printer the direct plan's text, and not the indirect plan's?"""
+    folder = os.path.join(recipe_page.ROOT, 'crates/print_plan')
+    with open(os.path.join(folder, 'stdin'), 'rb') as file:
+        recipe = file.read()
+    wanted = page(os.path.join(folder, 'stdout'))
+    return wanted == model.plan_text(recipe) and wanted != model.plan_text(recipe, model.INDIRECT)
+
+
 def tests_for_scripts():
     """Line, recipe and status: the page's one line a program, over a recipe that is accepted, two that are refused, and none at all."""
     lines = re.findall(r'^    (.*target/bin/(?:%s) < recipe.*)$' % '|'.join(TEXTS), page(recipe_page.PAGE), flags=re.M)
@@ -77,7 +89,10 @@ def ends_well(line, folder, recipe):
 
 
 def main(folder):
-    wrong = tried = 0
+    wrong, tried = 0, 1
+    if not tells_routes():
+        wrong += 1
+        print('crates/print_plan: the recipe there does not tell the routes apart')
     for line, recipe, well in tests_for_scripts():
         tried += 1
         if ends_well(line, folder, recipe) != well:
@@ -87,6 +102,8 @@ def main(folder):
         program = os.path.join(folder, name)
         cases = faults(program, text, model.ROWS['D'])
         cases += [(program, recipe, ('refused %s\n' % line.split(',')[0], [line])) for line, recipe in refusals()]
+        cases += [(program, recipe, (text(recipe), [])) for recipe in model.ROWS.values()]
+        cases += [(program, model.ROWS['D'], (ROW_D[name], []))]
         for command, recipe, expected in cases:
             tried += 1
             found = told(command, recipe)
@@ -94,8 +111,8 @@ def main(folder):
                 wrong += 1
                 print('%s: %r, expected %r' % (command, found, expected))
     print('%d tried, %d wrong' % (tried, wrong))
-    # for each program seven faults, twelve numbers and four tries of a script's line: none may be lost with a page's layout
-    return 1 if wrong or tried != 2 * (7 + 12 + 4) else 0
+    # for each program seven faults, twelve numbers, eight rows, the paper's text and four tries of a script's line: none may be lost with a page's layout
+    return 1 if wrong or tried != 1 + 2 * (7 + 12 + 8 + 1 + 4) else 0
 
 
 if __name__ == '__main__':

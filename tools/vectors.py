@@ -1103,8 +1103,9 @@ def all_files():
         'crates/cases/data/script': b''.join(script.records),
         # file by file, in the order in which the program takes them
         'crates/cases/stdout': recipes.text() + plans_text(plans, indirect) + cases_text(sweeps, model.compare_text) + script.text(),
-        'crates/print_plan/stdin': model.ROWS['D'],
-        'crates/print_plan/stdout': model.plan_text(model.ROWS['D']).encode(),
+        # row C's plan is another one on the indirect route, with which the printer has nothing to do
+        'crates/print_plan/stdin': model.ROWS['C'],
+        'crates/print_plan/stdout': model.plan_text(model.ROWS['C']).encode(),
         'crates/compare_sweeps/stdin': model.ROWS['D'],
         'crates/compare_sweeps/stdout': model.compare_text(model.ROWS['D']).encode(),
         'bindings/row_a.stdout': row_a_text().encode(),

@@ -11,7 +11,7 @@ pub fn print_head(number: u64) {
 }
 
 fn print_plan(route: u32, encoded: &[u8]) {
-    plan_text::print_recipe(encoded, route);
+    plan_text::print_routed(encoded, route);
     if route != 0 {
         plan_text::print_hops(encoded);
     }

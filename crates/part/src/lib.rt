@@ -25,6 +25,7 @@ use base::least;
 use base::zero_bytes;
 use layout::Sizes;
 use nest::Nest;
+use nest::division::place_along;
 use rank_index::rank;
 use tables::held::cells_of;
 use tables::scans::Place;
@@ -65,7 +66,8 @@ fn rows_alike(nest: Nest, q: usize, most: usize) -> usize
     let at = nest::row_place(nest, q);
     let j = nest.dimensions - 2;
     let a = at[j];
-    let left = least(nest.lengths[j] - a, nest.tiling[j] - a % nest.tiling[j]);
+    let k = nest.tiling[j];
+    let left = least(nest.lengths[j] - a, k - place_along(a, k));
     least(left, most)
 }
 

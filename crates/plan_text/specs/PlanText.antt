@@ -12,6 +12,7 @@ use Rattle.machine.specs.Plan.{Plan, count, words}
 use Rattle.machine.specs.Runs.{total}
 use Rattle.nest.specs.Reader.{nestOf}
 use Rattle.plan.specs.declared.Route.{Route}
+use Rattle.plan.specs.declared.Route.the-variants.{Direct}
 use Rattle.plan.specs.Shaped.{planOf}
 use Rattle.conformance.specs.Rows.{messageLine}
 use Rattle.recipe.specs.Routes.{linesFor}
@@ -65,3 +66,7 @@ planTextIf (suc n) p = refusedText (suc n)
 unfoldable pub planText : Route → List ℕ → List ℕ
 planText r bytes =
     pick (ltb 512 (length bytes)) (refusedText 1) (planTextIf (firstOf (linesFor r bytes)) (planOf r (nestOf bytes)))
+
+-- the printer's own: it stays with direct passing
+abbrev pub printerText : List ℕ → List ℕ
+printerText bytes = planText Direct bytes

@@ -8,7 +8,7 @@ ghost use Rattle.plan.specs.Shaped.{planOf};
 ghost use Rattle.layout.specs.Sizes.{Sized, routeOf};
 ghost use Rattle.tables.specs.Tables.{Tabled};
 ghost use Rattle.text.specs.Writing.{pen, write};
-ghost use Rattle.plan_text.specs.PlanText.{numberThen, field, figuresText, spaced, linesText, refusedText, planText};
+ghost use Rattle.plan_text.specs.PlanText.{numberThen, field, figuresText, spaced, linesText, refusedText, planText, printerText};
 use layout::Sizes;
 use libc::STDOUT_FILENO;
 use nest::Nest;
@@ -126,19 +126,46 @@ pub fn write_recipe(space: &mut [u8], encoded: &[u8], route: u32) -> usize
     put_recipe(space, encoded, route)
 }
 
-// The text, made in the space and handed to standard output: whether all of it was written.
-fn print_by(space: &mut [u8], encoded: &[u8], route: u32) -> bool
-    requires { ⌜ length (now space) ≡ 473159 ⌝ }
-{
-    let length = write_recipe(space, encoded, route);
-    io::write_all(STDOUT_FILENO, &space[..length])
+// What was handed to standard output: so many bytes from the front of the space, and whether all of them were written.
+pub struct Printed {
+    pub length: usize,
+    pub written: bool,
 }
 
-// The plan of a recipe of at most 512 bytes, or why it is refused; a longer one is refused as ragged. The route is 0 for direct passing,
-// any other for indirect. Whether all of it was written.
-pub fn print_recipe(encoded: &[u8], route: u32) -> bool {
+// Hands over a recipe's text and nothing else: whether all of it was written. No contract says what the system writes, so this one says what it is given.
+fn hand_over(text: &[u8], encoded: &[u8], route: u32) -> bool
+    requires { ⌜ now text ≡ planText (routeOf route) (now encoded) ⌝ }
+{
+    io::write_all(STDOUT_FILENO, text)
+}
+
+// The plan of a recipe of at most 512 bytes, or why it is refused, made in the space and handed over; a longer one is refused as ragged. The
+// route is 0 for direct passing, any other for indirect.
+pub fn print_by(space: &mut [u8], encoded: &[u8], route: u32) -> Printed
+    requires { ⌜ length (now space) ≡ 473159 ⌝ }
+    ensures { λ r. ⌜ take (r .length) (now (space .exit)) ≡ planText (routeOf route) (now (encoded .entry)) ⌝ }
+{
+    let length = write_recipe(space, encoded, route);
+    let written = hand_over(&space[..length], encoded, route);
+    Printed {
+        length: length,
+        written: written,
+    }
+}
+
+// The same by direct passing, with which the plan printer stays.
+pub fn print_recipe(space: &mut [u8], encoded: &[u8]) -> Printed
+    requires { ⌜ length (now space) ≡ 473159 ⌝ }
+    ensures { λ r. ⌜ take (r .length) (now (space .exit)) ≡ printerText (now (encoded .entry)) ⌝ }
+{
+    print_by(space, encoded, 0)
+}
+
+// The same on any route, in a space of its own: whether all of it was written.
+pub fn print_routed(encoded: &[u8], route: u32) -> bool {
     let mut space = [0u8; 473159];
-    print_by(&mut space, encoded, route)
+    let printed = print_by(&mut space, encoded, route);
+    printed.written
 }
 
 fn print_hop(of: summary::HopCount) {

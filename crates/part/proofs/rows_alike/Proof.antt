@@ -22,6 +22,12 @@ mul-a c = search needs
 array-read-a : tie.Need-array-read-a
 array-read-a c = search needs
 
+mul-k : tie.Need-mul-k
+mul-k c = search needs
+
+element-copy-out-k : tie.Need-element-copy-out-k
+element-copy-out-k c = search needs
+
 mul-least : tie.Need-mul-least
 mul-least c = search needs
 
@@ -30,27 +36,27 @@ element-copy-out-least c = search needs
 
 sub-least : tie.Need-sub-least
 sub-least c =
-    let S = c .before .before in
-    let inside = row-inside (S .args .t1) (framed _ (S .pre .0)) (S .args .q) (c .before .row-place .result) (c .before .row-place .ensures)
-    (S .args .t1 .dimensions - 2) (omega (arith, S .pre .0 .dimensions-least)) in
-    omega (arith, inside)
+    let S = c .before .before .before in
+    let row = c .before .before .row-place in
+    omega (
+      arith,
+      row-inside (S .args .t1) (framed _ (S .pre .0)) (S .args .q) (row .result) (row .ensures) (S .args .t1 .dimensions - 2)
+          (omega (arith, S .pre .0 .dimensions-least)),
+    )
 
-mul-least-2 : tie.Need-mul-least-2
-mul-least-2 c = search needs
-
-element-copy-out-least-2 : tie.Need-element-copy-out-least-2
-element-copy-out-least-2 c = search needs
-
-mul-least-3 : tie.Need-mul-least-3
-mul-least-3 c = search needs
-
-element-copy-out-least-3 : tie.Need-element-copy-out-least-3
-element-copy-out-least-3 c = search needs
-
-rem-least : tie.Need-rem-least
-rem-least c =
-    let S = c .before .before .before .before in
-    S .pre .0 .tiled (S .args .t1 .dimensions - 2) (omega (arith, S .pre .0 .dimensions-least))
+place-along-requires : tie.Need-place-along-requires
+place-along-requires c κs =
+    let S = c .before .before .before in
+    let row = c .before .before .row-place in
+    let j : ℕ = S .args .t1 .dimensions - 2 in
+    let low : j < S .args .t1 .dimensions = omega (arith, S .pre .0 .dimensions-least) in (
+      omega (
+        arith,
+        row-inside (S .args .t1) (framed _ (S .pre .0)) (S .args .q) (row .result) (row .ensures) j low,
+        S .pre .0 .length-most j,
+      ),
+      (S .pre .0 .tiled j low, omega (arith, S .pre .0 .tile-most j)),
+    )
 
 sub-least-2 : tie.Need-sub-least-2
 sub-least-2 c =
@@ -58,6 +64,7 @@ sub-least-2 c =
     let some = S .pre .0 .tiled (S .args .t1 .dimensions - 2) (omega (arith, S .pre .0 .dimensions-least)) in
     omega (
       arith,
+      c .place-along .ensures,
       mod-lt (getD (c .before .before .before .row-place .result) (S .args .t1 .dimensions - 2) 0) some,
     )
 
@@ -76,10 +83,11 @@ returns c =
     let low : j < x .dimensions = omega (arith, S .pre .0 .dimensions-least) in
     let inside = row-inside x (framed _ (S .pre .0)) (S .args .q) (at .result) (at .ensures) j low in
     let some = mod-lt (getD (at .result) j 0) (S .pre .0 .tiled j low) in
+    let rest = c .before .before .place-along .ensures in
     let first = c .before .least .ensures in
     let second = c .least2 .ensures in (
       rows.alike x (S .pre .0) (S .args .q) (at .result) (at .ensures) (c .least2 .result) (getD (at .result) j 0) refl
-          (omega (arith, first, second, inside, some, S .pre .1)) (omega (arith, first, second)) (omega (arith, first, second)),
+          (omega (arith, first, second, rest, inside, some, S .pre .1)) (omega (arith, first, second)) (omega (arith, first, second, rest)),
       omega (arith, second),
     )
 
@@ -91,14 +99,12 @@ rows-alike-spec =
     sub-j
     mul-a
     array-read-a
+    mul-k
+    element-copy-out-k
     mul-least
     element-copy-out-least
     sub-least
-    mul-least-2
-    element-copy-out-least-2
-    mul-least-3
-    element-copy-out-least-3
-    rem-least
+    place-along-requires
     sub-least-2
     least-requires
     least-requires-2

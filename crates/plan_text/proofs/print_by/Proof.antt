@@ -1,4 +1,4 @@
--- `plan_text::print_by` meets its contract.
+-- `plan_text::print_by` meets its contract: what it hands over is the text that was written.
 use Rattle.plan_text.proofs.Laws as L
 use native.Mathlib.Omega.{arith}
 use borrow.Author.Needs.{needs}
@@ -8,17 +8,17 @@ use Rattle.plan_text.proofs.print_by.Tie as tie
 write-recipe-requires : tie.Need-write-recipe-requires
 write-recipe-requires c κs = search needs
 
-slice-reshare-prefix-write-all : tie.Need-slice-reshare-prefix-write-all
-slice-reshare-prefix-write-all c = search needs
+slice-reshare-prefix-hand-over : tie.Need-slice-reshare-prefix-hand-over
+slice-reshare-prefix-hand-over c = search needs
 
-slice-aggregate-write-all : tie.Need-slice-aggregate-write-all
-slice-aggregate-write-all c =
+slice-aggregate-hand-over : tie.Need-slice-aggregate-hand-over
+slice-aggregate-hand-over c =
     let c3 = c .before .before .before in
     let c7 = c3 .before .before .before .before in
     L.counted (c3 .write-recipe .result) _ (omega (arith, c3 .write-recipe .ensures .1, c3 .write-recipe .kept .0, c7 .pre))
 
-write-all-requires : tie.Need-write-all-requires
-write-all-requires c κs = search needs
+hand-over-requires : tie.Need-hand-over-requires
+hand-over-requires c κs = search needs
 
 same-length : tie.Need-same-length
 same-length c = search needs
@@ -31,8 +31,8 @@ print-by-spec =
     tie.close
     (tie.spec
     write-recipe-requires
-    slice-reshare-prefix-write-all
-    slice-aggregate-write-all
-    write-all-requires
+    slice-reshare-prefix-hand-over
+    slice-aggregate-hand-over
+    hand-over-requires
     same-length
     returns)

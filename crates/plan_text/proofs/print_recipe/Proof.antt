@@ -1,18 +1,18 @@
--- `plan_text::print_recipe` meets its contract.
-use Prim.Native.Nat.{ℕ}
-use lib.ListN.{length-replicate}
+-- `plan_text::print_recipe` meets its contract: word 0 names the direct route.
 use borrow.Author.Needs.{needs}
+use Rattle.layout.specs.Sizes.{routeOf}
 use Rattle.plan_text.proofs.print_recipe.Statement.{statement}
 use Rattle.plan_text.proofs.print_recipe.Tie as tie
 
-slice-aggregate-print-by : tie.Need-slice-aggregate-print-by
-slice-aggregate-print-by c = search needs
-
 print-by-requires : tie.Need-print-by-requires
-print-by-requires c κs = length-replicate {A = ℕ} 473159 0
+print-by-requires c κs = search needs
+
+same-length : tie.Need-same-length
+same-length c = search needs
 
 returns : tie.Need-returns
-returns c = search needs
+unfolding routeOf
+returns c = c .before .before .print-by .ensures
 
 pub print-recipe-spec : {M : Type 1} → statement M
-print-recipe-spec = tie.close (tie.spec slice-aggregate-print-by print-by-requires returns)
+print-recipe-spec = tie.close (tie.spec print-by-requires same-length returns)
