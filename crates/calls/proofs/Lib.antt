@@ -23,3 +23,4 @@ pub mod OverRecords214
 pub mod PartCalls
 pub mod RecipeCalls
 pub mod Begins
+pub mod DriverRow
