@@ -94,7 +94,7 @@ module _ (bytes source : List ℕ) where
 
 -- ---- demand 1
 
-same-driven : (d e : Driven) → d .number ≡ e .number → d .rounds ≡ e .rounds → d ≡ e
+pub same-driven : (d e : Driven) → d .number ≡ e .number → d .rounds ≡ e .rounds → d ≡ e
 same-driven d e p q =
     ap (λ (n : ℕ). at n (d .rounds)) p ∙ ap (λ (n : ℕ). at (e .number) n) q
   where
