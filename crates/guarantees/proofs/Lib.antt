@@ -13,3 +13,4 @@ pub mod BoardWitness
 pub mod PartCalls
 pub mod RecipeCalls
 pub mod Begins
+pub mod DriverRow

@@ -11,3 +11,4 @@ pub mod OnBoards
 pub mod PartCalls
 pub mod RecipeCalls
 pub mod Begins
+pub mod DriverRow

@@ -7,8 +7,8 @@ use Prim.Native.Nat.{ℕ}
 use Rattle.nest.specs.Recipes.{rowA}
 use Rattle.engine.specs.Calls.{recipe}
 use Rattle.schedule.specs.declared.Driven.{Driven}
 use Rattle.calls.specs.Gave.{Areas, RoundsGave}
-use Rattle.calls.specs.Begins.{LentFor}
+use Rattle.guarantees.specs.Begins.{LentFor}
 
 pub record DriverRow : Type 0 where
   pub A : (source : List ℕ) (a b : Areas) (d : Driven) → RoundsGave rowA source a d b → LentFor (recipe rowA 0) source a

@@ -11,11 +11,11 @@ use Rattle.recipe.proofs.Laws.{open-direct}
 use Rattle.engine.specs.Calls.{recipe}
 use Rattle.schedule.specs.declared.Driven.{Driven}
 use Rattle.schedule.proofs.Rows.{round-rows}
 use Rattle.calls.specs.Gave.{Areas, RoundsGave}
-use Rattle.calls.specs.Begins.{LentFor}
-use Rattle.calls.specs.DriverRow.{DriverRow}
-use Rattle.calls.proofs.OverRounds.{same-driven, over-rounds}
-use Rattle.calls.proofs.Begins.{begins}
+use Rattle.guarantees.specs.Begins.{LentFor}
+use Rattle.guarantees.specs.DriverRow.{DriverRow}
+use Rattle.guarantees.proofs.OverRounds.{same-driven, over-rounds}
+use Rattle.guarantees.proofs.Begins.{begins}
 
 small-A : small rowA ≡ true
 unfolding small _and_
