@@ -1,9 +1,9 @@
 /* Neighbouring calls that may be swapped, and both orders side by side */
 
-/* The pair at the call that is chosen: one that stands swapped before others */
+/* The pair at the call that is chosen: with the call behind it, else with the one before */
 function pairAt() {
-  const near = [S.t - 2, S.t - 1].filter(k => mayBe(plan, k)), swapped = near.filter(k => isTurned(plan, k));
-  return swapped.length ? swapped[0] : near.includes(S.t - 1) ? S.t - 1 : near.length ? near[0] : null;
+  const found = [S.t - 1, S.t - 2].find(k => mayBe(plan, k));
+  return found === undefined ? null : found;
 }
 const openPair = () => S.pair !== null ? S.pair : pairAt();
 

@@ -61,10 +61,10 @@ function tellMessage() {
   const msg = plan.messages[S.message], own = msg.cells.filter(c => TILE[c] === msg.from).length;
   const who = Array.from(msg.cells, (_, k) => readers(plan, msg, k)), passed = who.filter(all => all.some(one => one[2])).length;
   $('messagehead').textContent = `Message ${msg.m}: tile ${msg.from} to tile ${msg.to}, processor ${msg.by} to ${msg.taker}`;
-  const hops = SHAPED ? '' : `On the indirect route its cells make ${plural(msg.hops, 'hop')}. `;
-  const ways = `${own} of the tile's own, ${msg.words - own} passed on from an earlier tile; ${passed} go further from the taker. `;
+  const ways = plan.route !== 'direct' ? `${own} of the tile's own, ${msg.words - own} passed on from an earlier tile; ${passed} go further from the taker. `
+    : SHAPED ? '' : `On the indirect route its cells make ${plural(msg.hops, 'hop')}. `;
   $('messagetext').textContent = `Direction ${directionText(msg.v)}, ${plural(msg.words, 'word')}, ` +
-    `buffer ${msg.offset} to ${msg.offset + msg.words - 1}. ${plan.route === 'direct' ? hops : ways}${placesText(msg.cells)}`;
+    `buffer ${msg.offset} to ${msg.offset + msg.words - 1}. ${ways}${placesText(msg.cells)}`;
   const rows = Array.from(msg.cells.subarray(0, MOST_ROWS), (c, k) => row([
     msg.offset + k, c, [at(placeOf(c)), 't'], TILE[c], fmt(GRID[c]), [who[k].map(readerText).join('<br>') || 'no cell', 't']]));
   const more = msg.words > MOST_ROWS ? row([[`and ${msg.words - MOST_ROWS} more`, 't'], '', '', '', '', '']) : '';
