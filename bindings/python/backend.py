@@ -19,6 +19,9 @@ SHARED = 'librolwyddac.so'
 # tells type checkers that the package has hints
 TYPED = 'py.typed'
 
+# sources, and the parts of the page that `rolwyddac view` writes
+SUFFIXES = ('.py', '.html', '.css', '.js')
+
 
 def _content(path):
     with open(path, 'rb') as file:
@@ -52,7 +55,7 @@ def _sources(package):
     for folder, below, names in sorted(os.walk(package)):
         below[:] = [name for name in below if name != '__pycache__']
         for name in sorted(names):
-            if name.endswith('.py') or name == TYPED:
+            if name.endswith(SUFFIXES) or name == TYPED:
                 path = os.path.join(folder, name)
                 yield os.path.relpath(path, HERE), _content(path)
 

@@ -9,7 +9,7 @@ from typing import Any, Dict, List, NoReturn, Optional
 
 from ..calls import VERSION
 from ..library import version
-from . import boards, chart, check, files, numbers, pages, plan, recipe, rounds, soundings
+from . import boards, chart, check, files, numbers, pages, plan, recipe, rounds, soundings, view
 from .faults import DONE, USAGE, Fault
 from .texts import shown, tell
 
@@ -21,7 +21,7 @@ weighted sum of cells already computed, divided by a power of two.'''
 STATUSES = '''Statuses: 0 done; 1 refused, or a difference was found; 2 the words of the command; 3 a file can't be read or written.'''
 
 SUBCOMMANDS: Dict[str, Any] = {'recipe': recipe, 'plan': plan, 'check': check, 'soundings': soundings, 'chart': chart, 'rounds': rounds,
-                               'boards': boards, 'numbers': numbers}
+                               'boards': boards, 'view': view, 'numbers': numbers}
 
 _WIDTH = 100
 
