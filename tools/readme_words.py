@@ -39,7 +39,7 @@ LIMITS = {'DIMENSIONS': 'dimensions', 'CELLS': 'cells', 'LENGTH': 'length', 'TIL
 
 # what the gate and the library's scripts make is no file of the repository
 MADE = ('target/', 'out/')
-FOLDERS = ('.ci', 'bench', 'bindings', 'crates', 'data', 'docs', 'prebuilt', 'tools')
+FOLDERS = ('.ci', 'bench', 'bindings', 'crates', 'data', 'docs', 'notebooks', 'packaging', 'prebuilt', 'tools')
 
 
 def page(name):
