@@ -105,7 +105,8 @@ class Shown(NamedTuple):
 def data_of(encoded: bytes, source: Sequence[int], seed: int, shown: Shown) -> Dict[str, Any]:
     """All that the page shows."""
     nest, rounds, grid = Nest(encoded), plan.rounds_of(encoded), _swept(encoded, array.array('I', source))
-    checks, routes = _hold_cells(encoded, nest, source, grid), []
+    checks = _hold_cells(encoded, nest, source, grid)
+    routes: List[Dict[str, Any]] = []
     for word in (DIRECT,) if nest.bounds else (DIRECT, INDIRECT):
         route = Route(encoded, nest, word, source)
         if word == DIRECT:
