@@ -39,7 +39,7 @@ class Check(NamedTuple):
     """What was held to the engine: how many things of what."""
 
     what: str
-    count: int
+    number: int
     things: str
 
 
@@ -138,7 +138,7 @@ def joined(data: Dict[str, Any]) -> str:
     shown = json.dumps(data, separators=(',', ':')).replace('<', '\\u003c')
     parts = {'NAME': html.escape(data['name']), 'STYLE': _part('style.css'), 'DATA': shown, 'SCRIPT': '\n'.join(_part(name + '.js') for name in SCRIPTS)}
     # in one pass: what is put in is not searched again
-    return re.sub(r'\{\{(\w+)\}\}', lambda found: parts[found[1]], _part('page.html'))
+    return re.sub(r'\{\{(\w+)\}\}', lambda found: str(parts[found[1]]), _part('page.html'))
 
 
 def page_of(encoded: bytes, source: Sequence[int], seed: int, shown: Shown) -> bytes:

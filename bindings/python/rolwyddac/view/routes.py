@@ -6,11 +6,12 @@ import array
 from typing import List, Sequence
 
 from .. import plan
+from ..areas import IN_FLIGHT
 from ..hints import Words
 from ..kinds import DIRECT
 from .differs import hold
 from .nest import OUTSIDE, Nest, Place, Read
-from .states import IN_FLIGHT, SEND, TURN, State
+from .states import SEND, TURN, State
 
 NAMES = ('direct', 'indirect')
 
