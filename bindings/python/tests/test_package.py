@@ -190,6 +190,7 @@ class Wheel(unittest.TestCase):
             with contextlib.closing(zipfile.ZipFile(os.path.join(folder, name))) as wheel:
                 content = {each: wheel.read(each) for each in wheel.namelist()}
         sources = {'rolwyddac/' + os.path.relpath(each, package) for each in glob.glob(os.path.join(package, '**', '*.py'), recursive=True)}
+        sources |= {'rolwyddac/view/parts/' + name for name in os.listdir(os.path.join(package, 'view', 'parts'))}
         found = {each for each in content if each.startswith('rolwyddac/')}
         self.assertIn('rolwyddac/command/entry.py', found)
         self.assertEqual(found, sources | {'rolwyddac/py.typed', 'rolwyddac/librolwyddac.so'})

@@ -39,7 +39,7 @@ class Check(NamedTuple):
     """What was held to the engine: how many things of what."""
 
     what: str
-    count: int
+    number: int
     things: str
 
 
@@ -105,7 +105,8 @@ class Shown(NamedTuple):
 def data_of(encoded: bytes, source: Sequence[int], seed: int, shown: Shown) -> Dict[str, Any]:
     """All that the page shows."""
     nest, rounds, grid = Nest(encoded), plan.rounds_of(encoded), _swept(encoded, array.array('I', source))
-    checks, routes = _hold_cells(encoded, nest, source, grid), []
+    checks = _hold_cells(encoded, nest, source, grid)
+    routes: List[Dict[str, Any]] = []
     for word in (DIRECT,) if nest.bounds else (DIRECT, INDIRECT):
         route = Route(encoded, nest, word, source)
         if word == DIRECT:
@@ -137,7 +138,7 @@ def joined(data: Dict[str, Any]) -> str:
     shown = json.dumps(data, separators=(',', ':')).replace('<', '\\u003c')
     parts = {'NAME': html.escape(data['name']), 'STYLE': _part('style.css'), 'DATA': shown, 'SCRIPT': '\n'.join(_part(name + '.js') for name in SCRIPTS)}
     # in one pass: what is put in is not searched again
-    return re.sub(r'\{\{(\w+)\}\}', lambda found: parts[found[1]], _part('page.html'))
+    return re.sub(r'\{\{(\w+)\}\}', lambda found: str(parts[found[1]]), _part('page.html'))
 
 
 def page_of(encoded: bytes, source: Sequence[int], seed: int, shown: Shown) -> bytes:

@@ -6,10 +6,11 @@ import random
 from typing import Any, List, NamedTuple, Sequence, Tuple
 
 from .. import plan
+from ..areas import IN_FLIGHT
 from ..hints import Words
 from .differs import hold
 from .routes import Route
-from .states import COLLECT, DELIVER, IN_FLIGHT, TURN, WAITING, Event, Kept, Replay, State
+from .states import COLLECT, DELIVER, TURN, WAITING, Event, Kept, Replay, State
 
 # how often an event is drawn that will most likely be refused
 _STRAY_DELIVERY, _STRAY_COLLECT, _STRAY_TURN, _WAITING_TURN = 0.03, 0.01, 0.01, 0.18

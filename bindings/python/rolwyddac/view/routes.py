@@ -6,11 +6,12 @@ import array
 from typing import List, Sequence
 
 from .. import plan
-from ..kinds import DIRECT
+from ..areas import IN_FLIGHT
 from ..hints import Words
+from ..kinds import DIRECT
 from .differs import hold
-from .nest import OUTSIDE, Nest, Read
-from .states import IN_FLIGHT, SEND, TURN, State
+from .nest import OUTSIDE, Nest, Place, Read
+from .states import SEND, TURN, State
 
 NAMES = ('direct', 'indirect')
 
@@ -39,7 +40,7 @@ class Route:
         """Which messages a tile sends and takes, and each message's direction."""
         self.sent_by: List[List[int]] = [[] for _ in range(tiles)]
         self.taken_by: List[List[int]] = [[] for _ in range(tiles)]
-        self.directions = []
+        self.directions: List[Place] = []
         for m, row in enumerate(self.rows):
             self.sent_by[row.sending_tile].append(m)
             self.taken_by[row.taking_tile].append(m)
@@ -65,7 +66,8 @@ class Route:
 
     def _readers(self, nest: Nest) -> List[Read]:
         """The readers of each word of the buffer; the engine's cells of each message are held to its definition."""
-        wanted, readers = nest.held(self.route != DIRECT), []
+        wanted = nest.held(self.route != DIRECT)
+        readers: List[Read] = []
         for m, row in enumerate(self.rows):
             cells = wanted.pop((row.sending_tile, self.directions[m]), {})
             hold(list(self.cells_of_message(m)) == list(cells), 'the cells of message %d' % m)

@@ -78,8 +78,8 @@ class State:
     def sum(self) -> int:
         """The check number: CRC-32 over the CRC-32 of each processor's memory, buffer, progress and status; words low byte first."""
         found = zlib.crc32(struct.pack('<%dI' % len(self.sums), *self.sums))
-        for area in (self.areas.buffer, self.areas.progress, self.areas.status):
-            found = zlib.crc32(area, found)
+        for octets in (self.areas.buffer.tobytes(), bytes(self.areas.progress), bytes(self.areas.status)):
+            found = zlib.crc32(octets, found)
         return found
 
     def kept(self) -> Kept:
