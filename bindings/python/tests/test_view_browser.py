@@ -226,6 +226,8 @@ class Shows(InBrowser):
         self.assertIn('2 processors without a tile (3, 4) not shown', self.browser.text('idletext'))
         self.show(made(ROW_A))
         self.assertFalse(self.browser.js('sheets.grid.isFolded'))
+        # no figure is cut off
+        self.assertEqual(self.browser.js("[...document.querySelectorAll('figure')].filter(f => f.scrollWidth > f.clientWidth).length"), 0)
 
     def test_by_keyboard(self):
         """Every control is reached by the tab key, a message's button by it and enter; what is in focus is outlined."""

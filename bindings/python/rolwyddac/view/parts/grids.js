@@ -26,10 +26,14 @@ function crowded(values, [low, high]) {
 const AUTO = {source: crowded(SOURCE, EXTENT.source), result: crowded(GRID, EXTENT.result)};
 const byLog = name => S.scale === 'auto' ? AUTO[name] : S.scale === 'log';
 
+/* the room in a figure, without its padding for the outline of what is in focus */
+const PADDING = 6;
+const widthFor = id => $(id).parentElement.clientWidth - PADDING;
+
 const sheets = {};
 function layout() {
-  sheets.grid = new Sheet($('source').parentElement.clientWidth, 470, true, 52);
-  sheets.map = new Sheet($('map').parentElement.clientWidth, 620, true, 64);
+  sheets.grid = new Sheet(widthFor('source'), 470, true, 52);
+  sheets.map = new Sheet(widthFor('map'), 620, true, 64);
   const full = $('run').clientWidth, room = 580;
   let best = null;
   for (let down = 1; down <= Math.min(BUSY.length, 16); down++) {
