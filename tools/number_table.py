@@ -1,7 +1,7 @@
 """The table of numbers stands once, in docs/RECIPE.md. This puts its terms and meanings wherever else they are written, and holds them to it. Run as
 
-    python3 tools/numbers.py          # writes them into the C header and the Rust crate
-    python3 tools/numbers.py check    # compares; status 1 where one differs, or a planted fault is not told
+    python3 tools/number_table.py          # writes them into the C header and the Rust crate
+    python3 tools/number_table.py check    # compares; status 1 where one differs, or a planted fault is not told
 
 A meaning ends at its first semicolon: what follows is a remark, for readers of the page alone. Where the texts are:
 
