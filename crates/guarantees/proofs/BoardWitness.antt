@@ -17,7 +17,7 @@ use Rattle.network_runs.proofs.BoardRows.{board-rows}
 use Rattle.network_runs.proofs.part.OnePart.{fresh-leaves}
 use Rattle.calls.specs.Gave.{Areas, inWords, FreshGave, PartFreshGave}
 use Rattle.guarantees.specs.OnBoards.{Boards, BegunBoards, BegunParts}
-use Rattle.guarantees.proofs.OverRecords.{areasOf, in-words, Whole}
+use Rattle.guarantees.proofs.OverRecords.{areasFrom, in-words, Whole}
 
 -- an answer's two parts
 answers-as : (n : ℕ) (s : State) (r : Answered State) → r .number ≡ n → r .after ≡ s → answer n s ≡ r
@@ -28,9 +28,9 @@ unfolding fresh
 whole-fresh = (recipe rowD 0 .processors, length-replicate {A = ℕ} (3 * recipe rowD 0 .processors) 0)
 
 abbrev fresh-areas : ℕ → Areas
-fresh-areas b = areasOf (fresh (recipe rowD 0))
+fresh-areas b = areasFrom (fresh (recipe rowD 0))
 
-fresh-words : inWords (areasOf (fresh (recipe rowD 0))) ≡ fresh (recipe rowD 0)
+fresh-words : inWords (areasFrom (fresh (recipe rowD 0))) ≡ fresh (recipe rowD 0)
 fresh-words = in-words (fresh (recipe rowD 0)) whole-fresh
 
 fresh-gave : (b : ℕ) → b < recipe rowD 0 .processors → FreshGave rowD 0 sourceD (fresh-areas b) 0 (fresh-areas b)
@@ -53,9 +53,9 @@ begun-boards =
 
 -- ---- own parts
 abbrev part-areas : ℕ → Areas
-part-areas b = areasOf (partLent b)
+part-areas b = areasFrom (partLent b)
 
-part-words : (b : ℕ) → inWords (areasOf (partLent b)) ≡ partLent b
+part-words : (b : ℕ) → inWords (areasFrom (partLent b)) ≡ partLent b
 unfolding lentOf
 part-words b = in-words (partLent b) (1, refl)
 

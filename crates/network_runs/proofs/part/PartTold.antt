@@ -20,6 +20,7 @@ use Rattle.recipe.specs.Routes.{linesFor}
 use Rattle.engine.specs.Calls.{recipe}
 use Rattle.network.specs.Own.{handles, handled, ownCells, keptCells}
 use Rattle.part.specs.Part.{wordsOf, rankOf, partFits}
+use Rattle.part_calls.specs.declared.AreaLengths.{AreaLengths}
 use Rattle.part_calls.specs.front.Calls.{lengthsOf, ownRow, ownRows, ownFreshCall}
 use Rattle.network_runs.specs.part.PartTold.{lengthsHad, PartTold, PartTells}
 use Rattle.network_runs.proofs.part.OnePart.{past, fresh-gives}
@@ -50,8 +51,8 @@ module _ (p : Plan) (b : ℕ) where
   fits : (source : List ℕ) (s : State) → lengthsHad source s ≡ lengthsOf p b → length (s .progress) ≡ 3 → partFits p b s ≡ true
   unfolding lengthsOf partFits
   fits source s e r =
-      and-true (eq-eqb _ _ (ap (λ (l : List ℕ). getD l 1 0) e))
-      (and-true (eq-eqb _ _ (ap (λ (l : List ℕ). getD l 2 0) e)) (and-true (eq-eqb _ _ r) (eq-eqb _ _ (ap (λ (l : List ℕ). getD l 3 0) e))))
+      and-true (eq-eqb _ _ (ap (λ (l : AreaLengths). l .kept) e))
+      (and-true (eq-eqb _ _ (ap (λ (l : AreaLengths). l .words) e)) (and-true (eq-eqb _ _ r) (eq-eqb _ _ (ap (λ (l : AreaLengths). l .messages) e))))
 
   fitting : (source : List ℕ) (s : State) → length source ≡ length (ownCells p b) → partFits p b s ≡ true → lengthsHad source s ≡ lengthsOf p b
   unfolding lengthsOf partFits

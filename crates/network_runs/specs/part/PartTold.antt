@@ -3,7 +3,7 @@
 use Prim.Native.Nat.{ℕ, _*_, _<_}
 use mathlib.Core.Path.{_≡_}
 use mathlib.Core.Bool.{true}
-use mathlib.Core.List.{List, [], _∷_}
+use mathlib.Core.List.{List}
 use lib.ListN.{length}
 use Rattle.base.specs.Lists.{part}
 use Rattle.base.specs.Numbers.{firstOf}
@@ -14,11 +14,13 @@ use Rattle.recipe.specs.Routes.{linesFor}
 use Rattle.engine.specs.Calls.{recipe}
 use Rattle.network.specs.Own.{handles, handled, ownCells}
 use Rattle.part.specs.Part.{rankOf}
+use Rattle.part_calls.specs.declared.AreaLengths.{AreaLengths}
 use Rattle.part_calls.specs.front.Calls.{lengthsOf, ownRow, ownRows, ownFreshCall}
 
--- the four lengths that a source and areas have
-abbrev pub lengthsHad : List ℕ → State → List ℕ
-lengthsHad source s = length source ∷ length (s .memories) ∷ length (s .buffer) ∷ length (s .status) ∷ []
+-- the four lengths that a source and areas have, as they are told
+abbrev pub lengthsHad : List ℕ → State → AreaLengths
+lengthsHad source s =
+    record { number = 0; cells = length source; kept = length (s .memories); words = length (s .buffer); messages = length (s .status) }
 
 pub record PartTold (bytes : List ℕ) (route b : ℕ) : Type 0 where
   -- areas of these lengths, and one record: the fresh start gives 0, and in no others
