@@ -22,7 +22,7 @@ import model
 ROOT = os.path.normpath(os.path.join(os.path.dirname(os.path.abspath(__file__)), '..'))
 README = 'README.md'
 PAGES = (README, 'CONTRIBUTING.md', 'bindings/README.md', 'docs/CALLS.md', 'docs/COMMAND.md', 'docs/DEMANDS.md', 'docs/GLOSSARY.md',
-         'docs/INSTALL.md', 'docs/MODELLERS.md', 'docs/PROOFS.md', 'docs/RECIPE.md')
+         'docs/INSTALL.md', 'docs/MODELLERS.md', 'docs/PROOFS.md', 'docs/RECIPE.md', 'docs/VIEW.md')
 
 MOST_LINES = 150
 WORDS_BELOW = 1500
