@@ -208,7 +208,7 @@ def program(found):
     text = source('bindings/c/' + found[1])
     if max(map(len, text.split('\n'))) > COLUMNS:
         raise SystemExit('%s has lines of more than %d columns' % (found[1], COLUMNS))
-    return '<!-- %s -->\n\n```c\n%s```\n\n<!-- end -->' % (found[1], text)
+    return '<!-- %s -->\n\n```c %s\n%s```\n\n<!-- end -->' % (found[1], found[1], text)
 
 
 def filled(page, text):

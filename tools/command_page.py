@@ -25,7 +25,7 @@ def filled(text):
         made = pages.reference(below[found[1]] if found[1] in below else whole)
         example = parser.SUBCOMMANDS[found[1]].EXAMPLE if found[1] in below else ''
         if example:
-            made += '\nFor example:\n\n' + ''.join('    %s\n' % line for line in example.split('\n'))
+            made += '\nFor example:\n\n```sh\n%s\n```\n' % example
         return '<!-- %s -->\n\n%s\n<!-- end -->' % (found[1], made)
 
     names = re.findall(r'^<!-- (\w+) -->$', text, flags=re.M)

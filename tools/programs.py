@@ -72,7 +72,7 @@ def tells_routes():
 
 def tests_for_scripts():
     """Line, recipe and status: the page's one line a program, over a recipe that is accepted, two that are refused, and none at all."""
-    lines = re.findall(r'^    (.*target/bin/(?:%s) < recipe.*)$' % '|'.join(TEXTS), page(recipe_page.PAGE), flags=re.M)
+    lines = re.findall(r'^(.*target/bin/(?:%s) < recipe.*)$' % '|'.join(TEXTS), page(recipe_page.PAGE), flags=re.M)
     row = model.ROWS['D']
     return [(line, recipe, status) for line in lines for recipe, status in ((row, True), (row[16:], False), (b'', False), (None, False))]
 

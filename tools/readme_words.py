@@ -1,20 +1,15 @@
-"""Holds what a newcomer reads to its measure, and its examples to what they print. Run as
+"""Holds what a newcomer reads to its measure. Run as
 
     python3 tools/readme_words.py            # words, lines, counts and limits of README.md; sentences, columns, paths and links of all pages
     python3 tools/readme_words.py first      # writes README.md's first command, for a shell
-    python3 tools/readme_words.py run PAGE   # runs a page's commands and Python in this folder, and compares what they print with the page
 
 A path is a word in backticks, or a link, that looks like a file of the repository: it must exist. Planted faults must be told.
-Status 1 where anything is wrong. `run` takes the blocks `sh` and `python`, in their order; a block `prints` has what the one before it prints.
-Python needs the package: PYTHONPATH=bindings/python, and the library.
+Status 1 where anything is wrong. tools/page_examples.py runs the examples.
 """
 
-import contextlib
 import glob
-import io
 import os
 import re
-import subprocess
 import sys
 
 import model
@@ -30,8 +25,6 @@ MEAN_BELOW = 20
 MOST_COLUMNS = 100
 # bytes of a recipe's record
 RECORD = 16
-# seconds that an example may take; the first of a clone makes the library
-TIME = 300
 # the library's header has the limits; rows of README.md's table by how they begin
 LIBRARY = 'bindings/c/rolwyddac_library.h'
 LIMITS = {'DIMENSIONS': 'dimensions', 'CELLS': 'cells', 'LENGTH': 'length', 'TILES': 'tiles', 'PROCESSORS': 'processors', 'DISTANCES': 'distances',
@@ -155,7 +148,7 @@ def planted():
               missing(README, 'see `docs/nowhere.md`'), missing(README, '[a page](docs/nowhere.md)'),
               missing(README, 'or docs/nowhere.md'), counted(text.replace('crates from', 'crate from')),
               counted(text.replace('| tiles | 1 | 1,024 |', '| tiles | 1 | 1,025 |')), differs(text.replace('  25  29', '  25  30')),
-              wide(README, 'x' * (MOST_COLUMNS + 1)), run('```sh\necho 1\n```\n```prints\n2\n```\n'), run('no example')]
+              wide(README, 'x' * (MOST_COLUMNS + 1))]
     return ['planted fault %d was not told' % at for at, told in enumerate(faults) if not told]
 
 
@@ -176,38 +169,9 @@ def first():
     return 0
 
 
-def printed_by(kind, body, names):
-    """What a block of commands or of Python prints. Python's blocks of a page share their names."""
-    if kind == 'sh':
-        return subprocess.run(['sh', '-eu', '-c', body], stdout=subprocess.PIPE, check=True, timeout=TIME, text=True).stdout
-    printed = io.StringIO()
-    with contextlib.redirect_stdout(printed):
-        exec(compile(body, 'a page', 'exec'), names)  # pylint: disable=exec-used
-    return printed.getvalue()
-
-
-def run(text):
-    """What is wrong with a page's examples, which are run in their order: a block `prints` is what the one before it writes."""
-    wrong, names, printed = [], {}, ''
-    examples = re.findall(r'^```(sh|python|prints)\n(.*?)^```$', text, flags=re.M | re.S)
-    for kind, body in examples:
-        if kind != 'prints':
-            printed = printed_by(kind, body, names)
-            print(body + printed, end='', flush=True)
-        elif printed != body:
-            wrong.append('that was printed, and the page has:\n' + body)
-    if not examples:
-        wrong.append('no examples')
-    return wrong
-
-
 def main(words):
     if words == ['first']:
         return first()
-    if words[:1] == ['run'] and len(words) == 2:
-        wrong = run(page(words[1]))
-        print(*wrong, sep='\n')
-        return int(bool(wrong))
     if words:
         sys.exit(__doc__)
     return held()

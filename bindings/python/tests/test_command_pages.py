@@ -1,6 +1,5 @@
 """The command's words: help, examples, man page, completion, docs/COMMAND.md, the script at the root."""
 
-import importlib.util
 import os
 import re
 import shlex
@@ -17,19 +16,6 @@ from rolwyddac.command import pages, parser
 
 PAGE = content_of(command_page.PAGE).decode()
 CHECKED_OUT = os.path.isfile(os.path.join(ROOT, 'rolwyddac')) and not os.environ.get('ROLWYDDAC_INSTALLED')
-
-
-def missing(example):
-    """The module that an example needs and that is not here."""
-    needed = {'osgeo': ('.tif', '.nc', '--crs'), 'matplotlib': ('--png',)}
-    return [module for module, words in needed.items() if any(word in example for word in words) and not importlib.util.find_spec(module)]
-
-
-def page_examples():
-    """The command lines of docs/COMMAND.md; those that are continued as one."""
-    text = re.sub(r'\\\n +', '', PAGE)
-    return [line.strip() for line in re.findall(r'^    (rolwyddac [a-z-]+ .*)$', text, flags=re.M) if '[' not in line and '(' not in line
-            and not re.search(r'\b(RECIPE|FILE|IN|N)\b', line)]
 
 
 class Words(InFolder):
@@ -59,27 +45,6 @@ class Words(InFolder):
         self.assertEqual(command_page.filled(PAGE), PAGE)
         self.assertNotEqual(command_page.filled(PAGE.replace('`--svg FILE`', '`--picture FILE`')), PAGE.replace('`--svg FILE`', '`--picture FILE`'))
         self.assertEqual([line for line in PAGE.splitlines() if len(line) > 100], [])
-
-    def test_page_examples_run(self):
-        found = page_examples()
-        self.assertGreater(len(found), 10, found)
-        for line in set(found) - {module.EXAMPLE.replace('\\\n    ', '') for module in parser.SUBCOMMANDS.values()}:
-            if missing(line) or line.startswith('rolwyddac boards') and not HAS_BOARDS:
-                continue
-            done = self.run_line(line)
-            self.assertEqual((done.returncode, done.stderr), (0, b''), line)
-
-    def test_page_recipe_is_the_harbours(self):
-        """The recipe of the page is accepted; with the harbour's other distances it has the harbour's bytes."""
-        block = re.search(r'^    shift = 2 .*?(?=\n\nA key)', PAGE, flags=re.M | re.S)[0]
-        text = '\n'.join(line[4:] for line in block.splitlines()) + '\n[[distance]]\nstep = [0, 1]\n[[distance]]\nstep = [1, 1]\n'
-        self.assertEqual(self.ends(0, 'recipe', '-', given=text.encode()), self.ends(0, 'recipe', BASIN))
-
-    def test_page_refusal_is_told_so(self):
-        text = content_of(BASIN).decode().replace('tile = 16', 'tile = 2').replace('[1, 1]', '[1, 4]')
-        told = re.search(r'^    (basin\.toml: refused 6.*)$', PAGE, flags=re.M)[1]
-        self.put('basin.toml', text)
-        self.ends(1, 'plan', 'basin.toml', cwd=self.folder, told=told + '\n')
 
     def test_usage(self):
         self.ends(2, told='the following arguments are required: SUBCOMMAND')

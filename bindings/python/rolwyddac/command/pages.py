@@ -57,8 +57,8 @@ def usage_words(parser: argparse.ArgumentParser) -> List[str]:
 def reference(parser: argparse.ArgumentParser, width: int = 100) -> str:
     """How a subcommand is called, what it does and its options, in Markdown."""
     # a word with its values stays in one line
-    call = textwrap.fill(' '.join(word.replace(' ', '\0') for word in usage_words(parser)), width - 4, subsequent_indent='    ', break_on_hyphens=False)
-    text = textwrap.indent(call, '    ') + '\n\n' + textwrap.fill(' '.join((parser.description or '').split()), width, break_on_hyphens=False) + '\n\n'
+    call = textwrap.fill(' '.join(word.replace(' ', '\0') for word in usage_words(parser)), width, subsequent_indent='    ', break_on_hyphens=False)
+    text = '```usage\n' + call + '\n```\n\n' + textwrap.fill(' '.join((parser.description or '').split()), width, break_on_hyphens=False) + '\n\n'
     for written, told in options(parser):
         text += textwrap.fill('- `%s`: %s' % (written.replace(' ', '\0'), told), width, subsequent_indent='  ', break_on_hyphens=False) + '\n'
     return text.replace('\0', ' ')
