@@ -1,14 +1,12 @@
--- Without bounds the plan of a nest is the box's, with bounds the shape's: what is calculated, found of the records and collected
--- by either is what the plan asks for.
+-- Without bounds the plan of a nest is the box's, with bounds the shape's: what is calculated and collected by either
+-- is what the plan asks for.
 use Prim.Native.Nat.{ℕ, _<_}
 use mathlib.Core.Path.{_≡_, sym, ap, _∙_}
-use mathlib.Core.Bool.{Bool}
 use mathlib.Core.List.{List}
 use native.Mathlib.Omega.{arith}
-use Rattle.base.specs.Tests.{every, some}
 use Rattle.base.specs.Lists.{storeAll}
 use Rattle.machine.specs.Plan.{Plan}
-use Rattle.machine.specs.Machine.{State, fitRecord, tilesLeft, collected}
+use Rattle.machine.specs.Machine.{State, collected}
 use Rattle.nest.specs.declared.Nest.{Nest}
 use Rattle.nest.specs.Accepted.{Accepted}
 use Rattle.nest.specs.Nest.{boxTiles}
@@ -34,12 +32,6 @@ module _ (x : Nest) (r : Route) where
 
     pub box-collected : (s : State) (new : List ℕ) → new ≡ collected (boxPlan r x) s → new ≡ collected (planOf r x) s
     box-collected s new h = h ∙ ap (λ (q : Plan). collected q s) is
-
-    pub box-fit : (s : State) (n : ℕ) (b : Bool) → b ≡ every (fitRecord (boxPlan r x) s) n → b ≡ every (fitRecord (planOf r x) s) n
-    box-fit s n b h = h ∙ ap (λ (q : Plan). every (fitRecord q s) n) is
-
-    pub box-tiles-left : (s : State) (n : ℕ) (b : Bool) → b ≡ some (tilesLeft (boxPlan r x) s) n → b ≡ some (tilesLeft (planOf r x) s) n
-    box-tiles-left s n b h = h ∙ ap (λ (q : Plan). some (tilesLeft q s) n) is
 
   module _ (d : r ≡ Direct) where
     pub shape-low : (t : ℕ) → t < planOf r x .tiles → t < tiles x

@@ -12,7 +12,6 @@ ghost use Rattle.nest.specs.Nest.{cells, processors};
 ghost use Rattle.plan.specs.Messages.{boxPlan};
 ghost use Rattle.plan.specs.Shaped.{planOf};
 ghost use Rattle.layout.specs.Sizes.{Sized};
-ghost use Rattle.tables.specs.boxes.Table.{Table};
 ghost use Rattle.tables.specs.Tables.{Routed, Tabled, FoundIn};
 ghost use Rattle.stages.specs.Progress.{progressOnly, setRecord};
 use base::copy_words;
@@ -289,8 +288,8 @@ fn fit_record(
     sent == 0
 }
 
-// By the table: all records are fit.
-fn table_records(nest: Nest, sizes: Sizes, lens: &[u16; 9217], progress: &[u32]) -> bool
+// All records are fit.
+pub fn fit_records(nest: Nest, sizes: Sizes, lens: &[u16; 9217], progress: &[u32]) -> bool
     requires { ⌜ Sized nest sizes × (Tabled nest sizes (now lens) × (length (now progress) ≡ 3 * processors nest)) ⌝ }
     ensures { λ r. ⌜ r ≡ every (fitRecord (planOf (sizes .route) nest) (progressOnly (now (progress .entry)))) (processors nest) ⌝ }
 {
@@ -303,68 +302,6 @@ fn table_records(nest: Nest, sizes: Sizes, lens: &[u16; 9217], progress: &[u32])
         b += 1;
     }
     true
-}
-
-// Without bounds: the record of one processor is fit.
-fn box_record(
-    nest: Nest,
-    sizes: Sizes,
-    lens: &[u16; 9217],
-    progress: &[u32],
-    processor: usize,
-) -> bool
-    requires { ⌜ Sized nest sizes × (Table (sizes .route) nest (now lens) × (3 * processor + 2 < length (now progress))) ⌝ }
-    ensures { λ r. ⌜ r ≡ fitRecord (boxPlan (sizes .route) nest) (progressOnly (now (progress .entry))) processor ⌝ }
-{
-    let finished = word_index(progress[3 * processor]);
-    let stage = progress[3 * processor + 1];
-    let sent = word_index(progress[3 * processor + 2]);
-    let n = layout::tile_count(nest, sizes, processor);
-    if finished < n {
-        if stage == 2 {
-            let tile = layout::tile_at(nest, sizes, processor, finished);
-            let sends = tables::boxes::count_at(nest, sizes, lens, tile, 0);
-            return sent < sends;
-        }
-        if stage > 2 {
-            return false;
-        }
-        return sent == 0;
-    }
-    if finished != n {
-        return false;
-    }
-    if stage != 0 {
-        return false;
-    }
-    sent == 0
-}
-
-// Without bounds: all records are fit.
-fn box_records(nest: Nest, sizes: Sizes, lens: &[u16; 9217], progress: &[u32]) -> bool
-    requires { ⌜ Sized nest sizes × (Table (sizes .route) nest (now lens) × (length (now progress) ≡ 3 * processors nest)) ⌝ }
-    ensures { λ r. ⌜ r ≡ every (fitRecord (boxPlan (sizes .route) nest) (progressOnly (now (progress .entry)))) (processors nest) ⌝ }
-{
-    let n = sizes.processors;
-    let mut b = 0;
-    while b < n {
-        if !box_record(nest, sizes, lens, progress, b) {
-            return false;
-        }
-        b += 1;
-    }
-    true
-}
-
-// All records are fit. The bounds are looked at once, not for each processor.
-pub fn fit_records(nest: Nest, sizes: Sizes, lens: &[u16; 9217], progress: &[u32]) -> bool
-    requires { ⌜ Sized nest sizes × (Tabled nest sizes (now lens) × (length (now progress) ≡ 3 * processors nest)) ⌝ }
-    ensures { λ r. ⌜ r ≡ every (fitRecord (planOf (sizes .route) nest) (progressOnly (now (progress .entry)))) (processors nest) ⌝ }
-{
-    if nest.bounds == 0 {
-        return box_records(nest, sizes, lens, progress);
-    }
-    table_records(nest, sizes, lens, progress)
 }
 
 // All marks are fit.
@@ -381,8 +318,8 @@ pub fn fit_status(status: &[u8]) -> bool
     true
 }
 
-// By the table: some processor has tiles left.
-fn table_left(nest: Nest, sizes: Sizes, lens: &[u16; 9217], progress: &[u32]) -> bool
+// Some processor has tiles left.
+pub fn tiles_left(nest: Nest, sizes: Sizes, lens: &[u16; 9217], progress: &[u32]) -> bool
     requires { ⌜ Sized nest sizes × (Tabled nest sizes (now lens) × (length (now progress) ≡ 3 * processors nest)) ⌝ }
     ensures { λ r. ⌜ r ≡ some (tilesLeft (planOf (sizes .route) nest) (progressOnly (now (progress .entry)))) (processors nest) ⌝ }
 {
@@ -397,35 +334,6 @@ fn table_left(nest: Nest, sizes: Sizes, lens: &[u16; 9217], progress: &[u32]) ->
         b += 1;
     }
     false
-}
-
-// Without bounds: some processor has tiles left.
-fn box_left(nest: Nest, sizes: Sizes, progress: &[u32]) -> bool
-    requires { ⌜ Sized nest sizes × (length (now progress) ≡ 3 * processors nest) ⌝ }
-    ensures { λ r. ⌜ r ≡ some (tilesLeft (boxPlan (sizes .route) nest) (progressOnly (now (progress .entry)))) (processors nest) ⌝ }
-{
-    let n = sizes.processors;
-    let mut b = 0;
-    while b < n {
-        let finished = word_index(progress[3 * b]);
-        let all = layout::tile_count(nest, sizes, b);
-        if finished < all {
-            return true;
-        }
-        b += 1;
-    }
-    false
-}
-
-// Some processor has tiles left. The bounds are looked at once, not for each processor.
-pub fn tiles_left(nest: Nest, sizes: Sizes, lens: &[u16; 9217], progress: &[u32]) -> bool
-    requires { ⌜ Sized nest sizes × (Tabled nest sizes (now lens) × (length (now progress) ≡ 3 * processors nest)) ⌝ }
-    ensures { λ r. ⌜ r ≡ some (tilesLeft (planOf (sizes .route) nest) (progressOnly (now (progress .entry)))) (processors nest) ⌝ }
-{
-    if nest.bounds == 0 {
-        return box_left(nest, sizes, progress);
-    }
-    table_left(nest, sizes, lens, progress)
 }
 
 // Without bounds: each cell from the memory of its tile's processor. The last dimension is never spread, so a row has one processor.
