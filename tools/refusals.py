@@ -9,7 +9,9 @@ target/must-fail/CRATE/WHAT. The gate is content with any refusal. This asks mor
 - the log is there, and it is of the edit and the crate as they stand now;
 - the first error of the edit is a fact that no longer holds, not a name that is missing or a text that can't be read;
 - each function that the edit's line `refused:` names is refused for an error in its own proof. A caller of a refused
-  function is not proved either, which shows nothing of the caller.
+  function is not proved either, which shows nothing of the caller;
+- each law that the edit's line `law: FILE NAME` names is refused for an error of its own, in that file. So an edit that
+  changes several definitions is held to one law for each of them.
 
 It prints a line a fault and then a line with the counts. The status is 1 where there is a fault.
 """
@@ -32,13 +34,13 @@ VERDICT = re.compile(r'^fn (\S+): (.*)$')
 
 
 class Edit:
-    """One .edit file: its pairs, and the functions that it names."""
+    """One .edit file: its pairs, and the functions and the laws that it names."""
 
     def __init__(self, root, crate, what):
         self.crate, self.what = crate, what
         self.folder = os.path.join(root, 'crates', crate)
         self.tried = os.path.join(root, 'target', 'must-fail', crate, what)
-        self.pairs, self.functions = [], []
+        self.pairs, self.functions, self.laws = [], [], []
         file = old = None
         for line in read(os.path.join(self.folder, 'must-fail', what + '.edit')).split('\n'):
             if line.startswith('file: '):
@@ -50,6 +52,9 @@ class Edit:
                 self.pairs.append((file, old, new[1:] if new.startswith(' ') else new))
             elif line.startswith('refused:'):
                 self.functions += line[len('refused:'):].split()
+            elif line.startswith('law:'):
+                place, *names = line[len('law:'):].split()
+                self.laws += [(place, law) for law in names]
 
     def name(self):
         return self.crate + '/' + self.what
@@ -85,6 +90,10 @@ class Log:
         files = [os.path.join('proofs', above, mark + last, 'Proof.antt') for mark in ('', '+')]
         return [e for e in self.errors if e[0] in files]
 
+    def of_law(self, place, law):
+        """The errors of the law of this name in this file."""
+        return [e for e in self.errors if e[0] == place and e[2].startswith('`%s`: ' % law)]
+
 
 def read(path):
     with open(path, encoding='utf-8') as file:
@@ -119,6 +128,16 @@ def function_fault(edit, log, path):
     return None
 
 
+def law_fault(log, place, law):
+    """What is wrong with the refusal of a law that the edit names, or None."""
+    own = log.of_law(place, law)
+    if not own:
+        return '%s of %s is refused for no error of its own' % (law, place)
+    if not is_fact(own[0][2]):
+        return '%s is refused for its shape: %s' % (law, shown(own[0]))
+    return None
+
+
 def log_faults(edit, text):
     """What is wrong with an edit's refusal by its log."""
     log = Log(edit, text)
@@ -131,6 +150,7 @@ def log_faults(edit, text):
     elif not log.notes:
         faults.append('it is refused without an error')
     faults += [function_fault(edit, log, path) for path in edit.functions]
+    faults += [law_fault(log, place, law) for place, law in edit.laws]
     return [fault for fault in faults if fault]
 
 
@@ -172,6 +192,23 @@ def planted_faults(edit):
         planted['a text that is not closed'] = '\n'.join(lines[:first] + [place + 'the `(` is never closed'] + lines[first + 1:])
         callers = '\n'.join(line for line in lines if not ERROR.match(line) or REPEATED in line)
         planted['no error of its own'] = callers.replace(UNFOUND, 'it calls `another`')
+    return untold(edit, planted)
+
+
+def planted_law_faults(edit):
+    """The same of a law that is named."""
+    place, law = edit.laws[0]
+    its = re.compile(r'(?m)^(\S*/%s:\d+:\d+: error: `%s`): .*$' % (re.escape(place), re.escape(law)))
+    text = read(os.path.join(edit.tried, '.log'))
+    return untold(edit, {
+        'a law that is admitted': its.sub('', text),
+        'a law that only repeats an error': its.sub(r'\1: `another` ' + REPEATED, text),
+        'a name that a law lacks': its.sub(r'\1: `another` is not in scope', text),
+    })
+
+
+def untold(edit, planted):
+    """The planted faults that the edit's refusal passes with."""
     return ['planted in its log, not told: ' + what for what, doctored in planted.items() if not log_faults(edit, doctored)]
 
 
@@ -190,16 +227,19 @@ def main():
                         help='the repository; that of this file unless given')
     root = parser.parse_args().root
     edits = list(edits_of(root))
-    faults, refused, planted = [], 0, False
+    faults, functions, laws, planted = [], 0, 0, set()
     for edit in edits:
         found = edit_faults(edit)
-        if edit.functions and not found and not planted:
-            found, planted = planted_faults(edit), True
-        refused += 0 if found else len(edit.functions)
+        for named, plant in ((edit.functions, planted_faults), (edit.laws, planted_law_faults)):
+            if named and not found and plant not in planted:
+                planted.add(plant)
+                found = plant(edit)
+        functions += 0 if found else len(edit.functions)
+        laws += 0 if found else len(edit.laws)
         faults += ['%s: %s' % (edit.name(), fault) for fault in found]
     for fault in faults:
         print(fault)
-    print('%d edits, %d functions refused, %d faults' % (len(edits), refused, len(faults)))
+    print('%d edits, %d functions and %d laws refused, %d faults' % (len(edits), functions, laws, len(faults)))
     return 1 if faults or not edits else 0
 
 
