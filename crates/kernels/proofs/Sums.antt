@@ -447,6 +447,15 @@ module _ {f : List ℕ → ℕ → ℕ} {memory₀ memory : List ℕ} {a t n y :
   pub waving-end : n ≤ y → memory ≡ storeAll f memory₀ (waveOf a t n)
   waving-end h = let z : y ≡ n = omega (arith, p .low) in rw z at (p .is)
 
+  -- the column whose cells a turn of the loop stores: their numbers are small, and the word of each can be made in a memory of the same length
+  module _ {m : ℕ} {backs weights : List ℕ} {outside shift sources : ℕ} (g : Fits m backs weights outside shift a (3 * t + n) sources (length memory₀))
+      (l : y < n) where
+    pub column-small : a + y + t + t + t < 16384
+    column-small = omega (arith, g .within, g .small)
+
+    pub column-fits : (c words : ℕ) → a ≤ c → c ≤ a + y + t + t + t → words ≡ length memory → Fits m backs weights outside shift c 1 sources words
+    column-fits c words h k e = fits-at g c 1 words h (omega arith) (e ∙ waving-long)
+
 -- ---- the same taps, one by one and in arrays
 
 pub record Same (n n′ : ℕ) (backs weights backs′ weights′ : List ℕ) : Type 0 where

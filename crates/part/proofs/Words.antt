@@ -19,6 +19,13 @@ use Rattle.rank_index.specs.Ranks.{markedAt, markedCells, rankAt, spreadOut}
 use Rattle.rank_index.proofs.Ranks as ranks
 use Rattle.part.specs.Part.{allOf, Listed}
 
+-- the i-th word of the words is cell c's, and stands at place r of the memory: all of them small
+pub record Moves (memory words : List ℕ) (i c r : ℕ) : Type 0 where
+  pub cell : c < 16384
+  pub place : r < length memory
+  pub short : length memory ≤ 16384
+  pub next : i < length words
+
 module _ (marks : List ℕ) where
   -- ---- words in and out
 
@@ -58,6 +65,16 @@ module _ (marks : List ℕ) where
 
       pub at-next : (r : ℕ) → r ≡ rankAt marks c → r + 1 ≡ rankAt marks (c + 1)
       at-next r q = omega (arith, q, keep-more (markedAt marks) c cell-marked, ap (rankAt marks) (add-one c))
+
+      -- the numbers of a turn, all small
+      pub moves : (r : ℕ) → r ≡ rankAt marks c → Moves memory words i c r
+      moves r q =
+          record {
+            cell = omega (arith, cell-low, g .few);
+            place = at-room r q;
+            short = omega (arith, g .part-long, g .few, ranks.rank-most marks (length marks));
+            next = omega (arith, g .words-long);
+          }
 
     module _ (now : List ℕ) (known at i : ℕ) (t : Taking cells memory words now known at i) where
       pub take-next : (c r : ℕ) → i < length cells → c ≡ getD cells i 0 → r ≡ rankAt marks c

@@ -2,28 +2,29 @@
 use Prim.Native.Nat.{ℕ, _+_, _*_, _/_, _%_}
 use mathlib.Core.Path.{_≡_, refl, _∙_}
 use native.Mathlib.Omega.{arith}
-use lib.ListN.{set, replicate}
+use mathlib.Core.List.{_∷_}
+use lib.ListN.{replicate}
 use Rattle.nest.specs.Encode.{low, high, dimensionRecord, narrowRecord, wideRecord, boundRecord, closeRecord}
 
 pub dimension-made : (l t p a b c d e f : ℕ) → a ≡ low l → b ≡ high l → c ≡ low t → d ≡ high t → e ≡ low p → f ≡ high p
-    → set (set (set (set (set (set (set (replicate 16 0) 0 1) 2 a) 3 b) 4 c) 5 d) 6 e) 7 f ≡ dimensionRecord l t p
+    → 1 ∷ 0 ∷ a ∷ b ∷ c ∷ d ∷ e ∷ f ∷ replicate 8 0 ≡ dimensionRecord l t p
 unfolding dimensionRecord
 dimension-made l t p a b c d e f e1 e2 e3 e4 e5 e6 = rw (e1, e2, e3, e4, e5, e6) refl
 
 pub narrow-made : (d1 d2 d3 d4 w a b c d e f : ℕ) → a ≡ low d1 → b ≡ low d2 → c ≡ low d3 → d ≡ low d4 → e ≡ low w → f ≡ high w
-    → set (set (set (set (set (set (set (replicate 16 0) 0 2) 2 a) 3 b) 4 c) 5 d) 6 e) 7 f ≡ narrowRecord d1 d2 d3 d4 w
+    → 2 ∷ 0 ∷ a ∷ b ∷ c ∷ d ∷ e ∷ f ∷ replicate 8 0 ≡ narrowRecord d1 d2 d3 d4 w
 unfolding narrowRecord
 narrow-made d1 d2 d3 d4 w a b c d e f e1 e2 e3 e4 e5 e6 = rw (e1, e2, e3, e4, e5, e6) refl
 
 pub wide-made : (d1 d2 d3 d4 w a b c d e f g h k l : ℕ) → a ≡ low d1 → b ≡ high d1 → c ≡ low d2 → d ≡ high d2 → e ≡ low d3 → f ≡ high d3
     → g ≡ low d4 → h ≡ high d4 → k ≡ low w → l ≡ high w
-    → set (set (set (set (set (set (set (set (set (set (set (replicate 16 0) 0 4) 2 a) 3 b) 4 c) 5 d) 6 e) 7 f) 8 g) 9 h) 10 k) 11 l
+    → 4 ∷ 0 ∷ a ∷ b ∷ c ∷ d ∷ e ∷ f ∷ g ∷ h ∷ k ∷ l ∷ replicate 4 0
     ≡ wideRecord d1 d2 d3 d4 w
 unfolding wideRecord
 wide-made d1 d2 d3 d4 w a b c d e f g h k l e1 e2 e3 e4 e5 e6 e7 e8 e9 e10 = rw (e1, e2, e3, e4, e5, e6, e7, e8, e9, e10) refl
 
 pub close-made : (s v a b c d e : ℕ) → a ≡ low s → b ≡ low v → c ≡ high v → d ≡ low (v / 65536) → e ≡ high (v / 65536)
-    → set (set (set (set (set (set (replicate 16 0) 0 3) 1 a) 4 b) 5 c) 6 d) 7 e ≡ closeRecord s v
+    → 3 ∷ a ∷ 0 ∷ 0 ∷ b ∷ c ∷ d ∷ e ∷ replicate 8 0 ≡ closeRecord s v
 unfolding closeRecord
 close-made s v a b c d e e1 e2 e3 e4 e5 = rw (e1, e2, e3, e4, e5) refl
 
@@ -32,7 +33,7 @@ wraps a b q e = omega arith
 
 pub bound-made : (s d p v w a b c e f g : ℕ) → a ≡ low s → b ≡ low d → c ≡ low p → e ≡ low (v % 256 + 255) → f ≡ low (w % 65536 + 32768) → g ≡ high
     (w % 65536 + 32768)
-    → set (set (set (set (set (set (set (replicate 16 0) 0 5) 1 a) 2 b) 3 c) 4 e) 6 f) 7 g ≡ boundRecord s d p v w
+    → 5 ∷ a ∷ b ∷ c ∷ e ∷ 0 ∷ f ∷ g ∷ replicate 8 0 ≡ boundRecord s d p v w
 unfolding boundRecord
 bound-made s d p v w a b c e f g e1 e2 e3 e4 e5 e6 =
     let q1 : low (v % 256 + 255) ≡ low (v + 255) = omega arith in
