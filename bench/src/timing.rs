@@ -409,7 +409,7 @@ fn shapes(engine: &dyn Engine, rounds: usize) {
     if !engine.has(Request::Shapes) {
         return;
     }
-    println!("Shapes: a recipe with bounds against its box, N 128,128, P 8,0, three distances; aim 10\n");
+    println!("Shapes: a recipe with bounds against its box; aim 10\n");
     println!("| shape | what | cells | shaped µs | box µs | ratio |");
     println!("|---|---|---|---|---|---|");
     for (label, shaped) in shaped() {
@@ -440,13 +440,24 @@ fn shapes(engine: &dyn Engine, rounds: usize) {
 
 /// the shapes that are timed: nothing cut off, a triangle, a band
 fn shaped() -> Vec<(String, Numbers)> {
+    let square = |tile: u16| Numbers::new(&[[128, tile, 8], [128, tile, 0]], &NEAR);
+    let near_of_3: [&[u16]; 4] = [&[1, 0, 0], &[0, 1, 0], &[0, 0, 1], &[1, 1, 1]];
+    let three = Numbers::new(&[[16, 4, 4], [16, 4, 2], [16, 4, 0]], &near_of_3);
+    let near_of_4: [&[u16]; 5] = [&[1, 0, 0, 0], &[0, 1, 0, 0], &[0, 0, 1, 0], &[0, 0, 0, 1], &[1, 1, 1, 1]];
+    let four = Numbers::new(&[[8, 2, 2], [8, 2, 2], [8, 2, 2], [8, 4, 0]], &near_of_4);
+    let boxes = [
+        ("N 128,128, k 16,16, P 8,0", square(16)),
+        ("the same with k 4,4", square(4)),
+        ("N 16,16,16, k 4,4,4, P 4,2,0", three),
+        ("N 8,8,8,8, k 2,2,2,4, P 2,2,2,0", four),
+    ];
     let mut all = vec![];
-    for tile in [16, 4] {
-        let numbers = Numbers::new(&[[128, tile, 8], [128, tile, 0]], &NEAR);
-        all.push((format!("k {tile},{tile}, the whole box"), numbers.clone().within(&[(1, 1, 0, 0, 127)])));
-        all.push((format!("k {tile},{tile}, a triangle"), numbers.clone().within(&[(1, 1, 0, 1, 0)])));
-        let band = [(0, 1, 0, 1, -16), (1, 1, 0, 1, 16)];
-        all.push((format!("k {tile},{tile}, a band"), numbers.within(&band)));
+    for (label, numbers) in boxes {
+        let (last, length) = (numbers.dimensions.len() as u8 - 1, numbers.dimensions[0][0] as i16);
+        all.push((format!("{label}, the whole box"), numbers.clone().within(&[(1, last, 0, 0, length - 1)])));
+        all.push((format!("{label}, a triangle"), numbers.clone().within(&[(1, last, 0, 1, 0)])));
+        let band = [(0, last, 0, 1, -length / 8), (1, last, 0, 1, length / 8)];
+        all.push((format!("{label}, a band"), numbers.within(&band)));
     }
     all
 }
@@ -587,7 +598,7 @@ mod tests {
                 case.call(&model, &setting);
                 case.areas.progress[setting.processor as usize] = Progress::default();
             }
-            if label.starts_with("k 16") {
+            if !label.starts_with("the same") {
                 case.whole_run(&model);
                 let grid = case.grid.clone();
                 case.sweep(&model);

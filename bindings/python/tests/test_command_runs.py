@@ -5,6 +5,7 @@ import glob
 import json
 import os
 import re
+import shutil
 import signal
 import struct
 import subprocess
@@ -44,7 +45,7 @@ class Plans(InFolder):
                 self.assertEqual({area: found['areas'][area]['elements'] for area in found['areas']}, {
                     'source': wanted.cells, 'memories': wanted.cells * wanted.boards, 'buffer': wanted.words, 'progress': wanted.boards,
                     'status': len(wanted.messages), 'grid': wanted.cells, 'engaged': wanted.boards})
-                self.assertEqual(sum(part['source'] for part in found['own_parts']), sum(wanted.inside))
+                self.assertEqual(sum(part['source'] for part in found['parts']), sum(wanted.inside))
 
     def test_json(self):
         """The keys that docs/COMMAND.md tells, and no others."""
@@ -264,6 +265,34 @@ class Boards(InFolder):
         self.ends(1, 'boards', small, '--seed', 1, '--grid', self.path('g'), env={'ROLWYDDAC_BOARDS': failing},
                   told='lost\nthe program boards ended with status 5')
         self.assertFalse(os.path.exists(self.path('g')))
+
+    def test_started_by_mpirun(self):
+        """As many processes as the recipe has processors, by the words that were given, the same options behind them."""
+        mpirun = self.put('mpirun', '#!/bin/sh\nprintf "%%s\\n" "$@" > %s\nexit 5\n' % self.path('words'))
+        os.chmod(mpirun, 0o755)
+        small, found = self.put('r', SMALL), {'PATH': self.folder + os.pathsep + os.environ['PATH'], 'ROLWYDDAC_BOARDS_MPI': 'the program'}
+        self.ends(1, 'boards', small, '--seed', 1, '--mpi', '--timeout', 3, env=found, told='the program boards ended with status 5')
+        first = content_of(self.path('words')).decode().split('\n')
+        self.assertEqual((first[:3], first[4:5], first[-5:-1]), (['-n', '2', 'the program'], ['--grid'], ['--seed', '1', '--timeout', '3']))
+        self.ends(1, 'boards', small, '--seed', 1, '--mpi', '--mpirun', 'mpirun --hostfile "a file"', env=found)
+        self.assertEqual(content_of(self.path('words')).decode().split('\n')[:4], ['--hostfile', 'a file', '-n', '2'])
+        self.ends(2, 'boards', small, '--seed', 1, '--mpirun', 'mpirun', told='--mpirun goes with --mpi')
+        self.ends(2, 'boards', small, '--seed', 1, '--mpi', '--mpirun', 'no-mpirun -v', told='--mpi needs OpenMPI: there is no no-mpirun in PATH')
+        self.ends(2, 'boards', small, '--seed', 1, '--mpi', '--mpirun', '"', told='--mpirun ": No closing quotation')
+        self.ends(2, 'boards', small, '--seed', 1, '--mpi', '--mpirun', '', told='there is no mpirun in PATH')
+
+    @unittest.skipUnless(shutil.which('mpirun') and shutil.which('mpicc'), 'no OpenMPI')
+    def test_over_mpi(self):
+        """The grid is the model's, on either route; what mpirun has to say is told."""
+        source = [7, 8, 9, 10]
+        words = self.put('s', struct.pack('<4I', *source))
+        root = {'OMPI_ALLOW_RUN_AS_ROOT': '1', 'OMPI_ALLOW_RUN_AS_ROOT_CONFIRM': '1'}
+        for route in ('direct', 'indirect'):
+            written = self.ends(0, 'boards', self.put('r', SMALL), '--source', words, '--grid', self.path('g'), '--route', route, '--mpi',
+                                '--mpirun', 'mpirun --oversubscribe', env=root)
+            self.assertEqual(written, b'boards 2 messages 1 words 1: done, equal to the sweep\n')
+            self.assertEqual(list(array.array('I', content_of(self.path('g')))), model.plan_of(toml.parts_of_text(SMALL).encoded())[1].swept(source))
+        self.ends(1, 'boards', self.path('r'), '--seed', 1, '--mpi', '--mpirun', 'mpirun --no-such-option', env=root, told='no-such-option')
 
     def test_ended(self):
         """A signal to the command ends the program, and its folder is gone."""

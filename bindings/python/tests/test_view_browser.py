@@ -316,8 +316,9 @@ FRAMES = '''(async () => {
 })()'''
 
 
-def frames():
-    """Milliseconds for 128 by 128 cells: the median, 95 of 100, the most."""
+def frames(as_table=False):
+    """Milliseconds for 128 by 128 cells: the median, 95 of 100, the most; as rows of docs/BENCHMARKS.md the ranges of three runs."""
+    runs = []
     begun = time.time()
     content = made(WIDE)
     print('page of %d bytes in %.1f s; load %s' % (len(content), time.time() - begun, ' '.join('%.1f' % load for load in os.getloadavg())))
@@ -328,13 +329,18 @@ def frames():
             path.write_bytes(content)
             for _ in range(3):
                 browser.open(path)
-                print(json.dumps(browser.js(FRAMES)), 'load %.1f' % os.getloadavg()[0])
+                runs.append(browser.js(FRAMES))
+                print(json.dumps(runs[-1]), 'load %.1f' % os.getloadavg()[0])
     finally:
         browser.close()
+    named = {'frame': 'a frame at 120 calls a second', 'step': 'one step of the run', 'cell': 'a cell pointed at', 'tile': 'a tile chosen'}
+    for what, label in named.items() if as_table else ():
+        ends = [(min(times), max(times)) for times in zip(*(run[what] for run in runs))]
+        print('| %s | %s |' % (label, ' | '.join('%g' % low if low == high else '%g to %g' % (low, high) for low, high in ends)))
 
 
 if __name__ == '__main__':
-    if sys.argv[1:] == ['frames']:
-        frames()
+    if sys.argv[1:2] == ['frames']:
+        frames(as_table=sys.argv[2:] == ['table'])
     else:
         unittest.main()

@@ -5,6 +5,7 @@ from __future__ import annotations
 import argparse
 import array
 import os
+import shlex
 import shutil
 import signal
 import subprocess
@@ -24,14 +25,17 @@ from .texts import tell
 from .toml import Recipe, recipe_of
 
 HELP = 'run a recipe on processes that share no memory'
-MORE = '''One process a board, over sockets on this machine: bindings/boards/MANUAL.md. The grid is held to the sweep of one processor
-before anything is written. In a clone the program is built first; else it is looked for as rolwyddac-boards, or as ROLWYDDAC_BOARDS names it. A run
-that fails, as by a board that is lost, has status 1.'''
+MORE = '''One process a board, over sockets on this machine: bindings/boards/MANUAL.md. With --mpi they are started by mpirun, on the
+machines that it is told of; the first of them has to be this one, whose files are read and written. The grid is held to the sweep of one processor
+before anything is written. In a clone the program is built first; else it is looked for as rolwyddac-boards, or as ROLWYDDAC_BOARDS names it (with
+--mpi rolwyddac-boards-mpi, ROLWYDDAC_BOARDS_MPI). A run that fails, as by a board that is lost, has status 1.'''
 EXAMPLE = 'rolwyddac boards data/harbour/basin.toml --seed 1'
 
 _ROOT = os.path.normpath(os.path.join(os.path.dirname(os.path.abspath(__file__)), '..', '..', '..', '..'))
-_PROGRAM = 'rolwyddac-boards'
-_NAMED = 'ROLWYDDAC_BOARDS'
+# by transport: the program's name in the clone, its name where it is installed, the variable that may name another
+_PROGRAMS = {'sockets': ('boards', 'rolwyddac-boards', 'ROLWYDDAC_BOARDS'), 'mpi': ('boards_mpi', 'rolwyddac-boards-mpi', 'ROLWYDDAC_BOARDS_MPI')}
+_MPIRUN = 'mpirun'
+_MPICC = 'mpicc'
 
 # the program's statuses that are not this command's: what they mean stands in its manual, and it has told what happened
 _STATUSES = {0: DONE, 2: USAGE, 7: FILE}
@@ -53,22 +57,41 @@ def declare(parser: argparse.ArgumentParser) -> None:
     parser.add_argument('--grid', metavar='FILE', help='the grid as words of 4 bytes, the low byte first')
     parser.add_argument('--timeout', metavar='SECONDS', help='how long a board waits for mail; 10 where not given')
     parser.add_argument('--times', action='store_true', help='write how long the run and the sweep took')
+    parser.add_argument('--mpi', action='store_true', help='over MPI: the boards are started by mpirun, one process a board')
+    parser.add_argument('--mpirun', metavar='COMMAND', help='how --mpi starts them, as "mpirun --hostfile hosts"; mpirun where not given')
 
 
-def _program() -> str:
+def _program(transport: str) -> str:
     """The program: named, built in the clone, or installed."""
-    named, build = os.environ.get(_NAMED), os.path.join(_ROOT, 'bindings', 'boards', 'build')
+    built, installed, variable = _PROGRAMS[transport]
+    named, build = os.environ.get(variable), os.path.join(_ROOT, 'bindings', 'boards', 'build')
     if named:
         return named
     if os.access(build, os.X_OK):
+        if transport == 'mpi' and not shutil.which(_MPICC):
+            raise Usage('--mpi needs OpenMPI: there is no mpicc in PATH')
         out = os.path.join(_ROOT, 'target', 'boards')
-        if subprocess.run([build, out, 'plain', 'sockets'], stdin=subprocess.DEVNULL, stdout=2).returncode:
+        if subprocess.run([build, out, 'plain', transport], stdin=subprocess.DEVNULL, stdout=2).returncode:
             raise Usage('the program boards can\'t be built here')
-        return os.path.join(out, 'boards')
-    found = shutil.which(_PROGRAM) or shutil.which(_PROGRAM, path=os.path.join(sys.prefix, 'bin'))
+        return os.path.join(out, built)
+    found = shutil.which(installed) or shutil.which(installed, path=os.path.join(sys.prefix, 'bin'))
     if not found:
-        raise Usage('the program %s is not in PATH; the Debian package has it, and %s may name one' % (_PROGRAM, _NAMED))
+        has = 'the Debian package has it' if transport == 'sockets' else 'bindings/boards/build makes boards_mpi in a clone'
+        raise Usage('the program %s is not in PATH; %s, and %s may name one' % (installed, has, variable))
     return found
+
+
+def _start(words: argparse.Namespace, processors: int) -> List[str]:
+    """The words that start the program: over MPI as many processes as the recipe has processors."""
+    if not words.mpi:
+        return [_program('sockets')]
+    try:
+        start = shlex.split(_MPIRUN if words.mpirun is None else words.mpirun)
+    except ValueError as error:
+        raise Usage('--mpirun %s: %s' % (words.mpirun, error)) from None
+    if not start or not shutil.which(start[0]):
+        raise Usage('--mpi needs OpenMPI: there is no %s in PATH' % (start[0] if start else _MPIRUN))
+    return [*start, '-n', str(processors), _program('mpi')]
 
 
 def _ran(command: List[str]) -> bytes:
@@ -102,11 +125,11 @@ class _Ended(Fault):
         self.status = status
 
 
-def _swept(recipe: Recipe, words: argparse.Namespace, folder: str) -> bytes:
+def _swept(recipe: Recipe, words: argparse.Namespace, processors: int, folder: str) -> bytes:
     """Runs the program in a folder of its own; the grid's bytes."""
     encoded, grid = os.path.join(folder, 'recipe'), os.path.join(folder, 'grid')
     files.write(encoded, recipe.encoded)
-    command = [_program(), encoded, '--grid', grid, '--route', words.route]
+    command = [*_start(words, processors), encoded, '--grid', grid, '--route', words.route]
     if words.seed is None:
         source = os.path.join(folder, 'source')
         files.write(source, array.array('I', source_of(recipe, words)).tobytes())
@@ -127,16 +150,18 @@ def run(words: argparse.Namespace) -> int:
     """Does what the words say."""
     if words.seed is not None and words.value is not None:
         raise Usage('--value goes with --soundings')
+    if words.mpirun is not None and not words.mpi:
+        raise Usage('--mpirun goes with --mpi')
     hold_outputs(words, words.grid)
     recipe = recipe_of(words.recipe)
     try:
-        sizes(recipe.encoded, ROUTES[words.route])
+        processors = sizes(recipe.encoded, ROUTES[words.route]).progress
     except Refused as refused:
         raise recipe.refused(refused) from None
     if words.out or words.png:
         text_of(recipe, [0] * len(list(recipe.parts.places())), words)
     with tempfile.TemporaryDirectory(prefix='rolwyddac-') as folder:
-        content = _swept(recipe, words, folder)
+        content = _swept(recipe, words, processors, folder)
     if words.grid:
         files.write(words.grid, content)
     if words.out or words.png:

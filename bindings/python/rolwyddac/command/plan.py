@@ -45,7 +45,7 @@ def _limits(parts: Parts, figures: Dict[str, int]) -> List[Dict[str, Any]]:
     return [{'name': name, 'used': number, 'most': most, 'percent': round(100 * number / most, 1)} for name, number, most in used]
 
 
-def _own_part(encoded: bytes, route: int, processor: int) -> Dict[str, int]:
+def _part(encoded: bytes, route: int, processor: int) -> Dict[str, int]:
     """What a processor needs that is lent its own part alone."""
     own = plan.part_sizes(encoded, route, processor)
     taken = _WORD * (own.source + own.memory + own.mail) + _RECORD + _MARK * own.messages
@@ -67,7 +67,7 @@ def planned(recipe: Recipe, route: str) -> Dict[str, Any]:
         'route': route, 'dimensions': [dimension._asdict() for dimension in recipe.parts.dimensions],
         'figures': {name.replace(' ', '_'): number for name, number in figures.items()},
         'areas': {name: {'elements': getattr(found, name), 'bytes': getattr(found, name) * _BYTES[name]} for name in Sizes.AREAS},
-        'own_parts': [_own_part(encoded, word, processor) for processor in range(figures['processors'])],
+        'parts': [_part(encoded, word, processor) for processor in range(figures['processors'])],
         'limits': _limits(recipe.parts, figures),
         'messages': [{'message': m, **dict(list(row._asdict().items())[:5])} for m, row in enumerate(plan.messages(encoded, word))]}
 
@@ -78,8 +78,8 @@ def _text(found: Dict[str, Any]) -> str:
     text = '%s cells in tiles of %s, %s route\n' % (by, tiles, found['route'])
     text += '\nfigures\n' + table((name.replace('_', ' '), number) for name, number in found['figures'].items())
     text += '\nareas\n' + table([('', 'elements', 'bytes'), *((name, area['elements'], area['bytes']) for name, area in found['areas'].items())])
-    names = list(found['own_parts'][0])
-    text += '\na processor\'s own part\n' + table([names, *([part[name] for name in names] for part in found['own_parts'])])
+    names = list(found['parts'][0])
+    text += '\na processor\'s own part\n' + table([names, *([part[name] for name in names] for part in found['parts'])])
     text += '\nlimits\n' + table([('', 'used', 'at most', '%'), *(
         (limit['name'], limit['used'], limit['most'], limit['percent']) for limit in found['limits'])])
     if not found['messages']:
