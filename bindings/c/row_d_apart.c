@@ -1,12 +1,7 @@
 /* Row D of document 01 on two processors that share no memory: each has all areas to itself, and the one message is carried
  * between them by its words. Each call for a transport gives its numbers, and a refusal leaves every lent element as it
  * was. */
-#include <inttypes.h>
-#include <stdio.h>
-#include <stdlib.h>
-#include <string.h>
-
-#include "rolwyddac.h"
+#include "checks.h"
 
 enum { CELLS = 4, PROCESSORS = 2, MESSAGES = 1, WORDS = 1, RECIPE = 4 * 16 };
 
@@ -27,16 +22,7 @@ static uint32_t route;
 
 /* the call on the areas of a processor gave the number wanted */
 static void expect(const char *call, uint32_t b, uint32_t number, uint32_t wanted) {
-  int kept = number == ROLWYDDAC_DONE || memcmp(&own[b], &before, sizeof before) == 0;
-  if (number == wanted && kept) return;
-  printf("%s of %" PRIu32 " gave %" PRIu32 ", not %" PRIu32 "%s\n", call, b, number, wanted, kept ? "" : ", and wrote");
-  exit(1);
-}
-
-static void same(const char *what, const uint32_t *found, const uint32_t *wanted, size_t count) {
-  if (memcmp(found, wanted, count * sizeof *found) == 0) return;
-  printf("%s are not as they should be\n", what);
-  exit(1);
+  expect_number(call, b, number, wanted, memcmp(&own[b], &before, sizeof before) == 0);
 }
 
 static void fresh(uint32_t b) {

@@ -1,11 +1,6 @@
 /* Row D of document 01 on two processors that have memory for their own parts alone. Each of the seven calls gives its numbers in their order,
  * and a refusal leaves every lent element as it was. */
-#include <inttypes.h>
-#include <stdio.h>
-#include <stdlib.h>
-#include <string.h>
-
-#include "rolwyddac.h"
+#include "checks.h"
 
 enum { CELLS = 4, PROCESSORS = 2, RECIPE = 4 * 16, OWN = 2, MOST_KEPT = 3, MESSAGES = 1, WORDS = 1 };
 
@@ -29,16 +24,7 @@ static size_t kept(uint32_t b) { return b == 0 ? OWN : OWN + 1; }
 
 /* the call on a processor's part gave the number wanted */
 static void expect(const char *call, uint32_t b, uint32_t number, uint32_t wanted) {
-  int as_before = number == ROLWYDDAC_DONE || memcmp(&own[b], &before, sizeof before) == 0;
-  if (number == wanted && as_before) return;
-  printf("%s of %" PRIu32 " gave %" PRIu32 ", not %" PRIu32 "%s\n", call, b, number, wanted, as_before ? "" : ", and wrote");
-  exit(1);
-}
-
-static void same(const char *what, const uint32_t *found, const uint32_t *wanted, size_t count) {
-  if (memcmp(found, wanted, count * sizeof *found) == 0) return;
-  printf("%s are not as they should be\n", what);
-  exit(1);
+  expect_number(call, b, number, wanted, memcmp(&own[b], &before, sizeof before) == 0);
 }
 
 /* the part of processor b is lent, as the processor named */

@@ -17,16 +17,23 @@ Inv-loop nest sizes lens b sides ranks₀ places₀ slots slot₀ number₀ offs
 abbrev μ-loop : tie.MeasureT-loop
 μ-loop nest sizes lens b sides ranks₀ places₀ slots slot₀ number₀ offset₀ rank₀ at₀ ranks places slot number offset rank at = slots - slot
 
+-- the table's slots, once its tiles are counted
+abbrev start : tie.After-tiles-of Inv-loop μ-loop → tie.Start Inv-loop μ-loop
+start c = c .before .before
+
+table : (c : tie.After-tiles-of Inv-loop μ-loop) → rows.Slotted (start c .args .sizes .route) (start c .args .nest) (start c .args .lens .now)
+    (c .tiles-of .result * start c .args .sizes .ways)
+table c =
+    let S = start c in
+    rows.slotted (S .args .nest) (S .args .sizes) (S .pre .0 .0 .0) (S .args .lens .now) (S .pre .0 .0 .1) (c .tiles-of .result) (c .tiles-of .ensures .0)
+
 tiles-of-requires : tie.Need-tiles-of-requires Inv-loop μ-loop
 tiles-of-requires c κs = c .before .pre .0 .0
 
 mul-slots : tie.Need-mul-slots Inv-loop μ-loop
 mul-slots c =
-    let S = c .before .before .before in
-    let tiles-of = c .before .tiles-of in
-    let table = rows.slotted (S .args .nest) (S .args .sizes) (S .pre .0 .0 .0) (S .args .lens .now) (S .pre .0 .0 .1) (tiles-of .result)
-    (tiles-of .ensures .0) in
-    omega (arith, table .sheet .few)
+    let T = c .before in
+    omega (arith, table T .sheet .few)
 
 loop-holds : tie.Need-loop-holds Inv-loop μ-loop
 loop-holds c =
@@ -38,115 +45,85 @@ loop-holds c =
 
 mul-half-index : tie.Need-mul-half-index Inv-loop μ-loop
 mul-half-index c =
-    let S = c .before .before .before .before .before in
-    let loop = c .before .loop in
+    let T = c .before .before .before in
     let test = c .loop-test .taken in
-    let tiles-of = c .before .before .before .tiles-of in
-    let table = rows.slotted (S .args .nest) (S .args .sizes) (S .pre .0 .0 .0) (S .args .lens .now) (S .pre .0 .0 .1) (tiles-of .result)
-    (tiles-of .ensures .0) in
-    omega (arith, test, table .sheet .few, table .sheet .long)
+    omega (arith, test, table T .sheet .few, table T .sheet .long)
 
 element-copy-out-half-index : tie.Need-element-copy-out-half-index Inv-loop μ-loop
 element-copy-out-half-index c =
-    let S = c .before .before .before .before .before in
-    let loop = c .before .loop in
+    let T = c .before .before .before in
     let test = c .loop-test .taken in
-    let tiles-of = c .before .before .before .tiles-of in
-    let table = rows.slotted (S .args .nest) (S .args .sizes) (S .pre .0 .0 .0) (S .args .lens .now) (S .pre .0 .0 .1) (tiles-of .result)
-    (tiles-of .ensures .0) in
-    omega (arith, test, table .sheet .few, table .sheet .long)
+    omega (arith, test, table T .sheet .few, table T .sheet .long)
 
 half-index-requires : tie.Need-half-index-requires Inv-loop μ-loop
 half-index-requires c κs = tt
 
 mul-ranks : tie.Need-mul-ranks Inv-loop μ-loop
 mul-ranks c =
-    let S = c .before .before .before .before .before .before .before in
+    let T = c .before .before .before .before .before in
     let loop = c .before .before .before .loop in
     let test = c .before .before .loop-test .taken in
-    let tiles-of = c .before .before .before .before .before .tiles-of in
-    let table = rows.slotted (S .args .nest) (S .args .sizes) (S .pre .0 .0 .0) (S .args .lens .now) (S .pre .0 .0 .1) (tiles-of .result)
-    (tiles-of .ensures .0) in
-    omega (arith, test, loop .inv .0 .few, table .sheet .few)
+    omega (arith, test, loop .inv .0 .few, table T .sheet .few)
 
 element-write-ranks : tie.Need-element-write-ranks Inv-loop μ-loop
 element-write-ranks c =
-    let S = c .before .before .before .before .before .before .before in
+    let T = c .before .before .before .before .before in
     let loop = c .before .before .before .loop in
     let test = c .before .before .loop-test .taken in
-    let tiles-of = c .before .before .before .before .before .tiles-of in
-    let table = rows.slotted (S .args .nest) (S .args .sizes) (S .pre .0 .0 .0) (S .args .lens .now) (S .pre .0 .0 .1) (tiles-of .result)
-    (tiles-of .ensures .0) in
-    omega (arith, test, loop .inv .0 .few, table .sheet .few)
+    omega (arith, test, loop .inv .0 .few, table T .sheet .few)
 
 mul-places : tie.Need-mul-places Inv-loop μ-loop
 mul-places c =
-    let S = c .before .before .before .before .before .before .before in
+    let T = c .before .before .before .before .before in
     let loop = c .before .before .before .loop in
     let test = c .before .before .loop-test .taken in
-    let tiles-of = c .before .before .before .before .before .tiles-of in
-    let table = rows.slotted (S .args .nest) (S .args .sizes) (S .pre .0 .0 .0) (S .args .lens .now) (S .pre .0 .0 .1) (tiles-of .result)
-    (tiles-of .ensures .0) in
-    omega (arith, test, loop .inv .0 .few, table .sheet .few)
+    omega (arith, test, loop .inv .0 .few, table T .sheet .few)
 
 element-write-places : tie.Need-element-write-places Inv-loop μ-loop
 element-write-places c =
-    let S = c .before .before .before .before .before .before .before in
+    let T = c .before .before .before .before .before in
     let loop = c .before .before .before .loop in
     let test = c .before .before .loop-test .taken in
-    let tiles-of = c .before .before .before .before .before .tiles-of in
-    let table = rows.slotted (S .args .nest) (S .args .sizes) (S .pre .0 .0 .0) (S .args .lens .now) (S .pre .0 .0 .1) (tiles-of .result)
-    (tiles-of .ensures .0) in
-    omega (arith, test, loop .inv .0 .few, table .sheet .few)
+    omega (arith, test, loop .inv .0 .few, table T .sheet .few)
 
 shared-slice-read-handled-one : tie.Need-shared-slice-read-handled-one Inv-loop μ-loop
 shared-slice-read-handled-one c =
-    let S = c .before .before .before .before .before .before .before .before .before in
-    let loop = c .before .before .before .before .before .loop in
+    let T = c .before .before .before .before .before .before .before in
+    let S = start T in
     let test = c .before .before .before .before .loop-test .taken in
-    let tiles-of = c .before .before .before .before .before .before .before .tiles-of in
-    let table = rows.slotted (S .args .nest) (S .args .sizes) (S .pre .0 .0 .0) (S .args .lens .now) (S .pre .0 .0 .1) (tiles-of .result)
-    (tiles-of .ensures .0) in
-    omega (arith, test, table .sheet .few, S .pre .0 .1 .0)
+    omega (arith, test, table T .sheet .few, S .pre .0 .1 .0)
 
 handled-one-requires : tie.Need-handled-one-requires Inv-loop μ-loop
 handled-one-requires c κs =
-    let S = c .before .before .before .before .before .before .before .before .before in
+    let T = c .before .before .before .before .before .before .before in
+    let S = start T in
     let loop = c .before .before .before .before .before .loop in
     let test = c .before .before .before .before .loop-test .taken in
-    let tiles-of = c .before .before .before .before .before .before .before .tiles-of in
-    let table = rows.slotted (S .args .nest) (S .args .sizes) (S .pre .0 .0 .0) (S .args .lens .now) (S .pre .0 .0 .1) (tiles-of .result)
-    (tiles-of .ensures .0) in
     let half-index = c .before .before .half-index in
-    let here = pass.here (S .args .sizes .route) (S .args .nest) (S .args .lens .now) _ (loop .slot) (loop .number) (loop .offset) (loop .inv .0) table
+    let here = pass.here (S .args .sizes .route) (S .args .nest) (S .args .lens .now) _ (loop .slot) (loop .number) (loop .offset) (loop .inv .0) (table T)
     test (half-index .result) (half-index .ensures) in (
       ((S .pre .0 .0 .0, S .pre .0 .0 .1 .routed), here (c .before .if1 .taken)),
-      S .pre .0 .1 .1 .each (loop .slot) (omega (arith, test, ap (λ (i : ℕ). i * S .args .sizes .ways) (tiles-of .ensures .0))),
+      S .pre .0 .1 .1 .each (loop .slot) (omega (arith, test, ap (λ (i : ℕ). i * S .args .sizes .ways) (T .tiles-of .ensures .0))),
     )
 
 add-number : tie.Need-add-number Inv-loop μ-loop
 add-number c =
-    let S = c .before .before .before .before .before .before .before .before .before .before in
+    let T = c .before .before .before .before .before .before .before .before in
     let loop = c .before .before .before .before .before .before .loop in
     let test = c .before .before .before .before .before .loop-test .taken in
-    let tiles-of = c .before .before .before .before .before .before .before .before .tiles-of in
-    let table = rows.slotted (S .args .nest) (S .args .sizes) (S .pre .0 .0 .0) (S .args .lens .now) (S .pre .0 .0 .1) (tiles-of .result)
-    (tiles-of .ensures .0) in
-    omega (arith, test, loop .inv .0 .few, table .sheet .few)
+    omega (arith, test, loop .inv .0 .few, table T .sheet .few)
 
 add-rank : tie.Need-add-rank Inv-loop μ-loop
 add-rank c =
-    let S = c .before .before .before .before .before .before .before .before .before .before in
+    let T = c .before .before .before .before .before .before .before .before in
+    let S = start T in
     let loop = c .before .before .before .before .before .before .loop in
     let test = c .before .before .before .before .before .loop-test .taken in
-    let tiles-of = c .before .before .before .before .before .before .before .before .tiles-of in
-    let table = rows.slotted (S .args .nest) (S .args .sizes) (S .pre .0 .0 .0) (S .args .lens .now) (S .pre .0 .0 .1) (tiles-of .result)
-    (tiles-of .ensures .0) in
     omega (
       arith,
       test,
       loop .inv .0 .few,
-      table .sheet .few,
+      table T .sheet .few,
       handling.few (planOf (S .args .sizes .route) (S .args .nest)) (S .args .b) (loop .ranks) (loop .places) (loop .number) (loop .offset)
           (loop .rank) (loop .at) (loop .inv .1),
       handling.at-most _ (c .handled-one .result) (c .handled-one .ensures),
@@ -154,140 +131,112 @@ add-rank c =
 
 cast-at : tie.Need-cast-at Inv-loop μ-loop
 cast-at c =
-    let S = c .before .before .before .before .before .before .before .before .before .before in
+    let T = c .before .before .before .before .before .before .before .before in
+    let S = start T in
     let loop = c .before .before .before .before .before .before .loop in
     let test = c .before .before .before .before .before .loop-test .taken in
-    let tiles-of = c .before .before .before .before .before .before .before .before .tiles-of in
-    let table = rows.slotted (S .args .nest) (S .args .sizes) (S .pre .0 .0 .0) (S .args .lens .now) (S .pre .0 .0 .1) (tiles-of .result)
-    (tiles-of .ensures .0) in
     let half-index = c .before .before .before .half-index in
-    let short = pass.short (S .args .sizes .route) (S .args .nest) (S .args .lens .now) _ (loop .slot) (loop .number) (loop .offset) (loop .inv .0) table
+    let short = pass.short (S .args .sizes .route) (S .args .nest) (S .args .lens .now) _ (loop .slot) (loop .number) (loop .offset) (loop .inv .0) (table T)
     test (half-index .result) (half-index .ensures) in
     omega (arith, short)
 
 mul-at : tie.Need-mul-at Inv-loop μ-loop
 mul-at c =
-    let S = c .before .before .before .before .before .before .before .before .before .before in
+    let T = c .before .before .before .before .before .before .before .before in
+    let S = start T in
     let loop = c .before .before .before .before .before .before .loop in
     let test = c .before .before .before .before .before .loop-test .taken in
-    let tiles-of = c .before .before .before .before .before .before .before .before .tiles-of in
-    let table = rows.slotted (S .args .nest) (S .args .sizes) (S .pre .0 .0 .0) (S .args .lens .now) (S .pre .0 .0 .1) (tiles-of .result)
-    (tiles-of .ensures .0) in
     let half-index = c .before .before .before .half-index in
-    let short = pass.short (S .args .sizes .route) (S .args .nest) (S .args .lens .now) _ (loop .slot) (loop .number) (loop .offset) (loop .inv .0) table
+    let short = pass.short (S .args .sizes .route) (S .args .nest) (S .args .lens .now) _ (loop .slot) (loop .number) (loop .offset) (loop .inv .0) (table T)
     test (half-index .result) (half-index .ensures) in
     let own = handling.at-most-words _ (c .handled-one .result) (half-index .result) (c .handled-one .ensures) in
     omega (arith, short, own)
 
 add-at : tie.Need-add-at Inv-loop μ-loop
 add-at c =
-    let S = c .before .before .before .before .before .before .before .before .before .before in
+    let T = c .before .before .before .before .before .before .before .before in
+    let S = start T in
     let loop = c .before .before .before .before .before .before .loop in
     let test = c .before .before .before .before .before .loop-test .taken in
-    let tiles-of = c .before .before .before .before .before .before .before .before .tiles-of in
-    let table = rows.slotted (S .args .nest) (S .args .sizes) (S .pre .0 .0 .0) (S .args .lens .now) (S .pre .0 .0 .1) (tiles-of .result)
-    (tiles-of .ensures .0) in
     let half-index = c .before .before .before .half-index in
-    let short = pass.short (S .args .sizes .route) (S .args .nest) (S .args .lens .now) _ (loop .slot) (loop .number) (loop .offset) (loop .inv .0) table
+    let short = pass.short (S .args .sizes .route) (S .args .nest) (S .args .lens .now) _ (loop .slot) (loop .number) (loop .offset) (loop .inv .0) (table T)
     test (half-index .result) (half-index .ensures) in
     let own = handling.at-most-words _ (c .handled-one .result) (half-index .result) (c .handled-one .ensures) in
-    omega (arith, short, own, loop .inv .1 .small, loop .inv .0 .small, test, table .sheet .few)
+    omega (arith, short, own, loop .inv .1 .small, loop .inv .0 .small, test, table T .sheet .few)
 
 add-offset : tie.Need-add-offset Inv-loop μ-loop
 add-offset c =
-    let S = c .before .before .before .before .before .before .before .before in
+    let T = c .before .before .before .before .before .before in
+    let S = start T in
     let loop = c .before .before .before .before .loop in
     let test = c .before .before .before .loop-test .taken in
-    let tiles-of = c .before .before .before .before .before .before .tiles-of in
-    let table = rows.slotted (S .args .nest) (S .args .sizes) (S .pre .0 .0 .0) (S .args .lens .now) (S .pre .0 .0 .1) (tiles-of .result)
-    (tiles-of .ensures .0) in
     let half-index = c .before .half-index in
-    let short = pass.short (S .args .sizes .route) (S .args .nest) (S .args .lens .now) _ (loop .slot) (loop .number) (loop .offset) (loop .inv .0) table
+    let short = pass.short (S .args .sizes .route) (S .args .nest) (S .args .lens .now) _ (loop .slot) (loop .number) (loop .offset) (loop .inv .0) (table T)
     test (half-index .result) (half-index .ensures) in
-    omega (arith, short, loop .inv .0 .small, test, table .sheet .few)
+    omega (arith, short, loop .inv .0 .small, test, table T .sheet .few)
 
 add-slot : tie.Need-add-slot Inv-loop μ-loop
 add-slot c =
-    let S = c .before .before .before .before .before .before .before .before in
-    let loop = c .before .before .before .before .loop in
+    let T = c .before .before .before .before .before .before in
     let test = c .before .before .before .loop-test .taken in
-    let tiles-of = c .before .before .before .before .before .before .tiles-of in
-    let table = rows.slotted (S .args .nest) (S .args .sizes) (S .pre .0 .0 .0) (S .args .lens .now) (S .pre .0 .0 .1) (tiles-of .result)
-    (tiles-of .ensures .0) in
-    omega (arith, test, table .sheet .few)
+    omega (arith, test, table T .sheet .few)
 
 loop-less : tie.Need-loop-less Inv-loop μ-loop
 loop-less c = omega (arith, c .before .before .before .loop-test .taken)
 
 loop-again : tie.Need-loop-again Inv-loop μ-loop
 loop-again c =
-    let S = c .before .before .before .before .before .before .before .before in
+    let T = c .before .before .before .before .before .before in
+    let S = start T in
     let loop = c .before .before .before .before .loop in
     let test = c .before .before .before .loop-test .taken in
-    let tiles-of = c .before .before .before .before .before .before .tiles-of in
-    let table = rows.slotted (S .args .nest) (S .args .sizes) (S .pre .0 .0 .0) (S .args .lens .now) (S .pre .0 .0 .1) (tiles-of .result)
-    (tiles-of .ensures .0) in
     let half-index = c .before .half-index in
-    let here = pass.here (S .args .sizes .route) (S .args .nest) (S .args .lens .now) _ (loop .slot) (loop .number) (loop .offset) (loop .inv .0) table
+    let here = pass.here (S .args .sizes .route) (S .args .nest) (S .args .lens .now) _ (loop .slot) (loop .number) (loop .offset) (loop .inv .0) (table T)
     test (half-index .result) (half-index .ensures) in
     let if1 = c .if1 in (
-      pass.past-next (S .args .sizes .route) (S .args .nest) (S .args .lens .now) _ (loop .slot) (loop .number) (loop .offset) (loop .inv .0) table
+      pass.past-next (S .args .sizes .route) (S .args .nest) (S .args .lens .now) _ (loop .slot) (loop .number) (loop .offset) (loop .inv .0) (table T)
           test (half-index .result) (half-index .ensures) (if1 .number)
           (⊎-elim (λ w. inl (w .0 .taken, w .3)) (λ w. inr (w .0 .left, w .1)) (if1 .came)),
       handling.rank-turn (planOf (S .args .sizes .route) (S .args .nest)) (S .args .b) (loop .ranks) (loop .places) (loop .number) (loop .offset)
           (loop .rank) (loop .at) (loop .inv .1)
-          (half-index .result) (if1 .number) (if1 .rank) (if1 .at) (omega (arith, test, loop .inv .0 .few, table .sheet .few))
+          (half-index .result) (if1 .number) (if1 .rank) (if1 .at) (omega (arith, test, loop .inv .0 .few, table T .sheet .few))
           (⊎-elim (λ w. inl (w .2 .result, w .2 .ensures, here (w .0 .taken) .words, w .3, w .4, w .5)) (λ w. inr (w .1, w .2, w .3)) (if1 .came)),
     )
 
 mul-ranks-2 : tie.Need-mul-ranks-2 Inv-loop μ-loop
 mul-ranks-2 c =
-    let S = c .before .before .before .before .before in
+    let T = c .before .before .before in
     let loop = c .before .loop in
-    let tiles-of = c .before .before .before .tiles-of in
-    let table = rows.slotted (S .args .nest) (S .args .sizes) (S .pre .0 .0 .0) (S .args .lens .now) (S .pre .0 .0 .1) (tiles-of .result)
-    (tiles-of .ensures .0) in
-    omega (arith, loop .inv .0 .few, loop .inv .0 .low, table .sheet .few)
+    omega (arith, loop .inv .0 .few, loop .inv .0 .low, table T .sheet .few)
 
 element-write-ranks-2 : tie.Need-element-write-ranks-2 Inv-loop μ-loop
 element-write-ranks-2 c =
-    let S = c .before .before .before .before .before in
+    let T = c .before .before .before in
     let loop = c .before .loop in
-    let tiles-of = c .before .before .before .tiles-of in
-    let table = rows.slotted (S .args .nest) (S .args .sizes) (S .pre .0 .0 .0) (S .args .lens .now) (S .pre .0 .0 .1) (tiles-of .result)
-    (tiles-of .ensures .0) in
-    omega (arith, loop .inv .0 .few, loop .inv .0 .low, table .sheet .few)
+    omega (arith, loop .inv .0 .few, loop .inv .0 .low, table T .sheet .few)
 
 mul-places-2 : tie.Need-mul-places-2 Inv-loop μ-loop
 mul-places-2 c =
-    let S = c .before .before .before .before .before in
+    let T = c .before .before .before in
     let loop = c .before .loop in
-    let tiles-of = c .before .before .before .tiles-of in
-    let table = rows.slotted (S .args .nest) (S .args .sizes) (S .pre .0 .0 .0) (S .args .lens .now) (S .pre .0 .0 .1) (tiles-of .result)
-    (tiles-of .ensures .0) in
-    omega (arith, loop .inv .0 .few, loop .inv .0 .low, table .sheet .few)
+    omega (arith, loop .inv .0 .few, loop .inv .0 .low, table T .sheet .few)
 
 element-write-places-2 : tie.Need-element-write-places-2 Inv-loop μ-loop
 element-write-places-2 c =
-    let S = c .before .before .before .before .before in
+    let T = c .before .before .before in
     let loop = c .before .loop in
-    let tiles-of = c .before .before .before .tiles-of in
-    let table = rows.slotted (S .args .nest) (S .args .sizes) (S .pre .0 .0 .0) (S .args .lens .now) (S .pre .0 .0 .1) (tiles-of .result)
-    (tiles-of .ensures .0) in
-    omega (arith, loop .inv .0 .few, loop .inv .0 .low, table .sheet .few)
+    omega (arith, loop .inv .0 .few, loop .inv .0 .low, table T .sheet .few)
 
 returns : tie.Need-returns Inv-loop μ-loop
 returns c =
-    let S = c .before .before .before .before .before in
+    let T = c .before .before .before in
+    let S = start T in
     let loop = c .before .loop in
-    let tiles-of = c .before .before .before .tiles-of in
-    let table = rows.slotted (S .args .nest) (S .args .sizes) (S .pre .0 .0 .0) (S .args .lens .now) (S .pre .0 .0 .1) (tiles-of .result)
-    (tiles-of .ensures .0) in
-    let all = pass.past-all (S .args .sizes .route) (S .args .nest) (S .args .lens .now) _ (loop .slot) (loop .number) (loop .offset) (loop .inv .0) table
+    let all = pass.past-all (S .args .sizes .route) (S .args .nest) (S .args .lens .now) _ (loop .slot) (loop .number) (loop .offset) (loop .inv .0) (table T)
     (c .loop-test .left) in
     λ m h. handling.told (planOf (S .args .sizes .route) (S .args .nest)) (S .args .b) (loop .ranks) (loop .places) (loop .number) (loop .offset)
     (loop .rank) (loop .at) (loop .inv .1)
-    (omega (arith, loop .inv .0 .few, loop .inv .0 .low, table .sheet .few)) m (omega (arith, h, all))
+    (omega (arith, loop .inv .0 .few, loop .inv .0 .low, table T .sheet .few)) m (omega (arith, h, all))
 
 pub fill-ranks-spec : {M : Type 1} → statement M
 fill-ranks-spec =

@@ -20,6 +20,17 @@ Inv-loop nest lens b sides₀ sizes ways across tiles known₀ tile₀ sides kno
 abbrev μ-loop : tie.MeasureT-loop
 μ-loop nest lens b sides₀ sizes ways across tiles known₀ tile₀ sides known tile = tiles - tile
 
+-- what a turn of the loop started from, and that its tile's row of sides is inside
+abbrev start : tie.In-loop Inv-loop μ-loop → tie.Start Inv-loop μ-loop
+start c = c .before .before .before .before .before .before
+
+room : (c : tie.In-loop Inv-loop μ-loop) → c .before .loop .tile * start c .args .t2 .ways + start c .args .t2 .ways ≤ 7168
+room c =
+    let S = start c in
+    let tiles-of = c .before .before .tiles-of in
+    let table = rows.slotted (S .args .nest) (S .args .t2) (S .pre .0 .0) (S .args .lens .now) (S .pre .0 .1) (tiles-of .result) (tiles-of .ensures .0) in
+    omega (arith, row-in (S .args .t2 .ways) (c .before .loop .tile) (tiles-of .result) (c .loop-test .taken), table .sheet .few)
+
 sub-across : tie.Need-sub-across Inv-loop μ-loop
 sub-across c =
     let S = c .before .before in
@@ -44,16 +55,7 @@ loop-holds c =
     (omega arith, chains.sides-start (S .args .t2 .route) (S .args .nest) (S .args .b) (S .args .sides .now) _ (S .pre .1) (S .pre .0 .0 .tiles))
 
 box-tile-requires : tie.Need-box-tile-requires Inv-loop μ-loop
-box-tile-requires c κs =
-    let S = c .before .before .before .before .before .before in
-    let x = S .args .nest in
-    let z = S .args .t2 in
-    let loop = c .before .loop in
-    let test = c .loop-test .taken in
-    let tiles-of = c .before .before .tiles-of in
-    let table = rows.slotted x z (S .pre .0 .0) (S .args .lens .now) (S .pre .0 .1) (tiles-of .result) (tiles-of .ensures .0) in
-    let inside = row-in (z .ways) (loop .tile) (tiles-of .result) test in
-    (S .pre .0, omega (arith, test, tiles-of .ensures .0))
+box-tile-requires c κs = (start c .pre .0, omega (arith, c .loop-test .taken, c .before .before .tiles-of .ensures .0))
 
 div-chain : tie.Need-div-chain Inv-loop μ-loop
 div-chain c =
@@ -61,42 +63,20 @@ div-chain c =
     chains.across-some (S .args .nest) (S .args .t2) (S .pre .0 .0)
 
 mul-from : tie.Need-mul-from Inv-loop μ-loop
-mul-from c =
-    let S = c .before .before .before .before .before .before .before in
-    let x = S .args .nest in
-    let z = S .args .t2 in
-    let loop = c .before .before .loop in
-    let test = c .before .loop-test .taken in
-    let tiles-of = c .before .before .before .tiles-of in
-    let table = rows.slotted x z (S .pre .0 .0) (S .args .lens .now) (S .pre .0 .1) (tiles-of .result) (tiles-of .ensures .0) in
-    let inside = row-in (z .ways) (loop .tile) (tiles-of .result) test in
-    omega (arith, inside, table .sheet .few, loop .inv .1 .long)
+mul-from c = let T = c .before in omega (arith, room T, T .before .loop .inv .1 .long)
 
 copy-sides-requires : tie.Need-copy-sides-requires Inv-loop μ-loop
 copy-sides-requires c κs =
-    let S = c .before .before .before .before .before .before .before .before .before in
-    let x = S .args .nest in
-    let z = S .args .t2 in
-    let loop = c .before .before .before .before .loop in
-    let test = c .before .before .before .loop-test .taken in
-    let tiles-of = c .before .before .before .before .before .tiles-of in
-    let table = rows.slotted x z (S .pre .0 .0) (S .args .lens .now) (S .pre .0 .1) (tiles-of .result) (tiles-of .ensures .0) in
-    let inside = row-in (z .ways) (loop .tile) (tiles-of .result) test in
-    let first = chains.same-chain (z .route) x z (S .pre .0 .0) (S .args .b) (loop .sides) (loop .tile) (loop .known) (loop .inv .1)
-    (c .before .before .box-tile .result) (c .before .before .box-tile .ensures .0) (c .before .before .box-tile .ensures .1) (c .before .if1 .taken) in
-    (chains.row-before (z .ways) (loop .tile) first, (omega (arith, inside, table .sheet .few, loop .inv .1 .long), omega (arith, loop .inv .1 .long)))
+    let box-tile = c .before .before in
+    let T = box-tile .before in
+    let S = start T in
+    let loop = T .before .loop in
+    let first = chains.same-chain (S .args .t2 .route) (S .args .nest) (S .args .t2) (S .pre .0 .0) (S .args .b) (loop .sides) (loop .tile) (loop .known)
+    (loop .inv .1) (box-tile .box-tile .result) (box-tile .box-tile .ensures .0) (box-tile .box-tile .ensures .1) (c .before .if1 .taken) in
+    (chains.row-before (S .args .t2 .ways) (loop .tile) first, (omega (arith, room T, loop .inv .1 .long), omega (arith, loop .inv .1 .long)))
 
 add-end : tie.Need-add-end Inv-loop μ-loop
-add-end c =
-    let S = c .before .before .before .before .before .before .before .before in
-    let x = S .args .nest in
-    let z = S .args .t2 in
-    let loop = c .before .before .before .loop in
-    let test = c .before .before .loop-test .taken in
-    let tiles-of = c .before .before .before .before .tiles-of in
-    let table = rows.slotted x z (S .pre .0 .0) (S .args .lens .now) (S .pre .0 .1) (tiles-of .result) (tiles-of .ensures .0) in
-    let inside = row-in (z .ways) (loop .tile) (tiles-of .result) test in
-    omega (arith, inside, table .sheet .few, loop .inv .1 .long)
+add-end c = let T = c .before .before in omega (arith, room T, T .before .loop .inv .1 .long)
 
 sub-put-sides : tie.Need-sub-put-sides Inv-loop μ-loop
 sub-put-sides c = omega arith
@@ -105,76 +85,49 @@ part-put-sides-start : tie.Need-part-put-sides-start Inv-loop μ-loop
 part-put-sides-start c = omega arith
 
 part-put-sides-end : tie.Need-part-put-sides-end Inv-loop μ-loop
-part-put-sides-end c =
-    let S = c .before .before .before .before .before .before .before .before in
-    let x = S .args .nest in
-    let z = S .args .t2 in
-    let loop = c .before .before .before .loop in
-    let test = c .before .before .loop-test .taken in
-    let tiles-of = c .before .before .before .before .tiles-of in
-    let table = rows.slotted x z (S .pre .0 .0) (S .args .lens .now) (S .pre .0 .1) (tiles-of .result) (tiles-of .ensures .0) in
-    let inside = row-in (z .ways) (loop .tile) (tiles-of .result) test in
-    omega (arith, inside, table .sheet .few, loop .inv .1 .long)
+part-put-sides-end c = let T = c .before .before in omega (arith, room T, T .before .loop .inv .1 .long)
 
 put-sides-requires : tie.Need-put-sides-requires Inv-loop μ-loop
 put-sides-requires c κs =
-    let S = c .before .before .before .before .before .before .before .before .before in
-    let x = S .args .nest in
-    let z = S .args .t2 in
-    let loop = c .before .before .before .before .loop in
-    let test = c .before .before .before .loop-test .taken in
-    let tiles-of = c .before .before .before .before .before .tiles-of in
-    let table = rows.slotted x z (S .pre .0 .0) (S .args .lens .now) (S .pre .0 .1) (tiles-of .result) (tiles-of .ensures .0) in
-    let inside = row-in (z .ways) (loop .tile) (tiles-of .result) test in (
+    let T = c .before .before .before in
+    let S = start T in
+    let loop = T .before .loop in
+    let z = S .args .t2 in (
       S .pre .0 .0,
       (
         c .before .before .box-tile .ensures .1,
-        mid-length (loop .sides) (loop .tile * z .ways) (z .ways)
-            (omega (arith, inside, table .sheet .few, loop .inv .1 .long)) ∙ S .pre .0 .0 .ways,
+        mid-length (loop .sides) (loop .tile * z .ways) (z .ways) (omega (arith, room T, loop .inv .1 .long)) ∙ S .pre .0 .0 .ways,
       ),
     )
 
 add-tile : tie.Need-add-tile Inv-loop μ-loop
-add-tile c =
-    let S = c .before .before .before .before .before .before .before .before in
-    let x = S .args .nest in
-    let z = S .args .t2 in
-    let loop = c .before .before .before .loop in
-    let test = c .before .before .loop-test .taken in
-    let tiles-of = c .before .before .before .before .tiles-of in
-    let table = rows.slotted x z (S .pre .0 .0) (S .args .lens .now) (S .pre .0 .1) (tiles-of .result) (tiles-of .ensures .0) in
-    let inside = row-in (z .ways) (loop .tile) (tiles-of .result) test in
-    omega (arith, test, tiles-of .ensures .1)
+add-tile c = let T = c .before .before in omega (arith, T .loop-test .taken, T .before .before .tiles-of .ensures .1)
 
 loop-less : tie.Need-loop-less Inv-loop μ-loop
 loop-less c = omega (arith, c .before .before .loop-test .taken)
 
 loop-again : tie.Need-loop-again Inv-loop μ-loop
 loop-again c =
-    let S = c .before .before .before .before .before .before .before .before in
+    let T = c .before .before in
+    let S = start T in
     let x = S .args .nest in
     let z = S .args .t2 in
-    let loop = c .before .before .before .loop in
-    let test = c .before .before .loop-test .taken in
-    let tiles-of = c .before .before .before .before .tiles-of in
-    let table = rows.slotted x z (S .pre .0 .0) (S .args .lens .now) (S .pre .0 .1) (tiles-of .result) (tiles-of .ensures .0) in
-    let inside = row-in (z .ways) (loop .tile) (tiles-of .result) test in
+    let loop = T .before .loop in
     let box-tile = c .before .box-tile in
     let g = loop .inv .1 in
     let chain = box-tile .result / getD (z .across) (x .dimensions - 1) 0 in
     let is : chain ≡ boxTile x (loop .tile) / tileCount x (last x) = chains.chain-is (z .route) x z (S .pre .0 .0) (loop .tile) (box-tile .result)
-    (box-tile .ensures .0) in
-    let room : loop .tile * z .ways + z .ways ≤ 7168 = omega (arith, inside, table .sheet .few) in (
-      omega (arith, test),
+    (box-tile .ensures .0) in (
+      omega (arith, T .loop-test .taken),
       ⊎-elim
           (λ w.
           subst (λ l. chains.SidesTo (z .route) x (S .args .b) l (loop .tile + 1) chain) (sym (w .5))
           (chains.sides-copied (z .route) x (S .args .b) (S .pre .0 .0 .accepted) (loop .sides) (loop .tile) (loop .known) g chain is (z .ways)
-          (S .pre .0 .0 .ways) room _ (w .0 .taken) (omega (arith, box-tile .ensures .0, box-tile .ensures .1)) (w .2 .ensures)))
+          (S .pre .0 .0 .ways) (room T) _ (w .0 .taken) (omega (arith, box-tile .ensures .0, box-tile .ensures .1)) (w .2 .ensures)))
           (λ w.
           subst (λ l. chains.SidesTo (z .route) x (S .args .b) l (loop .tile + 1) chain) (sym (w .5))
           (chains.sides-put (z .route) x (S .args .b) (S .pre .0 .0 .accepted) (loop .sides) (loop .tile) (loop .known) g chain is (z .ways)
-          (S .pre .0 .0 .ways) room (w .2 .last .1 .1 .1 .1 .0) (box-tile .result) (box-tile .ensures .0) (w .2 .kept .1 .1 .1 .1 .0) (w .2 .ensures)))
+          (S .pre .0 .0 .ways) (room T) (w .2 .last .1 .1 .1 .1 .0) (box-tile .result) (box-tile .ensures .0) (w .2 .kept .1 .1 .1 .1 .0) (w .2 .ensures)))
           (c .if1 .came),
     )
 

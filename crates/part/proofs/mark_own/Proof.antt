@@ -4,6 +4,7 @@ use Prim.Native.Nat.{_+_, _*_, _-_, _≤_}
 use mathlib.Core.Path.{refl, sym, _∙_}
 use mathlib.Core.Logic.{inl, inr}
 use native.Mathlib.Nat.{mul-le-mul-right}
+use Rattle.nest.specs.Nest.{cells}
 use Rattle.nest.proofs.Shapes.{framed}
 use Rattle.plan.specs.Shaped.{planOf}
 use Rattle.layout.proofs.CellRows.{row-in}
@@ -18,6 +19,23 @@ Inv-loop sizes b marks₀ nest width rows q₀ marks q = (q ≤ rows) × owned.O
 
 abbrev μ-loop : tie.MeasureT-loop
 μ-loop sizes b marks₀ nest width rows q₀ marks q = rows - q
+
+-- once the rows of one processor are counted: what the turn started from, and that they are rows of the grid
+abbrev start : tie.After-rows-alike Inv-loop μ-loop → tie.Start Inv-loop μ-loop
+start c = c .before .before .before .before .before .before .before .before .before .before
+
+end : (c : tie.After-rows-alike Inv-loop μ-loop) → c .before .before .loop .q + c .rows-alike .result ≤ c .before .before .before .row-count .result
+end c = omega (arith, c .before .loop-test .taken, c .rows-alike .ensures .1)
+
+room : (c : tie.After-rows-alike Inv-loop μ-loop)
+    → (c .before .before .loop .q + c .rows-alike .result) * wide (start c .args .t1) ≤ cells (start c .args .t1)
+room c = omega (arith, mul-le-mul-right (wide (start c .args .t1)) (end c), c .before .before .before .row-count .ensures)
+
+inside : (c : tie.After-rows-alike Inv-loop μ-loop)
+    → c .before .before .loop .q * wide (start c .args .t1) + wide (start c .args .t1) ≤ cells (start c .args .t1)
+inside c =
+    let row-count = c .before .before .before .row-count in
+    omega (arith, row-in (wide (start c .args .t1)) (c .before .before .loop .q) (row-count .result) (c .before .loop-test .taken), row-count .ensures)
 
 zero-bytes-requires : tie.Need-zero-bytes-requires Inv-loop μ-loop
 zero-bytes-requires c κs = tt
@@ -62,97 +80,57 @@ add-end c =
     )
 
 mul-tile-of : tie.Need-mul-tile-of Inv-loop μ-loop
-mul-tile-of c =
-    let S = c .before .before .before .before .before .before .before .before .before .before in
-    let loop = c .before .before .loop in
-    let row-count = c .before .before .before .row-count in
-    let test = c .before .loop-test .taken in
-    let rows-alike = c .rows-alike in
-    let end : loop .q + rows-alike .result ≤ row-count .result = omega (arith, test, rows-alike .ensures .1) in
-    let room = mul-le-mul-right (wide (S .args .t1)) end in
-    let inside = row-in (wide (S .args .t1)) (loop .q) (row-count .result) test in
-    omega (arith, inside, row-count .ensures, S .pre .0 .accepted .cells-most)
+mul-tile-of c = omega (arith, inside c, start c .pre .0 .accepted .cells-most)
 
 tile-of-requires : tie.Need-tile-of-requires Inv-loop μ-loop
 tile-of-requires c κs =
-    let S = c .before .before .before .before .before .before .before .before .before .before in
-    let loop = c .before .before .loop in
-    let row-count = c .before .before .before .row-count in
-    let test = c .before .loop-test .taken in
-    let rows-alike = c .rows-alike in
-    let end : loop .q + rows-alike .result ≤ row-count .result = omega (arith, test, rows-alike .ensures .1) in
-    let room = mul-le-mul-right (wide (S .args .t1)) end in
-    let inside = row-in (wide (S .args .t1)) (loop .q) (row-count .result) test in
-    (S .pre .0, omega (arith, inside, row-count .ensures, rows.wide-some (S .args .t1) (S .pre .0 .accepted)))
+    let S = start c in
+    (S .pre .0, omega (arith, inside c, rows.wide-some (S .args .t1) (S .pre .0 .accepted)))
 
 processor-of-requires : tie.Need-processor-of-requires Inv-loop μ-loop
 processor-of-requires c κs = (c .before .before .before .before .before .before .before .before .before .before .before .pre .0, c .tile-of .ensures .1)
 
 mark-rows-requires : tie.Need-mark-rows-requires Inv-loop μ-loop
 mark-rows-requires c κs =
-    let S = c .before .before .before .before .before .before .before .before .before .before .before .before .before .before in
-    let loop = c .before .before .before .before .before .before .loop in
-    let row-count = c .before .before .before .before .before .before .before .row-count in
-    let test = c .before .before .before .before .before .loop-test .taken in
-    let rows-alike = c .before .before .before .before .rows-alike in
-    let end : loop .q + rows-alike .result ≤ row-count .result = omega (arith, test, rows-alike .ensures .1) in
-    let room = mul-le-mul-right (wide (S .args .t1)) end in
-    ((S .pre .0 .accepted, loop .inv .1 .long), (omega arith, omega (arith, room, row-count .ensures)))
+    let R = c .before .before .before .before in
+    ((start R .pre .0 .accepted, R .before .before .loop .inv .1 .long), (omega arith, room R))
 
 loop-less : tie.Need-loop-less Inv-loop μ-loop
 loop-less c =
-    let S = c .before .before .before .before .before .before .before .before .before .before .before .before .before .before .before .before .before in
-    let loop = c .before .before .before .before .before .before .before .before .before .loop in
-    let row-count = c .before .before .before .before .before .before .before .before .before .before .row-count in
-    let test = c .before .before .before .before .before .before .before .before .loop-test .taken in
-    let rows-alike = c .before .before .before .before .before .before .before .rows-alike in
-    let end : loop .q + rows-alike .result ≤ row-count .result = omega (arith, test, rows-alike .ensures .1) in
-    let room = mul-le-mul-right (wide (S .args .t1)) end in
-    omega (arith, test, rows-alike .ensures .0 .full)
+    let R = c .before .before .before .before .before .before .before in
+    omega (arith, R .before .loop-test .taken, R .rows-alike .ensures .0 .full)
 
 loop-again : tie.Need-loop-again Inv-loop μ-loop
 loop-again c =
-    let S = c .before .before .before .before .before .before .before .before .before .before .before .before .before .before .before .before .before in
-    let loop = c .before .before .before .before .before .before .before .before .before .loop in
-    let row-count = c .before .before .before .before .before .before .before .before .before .before .row-count in
-    let test = c .before .before .before .before .before .before .before .before .loop-test .taken in
-    let rows-alike = c .before .before .before .before .before .before .before .rows-alike in
-    let end : loop .q + rows-alike .result ≤ row-count .result = omega (arith, test, rows-alike .ensures .1) in
-    let room = mul-le-mul-right (wide (S .args .t1)) end in
-    let tile-of = c .before .before .before .before .before .before .tile-of in
-    let processor-of = c .before .before .before .before .before .processor-of in (
-      end,
-      owned.own-next (S .args .t1) (S .args .sizes) (S .pre .0) (S .pre .1 .0) (S .args .b) (loop .q) (rows-alike .result) (rows-alike .ensures .0)
+    let at-processor = c .before .before .before .before .before in
+    let at-tile = at-processor .before in
+    let R = at-tile .before in
+    let S = start R in
+    let loop = R .before .before .loop in
+    let tile-of = at-tile .tile-of in
+    let processor-of = at-processor .processor-of in (
+      end R,
+      owned.own-next (S .args .t1) (S .args .sizes) (S .pre .0) (S .pre .1 .0) (S .args .b) (loop .q) (R .rows-alike .result) (R .rows-alike .ensures .0)
           (tile-of .result) (processor-of .result) (tile-of .ensures .0) (processor-of .ensures .0) (loop .marks) (loop .inv .1)
-          (omega (arith, room, row-count .ensures)) _ (inl (c .before .before .before .before .if1 .taken, c .before .before .mark-rows .ensures)),
+          (room R) _ (inl (c .before .before .before .before .if1 .taken, c .before .before .mark-rows .ensures)),
     )
 
 loop-less-2 : tie.Need-loop-less-2 Inv-loop μ-loop
-loop-less-2 c =
-    let S = c .before .before .before .before .before .before .before .before .before .before .before .before .before in
-    let loop = c .before .before .before .before .before .loop in
-    let row-count = c .before .before .before .before .before .before .row-count in
-    let test = c .before .before .before .before .loop-test .taken in
-    let rows-alike = c .before .before .before .rows-alike in
-    let end : loop .q + rows-alike .result ≤ row-count .result = omega (arith, test, rows-alike .ensures .1) in
-    let room = mul-le-mul-right (wide (S .args .t1)) end in
-    omega (arith, test, rows-alike .ensures .0 .full)
+loop-less-2 c = let R = c .before .before .before in omega (arith, R .before .loop-test .taken, R .rows-alike .ensures .0 .full)
 
 loop-again-2 : tie.Need-loop-again-2 Inv-loop μ-loop
 loop-again-2 c =
-    let S = c .before .before .before .before .before .before .before .before .before .before .before .before .before in
-    let loop = c .before .before .before .before .before .loop in
-    let row-count = c .before .before .before .before .before .before .row-count in
-    let test = c .before .before .before .before .loop-test .taken in
-    let rows-alike = c .before .before .before .rows-alike in
-    let end : loop .q + rows-alike .result ≤ row-count .result = omega (arith, test, rows-alike .ensures .1) in
-    let room = mul-le-mul-right (wide (S .args .t1)) end in
-    let tile-of = c .before .before .tile-of in
-    let processor-of = c .before .processor-of in (
-      end,
-      owned.own-next (S .args .t1) (S .args .sizes) (S .pre .0) (S .pre .1 .0) (S .args .b) (loop .q) (rows-alike .result) (rows-alike .ensures .0)
+    let at-processor = c .before in
+    let at-tile = at-processor .before in
+    let R = at-tile .before in
+    let S = start R in
+    let loop = R .before .before .loop in
+    let tile-of = at-tile .tile-of in
+    let processor-of = at-processor .processor-of in (
+      end R,
+      owned.own-next (S .args .t1) (S .args .sizes) (S .pre .0) (S .pre .1 .0) (S .args .b) (loop .q) (R .rows-alike .result) (R .rows-alike .ensures .0)
           (tile-of .result) (processor-of .result) (tile-of .ensures .0) (processor-of .ensures .0) (loop .marks) (loop .inv .1)
-          (omega (arith, room, row-count .ensures)) _ (inr (c .if1 .left, refl)),
+          (room R) _ (inr (c .if1 .left, refl)),
     )
 
 same-length : tie.Need-same-length Inv-loop μ-loop
