@@ -88,7 +88,7 @@ def planted():
               ('%d crates' % len(crates()), 'some crates')]
     told = ['planted fault was not told: %s' % new for old, new in faults
             if old not in text or not set(unlike(text.replace(old, new))) - set(unlike(text))]
-    for old, new in (('`Places` |', '`Places`, `Nowhere` |'), ('`crates/nest/specs/Recipes` |', '`crates/nest/specs/Nest` |')):
+    for old, new in (('`Shape` |', '`Shape`, `Nowhere` |'), ('`crates/nest/specs/Recipes` |', '`crates/nest/specs/Nest` |')):
         if old not in text or not set(unread(text.replace(old, new))) - set(unread(text)):
             told.append('planted fault was not told: %s' % new)
     return told

@@ -100,7 +100,7 @@ pub fn bad_distance(nest: Nest) -> bool
 
 // ---- line 6
 
-// A distance goes as far as the tile or farther.
+// Some distance goes farther in this dimension than a tile is long; one as far as the tile is allowed (W-201).
 fn reached(nest: Nest, j: usize) -> bool
     requires { ⌜ (j < 4) × (nest .distances ≤ 8) ⌝ }
     ensures { λ r. ⌜ r ≡ reached nest j ⌝ }
