@@ -76,6 +76,9 @@ def sum_of(plan, areas):
 
 class Values(Case):
 
+    # the sets of calls that were taken before another
+    moved = set()
+
     def holds(self, encoded, source, seed=1):
         """All values of a page against the model."""
         data, plan = data_of(encoded, source, seed), model.plan_of(encoded)[1]
@@ -86,7 +89,7 @@ class Values(Case):
         self.assertEqual(len(data['plans']), 1 if plan.nest.bounds else 2)
         for route, found in enumerate(data['plans']):
             self.messages(encoded, route, found)
-            self.run_again(encoded, route, source, found)
+            self.moved.update(self.run_again(encoded, route, source, found))
         return data
 
     def messages(self, encoded, route, found):
@@ -132,12 +135,16 @@ class Values(Case):
         numbers, sums = behind(events)
         self.assertEqual((unpacked('B', found['numbers']), unpacked('I', found['sums'])), (numbers, sums))
         self.assertEqual((numbers[-1], numbers.count(0)), (0, plan.steps + 1))
-        others = unpacked('I', found['others'])
+        others, met = unpacked('I', found['others']), set()
         for first, done, told in zip(*[iter(others)] * 3):
-            way, count = {0: ((1, 0), 1), 1: ((2, 0, 1), 1), 2: ((1, 2, 0), 2)}[done]
+            later = range(1, done.bit_length() + 1)
+            early = [k for k in later if done >> k - 1 & 1]
+            way, count = [*early, 0, *(k for k in later if k not in early)], len(early)
+            met.add(done)
             order = events[:first] + [events[first + k] for k in way]
             given, other = behind(order)
             self.assertEqual((given[first:], other[first + count], other[-1]), ([0] * len(way), told, sums[len(order)]), (first, done))
+        return met
 
     def test_drawn_recipes(self):
         draw, met = Draw(43), set()
@@ -151,6 +158,7 @@ class Values(Case):
     def test_shapes_and_spread(self):
         for encoded in (SHORE, THREE, SINGLE, SECOND_SINGLE):
             self.holds(bytes(encoded), list(range(100, 100 + model.plan_of(encoded)[1].cells)))
+        self.assertEqual(self.moved, set(range(1, 2 ** recording.REACH)))
 
 
 class Faults(Case):
@@ -197,7 +205,6 @@ class Faults(Case):
             self.gone = True
         with mock.patch.object(states.State, 'take', take), mock.patch.object(states.State, 'go_to', go_to), self.assertRaises(Differs):
             data_of(THREE, list(range(144)))
-        self.assertEqual((recording.SECOND, recording.THIRD, recording.BOTH), (0, 1, 2))
 
 
 def light(colour):
@@ -216,7 +223,7 @@ class Parts(unittest.TestCase):
 
     def test_lines(self):
         names = set(os.listdir(page.PARTS))
-        self.assertEqual(names, {name + '.js' for name in page.SCRIPTS} | {'page.html', 'style.css'})
+        self.assertEqual(names, {name + '.js' for name in (*page.SCRIPTS, page.LIVE)} | {'page.html', 'style.css'})
         for name in names - {'page.html'}:
             lines = content_of(os.path.join(page.PARTS, name)).decode().splitlines()
             self.assertLessEqual(len(lines), MOST_LINES, name)
@@ -260,7 +267,7 @@ class Command(InFolder):
 
     def test_nothing_is_fetched(self):
         text = self.made(BASIN).decode()
-        self.assertEqual(re.findall(r'https?:|\bsrc=|@import|url\(|<link|fetch\(|XMLHttpRequest|import\(', text), [])
+        self.assertEqual(re.findall(r'https?:|\bsrc=|@import|url\((?!#)|<link|fetch\(|XMLHttpRequest|import\(', text), [])
         self.assertEqual(text.count('<script'), 2)
 
     def test_recipe_as_bytes_and_toml(self):
@@ -285,7 +292,7 @@ class Command(InFolder):
 
     def test_faults(self):
         recipe = self.put('r', SMALL)
-        self.ends(2, 'view', recipe, told='the following arguments are required: -o/--out')
+        self.ends(2, 'view', recipe, told='one of the arguments -o/--out --serve is required')
         self.ends(2, 'view', recipe, '--value', '3', '--out', self.path('p'), told='--value goes with --soundings')
         self.ends(2, 'view', recipe, '--out', recipe, told='named twice')
         self.ends(1, 'view', recipe, '--source', self.put('s', b'abc'), '--out', self.path('p'), told='16 are needed')

@@ -33,7 +33,7 @@ A4 = 595, 842
 RESTED = .15
 
 # not with this folder's other tests
-BY_ITSELF = __name__ == '__main__'
+BY_ITSELF = os.path.basename(sys.argv[0]) in ('test_view_browser.py', 'test_view_scenes_browser.py')
 
 MARKS = ('unsent', 'in flight', 'delivered', 'taken')
 

@@ -143,8 +143,12 @@ def source_of(recipe: Recipe, words: argparse.Namespace) -> List[int]:
         return _sounded(recipe, words)
     if words.value is not None:
         raise Usage('--value goes with --soundings')
-    cells = plan.summary(recipe.encoded).cells
-    content = files.read(words.source, SOUNDINGS_MOST)
+    return words_of(words.source, plan.summary(recipe.encoded).cells)
+
+
+def words_of(name: str, cells: int) -> List[int]:
+    """One word a cell, as a file has them."""
+    content = files.read(name, SOUNDINGS_MOST)
     if len(content) != _WORD * cells:
-        raise Refusal(of(words.source, '%d bytes, and %d are needed, %d a cell' % (len(content), _WORD * cells, _WORD)))
+        raise Refusal(of(name, '%d bytes, and %d are needed, %d a cell' % (len(content), _WORD * cells, _WORD)))
     return list(array.array('I', content))

@@ -68,7 +68,7 @@ class Recipe(NamedTuple):
         return refusal(self.name, refused, self.parts, self.encoded)
 
 
-def _parser() -> Any:
+def toml_module() -> Any:
     """The module that reads TOML: Python's own from 3.11 on, else tomli."""
     for name in ('tomllib', 'tomli'):
         try:
@@ -133,7 +133,7 @@ def _distance(where: str, table: Dict[str, Any], dimensions: int) -> Distance:
 
 def parts_of_text(text: str) -> Parts:
     """What a recipe as TOML says."""
-    parser = _parser()
+    parser = toml_module()
     try:
         content = parser.loads(text)
     except ValueError as error:

@@ -7,6 +7,6 @@ differs there is a `Differs`, and no page.
 from __future__ import annotations
 
 from .differs import Differs
-from .page import Shown, page_of
+from .page import Shown, page_of, served
 
-__all__ = ['Differs', 'Shown', 'page_of']
+__all__ = ['Differs', 'Shown', 'page_of', 'served']

@@ -3,7 +3,7 @@
 from __future__ import annotations
 
 import random
-from typing import Any, List, NamedTuple, Sequence, Tuple
+from typing import Any, List, NamedTuple, Optional, Sequence
 
 from .. import plan
 from ..areas import IN_FLIGHT
@@ -15,12 +15,13 @@ from .states import COLLECT, DELIVER, TURN, WAITING, Event, Kept, Replay, State
 # how often an event is drawn that will most likely be refused
 _STRAY_DELIVERY, _STRAY_COLLECT, _STRAY_TURN, _WAITING_TURN = 0.03, 0.01, 0.01, 0.18
 
-# which of three neighbouring calls are done: the second alone, the third alone, the second and the third
-SECOND, THIRD, BOTH = 0, 1, 2
+# so many calls behind another the engine is asked for, in every order; the first of them alone, as a set
+REACH = 4
+SECOND = 1
 
 
 class Other(NamedTuple):
-    """A state that the run as recorded does not have: all calls before the first are done, and some of the two behind it."""
+    """A state that the run as recorded does not have: all calls before the first are done, and some of those behind it, a bit a call."""
 
     first: int
     done: int
@@ -73,52 +74,52 @@ class Drawing:
         return found
 
 
-# the last calls that were taken, without one refused between: number, event, and the state before it
-Window = List[Tuple[int, Event, Kept]]
+class Taken(NamedTuple):
+    """A call that was taken, the state before it, and of the calls behind it the sets that can be taken before it, a bit a call."""
+
+    at: int
+    event: Event
+    before: Kept
+    sets: List[int]
+
+
+# the last calls that were taken, without one refused between
+Window = List[Taken]
 
 
 class Orders:
-    """Asks the engine which other orders of neighbouring calls can be taken, and holds what each leaves to the recorded order."""
+    """Asks the engine in which other orders neighbouring calls can be taken, and holds what each leaves to the recorded order."""
 
     def __init__(self, trial: State) -> None:
         self._trial = trial
 
-    def _sums(self, before: Kept, asked: Sequence[Event], then: Sequence[Event], live: State) -> List[int]:
-        """The check number behind each of these events; empty where one that is asked for is refused. Else the others can be taken too,
-        and all of them leave the live state."""
+    def _sum(self, before: Kept, asked: Sequence[Event], then: Sequence[Event], live: State) -> Optional[int]:
+        """The check number behind the events that are asked for; none where one of them is refused. Else the others can be taken too, and
+        all of them leave the live state."""
         self._trial.go_to(before)
-        sums = []
-        for at, event in enumerate([*asked, *then]):
-            number = self._trial.take(event)
-            if number and at < len(asked):
-                return []
-            hold(number == 0, 'calls that can be taken in another order')
-            sums.append(self._trial.sum())
+        if any(self._trial.take(event) for event in asked):
+            return None
+        found = self._trial.sum()
+        hold(not any(self._trial.take(event) for event in then), 'calls that can be taken in another order')
         hold(self._trial.same(live), 'what calls leave in another order')
-        return sums
+        return found
 
     def found(self, window: Window, event: Event, live: State) -> List[Other]:
-        """The states that this event makes possible if it is taken before the one or two calls before it."""
+        """The states that this event makes possible if it is taken before some of the calls before it. A set of calls can be taken before
+        another only if that set without its last call can."""
         others: List[Other] = []
-        if window and window[-1][1] != event:
-            at, last, before = window[-1]
-            sums = self._sums(before, [event], [last], live)
-            others += [Other(at, SECOND, sums[0])] if sums else []
-        if len(window) == 2 and window[0][1] != event:
-            others += self._of_three(window, event, live)
-        return others
-
-    def _of_three(self, window: Window, third: Event, live: State) -> List[Other]:
-        (at, first, before), (_, second, _) = window
-        others: List[Other] = []
-        both = self._sums(before, [second, third], [first], live) if second != first else []
-        if both:
-            others.append(Other(at, BOTH, both[1]))
-        alone = self._sums(before, [third], [first, second], live) if third != second else []
-        if alone:
-            others.append(Other(at, THIRD, alone[0]))
-        if both and alone:
-            hold(self._sums(before, [], [third, second, first], live)[:2] == [alone[0], both[1]], 'three calls backwards')
+        for place, first in enumerate(window):
+            events = [taken.event for taken in window[place + 1:]] + [event]
+            last = 1 << len(events) - 1
+            for done in [last, *(earlier | last for earlier in first.sets)]:
+                asked = [each for bit, each in enumerate(events) if done >> bit & 1]
+                then = [first.event] + [each for bit, each in enumerate(events) if not done >> bit & 1]
+                # two turns of one processor are one event
+                told = None if event in then else self._sum(first.before, asked, then, live)
+                if told is not None:
+                    others.append(Other(first.at, done, told))
+        for other in others:
+            next(first for first in window if first.at == other.first).sets.append(other.done)
         return others
 
 
@@ -141,7 +142,7 @@ def record(encoded: bytes, route: Route, source: Sequence[int], grid: Words, see
         found.sums.append(live.sum())
         if number == 0 and event[0] != COLLECT:
             found.others.extend(orders.found(window, event, live))
-            window = [*window, (at, event, before)][-2:]
+            window = [*window, Taken(at, event, before, [])][-REACH:]
         else:
             window = []
         collected = event[0] == COLLECT and number == 0

@@ -89,4 +89,5 @@ function drawAll() {
   drawRounds();
   chooseTile(S.tile, S.message);
   drawRun(true);
+  Object.values(SCENES).forEach(drawScene);
 }

@@ -49,6 +49,7 @@ const signBox = (ink, more = '') => `<rect x="2" y="2" width="14" height="10" fi
 const signFull = ink => `<rect x="3" y="1" width="12" height="12" fill="${ink}"/>`;
 const signDot = (fill, ink, width) => `<circle cx="9" cy="7" r="4.5" fill="${fill}" stroke="${ink}" stroke-width="${width}"/>`;
 const signPath = (d, ink, more = '') => `<path d="${d}" fill="none" stroke="${ink}" stroke-width="1.6"${more}/>`;
+const SIGN_HATCH = signPath('M1 13 L7 1 M6 13 L12 1 M11 13 L17 1', '#8a939c');
 const DASHED = ' stroke-dasharray="5 3"', DOTTED = ' stroke-dasharray="2 2"';
 
 function tellMapKeys() {

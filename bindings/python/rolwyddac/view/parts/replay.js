@@ -134,16 +134,16 @@ function sumAt(R, t) {
   return crc32(status, crc32(asBytes(progress), crc32(asBytes(buffer), crc32(asBytes(sums)))));
 }
 
-/* The engine's check number where the first t calls of an order are done; undefined where it was not asked. No call stands further than
-   two places from where it was recorded, for the engine was asked of three neighbouring calls. */
+/* The engine's check number where the first t calls of an order are done; undefined where it was not asked. No call stands further from
+   where it was recorded than the calls behind one that the engine was asked for. */
 function engineSum(plan, order, t) {
-  const done = new Set(order.subarray(Math.max(0, t - 6), t));
-  let first = Math.max(0, t - 3);
+  const done = new Set(order.subarray(Math.max(0, t - 3 * D.reach), t));
+  let first = Math.max(0, t - D.reach - 1);
   while (done.has(first)) first++;
   const more = [...done].filter(e => e > first);
   if (!more.length) return plan.sums[first];
-  if (more.length === 1 && more[0] <= first + 2) return plan.others.get(first + ':' + (more[0] === first + 1 ? SECOND : THIRD));
-  return more.length === 2 && Math.max(...more) === first + 2 ? plan.others.get(first + ':' + BOTH) : undefined;
+  if (more.some(e => e > first + D.reach)) return undefined;
+  return plan.others.get(first + ':' + total(more.map(e => 2 ** (e - first - 1))));
 }
 
 /* An order with two neighbours the other way round */

@@ -12,8 +12,8 @@ const WORD = 2 ** 32;
 const TURN = 0, DELIVER = 1, COLLECT = 2;
 const GATHER = 0, CALCULATE = 1, SEND = 2, DELIVERED = 3, COLLECTED = 4, REFUSED = 5;
 
-/* which of three neighbouring calls are done in a state that the run as recorded does not have */
-const SECOND = 0, THIRD = 1, BOTH = 2;
+/* which of the calls behind one that is not done are done, a bit a call: the next alone */
+const SECOND = 1;
 
 const STAGES = ['gather', 'calculate', 'send'];
 const MARKS = ['unsent', 'in flight', 'delivered', 'taken'];
