@@ -15,3 +15,4 @@ pub mod RecipeCalls
 pub mod Begins
 pub mod DriverRow
 pub mod RowD
+pub mod Witnesses
