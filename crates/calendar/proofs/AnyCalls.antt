@@ -19,7 +19,7 @@ use Rattle.tenants.specs.Offices.{Rig, Sources, ownOf, freshRig, Call, actOn, c
 use Rattle.tenants.proofs.OneCall.{call-office}
 use Rattle.tenants.proofs.Engaged.{RigInv, inv-next}
 use Rattle.tenants.proofs.Views.{rig-itself, words208, demand3-for, goes-plain, goes-on-for, good-at}
-use Rattle.calendar.specs.Hours.{hoursOf, Timed, turnAt, mailOf, eventOf, actAt, TimedCall, callOf, actAtOn}
+use Rattle.calendar.specs.Hours.{week, openAt, hoursOf, Timed, turnAt, mailOf, eventOf, actAt, TimedCall, callOf, actAtOn}
 use Rattle.calendar.specs.Demands212.{Faultless, OpensSometime, turnBy, mailBy, SomeStep, SomeCall}
 use Rattle.calendar.specs.AnyCalls.{Words212, Words212For, Mixed, mixedEvent, actMixed, MixedCall, mixedCall, actMixedOn, Mixed212, Mixed212For}
 use Rattle.calendar.proofs.Allowed.{Allowed, open-allowed, guards, guards-for}
@@ -37,18 +37,22 @@ module _ (p : Plan) (so : Sound p) (source : List ℕ) where
   pub words212 : Words212 (actAt p source) (fresh p) p source
   words212 = words-guarded eventOf (actAt p source) (Allowed p) (guards p source)
 
-  -- plain calls that answer as the machine does, and calls with hours that do so where they are allowed
+  -- plain calls that answer as the machine does, and calls with hours that do so where they are allowed: mail always, a turn at an open minute of a
+  -- faultless table
   module _ (plain : State → Event → Answered State) (alike : (s : State) → Inv p source s → (e : Event) → plain s e ≡ act p source s e)
-      (timed : State → Timed → Answered State) (gd : Guards (Inv p source) (act p source) timed eventOf (Allowed p)) (calls : List Mixed) where
+      (timed : State → Timed → Answered State) (allowed : Timed → Type 0) (gd : Guards (Inv p source) (act p source) timed eventOf allowed)
+      (mail-allowed : (m : ℕ) → allowed (mailOf m))
+      (turn-allowed : (table : List ℕ) (minute b : ℕ) → Faultless p table → minute < week → openAt table b minute ≡ true
+      → allowed (turnAt (hoursOf table minute) b)) (calls : List Mixed) where
     abbrev acts : State → Mixed → Answered State
     acts = mixed plain timed
 
     abbrev Allows : Mixed → Type 0
-    Allows = Both (Inv p source) (act p source) plain timed (λ e. e) eventOf (λ e. Unit {0}) (Allowed p)
+    Allows = Both (Inv p source) (act p source) plain timed (λ e. e) eventOf (λ e. Unit {0}) allowed
 
     both : Guards (Inv p source) (act p source) acts mixedEvent Allows
     both =
-        guards-mixed (Inv p source) (act p source) plain timed (λ e. e) eventOf (λ e. Unit {0}) (Allowed p) (likewise p source plain alike) gd
+        guards-mixed (Inv p source) (act p source) plain timed (λ e. e) eventOf (λ e. Unit {0}) allowed (likewise p source plain alike) gd
 
     abbrev ended : State
     ended = stateAfter acts (fresh p) calls
@@ -72,8 +76,8 @@ module _ (p : Plan) (so : Sound p) (source : List ℕ) where
         let q = turn-facts p source ended b z in
         let w = opens b (q .0) (q .1) in
         SomeStep.by-turn b (w .0) (w .1) (w .2)
-        (gives (inr (turnAt (hoursOf table (w .0)) b)) (open-allowed p table (w .0) b f (w .1) (w .2)) z)
-    at-open table f opens (deliveryOf m) z = SomeStep.by-mail m (gives (inr (mailOf m)) tt z)
+        (gives (inr (turnAt (hoursOf table (w .0)) b)) (turn-allowed table (w .0) b f (w .1) (w .2)) z)
+    at-open table f opens (deliveryOf m) z = SomeStep.by-mail m (gives (inr (mailOf m)) (mail-allowed m) z)
 
     pub mixed212-for : (collects : State → List ℕ → Answered (List ℕ))
         → ((s : State) → Inv p source s → (grid : List ℕ) → length grid ≡ p .cells → collects s grid ≡ collect p s grid)
@@ -90,7 +94,9 @@ module _ (p : Plan) (so : Sound p) (source : List ℕ) where
         }
 
   pub mixed212 : (calls : List Mixed) → Mixed212 (actMixed p source) (fresh p) p source (collect p) calls
-  mixed212 calls = mixed212-for (act p source) (λ s inv e. refl) (actAt p source) (guards p source) calls (collect p) (λ s inv grid len. refl)
+  mixed212 calls =
+      mixed212-for (act p source) (λ s inv e. refl) (actAt p source) (Allowed p) (guards p source) (λ m. tt)
+      (λ table minute b f low h. open-allowed p table minute b f low h) calls (collect p) (λ s inv grid len. refl)
 
 -- ---- two offices
 module _ (p : Plan) (so : Sound p) (sources : Sources) where
@@ -99,8 +105,11 @@ module _ (p : Plan) (so : Sound p) (sources : Sources) where
 
   module _ (plain : Rig → Call → Answered Rig)
       (gd : Guards (RigInv p sources) (actOn p sources) plain (λ c. c) (λ c. Unit {0}))
-      (timed : Rig → TimedCall → Answered Rig) (gd′ : Guards (RigInv p sources) (actOn p sources) timed callOf (λ c. Allowed p (c .event)))
-      (calls : List MixedCall) where
+      (timed : Rig → TimedCall → Answered Rig) (allowed : TimedCall → Type 0)
+      (gd′ : Guards (RigInv p sources) (actOn p sources) timed callOf allowed)
+      (mail-allowed : (o m : ℕ) → allowed (mailBy o m))
+      (turn-allowed : (table : List ℕ) (minute o b : ℕ) → Faultless p table → minute < week → openAt table b minute ≡ true
+      → allowed (turnBy o (hoursOf table minute) b)) (calls : List MixedCall) where
     abbrev G : Rig → Type 0
     G = RigInv p sources
 
@@ -108,10 +117,10 @@ module _ (p : Plan) (so : Sound p) (sources : Sources) where
     actsFor = mixed plain timed
 
     abbrev AllowsFor : MixedCall → Type 0
-    AllowsFor = Both G (actOn p sources) plain timed (λ c. c) callOf (λ c. Unit {0}) (λ c. Allowed p (c .event))
+    AllowsFor = Both G (actOn p sources) plain timed (λ c. c) callOf (λ c. Unit {0}) allowed
 
     both-for : Guards G (actOn p sources) actsFor mixedCall AllowsFor
-    both-for = guards-mixed G (actOn p sources) plain timed (λ c. c) callOf (λ c. Unit {0}) (λ c. Allowed p (c .event)) gd gd′
+    both-for = guards-mixed G (actOn p sources) plain timed (λ c. c) callOf (λ c. Unit {0}) allowed gd gd′
 
     abbrev rig : Rig
     rig = stateAfter actsFor (freshRig p) calls
@@ -130,8 +139,8 @@ module _ (p : Plan) (so : Sound p) (sources : Sources) where
         let q = call-facts p sources rig o b z in
         let w = opens o b low (q .0) (q .1) in
         SomeCall.by-turn o b (w .0) (w .1) (w .2)
-        (gives-for (inr (turnBy o (hoursOf table (w .0)) b)) (open-allowed p table (w .0) b f (w .1) (w .2)) z)
-    at-open-for table f opens o (deliveryOf m) z = SomeCall.by-mail o m (gives-for (inr (mailBy o m)) tt z)
+        (gives-for (inr (turnBy o (hoursOf table (w .0)) b)) (turn-allowed table (w .0) o b f (w .1) (w .2)) z)
+    at-open-for table f opens o (deliveryOf m) z = SomeCall.by-mail o m (gives-for (inr (mailBy o m)) (mail-allowed o m) z)
 
     pub mixed212-on : (collects : Rig → ℕ → List ℕ → Answered (List ℕ))
         → ((r : Rig) → G r → (o : ℕ) (grid : List ℕ) → length grid ≡ p .cells → collects r o grid ≡ collectOn p r o grid)
@@ -149,4 +158,5 @@ module _ (p : Plan) (so : Sound p) (sources : Sources) where
 
   pub mixed212-two : (calls : List MixedCall) → Mixed212For (actMixedOn p sources) (freshRig p) p sources (collectOn p) calls
   mixed212-two calls =
-      mixed212-on (actOn p sources) (rig-itself p sources) (actAtOn p sources) (guards-for p sources) calls (collectOn p) (λ r inv o grid len. refl)
+      mixed212-on (actOn p sources) (rig-itself p sources) (actAtOn p sources) (λ c. Allowed p (c .event)) (guards-for p sources) (λ o m. tt)
+      (λ table minute o b f low h. open-allowed p table minute b f low h) calls (collectOn p) (λ r inv o grid len. refl)

@@ -1,26 +1,24 @@
 -- Request W-212 for one office: demand 3 of every run with hours, from the run theorem over those of its events that gave 0.
 use Prim.Native.Nat.{ℕ, _<_}
 use mathlib.Core.Path.{_≡_, refl, sym, ap, _∙_}
-use mathlib.Core.Bool.{Bool, true}
+use mathlib.Core.Bool.{true}
 use mathlib.Core.List.{List, [], _∷_, _++_, map}
 use native.Mathlib.Omega.{arith}
-use lib.ListN.{length, take}
+use lib.ListN.{length}
 use borrow.Author.Tests.{ltb-true}
-use Rattle.base.specs.Lists.{countIf}
-use Rattle.base.proofs.Tests.{sum-same}
 use Rattle.machine.specs.Plan.{Plan, Sound}
-use Rattle.machine.specs.Machine.{State, Answered, Action, tilesLeft, collect, fresh}
-use Rattle.machine.specs.Runs.{Event, turnOf, deliveryOf, act, stateAfter, answersTo, total, program, turnsOf, timesOf, calculates, sends, takes}
-use Rattle.machine.specs.Runs.{deliveriesOf, CarriedOut, Demand3, answers, last, steps}
+use Rattle.machine.specs.Machine.{State, Answered, tilesLeft, collect, fresh}
+use Rattle.machine.specs.Runs.{Event, turnOf, deliveryOf, act, stateAfter, answersTo, total, turnsOf, CarriedOut, Demand3, answers, last, steps}
 use Rattle.machine.proofs.Turns.{turn-lines}
 use Rattle.machine.proofs.Kept.{Inv}
 use Rattle.machine.proofs.Fresh.{inv-fresh}
 use Rattle.machine.proofs.Along.{next-inv}
 use Rattle.machine.proofs.Theorem.{theorem}
-use Rattle.machine.proofs.RunLaws.{number-of, after-of, Passed, ends, steps-same, turns-same, brings-same}
+use Rattle.machine.proofs.RunLaws.{after-of, Passed, ends, steps-same, turns-same}
+use Rattle.machine.proofs.Once.{once-passed, collects-like}
 use Rattle.machine.proofs.Guards.{Guards, is-plain, plain-zero, guarded-zero, good-end, passes}
 use Rattle.calendar.specs.Hours.{week, openAt, Hours, hoursOf, Timed, turnAt, mailOf, eventOf, actAt}
-use Rattle.calendar.specs.Demands212.{Faultless, OpensSometime, CarriedOutAt, SomeStep, OnlyHours, Demand212}
+use Rattle.calendar.specs.Demands212.{Faultless, OpensSometime, SomeStep, OnlyHours, Demand212}
 use Rattle.calendar.proofs.Allowed.{Allowed, open-allowed, guards}
 
 -- the lines of a turn that gives 0
@@ -64,17 +62,11 @@ module _ (p : Plan) (so : Sound p) (source : List ℕ) (acts : State → Timed �
     same-steps : steps (act p source) (fresh p) passed ≡ steps acts (fresh p) ts
     same-steps = steps-same (act p source) as-single
 
-    same-times : (f : Action → Bool) → timesOf p events numbers f ≡ timesOf p passed (answersTo (act p source) (fresh p) passed) f
-    same-times f = sum-same _ _ (p .processors) (λ b h. ap (λ (k : ℕ). countIf f (take k (program p b))) (turns-same (act p source) b as-single))
-
-    same-brings : (m : ℕ) → deliveriesOf m events numbers ≡ deliveriesOf m passed (answersTo (act p source) (fresh p) passed)
-    same-brings m = brings-same (act p source) m as-single
-
     single : Demand3 (act p source) (fresh p) passed p source (collect p)
     single = theorem p so source passed
 
     -- a turn that gave 0 is the next of its program
-    carried : (h : Hours) (b : ℕ) → acts ended (turnAt h b) .number ≡ 0 → CarriedOutAt p source ended (acts ended (turnAt h b) .after) b
+    carried : (h : Hours) (b : ℕ) → acts ended (turnAt h b) .number ≡ 0 → CarriedOut p source ended (acts ended (turnAt h b) .after) b
         (turnsOf b events numbers)
     unfolding eventOf
     carried h b z =
@@ -84,12 +76,8 @@ module _ (p : Plan) (so : Sound p) (source : List ℕ) (acts : State → Timed �
               (is-plain (Inv p source) (act p source) acts eventOf allowed gd good-next ended inv (turnAt h b) z),
           sym led-to,
         )
-        (record { named = D .named; by-rule = D .by-rule })
-      where
-        D : CarriedOut p source (act p source) (stateAfter (act p source) (fresh p) passed) b (turnsOf b passed (answersTo (act p source) (fresh p) passed))
-        D =
-            theorem p so source (passed ++ (turnOf b ∷ [])) .carried-out passed [] b refl
-            (rw led-to (plain-zero (Inv p source) (act p source) acts eventOf allowed gd good-next ended inv (turnAt h b) z))
+        (theorem p so source (passed ++ (turnOf b ∷ [])) .carried-out passed [] b refl
+        (rw led-to (plain-zero (Inv p source) (act p source) acts eventOf allowed gd good-next ended inv (turnAt h b) z)))
 
     fewer : (x : Timed) → acts ended x .number ≡ 0 → steps acts (fresh p) ts < total p
     fewer x z =
@@ -126,29 +114,19 @@ module _ (p : Plan) (so : Sound p) (source : List ℕ) (acts : State → Timed �
 
       -- `carry`: what `carried` says of the lists before a turn
       demand : ((before : List Timed) (h : Hours) (b : ℕ) → acts (stateAfter acts (fresh p) before) (turnAt h b) .number ≡ 0
-          → CarriedOutAt p source (stateAfter acts (fresh p) before) (acts (stateAfter acts (fresh p) before) (turnAt h b) .after) b
+          → CarriedOut p source (stateAfter acts (fresh p) before) (acts (stateAfter acts (fresh p) before) (turnAt h b) .after) b
           (turnsOf b (map eventOf before) (answersTo acts (fresh p) before)))
           → Demand212 acts (fresh p) ts p source collects
       demand carry =
           record {
-            bound = omega (arith, same-steps, single .bound);
+            once = once-passed p (act p source) as-single (single .once);
             goes-on = λ table f opens h. at-open table opens (only-hours table f h);
             then-fewer = fewer;
             only-hours = only-hours;
-            can-collect = λ e grid len. number-of (grid-is grid len) ∙ single .can-collect (same-steps ∙ e) grid len;
-            then-all = λ grid len z. sym same-steps ∙ single .then-all grid len (sym (number-of (grid-is grid len)) ∙ z);
-            calculated = λ c h. rw (same-times (calculates p c)) (single .calculated c h);
-            not-calculated = λ c h o. rw (same-times (calculates p c)) (single .not-calculated c h o);
-            sent = λ m h. rw (same-times (sends m)) (single .sent m h);
-            delivered = λ m h. rw (same-brings m) (single .delivered m h);
-            taken = λ m h. rw (same-times (takes p m)) (single .taken m h);
-            all-calculated = λ e c h i. same-times (calculates p c) ∙ single .all-calculated (same-steps ∙ e) c h i;
-            all-sent = λ e m h. same-times (sends m) ∙ single .all-sent (same-steps ∙ e) m h;
-            all-delivered = λ e m h. same-brings m ∙ single .all-delivered (same-steps ∙ e) m h;
-            all-taken = λ e m h. same-times (takes p m) ∙ single .all-taken (same-steps ∙ e) m h;
+            collecting =
+                collects-like p source (steps acts (fresh p) ts ≡ total p) _ (collects ended) _ (λ e. same-steps ∙ e) (λ e. sym same-steps ∙ e) grid-is
+                (single .collecting);
             carried-out = λ before after h b e z. carry before h b z;
-            no-more = λ b. rw (turns-same (act p source) b as-single) (single .no-more b);
-            grid = λ e old len. after-of (grid-is old len) ∙ single .grid (same-steps ∙ e) old len;
           }
 
   pub demand212-for : (ts : List Timed) (collects : State → List ℕ → Answered (List ℕ))

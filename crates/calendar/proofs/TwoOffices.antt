@@ -2,21 +2,19 @@
 use Prim.Native.Nat.{ℕ, _≤_, _<_}
 use mathlib.Core.Path.{_≡_, refl, sym, ap, _∙_, subst}
 use mathlib.Core.Logic.{_≢_, _⊎_, inl, inr}
-use mathlib.Core.Bool.{Bool, true}
+use mathlib.Core.Bool.{true}
 use mathlib.Core.List.{List, [], _∷_, _++_, map}
 use native.Mathlib.Omega.{arith}
 use native.Mathlib.Decide.{ℕ-discrete}
-use lib.ListN.{length, take}
+use lib.ListN.{length}
 use lib.Dec.{eqb}
 use borrow.Author.Tests.{eq-eqb, ne-eqb, ltb-true}
 use Rattle.base.specs.Tests.{pick}
-use Rattle.base.specs.Lists.{countIf}
-use Rattle.base.proofs.Tests.{sum-same}
 use Rattle.machine.specs.Plan.{Plan, Sound}
-use Rattle.machine.specs.Machine.{State, Answered, Action, tilesLeft}
-use Rattle.machine.specs.Runs.{Event, turnOf, deliveryOf, act, total, program, turnsOf, timesOf, calculates, sends, takes, deliveriesOf, answersTo}
-use Rattle.machine.specs.Runs.{last, stateAfter}
-use Rattle.machine.proofs.RunLaws.{number-of, after-of, Passed, ends, steps-same, turns-same, brings-same, one-end}
+use Rattle.machine.specs.Machine.{State, Answered, tilesLeft}
+use Rattle.machine.specs.Runs.{Event, turnOf, deliveryOf, act, total, turnsOf, deliveriesOf, answersTo, last, stateAfter}
+use Rattle.machine.proofs.RunLaws.{after-of, Passed, ends, steps-same, turns-same, brings-same, one-end}
+use Rattle.machine.proofs.Once.{once-like, collects-like}
 use Rattle.machine.proofs.Guards.{Guards, is-plain, plain-zero, guarded-zero, good-end, passes}
 use Rattle.tenants.specs.Offices.{Rig, Sources, sourceFor, ownOf, otherOf, lentTo, freshRig, Call, actFor, actOn, collectOn}
 use Rattle.tenants.specs.Demand208.{eventsOf, answersOf, CarriedOutFor, stepsFor as callSteps, OfficeDemand, Demand208}
@@ -123,10 +121,6 @@ module _ (p : Plan) (so : Sound p) (sources : Sources) (acts : Rig → TimedCall
       same-brings m = let w = both-matched p sources o low ran in brings-same (act p (sourceFor sources o)) m (w .1) ∙ sym
           (brings-same (act p (sourceFor sources o)) m (w .2))
 
-      same-times : (f : Action → Bool) → timesOf p (eventsFor acts (freshRig p) cs o) (answersFor acts (freshRig p) cs o) f ≡ timesOf p
-          (eventsOf o passed) numbers f
-      same-times f = sum-same _ _ (p .processors) (λ b h. ap (λ (k : ℕ). countIf f (take k (program p b))) (same-turns b))
-
       -- a turn that gave 0 is the next of its program
       carried : (h : Hours) (b : ℕ) → acts ended (turnBy o h b) .number ≡ 0
           → CarriedOutFor p (sourceFor sources o) ended (acts ended (turnBy o h b) .after) o b
@@ -191,21 +185,11 @@ module _ (p : Plan) (so : Sound p) (sources : Sources) (acts : Rig → TimedCall
           → OfficeDemand212 acts (freshRig p) cs p o (sourceFor sources o) collects
       one-office o low carry =
           record {
-            bound = rw same (D .bound);
-            can-collect = λ e grid len. number-of (grid-is o grid len) ∙ D .can-collect (sym same ∙ e) grid len;
-            then-all = λ grid len z. same ∙ D .then-all grid len (sym (number-of (grid-is o grid len)) ∙ z);
-            calculated = λ c h. rw (same-times o low (calculates p c)) (D .calculated c h);
-            not-calculated = λ c h out. rw (same-times o low (calculates p c)) (D .not-calculated c h out);
-            sent = λ m h. rw (same-times o low (sends m)) (D .sent m h);
-            delivered = λ m h. rw (same-brings o low m) (D .delivered m h);
-            taken = λ m h. rw (same-times o low (takes p m)) (D .taken m h);
-            all-calculated = λ e c h i. same-times o low (calculates p c) ∙ D .all-calculated (sym same ∙ e) c h i;
-            all-sent = λ e m h. same-times o low (sends m) ∙ D .all-sent (sym same ∙ e) m h;
-            all-delivered = λ e m h. same-brings o low m ∙ D .all-delivered (sym same ∙ e) m h;
-            all-taken = λ e m h. same-times o low (takes p m) ∙ D .all-taken (sym same ∙ e) m h;
+            once = once-like p _ _ _ _ same (same-turns o low) (same-brings o low) (D .once);
+            collecting =
+                collects-like p (sourceFor sources o) (stepsFor acts (freshRig p) cs o ≡ total p) _ (collects ended o) _ (λ e. sym same ∙ e)
+                (λ e. same ∙ e) (grid-is o) (D .collecting);
             carried-out = λ before after h b e z. carry before h b z;
-            no-more = λ b. rw (same-turns o low b) (D .no-more b);
-            grid = λ e old len. after-of (grid-is o old len) ∙ D .grid (sym same ∙ e) old len;
           }
         where
           D : OfficeDemand (actOn p sources) (freshRig p) passed p o (sourceFor sources o) (collectOn p)

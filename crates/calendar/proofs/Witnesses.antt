@@ -59,7 +59,7 @@ all-steps = refl
 
 collects-sweep : collect small (stateAfter (actMixed small source) (fresh small) calls) (replicate 6 0) .after ≡ sweep small source
 unfolding small
-collects-sweep = mixed212 small sound source calls .demand .grid all-steps (replicate 6 0) refl
+collects-sweep = mixed212 small sound source calls .demand .collecting .grid all-steps (replicate 6 0) refl
 
 -- ---- AnyCalls.TurnIn and AnyCalls.DidIn: message 0 is sent by a plain turn, and gathered by a timed one
 sent : DidIn (whole mixedEvent) (actMixed small source) (fresh small) small before (inl (turnOf 0)) 0 (send 0)

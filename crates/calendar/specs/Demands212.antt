@@ -6,12 +6,10 @@ use mathlib.Core.Path.{_≡_}
 use mathlib.Core.Logic.{_⊎_}
 use mathlib.Core.Bool.{true, false}
 use mathlib.Core.List.{List, _∷_, _++_, map}
-use lib.ListN.{length, getD}
-use lib.Dec.{eqb}
-use Rattle.base.specs.Lists.{countIf}
-use Rattle.machine.specs.Plan.{Plan, count}
-use Rattle.machine.specs.Machine.{State, Answered, gather, carryOut, tilesLeft, sweep}
-use Rattle.machine.specs.Runs.{Event, total, program, turnsOf, timesOf, calculates, sends, takes, deliveriesOf, stateAfter, answersTo, last, answers, steps}
+use lib.ListN.{length}
+use Rattle.machine.specs.Plan.{Plan}
+use Rattle.machine.specs.Machine.{State, Answered, tilesLeft}
+use Rattle.machine.specs.Runs.{Event, total, turnsOf, stateAfter, answersTo, last, answers, steps, stepsIn, Once, Collects, CarriedOut}
 use Rattle.tenants.specs.Offices.{Rig, Sources, sourceFor, ownOf}
 use Rattle.tenants.specs.Demand208.{eventsOf, answersOf, CarriedOutFor}
 use Rattle.calendar.specs.declared.Opening.{Opening}
@@ -45,11 +43,6 @@ OpensSometime table b = (minute : ℕ) × (minute < week) × (openAt table b min
 
 -- ---- one office
 
--- a turn of processor b from s to s′, after k such turns that gave 0: the action named, carried out by the machine's rule
-pub record CarriedOutAt (p : Plan) (source : List ℕ) (s s′ : State) (b k : ℕ) : Type 0 where
-  pub named : k < length (program p b)
-  pub by-rule : s′ ≡ carryOut p source s b (getD (program p b) k (gather 0))
-
 -- the claim about a list of events from `start`, by the answers that `acts` gives
 module _ (acts : State → Timed → Answered State) (start : State) (events : List Timed) where
   -- the events without their hours, which the counts are of
@@ -70,7 +63,7 @@ module _ (acts : State → Timed → Answered State) (start : State) (events : L
         → OnlyHours p table
 
   pub record Demand212 (p : Plan) (source : List ℕ) (collects : State → List ℕ → Answered (List ℕ)) : Type 0 where
-    pub bound : steps acts start events ≤ total p
+    pub once : Once p eventsAt (answers acts start events)
     -- progress: if every processor with tiles left is open at some minute, some event would give 0 exactly when the steps are fewer
     pub goes-on : (table : List ℕ) → Faultless p table
         → ((b : ℕ) → b < p .processors → tilesLeft p (last acts start events) b ≡ true → OpensSometime table b)
@@ -78,31 +71,13 @@ module _ (acts : State → Timed → Answered State) (start : State) (events : L
     pub then-fewer : (e : Timed) → acts (last acts start events) e .number ≡ 0 → steps acts start events < total p
     -- and with no such premise nothing but the hours holds it up
     pub only-hours : (table : List ℕ) → Faultless p table → steps acts start events < total p → OnlyHours p table
-    -- collecting into a grid of the right length gives 0 exactly when they are that many
-    pub can-collect : steps acts start events ≡ total p → (grid : List ℕ) → length grid ≡ p .cells → collects (last acts start events) grid .number ≡ 0
-    pub then-all : (grid : List ℕ) → length grid ≡ p .cells → collects (last acts start events) grid .number ≡ 0 → steps acts start events ≡ total p
-    -- no cell is calculated twice, one that is not in the nest never; no message sent, delivered or taken twice
-    pub calculated : (c : ℕ) → c < p .cells → timesOf p eventsAt (answers acts start events) (calculates p c) ≤ 1
-    pub not-calculated : (c : ℕ) → c < p .cells → p .inside c ≡ false
-        → timesOf p eventsAt (answers acts start events) (calculates p c) ≡ 0
-    pub sent : (m : ℕ) → m < count p → timesOf p eventsAt (answers acts start events) (sends m) ≤ 1
-    pub delivered : (m : ℕ) → m < count p → deliveriesOf m eventsAt (answers acts start events) ≤ 1
-    pub taken : (m : ℕ) → m < count p → timesOf p eventsAt (answers acts start events) (takes p m) ≤ 1
-    -- when they are that many, each message exactly once, and each cell in the nest
-    pub all-calculated : steps acts start events ≡ total p → (c : ℕ) → c < p .cells → p .inside c ≡ true
-        → timesOf p eventsAt (answers acts start events) (calculates p c) ≡ 1
-    pub all-sent : steps acts start events ≡ total p → (m : ℕ) → m < count p → timesOf p eventsAt (answers acts start events) (sends m) ≡ 1
-    pub all-delivered : steps acts start events ≡ total p → (m : ℕ) → m < count p → deliveriesOf m eventsAt (answers acts start events) ≡ 1
-    pub all-taken : steps acts start events ≡ total p → (m : ℕ) → m < count p → timesOf p eventsAt (answers acts start events) (takes p m) ≡ 1
+    -- the collected grid equals the sweep, whatever the hours
+    pub collecting : Collects p source (steps acts start events ≡ total p) (collects (last acts start events))
     -- each turn that gave 0 carried out, by the machine's rules, the action that the program names, whatever its minute
     pub carried-out : (before after : List Timed) (h : Hours) (b : ℕ) → events ≡ before ++ (turnAt h b ∷ after)
         → acts (stateAfter acts start before) (turnAt h b) .number ≡ 0
-        → CarriedOutAt p source (stateAfter acts start before) (acts (stateAfter acts start before) (turnAt h b) .after) b
+        → CarriedOut p source (stateAfter acts start before) (acts (stateAfter acts start before) (turnAt h b) .after) b
         (turnsOf b (map eventOf before) (answersTo acts start before))
-    -- no processor has a step beyond its program
-    pub no-more : (b : ℕ) → turnsOf b eventsAt (answers acts start events) ≤ length (program p b)
-    -- the collected grid equals the sweep, whatever the hours
-    pub grid : steps acts start events ≡ total p → (old : List ℕ) → length old ≡ p .cells → collects (last acts start events) old .after ≡ sweep p source
 
 -- ---- two offices
 
@@ -122,7 +97,7 @@ module _ (acts : Rig → TimedCall → Answered Rig) (start : Rig) (calls : List
 
   -- a step of office o is a call of it that gave 0
   abbrev pub stepsFor : ℕ → ℕ
-  stepsFor o = countIf (λ x. eqb x 0) (answersFor o)
+  stepsFor o = stepsIn (answersFor o)
 
   -- with this table some delivery of one of the two, or some turn at a minute at which its processor is open, would give 0
   pub data SomeCall (table : List ℕ) : Type 0 where
@@ -138,25 +113,12 @@ module _ (acts : Rig → TimedCall → Answered Rig) (start : Rig) (calls : List
 
   -- one office's part
   pub record OfficeDemand212 (p : Plan) (o : ℕ) (source : List ℕ) (collects : Rig → ℕ → List ℕ → Answered (List ℕ)) : Type 0 where
-    pub bound : stepsFor o ≤ total p
-    pub can-collect : stepsFor o ≡ total p → (grid : List ℕ) → length grid ≡ p .cells → collects (last acts start calls) o grid .number ≡ 0
-    pub then-all : (grid : List ℕ) → length grid ≡ p .cells → collects (last acts start calls) o grid .number ≡ 0 → stepsFor o ≡ total p
-    pub calculated : (c : ℕ) → c < p .cells → timesOf p (eventsFor o) (answersFor o) (calculates p c) ≤ 1
-    pub not-calculated : (c : ℕ) → c < p .cells → p .inside c ≡ false → timesOf p (eventsFor o) (answersFor o) (calculates p c) ≡ 0
-    pub sent : (m : ℕ) → m < count p → timesOf p (eventsFor o) (answersFor o) (sends m) ≤ 1
-    pub delivered : (m : ℕ) → m < count p → deliveriesOf m (eventsFor o) (answersFor o) ≤ 1
-    pub taken : (m : ℕ) → m < count p → timesOf p (eventsFor o) (answersFor o) (takes p m) ≤ 1
-    pub all-calculated : stepsFor o ≡ total p → (c : ℕ) → c < p .cells → p .inside c ≡ true
-        → timesOf p (eventsFor o) (answersFor o) (calculates p c) ≡ 1
-    pub all-sent : stepsFor o ≡ total p → (m : ℕ) → m < count p → timesOf p (eventsFor o) (answersFor o) (sends m) ≡ 1
-    pub all-delivered : stepsFor o ≡ total p → (m : ℕ) → m < count p → deliveriesOf m (eventsFor o) (answersFor o) ≡ 1
-    pub all-taken : stepsFor o ≡ total p → (m : ℕ) → m < count p → timesOf p (eventsFor o) (answersFor o) (takes p m) ≡ 1
+    pub once : Once p (eventsFor o) (answersFor o)
+    pub collecting : Collects p source (stepsFor o ≡ total p) (collects (last acts start calls) o)
     pub carried-out : (before after : List TimedCall) (h : Hours) (b : ℕ) → calls ≡ before ++ (turnBy o h b ∷ after)
         → acts (stateAfter acts start before) (turnBy o h b) .number ≡ 0
         → CarriedOutFor p source (stateAfter acts start before) (acts (stateAfter acts start before) (turnBy o h b) .after) o b
         (turnsOf b (eventsOf o (map callOf before)) (answersOf o (map callOf before) (answersTo acts start before)))
-    pub no-more : (b : ℕ) → turnsOf b (eventsFor o) (answersFor o) ≤ length (program p b)
-    pub grid : stepsFor o ≡ total p → (old : List ℕ) → length old ≡ p .cells → collects (last acts start calls) o old .after ≡ sweep p source
 
   pub record Demand212For (p : Plan) (sources : Sources) (collects : Rig → ℕ → List ℕ → Answered (List ℕ)) : Type 0 where
     pub each : (o : ℕ) → o ≤ 1 → OfficeDemand212 p o (sourceFor sources o) collects

@@ -135,7 +135,7 @@ module _ (bytes source : List ℕ) (x : Extent) (falling : Bool) (s : State) (w 
     unfolding ran
     collects g l =
         let d = demands .three bytes 0 source s b given events in
-        (d .can-collect all-taken g l, d .grid all-taken g l)
+        (d .collecting .can-collect all-taken g l, d .collecting .grid all-taken g l)
 
     sweeps : (h : List ℕ) → length h ≡ recipe bytes 0 .cells
         → (sweepCall bytes source h .number ≡ 0) × (sweepCall bytes source h .after ≡ sweep (recipe bytes 0) source)

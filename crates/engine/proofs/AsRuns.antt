@@ -16,7 +16,8 @@ use Rattle.machine.specs.Marks.{Marks}
 use Rattle.machine.proofs.Kept.{Inv}
 use Rattle.machine.proofs.Fresh.{inv-fresh}
 use Rattle.machine.proofs.Along.{run-inv, next-inv}
-use Rattle.machine.proofs.RunLaws.{number-of, after-of}
+use Rattle.machine.proofs.RunLaws.{number-of}
+use Rattle.machine.proofs.Once.{collects-like}
 use Rattle.machine.proofs.Theorem.{theorem}
 use Rattle.machine.proofs.Posted.{posted}
 use Rattle.machine.proofs.Marks.{marks}
@@ -91,34 +92,17 @@ module _ (bytes : List ℕ) (route : ℕ) (source : List ℕ) (ok : firstOf (lin
 
     carried : claim → (before after : List Event) (b : ℕ) → events ≡ before ++ (turnOf b ∷ after)
         → calls bytes route source (stateAfter (calls bytes route source) (fresh p) before) (turnOf b) .number ≡ 0
-        → CarriedOut p source (act p source) (here before) b (turnsOf b before (answersTo (act p source) (fresh p) before))
+        → CarriedOut p source (here before) (act p source (here before) (turnOf b) .after) b (turnsOf b before (answersTo (act p source) (fresh p) before))
     carried d before after b e z = d .carried-out before after b e (sym (number-of (next-is before (turnOf b))) ∙ z)
 
     demand3 : claim → Demand3 (calls bytes route source) (fresh p) events p source (collectCall bytes route source)
     demand3 d =
         record {
-          bound = rw answers-are (d .bound);
+          once = rw answers-are (d .once);
           goes-on = λ h. let r = d .goes-on (rw answers-are at h) in (r .0, number-of (next-is events (r .0)) ∙ r .1);
           then-fewer = λ e z. rw answers-are (d .then-fewer e (sym (number-of (next-is events e)) ∙ z));
-          can-collect = λ h grid l. number-of (grid-is events grid l) ∙ d .can-collect (rw answers-are at h) grid l;
-          then-all = λ grid l z. rw answers-are (d .then-all grid l (sym (number-of (grid-is events grid l)) ∙ z));
-          calculated = λ c l. rw answers-are (d .calculated c l);
-          not-calculated = λ c l o. rw answers-are (d .not-calculated c l o);
-          sent = λ m l. rw answers-are (d .sent m l);
-          delivered = λ m l. rw answers-are (d .delivered m l);
-          taken = λ m l. rw answers-are (d .taken m l);
-          all-calculated = λ h c l i. rw answers-are (d .all-calculated (rw answers-are at h) c l i);
-          all-sent = λ h m l. rw answers-are (d .all-sent (rw answers-are at h) m l);
-          all-delivered = λ h m l. rw answers-are (d .all-delivered (rw answers-are at h) m l);
-          all-taken = λ h m l. rw answers-are (d .all-taken (rw answers-are at h) m l);
-          carried-out = λ before after b e z.
-              let x = carried d before after b e z in
-              record {
-                named = rw answers-are (x .named);
-                by-rule = rw (answers-are, state-is) (after-of (same (here before) (inv-here before) (turnOf b)) ∙ x .by-rule);
-              };
-          no-more = λ b. rw answers-are (d .no-more b);
-          grid = λ h old l. after-of (grid-is events old l) ∙ d .grid (rw answers-are at h) old l;
+          collecting = rw answers-are (collects-like p source _ _ _ _ (λ h. h) (λ h. h) (grid-is events) (d .collecting));
+          carried-out = λ before after b e z. rw (answers-are before, next-is before (turnOf b), state-is before) (carried d before after b e z);
         }
 
     pub run-demand3 : Demand3 (calls bytes route source) (fresh p) events p source (collectCall bytes route source)

@@ -45,6 +45,7 @@ use Rattle.summary.proofs.Answers.{directed}
 use Rattle.summary.proofs.HopsTold.{hops-told}
 use Rattle.engine.specs.Calls.{answer, recipe, freshCall, turnCall, deliverCall, collectCall, sweepCallLines, sweepCall}
 use Rattle.engine.specs.Demands.{Fixed, Demand1, Demand2, calls, Demands}
+use Rattle.engine.proofs.Begins.{begins}
 use Rattle.engine.proofs.Lines.{areas-are}
 use Rattle.engine.proofs.AsSteps.{fresh-gave}
 use Rattle.engine.proofs.AsRuns.{run-demand3, run-marks, run-posted}
@@ -220,6 +221,7 @@ demands =
     record {
       one = demand1;
       two = demand2;
+      begins = begins;
       three = three;
       marks = marks;
     }

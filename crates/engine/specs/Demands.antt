@@ -1,7 +1,7 @@
 -- Read this.
 -- The three demands, for a recipe's bytes and a route, made of the definitions in Calls; each call's contract equates the call with them.
 -- Renders the customer's demands 1, 2 and 3, document 01's "Conditions of acceptance", W-204 and W-209; any word may name the route.
-use Prim.Native.Nat.{ℕ, _<_}
+use Prim.Native.Nat.{ℕ, _*_, _<_}
 use mathlib.Core.Path.{_≡_}
 use mathlib.Core.Logic.{_⊎_, _≢_}
 use mathlib.Core.Bool.{true, false}
@@ -9,7 +9,7 @@ use mathlib.Core.List.{List}
 use lib.ListN.{length, getD, set}
 use Rattle.base.specs.Lists.{In, Rising, Bytes}
 use Rattle.base.specs.Numbers.{Line, firstOf, numbersOf}
-use Rattle.machine.specs.Plan.{Sound, count, heldBy, duesOf}
+use Rattle.machine.specs.Plan.{Plan, Sound, count, heldBy, duesOf, words}
 use Rattle.machine.specs.Machine as machine
 use Rattle.machine.specs.Machine.{State, Answered, stateOf, gather, send, carryOut, nextAction, collected}
 use Rattle.machine.specs.Words.{wordAt, mailAt, cellOf, Does, Did, Posted}
@@ -129,9 +129,21 @@ pub record Demand2 (bytes : List ℕ) (route : ℕ) : Type 0 where
   pub same-sweep : firstOf (linesFor (routeOf route) bytes) ≡ 0 → (source : List ℕ)
       → machine.sweep (recipe bytes route) source ≡ machine.sweep (recipe bytes 0) source
 
+-- each lent area has its length by the plan's figures, three words a record
+pub record LentWords (p : Plan) (source : List ℕ) (s : State) : Type 0 where
+  pub source-long : length source ≡ p .cells
+  pub memories : length (s .memories) ≡ p .processors * p .cells
+  pub buffer : length (s .buffer) ≡ words p
+  pub progress : length (s .progress) ≡ 3 * p .processors
+  pub status : length (s .status) ≡ count p
+
 pub record Demands : Type 0 where
   pub one : (bytes : List ℕ) (route : ℕ) (source : List ℕ) (s : State) → Demand1 bytes route source s
   pub two : (bytes : List ℕ) (route : ℕ) → Bytes bytes → firstOf (readLines bytes) ≡ 0 → Demand2 bytes route
+  -- a run can begin: an accepted recipe on a route that is open to it, lent areas of their lengths, is given 0 by the fresh start, which the two
+  -- fields behind ask for
+  pub begins : (bytes : List ℕ) (route : ℕ) (source : List ℕ) (s : State) → firstOf (linesFor (routeOf route) bytes) ≡ 0
+      → LentWords (recipe bytes route) source s → freshCall bytes route source s .number ≡ 0
   -- demand 3: one recipe, one route, one source, one fresh start that gave 0, and every list of turns and deliveries; collecting too is
   -- given that route
   pub three : (bytes : List ℕ) (route : ℕ) (source : List ℕ) (s : State) → Bytes bytes → freshCall bytes route source s .number ≡ 0

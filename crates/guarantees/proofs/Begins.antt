@@ -1,14 +1,12 @@
 -- A run can begin: `begins`.
 use Prim.Native.Nat.{ℕ, _*_}
-use mathlib.Core.Path.{_≡_, sym, ap, _∙_}
-use mathlib.Core.Bool.{Bool, true}
-use mathlib.Core.List.{List, [], _∷_, _++_}
+use mathlib.Core.Path.{_≡_, ap, _∙_}
+use mathlib.Core.Bool.{true}
+use mathlib.Core.List.{List}
 use lib.ListN.{length}
 use borrow.Author.Tests.{eq-eqb}
-use Rattle.base.specs.Tests.{_and_, not}
-use Rattle.base.specs.Numbers.{Line, line, firstOf}
-use Rattle.base.proofs.Tests.{and-true, not-true}
-use Rattle.base.proofs.Numbers.{Numbered, first-behind, first-false}
+use Rattle.base.specs.Numbers.{firstOf}
+use Rattle.base.proofs.Tests.{and-true}
 use Rattle.machine.specs.Plan.{Plan}
 use Rattle.machine.proofs.RunLaws.{number-of}
 use Rattle.tenants.specs.Offices.{Sources}
@@ -17,6 +15,7 @@ use Rattle.recipe.specs.Routes.{linesFor}
 use Rattle.recipe.proofs.Laws.{numbered-for}
 use Rattle.records.proofs.Words.{length-words}
 use Rattle.engine.specs.Calls.{recipe, areas, freshCall}
+use Rattle.engine.proofs.Begins.{areas-fit as words-fit, none-true}
 use Rattle.sharing.specs.Calls.{rigAreas, freshRigCall}
 use Rattle.schedule.specs.declared.Driven.{Driven}
 use Rattle.schedule.specs.Calls.{roundsCall}
@@ -24,21 +23,21 @@ use Rattle.calls.specs.Gave.{Areas, inWords, RigAreas, rigWords, FreshGave, Fre
 use Rattle.guarantees.specs.Begins.{LentFor, Begins}
 
 areas-fit : (p : Plan) (source : List ℕ) (a : Areas) → LentFor p source a → areas p source (inWords a) ≡ true
-unfolding areas
 areas-fit p source a l =
-    and-true (eq-eqb _ _ (l .source-long)) (and-true (eq-eqb _ _ (l .memories)) (and-true (eq-eqb _ _ (l .buffer))
-    (and-true (eq-eqb _ _ (length-words (a .progress) ∙ ap (λ (k : ℕ). 3 * k) (l .records))) (eq-eqb _ _ (l .status)))))
+    words-fit p source (inWords a)
+    (record {
+      source-long = l .source-long;
+      memories = l .memories;
+      buffer = l .buffer;
+      progress = length-words (a .progress) ∙ ap (λ (k : ℕ). 3 * k) (l .records);
+      status = l .status;
+    })
 
 rig-fit : (p : Plan) (sources : Sources) (a : RigAreas) → LentFor p (sources .first) (a .first) → LentFor p (sources .second) (a .second)
     → length (a .engaged) ≡ p .processors → rigAreas p sources (rigWords a) ≡ true
 unfolding rigAreas
 rig-fit p sources a l m e =
     and-true (areas-fit p (sources .first) (a .first) l) (and-true (areas-fit p (sources .second) (a .second) m) (eq-eqb _ _ e))
-
--- no line before 9, and 9 is none
-none-true : (front : List Line) → Numbered front → firstOf front ≡ 0 → (t : Bool) → t ≡ true → firstOf (front ++ (line 9 (not t) ∷ [])) ≡ 0
-unfolding firstOf
-none-true front named z t e = first-behind front (line 9 (not t) ∷ []) named z ∙ first-false 9 (not t) [] (not-true e)
 
 module _ (bytes : List ℕ) (route : ℕ) (z : firstOf (linesFor (routeOf route) bytes) ≡ 0) where
   one : (source : List ℕ) (a b : Areas) (n : ℕ) → LentFor (recipe bytes route) source a → FreshGave bytes route source a n b → n ≡ 0

@@ -30,7 +30,7 @@ whole-fresh = (recipe rowD 0 .processors, length-replicate {A = ℕ} (3 * recipe
 abbrev fresh-areas : ℕ → Areas
 fresh-areas b = areasFrom (fresh (recipe rowD 0))
 
-fresh-words : inWords (areasFrom (fresh (recipe rowD 0))) ≡ fresh (recipe rowD 0)
+pub fresh-words : inWords (areasFrom (fresh (recipe rowD 0))) ≡ fresh (recipe rowD 0)
 fresh-words = in-words (fresh (recipe rowD 0)) whole-fresh
 
 fresh-gave : (b : ℕ) → b < recipe rowD 0 .processors → FreshGave rowD 0 sourceD (fresh-areas b) 0 (fresh-areas b)

@@ -14,3 +14,5 @@ pub mod PartCalls
 pub mod RecipeCalls
 pub mod Begins
 pub mod DriverRow
+pub mod RowD
+pub mod Witnesses

@@ -13,7 +13,7 @@ use Rattle.base.specs.Lists.{countIf}
 use Rattle.base.proofs.Tests.{pick-true, pick-false}
 use Rattle.machine.specs.Plan.{Plan, Sound, heldBy}
 use Rattle.machine.specs.Machine.{State, stateOf, memoryOf, placeOf, tilesLeft, fitRecord, Answered}
-use Rattle.machine.specs.Runs.{turnOf, deliveryOf, stateAfter, answersTo}
+use Rattle.machine.specs.Runs.{turnOf, deliveryOf, stateAfter, answersTo, stepsIn}
 use Rattle.machine.proofs.RunLaws.{number-of, after-of}
 use Rattle.records.specs.Records.{flatWords}
 use Rattle.records.proofs.Words.{length-words}
@@ -42,7 +42,7 @@ use Rattle.network_runs.proofs.Boards.{whole-alike, part-alike, so, sound-plan,
 use Rattle.network_runs.proofs.part.OnePart.{fresh-leaves}
 use Rattle.network_runs.proofs.part.Collecting as collecting
 use Rattle.calls.specs.Gave.{Areas, inWords, EventGave, TakeInGave, PartTurnGave, PartPostGave, PartArriveGave, PartCollectGave}
-use Rattle.guarantees.specs.OverRecords.{Gave, stepsIn}
+use Rattle.guarantees.specs.OverRecords.{Gave}
 use Rattle.guarantees.specs.OnBoards.{Boards, boardWords, boardOf, CallAt, newPacket, BoardGave, PartGave, BegunBoards, BegunParts, FixedBoards}
 use Rattle.guarantees.specs.OnBoards.{CollectsParts, OverBoards}
 use Rattle.guarantees.proofs.OverRecords.{run-numbers, run-words, areas-fixed, Whole, whole-pick, can-answer, over-records}

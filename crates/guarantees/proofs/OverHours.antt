@@ -209,13 +209,13 @@ module _ (bytes : List ℕ) (route : ℕ) where
           then-fewer = λ x c h. rw ns (demand .then-fewer x (sym (next-number x 0 c h)));
           only-hours = λ table f h. next-open table (demand .only-hours table f (rw ns at h));
           collects = λ old grid n l h. (
-            (λ z. rw ns (demand .then-all old l (sym (number-of (collect-is old grid n h)) ∙ z))),
-            (λ t. number-of (collect-is old grid n h) ∙ demand .can-collect (rw ns at t) old l),
+            (λ z. rw ns (demand .collecting .then-all old l (sym (number-of (collect-is old grid n h)) ∙ z))),
+            (λ t. number-of (collect-is old grid n h) ∙ demand .collecting .can-collect (rw ns at t) old l),
           );
           grid = λ old grid h.
               let z = sym (number-of (collect-is old grid 0 h)) in
               let l = one.collect-length bytes route source _ old z in
-              after-of (collect-is old grid 0 h) ∙ demand .grid (demand .then-all old l z) old l;
+              after-of (collect-is old grid 0 h) ∙ demand .collecting .grid (demand .collecting .then-all old l z) old l;
         }
 
   -- ---- demand 3, two offices
@@ -279,13 +279,13 @@ module _ (bytes : List ℕ) (route : ℕ) where
             then-fewer = λ c d h. rw rig-ns (rig-demand .then-fewer c (sym (rig-next-number c 0 d h)));
             only-hours = λ table f h. next-open-for table (rig-demand .only-hours table f (rw rig-ns at h));
             collects = λ o low old grid n l h. (
-              (λ z. rw rig-ns (rig-demand .each o low .then-all old l (sym (number-of (rig-collect-is o old grid n h)) ∙ z))),
-              (λ t. number-of (rig-collect-is o old grid n h) ∙ rig-demand .each o low .can-collect (rw rig-ns at t) old l),
+              (λ z. rw rig-ns (rig-demand .each o low .collecting .then-all old l (sym (number-of (rig-collect-is o old grid n h)) ∙ z))),
+              (λ t. number-of (rig-collect-is o old grid n h) ∙ rig-demand .each o low .collecting .can-collect (rw rig-ns at t) old l),
             );
             grid = λ o low old grid h.
                 let z = sym (number-of (rig-collect-is o old grid 0 h)) in
                 let l = collect-length bytes route _ o _ _ old (sym (number-of h)) in
-                after-of (rig-collect-is o old grid 0 h) ∙ rig-demand .each o low .grid (rig-demand .each o low .then-all old l z) old l;
+                after-of (rig-collect-is o old grid 0 h) ∙ rig-demand .each o low .collecting .grid (rig-demand .each o low .collecting .then-all old l z) old l;
           }
 
   -- ---- two runs apart

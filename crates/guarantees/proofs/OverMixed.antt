@@ -135,13 +135,13 @@ module _ (bytes : List ℕ) (route : ℕ) where
           goes-on = λ h. let r = demand .goes-on (rw (sym counted) at h) in (r .0, λ n c g. next-number (inl (r .0)) n c g ∙ r .1);
           then-fewer = λ x c h. rw (sym counted) (demand .demand .then-fewer x refl (sym (next-number x 0 c h)));
           collects = λ old grid n l h. (
-            (λ z. rw (sym counted) (demand .demand .then-all old l (sym (number-of (collect-is old grid n h)) ∙ z))),
-            (λ t. number-of (collect-is old grid n h) ∙ demand .demand .can-collect (rw (sym counted) at t) old l),
+            (λ z. rw (sym counted) (demand .demand .collecting .then-all old l (sym (number-of (collect-is old grid n h)) ∙ z))),
+            (λ t. number-of (collect-is old grid n h) ∙ demand .demand .collecting .can-collect (rw (sym counted) at t) old l),
           );
           grid = λ old grid h.
               let z = sym (number-of (collect-is old grid 0 h)) in
               let l = one.collect-length bytes route source _ old z in
-              after-of (collect-is old grid 0 h) ∙ demand .demand .grid (demand .demand .then-all old l z) old l;
+              after-of (collect-is old grid 0 h) ∙ demand .demand .collecting .grid (demand .demand .collecting .then-all old l z) old l;
         }
 
   -- ---- two offices
@@ -185,14 +185,14 @@ module _ (bytes : List ℕ) (route : ℕ) where
                 let r = rig-demand .goes-on .goes-on (rw rig-ns at h) in (r .0, λ n c g. rig-next-number (r .0) n c g ∙ r .1);
             then-fewer = λ x c h. rw rig-ns (rig-demand .demand .then-fewer x (sym (rig-next-number x 0 c h)));
             collects = λ o low old grid n l h. (
-              (λ z. rw rig-ns (rig-demand .demand .each o low .then-all old l (sym (number-of (rig-collect-is o old grid n h)) ∙ z))),
-              (λ t. number-of (rig-collect-is o old grid n h) ∙ rig-demand .demand .each o low .can-collect (rw rig-ns at t) old l),
+              (λ z. rw rig-ns (rig-demand .demand .each o low .collecting .then-all old l (sym (number-of (rig-collect-is o old grid n h)) ∙ z))),
+              (λ t. number-of (rig-collect-is o old grid n h) ∙ rig-demand .demand .each o low .collecting .can-collect (rw rig-ns at t) old l),
             );
             grid = λ o low old grid h.
                 let z = sym (number-of (rig-collect-is o old grid 0 h)) in
                 let l = collect-length bytes route _ o _ _ old (sym (number-of h)) in
                 let e = rig-demand .demand .each o low in
-                after-of (rig-collect-is o old grid 0 h) ∙ e .grid (e .then-all old l z) old l;
+                after-of (rig-collect-is o old grid 0 h) ∙ e .collecting .grid (e .collecting .then-all old l z) old l;
           }
 
   -- ---- two runs apart

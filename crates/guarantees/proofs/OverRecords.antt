@@ -335,13 +335,13 @@ module _ (bytes : List ℕ) (route : ℕ) (source : List ℕ) where
           goes-on = λ h. let r = demand .goes-on (rw ns at h) in (r .0, λ n c g. next-number (r .0) n c g ∙ r .1);
           then-fewer = λ e c h. rw ns (demand .then-fewer e (sym (next-number e 0 c h)));
           collects = λ old grid n l h. (
-            (λ z. rw ns (demand .then-all old l (sym (number-of (collect-is old grid n h)) ∙ z))),
-            (λ t. number-of (collect-is old grid n h) ∙ demand .can-collect (rw ns at t) old l),
+            (λ z. rw ns (demand .collecting .then-all old l (sym (number-of (collect-is old grid n h)) ∙ z))),
+            (λ t. number-of (collect-is old grid n h) ∙ demand .collecting .can-collect (rw ns at t) old l),
           );
           grid = λ old grid h.
               let z = sym (number-of (collect-is old grid 0 h)) in
               let l = collect-length _ old z in
-              after-of (collect-is old grid 0 h) ∙ demand .grid (demand .then-all old l z) old l;
+              after-of (collect-is old grid 0 h) ∙ demand .collecting .grid (demand .collecting .then-all old l z) old l;
         }
 
 pub over-records : (bytes : List ℕ) (route : ℕ) (source : List ℕ) → OverRecords bytes route source

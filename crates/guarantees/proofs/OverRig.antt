@@ -332,13 +332,13 @@ module _ (bytes : List ℕ) (route : ℕ) where
             goes-on = λ h. let r = demand .goes-on (rw ns at h) in (r .0, λ n d g. next-number (r .0) n d g ∙ r .1);
             then-fewer = λ c d h. rw ns (demand .then-fewer c (sym (next-number c 0 d h)));
             collects = λ o low old grid n l h. (
-              (λ z. rw ns (demand .each o low .then-all old l (sym (number-of (collect-is o old grid n h)) ∙ z))),
-              (λ t. number-of (collect-is o old grid n h) ∙ demand .each o low .can-collect (rw ns at t) old l),
+              (λ z. rw ns (demand .each o low .collecting .then-all old l (sym (number-of (collect-is o old grid n h)) ∙ z))),
+              (λ t. number-of (collect-is o old grid n h) ∙ demand .each o low .collecting .can-collect (rw ns at t) old l),
             );
             grid = λ o low old grid h.
                 let z = sym (number-of (collect-is o old grid 0 h)) in
                 let l = collect-length _ o _ _ old (sym (number-of h)) in
-                after-of (collect-is o old grid 0 h) ∙ demand .each o low .grid (demand .each o low .then-all old l z) old l;
+                after-of (collect-is o old grid 0 h) ∙ demand .each o low .collecting .grid (demand .each o low .collecting .then-all old l z) old l;
           }
 
   -- ---- two runs apart

@@ -1,18 +1,22 @@
 -- Reading and writing a recipe by the exported calls: `recipe-calls`.
-use Prim.Native.Nat.{ℕ}
+use Prim.Native.Nat.{ℕ, _+_, _≤_, _<_}
 use mathlib.Core.Path.{_≡_, refl, sym, ap, _∙_}
+use mathlib.Core.Logic.{_≢_}
 use mathlib.Core.Bool.{true, false}
 use mathlib.Core.List.{List}
 use lib.ListN.{length}
+use lib.Dec.{ltb}
+use Rattle.base.specs.Tests.{pick, every}
 use Rattle.base.specs.Lists.{Bytes}
 use Rattle.base.specs.Numbers.{firstOf}
 use Rattle.base.proofs.Tests.{and-false}
 use Rattle.machine.specs.Machine.{Answered}
 use Rattle.machine.proofs.RunLaws.{number-of, after-of}
-use Rattle.nest.specs.Reader.{nestOf, readLines}
+use Rattle.nest.specs.Nest.{component}
+use Rattle.nest.specs.Reader.{kind, nestOf, nestLines, readLines}
 use Rattle.nest.specs.Encode.{encode}
 use Rattle.writer.specs.declared.reading.RecipeFields.{RecipeFields}
-use Rattle.writer.specs.Fields.{Fields, agree, nestFrom, fieldsOf, Widths}
+use Rattle.writer.specs.Fields.{Fields, agree, nestFrom, fieldsOf, Widths, BoundsWell}
 use Rattle.writer.specs.Writing.{writeLines, writing, writable, writeCall}
 use Rattle.writer.specs.Told.{toldFields, noFields, fieldsIf, readCall, taken}
 use Rattle.writer.proofs.Demand202.{demand202}
@@ -22,7 +26,7 @@ use Rattle.engine.specs.Demands.{Fixed}
 use Rattle.engine.proofs.Demands as engine
 use Rattle.calls.specs.Tells.{Tells}
 use Rattle.calls.specs.Gave.{ReadGave, WriteGave}
-use Rattle.guarantees.specs.RecipeCalls.{spelled, WroteFields, RecipeCalls}
+use Rattle.guarantees.specs.RecipeCalls.{spelled, InRange, WroteFields, RecipeCalls}
 use Rattle.calls.proofs.Tells.{tells-by}
 use Rattle.guarantees.proofs.OverRecords.{fixed-as}
 
@@ -42,13 +46,34 @@ module _ (v : Fields) (old : List ℕ) (n : ℕ) (space : List ℕ) (e : WriteGa
   unfolding writable
   cannot h = and-false _ _ h
 
+  in-range : (2 ≤ length (v .lengths)) × (length (v .lengths) ≤ 4) × (1 ≤ length (v .weights)) × (length (v .weights) ≤ 8) × (length (v .sides) ≤ 4)
+      × (v .shift < 32) × BoundsWell v → InRange v
+  in-range (a, b, c, d, f, h, k) = record { dimensions = (a, b); distances = (c, d); bounds = (f, k); shift = h }
+
+  number : agree v ≡ true → Widths v → firstOf (readLines (spelled v)) ≢ 0 → n ≡ firstOf (readLines (spelled v))
+  number h w k = number-of (e ∙ demand202 .from-fields .number v old (demand202 .all-held v h w) k)
+
+  told : agree v ≡ true → Widths v → InRange v → firstOf (nestLines false (nestFrom v)) ≢ 0 → n ≡ firstOf (nestLines false (nestFrom v))
+  told h w r k =
+      let q = demand202 .told v (demand202 .all-held v h w) (r .dimensions .0) (r .distances .0) (r .shift) (r .bounds .1) in
+      number h w (λ z. k (sym q ∙ z)) ∙ q
+
+  picks : n ≡ 0 → (i : ℕ) → i < length (v .weights)
+      → kind space (length (v .lengths) + length (v .sides) + i) ≡ pick (every (λ j. ltb (component (nestFrom v) i j) 256) 4) 2 4
+  unfolding nestFrom
+  picks z i h =
+      ap (λ (l : List ℕ). kind l (length (v .lengths) + length (v .sides) + i)) (fixed .works z) ∙ demand202 .picks (nestFrom v) i h
+
   wrote : WroteFields v old n space
   wrote =
       record {
         fixed = fixed;
         two = λ h. number-of (e ∙ demand202 .from-fields .two v old (cannot h));
-        number = λ h w k. number-of (e ∙ demand202 .from-fields .number v old (demand202 .all-held v h w) k);
+        stray = λ h. number-of (e ∙ demand202 .stray v old (λ r. h (in-range r)));
+        number = number;
         holds = λ h w. demand202 .from-fields .holds v w (demand202 .all-held v h w);
+        told = told;
+        picks = picks;
         nine = λ h w k l. number-of (e ∙ demand202 .from-fields .nine v old (demand202 .all-held v h w) k l);
         produces = λ h w k l.
             let q = e ∙ demand202 .from-fields .produces v old (demand202 .all-held v h w) k l in

@@ -1,7 +1,8 @@
 -- Read this.
 -- A run can begin: every accepted recipe on a route that is open to it, lent areas of their lengths and as many records as there are processors, is
 -- given 0 by the fresh start; so the claims about runs from a fresh start speak of something. Renders document 01, "Numbers a call gives", lines 1 to 9,
--- and document 02, W-208, W-209 and W-213. Ruled out: records that count other than three words each.
+-- and document 02, W-208, W-209 and W-213. Ruled out: records that count other than three words each. Of the calls over words engine and sharing say it, in
+-- `begins` of their Demands.
 use Prim.Native.Nat.{ℕ, _*_}
 use mathlib.Core.Path.{_≡_}
 use mathlib.Core.List.{List}

@@ -12,3 +12,4 @@ pub mod PartCalls
 pub mod RecipeCalls
 pub mod Begins
 pub mod DriverRow
+pub mod RowD

@@ -12,7 +12,7 @@ use Rattle.base.specs.Lists.{Bytes, part, pack}
 use Rattle.base.specs.Numbers.{firstOf}
 use Rattle.machine.specs.Plan.{count, heldBy}
 use Rattle.machine.specs.Machine.{placeOf, Answered}
-use Rattle.machine.specs.Runs.{turnOf, deliveryOf, last, answers}
+use Rattle.machine.specs.Runs.{turnOf, deliveryOf, last, answers, stepsIn}
 use Rattle.layout.specs.Sizes.{routeOf}
 use Rattle.recipe.specs.Routes.{linesFor}
 use Rattle.engine.specs.Calls.{answer, recipe, collectCall}
@@ -26,7 +26,7 @@ use Rattle.part.specs.Part.{mailAt}
 use Rattle.network_runs.specs.Calls.{Sources}
 use Rattle.network_runs.specs.Boards.{wholeBoards, partBoards}
 use Rattle.calls.specs.Gave.{Areas, inWords, FreshGave, EventGave, TakeInGave, PartFreshGave, PartTurnGave, PartPostGave, PartArriveGave, PartCollectGave}
-use Rattle.guarantees.specs.OverRecords.{Gave, stepsIn}
+use Rattle.guarantees.specs.OverRecords.{Gave}
 
 -- the boards' areas, records as structs, and every packet posted; and their words
 pub record Boards : Type 0 where

@@ -10,7 +10,7 @@ use lib.ListN.{length}
 use Rattle.base.specs.Lists.{Bytes}
 use Rattle.machine.specs.Machine as machine
 use Rattle.machine.specs.Machine.{carryOut, nextAction, tilesLeft}
-use Rattle.machine.specs.Runs.{last, answers, total}
+use Rattle.machine.specs.Runs.{last, answers, total, stepsIn}
 use Rattle.tenants.specs.Offices.{carryOutFor, Sources, sourceFor}
 use Rattle.tenants.specs.Demand208.{eventsOf, answersOf}
 use Rattle.calendar.specs.Hours.{week, openAt, Hours, hoursOf, Timed, turnAt, mailOf, TimedCall, callOf, untilOpen}
@@ -25,7 +25,7 @@ use Rattle.calls.specs.Opens.{tells, openingTold}
 use Rattle.calls.specs.Tells.{Tells}
 use Rattle.calls.specs.Gave.{Areas, inWords, LentAreas, lentWords, RigAreas, rigWords}
 use Rattle.calls.specs.Gave.{FreshGave, CollectGave, FreshBothGave, TimedGave, OfficeTimedGave, OpensGave}
-use Rattle.guarantees.specs.OverRecords.{Gave, FixedAreas, stepsIn}
+use Rattle.guarantees.specs.OverRecords.{Gave, FixedAreas}
 use Rattle.guarantees.specs.OverRig.{ownAreas, otherAreas, lentAreas, CollectGaveFor, FixedLent}
 
 module _ (bytes : List ℕ) (route : ℕ) where

@@ -9,7 +9,7 @@ use lib.ListN.{length}
 use Rattle.base.specs.Lists.{Bytes}
 use Rattle.machine.specs.Machine as machine
 use Rattle.machine.specs.Machine.{State}
-use Rattle.machine.specs.Runs.{Event, last, answers, total}
+use Rattle.machine.specs.Runs.{Event, last, answers, total, stepsIn}
 use Rattle.machine.specs.Marks.{Marks}
 use Rattle.machine.specs.AnyCalls.{eventsIn, numbersIn}
 use Rattle.tenants.specs.Offices.{Rig, Sources, sourceFor, Call}
@@ -20,7 +20,7 @@ use Rattle.engine.specs.Calls.{recipe, freshCall, collectCall}
 use Rattle.sharing.specs.Calls.{freshRigCall, rigCollects}
 use Rattle.timed.specs.Demands.{mixedCalls, mixedRigCalls}
 use Rattle.calls.specs.Gave.{Areas, inWords, FreshGave, EventGave, CollectGave, TimedGave, RigAreas, rigWords, FreshBothGave}
-use Rattle.guarantees.specs.OverRecords.{Gave, stepsIn}
+use Rattle.guarantees.specs.OverRecords.{Gave}
 use Rattle.guarantees.specs.OverRig.{ownAreas, CallGave, CollectGaveFor}
 use Rattle.guarantees.specs.OverHours.{TimedCallGave, Gives}
 use Rattle.guarantees.specs.OverRecords214.{Demand214Gave, Demand214ForGave}

@@ -7,13 +7,12 @@ use mathlib.Core.Logic.{_≢_, _↔_}
 use mathlib.Core.Bool.{false}
 use mathlib.Core.List.{List, [], _∷_, _++_}
 use lib.ListN.{length, getD, set}
-use lib.Dec.{eqb}
-use Rattle.base.specs.Lists.{In, Bytes, countIf}
+use Rattle.base.specs.Lists.{In, Bytes}
 use Rattle.base.specs.Numbers.{Line, firstOf}
 use Rattle.machine.specs.Plan.{takerOf, heldBy, duesOf}
 use Rattle.machine.specs.Machine as machine
 use Rattle.machine.specs.Machine.{State, Action, gather, send, stateOf, carryOut, nextAction, collected}
-use Rattle.machine.specs.Runs.{Event, turnOf, deliveryOf, last, answers, total, program, turnsOf, Demand3}
+use Rattle.machine.specs.Runs.{Event, turnOf, deliveryOf, last, answers, total, program, turnsOf, stepsIn, Demand3}
 use Rattle.machine.specs.Words.{wordAt, mailAt, cellOf, Does}
 use Rattle.nest.specs.Nest.{cells}
 use Rattle.nest.specs.Shape.{inShape}
@@ -116,9 +115,6 @@ pub record ExactCalls (bytes : List ℕ) (route : ℕ) (source : List ℕ) : Typ
       → grid ≡ runNest (nestOf bytes) source array (shapeOf (nestOf bytes) (sequential (nestOf bytes)))
 
 -- ---- demand 3: events from the areas `start` that a fresh start left, with their numbers; `b` are the areas after them
-
-abbrev pub stepsIn : List ℕ → ℕ
-stepsIn numbers = countIf (λ n. eqb n 0) numbers
 
 pub record FixedRun (bytes : List ℕ) (route : ℕ) (source : List ℕ) (start : Areas) (events : List Event) (numbers : List ℕ) (b : Areas)
     : Type 0 where

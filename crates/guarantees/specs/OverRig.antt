@@ -10,7 +10,7 @@ use Rattle.base.specs.Lists.{Bytes, part}
 use Rattle.base.specs.Numbers.{Line}
 use Rattle.machine.specs.Machine as machine
 use Rattle.machine.specs.Machine.{nextAction, collected}
-use Rattle.machine.specs.Runs.{turnOf, deliveryOf, last, answers, total}
+use Rattle.machine.specs.Runs.{turnOf, deliveryOf, last, answers, total, stepsIn}
 use Rattle.tenants.specs.Offices.{Lent, Rig, Sources, sourceFor, ofOffice, carryOutFor, deliveredFor, freshRig, Call}
 use Rattle.tenants.specs.Demand208.{eventsOf, answersOf, Demand208}
 use Rattle.records.specs.declared.Progress.{Progress}
@@ -23,7 +23,7 @@ use Rattle.calls.specs.View.{noView, viewAt}
 use Rattle.calls.specs.Tells.{Tells}
 use Rattle.calls.specs.Gave.{Areas, LentAreas, lentAreasOf, lentWords, RigAreas, rigWords}
 use Rattle.calls.specs.Gave.{OfficeGave, OfficeCollectGave, FreshBothGave, ViewGave}
-use Rattle.guarantees.specs.OverRecords.{Gave, stepsIn}
+use Rattle.guarantees.specs.OverRecords.{Gave}
 
 -- of the areas of both offices, those of office o, those of the other, and what a call of o is lent to change
 abbrev pub ownAreas : RigAreas → ℕ → Areas

@@ -9,14 +9,14 @@ use mathlib.Core.List.{List, [], _∷_}
 use lib.ListN.{length, getD, replicate}
 use Rattle.base.specs.Lists.{Bytes}
 use Rattle.machine.specs.Machine as machine
-use Rattle.machine.specs.Runs.{total}
+use Rattle.machine.specs.Runs.{total, stepsIn}
 use Rattle.rounds.specs.Rounds.{told, drive, rounds, roundsTo, tileRound, roundsFrom, roundsOfOther, stateThen, RoundsHold}
 use Rattle.engine.specs.Calls.{answer, recipe, freshCallLines, collectCall}
 use Rattle.engine.specs.Demands.{Fixed, calls}
 use Rattle.schedule.specs.declared.Driven.{Driven}
 use Rattle.schedule.specs.Calls.{roundsOfLines}
 use Rattle.calls.specs.Gave.{Areas, inWords, FreshGave, CollectGave, RoundsGave, RoundsOfGave}
-use Rattle.guarantees.specs.OverRecords.{EventsGave, stepsIn}
+use Rattle.guarantees.specs.OverRecords.{EventsGave}
 
 -- ---- demand 1
 

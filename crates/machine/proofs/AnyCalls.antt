@@ -6,16 +6,14 @@ use mathlib.Core.Bool.{Bool, true, false}
 use mathlib.Core.List.{List, [], _∷_, _++_}
 use native.Mathlib.Omega.{arith}
 use native.Mathlib.Decide.{ℕ-discrete}
-use lib.ListN.{length, getD, take}
+use lib.ListN.{length, getD}
 use Rattle.base.specs.Tests.{pick}
-use Rattle.base.specs.Lists.{countIf}
-use Rattle.base.proofs.Tests.{never-both, sum-same}
+use Rattle.base.proofs.Tests.{never-both}
 use Rattle.machine.specs.Plan.{Plan, Sound, takerOf}
 use Rattle.machine.specs.Machine.{State, Answered, Action, gather, send, nextAction, collect, fresh}
-use Rattle.machine.specs.Runs.{Event, turnOf, deliveryOf, act, stateAfter, answersTo, total, program, turnsOf, timesOf, calculates, sends, takes}
-use Rattle.machine.specs.Runs.{deliveriesOf, CarriedOut, Demand3, steps}
+use Rattle.machine.specs.Runs.{Event, turnOf, deliveryOf, act, stateAfter, answersTo, total, program, turnsOf, CarriedOut, Demand3, steps}
 use Rattle.machine.specs.Words.{Does, Did, Posted}
-use Rattle.machine.specs.AnyCalls.{View, eventsIn, numbersIn, whole, mixed, either, CarriedOutIn, numbersOf, stepsOf, ownAfter, ownThen, turnsIn}
+use Rattle.machine.specs.AnyCalls.{View, eventsIn, numbersIn, whole, mixed, either, numbersOf, stepsOf, ownAfter, ownThen, turnsIn}
 use Rattle.machine.specs.AnyCalls.{TurnIn, DidIn, Demand3In, PostedIn, WordsIn, Alone}
 use Rattle.machine.proofs.Fit.{numbers}
 use Rattle.machine.proofs.Kept.{Inv}
@@ -23,7 +21,8 @@ use Rattle.machine.proofs.Along.{next-inv}
 use Rattle.machine.proofs.Theorem.{theorem, named-next}
 use Rattle.machine.proofs.Posted.{did, posted, next-is}
 use Rattle.machine.proofs.Marks.{marks-passed}
-use Rattle.machine.proofs.RunLaws.{number-of, after-of, after-append, Passed, ends, steps-same, turns-same, brings-same, one-end}
+use Rattle.machine.proofs.RunLaws.{after-of, after-append, Passed, ends, steps-same, turns-same, one-end}
+use Rattle.machine.proofs.Once.{once-passed, collects-like}
 use Rattle.machine.proofs.Guards.{Guards, alike-guards, is-plain, plain-zero, good-after}
 
 -- in a good state: a call of ours that gives 0 does what the machine's event does; any other leaves our areas; and good states stay good
@@ -88,14 +87,6 @@ module _ {S X : Type 0} (p : Plan) (so : Sound p) (source : List ℕ) (Good : S 
       same-turns : (b : ℕ) → turnsIn v acts start calls b ≡ turnsOf b passed (answersTo (act p source) (fresh p) passed)
       same-turns b = turns-same (act p source) b ran
 
-      same-times : (f : Action → Bool) → timesOf p (eventsIn v calls) (numbersOf v acts start calls) f
-          ≡ timesOf p passed (answersTo (act p source) (fresh p) passed) f
-      same-times f = sum-same _ _ (p .processors) (λ b h. ap (λ (k : ℕ). countIf f (take k (program p b))) (same-turns b))
-
-      same-brings : (m : ℕ) → deliveriesOf m (eventsIn v calls) (numbersOf v acts start calls)
-          ≡ deliveriesOf m passed (answersTo (act p source) (fresh p) passed)
-      same-brings m = brings-same (act p source) m ran
-
       single : Demand3 (act p source) (fresh p) passed p source (collect p)
       single = theorem p so source passed
 
@@ -107,12 +98,9 @@ module _ {S X : Type 0} (p : Plan) (so : Sound p) (source : List ℕ) (Good : S 
         leaves : ownThen v acts start calls x ≡ act p source (stateAfter (act p source) (fresh p) passed) (turnOf b) .after
         leaves = rw (led-to, sym (t .turn)) (fo .after _ good x (t .ours) (t .gave))
 
-        carried : CarriedOutIn p source (ownAfter v acts start calls) (ownThen v acts start calls x) b (turnsIn v acts start calls b)
-        carried = rw (same-turns b, leaves, sym led-to) (record { named = D .named; by-rule = D .by-rule })
-          where
-            D : CarriedOut p source (act p source) (stateAfter (act p source) (fresh p) passed) b
-                (turnsOf b passed (answersTo (act p source) (fresh p) passed))
-            D = theorem p so source (passed ++ (turnOf b ∷ [])) .carried-out passed [] b refl gives
+        carried : CarriedOut p source (ownAfter v acts start calls) (ownThen v acts start calls x) b (turnsIn v acts start calls b)
+        carried =
+            rw (same-turns b, leaves, sym led-to) (theorem p so source (passed ++ (turnOf b ∷ [])) .carried-out passed [] b refl gives)
 
       module _ (x : X) (b : ℕ) (a : Action) (d : DidIn v acts start p calls x b a) where
         as-did : Did (act p source) (fresh p) p passed b a
@@ -181,24 +169,14 @@ module _ {S X : Type 0} (p : Plan) (so : Sound p) (source : List ℕ) (Good : S 
         → (calls : List X) → Demand3In v acts start p source collects calls
     demand3-in collects same-grid calls =
         record {
-          bound = omega (arith, same-steps calls, single calls .bound);
+          once = once-passed p (act p source) (ran calls) (single calls .once);
           then-fewer = λ x o z.
               let k = single calls .then-fewer (v .event x) (rw (led-to calls) (fo .number _ (good calls) x o z)) in
               omega (arith, same-steps calls);
-          can-collect = λ e grid len. number-of (grid-is grid len) ∙ single calls .can-collect (same-steps calls ∙ e) grid len;
-          then-all = λ grid len z. sym (same-steps calls) ∙ single calls .then-all grid len (sym (number-of (grid-is grid len)) ∙ z);
-          calculated = λ c h. rw (same-times calls (calculates p c)) (single calls .calculated c h);
-          not-calculated = λ c h o. rw (same-times calls (calculates p c)) (single calls .not-calculated c h o);
-          sent = λ m h. rw (same-times calls (sends m)) (single calls .sent m h);
-          delivered = λ m h. rw (same-brings calls m) (single calls .delivered m h);
-          taken = λ m h. rw (same-times calls (takes p m)) (single calls .taken m h);
-          all-calculated = λ e c h i. same-times calls (calculates p c) ∙ single calls .all-calculated (same-steps calls ∙ e) c h i;
-          all-sent = λ e m h. same-times calls (sends m) ∙ single calls .all-sent (same-steps calls ∙ e) m h;
-          all-delivered = λ e m h. same-brings calls m ∙ single calls .all-delivered (same-steps calls ∙ e) m h;
-          all-taken = λ e m h. same-times calls (takes p m) ∙ single calls .all-taken (same-steps calls ∙ e) m h;
+          collecting =
+              collects-like p source (stepsOf v acts start calls ≡ total p) _ (collects (stateAfter acts start calls)) _ (λ e. same-steps calls ∙ e)
+              (λ e. sym (same-steps calls) ∙ e) grid-is (single calls .collecting);
           carried-out = λ before after x b e t. carried before x b t;
-          no-more = λ b. rw (same-turns calls b) (single calls .no-more b);
-          grid = λ e old len. after-of (grid-is old len) ∙ single calls .grid (same-steps calls ∙ e) old len;
         }
       where
         grid-is : (grid : List ℕ) → length grid ≡ p .cells

@@ -13,7 +13,7 @@ use Rattle.base.proofs.Tests.{sum-same, sum-most}
 use Rattle.machine.specs.Plan.{Plan, Sound, count}
 use Rattle.machine.specs.Machine.{Action, gather, nextAction, sentOf, carryOut, collect, fresh}
 use Rattle.machine.specs.Runs.{Event, turnOf, act, stateAfter, answersTo, total, program, turnsOf, timesOf, calculates, sends, takes}
-use Rattle.machine.specs.Runs.{deliveriesOf, CarriedOut, last, answers, steps, Demand3}
+use Rattle.machine.specs.Runs.{deliveriesOf, Once, Collects, CarriedOut, last, answers, steps, Demand3}
 use Rattle.machine.proofs.Records.{fit-is, fit-over}
 use Rattle.machine.proofs.Turns.{by-next}
 use Rattle.machine.proofs.Invariant.{pending}
@@ -54,8 +54,8 @@ module _ (p : Plan) (so : Sound p) (source : List ℕ) (es : List Event) (b : �
       next-at (program p b) _ turns _
       (sym rest-es ∙ turn-takes p (stateAfter (act p source) (fresh p) es) b source (run-inv p so source es (fresh p) (inv-fresh p source) .shape) z)
 
-  carried : act p source (stateAfter (act p source) (fresh p) es) (turnOf b) .number ≡ 0 → CarriedOut p source (act p source)
-      (stateAfter (act p source) (fresh p) es) b turns
+  carried : act p source (stateAfter (act p source) (fresh p) es) (turnOf b) .number ≡ 0
+      → CarriedOut p source (stateAfter (act p source) (fresh p) es) (act p source (stateAfter (act p source) (fresh p) es) (turnOf b) .after) b turns
   unfolding act
   carried z =
       record {
@@ -110,14 +110,13 @@ module _ (p : Plan) (so : Sound p) (source : List ℕ) (events : List Event) whe
   calculated c h true i = at-most (calculates p c) 1 (calculated-once p so c h i)
   calculated c h false o = omega (arith, never c o)
 
-  demand3 : Demand3 (act p source) (fresh p) events p source (collect p)
-  demand3 =
+  abbrev all : Type 0
+  all = steps (act p source) (fresh p) events ≡ total p
+
+  once : Once p events (answers (act p source) (fresh p) events)
+  once =
       record {
         bound = omega (arith, counted);
-        goes-on = λ h. progress p so source (last (act p source) (fresh p) events) inv (omega (arith, counted));
-        then-fewer = λ e z. let k = going p so source (last (act p source) (fresh p) events) inv e z in omega (arith, counted);
-        can-collect = λ e grid len. can-end p so source (last (act p source) (fresh p) events) inv (none e) grid;
-        then-all = λ grid len z. let k = none-more p so source (last (act p source) (fresh p) events) inv grid z in omega (arith, counted);
         calculated = λ c h. calculated c h (p .inside c) refl;
         not-calculated = λ c h o. never c o;
         sent = λ m h. at-most (sends m) 1 (sent-once p so m h);
@@ -127,9 +126,25 @@ module _ (p : Plan) (so : Sound p) (source : List ℕ) (events : List Event) whe
         all-sent = λ e m h. exactly (sends m) 1 (sent-once p so m h) (none e);
         all-delivered = λ e m h. let k = all-delivered p so source (last (act p source) (fresh p) events) inv (none e) m h in omega (arith, brought m h);
         all-taken = λ e m h. exactly (takes p m) 1 (taken-once p so m h) (none e);
-        carried-out = λ before after b e z. carried p so source before b z;
         no-more = λ b. within-es p so source events b;
+      }
+
+  collecting : Collects p source all (collect p (last (act p source) (fresh p) events))
+  collecting =
+      record {
+        can-collect = λ e grid len. can-end p so source (last (act p source) (fresh p) events) inv (none e) grid;
+        then-all = λ grid len z. let k = none-more p so source (last (act p source) (fresh p) events) inv grid z in omega (arith, counted);
         grid = λ e old len. ends-right p so source (last (act p source) (fresh p) events) inv (none e) old;
+      }
+
+  demand3 : Demand3 (act p source) (fresh p) events p source (collect p)
+  demand3 =
+      record {
+        once = once;
+        goes-on = λ h. progress p so source (last (act p source) (fresh p) events) inv (omega (arith, counted));
+        then-fewer = λ e z. let k = going p so source (last (act p source) (fresh p) events) inv e z in omega (arith, counted);
+        collecting = collecting;
+        carried-out = λ before after b e z. carried p so source before b z;
       }
 
 pub theorem : (p : Plan) → Sound p → (source : List ℕ) (events : List Event) → Demand3 (act p source) (fresh p) events p source (collect p)

@@ -1,18 +1,16 @@
 -- Read this. Runs of any calls that answer like the machine but may refuse more: turns of one of two offices, turns with hours, or calls of two
 -- kinds in one list. What demands 2 and 3 and the marks say of such a run is stated here once; tenants, calendar and swaps say which calls are meant.
 -- Renders document 01, "The machine" and "Runs", for requests W-208 and W-212 and for lists that mix plain and timed turns.
-use Prim.Native.Nat.{ℕ, _≤_, _<_}
+use Prim.Native.Nat.{ℕ, _<_}
 use mathlib.Core.Path.{_≡_}
 use mathlib.Core.Logic.{_⊎_, inl, inr}
-use mathlib.Core.Bool.{Bool, true, false}
+use mathlib.Core.Bool.{Bool, true}
 use mathlib.Core.List.{List, [], _∷_, _++_}
 use lib.ListN.{length, getD}
-use lib.Dec.{eqb}
 use Rattle.base.specs.Tests.{pick}
-use Rattle.base.specs.Lists.{countIf}
 use Rattle.machine.specs.Plan.{Plan, count, takerOf, heldBy}
-use Rattle.machine.specs.Machine.{State, Answered, Action, gather, send, carryOut, sweep}
-use Rattle.machine.specs.Runs.{Event, turnOf, stateAfter, answersTo, total, program, turnsOf, timesOf, calculates, sends, takes, deliveriesOf}
+use Rattle.machine.specs.Machine.{State, Answered, Action, gather, send}
+use Rattle.machine.specs.Runs.{Event, turnOf, stateAfter, answersTo, total, program, turnsOf, stepsIn, Once, Collects, CarriedOut}
 use Rattle.machine.specs.Words.{wordAt, mailAt, cellOf, Does}
 use Rattle.machine.specs.Marks.{Marks}
 
@@ -47,18 +45,13 @@ either f g (inr y) = g y
 
 -- ---- the claims, about calls from `start`, by the answers that `acts` gives
 
--- processor b's action after k of its turns that gave 0, from s to s′: the one that its program names, by the machine's rule
-pub record CarriedOutIn (p : Plan) (source : List ℕ) (s s′ : State) (b k : ℕ) : Type 0 where
-  pub named : k < length (program p b)
-  pub by-rule : s′ ≡ carryOut p source s b (getD (program p b) k (gather 0))
-
 module _ {S X : Type 0} (v : View S X) (acts : S → X → Answered S) (start : S) where
   abbrev pub numbersOf : List X → List ℕ
   numbersOf calls = numbersIn v calls (answersTo acts start calls)
 
   -- a step is a call of ours that gave 0
   abbrev pub stepsOf : List X → ℕ
-  stepsOf calls = countIf (λ n. eqb n 0) (numbersOf calls)
+  stepsOf calls = stepsIn (numbersOf calls)
 
   abbrev pub ownAfter : List X → State
   ownAfter calls = v .own (stateAfter acts start calls)
@@ -81,26 +74,13 @@ module _ {S X : Type 0} (v : View S X) (acts : S → X → Answered S) (start : 
     pub turn : TurnIn before x b
     pub named : getD (program p b) (turnsIn before b) (gather 0) ≡ a
 
-  -- demand 3, field by field as in Runs, but for progress, which is a matter of what else the calls refuse
+  -- demand 3, but for progress, which is a matter of what else the calls refuse
   pub record Demand3In (p : Plan) (source : List ℕ) (collects : S → List ℕ → Answered (List ℕ)) (calls : List X) : Type 0 where
-    pub bound : stepsOf calls ≤ total p
+    pub once : Once p (eventsIn v calls) (numbersOf calls)
     pub then-fewer : (x : X) → v .ours x ≡ true → acts (stateAfter acts start calls) x .number ≡ 0 → stepsOf calls < total p
-    pub can-collect : stepsOf calls ≡ total p → (grid : List ℕ) → length grid ≡ p .cells → collects (stateAfter acts start calls) grid .number ≡ 0
-    pub then-all : (grid : List ℕ) → length grid ≡ p .cells → collects (stateAfter acts start calls) grid .number ≡ 0 → stepsOf calls ≡ total p
-    pub calculated : (c : ℕ) → c < p .cells → timesOf p (eventsIn v calls) (numbersOf calls) (calculates p c) ≤ 1
-    pub not-calculated : (c : ℕ) → c < p .cells → p .inside c ≡ false → timesOf p (eventsIn v calls) (numbersOf calls) (calculates p c) ≡ 0
-    pub sent : (m : ℕ) → m < count p → timesOf p (eventsIn v calls) (numbersOf calls) (sends m) ≤ 1
-    pub delivered : (m : ℕ) → m < count p → deliveriesOf m (eventsIn v calls) (numbersOf calls) ≤ 1
-    pub taken : (m : ℕ) → m < count p → timesOf p (eventsIn v calls) (numbersOf calls) (takes p m) ≤ 1
-    pub all-calculated : stepsOf calls ≡ total p → (c : ℕ) → c < p .cells → p .inside c ≡ true
-        → timesOf p (eventsIn v calls) (numbersOf calls) (calculates p c) ≡ 1
-    pub all-sent : stepsOf calls ≡ total p → (m : ℕ) → m < count p → timesOf p (eventsIn v calls) (numbersOf calls) (sends m) ≡ 1
-    pub all-delivered : stepsOf calls ≡ total p → (m : ℕ) → m < count p → deliveriesOf m (eventsIn v calls) (numbersOf calls) ≡ 1
-    pub all-taken : stepsOf calls ≡ total p → (m : ℕ) → m < count p → timesOf p (eventsIn v calls) (numbersOf calls) (takes p m) ≡ 1
+    pub collecting : Collects p source (stepsOf calls ≡ total p) (collects (stateAfter acts start calls))
     pub carried-out : (before after : List X) (x : X) (b : ℕ) → calls ≡ before ++ (x ∷ after) → TurnIn before x b
-        → CarriedOutIn p source (ownAfter before) (ownThen before x) b (turnsIn before b)
-    pub no-more : (b : ℕ) → turnsIn calls b ≤ length (program p b)
-    pub grid : stepsOf calls ≡ total p → (old : List ℕ) → length old ≡ p .cells → collects (stateAfter acts start calls) old .after ≡ sweep p source
+        → CarriedOut p source (ownAfter before) (ownThen before x) b (turnsIn before b)
 
   -- processor b sends message m by the call x after the calls `before`; whatever calls come then. Field by field as in Words
   pub record PostedIn (p : Plan) (before : List X) (x : X) (b m : ℕ) : Type 0 where

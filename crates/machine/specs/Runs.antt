@@ -90,41 +90,52 @@ deliveriesOf m (e ∷ es) [] = 0
 deliveriesOf m (turnOf b ∷ es) (x ∷ xs) = deliveriesOf m es xs
 deliveriesOf m (deliveryOf k ∷ es) (x ∷ xs) = one (eqb k m and eqb x 0) + deliveriesOf m es xs
 
--- a turn of processor b in the state s, after k turns of b that gave 0: the action named, carried out by the machine's rule
-pub record CarriedOut (p : Plan) (source : List ℕ) (acts : State → Event → Answered State) (s : State) (b k : ℕ) : Type 0 where
+-- ---- what demand 3 asks of every kind of run: one list of events and the numbers that they got, and collecting
+
+-- a step is an event that gave 0
+abbrev pub stepsIn : List ℕ → ℕ
+stepsIn numbers = countIf (λ x. eqb x 0) numbers
+
+-- nothing is done too often, and at the end everything exactly once: of events and the numbers that they got alone
+pub record Once (p : Plan) (events : List Event) (numbers : List ℕ) : Type 0 where
+  pub bound : stepsIn numbers ≤ total p
+  -- no cell is calculated twice, one that is not in the nest never; no message sent, delivered or taken twice
+  pub calculated : (c : ℕ) → c < p .cells → timesOf p events numbers (calculates p c) ≤ 1
+  pub not-calculated : (c : ℕ) → c < p .cells → p .inside c ≡ false → timesOf p events numbers (calculates p c) ≡ 0
+  pub sent : (m : ℕ) → m < count p → timesOf p events numbers (sends m) ≤ 1
+  pub delivered : (m : ℕ) → m < count p → deliveriesOf m events numbers ≤ 1
+  pub taken : (m : ℕ) → m < count p → timesOf p events numbers (takes p m) ≤ 1
+  -- when the steps are that many, each message exactly once, and each cell in the nest
+  pub all-calculated : stepsIn numbers ≡ total p → (c : ℕ) → c < p .cells → p .inside c ≡ true → timesOf p events numbers (calculates p c) ≡ 1
+  pub all-sent : stepsIn numbers ≡ total p → (m : ℕ) → m < count p → timesOf p events numbers (sends m) ≡ 1
+  pub all-delivered : stepsIn numbers ≡ total p → (m : ℕ) → m < count p → deliveriesOf m events numbers ≡ 1
+  pub all-taken : stepsIn numbers ≡ total p → (m : ℕ) → m < count p → timesOf p events numbers (takes p m) ≡ 1
+  -- no processor has a step beyond its program
+  pub no-more : (b : ℕ) → turnsOf b events numbers ≤ length (program p b)
+
+-- collecting into a grid of the right length gives 0 exactly when the run has ended, and then the sweep. Ended: its steps are all that there are
+pub record Collects (p : Plan) (source : List ℕ) (Ended : Type 0) (collect : List ℕ → Answered (List ℕ)) : Type 0 where
+  pub can-collect : Ended → (grid : List ℕ) → length grid ≡ p .cells → collect grid .number ≡ 0
+  pub then-all : (grid : List ℕ) → length grid ≡ p .cells → collect grid .number ≡ 0 → Ended
+  pub grid : Ended → (old : List ℕ) → length old ≡ p .cells → collect old .after ≡ sweep p source
+
+-- ---- the machine's
+
+-- a turn of processor b from s to s′, after k turns of b that gave 0: the action named, carried out by the machine's rule
+pub record CarriedOut (p : Plan) (source : List ℕ) (s s′ : State) (b k : ℕ) : Type 0 where
   pub named : k < length (program p b)
-  pub by-rule : acts s (turnOf b) .after ≡ carryOut p source s b (getD (program p b) k (gather 0))
+  pub by-rule : s′ ≡ carryOut p source s b (getD (program p b) k (gather 0))
 
 -- the claim about a list of events from `start`, by the answers that `acts` gives
 module _ (acts : State → Event → Answered State) (start : State) (events : List Event) where
   pub record Demand3 (p : Plan) (source : List ℕ) (collects : State → List ℕ → Answered (List ℕ)) : Type 0 where
-    pub bound : steps acts start events ≤ total p
+    pub once : Once p events (answers acts start events)
     -- some event would give 0 exactly when the steps are fewer
     pub goes-on : steps acts start events < total p → (e : Event) × (acts (last acts start events) e .number ≡ 0)
     pub then-fewer : (e : Event) → acts (last acts start events) e .number ≡ 0 → steps acts start events < total p
-    -- collecting into a grid of the right length gives 0 exactly when they are that many
-    pub can-collect : steps acts start events ≡ total p → (grid : List ℕ) → length grid ≡ p .cells
-        → collects (last acts start events) grid .number ≡ 0
-    pub then-all : (grid : List ℕ) → length grid ≡ p .cells → collects (last acts start events) grid .number ≡ 0
-        → steps acts start events ≡ total p
-    -- no cell is calculated twice, one that is not in the nest never; no message sent, delivered or taken twice
-    pub calculated : (c : ℕ) → c < p .cells → timesOf p events (answers acts start events) (calculates p c) ≤ 1
-    pub not-calculated : (c : ℕ) → c < p .cells → p .inside c ≡ false → timesOf p events (answers acts start events) (calculates p c) ≡ 0
-    pub sent : (m : ℕ) → m < count p → timesOf p events (answers acts start events) (sends m) ≤ 1
-    pub delivered : (m : ℕ) → m < count p → deliveriesOf m events (answers acts start events) ≤ 1
-    pub taken : (m : ℕ) → m < count p → timesOf p events (answers acts start events) (takes p m) ≤ 1
-    -- when they are that many, each message exactly once, and each cell in the nest
-    pub all-calculated : steps acts start events ≡ total p → (c : ℕ) → c < p .cells → p .inside c ≡ true
-        → timesOf p events (answers acts start events) (calculates p c) ≡ 1
-    pub all-sent : steps acts start events ≡ total p → (m : ℕ) → m < count p → timesOf p events (answers acts start events) (sends m) ≡ 1
-    pub all-delivered : steps acts start events ≡ total p → (m : ℕ) → m < count p → deliveriesOf m events (answers acts start events) ≡ 1
-    pub all-taken : steps acts start events ≡ total p → (m : ℕ) → m < count p → timesOf p events (answers acts start events) (takes p m) ≡ 1
+    pub collecting : Collects p source (steps acts start events ≡ total p) (collects (last acts start events))
     -- each turn that gave 0 carried out, by the machine's rules, the action that the program names
     pub carried-out : (before after : List Event) (b : ℕ) → events ≡ before ++ (turnOf b ∷ after)
         → acts (stateAfter acts start before) (turnOf b) .number ≡ 0
-        → CarriedOut p source acts (stateAfter acts start before) b (turnsOf b before (answersTo acts start before))
-    -- no processor has a step beyond its program
-    pub no-more : (b : ℕ) → turnsOf b events (answers acts start events) ≤ length (program p b)
-    -- the collected grid equals the sweep
-    pub grid : steps acts start events ≡ total p → (old : List ℕ) → length old ≡ p .cells
-        → collects (last acts start events) old .after ≡ sweep p source
+        → CarriedOut p source (stateAfter acts start before) (acts (stateAfter acts start before) (turnOf b) .after) b
+        (turnsOf b before (answersTo acts start before))

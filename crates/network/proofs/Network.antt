@@ -112,13 +112,13 @@ pub record Correct (p : Plan) (source : List ℕ) (x : Packet) : Type 0 where
   pub words : x .words ≡ map (swept p source) (heldBy p (x .message))
 
 -- no message has two packets
-abbrev pub Once : List Packet → Type 0
-Once packets = (i k : ℕ) → i < length packets → k < length packets → packetAt packets i .message ≡ packetAt packets k .message → i ≡ k
+abbrev pub PostedOnce : List Packet → Type 0
+PostedOnce packets = (i k : ℕ) → i < length packets → k < length packets → packetAt packets i .message ≡ packetAt packets k .message → i ≡ k
 
 pub record Follows (p : Plan) (source : List ℕ) (s : State) (n : Network) : Type 0 where
   pub to : Together (Has (n .packets)) p source s (n .areas)
   pub right : (k : ℕ) → k < length (n .packets) → Correct p source (packetAt (n .packets) k)
-  pub once : Once (n .packets)
+  pub once : PostedOnce (n .packets)
 
 pub record Stepped (p : Plan) (source : List ℕ) (s : State) (n : Network) (ms : List Event) (a : Answered Network) : Type 0 where
   pub follows : Follows p source (stateAfter (act p source) s ms) (a .after)
@@ -158,7 +158,7 @@ module _ (packets : List Packet) (x : Packet) where
           absurd (n (sym (h .is) ∙ ap (λ (i : ℕ). packetAt (packets ++ (x ∷ [])) i .message) e
           ∙ ap (λ (y : Packet). y .message) (getD-append-seam packets x [] _)))
 
-  once-more : Once packets → (Has packets (x .message) → ⊥) → Once (packets ++ (x ∷ []))
+  once-more : PostedOnce packets → (Has packets (x .message) → ⊥) → PostedOnce (packets ++ (x ∷ []))
   once-more old new i k hi hk e = go (seam-or i hi) (seam-or k hk)
     where
       before : (j : ℕ) → j < length packets → packetAt (packets ++ (x ∷ [])) j .message ≡ packetAt packets j .message

@@ -16,14 +16,15 @@ use Rattle.base.proofs.Select.{those-lt}
 use Rattle.machine.specs.Plan.{Plan, Sound, count, heldBy, tilesOf}
 use Rattle.machine.specs.Machine.{State, Action, gather, memoryOf, placeOf, finishedOf, stageOf, sentOf, tilesLeft, fit, Answered, turn, deliver, carryOut}
 use Rattle.machine.specs.Machine.{nextAction, collect, fresh, sweep}
-use Rattle.machine.specs.Runs.{Event, turnOf, deliveryOf, act, stateAfter, answersTo, steps, total, program, turnsOf, timesOf, deliveriesOf, Demand3}
+use Rattle.machine.specs.Runs.{Event, turnOf, deliveryOf, act, stateAfter, answersTo, steps, total, program, turnsOf, deliveriesOf, stepsIn, Demand3}
 use Rattle.machine.specs.Marks.{Standing, Marks}
 use Rattle.machine.proofs.Turns as turns
 use Rattle.machine.proofs.Turns.{can-deliver, can-collect}
 use Rattle.machine.proofs.Progress.{prog, prog-is, prog-before, work, full}
 use Rattle.machine.proofs.Invariant.{sender-low}
 use Rattle.machine.proofs.Kept.{statusOf, inv-fit}
-use Rattle.machine.proofs.RunLaws.{Passed, number-of, after-of, ends, turns-same, brings-same}
+use Rattle.machine.proofs.RunLaws.{Passed, number-of, after-of, ends, steps-same, turns-same, brings-same}
+use Rattle.machine.proofs.Once.{once-passed, collects-like}
 use Rattle.machine.proofs.Theorem.{theorem, named-next}
 use Rattle.machine.proofs.Marks.{marks-passed}
 use Rattle.network.specs.Apart.{Areas, startApart, replaced, senderAt, takerAt, joined}
@@ -31,13 +32,13 @@ use Rattle.network.specs.Packets.{Packet, packetAt, Network, networkOf, 
 use Rattle.network.specs.Packets.{mailed}
 use Rattle.network.specs.Brought.{BoardEvent, turnAt, postAt, broughtTo, BoardCalls, calledAt, actBoards, takeIn, machineCalls, machineBoards}
 use Rattle.network.specs.Brought.{WasPosted, Carries}
-use Rattle.network.specs.OnBoards.{eventsAt, numbersAt, postsOf, whole, timesGot, takenIn, handedOver, stepsGot, OnBoards, OnWholeAreas}
+use Rattle.network.specs.OnBoards.{eventsAt, numbersAt, postsOf, whole, takenIn, handedOver, stepsGot, OnBoards, OnWholeAreas}
 use Rattle.network.proofs.Letters.{replaced-same, replaced-other}
 use Rattle.network.proofs.Agrees.{left-same, number-same, goes-same}
 use Rattle.network.proofs.Joined.{joined-shape, joined-same}
 use Rattle.network.proofs.Alike.{SharedLike}
 use Rattle.network.proofs.Posting.{Has}
-use Rattle.network.proofs.Network.{Follows, Once, post-asks, arrive-asks, start-follows}
+use Rattle.network.proofs.Network.{Follows, PostedOnce, post-asks, arrive-asks, start-follows}
 use Rattle.network.proofs.PacketTheorem.{step-here, step-there, few, mailed-all}
 use Rattle.network.proofs.Brought.{Away, Honest, board-low, stays-as, post-asked, post-refused, turn-refused, take-refused, take-short, take-none, take-wrong}
 use Rattle.network.proofs.Brought.{take-again, takes-it, not-flying, carries-none, carries-next, carries-alone, carries-first, carries-rest, carries-prefix}
@@ -230,18 +231,18 @@ module _ (p : Plan) (so : Sound p) (away : Away p) (source : List ℕ) (view : �
           ≡ turnsOf b passed (answersTo (act p source) (fresh p) passed)
       turns-are b = ap (λ (l : List ℕ). turnsOf b (eventsAt events) (numbersAt events l)) (M .numbers) ∙ turns-same (act p source) b (R .run)
 
-      times-are : (f : Action → Bool) → timesGot A start events p f ≡ timesOf p passed (answersTo (act p source) (fresh p) passed) f
-      times-are f = sum-same _ _ (p .processors) (λ b h. ap (λ (i : ℕ). countIf f (take i (program p b))) (turns-are b))
-
       takes-are : (m : ℕ) → takenIn A start events m ≡ deliveriesOf m passed (answersTo (act p source) (fresh p) passed)
       takes-are m = ap (λ (l : List ℕ). deliveriesOf m (eventsAt events) (numbersAt events l)) (M .numbers) ∙ brings-same (act p source) m (R .run)
 
       -- ---- all steps taken: those of the machine, and a packet of each message
       machine-all : steps A start events ≡ whole p → machineSteps ≡ total p
-      machine-all e = omega (arith, e, counted, few-packets, D .bound)
+      machine-all e = omega (arith, e, counted, few-packets, D .once .bound)
+
+      all-there : steps A start events ≡ whole p → stepsIn (numbersAt events (answersTo A start events)) ≡ total p
+      all-there e = ap (λ (l : List ℕ). stepsIn (numbersAt events l)) (M .numbers) ∙ sym (steps-same (act p source) (R .run)) ∙ machine-all e
 
       all-posted : machineSteps ≡ total p → (m : ℕ) → m < count p → Has (O .packets) m
-      all-posted e m lo = taken-posted (p .processors) c m events start k (omega (arith, takes-are m, D .all-delivered e m lo))
+      all-posted e m lo = taken-posted (p .processors) c m events start k (omega (arith, takes-are m, D .once .all-delivered e m lo))
 
       packets-all : machineSteps ≡ total p → length (N .packets) ≡ count p
       packets-all e = omega (arith, at-least (O .packets) (count p) (all-posted e), ap length (M .packets), few-packets)
@@ -251,7 +252,7 @@ module _ (p : Plan) (so : Sound p) (away : Away p) (source : List ℕ) (view : �
         where
           go : Dec (machineSteps ≡ total p) → machineSteps < total p
           go (yes e) = absurd (omega (arith, h, counted, packets-all e))
-          go (no q) = omega (arith, D .bound)
+          go (no q) = omega (arith, D .once .bound)
 
       -- ---- posts
       handed : (m : ℕ) → handedOver A start events m ≡ countIf (isOf m) (O .packets)
@@ -260,8 +261,8 @@ module _ (p : Plan) (so : Sound p) (away : Away p) (source : List ℕ) (view : �
           let e : countIf (isOf m) (start .packets) ≡ 0 = ap (countIf (isOf m)) none in
           omega (arith, posts-counted (p .processors) c m events start)
 
-      once : Once (O .packets)
-      once = subst Once (sym (M .packets)) (fo .once)
+      once : PostedOnce (O .packets)
+      once = subst PostedOnce (sym (M .packets)) (fo .once)
 
       -- ---- one event more
       further : (e : BoardEvent) → A O e .number ≡ B N e .number
@@ -378,22 +379,14 @@ module _ (p : Plan) (so : Sound p) (away : Away p) (source : List ℕ) (view : �
       pub on-boards : OnBoards A start events p source
       on-boards =
           record {
-            bound = omega (arith, counted, few-packets, D .bound);
+            bound = omega (arith, counted, few-packets, D .once .bound);
             goes-on = goes;
             then-fewer = then-less;
-            calculated = λ i h. rw (times-are _) (D .calculated i h);
-            not-calculated = λ i h o. rw (times-are _) (D .not-calculated i h o);
-            sent = λ m h. rw (times-are _) (D .sent m h);
+            once = rw (M .numbers) (once-passed p (act p source) (R .run) (D .once));
             handed-over = λ m h. omega (arith, handed m, once-count m (O .packets) once);
-            taken-in = λ m h. rw (takes-are m) (D .delivered m h);
-            gathered = λ m h. rw (times-are _) (D .taken m h);
-            all-calculated = λ e i h o. rw (times-are _) (D .all-calculated (machine-all e) i h o);
-            all-sent = λ e m h. rw (times-are _) (D .all-sent (machine-all e) m h);
+            then-total = λ e. all-there e;
             all-handed-over = λ e m h. let x = all-posted (machine-all e) m h in
                 omega (arith, handed m, once-count m (O .packets) once, has-count m (O .packets) (x .at) (x .low) (x .is));
-            all-taken-in = λ e m h. rw (takes-are m) (D .all-delivered (machine-all e) m h);
-            all-gathered = λ e m h. rw (times-are _) (D .all-taken (machine-all e) m h);
-            no-more = λ b. rw (turns-are b) (D .no-more b);
             posted-low = rw (M .packets) (λ i h. fo .right i h .low);
             posted-words = rw (M .packets) (λ i h. fo .right i h .words);
             posted-once = once;
@@ -426,12 +419,12 @@ module _ (p : Plan) (so : Sound p) (away : Away p) (source : List ℕ) (view : �
       pub at-the-end : ((b : ℕ) → b < p .processors → tilesLeft p (N .areas b) b ≡ false) → steps A start events ≡ whole p
       at-the-end f =
           let z = can-collect p S blank (inv-fit p source S (fo .to .inv)) (some-none (tilesLeft p S) (p .processors) (λ b h. sym (left-there b h) ∙ f b h)) in
-          let e = D .then-all blank blank-long (ap (λ (s : State). collect p s blank .number) there ∙ z) in
+          let e = D .collecting .then-all blank blank-long (ap (λ (s : State). collect p s blank .number) there ∙ z) in
           omega (arith, counted, e, packets-all e)
 
       pub none-left : steps A start events ≡ whole p → (b : ℕ) → b < p .processors → tilesLeft p (N .areas b) b ≡ false
       none-left e b h =
-          let z = ap (λ (s : State). collect p s blank .number) (sym there) ∙ D .can-collect (machine-all e) blank blank-long in
+          let z = ap (λ (s : State). collect p s blank .number) (sym there) ∙ D .collecting .can-collect (machine-all e) blank blank-long in
           left-there b h ∙ none-some (tilesLeft p S) (p .processors) (turns.none-left p S blank z) b h
 
 -- ---- a board with no tiles left has the sweep's words of its cells
@@ -541,7 +534,7 @@ module _ (p : Plan) (so : Sound p) (away : Away p) (source : List ℕ) (c : Boar
 
     joined-as : (grid : List ℕ) → collects (joined p last-areas) grid ≡ collects final grid
     joined-as =
-        like .joining final (joined p last-areas) (known .to .inv .shape) (joined-shape p so source final last-areas (known .to))
+        like .joining final (joined p last-areas) (known .to .inv .shape) (joined-shape p last-areas (λ b h. known .to .each b h .shape))
         (joined-same p so source final last-areas (known .to))
 
     demanded : Demand3 (act p source) (fresh p) (passed p so away source (λ b s. s) c alike start none begins events k) p source (collect p)
@@ -558,19 +551,15 @@ module _ (p : Plan) (so : Sound p) (away : Away p) (source : List ℕ) (c : Boar
     on-whole-areas =
         record {
           by-rule = λ before after b q z. by-program before (carries-prefix acts start before (turnAt b ∷ after) (rw q at k)) b z;
-          can-collect = λ e grid len.
-              number-of (collects-as grid len)
-              ∙ demanded .can-collect (machine-all p so away source (λ b s. s) c alike start none begins events k e) grid len;
-          then-all = λ grid len z.
-              let t = demanded .then-all grid len (sym (number-of (collects-as grid len)) ∙ z) in
+          collecting =
+              collects-like p source (stepsGot acts start events ≡ whole p) _ (collects (joined p last-areas)) _
+              (machine-all p so away source (λ b s. s) c alike start none begins events k)
+              (λ t.
               omega (
                 arith,
                 t,
                 counted p so away source (λ b s. s) c alike start none begins events k,
                 packets-all p so away source (λ b s. s) c alike start none begins events k t,
-              );
-          grid = λ e old len.
-              after-of (collects-as old len)
-              ∙ demanded .grid (machine-all p so away source (λ b s. s) c alike start none begins events k e) old len;
+              )) collects-as (demanded .collecting);
           part-right = part-right p so source final (stateAfter acts start events) known;
         }

@@ -8,21 +8,22 @@ use lib.ListN.{length}
 use lib.Dec.{eqb}
 use borrow.Author.Tests.{ne-eqb}
 use Rattle.base.specs.Tests.{not}
-use Rattle.base.proofs.Tests.{not-false, length-tabulate}
+use Rattle.base.proofs.Tests.{not-false}
 use Rattle.base.proofs.Select.{keep-few}
 use Rattle.machine.specs.Plan.{Plan, Sound, count}
-use Rattle.machine.specs.Machine.{State, Answered, collect, collected, fresh, sweep}
-use Rattle.machine.specs.Runs.{Event, turnOf, deliveryOf, act, Demand3}
-use Rattle.machine.proofs.Turns.{delivered, collect-gives}
+use Rattle.machine.specs.Machine.{State, Answered, collect, fresh}
+use Rattle.machine.specs.Runs.{Event, turnOf, deliveryOf, act, total, Demand3}
+use Rattle.machine.proofs.Turns.{delivered}
 use Rattle.machine.proofs.Kept.{statusOf}
 use Rattle.machine.proofs.Events.{flying}
-use Rattle.machine.proofs.RunLaws.{number-of, after-of}
+use Rattle.machine.proofs.RunLaws.{number-of}
+use Rattle.machine.proofs.Once.{collects-like}
 use Rattle.network.specs.Apart.{senderAt, takerAt, joined, collectApart}
 use Rattle.network.specs.Packets.{Network, packetAt, statusAt, NetworkEvent, turnBy, postOf, arrivalOf, turnNetwork, actNetwork}
 use Rattle.network.specs.Packets.{startNetwork, mailed, networkAfter, stepsHere, besides, lastBeside, stepsBeside, ByPackets, MachineByPackets}
 use Rattle.network.proofs.Together.{turn-number}
-use Rattle.network.proofs.Theorem.{both-are, assembled-same, collect-number, collect-after}
-use Rattle.network.proofs.Joined.{joined-shape, joined-same}
+use Rattle.network.proofs.Theorem.{both-are}
+use Rattle.network.proofs.Joined.{joined-shape, collect-same, joined-same}
 use Rattle.network.proofs.Alike.{SharedLike, machine-like, shared-end, shared-steps}
 use Rattle.network.proofs.Bounded.{at-most}
 use Rattle.network.proofs.Posting.{Has, sender-at, in-flight}
@@ -72,19 +73,6 @@ module _ (p : Plan) (so : Sound p) (source : List ℕ) (s : State) (n : Network)
   away-is k lo q =
       let e = arrive-away p n k lo q in
       arrive-some p n k (λ z. omega arith) ∙ ap (λ (i : ℕ). record { number = i; after = n }) e
-
-  collected-length : length (collected p s) ≡ p .cells
-  unfolding collected
-  collected-length = length-tabulate _ (p .cells)
-
-  pub grid-is : ((grid : List ℕ) → length grid ≡ p .cells → collect p s grid .number ≡ 0)
-      → ((grid : List ℕ) → length grid ≡ p .cells → collect p s grid .after ≡ sweep p source)
-      → (old : List ℕ) → length old ≡ p .cells → collectApart p (n .areas) old .after ≡ sweep p source
-  grid-is can gives old len =
-      collect-after p so source s (n .areas) (fo .to) old (collect-number p so source s (n .areas) (fo .to) old ∙ can old len)
-      ∙ assembled-same p so source s (n .areas) (fo .to)
-      ∙ sym (collect-gives p s (collected p s) (can (collected p s) collected-length))
-      ∙ gives (collected p s) collected-length
 
 -- no message has two packets, and each goes to another processor: so they are no more than those messages
 module _ (p : Plan) (source : List ℕ) (s : State) (n : Network) (fo : Follows p source s n) where
@@ -145,7 +133,7 @@ module _ (p : Plan) (so : Sound p) (source : List ℕ) (acts : Network → Netwo
 
   joined-as : (grid : List ℕ) → collects (joined p (N .areas)) grid ≡ collects S grid
   joined-as =
-      like .joining S (joined p (N .areas)) (fo .to .inv .shape) (joined-shape p so source S (N .areas) (fo .to))
+      like .joining S (joined p (N .areas)) (fo .to .inv .shape) (joined-shape p (N .areas) (λ b h. fo .to .each b h .shape))
       (joined-same p so source S (N .areas) (fo .to))
 
   pub by-packets : ByPackets acts start events p shared source collects
@@ -159,8 +147,8 @@ module _ (p : Plan) (so : Sound p) (source : List ℕ) (acts : Network → Netwo
         same-sent = λ b h. fo .to .each b h .recorded .sent;
         counted = all-counted;
         few-packets = few p source S N fo;
-        bounded = omega (arith, all-counted, demand .bound, few p source S N fo);
-        bounded-all = omega (arith, all-counted, demand .bound, few p source S N fo, mailed-all p);
+        bounded = omega (arith, all-counted, demand .once .bound, few p source S N fo);
+        bounded-all = omega (arith, all-counted, demand .once .bound, few p source S N fo, mailed-all p);
         goes = λ k h. (fo .right k h .low, fo .right k h .away);
         once = fo .once;
         carries = λ k h. fo .right k h .words;
@@ -171,15 +159,11 @@ module _ (p : Plan) (so : Sound p) (source : List ℕ) (acts : Network → Netwo
         turned-away = λ k h q. same S N fo (arrivalOf k) ∙ away-is p so source S N fo k h q;
         goes-on = λ h. let r = demand .goes-on h in goes-here (r .0) (r .1);
         then-fewer = λ x z. let r = goes-there x z in demand .then-fewer (r .0) (r .1);
-        can-collect = λ e grid len.
-            collect-number p so source S (N .areas) (fo .to) grid ∙ sym (number-of (collecting-is grid len)) ∙ demand .can-collect e grid len;
-        then-all = λ grid len z.
-            demand .then-all grid len (number-of (collecting-is grid len) ∙ sym (collect-number p so source S (N .areas) (fo .to) grid) ∙ z);
-        grid = λ e old len. grid-is p so source S N fo
-            (λ grid l. sym (number-of (collecting-is grid l)) ∙ demand .can-collect e grid l)
-            (λ grid l. sym (after-of (collecting-is grid l)) ∙ demand .grid e grid l) old len;
+        collecting =
+            collects-like p source (stepsBeside acts start events p shared ≡ total p) _ (collectApart p (N .areas)) _ (λ e. e) (λ e. e)
+            (λ grid len. collect-same p so source S (N .areas) (fo .to) grid ∙ sym (collecting-is grid len)) (demand .collecting);
         joins = joined-as;
-        joined-grid = λ e old len. joined-as old ∙ both-are (collects S old) (demand .can-collect e old len) (demand .grid e old len);
+        joined-grid = λ e old len. joined-as old ∙ both-are (collects S old) (demand .collecting .can-collect e old len) (demand .collecting .grid e old len);
       }
 
 pub theorem-packets : (p : Plan) → Sound p → (source : List ℕ) (events : List NetworkEvent) → MachineByPackets p source events

@@ -21,7 +21,7 @@ use Rattle.network.specs.Packets.{Packet, packetAt, Network}
 use Rattle.network.specs.Brought.{BoardEvent, turnAt, postAt, broughtTo, BoardCalls, calledAt, actBoards, WasPosted, Carries}
 use Rattle.network.specs.OnBoards.{eventsAt, numbersAt, postsOf}
 use Rattle.network.proofs.Posting.{Has}
-use Rattle.network.proofs.Network.{Once, has-more}
+use Rattle.network.proofs.Network.{PostedOnce, has-more}
 use Rattle.network.proofs.Bounded.{at-most}
 use Rattle.network.proofs.Brought.{carries-first, carries-rest}
 
@@ -48,7 +48,7 @@ module _ (m : ℕ) where
   has-count (x ∷ ps) zero l e = omega (arith, one-true (eq-eqb (x .message) m e))
   has-count (x ∷ ps) (suc k) l e = let a = has-count ps k (omega arith) e in omega arith
 
-  pub once-count : (ps : List Packet) → Once ps → countIf (isOf m) ps ≤ 1
+  pub once-count : (ps : List Packet) → PostedOnce ps → countIf (isOf m) ps ≤ 1
   unfolding countIf
   once-count [] once = omega arith
   once-count (x ∷ ps) once =

@@ -1,29 +1,25 @@
 -- Demand 3 for processors that share no memory, for every sound plan, every source and every list of events; of anything that answers as they do.
 use Prim.Native.Nat.{ℕ, _<_}
 use mathlib.Core.Path.{_≡_, refl, sym, ap, _∙_}
-use mathlib.Core.Bool.{Bool, true, false}
 use mathlib.Core.List.{List}
 use native.Mathlib.Omega.{arith}
 use native.Mathlib.Decide.{decLt}
 use lib.ListN.{length, getD}
 use lib.Dec.{eqb}
-use borrow.Author.Tests.{eq-eqb}
-use Rattle.base.specs.Tests.{pick}
 use Rattle.base.specs.Lists.{countIf}
-use Rattle.base.proofs.Tests.{not-true, pick-true, tabulate-same, length-tabulate, some-same}
-use Rattle.base.proofs.Numbers.{first-false}
+use Rattle.base.proofs.Tests.{length-tabulate}
 use Rattle.machine.specs.Plan.{Plan, Sound}
-use Rattle.machine.specs.Machine.{State, memoryOf, tilesLeft, gather, nextAction, carryOut, turn, collect, collected, fresh, sweep, Answered}
+use Rattle.machine.specs.Machine.{State, gather, nextAction, carryOut, turn, collect, collected, fresh, sweep, Answered}
 use Rattle.machine.specs.Runs.{Event, turnOf, act, stateAfter, answersTo, total, program, turnsOf, steps, Demand3}
 use Rattle.machine.proofs.Turns.{collect-gives}
-use Rattle.machine.proofs.Kept.{inv-fit}
 use Rattle.machine.proofs.RunLaws.{number-of, after-of, same-end, same-numbers}
+use Rattle.machine.proofs.Once.{collects-like}
 use Rattle.machine.proofs.Theorem.{named-next}
 use Rattle.network.specs.Apart.{Areas, startApart, replaced, turnApart, actApart, assembled, collectApart, joined, CarriedOutApart, stepsApart}
 use Rattle.network.specs.Apart.{Demand3Apart, MachineApart}
-use Rattle.network.proofs.Agrees.{Nothing, left-same, goes-same}
+use Rattle.network.proofs.Agrees.{Nothing, goes-same}
 use Rattle.network.proofs.Together.{Together, start-together, turn-here, turn-nowhere, event-number, event-together, run-together, run-answers}
-use Rattle.network.proofs.Joined.{joined-shape, joined-same}
+use Rattle.network.proofs.Joined.{assembled-same, joined-shape, collect-same, joined-same}
 use Rattle.network.proofs.Alike.{SharedLike, machine-like, shared-end, shared-answers}
 
 pub both-are : (x : Answered (List ℕ)) {l : List ℕ} → x .number ≡ 0 → x .after ≡ l → x ≡ record { number = 0; after = l }
@@ -31,32 +27,6 @@ both-are x {l} e f = number-is (x .number) e ∙ ap (λ (k : List ℕ). record {
   where
     number-is : (i : ℕ) → i ≡ 0 → _≡_ {A = Answered (List ℕ)} (record { number = i; after = x .after }) (record { number = 0; after = x .after })
     number-is i q = rw q
-
--- ---- collecting
-module _ {Q : ℕ → Type 0} (p : Plan) (so : Sound p) (source : List ℕ) (s : State) (areas : Areas) (to : Together Q p source s areas) where
-  pub assembled-same : assembled p areas ≡ collected p s
-  unfolding assembled collected pick
-  assembled-same =
-      tabulate-same _ _ (p .cells)
-      (λ c h. same-cell c h (p .inside c) refl)
-    where
-      same-cell : (c : ℕ) → c < p .cells → (i : Bool) → p .inside c ≡ i
-          → pick i (getD (memoryOf p (areas (p .processorOf (p .tileOf c))) (p .processorOf (p .tileOf c))) c 0) (p .boundary)
-          ≡ pick i (getD (memoryOf p s (p .processorOf (p .tileOf c))) c 0) (p .boundary)
-      same-cell c h true i =
-          ap (λ (l : List ℕ). pick true (getD l c 0) (p .boundary))
-          (to .each (p .processorOf (p .tileOf c)) (so .processor-low (p .tileOf c) (so .tile-low c h i)) .memory)
-      same-cell c h false o = refl
-
-  pub collect-number : (grid : List ℕ) → collectApart p areas grid .number ≡ collect p s grid .number
-  unfolding collectApart collect
-  collect-number grid =
-      rw (some-same (λ b. tilesLeft p (areas b) b) (tilesLeft p s) (p .processors) (λ b h. left-same p source s b (areas b) (to .inv) (to .each b h)))
-      (sym (first-false 10 _ _ (not-true (inv-fit p source s (to .inv)))))
-
-  pub collect-after : (grid : List ℕ) → collectApart p areas grid .number ≡ 0 → collectApart p areas grid .after ≡ assembled p areas
-  unfolding collectApart
-  collect-after grid z = pick-true _ _ _ (eq-eqb _ 0 z)
 
 -- ---- calls that answer as the processors do, beside shared ones that answer as the machine does
 module _ (p : Plan) (so : Sound p) (source : List ℕ) (acts : Areas → Event → Answered Areas)
@@ -150,13 +120,10 @@ module _ (p : Plan) (so : Sound p) (source : List ℕ) (acts : Areas → Event �
 
     -- collecting on the shared areas is the machine's
     gives : stepsApart acts start events ≡ total p → (grid : List ℕ) → length grid ≡ p .cells → collect p S grid .number ≡ 0
-    gives e grid len = sym (number-of (like .collecting S (all .inv) grid len)) ∙ demand .can-collect (ends e) grid len
+    gives e grid len = sym (number-of (like .collecting S (all .inv) grid len)) ∙ demand .collecting .can-collect (ends e) grid len
 
     leaves : stepsApart acts start events ≡ total p → (grid : List ℕ) → length grid ≡ p .cells → collect p S grid .after ≡ sweep p source
-    leaves e grid len = sym (after-of (like .collecting S (all .inv) grid len)) ∙ demand .grid (ends e) grid len
-
-    can : stepsApart acts start events ≡ total p → (grid : List ℕ) → length grid ≡ p .cells → collectApart p A grid .number ≡ 0
-    can e grid len = collect-number p so source S A all grid ∙ gives e grid len
+    leaves e grid len = sym (after-of (like .collecting S (all .inv) grid len)) ∙ demand .collecting .grid (ends e) grid len
 
     table-length : length (collected p S) ≡ p .cells
     unfolding collected
@@ -169,7 +136,7 @@ module _ (p : Plan) (so : Sound p) (source : List ℕ) (acts : Areas → Event �
         ∙ leaves e (collected p S) table-length
 
     joined-as : (grid : List ℕ) → collects (joined p A) grid ≡ collects S grid
-    joined-as = like .joining S (joined p A) (all .inv .shape) (joined-shape p so source S A all) (joined-same p so source S A all)
+    joined-as = like .joining S (joined p A) (all .inv .shape) (joined-shape p A (λ b h. all .each b h .shape)) (joined-same p so source S A all)
 
     pub demand3-apart : Demand3Apart acts start events p source shared collects
     demand3-apart =
@@ -179,28 +146,17 @@ module _ (p : Plan) (so : Sound p) (source : List ℕ) (acts : Areas → Event �
           same-finished = λ b h. all .each b h .recorded .finished;
           same-stage = λ b h. all .each b h .recorded .stage;
           same-sent = λ b h. all .each b h .recorded .sent;
-          bound = omega (arith, same-steps, demand .bound);
+          once = rw (answers-are events) (demand .once);
           goes-on = λ h. let r = demand .goes-on (omega (arith, same-steps)) in (r .0, number-is events (r .0) ∙ r .1);
           then-fewer = λ e z. omega (arith, same-steps, demand .then-fewer e (sym (number-is events e) ∙ z));
-          can-collect = can;
-          then-all = λ grid len z. same-steps
-              ∙ demand .then-all grid len (number-of (like .collecting S (all .inv) grid len) ∙ sym (collect-number p so source S A all grid) ∙ z);
-          calculated = λ c h. rw (answers-are events) (demand .calculated c h);
-          not-calculated = λ c h o. rw (answers-are events) (demand .not-calculated c h o);
-          sent = λ m h. rw (answers-are events) (demand .sent m h);
-          delivered = λ m h. rw (answers-are events) (demand .delivered m h);
-          taken = λ m h. rw (answers-are events) (demand .taken m h);
-          all-calculated = λ e c h i. rw (answers-are events) (demand .all-calculated (ends e) c h i);
-          all-sent = λ e m h. rw (answers-are events) (demand .all-sent (ends e) m h);
-          all-delivered = λ e m h. rw (answers-are events) (demand .all-delivered (ends e) m h);
-          all-taken = λ e m h. rw (answers-are events) (demand .all-taken (ends e) m h);
+          collecting =
+              collects-like p source (stepsApart acts start events ≡ total p) _ (collectApart p A) _ ends (λ e. same-steps ∙ e)
+              (λ grid len. collect-same p so source S A all grid ∙ sym (like .collecting S (all .inv) grid len)) (demand .collecting);
           carried-out = λ before after b e z. rw (answers-are before) (carried before b z);
-          no-more = λ b. rw (answers-are events) (demand .no-more b);
           grid = whole-grid;
-          collected = λ e old len. collect-after p so source S A all old (can e old len) ∙ whole-grid e;
           joins = joined-as;
           joined-grid = λ e old len.
-              joined-as old ∙ both-are (collects S old) (demand .can-collect (ends e) old len) (demand .grid (ends e) old len);
+              joined-as old ∙ both-are (collects S old) (demand .collecting .can-collect (ends e) old len) (demand .collecting .grid (ends e) old len);
         }
 
 pub theorem-apart : (p : Plan) → Sound p → (source : List ℕ) (events : List Event) → MachineApart p source events

@@ -1,9 +1,8 @@
 -- Read this.
 -- Processors that share no memory: each has all four areas to itself, and a transport carries a message's words to its taker's areas.
 -- Renders document 01, "The machine", "Runs" and the customer's demand 3, for them: answers and grid are those of the machine on shared areas.
-use Prim.Native.Nat.{ℕ, zero, suc, _*_, _≤_, _<_}
+use Prim.Native.Nat.{ℕ, zero, suc, _*_, _<_}
 use mathlib.Core.Path.{_≡_}
-use mathlib.Core.Bool.{true, false}
 use mathlib.Core.List.{List, [], _∷_, _++_}
 use lib.ListN.{length, getD, set}
 use lib.Dec.{ltb, eqb}
@@ -13,8 +12,7 @@ use Rattle.base.specs.Numbers.{Line, line, firstOf}
 use Rattle.machine.specs.Plan.{Plan, count, senderOf, takerOf, offset}
 use Rattle.machine.specs.Machine.{State, stateOf, finishedOf, stageOf, sentOf, setProgress, memoryOf, placeOf, tilesLeft, gather, carryOut, Answered}
 use Rattle.machine.specs.Machine.{answered, turn, collect, fresh, sweep}
-use Rattle.machine.specs.Runs.{Event, turnOf, deliveryOf, act, total, program, turnsOf, timesOf, calculates, sends, takes, deliveriesOf, last, answers}
-use Rattle.machine.specs.Runs.{stateAfter, answersTo, steps}
+use Rattle.machine.specs.Runs.{Event, turnOf, deliveryOf, act, total, program, turnsOf, last, answers, stateAfter, answersTo, steps, Once, Collects}
 
 -- ---- the system
 
@@ -122,28 +120,16 @@ module _ (acts : Areas → Event → Answered Areas) (start : Areas) (events : L
     pub same-finished : (b : ℕ) → b < p .processors → finishedOf (areasAfter b) b ≡ finishedOf (last shared (fresh p) events) b
     pub same-stage : (b : ℕ) → b < p .processors → stageOf (areasAfter b) b ≡ stageOf (last shared (fresh p) events) b
     pub same-sent : (b : ℕ) → b < p .processors → sentOf (areasAfter b) b ≡ sentOf (last shared (fresh p) events) b
-    -- demand 3, line by line as in the machine's Runs
-    pub bound : stepsApart ≤ total p
+    -- demand 3, as in the machine's Runs
+    pub once : Once p events answersApart
     pub goes-on : stepsApart < total p → (e : Event) × (acts areasAfter e .number ≡ 0)
     pub then-fewer : (e : Event) → acts areasAfter e .number ≡ 0 → stepsApart < total p
-    pub can-collect : stepsApart ≡ total p → (grid : List ℕ) → length grid ≡ p .cells → collectApart p areasAfter grid .number ≡ 0
-    pub then-all : (grid : List ℕ) → length grid ≡ p .cells → collectApart p areasAfter grid .number ≡ 0 → stepsApart ≡ total p
-    pub calculated : (c : ℕ) → c < p .cells → timesOf p events answersApart (calculates p c) ≤ 1
-    pub not-calculated : (c : ℕ) → c < p .cells → p .inside c ≡ false → timesOf p events answersApart (calculates p c) ≡ 0
-    pub sent : (m : ℕ) → m < count p → timesOf p events answersApart (sends m) ≤ 1
-    pub delivered : (m : ℕ) → m < count p → deliveriesOf m events answersApart ≤ 1
-    pub taken : (m : ℕ) → m < count p → timesOf p events answersApart (takes p m) ≤ 1
-    pub all-calculated : stepsApart ≡ total p → (c : ℕ) → c < p .cells → p .inside c ≡ true → timesOf p events answersApart (calculates p c) ≡ 1
-    pub all-sent : stepsApart ≡ total p → (m : ℕ) → m < count p → timesOf p events answersApart (sends m) ≡ 1
-    pub all-delivered : stepsApart ≡ total p → (m : ℕ) → m < count p → deliveriesOf m events answersApart ≡ 1
-    pub all-taken : stepsApart ≡ total p → (m : ℕ) → m < count p → timesOf p events answersApart (takes p m) ≡ 1
+    pub collecting : Collects p source (stepsApart ≡ total p) (collectApart p areasAfter)
     pub carried-out : (before after : List Event) (b : ℕ) → events ≡ before ++ (turnOf b ∷ after)
         → acts (stateAfter acts start before) (turnOf b) .number ≡ 0
         → CarriedOutApart p source acts (stateAfter acts start before) b (turnsOf b before (answersTo acts start before))
-    pub no-more : (b : ℕ) → turnsOf b events answersApart ≤ length (program p b)
     -- the grid made of the processors' own parts is the sequential sweep
     pub grid : stepsApart ≡ total p → assembled p areasAfter ≡ sweep p source
-    pub collected : stepsApart ≡ total p → (old : List ℕ) → length old ≡ p .cells → collectApart p areasAfter old .after ≡ sweep p source
     -- collecting on areas joined from the parts answers as on shared ones
     pub joins : (old : List ℕ) → collects (joined p areasAfter) old ≡ collects (last shared (fresh p) events) old
     pub joined-grid : stepsApart ≡ total p → (old : List ℕ) → length old ≡ p .cells

@@ -3,16 +3,16 @@
 use Prim.Native.Nat.{ℕ, _+_, _≤_, _<_}
 use mathlib.Core.Path.{_≡_}
 use mathlib.Core.Logic.{_≢_}
-use mathlib.Core.Bool.{Bool, true, false}
+use mathlib.Core.Bool.{true, false}
 use mathlib.Core.List.{List, [], _∷_, _++_, map}
 use lib.ListN.{length, getD}
 use lib.Dec.{eqb}
 use Rattle.base.specs.Tests.{_and_, one}
 use Rattle.base.specs.Lists.{In}
 use Rattle.machine.specs.Plan.{Plan, count, heldBy}
-use Rattle.machine.specs.Machine.{State, Answered, Action, gather, memoryOf, tilesLeft, carryOut, sweep}
-use Rattle.machine.specs.Runs.{Event, turnOf, deliveryOf, stateAfter, answersTo, total, program, turnsOf, timesOf, calculates, sends, takes, deliveriesOf}
-use Rattle.machine.specs.Runs.{last, answers, steps}
+use Rattle.machine.specs.Machine.{State, Answered, gather, memoryOf, tilesLeft, carryOut, sweep}
+use Rattle.machine.specs.Runs.{Event, turnOf, deliveryOf, stateAfter, answersTo, total, program, turnsOf, deliveriesOf, last, answers, steps, stepsIn}
+use Rattle.machine.specs.Runs.{Once, Collects}
 use Rattle.network.specs.Apart.{Areas, replaced, senderAt, takerAt, joined}
 use Rattle.network.specs.Packets.{Packet, packetAt, Network}
 use Rattle.network.specs.Brought.{BoardEvent, turnAt, postAt, broughtTo, Carries}
@@ -60,9 +60,9 @@ module _ (acts : Network → BoardEvent → Answered Network) (start : Network) 
   abbrev pub stepsGot : ℕ
   stepsGot = steps acts start events
 
-  -- how many steps did an action with f; how often message m was taken in, and handed over
-  abbrev pub timesGot : Plan → (Action → Bool) → ℕ
-  timesGot p f = timesOf p (eventsAt events) (numbersAt events (answers acts start events)) f
+  -- the numbers that the machine's events among them got; how often message m was taken in, and handed over
+  abbrev pub machineNumbers : List ℕ
+  machineNumbers = numbersAt events (answers acts start events)
 
   abbrev pub takenIn : ℕ → ℕ
   takenIn m = deliveriesOf m (eventsAt events) (numbersAt events (answers acts start events))
@@ -75,21 +75,13 @@ module _ (acts : Network → BoardEvent → Answered Network) (start : Network) 
     -- some event would give 0 exactly when the steps are fewer; if only the taking in of what was posted
     pub goes-on : stepsGot < whole p → (e : BoardEvent) × (acts boardsAfter e .number ≡ 0) × Carries acts boardsAfter (e ∷ [])
     pub then-fewer : (e : BoardEvent) → Carries acts boardsAfter (e ∷ []) → acts boardsAfter e .number ≡ 0 → stepsGot < whole p
-    -- no cell is calculated twice, one that is not in the nest never; no message sent, handed over, taken in or gathered twice
-    pub calculated : (c : ℕ) → c < p .cells → timesGot p (calculates p c) ≤ 1
-    pub not-calculated : (c : ℕ) → c < p .cells → p .inside c ≡ false → timesGot p (calculates p c) ≡ 0
-    pub sent : (m : ℕ) → m < count p → timesGot p (sends m) ≤ 1
+    -- no cell is calculated twice, one that is not in the nest never; no message sent, taken in or gathered twice; no board has a step beyond its program
+    pub once : Once p (eventsAt events) machineNumbers
+    -- and none is handed over twice
     pub handed-over : (m : ℕ) → m < count p → handedOver m ≤ 1
-    pub taken-in : (m : ℕ) → m < count p → takenIn m ≤ 1
-    pub gathered : (m : ℕ) → m < count p → timesGot p (takes p m) ≤ 1
-    -- when the steps are that many, each message exactly once, and each cell in the nest
-    pub all-calculated : stepsGot ≡ whole p → (c : ℕ) → c < p .cells → p .inside c ≡ true → timesGot p (calculates p c) ≡ 1
-    pub all-sent : stepsGot ≡ whole p → (m : ℕ) → m < count p → timesGot p (sends m) ≡ 1
+    -- when the steps are that many, so are the machine's among them: each message exactly once, and each cell in the nest; and each is handed over
+    pub then-total : stepsGot ≡ whole p → stepsIn machineNumbers ≡ total p
     pub all-handed-over : stepsGot ≡ whole p → (m : ℕ) → m < count p → handedOver m ≡ 1
-    pub all-taken-in : stepsGot ≡ whole p → (m : ℕ) → m < count p → takenIn m ≡ 1
-    pub all-gathered : stepsGot ≡ whole p → (m : ℕ) → m < count p → timesGot p (takes p m) ≡ 1
-    -- no board has a step beyond its program
-    pub no-more : (b : ℕ) → turnsOf b (eventsAt events) (numbersAt events numbersGot) ≤ length (program p b)
     -- what was posted is a message's number and the sweep's words of its cells, and no message was posted twice
     pub posted-low : (k : ℕ) → k < length packetsAfter → packetAt packetsAfter k .message < count p
     pub posted-words : (k : ℕ) → k < length packetsAfter
@@ -118,9 +110,7 @@ module _ (acts : Network → BoardEvent → Answered Network) (start : Network) 
         ≡ replaced (stateAfter acts start before .areas) b
         (carryOut p source (stateAfter acts start before .areas b) b
         (getD (program p b) (turnsOf b (eventsAt before) (numbersAt before (answersTo acts start before))) (gather 0)))
-    pub can-collect : stepsGot ≡ whole p → (grid : List ℕ) → length grid ≡ p .cells → collects (joined p (boardsAfter .areas)) grid .number ≡ 0
-    pub then-all : (grid : List ℕ) → length grid ≡ p .cells → collects (joined p (boardsAfter .areas)) grid .number ≡ 0 → stepsGot ≡ whole p
-    pub grid : stepsGot ≡ whole p → (old : List ℕ) → length old ≡ p .cells → collects (joined p (boardsAfter .areas)) old .after ≡ sweep p source
+    pub collecting : Collects p source (stepsGot ≡ whole p) (collects (joined p (boardsAfter .areas)))
     -- a board with no tiles left has the sweep's words of its cells, whatever the others have
     pub part-right : (b c : ℕ) → b < p .processors → tilesLeft p (boardsAfter .areas b) b ≡ false → c < p .cells → p .inside c ≡ true
         → p .processorOf (p .tileOf c) ≡ b → getD (memoryOf p (boardsAfter .areas b) b) c 0 ≡ getD (sweep p source) c 0

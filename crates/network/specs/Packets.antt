@@ -11,7 +11,7 @@ use Rattle.base.specs.Tests.{not, pick, keep}
 use Rattle.base.specs.Numbers.{Line, line, firstOf}
 use Rattle.machine.specs.Plan.{Plan, count, heldBy}
 use Rattle.machine.specs.Machine.{State, finishedOf, stageOf, sentOf, memoryOf, placeOf, Answered, answered, collect, fresh, sweep}
-use Rattle.machine.specs.Runs.{Event, turnOf, deliveryOf, act, total, steps, last, Demand3}
+use Rattle.machine.specs.Runs.{Event, turnOf, deliveryOf, act, total, steps, last, Collects, Demand3}
 use Rattle.network.specs.Apart.{Areas, startApart, senderAt, takerAt, turnApart, sentOff, arrived, joined, collectApart}
 
 -- a message's number and its words as they were when it was posted
@@ -147,9 +147,7 @@ module _ (acts : Network → NetworkEvent → Answered Network) (start : Network
       pub goes-on : stepsBeside < total p → (e : NetworkEvent) × (acts networkAfter e .number ≡ 0)
       pub then-fewer : (e : NetworkEvent) → acts networkAfter e .number ≡ 0 → stepsBeside < total p
       -- collecting gives 0 exactly when it has none, and then the grid is the sequential sweep
-      pub can-collect : stepsBeside ≡ total p → (grid : List ℕ) → length grid ≡ p .cells → collectApart p (networkAfter .areas) grid .number ≡ 0
-      pub then-all : (grid : List ℕ) → length grid ≡ p .cells → collectApart p (networkAfter .areas) grid .number ≡ 0 → stepsBeside ≡ total p
-      pub grid : stepsBeside ≡ total p → (old : List ℕ) → length old ≡ p .cells → collectApart p (networkAfter .areas) old .after ≡ sweep p source
+      pub collecting : Collects p source (stepsBeside ≡ total p) (collectApart p (networkAfter .areas))
       -- and so does collecting on areas joined from the processors' parts and records, as on shared ones
       pub joins : (grid : List ℕ) → collects (joined p (networkAfter .areas)) grid ≡ collects lastBeside grid
       pub joined-grid : stepsBeside ≡ total p → (old : List ℕ) → length old ≡ p .cells

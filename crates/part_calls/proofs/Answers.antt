@@ -31,7 +31,7 @@ use Rattle.summary.specs.declared.MessageLine.{MessageLine}
 use Rattle.summary.specs.Summary.{lineOf}
 use Rattle.network.specs.Apart.{takerAt, marked, received}
 use Rattle.network.specs.Own.{handles, keptCells, handled, mailOf}
-use Rattle.transport.specs.arrivals.Taking.{takes, asLong}
+use Rattle.network.specs.Brought.{takenBy, asLong}
 use Rattle.transport.proofs.arrivals.Taking.{long-here}
 use Rattle.part.specs.Part.{wordsOf, rankOf, mailAt, partFits}
 use Rattle.part_calls.specs.front.Calls.{wide, narrow, lengthsOf, noLengths, lengthsIf, ownSizesCall, ownFreshCall, ownPostCall, ownArriveCall}
@@ -268,9 +268,9 @@ module _ (p : Plan) (b : ℕ) (s : State) (m : ℕ) (ws : List ℕ) where
   came = stateOf (s .memories) (put (s .buffer) (mailAt p b m) ws) (s .progress) (set (s .status) (rankOf p b m) 2)
 
   abbrev comingLines : List Line
-  comingLines = line 11 (not (takes p b m)) ∷ line 14 (not (eqb (markIn p b (s .status) m) 0)) ∷ []
+  comingLines = line 11 (not (takenBy p b m)) ∷ line 14 (not (eqb (markIn p b (s .status) m) 0)) ∷ []
 
-  another : takes p b m ≡ false → answer 11 s ≡ arrivedOr p b s m ws
+  another : takenBy p b m ≡ false → answer 11 s ≡ arrivedOr p b s m ws
   another h = refuse 11 _ came s (λ q. omega arith) (sym (first-true 11 _ _ (not-false h)))
 
   pub come-beyond : count p ≤ m → answer 11 s ≡ arrivedOr p b s m ws
@@ -355,7 +355,7 @@ module _ (p : Plan) (b : ℕ) (low : b < p .processors) (s : State) (r : ℕ) (e
 
   module _ (m : ℕ) (ws : List ℕ) where
     abbrev laterLines : List Line
-    laterLines = line 11 (not (takes p b m)) ∷ line 14 (not (eqb (getD (wide p b s .status) m 0) 0)) ∷ []
+    laterLines = line 11 (not (takenBy p b m)) ∷ line 14 (not (eqb (getD (wide p b s .status) m 0) 0)) ∷ []
 
     pub arrive-length : asLong p m ws ≡ false → answer 9 s ≡ arrivesOr p b s m ws
     arrive-length h =
@@ -382,16 +382,16 @@ module _ (p : Plan) (b : ℕ) (low : b < p .processors) (s : State) (r : ℕ) (e
             ∙ first-false 9 (not (partFits p b s)) (line 10 (not (fit p (wide p b s))) ∷ laterLines) (not-true (q .0))
             ∙ first-false 10 (not (fit p (wide p b s))) laterLines (not-true (q .1))
 
-        arrive-same : (t : Bool) → takes p b m ≡ t → firstOf (comingLines p b s m ws) ≡ firstOf laterLines
+        arrive-same : (t : Bool) → takenBy p b m ≡ t → firstOf (comingLines p b s m ws) ≡ firstOf laterLines
         arrive-same true q =
-            ap (λ (v : ℕ). firstOf (line 11 (not (takes p b m)) ∷ line 14 (not (eqb v 0)) ∷ []))
+            ap (λ (v : ℕ). firstOf (line 11 (not (takenBy p b m)) ∷ line 14 (not (eqb v 0)) ∷ []))
             (sym (mark-is p b s low arrive-lent m (ltb-true m (count p) (both q .0))))
         arrive-same false q = first-true 11 _ _ (not-false q) ∙ sym (first-true 11 _ _ (not-false q))
 
         arrive-words : firstOf (comingLines p b s m ws) ≡ 0 → came p b s m ws ≡ narrow p b (received p (wide p b s) m ws)
         unfolding handles
         arrive-words q =
-            let a = none-first 11 (not (takes p b m)) (line 14 (not (eqb (markIn p b (s .status) m) 0)) ∷ []) (λ y. omega arith) q in
+            let a = none-first 11 (not (takenBy p b m)) (line 14 (not (eqb (markIn p b (s .status) m) 0)) ∷ []) (λ y. omega arith) q in
             let c = both {a = ltb m (count p)} (true-not (a .0)) in
             let lo = ltb-true m (count p) (c .0) in
             sym (arrived-is p b s low arrive-lent m lo (or-right _ (c .1)) ws (long-here p m ws lo long))
@@ -399,7 +399,7 @@ module _ (p : Plan) (b : ℕ) (low : b < p .processors) (s : State) (r : ℕ) (e
         pub arrive-come : (a : Answered State) → a ≡ arrivedOr p b s m ws → a ≡ arrivesOr p b s m ws
         arrive-come a t =
             t
-            ∙ answered-same _ _ (came p b s m ws) (narrow p b (received p (wide p b s) m ws)) s (arrive-same (takes p b m) refl ∙ sym behind-two)
+            ∙ answered-same _ _ (came p b s m ws) (narrow p b (received p (wide p b s) m ws)) s (arrive-same (takenBy p b m) refl ∙ sym behind-two)
             arrive-words
 
 -- the lengths of areas that lines 9 and 10 let pass, by what the code knows of all records that the `Flat` carries

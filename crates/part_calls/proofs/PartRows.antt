@@ -30,7 +30,7 @@ use Rattle.recipe.specs.Routes.{indirect, linesFor}
 use Rattle.recipe.proofs.Laws.{numbered-for, open-direct}
 use Rattle.engine.specs.Calls.{recipe}
 use Rattle.network.specs.Own.{owns, keeps, handles, ownCells, handled, putMail, widened}
-use Rattle.transport.specs.arrivals.Taking.{takes, asLong}
+use Rattle.network.specs.Brought.{takenBy, asLong}
 use Rattle.part.specs.Part.{partFits, wordsOf}
 use Rattle.part.specs.Part as part
 use Rattle.part_calls.specs.front.Calls.{wide, boardLines, collectFits, ownMessagesCall, ownFreshCall, ownTurnCall, ownPostCall, ownArriveCall}
@@ -70,7 +70,7 @@ postLines s b m p = line 9 (not (partFits p b s)) ∷ deliverLines p (wide p b s
 
 abbrev arriveLines : State → ℕ → ℕ → List ℕ → Plan → List Line
 arriveLines s b m words p =
-    line 9 (not (partFits p b s and asLong p m words)) ∷ line 10 (not (fit p (wide p b s))) ∷ line 11 (not (takes p b m))
+    line 9 (not (partFits p b s and asLong p m words)) ∷ line 10 (not (fit p (wide p b s))) ∷ line 11 (not (takenBy p b m))
     ∷ line 14 (not (eqb (getD (wide p b s .status) m 0) 0)) ∷ []
 
 abbrev collectLines : State → ℕ → List ℕ → Plan → List Line

@@ -16,7 +16,7 @@ use Rattle.nest.specs.declared.Nest.{Nest}
 use Rattle.nest.specs.Shape.{inShape}
 use Rattle.network.specs.Apart.{marked, received}
 use Rattle.network.specs.Own.{handles, handled}
-use Rattle.transport.specs.arrivals.Taking.{takes, asLong}
+use Rattle.network.specs.Brought.{takenBy, asLong}
 use Rattle.rank_index.specs.Ranks.{markedAt, markedCells, rankAt}
 use Rattle.part.specs.Part.{wordsOf, rankOf, mailAt, partFits}
 use Rattle.part_calls.specs.front.Calls.{wide, narrow, ownRows, ownCollected, collectFits}
@@ -36,7 +36,7 @@ abbrev pub arriveLines : Plan → ℕ → State → ℕ → List ℕ → List Li
 arriveLines p b s m words =
     line 9 (not (partFits p b s and asLong p m words))
     ∷ line 10 (not (fit p (wide p b s)))
-    ∷ line 11 (not (takes p b m))
+    ∷ line 11 (not (takenBy p b m))
     ∷ line 14 (not (eqb (getD (wide p b s .status) m 0) 0)) ∷ []
 
 abbrev pub arrivesOr : Plan → ℕ → State → ℕ → List ℕ → Answered State
@@ -63,7 +63,7 @@ pub record MayArrive (p : Plan) (b : ℕ) (mail marks : List ℕ) (m : ℕ) (wor
 -- 11, 14, or the message is there
 abbrev pub arrivedOr : Plan → ℕ → State → ℕ → List ℕ → Answered State
 arrivedOr p b s m words =
-    answered (firstOf (line 11 (not (takes p b m)) ∷ line 14 (not (eqb (markIn p b (s .status) m) 0)) ∷ []))
+    answered (firstOf (line 11 (not (takenBy p b m)) ∷ line 14 (not (eqb (markIn p b (s .status) m) 0)) ∷ []))
     (stateOf (s .memories) (put (s .buffer) (mailAt p b m) words) (s .progress) (set (s .status) (rankOf p b m) 2)) s
 
 -- ---- collecting

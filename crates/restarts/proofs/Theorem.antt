@@ -33,7 +33,7 @@ use Rattle.restarts.proofs.Measure.{leftHere, left-most}
 use Rattle.restarts.proofs.Lives.{Alive, plain-went, repost-gives, repost-zero, restart-gives, restart-zero, after-away, start-alive, next-alive}
 use Rattle.restarts.proofs.Lives.{lives-stay, run-alive, run-counted}
 use Rattle.restarts.proofs.Ways.{Way, way}
-use Rattle.restarts.proofs.Joined.{joined-shape, joined-collects}
+use Rattle.network.proofs.Joined.{joined-shape, joined-collects}
 
 work-one : (g n : ℕ) → 1 ≤ g → 1 ≤ work g n
 work-one zero n h = absurd (omega arith)

@@ -1,4 +1,4 @@
--- Rows A and B by rounds, computed on the box's plan, which is theirs.
+-- Rows A and B by rounds, computed on the box's plan, which is theirs; and a row with a bound, on the shape's.
 use Prim.Native.Nat.{ℕ}
 use mathlib.Core.Path.{_≡_, refl, ap, _∙_}
 use mathlib.Core.Bool.{true}
@@ -10,9 +10,14 @@ use Rattle.machine.specs.Plan.{Plan}
 use Rattle.nest.specs.Nest.{tileCount, cells, boxTiles}
 use Rattle.nest.specs.Places.{rank, place, cellAt, cellPlace, tileAt, tilePlace, boxTileOf}
 use Rattle.nest.specs.Recipes.{rowA, rowB}
+use Rattle.nest.specs.Reader.{ofKind, filled, nestBy, nestOf}
+use Rattle.nest.specs.Shape.{level, raised, meets, inShape, exists, existing, tiles}
 use Rattle.plan.specs.Geometry.{processorOf, inside}
 use Rattle.plan.specs.declared.Route.the-variants.{Direct}
 use Rattle.plan.specs.Messages.{directions, ahead, reaches, crosses, parcel, taker, slotCells, slotTaker, atHome, slotParcel, messagesTo, messagesOf, boxPlan}
+use Rattle.plan.specs.Shaped.{boxTile, reachesShape, shapedParcel, follows, shapedTaker, shapedSlotTaker, shapedHome, shapedSlotParcel, planOf}
+use Rattle.plan.proofs.SmallNests.{nestTriangle}
+use Rattle.conformance.specs.ShapedRows.{rowTriangle}
 use Rattle.conformance.proofs.RowNests.{nestA, nestB, isA, isB}
 use Rattle.conformance.proofs.AToH.{numberA, numberB}
 use Rattle.plan.proofs.ShapedBox.{recipe-box}
@@ -77,6 +82,26 @@ three : greatest (tabulate (λ t. getD (1 ∷ 2 ∷ 2 ∷ 3 ∷ []) t 0) 4) ≡ 
 unfolding greatest larger pick tabulate
 three = refl
 
+-- ---- with a bound
+plan-triangle : recipe rowTriangle 0 ≡ planOf Direct nestTriangle
+unfolding routeOf ofKind filled nestBy nestOf pick keep those tabulate
+plan-triangle = refl
+
+computed-triangle : roundsTo (planOf Direct nestTriangle) 3 ≡ 1 ∷ 2 ∷ 2 ∷ []
+unfolding larger greatest lastOf waitsFor nextRound extended roundsTo those _and_ _or_ pick every some keep product rank place cellAt cellPlace tileAt
+    tilePlace boxTileOf tileCount cells boxTiles level raised meets inShape exists existing tiles inside directions ahead reaches processorOf boxTile
+    reachesShape shapedParcel taker follows shapedTaker shapedSlotTaker shapedHome shapedSlotParcel messagesOf
+computed-triangle = refl
+
+three-tiles : planOf Direct nestTriangle .tiles ≡ 3
+unfolding _and_ _or_ pick every some keep product rank place cellPlace tileAt boxTileOf tileCount cells boxTiles level raised meets inShape exists existing
+    tiles
+three-tiles = refl
+
+two : greatest (tabulate (λ t. getD (1 ∷ 2 ∷ 2 ∷ []) t 0) 3) ≡ 2
+unfolding greatest larger pick tabulate
+two = refl
+
 pub round-rows : RoundRows
 round-rows =
     record {
@@ -84,4 +109,7 @@ round-rows =
       tiles-A = tiles-A;
       B = ap (λ (p : Plan). rounds p) plan-B ∙ from-table (boxPlan Direct nestB) 4 four _ computed-B ∙ three;
       tiles-B = tiles-B;
+      triangle = ap (λ (p : Plan). rounds p) plan-triangle ∙ from-table (planOf Direct nestTriangle) 3 three-tiles _ computed-triangle ∙ two;
+      tiles-triangle = ap (λ (p : Plan). roundsTo p 3) plan-triangle ∙ computed-triangle;
+      three-tiles = ap (λ (p : Plan). p .tiles) plan-triangle ∙ three-tiles;
     }

@@ -3,6 +3,7 @@ use Prim.Native.Nat.{ℕ, _*_}
 use mathlib.Core.Path.{_≡_, refl, sym}
 use mathlib.Core.Bool.{Bool, true, false}
 use mathlib.Core.List.{List, []}
+use lib.ListN.{length}
 use lib.Dec.{eqb}
 use Rattle.base.specs.Tests.{pick}
 use Rattle.base.specs.Lists.{Bytes, part}
@@ -16,13 +17,15 @@ use Rattle.nest.proofs.Facts.{accepted}
 use Rattle.plan.proofs.ShapedSound.{sound}
 use Rattle.layout.specs.Sizes.{routeOf}
 use Rattle.recipe.specs.Routes.{linesFor}
-use Rattle.recipe.proofs.Laws.{reads-for}
+use Rattle.recipe.proofs.Laws.{reads-for, numbered-for}
 use Rattle.engine.specs.Calls.{recipe}
-use Rattle.engine.specs.Demands.{Fixed}
+use Rattle.engine.specs.Demands.{Fixed, LentWords}
+use Rattle.engine.proofs.Begins.{areas-fit, none-true}
 use Rattle.engine.proofs.Demands.{fixed}
 use Rattle.sharing.specs.Calls.{turnCallLinesFor, turnCallFor, deliverCallLinesFor, deliverCallFor, collectCallLinesFor, collectCallFor}
-use Rattle.sharing.specs.Calls.{freshRigLines, freshRigCall, lookLines, lookPart, rigCalls}
+use Rattle.sharing.specs.Calls.{rigAreas, freshRigLines, freshRigCall, lookLines, lookPart, rigCalls}
 use Rattle.sharing.specs.Demands.{FixedFor, Looks, RigDemands}
+use Rattle.sharing.proofs.Starts.{all-there}
 use Rattle.sharing.proofs.AsRuns.{alike, run-demand208, fresh-reads, fresh-sources, fresh-is}
 use Rattle.sharing.proofs.Words.{run-words, run-alone}
 
@@ -57,6 +60,15 @@ fresh-fixed : (bytes : List ℕ) (route : ℕ) (sources : Sources) (r : Rig)
 unfolding freshRigCall
 fresh-fixed bytes route sources r = fixed (freshRigLines bytes route sources r) _ r
 
+begins : (bytes : List ℕ) (route : ℕ) (sources : Sources) (r : Rig) → firstOf (linesFor (routeOf route) bytes) ≡ 0
+    → LentWords (recipe bytes route) (sources .first) (r .first) → LentWords (recipe bytes route) (sources .second) (r .second)
+    → length (r .engaged) ≡ recipe bytes route .processors → freshRigCall bytes route sources r .number ≡ 0
+unfolding freshRigCall
+begins bytes route sources r z l m e =
+    none-true (linesFor (routeOf route) bytes) (numbered-for (routeOf route) bytes) z (rigAreas (recipe bytes route) sources r)
+    (all-there (recipe bytes route) sources r (areas-fit (recipe bytes route) (sources .first) (r .first) l)
+    (areas-fit (recipe bytes route) (sources .second) (r .second) m) e)
+
 pub sound-plan : (bytes : List ℕ) (route : ℕ) → Bytes bytes → firstOf (linesFor (routeOf route) bytes) ≡ 0 → Sound (recipe bytes route)
 sound-plan bytes route b z = sound (routeOf route) (nestOf bytes) (accepted bytes b (reads-for (routeOf route) bytes z))
 
@@ -66,6 +78,7 @@ rig-demands =
       calls = fixed-for;
       fresh = fresh-fixed;
       looks = looks;
+      begins = begins;
       runs = λ bytes route sources r b z calls.
           rw (fresh-is bytes route sources r z)
           (run-demand208 bytes route sources (fresh-reads bytes route sources r z) (fresh-sources bytes route sources r z)

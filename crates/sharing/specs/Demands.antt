@@ -4,14 +4,18 @@
 use Prim.Native.Nat.{ℕ, _≤_}
 use mathlib.Core.Path.{_≡_}
 use mathlib.Core.List.{List, []}
+use lib.ListN.{length}
 use Rattle.base.specs.Lists.{Bytes}
+use Rattle.base.specs.Numbers.{firstOf}
 use Rattle.machine.specs.Machine.{nextAction, collected, memoryOf}
 use Rattle.tenants.specs.Offices.{Lent, carryOutFor, deliveredFor, Rig, Sources, sourceFor, ownOf, freshRig, Call}
 use Rattle.tenants.specs.Demand208.{Demand208, Isolated}
 use Rattle.tenants.specs.AnyCalls.{Words208, Alone208}
+use Rattle.layout.specs.Sizes.{routeOf}
+use Rattle.recipe.specs.Routes.{linesFor}
 use Rattle.engine.specs.Calls.{answer, recipe}
 use Rattle.engine.specs.Demands as engine
-use Rattle.engine.specs.Demands.{Fixed}
+use Rattle.engine.specs.Demands.{Fixed, LentWords}
 use Rattle.sharing.specs.Calls.{turnCallLinesFor, turnCallFor, deliverCallLinesFor, deliverCallFor, collectCallLinesFor, collectCallFor}
 use Rattle.sharing.specs.Calls.{freshRigLines, freshRigCall, lookLines, lookNumber, lookPart, rigCalls, rigCollects}
 
@@ -38,6 +42,11 @@ pub record RigDemands : Type 0 where
   pub fresh : (bytes : List ℕ) (route : ℕ) (sources : Sources) (r : Rig)
       → Fixed (freshRigCall bytes route sources r) (freshRigLines bytes route sources r) (freshRig (recipe bytes route)) r
   pub looks : (bytes : List ℕ) (r : Rig) (o b : ℕ) → Looks bytes r o b
+  -- a run can begin: an accepted recipe on a route that is open to it, lent both offices' areas of their lengths and a shared word a processor, is given 0
+  -- by the fresh start, which the fields behind ask for
+  pub begins : (bytes : List ℕ) (route : ℕ) (sources : Sources) (r : Rig) → firstOf (linesFor (routeOf route) bytes) ≡ 0
+      → LentWords (recipe bytes route) (sources .first) (r .first) → LentWords (recipe bytes route) (sources .second) (r .second)
+      → length (r .engaged) ≡ recipe bytes route .processors → freshRigCall bytes route sources r .number ≡ 0
   -- one recipe, one route, two sources, one fresh start that gave 0, and every list of both offices' turns and deliveries
   pub runs : (bytes : List ℕ) (route : ℕ) (sources : Sources) (r : Rig) → Bytes bytes → freshRigCall bytes route sources r .number ≡ 0
       → (calls : List Call)

@@ -6,7 +6,8 @@ use lib.ListN.{length}
 use Rattle.machine.specs.Plan.{Plan, Sound}
 use Rattle.machine.specs.Machine.{Answered}
 use Rattle.machine.specs.Runs.{stateAfter, answersTo}
-use Rattle.machine.proofs.RunLaws.{number-of, after-of, same-end, same-numbers}
+use Rattle.machine.proofs.RunLaws.{number-of, same-end, same-numbers}
+use Rattle.machine.proofs.Once.{collects-like}
 use Rattle.tenants.specs.Offices.{Rig, Sources, sourceFor, freshRig, Call, turnBy, actOn, collectOn}
 use Rattle.tenants.specs.Demand208.{OfficeDemand, Demand208, Isolated}
 use Rattle.tenants.proofs.Engaged.{RigInv, inv-start, inv-next, inv-run}
@@ -45,23 +46,11 @@ module _ (p : Plan) (so : Sound p) (sources : Sources) (acts : Rig → Call → 
     one-office : (o : ℕ) → o ≤ 1 → OfficeDemand acts (freshRig p) cs p o (sourceFor sources o) collects
     one-office o low =
         record {
-          bound = rw (answers-are cs) (D .bound);
-          can-collect = λ e grid len. number-of (grid-is o grid len) ∙ D .can-collect (rw (answers-are cs) at e) grid len;
-          then-all = λ grid len z. rw (answers-are cs) (D .then-all grid len (sym (number-of (grid-is o grid len)) ∙ z));
-          calculated = λ c h. rw (answers-are cs) (D .calculated c h);
-          not-calculated = λ c h i. rw (answers-are cs) (D .not-calculated c h i);
-          sent = λ m h. rw (answers-are cs) (D .sent m h);
-          delivered = λ m h. rw (answers-are cs) (D .delivered m h);
-          taken = λ m h. rw (answers-are cs) (D .taken m h);
-          all-calculated = λ e c h i. rw (answers-are cs) (D .all-calculated (rw (answers-are cs) at e) c h i);
-          all-sent = λ e m h. rw (answers-are cs) (D .all-sent (rw (answers-are cs) at e) m h);
-          all-delivered = λ e m h. rw (answers-are cs) (D .all-delivered (rw (answers-are cs) at e) m h);
-          all-taken = λ e m h. rw (answers-are cs) (D .all-taken (rw (answers-are cs) at e) m h);
+          once = rw (answers-are cs) (D .once);
+          collecting = rw (answers-are cs) (collects-like p (sourceFor sources o) _ _ _ _ (λ e. e) (λ e. e) (grid-is o) (D .collecting));
           carried-out = λ before after b e z.
               rw (answers-are before, next-is before (turnBy o b), rig-is before)
               (D .carried-out before after b e (sym (number-of (next-is before (turnBy o b))) ∙ z));
-          no-more = λ b. rw (answers-are cs) (D .no-more b);
-          grid = λ e old len. after-of (grid-is o old len) ∙ D .grid (rw (answers-are cs) at e) old len;
         }
       where
         D : OfficeDemand (actOn p sources) (freshRig p) cs p o (sourceFor sources o) (collectOn p)

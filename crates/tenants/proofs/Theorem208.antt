@@ -2,24 +2,24 @@
 use Prim.Native.Nat.{ℕ, _≤_, _<_}
 use mathlib.Core.Path.{_≡_, sym, ap, _∙_}
 use mathlib.Core.Logic.{_≢_, _⊎_, inl, inr}
-use mathlib.Core.Bool.{Bool, true}
+use mathlib.Core.Bool.{true}
 use mathlib.Core.List.{List}
 use native.Mathlib.Omega.{arith}
 use native.Mathlib.Decide.{ℕ-discrete, decLt}
-use lib.ListN.{length, getD, take}
+use lib.ListN.{length, getD}
 use borrow.Author.Tests.{ne-eqb, le-leb}
-use Rattle.base.specs.Lists.{countIf}
-use Rattle.base.proofs.Tests.{and-no, sum-same}
+use Rattle.base.proofs.Tests.{and-no}
 use Rattle.machine.specs.Plan.{Plan, Sound, tilesOf}
 use Rattle.machine.specs.Machine.{State, finishedOf, stageOf, sentOf, turn, collect, fresh}
-use Rattle.machine.specs.Machine.{Action, gather, carryOut, nextAction}
+use Rattle.machine.specs.Machine.{gather, carryOut, nextAction}
 use Rattle.machine.specs.Runs.{Event, turnOf, deliveryOf, act, stateAfter, answersTo, last, steps, total, program}
-use Rattle.machine.specs.Runs.{turnsOf, timesOf, calculates, sends, takes, deliveriesOf, Demand3}
+use Rattle.machine.specs.Runs.{turnsOf, Demand3}
 use Rattle.machine.proofs.Records.{fitAt, fit-is, fit-over}
 use Rattle.machine.proofs.Turns.{by-next, can, gives}
 use Rattle.machine.proofs.Kept.{Inv, inv-fit}
 use Rattle.machine.proofs.Theorem.{theorem, named-next}
-use Rattle.machine.proofs.RunLaws.{number-of, after-of, Passed, ends, steps-same, turns-same, brings-same, one-end}
+use Rattle.machine.proofs.RunLaws.{Passed, ends, steps-same, turns-same, one-end}
+use Rattle.machine.proofs.Once.{once-passed, collects-like}
 use Rattle.tenants.specs.Offices.{Lent, holderOf, otherThan, heldByOther, carryOutFor, engagedAfter}
 use Rattle.tenants.specs.Offices.{Rig, Sources, sourceFor, ownOf, otherOf, lentTo, returned, freshRig}
 use Rattle.tenants.specs.Offices.{Call, turnBy, deliveryBy, actFor, actOn, collectOn}
@@ -94,12 +94,6 @@ module _ (p : Plan) (so : Sound p) (sources : Sources) (o : ℕ) (low : o ≤ 1)
   same-turns : (b : ℕ) → turnsOf b (eventsOf o cs) numbers ≡ turnsOf b passed (answersTo (act p source) (fresh p) passed)
   same-turns b = turns-same (act p source) b as-single
 
-  same-times : (f : Action → Bool) → timesOf p (eventsOf o cs) numbers f ≡ timesOf p passed (answersTo (act p source) (fresh p) passed) f
-  same-times f = sum-same _ _ (p .processors) (λ b h. ap (λ (k : ℕ). countIf f (take k (program p b))) (same-turns b))
-
-  same-deliveries : (m : ℕ) → deliveriesOf m (eventsOf o cs) numbers ≡ deliveriesOf m passed (answersTo (act p source) (fresh p) passed)
-  same-deliveries m = brings-same (act p source) m as-single
-
   -- ---- a turn that gives 0 is the next of its program
   module _ (b : ℕ) (z : actOn p sources rig (turnBy o b) .number ≡ 0) where
     zero-alone : turn p source (ownOf rig o) b .number ≡ 0
@@ -118,8 +112,11 @@ module _ (p : Plan) (so : Sound p) (sources : Sources) (o : ℕ) (low : o ≤ 1)
     carried : CarriedOutFor p source rig (actOn p sources rig (turnBy o b) .after) o b (turnsOf b (eventsOf o cs) numbers)
     carried =
         record {
-          named = next .0;
-          by-rule = own-after ∙ by-next p source (ownOf rig o) b zero-alone ∙ ap (carryOut p source (ownOf rig o) b) (sym (next .1));
+          own =
+              record {
+                named = next .0;
+                by-rule = own-after ∙ by-next p source (ownOf rig o) b zero-alone ∙ ap (carryOut p source (ownOf rig o) b) (sym (next .1));
+              };
           shared = words-after p sources rig o b z ∙ ap (engagedAfter p o (lentTo rig o) b) (sym (next .1));
           others = call-other p sources rig (turnBy o b);
         }
@@ -205,45 +202,21 @@ module _ (p : Plan) (so : Sound p) (sources : Sources) (cs : List Call) where
   office-demand : (o : ℕ) → o ≤ 1 → OfficeDemand (actOn p sources) (freshRig p) cs p o (sourceFor sources o) (collectOn p)
   office-demand o low =
       record {
-        bound = omega (arith, same, D .bound);
-        can-collect = λ e grid len. number-of (grids grid) ∙ D .can-collect (same ∙ e) grid len;
-        then-all = λ grid len z. sym same ∙ D .then-all grid len (sym (number-of (grids grid)) ∙ z);
-        calculated = λ c h. rw (times (calculates p c)) (D .calculated c h);
-        not-calculated = λ c h i. times (calculates p c) ∙ D .not-calculated c h i;
-        sent = λ m h. rw (times (sends m)) (D .sent m h);
-        delivered = λ m h. rw (deliveries m) (D .delivered m h);
-        taken = λ m h. rw (times (takes p m)) (D .taken m h);
-        all-calculated = λ e c h i. times (calculates p c) ∙ D .all-calculated (same ∙ e) c h i;
-        all-sent = λ e m h. times (sends m) ∙ D .all-sent (same ∙ e) m h;
-        all-delivered = λ e m h. deliveries m ∙ D .all-delivered (same ∙ e) m h;
-        all-taken = λ e m h. times (takes p m) ∙ D .all-taken (same ∙ e) m h;
+        once = once-passed p (act p source) (as-single p so sources o low cs) (D .once);
+        collecting =
+            collects-like p source (stepsOn o ≡ total p) _ (collectOn p after o) _ (λ e. same ∙ e) (λ e. sym same ∙ e)
+            (λ grid len. collects-same p so sources o low cs grid) (D .collecting);
         carried-out = λ before then b e z. carried p so sources o low before b z;
-        no-more = λ b. rw (same-turns p so sources o low cs b) (D .no-more b);
-        grid = λ e old len. after-of (grids old) ∙ D .grid (same ∙ e) old len;
       }
     where
       source : List ℕ
       source = sourceFor sources o
 
-      events : List Event
-      events = passed p so sources o low cs
-
-      D : Demand3 (act p source) (fresh p) events p source (collect p)
+      D : Demand3 (act p source) (fresh p) (passed p so sources o low cs) p source (collect p)
       D = single p so sources o low cs
 
-      same : steps (act p source) (fresh p) events ≡ stepsOn o
+      same : steps (act p source) (fresh p) (passed p so sources o low cs) ≡ stepsOn o
       same = same-steps p so sources o low cs
-
-      times : (f : Action → Bool) → timesOf p (eventsOf o cs) (answersFor (actOn p sources) (freshRig p) cs o) f
-          ≡ timesOf p events (answersTo (act p source) (fresh p) events) f
-      times = same-times p so sources o low cs
-
-      deliveries : (m : ℕ) → deliveriesOf m (eventsOf o cs) (answersFor (actOn p sources) (freshRig p) cs o)
-          ≡ deliveriesOf m events (answersTo (act p source) (fresh p) events)
-      deliveries = same-deliveries p so sources o low cs
-
-      grids : (grid : List ℕ) → collectOn p after o grid ≡ collect p (stateAfter (act p source) (fresh p) events) grid
-      grids = collects-same p so sources o low cs
 
 pub theorem208 : (p : Plan) → Sound p → (sources : Sources) (calls : List Call)
     → Demand208 (actOn p sources) (freshRig p) calls p sources (collectOn p)

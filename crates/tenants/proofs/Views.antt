@@ -127,10 +127,10 @@ module _ (p : Plan) (so : Sound p) (sources : Sources) {C : Type 0} (callOf : C 
       where
         go : Dec (stepsFor (actOn p sources) (freshRig p) passed o ≡ total p) → stepsFor (actOn p sources) (freshRig p) passed o < total p
         go (yes e) =
-            let z = plainly .each o low .can-collect e (replicate (p .cells) 0) (length-replicate _ _) in
-            let k = here o low .then-all (replicate (p .cells) 0) (length-replicate _ _) (rw led-to at z) in
+            let z = plainly .each o low .collecting .can-collect e (replicate (p .cells) 0) (length-replicate _ _) in
+            let k = here o low .collecting .then-all (replicate (p .cells) 0) (length-replicate _ _) (rw led-to at z) in
             absurd (omega arith)
-        go (no n) = let b = plainly .each o low .bound in omega arith
+        go (no n) = let b = plainly .each o low .once .bound in omega arith
 
     either-there : (stepsOf (officeView callOf 0) calls (freshRig p) cs < total p) ⊎ (stepsOf (officeView callOf 1) calls (freshRig p) cs < total p)
         → (stepsFor (actOn p sources) (freshRig p) passed 0 < total p) ⊎ (stepsFor (actOn p sources) (freshRig p) passed 1 < total p)

@@ -1,18 +1,16 @@
+-- Read this.
 -- Runs of two offices: the list holds both offices' calls; each office's steps, cells and messages are taken and counted apart.
 -- Renders demand 3 as request W-208 has it, and that nothing but the numbers tells one office of the other.
 use Prim.Native.Nat.{ℕ, _≤_, _<_}
 use mathlib.Core.Path.{_≡_}
 use mathlib.Core.Logic.{_⊎_}
-use mathlib.Core.Bool.{true, false}
 use mathlib.Core.List.{List, [], _∷_, _++_}
-use lib.ListN.{length, getD}
+use lib.ListN.{getD}
 use lib.Dec.{eqb}
 use Rattle.base.specs.Tests.{pick}
-use Rattle.base.specs.Lists.{countIf}
-use Rattle.machine.specs.Plan.{Plan, count}
-use Rattle.machine.specs.Machine.{Answered, gather, carryOut, sweep}
-use Rattle.machine.specs.Runs.{Event, stateAfter, answersTo, last, answers, total, program}
-use Rattle.machine.specs.Runs.{turnsOf, timesOf, calculates, sends, takes, deliveriesOf}
+use Rattle.machine.specs.Plan.{Plan}
+use Rattle.machine.specs.Machine.{Answered, gather}
+use Rattle.machine.specs.Runs.{Event, stateAfter, answersTo, last, answers, total, program, turnsOf, stepsIn, Once, Collects, CarriedOut}
 use Rattle.tenants.specs.Offices.{Rig, Sources, sourceFor, ownOf, otherOf, lentTo, engagedAfter, Call, turnBy}
 
 -- one office's events, and the numbers that they got
@@ -28,8 +26,7 @@ answersOf o (c ∷ cs) (x ∷ xs) = pick (eqb (c .office) o) (x ∷ answersOf o 
 -- a turn of processor b for office o, after k such turns that gave 0: the action named, carried out by the machine's rule on the
 -- office's own areas; the shared words by their rule; and nothing of the other office
 pub record CarriedOutFor (p : Plan) (source : List ℕ) (r r′ : Rig) (o b k : ℕ) : Type 0 where
-  pub named : k < length (program p b)
-  pub by-rule : ownOf r′ o ≡ carryOut p source (ownOf r o) b (getD (program p b) k (gather 0))
+  pub own : CarriedOut p source (ownOf r o) (ownOf r′ o) b k
   pub shared : r′ .engaged ≡ engagedAfter p o (lentTo r o) b (getD (program p b) k (gather 0))
   pub others : otherOf r′ o ≡ otherOf r o
 
@@ -41,39 +38,18 @@ module _ (acts : Rig → Call → Answered Rig) (start : Rig) (calls : List Call
 
   -- a step of office o is an event of it that gave 0
   abbrev pub stepsFor : ℕ → ℕ
-  stepsFor o = countIf (λ x. eqb x 0) (answersFor o)
+  stepsFor o = stepsIn (answersFor o)
 
-  -- one office's part, as document 01 has it for one; field by field as in Demand3
+  -- one office's part, as document 01 has it for one
   pub record OfficeDemand (p : Plan) (o : ℕ) (source : List ℕ) (collects : Rig → ℕ → List ℕ → Answered (List ℕ)) : Type 0 where
-    pub bound : stepsFor o ≤ total p
-    -- collecting for this office into a grid of the right length gives 0 exactly when its steps are that many
-    pub can-collect : stepsFor o ≡ total p → (grid : List ℕ) → length grid ≡ p .cells
-        → collects (last acts start calls) o grid .number ≡ 0
-    pub then-all : (grid : List ℕ) → length grid ≡ p .cells → collects (last acts start calls) o grid .number ≡ 0
-        → stepsFor o ≡ total p
-    -- no cell is calculated twice, one that is not in the nest never; no message sent, delivered or taken twice
-    pub calculated : (c : ℕ) → c < p .cells → timesOf p (eventsOf o calls) (answersFor o) (calculates p c) ≤ 1
-    pub not-calculated : (c : ℕ) → c < p .cells → p .inside c ≡ false
-        → timesOf p (eventsOf o calls) (answersFor o) (calculates p c) ≡ 0
-    pub sent : (m : ℕ) → m < count p → timesOf p (eventsOf o calls) (answersFor o) (sends m) ≤ 1
-    pub delivered : (m : ℕ) → m < count p → deliveriesOf m (eventsOf o calls) (answersFor o) ≤ 1
-    pub taken : (m : ℕ) → m < count p → timesOf p (eventsOf o calls) (answersFor o) (takes p m) ≤ 1
-    -- when its steps are that many, each message exactly once, and each cell in the nest
-    pub all-calculated : stepsFor o ≡ total p → (c : ℕ) → c < p .cells → p .inside c ≡ true
-        → timesOf p (eventsOf o calls) (answersFor o) (calculates p c) ≡ 1
-    pub all-sent : stepsFor o ≡ total p → (m : ℕ) → m < count p → timesOf p (eventsOf o calls) (answersFor o) (sends m) ≡ 1
-    pub all-delivered : stepsFor o ≡ total p → (m : ℕ) → m < count p → deliveriesOf m (eventsOf o calls) (answersFor o) ≡ 1
-    pub all-taken : stepsFor o ≡ total p → (m : ℕ) → m < count p → timesOf p (eventsOf o calls) (answersFor o) (takes p m) ≡ 1
+    pub once : Once p (eventsOf o calls) (answersFor o)
+    -- collecting for this office, and the sweep of its own source
+    pub collecting : Collects p source (stepsFor o ≡ total p) (collects (last acts start calls) o)
     -- each turn of this office that gave 0 carried out, by the rules, the action that the program names
     pub carried-out : (before after : List Call) (b : ℕ) → calls ≡ before ++ (turnBy o b ∷ after)
         → acts (stateAfter acts start before) (turnBy o b) .number ≡ 0
         → CarriedOutFor p source (stateAfter acts start before) (acts (stateAfter acts start before) (turnBy o b) .after) o b
         (turnsOf b (eventsOf o before) (answersOf o before (answersTo acts start before)))
-    -- no processor has a step for this office beyond its program
-    pub no-more : (b : ℕ) → turnsOf b (eventsOf o calls) (answersFor o) ≤ length (program p b)
-    -- the collected grid equals the sweep of this office's own source
-    pub grid : stepsFor o ≡ total p → (old : List ℕ) → length old ≡ p .cells
-        → collects (last acts start calls) o old .after ≡ sweep p source
 
   pub record Demand208 (p : Plan) (sources : Sources) (collects : Rig → ℕ → List ℕ → Answered (List ℕ)) : Type 0 where
     pub each : (o : ℕ) → o ≤ 1 → OfficeDemand p o (sourceFor sources o) collects

@@ -23,7 +23,8 @@ use Rattle.network.specs.Apart.{received}
 use Rattle.engine.specs.Given.{unfitLines}
 use Rattle.engine.specs.Calls.{answer, areas}
 use Rattle.engine.proofs.Lines.{Opened, unfit-none, call-read, call-later, call-done, and-right}
-use Rattle.transport.specs.arrivals.Taking.{takes, asLong, receivedOr}
+use Rattle.network.specs.Brought.{takenBy, asLong}
+use Rattle.transport.specs.arrivals.Taking.{receivedOr}
 use Rattle.transport.specs.Calls.{rowsTo, messagesCall, ownerOf, ownersCall, Waits, waitsOf, waited, waitAreas, awaitedCall, takeInCall}
 use Rattle.transport.specs.Given.{unaskedLines, waitedOr13}
 use Rattle.transport.proofs.Awaiting.{lines-none}
@@ -132,7 +133,7 @@ module _ (l : List ℕ) (route : ℕ) (s : State) (b : ℕ) (marks : List ℕ) w
 -- ---- a message taken in
 
 abbrev takingLines : Plan → State → ℕ → ℕ → List Line
-takingLines p s b m = line 11 (not (takes p b m)) ∷ line 14 (not (eqb (getD (s .status) m 0) 0)) ∷ []
+takingLines p s b m = line 11 (not (takenBy p b m)) ∷ line 14 (not (eqb (getD (s .status) m 0) 0)) ∷ []
 
 abbrev longLine : Plan → List ℕ → State → ℕ → List ℕ → Line
 longLine p source s m ws = line 9 (not (areas p source s and asLong p m ws))

@@ -22,7 +22,7 @@ use Rattle.recipe.proofs.Laws.{numbered-for}
 use Rattle.engine.specs.Calls.{recipe, areas}
 use Rattle.network.specs.Apart.{received, replaced, arrived}
 use Rattle.network.specs.Packets.{Network, networkOf, arrive}
-use Rattle.transport.specs.arrivals.Taking.{takes, asLong}
+use Rattle.network.specs.Brought.{takenBy, asLong}
 use Rattle.transport.specs.Calls.{awaits, takeInCall}
 use Rattle.transport.specs.Holds.{WaitsAsTurns, comingMessage, comingWords, comesTo, Comes, takenIn, MailHolds}
 use Rattle.transport.proofs.arrivals.Taking.{long-is}
@@ -94,7 +94,7 @@ module _ (bytes : List ℕ) (route : ℕ) (read : firstOf (linesFor (routeOf rou
 
   -- the lines from 11 on, from 10 on and from 9 on
   abbrev from11 : List Line
-  from11 = line 11 (not (takes p b m)) ∷ line 14 (not (eqb (getD (own .status) m 0) 0)) ∷ []
+  from11 = line 11 (not (takenBy p b m)) ∷ line 14 (not (eqb (getD (own .status) m 0) 0)) ∷ []
 
   abbrev from10 : List Line
   from10 = line 10 (not (fit p own)) ∷ from11
@@ -108,7 +108,7 @@ module _ (bytes : List ℕ) (route : ℕ) (read : firstOf (linesFor (routeOf rou
       first-behind (linesFor (routeOf route) bytes) from9 (numbered-for (routeOf route) bytes) read
       ∙ first-false 9 (not (areas p source own and asLong p m (comingWords n k))) from10 (not-true (and-true (c .lengths) as-long))
       ∙ first-false 10 (not (fit p own)) from11 (not-true (c .fit))
-      ∙ first-false 11 (not (takes p b m)) (line 14 (not (eqb (getD (own .status) m 0) 0)) ∷ [])
+      ∙ first-false 11 (not (takenBy p b m)) (line 14 (not (eqb (getD (own .status) m 0) 0)) ∷ [])
       (not-true (and-true (lt-ltb m (count p) (c .message)) (eq-eqb b b refl)))
 
   arrive-number : arrive p n k .number ≡ last

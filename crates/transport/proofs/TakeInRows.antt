@@ -29,7 +29,7 @@ use Rattle.recipe.specs.Routes.{indirect, linesFor}
 use Rattle.recipe.proofs.Laws.{numbered-for, open-direct}
 use Rattle.engine.specs.Calls.{recipe, areas}
 use Rattle.network.specs.Apart.{received}
-use Rattle.transport.specs.arrivals.Taking.{takes, asLong}
+use Rattle.network.specs.Brought.{takenBy, asLong}
 use Rattle.transport.specs.Calls.{takeInCall}
 use Rattle.transport.specs.TakeInRows.{source, areasOf, short, gave, taking, TakeInRows}
 
@@ -43,7 +43,7 @@ plan-D = ap (planOf Direct) isD
 -- row D is accepted: its answers are by the lines behind the reader's, on its plan
 abbrev lines : Plan → State → ℕ → ℕ → List ℕ → List Line
 lines p s b m words =
-    line 9 (not (areas p source s and asLong p m words)) ∷ line 10 (not (fit p s)) ∷ line 11 (not (takes p b m))
+    line 9 (not (areas p source s and asLong p m words)) ∷ line 10 (not (fit p s)) ∷ line 11 (not (takenBy p b m))
     ∷ line 14 (not (eqb (getD (s .status) m 0) 0)) ∷ []
 
 unfoldable given : State → ℕ → ℕ → List ℕ → Answered State

@@ -15,7 +15,7 @@ use Rattle.layout.specs.Sizes.{routeOf}
 use Rattle.recipe.specs.Routes.{linesFor}
 use Rattle.engine.specs.Calls.{recipe, areas}
 use Rattle.network.specs.Apart.{received}
-use Rattle.transport.specs.arrivals.Taking.{takes, asLong}
+use Rattle.network.specs.Brought.{takenBy, asLong}
 
 -- ---- all messages: a row of six words for each, in the order of their numbers
 
@@ -90,7 +90,7 @@ takeInLines bytes route source s b m words =
     linesFor (routeOf route) bytes
     ++ (line 9 (not (areas (recipe bytes route) source s and asLong (recipe bytes route) m words))
     ∷ line 10 (not (fit (recipe bytes route) s))
-    ∷ line 11 (not (takes (recipe bytes route) b m))
+    ∷ line 11 (not (takenBy (recipe bytes route) b m))
     ∷ line 14 (not (eqb (getD (s .status) m 0) 0)) ∷ [])
 
 unfoldable pub takeInCall : List ℕ → ℕ → List ℕ → State → ℕ → ℕ → List ℕ → Answered State

@@ -17,7 +17,7 @@ ghost use Rattle.layout.specs.Sizes.{Sized};
 ghost use Rattle.tables.specs.Tables.{FoundIn};
 ghost use Rattle.records.specs.Records.{Carries};
 ghost use Rattle.engine.specs.Calls.{answer};
-ghost use Rattle.transport.specs.arrivals.Taking.{asLong};
+ghost use Rattle.network.specs.Brought.{asLong};
 ghost use Rattle.transport.specs.Calls.{rowOf, rowsTo, ownerOf, waitsOf, awaitedCall, takeInCall};
 ghost use Rattle.transport.specs.Given.{Planned, undelivered, unaskedLines, MayAsk, waitedOr13};
 use crate::Waiting;

@@ -71,7 +71,7 @@ module _ (bytes source : List ℕ) where
       -- a round after the events `es`: it does something, or every step was taken before
       at-end : (es : List Event) → steps acts (stateAfter acts start es) (roundOf acts o (stateAfter acts start es)) ≡ 0
           → steps acts start es ≡ total (recipe bytes 0)
-      at-end es idle = go (eq-or-lt-of-le (run es .bound))
+      at-end es idle = go (eq-or-lt-of-le (run es .once .bound))
         where
           go : (steps acts start es ≡ total (recipe bytes 0)) ⊎ (steps acts start es < total (recipe bytes 0))
               → steps acts start es ≡ total (recipe bytes 0)
@@ -98,7 +98,7 @@ module _ (bytes source : List ℕ) where
           → steps acts start (es ++ roundsOf acts o n (stateAfter acts start es)) ≡ total (recipe bytes 0)
       unfolding roundsOf answersTo countIf
       all-taken zero es h =
-          let b = run es .bound in
+          let b = run es .once .bound in
           omega (arith, steps-append acts start es [], h)
       all-taken (suc n) es h =
           one-more es (took acts (here es) (next es)) (roundsOf acts o n (stateAfter acts (here es) (next es))) refl

@@ -207,7 +207,7 @@ module _ (bytes : List ℕ) (route : ℕ) (source : List ℕ) (sources : OwnSour
       none-left : some (λ b. tilesLeft plan (there-areas b) b) (plan .processors) ≡ false
       unfolding collectApart
       none-left =
-          is-false (λ e. let z = known .can-collect all (tabulate (λ c. 0) (plan .cells)) (length-tabulate (λ c. 0) (plan .cells)) in
+          is-false (λ e. let z = known .collecting .can-collect all (tabulate (λ c. 0) (plan .cells)) (length-tabulate (λ c. 0) (plan .cells)) in
           omega (arith, sym (first-true 15 _ [] e) ∙ z))
 
       done-there : (b : ℕ) → b < plan .processors → tilesLeft plan (there-areas b) b ≡ false
@@ -215,14 +215,14 @@ module _ (bytes : List ℕ) (route : ℕ) (source : List ℕ) (sources : OwnSour
 
       after-is : (old : List ℕ) → length old ≡ plan .cells → collectApart plan there-areas old .after ≡ assembled plan there-areas
       unfolding collectApart
-      after-is old long = pick-true _ _ _ (eq-eqb _ 0 (known .can-collect all old long))
+      after-is old long = pick-true _ _ _ (eq-eqb _ 0 (known .collecting .can-collect all old long))
 
       grid-is : (old : List ℕ) → length old ≡ plan .cells
           → collectedTo bytes route (ownAfter bytes route source sources lent events .areas) old (plan .processors) ≡ sweep plan source
       grid-is old long =
           all-there bytes route (bg .accepted) so source there-areas (ownAfter bytes route source sources lent events .areas) (reached .1 .parts) lent-there
           fit-there done-there old long (plan .processors) refl (some-processor bytes route (bg .small) (bg .accepted))
-          ∙ sym (after-is old long) ∙ known .grid all old long
+          ∙ sym (after-is old long) ∙ known .collecting .grid all old long
 
     holds : OwnDemand3 bytes route source sources lent events
     holds =

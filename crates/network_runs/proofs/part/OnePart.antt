@@ -32,7 +32,7 @@ use Rattle.network.specs.Own.{handles, ownCells, keptCells, handled, Own, narro
 use Rattle.network.proofs.Network.{zero-answer}
 use Rattle.network.proofs.Own.{narrowed-same, wide-same, wide-lent, wide-fit, own-turn}
 use Rattle.network.proofs.OwnRuns.{Beside, marked-same, received-same}
-use Rattle.transport.specs.arrivals.Taking.{takes, asLong}
+use Rattle.network.specs.Brought.{takenBy, asLong}
 use Rattle.part.specs.Part.{partOf, lentOf, wordsOf, mailAt, partFits}
 use Rattle.part_calls.specs.front.Calls.{wide, narrow, boardLines, ownFreshCall, stepped, ownTurnCall, ownPostCall, ownArriveCall, collectFits, ownCollected}
 use Rattle.part_calls.specs.front.Calls.{ownCollectCall}
@@ -199,7 +199,7 @@ module _ (bytes : List ℕ) (route : ℕ) (ok : firstOf (linesFor (routeOf route
       unfolding ownArriveCall
       arrive-on-part =
           let a : firstOf (boardLines bytes route b ++ (line 9 (not (partFits p b (narrow p b s) and asLong p m new))
-          ∷ line 10 (not (fit p (again p b low source s le))) ∷ line 11 (not (takes p b m))
+          ∷ line 10 (not (fit p (again p b low source s le))) ∷ line 11 (not (takenBy p b m))
           ∷ line 14 (not (eqb (getD (again p b low source s le .status) m 0) 0)) ∷ []))
           ≡ firstOf (line 14 (not (eqb (getD (s .status) m 0) 0)) ∷ []) =
           past _
@@ -292,16 +292,16 @@ module _ (bytes : List ℕ) (route : ℕ) (ok : firstOf (linesFor (routeOf route
   module _ (m : ℕ) (new : List ℕ) where
     arrive-lines : firstOf (boardLines bytes route b
         ++ (line 9 (not (partFits p′ b (narrow p′ b s) and asLong p′ m new))
-        ∷ line 10 (not (fit p′ wider)) ∷ line 11 (not (takes p′ b m)) ∷ line 14 (not (eqb (getD (wider .status) m 0) 0)) ∷ []))
+        ∷ line 10 (not (fit p′ wider)) ∷ line 11 (not (takenBy p′ b m)) ∷ line 14 (not (eqb (getD (wider .status) m 0) 0)) ∷ []))
         ≡ firstOf (takeInLines p′ s b m new)
     arrive-lines =
         past bytes route ok b low _
         ∙ ap (λ (t : Bool). firstOf (line 9 (not t)
-        ∷ line 10 (not (fit p′ wider)) ∷ line 11 (not (takes p′ b m)) ∷ line 14 (not (eqb (getD (wider .status) m 0) 0)) ∷ []))
+        ∷ line 10 (not (fit p′ wider)) ∷ line 11 (not (takenBy p′ b m)) ∷ line 14 (not (eqb (getD (wider .status) m 0) 0)) ∷ []))
         (and-left _ (asLong p′ m new) (part-fits p′ b low source s le))
         ∙ first-cons 9 _ _ _
         (first-false 10 _ _ (not-true (fit-again p′ b low source s le f))
-        ∙ behind 11 (not (takes p′ b m)) _ _
+        ∙ behind 11 (not (takenBy p′ b m)) _ _
         (λ q. let t = both (true-not q) in
         ap (λ (x : ℕ). firstOf (line 14 (not (eqb x 0)) ∷ []))
         (sym (same-again p′ b low source s le .marks m (ltb-true _ _ (t .0)) (inr (eqb-true _ _ (t .1))))))

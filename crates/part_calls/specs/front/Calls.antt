@@ -16,7 +16,7 @@ use Rattle.recipe.specs.Routes.{linesFor}
 use Rattle.engine.specs.Calls.{recipe}
 use Rattle.network.specs.Apart.{senderAt, takerAt, marked, received}
 use Rattle.network.specs.Own.{owns, ownCells, keptCells, handled, narrowed, widened, sourceOf}
-use Rattle.transport.specs.arrivals.Taking.{takes, asLong}
+use Rattle.network.specs.Brought.{takenBy, asLong}
 use Rattle.part_calls.specs.declared.AreaLengths.{AreaLengths}
 use Rattle.part.specs.Part.{partOf, lentOf, wordsOf, mailAt, partFits}
 
@@ -114,7 +114,7 @@ ownArriveLines bytes route s b m words =
     boardLines bytes route b
     ++ (line 9 (not (partFits (recipe bytes route) b s and asLong (recipe bytes route) m words))
     ∷ line 10 (not (fit (recipe bytes route) (wide (recipe bytes route) b s)))
-    ∷ line 11 (not (takes (recipe bytes route) b m))
+    ∷ line 11 (not (takenBy (recipe bytes route) b m))
     ∷ line 14 (not (eqb (getD (wide (recipe bytes route) b s .status) m 0) 0)) ∷ [])
 
 unfoldable pub ownArriveCall : List ℕ → ℕ → State → ℕ → ℕ → List ℕ → Answered State

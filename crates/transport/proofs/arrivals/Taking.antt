@@ -29,7 +29,8 @@ use Rattle.engine.specs.Calls.{answer}
 use Rattle.engine.specs.Given.{unfitLines}
 use Rattle.engine.proofs.Lines.{areas-are, unfit-none}
 use Rattle.engine.proofs.Turns.{answered-no, answered-yes}
-use Rattle.transport.specs.arrivals.Taking.{takes, asLong, MayTake, receivedOr}
+use Rattle.network.specs.Brought.{takenBy, asLong}
+use Rattle.transport.specs.arrivals.Taking.{MayTake, receivedOr}
 
 -- ---- as many words as the message has
 
@@ -54,13 +55,13 @@ module _ (p : Plan) (m : ℕ) (l : List ℕ) where
 
 module _ (p : Plan) (s : State) (b m : ℕ) (ws : List ℕ) where
   number : ℕ
-  number = firstOf (line 11 (not (takes p b m)) ∷ line 14 (not (eqb (getD (s .status) m 0) 0)) ∷ [])
+  number = firstOf (line 11 (not (takenBy p b m)) ∷ line 14 (not (eqb (getD (s .status) m 0) 0)) ∷ [])
 
   refusal : (n : ℕ) → n ≢ 0 → n ≡ number → answer n s ≡ receivedOr p s b m ws
   unfolding number
   refusal n h e = answered-no n (received p s m ws) s h ∙ ap (λ (k : ℕ). answered k (received p s m ws) s) e
 
-  another : takes p b m ≡ false → answer 11 s ≡ receivedOr p s b m ws
+  another : takenBy p b m ≡ false → answer 11 s ≡ receivedOr p s b m ws
   unfolding number
   another e = refusal 11 (λ q. omega arith) (sym (first-true 11 _ _ (not-false e)))
 
