@@ -7,7 +7,7 @@ use mathlib.Core.List.{List, [], _++_}
 use native.Mathlib.Nat.{mul-comm, eq-or-lt-of-le}
 use native.Mathlib.Omega.{arith}
 use lib.ListN.{length, getD, take, drop, set, length-append, length-replicate}
-use lib.Dec.{eqb, ltb}
+use lib.Dec.{ltb}
 use lib.Seq.{ext-getD, length-take-le, take-at, getD-set-same, getD-set-other}
 use borrow.Author.Tests.{eqb-true, eq-eqb, ne-eqb, lt-ltb, le-ltb, ltb-false}
 use Rattle.base.specs.Tests.{_and_, _or_, pick}
@@ -255,7 +255,7 @@ pub in-limits : (bytes : List ℕ) (r : Reading) (z : Sizes) (f : Figures) (c p 
 in-limits bytes r z f c p is zero-read g narrow narrow2 low e =
     let read : firstOf (readLines bytes) ≡ 0 = sym (ap (λ (x : Reading). x .number) is) ∙ zero-read in
     let nest = nest-read bytes r is zero-read in
-    let figures : f ≡ figuresOf (recipe bytes 0) = e ∙ sym (summary-is (routeOf 0) bytes (nestOf bytes) (open-direct bytes read) refl (routeOf 0) refl) in
+    let figures : f ≡ figuresOf (recipe bytes 0) = e ∙ sym (summary-is bytes 0 _ (record { none = open-direct bytes read; is = refl })) in
     record {
       read = read;
       measured =

@@ -32,11 +32,12 @@ use Rattle.nest.specs.Reader.{readLines, nestOf, readingOf}
 use Rattle.nest.proofs.Numbered.{numbered}
 use Rattle.nest.proofs.Answers.{nest-read}
 pub use Rattle.nest.proofs.Answers.{number-read as read-number}
-use Rattle.recipe.specs.Routes.{linesFor, ReadFor}
-use Rattle.recipe.proofs.Laws.{numbered-for, reads-for, passed-for, direct-open, routed-for}
+use Rattle.recipe.specs.Routes.{linesFor}
+pub use Rattle.recipe.specs.Given.{Opened}
+use Rattle.recipe.proofs.Laws.{numbered-for, reads-for, passed-for, direct-open}
 use Rattle.stages.specs.Progress.{progressOnly}
 use Rattle.engine.specs.Given.{AreaLengths, MayTurn, unfitLines, handedOver}
-use Rattle.engine.specs.Calls.{answer, recipe, areas, areaLines, freshCall, turnCall, deliverCall, collectCall, sweepCall}
+use Rattle.engine.specs.Calls.{answer, areas, areaLines, freshCall, turnCall, deliverCall, collectCall, sweepCall}
 use Rattle.engine.proofs.Turns.{answered-no, answered-yes}
 
 -- ---- areas
@@ -131,32 +132,15 @@ module _ (p : Plan) (source : List ℕ) (s : State) where
 
 -- ---- what reading gives
 
--- p is the plan of the recipe l on the route that a word names
-pub record Opened (l : List ℕ) (word : ℕ) (p : Plan) : Type 0 where
-  pub none : firstOf (linesFor (routeOf word) l) ≡ 0
-  pub is : p ≡ recipe l word
-
-module _ (l : List ℕ) (r : Reading) where
-  pub opened : {word : ℕ} → ReadFor (routeOf word) l r → r .number ≡ 0 → {route : Route} → route ≡ routeOf word
-      → Opened l word (planOf route (r .nest))
-  opened {word} e h {route} k =
+-- a recipe read for no route is open to the direct one
+module _ (l : List ℕ) (r : Reading) (e : r ≡ readingOf l) where
+  pub opened-direct : r .number ≡ 0 → {route : Route} → route ≡ Direct → Opened l 0 (planOf route (r .nest))
+  unfolding routeOf
+  opened-direct h {route} k =
       record {
-        none = sym (e .number) ∙ h;
-        is = ap (λ (z : Route). planOf z (r .nest)) k ∙ ap (planOf (routeOf word)) (e .nest h);
+        none = passed-for Direct l (sym (read-number l r e) ∙ h) (direct-open (nestOf l));
+        is = ap (λ (z : Route). planOf z (r .nest)) k ∙ ap (planOf Direct) (nest-read l r e h);
       }
-
-  pub routed : {q : Route} → ReadFor q l r → r .number ≡ 0 → {route : Route} → route ≡ q → r .nest .bounds ≢ 0 → route ≡ Direct
-  routed {q} e h k n = k ∙ routed-for q l r e h n
-
-  -- a recipe read for no route is open to the direct one
-  module _ (e : r ≡ readingOf l) where
-    pub opened-direct : r .number ≡ 0 → {route : Route} → route ≡ Direct → Opened l 0 (planOf route (r .nest))
-    unfolding routeOf
-    opened-direct h {route} k =
-        record {
-          none = passed-for Direct l (sym (read-number l r e) ∙ h) (direct-open (nestOf l));
-          is = ap (λ (z : Route). planOf z (r .nest)) k ∙ ap (planOf Direct) (nest-read l r e h);
-        }
 
 -- behind lines of which none has the number 0
 module _ {A : Type 0} (front : List Line) (named : Numbered front) (more : List Line) (r : ℕ) (new old : A) where

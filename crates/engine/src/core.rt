@@ -19,10 +19,8 @@ use base::word_index;
 use base::zero_bytes;
 use base::zero_words;
 use layout::Sizes;
-use layout::route_of;
-use layout::sizes_of;
 use nest::Nest;
-use recipe::read_for;
+use recipe::open;
 use records::Flat;
 use records::Progress;
 use stages::calculate_stage;
@@ -33,7 +31,6 @@ use stages::gather_stage;
 use stages::ready;
 use stages::send_stage;
 use stages::tiles_left;
-use tables::fill;
 use tables::tile_at;
 use tables::tile_count;
 use tables::totals;
@@ -203,16 +200,15 @@ pub fn turn(
         ≡ turnCall (now (encoded .entry)) route (now (source .entry))
         (stateOf (now (memories .entry)) (now (buffer .entry)) records (now (status .entry))) processor) ⌝ }
 {
-    let reading = read_for(encoded, route);
-    let number = reading.number;
+    let mut lens = [0u16; 9217];
+    let opening = open(encoded, route, &mut lens);
+    let number = opening.number;
     if number != 0 {
         return refused(number);
     }
-    let nest = reading.nest;
-    let sizes = sizes_of(nest, route_of(route));
+    let nest = opening.nest;
+    let sizes = opening.sizes;
     let b = processor as usize;
-    let mut lens = [0u16; 9217];
-    fill(nest, sizes, &mut lens);
     let n = unfit(
         nest,
         sizes,
@@ -276,15 +272,14 @@ pub fn deliver(
         ≡ deliverCall (now (encoded .entry)) route (now (source .entry))
         (stateOf (now (memories .entry)) (now (buffer .entry)) records (now (status .entry))) message) ⌝ }
 {
-    let reading = read_for(encoded, route);
-    let number = reading.number;
+    let mut lens = [0u16; 9217];
+    let opening = open(encoded, route, &mut lens);
+    let number = opening.number;
     if number != 0 {
         return number;
     }
-    let nest = reading.nest;
-    let sizes = sizes_of(nest, route_of(route));
-    let mut lens = [0u16; 9217];
-    fill(nest, sizes, &mut lens);
+    let nest = opening.nest;
+    let sizes = opening.sizes;
     let n = unfit(
         nest,
         sizes,
@@ -318,18 +313,17 @@ pub fn collect(
         ≡ collectCall (now (encoded .entry)) route (now (source .entry))
         (stateOf (now (memories .entry)) (now (buffer .entry)) records (now (status .entry))) (now (grid .entry))) ⌝ }
 {
-    let reading = read_for(encoded, route);
-    let number = reading.number;
+    let mut lens = [0u16; 9217];
+    let opening = open(encoded, route, &mut lens);
+    let number = opening.number;
     if number != 0 {
         return number;
     }
-    let nest = reading.nest;
-    let sizes = sizes_of(nest, route_of(route));
+    let nest = opening.nest;
+    let sizes = opening.sizes;
     if grid.len() != sizes.cells {
         return 9;
     }
-    let mut lens = [0u16; 9217];
-    fill(nest, sizes, &mut lens);
     let n = unfit(
         nest,
         sizes,
@@ -367,15 +361,14 @@ pub fn fresh(
         ≡ freshCall (now (encoded .entry)) route (now (source .entry))
         (stateOf (now (memories .entry)) (now (buffer .entry)) records (now (status .entry)))) ⌝ }
 {
-    let reading = read_for(encoded, route);
-    let number = reading.number;
+    let mut lens = [0u16; 9217];
+    let opening = open(encoded, route, &mut lens);
+    let number = opening.number;
     if number != 0 {
         return number;
     }
-    let nest = reading.nest;
-    let sizes = sizes_of(nest, route_of(route));
-    let mut lens = [0u16; 9217];
-    fill(nest, sizes, &mut lens);
+    let nest = opening.nest;
+    let sizes = opening.sizes;
     if !areas_fit(nest, sizes, &lens, source, memories, buffer, words, status) {
         return 9;
     }

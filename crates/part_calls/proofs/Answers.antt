@@ -37,8 +37,8 @@ use Rattle.part.specs.Part.{wordsOf, rankOf, mailAt, partFits}
 use Rattle.part_calls.specs.front.Calls.{wide, narrow, lengthsOf, noLengths, lengthsIf, ownSizesCall, ownFreshCall, ownPostCall, ownArriveCall}
 use Rattle.part_calls.specs.declared.AreaLengths.{AreaLengths}
 use Rattle.part_calls.specs.front.Calls.{ownRows, ownMessagesCall, ownCollected, ownCollectCall}
-use Rattle.part_calls.specs.declared.front.Board.{Board}
-use Rattle.part_calls.specs.front.Given.{Opens, unfitLines}
+use Rattle.recipe.specs.declared.Recipe.{Recipe}
+use Rattle.part_calls.specs.front.Given.{OpensFor, unfitLines}
 use Rattle.part_calls.specs.Given.{freshOr, postLines, postedOr, arriveLines, arrivesOr, markIn, handedOver, MayArrive, arrivedOr}
 use Rattle.part_calls.specs.Given.{collectLines, collectedOr, rowsOr}
 use Rattle.part_calls.specs.front.Given.{PartLengths}
@@ -56,7 +56,7 @@ none-told (suc n) p b h = refl
 
 -- ---- past the first lines
 
-module _ (bytes : List ℕ) (route b : ℕ) (r : Board) (o : Opens bytes route b r) where
+module _ (bytes : List ℕ) (route b : ℕ) (r : Recipe) (o : OpensFor bytes route b r) where
   -- how long the areas are
   pub sizes-read : r .number ≢ 0 → noLengths (r .number) ≡ ownSizesCall bytes route b
   unfolding ownSizesCall
@@ -419,7 +419,7 @@ module _ (p : Plan) (b : ℕ) (m u t : List ℕ) (f : Flat) (room : length (f .w
 
 -- ---- past the first lines: the rows and collecting
 
-module _ (bytes : List ℕ) (route b : ℕ) (r : Board) (o : Opens bytes route b r) where
+module _ (bytes : List ℕ) (route b : ℕ) (r : Recipe) (o : OpensFor bytes route b r) where
   module _ (out : List ℕ) where
     abbrev rowLines : Plan → List Line
     rowLines p = line 9 (not (eqb (length out) (7 * length (handled p b)))) ∷ []

@@ -11,21 +11,19 @@ ghost use Rattle.machine.specs.Machine.{State, stateOf, finishedOf, stageOf, se
 ghost use Rattle.nest.specs.Nest.{cells, processors};
 ghost use Rattle.plan.specs.Shaped.{planOf};
 ghost use Rattle.layout.specs.Sizes.{Sized};
-ghost use Rattle.tables.specs.Tables.{Routed};
+ghost use Rattle.tables.specs.Tables.{Routed, Planned};
 ghost use Rattle.records.specs.Records.{Carries};
-ghost use Rattle.transport.specs.Given.{Planned};
 ghost use Rattle.network.specs.Own.{owns, keeps, ownCells, keptCells};
 ghost use Rattle.part.specs.Part.{partFits};
-ghost use Rattle.part_calls.specs.front.Given.{Opens, Known, Cells, Many, unfitLines};
+ghost use Rattle.part_calls.specs.front.Given.{OpensFor, Known, Cells, Many, unfitLines};
 use base::word_index;
 use layout::Sizes;
-use layout::route_of;
-use layout::sizes_of;
 use nest::Nest;
-use plan::Route;
 use rank_index::fill_counts;
 use rank_index::rank;
-use recipe::read_for;
+use recipe::Recipe;
+use recipe::closed;
+use recipe::with_sizes;
 use records::Flat;
 use stages::fit_status;
 use tables::count_at;
@@ -36,50 +34,20 @@ use tables::totals;
 
 // ---- the first lines
 
-// A call's number so far and, where that is 0, the recipe's nest and its counts.
-pub struct Board {
-    pub number: u32,
-    pub nest: Nest,
-    pub sizes: Sizes,
-}
-
-fn closed(number: u32, nest: Nest) -> Board
-    ensures { λ r. ⌜ r .number ≡ number ⌝ }
-{
-    let none = Sizes {
-        cells: 0,
-        tiles: 0,
-        processors: 0,
-        route: Route::Direct,
-        ways: 0,
-        across: [0; 4],
-    };
-    Board {
-        number: number,
-        nest: nest,
-        sizes: none,
-    }
-}
-
 // The reader's lines and the route's, then 11.
-pub fn open(encoded: &[u8], route: u32, processor: u32) -> Board
-    ensures { λ r. ⌜ Opens (now (encoded .entry)) route processor r ⌝ }
+pub fn open(encoded: &[u8], route: u32, processor: u32) -> Recipe
+    ensures { λ r. ⌜ OpensFor (now (encoded .entry)) route processor r ⌝ }
 {
-    let reading = read_for(encoded, route);
-    let number = reading.number;
-    let nest = reading.nest;
-    if number != 0 {
-        return closed(number, nest);
+    let board = with_sizes(encoded, route);
+    let nest = board.nest;
+    let sizes = board.sizes;
+    if board.number != 0 {
+        return board;
     }
-    let sizes = sizes_of(nest, route_of(route));
     if processor as usize >= sizes.processors {
         return closed(11, nest);
     }
-    Board {
-        number: 0,
-        nest: nest,
-        sizes: sizes,
-    }
+    board
 }
 
 // ---- what is found once in a call

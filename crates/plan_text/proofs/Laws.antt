@@ -2,17 +2,14 @@
 use Prim.Native.Nat.{ℕ, zero, suc, _+_, _*_, _≤_, _<_}
 use mathlib.Core.Path.{_≡_, refl, sym, ap, _∙_}
 use mathlib.Core.Logic.{_≢_}
-use mathlib.Core.Bool.{Bool, true, false}
-use mathlib.Core.List.{List, [], _∷_, _++_, append-assoc}
+use mathlib.Core.List.{List, [], _∷_, _++_}
 use native.Mathlib.Omega.{arith}
 use native.Mathlib.Decide.{ℕ-discrete}
 use native.Mathlib.Nat.{mul-le-mul-right}
 use native.Mathlib.Numerals.{add-one}
-use lib.ListN.{length, take, drop, length-append}
+use lib.ListN.{length, take, drop}
 use lib.Seq.{take-at, length-take-le}
-use lib.Dec.{eqb, ltb}
-use borrow.Author.Tests.{eq-eqb, lt-ltb, le-ltb}
-use Rattle.base.specs.Tests.{pick}
+use borrow.Author.Tests.{lt-ltb, le-ltb}
 use Rattle.base.specs.Numbers.{firstOf}
 use Rattle.base.proofs.Tests.{pick-true, pick-false}
 use Rattle.text.specs.Decimal.{decimal}
@@ -21,7 +18,6 @@ use Rattle.text.proofs.Digits.{decimal-few}
 use Rattle.text.proofs.Pens.{next, write-at, write-front}
 use Rattle.machine.specs.Plan.{Plan, count}
 use Rattle.nest.specs.declared.Nest.{Nest}
-use Rattle.nest.specs.declared.Reading.{Reading}
 use Rattle.nest.specs.Accepted.{Accepted}
 use Rattle.nest.specs.Reader.{nestOf}
 use Rattle.nest.specs.Shape.{tiles}
@@ -34,7 +30,7 @@ use Rattle.plan.proofs.Listed.{few as few-listed}
 use Rattle.plan.proofs.Slots.{few}
 use Rattle.plan.proofs.ShapedBox.{planOf-box}
 use Rattle.layout.proofs.Steps.{ways-few}
-use Rattle.recipe.specs.Routes.{linesFor, ReadFor}
+use Rattle.recipe.specs.Routes.{linesFor}
 use Rattle.tables.proofs.boxes.Scans.{slots-few}
 use Rattle.summary.specs.declared.Figures.{Figures}
 use Rattle.summary.specs.declared.MessageLine.{MessageLine}
@@ -158,38 +154,25 @@ module _ (r : Route) (l : List ℕ) (u w : Pen) where
   unfolding planText
   too-long h e = e ∙ ap (write w) (sym (pick-true _ _ _ (lt-ltb _ _ h)))
 
-  module _ (h : length l ≤ 512) (i : Reading) (is : ReadFor r l i) where
+  module _ (h : length l ≤ 512) where
     short : planTextIf (firstOf (linesFor r l)) (planOf r (nestOf l)) ≡ planText r l
     unfolding planText
     short = sym (pick-false _ _ _ (le-ltb _ _ h))
 
-    pub refused-text : i .number ≢ 0 → u ≡ write w (refusedText (i .number)) → u ≡ write w (planText r l)
-    refused-text k e =
-        e
-        ∙ ap (write w)
-        (refusal (i .number) (planOf r (nestOf l)) k ∙ ap (λ (n : ℕ). planTextIf n (planOf r (nestOf l))) (is .number) ∙ short)
+    pub refused-text : (n : ℕ) → n ≡ firstOf (linesFor r l) → n ≢ 0 → u ≡ write w (refusedText n) → u ≡ write w (planText r l)
+    refused-text n is k e =
+        e ∙ ap (write w) (refusal n (planOf r (nestOf l)) k ∙ ap (λ (q : ℕ). planTextIf q (planOf r (nestOf l))) is ∙ short)
 
-    module _ (z : i .number ≡ 0) where
-      pub planned : (v : Pen) (f : Figures) → f ≡ figuresOf (planOf r (i .nest)) → v ≡ write w (figuresText (f .tiles) (f .messages) (f .words) (f .steps))
-          → u ≡ write v (linesText (planOf r (i .nest)) (f .messages)) → u ≡ write w (planText r l)
+    module _ (p : Plan) (none : firstOf (linesFor r l) ≡ 0) (is : p ≡ planOf r (nestOf l)) where
+      pub planned : (v : Pen) (f : Figures) → f ≡ figuresOf p → v ≡ write w (figuresText (f .tiles) (f .messages) (f .words) (f .steps))
+          → u ≡ write v (linesText p (f .messages)) → u ≡ write w (planText r l)
       unfolding planTextIf
       planned v f fs e g =
-          let n = is .nest z in
-          let k = sym (is .number) ∙ z in
-          let x = next v w u _ _ e g in
-          x
-          ∙ ap (λ (o : Figures). write w (figuresText (o .tiles) (o .messages) (o .words) (o .steps) ++ linesText (planOf r (i .nest)) (o .messages))) fs
-          ∙ ap (λ (y : Nest). write w (planTextIf 0 (planOf r y))) n
-          ∙ ap (λ (q : ℕ). write w (planTextIf q (planOf r (nestOf l)))) (sym k)
+          next v w u _ _ e g
+          ∙ ap (λ (o : Figures). write w (figuresText (o .tiles) (o .messages) (o .words) (o .steps) ++ linesText p (o .messages))) fs
+          ∙ ap (λ (q : Plan). write w (planTextIf 0 q)) is
+          ∙ ap (λ (q : ℕ). write w (planTextIf q (planOf r (nestOf l)))) (sym none)
           ∙ ap (write w) short
-
-      -- by the route that the sizes have
-      pub planned-by : (s : Route) → s ≡ r → (v : Pen) (f : Figures) → f ≡ figuresOf (planOf s (i .nest))
-          → v ≡ write w (figuresText (f .tiles) (f .messages) (f .words) (f .steps))
-          → u ≡ write v (linesText (planOf s (i .nest)) (f .messages)) → u ≡ write w (planText r l)
-      planned-by s k v f fs e g =
-          planned v f (fs ∙ ap (λ (q : Route). figuresOf (planOf q (i .nest))) k) e
-          (g ∙ ap (λ (q : Route). write v (linesText (planOf q (i .nest)) (f .messages))) k)
 
 pub at-front : (text s t : List ℕ) (q : ℕ) → pen q t ≡ write (pen 0 s) text → q ≤ length s → take q t ≡ text
 at-front text s t q e h =

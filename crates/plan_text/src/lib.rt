@@ -103,15 +103,14 @@ pub fn put_recipe(space: &mut [u8], encoded: &[u8], route: u32) -> usize
     if encoded.len() > 512 {
         return put_refused(space, 1);
     }
-    let reading = recipe::read_for(encoded, route);
-    let number = reading.number;
+    let mut lens = [0u16; 9217];
+    let opening = recipe::open(encoded, route, &mut lens);
+    let number = opening.number;
     if number != 0 {
         return put_refused(space, number);
     }
-    let nest = reading.nest;
-    let sizes = layout::sizes_of(nest, layout::route_of(route));
-    let mut lens = [0u16; 9217];
-    tables::fill(nest, sizes, &mut lens);
+    let nest = opening.nest;
+    let sizes = opening.sizes;
     let figures = summary::figures_of(nest, sizes, &lens);
     let next = put_figures(space, figures);
     put_lines(space, next, nest, sizes, &lens, figures.messages)

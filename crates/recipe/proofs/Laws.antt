@@ -21,8 +21,13 @@ use Rattle.nest.proofs.Answers.{number-read, nest-read}
 use Rattle.nest.proofs.Facts.{accepted}
 use Rattle.plan.specs.declared.Route.{Route}
 use Rattle.plan.specs.declared.Route.the-variants.{Direct, Indirect}
-use Rattle.layout.specs.Sizes.{routeOf}
+use Rattle.plan.specs.Shaped.{planOf}
+use Rattle.layout.specs.declared.Sizes.{Sizes}
+use Rattle.layout.specs.Sizes.{Sized, routeOf}
+use Rattle.tables.specs.Tables.{Tabled}
 use Rattle.recipe.specs.Routes.{indirect, routeLines, linesFor, ReadFor}
+use Rattle.recipe.specs.Given.{Opened, WithSizes, Opens}
+use Rattle.recipe.specs.declared.Recipe.{Recipe}
 
 both-numbered : (a b : List Line) → Numbered a → Numbered b → Numbered (a ++ b)
 both-numbered [] b n m = m
@@ -135,3 +140,52 @@ module _ (r : Route) (bytes : List ℕ) (x : Reading) (is : ReadFor r bytes x) w
       go : (q : Route) → ReadFor q bytes x → q ≡ Direct
       go Direct i = refl
       go Indirect i = absurd (h (ap (λ (y : Nest). y .bounds) (i .nest z) ∙ indirect-box bytes (sym (i .number) ∙ z)))
+
+-- ---- a recipe with its counts and its table
+
+pub closed-sizes : (bytes : List ℕ) (word : ℕ) (x : Reading) → ReadFor (routeOf word) bytes x → x .number ≢ 0 → (r : Recipe) → r .number ≡ x .number
+    → WithSizes bytes word r
+closed-sizes bytes word x is h r e =
+    record {
+      number = e ∙ is .number;
+      nest = λ z. absurd (h (sym e ∙ z));
+      opened = λ z. absurd (h (sym e ∙ z));
+      route = λ z. absurd (h (sym e ∙ z));
+      sized = λ z. absurd (h (sym e ∙ z));
+      routed = λ z. absurd (h (sym e ∙ z));
+    }
+
+pub read-sizes : (bytes : List ℕ) (word : ℕ) (x : Reading) → ReadFor (routeOf word) bytes x → x .number ≡ 0 → (z : Sizes) → Sized (x .nest) z
+    → z .route ≡ routeOf word → WithSizes bytes word (record { number = 0; nest = x .nest; sizes = z })
+read-sizes bytes word x is h z g e =
+    let none = sym (is .number) ∙ h in
+    record {
+      number = sym none;
+      nest = λ _. is .nest h;
+      opened =
+          λ _. record {
+            none = none;
+            is = ap (λ (r : Route). planOf r (x .nest)) e ∙ ap (planOf (routeOf word)) (is .nest h);
+          };
+      route = λ _. e;
+      sized = λ _. g;
+      routed = λ _ k. e ∙ routed-for (routeOf word) bytes x is h k;
+    }
+
+pub opens-with : (bytes : List ℕ) (word : ℕ) (r : Recipe) → WithSizes bytes word r → (lens : List ℕ) → (r .number ≡ 0 → Tabled (r .nest) (r .sizes) lens)
+    → Opens bytes word r lens
+opens-with bytes word r w lens t =
+    record { number = w .number; nest = w .nest; opened = w .opened; route = w .route; planned = λ z. (w .sized z, t z) }
+
+-- a recipe that reads is open to the direct one
+pub direct-opened : (bytes : List ℕ) → firstOf (readLines bytes) ≡ 0 → Opened bytes 0 (planOf Direct (nestOf bytes))
+unfolding routeOf
+direct-opened bytes z = record { none = open-direct bytes z; is = refl }
+
+-- a recipe opened for the direct route is refused by the reader's lines alone
+pub direct-lines : (bytes : List ℕ) → firstOf (linesFor (routeOf 0) bytes) ≡ firstOf (readLines bytes)
+direct-lines bytes = go (firstOf (readLines bytes)) refl
+  where
+    go : (n : ℕ) → firstOf (readLines bytes) ≡ n → firstOf (linesFor (routeOf 0) bytes) ≡ firstOf (readLines bytes)
+    go zero e = open-direct bytes e ∙ sym e
+    go (suc n) e = refused-for (routeOf 0) bytes (λ z. omega (arith, e, z))

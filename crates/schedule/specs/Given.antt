@@ -13,14 +13,10 @@ use Rattle.machine.specs.Machine.{unpackAll}
 use Rattle.nest.specs.declared.Nest.{Nest}
 use Rattle.plan.specs.Shaped.{planOf}
 use Rattle.layout.specs.declared.Sizes.{Sizes}
-use Rattle.layout.specs.Sizes.{Sized}
 use Rattle.tables.specs.boxes.Table.{endOf}
-use Rattle.tables.specs.Tables.{Tabled}
+use Rattle.tables.specs.Tables.{Planned}
 use Rattle.rounds.specs.Rounds.{greatest, lastOf, tileRound}
 use Rattle.schedule.specs.Index.{Listed, Chained}
-
-abbrev pub Planned : Nest → Sizes → List ℕ → Type 0
-Planned x z lens = Sized x z × Tabled x z lens
 
 -- the chain of the messages by the tile at an end, beside a mark for each
 pub record Mailed (x : Nest) (z : Sizes) (side : ℕ) (chain status : List ℕ) : Type 0 where

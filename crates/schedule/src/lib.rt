@@ -8,12 +8,12 @@ ghost use Rattle.machine.specs.Plan.{count, words, senderOf, sendsOf, duesOf};
 ghost use Rattle.machine.specs.Machine.{stateOf, unpackAll, fresh};
 ghost use Rattle.nest.specs.Nest.{cells, processors};
 ghost use Rattle.plan.specs.Shaped.{planOf};
-ghost use Rattle.tables.specs.Tables.{FoundIn};
+ghost use Rattle.tables.specs.Tables.{FoundIn, Planned};
 ghost use Rattle.rounds.specs.ByState.{Lent, afterTile, delivered, afterRound};
 ghost use Rattle.rounds.specs.Rounds.{told, rounds, afterRounds, tileRound, roundsTo};
 ghost use Rattle.engine.specs.Calls.{answer};
 ghost use Rattle.schedule.specs.Index.{Listed};
-ghost use Rattle.schedule.specs.Given.{Planned, Mailed, Indexed, Dued, putAll, memoryThen, statusThen, markThen, TellsTo, lastBefore};
+ghost use Rattle.schedule.specs.Given.{Mailed, Indexed, Dued, putAll, memoryThen, statusThen, markThen, TellsTo, lastBefore};
 ghost use Rattle.schedule.specs.Calls.{roundsCall, roundsOfCall};
 
 pub mod index; // index.rt: the messages of a plan by number and by tile
@@ -29,18 +29,13 @@ use index::list;
 use index::next;
 use index::spot;
 use layout::Sizes;
-use layout::route_of;
-use layout::sizes_of;
 use nest::Nest;
-use plan::Route;
-use reader::read;
-use recipe::read_for;
+use recipe::open;
 use records::Progress;
 use stages::calculate;
 use stages::put_message;
 use stages::take_message;
 use stages::tiles_left;
-use tables::fill;
 use tables::scans::Place;
 use tables::tile_at;
 use tables::tile_count;
@@ -365,15 +360,14 @@ pub fn run(
         ≡ roundsCall (now (encoded .entry)) (now (source .entry))
         (stateOf (now (memories .entry)) (now (buffer .entry)) (now (progress .entry)) (now (status .entry))) ⌝ }
 {
-    let reading = read_for(encoded, 0);
-    let number = reading.number;
+    let mut lens = [0u16; 9217];
+    let opening = open(encoded, 0, &mut lens);
+    let number = opening.number;
     if number != 0 {
         return refused(number);
     }
-    let nest = reading.nest;
-    let sizes = sizes_of(nest, route_of(0));
-    let mut lens = [0u16; 9217];
-    fill(nest, sizes, &mut lens);
+    let nest = opening.nest;
+    let sizes = opening.sizes;
     if !areas_fit(
         nest,
         sizes,
@@ -506,15 +500,14 @@ fn tell_rounds(nest: Nest, sizes: Sizes, lens: &[u16; 9217], rounds: &mut [u32])
 pub fn rounds_of(encoded: &[u8], rounds: &mut [u32]) -> u32
     ensures { λ r. ⌜ answer r (now (rounds .exit)) ≡ roundsOfCall (now (encoded .entry)) (now (rounds .entry)) ⌝ }
 {
-    let reading = read(encoded);
-    let number = reading.number;
+    let mut lens = [0u16; 9217];
+    let direct = open(encoded, 0, &mut lens);
+    let number = direct.number;
     if number != 0 {
         return number;
     }
-    let nest = reading.nest;
-    let sizes = sizes_of(nest, Route::Direct);
-    let mut lens = [0u16; 9217];
-    fill(nest, sizes, &mut lens);
+    let nest = direct.nest;
+    let sizes = direct.sizes;
     if rounds.len() != tiles_of(nest, sizes, &lens) {
         return 9;
     }

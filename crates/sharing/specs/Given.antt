@@ -1,5 +1,5 @@
 -- For contracts below the calls: no reader needs it.
--- What the code below the calls for an office is given: an opened recipe, lengths, lines 9 to 10; and the shared words after a turn.
+-- What the code below the calls for an office is given: lengths, lines 9 to 10; and the shared words after a turn.
 -- No sentence of a paper.
 use Prim.Native.Nat.{ℕ, _*_}
 use mathlib.Core.Path.{_≡_}
@@ -7,25 +7,12 @@ use mathlib.Core.List.{List, [], _∷_, _++_}
 use lib.ListN.{length, set}
 use lib.Dec.{ltb, leb, eqb}
 use Rattle.base.specs.Tests.{not, pick}
-use Rattle.base.specs.Numbers.{Line, line, firstOf}
+use Rattle.base.specs.Numbers.{Line, line}
 use Rattle.machine.specs.Plan.{Plan}
 use Rattle.tenants.specs.Offices.{Lent, wordFor, fitFor, heldByOther}
-use Rattle.plan.specs.Shaped.{planOf}
-use Rattle.layout.specs.Sizes.{Sized, routeOf}
-use Rattle.recipe.specs.Routes.{linesFor}
-use Rattle.tables.specs.Tables.{Tabled}
-use Rattle.engine.specs.Calls.{recipe}
 use Rattle.engine.specs.Given.{AreaLengths}
 use Rattle.engine.specs.declared.core.Turned.{Turned}
 use Rattle.sharing.specs.Calls.{areaLinesFor}
-use Rattle.sharing.specs.declared.core.Opening.{Opening}
-
--- a recipe read for a route, with the table of its messages' lengths
-pub record Opens (bytes : List ℕ) (route : ℕ) (r : Opening) (lens : List ℕ) : Type 0 where
-  pub none : firstOf (linesFor (routeOf route) bytes) ≡ 0
-  pub sized : Sized (r .nest) (r .sizes)
-  pub table : Tabled (r .nest) (r .sizes) lens
-  pub is : planOf (r .sizes .route) (r .nest) ≡ recipe bytes route
 
 -- all that is lent has its length
 pub record LengthsFor (p : Plan) (source : List ℕ) (l : Lent) (others : List ℕ) : Type 0 where

@@ -1,238 +1,36 @@
 // The calls for an office, each by the first true line, but for the stores into the records, as in engine's `core`: the records,
 // its own and the other office's, are read as words, and a turn gives its number and the record to be stored.
 ghost use mathlib.Core.Path.{_≡_};
-ghost use mathlib.Core.List.{List, []};
-ghost use mathlib.Core.Bool.{true};
-ghost use Prim.Native.Nat.{ℕ, _+_, _*_, _≤_, _<_};
+ghost use mathlib.Core.List.{List};
+ghost use Prim.Native.Nat.{ℕ, _+_, _*_, _<_};
 ghost use lib.ListN.{length, replicate};
-ghost use Rattle.base.specs.Tests.{every};
-ghost use Rattle.base.specs.Numbers.{firstOf};
-ghost use Rattle.machine.specs.Plan.{count};
-ghost use Rattle.machine.specs.Machine.{stateOf, progressOnly, turn};
+ghost use Rattle.machine.specs.Machine.{stateOf, turn};
 ghost use Rattle.plan.specs.Shaped.{planOf};
-ghost use Rattle.nest.specs.Nest.{processors};
-ghost use Rattle.layout.specs.Sizes.{Sized, routeOf};
-ghost use Rattle.recipe.specs.Routes.{linesFor};
+ghost use Rattle.layout.specs.Sizes.{Sized};
 ghost use Rattle.tables.specs.Tables.{Tabled};
 ghost use Rattle.records.specs.Records.{Carries};
 ghost use Rattle.engine.specs.Calls.{answer};
 ghost use Rattle.engine.specs.Given.{MayTurn, recordsAfter, zerosAfter};
-ghost use Rattle.tenants.specs.Offices.{otherThan, lentOf, rigOf, sourcesOf, stageAgrees, fitWord, fitFor, heldByOther, wordFor};
-ghost use Rattle.sharing.specs.Calls.{turnCallFor, deliverCallFor, collectCallFor, freshRigLines, freshRigCall};
-ghost use Rattle.sharing.specs.Given.{Opens, unfitLinesFor, barredLinesFor, wordsAfter};
+ghost use Rattle.tenants.specs.Offices.{lentOf, rigOf, sourcesOf, wordFor};
+ghost use Rattle.sharing.specs.Calls.{turnCallFor, deliverCallFor, collectCallFor, freshRigCall};
+ghost use Rattle.sharing.specs.Given.{wordsAfter};
+use crate::admission::barred;
+use crate::admission::unfit;
+use crate::admission::unfit_both;
 use base::fill_words;
 use base::zero_bytes;
 use base::zero_words;
 use engine::core::Turned;
-use engine::core::areas_fit;
 use engine::core::hand_over;
 use engine::core::refused;
 use engine::core::step;
 use engine::store_record;
 use layout::Sizes;
-use layout::route_of;
-use layout::sizes_of;
 use nest::Nest;
-use plan::Route;
-use reader::read;
-use recipe::read_for;
+use recipe::open;
 use records::Flat;
 use stages::copy_cells;
-use stages::fit_records;
-use stages::fit_status;
 use stages::tiles_left;
-use tables::fill;
-use tables::tile_count;
-
-// What a call makes of a recipe: the number of the reader's and the route's lines and, where that is 0, the nest and its counts on the route.
-pub struct Opening {
-    pub number: u32,
-    pub nest: Nest,
-    pub sizes: Sizes,
-}
-
-// The recipe read, and the table of its messages' lengths filled.
-pub fn open_recipe(encoded: &[u8], route: u32, lens: &mut [u16; 9217]) -> Opening
-    requires { ⌜ length (now lens) ≡ 9217 ⌝ }
-    ensures { λ r. ⌜ (r .number ≡ firstOf (linesFor (routeOf route) (now (encoded .entry))))
-        × (r .number ≡ 0 → Opens (now (encoded .entry)) route r (now (lens .exit))) ⌝ }
-{
-    let reading = read_for(encoded, route);
-    let number = reading.number;
-    let nest = reading.nest;
-    if number != 0 {
-        let none = Sizes {
-            cells: 0,
-            tiles: 0,
-            processors: 0,
-            route: Route::Direct,
-            ways: 0,
-            across: [0; 4],
-        };
-        return Opening {
-            number: number,
-            nest: nest,
-            sizes: none,
-        };
-    }
-    let sizes = sizes_of(nest, route_of(route));
-    fill(nest, sizes, lens);
-    Opening {
-        number: 0,
-        nest: nest,
-        sizes: sizes,
-    }
-}
-
-// The stage of the office that holds the processor is 1 or 2, any other's is 0.
-fn stage_agrees(holder: u32, office: u32, stage: u32) -> bool
-    ensures { λ r. ⌜ r ≡ stageAgrees holder office stage ⌝ }
-{
-    if holder == office {
-        if stage == 1 {
-            return true;
-        }
-        return stage == 2;
-    }
-    stage == 0
-}
-
-// Of offices 0 and 1, the one that is not `office`.
-fn other(office: u32) -> u32
-    requires { ⌜ office ≤ 1 ⌝ }
-    ensures { λ r. ⌜ r ≡ otherThan office ⌝ }
-{
-    1 - office
-}
-
-// Every processor's shared word is 0, 1 or 2 and agrees with both offices' stages.
-fn fit_words(engaged: &[u32], progress: &[u32], theirs: &[u32], office: u32) -> bool
-    requires { ⌜ (length (now progress) ≡ 3 * length (now engaged)) × ((length (now theirs) ≡ 3 * length (now engaged)) × (office ≤ 1)) ⌝ }
-    ensures { λ r. ⌜ r ≡ every (fitWord office
-        (lentOf (progressOnly (now (progress .entry))) (now (engaged .entry))) (now (theirs .entry))) (length (now (engaged .entry))) ⌝ }
-{
-    let second = other(office);
-    let mut b = 0;
-    while b < engaged.len() {
-        let holder = engaged[b];
-        if holder > 2 {
-            return false;
-        }
-        if !stage_agrees(holder, office, progress[3 * b + 1]) {
-            return false;
-        }
-        if !stage_agrees(holder, second, theirs[3 * b + 1]) {
-            return false;
-        }
-        b += 1;
-    }
-    true
-}
-
-// Line 10: the office's own records and marks, the other's records, the shared words.
-fn fit_rig(
-    nest: Nest,
-    sizes: Sizes,
-    lens: &[u16; 9217],
-    progress: &[u32],
-    status: &[u8],
-    engaged: &[u32],
-    theirs: &[u32],
-    office: u32,
-) -> bool
-    requires { ⌜ Sized nest sizes × Tabled nest sizes (now lens) ⌝ }
-    requires { ⌜ (length (now progress) ≡ 3 * processors nest) × (length (now status) ≡ count (planOf (sizes .route) nest)) ⌝ }
-    requires { ⌜ (length (now engaged) ≡ processors nest) × ((length (now theirs) ≡ 3 * processors nest) × (office ≤ 1)) ⌝ }
-    ensures { λ r. ⌜ r ≡ fitFor (planOf (sizes .route) nest) office
-        (lentOf (stateOf [] [] (now (progress .entry)) (now (status .entry))) (now (engaged .entry))) (now (theirs .entry)) ⌝ }
-{
-    if !fit_records(nest, sizes, lens, progress) {
-        return false;
-    }
-    if !fit_status(status) {
-        return false;
-    }
-    if !fit_records(nest, sizes, lens, theirs) {
-        return false;
-    }
-    fit_words(engaged, progress, theirs, office)
-}
-
-// Lines 9, 11 for the office, and 10.
-pub fn unfit(
-    nest: Nest,
-    sizes: Sizes,
-    lens: &[u16; 9217],
-    source: &[u32],
-    memories: &[u32],
-    buffer: &[u32],
-    progress: Flat,
-    status: &[u8],
-    engaged: &[u32],
-    theirs: Flat,
-    office: u32,
-) -> u32
-    requires { ⌜ Sized nest sizes × Tabled nest sizes (now lens) ⌝ }
-    requires { ⌜ (length (progress .words) ≡ 192) × (length (theirs .words) ≡ 192) ⌝ }
-    ensures { λ r. ⌜ ((records others : List ℕ) → Carries progress records → Carries theirs others
-        → r ≡ firstOf (unfitLinesFor (planOf (sizes .route) nest) (now (source .entry)) office
-        (lentOf (stateOf (now (memories .entry)) (now (buffer .entry)) records (now (status .entry))) (now (engaged .entry))) others))
-        × (r ≡ 0 → (progress .count ≡ 3 * processors nest) × (theirs .count ≡ 3 * processors nest)) ⌝ }
-{
-    let count = progress.count;
-    if !areas_fit(nest, sizes, lens, source, memories, buffer, count, status) {
-        return 9;
-    }
-    if engaged.len() != sizes.processors {
-        return 9;
-    }
-    let others = theirs.count;
-    if others != 3 * sizes.processors {
-        return 9;
-    }
-    if office > 1 {
-        return 11;
-    }
-    let words = progress.words;
-    let their_words = theirs.words;
-    if !fit_rig(
-        nest,
-        sizes,
-        lens,
-        &words[0..count],
-        status,
-        engaged,
-        &their_words[0..others],
-        office,
-    ) {
-        return 10;
-    }
-    0
-}
-
-// Line 19: the office has tiles left on processor b, and the other holds it.
-pub fn held(
-    nest: Nest,
-    sizes: Sizes,
-    lens: &[u16; 9217],
-    progress: &[u32],
-    engaged: &[u32],
-    office: u32,
-    b: usize,
-) -> bool
-    requires { ⌜ Sized nest sizes × Tabled nest sizes (now lens) ⌝ }
-    requires { ⌜ (length (now progress) ≡ 3 * processors nest) × (length (now engaged) ≡ processors nest) ⌝ }
-    requires { ⌜ (b < processors nest) × (office ≤ 1) ⌝ }
-    ensures { λ r. ⌜ r ≡ heldByOther (planOf (sizes .route) nest) office
-        (lentOf (progressOnly (now (progress .entry))) (now (engaged .entry))) b ⌝ }
-{
-    let finished = base::word_index(progress[3 * b]);
-    let n = tile_count(nest, sizes, lens, b);
-    if finished >= n {
-        return false;
-    }
-    engaged[b] == other(office)
-}
 
 // The word that agrees with the stage of the office whose turn it was.
 fn word_for(office: u32, stage: u32) -> u32
@@ -253,55 +51,6 @@ pub fn engage(engaged: &mut [u32], office: u32, b: usize, after: Turned)
     if after.number == 0 {
         engaged[b] = word_for(office, p.stage);
     }
-}
-
-// Lines 9, 11 for the office, 10, 11 for the processor, and 19.
-fn barred(
-    nest: Nest,
-    sizes: Sizes,
-    lens: &[u16; 9217],
-    source: &[u32],
-    memories: &[u32],
-    buffer: &[u32],
-    progress: Flat,
-    status: &[u8],
-    engaged: &[u32],
-    theirs: Flat,
-    office: u32,
-    b: usize,
-) -> u32
-    requires { ⌜ Sized nest sizes × Tabled nest sizes (now lens) ⌝ }
-    requires { ⌜ (length (progress .words) ≡ 192) × (length (theirs .words) ≡ 192) ⌝ }
-    ensures { λ r. ⌜ ((records others : List ℕ) → Carries progress records → Carries theirs others
-        → r ≡ firstOf (barredLinesFor (planOf (sizes .route) nest) (now (source .entry)) office
-        (lentOf (stateOf (now (memories .entry)) (now (buffer .entry)) records (now (status .entry))) (now (engaged .entry))) others b))
-        × (r ≡ 0 → (progress .count ≡ 3 * processors nest) × (theirs .count ≡ 3 * processors nest)) ⌝ }
-{
-    let n = unfit(
-        nest,
-        sizes,
-        lens,
-        source,
-        memories,
-        buffer,
-        progress,
-        status,
-        engaged,
-        theirs,
-        office,
-    );
-    if n != 0 {
-        return n;
-    }
-    if b >= sizes.processors {
-        return 11;
-    }
-    let words = progress.words;
-    let count = progress.count;
-    if held(nest, sizes, lens, &words[0..count], engaged, office, b) {
-        return 19;
-    }
-    0
 }
 
 // The stage at which processor b stands, and the shared word after it.
@@ -365,7 +114,7 @@ pub fn turn(
         (now (engaged .entry))) others processor) ⌝ }
 {
     let mut lens = [0u16; 9217];
-    let opening = open_recipe(encoded, route, &mut lens);
+    let opening = open(encoded, route, &mut lens);
     let number = opening.number;
     if number != 0 {
         return refused(number);
@@ -440,7 +189,7 @@ pub fn deliver(
         (now (engaged .entry))) others message) ⌝ }
 {
     let mut lens = [0u16; 9217];
-    let opening = open_recipe(encoded, route, &mut lens);
+    let opening = open(encoded, route, &mut lens);
     let number = opening.number;
     if number != 0 {
         return number;
@@ -488,7 +237,7 @@ pub fn collect(
         (now (engaged .entry))) others (now (grid .entry))) ⌝ }
 {
     let mut lens = [0u16; 9217];
-    let opening = open_recipe(encoded, route, &mut lens);
+    let opening = open(encoded, route, &mut lens);
     let number = opening.number;
     if number != 0 {
         return number;
@@ -532,65 +281,6 @@ fn clear(memories: &mut [u32], buffer: &mut [u32], status: &mut [u8])
     zero_words(memories);
     zero_words(buffer);
     zero_bytes(status);
-}
-
-// The number of a fresh start: the recipe's lines, then 9 where an area of an office or the shared words have another length.
-fn unfit_both(
-    encoded: &[u8],
-    route: u32,
-    source0: &[u32],
-    memories0: &[u32],
-    buffer0: &[u32],
-    words0: usize,
-    status0: &[u8],
-    source1: &[u32],
-    memories1: &[u32],
-    buffer1: &[u32],
-    words1: usize,
-    status1: &[u8],
-    shared: usize,
-) -> u32
-    ensures { λ r. ⌜ ((records others engaged : List ℕ) → words0 ≡ length records → words1 ≡ length others → shared ≡ length engaged
-        → r ≡ firstOf (freshRigLines (now (encoded .entry)) route (sourcesOf (now (source0 .entry)) (now (source1 .entry)))
-        (rigOf (stateOf (now (memories0 .entry)) (now (buffer0 .entry)) records (now (status0 .entry)))
-        (stateOf (now (memories1 .entry)) (now (buffer1 .entry)) others (now (status1 .entry))) engaged))) ⌝ }
-{
-    let mut lens = [0u16; 9217];
-    let opening = open_recipe(encoded, route, &mut lens);
-    let number = opening.number;
-    if number != 0 {
-        return number;
-    }
-    let nest = opening.nest;
-    let sizes = opening.sizes;
-    if !areas_fit(
-        nest,
-        sizes,
-        &lens,
-        source0,
-        memories0,
-        buffer0,
-        words0,
-        status0,
-    ) {
-        return 9;
-    }
-    if !areas_fit(
-        nest,
-        sizes,
-        &lens,
-        source1,
-        memories1,
-        buffer1,
-        words1,
-        status1,
-    ) {
-        return 9;
-    }
-    if shared != sizes.processors {
-        return 9;
-    }
-    0
 }
 
 // A fresh start of both offices together, but for the records, which have `words0` and `words1` words.

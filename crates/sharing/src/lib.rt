@@ -6,6 +6,7 @@ ghost use Rattle.tenants.specs.Offices.{lentOf, rigOf, sourcesOf};
 ghost use Rattle.engine.specs.Calls.{answer};
 ghost use Rattle.sharing.specs.Calls.{turnCallFor, deliverCallFor, collectCallFor, freshRigCall};
 
+pub mod admission; // admission.rt: what a call tests first, past the recipe's lines
 pub mod core; // core.rt: the calls without the stores into the records
 pub mod look; // look.rt: the look at a processor's memory, lent both offices' memories and nothing else
 

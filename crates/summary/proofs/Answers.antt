@@ -37,9 +37,10 @@ use Rattle.plan.proofs.ShapedSlots.{shapedDirection-low}
 use Rattle.plan.proofs.ShapedBox.{boxTile-is, planOf-box}
 use Rattle.plan.proofs.ShapedSound.{sound}
 use Rattle.layout.specs.declared.Sizes.{Sizes}
-use Rattle.layout.specs.Sizes.{Sized, endAt}
+use Rattle.layout.specs.Sizes.{Sized, endAt, routeOf}
 use Rattle.recipe.specs.Routes.{linesFor}
-use Rattle.recipe.proofs.Laws.{numbered-for}
+use Rattle.recipe.specs.Given.{Opened}
+use Rattle.recipe.proofs.Laws.{numbered-for, direct-lines}
 use Rattle.tables.specs.declared.scans.Place.{Place}
 use Rattle.tables.proofs.boxes.Scans as boxes
 use Rattle.tables.proofs.shaped_table.Laws as shapes
@@ -207,16 +208,14 @@ slot-hops n z m h e at p k q =
 
 -- ---- what the offered calls answer
 
-module _ (r : Route) (bytes : List ℕ) where
-  pub summary-refused : (k : ℕ) → k ≡ firstOf (linesFor r bytes) → k ≢ 0 → asFigures (refused k) ≡ summaryOf r bytes
-  unfolding summaryOf figuresIf
-  summary-refused zero e h = absurd (h refl)
-  summary-refused (suc k) e h = ap (λ (i : ℕ). asFigures (figuresIf i (planOf r (nestOf bytes)))) e
+pub summary-refused : (r : Route) (bytes : List ℕ) (k : ℕ) → k ≡ firstOf (linesFor r bytes) → k ≢ 0 → asFigures (refused k) ≡ summaryOf r bytes
+unfolding summaryOf figuresIf
+summary-refused r bytes zero e h = absurd (h refl)
+summary-refused r bytes (suc k) e h = ap (λ (i : ℕ). asFigures (figuresIf i (planOf r (nestOf bytes)))) e
 
-  pub summary-is : (x : Nest) → firstOf (linesFor r bytes) ≡ 0 → x ≡ nestOf bytes → (q : Route) → q ≡ r
-      → figuresOf (planOf q x) ≡ summaryOf r bytes
-  unfolding summaryOf figuresIf
-  summary-is x e h q is = rw (is, h, e) refl
+pub summary-is : (bytes : List ℕ) (word : ℕ) (p : Plan) → Opened bytes word p → figuresOf p ≡ summaryOf (routeOf word) bytes
+unfolding summaryOf figuresIf
+summary-is bytes word p o = rw (o .is, o .none) refl
 
 -- some lines, then 11 for message m of n
 module _ (a : List Line) (ok : Numbered a) (m n : ℕ) where
@@ -241,36 +240,51 @@ module _ (r : Route) (bytes : List ℕ) (m : ℕ) where
   message-refused (suc k) e h =
       ap (λ (i : ℕ). lineIf i (planOf r (nestOf bytes)) m) (first-refused (linesFor r bytes) (numbered-for r bytes) m _ (suc k) e h)
 
-  module _ (x : Nest) (e : firstOf (linesFor r bytes) ≡ 0) (h : x ≡ nestOf bytes) (q : Route) (is : q ≡ r) where
-    pub message-none : count (planOf q x) ≤ m → noLine 11 ≡ messageLineOf r bytes m
-    unfolding messageLineOf messageLines lineIf
-    message-none l =
-        ap (λ (i : ℕ). lineIf i (planOf r (nestOf bytes)) m) (first-none (linesFor r bytes) (numbered-for r bytes) m _ e (rw (is, h) at l))
+module _ (bytes : List ℕ) (word m : ℕ) (p : Plan) (o : Opened bytes word p) where
+  abbrev r : Route
+  r = routeOf word
 
-    pub message-is : m < count (planOf q x) → lineOf (planOf q x) m ≡ messageLineOf r bytes m
-    unfolding messageLineOf messageLines lineIf
-    message-is l =
-        ap (λ (y : Route). lineOf (planOf y x) m) is
-        ∙ (ap (λ (y : Nest). lineOf (planOf r y) m) h
-        ∙ ap (λ (i : ℕ). lineIf i (planOf r (nestOf bytes)) m) (first-is (linesFor r bytes) (numbered-for r bytes) m _ e (rw (is, h) at l)))
+  pub message-none : count p ≤ m → noLine 11 ≡ messageLineOf r bytes m
+  unfolding messageLineOf messageLines lineIf
+  message-none l =
+      ap (λ (i : ℕ). lineIf i (planOf r (nestOf bytes)) m) (first-none (linesFor r bytes) (numbered-for r bytes) m _ (o .none) (rw (o .is) at l))
+
+  pub message-is : m < count p → lineOf p m ≡ messageLineOf r bytes m
+  unfolding messageLineOf messageLines lineIf
+  message-is l =
+      ap (λ (q : Plan). lineOf q m) (o .is)
+      ∙ ap (λ (i : ℕ). lineIf i (planOf r (nestOf bytes)) m) (first-is (linesFor r bytes) (numbered-for r bytes) m _ (o .none) (rw (o .is) at l))
+
+-- the route that the word 0 names
+pub direct-route : {q : Route} → q ≡ routeOf 0 → q ≡ Direct
+unfolding routeOf
+direct-route e = e
 
 module _ (bytes : List ℕ) (m : ℕ) where
-  pub hops-refused : (k : ℕ) → k ≡ firstOf (readLines bytes) → k ≢ 0 → noHops k ≡ hopsOf bytes m
+  pub hops-refused : (k : ℕ) → k ≡ firstOf (linesFor (routeOf 0) bytes) → k ≢ 0 → noHops k ≡ hopsOf bytes m
   unfolding hopsOf hopsLines hopsIf
   hops-refused zero e h = absurd (h refl)
-  hops-refused (suc k) e h = ap (λ (i : ℕ). hopsIf i (nestOf bytes) m) (first-refused (readLines bytes) (numbered bytes) m _ (suc k) e h)
+  hops-refused (suc k) e h = ap (λ (i : ℕ). hopsIf i (nestOf bytes) m) (first-refused (readLines bytes) (numbered bytes) m _ (suc k) (e ∙ direct-lines bytes) h)
 
-  module _ (x : Nest) (e : firstOf (readLines bytes) ≡ 0) (h : x ≡ nestOf bytes) (q : Route) (is : q ≡ Direct) where
-    pub hops-none : count (planOf q x) ≤ m → noHops 11 ≡ hopsOf bytes m
-    unfolding hopsOf hopsLines hopsIf
-    hops-none l = ap (λ (i : ℕ). hopsIf i (nestOf bytes) m) (first-none (readLines bytes) (numbered bytes) m _ e (rw (is, h) at l))
+  module _ (p : Plan) (o : Opened bytes 0 p) where
+    none : firstOf (readLines bytes) ≡ 0
+    none = sym (direct-lines bytes) ∙ o .none
 
-    pub hops-is : m < count (planOf q x) → (k : ℕ) → k ≡ hops x (directionOf x m) → record { number = 0; hops = k } ≡ hopsOf bytes m
+    -- the hops are of the plan on the direct route
+    direct : p ≡ planOf Direct (nestOf bytes)
+    unfolding routeOf
+    direct = o .is
+
+    pub hops-none : count p ≤ m → noHops 11 ≡ hopsOf bytes m
     unfolding hopsOf hopsLines hopsIf
-    hops-is l k c =
+    hops-none l = ap (λ (i : ℕ). hopsIf i (nestOf bytes) m) (first-none (readLines bytes) (numbered bytes) m _ none (rw direct at l))
+
+    pub hops-is : m < count p → (x : Nest) → x ≡ nestOf bytes → (k : ℕ) → k ≡ hops x (directionOf x m) → record { number = 0; hops = k } ≡ hopsOf bytes m
+    unfolding hopsOf hopsLines hopsIf
+    hops-is l x h k c =
         ap (λ (i : ℕ). record { number = 0; hops = i }) c
         ∙ (ap (λ (y : Nest). record { number = 0; hops = hops y (directionOf y m) }) h
-        ∙ ap (λ (i : ℕ). hopsIf i (nestOf bytes) m) (first-is (readLines bytes) (numbered bytes) m _ e (rw (is, h) at l)))
+        ∙ ap (λ (i : ℕ). hopsIf i (nestOf bytes) m) (first-is (readLines bytes) (numbered bytes) m _ none (rw direct at l)))
 
 pub figures-are : (r : Route) (n : Nest) (t m w : ℕ) → t ≡ planOf r n .tiles → m ≡ count (planOf r n) → w ≡ words (planOf r n)
     → record { number = 0; tiles = t; messages = m; words = w; steps = 2 * t + 2 * m } ≡ figuresOf (planOf r n)

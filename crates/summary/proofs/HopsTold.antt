@@ -39,6 +39,7 @@ use Rattle.layout.specs.Sizes.{routeOf}
 use Rattle.summary.specs.declared.HopCount.{HopCount}
 use Rattle.summary.specs.Summary.{directionOf, noHops, hopsIf, hopsLines, hopsOf}
 use Rattle.summary.specs.HopsTold.{HopsTold, hopsOfFirst, told, HopsRows}
+use Rattle.recipe.proofs.Laws.{direct-opened}
 use Rattle.summary.proofs.Answers.{directed, hops-none, hops-is}
 use Rattle.summary.proofs.Rows.{box-read, box-many, rowC-small, rowC-none, rowLine-small, rowLine-none}
 
@@ -122,7 +123,7 @@ module _ (bytes : List ℕ) (bytes-small : small bytes ≡ true) (none : nestOf 
   first-hops (suc m) h =
       ap (λ (l : List HopCount). l ++ (hopsOf bytes m ∷ [])) (first-hops m (omega arith))
       ∙ (ap (λ (k : HopCount). map told (tabulate (boxHops (nestOf bytes)) m) ++ (k ∷ []))
-      (sym (hops-is bytes m (nestOf bytes) read refl Direct refl (omega (arith, count-is)) (boxHops (nestOf bytes) m)
+      (sym (hops-is bytes m _ (direct-opened bytes read) (omega (arith, count-is)) (nestOf bytes) refl (boxHops (nestOf bytes) m)
       (sym (direction-box (nestOf bytes) nest-ok none m))))
       ∙ sym (map-append (tabulate (boxHops (nestOf bytes)) m) (boxHops (nestOf bytes) m ∷ [])))
 
@@ -130,7 +131,7 @@ module _ (bytes : List ℕ) (bytes-small : small bytes ≡ true) (none : nestOf 
   unfolding hopsOfFirst
   all-hops ls h =
       ap (λ (l : List HopCount). l ++ (hopsOf bytes n ∷ [])) (first-hops n (omega arith) ∙ ap (map told) h)
-      ∙ ap (λ (k : HopCount). map told ls ++ (k ∷ [])) (sym (hops-none bytes n (nestOf bytes) read refl Direct refl (omega (arith, count-is))))
+      ∙ ap (λ (k : HopCount). map told ls ++ (k ∷ [])) (sym (hops-none bytes n _ (direct-opened bytes read) (omega (arith, count-is))))
 
 hopsC : tabulate (boxHops nestC) 10 ≡ 1 ∷ 1 ∷ 2 ∷ 1 ∷ 1 ∷ 2 ∷ 1 ∷ 1 ∷ 1 ∷ 1 ∷ []
 unfolding tabulate hops hopsAlong _and_ _or_ pick every some keep product tileCount cells boxTiles rank place cellAt cellPlace tileAt tilePlace boxTileOf inside

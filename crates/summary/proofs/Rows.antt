@@ -69,7 +69,7 @@ module _ (route : ℕ) (bytes : List ℕ) (z : firstOf (linesFor (routeOf route)
   told-lines (suc n) h =
       ap (λ (l : List MessageLine). l ++ (messageLineOf (routeOf route) bytes n ∷ [])) (told-lines n (omega arith))
       ∙ (ap (λ (m : MessageLine). map asLine (linesTo plan n) ++ (m ∷ []))
-      (sym (message-is (routeOf route) bytes n (nestOf bytes) z refl (routeOf route) refl (omega arith)))
+      (sym (message-is bytes route n plan (record { none = z; is = refl }) (omega arith)))
       ∙ sym (map-append (linesTo plan n) (messageLine plan n ∷ [])))
 
   -- all messages, and none behind them
@@ -78,7 +78,7 @@ module _ (route : ℕ) (bytes : List ℕ) (z : firstOf (linesFor (routeOf route)
   all-lines n ls e h =
       ap (λ (l : List MessageLine). l ++ (messageLineOf (routeOf route) bytes n ∷ [])) (told-lines n (omega arith) ∙ ap (map asLine) h)
       ∙ ap (λ (m : MessageLine). map asLine ls ++ (m ∷ []))
-      (sym (message-none (routeOf route) bytes n (nestOf bytes) z refl (routeOf route) refl (omega arith)))
+      (sym (message-none bytes route n plan (record { none = z; is = refl }) (omega arith)))
 
 -- ---- a recipe without bounds, on either route
 

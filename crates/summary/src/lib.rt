@@ -16,7 +16,6 @@ ghost use Rattle.summary.specs.Summary.{asFigures, figuresOf, summaryOf,
 use layout::Sizes;
 use nest::Nest;
 use plan::Route;
-use tables::fill;
 use tables::scans::Place;
 use tables::totals;
 
@@ -166,31 +165,25 @@ fn no_hops(number: u32) -> HopCount
 pub fn summary(encoded: &[u8], route: u32) -> Figures
     ensures { λ r. ⌜ r ≡ summaryOf (routeOf route) (now (encoded .entry)) ⌝ }
 {
-    let reading = recipe::read_for(encoded, route);
-    let number = reading.number;
-    if number != 0 {
-        return no_figures(number);
-    }
-    let nest = reading.nest;
-    let sizes = layout::sizes_of(nest, layout::route_of(route));
     let mut lens = [0u16; 9217];
-    fill(nest, sizes, &mut lens);
-    figures_of(nest, sizes, &lens)
+    let opening = recipe::open(encoded, route, &mut lens);
+    if opening.number != 0 {
+        return no_figures(opening.number);
+    }
+    figures_of(opening.nest, opening.sizes, &lens)
 }
 
 // Offered to callers: the line of message m of the recipe's plan on a route.
 pub fn message(encoded: &[u8], route: u32, m: u32) -> MessageLine
     ensures { λ r. ⌜ r ≡ messageLineOf (routeOf route) (now (encoded .entry)) m ⌝ }
 {
-    let reading = recipe::read_for(encoded, route);
-    let number = reading.number;
-    if number != 0 {
-        return no_line(number);
-    }
-    let nest = reading.nest;
-    let sizes = layout::sizes_of(nest, layout::route_of(route));
     let mut lens = [0u16; 9217];
-    fill(nest, sizes, &mut lens);
+    let opening = recipe::open(encoded, route, &mut lens);
+    if opening.number != 0 {
+        return no_line(opening.number);
+    }
+    let nest = opening.nest;
+    let sizes = opening.sizes;
     let total = totals(nest, sizes, &lens);
     let at = m as usize;
     if at >= total.messages {
@@ -240,15 +233,13 @@ fn hops_at(nest: Nest, sizes: Sizes, lens: &[u16; 9217], m: usize) -> u32
 pub fn hops(encoded: &[u8], m: u32) -> HopCount
     ensures { λ r. ⌜ r ≡ hopsOf (now (encoded .entry)) m ⌝ }
 {
-    let reading = reader::read(encoded);
-    let number = reading.number;
-    if number != 0 {
-        return no_hops(number);
-    }
-    let nest = reading.nest;
-    let sizes = layout::sizes_of(nest, Route::Direct);
     let mut lens = [0u16; 9217];
-    fill(nest, sizes, &mut lens);
+    let opening = recipe::open(encoded, 0, &mut lens);
+    if opening.number != 0 {
+        return no_hops(opening.number);
+    }
+    let nest = opening.nest;
+    let sizes = opening.sizes;
     let total = totals(nest, sizes, &lens);
     let message = m as usize;
     if message >= total.messages {

@@ -14,6 +14,7 @@ use Rattle.plan.specs.declared.Route.the-variants.{Direct}
 use Rattle.plan.specs.Messages.{slots, slotMessage}
 use Rattle.plan.specs.Shaped.{shapedSlots, shapedMessage, planOf}
 use Rattle.layout.specs.declared.Sizes.{Sizes}
+use Rattle.layout.specs.Sizes.{Sized}
 use Rattle.tables.specs.declared.scans.Place.{Place}
 use Rattle.tables.specs.boxes.Table.{Table}
 use Rattle.tables.specs.shaped_table.Table.{ShapedTable}
@@ -26,6 +27,10 @@ pub record Tabled (x : Nest) (z : Sizes) (lens : List ℕ) : Type 0 where
   pub routed : Routed x z
   pub box : x .bounds ≡ 0 → Table (z .route) x lens
   pub shape : x .bounds ≢ 0 → ShapedTable x lens
+
+-- all that the code below the calls is given of a nest: its counts and its table
+abbrev pub Planned : Nest → Sizes → List ℕ → Type 0
+Planned x z lens = Sized x z × Tabled x z lens
 
 -- message m of the nest's plan is found at p, being that of p's slot
 pub record FoundIn (r : Route) (x : Nest) (m : ℕ) (p : Place) : Type 0 where

@@ -25,9 +25,9 @@ use engine::core::step;
 use engine::core::unfit;
 use layout::Sizes;
 use nest::Nest;
+use recipe::open;
 use records::Flat;
-use sharing::core::held;
-use sharing::core::open_recipe;
+use sharing::admission::held;
 use sharing::core::step_for;
 
 // Line 25: a faulty window of any of n processors, or a faulty minute.
@@ -119,13 +119,13 @@ pub fn turn(
         (stateOf (now (memories .entry)) (now (buffer .entry)) records (now (status .entry))) processor) ⌝ }
 {
     let mut lens = [0u16; 9217];
-    let recipe = open_recipe(encoded, route, &mut lens);
-    let number = recipe.number;
+    let opening = open(encoded, route, &mut lens);
+    let number = opening.number;
     if number != 0 {
         return refused(number);
     }
-    let nest = recipe.nest;
-    let sizes = recipe.sizes;
+    let nest = opening.nest;
+    let sizes = opening.sizes;
     let b = processor as usize;
     let n = away(
         nest,
@@ -186,7 +186,7 @@ fn away_for(
     if hours.len() != 28 * n {
         return 9;
     }
-    let bad = sharing::core::unfit(
+    let bad = sharing::admission::unfit(
         nest,
         sizes,
         lens,
@@ -240,13 +240,13 @@ pub fn turn_for(
         (now (engaged .entry))) others processor) ⌝ }
 {
     let mut lens = [0u16; 9217];
-    let recipe = open_recipe(encoded, route, &mut lens);
-    let number = recipe.number;
+    let opening = open(encoded, route, &mut lens);
+    let number = opening.number;
     if number != 0 {
         return refused(number);
     }
-    let nest = recipe.nest;
-    let sizes = recipe.sizes;
+    let nest = opening.nest;
+    let sizes = opening.sizes;
     let b = processor as usize;
     let n = away_for(
         nest,

@@ -10,14 +10,7 @@ use Rattle.base.specs.Tests.{_and_, not, one, tabulate}
 use Rattle.base.specs.Numbers.{Line, line, firstOf}
 use Rattle.machine.specs.Plan.{Plan, count, takerOf}
 use Rattle.machine.specs.Machine.{State, tilesLeft, fit, Answered, answered}
-use Rattle.nest.specs.declared.Nest.{Nest}
-use Rattle.layout.specs.declared.Sizes.{Sizes}
-use Rattle.layout.specs.Sizes.{Sized}
-use Rattle.tables.specs.Tables.{Tabled}
 use Rattle.transport.specs.Calls.{Waits, waitsOf, waitAreas, waited}
-
-abbrev pub Planned : Nest → Sizes → List ℕ → Type 0
-Planned x z lens = Sized x z × Tabled x z lens
 
 -- the marks of the messages due at tile t that are not delivered
 abbrev pub undelivered : Plan → List ℕ → ℕ → List ℕ

@@ -14,28 +14,25 @@ ghost use Rattle.nest.specs.Spans.{within};
 ghost use Rattle.plan.specs.declared.Route.the-variants.{Direct};
 ghost use Rattle.plan.specs.Shaped.{planOf};
 ghost use Rattle.layout.specs.Sizes.{Sized};
-ghost use Rattle.tables.specs.Tables.{FoundIn};
+ghost use Rattle.tables.specs.Tables.{FoundIn, Planned};
 ghost use Rattle.records.specs.Records.{Carries};
 ghost use Rattle.engine.specs.Calls.{answer};
 ghost use Rattle.network.specs.Brought.{asLong};
 ghost use Rattle.transport.specs.Calls.{rowOf, rowsTo, ownerOf, waitsOf, awaitedCall, takeInCall};
-ghost use Rattle.transport.specs.Given.{Planned, undelivered, unaskedLines, MayAsk, waitedOr13};
+ghost use Rattle.transport.specs.Given.{undelivered, unaskedLines, MayAsk, waitedOr13};
 use crate::Waiting;
 use crate::arrivals::receive;
 use base::word_index;
 use base::zero_bytes;
 use layout::Sizes;
-use layout::route_of;
-use layout::sizes_of;
 use nest::Interval;
 use nest::Nest;
-use recipe::read_for;
+use recipe::open;
 use records::Flat;
 use stages::fit_records;
 use stages::fit_status;
 use summary::MessageLine;
 use tables::count_at;
-use tables::fill;
 use tables::nth;
 use tables::nth_at;
 use tables::scans::Place;
@@ -255,19 +252,18 @@ pub fn awaited(
         ≡ awaitedCall (now (encoded .entry)) route (stateOf [] [] records (now (status .entry))) processor
         (now (marks .entry))) ⌝ }
 {
-    let reading = read_for(encoded, route);
-    let number = reading.number;
+    let mut lens = [0u16; 9217];
+    let opening = open(encoded, route, &mut lens);
+    let number = opening.number;
     if number != 0 {
         return Waiting {
             number: number,
             tile: 0,
         };
     }
-    let nest = reading.nest;
-    let sizes = sizes_of(nest, route_of(route));
+    let nest = opening.nest;
+    let sizes = opening.sizes;
     let b = processor as usize;
-    let mut lens = [0u16; 9217];
-    fill(nest, sizes, &mut lens);
     let n = unasked(nest, sizes, &lens, progress, status, marks.len());
     if n != 0 {
         return Waiting { number: n, tile: 0 };
@@ -317,16 +313,15 @@ pub fn take_in(
         ≡ takeInCall (now (encoded .entry)) route (now (source .entry))
         (stateOf (now (memories .entry)) (now (buffer .entry)) records (now (status .entry))) processor message (now (words .entry))) ⌝ }
 {
-    let reading = read_for(encoded, route);
-    let number = reading.number;
+    let mut lens = [0u16; 9217];
+    let opening = open(encoded, route, &mut lens);
+    let number = opening.number;
     if number != 0 {
         return number;
     }
-    let nest = reading.nest;
-    let sizes = sizes_of(nest, route_of(route));
+    let nest = opening.nest;
+    let sizes = opening.sizes;
     let m = message as usize;
-    let mut lens = [0u16; 9217];
-    fill(nest, sizes, &mut lens);
     if !as_long(nest, sizes, &lens, m, words.len()) {
         return 9;
     }

@@ -9,28 +9,25 @@ ghost use Rattle.transport.specs.Calls.{messagesCall, ownersCall, waitsO
 pub mod core; // core.rt: the work of the calls, and those that are lent records without their form
 pub mod arrivals; // arrivals.rt: a message at its taker's: its words into their place, and its mark
 
-use layout::route_of;
 use layout::sizes_of;
 use plan::Route;
 use reader::read;
-use recipe::read_for;
+use recipe::open;
 use records::flat_of;
-use tables::fill;
 use tables::totals;
 
 // All messages of the route, six words each: sending tile, taking tile, sending processor, taking processor, words, their place in the buffer.
 pub fn messages(encoded: &[u8], route: u32, out: &mut [u32]) -> u32
     ensures { λ r. ⌜ answer r (now (out .exit)) ≡ messagesCall (now (encoded .entry)) route (now (out .entry)) ⌝ }
 {
-    let reading = read_for(encoded, route);
-    let number = reading.number;
+    let mut lens = [0u16; 9217];
+    let opening = open(encoded, route, &mut lens);
+    let number = opening.number;
     if number != 0 {
         return number;
     }
-    let nest = reading.nest;
-    let sizes = sizes_of(nest, route_of(route));
-    let mut lens = [0u16; 9217];
-    fill(nest, sizes, &mut lens);
+    let nest = opening.nest;
+    let sizes = opening.sizes;
     let total = totals(nest, sizes, &lens);
     if out.len() != 6 * total.messages {
         return 9;

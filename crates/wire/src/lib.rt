@@ -8,22 +8,19 @@ ghost use Rattle.base.specs.Numbers.{line, firstOf};
 ghost use Rattle.machine.specs.Machine.{stateOf};
 ghost use Rattle.plan.specs.Shaped.{planOf};
 ghost use Rattle.engine.specs.Calls.{answer};
-ghost use Rattle.transport.specs.Given.{Planned};
+ghost use Rattle.tables.specs.Tables.{Planned};
 ghost use Rattle.packets.specs.Cut.{assembly};
 ghost use Rattle.wire.specs.Wire.{sentOr, sendCall, ofMessage, OpenedAs, receivedOf, receiveCall};
 use base::word_index;
 use layout::Sizes;
-use layout::route_of;
-use layout::sizes_of;
 use nest::Nest;
 use packets::Header;
 use packets::chunks::Taken;
 use packets::chunks::chunk_length;
 use packets::chunks::chunks_of;
 use packets::chunks::take_chunk;
-use recipe::read_for;
+use recipe::open;
 use summary::line_at;
-use tables::fill;
 use tables::nth;
 use tables::totals;
 
@@ -99,15 +96,14 @@ pub fn send(
     ensures { λ r. ⌜ answer r (now (space .exit))
         ≡ sendCall (now (encoded .entry)) route run life (now (buffer .entry)) message chunk (now (space .entry)) ⌝ }
 {
-    let reading = read_for(encoded, route);
-    let number = reading.number;
+    let mut lens = [0u16; 9217];
+    let opening = open(encoded, route, &mut lens);
+    let number = opening.number;
     if number != 0 {
         return number;
     }
-    let nest = reading.nest;
-    let sizes = sizes_of(nest, route_of(route));
-    let mut lens = [0u16; 9217];
-    fill(nest, sizes, &mut lens);
+    let nest = opening.nest;
+    let sizes = opening.sizes;
     let fingerprint = packets::fingerprint(encoded, route);
     send_message(
         nest,

@@ -5,10 +5,10 @@ use mathlib.Core.Logic.{_≢_}
 use mathlib.Core.List.{List, [], _∷_, _++_}
 use native.Mathlib.Omega.{arith}
 use lib.Dec.{ltb}
-use Rattle.base.specs.Tests.{_and_, _or_, not}
+use Rattle.base.specs.Tests.{not}
 use Rattle.base.specs.Numbers.{Line, line, firstOf}
 use Rattle.base.proofs.Numbers.{Numbered, none-behind, first-behind}
-use Rattle.machine.specs.Plan.{Plan, words}
+use Rattle.machine.specs.Plan.{Plan}
 use Rattle.machine.specs.Machine.{Answered, answered}
 use Rattle.plan.specs.Shaped.{planOf}
 use Rattle.layout.specs.Sizes.{routeOf}
@@ -17,8 +17,8 @@ use Rattle.recipe.proofs.Laws.{numbered-for}
 use Rattle.engine.specs.Calls.{answer, recipe}
 use Rattle.engine.proofs.Lines.{call-read}
 use Rattle.part_calls.specs.front.Calls.{boardLines}
-use Rattle.part_calls.specs.declared.front.Board.{Board}
-use Rattle.part_calls.specs.front.Given.{Opens}
+use Rattle.recipe.specs.declared.Recipe.{Recipe}
+use Rattle.part_calls.specs.front.Given.{OpensFor}
 
 -- ---- past the first lines
 
@@ -35,7 +35,7 @@ module _ (bytes : List ℕ) (route b : ℕ) where
   pub behind-board : (more : List Line) → firstOf (boardLines bytes route b ++ more) ≡ 0 → firstOf more ≡ 0
   behind-board more e = none-behind (boardLines bytes route b) more numbered-board e
 
-module _ (bytes : List ℕ) (route b : ℕ) (r : Board) (o : Opens bytes route b r) where
+module _ (bytes : List ℕ) (route b : ℕ) (r : Recipe) (o : OpensFor bytes route b r) where
   module _ {A : Type 0} (lines : Plan → List Line) (new : Plan → A) (old : A) where
     -- a call whose lines and words are made of the plan
     abbrev called : Answered A

@@ -5,7 +5,7 @@ use mathlib.Core.Logic.{_≢_}
 use mathlib.Core.Bool.{Bool, true, false}
 use mathlib.Core.List.{List, [], _∷_, _++_}
 use native.Mathlib.Omega.{arith}
-use lib.ListN.{length, getD, take, drop, set, length-set, length-append, length-drop}
+use lib.ListN.{length, getD, take, drop, length-append, length-drop}
 use lib.Seq.{length-take-le, take-at, getD-take}
 use lib.Dec.{ltb, leb, eqb}
 use borrow.Author.Tests.{eq-eqb, ne-eqb, lt-ltb, le-ltb}
@@ -17,26 +17,25 @@ use Rattle.base.proofs.Select.{keep-few}
 use Rattle.machine.specs.Plan.{Plan, count}
 use Rattle.machine.specs.Machine.{State, stateOf, finishedOf, stageOf, sentOf, progressOnly, fitRecord, tilesLeft, fit}
 use Rattle.nest.specs.declared.Nest.{Nest}
-use Rattle.nest.specs.declared.Reading.{Reading}
 use Rattle.nest.specs.Nest.{cells, processors}
 use Rattle.plan.specs.Shaped.{planOf}
 use Rattle.layout.specs.declared.Sizes.{Sizes}
 use Rattle.layout.specs.Sizes.{Sized, routeOf}
-use Rattle.recipe.specs.Routes.{linesFor, ReadFor}
+use Rattle.recipe.specs.Routes.{linesFor}
 use Rattle.tables.specs.Tables.{Tabled}
 use Rattle.records.specs.declared.Flat.{Flat}
 use Rattle.records.specs.Records.{Carries}
+use Rattle.recipe.specs.Given.{WithSizes}
 use Rattle.recipe.proofs.Laws.{numbered-for}
 use Rattle.engine.specs.Calls.{recipe}
-use Rattle.engine.proofs.Lines.{Opened, opened, routed}
 use Rattle.network.specs.Own.{ownCells, keptCells, handled}
 use Rattle.rank_index.specs.Ranks.{rankAt}
 use Rattle.rank_index.proofs.Ranks.{marks-long, rank-is}
 use Rattle.part.specs.Part.{wordsOf, rankOf, mailAt, partFits}
 use Rattle.part_calls.specs.front.Calls.{wide, boardLines, lengthsOf}
 use Rattle.part_calls.specs.declared.AreaLengths.{AreaLengths}
-use Rattle.part_calls.specs.declared.front.Board.{Board}
-use Rattle.part_calls.specs.front.Given.{Opens, Known, unfitLines}
+use Rattle.recipe.specs.declared.Recipe.{Recipe}
+use Rattle.part_calls.specs.front.Given.{OpensFor, Known, unfitLines}
 use Rattle.part_calls.specs.front.Given.{PartLengths}
 use Rattle.part_calls.proofs.front.Wide.{fits-are, wide-finished, wide-stage, wide-sent, wide-fit}
 
@@ -44,7 +43,7 @@ use Rattle.part_calls.proofs.front.Wide.{fits-are, wide-finished, wide-
 
 module _ (bytes : List ℕ) (route b : ℕ) where
   -- a refusal
-  closed : (r : Board) → r .number ≡ firstOf (boardLines bytes route b) → r .number ≢ 0 → Opens bytes route b r
+  closed : (r : Recipe) → r .number ≡ firstOf (boardLines bytes route b) → r .number ≢ 0 → OpensFor bytes route b r
   closed r e h =
       record {
         number = e;
@@ -54,37 +53,36 @@ module _ (bytes : List ℕ) (route b : ℕ) where
         low = λ z. absurd (h z);
       }
 
-  pub closed-read : (r : Board) (n : ℕ) → r .number ≡ n → n ≡ firstOf (linesFor (routeOf route) bytes) → n ≢ 0 → Opens bytes route b r
-  closed-read r n q e h =
-      closed r (q ∙ e ∙ sym (first-some (linesFor (routeOf route) bytes) _ (λ z. h (e ∙ z)))) (λ z. h (sym q ∙ z))
+  module _ (x : Recipe) (read : WithSizes bytes route x) where
+    pub closed-read : x .number ≢ 0 → OpensFor bytes route b x
+    closed-read h = closed x (read .number ∙ sym (first-some (linesFor (routeOf route) bytes) _ (λ z. h (read .number ∙ z)))) h
 
-  module _ (x : Reading) (read : ReadFor (routeOf route) bytes x) (none : x .number ≡ 0) (z : Sizes) (sized : Sized (x .nest) z)
-      (way : z .route ≡ routeOf route) where
-    read-open : Opened bytes route (planOf (z .route) (x .nest))
-    read-open = opened bytes x read none way
+    module _ (none : x .number ≡ 0) where
+      abbrev p : Plan
+      p = planOf (x .sizes .route) (x .nest)
 
-    board-is : firstOf (boardLines bytes route b) ≡ firstOf (line 11 (not (ltb b (planOf (z .route) (x .nest) .processors))) ∷ [])
-    board-is =
-        first-behind (linesFor (routeOf route) bytes) (line 11 (not (ltb b (recipe bytes route .processors))) ∷ []) (numbered-for (routeOf route) bytes)
-        (read-open .none)
-        ∙ ap (λ (p : Plan). firstOf (line 11 (not (ltb b (p .processors))) ∷ [])) (sym (read-open .is))
+      board-is : firstOf (boardLines bytes route b) ≡ firstOf (line 11 (not (ltb b (p .processors))) ∷ [])
+      board-is =
+          first-behind (linesFor (routeOf route) bytes) (line 11 (not (ltb b (recipe bytes route .processors))) ∷ []) (numbered-for (routeOf route) bytes)
+          (read .opened none .none)
+          ∙ ap (λ (q : Plan). firstOf (line 11 (not (ltb b (q .processors))) ∷ [])) (sym (read .opened none .is))
 
-    pub closed-beyond : (r : Board) → r .number ≡ 11 → z .processors ≤ b → Opens bytes route b r
-    closed-beyond r e h =
-        closed r
-        (e ∙ sym (board-is ∙ first-true 11 _ _ (not-false (le-ltb b (planOf (z .route) (x .nest) .processors) (omega (arith, h, sized .processors))))))
-        (λ q. omega (arith, e, q))
+      pub closed-beyond : (r : Recipe) → r .number ≡ 11 → x .sizes .processors ≤ b → OpensFor bytes route b r
+      closed-beyond r e h =
+          closed r
+          (e ∙ sym (board-is ∙ first-true 11 _ _ (not-false (le-ltb b (p .processors) (omega (arith, h, read .sized none .processors))))))
+          (λ q. omega (arith, e, q))
 
-    pub opens : b < z .processors → Opens bytes route b (record { number = 0; nest = x .nest; sizes = z })
-    unfolding firstOf
-    opens h =
-        record {
-          number = sym (board-is ∙ first-false 11 _ [] (not-true (lt-ltb b (planOf (z .route) (x .nest) .processors) (omega (arith, h, sized .processors)))));
-          sized = λ _. sized;
-          routed = λ _. routed bytes x read none way;
-          plan = λ _. read-open .is;
-          low = λ _. omega (arith, h, sized .processors);
-        }
+      pub opens : b < x .sizes .processors → OpensFor bytes route b x
+      unfolding firstOf
+      opens h =
+          record {
+            number = none ∙ sym (board-is ∙ first-false 11 _ [] (not-true (lt-ltb b (p .processors) (omega (arith, h, read .sized none .processors)))));
+            sized = read .sized;
+            routed = read .routed;
+            plan = λ z. read .opened z .is;
+            low = λ _. omega (arith, h, read .sized none .processors);
+          }
 
 -- ---- the front of a lent area
 

@@ -26,9 +26,9 @@ use Rattle.engine.proofs.Turns as turns
 use Rattle.engine.proofs.Turns.{answered-no, answered-yes}
 use Rattle.network.specs.Own.{ownCells, sourceOf}
 use Rattle.part.specs.Part.{rankOf, mailAt, partFits}
-use Rattle.part_calls.specs.declared.front.Board.{Board}
+use Rattle.recipe.specs.declared.Recipe.{Recipe}
 use Rattle.part_calls.specs.front.Calls.{wide, narrow, stepped, ownTurnCall}
-use Rattle.part_calls.specs.front.Given.{Opens, unfitLines}
+use Rattle.part_calls.specs.front.Given.{OpensFor, unfitLines}
 use Rattle.part_calls.specs.turn.Step.{MayStep, steppedOr, turnedOr}
 use Rattle.part_calls.proofs.front.Wide as has
 use Rattle.part_calls.proofs.turn.After as after
@@ -166,7 +166,7 @@ three-are f l n h =
     ap (λ (k : ℕ). take k (f .words)) (sym e) ∙ h .kept (omega (arith, e))
 
 -- ---- past the first lines
-module _ (bytes : List ℕ) (route b : ℕ) (r : Board) (o : Opens bytes route b r) (source : List ℕ) (s : State) where
+module _ (bytes : List ℕ) (route b : ℕ) (r : Recipe) (o : OpensFor bytes route b r) (source : List ℕ) (s : State) where
   abbrev lines : Plan → List Line
   lines p = line 9 (not (eqb (length source) (length (ownCells p b)) and partFits p b s)) ∷ turnLines p (wide p b s) b
 

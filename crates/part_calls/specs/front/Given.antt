@@ -15,17 +15,16 @@ use Rattle.nest.specs.Nest.{cells, processors}
 use Rattle.plan.specs.Shaped.{planOf}
 use Rattle.layout.specs.declared.Sizes.{Sizes}
 use Rattle.layout.specs.Sizes.{Sized}
-use Rattle.tables.specs.Tables.{Routed}
+use Rattle.tables.specs.Tables.{Routed, Planned}
 use Rattle.engine.specs.Calls.{recipe}
 use Rattle.network.specs.Own.{keptCells, handled}
-use Rattle.transport.specs.Given.{Planned}
 use Rattle.rank_index.specs.Ranks.{Counted}
 use Rattle.part.specs.Part.{wordsOf, rankOf, mailAt, partFits}
 use Rattle.part_calls.specs.front.Calls.{wide, boardLines}
-use Rattle.part_calls.specs.declared.front.Board.{Board}
+use Rattle.recipe.specs.declared.Recipe.{Recipe}
 
 -- the first lines of a call; where none is true, the recipe's nest, and the processor is one of its
-pub record Opens (bytes : List ℕ) (route b : ℕ) (r : Board) : Type 0 where
+pub record OpensFor (bytes : List ℕ) (route b : ℕ) (r : Recipe) : Type 0 where
   pub number : r .number ≡ firstOf (boardLines bytes route b)
   pub sized : r .number ≡ 0 → Sized (r .nest) (r .sizes)
   pub routed : r .number ≡ 0 → Routed (r .nest) (r .sizes)

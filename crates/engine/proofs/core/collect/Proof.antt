@@ -3,7 +3,6 @@ use Prim.Native.Nat.{_-_}
 use mathlib.Core.Path.{refl, sym, _∙_}
 use native.Mathlib.Omega.{arith}
 use lib.ListN.{take, drop}
-use Rattle.recipe.proofs.Laws.{accepted-for}
 use Rattle.machine.specs.Machine.{stateOf}
 use Rattle.plan.specs.Shaped.{planOf}
 use Rattle.engine.proofs.Lines as lines
@@ -12,79 +11,59 @@ use borrow.Author.Needs.{needs}
 use Rattle.engine.proofs.core.collect.Statement.{statement}
 use Rattle.engine.proofs.core.collect.Tie as tie
 
-read-for-requires : tie.Need-read-for-requires
-read-for-requires c κs = search needs
+open-requires : tie.Need-open-requires
+open-requires c κs = refl
 
 returns : tie.Need-returns
 returns c =
-    let start = c .before .before .before .before .before .before .before .before in
-    let read = c .before .read-for in
+    let at-open = c .before in
+    let S = at-open .before .before .before .before .before .before .before .before in
+    let opens = at-open .«open» in
     let if1 = c .if1 in
-    let A = start .args in
+    let A = S .args in
     λ l h. lines.collect-read (A .encoded .now) (A .route) (A .source .now) (stateOf (A .memories .now) (A .buffer .now) l (A .status .now)) (A .grid .now)
-    (read .result .number) (read .ensures .number) (if1 .taken)
-
-route-of-requires : tie.Need-route-of-requires
-route-of-requires c κs = search needs
-
-sizes-of-requires : tie.Need-sizes-of-requires
-sizes-of-requires c κs =
-    let read = c .before .before .before .read-for in
-    let if1 = c .before .before .if1 in
-    accepted-for _ _ _ (read .ensures) (if1 .left)
+    (opens .result .number) (opens .ensures .number) (if1 .taken)
 
 returns-2 : tie.Need-returns-2
 returns-2 c =
-    let at-route-of = c .before .before .before in
-    let at-if1 = at-route-of .before .before in
-    let at-read-for = at-if1 .before in
-    let start = at-read-for .before .before .before .before .before .before .before in
-    let read = at-read-for .read-for in
+    let at-if1 = c .before .before .before .before in
+    let at-open = at-if1 .before in
+    let S = at-open .before .before .before .before .before .before .before .before in
+    let opens = at-open .«open» in
     let if1 = at-if1 .if1 in
-    let route-of = at-route-of .route-of in
-    let sizes-of = c .before .before .sizes-of in
     let if2 = c .if2 in
-    let A = start .args in
-    let p = planOf (sizes-of .result .route) (read .result .nest) in
+    let A = S .args in
+    let p = planOf (opens .result .sizes .route) (opens .result .nest) in
     λ l h. lines.collect-grid (A .encoded .now) (A .route) (A .source .now) (stateOf (A .memories .now) (A .buffer .now) l (A .status .now)) (A .grid .now) p
-    (lines.opened (A .encoded .now) (read .result) (read .ensures) (if1 .left) (sizes-of .ensures .1 ∙ route-of .ensures))
-    (λ q. if2 .taken (q ∙ sym (sizes-of .ensures .0 .cells)))
-
-fill-requires : tie.Need-fill-requires
-fill-requires c κs =
-    let at-sizes-of = c .before .before .before in
-    let at-route-of = at-sizes-of .before in
-    let at-if1 = at-route-of .before .before in
-    let at-read-for = at-if1 .before in
-    let read = at-read-for .read-for in
-    let if1 = at-if1 .if1 in
-    let route-of = at-route-of .route-of in
-    let sizes-of = at-sizes-of .sizes-of in
-    (sizes-of .ensures .0, (lines.routed _ (read .result) (read .ensures) (if1 .left) (sizes-of .ensures .1 ∙ route-of .ensures), refl))
+    (opens .ensures .opened (if1 .left))
+    (λ q. if2 .taken (q ∙ sym (opens .ensures .planned (if1 .left) .0 .cells)))
 
 unfit-requires : tie.Need-unfit-requires
-unfit-requires c κs = search needs
+unfit-requires c κs =
+    let at-if1 = c .before .before .before .before .before in
+    let at-open = at-if1 .before in
+    let S = at-open .before .before .before .before .before .before .before .before in
+    let opens = at-open .«open» in
+    let if1 = at-if1 .if1 in
+    (opens .ensures .planned (if1 .left), S .pre)
 
 returns-3 : tie.Need-returns-3
 returns-3 c =
-    let at-if2 = c .before .before .before .before .before in
-    let at-sizes-of = at-if2 .before .before in
-    let at-route-of = at-sizes-of .before in
-    let at-if1 = at-route-of .before .before in
-    let at-read-for = at-if1 .before in
-    let start = at-read-for .before .before .before .before .before .before .before in
-    let read = at-read-for .read-for in
+    let at-unfit = c .before in
+    let at-if2 = at-unfit .before .before in
+    let at-if1 = at-if2 .before .before .before .before in
+    let at-open = at-if1 .before in
+    let S = at-open .before .before .before .before .before .before .before .before in
+    let opens = at-open .«open» in
     let if1 = at-if1 .if1 in
-    let route-of = at-route-of .route-of in
-    let sizes-of = at-sizes-of .sizes-of in
     let if2 = at-if2 .if2 in
-    let unfit = c .before .unfit in
+    let unfit = at-unfit .unfit in
     let if3 = c .if3 in
-    let A = start .args in
-    let p = planOf (sizes-of .result .route) (read .result .nest) in
+    let A = S .args in
+    let p = planOf (opens .result .sizes .route) (opens .result .nest) in
     λ l h. lines.collect-unfit (A .encoded .now) (A .route) (A .source .now) (stateOf (A .memories .now) (A .buffer .now) l (A .status .now)) (A .grid .now)
-    p (lines.opened (A .encoded .now) (read .result) (read .ensures) (if1 .left) (sizes-of .ensures .1 ∙ route-of .ensures)) (if2 .left
-    ∙ sizes-of .ensures .0 .cells) (unfit .result) (unfit .ensures .0 l h) (if3 .taken)
+    p (opens .ensures .opened (if1 .left)) (if2 .left
+    ∙ opens .ensures .planned (if1 .left) .0 .cells) (unfit .result) (unfit .ensures .0 l h) (if3 .taken)
 
 sub-tiles-left : tie.Need-sub-tiles-left
 sub-tiles-left c = search needs
@@ -96,34 +75,35 @@ part-tiles-left-end : tie.Need-part-tiles-left-end
 part-tiles-left-end c =
     let at-if3 = c .before .before .before in
     let at-unfit = at-if3 .before in
-    let at-sizes-of = at-unfit .before .before .before .before .before .before in
-    let S = at-sizes-of .before .before .before .before .before .before .before .before .before .before .before in
-    let sizes-of = at-sizes-of .sizes-of in
+    let at-if1 = at-unfit .before .before .before .before .before .before in
+    let at-open = at-if1 .before in
+    let S = at-open .before .before .before .before .before .before .before .before in
+    let if1 = at-if1 .if1 in
+    let opens = at-open .«open» in
     let unfit = at-unfit .unfit in
     let if3 = at-if3 .if3 in
     let A = S .args in
-    omega (arith, S .pre, reading.few-words _ _ (sizes-of .ensures .0) (A .progress .count) (unfit .ensures .1 (if3 .left)))
+    omega (arith, S .pre, reading.few-words _ _ (opens .ensures .planned (if1 .left) .0) (A .progress .count) (unfit .ensures .1 (if3 .left)))
 
 tiles-left-requires : tie.Need-tiles-left-requires
 tiles-left-requires c κs =
     let at-if3 = c .before .before .before .before in
     let at-unfit = at-if3 .before in
-    let at-fill = at-unfit .before .before in
-    let at-sizes-of = at-fill .before .before .before .before in
-    let at-read-for = at-sizes-of .before .before .before .before in
-    let S = at-read-for .before .before .before .before .before .before .before in
-    let read = at-read-for .read-for in
-    let sizes-of = at-sizes-of .sizes-of in
-    let fill = at-fill .fill in
+    let at-if1 = at-unfit .before .before .before .before .before .before in
+    let at-open = at-if1 .before in
+    let S = at-open .before .before .before .before .before .before .before .before in
+    let if1 = at-if1 .if1 in
+    let opens = at-open .«open» in
+    let planned = opens .ensures .planned (if1 .left) in
     let unfit = at-unfit .unfit in
     let if3 = at-if3 .if3 in
     let A = S .args in
-    let p = planOf (sizes-of .result .route) (read .result .nest) in
-    let few = reading.few-words _ _ (sizes-of .ensures .0) (A .progress .count) (unfit .ensures .1 (if3 .left)) in
+    let p = planOf (opens .result .sizes .route) (opens .result .nest) in
+    let few = reading.few-words _ _ (planned .0) (A .progress .count) (unfit .ensures .1 (if3 .left)) in
     let l = take (A .progress .count - 0) (drop 0 (A .progress .words)) in (
-      sizes-of .ensures .0,
+      planned .0,
       (
-        fill .ensures,
+        planned .1,
         lines.areas-are p (A .source .now) (stateOf (A .memories .now) (A .buffer .now) l (A .status .now))
             (lines.unfit-none p (A .source .now) (stateOf (A .memories .now) (A .buffer .now) l (A .status .now)) (unfit .result)
             (unfit .ensures .0 l (reading.part-carries (A .progress) (S .pre) few)) (if3 .left) .0) .progress,
@@ -132,59 +112,54 @@ tiles-left-requires c κs =
 
 returns-4 : tie.Need-returns-4
 returns-4 c =
-    let at-if3 = c .before .before .before .before .before .before in
+    let at-tiles-left = c .before in
+    let at-if3 = at-tiles-left .before .before .before .before .before in
     let at-unfit = at-if3 .before in
-    let at-if2 = at-unfit .before .before .before .before in
-    let at-sizes-of = at-if2 .before .before in
-    let at-route-of = at-sizes-of .before in
-    let at-if1 = at-route-of .before .before in
-    let at-read-for = at-if1 .before in
-    let start = at-read-for .before .before .before .before .before .before .before in
-    let read = at-read-for .read-for in
+    let at-if2 = at-unfit .before .before in
+    let at-if1 = at-if2 .before .before .before .before in
+    let at-open = at-if1 .before in
+    let S = at-open .before .before .before .before .before .before .before .before in
+    let opens = at-open .«open» in
     let if1 = at-if1 .if1 in
-    let route-of = at-route-of .route-of in
-    let sizes-of = at-sizes-of .sizes-of in
+    let planned = opens .ensures .planned (if1 .left) in
     let if2 = at-if2 .if2 in
     let unfit = at-unfit .unfit in
     let if3 = at-if3 .if3 in
-    let tiles-left = c .before .tiles-left in
+    let tiles-left = at-tiles-left .tiles-left in
     let if4 = c .if4 in
-    let A = start .args in
-    let p = planOf (sizes-of .result .route) (read .result .nest) in
-    let few = reading.few-words _ _ (sizes-of .ensures .0) (A .progress .count) (unfit .ensures .1 (if3 .left)) in
+    let A = S .args in
+    let p = planOf (opens .result .sizes .route) (opens .result .nest) in
+    let few = reading.few-words _ _ (planned .0) (A .progress .count) (unfit .ensures .1 (if3 .left)) in
     λ l h. lines.collect-left (A .encoded .now) (A .route) (A .source .now) (stateOf (A .memories .now) (A .buffer .now) l (A .status .now)) (A .grid .now) p
-    (lines.opened (A .encoded .now) (read .result) (read .ensures) (if1 .left) (sizes-of .ensures .1 ∙ route-of .ensures)) (if2 .left
-    ∙ sizes-of .ensures .0 .cells) (unfit .result) (unfit .ensures .0 l h) (if3 .left) (tiles-left .result) (tiles-left .ensures
+    (opens .ensures .opened (if1 .left)) (if2 .left
+    ∙ planned .0 .cells) (unfit .result) (unfit .ensures .0 l h) (if3 .left) (tiles-left .result) (tiles-left .ensures
     ∙ sym (reading.left-as p _ l (reading.part-is (A .progress) l few h))) (if4 .taken)
 
 copy-cells-requires : tie.Need-copy-cells-requires
 copy-cells-requires c κs =
     let at-if3 = c .before .before .before .before .before .before .before in
     let at-unfit = at-if3 .before in
-    let at-if2 = at-unfit .before .before .before .before in
-    let at-sizes-of = at-if2 .before .before in
-    let at-route-of = at-sizes-of .before in
-    let at-if1 = at-route-of .before .before in
-    let at-read-for = at-if1 .before in
-    let S = at-read-for .before .before .before .before .before .before .before in
-    let read = at-read-for .read-for in
+    let at-if2 = at-unfit .before .before in
+    let at-if1 = at-if2 .before .before .before .before in
+    let at-open = at-if1 .before in
+    let S = at-open .before .before .before .before .before .before .before .before in
+    let opens = at-open .«open» in
     let if1 = at-if1 .if1 in
-    let route-of = at-route-of .route-of in
-    let sizes-of = at-sizes-of .sizes-of in
+    let planned = opens .ensures .planned (if1 .left) in
     let if2 = at-if2 .if2 in
     let unfit = at-unfit .unfit in
     let if3 = at-if3 .if3 in
     let A = S .args in
-    let p = planOf (sizes-of .result .route) (read .result .nest) in
-    let few = reading.few-words _ _ (sizes-of .ensures .0) (A .progress .count) (unfit .ensures .1 (if3 .left)) in
+    let p = planOf (opens .result .sizes .route) (opens .result .nest) in
+    let few = reading.few-words _ _ (planned .0) (A .progress .count) (unfit .ensures .1 (if3 .left)) in
     let l = take (A .progress .count - 0) (drop 0 (A .progress .words)) in (
-      (sizes-of .ensures .0, lines.routed _ (read .result) (read .ensures) (if1 .left) (sizes-of .ensures .1 ∙ route-of .ensures)),
+      (planned .0, planned .1 .routed),
       (
         lines.areas-are p (A .source .now) (stateOf (A .memories .now) (A .buffer .now) l (A .status .now)) (lines.unfit-none p (A .source .now)
             (stateOf (A .memories .now) (A .buffer .now) l (A .status .now)) (unfit .result)
             (unfit .ensures .0 l (reading.part-carries (A .progress) (S .pre) few))
             (if3 .left) .0) .memories,
-        if2 .left ∙ sizes-of .ensures .0 .cells,
+        if2 .left ∙ planned .0 .cells,
       ),
     )
 
@@ -193,44 +168,39 @@ same-length c = search needs
 
 returns-5 : tie.Need-returns-5
 returns-5 c =
-    let at-if4 = c .before .before .before .before in
+    let at-copy-cells = c .before .before in
+    let at-if4 = at-copy-cells .before .before in
     let at-tiles-left = at-if4 .before in
     let at-if3 = at-tiles-left .before .before .before .before .before in
     let at-unfit = at-if3 .before in
-    let at-if2 = at-unfit .before .before .before .before in
-    let at-sizes-of = at-if2 .before .before in
-    let at-route-of = at-sizes-of .before in
-    let at-if1 = at-route-of .before .before in
-    let at-read-for = at-if1 .before in
-    let start = at-read-for .before .before .before .before .before .before .before in
-    let read = at-read-for .read-for in
+    let at-if2 = at-unfit .before .before in
+    let at-if1 = at-if2 .before .before .before .before in
+    let at-open = at-if1 .before in
+    let S = at-open .before .before .before .before .before .before .before .before in
+    let opens = at-open .«open» in
     let if1 = at-if1 .if1 in
-    let route-of = at-route-of .route-of in
-    let sizes-of = at-sizes-of .sizes-of in
+    let planned = opens .ensures .planned (if1 .left) in
     let if2 = at-if2 .if2 in
     let unfit = at-unfit .unfit in
     let if3 = at-if3 .if3 in
     let tiles-left = at-tiles-left .tiles-left in
     let if4 = at-if4 .if4 in
-    let copy-cells = c .before .before .copy-cells in
-    let A = start .args in
-    let p = planOf (sizes-of .result .route) (read .result .nest) in
-    let few = reading.few-words _ _ (sizes-of .ensures .0) (A .progress .count) (unfit .ensures .1 (if3 .left)) in
+    let copy-cells = at-copy-cells .copy-cells in
+    let A = S .args in
+    let p = planOf (opens .result .sizes .route) (opens .result .nest) in
+    let few = reading.few-words _ _ (planned .0) (A .progress .count) (unfit .ensures .1 (if3 .left)) in
     λ l h. lines.collect-done (A .encoded .now) (A .route) (A .source .now) (stateOf (A .memories .now) (A .buffer .now) l (A .status .now)) (A .grid .now) p
-    (lines.opened (A .encoded .now) (read .result) (read .ensures) (if1 .left) (sizes-of .ensures .1 ∙ route-of .ensures)) (if2 .left
-    ∙ sizes-of .ensures .0 .cells) (unfit .result) (unfit .ensures .0 l h) (if3 .left) (tiles-left .result) (tiles-left .ensures
+    (opens .ensures .opened (if1 .left)) (if2 .left
+    ∙ planned .0 .cells) (unfit .result) (unfit .ensures .0 l h) (if3 .left) (tiles-left .result) (tiles-left .ensures
     ∙ sym (reading.left-as p _ l (reading.part-is (A .progress) l few h))) (copy-cells .last .1 .1 .1 .0) (if4 .left) (copy-cells .ensures)
 
 pub collect-spec : {M : Type 1} → statement M
 collect-spec =
     tie.close
     (tie.spec
-    read-for-requires
+    open-requires
     returns
-    route-of-requires
-    sizes-of-requires
     returns-2
-    fill-requires
     unfit-requires
     returns-3
     sub-tiles-left

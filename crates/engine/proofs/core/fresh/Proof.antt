@@ -4,48 +4,33 @@ use mathlib.Core.Path.{refl, sym, ap, _∙_}
 use mathlib.Core.List.{List}
 use native.Mathlib.Omega.{arith}
 use borrow.Author.Tests.{not-true, not-false}
-use Rattle.recipe.proofs.Laws.{accepted-for}
 use Rattle.machine.specs.Machine.{stateOf}
 use Rattle.plan.specs.Shaped.{planOf}
 use Rattle.engine.specs.Calls.{answer}
 use Rattle.engine.proofs.Lines as lines
 use Rattle.engine.proofs.Reading as reading
-use borrow.Author.Needs.{needs}
 use Rattle.engine.proofs.core.fresh.Statement.{statement}
 use Rattle.engine.proofs.core.fresh.Tie as tie
 
-read-for-requires : tie.Need-read-for-requires
-read-for-requires c κs = tt
+open-requires : tie.Need-open-requires
+open-requires c κs = refl
 
 returns : tie.Need-returns
 returns c =
-    let A = c .before .before .before .before .before .before .before .args in
-    λ l h. ap (λ (k : List ℕ). answer (c .before .read-for .result .number) (stateOf (A .memories .now) (A .buffer .now) k (A .status .now)))
+    let at-open = c .before in
+    let S = at-open .before .before .before .before .before .before .before in
+    let opens = at-open .«open» in
+    let A = S .args in
+    λ l h. ap (λ (k : List ℕ). answer (opens .result .number) (stateOf (A .memories .now) (A .buffer .now) k (A .status .now)))
     (sym (reading.zeros-after-no l _ (c .if1 .taken))) ∙ lines.fresh-read (A .encoded .now) (A .route) (A .source .now)
-    (stateOf (A .memories .now) (A .buffer .now) l (A .status .now)) (c .before .read-for .result .number) (c .before .read-for .ensures .number)
+    (stateOf (A .memories .now) (A .buffer .now) l (A .status .now)) (opens .result .number) (opens .ensures .number)
     (c .if1 .taken)
 
-route-of-requires : tie.Need-route-of-requires
-route-of-requires c κs = tt
-
-sizes-of-requires : tie.Need-sizes-of-requires
-sizes-of-requires c κs =
-    let read = c .before .before .before .read-for in
-    let if1 = c .before .before .if1 in
-    accepted-for _ _ _ (read .ensures) (if1 .left)
-
-fill-requires : tie.Need-fill-requires
-fill-requires c κs =
-    let at-if1 = c .before .before .before .before in
-    let at-read-for = at-if1 .before in
-    let read = at-read-for .read-for in
-    let if1 = at-if1 .if1 in
-    let route-of = c .before .before .route-of in
-    let sizes-of = c .before .sizes-of in
-    (sizes-of .ensures .0, (lines.routed _ (read .result) (read .ensures) (if1 .left) (sizes-of .ensures .1 ∙ route-of .ensures), refl))
-
 areas-fit-requires : tie.Need-areas-fit-requires
-areas-fit-requires c κs = search needs
+areas-fit-requires c κs =
+    let opens = c .before .before .before .before .before .before .before .«open» in
+    let if1 = c .before .before .before .before .before .before .if1 in
+    opens .ensures .planned (if1 .left)
 
 same-length : tie.Need-same-length
 same-length c = refl
@@ -58,23 +43,19 @@ same-length-3 c = refl
 
 returns-2 : tie.Need-returns-2
 returns-2 c =
-    let at-sizes-of = c .before .before .before .before .before .before .before .before in
-    let at-route-of = at-sizes-of .before in
-    let at-if1 = at-route-of .before .before in
-    let at-read-for = at-if1 .before in
-    let start = at-read-for .before .before .before .before .before .before in
-    let read = at-read-for .read-for in
+    let at-areas-fit = c .before in
+    let at-if1 = at-areas-fit .before .before .before .before .before .before .before in
+    let at-open = at-if1 .before in
+    let S = at-open .before .before .before .before .before .before .before in
+    let opens = at-open .«open» in
     let if1 = at-if1 .if1 in
-    let route-of = at-route-of .route-of in
-    let sizes-of = at-sizes-of .sizes-of in
     let if2 = c .if2 in
-    let areas-fit = c .before .areas-fit in
-    let A = start .args in
-    let p = planOf (sizes-of .result .route) (read .result .nest) in
+    let areas-fit = at-areas-fit .areas-fit in
+    let A = S .args in
+    let p = planOf (opens .result .sizes .route) (opens .result .nest) in
     λ l h. ap (λ (k : List ℕ). answer 9 (stateOf (A .memories .now) (A .buffer .now) k (A .status .now)))
     (sym (reading.zeros-after-no l 9 (λ q. omega arith))) ∙ lines.fresh-area (A .encoded .now) (A .route) (A .source .now) (stateOf (A .memories .now)
-    (A .buffer .now) l (A .status .now)) p (lines.opened (A .encoded .now) (read .result) (read .ensures) (if1 .left) (sizes-of .ensures .1
-    ∙ route-of .ensures)) (sym (areas-fit .ensures .0 l h) ∙ not-true _ (if2 .taken))
+    (A .buffer .now) l (A .status .now)) p (opens .ensures .opened (if1 .left)) (sym (areas-fit .ensures .0 l h) ∙ not-true _ (if2 .taken))
 
 zero-words-requires : tie.Need-zero-words-requires
 zero-words-requires c κs = tt
@@ -96,39 +77,33 @@ same-length-6 c = c .before .before .zero-bytes .kept .0
 
 returns-3 : tie.Need-returns-3
 returns-3 c =
-    let at-zero-words2 = c .before .before .before .before .before .before in
+    let at-zero-bytes = c .before .before in
+    let at-zero-words2 = at-zero-bytes .before .before .before .before in
     let at-zero-words = at-zero-words2 .before .before .before .before in
     let at-if2 = at-zero-words .before .before in
     let at-areas-fit = at-if2 .before in
-    let at-sizes-of = at-areas-fit .before .before .before .before .before .before .before in
-    let at-route-of = at-sizes-of .before in
-    let at-if1 = at-route-of .before .before in
-    let at-read-for = at-if1 .before in
-    let start = at-read-for .before .before .before .before .before .before in
-    let read = at-read-for .read-for in
+    let at-if1 = at-areas-fit .before .before .before .before .before .before .before in
+    let at-open = at-if1 .before in
+    let S = at-open .before .before .before .before .before .before .before in
+    let opens = at-open .«open» in
     let if1 = at-if1 .if1 in
-    let route-of = at-route-of .route-of in
-    let sizes-of = at-sizes-of .sizes-of in
     let if2 = at-if2 .if2 in
     let areas-fit = at-areas-fit .areas-fit in
     let zero-words = at-zero-words .zero-words in
     let zero-words2 = at-zero-words2 .zero-words2 in
-    let zero-bytes = c .before .before .zero-bytes in
-    let A = start .args in
-    let p = planOf (sizes-of .result .route) (read .result .nest) in
+    let zero-bytes = at-zero-bytes .zero-bytes in
+    let A = S .args in
+    let p = planOf (opens .result .sizes .route) (opens .result .nest) in
     λ l h. lines.fresh-done (A .encoded .now) (A .route) (A .source .now) (stateOf (A .memories .now) (A .buffer .now) l (A .status .now)) p
-    (lines.opened (A .encoded .now) (read .result) (read .ensures) (if1 .left) (sizes-of .ensures .1 ∙ route-of .ensures)) (sym (areas-fit .ensures .0 l h)
+    (opens .ensures .opened (if1 .left)) (sym (areas-fit .ensures .0 l h)
     ∙ not-false _ (if2 .left)) _ _ _ _ (zero-words .ensures) (zero-words2 .ensures) (sym (reading.zeros-after-yes l)) (zero-bytes .ensures)
 
 pub fresh-spec : {M : Type 1} → statement M
 fresh-spec =
     tie.close
     (tie.spec
-    read-for-requires
+    open-requires
     returns
-    route-of-requires
-    sizes-of-requires
-    fill-requires
     areas-fit-requires
     same-length
     same-length-2

@@ -1,70 +1,40 @@
 -- `part_calls::front::open` meets its contract: the first true line, or the nest.
-use mathlib.Core.Path.{_∙_}
-use Rattle.recipe.proofs.Laws.{accepted-for}
 use Rattle.part_calls.proofs.front.Front as front
 use borrow.Author.Needs.{needs}
 use Rattle.part_calls.proofs.front.open.Statement.{statement}
 use Rattle.part_calls.proofs.front.open.Tie as tie
 
-read-for-requires : tie.Need-read-for-requires
-read-for-requires c κs = search needs
+with-sizes-requires : tie.Need-with-sizes-requires
+with-sizes-requires c κs = search needs
+
+returns : tie.Need-returns
+returns c =
+    let A = c .before .before .before .before .before .before .args in
+    let read = c .before .before .before .before .with-sizes in
+    front.closed-read (A .encoded .now) (A .route) (A .processor) (read .result) (read .ensures) (c .if1 .taken)
 
 closed-requires : tie.Need-closed-requires
 closed-requires c κs = search needs
 
-returns : tie.Need-returns
-returns c =
-    let S = c .before .before .before .before .before in
-    let closed = c .closed in
-    let read-for = c .before .before .before .read-for in
-    let if1 = c .before .if1 in
-    front.closed-read (S .args .encoded .now) (S .args .route) (S .args .processor) (closed .result) (read-for .result .number) (closed .ensures)
-    (read-for .ensures .number) (if1 .taken)
-
-route-of-requires : tie.Need-route-of-requires
-route-of-requires c κs = search needs
-
-sizes-of-requires : tie.Need-sizes-of-requires
-sizes-of-requires c κs =
-    let read-for = c .before .before .before .read-for in
-    let if1 = c .before .if1 in
-    accepted-for _ _ _ (read-for .ensures) (if1 .left)
-
-closed-requires-2 : tie.Need-closed-requires-2
-closed-requires-2 c κs = search needs
-
 returns-2 : tie.Need-returns-2
 returns-2 c =
-    let S = c .before .before .before .before .before .before .before .before .before in
-    let read-for = c .before .before .before .before .before .before .before .read-for in
-    let if1 = c .before .before .before .before .before .if1 in
-    let sizes-of = c .before .before .before .sizes-of in
-    let route-of = c .before .before .before .before .route-of in
-    let closed2 = c .closed2 in
-    let if2 = c .before .if2 in
-    front.closed-beyond (S .args .encoded .now) (S .args .route) (S .args .processor) (read-for .result) (read-for .ensures) (if1 .left) (sizes-of .result)
-    (sizes-of .ensures .0) (sizes-of .ensures .1 ∙ route-of .ensures) (closed2 .result) (closed2 .ensures) (if2 .taken)
+    let at-if2 = c .before in
+    let at-if1 = at-if2 .before .before in
+    let at-with-sizes = at-if1 .before .before .before .before in
+    let S = at-with-sizes .before .before in
+    let A = S .args in
+    let read = at-with-sizes .with-sizes in
+    front.closed-beyond (A .encoded .now) (A .route) (A .processor) (read .result) (read .ensures) (at-if1 .if1 .left) (c .closed .result)
+    (c .closed .ensures) (at-if2 .if2 .taken)
 
 returns-3 : tie.Need-returns-3
 returns-3 c =
-    let S = c .before .before .before .before .before .before .before .before in
-    let read-for = c .before .before .before .before .before .before .read-for in
-    let if1 = c .before .before .before .before .if1 in
-    let sizes-of = c .before .before .sizes-of in
-    let route-of = c .before .before .before .route-of in
-    let if2 = c .if2 in
-    front.opens (S .args .encoded .now) (S .args .route) (S .args .processor) (read-for .result) (read-for .ensures) (if1 .left) (sizes-of .result)
-    (sizes-of .ensures .0) (sizes-of .ensures .1 ∙ route-of .ensures) (if2 .left)
+    let at-if1 = c .before .before in
+    let at-with-sizes = at-if1 .before .before .before .before in
+    let S = at-with-sizes .before .before in
+    let A = S .args in
+    let read = at-with-sizes .with-sizes in
+    front.opens (A .encoded .now) (A .route) (A .processor) (read .result) (read .ensures) (at-if1 .if1 .left) (c .if2 .left)
 
 pub open-spec : {M : Type 1} → statement M
-open-spec =
-    tie.close
-    (tie.spec
-    read-for-requires
-    closed-requires
-    returns
-    route-of-requires
-    sizes-of-requires
-    closed-requires-2
-    returns-2
-    returns-3)
+open-spec = tie.close (tie.spec with-sizes-requires returns closed-requires returns-2 returns-3)

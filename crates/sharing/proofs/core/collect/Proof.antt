@@ -12,59 +12,61 @@ use borrow.Author.Needs.{needs}
 use Rattle.sharing.proofs.core.collect.Statement.{statement}
 use Rattle.sharing.proofs.core.collect.Tie as tie
 
-open-recipe-requires : tie.Need-open-recipe-requires
-open-recipe-requires c κs = search needs
+open-requires : tie.Need-open-requires
+open-requires c κs = search needs
 
 returns : tie.Need-returns
 returns c =
     let start = c .before .before .before .before .before .before .before .before .before .before in
-    let open-recipe = c .before .open-recipe in
+    let opens = c .before .«open» in
     let if1 = c .if1 in
     let A = start .args in
     λ l q h k. lines.collect-read (A .encoded .now) (A .route) (A .source .now) (A .office) (lentOf (stateOf (A .memories .now) (A .buffer .now) l
-    (A .status .now)) (A .engaged .now)) q (A .grid .now) (open-recipe .result .number) (open-recipe .ensures .0) (if1 .taken)
+    (A .status .now)) (A .engaged .now)) q (A .grid .now) (opens .result .number) (opens .ensures .number) (if1 .taken)
 
 returns-2 : tie.Need-returns-2
 returns-2 c =
     let at-if1 = c .before .before .before .before in
-    let at-open-recipe = at-if1 .before in
-    let start = at-open-recipe .before .before .before .before .before .before .before .before .before in
-    let open-recipe = at-open-recipe .open-recipe in
+    let at-open = at-if1 .before in
+    let start = at-open .before .before .before .before .before .before .before .before .before in
+    let opens = at-open .«open» in
     let if1 = at-if1 .if1 in
     let if2 = c .if2 in
     let A = start .args in
-    let opens = open-recipe .ensures .1 (if1 .left) in
-    let p = planOf (open-recipe .result .sizes .route) (open-recipe .result .nest) in
+    let planned = opens .ensures .planned (if1 .left) in
+    let opened-as = opens .ensures .opened (if1 .left) in
+    let p = planOf (opens .result .sizes .route) (opens .result .nest) in
     λ l q h k. lines.collect-grid (A .encoded .now) (A .route) (A .source .now) (A .office) (lentOf (stateOf (A .memories .now) (A .buffer .now) l
-    (A .status .now)) (A .engaged .now)) q (A .grid .now) p (record { none = opens .none; is = opens .is }) (λ e. if2 .taken (e ∙ sym (opens .sized .cells)))
+    (A .status .now)) (A .engaged .now)) q (A .grid .now) p opened-as (λ e. if2 .taken (e ∙ sym (planned .0 .cells)))
 
 unfit-requires : tie.Need-unfit-requires
 unfit-requires c κs =
     let at-if1 = c .before .before .before .before .before in
-    let at-open-recipe = at-if1 .before in
-    let S = at-open-recipe .before .before .before .before .before .before .before .before .before in
-    let open-recipe = at-open-recipe .open-recipe in
+    let at-open = at-if1 .before in
+    let S = at-open .before .before .before .before .before .before .before .before .before in
+    let opens = at-open .«open» in
     let if1 = at-if1 .if1 in
-    let opens = open-recipe .ensures .1 (if1 .left) in
-    let p = planOf (open-recipe .result .sizes .route) (open-recipe .result .nest) in
-    ((opens .sized, opens .table), S .pre)
+    let planned = opens .ensures .planned (if1 .left) in
+    let p = planOf (opens .result .sizes .route) (opens .result .nest) in
+    (planned, S .pre)
 
 returns-3 : tie.Need-returns-3
 returns-3 c =
     let at-if2 = c .before .before .before in
     let at-if1 = at-if2 .before .before .before .before in
-    let at-open-recipe = at-if1 .before in
-    let start = at-open-recipe .before .before .before .before .before .before .before .before .before in
-    let open-recipe = at-open-recipe .open-recipe in
+    let at-open = at-if1 .before in
+    let start = at-open .before .before .before .before .before .before .before .before .before in
+    let opens = at-open .«open» in
     let if1 = at-if1 .if1 in
     let if2 = at-if2 .if2 in
     let unfit = c .before .unfit in
     let if3 = c .if3 in
     let A = start .args in
-    let opens = open-recipe .ensures .1 (if1 .left) in
-    let p = planOf (open-recipe .result .sizes .route) (open-recipe .result .nest) in
+    let planned = opens .ensures .planned (if1 .left) in
+    let opened-as = opens .ensures .opened (if1 .left) in
+    let p = planOf (opens .result .sizes .route) (opens .result .nest) in
     λ l q h k. lines.collect-unfit (A .encoded .now) (A .route) (A .source .now) (A .office) (lentOf (stateOf (A .memories .now) (A .buffer .now) l
-    (A .status .now)) (A .engaged .now)) q (A .grid .now) p (record { none = opens .none; is = opens .is }) (if2 .left ∙ opens .sized .cells) (unfit .result)
+    (A .status .now)) (A .engaged .now)) q (A .grid .now) p opened-as (if2 .left ∙ planned .0 .cells) (unfit .result)
     (unfit .ensures .0 l q h k) (if3 .taken)
 
 sub-tiles-left : tie.Need-sub-tiles-left
@@ -78,20 +80,20 @@ part-tiles-left-end c =
     let at-if3 = c .before .before .before in
     let at-unfit = at-if3 .before in
     let at-if1 = at-unfit .before .before .before .before .before .before in
-    let at-open-recipe = at-if1 .before in
-    let S = at-open-recipe .before .before .before .before .before .before .before .before .before in
-    let open-recipe = at-open-recipe .open-recipe in
+    let at-open = at-if1 .before in
+    let S = at-open .before .before .before .before .before .before .before .before .before in
+    let opens = at-open .«open» in
     let if1 = at-if1 .if1 in
     let unfit = at-unfit .unfit in
     let if3 = at-if3 .if3 in
     let A = S .args in
-    let opens = open-recipe .ensures .1 (if1 .left) in
-    let p = planOf (open-recipe .result .sizes .route) (open-recipe .result .nest) in
+    let planned = opens .ensures .planned (if1 .left) in
+    let p = planOf (opens .result .sizes .route) (opens .result .nest) in
     let own = take (A .progress .count - 0) (drop 0 (A .progress .words)) in
     let other = take (A .theirs .count - 0) (drop 0 (A .theirs .words)) in
     let counts = unfit .ensures .1 (if3 .left) in
-    let few = reading.few-words _ _ (opens .sized) (A .progress .count) (counts .0) in
-    let few2 = reading.few-words _ _ (opens .sized) (A .theirs .count) (counts .1) in
+    let few = reading.few-words _ _ (planned .0) (A .progress .count) (counts .0) in
+    let few2 = reading.few-words _ _ (planned .0) (A .theirs .count) (counts .1) in
     omega (arith, S .pre .0, few)
 
 tiles-left-requires : tie.Need-tiles-left-requires
@@ -99,26 +101,26 @@ tiles-left-requires c κs =
     let at-if3 = c .before .before .before .before in
     let at-unfit = at-if3 .before in
     let at-if1 = at-unfit .before .before .before .before .before .before in
-    let at-open-recipe = at-if1 .before in
-    let S = at-open-recipe .before .before .before .before .before .before .before .before .before in
-    let open-recipe = at-open-recipe .open-recipe in
+    let at-open = at-if1 .before in
+    let S = at-open .before .before .before .before .before .before .before .before .before in
+    let opens = at-open .«open» in
     let if1 = at-if1 .if1 in
     let unfit = at-unfit .unfit in
     let if3 = at-if3 .if3 in
     let A = S .args in
-    let opens = open-recipe .ensures .1 (if1 .left) in
-    let p = planOf (open-recipe .result .sizes .route) (open-recipe .result .nest) in
+    let planned = opens .ensures .planned (if1 .left) in
+    let p = planOf (opens .result .sizes .route) (opens .result .nest) in
     let own = take (A .progress .count - 0) (drop 0 (A .progress .words)) in
     let other = take (A .theirs .count - 0) (drop 0 (A .theirs .words)) in
     let counts = unfit .ensures .1 (if3 .left) in
-    let few = reading.few-words _ _ (opens .sized) (A .progress .count) (counts .0) in
-    let few2 = reading.few-words _ _ (opens .sized) (A .theirs .count) (counts .1) in
+    let few = reading.few-words _ _ (planned .0) (A .progress .count) (counts .0) in
+    let few2 = reading.few-words _ _ (planned .0) (A .theirs .count) (counts .1) in
     let none = lines.unfit-none p (A .source .now) (A .office) (lentOf (stateOf (A .memories .now) (A .buffer .now) own (A .status .now)) (A .engaged .now))
     other (unfit .result) (unfit .ensures .0 own other (reading.part-carries (A .progress) (S .pre .0) few) (reading.part-carries (A .theirs) (S .pre .1)
     few2)) (if3 .left) in
     let lengths = lines.lengths-are p (A .source .now) (lentOf (stateOf (A .memories .now) (A .buffer .now) own (A .status .now)) (A .engaged .now)) other
     (none .0) in
-    (opens .sized, (opens .table, lengths .own .progress))
+    (planned .0, (planned .1, lengths .own .progress))
 
 returns-4 : tie.Need-returns-4
 returns-4 c =
@@ -126,9 +128,9 @@ returns-4 c =
     let at-unfit = at-if3 .before in
     let at-if2 = at-unfit .before .before in
     let at-if1 = at-if2 .before .before .before .before in
-    let at-open-recipe = at-if1 .before in
-    let start = at-open-recipe .before .before .before .before .before .before .before .before .before in
-    let open-recipe = at-open-recipe .open-recipe in
+    let at-open = at-if1 .before in
+    let start = at-open .before .before .before .before .before .before .before .before .before in
+    let opens = at-open .«open» in
     let if1 = at-if1 .if1 in
     let unfit = at-unfit .unfit in
     let if3 = at-if3 .if3 in
@@ -136,15 +138,16 @@ returns-4 c =
     let tiles-left = c .before .tiles-left in
     let if4 = c .if4 in
     let A = start .args in
-    let opens = open-recipe .ensures .1 (if1 .left) in
-    let p = planOf (open-recipe .result .sizes .route) (open-recipe .result .nest) in
+    let planned = opens .ensures .planned (if1 .left) in
+    let opened-as = opens .ensures .opened (if1 .left) in
+    let p = planOf (opens .result .sizes .route) (opens .result .nest) in
     let own = take (A .progress .count - 0) (drop 0 (A .progress .words)) in
     let other = take (A .theirs .count - 0) (drop 0 (A .theirs .words)) in
     let counts = unfit .ensures .1 (if3 .left) in
-    let few = reading.few-words _ _ (opens .sized) (A .progress .count) (counts .0) in
-    let few2 = reading.few-words _ _ (opens .sized) (A .theirs .count) (counts .1) in
+    let few = reading.few-words _ _ (planned .0) (A .progress .count) (counts .0) in
+    let few2 = reading.few-words _ _ (planned .0) (A .theirs .count) (counts .1) in
     λ l q h k. lines.collect-left (A .encoded .now) (A .route) (A .source .now) (A .office) (lentOf (stateOf (A .memories .now) (A .buffer .now) l
-    (A .status .now)) (A .engaged .now)) q (A .grid .now) p (record { none = opens .none; is = opens .is }) (if2 .left ∙ opens .sized .cells) (unfit .result)
+    (A .status .now)) (A .engaged .now)) q (A .grid .now) p opened-as (if2 .left ∙ planned .0 .cells) (unfit .result)
     (unfit .ensures .0 l q h k) (if3 .left) (tiles-left .result) (tiles-left .ensures ∙ sym (reading.left-as p _ l (reading.part-is (A .progress) l few h)))
     (if4 .taken)
 
@@ -154,27 +157,27 @@ copy-cells-requires c κs =
     let at-unfit = at-if3 .before in
     let at-if2 = at-unfit .before .before in
     let at-if1 = at-if2 .before .before .before .before in
-    let at-open-recipe = at-if1 .before in
-    let S = at-open-recipe .before .before .before .before .before .before .before .before .before in
-    let open-recipe = at-open-recipe .open-recipe in
+    let at-open = at-if1 .before in
+    let S = at-open .before .before .before .before .before .before .before .before .before in
+    let opens = at-open .«open» in
     let if1 = at-if1 .if1 in
     let unfit = at-unfit .unfit in
     let if3 = at-if3 .if3 in
     let if2 = at-if2 .if2 in
     let A = S .args in
-    let opens = open-recipe .ensures .1 (if1 .left) in
-    let p = planOf (open-recipe .result .sizes .route) (open-recipe .result .nest) in
+    let planned = opens .ensures .planned (if1 .left) in
+    let p = planOf (opens .result .sizes .route) (opens .result .nest) in
     let own = take (A .progress .count - 0) (drop 0 (A .progress .words)) in
     let other = take (A .theirs .count - 0) (drop 0 (A .theirs .words)) in
     let counts = unfit .ensures .1 (if3 .left) in
-    let few = reading.few-words _ _ (opens .sized) (A .progress .count) (counts .0) in
-    let few2 = reading.few-words _ _ (opens .sized) (A .theirs .count) (counts .1) in
+    let few = reading.few-words _ _ (planned .0) (A .progress .count) (counts .0) in
+    let few2 = reading.few-words _ _ (planned .0) (A .theirs .count) (counts .1) in
     let none = lines.unfit-none p (A .source .now) (A .office) (lentOf (stateOf (A .memories .now) (A .buffer .now) own (A .status .now)) (A .engaged .now))
     other (unfit .result) (unfit .ensures .0 own other (reading.part-carries (A .progress) (S .pre .0) few) (reading.part-carries (A .theirs) (S .pre .1)
     few2)) (if3 .left) in
     let lengths = lines.lengths-are p (A .source .now) (lentOf (stateOf (A .memories .now) (A .buffer .now) own (A .status .now)) (A .engaged .now)) other
     (none .0) in
-    ((opens .sized, opens .table .routed), (lengths .own .memories, if2 .left ∙ opens .sized .cells))
+    ((planned .0, planned .1 .routed), (lengths .own .memories, if2 .left ∙ planned .0 .cells))
 
 same-length : tie.Need-same-length
 same-length c = search needs
@@ -187,9 +190,9 @@ returns-5 c =
     let at-unfit = at-if3 .before in
     let at-if2 = at-unfit .before .before in
     let at-if1 = at-if2 .before .before .before .before in
-    let at-open-recipe = at-if1 .before in
-    let start = at-open-recipe .before .before .before .before .before .before .before .before .before in
-    let open-recipe = at-open-recipe .open-recipe in
+    let at-open = at-if1 .before in
+    let start = at-open .before .before .before .before .before .before .before .before .before in
+    let opens = at-open .«open» in
     let if1 = at-if1 .if1 in
     let unfit = at-unfit .unfit in
     let if3 = at-if3 .if3 in
@@ -198,15 +201,16 @@ returns-5 c =
     let copy-cells = c .before .before .copy-cells in
     let if4 = at-if4 .if4 in
     let A = start .args in
-    let opens = open-recipe .ensures .1 (if1 .left) in
-    let p = planOf (open-recipe .result .sizes .route) (open-recipe .result .nest) in
+    let planned = opens .ensures .planned (if1 .left) in
+    let opened-as = opens .ensures .opened (if1 .left) in
+    let p = planOf (opens .result .sizes .route) (opens .result .nest) in
     let own = take (A .progress .count - 0) (drop 0 (A .progress .words)) in
     let other = take (A .theirs .count - 0) (drop 0 (A .theirs .words)) in
     let counts = unfit .ensures .1 (if3 .left) in
-    let few = reading.few-words _ _ (opens .sized) (A .progress .count) (counts .0) in
-    let few2 = reading.few-words _ _ (opens .sized) (A .theirs .count) (counts .1) in
+    let few = reading.few-words _ _ (planned .0) (A .progress .count) (counts .0) in
+    let few2 = reading.few-words _ _ (planned .0) (A .theirs .count) (counts .1) in
     λ l q h k. lines.collect-done (A .encoded .now) (A .route) (A .source .now) (A .office) (lentOf (stateOf (A .memories .now) (A .buffer .now) l
-    (A .status .now)) (A .engaged .now)) q (A .grid .now) p (record { none = opens .none; is = opens .is }) (if2 .left ∙ opens .sized .cells) (unfit .result)
+    (A .status .now)) (A .engaged .now)) q (A .grid .now) p opened-as (if2 .left ∙ planned .0 .cells) (unfit .result)
     (unfit .ensures .0 l q h k) (if3 .left) (tiles-left .result) (tiles-left .ensures ∙ sym (reading.left-as p _ l (reading.part-is (A .progress) l few h)))
     (copy-cells .last .1 .1 .1 .0) (if4 .left) (copy-cells .ensures)
 
@@ -214,7 +218,7 @@ pub collect-spec : {M : Type 1} → statement M
 collect-spec =
     tie.close
     (tie.spec
-    open-recipe-requires
+    open-requires
     returns
     returns-2
     unfit-requires

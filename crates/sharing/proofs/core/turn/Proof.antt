@@ -13,28 +13,28 @@ use borrow.Author.Needs.{needs}
 use Rattle.sharing.proofs.core.turn.Statement.{statement}
 use Rattle.sharing.proofs.core.turn.Tie as tie
 
-open-recipe-requires : tie.Need-open-recipe-requires
-open-recipe-requires c κs = search needs
+open-requires : tie.Need-open-requires
+open-requires c κs = search needs
 
 refused-requires : tie.Need-refused-requires
 refused-requires c κs = tt
 
 returns : tie.Need-returns
 returns c =
-    let open-recipe = c .before .before .open-recipe in
+    let opens = c .before .before .«open» in
     let if1 = c .before .if1 in
     let A = c .before .before .before .before .before .before .before .before .before .before .args in
-    λ l q h k. lines.refuses (c .refused .result) (open-recipe .result .number) (c .refused .ensures) (if1 .taken)
+    λ l q h k. lines.refuses (c .refused .result) (opens .result .number) (c .refused .ensures) (if1 .taken)
     (lentOf (stateOf (A .memories .now) (A .buffer .now) l (A .status .now)) (A .engaged .now)) (A .processor) _ (lines.turn-read (A .encoded .now)
     (A .route) (A .source .now) (A .office) (lentOf (stateOf (A .memories .now) (A .buffer .now) l (A .status .now)) (A .engaged .now)) q (A .processor)
-    (open-recipe .result .number) (open-recipe .ensures .0) (if1 .taken))
+    (opens .result .number) (opens .ensures .number) (if1 .taken))
 
 barred-requires : tie.Need-barred-requires
 barred-requires c κs =
     let at-if1 = c .before .before .before .before .before .before .before in
-    let at-open-recipe = at-if1 .before in
-    let opens = at-open-recipe .open-recipe .ensures .1 (at-if1 .if1 .left) in
-    ((opens .sized, opens .table), at-open-recipe .before .before .before .before .before .before .before .before .pre)
+    let at-open = at-if1 .before in
+    let planned = at-open .«open» .ensures .planned (at-if1 .if1 .left) in
+    (planned, at-open .before .before .before .before .before .before .before .before .pre)
 
 refused-requires-2 : tie.Need-refused-requires-2
 refused-requires-2 c κs = tt
@@ -56,14 +56,14 @@ returns-2 c =
     let at-if2 = c .before in
     let at-barred = at-if2 .before in
     let at-if1 = at-barred .before .before .before .before .before .before .before .before in
-    let at-open-recipe = at-if1 .before in
-    let A = at-open-recipe .before .before .before .before .before .before .before .before .args in
-    let opens = at-open-recipe .open-recipe .ensures .1 (at-if1 .if1 .left) in
-    let p = planOf (at-open-recipe .open-recipe .result .sizes .route) (at-open-recipe .open-recipe .result .nest) in
+    let at-open = at-if1 .before in
+    let A = at-open .before .before .before .before .before .before .before .before .args in
+    let opened-as = at-open .«open» .ensures .opened (at-if1 .if1 .left) in
+    let p = planOf (at-open .«open» .result .sizes .route) (at-open .«open» .result .nest) in
     λ l q h k. lines.refuses (c .refused2 .result) (at-barred .barred .result) (c .refused2 .ensures) (at-if2 .if2 .taken)
     (lentOf (stateOf (A .memories .now) (A .buffer .now) l (A .status .now)) (A .engaged .now)) (A .processor) _ (lines.turn-barred (A .encoded .now)
     (A .route) (A .source .now) (A .office) (lentOf (stateOf (A .memories .now) (A .buffer .now) l (A .status .now)) (A .engaged .now)) q (A .processor)
-    p (record { none = opens .none; is = opens .is }) (at-barred .barred .result) (at-barred .barred .ensures .0 l q h k) (at-if2 .if2 .taken))
+    p opened-as (at-barred .barred .result) (at-barred .barred .ensures .0 l q h k) (at-if2 .if2 .taken))
 
 sub-step-for : tie.Need-sub-step-for
 sub-step-for c = search needs
@@ -76,12 +76,12 @@ part-step-for-end c =
     let at-if2 = c .before .before .before .before .before in
     let at-barred = at-if2 .before in
     let at-if1 = at-barred .before .before .before .before .before .before .before .before in
-    let at-open-recipe = at-if1 .before in
-    let S = at-open-recipe .before .before .before .before .before .before .before .before in
+    let at-open = at-if1 .before in
+    let S = at-open .before .before .before .before .before .before .before .before in
     let A = S .args in
-    let opens = at-open-recipe .open-recipe .ensures .1 (at-if1 .if1 .left) in
+    let planned = at-open .«open» .ensures .planned (at-if1 .if1 .left) in
     let counts = at-barred .barred .ensures .1 (at-if2 .if2 .left) in
-    let few = reading.few-words _ _ (opens .sized) (A .progress .count) (counts .0) in
+    let few = reading.few-words _ _ (planned .0) (A .progress .count) (counts .0) in
     omega (arith, S .pre .0, few)
 
 step-for-requires : tie.Need-step-for-requires
@@ -89,20 +89,20 @@ step-for-requires c κs =
     let at-if2 = c .before .before .before .before .before .before .before .before in
     let at-barred = at-if2 .before in
     let at-if1 = at-barred .before .before .before .before .before .before .before .before in
-    let at-open-recipe = at-if1 .before in
-    let S = at-open-recipe .before .before .before .before .before .before .before .before in
+    let at-open = at-if1 .before in
+    let S = at-open .before .before .before .before .before .before .before .before in
     let A = S .args in
-    let opens = at-open-recipe .open-recipe .ensures .1 (at-if1 .if1 .left) in
+    let planned = at-open .«open» .ensures .planned (at-if1 .if1 .left) in
     let counts = at-barred .barred .ensures .1 (at-if2 .if2 .left) in
-    let few = reading.few-words _ _ (opens .sized) (A .progress .count) (counts .0) in
-    let p = planOf (at-open-recipe .open-recipe .result .sizes .route) (at-open-recipe .open-recipe .result .nest) in
+    let few = reading.few-words _ _ (planned .0) (A .progress .count) (counts .0) in
+    let p = planOf (at-open .«open» .result .sizes .route) (at-open .«open» .result .nest) in
     let own = take (A .progress .count - 0) (drop 0 (A .progress .words)) in
     let other = take (A .theirs .count - 0) (drop 0 (A .theirs .words)) in
-    let few2 = reading.few-words _ _ (opens .sized) (A .theirs .count) (counts .1) in
+    let few2 = reading.few-words _ _ (planned .0) (A .theirs .count) (counts .1) in
     let free = lines.barred-none p (A .source .now) (A .office) (lentOf (stateOf (A .memories .now) (A .buffer .now) own (A .status .now)) (A .engaged .now))
     other (A .processor) (at-barred .barred .result) (at-barred .barred .ensures .0 own other (reading.part-carries (A .progress) (S .pre .0) few)
     (reading.part-carries (A .theirs) (S .pre .1) few2)) (at-if2 .if2 .left) in (
-      (opens .sized, opens .table),
+      planned,
       (
         record {
           areas = free .lengths .own;
@@ -131,16 +131,17 @@ returns-3 c =
     let at-if2 = c .before .before .before .before .before .before .before .before .before .before .before .before .before .before .before .before .before in
     let at-barred = at-if2 .before in
     let at-if1 = at-barred .before .before .before .before .before .before .before .before in
-    let at-open-recipe = at-if1 .before in
-    let S = at-open-recipe .before .before .before .before .before .before .before .before in
+    let at-open = at-if1 .before in
+    let S = at-open .before .before .before .before .before .before .before .before in
     let A = S .args in
-    let opens = at-open-recipe .open-recipe .ensures .1 (at-if1 .if1 .left) in
+    let planned = at-open .«open» .ensures .planned (at-if1 .if1 .left) in
+    let opened-as = at-open .«open» .ensures .opened (at-if1 .if1 .left) in
     let counts = at-barred .barred .ensures .1 (at-if2 .if2 .left) in
-    let few = reading.few-words _ _ (opens .sized) (A .progress .count) (counts .0) in
-    let p = planOf (at-open-recipe .open-recipe .result .sizes .route) (at-open-recipe .open-recipe .result .nest) in
+    let few = reading.few-words _ _ (planned .0) (A .progress .count) (counts .0) in
+    let p = planOf (at-open .«open» .result .sizes .route) (at-open .«open» .result .nest) in
     let own = take (A .progress .count - 0) (drop 0 (A .progress .words)) in
     let other = take (A .theirs .count - 0) (drop 0 (A .theirs .words)) in
-    let few2 = reading.few-words _ _ (opens .sized) (A .theirs .count) (counts .1) in
+    let few2 = reading.few-words _ _ (planned .0) (A .theirs .count) (counts .1) in
     let free = lines.barred-none p (A .source .now) (A .office) (lentOf (stateOf (A .memories .now) (A .buffer .now) own (A .status .now)) (A .engaged .now))
     other (A .processor) (at-barred .barred .result) (at-barred .barred .ensures .0 own other (reading.part-carries (A .progress) (S .pre .0) few)
     (reading.part-carries (A .theirs) (S .pre .1) few2)) (at-if2 .if2 .left) in
@@ -150,7 +151,7 @@ returns-3 c =
     (step-for .last .1 .1 .1 .1 .1 .1 .1 .0) (step-for .last .1 .1 .1 .1 .1 .1 .1 .1 .0)
     (lines.turn-steps (A .encoded .now) (A .route) (A .source .now) (A .office) (lentOf (stateOf (A .memories .now) (A .buffer .now) own (A .status .now))
     (A .engaged .now)) other
-    (A .processor) p (record { none = opens .none; is = opens .is }) free (step-for .result) (step-for .last .1 .1 .1 .1 .0) (step-for .last .1 .1 .1 .1 .1 .0)
+    (A .processor) p opened-as free (step-for .result) (step-for .last .1 .1 .1 .1 .0) (step-for .last .1 .1 .1 .1 .1 .0)
     (step-for .last .1 .1 .1 .1 .1 .1 .1 .0) (step-for .last .1 .1 .1 .1 .1 .1 .1 .1 .0)
     (step-for .ensures .0) (step-for .ensures .1))
 
@@ -158,7 +159,7 @@ pub turn-spec : {M : Type 1} → statement M
 turn-spec =
     tie.close
     (tie.spec
-    open-recipe-requires
+    open-requires
     refused-requires
     returns
     barred-requires

@@ -17,28 +17,28 @@ use borrow.Author.Needs.{needs}
 use Rattle.timed.proofs.core.turn.Statement.{statement}
 use Rattle.timed.proofs.core.turn.Tie as tie
 
-open-recipe-requires : tie.Need-open-recipe-requires
-open-recipe-requires c κs = search needs
+open-requires : tie.Need-open-requires
+open-requires c κs = search needs
 
 refused-requires : tie.Need-refused-requires
 refused-requires c κs = tt
 
 returns : tie.Need-returns
 returns c =
-    let open-recipe = c .before .before .open-recipe in
+    let opens = c .before .before .«open» in
     let A = c .before .before .before .before .before .before .before .before .before .before .args in
-    λ l k. reading.refuses (c .refused .result) (open-recipe .result .number) (c .refused .ensures) (c .before .if1 .taken)
+    λ l k. reading.refuses (c .refused .result) (opens .result .number) (c .refused .ensures) (c .before .if1 .taken)
     (stateOf (A .memories .now) (A .buffer .now) l (A .status .now))
     (A .processor) _ (lines.turn-read (A .encoded .now) (A .route) (A .source .now) (hoursOf (A .hours .now) (A .minute))
-    (stateOf (A .memories .now) (A .buffer .now) l (A .status .now)) (A .processor) (open-recipe .result .number) (open-recipe .ensures .0)
+    (stateOf (A .memories .now) (A .buffer .now) l (A .status .now)) (A .processor) (opens .result .number) (opens .ensures .number)
     (c .before .if1 .taken))
 
 away-requires : tie.Need-away-requires
 away-requires c κs =
     let at-if1 = c .before .before .before .before .before .before in
-    let at-open-recipe = at-if1 .before in
-    let opens = at-open-recipe .open-recipe .ensures .1 (at-if1 .if1 .left) in
-    ((opens .sized, opens .table), at-open-recipe .before .before .before .before .before .before .before .before .pre)
+    let at-open = at-if1 .before in
+    let planned = at-open .«open» .ensures .planned (at-if1 .if1 .left) in
+    (planned, at-open .before .before .before .before .before .before .before .before .pre)
 
 refused-requires-2 : tie.Need-refused-requires-2
 refused-requires-2 c κs = tt
@@ -57,14 +57,14 @@ returns-2 c =
     let at-if2 = c .before in
     let at-away = at-if2 .before in
     let at-if1 = at-away .before .before .before .before .before .before .before in
-    let at-open-recipe = at-if1 .before in
-    let A = at-open-recipe .before .before .before .before .before .before .before .before .args in
-    let opens = at-open-recipe .open-recipe .ensures .1 (at-if1 .if1 .left) in
-    let p = planOf (at-open-recipe .open-recipe .result .sizes .route) (at-open-recipe .open-recipe .result .nest) in
+    let at-open = at-if1 .before in
+    let A = at-open .before .before .before .before .before .before .before .before .args in
+    let opened-as = at-open .«open» .ensures .opened (at-if1 .if1 .left) in
+    let p = planOf (at-open .«open» .result .sizes .route) (at-open .«open» .result .nest) in
     λ l k. reading.refuses (c .refused2 .result) (at-away .away .result) (c .refused2 .ensures) (at-if2 .if2 .taken)
     (stateOf (A .memories .now) (A .buffer .now) l (A .status .now))
     (A .processor) _ (lines.turn-away (A .encoded .now) (A .route) (A .source .now) (hoursOf (A .hours .now) (A .minute))
-    (stateOf (A .memories .now) (A .buffer .now) l (A .status .now)) (A .processor) p (record { none = opens .none; is = opens .is }) (at-away .away .result)
+    (stateOf (A .memories .now) (A .buffer .now) l (A .status .now)) (A .processor) p opened-as (at-away .away .result)
     (at-away .away .ensures .0 l k) (at-if2 .if2 .taken))
 
 sub-step : tie.Need-sub-step
@@ -78,11 +78,11 @@ part-step-end c =
     let at-if2 = c .before .before .before .before .before in
     let at-away = at-if2 .before in
     let at-if1 = at-away .before .before .before .before .before .before .before in
-    let at-open-recipe = at-if1 .before in
-    let S = at-open-recipe .before .before .before .before .before .before .before .before in
+    let at-open = at-if1 .before in
+    let S = at-open .before .before .before .before .before .before .before .before in
     let A = S .args in
-    let opens = at-open-recipe .open-recipe .ensures .1 (at-if1 .if1 .left) in
-    let few = reading.few-words _ _ (opens .sized) (A .progress .count) (at-away .away .ensures .1 (at-if2 .if2 .left)) in
+    let planned = at-open .«open» .ensures .planned (at-if1 .if1 .left) in
+    let few = reading.few-words _ _ (planned .0) (A .progress .count) (at-away .away .ensures .1 (at-if2 .if2 .left)) in
     omega (arith, S .pre, few)
 
 step-requires : tie.Need-step-requires
@@ -90,17 +90,17 @@ step-requires c κs =
     let at-if2 = c .before .before .before .before .before .before .before in
     let at-away = at-if2 .before in
     let at-if1 = at-away .before .before .before .before .before .before .before in
-    let at-open-recipe = at-if1 .before in
-    let S = at-open-recipe .before .before .before .before .before .before .before .before in
+    let at-open = at-if1 .before in
+    let S = at-open .before .before .before .before .before .before .before .before in
     let A = S .args in
-    let opens = at-open-recipe .open-recipe .ensures .1 (at-if1 .if1 .left) in
-    let few = reading.few-words _ _ (opens .sized) (A .progress .count) (at-away .away .ensures .1 (at-if2 .if2 .left)) in
-    let p = planOf (at-open-recipe .open-recipe .result .sizes .route) (at-open-recipe .open-recipe .result .nest) in
+    let planned = at-open .«open» .ensures .planned (at-if1 .if1 .left) in
+    let few = reading.few-words _ _ (planned .0) (A .progress .count) (at-away .away .ensures .1 (at-if2 .if2 .left)) in
+    let p = planOf (at-open .«open» .result .sizes .route) (at-open .«open» .result .nest) in
     let own = take (A .progress .count - 0) (drop 0 (A .progress .words)) in
     let opened = lines.away-none p (A .source .now) (hoursOf (A .hours .now) (A .minute)) (stateOf (A .memories .now) (A .buffer .now) own (A .status .now))
     (A .processor)
     (at-away .away .result) (at-away .away .ensures .0 own (reading.part-carries (A .progress) (S .pre) few)) (at-if2 .if2 .left) in (
-      (opens .sized, opens .table),
+      planned,
       plain.passed p (A .source .now) (stateOf (A .memories .now) (A .buffer .now) own (A .status .now)) (A .processor) 0 (opened .unfit) refl
           (opened .hours .low),
     )
@@ -120,12 +120,13 @@ returns-3 c =
     let at-if2 = c .before .before .before .before .before .before .before .before .before .before .before .before .before .before in
     let at-away = at-if2 .before in
     let at-if1 = at-away .before .before .before .before .before .before .before in
-    let at-open-recipe = at-if1 .before in
-    let S = at-open-recipe .before .before .before .before .before .before .before .before in
+    let at-open = at-if1 .before in
+    let S = at-open .before .before .before .before .before .before .before .before in
     let A = S .args in
-    let opens = at-open-recipe .open-recipe .ensures .1 (at-if1 .if1 .left) in
-    let few = reading.few-words _ _ (opens .sized) (A .progress .count) (at-away .away .ensures .1 (at-if2 .if2 .left)) in
-    let p = planOf (at-open-recipe .open-recipe .result .sizes .route) (at-open-recipe .open-recipe .result .nest) in
+    let planned = at-open .«open» .ensures .planned (at-if1 .if1 .left) in
+    let opened-as = at-open .«open» .ensures .opened (at-if1 .if1 .left) in
+    let few = reading.few-words _ _ (planned .0) (A .progress .count) (at-away .away .ensures .1 (at-if2 .if2 .left)) in
+    let p = planOf (at-open .«open» .result .sizes .route) (at-open .«open» .result .nest) in
     let own = take (A .progress .count - 0) (drop 0 (A .progress .words)) in
     let opened = lines.away-none p (A .source .now) (hoursOf (A .hours .now) (A .minute)) (stateOf (A .memories .now) (A .buffer .now) own (A .status .now))
     (A .processor)
@@ -134,16 +135,16 @@ returns-3 c =
     (recordsAfter x (A .processor) (step .result)) (step .last .1 .1 .1 .1 .1 .1 .1 .0))
     ≡ turnCallAt (A .encoded .now) (A .route) (A .source .now) (hoursOf (A .hours .now) (A .minute)) (stateOf (A .memories .now) (A .buffer .now) x
     (A .status .now)) (A .processor)) (reading.part-is (A .progress) l few k) (plain.turn-steps (A .encoded .now) (A .route) (A .source .now)
-    (stateOf (A .memories .now) (A .buffer .now) own (A .status .now)) (A .processor) p (record { none = opens .none; is = opens .is })
+    (stateOf (A .memories .now) (A .buffer .now) own (A .status .now)) (A .processor) p opened-as
     0 (opened .unfit) refl _ (step .ensures) ∙ lines.plainly (A .encoded .now) (A .route) (A .source .now) (hoursOf (A .hours .now) (A .minute))
-    (stateOf (A .memories .now) (A .buffer .now) own (A .status .now)) (A .processor) p (record { none = opens .none; is = opens .is }) (opened .long)
+    (stateOf (A .memories .now) (A .buffer .now) own (A .status .now)) (A .processor) p opened-as (opened .long)
     (opened .hours .fair, opened .hours .open-then))
 
 pub turn-spec : {M : Type 1} → statement M
 turn-spec =
     tie.close
     (tie.spec
-    open-recipe-requires
+    open-requires
     refused-requires
     returns
     away-requires

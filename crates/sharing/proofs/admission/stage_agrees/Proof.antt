@@ -1,6 +1,6 @@
 use Rattle.sharing.proofs.Tests as tests
-use Rattle.sharing.proofs.core.stage_agrees.Statement.{statement}
-use Rattle.sharing.proofs.core.stage_agrees.Tie as tie
+use Rattle.sharing.proofs.admission.stage_agrees.Statement.{statement}
+use Rattle.sharing.proofs.admission.stage_agrees.Tie as tie
 
 returns : tie.Need-returns
 returns c = tests.agrees-one _ _ _ (c .before .if1 .taken) (c .if2 .taken)

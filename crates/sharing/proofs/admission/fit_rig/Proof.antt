@@ -8,8 +8,8 @@ use Rattle.tenants.specs.Offices.{lentOf}
 use Rattle.engine.proofs.Lines as areas
 use Rattle.sharing.proofs.Lines as lines
 use borrow.Author.Needs.{needs}
-use Rattle.sharing.proofs.core.fit_rig.Statement.{statement}
-use Rattle.sharing.proofs.core.fit_rig.Tie as tie
+use Rattle.sharing.proofs.admission.fit_rig.Statement.{statement}
+use Rattle.sharing.proofs.admission.fit_rig.Tie as tie
 
 fit-records-requires : tie.Need-fit-records-requires
 fit-records-requires c κs = search needs

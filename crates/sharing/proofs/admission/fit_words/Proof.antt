@@ -12,8 +12,8 @@ use Rattle.machine.specs.Machine.{progressOnly}
 use Rattle.tenants.specs.Offices.{lentOf, stageAgrees, fitWord}
 use Rattle.base.proofs.Loops as loops
 use Rattle.sharing.proofs.Tests as tests
-use Rattle.sharing.proofs.core.fit_words.Statement.{statement}
-use Rattle.sharing.proofs.core.fit_words.Tie as tie
+use Rattle.sharing.proofs.admission.fit_words.Statement.{statement}
+use Rattle.sharing.proofs.admission.fit_words.Tie as tie
 
 abbrev Inv-loop : tie.InvT-loop
 Inv-loop engaged progress theirs office second b₀ b = (b ≤ length engaged) × (every (fitWord office (lentOf (progressOnly progress) engaged) theirs) b ≡ true)

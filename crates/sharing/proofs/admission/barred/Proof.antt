@@ -10,8 +10,8 @@ use Rattle.tenants.specs.Offices.{lentOf}
 use Rattle.engine.proofs.Reading as reading
 use Rattle.sharing.proofs.Lines as lines
 use borrow.Author.Needs.{needs}
-use Rattle.sharing.proofs.core.barred.Statement.{statement}
-use Rattle.sharing.proofs.core.barred.Tie as tie
+use Rattle.sharing.proofs.admission.barred.Statement.{statement}
+use Rattle.sharing.proofs.admission.barred.Tie as tie
 
 unfit-requires : tie.Need-unfit-requires
 unfit-requires c κs = search needs
