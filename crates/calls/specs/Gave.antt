@@ -20,7 +20,7 @@ use Rattle.summary.specs.declared.MessageLine.{MessageLine}
 use Rattle.summary.specs.declared.HopCount.{HopCount}
 use Rattle.summary.specs.Summary.{summaryOf, messageLineOf, hopsOf}
 use Rattle.writer.specs.declared.reading.RecipeFields.{RecipeFields}
-use Rattle.writer.specs.Fields.{Fields}
+use Rattle.writer.specs.Fields.{Fields, Widths}
 use Rattle.writer.specs.Told.{readCall}
 use Rattle.writer.specs.Writing.{writeCall}
 use Rattle.soundings.specs.Soundings.{fillCall}
@@ -115,9 +115,10 @@ HopsGave bytes m told = told ≡ hopsOf bytes m
 abbrev pub ReadGave : List ℕ → RecipeFields → Type 0
 ReadGave bytes told = told ≡ readCall bytes
 
--- the fields v written into a space that was `old`
-abbrev pub WriteGave : Fields → List ℕ → ℕ → List ℕ → Type 0
-WriteGave v old n space = answer n space ≡ writeCall v old
+-- the fields v written into a space that was `old`; each number is as wide as its field in the recipe, since the call's arguments have these types
+pub record WriteGave (v : Fields) (old : List ℕ) (n : ℕ) (space : List ℕ) : Type 0 where
+  pub gave : answer n space ≡ writeCall v old
+  pub typed : Widths v
 
 -- lent the words `old`, left as `source`
 abbrev pub SoundingsGave : List ℕ → List ℕ → ℕ → List ℕ → ℕ → List ℕ → Type 0

@@ -37,7 +37,13 @@ read-tells bytes r e =
     tells-by (λ (t : RecipeFields). t .number) (λ n. fieldsIf n (fieldsOf (nestOf bytes))) (toldFields (fieldsOf (nestOf bytes))) noFields refl (λ n. refl)
     refl (λ n. refl) (readLines bytes) r e
 
-module _ (v : Fields) (old : List ℕ) (n : ℕ) (space : List ℕ) (e : WriteGave v old n space) where
+module _ (v : Fields) (old : List ℕ) (n : ℕ) (space : List ℕ) (g : WriteGave v old n space) where
+  abbrev e : answer n space ≡ writeCall v old
+  e = g .gave
+
+  abbrev w : Widths v
+  w = g .typed
+
   fixed : Fixed (answer n space) (writeLines (writable v) (spelled v) (length old)) (spelled v) old
   unfolding writeCall writing
   fixed = fixed-as e (engine.fixed _ _ old)
@@ -50,13 +56,13 @@ module _ (v : Fields) (old : List ℕ) (n : ℕ) (space : List ℕ) (e : WriteGa
       × (v .shift < 32) × BoundsWell v → InRange v
   in-range (a, b, c, d, f, h, k) = record { dimensions = (a, b); distances = (c, d); bounds = (f, k); shift = h }
 
-  number : agree v ≡ true → Widths v → firstOf (readLines (spelled v)) ≢ 0 → n ≡ firstOf (readLines (spelled v))
-  number h w k = number-of (e ∙ demand202 .from-fields .number v old (demand202 .all-held v h w) k)
+  number : agree v ≡ true → firstOf (readLines (spelled v)) ≢ 0 → n ≡ firstOf (readLines (spelled v))
+  number h k = number-of (e ∙ demand202 .from-fields .number v old (demand202 .all-held v h w) k)
 
-  told : agree v ≡ true → Widths v → InRange v → firstOf (nestLines false (nestFrom v)) ≢ 0 → n ≡ firstOf (nestLines false (nestFrom v))
-  told h w r k =
+  told : agree v ≡ true → InRange v → firstOf (nestLines false (nestFrom v)) ≢ 0 → n ≡ firstOf (nestLines false (nestFrom v))
+  told h r k =
       let q = demand202 .told v (demand202 .all-held v h w) (r .dimensions .0) (r .distances .0) (r .shift) (r .bounds .1) in
-      number h w (λ z. k (sym q ∙ z)) ∙ q
+      number h (λ z. k (sym q ∙ z)) ∙ q
 
   picks : n ≡ 0 → (i : ℕ) → i < length (v .weights)
       → kind space (length (v .lengths) + length (v .sides) + i) ≡ pick (every (λ j. ltb (component (nestFrom v) i j) 256) 4) 2 4
@@ -71,14 +77,14 @@ module _ (v : Fields) (old : List ℕ) (n : ℕ) (space : List ℕ) (e : WriteGa
         two = λ h. number-of (e ∙ demand202 .from-fields .two v old (cannot h));
         stray = λ h. number-of (e ∙ demand202 .stray v old (λ r. h (in-range r)));
         number = number;
-        holds = λ h w. demand202 .from-fields .holds v w (demand202 .all-held v h w);
+        holds = λ h. demand202 .from-fields .holds v w (demand202 .all-held v h w);
         told = told;
         picks = picks;
-        nine = λ h w k l. number-of (e ∙ demand202 .from-fields .nine v old (demand202 .all-held v h w) k l);
-        produces = λ h w k l.
+        nine = λ h k l. number-of (e ∙ demand202 .from-fields .nine v old (demand202 .all-held v h w) k l);
+        produces = λ h k l.
             let q = e ∙ demand202 .from-fields .produces v old (demand202 .all-held v h w) k l in
             (number-of q, after-of q);
-        read-back = λ w z.
+        read-back = λ z.
             let q = demand202 .from-fields .read-back v old w (sym (number-of e) ∙ z) in
             (ap (λ (s : List ℕ). firstOf (readLines s)) (after-of e) ∙ q .0, ap (λ (s : List ℕ). fieldsOf (nestOf s)) (after-of e) ∙ q .1);
       }
@@ -87,7 +93,7 @@ again : (bytes : List ℕ) (r : RecipeFields) (old : List ℕ) (n : ℕ) (space 
     → WriteGave (taken r) old n space → length old ≡ length bytes → (n ≡ 0) × (space ≡ bytes)
 again bytes r old n space small e z g l =
     let none = sym (reads-back .number bytes) ∙ ap (λ (t : RecipeFields). t .number) (sym e) ∙ z in
-    let q = g ∙ ap (λ (t : RecipeFields). writeCall (taken t) old) e ∙ reads-back .rebuilt bytes old small none l in
+    let q = g .gave ∙ ap (λ (t : RecipeFields). writeCall (taken t) old) e ∙ reads-back .rebuilt bytes old small none l in
     (number-of q, after-of q)
 
 pub recipe-calls : RecipeCalls

@@ -15,7 +15,7 @@ use Rattle.nest.specs.Nest.{component}
 use Rattle.nest.specs.Reader.{kind, nestOf, nestLines, readLines}
 use Rattle.nest.specs.Encode.{encode}
 use Rattle.writer.specs.declared.reading.RecipeFields.{RecipeFields}
-use Rattle.writer.specs.Fields.{Fields, agree, nestFrom, fieldsOf, Widths, BoundsWell}
+use Rattle.writer.specs.Fields.{Fields, agree, nestFrom, fieldsOf, BoundsWell}
 use Rattle.writer.specs.Writing.{writeLines, writable}
 use Rattle.writer.specs.Told.{toldFields, noFields, taken}
 use Rattle.engine.specs.Calls.{answer}
@@ -34,7 +34,7 @@ pub record InRange (v : Fields) : Type 0 where
   pub bounds : (length (v .sides) ≤ 4) × BoundsWell v
   pub shift : v .shift < 32
 
--- fields v written into a space that was `old`: the call gave n and left `space`; the widths are those of the call's types
+-- fields v written into a space that was `old`: the call gave n and left `space`. How wide each number is, the types of the call's arguments say
 pub record WroteFields (v : Fields) (old : List ℕ) (n : ℕ) (space : List ℕ) : Type 0 where
   pub fixed : Fixed (answer n space) (writeLines (writable v) (spelled v) (length old)) (spelled v) old
   -- values whose lists do not agree, which no recipe can hold: 2
@@ -42,18 +42,18 @@ pub record WroteFields (v : Fields) (old : List ℕ) (n : ℕ) (space : List ℕ
   -- and so where there are too few or too many of something, a bound is none, or the shift is above 31
   pub stray : (InRange v → ⊥) → n ≡ 2
   -- else the reader's number of the bytes that spell them, and these hold the very values
-  pub number : agree v ≡ true → Widths v → firstOf (readLines (spelled v)) ≢ 0 → n ≡ firstOf (readLines (spelled v))
-  pub holds : agree v ≡ true → Widths v → fieldsOf (nestOf (spelled v)) ≡ v
+  pub number : agree v ≡ true → firstOf (readLines (spelled v)) ≢ 0 → n ≡ firstOf (readLines (spelled v))
+  pub holds : agree v ≡ true → fieldsOf (nestOf (spelled v)) ≡ v
   -- which is the number of the values alone, and never 18: the bytes are spelled as short as can be
-  pub told : agree v ≡ true → Widths v → InRange v → firstOf (nestLines false (nestFrom v)) ≢ 0 → n ≡ firstOf (nestLines false (nestFrom v))
+  pub told : agree v ≡ true → InRange v → firstOf (nestLines false (nestFrom v)) ≢ 0 → n ≡ firstOf (nestLines false (nestFrom v))
   -- W-207: kind 4 only where kind 2 can't hold the distance
   pub picks : n ≡ 0 → (e : ℕ) → e < length (v .weights)
       → kind space (length (v .lengths) + length (v .sides) + e) ≡ pick (every (λ j. ltb (component (nestFrom v) e j) 256) 4) 2 4
   -- then 9, where the space has not exactly their length
-  pub nine : agree v ≡ true → Widths v → firstOf (readLines (spelled v)) ≡ 0 → length old ≢ length (spelled v) → n ≡ 9
+  pub nine : agree v ≡ true → firstOf (readLines (spelled v)) ≡ 0 → length old ≢ length (spelled v) → n ≡ 9
   -- 0: the recipe, which is accepted and reads back to the values given
-  pub produces : agree v ≡ true → Widths v → firstOf (readLines (spelled v)) ≡ 0 → length old ≡ length (spelled v) → (n ≡ 0) × (space ≡ spelled v)
-  pub read-back : Widths v → n ≡ 0 → (firstOf (readLines space) ≡ 0) × (fieldsOf (nestOf space) ≡ v)
+  pub produces : agree v ≡ true → firstOf (readLines (spelled v)) ≡ 0 → length old ≡ length (spelled v) → (n ≡ 0) × (space ≡ spelled v)
+  pub read-back : n ≡ 0 → (firstOf (readLines space) ≡ 0) × (fieldsOf (nestOf space) ≡ v)
 
 pub record RecipeCalls : Type 0 where
   pub read : (bytes : List ℕ) (told : RecipeFields) → ReadGave bytes told
